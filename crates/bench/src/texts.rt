@@ -1,0 +1,49 @@
+//! The texts that are read and written.
+use std::alloc::{AllocError, Global};
+
+/// A command with no parameters, of 46 bytes.
+pub const SHORT: &str = "{\"id\":1,\"method\":\"session.status\",\"params\":{}}";
+
+/// A command with a list and maps in maps, of 210 bytes.
+pub const MIDDLE: &str =
+    "{\"id\":7,\"method\":\"script.callFunction\",\"params\":{\"arguments\":[{\"type\":\"number\",\"value\":4},{\"type\":\"string\",\"value\":\"word\"}],\"awaitPromise\":true,\"functionDeclaration\":\"(a, b) => a+b\",\"target\":{\"context\":\"c-1\"}}}";
+
+/// How many items stand in the list, and how many names in the map.
+const ITEMS: u32 = 150_000;
+
+const NAMES: u32 = 50_000;
+
+/// A list of whole numbers, of about 1 MB.
+pub fn list(alloc: Global) -> Result<String, AllocError> {
+    let mut text = String::from_str(alloc, "[100000")?;
+    for i in 1..ITEMS {
+        let number = 100_000 + i;
+        write!(text, ",{number}")?;
+    }
+    text.push_str("]")?;
+    Ok(text)
+}
+
+/// A map with 50,000 names, which come in an order of their own, of about 1 MB.
+pub fn map(alloc: Global) -> Result<String, AllocError> {
+    let mut text = String::from_str(alloc, "{")?;
+    for i in 0..NAMES {
+        let number = 100_000 + i * 7_919 % NAMES;
+        if i > 0 {
+            text.push_str(",")?;
+        }
+        write!(text, "\"name{number}\":{number}")?;
+    }
+    text.push_str("}")?;
+    Ok(text)
+}
+
+/// One text of 1 MB, with an escape in each 64 bytes.
+pub fn one_text(alloc: Global) -> Result<String, AllocError> {
+    let mut text = String::from_str(alloc, "\"")?;
+    for _ in 0..16_384 {
+        text.push_str("the quick brown fox jumps over the lazy dog, once and again..\\n")?;
+    }
+    text.push_str("\"")?;
+    Ok(text)
+}

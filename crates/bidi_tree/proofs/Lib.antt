@@ -1,0 +1,6 @@
+pub mod TreeLemmas
+pub mod CompactLemmas
+pub mod RoundTrip
+pub mod SoundLemmas
+pub mod MemberLemmas
+pub mod TextFacts

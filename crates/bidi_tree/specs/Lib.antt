@@ -1,0 +1,6 @@
+pub mod Number
+pub mod Node
+pub mod View
+pub mod Text
+pub mod Data
+pub mod Kind

@@ -1,0 +1,25 @@
+//! Numbers, trees and JSON text.
+//!
+//! A [`Tree`] is what a JSON text stands for: null, a truth value, a whole number that every reader holds
+//! exactly, `Odd` for any other number, a text, a list, or a map with distinct names. [`read`] gives the tree
+//! of a text, [`write`] the compact text of a tree, and what is written reads back as the tree.
+//!
+//! After RFC 8259, as `serde_json` reads it: of two members of one name the last stays, 127 levels are
+//! read, and a number too large for a float is not JSON.
+#![tactic(auto)]
+
+mod copying;
+mod number;
+mod reading;
+#[cfg(test)]
+mod tests;
+mod tree;
+mod whole;
+mod writing;
+
+pub use copying::copy_members;
+pub use number::{JsInt, JsUint};
+pub use reading::{ReadFault, read};
+pub use tree::{Members, Tree, find_member, put_member};
+pub use whole::are_whole;
+pub use writing::write;
