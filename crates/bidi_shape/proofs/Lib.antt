@@ -1,0 +1,3 @@
+pub mod FitsLemmas
+pub mod FitsTest
+pub mod ProfileFacts

@@ -1,0 +1,15 @@
+pub mod Name
+pub mod Term
+pub mod Profile
+pub mod Fits
+pub mod Parts
+pub mod Value
+pub mod Outcome
+pub mod KindLaws
+pub mod MapLaws
+pub mod OthersLaws
+pub mod ValueLaws
+pub mod ListLaws
+pub mod ChoiceLaws
+pub mod Table
+pub mod WordLaws

@@ -1,0 +1,34 @@
+//! Why a tree is not read.
+use std::alloc::{AllocError, AllocFailed};
+use thiserror::Error;
+
+/// Why a value was not read of a tree.
+#[derive(Clone, Copy, Debug, PartialEq, Eq, Drop, Error)]
+pub enum ShapeFault {
+    #[error("the tree does not fit the rule")]
+    NoFit,
+    #[error("out of memory")]
+    NoMemory,
+}
+
+impl From<AllocError> for ShapeFault {
+    ghost use Rattle.std.specs.Prelude.{◌≡◌};
+    ghost use Rattle.bidi_shape.specs.declared.fault.ShapeFault.TheVariants.{NoMemory};
+
+    ghost from_gives = { λ _ e. e ≡ NoMemory };
+
+    fn from(_error: AllocError) -> ShapeFault {
+        ShapeFault::NoMemory
+    }
+}
+
+impl<T: Drop> From<AllocFailed<T>> for ShapeFault {
+    ghost use Rattle.std.specs.Prelude.{◌≡◌};
+    ghost use Rattle.bidi_shape.specs.declared.fault.ShapeFault.TheVariants.{NoMemory};
+
+    ghost from_gives = { λ _ e. e ≡ NoMemory };
+
+    fn from(_error: AllocFailed<T>) -> ShapeFault {
+        ShapeFault::NoMemory
+    }
+}

@@ -1,0 +1,191 @@
+//! The members of a map, as a list of types.
+ghost use Rattle.std.specs.Prelude.{◌≡◌, ℕ, IfOk, OnOk, List, [], ◌∷◌, map, option_map, Option, Some, None, IfSome};
+ghost use Rattle.bidi_tree.specs.Node as tree;
+ghost use Rattle.bidi_tree.specs.View.{members_node};
+ghost use Rattle.bidi_shape.specs.Term.{Need, required as is_required, optional as is_optional, Openness, extensible, closed, Term, exactly, Rows, no_more, row};
+ghost use Rattle.bidi_shape.specs.Fits.{RowsFit, OthersFit, without, fits_exactly};
+ghost use Rattle.bidi_tree.specs.Node.{Members, no_members, AreAscending};
+ghost use Rattle.bidi_shape.specs.Parts.{PartsAt, PartsFit, texts_in};
+ghost use Rattle.bidi_shape.specs.Outcome.{IfNoFit};
+ghost use Rattle.bidi_shape.specs.ValueLaws.{others_of, SameOption, optional_fits, optional_one};
+ghost use Rattle.bidi_shape.specs.Table.{head, tail, same_head, same_tail, same_some, Table};
+
+use crate::ext::Ext;
+use crate::fault::ShapeFault;
+use crate::members::{literal, no_others, optional, others, required};
+use crate::shape::Shape;
+use bidi_tree::Members;
+use std::alloc::Global;
+
+/// The members of a map, one after the other.
+pub trait Fields: Drop {
+    /// The rows, their parts, and the laws of both.
+    ghost table: { Table Self };
+
+    /// Reads each member, and the others.
+    fn read<'a>(
+        alloc: Global,
+        members: &Members,
+        names: &'a [&'a str],
+        texts: &'a [&'a str],
+        known: &'a [&'a str],
+    ) -> Result<Self, ShapeFault>
+        ensures sorted { OnOk result (AreAscending (members_node members.now.entries)) }
+        ensures ok { IfOk result (λ f. PartsAt (table.rows (texts_in names.now) (texts_in texts.now)) (table.parts (texts_in texts.now) f) (members_node members.now.entries) × table.well f) }
+        ensures rest { IfOk result (λ f. (table.others f ≡ without (texts_in known.now) (members_node members.now.entries)) × OthersFit table.openness (table.others f)) }
+        ensures no_fit { IfNoFit result (RowsFit (members_node members.now.entries) (table.rows (texts_in names.now) (texts_in texts.now)) → OthersFit table.openness (without (texts_in known.now) (members_node members.now.entries)) → ⊥) };
+}
+
+/// The first text of a list, and the texts after it.
+fn next_text<'a>(texts: &'a [&'a str]) -> (&'a str, &'a [&'a str])
+    ensures first { result.0.now ≡ head (texts_in texts.now) }
+    ensures rest { texts_in result.1.now ≡ tail (texts_in texts.now) }
+{
+    match texts.split_first() {
+        Some((first, rest)) => (*first, rest),
+        None => ("", texts),
+    }
+}
+
+/// A member that has to be there.
+#[derive(Drop)]
+pub struct Required<X: Drop, F: Drop>(pub X, pub F);
+
+impl<X: Shape, F: Fields> Fields for Required<X, F> {
+    ghost table = { record {
+      rows = λ ks ws. row (head ks) is_required X.shape.rule (F.table.rows (tail ks) ws);
+      openness = F.table.openness;
+      parts = λ ws f. Some (X.shape.tree_of f.0) ∷ F.table.parts ws f.1;
+      others = λ f. F.table.others f.1;
+      well = λ f. X.shape.well f.0 × F.table.well f.1;
+      same = λ f g. X.shape.same f.0 g.0 × F.table.same f.1 g.1;
+      parts_fit = λ ks ws f w. (X.shape.fits f.0 w.0, F.table.parts_fit (tail ks) ws f.1 w.1);
+      one = λ ws f g a b e o. (X.shape.one_value f.0 g.0 a.0 b.0 (same_some (same_head e)), F.table.one ws f.1 g.1 a.1 b.1 (same_tail e) o);
+    } };
+
+    fn read<'a>(
+        alloc: Global,
+        members: &Members,
+        names: &'a [&'a str],
+        texts: &'a [&'a str],
+        known: &'a [&'a str],
+    ) -> Result<Required<X, F>, ShapeFault> {
+        let (name, names) = next_text(names);
+        let value = required(alloc, members, name)?;
+        let rest = F::read(alloc, members, names, texts, known)?;
+        Ok(Required(value, rest))
+    }
+}
+
+/// A member that may be there.
+#[derive(Drop)]
+pub struct Optional<X: Drop, F: Drop>(pub Option<X>, pub F);
+
+impl<X: Shape, F: Fields> Fields for Optional<X, F> {
+    ghost table = { record {
+      rows = λ ks ws. row (head ks) is_optional X.shape.rule (F.table.rows (tail ks) ws);
+      openness = F.table.openness;
+      parts = λ ws f. option_map X.shape.tree_of f.0 ∷ F.table.parts ws f.1;
+      others = λ f. F.table.others f.1;
+      well = λ f. IfSome f.0 X.shape.well × F.table.well f.1;
+      same = λ f g. SameOption X.shape.same f.0 g.0 × F.table.same f.1 g.1;
+      parts_fit = λ ks ws f w. (optional_fits X.shape.tree_of X.shape.well X.shape.rule X.shape.fits f.0 w.0, F.table.parts_fit (tail ks) ws f.1 w.1);
+      one = λ ws f g a b e o. (optional_one X.shape.tree_of X.shape.well X.shape.same X.shape.one_value f.0 g.0 a.0 b.0 (same_head e), F.table.one ws f.1 g.1 a.1 b.1 (same_tail e) o);
+    } };
+
+    fn read<'a>(
+        alloc: Global,
+        members: &Members,
+        names: &'a [&'a str],
+        texts: &'a [&'a str],
+        known: &'a [&'a str],
+    ) -> Result<Optional<X, F>, ShapeFault> {
+        let (name, names) = next_text(names);
+        let value = optional(alloc, members, name)?;
+        let rest = F::read(alloc, members, names, texts, known)?;
+        Ok(Optional(value, rest))
+    }
+}
+
+/// A member that is a given text.
+#[derive(Drop)]
+pub struct Literal<F: Drop>(pub F);
+
+impl<F: Fields> Fields for Literal<F> {
+    ghost table = { record {
+      rows = λ ks ws. row (head ks) is_required (exactly (head ws)) (F.table.rows (tail ks) (tail ws));
+      openness = F.table.openness;
+      parts = λ ws f. Some (tree.text (head ws)) ∷ F.table.parts (tail ws) f.0;
+      others = λ f. F.table.others f.0;
+      well = λ f. F.table.well f.0;
+      same = λ f g. F.table.same f.0 g.0;
+      parts_fit = λ ks ws f w. (fits_exactly (head ws), F.table.parts_fit (tail ks) (tail ws) f.0 w);
+      one = λ ws f g a b e o. F.table.one (tail ws) f.0 g.0 a b (same_tail e) o;
+    } };
+
+    fn read<'a>(
+        alloc: Global,
+        members: &Members,
+        names: &'a [&'a str],
+        texts: &'a [&'a str],
+        known: &'a [&'a str],
+    ) -> Result<Literal<F>, ShapeFault> {
+        let (name, names) = next_text(names);
+        let (text, texts) = next_text(texts);
+        literal(members, name, text)?;
+        let rest = F::read(alloc, members, names, texts, known)?;
+        Ok(Literal(rest))
+    }
+}
+
+/// Any other members may stand there.
+impl Fields for Ext {
+    ghost table = { record {
+      rows = λ ks ws. no_more;
+      openness = extensible;
+      parts = λ ws e. [];
+      others = others_of;
+      well = λ e. Unit {0};
+      same = λ e f. others_of e ≡ others_of f;
+      parts_fit = λ ks ws e w. tt;
+      one = λ ws e f a b p o. o;
+    } };
+
+    fn read<'a>(
+        alloc: Global,
+        members: &Members,
+        names: &'a [&'a str],
+        texts: &'a [&'a str],
+        known: &'a [&'a str],
+    ) -> Result<Ext, ShapeFault> {
+        others(members, known)
+    }
+}
+
+/// No other member may stand there.
+#[derive(Drop)]
+pub struct Closed;
+
+impl Fields for Closed {
+    ghost table = { record {
+      rows = λ ks ws. no_more;
+      openness = closed;
+      parts = λ ws e. [];
+      others = λ e. no_members;
+      well = λ e. Unit {0};
+      same = λ e f. Unit {0};
+      parts_fit = λ ks ws e w. tt;
+      one = λ ws e f a b p o. tt;
+    } };
+
+    fn read<'a>(
+        alloc: Global,
+        members: &Members,
+        names: &'a [&'a str],
+        texts: &'a [&'a str],
+        known: &'a [&'a str],
+    ) -> Result<Closed, ShapeFault> {
+        no_others(members, known)?;
+        Ok(Closed)
+    }
+}

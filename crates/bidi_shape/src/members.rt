@@ -1,0 +1,211 @@
+//! The members of a map, one by one.
+ghost use Rattle.std.specs.Prelude.{◌≡◌, IfOk, OnOk, OnErr, IsTrue, ◌↔◌, option_map, Some, IfSome};
+ghost use Rattle.bidi_tree.specs.Node.{put, get_member, IsWhole, MembersAreWhole, AreAscending, no_members};
+ghost use Rattle.bidi_tree.specs.View.{node, members_node};
+ghost use Rattle.bidi_shape.specs.Term.{required, optional};
+ghost use Rattle.bidi_shape.specs.Fits.{without};
+ghost use Rattle.bidi_shape.specs.Parts.{PartFits, put_part, has_named, texts_in};
+ghost use Rattle.bidi_shape.specs.Outcome.{IfNoFit};
+ghost use Rattle.std.specs.List.{list_any};
+ghost use Rattle.std.specs.Str.{bytes_eq};
+ghost use Rattle.bidi_tree.specs.Node as kind;
+ghost use Rattle.bidi_shape.specs.Term.{Rows, Openness, map_of, exactly};
+ghost use Rattle.bidi_shape.specs.Fits.{Fits};
+
+use crate::ext::Ext;
+use crate::fault::ShapeFault;
+use crate::shape::Shape;
+use bidi_tree::{Members, Tree, find_member, put_member};
+use std::alloc::{AllocError, Global};
+use std::default::Emptied;
+
+/// The most levels of a member that a rule does not name.
+const MAX_LEVELS: usize = 60;
+
+/// The value of a required member.
+pub(crate) fn required<X: Shape>(
+    alloc: Global,
+    members: &Members,
+    name: &str,
+) -> Result<X, ShapeFault>
+    ensures ok { IfOk result (λ v. (get_member name.now (members_node members.now.entries) ≡ Some (X.shape.tree_of v)) × X.shape.well v) }
+    ensures no_fit { IfNoFit result (PartFits required X.shape.rule (get_member name.now (members_node members.now.entries)) → ⊥) }
+{
+    match find_member(members, name) {
+        Some(tree) => X::from_tree(alloc, tree),
+        None => Err(ShapeFault::NoFit),
+    }
+}
+
+/// The value of an optional member, if it is there.
+pub(crate) fn optional<X: Shape>(
+    alloc: Global,
+    members: &Members,
+    name: &str,
+) -> Result<Option<X>, ShapeFault>
+    ensures ok { IfOk result (λ o. (get_member name.now (members_node members.now.entries) ≡ option_map X.shape.tree_of o) × IfSome o X.shape.well) }
+    ensures no_fit { IfNoFit result (PartFits optional X.shape.rule (get_member name.now (members_node members.now.entries)) → ⊥) }
+{
+    match find_member(members, name) {
+        Some(tree) => Ok(Some(X::from_tree(alloc, tree)?)),
+        None => Ok(None),
+    }
+}
+
+/// Puts a value's tree at a name, in place of a member of that name.
+///
+/// # Errors
+/// No memory: the members are as they were.
+pub fn add_member<X: Shape>(
+    alloc: Global,
+    members: &mut Members,
+    name: &str,
+    value: &X,
+) -> Result<(), AllocError>
+    ensures ok { OnOk result (members_node members.new.entries
+        ≡ put name.now (X.shape.tree_of value.now) (members_node members.old.entries)) }
+    ensures err { OnErr result (members_node members.new.entries ≡ members_node members.old.entries) }
+{
+    let tree = value.to_tree(alloc)?;
+    put_member(members, String::from_str(alloc, name)?, tree)
+}
+
+/// Puts a value's tree at a name, if there is a value.
+///
+/// # Errors
+/// No memory: the members are as they were.
+pub fn add_optional<X: Shape>(
+    alloc: Global,
+    members: &mut Members,
+    name: &str,
+    value: &Option<X>,
+) -> Result<(), AllocError>
+    ensures ok { OnOk result (members_node members.new.entries
+        ≡ put_part name.now (option_map X.shape.tree_of value.now) (members_node members.old.entries)) }
+    ensures err { OnErr result (members_node members.new.entries ≡ members_node members.old.entries) }
+{
+    match value {
+        Some(value) => add_member(alloc, members, name, value),
+        None => Ok(()),
+    }
+}
+
+fn is_listed(names: &[&str], name: &str) -> bool
+    ensures { result ≡ list_any (bytes_eq name.now) (texts_in names.now) }
+{
+    for known in names {
+        if name == *known {
+            return true;
+        }
+    }
+    false
+}
+
+/// Whether a member has one of the names.
+pub(crate) fn has_listed(members: &Members, names: &[&str]) -> bool
+    ensures { result ≡ has_named (texts_in names.now) (members_node members.now.entries) }
+{
+    for (name, _) in members.iter() {
+        if is_listed(names, name.as_str()) {
+            return true;
+        }
+    }
+    false
+}
+
+/// Whether a tree fits `any`: no `Odd` stands in it, and it has at most 60 levels.
+fn fits_any(tree: &Tree) -> bool
+    ensures { IsTrue result ↔ IsWhole (node tree.now) 60 }
+{
+    tree.is_whole(MAX_LEVELS)
+}
+
+/// The members that are not listed, each of which fits any.
+pub(crate) fn others(members: &Members, names: &[&str]) -> Result<Ext, ShapeFault>
+    ensures sorted { OnOk result (AreAscending (members_node members.now.entries)) }
+    ensures rest { IfOk result (λ e. members_node e.members.entries ≡ without (texts_in names.now) (members_node members.now.entries)) }
+    ensures whole { IfOk result (λ e. MembersAreWhole (members_node e.members.entries) 60) }
+    ensures no_fit { IfNoFit result (MembersAreWhole (without (texts_in names.now) (members_node members.now.entries)) 60 → ⊥) }
+{
+    let mut rest = Members::emptied(members)?;
+    for (name, member) in members.iter() {
+        if is_listed(names, name.as_str()) {
+            continue;
+        }
+        if !fits_any(member) {
+            return Err(ShapeFault::NoFit);
+        }
+        put_member(&mut rest, name.clone()?, member.clone()?)?;
+    }
+    // The contract of `len` has the order of the names, which an `Ext` keeps.
+    let _ = rest.len();
+    Ok(Ext { members: rest })
+}
+
+/// That all members are listed.
+pub(crate) fn no_others(members: &Members, names: &[&str]) -> Result<(), ShapeFault>
+    ensures sorted { OnOk result (AreAscending (members_node members.now.entries)) }
+    ensures rest { OnOk result (without (texts_in names.now) (members_node members.now.entries) ≡ no_members) }
+    ensures no_fit { IfNoFit result (without (texts_in names.now) (members_node members.now.entries) ≡ no_members → ⊥) }
+{
+    for (name, _) in members.iter() {
+        if !is_listed(names, name.as_str()) {
+            return Err(ShapeFault::NoFit);
+        }
+    }
+    Ok(())
+}
+
+/// The members of a map.
+pub(crate) fn map_inside(tree: &Tree) -> Result<&Members, ShapeFault>
+    ensures ok { IfOk result (λ m. kind.map (members_node m.now.entries) ≡ node tree.now) }
+    ensures no_fit { IfNoFit result ((rs : Rows) (o : Openness) → Fits (node tree.now) (map_of rs o) → ⊥) }
+{
+    tree.as_map().ok_or(ShapeFault::NoFit)
+}
+
+/// That a member is a given text.
+pub(crate) fn literal(members: &Members, name: &str, text: &str) -> Result<(), ShapeFault>
+    ensures ok { OnOk result (get_member name.now (members_node members.now.entries) ≡ Some (kind.text text.now)) }
+    ensures no_fit { IfNoFit result (PartFits required (exactly text.now) (get_member name.now (members_node members.now.entries)) → ⊥) }
+{
+    match find_member(members, name) {
+        Some(tree) => is_literal(tree, text),
+        None => Err(ShapeFault::NoFit),
+    }
+}
+
+/// That a tree is a given text.
+fn is_literal(tree: &Tree, text: &str) -> Result<(), ShapeFault>
+    ensures ok { OnOk result (node tree.now ≡ kind.text text.now) }
+    ensures no_fit { IfNoFit result (Fits (node tree.now) (exactly text.now) → ⊥) }
+{
+    match tree.as_text() {
+        Some(found) => {
+            if found.as_str() == text {
+                Ok(())
+            } else {
+                Err(ShapeFault::NoFit)
+            }
+        }
+        None => Err(ShapeFault::NoFit),
+    }
+}
+
+/// Puts a text at a name, in place of a member of that name.
+///
+/// # Errors
+/// No memory: the members are as they were.
+pub fn add_literal(
+    alloc: Global,
+    members: &mut Members,
+    name: &str,
+    text: &str,
+) -> Result<(), AllocError>
+    ensures ok { OnOk result (members_node members.new.entries
+        ≡ put name.now (kind.text text.now) (members_node members.old.entries)) }
+    ensures err { OnErr result (members_node members.new.entries ≡ members_node members.old.entries) }
+{
+    let tree = Tree::Text(String::from_str(alloc, text)?);
+    put_member(members, String::from_str(alloc, name)?, tree)
+}

@@ -1,0 +1,34 @@
+//! Types whose values are the trees that fit a rule.
+ghost use Rattle.std.specs.Prelude.{◌≡◌, IfOk};
+ghost use Rattle.bidi_tree.specs.View.{node};
+ghost use Rattle.bidi_shape.specs.Value.{ShapeOf};
+ghost use Rattle.bidi_shape.specs.Fits.{Fits};
+ghost use Rattle.bidi_shape.specs.Outcome.{IfNoFit};
+
+use crate::fault::ShapeFault;
+use bidi_tree::Tree;
+use std::alloc::{AllocError, Global};
+
+/// A type whose values are the trees that fit a rule.
+///
+/// Its laws: the tree of a well value fits the rule, and one tree is the tree of one well value.
+pub trait Shape: Drop {
+    // The rule, the tree of a value, when a value is well, and the laws.
+    ghost shape: { ShapeOf Self };
+
+    /// Reads the value whose tree this is.
+    ///
+    /// # Errors
+    /// - `NoFit`: the tree does not fit the rule.
+    /// - `NoMemory`: a growth was refused.
+    fn from_tree(alloc: Global, tree: &Tree) -> Result<Self, ShapeFault>
+        ensures ok { IfOk result (λ v. (shape.tree_of v ≡ node tree.now) × shape.well v) }
+        ensures no_fit { IfNoFit result (Fits (node tree.now) shape.rule → ⊥) };
+
+    /// Makes the tree of the value.
+    ///
+    /// # Errors
+    /// No memory, where a growth was refused.
+    fn to_tree(&self, alloc: Global) -> Result<Tree, AllocError>
+        ensures { IfOk result (λ t. node t ≡ shape.tree_of self.now) };
+}

@@ -1,0 +1,42 @@
+//! A map, read whole.
+ghost use Rattle.std.specs.Prelude.{◌≡◌, IfOk};
+ghost use Rattle.bidi_tree.specs.View.{node};
+ghost use Rattle.bidi_shape.specs.Term.{Term};
+ghost use Rattle.bidi_shape.specs.Fits.{Fits};
+ghost use Rattle.bidi_shape.specs.Outcome.{IfNoFit};
+ghost use Rattle.bidi_shape.specs.Term.{map_of};
+ghost use Rattle.bidi_shape.specs.Table.{IsTable, tree_by, good_by, unfolded};
+ghost use Rattle.bidi_shape.specs.Parts.{texts_in};
+
+use crate::fault::ShapeFault;
+use crate::fields::Fields;
+use crate::members::map_inside;
+use bidi_tree::Tree;
+use std::alloc::Global;
+
+/// A type whose values are maps, by its rule.
+pub trait Ruled {
+    ghost rule: { Term };
+}
+
+/// Reads a whole map: its members by their names, and the texts of its literal members, in order.
+///
+/// # Errors
+/// - `NoFit`: the tree does not fit the rule.
+/// - `NoMemory`: a growth was refused.
+pub fn read_fields<'a, V: Ruled, F: Fields>(
+    alloc: Global,
+    tree: &Tree,
+    names: &'a [&'a str],
+    texts: &'a [&'a str],
+) -> Result<F, ShapeFault>
+    requires says { unfolded V.rule ≡ map_of (F.table.rows (texts_in names.now) (texts_in texts.now)) F.table.openness }
+    requires table { IsTable (texts_in names.now) (F.table.rows (texts_in names.now) (texts_in texts.now)) }
+    ensures ok { IfOk result (λ f. (tree_by F.table (texts_in names.now) (texts_in texts.now) f ≡ node tree.now)
+        × good_by F.table (texts_in names.now) (texts_in texts.now) f) }
+    ensures no_fit { IfNoFit result (Fits (node tree.now) V.rule → ⊥) }
+{
+    let members = map_inside(tree)?;
+    let fields = F::read(alloc, members, names, texts, names)?;
+    Ok(fields)
+}

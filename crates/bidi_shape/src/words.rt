@@ -1,0 +1,52 @@
+//! Types whose values are a few texts.
+ghost use Rattle.std.specs.Prelude.{◌≡◌, IfOk};
+ghost use Rattle.bidi_tree.specs.Node as kind;
+ghost use Rattle.bidi_tree.specs.View.{node};
+ghost use Rattle.bidi_shape.specs.Fits.{Fits};
+ghost use Rattle.bidi_shape.specs.Outcome.{IfNoFit};
+ghost use Rattle.bidi_shape.specs.WordLaws.{Words, value_named};
+
+use crate::fault::ShapeFault;
+use bidi_tree::Tree;
+use std::alloc::{AllocError, Global};
+
+/// A type whose values are a few texts: `"a" / "b" / ..`.
+pub trait Named: Drop {
+    // The rule, the table of texts and values, and that each value's text names it.
+    ghost words: { Words Self };
+
+    /// The value of that text. Takes no memory.
+    fn named(text: &str) -> Option<Self>
+        ensures { result ≡ value_named words.first words.rest text.now };
+
+    /// Its text. Takes no memory.
+    fn name(&self) -> &'static str
+        ensures { result.now ≡ words.text_of self.now };
+}
+
+/// Reads the value whose text the tree is.
+///
+/// # Errors
+/// `NoFit`: the tree is no text of the type.
+pub fn read_word<W: Named>(tree: &Tree) -> Result<W, ShapeFault>
+    ensures ok { IfOk result (λ w. kind.text (W.words.text_of w) ≡ node tree.now) }
+    ensures no_fit { IfNoFit result (Fits (node tree.now) W.words.rule → ⊥) }
+{
+    match tree.as_text() {
+        Some(text) => match W::named(text.as_str()) {
+            Some(word) => Ok(word),
+            None => Err(ShapeFault::NoFit),
+        },
+        None => Err(ShapeFault::NoFit),
+    }
+}
+
+/// Makes the tree of the value's text.
+///
+/// # Errors
+/// No memory, where a growth was refused.
+pub fn write_word<W: Named>(alloc: Global, word: &W) -> Result<Tree, AllocError>
+    ensures { IfOk result (λ t. node t ≡ kind.text (W.words.text_of word.now)) }
+{
+    Ok(Tree::Text(String::from_str(alloc, word.name())?))
+}
