@@ -1,0 +1,39 @@
+-- The messages of the remote end, as trees and as texts. After WebDriver BiDi, "Protocol".
+use Rattle.std.specs.Prelude.{ℕ, pos, List, Option, Some, None, Bool, codes}
+use Rattle.bidi_tree.specs.Node.{Node, null, boolean, whole, text, map, no_members, member}
+use Rattle.bidi_tree.specs.Text.{compact_text}
+use Rattle.bidi_messages.specs.declared.error_code.ErrorCode.{ErrorCode}
+use Rattle.bidi_messages.specs.ErrorCode.{error_code_text}
+
+-- an id, or null where there is none
+abbrev pub id_tree : Option ℕ → Node
+id_tree None = null
+id_tree (Some n) = whole (pos n)
+
+-- `{ type: "success", id: js-uint, result: { Extensible } }`, its members in byte order
+abbrev pub response_tree : ℕ → Node → Node
+response_tree id result = map (
+    member (codes "id") (whole (pos id)) (
+    member (codes "result") result (
+    member (codes "type") (text (codes "success")) no_members)))
+
+-- `{ type: "error", id: js-uint / null, error: ErrorCode, message: text }`, the message being the code's text
+abbrev pub error_tree : Option ℕ → ErrorCode → Node
+error_tree id code = map (
+    member (codes "error") (text (error_code_text code)) (
+    member (codes "id") (id_tree id) (
+    member (codes "message") (text (error_code_text code)) (
+    member (codes "type") (text (codes "error")) no_members))))
+
+-- `StatusResult = { ready: bool, message: text }`
+abbrev pub status_tree : Bool → List ℕ → Node
+status_tree ready message = map (
+    member (codes "message") (text message) (
+    member (codes "ready") (boolean ready) no_members))
+
+-- what is written
+abbrev pub response_text : ℕ → Node → List ℕ
+response_text id result = compact_text (response_tree id result)
+
+abbrev pub error_text : Option ℕ → ErrorCode → List ℕ
+error_text id code = compact_text (error_tree id code)

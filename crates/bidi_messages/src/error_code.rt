@@ -1,0 +1,89 @@
+//! Error codes.
+ghost use Rattle.std.specs.Prelude.{◌≡◌};
+ghost use Rattle.bidi_messages.specs.ErrorCode.{error_code_text};
+
+/// Why a command was refused.
+///
+/// After WebDriver BiDi, "Errors"; the list is the profile's.
+#[derive(Clone, Copy, Debug, PartialEq, Eq)]
+pub enum ErrorCode {
+    /// An argument of the command is not as the rules or the checks ask.
+    InvalidArgument,
+    /// A selector is not valid.
+    InvalidSelector,
+    /// The command needs a session, and the connection has none.
+    InvalidSessionId,
+    /// The target of a move lies outside the viewport.
+    MoveTargetOutOfBounds,
+    /// There is no user prompt.
+    NoSuchAlert,
+    /// There is no such element.
+    NoSuchElement,
+    /// There is no such browsing context, or no such realm.
+    NoSuchFrame,
+    /// There is no such handle in the realm.
+    NoSuchHandle,
+    /// There is no such entry of the session history.
+    NoSuchHistoryEntry,
+    /// There is no such network intercept.
+    NoSuchIntercept,
+    /// There is no such shared node.
+    NoSuchNode,
+    /// There is no such network request.
+    NoSuchRequest,
+    /// There is no such preload script.
+    NoSuchScript,
+    /// There is no such storage partition.
+    NoSuchStoragePartition,
+    /// There is no such user context.
+    NoSuchUserContext,
+    /// A session could not be made.
+    SessionNotCreated,
+    /// A screenshot could not be made.
+    UnableToCaptureScreen,
+    /// The browser could not be closed.
+    UnableToCloseBrowser,
+    /// A cookie could not be set.
+    UnableToSetCookie,
+    /// A file input could not be set.
+    UnableToSetFileInput,
+    /// There is no command of that name.
+    UnknownCommand,
+    /// The command failed for another reason, as a limit that was met.
+    UnknownError,
+    /// The command asks for what the remote end does not do.
+    UnsupportedOperation,
+}
+
+impl ErrorCode {
+    /// Its text in a message. Takes no memory.
+    pub fn name(&self) -> &'static str
+        ensures { result.now ≡ error_code_text self.now }
+    {
+        match self {
+            ErrorCode::InvalidArgument => "invalid argument",
+            ErrorCode::InvalidSelector => "invalid selector",
+            ErrorCode::InvalidSessionId => "invalid session id",
+            ErrorCode::MoveTargetOutOfBounds => "move target out of bounds",
+            ErrorCode::NoSuchAlert => "no such alert",
+            ErrorCode::NoSuchElement => "no such element",
+            ErrorCode::NoSuchFrame => "no such frame",
+            ErrorCode::NoSuchHandle => "no such handle",
+            ErrorCode::NoSuchHistoryEntry => "no such history entry",
+            ErrorCode::NoSuchIntercept => "no such intercept",
+            ErrorCode::NoSuchNode => "no such node",
+            ErrorCode::NoSuchRequest => "no such request",
+            ErrorCode::NoSuchScript => "no such script",
+            ErrorCode::NoSuchStoragePartition => "no such storage partition",
+            ErrorCode::NoSuchUserContext => "no such user context",
+            ErrorCode::SessionNotCreated => "session not created",
+            ErrorCode::UnableToCaptureScreen => "unable to capture screen",
+            ErrorCode::UnableToCloseBrowser => "unable to close browser",
+            ErrorCode::UnableToSetCookie => "unable to set cookie",
+            ErrorCode::UnableToSetFileInput => "unable to set file input",
+            ErrorCode::UnknownCommand => "unknown command",
+            ErrorCode::UnknownError => "unknown error",
+            ErrorCode::UnsupportedOperation => "unsupported operation",
+        }
+    }
+}

@@ -1,0 +1,103 @@
+//! How a text is judged.
+ghost use Rattle.std.specs.Prelude.{◌≡◌, IfOk, option_map};
+ghost use Rattle.bidi_tree.specs.Kind.{text_in};
+ghost use Rattle.bidi_tree.specs.View.{node};
+ghost use Rattle.bidi_messages.specs.Verdict as judged;
+ghost use Rattle.bidi_messages.specs.View.{verdict_of};
+
+use crate::command::Command;
+use crate::error_code::ErrorCode;
+use crate::method::Method;
+use bidi_shape::{Shape, ShapeFault};
+use bidi_tree::{JsUint, ReadFault, Tree, read};
+use std::alloc::{AllocError, Global};
+
+/// The most bytes of a command text.
+const MAX_COMMAND_BYTES: usize = 1_048_576;
+
+/// What a text is judged to be: a command, or refused with the id and the code of its error.
+#[derive(Drop)]
+pub enum Verdict {
+    Accepted(Command),
+    Refused { id: Option<JsUint>, code: ErrorCode },
+}
+
+/// Judges a text.
+///
+/// A text that is not JSON, or longer than 1,048,576 bytes, is refused as an invalid argument, with no id.
+/// A tree that fits no command is refused with its member `id` where that is a js-uint: as an unknown command
+/// where its `method` is a text that names none, else as an invalid argument.
+///
+/// # Errors
+/// No memory, where a growth was refused.
+///
+/// After WebDriver BiDi, "Transport".
+pub fn judge(alloc: Global, text: &str) -> Result<Verdict, AllocError>
+    ensures verdict { IfOk result (λ v. judged.IsVerdict text.now (verdict_of v)) }
+    ensures no_other { IfOk result (λ v. (w : judged.Verdict) → judged.IsVerdict text.now w → w ≡ verdict_of v) }
+{
+    let Some(tree) = command_tree(alloc, text)? else {
+        return Ok(Verdict::Refused {
+            id: None,
+            code: ErrorCode::InvalidArgument,
+        });
+    };
+    match Command::from_tree(alloc, &tree) {
+        Ok(command) => Ok(Verdict::Accepted(command)),
+        Err(ShapeFault::NoMemory) => Err(AllocError),
+        Err(ShapeFault::NoFit) => Ok(Verdict::Refused {
+            id: echoed_id(&tree),
+            code: refusal_code(&tree),
+        }),
+    }
+}
+
+/// The tree of a command text, if it has one.
+fn command_tree(alloc: Global, text: &str) -> Result<Option<Tree>, AllocError>
+    ensures { IfOk result (λ o. option_map node o ≡ judged.command_tree text.now) }
+{
+    match read(alloc, text, Some(MAX_COMMAND_BYTES)) {
+        Ok(tree) => Ok(Some(tree)),
+        Err(ReadFault::NotJson) => Ok(None),
+        Err(ReadFault::TooLong) => Ok(None),
+        Err(ReadFault::NoMemory) => Err(AllocError),
+    }
+}
+
+/// The id that the refusal of a tree echoes.
+fn echoed_id(tree: &Tree) -> Option<JsUint>
+    ensures { option_map (λ n. n.value) result ≡ judged.echoed_id (node tree.now) }
+{
+    match tree.get("id") {
+        Some(id) => js_uint_in(id),
+        None => None,
+    }
+}
+
+fn js_uint_in(tree: &Tree) -> Option<JsUint>
+    ensures { option_map (λ n. n.value) result ≡ judged.js_uint_in (node tree.now) }
+{
+    match tree.as_int() {
+        Some(n) if n.value >= 0 => JsUint::new(n.value as u64),
+        _ => None,
+    }
+}
+
+/// The code of a tree that fits no command.
+fn refusal_code(tree: &Tree) -> ErrorCode
+    ensures { result ≡ judged.refusal_code (node tree.now) }
+{
+    match tree.get("method") {
+        Some(method) => code_for_method(method),
+        None => ErrorCode::InvalidArgument,
+    }
+}
+
+fn code_for_method(method: &Tree) -> ErrorCode
+    ensures { result ≡ judged.code_for_method (text_in (node method.now)) }
+{
+    match method.as_text() {
+        Some(name) if Method::named(name.as_str()).is_none() => ErrorCode::UnknownCommand,
+        _ => ErrorCode::InvalidArgument,
+    }
+}
