@@ -1,0 +1,14 @@
+pub mod ResultLemmas
+pub mod ConnectionLemmas
+pub mod TurnLemmas
+pub mod DigitLemmas
+pub mod WordLemmas
+pub mod FeedLemmas
+pub mod DeviceLemmas
+pub mod AnswerLemmas
+pub mod PlayLemmas
+pub mod ReadingLemmas
+pub mod OneTextLemmas
+mod CommandLineFacts
+mod CommandLineLemmas
+mod PlayLines

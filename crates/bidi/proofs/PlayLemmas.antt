@@ -1,0 +1,79 @@
+-- One more line of a play.
+use Rattle.std.proofs.Common.{◌≡◌, ℕ, ◌≤◌, Bool, false, List, [], ◌∷◌, ◌++◌, length, reverse, take, drop, take-append-drop, append_assoc, append-nil, arith, refl, sym, ◌∙◌, ap, subst, Ok, Err}
+use Rattle.std.specs.Prelude.{Result, IsErr, IsErrAnd, IfErr}
+use Rattle.std.specs.List.{AllByRecursion}
+use Rattle.std.proofs.lemmas.Grind.{flat_map-append}
+use Rattle.bidi.specs.Step.{Step}
+use Rattle.bidi.specs.Sent.{Sent}
+use Rattle.bidi.specs.History.{Input, IsHeardAs}
+use Rattle.bidi.specs.Machine.{answers, out}
+use Rattle.bidi.specs.Lines.{line_of, ended, said, CanBeSaid, has_feed, written, sent_line}
+use Rattle.bidi.specs.Plays.{AreHeardAs, Play, PlaysPart, HasNoPlayLine, StopsAt}
+use Rattle.bidi.specs.Faults.{play_fault_of}
+use Rattle.bidi.specs.declared.remote_end.RemoteFault.{RemoteFault}
+use Rattle.bidi.specs.declared.remote_end.RemoteFault.TheVariants as remote
+use Rattle.bidi.specs.declared.playing.PlayFault.{PlayFault}
+use Rattle.bidi.proofs.AnswerLemmas.{answers_more}
+use Rattle.bidi.proofs.FeedLemmas.{one_front}
+
+pub all_more : (steps : List Step) (s : Step) → AllByRecursion CanBeSaid steps → CanBeSaid s → AllByRecursion CanBeSaid (steps ++ s ∷ [])
+all_more [] s a c = (c, tt)
+all_more (y ∷ ys) s a c = (a.0, all_more ys s a.1 c)
+
+pub heard_more : (steps : List Step) (inputs : List Input) (s : Step) (i : Input) → AreHeardAs steps inputs → IsHeardAs s i → AreHeardAs (steps ++ s ∷ []) (inputs ++ i ∷ [])
+heard_more [] [] s i a h = (h, tt)
+heard_more [] (j ∷ inputs) s i a h = absurd a
+heard_more (y ∷ ys) [] s i a h = absurd a
+heard_more (y ∷ ys) (j ∷ inputs) s i a h = (a.0, heard_more ys inputs s i a.1 h)
+
+pub regroup : (front line more : List ℕ) → (front ++ (ended line ++ [])) ++ more ≡ front ++ (line ++ 10 ∷ more)
+regroup front line more =
+    append_assoc front (ended line ++ []) more
+    ∙ ap (λ (z : List ℕ). front ++ z) (append_assoc (ended line) [] more ∙ append_assoc line (10 ∷ []) more)
+
+-- a play that goes on by one line
+unfoldable pub play_more : (bytes rest line more : List ℕ) (steps : List Step) (text : List ℕ) (s : Step) (i : Input) (p : Play bytes steps rest text)
+    → rest ≡ line ++ 10 ∷ more → line ≡ line_of s → CanBeSaid s → IsHeardAs s i → Play bytes (steps ++ s ∷ []) more (text ++ written (out (reverse p.inputs) i))
+play_more bytes rest line more steps text s i p r l c h =
+    let say : Step → List ℕ = λ z. ended (line_of z) in
+    record {
+      lines = p.lines ∙ (ap (λ (z : List ℕ). said steps ++ z) (r ∙ ap (λ (z : List ℕ). z ++ 10 ∷ more) l)
+          ∙ sym (ap (λ (z : List ℕ). z ++ more) (flat_map-append say steps (s ∷ [])) ∙ regroup (said steps) (line_of s) more));
+      each = all_more steps s p.each c;
+      inputs = p.inputs ++ i ∷ [];
+      heard = heard_more steps p.inputs s i p.heard h;
+      answer = ap (λ (z : List ℕ). z ++ written (out (reverse p.inputs) i)) p.answer
+          ∙ sym (ap written (answers_more p.inputs i) ∙ flat_map-append (λ (z : Sent). ended (sent_line z)) (answers p.inputs) (out (reverse p.inputs) i));
+    }
+
+-- as many steps as inputs
+pub length-heard : (steps : List Step) (inputs : List Input) → AreHeardAs steps inputs → length inputs ≡ length steps
+length-heard [] [] a = refl
+length-heard [] (j ∷ inputs) a = absurd a
+length-heard (y ∷ ys) [] a = absurd a
+length-heard (y ∷ ys) (j ∷ inputs) a = let ih = length-heard ys inputs a.1 in omega (arith, ih)
+
+-- all that was written so far is a beginning of it
+pub part_so_far : (bytes rest : List ℕ) (steps : List Step) (wrote : List ℕ) → Play bytes steps rest wrote → PlaysPart bytes wrote
+part_so_far bytes rest steps wrote p = (steps, rest, wrote, [], p, sym (append-nil wrote))
+
+-- so is that and a beginning of the next text
+pub part_of_text : (bytes rest : List ℕ) (steps : List Step) (wrote text : List ℕ) (n : ℕ) → Play bytes steps rest (wrote ++ text) → PlaysPart bytes (wrote ++ take n text)
+part_of_text bytes rest steps wrote text n p =
+    (steps, rest, wrote ++ text, drop n text, p, ap (λ (t : List ℕ). wrote ++ t) (sym (take-append-drop n text)) ∙ sym (append_assoc wrote (take n text) (drop n text)))
+
+-- a fault of the remote end stops a play
+pub remote_stop : (e : RemoteFault) (at_end : Bool) (bytes rest : List ℕ) (steps : List Step) (wrote : List ℕ) → Play bytes steps rest wrote
+    → (e ≡ remote.WornOut → 1000000000 ≤ length steps) → StopsAt (play_fault_of e) at_end bytes wrote
+remote_stop remote.NoMemory at_end bytes rest steps wrote p worn = part_so_far bytes rest steps wrote p
+remote_stop remote.WornOut at_end bytes rest steps wrote p worn = (steps, rest, p, worn refl)
+
+-- what holds of the fault that a call gives holds of its result
+pub by_fault : {T : Type 0} (r : Result T PlayFault) (f : PlayFault) (P : PlayFault → Type 0) → IsErr r × IsErrAnd r (λ x. x ≡ f) → P f → IfErr r P
+by_fault (Ok x) f P e p = tt
+by_fault (Err x) f P e p = subst P (sym e.1) p
+
+-- a line that says no step begins no play
+pub no_line : (line more rest : List ℕ) → rest ≡ line ++ 10 ∷ more → has_feed line ≡ false → ((s : Step) → CanBeSaid s → line ≡ line_of s → ⊥) → HasNoPlayLine rest
+no_line line more rest r f none s after c e =
+    none s c (one_front 10 line more (line_of s) after f c.one_line (sym r ∙ (e ∙ append_assoc (line_of s) (10 ∷ []) after))).0

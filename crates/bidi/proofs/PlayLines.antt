@@ -1,0 +1,203 @@
+-- The lines in which clap finds no fault are `play` and `play --`.
+use Rattle.std.proofs.Common.{◌≡◌, ◌⊎◌, ℕ, Bool, true, false, zero, suc, List, [], ◌∷◌, ◌++◌, Option, None, Some, codes, refl, sym, ap, ap₂, subst, ◌||◌, ◌∙◌, inl, inr, cond, slice_get, length, bytes_eq, is_some, option_map, append-nil, append_assoc}
+use Rattle.std.specs.Str.{chars}
+use Rattle.std.specs.List.{fold}
+use Rattle.clap.specs.Lexer.{long_of, short_of}
+use Rattle.clap.specs.Walk.{Held, Names, Rule, Step, Text, Walk, finished, nothing_held, settled, subcommand_or_other, walk_from, has_long, has_short, long_or_other, short_or_plain, bundle_met, bundle_step, after_flag, walked}
+use Rattle.clap.specs.Walk as walk
+use Rattle.clap.specs.Simple.{App, Shape, built, entered, filled, help_rule, names_of, with_index}
+use Rattle.clap.specs.Faults.{bundle_fault, bundle_step_fault, check_fault, defaults_fault, entered_fault, flag_word_fault, flags_fault, level_fault, long_fault, other_fault, settle_fault, short_fault, step_fault, stray_fault, turn_fault, walk_fault}
+use Rattle.clap.specs.Kinds.{Kinds, or_else}
+use Rattle.std.specs.Option.{option_map_or}
+use Rattle.std.proofs.lemmas.Slice.Eq.{bytes_eq-Decides}
+use Rattle.clap.proofs.OnLiterals.{clap_on_literals}
+use Rattle.bidi.specs.declared.arguments.Run.{Run}
+use Rattle.bidi.specs.declared.arguments.Run.TheVariants.{Play}
+use Rattle.bidi.specs.CommandLine.{AsksFor, bidi_app, faults_of}
+
+-- the one option of each command
+abbrev help : Rule
+help = with_index 1 (filled help_rule)
+
+abbrev rules : List Rule
+rules = help ∷ []
+
+-- what follows a first fault comes only where there is none
+or_else-nil : (a b : Kinds) → or_else a b ≡ [] → (a ≡ []) × (b ≡ [])
+or_else-nil [] b none = (refl, none)
+or_else-nil (k ∷ ks) b none = absurd cc
+
+-- ---- a word that is no subcommand
+
+-- a step that gives the word to a positional finds none
+abbrev step_part : Kinds → Step → Kinds
+step_part stray walk.value = stray
+step_part stray _ = []
+
+-- `--name`, where the option is known or not
+long_refused : (is_known : Bool) (value : Option Text) (next : Kinds) → or_else (long_fault rules false (cond is_known (Some help) None) value nothing_held) next ≡ [] → ⊥
+long_refused true (Some value) next none = cc
+long_refused true None next none = cc
+long_refused false value next none = cc
+
+-- the first character of `-abc`, where the option is known or not
+short_refused : (is_known : Bool) (rest : Text) (more : Held → Kinds) (next : Kinds) → or_else (short_fault rules false (cond is_known (Some help) None) rest nothing_held more) next ≡ [] → ⊥
+short_refused true rest more next none = cc
+short_refused false rest more next none = cc
+
+module _ (stray : Kinds) (some : stray ≡ [] → ⊥) (word : Text) where
+  -- `-abc`, by its first character
+  step_refused : (first : Option ℕ) (k : ℕ) (flags : Text)
+      → or_else (bundle_step_fault rules false first flags 0 nothing_held (flags_fault rules false k))
+      (step_part stray (after_flag rules walk.idle word (bundle_step rules first flags 0 walk.plain nothing_held (bundle_met rules k)).0 (bundle_step rules first flags 0 walk.plain nothing_held (bundle_met rules k)).1).1) ≡ [] → ⊥
+  step_refused None k flags none = some none
+  step_refused (Some x) k flags none = short_refused (has_short help x) _ _ _ none
+
+  bundle_refused : (n : ℕ) (flags : Text)
+      → or_else (flags_fault rules false n flags 0 nothing_held)
+      (step_part stray (after_flag rules walk.idle word (bundle_met rules n flags 0 walk.plain nothing_held).0 (bundle_met rules n flags 0 walk.plain nothing_held).1).1) ≡ [] → ⊥
+  unfolding clap_on_literals
+  bundle_refused zero flags none = some none
+  bundle_refused (suc k) flags none = step_refused (slice_get (chars flags) 0) k flags none
+
+  -- a word that is no `--name`
+  plain_refused : (short : Option Text) → or_else (option_map_or (λ flags. bundle_fault rules false flags nothing_held) short [])
+      (step_part stray (short_or_plain rules walk.idle word short nothing_held).1) ≡ [] → ⊥
+  plain_refused (Some flags) none = bundle_refused (length flags) flags none
+  plain_refused None none = some none
+
+  word_refused : (long : Option (Text × Option Text)) → or_else (flag_word_fault rules false long word nothing_held)
+      (step_part stray (long_or_other rules walk.idle word long nothing_held).1) ≡ [] → ⊥
+  word_refused (Some p) none = long_refused (has_long help p.0) p.1 _ none
+  word_refused None none = plain_refused (short_of word) none
+
+  -- a word that is no subcommand passes only as `--`
+  turn_refused : (is_end : Bool) (long : Option (Text × Option Text)) → or_else (cond is_end [] (flag_word_fault rules false long word nothing_held))
+      (step_part stray (cond is_end (nothing_held, walk.trailing 1) (long_or_other rules walk.idle word long nothing_held)).1) ≡ [] → is_end ≡ true
+  turn_refused true long none = refl
+  turn_refused false long none = absurd (word_refused long none)
+
+-- ---- the two commands
+
+abbrev dashes : Text
+dashes = codes "--"
+
+abbrev play : Text
+play = codes "play"
+
+abbrev app : App
+app = built bidi_app
+
+abbrev top : Shape
+top = app.top
+
+abbrev names : Names
+names = names_of app
+
+abbrev first_shape : List Shape → Shape
+first_shape [] = top
+first_shape (s ∷ rest) = s
+
+-- `play` as it is built
+abbrev leaf : Shape
+leaf = first_shape app.subs
+
+-- what is found after the walk
+abbrev later : Shape → Names → List Text → Bool → Kinds
+later s known line has_subcommand =
+    let end = (walk.walk s.rules known nothing_held line).held in
+    or_else (settle_fault s.rules s.args_override_self end)
+    (or_else (defaults_fault (settled s.rules end).rows s.rules) (check_fault s (finished s.rules end) has_subcommand))
+
+-- ---- the words after `play`
+
+leaf_turn : (word : Text) → turn_fault leaf [] (walk_from nothing_held) word ≡ [] → bytes_eq word dashes ≡ true
+leaf_turn word none = turn_refused (stray_fault leaf) (λ e. cc) word (bytes_eq word dashes) (long_of word) none
+
+-- after the mark no word has a place
+leaf_end : (word : Text) (line : List Text) → walk_fault leaf [] (walked leaf.rules [] (walk_from nothing_held) dashes) (word ∷ line) ≡ [] → ⊥
+unfolding clap_on_literals
+leaf_end word line none = cc
+
+leaf_rest : (x : Text) (line : List Text) → x ≡ dashes → walk_fault leaf [] (walked leaf.rules [] (walk_from nothing_held) x) line ≡ [] → line ≡ []
+leaf_rest x [] mark none = refl
+leaf_rest x (y ∷ line) mark none =
+    absurd (leaf_end y line (subst (λ w. walk_fault leaf [] (walked leaf.rules [] (walk_from nothing_held) w) (y ∷ line) ≡ []) mark none))
+
+leaf_lines : (line : List Text) → level_fault leaf [] nothing_held line false [] ≡ [] → (line ≡ []) ⊎ (line ≡ dashes ∷ [])
+unfolding clap_on_literals
+leaf_lines [] none = inl refl
+leaf_lines (x ∷ line) none =
+    let part = or_else-nil (walk_fault leaf [] (walk_from nothing_held) (x ∷ line)) (later leaf [] (x ∷ line) false) none in
+    let turn = or_else-nil (turn_fault leaf [] (walk_from nothing_held) x) (walk_fault leaf [] (walked leaf.rules [] (walk_from nothing_held) x) line) part.0 in
+    let mark : x ≡ dashes = (bytes_eq-Decides x dashes).0 (leaf_turn x turn.0) in
+    inr (ap₂ (λ w rest. w ∷ rest) mark (leaf_rest x line mark turn.1))
+
+-- ---- the first word
+
+abbrev named : Bool → Option Text
+named is_play = option_map {T = Text × List Text} (λ s. s.0) (cond is_play (Some (play, [])) None)
+
+abbrev top_met : Bool → Text → Held × Step
+top_met is_play word = subcommand_or_other rules (named is_play) walk.idle 1 word nothing_held
+
+top_turn : (is_play : Bool) (word : Text) → or_else (other_fault top (named is_play) word nothing_held) (step_fault top 1 (top_met is_play word).0 (top_met is_play word).1) ≡ []
+    → (is_play ≡ true) ⊎ (bytes_eq word dashes ≡ true)
+top_turn true word none = inl refl
+top_turn false word none = inr (turn_refused (stray_fault top) (λ e. cc) word (bytes_eq word dashes) (long_of word) none)
+
+-- the walk has met `play`, and these words after it
+abbrev after_play : List Text → Walk
+after_play line = record (walk_from nothing_held) { stopped = Some (play, line) }
+
+stays : (line done : List Text) → fold (walked top.rules names) (after_play done) line ≡ after_play (done ++ line)
+unfolding clap_on_literals
+stays [] done = ap after_play (sym (append-nil done))
+stays (x ∷ line) done = stays line (done ++ x ∷ []) ∙ ap after_play (append_assoc done (x ∷ []) line)
+
+stop_is : (line : List Text) → (walk.walk top.rules names nothing_held (play ∷ line)).stopped ≡ Some (play, line)
+unfolding clap_on_literals
+stop_is line = ap (λ (w : Walk). w.stopped) (stays line [])
+
+entered_play : (line : List Text) → faults_of (play ∷ line) ≡ [] → AsksFor (play ∷ line) Play
+entered_play line none =
+    let stop = (walk.walk top.rules names nothing_held (play ∷ line)).stopped in
+    let rest = later top names (play ∷ line) (is_some (entered app stop)) in
+    let part = or_else-nil (walk_fault top names (walk_from nothing_held) (play ∷ line)) (or_else (entered_fault app stop) rest) none in
+    let below = or_else-nil (entered_fault app stop) rest part.1 in
+    let at_leaf : level_fault leaf [] nothing_held line false [] ≡ [] = subst (λ s. entered_fault app s ≡ []) (stop_is line) below.0 in
+    elim (leaf_lines line at_leaf) [
+      | inl e ↦ inl (ap (λ rest. play ∷ rest) e)
+      | inr e ↦ inr (ap (λ rest. play ∷ rest) e)
+    ]
+
+or_false : (b : Bool) → (b || false) ≡ true → b ≡ true
+or_false true e = refl
+or_false false e = e
+
+-- after the mark no word is a subcommand
+entered_none : (line : List Text) → faults_of (dashes ∷ line) ≡ [] → ⊥
+unfolding clap_on_literals
+entered_none [] none = cc
+entered_none (y ∷ line) none = cc
+
+-- clap finds no fault in `play` and `play --` alone
+pub play_lines : (line : List Text) → faults_of line ≡ [] → AsksFor line Play
+unfolding clap_on_literals
+play_lines [] none = absurd cc
+play_lines (word ∷ line) none =
+    let stop = (walk.walk top.rules names nothing_held (word ∷ line)).stopped in
+    let part = or_else-nil (walk_fault top names (walk_from nothing_held) (word ∷ line))
+    (or_else (entered_fault app stop) (later top names (word ∷ line) (is_some (entered app stop)))) none in
+    let turn = or_else-nil (turn_fault top names (walk_from nothing_held) word)
+    (walk_fault top names (walked top.rules names (walk_from nothing_held) word) line) part.0 in
+    elim (top_turn (bytes_eq play word || false) word turn.0) [
+      | inl e ↦ let same : play ≡ word = (bytes_eq-Decides play word).0 (or_false _ e) in
+          subst (λ w. AsksFor (w ∷ line) Play) same (entered_play line (subst (λ w. faults_of (w ∷ line) ≡ []) (sym same) none))
+      | inr e ↦ let same : word ≡ dashes = (bytes_eq-Decides word dashes).0 e in
+          absurd (entered_none line (subst (λ w. faults_of (w ∷ line) ≡ []) same none))
+    ]
+
+-- the run of a line in which clap finds no fault is the one that the line asks for
+pub run_asked : (line : List Text) (run : Run) → faults_of line ≡ [] → AsksFor line run
+run_asked line Play none = play_lines line none

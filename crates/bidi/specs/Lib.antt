@@ -1,0 +1,10 @@
+pub mod Step
+pub mod Sent
+pub mod History
+pub mod Machine
+pub mod Stands
+pub mod Lines
+pub mod Devices
+pub mod Plays
+pub mod Faults
+pub mod CommandLine

@@ -1,0 +1,52 @@
+-- The lines of a play, which say its steps, and the lines that are written. Their forms are this project's own.
+use Rattle.std.specs.Prelude.{◌≡◌, ℕ, ◌<◌, ◌≤◌, ◌^◌, ◌==◌, List, [], ◌∷◌, ◌++◌, length, codes, decimal, IsUtf8, Bool, false}
+use Rattle.std.specs.List.{flat_map, list_any}
+use Rattle.bidi.specs.Step.{Step, At, Open, Drop, Text, NotText}
+use Rattle.bidi.specs.Sent as sent
+use Rattle.bidi.specs.Sent.{Sent}
+
+-- the one line of a step, without its line feed: a word, a number, and a text to the end of the line, each parted by one space
+abbrev pub line_of : Step → List ℕ
+line_of (At n) = codes "at " ++ decimal n
+line_of (Open c resource) = codes "open " ++ decimal c ++ 32 ∷ resource
+line_of (Drop c) = codes "drop " ++ decimal c
+line_of (Text c text) = codes "> " ++ decimal c ++ 32 ∷ text
+line_of (NotText c) = codes "binary " ++ decimal c
+
+-- the number in it
+abbrev pub number_of : Step → ℕ
+number_of (At n) = n
+number_of (Open c resource) = c
+number_of (Drop c) = c
+number_of (Text c text) = c
+number_of (NotText c) = c
+
+-- a line feed stands in the bytes
+abbrev pub has_feed : List ℕ → Bool
+has_feed bytes = list_any (λ b. b == 10) bytes
+
+-- a step that a play can say: its number is a js-uint, and its line is one line of UTF-8 with at most 2,097,152 bytes
+pub record CanBeSaid (s : Step) : Type 0 where
+  pub number : number_of s < 2 ^ 53
+  pub utf8 : IsUtf8 (line_of s)
+  pub one_line : has_feed (line_of s) ≡ false
+  pub short : length (line_of s) ≤ 2097152
+
+-- a line with its line feed
+abbrev pub ended : List ℕ → List ℕ
+ended line = line ++ 10 ∷ []
+
+-- the lines of some steps
+abbrev pub said : List Step → List ℕ
+said steps = flat_map (λ s. ended (line_of s)) steps
+
+-- the line that tells what is sent, without its line feed
+abbrev pub sent_line : Sent → List ℕ
+sent_line (sent.Text c text) = codes "< " ++ decimal c ++ 32 ∷ text
+sent_line (sent.Opened c) = codes "opened " ++ decimal c
+sent_line (sent.Denied c) = codes "denied " ++ decimal c
+sent_line (sent.Lost c) = codes "lost " ++ decimal c
+
+-- the lines of all that is sent
+abbrev pub written : List Sent → List ℕ
+written all = flat_map (λ s. ended (sent_line s)) all

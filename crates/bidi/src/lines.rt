@@ -1,0 +1,165 @@
+//! Lines: the step that one says, and those of what is sent.
+ghost use Rattle.std.specs.Prelude.{◌≡◌, ℕ, ◌<◌, ◌≤◌, ◌^◌, ◌==◌, ◌↔◌, List, [], ◌∷◌, ◌++◌, false, map, length, decimal, string_bytes, IsTrue, IfOk, IfSome, IfNone, IsSomeAnd, position};
+ghost use Rattle.std.specs.List.{list_any};
+ghost use Rattle.bidi.specs.Step as play;
+ghost use Rattle.bidi.specs.Step.{step_of};
+ghost use Rattle.bidi.specs.Sent.{sent_of};
+ghost use Rattle.bidi.specs.Lines.{line_of, number_of, has_feed, CanBeSaid, ended, sent_line, written};
+
+use super::step::{Sent, Step};
+use bidi_tree::JsUint;
+use std::alloc::{AllocError, Global};
+
+/// How many bytes a line may have, without its line feed.
+pub const LONGEST_LINE: usize = 2_097_152;
+
+/// The first line, without its line feed, and the bytes behind it.
+pub fn next_line(bytes: &[u8]) -> Option<(&[u8], &[u8])>
+    ensures some { IfSome result (λ x. bytes.now ≡ x.0.now ++ 10 ∷ x.1.now) }
+    ensures line { IfSome result (λ x. has_feed x.0.now ≡ false) }
+    ensures none { IfNone result (has_feed bytes.now ≡ false) }
+{
+    let i = feed_at(bytes)?;
+    Some((&bytes[..i], &bytes[i + 1..]))
+}
+
+fn feed_at(bytes: &[u8]) -> Option<usize>
+    ensures { result ≡ position (λ b. b == 10) bytes.now }
+{
+    bytes.iter().position(|b| *b == b'\n')
+}
+
+/// The step that a line says, where it is a play line.
+///
+/// # Errors
+/// No memory, where a growth was refused.
+pub fn read_step(alloc: Global, line: &[u8]) -> Result<Option<Step>, AllocError>
+    requires { has_feed line.now ≡ false }
+    ensures some { IfOk result (λ found. IfSome found (λ step. CanBeSaid (step_of step) × (line.now ≡ line_of (step_of step)))) }
+    ensures none { IfOk result (λ found. IfNone found ((s : play.Step) → CanBeSaid s → line.now ≡ line_of s → ⊥)) }
+{
+    if line.len() > LONGEST_LINE {
+        return Ok(None);
+    }
+    match std::str::from_utf8(line) {
+        Err(_) => Ok(None),
+        Ok(text) => read_words(alloc, text),
+    }
+}
+
+// The step whose words stand in a line.
+fn read_words(alloc: Global, line: &str) -> Result<Option<Step>, AllocError>
+    ensures some { IfOk result (λ found. IfSome found (λ step. (number_of (step_of step) < 2 ^ 53) × (line.now ≡ line_of (step_of step)))) }
+    ensures none { IfOk result (λ found. IfNone found ((s : play.Step) → number_of s < 2 ^ 53 → line.now ≡ line_of s → ⊥)) }
+{
+    let Some((word, rest)) = parts(line) else {
+        return Ok(None);
+    };
+    if is_text(word, "at") {
+        match read_number(alloc, rest)? {
+            None => Ok(None),
+            Some(moment) => Ok(Some(Step::At(moment))),
+        }
+    } else if is_text(word, "drop") {
+        match read_number(alloc, rest)? {
+            None => Ok(None),
+            Some(conn) => Ok(Some(Step::Drop(conn))),
+        }
+    } else if is_text(word, "binary") {
+        match read_number(alloc, rest)? {
+            None => Ok(None),
+            Some(conn) => Ok(Some(Step::NotText(conn))),
+        }
+    } else if is_text(word, "open") {
+        match read_number_and_text(alloc, rest)? {
+            None => Ok(None),
+            Some((conn, resource)) => Ok(Some(Step::Open(conn, resource))),
+        }
+    } else if is_text(word, ">") {
+        match read_number_and_text(alloc, rest)? {
+            None => Ok(None),
+            Some((conn, text)) => Ok(Some(Step::Text(conn, text))),
+        }
+    } else {
+        Ok(None)
+    }
+}
+
+// The number, and the text behind the first space.
+fn read_number_and_text(alloc: Global, rest: &str) -> Result<Option<(JsUint, String)>, AllocError>
+    ensures some { IfOk result (λ found. IfSome found (λ x. rest.now ≡ decimal x.0.value ++ 32 ∷ string_bytes x.1)) }
+    ensures none { IfOk result (λ found. IfNone found ((n : ℕ) (text : List ℕ) → n < 2 ^ 53 → rest.now ≡ decimal n ++ 32 ∷ text → ⊥)) }
+{
+    let Some((number, text)) = parts(rest) else {
+        return Ok(None);
+    };
+    match read_number(alloc, number)? {
+        None => Ok(None),
+        Some(n) => Ok(Some((n, String::from_str(alloc, text)?))),
+    }
+}
+
+// The js-uint whose decimal form the text is.
+fn read_number(alloc: Global, text: &str) -> Result<Option<JsUint>, AllocError>
+    ensures some { IfOk result (λ found. IfSome found (λ n. text.now ≡ decimal n.value)) }
+    ensures none { IfOk result (λ found. IfNone found ((n : ℕ) → n < 2 ^ 53 → text.now ≡ decimal n → ⊥)) }
+{
+    let Ok(n) = text.parse::<u64>() else {
+        return Ok(None);
+    };
+    let shown = n.to_string(alloc)?;
+    if is_text(shown.as_str(), text) {
+        Ok(JsUint::new(n))
+    } else {
+        Ok(None)
+    }
+}
+
+// The parts round the first space.
+fn parts(text: &str) -> Option<(&str, &str)>
+    ensures some { IfSome result (λ x. text.now ≡ x.0.now ++ 32 ∷ x.1.now) }
+    ensures first { (xs ys : List ℕ) → text.now ≡ xs ++ 32 ∷ ys → list_any (λ b. b == 32) xs ≡ false
+        → IsSomeAnd result (λ x. (x.0.now ≡ xs) × (x.1.now ≡ ys)) }
+{
+    text.split_once(' ')
+}
+
+fn is_text(text: &str, other: &str) -> bool
+    ensures { IsTrue result ↔ (text.now ≡ other.now) }
+{
+    text == other
+}
+
+/// The lines of what is sent, each with its line feed.
+///
+/// # Errors
+/// No memory, where a growth was refused.
+pub fn lines_of(alloc: Global, all: Vec<Sent>) -> Result<Vec<u8>, AllocError>
+    ensures { IfOk result (λ lines. lines.items ≡ written (map sent_of all.items)) }
+{
+    let mut lines = Vec::new(alloc);
+    for sent in all {
+        let line = line_of_sent(alloc, sent)?;
+        lines.extend_from_slice(line.as_bytes())?;
+    }
+    Ok(lines)
+}
+
+// The line of what is sent, with its line feed.
+#[tactic(auto, using(crate::proofs::FeedLemmas::text_grouped))]
+fn line_of_sent(alloc: Global, sent: Sent) -> Result<String, AllocError>
+    ensures { IfOk result (λ line. string_bytes line ≡ ended (sent_line (sent_of sent))) }
+{
+    match sent {
+        Sent::Text(conn, text) => text_line(alloc, conn.value, text.as_str()),
+        Sent::Opened(conn) => format!(in alloc; "opened {}\n", conn.value),
+        Sent::Denied(conn) => format!(in alloc; "denied {}\n", conn.value),
+        Sent::Lost(conn) => format!(in alloc; "lost {}\n", conn.value),
+    }
+}
+
+fn text_line(alloc: Global, conn: u64, text: &str) -> Result<String, AllocError>
+    ensures { IfOk result (λ line. string_bytes line ≡ 60 ∷ 32 ∷ (decimal conn ++ 32 ∷ (text.now ++ 10 ∷ []))) }
+{
+    format!(in alloc; "< {conn} {text}\n")
+}

@@ -1,0 +1,55 @@
+//! Programs over the two ends of WebDriver BiDi.
+//!
+//! `bidi play` reads a play from standard input, a step a line, and writes what the remote end sends.
+#![tactic(auto)]
+
+mod arguments;
+mod device;
+mod lines;
+mod playing;
+mod remote_end;
+mod running;
+mod step;
+mod tally;
+#[cfg(test)]
+mod tests;
+
+use arguments::{LineFault, command_line};
+use device::{Device, write_all};
+use running::run;
+use std::process::ExitCode;
+use std::{env, io};
+
+fn main(rt: HostRuntime) -> ExitCode {
+    ExitCode::from(status(&rt).unwrap_or(3))
+}
+
+// Runs what the command line asks for over the standard streams, and returns the status.
+fn status(rt: &HostRuntime) -> io::Result<u8> {
+    let alloc = rt.alloc();
+    let words = env::args(rt)?.skip(1).collect::<Vec<String>>(alloc)?;
+    let words = words
+        .iter()
+        .map(|word| word.as_str())
+        .collect::<Vec<&str>>(alloc)?;
+    let mut output = Device::new(io::writer(rt));
+    let mut faults = Device::new(rt.stderr());
+    match command_line(alloc, &words) {
+        Ok(asked) => {
+            let mut input = Device::new(rt.reader());
+            Ok(run(alloc, &asked, &mut input, &mut output, &mut faults))
+        }
+        Err(LineFault::Help(text)) => {
+            let shown = write_all(&mut output, text.as_bytes());
+            Ok(if shown.is_ok() { 0 } else { 3 })
+        }
+        Err(LineFault::Usage(text)) => {
+            let _ = write_all(&mut faults, text.as_bytes());
+            Ok(2)
+        }
+        Err(LineFault::NoMemory) => {
+            let _ = write_all(&mut faults, b"bidi: out of memory\n");
+            Ok(3)
+        }
+    }
+}

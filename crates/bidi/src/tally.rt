@@ -1,0 +1,31 @@
+//! A count that exists only in proofs.
+ghost use Rattle.std.specs.Prelude.{◌≡◌, ℕ, ◌+◌};
+ghost use Rattle.std.specs.Borrow.{ftrue};
+
+use std::marker::Model;
+
+/// How often something happened. It takes no bytes.
+#[derive(Drop)]
+pub struct Tally {
+    pub ghost count: { ℕ },
+}
+
+impl Model for Tally {
+    ghost also_owns = { λ _. ftrue };
+}
+
+impl Tally {
+    /// A tally of nothing.
+    pub(crate) fn new() -> Tally
+        ensures { result.count ≡ 0 }
+    {
+        Tally {}
+    }
+
+    /// The tally after one more.
+    pub(crate) fn then(_before: &Tally) -> Tally
+        ensures { result.count ≡ _before.now.count + 1 }
+    {
+        Tally {}
+    }
+}

@@ -1,0 +1,64 @@
+//! The plays of `examples/`, each a test of its name.
+use super::played;
+use std::str::from_utf8;
+use std::test::Fail;
+
+#[test]
+fn status(rt: HostRuntime) -> Result<(), Fail> {
+    let play = "open 1 /session\n> 1 {\"id\":1,\"method\":\"session.status\",\"params\":{}}\n";
+    let wanted =
+        "opened 1\n< 1 {\"id\":1,\"result\":{\"message\":\"ready\",\"ready\":true},\"type\":\"success\"}\n";
+    let found = played(rt.alloc(), play.as_bytes());
+    assert_eq!(rt; from_utf8(&found.output), Ok(wanted));
+    assert_eq!(rt; found.status, 0);
+    Ok(())
+}
+
+#[test]
+fn refusals(rt: HostRuntime) -> Result<(), Fail> {
+    let alloc = rt.alloc();
+    let rows = [
+        ("open 1 /session", "opened 1"),
+        (
+            "> 1 {\"id\":1",
+            "< 1 {\"error\":\"invalid argument\",\"id\":null,\"message\":\"invalid argument\",\"type\":\"error\"}",
+        ),
+        (
+            "> 1 {\"id\":9007199254740991,\"method\":\"session.fly\",\"params\":{}}",
+            "< 1 {\"error\":\"unknown command\",\"id\":9007199254740991,\"message\":\"unknown command\",\"type\":\"error\"}",
+        ),
+        (
+            "> 1 {\"id\":9007199254740992,\"method\":\"session.status\",\"params\":{}}",
+            "< 1 {\"error\":\"invalid argument\",\"id\":null,\"message\":\"invalid argument\",\"type\":\"error\"}",
+        ),
+        (
+            "> 1 {\"id\":5,\"method\":\"session.status\",\"params\":{\"x\":1.5}}",
+            "< 1 {\"error\":\"invalid argument\",\"id\":5,\"message\":\"invalid argument\",\"type\":\"error\"}",
+        ),
+        (
+            "binary 1",
+            "< 1 {\"error\":\"invalid argument\",\"id\":null,\"message\":\"invalid argument\",\"type\":\"error\"}",
+        ),
+        ("open 1 /session", "denied 1"),
+        ("open 2 /other", "denied 2"),
+        ("drop 1", ""),
+        (
+            "> 1 {\"id\":6,\"method\":\"session.status\",\"params\":{}}",
+            "lost 1",
+        ),
+    ];
+    let mut play = String::new(alloc);
+    let mut wanted = String::new(alloc);
+    for (line, answer) in rows {
+        play.push_str(line)?;
+        play.push_str("\n")?;
+        if !answer.is_empty() {
+            wanted.push_str(answer)?;
+            wanted.push_str("\n")?;
+        }
+    }
+    let found = played(alloc, play.as_bytes());
+    assert_eq!(rt; from_utf8(&found.output), Ok(wanted.as_str()));
+    assert_eq!(rt; found.status, 0);
+    Ok(())
+}
