@@ -1,5 +1,5 @@
 -- Trees beside the values that they were read from.
-use Rattle.std.proofs.Common.{◌≡◌, ℕ, List, [], ◌∷◌, ◌++◌, String, Global, Ordering, Less, Equal, Greater, string_bytes, string_cmp, map, Option, Some, None, option_map, cond, is_eq, Bor, BTreeMap, rules, refl, ap, ◌∙◌}
+use Rattle.std.proofs.Common.{◌≡◌, ℕ, List, [], ◌∷◌, ◌++◌, String, Global, Ordering, Less, Equal, Greater, string_bytes, string_cmp, map, Option, Some, None, option_map, cond, is_eq, Bor, BTreeMap, Vec, rules, refl, ap, ◌∙◌}
 use Rattle.std.proofs.lemmas.Cmp.{nat_list_cmp_total}
 use Rattle.std.specs.List.{AllByRecursion}
 use Rattle.std.specs.List.Sorted.{IsStrictlySortedBy}
@@ -13,8 +13,8 @@ use Rattle.serde_json.specs.declared.value.Value.{Value}
 use Rattle.bidi_tree.specs.Node as tree
 use Rattle.bidi_tree.specs.Node.{get_member, Node, Items, no_items, item, Members, no_members, member, put}
 use Rattle.bidi_tree.specs.Text.{of_data, of_items, of_members}
-use Rattle.bidi_tree.specs.View.{node, items_of, members_node}
-use Rattle.bidi_tree.specs.declared.tree.Tree.{Tree, Map, the_lemmas}
+use Rattle.bidi_tree.specs.View.{node, items_of, items_node, members_node}
+use Rattle.bidi_tree.specs.declared.tree.Tree.{Tree, List as ListOf, Map, the_lemmas}
 
 abbrev pub Entry : Type 0
 Entry = String Global × Tree
@@ -67,6 +67,9 @@ node-lookup name (e ∷ es) = found_or (slice_cmp nat_cmp name (string_bytes e.0
 
 pub node-Map : (m : BTreeMap (String Global) Tree) → node (Map m) ≡ tree.map (members_node m.entries)
 node-Map m = search (rules, the_lemmas)
+
+pub node-List : (v : Vec Tree Global) → node (ListOf v) ≡ tree.list (items_node v.items)
+node-List v = search (rules, the_lemmas)
 
 pub node_of_ref : (r : Option (Bor Tree)) → option_map (λ x. node x.now) r ≡ option_map node (option_map (λ x. x.now) r)
 node_of_ref None = refl

@@ -9,6 +9,7 @@
 #![tactic(auto)]
 
 mod copying;
+mod levels;
 mod number;
 mod reading;
 #[cfg(test)]

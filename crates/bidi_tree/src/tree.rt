@@ -3,6 +3,7 @@ ghost use Rattle.std.specs.Prelude.{◌≡◌, OnOk, OnErr, option_map, string_b
 ghost use Rattle.bidi_tree.specs.Node.{get_member, put};
 ghost use Rattle.bidi_tree.specs.View.{node, members_node};
 
+use crate::levels::is_within_tree;
 use crate::number::JsInt;
 use crate::whole::is_whole_tree;
 use std::alloc::AllocError;
@@ -29,8 +30,8 @@ pub enum Tree {
 const MAX_LEVELS: usize = 100;
 
 impl Tree {
-    ghost use Rattle.std.specs.Prelude.{◌↔◌, IsTrue};
-    ghost use Rattle.bidi_tree.specs.Node.{get_of, IsSound, IsWhole, IsWritable};
+    ghost use Rattle.std.specs.Prelude.{◌↔◌, ◌≤◌, IsTrue};
+    ghost use Rattle.bidi_tree.specs.Node.{get_of, levels, IsSound, IsWhole, IsWritable};
     ghost use Rattle.bidi_tree.specs.Kind.{is_null, bool_in, whole_in, text_in, list_in, map_in};
     ghost use Rattle.bidi_tree.specs.View.{items_node};
 
@@ -51,6 +52,13 @@ impl Tree {
         ensures sound { IsTrue result → IsSound (node self.now) }
     {
         is_whole_tree(self, limit)
+    }
+
+    /// Whether it has at most so many levels. Takes no memory, and looks at each part once.
+    pub fn is_within(&self, limit: usize) -> bool
+        ensures { IsTrue result ↔ (levels (node self.now) ≤ limit) }
+    {
+        is_within_tree(self, limit)
     }
 
     /// The member of that name, where it is a map. Takes no memory.
