@@ -34,6 +34,17 @@ nullable_one tree_of well same τ fits one None (Some y) v w e = v (subst (λ t.
 nullable_one tree_of well same τ fits one (Some x) None v w e = w (subst (λ t. Fits t τ) e (fits x v))
 nullable_one tree_of well same τ fits one (Some x) (Some y) v w e = one x y v w e
 
+-- the shape of a value or null
+abbrev pub nullable_shape : {X : Type 0} → ShapeOf X → ShapeOf (Option X)
+nullable_shape s = record {
+  rule = either s.rule null;
+  tree_of = nullable_tree s.tree_of;
+  well = NullableWell s.well s.rule;
+  same = SameOption s.same;
+  fits = λ v w. nullable_fits s.tree_of s.well s.rule s.fits v w;
+  one_value = λ v w a b e. nullable_one s.tree_of s.well s.same s.rule s.fits s.one_value v w a b e;
+}
+
 -- ---- a value of the first type that fits
 
 abbrev pub either_tree : {A B : Type 0} → (A → Node) → (B → Node) → Either A B → Node

@@ -13,3 +13,8 @@ pub mod ListLaws
 pub mod ChoiceLaws
 pub mod Table
 pub mod WordLaws
+pub mod ThroughLaws
+pub mod TagLaws
+pub mod Made
+pub mod ScalarShapes
+pub mod FieldTables

@@ -39,7 +39,7 @@ same_from_tie k l e = (bytes_eq-Decides k l).0 (sym (is_eq-slice_cmp k l) ∙ ap
 flipped : (k l : List ℕ) (o : Ordering) → slice_cmp nat_cmp k l ≡ o → slice_cmp nat_cmp l k ≡ ordering_reverse o
 flipped k l o e = nat_list_cmp_total.antisymm l k ∙ ap ordering_reverse e
 
-named_first : (ks : List (List ℕ)) (k : List ℕ) → is_named (k ∷ ks) k ≡ true
+pub named_first : (ks : List (List ℕ)) (k : List ℕ) → is_named (k ∷ ks) k ≡ true
 named_first ks k = rw (is_same k)
 
 -- one of several names is not another that isn't among them
@@ -119,7 +119,7 @@ Sorted-joined no_more ps others s = s
 Sorted-joined (row k need τ rs) [] others s = s
 Sorted-joined (row k need τ rs) (p ∷ ps) others s = AreAscending-put_part k p (joined rs ps others) (Sorted-joined rs ps others s)
 
-at-joined_other : (rs : Rows) (ps : List (Option Node)) (others : Members) (q : List ℕ) → is_named (names_of rs) q ≡ false → get_member q (joined rs ps others) ≡ get_member q others
+pub at-joined_other : (rs : Rows) (ps : List (Option Node)) (others : Members) (q : List ℕ) → is_named (names_of rs) q ≡ false → get_member q (joined rs ps others) ≡ get_member q others
 at-joined_other no_more ps others q n = refl
 at-joined_other (row k need τ rs) [] others q n = refl
 at-joined_other (row k need τ rs) (p ∷ ps) others q n =
@@ -157,7 +157,7 @@ first_apart : (b c : Bool) → (not b && c) ≡ true → (b ≡ false) × (c ≡
 first_apart true c e = absurd (true≢false (sym e))
 first_apart false c e = (refl, e)
 
-named_later : (k : List ℕ) (ks : List (List ℕ)) (q : List ℕ) → is_named ks q ≡ true → is_named (k ∷ ks) q ≡ true
+pub named_later : (k : List ℕ) (ks : List (List ℕ)) (q : List ℕ) → is_named ks q ≡ true → is_named (k ∷ ks) q ≡ true
 named_later k ks q y = go (bytes_eq q k)
   where
     go : (b : Bool) → (b || is_named ks q) ≡ true
@@ -176,7 +176,7 @@ PartsAt-joined (row k need τ rs) (p ∷ ps) others d a n =
       PartsAt-put_part rs ps k p (joined rs ps others) ds.0 ih,
     )
 
-without_joined_among : (ks : List (List ℕ)) (rs : Rows) (ps : List (Option Node)) (others : Members) → ((q : List ℕ) → is_named (names_of rs) q ≡ true → is_named ks q ≡ true)
+pub without_joined_among : (ks : List (List ℕ)) (rs : Rows) (ps : List (Option Node)) (others : Members) → ((q : List ℕ) → is_named (names_of rs) q ≡ true → is_named ks q ≡ true)
     → without ks (joined rs ps others) ≡ without ks others
 without_joined_among ks no_more ps others h = refl
 without_joined_among ks (row k need τ rs) [] others h = refl
@@ -188,7 +188,7 @@ without-joined rs ps others = without_joined_among (names_of rs) rs ps others (�
 
 -- ---- the four laws of a map
 
-RowsFit-PartsAt : (rs : Rows) (ps : List (Option Node)) (ms : Members) → PartsAt rs ps ms → PartsFit rs ps → RowsFit ms rs
+pub RowsFit-PartsAt : (rs : Rows) (ps : List (Option Node)) (ms : Members) → PartsAt rs ps ms → PartsFit rs ps → RowsFit ms rs
 RowsFit-PartsAt no_more [] ms a f = no_row ms
 RowsFit-PartsAt no_more (p ∷ ps) ms a f = absurd f
 RowsFit-PartsAt (row k need τ rs) [] ms a f = absurd f
@@ -197,7 +197,7 @@ RowsFit-PartsAt (row k optional τ rs) (None ∷ ps) ms a f = absent ms k τ rs 
 RowsFit-PartsAt (row k required τ rs) (Some t ∷ ps) ms a f = there ms k required τ rs t a.0 f.0 (RowsFit-PartsAt rs ps ms a.1 f.1)
 RowsFit-PartsAt (row k optional τ rs) (Some t ∷ ps) ms a f = there ms k optional τ rs t a.0 f.0 (RowsFit-PartsAt rs ps ms a.1 f.1)
 
-unnamed : (ks : List (List ℕ)) (others : Members) → without ks others ≡ others → (q : List ℕ) → is_named ks q ≡ true → get_member q others ≡ None
+pub unnamed : (ks : List (List ℕ)) (others : Members) → without ks others ≡ others → (q : List ℕ) → is_named ks q ≡ true → get_member q others ≡ None
 unnamed ks others e q y = ap (get_member q) (sym e) ∙ at-without_named ks q others y
 
 -- a value's tree fits

@@ -11,6 +11,7 @@ use Rattle.bidi_tree.specs.View.{node, members_node}
 use Rattle.bidi_tree.proofs.TreeLemmas.{Entry, put_last}
 use Rattle.bidi_tree.proofs.SoundLemmas.{AreAscending-members_node, IsBelow-below}
 use Rattle.bidi_shape.specs.Fits.{without}
+use Rattle.bidi_shape.specs.Parts.{has_named}
 use Rattle.bidi_shape.specs.MapLaws.{without-put, same_from_tie, Below-without}
 
 put_first : (k : List ℕ) (t : Node) (ms : Members) → IsBelow k ms → put k t ms ≡ member k t ms
@@ -97,3 +98,15 @@ pub gathered_keep : (ks : List (List ℕ)) (done : List Entry) (e : Entry) (left
     → list_any (bytes_eq (string_bytes e.0)) ks ≡ false → put (string_bytes e.0) (node e.1) (without ks (members_node done)) ≡ without ks (members_node (done ++ e ∷ []))
 gathered_keep ks done e left s n =
     sym (without-put_other ks (string_bytes e.0) (node e.1) (members_node done) (AreAscending-members_node done (sorted_before done (e ∷ left) s)) n) ∙ ap (without ks) (put_last done e left s)
+
+-- ---- members that are not named
+
+without_none_at : (b : Bool) (ks : List (List ℕ)) (k : List ℕ) (t : Node) (ms : Members) → list_any (bytes_eq k) ks ≡ b → (b || has_named ks ms) ≡ false → without ks ms ≡ ms
+    → (cond b (without ks ms) (member k t (without ks ms))) ≡ member k t ms
+without_none_at true ks k t ms e h ih = cc
+without_none_at false ks k t ms e h ih = ap (member k t) ih
+
+-- where none is named, all are left
+pub without_unnamed : (ks : List (List ℕ)) (ms : Members) → has_named ks ms ≡ false → without ks ms ≡ ms
+without_unnamed ks no_members h = refl
+without_unnamed ks (member k t ms) h = without_none_at (list_any (bytes_eq k) ks) ks k t ms refl h (without_unnamed ks ms (or_parts (list_any (bytes_eq k) ks) (has_named ks ms) h).1)

@@ -15,6 +15,10 @@ pub record Word (V : Type 0) : Type 0 where
   pub text : List ℕ
   pub value : V
 
+-- a value beside its text
+abbrev pub word : {V : Type 0} → (V → List ℕ) → V → Word V
+word text_of v = record { text = text_of v; value = v }
+
 -- the choice of the texts
 abbrev pub one_of : {V : Type 0} → Word V → List (Word V) → Term
 one_of w [] = exactly w.text

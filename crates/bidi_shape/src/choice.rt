@@ -1,9 +1,15 @@
 //! A value or null, and the first of two types that fits.
+ghost use Rattle.std.specs.Prelude.{◌≡◌, IfOk};
+ghost use Rattle.bidi_tree.specs.View.{node};
 ghost use Rattle.bidi_shape.specs.Term.{either, null};
+ghost use Rattle.bidi_shape.specs.Fits.{Fits};
+ghost use Rattle.bidi_shape.specs.Outcome.{IfNoFit};
+ghost use Rattle.bidi_shape.specs.Table.{unfolded};
 ghost use Rattle.bidi_shape.specs.ValueLaws.{SameOption};
 
 use crate::fault::ShapeFault;
 use crate::shape::Shape;
+use crate::table::Ruled;
 use bidi_tree::Tree;
 use std::alloc::{AllocError, Global};
 
@@ -38,18 +44,24 @@ impl<A: Shape, B: Shape> Shape for Either<A, B> {
     }
 }
 
+/// Reads the alternatives of a rule, as `Either<A, Either<B, C>>`.
+///
+/// # Errors
+/// - `NoFit`: the tree does not fit the rule.
+/// - `NoMemory`: a growth was refused.
+pub fn read_choice<V: Ruled, E: Shape>(alloc: Global, tree: &Tree) -> Result<E, ShapeFault>
+    requires says { unfolded V.rule ≡ E.shape.rule }
+    ensures ok { IfOk result (λ e. (E.shape.tree_of e ≡ node tree.now) × E.shape.well e) }
+    ensures no_fit { IfNoFit result (Fits (node tree.now) V.rule → ⊥) }
+{
+    E::from_tree(alloc, tree)
+}
+
 /// A value, or null: `X / null`.
 impl<X: Shape> Shape for Option<X> {
-    ghost use Rattle.bidi_shape.specs.ChoiceLaws.{nullable_tree, NullableWell, nullable_fits, nullable_one};
+    ghost use Rattle.bidi_shape.specs.ChoiceLaws.{nullable_shape};
 
-    ghost shape = { record {
-      rule = either X.shape.rule null;
-      tree_of = nullable_tree X.shape.tree_of;
-      well = NullableWell X.shape.well X.shape.rule;
-      same = SameOption X.shape.same;
-      fits = λ v w. nullable_fits X.shape.tree_of X.shape.well X.shape.rule X.shape.fits v w;
-      one_value = λ v w a b e. nullable_one X.shape.tree_of X.shape.well X.shape.same X.shape.rule X.shape.fits X.shape.one_value v w a b e;
-    } };
+    ghost shape = { nullable_shape X.shape };
 
     fn from_tree(alloc: Global, tree: &Tree) -> Result<Option<X>, ShapeFault> {
         match X::from_tree(alloc, tree) {

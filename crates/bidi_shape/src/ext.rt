@@ -3,7 +3,7 @@ ghost use Rattle.std.specs.BTreeMap.{IsOrdered};
 ghost use Rattle.std.specs.String.{string_cmp};
 ghost use Rattle.std.specs.List.Sorted.{IsStrictlySortedBy-prop};
 
-use crate::members::has_listed;
+use crate::members::{MAX_LEVELS, has_listed};
 use bidi_tree::Members;
 use std::alloc::AllocError;
 use thiserror::Error;
@@ -21,8 +21,10 @@ pub struct Ext {
 }
 
 impl Ext {
-    ghost use Rattle.std.specs.Prelude.{◌≡◌, IfOk, MatchResult, true, false};
+    ghost use Rattle.std.specs.Prelude.{◌≡◌, IfOk, MatchResult, IsTrue, ◌↔◌, true, false};
+    ghost use Rattle.bidi_tree.specs.Node.{MembersAreWhole};
     ghost use Rattle.bidi_tree.specs.View.{members_node};
+    ghost use Rattle.bidi_shape.specs.Fits.{without};
     ghost use Rattle.bidi_shape.specs.Parts.{has_named, texts_in};
     ghost use Rattle.bidi_shape.specs.ValueLaws.{others_of};
 
@@ -30,11 +32,13 @@ impl Ext {
     ///
     /// # Errors
     /// `Clash`: a member has one of the names.
+    #[tactic(auto, using(crate::specs::OthersLaws::without_unnamed))]
     pub fn new(members: Members, names: &[&str]) -> Result<Ext, Clash>
-        ensures { MatchResult result
+        ensures made { MatchResult result
             (λ e. (has_named (texts_in names.now) (members_node members.entries) ≡ false)
             × (others_of e ≡ members_node members.entries))
             (λ _. has_named (texts_in names.now) (members_node members.entries) ≡ true) }
+        ensures unnamed { IfOk result (λ e. without (texts_in names.now) (others_of e) ≡ others_of e) }
     {
         if has_listed(&members, names) {
             return Err(Clash);
@@ -42,6 +46,13 @@ impl Ext {
         // The contract of `len` has the order of the names, which an `Ext` keeps.
         let _ = members.len();
         Ok(Ext { members })
+    }
+
+    /// Whether each member fits `any`: no `Odd` stands in it, and it has at most 60 levels. Takes no memory.
+    pub fn is_whole(&self) -> bool
+        ensures { IsTrue result ↔ MembersAreWhole (others_of self.now) 60 }
+    {
+        bidi_tree::are_whole(&self.members, MAX_LEVELS)
     }
 
     /// The members once more, in a map of their own.

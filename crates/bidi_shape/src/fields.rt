@@ -52,16 +52,9 @@ fn next_text<'a>(texts: &'a [&'a str]) -> (&'a str, &'a [&'a str])
 pub struct Required<X: Drop, F: Drop>(pub X, pub F);
 
 impl<X: Shape, F: Fields> Fields for Required<X, F> {
-    ghost table = { record {
-      rows = λ ks ws. row (head ks) is_required X.shape.rule (F.table.rows (tail ks) ws);
-      openness = F.table.openness;
-      parts = λ ws f. Some (X.shape.tree_of f.0) ∷ F.table.parts ws f.1;
-      others = λ f. F.table.others f.1;
-      well = λ f. X.shape.well f.0 × F.table.well f.1;
-      same = λ f g. X.shape.same f.0 g.0 × F.table.same f.1 g.1;
-      parts_fit = λ ks ws f w. (X.shape.fits f.0 w.0, F.table.parts_fit (tail ks) ws f.1 w.1);
-      one = λ ws f g a b e o. (X.shape.one_value f.0 g.0 a.0 b.0 (same_some (same_head e)), F.table.one ws f.1 g.1 a.1 b.1 (same_tail e) o);
-    } };
+    ghost use Rattle.bidi_shape.specs.FieldTables.{required_table};
+
+    ghost table = { required_table X.shape F.table };
 
     fn read<'a>(
         alloc: Global,
@@ -82,16 +75,9 @@ impl<X: Shape, F: Fields> Fields for Required<X, F> {
 pub struct Optional<X: Drop, F: Drop>(pub Option<X>, pub F);
 
 impl<X: Shape, F: Fields> Fields for Optional<X, F> {
-    ghost table = { record {
-      rows = λ ks ws. row (head ks) is_optional X.shape.rule (F.table.rows (tail ks) ws);
-      openness = F.table.openness;
-      parts = λ ws f. option_map X.shape.tree_of f.0 ∷ F.table.parts ws f.1;
-      others = λ f. F.table.others f.1;
-      well = λ f. IfSome f.0 X.shape.well × F.table.well f.1;
-      same = λ f g. SameOption X.shape.same f.0 g.0 × F.table.same f.1 g.1;
-      parts_fit = λ ks ws f w. (optional_fits X.shape.tree_of X.shape.well X.shape.rule X.shape.fits f.0 w.0, F.table.parts_fit (tail ks) ws f.1 w.1);
-      one = λ ws f g a b e o. (optional_one X.shape.tree_of X.shape.well X.shape.same X.shape.one_value f.0 g.0 a.0 b.0 (same_head e), F.table.one ws f.1 g.1 a.1 b.1 (same_tail e) o);
-    } };
+    ghost use Rattle.bidi_shape.specs.FieldTables.{optional_table};
+
+    ghost table = { optional_table X.shape F.table };
 
     fn read<'a>(
         alloc: Global,
@@ -112,16 +98,9 @@ impl<X: Shape, F: Fields> Fields for Optional<X, F> {
 pub struct Literal<F: Drop>(pub F);
 
 impl<F: Fields> Fields for Literal<F> {
-    ghost table = { record {
-      rows = λ ks ws. row (head ks) is_required (exactly (head ws)) (F.table.rows (tail ks) (tail ws));
-      openness = F.table.openness;
-      parts = λ ws f. Some (tree.text (head ws)) ∷ F.table.parts (tail ws) f.0;
-      others = λ f. F.table.others f.0;
-      well = λ f. F.table.well f.0;
-      same = λ f g. F.table.same f.0 g.0;
-      parts_fit = λ ks ws f w. (fits_exactly (head ws), F.table.parts_fit (tail ks) (tail ws) f.0 w);
-      one = λ ws f g a b e o. F.table.one (tail ws) f.0 g.0 a b (same_tail e) o;
-    } };
+    ghost use Rattle.bidi_shape.specs.FieldTables.{literal_table};
+
+    ghost table = { literal_table F.table };
 
     fn read<'a>(
         alloc: Global,
@@ -140,16 +119,9 @@ impl<F: Fields> Fields for Literal<F> {
 
 /// Any other members may stand there.
 impl Fields for Ext {
-    ghost table = { record {
-      rows = λ ks ws. no_more;
-      openness = extensible;
-      parts = λ ws e. [];
-      others = others_of;
-      well = λ e. Unit {0};
-      same = λ e f. others_of e ≡ others_of f;
-      parts_fit = λ ks ws e w. tt;
-      one = λ ws e f a b p o. o;
-    } };
+    ghost use Rattle.bidi_shape.specs.FieldTables.{ext_table};
+
+    ghost table = { ext_table };
 
     fn read<'a>(
         alloc: Global,
@@ -167,16 +139,9 @@ impl Fields for Ext {
 pub struct Closed;
 
 impl Fields for Closed {
-    ghost table = { record {
-      rows = λ ks ws. no_more;
-      openness = closed;
-      parts = λ ws e. [];
-      others = λ e. no_members;
-      well = λ e. Unit {0};
-      same = λ e f. Unit {0};
-      parts_fit = λ ks ws e w. tt;
-      one = λ ws e f a b p o. tt;
-    } };
+    ghost use Rattle.bidi_shape.specs.FieldTables.{closed_table};
+
+    ghost table = { closed_table };
 
     fn read<'a>(
         alloc: Global,

@@ -7,24 +7,30 @@
 #![tactic(auto)]
 
 mod choice;
+mod copying;
 mod ext;
 mod fault;
 mod fields;
 mod lists;
+mod making;
 mod members;
 mod scalars;
 mod shape;
 mod table;
+mod tagged;
 #[cfg(test)]
 mod tests;
 mod words;
 
-pub use choice::Either;
+pub use choice::{Either, read_choice};
+pub use copying::copied;
 pub use ext::{Clash, Ext};
 pub use fault::ShapeFault;
 pub use fields::{Closed, Fields, Literal, Optional, Required};
 pub use lists::OneOrMore;
-pub use members::{add_literal, add_member, add_optional};
+pub use making::{MakeFault, not_shadowed};
+pub use members::{add_literal, add_member, add_optional, map_inside};
 pub use shape::Shape;
 pub use table::{Ruled, read_fields};
+pub use tagged::{Bare, Tag, Typed, tree_of_type, tree_of_typed};
 pub use words::{Named, read_word, write_word};

@@ -20,7 +20,7 @@ use std::alloc::{AllocError, Global};
 use std::default::Emptied;
 
 /// The most levels of a member that a rule does not name.
-const MAX_LEVELS: usize = 60;
+pub(crate) const MAX_LEVELS: usize = 60;
 
 /// The value of a required member.
 pub(crate) fn required<X: Shape>(
@@ -156,8 +156,11 @@ pub(crate) fn no_others(members: &Members, names: &[&str]) -> Result<(), ShapeFa
     Ok(())
 }
 
-/// The members of a map.
-pub(crate) fn map_inside(tree: &Tree) -> Result<&Members, ShapeFault>
+/// The members of a map. Takes no memory.
+///
+/// # Errors
+/// `NoFit`: the tree is no map.
+pub fn map_inside(tree: &Tree) -> Result<&Members, ShapeFault>
     ensures ok { IfOk result (λ m. kind.map (members_node m.now.entries) ≡ node tree.now) }
     ensures no_fit { IfNoFit result ((rs : Rows) (o : Openness) → Fits (node tree.now) (map_of rs o) → ⊥) }
 {

@@ -1,9 +1,10 @@
 //! A type of each form, read and written through the bound `Shape`.
 use crate::{
-    Clash, Closed, Either, Ext, Literal, Named, OneOrMore, Optional, Required, Ruled, Shape,
-    ShapeFault, add_literal, add_member, add_optional, read_fields, read_word, write_word,
+    Bare, Clash, Closed, Either, Ext, Literal, MakeFault, Named, OneOrMore, Optional, Required,
+    Ruled, Shape, ShapeFault, Tag, Typed, add_literal, add_member, add_optional, not_shadowed,
+    read_choice, read_fields, read_word, tree_of_type, tree_of_typed, write_word,
 };
-use bidi_tree::{JsInt, JsUint, Tree, read, write};
+use bidi_tree::{JsInt, JsUint, Members, Tree, read, write};
 use std::alloc::{AllocError, Global};
 use std::test::Fail;
 
@@ -157,6 +158,229 @@ impl Shape for StackFrame {
         add_member(alloc, &mut members, "functionName", &self.function_name)?;
         add_member(alloc, &mut members, "columnNumber", &self.column_number)?;
         Ok(Tree::Map(members))
+    }
+}
+
+/// The first alternative: `{ subscriptions: [+text], Extensible }`.
+#[derive(Drop)]
+struct UnsubscribeById {
+    subscriptions: OneOrMore<String>,
+    ext: Ext,
+}
+
+type ByIdParts = Required<OneOrMore<String>, Ext>;
+
+impl Ruled for UnsubscribeById {
+    ghost use Rattle.bidi_shape.specs.Name.{unsubscribe_by_id};
+    ghost use Rattle.bidi_shape.specs.Term.{rule as named};
+
+    ghost rule = { named unsubscribe_by_id };
+}
+
+impl Shape for UnsubscribeById {
+    ghost use Rattle.std.specs.Prelude.{refl, []};
+    ghost use Rattle.bidi_shape.specs.Name.{unsubscribe_by_id};
+    ghost use Rattle.bidi_shape.specs.Term.{rule as named};
+    ghost use Rattle.bidi_shape.specs.Table.{map_shape};
+
+    ghost shape = { map_shape (named unsubscribe_by_id) ⟦<ByIdParts as crate::Fields>⟧.table [] (λ v. (v.subscriptions, v.ext)) refl refl };
+
+    fn from_tree(alloc: Global, tree: &Tree) -> Result<UnsubscribeById, ShapeFault> {
+        let Required(subscriptions, ext) = read_fields::<UnsubscribeById, ByIdParts>(
+            alloc,
+            tree,
+            &["subscriptions"],
+            &[],
+        )?;
+        Ok(UnsubscribeById { subscriptions, ext })
+    }
+
+    fn to_tree(&self, alloc: Global) -> Result<Tree, AllocError> {
+        let mut members = self.ext.copy_members()?;
+        add_member(alloc, &mut members, "subscriptions", &self.subscriptions)?;
+        Ok(Tree::Map(members))
+    }
+}
+
+/// The second alternative: `{ events: [+text], Extensible }`.
+#[derive(Drop)]
+struct UnsubscribeByEvents {
+    events: OneOrMore<String>,
+    ext: Ext,
+}
+
+type ByEventsParts = Required<OneOrMore<String>, Ext>;
+
+impl Ruled for UnsubscribeByEvents {
+    ghost use Rattle.bidi_shape.specs.Name.{unsubscribe_by_events};
+    ghost use Rattle.bidi_shape.specs.Term.{rule as named};
+
+    ghost rule = { named unsubscribe_by_events };
+}
+
+impl Shape for UnsubscribeByEvents {
+    ghost use Rattle.std.specs.Prelude.{refl, []};
+    ghost use Rattle.bidi_shape.specs.Name.{unsubscribe_by_events};
+    ghost use Rattle.bidi_shape.specs.Term.{rule as named};
+    ghost use Rattle.bidi_shape.specs.Table.{map_shape};
+
+    ghost shape = { map_shape (named unsubscribe_by_events) ⟦<ByEventsParts as crate::Fields>⟧.table [] (λ v. (v.events, v.ext)) refl refl };
+
+    fn from_tree(alloc: Global, tree: &Tree) -> Result<UnsubscribeByEvents, ShapeFault> {
+        let Required(events, ext) = read_fields::<UnsubscribeByEvents, ByEventsParts>(
+            alloc,
+            tree,
+            &["events"],
+            &[],
+        )?;
+        Ok(UnsubscribeByEvents { events, ext })
+    }
+
+    fn to_tree(&self, alloc: Global) -> Result<Tree, AllocError> {
+        let mut members = self.ext.copy_members()?;
+        add_member(alloc, &mut members, "events", &self.events)?;
+        Ok(Tree::Map(members))
+    }
+}
+
+impl UnsubscribeByEvents {
+    ghost use Rattle.std.specs.Prelude.{◌≡◌, IfOk, true, codes, [], ◌∷◌};
+    ghost use Rattle.bidi_tree.specs.Node as tree;
+    ghost use Rattle.bidi_tree.specs.Node.{put, MembersAreWhole};
+    ghost use Rattle.bidi_tree.specs.View.{members_node};
+    ghost use Rattle.bidi_shape.specs.Name.{unsubscribe_by_id};
+    ghost use Rattle.bidi_shape.specs.Term.{rule as named};
+    ghost use Rattle.bidi_shape.specs.Fits.{Fits};
+    ghost use Rattle.bidi_shape.specs.Parts.{has_named};
+    ghost use Rattle.bidi_shape.specs.Made.{Makes};
+    ghost use Rattle.bidi_shape.specs.ValueLaws.{others_of};
+
+    /// The events, with further members.
+    fn new(
+        alloc: Global,
+        events: OneOrMore<String>,
+        ext: Members,
+    ) -> Result<UnsubscribeByEvents, MakeFault>
+        requires { ⟦<OneOrMore<String> as Shape>⟧.shape.well events }
+        ensures made { Makes result
+            (has_named (codes "events" ∷ []) (members_node ext.entries) ≡ true)
+            (Fits (tree.map (put (codes "events") (⟦<OneOrMore<String> as Shape>⟧.shape.tree_of events) (members_node ext.entries))) (named unsubscribe_by_id))
+            (¬ MembersAreWhole (members_node ext.entries) 60)
+            (λ v. (v.events ≡ events) × (others_of v.ext ≡ members_node ext.entries)) }
+        ensures well { IfOk result (λ v. ⟦<UnsubscribeByEvents as Shape>⟧.shape.well v) }
+    {
+        let ext = Ext::new(ext, &["events"])?;
+        let made = UnsubscribeByEvents { events, ext };
+        not_shadowed::<UnsubscribeById, UnsubscribeByEvents>(alloc, &made)?;
+        if !made.ext.is_whole() {
+            return Err(MakeFault::TooDeep);
+        }
+        Ok(made)
+    }
+}
+
+/// A choice with a type of its own: `UnsubscribeById / UnsubscribeByEvents`.
+#[derive(Drop)]
+enum UnsubscribeParameters {
+    ById(UnsubscribeById),
+    ByEvents(UnsubscribeByEvents),
+}
+
+impl Ruled for UnsubscribeParameters {
+    ghost use Rattle.bidi_shape.specs.Name.{unsubscribe_parameters};
+    ghost use Rattle.bidi_shape.specs.Term.{rule as named};
+
+    ghost rule = { named unsubscribe_parameters };
+}
+
+impl Shape for UnsubscribeParameters {
+    ghost use Rattle.std.specs.Prelude.{refl};
+    ghost use Rattle.bidi_shape.specs.ThroughLaws.{shape_through};
+    ghost use Rattle.bidi_shape.specs.declared.choice.Either.TheVariants.{First, Second};
+    ghost use Rattle.bidi_shape.specs.declared.tests.UnsubscribeParameters.TheVariants.{ById, ByEvents};
+
+    ghost shape = { shape_through ⟦<UnsubscribeParameters as Ruled>⟧.rule ⟦<Either<UnsubscribeById, UnsubscribeByEvents> as Shape>⟧.shape
+        (λ v. elim v [ ById a ↦ First a | ByEvents b ↦ Second b ]) refl };
+
+    fn from_tree(alloc: Global, tree: &Tree) -> Result<UnsubscribeParameters, ShapeFault> {
+        match read_choice::<UnsubscribeParameters, Either<UnsubscribeById, UnsubscribeByEvents>>(
+            alloc, tree,
+        )? {
+            Either::First(by_id) => Ok(UnsubscribeParameters::ById(by_id)),
+            Either::Second(by_events) => Ok(UnsubscribeParameters::ByEvents(by_events)),
+        }
+    }
+
+    fn to_tree(&self, alloc: Global) -> Result<Tree, AllocError> {
+        match self {
+            UnsubscribeParameters::ById(by_id) => by_id.to_tree(alloc),
+            UnsubscribeParameters::ByEvents(by_events) => by_events.to_tree(alloc),
+        }
+    }
+}
+
+struct UndefinedTag;
+
+impl Tag for UndefinedTag {
+    ghost use Rattle.std.specs.Prelude.{codes};
+
+    ghost tag = { codes "undefined" };
+
+    fn tag() -> &'static str {
+        "undefined"
+    }
+}
+
+struct BooleanTag;
+
+impl Tag for BooleanTag {
+    ghost use Rattle.std.specs.Prelude.{codes};
+
+    ghost tag = { codes "boolean" };
+
+    fn tag() -> &'static str {
+        "boolean"
+    }
+}
+
+/// A choice of tagged maps: `{ type: "undefined" } / { type: "boolean", value: bool }`.
+#[derive(Drop)]
+enum Plain {
+    Undefined,
+    Boolean(bool),
+}
+
+type PlainParts = Either<Bare<UndefinedTag>, Typed<BooleanTag, bool>>;
+
+impl Ruled for Plain {
+    ghost use Rattle.bidi_shape.specs.Term.{bool, either};
+    ghost use Rattle.bidi_shape.specs.Profile.{typed, typed_value};
+
+    ghost rule = { either (typed "undefined") (typed_value "boolean" bool) };
+}
+
+impl Shape for Plain {
+    ghost use Rattle.std.specs.Prelude.{refl};
+    ghost use Rattle.bidi_shape.specs.ThroughLaws.{shape_through};
+    ghost use Rattle.bidi_shape.specs.TagLaws.{bare, typed};
+    ghost use Rattle.bidi_shape.specs.declared.choice.Either.TheVariants.{First, Second};
+    ghost use Rattle.bidi_shape.specs.declared.tests.Plain.TheVariants.{Undefined, Boolean};
+
+    ghost shape = { shape_through ⟦<Plain as Ruled>⟧.rule ⟦<PlainParts as Shape>⟧.shape
+        (λ v. elim v [ Undefined ↦ First bare | Boolean b ↦ Second (typed b) ]) refl };
+
+    fn from_tree(alloc: Global, tree: &Tree) -> Result<Plain, ShapeFault> {
+        match read_choice::<Plain, PlainParts>(alloc, tree)? {
+            Either::First(_) => Ok(Plain::Undefined),
+            Either::Second(boolean) => Ok(Plain::Boolean(boolean.value)),
+        }
+    }
+
+    fn to_tree(&self, alloc: Global) -> Result<Tree, AllocError> {
+        match self {
+            Plain::Undefined => tree_of_type(alloc, "undefined"),
+            Plain::Boolean(value) => tree_of_typed(alloc, "boolean", value),
+        }
     }
 }
 
@@ -473,6 +697,157 @@ fn extensions(rt: HostRuntime) -> Result<(), Fail> {
         if let Err(clash) = made {
             assert_eq!(rt; clash, Clash);
         }
+    }
+    Ok(())
+}
+
+#[test]
+fn own_choices(rt: HostRuntime) -> Result<(), Fail> {
+    let alloc = rt.alloc();
+    let rows = [
+        (
+            "{\"subscriptions\":[\"a\"]}",
+            "first",
+            "{\"subscriptions\":[\"a\"]}",
+        ),
+        ("{\"events\":[\"b\"]}", "second", "{\"events\":[\"b\"]}"),
+        (
+            "{\"subscriptions\":[\"a\"],\"events\":[\"b\"]}",
+            "first",
+            "{\"events\":[\"b\"],\"subscriptions\":[\"a\"]}",
+        ),
+        (
+            "{\"subscriptions\":[],\"events\":[\"b\"]}",
+            "second",
+            "{\"events\":[\"b\"],\"subscriptions\":[]}",
+        ),
+        ("{\"subscriptions\":[],\"events\":[]}", "neither", NO_FIT),
+        ("{}", "neither", NO_FIT),
+        ("\"subscriptions\"", "neither", NO_FIT),
+    ];
+    for (text, name, shown) in rows {
+        let tree = read(alloc, text, None).ok().ok_or("not JSON")?;
+        let found = match UnsubscribeParameters::from_tree(alloc, &tree) {
+            Ok(UnsubscribeParameters::ById(_)) => "first",
+            Ok(UnsubscribeParameters::ByEvents(_)) => "second",
+            Err(_) => "neither",
+        };
+        assert_eq!(rt; found, name, "{text}");
+        assert_eq!(rt;
+            again::<UnsubscribeParameters>(alloc, text)?.as_str(),
+            shown,
+            "{text}"
+        );
+    }
+    Ok(())
+}
+
+#[test]
+fn tagged(rt: HostRuntime) -> Result<(), Fail> {
+    let alloc = rt.alloc();
+    let bare = [
+        ("{\"type\":\"undefined\"}", "{\"type\":\"undefined\"}"),
+        ("{\"type\":\"null\"}", NO_FIT),
+        ("{\"type\":\"undefined\",\"value\":1}", NO_FIT),
+        ("{}", NO_FIT),
+    ];
+    for (text, shown) in bare {
+        assert_eq!(rt;
+            again::<Bare<UndefinedTag>>(alloc, text)?.as_str(),
+            shown,
+            "bare {text}"
+        );
+    }
+    let typed = [
+        (
+            "{\"value\":true,\"type\":\"boolean\"}",
+            "{\"type\":\"boolean\",\"value\":true}",
+        ),
+        ("{\"type\":\"boolean\"}", NO_FIT),
+        ("{\"type\":\"boolean\",\"value\":1}", NO_FIT),
+        ("{\"type\":\"string\",\"value\":true}", NO_FIT),
+        ("{\"type\":\"boolean\",\"value\":true,\"x\":1}", NO_FIT),
+    ];
+    for (text, shown) in typed {
+        assert_eq!(rt;
+            again::<Typed<BooleanTag, bool>>(alloc, text)?.as_str(),
+            shown,
+            "typed {text}"
+        );
+    }
+    let both = [
+        ("{\"type\":\"undefined\"}", "{\"type\":\"undefined\"}"),
+        (
+            "{\"type\":\"boolean\",\"value\":false}",
+            "{\"type\":\"boolean\",\"value\":false}",
+        ),
+        ("{\"type\":\"undefined\",\"value\":false}", NO_FIT),
+    ];
+    for (text, shown) in both {
+        assert_eq!(rt; again::<Plain>(alloc, text)?.as_str(), shown, "both {text}");
+    }
+    Ok(())
+}
+
+/// A text of lists within each other.
+fn nested(alloc: Global, levels: usize) -> Result<String, AllocError> {
+    let mut text = String::new(alloc);
+    for _ in 0..levels {
+        text.push('[')?;
+    }
+    for _ in 0..levels {
+        text.push(']')?;
+    }
+    Ok(text)
+}
+
+/// What becomes of the events `["e"]` with further members: the compact text, or the fault.
+fn made_with(alloc: Global, further: &str) -> Result<String, Fail> {
+    let tree = read(alloc, further, None).ok().ok_or("not JSON")?;
+    let Tree::Map(ext) = tree else {
+        return Err(Fail::from("no map"));
+    };
+    let mut items = Vec::new(alloc);
+    items.push(String::from_str(alloc, "e")?)?;
+    match UnsubscribeByEvents::new(alloc, OneOrMore { items }, ext) {
+        Ok(made) => {
+            let tree = made.to_tree(alloc)?;
+            if tree.is_writable() {
+                Ok(write(alloc, &tree)?)
+            } else {
+                Ok(String::from_str(alloc, "not writable")?)
+            }
+        }
+        Err(fault) => Ok(format!(in alloc; "{fault:?}")?),
+    }
+}
+
+#[test]
+fn constructors(rt: HostRuntime) -> Result<(), Fail> {
+    let alloc = rt.alloc();
+    let rows = [
+        ("{}", "{\"events\":[\"e\"]}"),
+        ("{\"x\":[1]}", "{\"events\":[\"e\"],\"x\":[1]}"),
+        (
+            "{\"subscriptions\":[]}",
+            "{\"events\":[\"e\"],\"subscriptions\":[]}",
+        ),
+        ("{\"events\":[]}", "Clash"),
+        ("{\"events\":[],\"subscriptions\":[\"a\"]}", "Clash"),
+        ("{\"events\":[],\"x\":1.5}", "Clash"),
+        ("{\"subscriptions\":[\"a\"]}", "Shadowed"),
+        ("{\"x\":[-0]}", "TooDeep"),
+        // The earlier alternative does not take such a member either.
+        ("{\"subscriptions\":[\"a\"],\"x\":1.5}", "TooDeep"),
+    ];
+    for (further, shown) in rows {
+        assert_eq!(rt; made_with(alloc, further)?.as_str(), shown, "{further}");
+    }
+    for (levels, fine) in [(60, true), (61, false)] {
+        let text = nested(alloc, levels)?;
+        let further = format!(in alloc; "{{\"x\":{text}}}")?;
+        let made = made_with(alloc, further.as_str())?;
+        assert_eq!(rt; made.as_str() != "TooDeep", fine, "{levels} levels");
     }
     Ok(())
 }

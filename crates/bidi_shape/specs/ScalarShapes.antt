@@ -1,0 +1,50 @@
+-- Texts, truth values and whole numbers: each stands for the tree that it is.
+use Rattle.std.specs.Prelude.{◌≡◌, pos, Bool, String, string_bytes}
+use Rattle.std.specs.declared.alloc.Global.{Global}
+use Rattle.bidi_tree.specs.Node as tree
+use Rattle.bidi_tree.specs.declared.number.JsUint.{JsUint}
+use Rattle.bidi_tree.specs.declared.number.JsInt.{JsInt}
+use Rattle.bidi_shape.specs.Term.{text, bool, js_uint, js_int}
+use Rattle.bidi_shape.specs.Fits.{fits_text, fits_bool, fits_js_uint, fits_js_int}
+use Rattle.bidi_shape.specs.KindLaws.{text_one, bool_one, uint_one, int_one}
+use Rattle.bidi_shape.specs.Value.{ShapeOf}
+
+abbrev pub string_shape : ShapeOf (String Global)
+string_shape = record {
+  rule = text;
+  tree_of = λ s. tree.text (string_bytes s);
+  well = λ s. Unit {0};
+  same = λ s t. string_bytes s ≡ string_bytes t;
+  fits = λ s w. fits_text (string_bytes s);
+  one_value = λ s t v w e. text_one (string_bytes s) (string_bytes t) e;
+}
+
+abbrev pub bool_shape : ShapeOf Bool
+bool_shape = record {
+  rule = bool;
+  tree_of = tree.boolean;
+  well = λ b. Unit {0};
+  same = λ b c. b ≡ c;
+  fits = λ b w. fits_bool b;
+  one_value = λ b c v w e. bool_one b c e;
+}
+
+abbrev pub js_uint_shape : ShapeOf JsUint
+js_uint_shape = record {
+  rule = js_uint;
+  tree_of = λ n. tree.whole (pos n.value);
+  well = λ n. Unit {0};
+  same = λ m n. m.value ≡ n.value;
+  fits = λ n w. fits_js_uint n.value n.in_range;
+  one_value = λ m n v w e. uint_one m.value n.value e;
+}
+
+abbrev pub js_int_shape : ShapeOf JsInt
+js_int_shape = record {
+  rule = js_int;
+  tree_of = λ n. tree.whole n.value;
+  well = λ n. Unit {0};
+  same = λ m n. m.value ≡ n.value;
+  fits = λ n w. fits_js_int n.value n.in_range;
+  one_value = λ m n v w e. int_one m.value n.value e;
+}

@@ -1,0 +1,24 @@
+//! A value once more.
+ghost use Rattle.std.specs.Prelude.{◌≡◌, IfOk};
+
+use crate::fault::ShapeFault;
+use crate::shape::Shape;
+use std::alloc::{AllocError, Global};
+
+/// An equal value, in room of its own. Costs the making and the reading of its tree.
+///
+/// # Errors
+/// No memory, where a growth was refused.
+pub fn copied<X: Shape>(alloc: Global, value: &X) -> Result<X, AllocError>
+    requires { X.shape.well value.now }
+    ensures tree { IfOk result (λ v. X.shape.tree_of v ≡ X.shape.tree_of value.now) }
+    ensures well { IfOk result X.shape.well }
+    ensures same { IfOk result (λ v. X.shape.same v value.now) }
+{
+    let tree = value.to_tree(alloc)?;
+    match X::from_tree(alloc, &tree) {
+        Ok(copy) => Ok(copy),
+        Err(ShapeFault::NoMemory) => Err(AllocError),
+        Err(ShapeFault::NoFit) => unreachable!(),
+    }
+}

@@ -1,0 +1,117 @@
+//! Closed maps that a text tells apart.
+ghost use Rattle.std.specs.Prelude.{◌≡◌, IfOk, ℕ, List};
+ghost use Rattle.bidi_tree.specs.View.{node};
+ghost use Rattle.bidi_shape.specs.TagLaws.{bare_tree, typed_tree};
+
+use crate::fault::ShapeFault;
+use crate::fields::{Closed, Literal, Required};
+use crate::members::{add_literal, add_member};
+use crate::shape::Shape;
+use crate::table::{Ruled, read_fields};
+use bidi_tree::{Members, Tree};
+use std::alloc::{AllocError, Global};
+use std::marker::PhantomData;
+
+/// A text that a map bears as its `type`.
+pub trait Tag {
+    ghost tag: { List ℕ };
+
+    /// The text. Takes no memory.
+    fn tag() -> &'static str
+        ensures { result.now ≡ tag };
+}
+
+/// A map with its type alone: `{ type: "T" }`.
+#[derive(Drop)]
+pub struct Bare<T> {
+    of: PhantomData<T>,
+}
+
+/// A map with its type and a value: `{ type: "T", value: X }`.
+#[derive(Drop)]
+pub struct Typed<T, X: Drop> {
+    pub value: X,
+    of: PhantomData<T>,
+}
+
+impl<T: Tag> Ruled for Bare<T> {
+    ghost use Rattle.bidi_shape.specs.TagLaws.{bare_term};
+
+    ghost rule = { bare_term T.tag };
+}
+
+impl<T: Tag, X: Shape> Ruled for Typed<T, X> {
+    ghost use Rattle.bidi_shape.specs.TagLaws.{typed_term};
+
+    ghost rule = { typed_term T.tag X.shape.rule };
+}
+
+impl<T: Tag> Shape for Bare<T> {
+    ghost use Rattle.std.specs.Prelude.{refl, [], ◌∷◌};
+    ghost use Rattle.bidi_shape.specs.TagLaws.{bare_term};
+    ghost use Rattle.bidi_shape.specs.Table.{map_shape};
+
+    ghost shape = { map_shape (bare_term T.tag) ⟦<Literal<Closed> as crate::Fields>⟧.table (T.tag ∷ []) (λ v. record { 0 = record {} }) refl refl };
+
+    fn from_tree(alloc: Global, tree: &Tree) -> Result<Bare<T>, ShapeFault> {
+        let Literal(Closed) = read_fields::<Bare<T>, Literal<Closed>>(
+            alloc,
+            tree,
+            &["type"],
+            &[T::tag()],
+        )?;
+        Ok(Bare { of: PhantomData })
+    }
+
+    fn to_tree(&self, alloc: Global) -> Result<Tree, AllocError> {
+        tree_of_type(alloc, T::tag())
+    }
+}
+
+impl<T: Tag, X: Shape> Shape for Typed<T, X> {
+    ghost use Rattle.std.specs.Prelude.{refl, [], ◌∷◌};
+    ghost use Rattle.bidi_shape.specs.TagLaws.{typed_term};
+    ghost use Rattle.bidi_shape.specs.Table.{map_shape};
+
+    ghost shape = { map_shape (typed_term T.tag X.shape.rule) ⟦<Literal<Required<X, Closed>> as crate::Fields>⟧.table (T.tag ∷ []) (λ v. record { 0 = (v.value, record {}) }) refl refl };
+
+    fn from_tree(alloc: Global, tree: &Tree) -> Result<Typed<T, X>, ShapeFault> {
+        let Literal(Required(value, Closed)) = read_fields::<
+            Typed<T, X>,
+            Literal<Required<X, Closed>>,
+        >(alloc, tree, &["type", "value"], &[T::tag()])?;
+        Ok(Typed {
+            value,
+            of: PhantomData,
+        })
+    }
+
+    fn to_tree(&self, alloc: Global) -> Result<Tree, AllocError> {
+        tree_of_typed(alloc, T::tag(), &self.value)
+    }
+}
+
+/// Makes the tree of a map with its type alone.
+///
+/// # Errors
+/// No memory, where a growth was refused.
+pub fn tree_of_type(alloc: Global, tag: &str) -> Result<Tree, AllocError>
+    ensures { IfOk result (λ t. node t ≡ bare_tree tag.now) }
+{
+    let mut members = Members::new(alloc);
+    add_literal(alloc, &mut members, "type", tag)?;
+    Ok(Tree::Map(members))
+}
+
+/// Makes the tree of a map with its type and a value.
+///
+/// # Errors
+/// No memory, where a growth was refused.
+pub fn tree_of_typed<X: Shape>(alloc: Global, tag: &str, value: &X) -> Result<Tree, AllocError>
+    ensures { IfOk result (λ t. node t ≡ typed_tree tag.now (X.shape.tree_of value.now)) }
+{
+    let mut members = Members::new(alloc);
+    add_member(alloc, &mut members, "value", value)?;
+    add_literal(alloc, &mut members, "type", tag)?;
+    Ok(Tree::Map(members))
+}
