@@ -1,0 +1,3 @@
+pub mod BesideLemmas
+pub mod NestedLemmas
+pub mod LogEntryLemmas

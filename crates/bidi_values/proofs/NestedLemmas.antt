@@ -1,0 +1,205 @@
+-- What readers and writers of values that may hold others answer.
+use Rattle.std.proofs.Common.{◌≡◌, ◌<◌, ◌≤◌, ◌+◌, ℕ, zero, suc, List, [], ◌∷◌, ◌++◌, take, map, length, get_or, refl, sym, ap, ◌∙◌, arith}
+use Rattle.std.proofs.Common.{Option, Some, None, Bor, MatchOption, ◌⊎◌, inl, inr, codes, subst, Result, Ok, Err, IfOk, Vec, Global}
+use Rattle.std.proofs.lemmas.List.{map-append}
+use Rattle.std.specs.List.{AllByRecursion}
+use Rattle.std.specs.declared.alloc.AllocError.{AllocError}
+use Rattle.bidi_tree.specs.Node as kind
+use Rattle.bidi_tree.specs.Node.{Node, Items, no_items, item, levels, items_levels}
+use Rattle.bidi_tree.specs.Kind.{list_in}
+use Rattle.bidi_shape.specs.ListLaws.{two_items as length_of_two}
+use Rattle.bidi_tree.specs.View.{node, items_of, items_node}
+use Rattle.bidi_tree.specs.declared.tree.Tree.{Tree, List as TreeList}
+use Rattle.bidi_tree.proofs.TreeLemmas.{node-List}
+use Rattle.bidi_shape.specs.Term.{Term, map_of, closed, rule, list_of, pair_of, either, text}
+use Rattle.bidi_shape.specs.Name.{Name}
+use Rattle.bidi_shape.specs.Parts.{joined}
+use Rattle.bidi_shape.specs.Profile.{term_of}
+use Rattle.bidi_shape.specs.Fits.{Fits, AllFit, fits_list, fits_pair, fits_rule}
+use Rattle.bidi_shape.specs.Value.{ShapeOf}
+use Rattle.bidi_values.specs.BesideLaws.{BesideOf, and_value, around, holding, value_inside, value_levels}
+use Rattle.bidi_values.specs.Content.{content, pair_content, contents_of, pairs_of, content-Plain, content-List, content-Pairs}
+use Rattle.bidi_values.specs.NestedLaws.{NestingOf, SameBeside, Agrees, value_tree, values_tree, pairs_tree, pair_node, PartsAreWell, ValuesAreWell, PairsAreWell, value_fits_inside}
+use Rattle.bidi_values.specs.View.{nested_tree, nested_pair_tree, NestedIsWell, NestedPairIsWell}
+use Rattle.bidi_values.specs.declared.nested.Nested.{Nested, Plain as PlainOf, List as ListOf, Pairs as PairsOf}
+use Rattle.bidi_values.specs.declared.nested.NestedPair.{NestedPair}
+
+one_more : {B C : Type 0} (g : B → C) (ys : List B) (i : ℕ) (d : B) → i < length ys → map g (take (suc i) ys) ≡ map g (take i ys) ++ g (get_or ys i d) ∷ []
+one_more g [] i d h = absurd (omega arith)
+one_more g (y ∷ ys) zero d h = refl
+one_more g (y ∷ ys) (suc i) d h = ap (◌∷◌ (g y)) (one_more g ys i d (omega arith))
+
+-- one more item on both sides
+pub gathered : {A B C : Type 0} (f : A → C) (g : B → C) (done : List A) (x : A) (ys : List B) (i : ℕ) (d : B) → i < length ys → map f done ≡ map g (take i ys) → f x ≡ g (get_or ys i d)
+    → map f (done ++ x ∷ []) ≡ map g (take (i + 1) ys)
+gathered f g done x ys i d h e same = map-append f done (x ∷ []) ∙ ap (λ l. l ++ f x ∷ []) e ∙ ap (λ y. map g (take i ys) ++ y ∷ []) same ∙ sym (one_more g ys i d h) ∙ ap (λ k. map g (take k ys)) (let next : suc i ≡ i + 1 = omega arith in next)
+
+-- ---- what stands beside, as the rule sees it
+
+around_same : {H : Type 0} {a b : BesideOf H} (e : SameBeside a b) (h : H) (t : Node) → around a h t ≡ around b h t
+around_same {a = a} {b = b} e h t = ap (λ rs. kind.map (joined rs (a.parts h) (kind.member (codes "value") t kind.no_members))) e.rows ∙ ap (λ ps. kind.map (joined b.rows ps (kind.member (codes "value") t kind.no_members))) (e.parts h)
+
+holding_same : {H : Type 0} {a b : BesideOf H} (e : SameBeside a b) (τ : Term) → holding a τ ≡ holding b τ
+holding_same e τ = ap (λ rs. map_of (and_value rs τ) closed) e.rows
+
+items_fit : {ts : Items} {least : ℕ} {τ : Term} → Fits (kind.list ts) (list_of least τ) → AllFit ts τ
+items_fit f = inside f refl
+  where
+    inside : {t : Node} {ts : Items} {least : ℕ} {τ : Term} → Fits t (list_of least τ) → t ≡ kind.list ts → AllFit ts τ
+    inside {ts = ts} (fits_list us least τ h f) e = let same : us ≡ ts = cc in subst (λ x. AllFit x τ) same f
+
+first_of : {u v x y : Node} → pair_node u v ≡ pair_node x y → u ≡ x
+first_of e = cc
+
+second_of : {u v x y : Node} → pair_node u v ≡ pair_node x y → v ≡ y
+second_of e = cc
+
+-- ---- lists of values and pairs
+
+module _ {P L M : Type 0} (n : NestingOf P L M) where
+  values_tree-of : (vs : List (Nested P L M)) → values_tree n (contents_of (map content vs)) ≡ items_of (map (nested_tree n) vs)
+  values_tree-of [] = refl
+  values_tree-of (v ∷ vs) = ap (item (nested_tree n v)) (values_tree-of vs)
+
+  pairs_tree-of : (ps : List (NestedPair P L M)) → pairs_tree n (pairs_of (map pair_content ps)) ≡ items_of (map (nested_pair_tree n) ps)
+  pairs_tree-of [] = refl
+  pairs_tree-of (p ∷ ps) = ap (item (nested_pair_tree n p)) (pairs_tree-of ps)
+
+  values_well-of : (vs : List (Nested P L M)) → AllByRecursion (NestedIsWell n) vs → ValuesAreWell n (contents_of (map content vs))
+  values_well-of [] w = tt
+  values_well-of (v ∷ vs) w = (w.0, values_well-of vs w.1)
+
+  pairs_well-of : (ps : List (NestedPair P L M)) → AllByRecursion (NestedPairIsWell n) ps → PairsAreWell n (pairs_of (map pair_content ps))
+  pairs_well-of [] w = tt
+  pairs_well-of (p ∷ ps) w = (w.0, pairs_well-of ps w.1)
+
+  -- the tree of a list of values is the map around theirs
+  list_tree : (h : L) (vs : Vec (Nested P L M) Global) (ts : List Node) → map (nested_tree n) vs.items ≡ ts → nested_tree n (ListOf h vs) ≡ around n.list h (kind.list (items_of ts))
+  list_tree h vs ts e = ap (value_tree n) (content-List h vs) ∙ ap (λ x. around n.list h (kind.list x)) (values_tree-of vs.items ∙ ap items_of e)
+
+  pairs_list_tree : (h : M) (ps : Vec (NestedPair P L M) Global) (ts : List Node) → map (nested_pair_tree n) ps.items ≡ ts → nested_tree n (PairsOf h ps) ≡ around n.pairs h (kind.list (items_of ts))
+  pairs_list_tree h ps ts e = ap (value_tree n) (content-Pairs h ps) ∙ ap (λ x. around n.pairs h (kind.list x)) (pairs_tree-of ps.items ∙ ap items_of e)
+
+  module _ {s : ShapeOf P} {l : BesideOf L} {m : BesideOf M} (a : Agrees n s l m) where
+    -- ---- writers
+
+    pub plain_written : (r : Result Tree AllocError) (v : Nested P L M) (p : P) → v ≡ PlainOf p → IfOk r (λ t. node t ≡ s.tree_of p) → IfOk r (λ t. node t ≡ nested_tree n v)
+    plain_written (Ok t) v p is e = e ∙ a.tree p ∙ sym (ap (value_tree n) (content-Plain p)) ∙ ap (nested_tree n) (sym is)
+    plain_written (Err x) v p is e = tt
+
+    pub list_written : (r : Result Tree AllocError) (v : Nested P L M) (h : L) (vs : Vec (Nested P L M) Global) (trees : Vec Tree Global) → v ≡ ListOf h vs
+        → map node trees.items ≡ map (nested_tree n) vs.items → IfOk r (λ t. node t ≡ around l h (node (TreeList trees))) → IfOk r (λ t. node t ≡ nested_tree n v)
+    list_written (Ok t) v h vs trees is e p =
+        p ∙ around_same a.list h (node (TreeList trees)) ∙ ap (around n.list h) (node-List trees) ∙ sym (list_tree h vs (map node trees.items) (sym e)) ∙ ap (nested_tree n) (sym is)
+    list_written (Err x) v h vs trees is e p = tt
+
+    pub pairs_written : (r : Result Tree AllocError) (v : Nested P L M) (h : M) (ps : Vec (NestedPair P L M) Global) (trees : Vec Tree Global) → v ≡ PairsOf h ps
+        → map node trees.items ≡ map (nested_pair_tree n) ps.items → IfOk r (λ t. node t ≡ around m h (node (TreeList trees))) → IfOk r (λ t. node t ≡ nested_tree n v)
+    pairs_written (Ok t) v h ps trees is e p =
+        p ∙ around_same a.pairs h (node (TreeList trees)) ∙ ap (around n.pairs h) (node-List trees) ∙ sym (pairs_list_tree h ps (map node trees.items) (sym e)) ∙ ap (nested_tree n) (sym is)
+    pairs_written (Err x) v h ps trees is e p = tt
+
+    -- ---- readers
+
+    pub plain_read : (p : P) (t : Node) → s.tree_of p ≡ t → s.well p → (nested_tree n (PlainOf p) ≡ t) × NestedIsWell n (PlainOf p)
+    plain_read p t e w = (ap (value_tree n) (content-Plain p) ∙ sym (a.tree p) ∙ e, subst (PartsAreWell n) (sym (content-Plain p)) (a.well p w))
+
+    pub list_read : (h : L) (vs : Vec (Nested P L M) Global) (items : List Tree) (t : Node) → around l h (kind.list (items_node items)) ≡ t → l.well h
+        → map (nested_tree n) vs.items ≡ map node items → AllByRecursion (NestedIsWell n) vs.items → (nested_tree n (ListOf h vs) ≡ t) × NestedIsWell n (ListOf h vs)
+    list_read h vs items t is w e ws = (
+      list_tree h vs (map node items) e ∙ sym (around_same a.list h (kind.list (items_node items))) ∙ is,
+      subst (PartsAreWell n) (sym (content-List h vs)) (a.list.well h w, values_well-of vs.items ws),
+    )
+
+    pub pairs_read : (h : M) (ps : Vec (NestedPair P L M) Global) (items : List Tree) (t : Node) → around m h (kind.list (items_node items)) ≡ t → m.well h
+        → map (nested_pair_tree n) ps.items ≡ map node items → AllByRecursion (NestedPairIsWell n) ps.items → (nested_tree n (PairsOf h ps) ≡ t) × NestedIsWell n (PairsOf h ps)
+    pairs_read h ps items t is w e ws = (
+      pairs_list_tree h ps (map node items) e ∙ sym (around_same a.pairs h (kind.list (items_node items))) ∙ is,
+      subst (PartsAreWell n) (sym (content-Pairs h ps)) (a.pairs.well h w, pairs_well-of ps.items ws),
+    )
+
+    -- a list of which an item does not fit
+    pub list_misfit : (h : L) (items : Items) (t : Node) → around l h (kind.list items) ≡ t → l.well h → (AllFit items (rule n.values) → ⊥) → Fits t (rule n.values) → ⊥
+    list_misfit h items t is w bad f = by_kind (n.one_of t (value_fits_inside n t f))
+      where
+        here : around n.list h (kind.list items) ≡ t
+        here = sym (around_same a.list h (kind.list items)) ∙ is
+
+        by_kind : Fits t n.plain.rule ⊎ (Fits t (holding n.list (list_of 0 (rule n.values))) ⊎ Fits t (holding n.pairs (list_of 0 (rule n.pair_rule)))) → ⊥
+        by_kind (inl f) = n.list_not_plain h (kind.list items) (a.list.well h w) (subst (λ x. Fits x n.plain.rule) (sym here) f)
+        by_kind (inr (inl f)) = bad (items_fit (value_inside n.list h (kind.list items) (list_of 0 (rule n.values)) (subst (λ x. Fits x (holding n.list (list_of 0 (rule n.values)))) (sym here) f)))
+        by_kind (inr (inr f)) = n.list_not_pairs h (kind.list items) (a.list.well h w) (subst (λ x. Fits x (holding n.pairs (list_of 0 (rule n.pair_rule)))) (sym here) f)
+
+    pub pairs_misfit : (h : M) (items : Items) (t : Node) → around m h (kind.list items) ≡ t → m.well h → (AllFit items (rule n.pair_rule) → ⊥) → Fits t (rule n.values) → ⊥
+    pairs_misfit h items t is w bad f = by_kind (n.one_of t (value_fits_inside n t f))
+      where
+        here : around n.pairs h (kind.list items) ≡ t
+        here = sym (around_same a.pairs h (kind.list items)) ∙ is
+
+        by_kind : Fits t n.plain.rule ⊎ (Fits t (holding n.list (list_of 0 (rule n.values))) ⊎ Fits t (holding n.pairs (list_of 0 (rule n.pair_rule)))) → ⊥
+        by_kind (inl f) = n.pairs_not_plain h (kind.list items) (a.pairs.well h w) (subst (λ x. Fits x n.plain.rule) (sym here) f)
+        by_kind (inr (inl f)) = n.pairs_not_list h (kind.list items) (a.pairs.well h w) (subst (λ x. Fits x (holding n.list (list_of 0 (rule n.values)))) (sym here) f)
+        by_kind (inr (inr f)) = bad (items_fit (value_inside n.pairs h (kind.list items) (list_of 0 (rule n.pair_rule)) (subst (λ x. Fits x (holding n.pairs (list_of 0 (rule n.pair_rule)))) (sym here) f)))
+
+    -- what is none of the three
+    pub no_value : (t : Node) → ((τ : Term) → Fits t (holding l (list_of 0 τ)) → ⊥) → ((τ : Term) → Fits t (holding m (list_of 0 τ)) → ⊥) → (Fits t s.rule → ⊥) → Fits t (rule n.values) → ⊥
+    no_value t no_list no_pairs no_plain f = by_kind (n.one_of t (value_fits_inside n t f))
+      where
+        by_kind : Fits t n.plain.rule ⊎ (Fits t (holding n.list (list_of 0 (rule n.values))) ⊎ Fits t (holding n.pairs (list_of 0 (rule n.pair_rule)))) → ⊥
+        by_kind (inl f) = no_plain (subst (Fits t) (sym a.rule) f)
+        by_kind (inr (inl f)) = no_list (rule n.values) (subst (Fits t) (sym (holding_same a.list (list_of 0 (rule n.values)))) f)
+        by_kind (inr (inr f)) = no_pairs (rule n.pair_rule) (subst (Fits t) (sym (holding_same a.pairs (list_of 0 (rule n.pair_rule)))) f)
+
+  -- ---- pairs
+
+  pair_inside : {t : Node} → Fits t (rule n.pair_rule) → (u : Node) × (v : Node) × (t ≡ pair_node u v) × Fits u (either (rule n.values) text) × Fits v (rule n.values)
+  pair_inside {t} f = of_pair (subst (Fits t) n.is_pair (of_rule f))
+    where
+      of_rule : {t : Node} {r : Name} → Fits t (rule r) → Fits t (term_of r)
+      of_rule (fits_rule t r f) = f
+
+      of_pair : {t : Node} {σ τ : Term} → Fits t (pair_of σ τ) → (u : Node) × (v : Node) × (t ≡ pair_node u v) × Fits u σ × Fits v τ
+      of_pair (fits_pair u v σ τ f g) = (u, v, refl, f, g)
+
+  -- a list of two whose key or value does not fit
+  pub key_misfit : (t u v : Node) → t ≡ pair_node u v → (Fits u (either (rule n.values) text) → ⊥) → Fits t (rule n.pair_rule) → ⊥
+  key_misfit t u v is bad f = let p = pair_inside f in bad (subst (λ x. Fits x (either (rule n.values) text)) (first_of (sym p.2 ∙ is)) p.3)
+
+  pub value_misfit : (t u v : Node) → t ≡ pair_node u v → (Fits v (rule n.values) → ⊥) → Fits t (rule n.pair_rule) → ⊥
+  value_misfit t u v is bad f = let p = pair_inside f in bad (subst (λ x. Fits x (rule n.values)) (second_of (sym p.2 ∙ is)) p.4)
+
+  pub no_pair : (t : Node) → ((u v : Node) → t ≡ pair_node u v → ⊥) → Fits t (rule n.pair_rule) → ⊥
+  no_pair t bad f = let p = pair_inside f in bad p.0 p.1 p.2
+
+-- ---- levels
+
+pub list_levels : {H : Type 0} (s : BesideOf H) (h : H) (items : Items) (t : Node) → around s h (kind.list items) ≡ t → items_levels items + 1 < levels t
+list_levels s h items t is = subst (λ x. items_levels items + 1 < levels x) is (let below = value_levels s h (kind.list items) in omega (arith, below))
+
+pub item_levels : (ts : List Tree) (i : ℕ) (d : Tree) → i < length ts → levels (node (get_or ts i d)) ≤ items_levels (items_node ts)
+item_levels [] i d h = absurd (omega arith)
+item_levels (t ∷ ts) zero d h = omega arith
+item_levels (t ∷ ts) (suc i) d h = let rest = item_levels ts i d (omega arith) in omega (arith, rest)
+
+pub pair_levels : (t u v : Node) → t ≡ pair_node u v → (levels u < levels t) × (levels v < levels t)
+pair_levels t u v is = subst (λ x. (levels u < levels x) × (levels v < levels x)) (sym is) (omega arith, omega arith)
+
+-- ---- lists of two
+
+list_again : (t : Node) (ts : Items) → Some ts ≡ list_in t → t ≡ kind.list ts
+list_again kind.null ts e = cc
+list_again (kind.boolean b) ts e = cc
+list_again (kind.whole z) ts e = cc
+list_again kind.odd ts e = cc
+list_again (kind.text s) ts e = cc
+list_again (kind.list us) ts e = cc
+list_again (kind.map ms) ts e = cc
+
+same_list : {xs ys : Items} → kind.list xs ≡ kind.list ys → xs ≡ ys
+same_list e = cc
+
+-- the items of a list, where they are two
+pub two_read : (r : Option (Bor Tree × Bor Tree)) (t : Node) (items : List Tree) → Some (items_node items) ≡ list_in t → MatchOption r (length items ≡ 2 → ⊥) (λ p. items ≡ p.0.now ∷ p.1.now ∷ [])
+    → MatchOption r ((u v : Node) → t ≡ pair_node u v → ⊥) (λ p. t ≡ pair_node (node p.0.now) (node p.1.now))
+two_read None t items is no_two = λ u v e. no_two (length_of_two items u v (same_list (sym (list_again t (items_node items) is) ∙ e)))
+two_read (Some p) t items is two = list_again t (items_node items) is ∙ ap (λ x. kind.list (items_node x)) two

@@ -1,0 +1,165 @@
+-- The members that stand beside the `value` of a closed map, and the laws of such maps.
+use Rattle.std.proofs.Common.{◌≡◌, ◌≤◌, ◌<◌, max, arith, Ordering, Less, Equal, Greater, nat_cmp, ℕ, List, [], ◌∷◌, codes, Bool, true, false, ◌||◌, Option, Some, bytes_eq, true≢false, refl, sym, ap, ◌∙◌, subst}
+use Rattle.std.proofs.lemmas.Bool.{or_parts}
+use Rattle.std.specs.Cmp.Lexicographic.{slice_cmp}
+use Rattle.std.specs.Ordering.{match_ordering}
+use Rattle.std.specs.List.{list_any}
+use Rattle.bidi_tree.specs.Node as node
+use Rattle.bidi_tree.specs.Node.{Node, Members, no_members, member, get_member, levels, members_levels, AreAscending}
+use Rattle.bidi_shape.specs.Term.{Need, required, Term, closed, map_of, Rows, no_more, row, names_of}
+use Rattle.bidi_shape.specs.Fits.{Fits, fits_map, RowsFit, no_row, there, absent, without}
+use Rattle.bidi_shape.specs.Parts.{joined, distinct, PartsAt, PartsFit, PartFits}
+use Rattle.bidi_shape.specs.Table.{Table}
+use Rattle.bidi_shape.specs.MapLaws.{map_one, map_inside, PartsAt-joined, Aligned-PartsFit, RowsFit-PartsAt, unnamed, without_joined_among, at-joined_other}
+
+abbrev is_named : List (List ℕ) → List ℕ → Bool
+is_named ks q = list_any (bytes_eq q) ks
+
+-- the rows of the other members, and then `value`
+abbrev pub and_value : Rows → Term → Rows
+and_value no_more τ = row (codes "value") required τ no_more
+and_value (row k need σ rows) τ = row k need σ (and_value rows τ)
+
+-- what a type owes whose values stand beside a `value`
+pub record BesideOf (H : Type 0) : Type 1 where
+  pub rows : Rows
+  -- what stands under each row's name
+  pub parts : H → List (Option Node)
+  pub well : H → Type 0
+  pub same : H → H → Type 0
+  -- each name stands once, and none is `value`
+  pub once : distinct (names_of rows) ≡ true
+  pub free : list_any (bytes_eq (codes "value")) (names_of rows) ≡ false
+  pub parts_fit : (h : H) → well h → PartsFit rows (parts h)
+  pub one : (g h : H) → well g → well h → parts g ≡ parts h → same g h
+
+-- the term of such a map whose `value` fits a term
+abbrev pub holding : {H : Type 0} → BesideOf H → Term → Term
+holding s τ = map_of (and_value s.rows τ) closed
+
+-- the map itself
+abbrev pub around : {H : Type 0} → BesideOf H → H → Node → Node
+around s h t = node.map (joined s.rows (s.parts h) (member (codes "value") t no_members))
+
+-- ---- rows and names
+
+pub RowsFit-and_value : (rs : Rows) (τ : Term) (ms : Members) (t : Node) → RowsFit ms rs → get_member (codes "value") ms ≡ Some t → Fits t τ → RowsFit ms (and_value rs τ)
+RowsFit-and_value no_more τ ms t f e h = there ms (codes "value") required τ no_more t e h (no_row ms)
+RowsFit-and_value (row k need σ rs) τ ms t (there m l n ρ rest u e f more) is h = there m l n ρ (and_value rest τ) u e f (RowsFit-and_value rest τ m t more is h)
+RowsFit-and_value (row k need σ rs) τ ms t (absent m l ρ rest e more) is h = absent m l ρ (and_value rest τ) e (RowsFit-and_value rest τ m t more is h)
+
+RowsFit-value : {rs : Rows} {τ : Term} {ms : Members} → RowsFit ms (row (codes "value") required τ rs) → PartFits required τ (get_member (codes "value") ms)
+RowsFit-value (there m l n ρ rest u e f more) = subst (PartFits required ρ) (sym e) f
+
+RowsFit-row : {k : List ℕ} {need : Need} {σ : Term} {rs qs : Rows} {ms : Members} → (RowsFit ms qs → RowsFit ms rs) → RowsFit ms (row k need σ qs) → RowsFit ms (row k need σ rs)
+RowsFit-row {rs} go (there m l n ρ rest u e f more) = there m l n ρ rs u e f (go more)
+RowsFit-row {rs} go (absent m l ρ rest e more) = absent m l ρ rs e (go more)
+
+RowsFit-more : {k : List ℕ} {need : Need} {σ : Term} {rs : Rows} {ms : Members} → RowsFit ms (row k need σ rs) → RowsFit ms rs
+RowsFit-more (there m l n ρ rest u e f more) = more
+RowsFit-more (absent m l ρ rest e more) = more
+
+pub RowsFit-head : (rs : Rows) (τ : Term) (ms : Members) → RowsFit ms (and_value rs τ) → RowsFit ms rs
+RowsFit-head no_more τ ms f = no_row ms
+RowsFit-head (row k need σ rs) τ ms f = RowsFit-row (RowsFit-head rs τ ms) f
+
+pub value_fits : (rs : Rows) (τ : Term) (ms : Members) → RowsFit ms (and_value rs τ) → PartFits required τ (get_member (codes "value") ms)
+value_fits no_more τ ms f = RowsFit-value f
+value_fits (row k need σ rs) τ ms f = value_fits rs τ ms (RowsFit-more f)
+
+or_later : (b c : Bool) → c ≡ true → (b || c) ≡ true
+or_later true c e = refl
+or_later false c e = e
+
+or_kept : (b c d : Bool) → (c ≡ true → d ≡ true) → (b || c) ≡ true → (b || d) ≡ true
+or_kept true c d go e = refl
+or_kept false c d go e = go e
+
+neither : (b c : Bool) → b ≡ false → c ≡ false → (b || c) ≡ false
+neither b c e f = rw (e, f) refl
+
+named-and_value : (rs : Rows) (τ : Term) (q : List ℕ) → is_named (names_of rs) q ≡ true → is_named (names_of (and_value rs τ)) q ≡ true
+named-and_value no_more τ q e = absurd (true≢false (sym e))
+named-and_value (row k need σ rs) τ q e = or_kept (bytes_eq q k) (is_named (names_of rs) q) (is_named (names_of (and_value rs τ)) q) (named-and_value rs τ q) e
+
+value_named : (rs : Rows) (τ : Term) → is_named (names_of (and_value rs τ)) (codes "value") ≡ true
+value_named no_more τ = refl
+value_named (row k need σ rs) τ = or_later (bytes_eq (codes "value") k) (is_named (names_of (and_value rs τ)) (codes "value")) (value_named rs τ)
+
+pub unnamed-and_value : (rs : Rows) (τ : Term) (q : List ℕ) → is_named (names_of rs) q ≡ false → bytes_eq q (codes "value") ≡ false → is_named (names_of (and_value rs τ)) q ≡ false
+unnamed-and_value no_more τ q e f = neither (bytes_eq q (codes "value")) false f refl
+unnamed-and_value (row k need σ rs) τ q e f =
+    let both = or_parts (bytes_eq q k) (is_named (names_of rs) q) e in
+    neither (bytes_eq q k) (is_named (names_of (and_value rs τ)) q) both.0 (unnamed-and_value rs τ q both.1 f)
+
+-- the rows' names are those of the type, and `value`, whatever its term
+pub names-and_value : (rs : Rows) (σ τ : Term) → names_of (and_value rs σ) ≡ names_of (and_value rs τ)
+names-and_value no_more σ τ = refl
+names-and_value (row k need ρ rs) σ τ = ap (◌∷◌ k) (names-and_value rs σ τ)
+
+-- ---- levels
+
+-- a member has fewer levels than the map
+pub member_levels : (k : List ℕ) (t : Node) (ms : Members) → get_member k ms ≡ Some t → levels t ≤ members_levels ms
+member_levels k t no_members e = cc
+member_levels k t (member l u ms) e = go (slice_cmp nat_cmp k l) (member_levels k t ms) e
+  where
+    go : (o : Ordering) → (get_member k ms ≡ Some t → levels t ≤ members_levels ms) → match_ordering o (get_member k ms) (Some u) (get_member k ms) ≡ Some t → levels t ≤ max (levels u) (members_levels ms)
+    go Less ih e = omega (arith, ih e)
+    go Equal ih e = let same : u ≡ t = cc in rw (← same) (omega arith)
+    go Greater ih e = omega (arith, ih e)
+
+-- ---- laws
+
+module _ {H : Type 0} (s : BesideOf H) where
+  beside : (t : Node) → without (names_of s.rows) (member (codes "value") t no_members) ≡ member (codes "value") t no_members
+  beside t = rw s.free refl
+
+  parts_at : (h : H) (t : Node) → s.well h → PartsAt s.rows (s.parts h) (joined s.rows (s.parts h) (member (codes "value") t no_members))
+  parts_at h t w =
+      PartsAt-joined s.rows (s.parts h) (member (codes "value") t no_members) s.once (Aligned-PartsFit s.rows (s.parts h) (s.parts_fit h w))
+      (unnamed (names_of s.rows) (member (codes "value") t no_members) (beside t))
+
+  value_at : (h : H) (t : Node) → get_member (codes "value") (joined s.rows (s.parts h) (member (codes "value") t no_members)) ≡ Some t
+  value_at h t = at-joined_other s.rows (s.parts h) (member (codes "value") t no_members) (codes "value") s.free
+
+  -- the map fits where its value does
+  pub around_fits : (h : H) (t : Node) (τ : Term) → s.well h → Fits t τ → Fits (around s h t) (holding s τ)
+  around_fits h t τ w f =
+      let ms = joined s.rows (s.parts h) (member (codes "value") t no_members) in
+      let ks = names_of (and_value s.rows τ) in
+      let others : without ks ms ≡ no_members =
+      without_joined_among ks s.rows (s.parts h) (member (codes "value") t no_members) (named-and_value s.rows τ) ∙ (rw (value_named s.rows τ) refl) in
+      fits_map ms (and_value s.rows τ) closed
+      (RowsFit-and_value s.rows τ ms t (RowsFit-PartsAt s.rows (s.parts h) ms (parts_at h t w) (s.parts_fit h w)) (value_at h t) f) others
+
+  -- its value fits where the map does
+  pub value_inside : (h : H) (t : Node) (τ : Term) → Fits (around s h t) (holding s τ) → Fits t τ
+  value_inside h t τ f =
+      let ms = joined s.rows (s.parts h) (member (codes "value") t no_members) in
+      subst (PartFits required τ) (value_at h t) (value_fits s.rows τ ms (map_inside f).0)
+
+  -- one map has one value, and the same beside it
+  pub around_one : (g h : H) (t u : Node) → s.well g → s.well h → around s g t ≡ around s h u → s.same g h × (t ≡ u)
+  around_one g h t u v w e =
+      let p = map_one s.rows (s.parts g) (s.parts h) (member (codes "value") t no_members) (member (codes "value") u no_members) s.once
+      (Aligned-PartsFit s.rows (s.parts g) (s.parts_fit g v)) (Aligned-PartsFit s.rows (s.parts h) (s.parts_fit h w)) (beside t) (beside u) e in
+      (s.one g h v w p.0, let same : member (codes "value") t no_members ≡ member (codes "value") u no_members = p.1 in cc)
+
+  -- and fewer levels than the map
+  pub value_levels : (h : H) (t : Node) → levels t < levels (around s h t)
+  value_levels h t = let inside = member_levels (codes "value") t (joined s.rows (s.parts h) (member (codes "value") t no_members)) (value_at h t) in omega (arith, inside)
+
+-- members read by a list of fields that is closed
+abbrev pub beside_by : {F H : Type 0} (t : Table F) (ks : List (List ℕ)) (m : H → F) → ((f g : F) → t.others f ≡ t.others g)
+    → distinct (names_of (t.rows ks [])) ≡ true → list_any (bytes_eq (codes "value")) (names_of (t.rows ks [])) ≡ false → BesideOf H
+beside_by t ks m alone once free = record {
+  rows = t.rows ks [];
+  parts = λ h. t.parts [] (m h);
+  well = λ h. t.well (m h);
+  same = λ g h. t.same (m g) (m h);
+  once = once;
+  free = free;
+  parts_fit = λ h w. t.parts_fit ks [] (m h) w;
+  one = λ g h a b e. t.one [] (m g) (m h) a b e (alone (m g) (m h));
+}

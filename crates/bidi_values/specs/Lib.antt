@@ -1,0 +1,15 @@
+pub mod Number
+pub mod Opaque
+pub mod Level
+pub mod Maps
+pub mod BesideLaws
+pub mod Content
+pub mod NestedLaws
+pub mod View
+pub mod Kinds
+pub mod ChoiceOfMaps
+pub mod LocalValue
+pub mod RemoteValue
+pub mod OptionalValue
+pub mod Outcomes
+pub mod LogEntry

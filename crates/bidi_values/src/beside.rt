@@ -1,0 +1,80 @@
+//! The members that stand beside the `value` of a closed map.
+ghost use Rattle.std.specs.Prelude.{◌≡◌, IfOk, OnOk, Some, codes};
+ghost use Rattle.bidi_tree.specs.Node as kind;
+ghost use Rattle.bidi_tree.specs.Node.{no_members, get_member, AreAscending};
+ghost use Rattle.bidi_tree.specs.View.{node, items_node, members_node};
+ghost use Rattle.bidi_shape.specs.Term.{Term, null, required, list_of, names_of};
+ghost use Rattle.bidi_shape.specs.Fits.{Fits, RowsFit, without};
+ghost use Rattle.bidi_shape.specs.Parts.{joined, PartsAt, PartFits};
+ghost use Rattle.bidi_shape.specs.Outcome.{IfNoFit};
+ghost use Rattle.bidi_values.specs.BesideLaws.{BesideOf, and_value, around, holding};
+
+use bidi_shape::{ShapeFault, map_inside};
+use bidi_tree::{Members, Tree, find_member, put_member};
+use std::alloc::{AllocError, Global};
+
+/// What stands in a closed map beside its member `value`.
+pub trait Beside: Drop {
+    // The rows of these members, what stands there, and the laws of both.
+    ghost beside: { BesideOf Self };
+
+    /// Reads them.
+    ///
+    /// # Errors
+    /// - `NoFit`: one of them does not fit, or there is another member.
+    /// - `NoMemory`: a growth was refused.
+    fn read(alloc: Global, members: &Members) -> Result<Self, ShapeFault>
+        ensures sorted { OnOk result (AreAscending (members_node members.now.entries)) }
+        ensures ok { IfOk result (λ h. PartsAt beside.rows (beside.parts h) (members_node members.now.entries) × beside.well h) }
+        ensures rest { OnOk result (without (names_of (and_value beside.rows null)) (members_node members.now.entries) ≡ no_members) }
+        ensures no_fit { IfNoFit result (RowsFit (members_node members.now.entries) beside.rows → without (names_of (and_value beside.rows null)) (members_node members.now.entries) ≡ no_members → ⊥) };
+
+    /// Puts them into a map.
+    ///
+    /// # Errors
+    /// No memory: some of them may be there.
+    fn add_to(&self, alloc: Global, members: &mut Members) -> Result<(), AllocError>
+        ensures { OnOk result (members_node members.new.entries ≡ joined beside.rows (beside.parts self.now) (members_node members.old.entries)) };
+}
+
+/// What stands beside the `value` of a closed map, and the list that this is.
+pub(crate) fn read_around<'a, H: Beside>(
+    alloc: Global,
+    tree: &'a Tree,
+) -> Result<(H, &'a [Tree]), ShapeFault>
+    ensures ok { IfOk result (λ p. (around H.beside p.0 (kind.list (items_node p.1.now)) ≡ node tree.now) × H.beside.well p.0) }
+    ensures no_fit { IfNoFit result ((τ : Term) → Fits (node tree.now) (holding H.beside (list_of 0 τ)) → ⊥) }
+{
+    let members = map_inside(tree)?;
+    let beside = H::read(alloc, members)?;
+    let items = list_at_value(members)?;
+    Ok((beside, items))
+}
+
+/// The items of the list under `value`.
+fn list_at_value(members: &Members) -> Result<&[Tree], ShapeFault>
+    ensures ok { IfOk result (λ v. get_member (codes "value") (members_node members.now.entries) ≡ Some (kind.list (items_node v.now))) }
+    ensures no_fit { IfNoFit result ((τ : Term) → PartFits required (list_of 0 τ) (get_member (codes "value") (members_node members.now.entries)) → ⊥) }
+{
+    match find_member(members, "value") {
+        Some(value) => match value.as_list() {
+            Some(items) => Ok(items.as_slice()),
+            None => Err(ShapeFault::NoFit),
+        },
+        None => Err(ShapeFault::NoFit),
+    }
+}
+
+/// The closed map of a `value` and what stands beside it.
+pub(crate) fn write_around<H: Beside>(
+    alloc: Global,
+    beside: &H,
+    value: Tree,
+) -> Result<Tree, AllocError>
+    ensures { IfOk result (λ t. node t ≡ around H.beside beside.now (node value)) }
+{
+    let mut members = Members::new(alloc);
+    put_member(&mut members, String::from_str(alloc, "value")?, value)?;
+    beside.add_to(alloc, &mut members)?;
+    Ok(Tree::Map(members))
+}

@@ -1,0 +1,150 @@
+//! What a script that was run gives.
+use crate::exception::ExceptionDetails;
+use crate::remote_value::RemoteValue;
+use bidi_shape::{
+    Closed, Either, Fields, Literal, Required, Ruled, Shape, ShapeFault, add_literal, add_member,
+    read_choice, read_fields,
+};
+use bidi_tree::{Members, Tree};
+use std::alloc::{AllocError, Global};
+
+/// The value of a script that ran to its end.
+///
+/// `{ type: "success", result: RemoteValue, realm: text }`
+///
+/// After WebDriver BiDi, "The script.EvaluateResult Type".
+#[derive(Drop)]
+pub struct EvaluateSuccess {
+    pub result: RemoteValue,
+    pub realm: String,
+}
+
+type SuccessParts = Literal<Required<RemoteValue, Required<String, Closed>>>;
+
+impl Ruled for EvaluateSuccess {
+    ghost use Rattle.bidi_values.specs.Outcomes.{evaluate_success};
+
+    ghost rule = { evaluate_success };
+}
+
+impl Shape for EvaluateSuccess {
+    ghost use Rattle.std.specs.Prelude.{refl, [], ◌∷◌, codes};
+    ghost use Rattle.bidi_shape.specs.Table.{map_shape};
+
+    ghost shape = { map_shape ⟦<EvaluateSuccess as Ruled>⟧.rule ⟦<SuccessParts as Fields>⟧.table (codes "success" ∷ []) (λ v. record { 0 = (v.result, (v.realm, record {})) }) refl refl };
+
+    fn from_tree(alloc: Global, tree: &Tree) -> Result<EvaluateSuccess, ShapeFault> {
+        let Literal(Required(result, Required(realm, Closed))) = read_fields::<
+            EvaluateSuccess,
+            SuccessParts,
+        >(alloc, tree, &["type", "result", "realm"], &["success"])?;
+        Ok(EvaluateSuccess { result, realm })
+    }
+
+    fn to_tree(&self, alloc: Global) -> Result<Tree, AllocError> {
+        let mut members = Members::new(alloc);
+        add_member(alloc, &mut members, "realm", &self.realm)?;
+        add_member(alloc, &mut members, "result", &self.result)?;
+        add_literal(alloc, &mut members, "type", "success")?;
+        Ok(Tree::Map(members))
+    }
+}
+
+/// The error of a script that threw.
+///
+/// `{ type: "exception", exceptionDetails: ExceptionDetails, realm: text }`
+///
+/// After WebDriver BiDi, "The script.EvaluateResult Type".
+#[derive(Drop)]
+pub struct EvaluateException {
+    pub exception_details: ExceptionDetails,
+    pub realm: String,
+}
+
+type ExceptionParts = Literal<Required<ExceptionDetails, Required<String, Closed>>>;
+
+impl Ruled for EvaluateException {
+    ghost use Rattle.bidi_values.specs.Outcomes.{evaluate_exception};
+
+    ghost rule = { evaluate_exception };
+}
+
+impl Shape for EvaluateException {
+    ghost use Rattle.std.specs.Prelude.{refl, [], ◌∷◌, codes};
+    ghost use Rattle.bidi_shape.specs.Table.{map_shape};
+
+    ghost shape = { map_shape ⟦<EvaluateException as Ruled>⟧.rule ⟦<ExceptionParts as Fields>⟧.table (codes "exception" ∷ []) (λ v. record { 0 = (v.exception_details, (v.realm, record {})) }) refl refl };
+
+    fn from_tree(alloc: Global, tree: &Tree) -> Result<EvaluateException, ShapeFault> {
+        let Literal(Required(exception_details, Required(realm, Closed))) = read_fields::<
+            EvaluateException,
+            ExceptionParts,
+        >(
+            alloc,
+            tree,
+            &["type", "exceptionDetails", "realm"],
+            &["exception"],
+        )?;
+        Ok(EvaluateException {
+            exception_details,
+            realm,
+        })
+    }
+
+    fn to_tree(&self, alloc: Global) -> Result<Tree, AllocError> {
+        let mut members = Members::new(alloc);
+        add_member(alloc, &mut members, "realm", &self.realm)?;
+        add_member(
+            alloc,
+            &mut members,
+            "exceptionDetails",
+            &self.exception_details,
+        )?;
+        add_literal(alloc, &mut members, "type", "exception")?;
+        Ok(Tree::Map(members))
+    }
+}
+
+/// What a script that was run gives: its value, or its error.
+///
+/// `EvaluateSuccess / EvaluateException`
+///
+/// After WebDriver BiDi, "The script.EvaluateResult Type".
+#[derive(Drop)]
+pub enum EvaluateResult {
+    Success(EvaluateSuccess),
+    Exception(EvaluateException),
+}
+
+type Alternatives = Either<EvaluateSuccess, EvaluateException>;
+
+impl Ruled for EvaluateResult {
+    ghost use Rattle.bidi_shape.specs.Name.{evaluate_result};
+    ghost use Rattle.bidi_shape.specs.Term.{rule as named};
+
+    ghost rule = { named evaluate_result };
+}
+
+impl Shape for EvaluateResult {
+    ghost use Rattle.std.specs.Prelude.{refl};
+    ghost use Rattle.bidi_shape.specs.ThroughLaws.{shape_through};
+    ghost use Rattle.bidi_shape.specs.declared.choice.Either.TheVariants.{First, Second};
+    ghost use Rattle.bidi_values.specs.declared.evaluate_result.EvaluateResult.TheVariants.{Success, Exception};
+
+    ghost shape = { shape_through ⟦<EvaluateResult as Ruled>⟧.rule ⟦<Alternatives as Shape>⟧.shape
+        (λ v. elim v [ Success s ↦ First s | Exception e ↦ Second e ]) refl };
+
+    fn from_tree(alloc: Global, tree: &Tree) -> Result<EvaluateResult, ShapeFault> {
+        match read_choice::<EvaluateResult, Alternatives>(alloc, tree)? {
+            Either::First(success) => Ok(EvaluateResult::Success(success)),
+            Either::Second(exception) => Ok(EvaluateResult::Exception(exception)),
+        }
+    }
+
+    fn to_tree(&self, alloc: Global) -> Result<Tree, AllocError> {
+        match self {
+            EvaluateResult::Success(success) => success.to_tree(alloc),
+            EvaluateResult::Exception(exception) => exception.to_tree(alloc),
+        }
+    }
+}

@@ -1,0 +1,52 @@
+//! The values of a script as messages bear them: primitive values, references, targets, and what stands in an error
+//! or a log entry.
+//!
+//! Each type is a [`Shape`](bidi_shape::Shape) of its rule. A type that takes further members has a constructor,
+//! which refuses parts that no tree of the rule has.
+#![tactic(auto)]
+
+mod beside;
+mod evaluate_result;
+mod exception;
+mod held;
+mod kinds;
+mod local_value;
+mod log_entry;
+mod nested;
+mod opaque;
+mod primitive;
+mod reading;
+mod reference;
+mod reg_exp;
+mod remote_value;
+mod stack_trace;
+mod table_row;
+mod target;
+#[cfg(test)]
+mod tests;
+#[cfg(test)]
+mod tests_entries;
+#[cfg(test)]
+mod tests_nested;
+#[cfg(test)]
+mod tests_support;
+mod writing;
+
+pub use beside::Beside;
+pub use evaluate_result::{EvaluateException, EvaluateResult, EvaluateSuccess};
+pub use exception::ExceptionDetails;
+pub use held::{RemoteDate, RemoteList, RemoteOpaque, RemotePairs, RemoteRegExp};
+pub use kinds::{ListKind, PairsKind};
+pub use local_value::{LocalKey, LocalPair, LocalPlain, LocalValue};
+pub use log_entry::{
+    BaseLogEntry, ConsoleEntry, GenericLogEntry, JavascriptEntry, Level, LogEntry, Source,
+};
+pub use nested::{Nested, NestedKey, NestedPair, Nests};
+pub use opaque::Opaque;
+pub use primitive::{Number, Primitive, SpecialNumber};
+pub use reference::{Reference, RemoteObjectReference, SharedReference};
+pub use reg_exp::RegExpValue;
+pub use remote_value::{RemoteKey, RemotePair, RemotePlain, RemoteValue};
+pub use stack_trace::{StackFrame, StackTrace};
+pub use table_row::{ArgumentRow, ReturnsRow, TableRow, ThrowsRow};
+pub use target::{ContextTarget, RealmTarget, Target};

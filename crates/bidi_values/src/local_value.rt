@@ -1,0 +1,145 @@
+//! Values that a client sends to a script.
+use crate::kinds::{ListKind, PairsKind};
+use crate::nested::{Nested, NestedKey, NestedPair, Nests};
+use crate::primitive::Primitive;
+use crate::reference::Reference;
+use crate::reg_exp::RegExpValue;
+use bidi_shape::{Either, Ruled, Shape, ShapeFault, Tag, Typed, read_choice, tree_of_typed};
+use bidi_tree::Tree;
+use std::alloc::{AllocError, Global};
+
+/// A value that a client sends to a script, of at most 60 levels.
+///
+/// `RemoteReference / PrimitiveValue / { type: "array" / "set", value: [*LocalValue] } /
+/// { type: "object" / "map", value: [*[LocalValue / text, LocalValue]] } / { type: "date", value: text } /
+/// { type: "regexp", value: RegExpValue }`
+///
+/// After WebDriver BiDi, "The script.LocalValue Type".
+pub type LocalValue = Nested<LocalPlain, ListKind, PairsKind>;
+
+/// A key and a value of an object or a map.
+pub type LocalPair = NestedPair<LocalPlain, ListKind, PairsKind>;
+
+/// A key of an object or a map: a text, or any other value.
+pub type LocalKey = NestedKey<LocalPlain, ListKind, PairsKind>;
+
+/// A local value that holds no other.
+///
+/// After WebDriver BiDi, "The script.LocalValue Type".
+#[derive(Drop)]
+pub enum LocalPlain {
+    Reference(Reference),
+    Primitive(Primitive),
+    /// A date, as a text.
+    Date(String),
+    RegExp(RegExpValue),
+}
+
+type Alternatives = Either<
+    Reference,
+    Either<Primitive, Either<Typed<DateTag, String>, Typed<RegExpTag, RegExpValue>>>,
+>;
+
+impl Ruled for LocalPlain {
+    ghost use Rattle.bidi_values.specs.LocalValue.{local_plain};
+
+    ghost rule = { local_plain };
+}
+
+impl Shape for LocalPlain {
+    ghost use Rattle.std.specs.Prelude.{refl};
+    ghost use Rattle.bidi_shape.specs.TagLaws.{typed};
+    ghost use Rattle.bidi_shape.specs.ThroughLaws.{shape_through};
+    ghost use Rattle.bidi_shape.specs.declared.choice.Either.TheVariants.{First, Second};
+    ghost use Rattle.bidi_values.specs.declared.local_value.LocalPlain.TheVariants.{Reference, Primitive, Date, RegExp};
+
+    ghost shape = { shape_through ⟦<LocalPlain as Ruled>⟧.rule ⟦<Alternatives as Shape>⟧.shape
+        (λ v. elim v [
+          | Reference r ↦ First r
+          | Primitive p ↦ Second (First p)
+          | Date d ↦ Second (Second (First (typed d)))
+          | RegExp r ↦ Second (Second (Second (typed r)))
+        ]) refl };
+
+    fn from_tree(alloc: Global, tree: &Tree) -> Result<LocalPlain, ShapeFault> {
+        use Either::{First, Second};
+
+        match read_choice::<LocalPlain, Alternatives>(alloc, tree)? {
+            First(reference) => Ok(LocalPlain::Reference(reference)),
+            Second(First(primitive)) => Ok(LocalPlain::Primitive(primitive)),
+            Second(Second(First(date))) => Ok(LocalPlain::Date(date.value)),
+            Second(Second(Second(reg_exp))) => Ok(LocalPlain::RegExp(reg_exp.value)),
+        }
+    }
+
+    fn to_tree(&self, alloc: Global) -> Result<Tree, AllocError> {
+        match self {
+            LocalPlain::Reference(reference) => reference.to_tree(alloc),
+            LocalPlain::Primitive(primitive) => primitive.to_tree(alloc),
+            LocalPlain::Date(date) => tree_of_typed(alloc, "date", date),
+            LocalPlain::RegExp(reg_exp) => tree_of_typed(alloc, "regexp", reg_exp),
+        }
+    }
+}
+
+impl Nests<ListKind, PairsKind> for LocalPlain {
+    ghost use Rattle.std.specs.Prelude.{refl};
+    ghost use Rattle.bidi_shape.specs.Name.{local_value, local_pair};
+    ghost use Rattle.bidi_values.specs.LocalValue.{local_alternatives, plain_local, list_local, pairs_local, one_of_local, local_list_not_plain, local_pairs_not_plain, local_list_not_pairs, local_pairs_not_list, text_not_plain};
+
+    ghost nesting = { record {
+      plain = ⟦<LocalPlain as Shape>⟧.shape;
+      list = ⟦<ListKind as crate::Beside>⟧.beside;
+      pairs = ⟦<PairsKind as crate::Beside>⟧.beside;
+      values = local_value;
+      pair_rule = local_pair;
+      inside = local_alternatives;
+      is_capped = refl;
+      is_pair = refl;
+      plain_fits = plain_local;
+      list_fits = list_local;
+      pairs_fit = pairs_local;
+      one_of = one_of_local;
+      list_not_plain = λ h t w. local_list_not_plain h t;
+      pairs_not_plain = λ h t w. local_pairs_not_plain h t;
+      list_not_pairs = λ h t w. local_list_not_pairs h t;
+      pairs_not_list = λ h t w. local_pairs_not_list h t;
+      text_not_plain = text_not_plain;
+    } };
+
+    fn into_value(self) -> LocalValue {
+        Nested::Plain(self)
+    }
+
+    ghost agrees = { record {
+      rule = refl;
+      tree = λ p. refl;
+      well = λ p w. w;
+      list = record { rows = refl; parts = λ h. refl; well = λ h w. w };
+      pairs = record { rows = refl; parts = λ h. refl; well = λ h w. w };
+    } };
+}
+
+struct DateTag;
+
+impl Tag for DateTag {
+    ghost use Rattle.std.specs.Prelude.{codes};
+
+    ghost tag = { codes "date" };
+
+    fn tag() -> &'static str {
+        "date"
+    }
+}
+
+struct RegExpTag;
+
+impl Tag for RegExpTag {
+    ghost use Rattle.std.specs.Prelude.{codes};
+
+    ghost tag = { codes "regexp" };
+
+    fn tag() -> &'static str {
+        "regexp"
+    }
+}

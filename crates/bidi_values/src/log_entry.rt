@@ -1,0 +1,413 @@
+//! Log entries, their levels and their sources.
+ghost use Rattle.std.specs.Prelude.{◌≡◌, OnOk};
+ghost use Rattle.bidi_tree.specs.View.{members_node};
+ghost use Rattle.bidi_values.specs.LogEntry.{and_base};
+
+use crate::remote_value::RemoteValue;
+use crate::stack_trace::StackTrace;
+use bidi_shape::{
+    Closed, Either, Ext, Fields, Literal, MakeFault, Named, Optional, Required, Ruled, Shape,
+    ShapeFault, add_literal, add_member, add_optional, not_shadowed, read_choice, read_fields,
+    read_word, write_word,
+};
+use bidi_tree::{JsUint, Members, Tree};
+use std::alloc::{AllocError, Global};
+
+/// How grave a log entry is.
+///
+/// `"debug" / "info" / "warn" / "error"`
+///
+/// After WebDriver BiDi, "The log.LogEntry Type".
+#[derive(Clone, Copy, Debug, PartialEq, Eq)]
+pub enum Level {
+    Debug,
+    Info,
+    Warn,
+    Error,
+}
+
+impl Named for Level {
+    ghost use Rattle.bidi_values.specs.Level.{level_words};
+
+    ghost words = { level_words };
+
+    fn named(text: &str) -> Option<Level> {
+        match text {
+            "debug" => Some(Level::Debug),
+            "info" => Some(Level::Info),
+            "warn" => Some(Level::Warn),
+            "error" => Some(Level::Error),
+            _ => None,
+        }
+    }
+
+    fn name(&self) -> &'static str {
+        match self {
+            Level::Debug => "debug",
+            Level::Info => "info",
+            Level::Warn => "warn",
+            Level::Error => "error",
+        }
+    }
+}
+
+impl Shape for Level {
+    ghost use Rattle.bidi_shape.specs.WordLaws.{word_shape};
+
+    ghost shape = { word_shape ⟦<Level as Named>⟧.words };
+
+    fn from_tree(alloc: Global, tree: &Tree) -> Result<Level, ShapeFault> {
+        read_word(tree)
+    }
+
+    fn to_tree(&self, alloc: Global) -> Result<Tree, AllocError> {
+        write_word(alloc, self)
+    }
+}
+
+/// The realm that a log entry comes from, with its browsing context.
+///
+/// `{ realm: text, ? context: text }`
+///
+/// After WebDriver BiDi, "The script.Source Type".
+#[derive(Drop)]
+pub struct Source {
+    pub realm: String,
+    pub context: Option<String>,
+}
+
+type SourceParts = Required<String, Optional<String, Closed>>;
+
+impl Ruled for Source {
+    ghost use Rattle.bidi_shape.specs.Name.{source};
+    ghost use Rattle.bidi_shape.specs.Term.{rule as named};
+
+    ghost rule = { named source };
+}
+
+impl Shape for Source {
+    ghost use Rattle.std.specs.Prelude.{refl, []};
+    ghost use Rattle.bidi_shape.specs.Table.{map_shape};
+
+    ghost shape = { map_shape ⟦<Source as Ruled>⟧.rule ⟦<SourceParts as Fields>⟧.table [] (λ v. (v.realm, (v.context, record {}))) refl refl };
+
+    fn from_tree(alloc: Global, tree: &Tree) -> Result<Source, ShapeFault> {
+        let Required(realm, Optional(context, Closed)) = read_fields::<Source, SourceParts>(
+            alloc,
+            tree,
+            &["realm", "context"],
+            &[],
+        )?;
+        Ok(Source { realm, context })
+    }
+
+    fn to_tree(&self, alloc: Global) -> Result<Tree, AllocError> {
+        let mut members = Members::new(alloc);
+        add_optional(alloc, &mut members, "context", &self.context)?;
+        add_member(alloc, &mut members, "realm", &self.realm)?;
+        Ok(Tree::Map(members))
+    }
+}
+
+/// What every log entry has.
+///
+/// `( level: Level, source: Source, text: text / null, timestamp: js-uint, ? stackTrace: StackTrace )`
+///
+/// After WebDriver BiDi, "The log.LogEntry Type".
+#[derive(Drop)]
+pub struct BaseLogEntry {
+    pub level: Level,
+    pub source: Source,
+    pub text: Option<String>,
+    pub timestamp: JsUint,
+    pub stack_trace: Option<StackTrace>,
+}
+
+/// What every log entry has, and the members after it.
+#[derive(Drop)]
+struct WithBase<F: Drop>(BaseLogEntry, F);
+
+type BaseParts<F> = Required<
+    Level,
+    Required<Source, Required<Option<String>, Required<JsUint, Optional<StackTrace, F>>>>,
+>;
+
+impl<F: Fields> Fields for WithBase<F> {
+    ghost use Rattle.bidi_values.specs.LogEntry.{table_through};
+
+    ghost table = { table_through ⟦<BaseParts<F> as Fields>⟧.table (λ w. (w.0.level, (w.0.source, (w.0.text, (w.0.timestamp, (w.0.stack_trace, w.1)))))) };
+
+    fn read<'a>(
+        alloc: Global,
+        members: &Members,
+        names: &'a [&'a str],
+        texts: &'a [&'a str],
+        known: &'a [&'a str],
+    ) -> Result<WithBase<F>, ShapeFault> {
+        let Required(
+            level,
+            Required(source, Required(text, Required(timestamp, Optional(stack_trace, rest)))),
+        ) = BaseParts::<F>::read(alloc, members, names, texts, known)?;
+        let base = BaseLogEntry {
+            level,
+            source,
+            text,
+            timestamp,
+            stack_trace,
+        };
+        Ok(WithBase(base, rest))
+    }
+}
+
+/// Puts what every log entry has into a map.
+fn add_base(alloc: Global, members: &mut Members, base: &BaseLogEntry) -> Result<(), AllocError>
+    ensures { OnOk result (members_node members.new.entries ≡ and_base base.now (members_node members.old.entries)) }
+{
+    add_optional(alloc, members, "stackTrace", &base.stack_trace)?;
+    add_member(alloc, members, "timestamp", &base.timestamp)?;
+    add_member(alloc, members, "text", &base.text)?;
+    add_member(alloc, members, "source", &base.source)?;
+    add_member(alloc, members, "level", &base.level)
+}
+
+/// An entry that a call of the console made.
+///
+/// `{ Base, type: "console", method: text, args: [*RemoteValue] }`
+///
+/// After WebDriver BiDi, "The log.LogEntry Type".
+#[derive(Drop)]
+pub struct ConsoleEntry {
+    pub base: BaseLogEntry,
+    pub method: String,
+    pub args: Vec<RemoteValue>,
+}
+
+type ConsoleParts = WithBase<Literal<Required<String, Required<Vec<RemoteValue>, Closed>>>>;
+
+impl Ruled for ConsoleEntry {
+    ghost use Rattle.bidi_shape.specs.Name.{console_entry};
+    ghost use Rattle.bidi_shape.specs.Term.{rule as named};
+
+    ghost rule = { named console_entry };
+}
+
+impl Shape for ConsoleEntry {
+    ghost use Rattle.std.specs.Prelude.{refl, [], ◌∷◌, codes};
+    ghost use Rattle.bidi_shape.specs.Table.{map_shape};
+
+    ghost shape = { map_shape ⟦<ConsoleEntry as Ruled>⟧.rule ⟦<ConsoleParts as Fields>⟧.table (codes "console" ∷ []) (λ v. (v.base, record { 0 = (v.method, (v.args, record {})) })) refl refl };
+
+    fn from_tree(alloc: Global, tree: &Tree) -> Result<ConsoleEntry, ShapeFault> {
+        let WithBase(base, Literal(Required(method, Required(args, Closed)))) = read_fields::<
+            ConsoleEntry,
+            ConsoleParts,
+        >(
+            alloc,
+            tree,
+            &[
+                "level",
+                "source",
+                "text",
+                "timestamp",
+                "stackTrace",
+                "type",
+                "method",
+                "args",
+            ],
+            &["console"],
+        )?;
+        Ok(ConsoleEntry { base, method, args })
+    }
+
+    fn to_tree(&self, alloc: Global) -> Result<Tree, AllocError> {
+        let mut members = Members::new(alloc);
+        add_member(alloc, &mut members, "args", &self.args)?;
+        add_member(alloc, &mut members, "method", &self.method)?;
+        add_literal(alloc, &mut members, "type", "console")?;
+        add_base(alloc, &mut members, &self.base)?;
+        Ok(Tree::Map(members))
+    }
+}
+
+/// An entry that an error of a script made.
+///
+/// `{ Base, type: "javascript" }`
+///
+/// After WebDriver BiDi, "The log.LogEntry Type".
+#[derive(Drop)]
+pub struct JavascriptEntry {
+    pub base: BaseLogEntry,
+}
+
+type JavascriptParts = WithBase<Literal<Closed>>;
+
+impl Ruled for JavascriptEntry {
+    ghost use Rattle.bidi_shape.specs.Name.{javascript_entry};
+    ghost use Rattle.bidi_shape.specs.Term.{rule as named};
+
+    ghost rule = { named javascript_entry };
+}
+
+impl Shape for JavascriptEntry {
+    ghost use Rattle.std.specs.Prelude.{refl, [], ◌∷◌, codes};
+    ghost use Rattle.bidi_shape.specs.Table.{map_shape};
+
+    ghost shape = { map_shape ⟦<JavascriptEntry as Ruled>⟧.rule ⟦<JavascriptParts as Fields>⟧.table (codes "javascript" ∷ []) (λ v. (v.base, record { 0 = record {} })) refl refl };
+
+    fn from_tree(alloc: Global, tree: &Tree) -> Result<JavascriptEntry, ShapeFault> {
+        let WithBase(base, Literal(Closed)) = read_fields::<JavascriptEntry, JavascriptParts>(
+            alloc,
+            tree,
+            &["level", "source", "text", "timestamp", "stackTrace", "type"],
+            &["javascript"],
+        )?;
+        Ok(JavascriptEntry { base })
+    }
+
+    fn to_tree(&self, alloc: Global) -> Result<Tree, AllocError> {
+        let mut members = Members::new(alloc);
+        add_literal(alloc, &mut members, "type", "javascript")?;
+        add_base(alloc, &mut members, &self.base)?;
+        Ok(Tree::Map(members))
+    }
+}
+
+/// An entry of any other type or with other members.
+///
+/// `{ Base, type: text, Extensible }`
+///
+/// After WebDriver BiDi, "The log.LogEntry Type".
+#[derive(Drop)]
+pub struct GenericLogEntry {
+    pub base: BaseLogEntry,
+    /// The member `type`.
+    pub kind: String,
+    pub ext: Ext,
+}
+
+impl GenericLogEntry {
+    ghost use Rattle.std.specs.Prelude.{IfOk, true};
+    ghost use Rattle.bidi_tree.specs.Node.{MembersAreWhole};
+    ghost use Rattle.bidi_shape.specs.Name.{console_entry, javascript_entry, generic_log_entry};
+    ghost use Rattle.bidi_shape.specs.Term.{rule as named, either};
+    ghost use Rattle.bidi_shape.specs.Fits.{Fits};
+    ghost use Rattle.bidi_shape.specs.Parts.{has_named};
+    ghost use Rattle.bidi_shape.specs.Table.{names_in};
+    ghost use Rattle.bidi_shape.specs.Made.{Makes};
+    ghost use Rattle.bidi_shape.specs.ValueLaws.{others_of};
+    ghost use Rattle.bidi_values.specs.LogEntry.{generic_map};
+
+    /// The entry, with further members.
+    ///
+    /// # Errors
+    /// - `Clash`: a further member is called `level`, `source`, `text`, `timestamp`, `stackTrace` or `type`.
+    /// - `Shadowed`: the map is a [`ConsoleEntry`] or a [`JavascriptEntry`].
+    /// - `TooDeep`: a further member has an `Odd` in it, or more than 60 levels.
+    /// - `NoMemory`: a growth was refused.
+    pub fn new(
+        alloc: Global,
+        base: BaseLogEntry,
+        kind: String,
+        ext: Members,
+    ) -> Result<GenericLogEntry, MakeFault>
+        ensures made { Makes result
+            (has_named (names_in (named generic_log_entry)) (members_node ext.entries) ≡ true)
+            (Fits (generic_map base kind (members_node ext.entries)) (either (named console_entry) (named javascript_entry)))
+            (¬ MembersAreWhole (members_node ext.entries) 60)
+            (λ v. (v.base ≡ base) × (v.kind ≡ kind) × (others_of v.ext ≡ members_node ext.entries)) }
+        ensures well { IfOk result (λ v. ⟦<GenericLogEntry as Shape>⟧.shape.well v) }
+    {
+        let ext = Ext::new(
+            ext,
+            &["level", "source", "text", "timestamp", "stackTrace", "type"],
+        )?;
+        let made = GenericLogEntry { base, kind, ext };
+        not_shadowed::<Either<ConsoleEntry, JavascriptEntry>, GenericLogEntry>(alloc, &made)?;
+        if !made.ext.is_whole() {
+            return Err(MakeFault::TooDeep);
+        }
+        Ok(made)
+    }
+}
+
+type GenericParts = WithBase<Required<String, Ext>>;
+
+impl Ruled for GenericLogEntry {
+    ghost use Rattle.bidi_shape.specs.Name.{generic_log_entry};
+    ghost use Rattle.bidi_shape.specs.Term.{rule as named};
+
+    ghost rule = { named generic_log_entry };
+}
+
+impl Shape for GenericLogEntry {
+    ghost use Rattle.std.specs.Prelude.{refl, []};
+    ghost use Rattle.bidi_shape.specs.Table.{map_shape};
+
+    ghost shape = { map_shape ⟦<GenericLogEntry as Ruled>⟧.rule ⟦<GenericParts as Fields>⟧.table [] (λ v. (v.base, (v.kind, v.ext))) refl refl };
+
+    fn from_tree(alloc: Global, tree: &Tree) -> Result<GenericLogEntry, ShapeFault> {
+        let WithBase(base, Required(kind, ext)) = read_fields::<GenericLogEntry, GenericParts>(
+            alloc,
+            tree,
+            &["level", "source", "text", "timestamp", "stackTrace", "type"],
+            &[],
+        )?;
+        Ok(GenericLogEntry { base, kind, ext })
+    }
+
+    fn to_tree(&self, alloc: Global) -> Result<Tree, AllocError> {
+        let mut members = self.ext.copy_members()?;
+        add_member(alloc, &mut members, "type", &self.kind)?;
+        add_base(alloc, &mut members, &self.base)?;
+        Ok(Tree::Map(members))
+    }
+}
+
+/// An entry of the log.
+///
+/// `ConsoleEntry / JavascriptEntry / GenericLogEntry`
+///
+/// After WebDriver BiDi, "The log.LogEntry Type".
+#[derive(Drop)]
+pub enum LogEntry {
+    Console(ConsoleEntry),
+    Javascript(JavascriptEntry),
+    Generic(GenericLogEntry),
+}
+
+type Alternatives = Either<ConsoleEntry, Either<JavascriptEntry, GenericLogEntry>>;
+
+impl Ruled for LogEntry {
+    ghost use Rattle.bidi_shape.specs.Name.{log_entry};
+    ghost use Rattle.bidi_shape.specs.Term.{rule as named};
+
+    ghost rule = { named log_entry };
+}
+
+impl Shape for LogEntry {
+    ghost use Rattle.std.specs.Prelude.{refl};
+    ghost use Rattle.bidi_shape.specs.ThroughLaws.{shape_through};
+    ghost use Rattle.bidi_shape.specs.declared.choice.Either.TheVariants.{First, Second};
+    ghost use Rattle.bidi_values.specs.declared.log_entry.LogEntry.TheVariants.{Console, Javascript, Generic};
+
+    ghost shape = { shape_through ⟦<LogEntry as Ruled>⟧.rule ⟦<Alternatives as Shape>⟧.shape
+        (λ v. elim v [ Console c ↦ First c | Javascript j ↦ Second (First j) | Generic g ↦ Second (Second g) ]) refl };
+
+    fn from_tree(alloc: Global, tree: &Tree) -> Result<LogEntry, ShapeFault> {
+        use Either::{First, Second};
+
+        match read_choice::<LogEntry, Alternatives>(alloc, tree)? {
+            First(console) => Ok(LogEntry::Console(console)),
+            Second(First(javascript)) => Ok(LogEntry::Javascript(javascript)),
+            Second(Second(generic)) => Ok(LogEntry::Generic(generic)),
+        }
+    }
+
+    fn to_tree(&self, alloc: Global) -> Result<Tree, AllocError> {
+        match self {
+            LogEntry::Console(console) => console.to_tree(alloc),
+            LogEntry::Javascript(javascript) => javascript.to_tree(alloc),
+            LogEntry::Generic(generic) => generic.to_tree(alloc),
+        }
+    }
+}

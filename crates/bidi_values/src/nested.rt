@@ -1,0 +1,112 @@
+//! Values that may hold others of their kind.
+ghost use Rattle.std.specs.Prelude.{◌≡◌};
+ghost use Rattle.bidi_values.specs.Content.{content, plain};
+ghost use Rattle.bidi_values.specs.NestedLaws.{NestingOf, Agrees};
+
+use crate::beside::Beside;
+use crate::reading::read_value;
+use crate::writing::write_value;
+use bidi_shape::{MakeFault, Shape, ShapeFault, copied};
+use bidi_tree::Tree;
+use std::alloc::{AllocError, Global};
+
+/// A value that is plain, or holds a list of values, or a list of pairs.
+#[derive(Drop)]
+#[cycle(nested)]
+pub enum Nested<P: Drop, L: Drop, M: Drop> {
+    /// A value that holds no other.
+    Plain(P),
+    /// What stands beside the list, and its values.
+    List(L, Vec<Nested<P, L, M>>),
+    /// What stands beside the list, and its pairs.
+    Pairs(M, Vec<NestedPair<P, L, M>>),
+}
+
+/// A key, and the value under it.
+#[derive(Drop)]
+#[cycle(nested)]
+pub struct NestedPair<P: Drop, L: Drop, M: Drop> {
+    pub key: NestedKey<P, L, M>,
+    pub value: Nested<P, L, M>,
+}
+
+/// A key is a text, or any other value.
+#[derive(Drop)]
+#[cycle(nested)]
+pub enum NestedKey<P: Drop, L: Drop, M: Drop> {
+    Value(Nested<P, L, M>),
+    Text(String),
+}
+
+/// The plain values of a rule whose other values hold values of the rule.
+pub trait Nests<L: Beside, M: Beside>: Shape {
+    // The rule, that its alternatives are these three, and that no tree is of two of them.
+    ghost nesting: { NestingOf Self L M };
+
+    /// The value that is this plain one. Takes no memory.
+    fn into_value(self) -> Nested<Self, L, M>
+        ensures { content result ≡ plain self };
+
+    // What the rule says of each of the three is what each says of itself.
+    ghost agrees: { Agrees nesting Self.shape L.beside M.beside };
+}
+
+/// The most levels of a value's tree.
+const MAX_LEVELS: usize = 60;
+
+impl<P: Nests<L, M>, L: Beside, M: Beside> Shape for Nested<P, L, M> {
+    ghost use Rattle.bidi_values.specs.NestedLaws.{nested_shape};
+
+    ghost shape = { nested_shape P.nesting content };
+
+    fn from_tree(alloc: Global, tree: &Tree) -> Result<Nested<P, L, M>, ShapeFault> {
+        if tree.is_within(MAX_LEVELS) {
+            read_value(alloc, tree)
+        } else {
+            Err(ShapeFault::NoFit)
+        }
+    }
+
+    fn to_tree(&self, alloc: Global) -> Result<Tree, AllocError> {
+        write_value(alloc, self)
+    }
+}
+
+impl<P: Nests<L, M>, L: Beside, M: Beside> Nested<P, L, M> {
+    ghost use Rattle.std.specs.Prelude.{◌≡◌, ◌≤◌, IfOk};
+    ghost use Rattle.bidi_tree.specs.Node.{levels};
+    ghost use Rattle.bidi_shape.specs.Made.{Makes};
+    ghost use Rattle.bidi_values.specs.Content.{content};
+    ghost use Rattle.bidi_values.specs.NestedLaws.{IsWell, Same};
+    ghost use Rattle.bidi_values.specs.View.{nested_tree, NestedIsWell};
+
+    /// The value, where its tree has at most 60 levels. To make a value of many levels, ask this once, at its top.
+    ///
+    /// # Errors
+    /// - `TooDeep`: it has more.
+    /// - `NoMemory`: a growth was refused.
+    pub fn checked(self, alloc: Global) -> Result<Nested<P, L, M>, MakeFault>
+        requires { NestedIsWell P.nesting self }
+        ensures made { Makes result ⊥ ⊥ (¬ (levels (nested_tree P.nesting self) ≤ 60)) (λ v. v ≡ self) }
+        ensures well { IfOk result (λ v. IsWell P.nesting (content v)) }
+    {
+        let tree = self.to_tree(alloc)?;
+        if tree.is_within(MAX_LEVELS) {
+            Ok(self)
+        } else {
+            Err(MakeFault::TooDeep)
+        }
+    }
+
+    /// An equal value, in room of its own. Costs the making and the reading of its tree.
+    ///
+    /// # Errors
+    /// No memory, where a growth was refused.
+    pub fn copy(&self, alloc: Global) -> Result<Nested<P, L, M>, AllocError>
+        requires { IsWell P.nesting (content self.now) }
+        ensures well { IfOk result (λ v. IsWell P.nesting (content v)) }
+        ensures same { IfOk result (λ v. Same P.nesting (content v) (content self.now)) }
+    {
+        copied(alloc, self)
+    }
+}

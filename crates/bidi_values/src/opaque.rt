@@ -1,0 +1,75 @@
+//! Values that only a type is told of.
+use bidi_shape::{Named, Shape, ShapeFault, read_word, write_word};
+use bidi_tree::Tree;
+use std::alloc::{AllocError, Global};
+
+/// The type of a value of which a message tells no more.
+///
+/// `"symbol" / "function" / "weakmap" / "weakset" / "generator" / "error" / "proxy" / "promise" / "typedarray" /
+/// "arraybuffer"`
+///
+/// After WebDriver BiDi, "The script.RemoteValue Type".
+#[derive(Clone, Copy, Debug, PartialEq, Eq)]
+pub enum Opaque {
+    Symbol,
+    Function,
+    WeakMap,
+    WeakSet,
+    Generator,
+    Error,
+    Proxy,
+    Promise,
+    TypedArray,
+    ArrayBuffer,
+}
+
+impl Named for Opaque {
+    ghost use Rattle.bidi_values.specs.Opaque.{opaque_words};
+
+    ghost words = { opaque_words };
+
+    fn named(text: &str) -> Option<Opaque> {
+        match text {
+            "symbol" => Some(Opaque::Symbol),
+            "function" => Some(Opaque::Function),
+            "weakmap" => Some(Opaque::WeakMap),
+            "weakset" => Some(Opaque::WeakSet),
+            "generator" => Some(Opaque::Generator),
+            "error" => Some(Opaque::Error),
+            "proxy" => Some(Opaque::Proxy),
+            "promise" => Some(Opaque::Promise),
+            "typedarray" => Some(Opaque::TypedArray),
+            "arraybuffer" => Some(Opaque::ArrayBuffer),
+            _ => None,
+        }
+    }
+
+    fn name(&self) -> &'static str {
+        match self {
+            Opaque::Symbol => "symbol",
+            Opaque::Function => "function",
+            Opaque::WeakMap => "weakmap",
+            Opaque::WeakSet => "weakset",
+            Opaque::Generator => "generator",
+            Opaque::Error => "error",
+            Opaque::Proxy => "proxy",
+            Opaque::Promise => "promise",
+            Opaque::TypedArray => "typedarray",
+            Opaque::ArrayBuffer => "arraybuffer",
+        }
+    }
+}
+
+impl Shape for Opaque {
+    ghost use Rattle.bidi_shape.specs.WordLaws.{word_shape};
+
+    ghost shape = { word_shape ⟦<Opaque as Named>⟧.words };
+
+    fn from_tree(alloc: Global, tree: &Tree) -> Result<Opaque, ShapeFault> {
+        read_word(tree)
+    }
+
+    fn to_tree(&self, alloc: Global) -> Result<Tree, AllocError> {
+        write_word(alloc, self)
+    }
+}

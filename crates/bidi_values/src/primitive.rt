@@ -1,0 +1,254 @@
+//! Primitive values.
+use bidi_shape::{
+    Bare, Either, Named, Ruled, Shape, ShapeFault, Tag, Typed, read_choice, read_word,
+    tree_of_type, tree_of_typed, write_word,
+};
+use bidi_tree::{JsInt, Tree};
+use std::alloc::{AllocError, Global};
+
+/// A number that JSON has not, or that would lose its sign.
+///
+/// `"NaN" / "-0" / "Infinity" / "-Infinity"`
+///
+/// After WebDriver BiDi, "The script.PrimitiveProtocolValue Type".
+#[derive(Clone, Copy, Debug, PartialEq, Eq)]
+pub enum SpecialNumber {
+    NaN,
+    NegativeZero,
+    Infinity,
+    NegativeInfinity,
+}
+
+impl Named for SpecialNumber {
+    ghost use Rattle.bidi_values.specs.Number.{special_number_words};
+
+    ghost words = { special_number_words };
+
+    fn named(text: &str) -> Option<SpecialNumber> {
+        match text {
+            "NaN" => Some(SpecialNumber::NaN),
+            "-0" => Some(SpecialNumber::NegativeZero),
+            "Infinity" => Some(SpecialNumber::Infinity),
+            "-Infinity" => Some(SpecialNumber::NegativeInfinity),
+            _ => None,
+        }
+    }
+
+    fn name(&self) -> &'static str {
+        match self {
+            SpecialNumber::NaN => "NaN",
+            SpecialNumber::NegativeZero => "-0",
+            SpecialNumber::Infinity => "Infinity",
+            SpecialNumber::NegativeInfinity => "-Infinity",
+        }
+    }
+}
+
+impl Shape for SpecialNumber {
+    ghost use Rattle.bidi_shape.specs.WordLaws.{word_shape};
+
+    ghost shape = { word_shape ⟦<SpecialNumber as Named>⟧.words };
+
+    fn from_tree(alloc: Global, tree: &Tree) -> Result<SpecialNumber, ShapeFault> {
+        read_word(tree)
+    }
+
+    fn to_tree(&self, alloc: Global) -> Result<Tree, AllocError> {
+        write_word(alloc, self)
+    }
+}
+
+/// The value of a number.
+///
+/// `js-int / "NaN" / "-0" / "Infinity" / "-Infinity"`
+///
+/// After WebDriver BiDi, "The script.PrimitiveProtocolValue Type"; that it has no fractions is the profile's.
+#[derive(Clone, Copy, Debug, PartialEq, Eq)]
+pub enum Number {
+    Whole(JsInt),
+    Special(SpecialNumber),
+}
+
+impl Ruled for Number {
+    ghost use Rattle.bidi_values.specs.Number.{number};
+
+    ghost rule = { number };
+}
+
+impl Shape for Number {
+    ghost use Rattle.std.specs.Prelude.{refl};
+    ghost use Rattle.bidi_shape.specs.ThroughLaws.{shape_through};
+    ghost use Rattle.bidi_shape.specs.declared.choice.Either.TheVariants.{First, Second};
+    ghost use Rattle.bidi_values.specs.declared.primitive.Number.TheVariants.{Whole, Special};
+
+    ghost shape = { shape_through ⟦<Number as Ruled>⟧.rule ⟦<Either<JsInt, SpecialNumber> as Shape>⟧.shape
+        (λ v. elim v [ Whole n ↦ First n | Special s ↦ Second s ]) refl };
+
+    fn from_tree(alloc: Global, tree: &Tree) -> Result<Number, ShapeFault> {
+        match read_choice::<Number, Either<JsInt, SpecialNumber>>(alloc, tree)? {
+            Either::First(whole) => Ok(Number::Whole(whole)),
+            Either::Second(special) => Ok(Number::Special(special)),
+        }
+    }
+
+    fn to_tree(&self, alloc: Global) -> Result<Tree, AllocError> {
+        match self {
+            Number::Whole(whole) => whole.to_tree(alloc),
+            Number::Special(special) => special.to_tree(alloc),
+        }
+    }
+}
+
+/// A primitive value.
+///
+/// `{ type: "undefined" } / { type: "null" } / { type: "string", value: text } / { type: "number", value: Number } /
+/// { type: "boolean", value: bool } / { type: "bigint", value: text }`
+///
+/// After WebDriver BiDi, "The script.PrimitiveProtocolValue Type".
+#[derive(Drop)]
+pub enum Primitive {
+    Undefined,
+    Null,
+    String(String),
+    Number(Number),
+    Boolean(bool),
+    /// Its digits, in decimal.
+    BigInt(String),
+}
+
+type Alternatives = Either<
+    Bare<UndefinedTag>,
+    Either<
+        Bare<NullTag>,
+        Either<
+            Typed<StringTag, String>,
+            Either<
+                Typed<NumberTag, Number>,
+                Either<Typed<BooleanTag, bool>, Typed<BigIntTag, String>>,
+            >,
+        >,
+    >,
+>;
+
+impl Ruled for Primitive {
+    ghost use Rattle.bidi_shape.specs.Name.{primitive};
+    ghost use Rattle.bidi_shape.specs.Term.{rule as named};
+
+    ghost rule = { named primitive };
+}
+
+impl Shape for Primitive {
+    ghost use Rattle.std.specs.Prelude.{refl};
+    ghost use Rattle.bidi_shape.specs.TagLaws.{bare, typed};
+    ghost use Rattle.bidi_shape.specs.ThroughLaws.{shape_through};
+    ghost use Rattle.bidi_shape.specs.declared.choice.Either.TheVariants.{First, Second};
+    ghost use Rattle.bidi_values.specs.declared.primitive.Primitive.TheVariants.{Undefined, Null, String, Number, Boolean, BigInt};
+
+    ghost shape = { shape_through ⟦<Primitive as Ruled>⟧.rule ⟦<Alternatives as Shape>⟧.shape
+        (λ v. elim v [
+          | Undefined ↦ First bare
+          | Null ↦ Second (First bare)
+          | String s ↦ Second (Second (First (typed s)))
+          | Number n ↦ Second (Second (Second (First (typed n))))
+          | Boolean b ↦ Second (Second (Second (Second (First (typed b)))))
+          | BigInt s ↦ Second (Second (Second (Second (Second (typed s)))))
+        ]) refl };
+
+    fn from_tree(alloc: Global, tree: &Tree) -> Result<Primitive, ShapeFault> {
+        use Either::{First, Second};
+
+        match read_choice::<Primitive, Alternatives>(alloc, tree)? {
+            First(_) => Ok(Primitive::Undefined),
+            Second(First(_)) => Ok(Primitive::Null),
+            Second(Second(First(text))) => Ok(Primitive::String(text.value)),
+            Second(Second(Second(First(number)))) => Ok(Primitive::Number(number.value)),
+            Second(Second(Second(Second(First(boolean))))) => {
+                Ok(Primitive::Boolean(boolean.value))
+            }
+            Second(Second(Second(Second(Second(digits))))) => Ok(Primitive::BigInt(digits.value)),
+        }
+    }
+
+    fn to_tree(&self, alloc: Global) -> Result<Tree, AllocError> {
+        match self {
+            Primitive::Undefined => tree_of_type(alloc, "undefined"),
+            Primitive::Null => tree_of_type(alloc, "null"),
+            Primitive::String(text) => tree_of_typed(alloc, "string", text),
+            Primitive::Number(number) => tree_of_typed(alloc, "number", number),
+            Primitive::Boolean(boolean) => tree_of_typed(alloc, "boolean", boolean),
+            Primitive::BigInt(digits) => tree_of_typed(alloc, "bigint", digits),
+        }
+    }
+}
+
+struct UndefinedTag;
+
+impl Tag for UndefinedTag {
+    ghost use Rattle.std.specs.Prelude.{codes};
+
+    ghost tag = { codes "undefined" };
+
+    fn tag() -> &'static str {
+        "undefined"
+    }
+}
+
+struct NullTag;
+
+impl Tag for NullTag {
+    ghost use Rattle.std.specs.Prelude.{codes};
+
+    ghost tag = { codes "null" };
+
+    fn tag() -> &'static str {
+        "null"
+    }
+}
+
+struct StringTag;
+
+impl Tag for StringTag {
+    ghost use Rattle.std.specs.Prelude.{codes};
+
+    ghost tag = { codes "string" };
+
+    fn tag() -> &'static str {
+        "string"
+    }
+}
+
+struct NumberTag;
+
+impl Tag for NumberTag {
+    ghost use Rattle.std.specs.Prelude.{codes};
+
+    ghost tag = { codes "number" };
+
+    fn tag() -> &'static str {
+        "number"
+    }
+}
+
+struct BooleanTag;
+
+impl Tag for BooleanTag {
+    ghost use Rattle.std.specs.Prelude.{codes};
+
+    ghost tag = { codes "boolean" };
+
+    fn tag() -> &'static str {
+        "boolean"
+    }
+}
+
+struct BigIntTag;
+
+impl Tag for BigIntTag {
+    ghost use Rattle.std.specs.Prelude.{codes};
+
+    ghost tag = { codes "bigint" };
+
+    fn tag() -> &'static str {
+        "bigint"
+    }
+}

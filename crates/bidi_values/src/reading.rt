@@ -1,0 +1,137 @@
+//! Trees as values that may hold others.
+ghost use Rattle.std.specs.Prelude.{◌≡◌, IfOk, MatchOption, map, length, [], ◌∷◌};
+ghost use Rattle.std.specs.List.{AllByRecursion};
+ghost use Rattle.bidi_tree.specs.Node.{Node};
+ghost use Rattle.bidi_tree.specs.View.{node, items_node};
+ghost use Rattle.bidi_shape.specs.Term.{either, rule, text};
+ghost use Rattle.bidi_shape.specs.Fits.{Fits, AllFit};
+ghost use Rattle.bidi_shape.specs.Outcome.{IfNoFit};
+ghost use Rattle.bidi_values.specs.NestedLaws.{pair_node};
+ghost use Rattle.bidi_values.specs.View.{nested_tree, nested_pair_tree, nested_key_tree, NestedIsWell, NestedPairIsWell, NestedKeyIsWell};
+
+use crate::beside::{Beside, read_around};
+use crate::nested::{Nested, NestedKey, NestedPair, Nests};
+use bidi_shape::ShapeFault;
+use bidi_tree::Tree;
+use std::alloc::Global;
+
+/// The value of a tree.
+#[cycle(read)]
+pub(crate) fn read_value<P: Nests<L, M>, L: Beside, M: Beside>(
+    alloc: Global,
+    tree: &Tree,
+) -> Result<Nested<P, L, M>, ShapeFault>
+    ensures ok { IfOk result (λ v. (nested_tree P.nesting v ≡ node tree.now)
+        × NestedIsWell P.nesting v) }
+    ensures no_fit { IfNoFit result (Fits (node tree.now) (rule P.nesting.values) → ⊥) }
+{
+    match read_around::<L>(alloc, tree) {
+        Ok((beside, items)) => {
+            let values = read_values(alloc, items)?;
+            return Ok(Nested::List(beside, values));
+        }
+        Err(ShapeFault::NoMemory) => return Err(ShapeFault::NoMemory),
+        Err(ShapeFault::NoFit) => {}
+    }
+    match read_around::<M>(alloc, tree) {
+        Ok((beside, items)) => {
+            let pairs = read_pairs(alloc, items)?;
+            Ok(Nested::Pairs(beside, pairs))
+        }
+        Err(ShapeFault::NoMemory) => Err(ShapeFault::NoMemory),
+        Err(ShapeFault::NoFit) => {
+            let plain = P::from_tree(alloc, tree)?;
+            Ok(Nested::Plain(plain))
+        }
+    }
+}
+
+#[cycle(read)]
+fn read_values<P: Nests<L, M>, L: Beside, M: Beside>(
+    alloc: Global,
+    items: &[Tree],
+) -> Result<Vec<Nested<P, L, M>>, ShapeFault>
+    ensures ok { IfOk result (λ v. (map (nested_tree P.nesting) v.items ≡ map node items.now)
+        × AllByRecursion (NestedIsWell P.nesting) v.items) }
+    ensures no_fit { IfNoFit result (AllFit (items_node items.now) (rule P.nesting.values) → ⊥) }
+{
+    let mut values = Vec::with_capacity(alloc, items.len())?;
+    for item in items {
+        values.push(read_value(alloc, item)?)?;
+    }
+    Ok(values)
+}
+
+#[cycle(read)]
+fn read_pairs<P: Nests<L, M>, L: Beside, M: Beside>(
+    alloc: Global,
+    items: &[Tree],
+) -> Result<Vec<NestedPair<P, L, M>>, ShapeFault>
+    ensures ok { IfOk result (λ v. (map (nested_pair_tree P.nesting) v.items ≡ map node items.now)
+        × AllByRecursion (NestedPairIsWell P.nesting) v.items) }
+    ensures no_fit { IfNoFit result (AllFit (items_node items.now) (rule P.nesting.pair_rule) → ⊥) }
+{
+    let mut pairs = Vec::with_capacity(alloc, items.len())?;
+    for item in items {
+        pairs.push(read_pair(alloc, item)?)?;
+    }
+    Ok(pairs)
+}
+
+#[cycle(read)]
+fn read_pair<P: Nests<L, M>, L: Beside, M: Beside>(
+    alloc: Global,
+    tree: &Tree,
+) -> Result<NestedPair<P, L, M>, ShapeFault>
+    ensures ok { IfOk result (λ p. (nested_pair_tree P.nesting p ≡ node tree.now)
+        × NestedPairIsWell P.nesting p) }
+    ensures no_fit { IfNoFit result (Fits (node tree.now) (rule P.nesting.pair_rule) → ⊥) }
+{
+    match two_items(tree) {
+        Some((key, value)) => {
+            let key = read_key(alloc, key)?;
+            let value = read_value(alloc, value)?;
+            Ok(NestedPair { key, value })
+        }
+        None => Err(ShapeFault::NoFit),
+    }
+}
+
+#[cycle(read)]
+fn read_key<P: Nests<L, M>, L: Beside, M: Beside>(
+    alloc: Global,
+    tree: &Tree,
+) -> Result<NestedKey<P, L, M>, ShapeFault>
+    ensures ok { IfOk result (λ k. (nested_key_tree P.nesting k ≡ node tree.now)
+        × NestedKeyIsWell P.nesting k) }
+    ensures no_fit { IfNoFit result (Fits (node tree.now) (either (rule P.nesting.values) text) → ⊥) }
+{
+    match tree.as_text() {
+        Some(text) => Ok(NestedKey::Text(text.clone()?)),
+        None => {
+            let value = read_value(alloc, tree)?;
+            Ok(NestedKey::Value(value))
+        }
+    }
+}
+
+/// The two items of a list of two.
+fn two_items(tree: &Tree) -> Option<(&Tree, &Tree)>
+    ensures { MatchOption result ((u v : Node) → node tree.now ≡ pair_node u v → ⊥) (λ p. node tree.now ≡ pair_node (node p.0.now) (node p.1.now)) }
+{
+    match tree.as_list() {
+        Some(items) => exactly_two(items),
+        None => None,
+    }
+}
+
+/// The items, where they are two.
+fn exactly_two(items: &[Tree]) -> Option<(&Tree, &Tree)>
+    ensures { MatchOption result (length items.now ≡ 2 → ⊥) (λ p. items.now ≡ p.0.now ∷ p.1.now ∷ []) }
+{
+    if items.len() == 2 {
+        Some((&items[0], &items[1]))
+    } else {
+        None
+    }
+}

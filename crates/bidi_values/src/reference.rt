@@ -1,0 +1,233 @@
+//! References to values that a remote end holds.
+use bidi_shape::{
+    Either, Ext, Fields, MakeFault, Optional, Required, Ruled, Shape, ShapeFault, add_member,
+    add_optional, not_shadowed, read_choice, read_fields,
+};
+use bidi_tree::{Members, Tree};
+use std::alloc::{AllocError, Global};
+
+/// A reference to a node by its shared id.
+///
+/// `{ sharedId: text, ? handle: text, Extensible }`
+///
+/// After WebDriver BiDi, "The script.RemoteReference Type".
+#[derive(Drop)]
+pub struct SharedReference {
+    pub shared_id: String,
+    pub handle: Option<String>,
+    pub ext: Ext,
+}
+
+impl SharedReference {
+    ghost use Rattle.std.specs.Prelude.{◌≡◌, IfOk, true};
+    ghost use Rattle.bidi_tree.specs.Node.{MembersAreWhole};
+    ghost use Rattle.bidi_tree.specs.View.{members_node};
+    ghost use Rattle.bidi_shape.specs.Name.{shared_reference};
+    ghost use Rattle.bidi_shape.specs.Term.{rule as named};
+    ghost use Rattle.bidi_shape.specs.Parts.{has_named};
+    ghost use Rattle.bidi_shape.specs.Table.{names_in};
+    ghost use Rattle.bidi_shape.specs.Made.{Makes};
+    ghost use Rattle.bidi_shape.specs.ValueLaws.{others_of};
+
+    /// The reference, with further members. Takes no memory.
+    ///
+    /// # Errors
+    /// - `Clash`: a further member is called `sharedId` or `handle`.
+    /// - `TooDeep`: a further member has an `Odd` in it, or more than 60 levels.
+    pub fn new(
+        shared_id: String,
+        handle: Option<String>,
+        ext: Members,
+    ) -> Result<SharedReference, MakeFault>
+        ensures made { Makes result
+            (has_named (names_in (named shared_reference)) (members_node ext.entries) ≡ true)
+            ⊥
+            (¬ MembersAreWhole (members_node ext.entries) 60)
+            (λ v. (v.shared_id ≡ shared_id) × (v.handle ≡ handle) × (others_of v.ext ≡ members_node ext.entries)) }
+        ensures well { IfOk result (λ v. ⟦<SharedReference as Shape>⟧.shape.well v) }
+    {
+        let ext = Ext::new(ext, &["sharedId", "handle"])?;
+        if !ext.is_whole() {
+            return Err(MakeFault::TooDeep);
+        }
+        Ok(SharedReference {
+            shared_id,
+            handle,
+            ext,
+        })
+    }
+}
+
+type SharedParts = Required<String, Optional<String, Ext>>;
+
+impl Ruled for SharedReference {
+    ghost use Rattle.bidi_shape.specs.Name.{shared_reference};
+    ghost use Rattle.bidi_shape.specs.Term.{rule as named};
+
+    ghost rule = { named shared_reference };
+}
+
+impl Shape for SharedReference {
+    ghost use Rattle.std.specs.Prelude.{refl, []};
+    ghost use Rattle.bidi_shape.specs.Table.{map_shape};
+
+    ghost shape = { map_shape ⟦<SharedReference as Ruled>⟧.rule ⟦<SharedParts as Fields>⟧.table [] (λ v. (v.shared_id, (v.handle, v.ext))) refl refl };
+
+    fn from_tree(alloc: Global, tree: &Tree) -> Result<SharedReference, ShapeFault> {
+        let Required(shared_id, Optional(handle, ext)) = read_fields::<
+            SharedReference,
+            SharedParts,
+        >(alloc, tree, &["sharedId", "handle"], &[])?;
+        Ok(SharedReference {
+            shared_id,
+            handle,
+            ext,
+        })
+    }
+
+    fn to_tree(&self, alloc: Global) -> Result<Tree, AllocError> {
+        let mut members = self.ext.copy_members()?;
+        add_optional(alloc, &mut members, "handle", &self.handle)?;
+        add_member(alloc, &mut members, "sharedId", &self.shared_id)?;
+        Ok(Tree::Map(members))
+    }
+}
+
+/// A reference to an object by its handle.
+///
+/// `{ handle: text, ? sharedId: text, Extensible }`
+///
+/// After WebDriver BiDi, "The script.RemoteReference Type".
+#[derive(Drop)]
+pub struct RemoteObjectReference {
+    pub handle: String,
+    pub shared_id: Option<String>,
+    pub ext: Ext,
+}
+
+impl RemoteObjectReference {
+    ghost use Rattle.std.specs.Prelude.{◌≡◌, IfOk, true};
+    ghost use Rattle.bidi_tree.specs.Node.{MembersAreWhole};
+    ghost use Rattle.bidi_tree.specs.View.{members_node};
+    ghost use Rattle.bidi_shape.specs.Name.{shared_reference, remote_object_reference};
+    ghost use Rattle.bidi_shape.specs.Term.{rule as named};
+    ghost use Rattle.bidi_shape.specs.Fits.{Fits};
+    ghost use Rattle.bidi_shape.specs.Parts.{has_named};
+    ghost use Rattle.bidi_shape.specs.Table.{names_in};
+    ghost use Rattle.bidi_shape.specs.Made.{Makes};
+    ghost use Rattle.bidi_shape.specs.ValueLaws.{others_of};
+    ghost use Rattle.bidi_values.specs.Maps.{remote_object_map};
+
+    /// The reference, with further members. With a `shared_id` and further members that are whole it is always
+    /// `Shadowed`, since such a map is a [`SharedReference`].
+    ///
+    /// # Errors
+    /// - `Clash`: a further member is called `handle` or `sharedId`.
+    /// - `Shadowed`: the map is a `SharedReference`.
+    /// - `TooDeep`: a further member has an `Odd` in it, or more than 60 levels.
+    /// - `NoMemory`: a growth was refused.
+    pub fn new(
+        alloc: Global,
+        handle: String,
+        shared_id: Option<String>,
+        ext: Members,
+    ) -> Result<RemoteObjectReference, MakeFault>
+        ensures made { Makes result
+            (has_named (names_in (named remote_object_reference)) (members_node ext.entries) ≡ true)
+            (Fits (remote_object_map handle shared_id (members_node ext.entries)) (named shared_reference))
+            (¬ MembersAreWhole (members_node ext.entries) 60)
+            (λ v. (v.handle ≡ handle) × (v.shared_id ≡ shared_id) × (others_of v.ext ≡ members_node ext.entries)) }
+        ensures well { IfOk result (λ v. ⟦<RemoteObjectReference as Shape>⟧.shape.well v) }
+    {
+        let ext = Ext::new(ext, &["handle", "sharedId"])?;
+        let made = RemoteObjectReference {
+            handle,
+            shared_id,
+            ext,
+        };
+        not_shadowed::<SharedReference, RemoteObjectReference>(alloc, &made)?;
+        if !made.ext.is_whole() {
+            return Err(MakeFault::TooDeep);
+        }
+        Ok(made)
+    }
+}
+
+type RemoteObjectParts = Required<String, Optional<String, Ext>>;
+
+impl Ruled for RemoteObjectReference {
+    ghost use Rattle.bidi_shape.specs.Name.{remote_object_reference};
+    ghost use Rattle.bidi_shape.specs.Term.{rule as named};
+
+    ghost rule = { named remote_object_reference };
+}
+
+impl Shape for RemoteObjectReference {
+    ghost use Rattle.std.specs.Prelude.{refl, []};
+    ghost use Rattle.bidi_shape.specs.Table.{map_shape};
+
+    ghost shape = { map_shape ⟦<RemoteObjectReference as Ruled>⟧.rule ⟦<RemoteObjectParts as Fields>⟧.table [] (λ v. (v.handle, (v.shared_id, v.ext))) refl refl };
+
+    fn from_tree(alloc: Global, tree: &Tree) -> Result<RemoteObjectReference, ShapeFault> {
+        let Required(handle, Optional(shared_id, ext)) = read_fields::<
+            RemoteObjectReference,
+            RemoteObjectParts,
+        >(alloc, tree, &["handle", "sharedId"], &[])?;
+        Ok(RemoteObjectReference {
+            handle,
+            shared_id,
+            ext,
+        })
+    }
+
+    fn to_tree(&self, alloc: Global) -> Result<Tree, AllocError> {
+        let mut members = self.ext.copy_members()?;
+        add_optional(alloc, &mut members, "sharedId", &self.shared_id)?;
+        add_member(alloc, &mut members, "handle", &self.handle)?;
+        Ok(Tree::Map(members))
+    }
+}
+
+/// A reference to a value that the remote end holds.
+///
+/// `SharedReference / RemoteObjectReference`
+///
+/// After WebDriver BiDi, "The script.RemoteReference Type".
+#[derive(Drop)]
+pub enum Reference {
+    Shared(SharedReference),
+    RemoteObject(RemoteObjectReference),
+}
+
+type Alternatives = Either<SharedReference, RemoteObjectReference>;
+
+impl Ruled for Reference {
+    ghost use Rattle.bidi_shape.specs.Name.{reference};
+    ghost use Rattle.bidi_shape.specs.Term.{rule as named};
+
+    ghost rule = { named reference };
+}
+
+impl Shape for Reference {
+    ghost use Rattle.std.specs.Prelude.{refl};
+    ghost use Rattle.bidi_shape.specs.ThroughLaws.{shape_through};
+    ghost use Rattle.bidi_shape.specs.declared.choice.Either.TheVariants.{First, Second};
+    ghost use Rattle.bidi_values.specs.declared.reference.Reference.TheVariants.{Shared, RemoteObject};
+
+    ghost shape = { shape_through ⟦<Reference as Ruled>⟧.rule ⟦<Alternatives as Shape>⟧.shape
+        (λ v. elim v [ Shared s ↦ First s | RemoteObject r ↦ Second r ]) refl };
+
+    fn from_tree(alloc: Global, tree: &Tree) -> Result<Reference, ShapeFault> {
+        match read_choice::<Reference, Alternatives>(alloc, tree)? {
+            Either::First(shared) => Ok(Reference::Shared(shared)),
+            Either::Second(object) => Ok(Reference::RemoteObject(object)),
+        }
+    }
+
+    fn to_tree(&self, alloc: Global) -> Result<Tree, AllocError> {
+        match self {
+            Reference::Shared(shared) => shared.to_tree(alloc),
+            Reference::RemoteObject(object) => object.to_tree(alloc),
+        }
+    }
+}

@@ -1,0 +1,51 @@
+//! Regular expressions.
+use bidi_shape::{
+    Closed, Fields, Optional, Required, Ruled, Shape, ShapeFault, add_member, add_optional,
+    read_fields,
+};
+use bidi_tree::{Members, Tree};
+use std::alloc::{AllocError, Global};
+
+/// A regular expression, as its source has it.
+///
+/// `{ pattern: text, ? flags: text }`
+///
+/// After WebDriver BiDi, "The script.LocalValue Type".
+#[derive(Drop)]
+pub struct RegExpValue {
+    pub pattern: String,
+    pub flags: Option<String>,
+}
+
+type Parts = Required<String, Optional<String, Closed>>;
+
+impl Ruled for RegExpValue {
+    ghost use Rattle.bidi_shape.specs.Name.{reg_exp_value};
+    ghost use Rattle.bidi_shape.specs.Term.{rule as named};
+
+    ghost rule = { named reg_exp_value };
+}
+
+impl Shape for RegExpValue {
+    ghost use Rattle.std.specs.Prelude.{refl, []};
+    ghost use Rattle.bidi_shape.specs.Table.{map_shape};
+
+    ghost shape = { map_shape ⟦<RegExpValue as Ruled>⟧.rule ⟦<Parts as Fields>⟧.table [] (λ v. (v.pattern, (v.flags, record {}))) refl refl };
+
+    fn from_tree(alloc: Global, tree: &Tree) -> Result<RegExpValue, ShapeFault> {
+        let Required(pattern, Optional(flags, Closed)) = read_fields::<RegExpValue, Parts>(
+            alloc,
+            tree,
+            &["pattern", "flags"],
+            &[],
+        )?;
+        Ok(RegExpValue { pattern, flags })
+    }
+
+    fn to_tree(&self, alloc: Global) -> Result<Tree, AllocError> {
+        let mut members = Members::new(alloc);
+        add_optional(alloc, &mut members, "flags", &self.flags)?;
+        add_member(alloc, &mut members, "pattern", &self.pattern)?;
+        Ok(Tree::Map(members))
+    }
+}

@@ -1,0 +1,130 @@
+//! Values that a script gives back.
+use crate::held::{RemoteDate, RemoteList, RemoteOpaque, RemotePairs, RemoteRegExp};
+use crate::nested::{Nested, NestedKey, NestedPair, Nests};
+use crate::primitive::Primitive;
+use bidi_shape::{Either, Ruled, Shape, ShapeFault, read_choice};
+use bidi_tree::Tree;
+use std::alloc::{AllocError, Global};
+
+/// A value that a script gives back, of at most 60 levels.
+///
+/// `PrimitiveValue /
+/// { type: "array" / "set", ? handle: text, ? internalId: text, ? value: [*RemoteValue] } /
+/// { type: "object" / "map", ? handle: text, ? internalId: text, ? value: [*[RemoteValue / text, RemoteValue]] } /
+/// { type: "regexp", value: RegExpValue, ? handle: text, ? internalId: text } /
+/// { type: "date", value: text, ? handle: text, ? internalId: text } /
+/// { type: Opaque, ? handle: text, ? internalId: text }`
+///
+/// After WebDriver BiDi, "The script.RemoteValue Type".
+pub type RemoteValue = Nested<RemotePlain, RemoteList, RemotePairs>;
+
+/// A key and a value of an object or a map.
+pub type RemotePair = NestedPair<RemotePlain, RemoteList, RemotePairs>;
+
+/// A key of an object or a map: a text, or any other value.
+pub type RemoteKey = NestedKey<RemotePlain, RemoteList, RemotePairs>;
+
+/// A remote value that holds no other, or whose values the message leaves out.
+///
+/// After WebDriver BiDi, "The script.RemoteValue Type".
+#[derive(Drop)]
+pub enum RemotePlain {
+    Primitive(Primitive),
+    /// An array or a set without its values.
+    List(RemoteList),
+    /// An object or a map without its pairs.
+    Pairs(RemotePairs),
+    RegExp(RemoteRegExp),
+    Date(RemoteDate),
+    Opaque(RemoteOpaque),
+}
+
+type Alternatives = Either<
+    Primitive,
+    Either<RemoteList, Either<RemotePairs, Either<RemoteRegExp, Either<RemoteDate, RemoteOpaque>>>>,
+>;
+
+impl Ruled for RemotePlain {
+    ghost use Rattle.bidi_values.specs.RemoteValue.{remote_plain};
+
+    ghost rule = { remote_plain };
+}
+
+impl Shape for RemotePlain {
+    ghost use Rattle.std.specs.Prelude.{refl};
+    ghost use Rattle.bidi_shape.specs.ThroughLaws.{shape_through};
+    ghost use Rattle.bidi_shape.specs.declared.choice.Either.TheVariants.{First, Second};
+    ghost use Rattle.bidi_values.specs.declared.remote_value.RemotePlain.TheVariants.{Primitive, List, Pairs, RegExp, Date, Opaque};
+
+    ghost shape = { shape_through ⟦<RemotePlain as Ruled>⟧.rule ⟦<Alternatives as Shape>⟧.shape
+        (λ v. elim v [
+          | Primitive p ↦ First p
+          | List l ↦ Second (First l)
+          | Pairs p ↦ Second (Second (First p))
+          | RegExp r ↦ Second (Second (Second (First r)))
+          | Date d ↦ Second (Second (Second (Second (First d))))
+          | Opaque o ↦ Second (Second (Second (Second (Second o))))
+        ]) refl };
+
+    fn from_tree(alloc: Global, tree: &Tree) -> Result<RemotePlain, ShapeFault> {
+        use Either::{First, Second};
+
+        match read_choice::<RemotePlain, Alternatives>(alloc, tree)? {
+            First(primitive) => Ok(RemotePlain::Primitive(primitive)),
+            Second(First(list)) => Ok(RemotePlain::List(list)),
+            Second(Second(First(pairs))) => Ok(RemotePlain::Pairs(pairs)),
+            Second(Second(Second(First(reg_exp)))) => Ok(RemotePlain::RegExp(reg_exp)),
+            Second(Second(Second(Second(First(date))))) => Ok(RemotePlain::Date(date)),
+            Second(Second(Second(Second(Second(opaque))))) => Ok(RemotePlain::Opaque(opaque)),
+        }
+    }
+
+    fn to_tree(&self, alloc: Global) -> Result<Tree, AllocError> {
+        match self {
+            RemotePlain::Primitive(primitive) => primitive.to_tree(alloc),
+            RemotePlain::List(list) => list.to_tree(alloc),
+            RemotePlain::Pairs(pairs) => pairs.to_tree(alloc),
+            RemotePlain::RegExp(reg_exp) => reg_exp.to_tree(alloc),
+            RemotePlain::Date(date) => date.to_tree(alloc),
+            RemotePlain::Opaque(opaque) => opaque.to_tree(alloc),
+        }
+    }
+}
+
+impl Nests<RemoteList, RemotePairs> for RemotePlain {
+    ghost use Rattle.std.specs.Prelude.{refl};
+    ghost use Rattle.bidi_shape.specs.Name.{remote_value, remote_pair};
+    ghost use Rattle.bidi_values.specs.RemoteValue.{remote_alternatives, plain_remote, list_remote, pairs_remote, one_of_remote, remote_list_not_plain, remote_pairs_not_plain, remote_list_not_pairs, remote_pairs_not_list, text_not_plain};
+
+    ghost nesting = { record {
+      plain = ⟦<RemotePlain as Shape>⟧.shape;
+      list = ⟦<RemoteList as crate::Beside>⟧.beside;
+      pairs = ⟦<RemotePairs as crate::Beside>⟧.beside;
+      values = remote_value;
+      pair_rule = remote_pair;
+      inside = remote_alternatives;
+      is_capped = refl;
+      is_pair = refl;
+      plain_fits = plain_remote;
+      list_fits = list_remote;
+      pairs_fit = pairs_remote;
+      one_of = one_of_remote;
+      list_not_plain = λ h t w. remote_list_not_plain h.kind h.handle h.internal_id t;
+      pairs_not_plain = λ h t w. remote_pairs_not_plain h.kind h.handle h.internal_id t;
+      list_not_pairs = λ h t w. remote_list_not_pairs h.kind h.handle h.internal_id t;
+      pairs_not_list = λ h t w. remote_pairs_not_list h.kind h.handle h.internal_id t;
+      text_not_plain = text_not_plain;
+    } };
+
+    fn into_value(self) -> RemoteValue {
+        Nested::Plain(self)
+    }
+
+    ghost agrees = { record {
+      rule = refl;
+      tree = λ p. refl;
+      well = λ p w. w;
+      list = record { rows = refl; parts = λ h. refl; well = λ h w. w };
+      pairs = record { rows = refl; parts = λ h. refl; well = λ h w. w };
+    } };
+}

@@ -1,0 +1,186 @@
+//! The table of a play: what each script does.
+use crate::remote_value::RemoteValue;
+use bidi_shape::{
+    Closed, Either, Fields, Required, Ruled, Shape, ShapeFault, add_member, read_choice,
+    read_fields,
+};
+use bidi_tree::{JsUint, Members, Tree};
+use std::alloc::{AllocError, Global};
+
+/// A script that returns a value.
+///
+/// `{ text: text, returns: RemoteValue }`
+///
+/// This project's own, as docs/FORMATS.md gives it, "Table of a play".
+#[derive(Drop)]
+pub struct ReturnsRow {
+    pub text: String,
+    pub value: RemoteValue,
+}
+
+type ReturnsParts = Required<String, Required<RemoteValue, Closed>>;
+
+impl Ruled for ReturnsRow {
+    ghost use Rattle.bidi_values.specs.Outcomes.{returns_row};
+
+    ghost rule = { returns_row };
+}
+
+impl Shape for ReturnsRow {
+    ghost use Rattle.std.specs.Prelude.{refl, []};
+    ghost use Rattle.bidi_shape.specs.Table.{map_shape};
+
+    ghost shape = { map_shape ⟦<ReturnsRow as Ruled>⟧.rule ⟦<ReturnsParts as Fields>⟧.table [] (λ v. (v.text, (v.value, record {}))) refl refl };
+
+    fn from_tree(alloc: Global, tree: &Tree) -> Result<ReturnsRow, ShapeFault> {
+        let Required(text, Required(value, Closed)) = read_fields::<ReturnsRow, ReturnsParts>(
+            alloc,
+            tree,
+            &["text", "returns"],
+            &[],
+        )?;
+        Ok(ReturnsRow { text, value })
+    }
+
+    fn to_tree(&self, alloc: Global) -> Result<Tree, AllocError> {
+        let mut members = Members::new(alloc);
+        add_member(alloc, &mut members, "returns", &self.value)?;
+        add_member(alloc, &mut members, "text", &self.text)?;
+        Ok(Tree::Map(members))
+    }
+}
+
+/// A script that throws a value.
+///
+/// `{ text: text, throws: RemoteValue }`
+///
+/// This project's own, as docs/FORMATS.md gives it, "Table of a play".
+#[derive(Drop)]
+pub struct ThrowsRow {
+    pub text: String,
+    pub value: RemoteValue,
+}
+
+type ThrowsParts = Required<String, Required<RemoteValue, Closed>>;
+
+impl Ruled for ThrowsRow {
+    ghost use Rattle.bidi_values.specs.Outcomes.{throws_row};
+
+    ghost rule = { throws_row };
+}
+
+impl Shape for ThrowsRow {
+    ghost use Rattle.std.specs.Prelude.{refl, []};
+    ghost use Rattle.bidi_shape.specs.Table.{map_shape};
+
+    ghost shape = { map_shape ⟦<ThrowsRow as Ruled>⟧.rule ⟦<ThrowsParts as Fields>⟧.table [] (λ v. (v.text, (v.value, record {}))) refl refl };
+
+    fn from_tree(alloc: Global, tree: &Tree) -> Result<ThrowsRow, ShapeFault> {
+        let Required(text, Required(value, Closed)) = read_fields::<ThrowsRow, ThrowsParts>(
+            alloc,
+            tree,
+            &["text", "throws"],
+            &[],
+        )?;
+        Ok(ThrowsRow { text, value })
+    }
+
+    fn to_tree(&self, alloc: Global) -> Result<Tree, AllocError> {
+        let mut members = Members::new(alloc);
+        add_member(alloc, &mut members, "throws", &self.value)?;
+        add_member(alloc, &mut members, "text", &self.text)?;
+        Ok(Tree::Map(members))
+    }
+}
+
+/// A script that returns one of its arguments, counted from 0.
+///
+/// `{ text: text, argument: js-uint }`
+///
+/// This project's own, as docs/FORMATS.md gives it, "Table of a play".
+#[derive(Drop)]
+pub struct ArgumentRow {
+    pub text: String,
+    pub index: JsUint,
+}
+
+type ArgumentParts = Required<String, Required<JsUint, Closed>>;
+
+impl Ruled for ArgumentRow {
+    ghost use Rattle.bidi_values.specs.Outcomes.{argument_row};
+
+    ghost rule = { argument_row };
+}
+
+impl Shape for ArgumentRow {
+    ghost use Rattle.std.specs.Prelude.{refl, []};
+    ghost use Rattle.bidi_shape.specs.Table.{map_shape};
+
+    ghost shape = { map_shape ⟦<ArgumentRow as Ruled>⟧.rule ⟦<ArgumentParts as Fields>⟧.table [] (λ v. (v.text, (v.index, record {}))) refl refl };
+
+    fn from_tree(alloc: Global, tree: &Tree) -> Result<ArgumentRow, ShapeFault> {
+        let Required(text, Required(index, Closed)) = read_fields::<ArgumentRow, ArgumentParts>(
+            alloc,
+            tree,
+            &["text", "argument"],
+            &[],
+        )?;
+        Ok(ArgumentRow { text, index })
+    }
+
+    fn to_tree(&self, alloc: Global) -> Result<Tree, AllocError> {
+        let mut members = Members::new(alloc);
+        add_member(alloc, &mut members, "argument", &self.index)?;
+        add_member(alloc, &mut members, "text", &self.text)?;
+        Ok(Tree::Map(members))
+    }
+}
+
+/// What a script of that text does.
+///
+/// `ReturnsRow / ThrowsRow / ArgumentRow`
+///
+/// This project's own, as docs/FORMATS.md gives it, "Table of a play".
+#[derive(Drop)]
+pub enum TableRow {
+    Returns(ReturnsRow),
+    Throws(ThrowsRow),
+    Argument(ArgumentRow),
+}
+
+type Alternatives = Either<ReturnsRow, Either<ThrowsRow, ArgumentRow>>;
+
+impl Ruled for TableRow {
+    ghost use Rattle.bidi_shape.specs.Name.{table_row};
+    ghost use Rattle.bidi_shape.specs.Term.{rule as named};
+
+    ghost rule = { named table_row };
+}
+
+impl Shape for TableRow {
+    ghost use Rattle.std.specs.Prelude.{refl};
+    ghost use Rattle.bidi_shape.specs.ThroughLaws.{shape_through};
+    ghost use Rattle.bidi_shape.specs.declared.choice.Either.TheVariants.{First, Second};
+    ghost use Rattle.bidi_values.specs.declared.table_row.TableRow.TheVariants.{Returns, Throws, Argument};
+
+    ghost shape = { shape_through ⟦<TableRow as Ruled>⟧.rule ⟦<Alternatives as Shape>⟧.shape
+        (λ v. elim v [ Returns r ↦ First r | Throws t ↦ Second (First t) | Argument a ↦ Second (Second a) ]) refl };
+
+    fn from_tree(alloc: Global, tree: &Tree) -> Result<TableRow, ShapeFault> {
+        use Either::{First, Second};
+
+        match read_choice::<TableRow, Alternatives>(alloc, tree)? {
+            First(returns) => Ok(TableRow::Returns(returns)),
+            Second(First(throws)) => Ok(TableRow::Throws(throws)),
+            Second(Second(argument)) => Ok(TableRow::Argument(argument)),
+        }
+    }
+
+    fn to_tree(&self, alloc: Global) -> Result<Tree, AllocError> {
+        match self {
+            TableRow::Returns(returns) => returns.to_tree(alloc),
+            TableRow::Throws(throws) => throws.to_tree(alloc),
+            TableRow::Argument(argument) => argument.to_tree(alloc),
+        }
+    }
+}

@@ -1,0 +1,221 @@
+//! Where a script is run.
+use bidi_shape::{
+    Either, Ext, Fields, MakeFault, Optional, Required, Ruled, Shape, ShapeFault, add_member,
+    add_optional, not_shadowed, read_choice, read_fields,
+};
+use bidi_tree::{Members, Tree};
+use std::alloc::{AllocError, Global};
+
+/// A browsing context, or a sandbox in it.
+///
+/// `{ context: text, ? sandbox: text, Extensible }`
+///
+/// After WebDriver BiDi, "The script.Target Type".
+#[derive(Drop)]
+pub struct ContextTarget {
+    pub context: String,
+    pub sandbox: Option<String>,
+    pub ext: Ext,
+}
+
+impl ContextTarget {
+    ghost use Rattle.std.specs.Prelude.{◌≡◌, IfOk, true};
+    ghost use Rattle.bidi_tree.specs.Node.{MembersAreWhole};
+    ghost use Rattle.bidi_tree.specs.View.{members_node};
+    ghost use Rattle.bidi_shape.specs.Name.{context_target};
+    ghost use Rattle.bidi_shape.specs.Term.{rule as named};
+    ghost use Rattle.bidi_shape.specs.Parts.{has_named};
+    ghost use Rattle.bidi_shape.specs.Table.{names_in};
+    ghost use Rattle.bidi_shape.specs.Made.{Makes};
+    ghost use Rattle.bidi_shape.specs.ValueLaws.{others_of};
+
+    /// The target, with further members. Takes no memory.
+    ///
+    /// # Errors
+    /// - `Clash`: a further member is called `context` or `sandbox`.
+    /// - `TooDeep`: a further member has an `Odd` in it, or more than 60 levels.
+    pub fn new(
+        context: String,
+        sandbox: Option<String>,
+        ext: Members,
+    ) -> Result<ContextTarget, MakeFault>
+        ensures made { Makes result
+            (has_named (names_in (named context_target)) (members_node ext.entries) ≡ true)
+            ⊥
+            (¬ MembersAreWhole (members_node ext.entries) 60)
+            (λ v. (v.context ≡ context) × (v.sandbox ≡ sandbox) × (others_of v.ext ≡ members_node ext.entries)) }
+        ensures well { IfOk result (λ v. ⟦<ContextTarget as Shape>⟧.shape.well v) }
+    {
+        let ext = Ext::new(ext, &["context", "sandbox"])?;
+        if !ext.is_whole() {
+            return Err(MakeFault::TooDeep);
+        }
+        Ok(ContextTarget {
+            context,
+            sandbox,
+            ext,
+        })
+    }
+}
+
+type ContextParts = Required<String, Optional<String, Ext>>;
+
+impl Ruled for ContextTarget {
+    ghost use Rattle.bidi_shape.specs.Name.{context_target};
+    ghost use Rattle.bidi_shape.specs.Term.{rule as named};
+
+    ghost rule = { named context_target };
+}
+
+impl Shape for ContextTarget {
+    ghost use Rattle.std.specs.Prelude.{refl, []};
+    ghost use Rattle.bidi_shape.specs.Table.{map_shape};
+
+    ghost shape = { map_shape ⟦<ContextTarget as Ruled>⟧.rule ⟦<ContextParts as Fields>⟧.table [] (λ v. (v.context, (v.sandbox, v.ext))) refl refl };
+
+    fn from_tree(alloc: Global, tree: &Tree) -> Result<ContextTarget, ShapeFault> {
+        let Required(context, Optional(sandbox, ext)) = read_fields::<ContextTarget, ContextParts>(
+            alloc,
+            tree,
+            &["context", "sandbox"],
+            &[],
+        )?;
+        Ok(ContextTarget {
+            context,
+            sandbox,
+            ext,
+        })
+    }
+
+    fn to_tree(&self, alloc: Global) -> Result<Tree, AllocError> {
+        let mut members = self.ext.copy_members()?;
+        add_optional(alloc, &mut members, "sandbox", &self.sandbox)?;
+        add_member(alloc, &mut members, "context", &self.context)?;
+        Ok(Tree::Map(members))
+    }
+}
+
+/// A realm.
+///
+/// `{ realm: text, Extensible }`
+///
+/// After WebDriver BiDi, "The script.Target Type".
+#[derive(Drop)]
+pub struct RealmTarget {
+    pub realm: String,
+    pub ext: Ext,
+}
+
+impl RealmTarget {
+    ghost use Rattle.std.specs.Prelude.{◌≡◌, IfOk, true};
+    ghost use Rattle.bidi_tree.specs.Node.{MembersAreWhole};
+    ghost use Rattle.bidi_tree.specs.View.{members_node};
+    ghost use Rattle.bidi_shape.specs.Name.{context_target, realm_target};
+    ghost use Rattle.bidi_shape.specs.Term.{rule as named};
+    ghost use Rattle.bidi_shape.specs.Fits.{Fits};
+    ghost use Rattle.bidi_shape.specs.Parts.{has_named};
+    ghost use Rattle.bidi_shape.specs.Table.{names_in};
+    ghost use Rattle.bidi_shape.specs.Made.{Makes};
+    ghost use Rattle.bidi_shape.specs.ValueLaws.{others_of};
+    ghost use Rattle.bidi_values.specs.Maps.{realm_map};
+
+    /// The target, with further members.
+    ///
+    /// # Errors
+    /// - `Clash`: a further member is called `realm`.
+    /// - `Shadowed`: the map is a [`ContextTarget`].
+    /// - `TooDeep`: a further member has an `Odd` in it, or more than 60 levels.
+    /// - `NoMemory`: a growth was refused.
+    pub fn new(alloc: Global, realm: String, ext: Members) -> Result<RealmTarget, MakeFault>
+        ensures made { Makes result
+            (has_named (names_in (named realm_target)) (members_node ext.entries) ≡ true)
+            (Fits (realm_map realm (members_node ext.entries)) (named context_target))
+            (¬ MembersAreWhole (members_node ext.entries) 60)
+            (λ v. (v.realm ≡ realm) × (others_of v.ext ≡ members_node ext.entries)) }
+        ensures well { IfOk result (λ v. ⟦<RealmTarget as Shape>⟧.shape.well v) }
+    {
+        let ext = Ext::new(ext, &["realm"])?;
+        let made = RealmTarget { realm, ext };
+        not_shadowed::<ContextTarget, RealmTarget>(alloc, &made)?;
+        if !made.ext.is_whole() {
+            return Err(MakeFault::TooDeep);
+        }
+        Ok(made)
+    }
+}
+
+type RealmParts = Required<String, Ext>;
+
+impl Ruled for RealmTarget {
+    ghost use Rattle.bidi_shape.specs.Name.{realm_target};
+    ghost use Rattle.bidi_shape.specs.Term.{rule as named};
+
+    ghost rule = { named realm_target };
+}
+
+impl Shape for RealmTarget {
+    ghost use Rattle.std.specs.Prelude.{refl, []};
+    ghost use Rattle.bidi_shape.specs.Table.{map_shape};
+
+    ghost shape = { map_shape ⟦<RealmTarget as Ruled>⟧.rule ⟦<RealmParts as Fields>⟧.table [] (λ v. (v.realm, v.ext)) refl refl };
+
+    fn from_tree(alloc: Global, tree: &Tree) -> Result<RealmTarget, ShapeFault> {
+        let Required(realm, ext) = read_fields::<RealmTarget, RealmParts>(
+            alloc,
+            tree,
+            &["realm"],
+            &[],
+        )?;
+        Ok(RealmTarget { realm, ext })
+    }
+
+    fn to_tree(&self, alloc: Global) -> Result<Tree, AllocError> {
+        let mut members = self.ext.copy_members()?;
+        add_member(alloc, &mut members, "realm", &self.realm)?;
+        Ok(Tree::Map(members))
+    }
+}
+
+/// Where a script is run.
+///
+/// `ContextTarget / RealmTarget`
+///
+/// After WebDriver BiDi, "The script.Target Type".
+#[derive(Drop)]
+pub enum Target {
+    Context(ContextTarget),
+    Realm(RealmTarget),
+}
+
+type Alternatives = Either<ContextTarget, RealmTarget>;
+
+impl Ruled for Target {
+    ghost use Rattle.bidi_shape.specs.Name.{target};
+    ghost use Rattle.bidi_shape.specs.Term.{rule as named};
+
+    ghost rule = { named target };
+}
+
+impl Shape for Target {
+    ghost use Rattle.std.specs.Prelude.{refl};
+    ghost use Rattle.bidi_shape.specs.ThroughLaws.{shape_through};
+    ghost use Rattle.bidi_shape.specs.declared.choice.Either.TheVariants.{First, Second};
+    ghost use Rattle.bidi_values.specs.declared.target.Target.TheVariants.{Context, Realm};
+
+    ghost shape = { shape_through ⟦<Target as Ruled>⟧.rule ⟦<Alternatives as Shape>⟧.shape
+        (λ v. elim v [ Context c ↦ First c | Realm r ↦ Second r ]) refl };
+
+    fn from_tree(alloc: Global, tree: &Tree) -> Result<Target, ShapeFault> {
+        match read_choice::<Target, Alternatives>(alloc, tree)? {
+            Either::First(context) => Ok(Target::Context(context)),
+            Either::Second(realm) => Ok(Target::Realm(realm)),
+        }
+    }
+
+    fn to_tree(&self, alloc: Global) -> Result<Tree, AllocError> {
+        match self {
+            Target::Context(context) => context.to_tree(alloc),
+            Target::Realm(realm) => realm.to_tree(alloc),
+        }
+    }
+}
