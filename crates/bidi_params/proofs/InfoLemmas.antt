@@ -1,0 +1,114 @@
+-- What readers and writers of Infos answer.
+use Rattle.std.proofs.Common.{◌≡◌, ◌<◌, ◌+◌, ℕ, List, [], ◌∷◌, codes, map, Option, Some, None, option_map, Result, Ok, Err, IfOk, Vec, Global, Bor, refl, sym, ap, ◌∙◌, subst, arith}
+use Rattle.std.specs.List.{AllByRecursion}
+use Rattle.std.specs.declared.alloc.AllocError.{AllocError}
+use Rattle.bidi_tree.specs.Node as kind
+use Rattle.bidi_tree.specs.Node.{Node, Items, item, Members, get_member, put, levels, items_levels}
+use Rattle.bidi_tree.specs.View.{node, items_of, items_node}
+use Rattle.bidi_tree.specs.declared.tree.Tree.{Tree, List as TreeList}
+use Rattle.bidi_tree.proofs.TreeLemmas.{node-List}
+use Rattle.bidi_tree.proofs.MemberLemmas.{get_member-put}
+use Rattle.bidi_shape.specs.Name.{info}
+use Rattle.bidi_shape.specs.Term.{required, Need, Term, null, list_of, map_of, either, rule, Rows, row, names_of}
+use Rattle.bidi_shape.specs.Fits.{Fits, AllFit, fits_list, fits_first, fits_second, fits_null, RowsFit, there, absent, OthersFit, without}
+use Rattle.bidi_shape.specs.Parts.{joined, PartFits}
+use Rattle.bidi_shape.specs.MapLaws.{map_inside}
+use Rattle.bidi_params.specs.InfoContent.{told, contents_of}
+use Rattle.bidi_params.specs.InfoLaws.{InfoOf, names, rows_with, info_map, children_node, info_tree, infos_tree, PartsAreWell, InfosAreWell, BesideIsWell, info_inside, children_levels}
+use Rattle.bidi_params.specs.InfoView.{Beside, content, content-told, children_content, beside_of, tree_of_info, tree_of_children, InfoIsWell}
+use Rattle.bidi_params.specs.declared.browsing_context.info.Info.{Info, out-Info}
+
+-- ---- rows
+
+first_row : {k : List ℕ} {τ : Term} {rs : Rows} {ms : Members} → RowsFit ms (row k required τ rs) → PartFits required τ (get_member k ms)
+first_row (there ms k need τ rows t e f more) = subst (PartFits required τ) (sym e) f
+
+more_rows : {k : List ℕ} {need : Need} {τ : Term} {rs : Rows} {ms : Members} → RowsFit ms (row k need τ rs) → RowsFit ms rs
+more_rows (there ms k need τ rows t e f more) = more
+more_rows (absent ms k τ rows e more) = more
+
+module _ (n : InfoOf Beside) (t : Node) (ms : Members) where
+  inside : (τ : Term) → kind.map ms ≡ t → Fits t (map_of (rows_with n.table τ) n.table.openness) → RowsFit ms (rows_with n.table τ) × OthersFit n.table.openness (without (names_of (rows_with n.table τ)) ms)
+  inside τ is f = map_inside (subst (λ x. Fits x (map_of (rows_with n.table τ) n.table.openness)) (sym is) f)
+
+  -- a map whose members beside the children do not fit
+  pub beside_misfit : kind.map ms ≡ t → (RowsFit ms (n.table.rows names []) → OthersFit n.table.openness (without (codes "children" ∷ names) ms) → ⊥) → names_of (n.table.rows names []) ≡ names
+      → (τ : Term) → Fits t (map_of (rows_with n.table τ) n.table.openness) → ⊥
+  beside_misfit is bad named τ f =
+      let p = inside τ is f in
+      bad (more_rows p.0) (subst (λ ks. OthersFit n.table.openness (without (codes "children" ∷ ks) ms)) named p.1)
+
+  -- and one whose children are neither a list nor null
+  pub children_misfit : kind.map ms ≡ t → ((τ : Term) → PartFits required (either (list_of 0 τ) null) (get_member (codes "children") ms) → ⊥)
+      → (τ : Term) → Fits t (map_of (rows_with n.table τ) n.table.openness) → ⊥
+  children_misfit is bad τ f = bad τ (first_row (inside τ is f).0)
+
+-- ---- children
+
+items_fit : {ts : Items} → Fits (kind.list ts) (either (list_of 0 (rule info)) null) → AllFit ts (rule info)
+items_fit f = of_either f refl
+  where
+    of_list : {t : Node} {ts : Items} → Fits t (list_of 0 (rule info)) → t ≡ kind.list ts → AllFit ts (rule info)
+    of_list {ts = ts} (fits_list us least τ h f) e = let same : us ≡ ts = cc in subst (λ x. AllFit x (rule info)) same f
+
+    of_null : {t : Node} {ts : Items} → Fits t null → t ≡ kind.list ts → AllFit ts (rule info)
+    of_null fits_null e = cc
+
+    of_either : {t : Node} {ts : Items} → Fits t (either (list_of 0 (rule info)) null) → t ≡ kind.list ts → AllFit ts (rule info)
+    of_either (fits_first t σ τ f) e = of_list f e
+    of_either (fits_second t σ τ f) e = of_null f e
+
+module _ (n : InfoOf Beside) where
+  infos_tree-of : (is : List Info) → infos_tree n (contents_of (map content is)) ≡ items_of (map (tree_of_info n) is)
+  infos_tree-of [] = refl
+  infos_tree-of (i ∷ is) = ap (item (tree_of_info n i)) (infos_tree-of is)
+
+  infos_well-of : (is : List Info) → AllByRecursion (InfoIsWell n) is → InfosAreWell n (contents_of (map content is))
+  infos_well-of [] w = tt
+  infos_well-of (i ∷ is) w = (w.0, infos_well-of is w.1)
+
+  -- ---- readers
+
+  -- the children that were found
+  pub found : (f : Beside) (t : Node) (p : Option (Bor (List Tree))) (items : Bor (List Tree)) → p ≡ Some items → info_map n.table f (children_node (option_map (λ x. items_node x.now) p)) ≡ t
+      → info_map n.table f (children_node (Some (items_node items.now))) ≡ t
+  found f t p items is e = ap (λ x. info_map n.table f (children_node (option_map (λ y. items_node y.now) x))) (sym is) ∙ e
+
+  pub info_read : (i : Info) (f : Beside) (t : Node) → content i ≡ told f (children_content None) → info_map n.table f (children_node None) ≡ t → BesideIsWell n f
+      → (tree_of_info n i ≡ t) × InfoIsWell n i
+  info_read i f t made is w = (ap (info_tree n) made ∙ is, subst (PartsAreWell n) (sym made) (w, tt))
+
+  pub info_with_children : (i : Info) (f : Beside) (v : Vec Info Global) (items : List Tree) (t : Node) → content i ≡ told f (children_content (Some v)) → info_map n.table f (children_node (Some (items_node items))) ≡ t → BesideIsWell n f
+      → map (tree_of_info n) v.items ≡ map node items → AllByRecursion (InfoIsWell n) v.items → (tree_of_info n i ≡ t) × InfoIsWell n i
+  info_with_children i f v items t made is w e ws = (
+    ap (info_tree n) made ∙ ap (λ x. info_map n.table f (kind.list x)) (infos_tree-of v.items ∙ ap items_of e) ∙ is,
+    subst (PartsAreWell n) (sym made) (w, infos_well-of v.items ws),
+  )
+
+  pub infos_misfit : (f : Beside) (items : Items) (t : Node) → info_map n.table f (children_node (Some items)) ≡ t → (AllFit items (rule info) → ⊥) → Fits t (rule info) → ⊥
+  infos_misfit f items t is bad x =
+      let ms = put (codes "children") (kind.list items) (joined (n.table.rows names []) (n.table.parts [] f) (n.table.others f)) in
+      let rows = (map_inside (subst (λ y. Fits y (map_of (rows_with n.table (rule info)) n.table.openness)) (sym is) (info_inside n t x))).0 in
+      bad (items_fit (subst (PartFits required (either (list_of 0 (rule info)) null)) (get_member-put (codes "children") (kind.list items) (joined (n.table.rows names []) (n.table.parts [] f) (n.table.others f))) (first_row rows)))
+
+  -- what is none
+  pub no_info : (t : Node) → ((τ : Term) → Fits t (map_of (rows_with n.table τ) n.table.openness) → ⊥) → Fits t (rule info) → ⊥
+  no_info t bad f = bad (rule info) (info_inside n t f)
+
+  pub list_levels : (f : Beside) (items : Items) (t : Node) → info_map n.table f (children_node (Some items)) ≡ t → items_levels items + 1 < levels t
+  list_levels f items t is = subst (λ x. items_levels items + 1 < levels x) is (let below = children_levels n f (kind.list items) in omega (arith, below))
+
+  -- ---- writers
+
+  written : (i : Info) (c : Option (Vec Info Global)) → (out-Info i).children ≡ c → info_map n.table (beside_of (out-Info i)) (tree_of_children n c) ≡ tree_of_info n i
+  written i c is = ap (λ x. info_map n.table (beside_of (out-Info i)) (tree_of_children n x)) (sym is) ∙ sym (ap (info_tree n) (content-told i))
+
+  pub children_written : (r : Result Tree AllocError) (i : Info) (v : Vec Info Global) (trees : Vec Tree Global) → (out-Info i).children ≡ Some v → map node trees.items ≡ map (tree_of_info n) v.items
+      → IfOk r (λ t. node t ≡ info_map n.table (beside_of (out-Info i)) (node (TreeList trees))) → IfOk r (λ t. node t ≡ tree_of_info n i)
+  children_written (Ok t) i v trees is e p =
+      p ∙ ap (info_map n.table (beside_of (out-Info i))) (node-List trees ∙ ap kind.list (ap items_of e ∙ sym (infos_tree-of v.items))) ∙ written i (Some v) is
+  children_written (Err x) i v trees is e p = tt
+
+  pub none_written : (r : Result Tree AllocError) (i : Info) → (out-Info i).children ≡ None → IfOk r (λ t. node t ≡ info_map n.table (beside_of (out-Info i)) kind.null) → IfOk r (λ t. node t ≡ tree_of_info n i)
+  none_written (Ok t) i is p = p ∙ written i None is
+  none_written (Err x) i is p = tt

@@ -1,0 +1,43 @@
+-- Infos of Rust by what they hold.
+use Rattle.std.specs.Prelude.{Option, Some, None}
+use Rattle.std.proofs.Common.{◌≡◌, String, Vec, Global, map, rules}
+use Rattle.bidi_tree.specs.Node.{Node}
+use Rattle.bidi_shape.specs.declared.ext.Ext.{Ext}
+use Rattle.bidi_shape.specs.declared.fields.Required.{Required}
+use Rattle.bidi_shape.specs.declared.fields.Optional.{Optional}
+use Rattle.bidi_params.specs.InfoContent.{Content, told, Children, left_out, listed, contents_of}
+use Rattle.bidi_params.specs.InfoLaws.{InfoOf, info_tree, children_tree, PartsAreWell}
+use Rattle.bidi_params.specs.declared.browsing_context.info.Info.{Info, Info-F, fold-Info, out-Info, the_lemmas}
+
+-- the members beside `children`
+abbrev pub Beside : Type 0
+Beside = Required (String Global) (Required (String Global) (Required (Option (String Global)) (Required (String Global) (Required (String Global) (Optional (Option (String Global)) Ext)))))
+
+abbrev pub beside_of : {A : Type 0} → Info-F A → Beside
+beside_of i = (i.client_window, (i.context, (i.original_opener, (i.url, (i.user_context, (i.parent, i.ext))))))
+
+abbrev pub children_step : Option (Vec (Content Beside) Global) → Children Beside
+children_step None = left_out
+children_step (Some v) = listed (contents_of v.items)
+
+abbrev pub info_step : Info-F (Content Beside) → Content Beside
+info_step i = told (beside_of i) (children_step i.children)
+
+abbrev pub content : Info → Content Beside
+content = fold-Info (Content Beside) info_step
+
+abbrev pub children_content : Option (Vec Info Global) → Children Beside
+children_content None = left_out
+children_content (Some v) = listed (contents_of (map content v.items))
+
+pub content-told : (i : Info) → content i ≡ told (beside_of (out-Info i)) (children_content (out-Info i).children)
+content-told i = search (rules, the_lemmas)
+
+abbrev pub tree_of_info : InfoOf Beside → Info → Node
+tree_of_info n i = info_tree n (content i)
+
+abbrev pub tree_of_children : InfoOf Beside → Option (Vec Info Global) → Node
+tree_of_children n c = children_tree n (children_content c)
+
+abbrev pub InfoIsWell : InfoOf Beside → Info → Type 0
+InfoIsWell n i = PartsAreWell n (content i)

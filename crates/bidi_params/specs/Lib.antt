@@ -1,0 +1,6 @@
+pub mod InfoContent
+pub mod InfoLaws
+pub mod InfoView
+pub mod InfoParts
+pub mod Session
+pub mod Words

@@ -1,0 +1,158 @@
+//! Asking for browsing contexts.
+ghost use Rattle.std.specs.Prelude.{◌≡◌, IfOk, refl, true, []};
+ghost use Rattle.bidi_tree.specs.Node.{MembersAreWhole};
+ghost use Rattle.bidi_tree.specs.View.{members_node};
+ghost use Rattle.bidi_shape.specs.Term.{rule as named};
+ghost use Rattle.bidi_shape.specs.Parts.{has_named};
+ghost use Rattle.bidi_shape.specs.Table.{map_shape, names_in};
+ghost use Rattle.bidi_shape.specs.Made.{Makes};
+ghost use Rattle.bidi_shape.specs.ValueLaws.{others_of};
+
+use crate::browsing_context::info::Info;
+use bidi_shape::{
+    Ext, Fields, MakeFault, Optional, Required, Ruled, Shape, ShapeFault, add_member, add_optional,
+    read_fields,
+};
+use bidi_tree::{JsUint, Members, Tree};
+use std::alloc::{AllocError, Global};
+
+/// Parameters of `browsingContext.getTree`.
+///
+/// `{ ? maxDepth: js-uint, ? root: text, Extensible }`
+///
+/// Absent, `maxDepth` leaves the depth open, and `root` stands for every top-level context.
+///
+/// After WebDriver BiDi, "The browsingContext.getTree Command".
+#[derive(Drop)]
+pub struct GetTreeParameters {
+    pub max_depth: Option<JsUint>,
+    pub root: Option<String>,
+    pub ext: Ext,
+}
+
+impl GetTreeParameters {
+    ghost use Rattle.bidi_shape.specs.Name.{get_tree_parameters};
+
+    /// The parameters, with further members. Takes no memory.
+    ///
+    /// # Errors
+    /// - `Clash`: a further member is called `maxDepth` or `root`.
+    /// - `TooDeep`: a further member has an `Odd` in it, or more than 60 levels.
+    pub fn new(
+        max_depth: Option<JsUint>,
+        root: Option<String>,
+        ext: Members,
+    ) -> Result<GetTreeParameters, MakeFault>
+        ensures made { Makes result
+            (has_named (names_in (named get_tree_parameters)) (members_node ext.entries) ≡ true)
+            ⊥
+            (¬ MembersAreWhole (members_node ext.entries) 60)
+            (λ v. (v.max_depth ≡ max_depth) × (v.root ≡ root) × (others_of v.ext ≡ members_node ext.entries)) }
+        ensures well { IfOk result (λ v. ⟦<GetTreeParameters as Shape>⟧.shape.well v) }
+    {
+        let ext = Ext::new(ext, &["maxDepth", "root"])?;
+        if !ext.is_whole() {
+            return Err(MakeFault::TooDeep);
+        }
+        Ok(GetTreeParameters {
+            max_depth,
+            root,
+            ext,
+        })
+    }
+}
+
+type GetTreeParts = Optional<JsUint, Optional<String, Ext>>;
+
+impl Ruled for GetTreeParameters {
+    ghost use Rattle.bidi_shape.specs.Name.{get_tree_parameters};
+
+    ghost rule = { named get_tree_parameters };
+}
+
+impl Shape for GetTreeParameters {
+    ghost shape = { map_shape ⟦<GetTreeParameters as Ruled>⟧.rule ⟦<GetTreeParts as Fields>⟧.table [] (λ v. (v.max_depth, (v.root, v.ext))) refl refl };
+
+    fn from_tree(alloc: Global, tree: &Tree) -> Result<GetTreeParameters, ShapeFault> {
+        let Optional(max_depth, Optional(root, ext)) = read_fields::<
+            GetTreeParameters,
+            GetTreeParts,
+        >(alloc, tree, &["maxDepth", "root"], &[])?;
+        Ok(GetTreeParameters {
+            max_depth,
+            root,
+            ext,
+        })
+    }
+
+    fn to_tree(&self, alloc: Global) -> Result<Tree, AllocError> {
+        let mut members = self.ext.copy_members()?;
+        add_optional(alloc, &mut members, "root", &self.root)?;
+        add_optional(alloc, &mut members, "maxDepth", &self.max_depth)?;
+        Ok(Tree::Map(members))
+    }
+}
+
+/// Result of `browsingContext.getTree`.
+///
+/// `{ contexts: [*Info], Extensible }`
+///
+/// After WebDriver BiDi, "The browsingContext.getTree Command".
+#[derive(Drop)]
+pub struct GetTreeResult {
+    pub contexts: Vec<Info>,
+    pub ext: Ext,
+}
+
+impl GetTreeResult {
+    ghost use Rattle.bidi_shape.specs.Name.{get_tree_result};
+
+    /// The result, with further members. Takes no memory.
+    ///
+    /// # Errors
+    /// - `Clash`: a further member is called `contexts`.
+    /// - `TooDeep`: a further member has an `Odd` in it, or more than 60 levels.
+    pub fn new(contexts: Vec<Info>, ext: Members) -> Result<GetTreeResult, MakeFault>
+        requires contexts { ⟦<Vec<Info> as Shape>⟧.shape.well contexts }
+        ensures made { Makes result
+            (has_named (names_in (named get_tree_result)) (members_node ext.entries) ≡ true)
+            ⊥
+            (¬ MembersAreWhole (members_node ext.entries) 60)
+            (λ v. (v.contexts ≡ contexts) × (others_of v.ext ≡ members_node ext.entries)) }
+        ensures well { IfOk result (λ v. ⟦<GetTreeResult as Shape>⟧.shape.well v) }
+    {
+        let ext = Ext::new(ext, &["contexts"])?;
+        if !ext.is_whole() {
+            return Err(MakeFault::TooDeep);
+        }
+        Ok(GetTreeResult { contexts, ext })
+    }
+}
+
+type ResultParts = Required<Vec<Info>, Ext>;
+
+impl Ruled for GetTreeResult {
+    ghost use Rattle.bidi_shape.specs.Name.{get_tree_result};
+
+    ghost rule = { named get_tree_result };
+}
+
+impl Shape for GetTreeResult {
+    ghost shape = { map_shape ⟦<GetTreeResult as Ruled>⟧.rule ⟦<ResultParts as Fields>⟧.table [] (λ v. (v.contexts, v.ext)) refl refl };
+
+    fn from_tree(alloc: Global, tree: &Tree) -> Result<GetTreeResult, ShapeFault> {
+        let Required(contexts, ext) = read_fields::<GetTreeResult, ResultParts>(
+            alloc,
+            tree,
+            &["contexts"],
+            &[],
+        )?;
+        Ok(GetTreeResult { contexts, ext })
+    }
+
+    fn to_tree(&self, alloc: Global) -> Result<Tree, AllocError> {
+        let mut members = self.ext.copy_members()?;
+        add_member(alloc, &mut members, "contexts", &self.contexts)?;
+        Ok(Tree::Map(members))
+    }
+}

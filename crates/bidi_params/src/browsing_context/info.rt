@@ -1,0 +1,210 @@
+//! What is told of a browsing context and of those below it.
+ghost use Rattle.std.specs.Prelude.{◌≡◌, IfOk, Some, codes, option_map};
+ghost use Rattle.std.specs.List.{AllByRecursion};
+ghost use Rattle.std.specs.Prelude.{map};
+ghost use Rattle.bidi_tree.specs.Node.{get_member};
+ghost use Rattle.bidi_tree.specs.View.{node, items_node, members_node};
+ghost use Rattle.bidi_shape.specs.Name.{info};
+ghost use Rattle.bidi_shape.specs.Term.{Term, required, either, list_of, map_of, null, rule as named};
+ghost use Rattle.bidi_shape.specs.Fits.{Fits, AllFit};
+ghost use Rattle.bidi_shape.specs.Parts.{PartFits};
+ghost use Rattle.bidi_shape.specs.Outcome.{IfNoFit};
+ghost use Rattle.bidi_params.specs.InfoContent.{told};
+ghost use Rattle.bidi_params.specs.InfoParts.{info_parts};
+ghost use Rattle.bidi_params.specs.InfoLaws.{info_map, rows_with, children_node, BesideIsWell, info_shape};
+ghost use Rattle.bidi_params.specs.declared.browsing_context.info.Info.{out-Info};
+ghost use Rattle.bidi_params.specs.InfoView.{beside_of, content, children_content, tree_of_info, InfoIsWell};
+
+use bidi_shape::{
+    Ext, Fields, Optional, Required, Shape, ShapeFault, add_member, add_optional, map_inside,
+};
+use bidi_tree::{Members, Tree, find_member, put_member};
+use std::alloc::{AllocError, Global};
+
+/// A browsing context, and those below it, of at most 60 levels.
+///
+/// `{ children: [*Info] / null, clientWindow: text, context: text, originalOpener: text / null, url: text,
+/// userContext: text, ? parent: text / null, Extensible }`
+///
+/// After WebDriver BiDi, "The browsingContext.Info Type".
+#[derive(Drop)]
+pub struct Info {
+    /// The contexts directly below; none where they were not asked for.
+    pub children: Option<Vec<Info>>,
+    pub client_window: String,
+    pub context: String,
+    pub original_opener: Option<String>,
+    pub url: String,
+    pub user_context: String,
+    /// The context directly above, or null at the top; absent where it stands in the tree.
+    pub parent: Option<Option<String>>,
+    pub ext: Ext,
+}
+
+/// The members beside `children`.
+type Beside = Required<
+    String,
+    Required<
+        String,
+        Required<Option<String>, Required<String, Required<String, Optional<Option<String>, Ext>>>>,
+    >,
+>;
+
+/// The most levels of an Info.
+const MAX_LEVELS: usize = 60;
+
+impl Shape for Info {
+    ghost shape = { info_shape info_parts content };
+
+    fn from_tree(alloc: Global, tree: &Tree) -> Result<Info, ShapeFault> {
+        if tree.is_within(MAX_LEVELS) {
+            read_info(alloc, tree)
+        } else {
+            Err(ShapeFault::NoFit)
+        }
+    }
+
+    fn to_tree(&self, alloc: Global) -> Result<Tree, AllocError> {
+        write_info(alloc, self)
+    }
+}
+
+// ---- reading
+
+#[cycle(read)]
+fn read_info(alloc: Global, tree: &Tree) -> Result<Info, ShapeFault>
+    ensures ok { IfOk result (λ i. (tree_of_info info_parts i ≡ node tree.now) × InfoIsWell info_parts i) }
+    ensures no_fit { IfNoFit result (Fits (node tree.now) (named info) → ⊥) }
+{
+    let (beside, children) = read_beside(alloc, tree)?;
+    match children {
+        Some(items) => {
+            let children = read_infos(alloc, items)?;
+            Ok(with_children(beside, Some(children)))
+        }
+        None => Ok(with_children(beside, None)),
+    }
+}
+
+#[cycle(read)]
+fn read_infos(alloc: Global, items: &[Tree]) -> Result<Vec<Info>, ShapeFault>
+    ensures ok { IfOk result (λ v. (map (tree_of_info info_parts) v.items ≡ map node items.now) × AllByRecursion (InfoIsWell info_parts) v.items) }
+    ensures no_fit { IfNoFit result (AllFit (items_node items.now) (named info) → ⊥) }
+{
+    let mut infos = Vec::with_capacity(alloc, items.len())?;
+    for item in items {
+        infos.push(read_info(alloc, item)?)?;
+    }
+    Ok(infos)
+}
+
+/// What stands beside the children, and the items of these where they are told.
+fn read_beside<'a>(
+    alloc: Global,
+    tree: &'a Tree,
+) -> Result<(Beside, Option<&'a [Tree]>), ShapeFault>
+    ensures ok { IfOk result (λ p. (info_map info_parts.table p.0 (children_node (option_map (λ x. items_node x.now) p.1)) ≡ node tree.now)
+        × BesideIsWell info_parts p.0) }
+    ensures no_fit { IfNoFit result ((τ : Term) → Fits (node tree.now) (map_of (rows_with info_parts.table τ) info_parts.table.openness) → ⊥) }
+{
+    let members = map_inside(tree)?;
+    let beside = Beside::read(
+        alloc,
+        members,
+        &[
+            "clientWindow",
+            "context",
+            "originalOpener",
+            "url",
+            "userContext",
+            "parent",
+        ],
+        &[],
+        &[
+            "children",
+            "clientWindow",
+            "context",
+            "originalOpener",
+            "url",
+            "userContext",
+            "parent",
+        ],
+    )?;
+    let children = children_in(members)?;
+    Ok((beside, children))
+}
+
+/// The items of the children, or none where null stands in their place.
+fn children_in(members: &Members) -> Result<Option<&[Tree]>, ShapeFault>
+    ensures ok { IfOk result (λ c. get_member (codes "children") (members_node members.now.entries) ≡ Some (children_node (option_map (λ x. items_node x.now) c))) }
+    ensures no_fit { IfNoFit result ((τ : Term) → PartFits required (either (list_of 0 τ) null) (get_member (codes "children") (members_node members.now.entries)) → ⊥) }
+{
+    match find_member(members, "children") {
+        Some(Tree::List(items)) => Ok(Some(items.as_slice())),
+        Some(Tree::Null) => Ok(None),
+        _ => Err(ShapeFault::NoFit),
+    }
+}
+
+fn with_children(beside: Beside, children: Option<Vec<Info>>) -> Info
+    ensures { content result ≡ told beside (children_content children) }
+{
+    let Required(
+        client_window,
+        Required(
+            context,
+            Required(original_opener, Required(url, Required(user_context, Optional(parent, ext)))),
+        ),
+    ) = beside;
+    Info {
+        children,
+        client_window,
+        context,
+        original_opener,
+        url,
+        user_context,
+        parent,
+        ext,
+    }
+}
+
+// ---- writing
+
+#[cycle(write)]
+fn write_info(alloc: Global, info: &Info) -> Result<Tree, AllocError>
+    ensures { IfOk result (λ t. node t ≡ tree_of_info info_parts info.now) }
+{
+    match &info.children {
+        Some(infos) => {
+            let trees = write_infos(alloc, infos)?;
+            write_beside(alloc, info, Tree::List(trees))
+        }
+        None => write_beside(alloc, info, Tree::Null),
+    }
+}
+
+#[cycle(write)]
+fn write_infos(alloc: Global, infos: &Vec<Info>) -> Result<Vec<Tree>, AllocError>
+    ensures { IfOk result (λ v. map node v.items ≡ map (tree_of_info info_parts) infos.now.items) }
+{
+    let mut trees = Vec::with_capacity(alloc, infos.len())?;
+    for info in infos {
+        trees.push(write_info(alloc, info)?)?;
+    }
+    Ok(trees)
+}
+
+/// The map of the children's tree and the members beside it.
+fn write_beside(alloc: Global, info: &Info, children: Tree) -> Result<Tree, AllocError>
+    ensures { IfOk result (λ t. node t ≡ info_map info_parts.table (beside_of (out-Info info.now)) (node children)) }
+{
+    let mut members = info.ext.copy_members()?;
+    add_optional(alloc, &mut members, "parent", &info.parent)?;
+    add_member(alloc, &mut members, "userContext", &info.user_context)?;
+    add_member(alloc, &mut members, "url", &info.url)?;
+    add_member(alloc, &mut members, "originalOpener", &info.original_opener)?;
+    add_member(alloc, &mut members, "context", &info.context)?;
+    add_member(alloc, &mut members, "clientWindow", &info.client_window)?;
+    put_member(&mut members, String::from_str(alloc, "children")?, children)?;
+    Ok(Tree::Map(members))
+}

@@ -1,0 +1,474 @@
+//! Navigations of browsing contexts.
+ghost use Rattle.std.specs.Prelude.{◌≡◌, IfOk, refl, true, []};
+ghost use Rattle.bidi_tree.specs.Node.{MembersAreWhole};
+ghost use Rattle.bidi_tree.specs.View.{members_node};
+ghost use Rattle.bidi_shape.specs.Term.{rule as named};
+ghost use Rattle.bidi_shape.specs.Parts.{has_named};
+ghost use Rattle.bidi_shape.specs.Table.{map_shape, names_in};
+ghost use Rattle.bidi_shape.specs.Made.{Makes};
+ghost use Rattle.bidi_shape.specs.ValueLaws.{others_of};
+
+use bidi_shape::{
+    Ext, Fields, MakeFault, Named, Optional, Required, Ruled, Shape, ShapeFault, add_member,
+    add_optional, read_fields, read_word, write_word,
+};
+use bidi_tree::{JsInt, JsUint, Members, Tree};
+use std::alloc::{AllocError, Global};
+
+/// How far a navigation has to be before its command is answered.
+///
+/// `"none" / "interactive" / "complete"`
+///
+/// After WebDriver BiDi, "The browsingContext.ReadinessState Type".
+#[derive(Clone, Copy, Debug, PartialEq, Eq)]
+pub enum Wait {
+    None,
+    Interactive,
+    Complete,
+}
+
+impl Named for Wait {
+    ghost use Rattle.bidi_params.specs.Words.{wait_words};
+
+    ghost words = { wait_words };
+
+    fn named(text: &str) -> Option<Wait> {
+        match text {
+            "none" => Some(Wait::None),
+            "interactive" => Some(Wait::Interactive),
+            "complete" => Some(Wait::Complete),
+            _ => None,
+        }
+    }
+
+    fn name(&self) -> &'static str {
+        match self {
+            Wait::None => "none",
+            Wait::Interactive => "interactive",
+            Wait::Complete => "complete",
+        }
+    }
+}
+
+impl Shape for Wait {
+    ghost use Rattle.bidi_shape.specs.WordLaws.{word_shape};
+
+    ghost shape = { word_shape ⟦<Wait as Named>⟧.words };
+
+    fn from_tree(alloc: Global, tree: &Tree) -> Result<Wait, ShapeFault> {
+        read_word(tree)
+    }
+
+    fn to_tree(&self, alloc: Global) -> Result<Tree, AllocError> {
+        write_word(alloc, self)
+    }
+}
+
+/// Parameters of `browsingContext.navigate`.
+///
+/// `{ context: text, url: text, ? wait: Wait, Extensible }`
+///
+/// Absent, `wait` is `none`.
+///
+/// After WebDriver BiDi, "The browsingContext.navigate Command".
+#[derive(Drop)]
+pub struct NavigateParameters {
+    pub context: String,
+    pub url: String,
+    pub wait: Option<Wait>,
+    pub ext: Ext,
+}
+
+impl NavigateParameters {
+    ghost use Rattle.bidi_shape.specs.Name.{navigate_parameters};
+
+    /// The parameters, with further members. Takes no memory.
+    ///
+    /// # Errors
+    /// - `Clash`: a further member is called `context`, `url` or `wait`.
+    /// - `TooDeep`: a further member has an `Odd` in it, or more than 60 levels.
+    pub fn new(
+        context: String,
+        url: String,
+        wait: Option<Wait>,
+        ext: Members,
+    ) -> Result<NavigateParameters, MakeFault>
+        ensures made { Makes result
+            (has_named (names_in (named navigate_parameters)) (members_node ext.entries) ≡ true)
+            ⊥
+            (¬ MembersAreWhole (members_node ext.entries) 60)
+            (λ v. (v.context ≡ context) × (v.url ≡ url) × (v.wait ≡ wait) × (others_of v.ext ≡ members_node ext.entries)) }
+        ensures well { IfOk result (λ v. ⟦<NavigateParameters as Shape>⟧.shape.well v) }
+    {
+        let ext = Ext::new(ext, &["context", "url", "wait"])?;
+        if !ext.is_whole() {
+            return Err(MakeFault::TooDeep);
+        }
+        Ok(NavigateParameters {
+            context,
+            url,
+            wait,
+            ext,
+        })
+    }
+}
+
+type NavigateParts = Required<String, Required<String, Optional<Wait, Ext>>>;
+
+impl Ruled for NavigateParameters {
+    ghost use Rattle.bidi_shape.specs.Name.{navigate_parameters};
+
+    ghost rule = { named navigate_parameters };
+}
+
+impl Shape for NavigateParameters {
+    ghost shape = { map_shape ⟦<NavigateParameters as Ruled>⟧.rule ⟦<NavigateParts as Fields>⟧.table [] (λ v. (v.context, (v.url, (v.wait, v.ext)))) refl refl };
+
+    fn from_tree(alloc: Global, tree: &Tree) -> Result<NavigateParameters, ShapeFault> {
+        let Required(context, Required(url, Optional(wait, ext))) = read_fields::<
+            NavigateParameters,
+            NavigateParts,
+        >(alloc, tree, &["context", "url", "wait"], &[])?;
+        Ok(NavigateParameters {
+            context,
+            url,
+            wait,
+            ext,
+        })
+    }
+
+    fn to_tree(&self, alloc: Global) -> Result<Tree, AllocError> {
+        let mut members = self.ext.copy_members()?;
+        add_optional(alloc, &mut members, "wait", &self.wait)?;
+        add_member(alloc, &mut members, "url", &self.url)?;
+        add_member(alloc, &mut members, "context", &self.context)?;
+        Ok(Tree::Map(members))
+    }
+}
+
+/// Parameters of `browsingContext.reload`.
+///
+/// `{ context: text, ? ignoreCache: bool, ? wait: Wait, Extensible }`
+///
+/// Absent, `ignoreCache` is false and `wait` is `none`.
+///
+/// After WebDriver BiDi, "The browsingContext.reload Command".
+#[derive(Drop)]
+pub struct ReloadParameters {
+    pub context: String,
+    pub ignore_cache: Option<bool>,
+    pub wait: Option<Wait>,
+    pub ext: Ext,
+}
+
+impl ReloadParameters {
+    ghost use Rattle.bidi_shape.specs.Name.{reload_parameters};
+
+    /// The parameters, with further members. Takes no memory.
+    ///
+    /// # Errors
+    /// - `Clash`: a further member is called `context`, `ignoreCache` or `wait`.
+    /// - `TooDeep`: a further member has an `Odd` in it, or more than 60 levels.
+    pub fn new(
+        context: String,
+        ignore_cache: Option<bool>,
+        wait: Option<Wait>,
+        ext: Members,
+    ) -> Result<ReloadParameters, MakeFault>
+        ensures made { Makes result
+            (has_named (names_in (named reload_parameters)) (members_node ext.entries) ≡ true)
+            ⊥
+            (¬ MembersAreWhole (members_node ext.entries) 60)
+            (λ v. (v.context ≡ context) × (v.ignore_cache ≡ ignore_cache) × (v.wait ≡ wait) × (others_of v.ext ≡ members_node ext.entries)) }
+        ensures well { IfOk result (λ v. ⟦<ReloadParameters as Shape>⟧.shape.well v) }
+    {
+        let ext = Ext::new(ext, &["context", "ignoreCache", "wait"])?;
+        if !ext.is_whole() {
+            return Err(MakeFault::TooDeep);
+        }
+        Ok(ReloadParameters {
+            context,
+            ignore_cache,
+            wait,
+            ext,
+        })
+    }
+}
+
+type ReloadParts = Required<String, Optional<bool, Optional<Wait, Ext>>>;
+
+impl Ruled for ReloadParameters {
+    ghost use Rattle.bidi_shape.specs.Name.{reload_parameters};
+
+    ghost rule = { named reload_parameters };
+}
+
+impl Shape for ReloadParameters {
+    ghost shape = { map_shape ⟦<ReloadParameters as Ruled>⟧.rule ⟦<ReloadParts as Fields>⟧.table [] (λ v. (v.context, (v.ignore_cache, (v.wait, v.ext)))) refl refl };
+
+    fn from_tree(alloc: Global, tree: &Tree) -> Result<ReloadParameters, ShapeFault> {
+        let Required(context, Optional(ignore_cache, Optional(wait, ext))) = read_fields::<
+            ReloadParameters,
+            ReloadParts,
+        >(alloc, tree, &["context", "ignoreCache", "wait"], &[])?;
+        Ok(ReloadParameters {
+            context,
+            ignore_cache,
+            wait,
+            ext,
+        })
+    }
+
+    fn to_tree(&self, alloc: Global) -> Result<Tree, AllocError> {
+        let mut members = self.ext.copy_members()?;
+        add_optional(alloc, &mut members, "wait", &self.wait)?;
+        add_optional(alloc, &mut members, "ignoreCache", &self.ignore_cache)?;
+        add_member(alloc, &mut members, "context", &self.context)?;
+        Ok(Tree::Map(members))
+    }
+}
+
+/// The result of `browsingContext.navigate` and of `browsingContext.reload`.
+///
+/// `{ navigation: text / null, url: text, Extensible }`
+///
+/// After WebDriver BiDi, "The browsingContext.navigate Command".
+#[derive(Drop)]
+pub struct NavigateResult {
+    pub navigation: Option<String>,
+    pub url: String,
+    pub ext: Ext,
+}
+
+impl NavigateResult {
+    ghost use Rattle.bidi_shape.specs.Name.{navigate_result};
+
+    /// The result, with further members. Takes no memory.
+    ///
+    /// # Errors
+    /// - `Clash`: a further member is called `navigation` or `url`.
+    /// - `TooDeep`: a further member has an `Odd` in it, or more than 60 levels.
+    #[tactic(auto, using(crate::proofs::PartLemmas::text_or_null))]
+    pub fn new(
+        navigation: Option<String>,
+        url: String,
+        ext: Members,
+    ) -> Result<NavigateResult, MakeFault>
+        ensures made { Makes result
+            (has_named (names_in (named navigate_result)) (members_node ext.entries) ≡ true)
+            ⊥
+            (¬ MembersAreWhole (members_node ext.entries) 60)
+            (λ v. (v.navigation ≡ navigation) × (v.url ≡ url) × (others_of v.ext ≡ members_node ext.entries)) }
+        ensures well { IfOk result (λ v. ⟦<NavigateResult as Shape>⟧.shape.well v) }
+    {
+        let ext = Ext::new(ext, &["navigation", "url"])?;
+        if !ext.is_whole() {
+            return Err(MakeFault::TooDeep);
+        }
+        Ok(NavigateResult {
+            navigation,
+            url,
+            ext,
+        })
+    }
+}
+
+type NavigatedParts = Required<Option<String>, Required<String, Ext>>;
+
+impl Ruled for NavigateResult {
+    ghost use Rattle.bidi_shape.specs.Name.{navigate_result};
+
+    ghost rule = { named navigate_result };
+}
+
+impl Shape for NavigateResult {
+    ghost shape = { map_shape ⟦<NavigateResult as Ruled>⟧.rule ⟦<NavigatedParts as Fields>⟧.table [] (λ v. (v.navigation, (v.url, v.ext))) refl refl };
+
+    fn from_tree(alloc: Global, tree: &Tree) -> Result<NavigateResult, ShapeFault> {
+        let Required(navigation, Required(url, ext)) = read_fields::<
+            NavigateResult,
+            NavigatedParts,
+        >(alloc, tree, &["navigation", "url"], &[])?;
+        Ok(NavigateResult {
+            navigation,
+            url,
+            ext,
+        })
+    }
+
+    fn to_tree(&self, alloc: Global) -> Result<Tree, AllocError> {
+        let mut members = self.ext.copy_members()?;
+        add_member(alloc, &mut members, "url", &self.url)?;
+        add_member(alloc, &mut members, "navigation", &self.navigation)?;
+        Ok(Tree::Map(members))
+    }
+}
+
+/// Parameters of `browsingContext.traverseHistory`.
+///
+/// `{ context: text, delta: js-int, Extensible }`
+///
+/// Below 0, `delta` counts entries back, and above 0 forward.
+///
+/// After WebDriver BiDi, "The browsingContext.traverseHistory Command".
+#[derive(Drop)]
+pub struct TraverseHistoryParameters {
+    pub context: String,
+    pub delta: JsInt,
+    pub ext: Ext,
+}
+
+impl TraverseHistoryParameters {
+    ghost use Rattle.bidi_shape.specs.Name.{traverse_history_parameters};
+
+    /// The parameters, with further members. Takes no memory.
+    ///
+    /// # Errors
+    /// - `Clash`: a further member is called `context` or `delta`.
+    /// - `TooDeep`: a further member has an `Odd` in it, or more than 60 levels.
+    pub fn new(
+        context: String,
+        delta: JsInt,
+        ext: Members,
+    ) -> Result<TraverseHistoryParameters, MakeFault>
+        ensures made { Makes result
+            (has_named (names_in (named traverse_history_parameters)) (members_node ext.entries) ≡ true)
+            ⊥
+            (¬ MembersAreWhole (members_node ext.entries) 60)
+            (λ v. (v.context ≡ context) × (v.delta ≡ delta) × (others_of v.ext ≡ members_node ext.entries)) }
+        ensures well { IfOk result (λ v. ⟦<TraverseHistoryParameters as Shape>⟧.shape.well v) }
+    {
+        let ext = Ext::new(ext, &["context", "delta"])?;
+        if !ext.is_whole() {
+            return Err(MakeFault::TooDeep);
+        }
+        Ok(TraverseHistoryParameters {
+            context,
+            delta,
+            ext,
+        })
+    }
+}
+
+type TraverseParts = Required<String, Required<JsInt, Ext>>;
+
+impl Ruled for TraverseHistoryParameters {
+    ghost use Rattle.bidi_shape.specs.Name.{traverse_history_parameters};
+
+    ghost rule = { named traverse_history_parameters };
+}
+
+impl Shape for TraverseHistoryParameters {
+    ghost shape = { map_shape ⟦<TraverseHistoryParameters as Ruled>⟧.rule ⟦<TraverseParts as Fields>⟧.table [] (λ v. (v.context, (v.delta, v.ext))) refl refl };
+
+    fn from_tree(alloc: Global, tree: &Tree) -> Result<TraverseHistoryParameters, ShapeFault> {
+        let Required(context, Required(delta, ext)) = read_fields::<
+            TraverseHistoryParameters,
+            TraverseParts,
+        >(alloc, tree, &["context", "delta"], &[])?;
+        Ok(TraverseHistoryParameters {
+            context,
+            delta,
+            ext,
+        })
+    }
+
+    fn to_tree(&self, alloc: Global) -> Result<Tree, AllocError> {
+        let mut members = self.ext.copy_members()?;
+        add_member(alloc, &mut members, "delta", &self.delta)?;
+        add_member(alloc, &mut members, "context", &self.context)?;
+        Ok(Tree::Map(members))
+    }
+}
+
+/// What the events of a navigation tell of it.
+///
+/// `{ context: text, navigation: text / null, timestamp: js-uint, url: text, Extensible }`
+///
+/// After WebDriver BiDi, "The browsingContext.NavigationInfo Type".
+#[derive(Drop)]
+pub struct NavigationInfo {
+    pub context: String,
+    pub navigation: Option<String>,
+    pub timestamp: JsUint,
+    pub url: String,
+    pub ext: Ext,
+}
+
+impl NavigationInfo {
+    ghost use Rattle.bidi_shape.specs.Name.{navigation_info};
+
+    /// The information, with further members. Takes no memory.
+    ///
+    /// # Errors
+    /// - `Clash`: a further member is called `context`, `navigation`, `timestamp` or `url`.
+    /// - `TooDeep`: a further member has an `Odd` in it, or more than 60 levels.
+    #[tactic(auto, using(crate::proofs::PartLemmas::text_or_null))]
+    pub fn new(
+        context: String,
+        navigation: Option<String>,
+        timestamp: JsUint,
+        url: String,
+        ext: Members,
+    ) -> Result<NavigationInfo, MakeFault>
+        ensures made { Makes result
+            (has_named (names_in (named navigation_info)) (members_node ext.entries) ≡ true)
+            ⊥
+            (¬ MembersAreWhole (members_node ext.entries) 60)
+            (λ v. (v.context ≡ context) × (v.navigation ≡ navigation) × (v.timestamp ≡ timestamp) × (v.url ≡ url) × (others_of v.ext ≡ members_node ext.entries)) }
+        ensures well { IfOk result (λ v. ⟦<NavigationInfo as Shape>⟧.shape.well v) }
+    {
+        let ext = Ext::new(ext, &["context", "navigation", "timestamp", "url"])?;
+        if !ext.is_whole() {
+            return Err(MakeFault::TooDeep);
+        }
+        Ok(NavigationInfo {
+            context,
+            navigation,
+            timestamp,
+            url,
+            ext,
+        })
+    }
+}
+
+type InfoParts = Required<
+    String,
+    Required<Option<String>, Required<JsUint, Required<String, Ext>>>,
+>;
+
+impl Ruled for NavigationInfo {
+    ghost use Rattle.bidi_shape.specs.Name.{navigation_info};
+
+    ghost rule = { named navigation_info };
+}
+
+impl Shape for NavigationInfo {
+    ghost shape = { map_shape ⟦<NavigationInfo as Ruled>⟧.rule ⟦<InfoParts as Fields>⟧.table [] (λ v. (v.context, (v.navigation, (v.timestamp, (v.url, v.ext))))) refl refl };
+
+    fn from_tree(alloc: Global, tree: &Tree) -> Result<NavigationInfo, ShapeFault> {
+        let Required(context, Required(navigation, Required(timestamp, Required(url, ext)))) =
+            read_fields::<NavigationInfo, InfoParts>(
+                alloc,
+                tree,
+                &["context", "navigation", "timestamp", "url"],
+                &[],
+            )?;
+        Ok(NavigationInfo {
+            context,
+            navigation,
+            timestamp,
+            url,
+            ext,
+        })
+    }
+
+    fn to_tree(&self, alloc: Global) -> Result<Tree, AllocError> {
+        let mut members = self.ext.copy_members()?;
+        add_member(alloc, &mut members, "url", &self.url)?;
+        add_member(alloc, &mut members, "timestamp", &self.timestamp)?;
+        add_member(alloc, &mut members, "navigation", &self.navigation)?;
+        add_member(alloc, &mut members, "context", &self.context)?;
+        Ok(Tree::Map(members))
+    }
+}

@@ -1,0 +1,36 @@
+//! The parameters and results of the commands, and the parameters of the events.
+//!
+//! A folder for each module of the protocol. Each type is a [`Shape`](bidi_shape::Shape): its values are the trees that fit
+//! its rule. A type that takes further members has a constructor, which refuses the parts that are no value of it.
+#![tactic(auto)]
+
+mod base;
+mod browsing_context;
+mod script;
+mod session;
+#[cfg(test)]
+mod tests_browsing;
+#[cfg(test)]
+mod tests_info;
+#[cfg(test)]
+mod tests_script;
+#[cfg(test)]
+mod tests_session;
+#[cfg(test)]
+mod tests_support;
+
+pub use base::{EmptyParams, EmptyResult};
+pub use browsing_context::{
+    ActivateParameters, CloseParameters, ContextType, CreateParameters, CreateResult,
+    GetTreeParameters, GetTreeResult, Info, NavigateParameters, NavigateResult, NavigationInfo,
+    ReloadParameters, TraverseHistoryParameters, Wait,
+};
+pub use script::{
+    CallFunctionParameters, DisownParameters, EvaluateParameters, GetRealmsParameters,
+    GetRealmsResult, Ownership, RealmDestroyedParameters, RealmInfo, RealmType,
+};
+pub use session::{
+    Capabilities, CapabilitiesRequest, CapabilityRequest, NewParameters, NewResult, StatusResult,
+    SubscribeParameters, SubscribeResult, UnsubscribeByEvents, UnsubscribeById,
+    UnsubscribeParameters,
+};

@@ -1,0 +1,363 @@
+//! Realms.
+ghost use Rattle.std.specs.Prelude.{◌≡◌, IfOk, refl, true, [], ◌∷◌, codes};
+ghost use Rattle.bidi_tree.specs.Node.{MembersAreWhole};
+ghost use Rattle.bidi_tree.specs.View.{members_node};
+ghost use Rattle.bidi_shape.specs.Term.{rule as named};
+ghost use Rattle.bidi_shape.specs.Parts.{has_named};
+ghost use Rattle.bidi_shape.specs.Table.{map_shape, names_in};
+ghost use Rattle.bidi_shape.specs.Made.{Makes};
+ghost use Rattle.bidi_shape.specs.ValueLaws.{others_of};
+
+use bidi_shape::{
+    Ext, Fields, Literal, MakeFault, Named, Optional, Required, Ruled, Shape, ShapeFault,
+    add_literal, add_member, add_optional, read_fields, read_word, write_word,
+};
+use bidi_tree::{Members, Tree};
+use std::alloc::{AllocError, Global};
+
+/// What a realm belongs to.
+///
+/// `"window" / "dedicated-worker" / "shared-worker" / "service-worker" / "worker" / "paint-worklet" /
+/// "audio-worklet" / "worklet"`
+///
+/// After WebDriver BiDi, "The script.RealmType Type".
+#[derive(Clone, Copy, Debug, PartialEq, Eq)]
+pub enum RealmType {
+    Window,
+    DedicatedWorker,
+    SharedWorker,
+    ServiceWorker,
+    Worker,
+    PaintWorklet,
+    AudioWorklet,
+    Worklet,
+}
+
+impl Named for RealmType {
+    ghost use Rattle.bidi_params.specs.Words.{realm_type_words};
+
+    ghost words = { realm_type_words };
+
+    fn named(text: &str) -> Option<RealmType> {
+        match text {
+            "window" => Some(RealmType::Window),
+            "dedicated-worker" => Some(RealmType::DedicatedWorker),
+            "shared-worker" => Some(RealmType::SharedWorker),
+            "service-worker" => Some(RealmType::ServiceWorker),
+            "worker" => Some(RealmType::Worker),
+            "paint-worklet" => Some(RealmType::PaintWorklet),
+            "audio-worklet" => Some(RealmType::AudioWorklet),
+            "worklet" => Some(RealmType::Worklet),
+            _ => None,
+        }
+    }
+
+    fn name(&self) -> &'static str {
+        match self {
+            RealmType::Window => "window",
+            RealmType::DedicatedWorker => "dedicated-worker",
+            RealmType::SharedWorker => "shared-worker",
+            RealmType::ServiceWorker => "service-worker",
+            RealmType::Worker => "worker",
+            RealmType::PaintWorklet => "paint-worklet",
+            RealmType::AudioWorklet => "audio-worklet",
+            RealmType::Worklet => "worklet",
+        }
+    }
+}
+
+impl Shape for RealmType {
+    ghost use Rattle.bidi_shape.specs.WordLaws.{word_shape};
+
+    ghost shape = { word_shape ⟦<RealmType as Named>⟧.words };
+
+    fn from_tree(alloc: Global, tree: &Tree) -> Result<RealmType, ShapeFault> {
+        read_word(tree)
+    }
+
+    fn to_tree(&self, alloc: Global) -> Result<Tree, AllocError> {
+        write_word(alloc, self)
+    }
+}
+
+/// Parameters of `script.getRealms`.
+///
+/// `{ ? context: text, ? type: RealmType, Extensible }`
+///
+/// Absent, `context` stands for every context, and `type` for every type.
+///
+/// After WebDriver BiDi, "The script.getRealms Command".
+#[derive(Drop)]
+pub struct GetRealmsParameters {
+    pub context: Option<String>,
+    pub kind: Option<RealmType>,
+    pub ext: Ext,
+}
+
+impl GetRealmsParameters {
+    ghost use Rattle.bidi_shape.specs.Name.{get_realms_parameters};
+
+    /// The parameters, with further members. Takes no memory.
+    ///
+    /// # Errors
+    /// - `Clash`: a further member is called `context` or `type`.
+    /// - `TooDeep`: a further member has an `Odd` in it, or more than 60 levels.
+    pub fn new(
+        context: Option<String>,
+        kind: Option<RealmType>,
+        ext: Members,
+    ) -> Result<GetRealmsParameters, MakeFault>
+        ensures made { Makes result
+            (has_named (names_in (named get_realms_parameters)) (members_node ext.entries) ≡ true)
+            ⊥
+            (¬ MembersAreWhole (members_node ext.entries) 60)
+            (λ v. (v.context ≡ context) × (v.kind ≡ kind) × (others_of v.ext ≡ members_node ext.entries)) }
+        ensures well { IfOk result (λ v. ⟦<GetRealmsParameters as Shape>⟧.shape.well v) }
+    {
+        let ext = Ext::new(ext, &["context", "type"])?;
+        if !ext.is_whole() {
+            return Err(MakeFault::TooDeep);
+        }
+        Ok(GetRealmsParameters { context, kind, ext })
+    }
+}
+
+type GetRealmsParts = Optional<String, Optional<RealmType, Ext>>;
+
+impl Ruled for GetRealmsParameters {
+    ghost use Rattle.bidi_shape.specs.Name.{get_realms_parameters};
+
+    ghost rule = { named get_realms_parameters };
+}
+
+impl Shape for GetRealmsParameters {
+    ghost shape = { map_shape ⟦<GetRealmsParameters as Ruled>⟧.rule ⟦<GetRealmsParts as Fields>⟧.table [] (λ v. (v.context, (v.kind, v.ext))) refl refl };
+
+    fn from_tree(alloc: Global, tree: &Tree) -> Result<GetRealmsParameters, ShapeFault> {
+        let Optional(context, Optional(kind, ext)) = read_fields::<
+            GetRealmsParameters,
+            GetRealmsParts,
+        >(alloc, tree, &["context", "type"], &[])?;
+        Ok(GetRealmsParameters { context, kind, ext })
+    }
+
+    fn to_tree(&self, alloc: Global) -> Result<Tree, AllocError> {
+        let mut members = self.ext.copy_members()?;
+        add_optional(alloc, &mut members, "type", &self.kind)?;
+        add_optional(alloc, &mut members, "context", &self.context)?;
+        Ok(Tree::Map(members))
+    }
+}
+
+/// A realm of a window.
+///
+/// `{ realm: text, origin: text, type: "window", context: text, Extensible }`
+///
+/// After WebDriver BiDi, "The script.RealmInfo Type".
+#[derive(Drop)]
+pub struct RealmInfo {
+    pub realm: String,
+    pub origin: String,
+    pub context: String,
+    pub ext: Ext,
+}
+
+impl RealmInfo {
+    ghost use Rattle.bidi_shape.specs.Name.{realm_info};
+
+    /// The information, with further members. Takes no memory.
+    ///
+    /// # Errors
+    /// - `Clash`: a further member is called `realm`, `origin`, `type` or `context`.
+    /// - `TooDeep`: a further member has an `Odd` in it, or more than 60 levels.
+    pub fn new(
+        realm: String,
+        origin: String,
+        context: String,
+        ext: Members,
+    ) -> Result<RealmInfo, MakeFault>
+        ensures made { Makes result
+            (has_named (names_in (named realm_info)) (members_node ext.entries) ≡ true)
+            ⊥
+            (¬ MembersAreWhole (members_node ext.entries) 60)
+            (λ v. (v.realm ≡ realm) × (v.origin ≡ origin) × (v.context ≡ context) × (others_of v.ext ≡ members_node ext.entries)) }
+        ensures well { IfOk result (λ v. ⟦<RealmInfo as Shape>⟧.shape.well v) }
+    {
+        let ext = Ext::new(ext, &["realm", "origin", "type", "context"])?;
+        if !ext.is_whole() {
+            return Err(MakeFault::TooDeep);
+        }
+        Ok(RealmInfo {
+            realm,
+            origin,
+            context,
+            ext,
+        })
+    }
+}
+
+type InfoParts = Required<String, Required<String, Literal<Required<String, Ext>>>>;
+
+impl Ruled for RealmInfo {
+    ghost use Rattle.bidi_shape.specs.Name.{realm_info};
+
+    ghost rule = { named realm_info };
+}
+
+impl Shape for RealmInfo {
+    ghost shape = { map_shape ⟦<RealmInfo as Ruled>⟧.rule ⟦<InfoParts as Fields>⟧.table (codes "window" ∷ []) (λ v. (v.realm, (v.origin, record { 0 = (v.context, v.ext) }))) refl refl };
+
+    fn from_tree(alloc: Global, tree: &Tree) -> Result<RealmInfo, ShapeFault> {
+        let Required(realm, Required(origin, Literal(Required(context, ext)))) = read_fields::<
+            RealmInfo,
+            InfoParts,
+        >(
+            alloc,
+            tree,
+            &["realm", "origin", "type", "context"],
+            &["window"],
+        )?;
+        Ok(RealmInfo {
+            realm,
+            origin,
+            context,
+            ext,
+        })
+    }
+
+    fn to_tree(&self, alloc: Global) -> Result<Tree, AllocError> {
+        let mut members = self.ext.copy_members()?;
+        add_member(alloc, &mut members, "context", &self.context)?;
+        add_literal(alloc, &mut members, "type", "window")?;
+        add_member(alloc, &mut members, "origin", &self.origin)?;
+        add_member(alloc, &mut members, "realm", &self.realm)?;
+        Ok(Tree::Map(members))
+    }
+}
+
+/// The result of `script.getRealms`.
+///
+/// `{ realms: [*RealmInfo], Extensible }`
+///
+/// After WebDriver BiDi, "The script.getRealms Command".
+#[derive(Drop)]
+pub struct GetRealmsResult {
+    pub realms: Vec<RealmInfo>,
+    pub ext: Ext,
+}
+
+impl GetRealmsResult {
+    ghost use Rattle.bidi_shape.specs.Name.{get_realms_result};
+
+    /// The result, with further members. Takes no memory.
+    ///
+    /// # Errors
+    /// - `Clash`: a further member is called `realms`.
+    /// - `TooDeep`: a further member has an `Odd` in it, or more than 60 levels.
+    pub fn new(realms: Vec<RealmInfo>, ext: Members) -> Result<GetRealmsResult, MakeFault>
+        requires realms { ⟦<Vec<RealmInfo> as Shape>⟧.shape.well realms }
+        ensures made { Makes result
+            (has_named (names_in (named get_realms_result)) (members_node ext.entries) ≡ true)
+            ⊥
+            (¬ MembersAreWhole (members_node ext.entries) 60)
+            (λ v. (v.realms ≡ realms) × (others_of v.ext ≡ members_node ext.entries)) }
+        ensures well { IfOk result (λ v. ⟦<GetRealmsResult as Shape>⟧.shape.well v) }
+    {
+        let ext = Ext::new(ext, &["realms"])?;
+        if !ext.is_whole() {
+            return Err(MakeFault::TooDeep);
+        }
+        Ok(GetRealmsResult { realms, ext })
+    }
+}
+
+type RealmsParts = Required<Vec<RealmInfo>, Ext>;
+
+impl Ruled for GetRealmsResult {
+    ghost use Rattle.bidi_shape.specs.Name.{get_realms_result};
+
+    ghost rule = { named get_realms_result };
+}
+
+impl Shape for GetRealmsResult {
+    ghost shape = { map_shape ⟦<GetRealmsResult as Ruled>⟧.rule ⟦<RealmsParts as Fields>⟧.table [] (λ v. (v.realms, v.ext)) refl refl };
+
+    fn from_tree(alloc: Global, tree: &Tree) -> Result<GetRealmsResult, ShapeFault> {
+        let Required(realms, ext) = read_fields::<GetRealmsResult, RealmsParts>(
+            alloc,
+            tree,
+            &["realms"],
+            &[],
+        )?;
+        Ok(GetRealmsResult { realms, ext })
+    }
+
+    fn to_tree(&self, alloc: Global) -> Result<Tree, AllocError> {
+        let mut members = self.ext.copy_members()?;
+        add_member(alloc, &mut members, "realms", &self.realms)?;
+        Ok(Tree::Map(members))
+    }
+}
+
+/// Parameters of the event `script.realmDestroyed`.
+///
+/// `{ realm: text, Extensible }`
+///
+/// After WebDriver BiDi, "The script.realmDestroyed Event".
+#[derive(Drop)]
+pub struct RealmDestroyedParameters {
+    pub realm: String,
+    pub ext: Ext,
+}
+
+impl RealmDestroyedParameters {
+    ghost use Rattle.bidi_shape.specs.Name.{realm_destroyed_parameters};
+
+    /// The parameters, with further members. Takes no memory.
+    ///
+    /// # Errors
+    /// - `Clash`: a further member is called `realm`.
+    /// - `TooDeep`: a further member has an `Odd` in it, or more than 60 levels.
+    pub fn new(realm: String, ext: Members) -> Result<RealmDestroyedParameters, MakeFault>
+        ensures made { Makes result
+            (has_named (names_in (named realm_destroyed_parameters)) (members_node ext.entries) ≡ true)
+            ⊥
+            (¬ MembersAreWhole (members_node ext.entries) 60)
+            (λ v. (v.realm ≡ realm) × (others_of v.ext ≡ members_node ext.entries)) }
+        ensures well { IfOk result (λ v. ⟦<RealmDestroyedParameters as Shape>⟧.shape.well v) }
+    {
+        let ext = Ext::new(ext, &["realm"])?;
+        if !ext.is_whole() {
+            return Err(MakeFault::TooDeep);
+        }
+        Ok(RealmDestroyedParameters { realm, ext })
+    }
+}
+
+type DestroyedParts = Required<String, Ext>;
+
+impl Ruled for RealmDestroyedParameters {
+    ghost use Rattle.bidi_shape.specs.Name.{realm_destroyed_parameters};
+
+    ghost rule = { named realm_destroyed_parameters };
+}
+
+impl Shape for RealmDestroyedParameters {
+    ghost shape = { map_shape ⟦<RealmDestroyedParameters as Ruled>⟧.rule ⟦<DestroyedParts as Fields>⟧.table [] (λ v. (v.realm, v.ext)) refl refl };
+
+    fn from_tree(alloc: Global, tree: &Tree) -> Result<RealmDestroyedParameters, ShapeFault> {
+        let Required(realm, ext) = read_fields::<RealmDestroyedParameters, DestroyedParts>(
+            alloc,
+            tree,
+            &["realm"],
+            &[],
+        )?;
+        Ok(RealmDestroyedParameters { realm, ext })
+    }
+
+    fn to_tree(&self, alloc: Global) -> Result<Tree, AllocError> {
+        let mut members = self.ext.copy_members()?;
+        add_member(alloc, &mut members, "realm", &self.realm)?;
+        Ok(Tree::Map(members))
+    }
+}

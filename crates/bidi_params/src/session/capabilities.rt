@@ -1,0 +1,526 @@
+//! What a session can do.
+use bidi_shape::{
+    Ext, Fields, MakeFault, Optional, Required, Ruled, Shape, ShapeFault, add_member, add_optional,
+    read_fields,
+};
+use bidi_tree::{Members, Tree};
+use std::alloc::{AllocError, Global};
+
+/// Parameters of `session.new`.
+///
+/// `{ capabilities: CapabilitiesRequest, Extensible }`
+///
+/// After WebDriver BiDi, "The session.new Command".
+#[derive(Drop)]
+pub struct NewParameters {
+    pub capabilities: CapabilitiesRequest,
+    pub ext: Ext,
+}
+
+impl NewParameters {
+    ghost use Rattle.std.specs.Prelude.{◌≡◌, IfOk, true};
+    ghost use Rattle.bidi_tree.specs.Node.{MembersAreWhole};
+    ghost use Rattle.bidi_tree.specs.View.{members_node};
+    ghost use Rattle.bidi_shape.specs.Name.{new_parameters};
+    ghost use Rattle.bidi_shape.specs.Term.{rule as named};
+    ghost use Rattle.bidi_shape.specs.Parts.{has_named};
+    ghost use Rattle.bidi_shape.specs.Table.{names_in};
+    ghost use Rattle.bidi_shape.specs.Made.{Makes};
+    ghost use Rattle.bidi_shape.specs.ValueLaws.{others_of};
+
+    /// The params, with further members. Takes no memory.
+    ///
+    /// # Errors
+    /// - `Clash`: a further member is called `capabilities`.
+    /// - `TooDeep`: a further member has an `Odd` in it, or more than 60 levels.
+    pub fn new(capabilities: CapabilitiesRequest, ext: Members) -> Result<NewParameters, MakeFault>
+        requires { ⟦<CapabilitiesRequest as Shape>⟧.shape.well capabilities }
+        ensures made { Makes result
+            (has_named (names_in (named new_parameters)) (members_node ext.entries) ≡ true)
+            ⊥
+            (¬ MembersAreWhole (members_node ext.entries) 60)
+            (λ v. (v.capabilities ≡ capabilities) × (others_of v.ext ≡ members_node ext.entries)) }
+        ensures well { IfOk result (λ v. ⟦<NewParameters as Shape>⟧.shape.well v) }
+    {
+        let ext = Ext::new(ext, &["capabilities"])?;
+        if !ext.is_whole() {
+            return Err(MakeFault::TooDeep);
+        }
+        Ok(NewParameters { capabilities, ext })
+    }
+}
+
+type NewParts = Required<CapabilitiesRequest, Ext>;
+
+impl Ruled for NewParameters {
+    ghost use Rattle.bidi_shape.specs.Name.{new_parameters};
+    ghost use Rattle.bidi_shape.specs.Term.{rule as named};
+
+    ghost rule = { named new_parameters };
+}
+
+impl Shape for NewParameters {
+    ghost use Rattle.std.specs.Prelude.{refl, []};
+    ghost use Rattle.bidi_shape.specs.Table.{map_shape};
+
+    ghost shape = { map_shape ⟦<NewParameters as Ruled>⟧.rule ⟦<NewParts as Fields>⟧.table [] (λ v. (v.capabilities, v.ext)) refl refl };
+
+    fn from_tree(alloc: Global, tree: &Tree) -> Result<NewParameters, ShapeFault> {
+        let Required(capabilities, ext) = read_fields::<NewParameters, NewParts>(
+            alloc,
+            tree,
+            &["capabilities"],
+            &[],
+        )?;
+        Ok(NewParameters { capabilities, ext })
+    }
+
+    fn to_tree(&self, alloc: Global) -> Result<Tree, AllocError> {
+        let mut members = self.ext.copy_members()?;
+        add_member(alloc, &mut members, "capabilities", &self.capabilities)?;
+        Ok(Tree::Map(members))
+    }
+}
+
+/// What a new session is asked for: always, and as one of several choices.
+///
+/// `{ ? alwaysMatch: CapabilityRequest, ? firstMatch: [*CapabilityRequest], Extensible }`
+///
+/// After WebDriver BiDi, "The session.CapabilitiesRequest Type".
+#[derive(Drop)]
+pub struct CapabilitiesRequest {
+    pub always_match: Option<CapabilityRequest>,
+    pub first_match: Option<Vec<CapabilityRequest>>,
+    pub ext: Ext,
+}
+
+impl CapabilitiesRequest {
+    ghost use Rattle.std.specs.Prelude.{◌≡◌, IfOk, IfSome, true};
+    ghost use Rattle.bidi_tree.specs.Node.{MembersAreWhole};
+    ghost use Rattle.bidi_tree.specs.View.{members_node};
+    ghost use Rattle.bidi_shape.specs.Name.{capabilities_request};
+    ghost use Rattle.bidi_shape.specs.Term.{rule as named};
+    ghost use Rattle.bidi_shape.specs.Parts.{has_named};
+    ghost use Rattle.bidi_shape.specs.Table.{names_in};
+    ghost use Rattle.bidi_shape.specs.Made.{Makes};
+    ghost use Rattle.bidi_shape.specs.ValueLaws.{others_of};
+
+    /// The request, with further members. Takes no memory.
+    ///
+    /// # Errors
+    /// - `Clash`: a further member is called `alwaysMatch` or `firstMatch`.
+    /// - `TooDeep`: a further member has an `Odd` in it, or more than 60 levels.
+    pub fn new(
+        always_match: Option<CapabilityRequest>,
+        first_match: Option<Vec<CapabilityRequest>>,
+        ext: Members,
+    ) -> Result<CapabilitiesRequest, MakeFault>
+        requires always_match { IfSome always_match ⟦<CapabilityRequest as Shape>⟧.shape.well }
+        requires first_match { IfSome first_match ⟦<Vec<CapabilityRequest> as Shape>⟧.shape.well }
+        ensures made { Makes result
+            (has_named (names_in (named capabilities_request)) (members_node ext.entries) ≡ true)
+            ⊥
+            (¬ MembersAreWhole (members_node ext.entries) 60)
+            (λ v. (v.always_match ≡ always_match) × (v.first_match ≡ first_match) × (others_of v.ext ≡ members_node ext.entries)) }
+        ensures well { IfOk result (λ v. ⟦<CapabilitiesRequest as Shape>⟧.shape.well v) }
+    {
+        let ext = Ext::new(ext, &["alwaysMatch", "firstMatch"])?;
+        if !ext.is_whole() {
+            return Err(MakeFault::TooDeep);
+        }
+        Ok(CapabilitiesRequest {
+            always_match,
+            first_match,
+            ext,
+        })
+    }
+}
+
+type RequestParts = Optional<CapabilityRequest, Optional<Vec<CapabilityRequest>, Ext>>;
+
+impl Ruled for CapabilitiesRequest {
+    ghost use Rattle.bidi_shape.specs.Name.{capabilities_request};
+    ghost use Rattle.bidi_shape.specs.Term.{rule as named};
+
+    ghost rule = { named capabilities_request };
+}
+
+impl Shape for CapabilitiesRequest {
+    ghost use Rattle.std.specs.Prelude.{refl, []};
+    ghost use Rattle.bidi_shape.specs.Table.{map_shape};
+
+    ghost shape = { map_shape ⟦<CapabilitiesRequest as Ruled>⟧.rule ⟦<RequestParts as Fields>⟧.table [] (λ v. (v.always_match, (v.first_match, v.ext))) refl refl };
+
+    fn from_tree(alloc: Global, tree: &Tree) -> Result<CapabilitiesRequest, ShapeFault> {
+        let Optional(always_match, Optional(first_match, ext)) = read_fields::<
+            CapabilitiesRequest,
+            RequestParts,
+        >(alloc, tree, &["alwaysMatch", "firstMatch"], &[])?;
+        Ok(CapabilitiesRequest {
+            always_match,
+            first_match,
+            ext,
+        })
+    }
+
+    fn to_tree(&self, alloc: Global) -> Result<Tree, AllocError> {
+        let mut members = self.ext.copy_members()?;
+        add_optional(alloc, &mut members, "firstMatch", &self.first_match)?;
+        add_optional(alloc, &mut members, "alwaysMatch", &self.always_match)?;
+        Ok(Tree::Map(members))
+    }
+}
+
+/// The capabilities that a session is asked to have. One that is absent is not asked for.
+///
+/// `{ ? acceptInsecureCerts: bool, ? browserName: text, ? browserVersion: text, ? platformName: text, Extensible }`
+///
+/// After WebDriver BiDi, "The session.CapabilityRequest Type".
+#[derive(Drop)]
+pub struct CapabilityRequest {
+    pub accept_insecure_certs: Option<bool>,
+    pub browser_name: Option<String>,
+    pub browser_version: Option<String>,
+    pub platform_name: Option<String>,
+    pub ext: Ext,
+}
+
+impl CapabilityRequest {
+    ghost use Rattle.std.specs.Prelude.{◌≡◌, IfOk, true};
+    ghost use Rattle.bidi_tree.specs.Node.{MembersAreWhole};
+    ghost use Rattle.bidi_tree.specs.View.{members_node};
+    ghost use Rattle.bidi_shape.specs.Name.{capability_request};
+    ghost use Rattle.bidi_shape.specs.Term.{rule as named};
+    ghost use Rattle.bidi_shape.specs.Parts.{has_named};
+    ghost use Rattle.bidi_shape.specs.Table.{names_in};
+    ghost use Rattle.bidi_shape.specs.Made.{Makes};
+    ghost use Rattle.bidi_shape.specs.ValueLaws.{others_of};
+
+    /// The request, with further members. Takes no memory.
+    ///
+    /// # Errors
+    /// - `Clash`: a further member is called `acceptInsecureCerts`, `browserName`, `browserVersion` or
+    ///   `platformName`.
+    /// - `TooDeep`: a further member has an `Odd` in it, or more than 60 levels.
+    pub fn new(
+        accept_insecure_certs: Option<bool>,
+        browser_name: Option<String>,
+        browser_version: Option<String>,
+        platform_name: Option<String>,
+        ext: Members,
+    ) -> Result<CapabilityRequest, MakeFault>
+        ensures made { Makes result
+            (has_named (names_in (named capability_request)) (members_node ext.entries) ≡ true)
+            ⊥
+            (¬ MembersAreWhole (members_node ext.entries) 60)
+            (λ v. (v.accept_insecure_certs ≡ accept_insecure_certs) × (v.browser_name ≡ browser_name) × (v.browser_version ≡ browser_version) × (v.platform_name ≡ platform_name) × (others_of v.ext ≡ members_node ext.entries)) }
+        ensures well { IfOk result (λ v. ⟦<CapabilityRequest as Shape>⟧.shape.well v) }
+    {
+        let ext = Ext::new(
+            ext,
+            &[
+                "acceptInsecureCerts",
+                "browserName",
+                "browserVersion",
+                "platformName",
+            ],
+        )?;
+        if !ext.is_whole() {
+            return Err(MakeFault::TooDeep);
+        }
+        Ok(CapabilityRequest {
+            accept_insecure_certs,
+            browser_name,
+            browser_version,
+            platform_name,
+            ext,
+        })
+    }
+}
+
+type CapabilityParts = Optional<bool, Optional<String, Optional<String, Optional<String, Ext>>>>;
+
+impl Ruled for CapabilityRequest {
+    ghost use Rattle.bidi_shape.specs.Name.{capability_request};
+    ghost use Rattle.bidi_shape.specs.Term.{rule as named};
+
+    ghost rule = { named capability_request };
+}
+
+impl Shape for CapabilityRequest {
+    ghost use Rattle.std.specs.Prelude.{refl, []};
+    ghost use Rattle.bidi_shape.specs.Table.{map_shape};
+
+    ghost shape = { map_shape ⟦<CapabilityRequest as Ruled>⟧.rule ⟦<CapabilityParts as Fields>⟧.table [] (λ v. (v.accept_insecure_certs, (v.browser_name, (v.browser_version, (v.platform_name, v.ext))))) refl refl };
+
+    fn from_tree(alloc: Global, tree: &Tree) -> Result<CapabilityRequest, ShapeFault> {
+        let Optional(
+            accept_insecure_certs,
+            Optional(browser_name, Optional(browser_version, Optional(platform_name, ext))),
+        ) = read_fields::<CapabilityRequest, CapabilityParts>(
+            alloc,
+            tree,
+            &[
+                "acceptInsecureCerts",
+                "browserName",
+                "browserVersion",
+                "platformName",
+            ],
+            &[],
+        )?;
+        Ok(CapabilityRequest {
+            accept_insecure_certs,
+            browser_name,
+            browser_version,
+            platform_name,
+            ext,
+        })
+    }
+
+    fn to_tree(&self, alloc: Global) -> Result<Tree, AllocError> {
+        let mut members = self.ext.copy_members()?;
+        add_optional(alloc, &mut members, "platformName", &self.platform_name)?;
+        add_optional(alloc, &mut members, "browserVersion", &self.browser_version)?;
+        add_optional(alloc, &mut members, "browserName", &self.browser_name)?;
+        add_optional(
+            alloc,
+            &mut members,
+            "acceptInsecureCerts",
+            &self.accept_insecure_certs,
+        )?;
+        Ok(Tree::Map(members))
+    }
+}
+
+/// A new session's id, and what it can do.
+///
+/// `{ sessionId: text, capabilities: Capabilities, Extensible }`
+///
+/// After WebDriver BiDi, "The session.new Command".
+#[derive(Drop)]
+pub struct NewResult {
+    pub session_id: String,
+    pub capabilities: Capabilities,
+    pub ext: Ext,
+}
+
+impl NewResult {
+    ghost use Rattle.std.specs.Prelude.{◌≡◌, IfOk, true};
+    ghost use Rattle.bidi_tree.specs.Node.{MembersAreWhole};
+    ghost use Rattle.bidi_tree.specs.View.{members_node};
+    ghost use Rattle.bidi_shape.specs.Name.{new_result};
+    ghost use Rattle.bidi_shape.specs.Term.{rule as named};
+    ghost use Rattle.bidi_shape.specs.Parts.{has_named};
+    ghost use Rattle.bidi_shape.specs.Table.{names_in};
+    ghost use Rattle.bidi_shape.specs.Made.{Makes};
+    ghost use Rattle.bidi_shape.specs.ValueLaws.{others_of};
+
+    /// The result, with further members. Takes no memory.
+    ///
+    /// # Errors
+    /// - `Clash`: a further member is called `sessionId` or `capabilities`.
+    /// - `TooDeep`: a further member has an `Odd` in it, or more than 60 levels.
+    pub fn new(
+        session_id: String,
+        capabilities: Capabilities,
+        ext: Members,
+    ) -> Result<NewResult, MakeFault>
+        requires { ⟦<Capabilities as Shape>⟧.shape.well capabilities }
+        ensures made { Makes result
+            (has_named (names_in (named new_result)) (members_node ext.entries) ≡ true)
+            ⊥
+            (¬ MembersAreWhole (members_node ext.entries) 60)
+            (λ v. (v.session_id ≡ session_id) × (v.capabilities ≡ capabilities) × (others_of v.ext ≡ members_node ext.entries)) }
+        ensures well { IfOk result (λ v. ⟦<NewResult as Shape>⟧.shape.well v) }
+    {
+        let ext = Ext::new(ext, &["sessionId", "capabilities"])?;
+        if !ext.is_whole() {
+            return Err(MakeFault::TooDeep);
+        }
+        Ok(NewResult {
+            session_id,
+            capabilities,
+            ext,
+        })
+    }
+}
+
+type ResultParts = Required<String, Required<Capabilities, Ext>>;
+
+impl Ruled for NewResult {
+    ghost use Rattle.bidi_shape.specs.Name.{new_result};
+    ghost use Rattle.bidi_shape.specs.Term.{rule as named};
+
+    ghost rule = { named new_result };
+}
+
+impl Shape for NewResult {
+    ghost use Rattle.std.specs.Prelude.{refl, []};
+    ghost use Rattle.bidi_shape.specs.Table.{map_shape};
+
+    ghost shape = { map_shape ⟦<NewResult as Ruled>⟧.rule ⟦<ResultParts as Fields>⟧.table [] (λ v. (v.session_id, (v.capabilities, v.ext))) refl refl };
+
+    fn from_tree(alloc: Global, tree: &Tree) -> Result<NewResult, ShapeFault> {
+        let Required(session_id, Required(capabilities, ext)) = read_fields::<
+            NewResult,
+            ResultParts,
+        >(alloc, tree, &["sessionId", "capabilities"], &[])?;
+        Ok(NewResult {
+            session_id,
+            capabilities,
+            ext,
+        })
+    }
+
+    fn to_tree(&self, alloc: Global) -> Result<Tree, AllocError> {
+        let mut members = self.ext.copy_members()?;
+        add_member(alloc, &mut members, "capabilities", &self.capabilities)?;
+        add_member(alloc, &mut members, "sessionId", &self.session_id)?;
+        Ok(Tree::Map(members))
+    }
+}
+
+/// What a session can do.
+///
+/// `{ acceptInsecureCerts: bool, browserName: text, browserVersion: text, platformName: text, setWindowRect: bool,
+/// userAgent: text, Extensible }`
+///
+/// After WebDriver BiDi, "The session.new Command".
+#[derive(Drop)]
+pub struct Capabilities {
+    pub accept_insecure_certs: bool,
+    pub browser_name: String,
+    pub browser_version: String,
+    pub platform_name: String,
+    pub set_window_rect: bool,
+    pub user_agent: String,
+    pub ext: Ext,
+}
+
+impl Capabilities {
+    ghost use Rattle.std.specs.Prelude.{◌≡◌, IfOk, true};
+    ghost use Rattle.bidi_tree.specs.Node.{MembersAreWhole};
+    ghost use Rattle.bidi_tree.specs.View.{members_node};
+    ghost use Rattle.bidi_shape.specs.Name.{capabilities};
+    ghost use Rattle.bidi_shape.specs.Term.{rule as named};
+    ghost use Rattle.bidi_shape.specs.Parts.{has_named};
+    ghost use Rattle.bidi_shape.specs.Table.{names_in};
+    ghost use Rattle.bidi_shape.specs.Made.{Makes};
+    ghost use Rattle.bidi_shape.specs.ValueLaws.{others_of};
+
+    /// The capabilities, with further members. Takes no memory.
+    ///
+    /// # Errors
+    /// - `Clash`: a further member is called `acceptInsecureCerts`, `browserName`, `browserVersion`,
+    ///   `platformName`, `setWindowRect` or `userAgent`.
+    /// - `TooDeep`: a further member has an `Odd` in it, or more than 60 levels.
+    pub fn new(
+        accept_insecure_certs: bool,
+        browser_name: String,
+        browser_version: String,
+        platform_name: String,
+        set_window_rect: bool,
+        user_agent: String,
+        ext: Members,
+    ) -> Result<Capabilities, MakeFault>
+        ensures made { Makes result
+            (has_named (names_in (named capabilities)) (members_node ext.entries) ≡ true)
+            ⊥
+            (¬ MembersAreWhole (members_node ext.entries) 60)
+            (λ v. (v.accept_insecure_certs ≡ accept_insecure_certs) × (v.browser_name ≡ browser_name) × (v.browser_version ≡ browser_version) × (v.platform_name ≡ platform_name) × (v.set_window_rect ≡ set_window_rect) × (v.user_agent ≡ user_agent) × (others_of v.ext ≡ members_node ext.entries)) }
+        ensures well { IfOk result (λ v. ⟦<Capabilities as Shape>⟧.shape.well v) }
+    {
+        let ext = Ext::new(
+            ext,
+            &[
+                "acceptInsecureCerts",
+                "browserName",
+                "browserVersion",
+                "platformName",
+                "setWindowRect",
+                "userAgent",
+            ],
+        )?;
+        if !ext.is_whole() {
+            return Err(MakeFault::TooDeep);
+        }
+        Ok(Capabilities {
+            accept_insecure_certs,
+            browser_name,
+            browser_version,
+            platform_name,
+            set_window_rect,
+            user_agent,
+            ext,
+        })
+    }
+}
+
+type CapabilitiesParts = Required<
+    bool,
+    Required<String, Required<String, Required<String, Required<bool, Required<String, Ext>>>>>,
+>;
+
+impl Ruled for Capabilities {
+    ghost use Rattle.bidi_shape.specs.Name.{capabilities};
+    ghost use Rattle.bidi_shape.specs.Term.{rule as named};
+
+    ghost rule = { named capabilities };
+}
+
+impl Shape for Capabilities {
+    ghost use Rattle.std.specs.Prelude.{refl, []};
+    ghost use Rattle.bidi_shape.specs.Table.{map_shape};
+
+    ghost shape = { map_shape ⟦<Capabilities as Ruled>⟧.rule ⟦<CapabilitiesParts as Fields>⟧.table [] (λ v. (v.accept_insecure_certs, (v.browser_name, (v.browser_version, (v.platform_name, (v.set_window_rect, (v.user_agent, v.ext))))))) refl refl };
+
+    fn from_tree(alloc: Global, tree: &Tree) -> Result<Capabilities, ShapeFault> {
+        let Required(
+            accept_insecure_certs,
+            Required(
+                browser_name,
+                Required(
+                    browser_version,
+                    Required(platform_name, Required(set_window_rect, Required(user_agent, ext))),
+                ),
+            ),
+        ) = read_fields::<Capabilities, CapabilitiesParts>(
+            alloc,
+            tree,
+            &[
+                "acceptInsecureCerts",
+                "browserName",
+                "browserVersion",
+                "platformName",
+                "setWindowRect",
+                "userAgent",
+            ],
+            &[],
+        )?;
+        Ok(Capabilities {
+            accept_insecure_certs,
+            browser_name,
+            browser_version,
+            platform_name,
+            set_window_rect,
+            user_agent,
+            ext,
+        })
+    }
+
+    fn to_tree(&self, alloc: Global) -> Result<Tree, AllocError> {
+        let mut members = self.ext.copy_members()?;
+        add_member(alloc, &mut members, "userAgent", &self.user_agent)?;
+        add_member(alloc, &mut members, "setWindowRect", &self.set_window_rect)?;
+        add_member(alloc, &mut members, "platformName", &self.platform_name)?;
+        add_member(alloc, &mut members, "browserVersion", &self.browser_version)?;
+        add_member(alloc, &mut members, "browserName", &self.browser_name)?;
+        add_member(
+            alloc,
+            &mut members,
+            "acceptInsecureCerts",
+            &self.accept_insecure_certs,
+        )?;
+        Ok(Tree::Map(members))
+    }
+}

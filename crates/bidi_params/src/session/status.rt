@@ -1,0 +1,91 @@
+//! Whether a remote end is ready.
+use bidi_shape::{
+    Ext, Fields, MakeFault, Required, Ruled, Shape, ShapeFault, add_member, read_fields,
+};
+use bidi_tree::{Members, Tree};
+use std::alloc::{AllocError, Global};
+
+/// Whether a remote end can make a session, and a word about it.
+///
+/// `{ ready: bool, message: text, Extensible }`
+///
+/// After WebDriver BiDi, "The session.status Command".
+#[derive(Drop)]
+pub struct StatusResult {
+    pub ready: bool,
+    pub message: String,
+    pub ext: Ext,
+}
+
+impl StatusResult {
+    ghost use Rattle.std.specs.Prelude.{◌≡◌, IfOk, true};
+    ghost use Rattle.bidi_tree.specs.Node.{MembersAreWhole};
+    ghost use Rattle.bidi_tree.specs.View.{members_node};
+    ghost use Rattle.bidi_shape.specs.Name.{status_result};
+    ghost use Rattle.bidi_shape.specs.Term.{rule as named};
+    ghost use Rattle.bidi_shape.specs.Parts.{has_named};
+    ghost use Rattle.bidi_shape.specs.Table.{names_in};
+    ghost use Rattle.bidi_shape.specs.Made.{Makes};
+    ghost use Rattle.bidi_shape.specs.ValueLaws.{others_of};
+
+    /// The result, with further members. Takes no memory.
+    ///
+    /// # Errors
+    /// - `Clash`: a further member is called `ready` or `message`.
+    /// - `TooDeep`: a further member has an `Odd` in it, or more than 60 levels.
+    pub fn new(ready: bool, message: String, ext: Members) -> Result<StatusResult, MakeFault>
+        ensures made { Makes result
+            (has_named (names_in (named status_result)) (members_node ext.entries) ≡ true)
+            ⊥
+            (¬ MembersAreWhole (members_node ext.entries) 60)
+            (λ v. (v.ready ≡ ready) × (v.message ≡ message) × (others_of v.ext ≡ members_node ext.entries)) }
+        ensures well { IfOk result (λ v. ⟦<StatusResult as Shape>⟧.shape.well v) }
+    {
+        let ext = Ext::new(ext, &["ready", "message"])?;
+        if !ext.is_whole() {
+            return Err(MakeFault::TooDeep);
+        }
+        Ok(StatusResult {
+            ready,
+            message,
+            ext,
+        })
+    }
+}
+
+type Parts = Required<bool, Required<String, Ext>>;
+
+impl Ruled for StatusResult {
+    ghost use Rattle.bidi_shape.specs.Name.{status_result};
+    ghost use Rattle.bidi_shape.specs.Term.{rule as named};
+
+    ghost rule = { named status_result };
+}
+
+impl Shape for StatusResult {
+    ghost use Rattle.std.specs.Prelude.{refl, []};
+    ghost use Rattle.bidi_shape.specs.Table.{map_shape};
+
+    ghost shape = { map_shape ⟦<StatusResult as Ruled>⟧.rule ⟦<Parts as Fields>⟧.table [] (λ v. (v.ready, (v.message, v.ext))) refl refl };
+
+    fn from_tree(alloc: Global, tree: &Tree) -> Result<StatusResult, ShapeFault> {
+        let Required(ready, Required(message, ext)) = read_fields::<StatusResult, Parts>(
+            alloc,
+            tree,
+            &["ready", "message"],
+            &[],
+        )?;
+        Ok(StatusResult {
+            ready,
+            message,
+            ext,
+        })
+    }
+
+    fn to_tree(&self, alloc: Global) -> Result<Tree, AllocError> {
+        let mut members = self.ext.copy_members()?;
+        add_member(alloc, &mut members, "message", &self.message)?;
+        add_member(alloc, &mut members, "ready", &self.ready)?;
+        Ok(Tree::Map(members))
+    }
+}

@@ -1,0 +1,386 @@
+//! Subscriptions to events.
+use bidi_shape::{
+    Either, Ext, Fields, MakeFault, OneOrMore, Optional, Required, Ruled, Shape, ShapeFault,
+    add_member, add_optional, not_shadowed, read_choice, read_fields,
+};
+use bidi_tree::{Members, Tree};
+use std::alloc::{AllocError, Global};
+
+/// Parameters of `session.subscribe`.
+///
+/// `{ events: [+text], ? contexts: [+text], ? userContexts: [+text], Extensible }`
+///
+/// After WebDriver BiDi, "The session.subscribe Command".
+#[derive(Drop)]
+pub struct SubscribeParameters {
+    pub events: OneOrMore<String>,
+    pub contexts: Option<OneOrMore<String>>,
+    pub user_contexts: Option<OneOrMore<String>>,
+    pub ext: Ext,
+}
+
+impl SubscribeParameters {
+    ghost use Rattle.std.specs.Prelude.{◌≡◌, IfOk, IfSome, true};
+    ghost use Rattle.bidi_tree.specs.Node.{MembersAreWhole};
+    ghost use Rattle.bidi_tree.specs.View.{members_node};
+    ghost use Rattle.bidi_shape.specs.Name.{subscribe_parameters};
+    ghost use Rattle.bidi_shape.specs.Term.{rule as named};
+    ghost use Rattle.bidi_shape.specs.Parts.{has_named};
+    ghost use Rattle.bidi_shape.specs.Table.{names_in};
+    ghost use Rattle.bidi_shape.specs.Made.{Makes};
+    ghost use Rattle.bidi_shape.specs.ValueLaws.{others_of};
+
+    /// The params, with further members. Takes no memory.
+    ///
+    /// # Errors
+    /// - `Clash`: a further member is called `events`, `contexts` or `userContexts`.
+    /// - `TooDeep`: a further member has an `Odd` in it, or more than 60 levels.
+    pub fn new(
+        events: OneOrMore<String>,
+        contexts: Option<OneOrMore<String>>,
+        user_contexts: Option<OneOrMore<String>>,
+        ext: Members,
+    ) -> Result<SubscribeParameters, MakeFault>
+        requires events { ⟦<OneOrMore<String> as Shape>⟧.shape.well events }
+        requires contexts { IfSome contexts ⟦<OneOrMore<String> as Shape>⟧.shape.well }
+        requires user_contexts { IfSome user_contexts ⟦<OneOrMore<String> as Shape>⟧.shape.well }
+        ensures made { Makes result
+            (has_named (names_in (named subscribe_parameters)) (members_node ext.entries) ≡ true)
+            ⊥
+            (¬ MembersAreWhole (members_node ext.entries) 60)
+            (λ v. (v.events ≡ events) × (v.contexts ≡ contexts) × (v.user_contexts ≡ user_contexts) × (others_of v.ext ≡ members_node ext.entries)) }
+        ensures well { IfOk result (λ v. ⟦<SubscribeParameters as Shape>⟧.shape.well v) }
+    {
+        let ext = Ext::new(ext, &["events", "contexts", "userContexts"])?;
+        if !ext.is_whole() {
+            return Err(MakeFault::TooDeep);
+        }
+        Ok(SubscribeParameters {
+            events,
+            contexts,
+            user_contexts,
+            ext,
+        })
+    }
+}
+
+type SubscribeParts = Required<
+    OneOrMore<String>,
+    Optional<OneOrMore<String>, Optional<OneOrMore<String>, Ext>>,
+>;
+
+impl Ruled for SubscribeParameters {
+    ghost use Rattle.bidi_shape.specs.Name.{subscribe_parameters};
+    ghost use Rattle.bidi_shape.specs.Term.{rule as named};
+
+    ghost rule = { named subscribe_parameters };
+}
+
+impl Shape for SubscribeParameters {
+    ghost use Rattle.std.specs.Prelude.{refl, []};
+    ghost use Rattle.bidi_shape.specs.Table.{map_shape};
+
+    ghost shape = { map_shape ⟦<SubscribeParameters as Ruled>⟧.rule ⟦<SubscribeParts as Fields>⟧.table [] (λ v. (v.events, (v.contexts, (v.user_contexts, v.ext)))) refl refl };
+
+    fn from_tree(alloc: Global, tree: &Tree) -> Result<SubscribeParameters, ShapeFault> {
+        let Required(events, Optional(contexts, Optional(user_contexts, ext))) = read_fields::<
+            SubscribeParameters,
+            SubscribeParts,
+        >(alloc, tree, &["events", "contexts", "userContexts"], &[])?;
+        Ok(SubscribeParameters {
+            events,
+            contexts,
+            user_contexts,
+            ext,
+        })
+    }
+
+    fn to_tree(&self, alloc: Global) -> Result<Tree, AllocError> {
+        let mut members = self.ext.copy_members()?;
+        add_optional(alloc, &mut members, "userContexts", &self.user_contexts)?;
+        add_optional(alloc, &mut members, "contexts", &self.contexts)?;
+        add_member(alloc, &mut members, "events", &self.events)?;
+        Ok(Tree::Map(members))
+    }
+}
+
+/// The id of a new subscription.
+///
+/// `{ subscription: text, Extensible }`
+///
+/// After WebDriver BiDi, "The session.subscribe Command".
+#[derive(Drop)]
+pub struct SubscribeResult {
+    pub subscription: String,
+    pub ext: Ext,
+}
+
+impl SubscribeResult {
+    ghost use Rattle.std.specs.Prelude.{◌≡◌, IfOk, true};
+    ghost use Rattle.bidi_tree.specs.Node.{MembersAreWhole};
+    ghost use Rattle.bidi_tree.specs.View.{members_node};
+    ghost use Rattle.bidi_shape.specs.Name.{subscribe_result};
+    ghost use Rattle.bidi_shape.specs.Term.{rule as named};
+    ghost use Rattle.bidi_shape.specs.Parts.{has_named};
+    ghost use Rattle.bidi_shape.specs.Table.{names_in};
+    ghost use Rattle.bidi_shape.specs.Made.{Makes};
+    ghost use Rattle.bidi_shape.specs.ValueLaws.{others_of};
+
+    /// The result, with further members. Takes no memory.
+    ///
+    /// # Errors
+    /// - `Clash`: a further member is called `subscription`.
+    /// - `TooDeep`: a further member has an `Odd` in it, or more than 60 levels.
+    pub fn new(subscription: String, ext: Members) -> Result<SubscribeResult, MakeFault>
+        ensures made { Makes result
+            (has_named (names_in (named subscribe_result)) (members_node ext.entries) ≡ true)
+            ⊥
+            (¬ MembersAreWhole (members_node ext.entries) 60)
+            (λ v. (v.subscription ≡ subscription) × (others_of v.ext ≡ members_node ext.entries)) }
+        ensures well { IfOk result (λ v. ⟦<SubscribeResult as Shape>⟧.shape.well v) }
+    {
+        let ext = Ext::new(ext, &["subscription"])?;
+        if !ext.is_whole() {
+            return Err(MakeFault::TooDeep);
+        }
+        Ok(SubscribeResult { subscription, ext })
+    }
+}
+
+type SubscriptionParts = Required<String, Ext>;
+
+impl Ruled for SubscribeResult {
+    ghost use Rattle.bidi_shape.specs.Name.{subscribe_result};
+    ghost use Rattle.bidi_shape.specs.Term.{rule as named};
+
+    ghost rule = { named subscribe_result };
+}
+
+impl Shape for SubscribeResult {
+    ghost use Rattle.std.specs.Prelude.{refl, []};
+    ghost use Rattle.bidi_shape.specs.Table.{map_shape};
+
+    ghost shape = { map_shape ⟦<SubscribeResult as Ruled>⟧.rule ⟦<SubscriptionParts as Fields>⟧.table [] (λ v. (v.subscription, v.ext)) refl refl };
+
+    fn from_tree(alloc: Global, tree: &Tree) -> Result<SubscribeResult, ShapeFault> {
+        let Required(subscription, ext) = read_fields::<SubscribeResult, SubscriptionParts>(
+            alloc,
+            tree,
+            &["subscription"],
+            &[],
+        )?;
+        Ok(SubscribeResult { subscription, ext })
+    }
+
+    fn to_tree(&self, alloc: Global) -> Result<Tree, AllocError> {
+        let mut members = self.ext.copy_members()?;
+        add_member(alloc, &mut members, "subscription", &self.subscription)?;
+        Ok(Tree::Map(members))
+    }
+}
+
+/// The subscriptions that end, by their ids.
+///
+/// `{ subscriptions: [+text], Extensible }`
+///
+/// After WebDriver BiDi, "The session.unsubscribe Command".
+#[derive(Drop)]
+pub struct UnsubscribeById {
+    pub subscriptions: OneOrMore<String>,
+    pub ext: Ext,
+}
+
+impl UnsubscribeById {
+    ghost use Rattle.std.specs.Prelude.{◌≡◌, IfOk, true};
+    ghost use Rattle.bidi_tree.specs.Node.{MembersAreWhole};
+    ghost use Rattle.bidi_tree.specs.View.{members_node};
+    ghost use Rattle.bidi_shape.specs.Name.{unsubscribe_by_id};
+    ghost use Rattle.bidi_shape.specs.Term.{rule as named};
+    ghost use Rattle.bidi_shape.specs.Parts.{has_named};
+    ghost use Rattle.bidi_shape.specs.Table.{names_in};
+    ghost use Rattle.bidi_shape.specs.Made.{Makes};
+    ghost use Rattle.bidi_shape.specs.ValueLaws.{others_of};
+
+    /// The params, with further members. Takes no memory.
+    ///
+    /// # Errors
+    /// - `Clash`: a further member is called `subscriptions`.
+    /// - `TooDeep`: a further member has an `Odd` in it, or more than 60 levels.
+    pub fn new(subscriptions: OneOrMore<String>, ext: Members) -> Result<UnsubscribeById, MakeFault>
+        requires { ⟦<OneOrMore<String> as Shape>⟧.shape.well subscriptions }
+        ensures made { Makes result
+            (has_named (names_in (named unsubscribe_by_id)) (members_node ext.entries) ≡ true)
+            ⊥
+            (¬ MembersAreWhole (members_node ext.entries) 60)
+            (λ v. (v.subscriptions ≡ subscriptions) × (others_of v.ext ≡ members_node ext.entries)) }
+        ensures well { IfOk result (λ v. ⟦<UnsubscribeById as Shape>⟧.shape.well v) }
+    {
+        let ext = Ext::new(ext, &["subscriptions"])?;
+        if !ext.is_whole() {
+            return Err(MakeFault::TooDeep);
+        }
+        Ok(UnsubscribeById { subscriptions, ext })
+    }
+}
+
+type ByIdParts = Required<OneOrMore<String>, Ext>;
+
+impl Ruled for UnsubscribeById {
+    ghost use Rattle.bidi_shape.specs.Name.{unsubscribe_by_id};
+    ghost use Rattle.bidi_shape.specs.Term.{rule as named};
+
+    ghost rule = { named unsubscribe_by_id };
+}
+
+impl Shape for UnsubscribeById {
+    ghost use Rattle.std.specs.Prelude.{refl, []};
+    ghost use Rattle.bidi_shape.specs.Table.{map_shape};
+
+    ghost shape = { map_shape ⟦<UnsubscribeById as Ruled>⟧.rule ⟦<ByIdParts as Fields>⟧.table [] (λ v. (v.subscriptions, v.ext)) refl refl };
+
+    fn from_tree(alloc: Global, tree: &Tree) -> Result<UnsubscribeById, ShapeFault> {
+        let Required(subscriptions, ext) = read_fields::<UnsubscribeById, ByIdParts>(
+            alloc,
+            tree,
+            &["subscriptions"],
+            &[],
+        )?;
+        Ok(UnsubscribeById { subscriptions, ext })
+    }
+
+    fn to_tree(&self, alloc: Global) -> Result<Tree, AllocError> {
+        let mut members = self.ext.copy_members()?;
+        add_member(alloc, &mut members, "subscriptions", &self.subscriptions)?;
+        Ok(Tree::Map(members))
+    }
+}
+
+/// The events that are no longer subscribed to.
+///
+/// `{ events: [+text], Extensible }`
+///
+/// After WebDriver BiDi, "The session.unsubscribe Command".
+#[derive(Drop)]
+pub struct UnsubscribeByEvents {
+    pub events: OneOrMore<String>,
+    pub ext: Ext,
+}
+
+impl UnsubscribeByEvents {
+    ghost use Rattle.std.specs.Prelude.{◌≡◌, IfOk, true};
+    ghost use Rattle.bidi_tree.specs.Node.{MembersAreWhole};
+    ghost use Rattle.bidi_tree.specs.View.{members_node};
+    ghost use Rattle.bidi_shape.specs.Name.{unsubscribe_by_id, unsubscribe_by_events};
+    ghost use Rattle.bidi_shape.specs.Term.{rule as named};
+    ghost use Rattle.bidi_shape.specs.Fits.{Fits};
+    ghost use Rattle.bidi_shape.specs.Parts.{has_named};
+    ghost use Rattle.bidi_shape.specs.Table.{names_in};
+    ghost use Rattle.bidi_shape.specs.Made.{Makes};
+    ghost use Rattle.bidi_shape.specs.ValueLaws.{others_of};
+    ghost use Rattle.bidi_params.specs.Session.{by_events_map};
+
+    /// The params, with further members.
+    ///
+    /// # Errors
+    /// - `Clash`: a further member is called `events`.
+    /// - `Shadowed`: the map is an [`UnsubscribeById`].
+    /// - `TooDeep`: a further member has an `Odd` in it, or more than 60 levels.
+    /// - `NoMemory`: a growth was refused.
+    pub fn new(
+        alloc: Global,
+        events: OneOrMore<String>,
+        ext: Members,
+    ) -> Result<UnsubscribeByEvents, MakeFault>
+        requires { ⟦<OneOrMore<String> as Shape>⟧.shape.well events }
+        ensures made { Makes result
+            (has_named (names_in (named unsubscribe_by_events)) (members_node ext.entries) ≡ true)
+            (Fits (by_events_map events.items.items (members_node ext.entries)) (named unsubscribe_by_id))
+            (¬ MembersAreWhole (members_node ext.entries) 60)
+            (λ v. (v.events ≡ events) × (others_of v.ext ≡ members_node ext.entries)) }
+        ensures well { IfOk result (λ v. ⟦<UnsubscribeByEvents as Shape>⟧.shape.well v) }
+    {
+        let ext = Ext::new(ext, &["events"])?;
+        let made = UnsubscribeByEvents { events, ext };
+        not_shadowed::<UnsubscribeById, UnsubscribeByEvents>(alloc, &made)?;
+        if !made.ext.is_whole() {
+            return Err(MakeFault::TooDeep);
+        }
+        Ok(made)
+    }
+}
+
+type ByEventsParts = Required<OneOrMore<String>, Ext>;
+
+impl Ruled for UnsubscribeByEvents {
+    ghost use Rattle.bidi_shape.specs.Name.{unsubscribe_by_events};
+    ghost use Rattle.bidi_shape.specs.Term.{rule as named};
+
+    ghost rule = { named unsubscribe_by_events };
+}
+
+impl Shape for UnsubscribeByEvents {
+    ghost use Rattle.std.specs.Prelude.{refl, []};
+    ghost use Rattle.bidi_shape.specs.Table.{map_shape};
+
+    ghost shape = { map_shape ⟦<UnsubscribeByEvents as Ruled>⟧.rule ⟦<ByEventsParts as Fields>⟧.table [] (λ v. (v.events, v.ext)) refl refl };
+
+    fn from_tree(alloc: Global, tree: &Tree) -> Result<UnsubscribeByEvents, ShapeFault> {
+        let Required(events, ext) = read_fields::<UnsubscribeByEvents, ByEventsParts>(
+            alloc,
+            tree,
+            &["events"],
+            &[],
+        )?;
+        Ok(UnsubscribeByEvents { events, ext })
+    }
+
+    fn to_tree(&self, alloc: Global) -> Result<Tree, AllocError> {
+        let mut members = self.ext.copy_members()?;
+        add_member(alloc, &mut members, "events", &self.events)?;
+        Ok(Tree::Map(members))
+    }
+}
+
+/// Parameters of `session.unsubscribe`.
+///
+/// `UnsubscribeById / UnsubscribeByEvents`
+///
+/// After WebDriver BiDi, "The session.unsubscribe Command".
+#[derive(Drop)]
+pub enum UnsubscribeParameters {
+    ById(UnsubscribeById),
+    ByEvents(UnsubscribeByEvents),
+}
+
+type Alternatives = Either<UnsubscribeById, UnsubscribeByEvents>;
+
+impl Ruled for UnsubscribeParameters {
+    ghost use Rattle.bidi_shape.specs.Name.{unsubscribe_parameters};
+    ghost use Rattle.bidi_shape.specs.Term.{rule as named};
+
+    ghost rule = { named unsubscribe_parameters };
+}
+
+impl Shape for UnsubscribeParameters {
+    ghost use Rattle.std.specs.Prelude.{refl};
+    ghost use Rattle.bidi_shape.specs.ThroughLaws.{shape_through};
+    ghost use Rattle.bidi_shape.specs.declared.choice.Either.TheVariants.{First, Second};
+    ghost use Rattle.bidi_params.specs.declared.session.subscribe.UnsubscribeParameters.TheVariants.{ById, ByEvents};
+
+    ghost shape = { shape_through ⟦<UnsubscribeParameters as Ruled>⟧.rule ⟦<Alternatives as Shape>⟧.shape
+        (λ v. elim v [ ById i ↦ First i | ByEvents e ↦ Second e ]) refl };
+
+    fn from_tree(alloc: Global, tree: &Tree) -> Result<UnsubscribeParameters, ShapeFault> {
+        match read_choice::<UnsubscribeParameters, Alternatives>(alloc, tree)? {
+            Either::First(by_id) => Ok(UnsubscribeParameters::ById(by_id)),
+            Either::Second(by_events) => Ok(UnsubscribeParameters::ByEvents(by_events)),
+        }
+    }
+
+    fn to_tree(&self, alloc: Global) -> Result<Tree, AllocError> {
+        match self {
+            UnsubscribeParameters::ById(by_id) => by_id.to_tree(alloc),
+            UnsubscribeParameters::ByEvents(by_events) => by_events.to_tree(alloc),
+        }
+    }
+}
