@@ -1,8 +1,10 @@
 //! Times of the project's crates, beside those of what they stand on.
 //!
-//! `bench tree [ROUNDS]` reads and writes trees. Counts go to standard output, times to standard error.
+//! `bench tree [ROUNDS]` reads and writes trees, `bench shape` maps of ten members, `bench values` remote values. Counts go to standard output, times to standard error.
 #![tactic(auto)]
 
+mod measure;
+mod shape;
 mod texts;
 mod tree;
 
@@ -16,7 +18,7 @@ fn main(rt: HostRuntime) -> Result<()> {
     let mut words = env::args(&rt)?;
     let _program = words.next();
     let Some(name) = words.next() else {
-        bail!("usage: bench tree [ROUNDS]");
+        bail!("usage: bench tree|shape|values [ROUNDS]");
     };
     let rounds = match words.next() {
         Some(text) => text.parse::<u32>().context("ROUNDS is a number")?,
@@ -24,6 +26,8 @@ fn main(rt: HostRuntime) -> Result<()> {
     };
     match name.as_str() {
         "tree" => tree::run(&rt, rounds),
+        "shape" => shape::run(&rt, rounds),
+        "values" => shape::run_values(&rt, rounds),
         _ => bail!("no benchmark has that name"),
     }
 }

@@ -8,6 +8,14 @@ pub const SHORT: &str = "{\"id\":1,\"method\":\"session.status\",\"params\":{}}"
 pub const MIDDLE: &str =
     "{\"id\":7,\"method\":\"script.callFunction\",\"params\":{\"arguments\":[{\"type\":\"number\",\"value\":4},{\"type\":\"string\",\"value\":\"word\"}],\"awaitPromise\":true,\"functionDeclaration\":\"(a, b) => a+b\",\"target\":{\"context\":\"c-1\"}}}";
 
+/// The capabilities of a session, with four members that their rule does not name.
+pub const TEN_MEMBERS: &str =
+    "{\"acceptInsecureCerts\":false,\"browserName\":\"memory\",\"browserVersion\":\"1.0\",\"platformName\":\"any\",\"setWindowRect\":false,\"userAgent\":\"memory/1.0\",\"x:a\":1,\"x:b\":true,\"x:c\":\"text\",\"x:d\":[]}";
+
+/// An object with a handle, two texts and a list.
+pub const VALUE: &str =
+    "{\"handle\":\"h-1\",\"type\":\"object\",\"value\":[[\"name\",{\"type\":\"string\",\"value\":\"word\"}],[\"list\",{\"type\":\"array\",\"value\":[{\"type\":\"number\",\"value\":4},{\"type\":\"null\"}]}]]}";
+
 /// How many items stand in the list, and how many names in the map.
 const ITEMS: u32 = 150_000;
 
@@ -45,5 +53,31 @@ pub fn one_text(alloc: Global) -> Result<String, AllocError> {
         text.push_str("the quick brown fox jumps over the lazy dog, once and again..\\n")?;
     }
     text.push_str("\"")?;
+    Ok(text)
+}
+
+/// Thirty arrays within each other, which have 60 levels.
+pub fn deep_value(alloc: Global) -> Result<String, AllocError> {
+    let mut text = String::new(alloc);
+    for _ in 0..30 {
+        text.push_str("{\"type\":\"array\",\"value\":[")?;
+    }
+    for _ in 0..30 {
+        text.push_str("]}")?;
+    }
+    Ok(text)
+}
+
+/// An array of numbers, of about 1 MB.
+pub fn wide_value(alloc: Global) -> Result<String, AllocError> {
+    let mut text = String::from_str(alloc, "{\"type\":\"array\",\"value\":[")?;
+    for i in 0..27_000 {
+        let number = 100_000 + i;
+        if i > 0 {
+            text.push_str(",")?;
+        }
+        write!(text, "{{\"type\":\"number\",\"value\":{number}}}")?;
+    }
+    text.push_str("]}")?;
     Ok(text)
 }

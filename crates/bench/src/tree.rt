@@ -1,147 +1,40 @@
 //! Reading and writing trees, beside `serde_json` alone.
+use crate::measure::{Subject, measure_text};
 use crate::texts;
 use anyhow::{Result, bail};
 use bidi_tree::{read, write};
-use serde_json::Value;
 use std::alloc::Global;
 use std::rt::Clock;
-use std::time::{Duration, Instant};
-
-/// The rounds are cut into at most so many parts; of each task the shortest part is told.
-const PARTS: u32 = 10;
 
 /// A long text is taken once more for each so many rounds of a short one.
 const LONG: u32 = 10_000;
 
-/// What is done with a text.
-#[derive(Clone, Copy)]
-enum Task {
-    Parse,
-    Read,
-    ParseAndPrint,
-    ReadAndWrite,
-}
+struct Trees;
 
-/// A task's shortest part, and the sum of what its rounds gave.
-#[derive(Clone, Copy)]
-struct Measure {
-    task: Task,
-    shortest: Duration,
-    sum: u64,
-}
-
-/// Does the task once, and gives the bytes written, or 1 where nothing is written.
-fn once(alloc: Global, task: Task, text: &str) -> Result<usize> {
-    match task {
-        Task::Parse => {
-            let _value = Value::from_str(alloc, text)?;
-            Ok(1)
-        }
-        Task::Read => {
-            let _tree = read(alloc, text, None)?;
-            Ok(1)
-        }
-        Task::ParseAndPrint => {
-            let value = Value::from_str(alloc, text)?;
-            let printed = value.to_string(alloc)?;
-            Ok(printed.len())
-        }
-        Task::ReadAndWrite => {
-            let tree = read(alloc, text, None)?;
-            if !tree.is_writable() {
-                bail!("the text has an odd number");
-            }
-            let written = write(alloc, &tree)?;
-            Ok(written.len())
-        }
-    }
-}
-
-impl Measure {
-    fn new(task: Task) -> Measure {
-        Measure {
-            task,
-            shortest: Duration::MAX,
-            sum: 0,
-        }
-    }
-
-    /// Does the task so often, as one part.
-    fn part<R: Clock + AllocGlobal>(&mut self, rt: &R, text: &str, rounds: u32) -> Result<()> {
-        let start = Instant::now(rt)?;
-        for _ in 0..rounds {
-            let count = once(rt.alloc(), self.task, text)?;
-            self.sum = self.sum.saturating_add(count as u64);
-        }
-        self.shortest = self.shortest.min(start.elapsed(rt)?);
+impl Subject for Trees {
+    fn read(alloc: Global, text: &str) -> Result<()> {
+        let _tree = read(alloc, text, None)?;
         Ok(())
     }
 
-    /// How many times the shortest part of another it took.
-    fn ratio(&self, other: &Measure) -> f64 {
-        self.shortest.as_secs_f64() / other.shortest.as_secs_f64()
-    }
-
-    /// The nanoseconds of one round.
-    fn nanos(&self, rounds: u32) -> f64 {
-        self.shortest.as_secs_f64() * 1e9 / rounds as f64
-    }
-}
-
-/// Measures one text, the tasks by turns.
-fn measure_text<R: Clock + Print + Eprint + AllocGlobal>(
-    rt: &R,
-    name: &str,
-    text: &str,
-    rounds: u32,
-) -> Result<()> {
-    let part = rounds / PARTS + 1;
-    let mut parse = Measure::new(Task::Parse);
-    let mut reading = Measure::new(Task::Read);
-    let mut print = Measure::new(Task::ParseAndPrint);
-    let mut writing = Measure::new(Task::ReadAndWrite);
-    let mut done = 0u32;
-    for _ in 0..PARTS {
-        if done >= rounds {
-            break;
+    fn read_and_write(alloc: Global, text: &str) -> Result<usize> {
+        let tree = read(alloc, text, None)?;
+        if !tree.is_writable() {
+            bail!("the text has an odd number");
         }
-        done = done.saturating_add(part);
-        parse.part(rt, text, part)?;
-        reading.part(rt, text, part)?;
-        print.part(rt, text, part)?;
-        writing.part(rt, text, part)?;
+        let written = write(alloc, &tree)?;
+        Ok(written.len())
     }
-    let bytes = text.len();
-    let (parsed, read, printed, written) = (parse.sum, reading.sum, print.sum, writing.sum);
-    println!(rt;
-        "{name} of {bytes} bytes: {parsed} parsed, {read} read, {printed} bytes printed, {written} bytes written"
-    )?;
-    show(rt, name, "read", &reading, &parse, part)?;
-    show(rt, name, "read and written", &writing, &print, part)
-}
-
-/// Prints the time of a round and that of `serde_json` alone.
-fn show<R: Eprint>(
-    rt: &R,
-    name: &str,
-    what: &str,
-    ours: &Measure,
-    theirs: &Measure,
-    rounds: u32,
-) -> Result<()> {
-    let (time, plain, ratio) = (ours.nanos(rounds), theirs.nanos(rounds), ours.ratio(theirs));
-    eprintln!(rt; "{name} {what}: {time:.0} ns, serde_json {plain:.0} ns, ratio {ratio:.2}")?;
-    Ok(())
 }
 
 /// Measures each text: the short ones so often, the long ones less.
 pub fn run<R: Clock + Print + Eprint + AllocGlobal>(rt: &R, rounds: u32) -> Result<()> {
-    measure_text(rt, "short text", texts::SHORT, rounds)?;
-    measure_text(rt, "middle text", texts::MIDDLE, rounds)?;
+    measure_text::<Trees, R>(rt, "short text", texts::SHORT, rounds)?;
+    measure_text::<Trees, R>(rt, "middle text", texts::MIDDLE, rounds)?;
     let long = rounds / LONG + 1;
-    measure_text(rt, "long list", texts::list(rt.alloc())?.as_str(), long)?;
-    measure_text(rt, "long map", texts::map(rt.alloc())?.as_str(), long)?;
-    measure_text(
+    measure_text::<Trees, R>(rt, "long list", texts::list(rt.alloc())?.as_str(), long)?;
+    measure_text::<Trees, R>(rt, "long map", texts::map(rt.alloc())?.as_str(), long)?;
+    measure_text::<Trees, R>(
         rt,
         "long string",
         texts::one_text(rt.alloc())?.as_str(),
