@@ -1,5 +1,5 @@
 -- What readers and writers of Infos answer.
-use Rattle.std.proofs.Common.{◌≡◌, ◌<◌, ◌+◌, ℕ, List, [], ◌∷◌, codes, map, Option, Some, None, option_map, Result, Ok, Err, IfOk, Vec, Global, Bor, refl, sym, ap, ◌∙◌, subst, arith}
+use Rattle.std.proofs.Common.{◌≡◌, ◌≤◌, ◌<◌, ◌+◌, List, [], ◌∷◌, codes, map, Option, Some, None, option_map, Result, Ok, Err, IfOk, IfSome, Vec, Global, Bor, ◌⊎◌, inl, inr, refl, sym, ap, ◌∙◌, subst, arith}
 use Rattle.std.specs.List.{AllByRecursion}
 use Rattle.std.specs.declared.alloc.AllocError.{AllocError}
 use Rattle.bidi_tree.specs.Node as kind
@@ -9,23 +9,16 @@ use Rattle.bidi_tree.specs.declared.tree.Tree.{Tree, List as TreeList}
 use Rattle.bidi_tree.proofs.TreeLemmas.{node-List}
 use Rattle.bidi_tree.proofs.MemberLemmas.{get_member-put}
 use Rattle.bidi_shape.specs.Name.{info}
-use Rattle.bidi_shape.specs.Term.{required, Need, Term, null, list_of, map_of, either, rule, Rows, row, names_of}
-use Rattle.bidi_shape.specs.Fits.{Fits, AllFit, fits_list, fits_first, fits_second, fits_null, RowsFit, there, absent, OthersFit, without}
+use Rattle.bidi_shape.specs.Term.{required, Term, null, list_of, map_of, either, rule, names_of}
+use Rattle.bidi_shape.specs.Fits.{Fits, AllFit, RowsFit, OthersFit, without}
 use Rattle.bidi_shape.specs.Parts.{joined, PartFits}
 use Rattle.bidi_shape.specs.MapLaws.{map_inside}
+use Rattle.bidi_shape.proofs.FitsLemmas.{null_kind, list_inside, either_inside}
+use Rattle.bidi_values.specs.BesideLaws.{RowsFit-first, RowsFit-more}
 use Rattle.bidi_params.specs.InfoContent.{told, contents_of}
-use Rattle.bidi_params.specs.InfoLaws.{InfoOf, names, rows_with, info_map, children_node, info_tree, infos_tree, PartsAreWell, InfosAreWell, BesideIsWell, info_inside, children_levels}
+use Rattle.bidi_params.specs.InfoLaws.{InfoOf, names, rows_with, info_map, children_node, info_tree, infos_tree, PartsAreWell, ChildrenAreWell, InfosAreWell, BesideIsWell, IsWell, info_inside, children_levels}
 use Rattle.bidi_params.specs.InfoView.{Beside, content, content-told, children_content, beside_of, tree_of_info, tree_of_children, InfoIsWell}
 use Rattle.bidi_params.specs.declared.browsing_context.info.Info.{Info, out-Info}
-
--- ---- rows
-
-first_row : {k : List ℕ} {τ : Term} {rs : Rows} {ms : Members} → RowsFit ms (row k required τ rs) → PartFits required τ (get_member k ms)
-first_row (there ms k need τ rows t e f more) = subst (PartFits required τ) (sym e) f
-
-more_rows : {k : List ℕ} {need : Need} {τ : Term} {rs : Rows} {ms : Members} → RowsFit ms (row k need τ rs) → RowsFit ms rs
-more_rows (there ms k need τ rows t e f more) = more
-more_rows (absent ms k τ rows e more) = more
 
 module _ (n : InfoOf Beside) (t : Node) (ms : Members) where
   inside : (τ : Term) → kind.map ms ≡ t → Fits t (map_of (rows_with n.table τ) n.table.openness) → RowsFit ms (rows_with n.table τ) × OthersFit n.table.openness (without (names_of (rows_with n.table τ)) ms)
@@ -36,27 +29,21 @@ module _ (n : InfoOf Beside) (t : Node) (ms : Members) where
       → (τ : Term) → Fits t (map_of (rows_with n.table τ) n.table.openness) → ⊥
   beside_misfit is bad named τ f =
       let p = inside τ is f in
-      bad (more_rows p.0) (subst (λ ks. OthersFit n.table.openness (without (codes "children" ∷ ks) ms)) named p.1)
+      bad (RowsFit-more p.0) (subst (λ ks. OthersFit n.table.openness (without (codes "children" ∷ ks) ms)) named p.1)
 
   -- and one whose children are neither a list nor null
   pub children_misfit : kind.map ms ≡ t → ((τ : Term) → PartFits required (either (list_of 0 τ) null) (get_member (codes "children") ms) → ⊥)
       → (τ : Term) → Fits t (map_of (rows_with n.table τ) n.table.openness) → ⊥
-  children_misfit is bad τ f = bad τ (first_row (inside τ is f).0)
+  children_misfit is bad τ f = bad τ (RowsFit-first (inside τ is f).0)
 
 -- ---- children
 
 items_fit : {ts : Items} → Fits (kind.list ts) (either (list_of 0 (rule info)) null) → AllFit ts (rule info)
-items_fit f = of_either f refl
+items_fit f = of_either (either_inside f)
   where
-    of_list : {t : Node} {ts : Items} → Fits t (list_of 0 (rule info)) → t ≡ kind.list ts → AllFit ts (rule info)
-    of_list {ts = ts} (fits_list us least τ h f) e = let same : us ≡ ts = cc in subst (λ x. AllFit x (rule info)) same f
-
-    of_null : {t : Node} {ts : Items} → Fits t null → t ≡ kind.list ts → AllFit ts (rule info)
-    of_null fits_null e = cc
-
-    of_either : {t : Node} {ts : Items} → Fits t (either (list_of 0 (rule info)) null) → t ≡ kind.list ts → AllFit ts (rule info)
-    of_either (fits_first t σ τ f) e = of_list f e
-    of_either (fits_second t σ τ f) e = of_null f e
+    of_either : {ts : Items} → Fits (kind.list ts) (list_of 0 (rule info)) ⊎ Fits (kind.list ts) null → AllFit ts (rule info)
+    of_either (inl f) = (list_inside f).1
+    of_either (inr f) = let e = null_kind f in cc
 
 module _ (n : InfoOf Beside) where
   infos_tree-of : (is : List Info) → infos_tree n (contents_of (map content is)) ≡ items_of (map (tree_of_info n) is)
@@ -66,6 +53,20 @@ module _ (n : InfoOf Beside) where
   infos_well-of : (is : List Info) → AllByRecursion (InfoIsWell n) is → InfosAreWell n (contents_of (map content is))
   infos_well-of [] w = tt
   infos_well-of (i ∷ is) w = (w.0, infos_well-of is w.1)
+
+  -- ---- the constructor
+
+  children_well : (c : Option (Vec Info Global)) → IfSome c (λ v. AllByRecursion (λ i. IsWell n (content i)) v.items) → ChildrenAreWell n (children_content c)
+  children_well None w = tt
+  children_well (Some v) w = infos_well-of v.items (each_part v.items w)
+    where
+      each_part : (is : List Info) → AllByRecursion (λ i. IsWell n (content i)) is → AllByRecursion (InfoIsWell n) is
+      each_part [] w = tt
+      each_part (i ∷ is) w = (w.0.parts, each_part is w.1)
+
+  -- an Info of well parts within the cap
+  pub info_made : (i : Info) (f : Beside) (c : Option (Vec Info Global)) → content i ≡ told f (children_content c) → BesideIsWell n f → IfSome c (λ v. AllByRecursion (λ i. IsWell n (content i)) v.items) → levels (tree_of_info n i) ≤ 60 → IsWell n (content i)
+  info_made i f c made w ws h = record { parts = subst (PartsAreWell n) (sym made) (w, children_well c ws); cap = h }
 
   -- ---- readers
 
@@ -89,7 +90,7 @@ module _ (n : InfoOf Beside) where
   infos_misfit f items t is bad x =
       let ms = put (codes "children") (kind.list items) (joined (n.table.rows names []) (n.table.parts [] f) (n.table.others f)) in
       let rows = (map_inside (subst (λ y. Fits y (map_of (rows_with n.table (rule info)) n.table.openness)) (sym is) (info_inside n t x))).0 in
-      bad (items_fit (subst (PartFits required (either (list_of 0 (rule info)) null)) (get_member-put (codes "children") (kind.list items) (joined (n.table.rows names []) (n.table.parts [] f) (n.table.others f))) (first_row rows)))
+      bad (items_fit (subst (PartFits required (either (list_of 0 (rule info)) null)) (get_member-put (codes "children") (kind.list items) (joined (n.table.rows names []) (n.table.parts [] f) (n.table.others f))) (RowsFit-first rows)))
 
   -- what is none
   pub no_info : (t : Node) → ((τ : Term) → Fits t (map_of (rows_with n.table τ) n.table.openness) → ⊥) → Fits t (rule info) → ⊥

@@ -1,7 +1,8 @@
 -- Infos: their trees, when they are well and the same, and their laws. After WebDriver BiDi, "The browsingContext.Info Type".
-use Rattle.std.proofs.Common.{◌≡◌, ◌≤◌, ◌<◌, ℕ, List, [], ◌∷◌, codes, true, Option, Some, None, sym, subst, arith}
+use Rattle.std.proofs.Common.{◌≡◌, ◌≤◌, ◌<◌, ℕ, List, [], ◌∷◌, codes, true, false, Option, Some, None, refl, sym, subst, arith}
+use Rattle.std.proofs.lemmas.Bool.{or_from}
 use Rattle.bidi_tree.specs.Node as node
-use Rattle.bidi_tree.specs.Node.{Node, Items, no_items, item, Members, put, levels, items_levels, members_levels}
+use Rattle.bidi_tree.specs.Node.{Node, Items, no_items, item, Members, put, levels, items_levels, members_levels, has_odd, items_have_odd, members_have_odd}
 use Rattle.bidi_tree.proofs.MemberLemmas.{get_member-put}
 use Rattle.bidi_shape.specs.Name.{info}
 use Rattle.bidi_shape.specs.Term.{required, Term, null, list_of, map_of, either, rule, capped, Rows, row, names_of}
@@ -10,8 +11,11 @@ use Rattle.bidi_shape.specs.Fits.{Fits, AllFit, no_item, an_item, fits_null, fit
 use Rattle.bidi_shape.specs.Parts.{joined, distinct}
 use Rattle.bidi_shape.specs.Value.{ShapeOf}
 use Rattle.bidi_shape.specs.MapLaws.{map_fits, map_one, Aligned, Aligned-PartsFit}
+use Rattle.bidi_shape.specs.WholeLaws.{no_odd-put, no_odd-joined, others_whole}
 use Rattle.bidi_shape.specs.Table.{Table, TableWell, same_head, same_tail, same_some}
+use Rattle.bidi_shape.proofs.FitsLemmas.{rule_inside, capped_inside}
 use Rattle.bidi_values.specs.BesideLaws.{member_levels}
+use Rattle.bidi_values.specs.NestedLaws.{same_items, first_item, other_items}
 use Rattle.bidi_params.specs.InfoContent.{Content, told, Children, left_out, listed, Contents, no_more, next}
 
 -- the names of the members beside `children`
@@ -91,25 +95,10 @@ pub record IsWell {F : Type 0} (n : InfoOf F) (i : Content F) : Type 0 where
 children_null : {ts : Items} → node.null ≡ node.list ts → ⊥
 children_null e = cc
 
-same_items : {xs ys : Items} → node.list xs ≡ node.list ys → xs ≡ ys
-same_items e = cc
-
-first_item : {x y : Node} {xs ys : Items} → item x xs ≡ item y ys → x ≡ y
-first_item e = cc
-
-other_items : {x y : Node} {xs ys : Items} → item x xs ≡ item y ys → xs ≡ ys
-other_items e = cc
-
-rule_inside : {t : Node} → Fits t (rule info) → Fits t (term_of info)
-rule_inside (fits_rule t n f) = f
-
-capped_inside : {t : Node} {τ : Term} → Fits t (capped τ) → Fits t τ
-capped_inside (fits_capped t τ h f) = f
-
 module _ {F : Type 0} (n : InfoOf F) where
   -- what fits the rule is a map
   pub info_inside : (t : Node) → Fits t (rule info) → Fits t (map_of (rows_with n.table (rule info)) n.table.openness)
-  info_inside t f = capped_inside (subst (Fits t) n.is_info (rule_inside f))
+  info_inside t f = (capped_inside (subst (Fits t) n.is_info (rule_inside f))).1
 
   -- the children have fewer levels than the map
   pub children_levels : (f : F) (c : Node) → levels c < levels (info_map n.table f c)
@@ -159,6 +148,27 @@ module _ {F : Type 0} (n : InfoOf F) where
     infos_one (next i is) no_more a b e = cc
     infos_one (next i is) (next j js) a b e = (info_one i j a.0 b.0 (first_item e), infos_one is js a.1 b.1 (other_items e))
 
+  -- ---- no Odd stands in a tree
+
+  map_no_odd : (f : F) (c : Node) → BesideIsWell n f → has_odd c ≡ false → has_odd (info_map n.table f c) ≡ false
+  map_no_odd f c w e =
+      let rows = n.table.rows names [] in
+      let others = others_whole n.table.openness (n.table.others f) w.1.may in
+      no_odd-put (codes "children") c (joined rows (n.table.parts [] f) (n.table.others f)) e
+      (no_odd-joined rows (n.table.parts [] f) (n.table.others f) n.table.deepest (n.table.whole [] f w.0) others.0)
+
+  mutual
+    pub info_no_odd : (i : Content F) → PartsAreWell n i → has_odd (info_tree n i) ≡ false
+    info_no_odd (told f c) w = map_no_odd f (children_tree n c) w.0 (children_no_odd c w.1)
+
+    pub children_no_odd : (c : Children F) → ChildrenAreWell n c → has_odd (children_tree n c) ≡ false
+    children_no_odd left_out w = refl
+    children_no_odd (listed is) w = infos_no_odd is w
+
+    pub infos_no_odd : (is : Contents F) → InfosAreWell n is → items_have_odd (infos_tree n is) ≡ false
+    infos_no_odd no_more w = refl
+    infos_no_odd (next i is) w = or_from (has_odd (info_tree n i)) (items_have_odd (infos_tree n is)) (info_no_odd i w.0) (infos_no_odd is w.1)
+
   -- the shape of Infos
   abbrev pub info_shape : {V : Type 0} → (V → Content F) → ShapeOf V
   info_shape content = record {
@@ -168,4 +178,6 @@ module _ {F : Type 0} (n : InfoOf F) where
     same = λ v w. Same n (content v) (content w);
     fits = λ v w. info_fits (content v) w.parts w.cap;
     one_value = λ v w a b e. info_one (content v) (content w) a.parts b.parts e;
+    deepest = 60;
+    whole = λ v w. (info_no_odd (content v) w.parts, w.cap);
   }

@@ -1,5 +1,7 @@
 //! The types of browsing contexts: texts that fit and texts that do not, and what the constructors answer.
-use crate::tests_support::{NO_FIT, again, members_of, nested, text, told, value_of};
+use crate::tests_support::{
+    Types, again, deep, makes, makes_60_levels, reads, refuses, text, told, value_of,
+};
 use crate::{
     ActivateParameters, CloseParameters, ContextType, CreateParameters, CreateResult,
     GetTreeParameters, NavigateParameters, NavigateResult, NavigationInfo, ReloadParameters,
@@ -9,28 +11,71 @@ use bidi_tree::{JsInt, JsUint, Members};
 use std::alloc::Global;
 use std::test::Fail;
 
-fn again_as(alloc: Global, rule: &str, text: &str) -> Result<String, Fail> {
-    match rule {
-        "ContextType" => again::<ContextType>(alloc, text),
-        "Wait" => again::<Wait>(alloc, text),
-        "CreateParameters" => again::<CreateParameters>(alloc, text),
-        "CreateResult" => again::<CreateResult>(alloc, text),
-        "ActivateParameters" => again::<ActivateParameters>(alloc, text),
-        "CloseParameters" => again::<CloseParameters>(alloc, text),
-        "GetTreeParameters" => again::<GetTreeParameters>(alloc, text),
-        "NavigateParameters" => again::<NavigateParameters>(alloc, text),
-        "ReloadParameters" => again::<ReloadParameters>(alloc, text),
-        "NavigateResult" => again::<NavigateResult>(alloc, text),
-        "TraverseHistoryParameters" => again::<TraverseHistoryParameters>(alloc, text),
-        "NavigationInfo" => again::<NavigationInfo>(alloc, text),
-        _ => Err(Fail::from("no such rule")),
+struct Browsing;
+
+impl Types for Browsing {
+    fn again(alloc: Global, name: &str, text: &str) -> Result<String, Fail> {
+        match name {
+            "ContextType" => again::<ContextType>(alloc, text),
+            "Wait" => again::<Wait>(alloc, text),
+            "CreateParameters" => again::<CreateParameters>(alloc, text),
+            "CreateResult" => again::<CreateResult>(alloc, text),
+            "ActivateParameters" => again::<ActivateParameters>(alloc, text),
+            "CloseParameters" => again::<CloseParameters>(alloc, text),
+            "GetTreeParameters" => again::<GetTreeParameters>(alloc, text),
+            "NavigateParameters" => again::<NavigateParameters>(alloc, text),
+            "ReloadParameters" => again::<ReloadParameters>(alloc, text),
+            "NavigateResult" => again::<NavigateResult>(alloc, text),
+            "TraverseHistoryParameters" => again::<TraverseHistoryParameters>(alloc, text),
+            "NavigationInfo" => again::<NavigationInfo>(alloc, text),
+            _ => Err(Fail::from("no such rule")),
+        }
+    }
+
+    fn made(alloc: Global, name: &str, ext: Members) -> Result<String, Fail> {
+        let context = text(alloc, "c1")?;
+        let url = text(alloc, "u")?;
+        match name {
+            "CreateParameters" => told(
+                alloc,
+                CreateParameters::new(ContextType::Tab, Some(context), None, None, ext),
+            ),
+            "CreateResult" => told(alloc, CreateResult::new(context, ext)),
+            "ActivateParameters" => told(alloc, ActivateParameters::new(context, ext)),
+            "CloseParameters" => told(alloc, CloseParameters::new(context, Some(true), ext)),
+            "GetTreeParameters" => told(
+                alloc,
+                GetTreeParameters::new(JsUint::new(2), Some(context), ext),
+            ),
+            "NavigateParameters" => told(
+                alloc,
+                NavigateParameters::new(context, url, Some(Wait::Complete), ext),
+            ),
+            "ReloadParameters" => told(
+                alloc,
+                ReloadParameters::new(context, Some(false), Some(Wait::None), ext),
+            ),
+            "NavigateResult" => told(alloc, NavigateResult::new(None, url, ext)),
+            "TraverseHistoryParameters" => {
+                let delta = JsInt::new(-1).ok_or("no number")?;
+                told(alloc, TraverseHistoryParameters::new(context, delta, ext))
+            }
+            "NavigationInfo" => {
+                let timestamp = JsUint::new(5).ok_or("no number")?;
+                let navigation = text(alloc, "n1")?;
+                told(
+                    alloc,
+                    NavigationInfo::new(context, Some(navigation), timestamp, url, ext),
+                )
+            }
+            _ => Err(Fail::from("no such rule")),
+        }
     }
 }
 
 #[test]
 fn texts_that_fit(rt: HostRuntime) -> Result<(), Fail> {
-    let alloc = rt.alloc();
-    let rows = [
+    const ROWS: &[(&str, &str, &str)] = &[
         ("ContextType", r#""tab""#, r#""tab""#),
         ("ContextType", r#""window""#, r#""window""#),
         ("Wait", r#""none""#, r#""none""#),
@@ -125,20 +170,12 @@ fn texts_that_fit(rt: HostRuntime) -> Result<(), Fail> {
             r#"{"context":"c1","navigation":null,"timestamp":9007199254740991,"url":"about:blank","x":[]}"#,
         ),
     ];
-    for (rule, text, shown) in rows {
-        assert_eq!(rt;
-            again_as(alloc, rule, text)?.as_str(),
-            shown,
-            "{rule} {text}"
-        );
-    }
-    Ok(())
+    reads::<Browsing>(&rt, rt.alloc(), ROWS)
 }
 
 #[test]
 fn texts_that_do_not_fit(rt: HostRuntime) -> Result<(), Fail> {
-    let alloc = rt.alloc();
-    let rows = [
+    const ROWS: &[(&str, &str)] = &[
         ("ContextType", r#""Tab""#),
         ("ContextType", r#""""#),
         ("ContextType", "null"),
@@ -240,82 +277,37 @@ fn texts_that_do_not_fit(rt: HostRuntime) -> Result<(), Fail> {
             r#"{"context":"c1","navigation":false,"timestamp":5,"url":"about:blank"}"#,
         ),
     ];
-    for (rule, text) in rows {
-        assert_eq!(rt;
-            again_as(alloc, rule, text)?.as_str(),
-            NO_FIT,
-            "{rule} {text}"
-        );
+    refuses::<Browsing>(&rt, rt.alloc(), ROWS)
+}
+
+#[test]
+fn kinds_of_context(rt: HostRuntime) -> Result<(), Fail> {
+    const ROWS: &[(&str, ContextType)] = &[
+        (r#""tab""#, ContextType::Tab),
+        (r#""window""#, ContextType::Window),
+    ];
+    for (text, kind) in ROWS {
+        assert_eq!(rt; value_of::<ContextType>(rt.alloc(), text)?, *kind, "{text}");
     }
     Ok(())
 }
 
 #[test]
-fn words(rt: HostRuntime) -> Result<(), Fail> {
-    let alloc = rt.alloc();
-    let kinds = [
-        (r#""tab""#, ContextType::Tab),
-        (r#""window""#, ContextType::Window),
-    ];
-    for (text, kind) in kinds {
-        assert_eq!(rt; value_of::<ContextType>(alloc, text)?, kind, "{text}");
-    }
-    let waits = [
+fn waits(rt: HostRuntime) -> Result<(), Fail> {
+    const ROWS: &[(&str, Wait)] = &[
         (r#""none""#, Wait::None),
         (r#""interactive""#, Wait::Interactive),
         (r#""complete""#, Wait::Complete),
     ];
-    for (text, wait) in waits {
-        assert_eq!(rt; value_of::<Wait>(alloc, text)?, wait, "{text}");
+    for (text, wait) in ROWS {
+        assert_eq!(rt; value_of::<Wait>(rt.alloc(), text)?, *wait, "{text}");
     }
     Ok(())
 }
 
-/// What becomes of some parts with further members: the compact text, or the fault.
-fn made(alloc: Global, rule: &str, ext: Members) -> Result<String, Fail> {
-    let context = text(alloc, "c1")?;
-    let url = text(alloc, "u")?;
-    match rule {
-        "CreateParameters" => told(
-            alloc,
-            CreateParameters::new(ContextType::Tab, Some(context), None, None, ext),
-        ),
-        "CreateResult" => told(alloc, CreateResult::new(context, ext)),
-        "ActivateParameters" => told(alloc, ActivateParameters::new(context, ext)),
-        "CloseParameters" => told(alloc, CloseParameters::new(context, Some(true), ext)),
-        "GetTreeParameters" => told(
-            alloc,
-            GetTreeParameters::new(JsUint::new(2), Some(context), ext),
-        ),
-        "NavigateParameters" => told(
-            alloc,
-            NavigateParameters::new(context, url, Some(Wait::Complete), ext),
-        ),
-        "ReloadParameters" => told(
-            alloc,
-            ReloadParameters::new(context, Some(false), Some(Wait::None), ext),
-        ),
-        "NavigateResult" => told(alloc, NavigateResult::new(None, url, ext)),
-        "TraverseHistoryParameters" => {
-            let delta = JsInt::new(-1).ok_or("no number")?;
-            told(alloc, TraverseHistoryParameters::new(context, delta, ext))
-        }
-        "NavigationInfo" => {
-            let timestamp = JsUint::new(5).ok_or("no number")?;
-            let navigation = text(alloc, "n1")?;
-            told(
-                alloc,
-                NavigationInfo::new(context, Some(navigation), timestamp, url, ext),
-            )
-        }
-        _ => Err(Fail::from("no such rule")),
-    }
-}
-
 #[test]
 fn constructors(rt: HostRuntime) -> Result<(), Fail> {
-    let alloc = rt.alloc();
-    let rows = [
+    const ROWS: &[(&str, &str, &str)] = &[
         (
             "CreateParameters",
             r#"{"x":[1]}"#,
@@ -378,17 +370,12 @@ fn constructors(rt: HostRuntime) -> Result<(), Fail> {
         ),
         ("NavigationInfo", r#"{"timestamp":5}"#, "Clash"),
     ];
-    for (rule, further, shown) in rows {
-        let ext = members_of(alloc, further)?;
-        assert_eq!(rt; made(alloc, rule, ext)?.as_str(), shown, "{rule} {further}");
-    }
-    Ok(())
+    makes::<Browsing>(&rt, rt.alloc(), ROWS)
 }
 
 #[test]
 fn levels_of_further_members(rt: HostRuntime) -> Result<(), Fail> {
-    let alloc = rt.alloc();
-    let rules = [
+    const NAMES: &[&str] = &[
         "CreateParameters",
         "CreateResult",
         "ActivateParameters",
@@ -400,19 +387,10 @@ fn levels_of_further_members(rt: HostRuntime) -> Result<(), Fail> {
         "TraverseHistoryParameters",
         "NavigationInfo",
     ];
-    for rule in rules {
-        for (levels, fine) in [(60, true), (61, false)] {
-            let further = nested(alloc, levels)?;
-            let ext = members_of(alloc, further.as_str())?;
-            let told = made(alloc, rule, ext)?;
-            assert_eq!(rt; told.as_str() != "TooDeep", fine, "{rule}, {levels} levels");
-        }
-    }
-    for (levels, fine) in [(60, true), (61, false)] {
-        let text = nested(alloc, levels)?;
-        let shown = again::<GetTreeParameters>(alloc, text.as_str())?;
-        assert_eq!(rt; shown == text, fine, "read, {levels} levels");
-        assert_eq!(rt; shown.as_str() == NO_FIT, !fine, "read, {levels} levels");
-    }
-    Ok(())
+    makes_60_levels::<Browsing>(&rt, rt.alloc(), NAMES)?;
+    let fits = deep(rt.alloc(), 60)?;
+    let row = ("GetTreeParameters", fits.as_str(), fits.as_str());
+    reads::<Browsing>(&rt, rt.alloc(), &[row])?;
+    let too_deep = deep(rt.alloc(), 61)?;
+    refuses::<Browsing>(&rt, rt.alloc(), &[("GetTreeParameters", too_deep.as_str())])
 }

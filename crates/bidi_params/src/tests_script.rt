@@ -1,33 +1,104 @@
 //! The types of scripts: texts that fit and texts that do not, and what the constructors answer.
-use crate::tests_support::{NO_FIT, again, members_of, nested, text, told, value_of};
+use crate::tests_support::{
+    Types, again, makes, makes_60_levels, reads, refuses, repeated, text, told, value_of,
+};
 use crate::{
     CallFunctionParameters, DisownParameters, EvaluateParameters, GetRealmsParameters,
     GetRealmsResult, Ownership, RealmDestroyedParameters, RealmInfo, RealmType,
 };
 use bidi_tree::{Members, find_member};
-use bidi_values::{LocalValue, Target};
-use std::alloc::{AllocError, Global};
+use bidi_values::Target;
+use std::alloc::Global;
 use std::test::Fail;
 
-fn again_as(alloc: Global, rule: &str, text: &str) -> Result<String, Fail> {
-    match rule {
-        "Ownership" => again::<Ownership>(alloc, text),
-        "RealmType" => again::<RealmType>(alloc, text),
-        "EvaluateParameters" => again::<EvaluateParameters>(alloc, text),
-        "CallFunctionParameters" => again::<CallFunctionParameters>(alloc, text),
-        "DisownParameters" => again::<DisownParameters>(alloc, text),
-        "GetRealmsParameters" => again::<GetRealmsParameters>(alloc, text),
-        "RealmInfo" => again::<RealmInfo>(alloc, text),
-        "GetRealmsResult" => again::<GetRealmsResult>(alloc, text),
-        "RealmDestroyedParameters" => again::<RealmDestroyedParameters>(alloc, text),
-        _ => Err(Fail::from("no such rule")),
+const TARGET: &str = r#"{"realm":"r1"}"#;
+
+struct Script;
+
+impl Types for Script {
+    fn again(alloc: Global, name: &str, text: &str) -> Result<String, Fail> {
+        match name {
+            "Ownership" => again::<Ownership>(alloc, text),
+            "RealmType" => again::<RealmType>(alloc, text),
+            "EvaluateParameters" => again::<EvaluateParameters>(alloc, text),
+            "CallFunctionParameters" => again::<CallFunctionParameters>(alloc, text),
+            "DisownParameters" => again::<DisownParameters>(alloc, text),
+            "GetRealmsParameters" => again::<GetRealmsParameters>(alloc, text),
+            "RealmInfo" => again::<RealmInfo>(alloc, text),
+            "GetRealmsResult" => again::<GetRealmsResult>(alloc, text),
+            "RealmDestroyedParameters" => again::<RealmDestroyedParameters>(alloc, text),
+            _ => Err(Fail::from("no such rule")),
+        }
     }
+
+    fn made(alloc: Global, name: &str, ext: Members) -> Result<String, Fail> {
+        match name {
+            "EvaluateParameters" => evaluate_with(alloc, ext),
+            "CallFunctionParameters" => call_with(alloc, ext),
+            "DisownParameters" => disown_with(alloc, ext),
+            "GetRealmsParameters" => {
+                let context = Some(text(alloc, "c1")?);
+                let kind = Some(RealmType::Worklet);
+                told(alloc, GetRealmsParameters::new(context, kind, ext))
+            }
+            "RealmInfo" => {
+                let realm = text(alloc, "r1")?;
+                let origin = text(alloc, "o")?;
+                let context = text(alloc, "c1")?;
+                told(alloc, RealmInfo::new(realm, origin, context, ext))
+            }
+            "GetRealmsResult" => {
+                let realms = value_of(alloc, "[]")?;
+                told(alloc, GetRealmsResult::new(realms, ext))
+            }
+            "RealmDestroyedParameters" => {
+                let realm = text(alloc, "r1")?;
+                told(alloc, RealmDestroyedParameters::new(realm, ext))
+            }
+            _ => Err(Fail::from("no such rule")),
+        }
+    }
+}
+
+fn evaluate_with(alloc: Global, ext: Members) -> Result<String, Fail> {
+    let expression = text(alloc, "1")?;
+    let target = value_of(alloc, TARGET)?;
+    let root = Some(Ownership::Root);
+    told(
+        alloc,
+        EvaluateParameters::new(expression, target, true, root, None, ext),
+    )
+}
+
+fn call_with(alloc: Global, ext: Members) -> Result<String, Fail> {
+    let function = text(alloc, "f")?;
+    let target = value_of(alloc, TARGET)?;
+    let arguments = Some(value_of(alloc, r#"[{"handle":"h1"}]"#)?);
+    let this = Some(value_of(alloc, r#"{"type":"null"}"#)?);
+    told(
+        alloc,
+        CallFunctionParameters::new(
+            function,
+            false,
+            target,
+            arguments,
+            None,
+            this,
+            Some(true),
+            ext,
+        ),
+    )
+}
+
+fn disown_with(alloc: Global, ext: Members) -> Result<String, Fail> {
+    let handles = value_of(alloc, r#"["h1"]"#)?;
+    let target = value_of(alloc, TARGET)?;
+    told(alloc, DisownParameters::new(handles, target, ext))
 }
 
 #[test]
 fn texts_that_fit(rt: HostRuntime) -> Result<(), Fail> {
-    let alloc = rt.alloc();
-    let rows = [
+    const ROWS: &[(&str, &str, &str)] = &[
         ("Ownership", r#""root""#, r#""root""#),
         ("Ownership", r#""none""#, r#""none""#),
         ("RealmType", r#""window""#, r#""window""#),
@@ -100,20 +171,12 @@ fn texts_that_fit(rt: HostRuntime) -> Result<(), Fail> {
             r#"{"realm":"r","x":1}"#,
         ),
     ];
-    for (rule, text, shown) in rows {
-        assert_eq!(rt;
-            again_as(alloc, rule, text)?.as_str(),
-            shown,
-            "{rule} {text}"
-        );
-    }
-    Ok(())
+    reads::<Script>(&rt, rt.alloc(), ROWS)
 }
 
 #[test]
 fn texts_that_do_not_fit(rt: HostRuntime) -> Result<(), Fail> {
-    let alloc = rt.alloc();
-    let rows = [
+    const ROWS: &[(&str, &str)] = &[
         ("Ownership", r#""all""#),
         ("Ownership", "null"),
         ("RealmType", r#""frame""#),
@@ -235,27 +298,28 @@ fn texts_that_do_not_fit(rt: HostRuntime) -> Result<(), Fail> {
         ("RealmDestroyedParameters", r#"{"x":1}"#),
         ("RealmDestroyedParameters", r#"{"realm":null}"#),
     ];
-    for (rule, text) in rows {
+    refuses::<Script>(&rt, rt.alloc(), ROWS)
+}
+
+#[test]
+fn ownerships(rt: HostRuntime) -> Result<(), Fail> {
+    const ROWS: &[(&str, Ownership)] = &[
+        (r#""root""#, Ownership::Root),
+        (r#""none""#, Ownership::None),
+    ];
+    for (text, ownership) in ROWS {
         assert_eq!(rt;
-            again_as(alloc, rule, text)?.as_str(),
-            NO_FIT,
-            "{rule} {text}"
+            value_of::<Ownership>(rt.alloc(), text)?,
+            *ownership,
+            "{text}"
         );
     }
     Ok(())
 }
 
 #[test]
-fn words(rt: HostRuntime) -> Result<(), Fail> {
-    let alloc = rt.alloc();
-    let ownerships = [
-        (r#""root""#, Ownership::Root),
-        (r#""none""#, Ownership::None),
-    ];
-    for (text, ownership) in ownerships {
-        assert_eq!(rt; value_of::<Ownership>(alloc, text)?, ownership, "{text}");
-    }
-    let kinds = [
+fn types_of_realms(rt: HostRuntime) -> Result<(), Fail> {
+    const ROWS: &[(&str, RealmType)] = &[
         (r#""window""#, RealmType::Window),
         (r#""dedicated-worker""#, RealmType::DedicatedWorker),
         (r#""shared-worker""#, RealmType::SharedWorker),
@@ -265,28 +329,31 @@ fn words(rt: HostRuntime) -> Result<(), Fail> {
         (r#""audio-worklet""#, RealmType::AudioWorklet),
         (r#""worklet""#, RealmType::Worklet),
     ];
-    for (text, kind) in kinds {
-        assert_eq!(rt; value_of::<RealmType>(alloc, text)?, kind, "{text}");
+    for (text, kind) in ROWS {
+        assert_eq!(rt; value_of::<RealmType>(rt.alloc(), text)?, *kind, "{text}");
     }
     Ok(())
 }
 
+/// Whether the target of an evaluate is one of a context.
+fn is_in_context(alloc: Global, target: &str) -> Result<bool, Fail> {
+    let text = format!(in alloc;
+        "{{\"awaitPromise\":true,\"expression\":\"1\",\"target\":{target}}}"
+    )?;
+    let value = value_of::<EvaluateParameters>(alloc, text.as_str())?;
+    Ok(matches!(value.target, Target::Context(_)))
+}
+
 #[test]
 fn both_kinds_of_target(rt: HostRuntime) -> Result<(), Fail> {
-    let alloc = rt.alloc();
-    let rows = [
+    const ROWS: &[(&str, bool)] = &[
         (r#"{"context":"c"}"#, true),
         (r#"{"realm":"r"}"#, false),
         (r#"{"realm":"r","context":"c"}"#, true),
         (r#"{"realm":"r","context":5}"#, false),
     ];
-    for (target, in_context) in rows {
-        let text = format!(in alloc;
-            "{{\"awaitPromise\":true,\"expression\":\"1\",\"target\":{target}}}"
-        )?;
-        let value = value_of::<EvaluateParameters>(alloc, text.as_str())?;
-        let found = matches!(value.target, Target::Context(_));
-        assert_eq!(rt; found, in_context, "{target}");
+    for (target, in_context) in ROWS {
+        assert_eq!(rt; is_in_context(rt.alloc(), target)?, *in_context, "{target}");
     }
     Ok(())
 }
@@ -302,15 +369,24 @@ fn keeps_a_further_member(rt: HostRuntime) -> Result<(), Fail> {
 }
 
 /// Arrays within each other, as a local value.
-fn arrays(alloc: Global, count: usize) -> Result<String, AllocError> {
-    let mut text = String::new(alloc);
-    for _ in 0..count {
-        text.push_str("{\"type\":\"array\",\"value\":[")?;
-    }
-    for _ in 0..count {
-        text.push_str("]}")?;
-    }
-    Ok(text)
+fn arrays(alloc: Global, count: usize) -> Result<String, Fail> {
+    let first = repeated(alloc, r#"{"type":"array","value":["#, count)?;
+    let last = repeated(alloc, "]}", count)?;
+    Ok(format!(in alloc; "{first}{last}")?)
+}
+
+/// The parameters of a call with a value as `this`.
+fn with_this(alloc: Global, value: &str) -> Result<String, Fail> {
+    Ok(format!(in alloc;
+        "{{\"awaitPromise\":true,\"functionDeclaration\":\"f\",\"target\":{{\"realm\":\"r\"}},\"this\":{value}}}"
+    )?)
+}
+
+/// The parameters of a call with a value as its argument.
+fn with_argument(alloc: Global, value: &str) -> Result<String, Fail> {
+    Ok(format!(in alloc;
+        "{{\"arguments\":[{value}],\"awaitPromise\":true,\"functionDeclaration\":\"f\",\"target\":{{\"realm\":\"r\"}}}}"
+    )?)
 }
 
 #[test]
@@ -318,77 +394,19 @@ fn levels_of_local_values(rt: HostRuntime) -> Result<(), Fail> {
     let alloc = rt.alloc();
     for (count, fine) in [(30, true), (31, false)] {
         let value = arrays(alloc, count)?;
-        let this = format!(in alloc;
-            "{{\"awaitPromise\":true,\"functionDeclaration\":\"f\",\"target\":{{\"realm\":\"r\"}},\"this\":{value}}}"
-        )?;
+        let this = with_this(alloc, value.as_str())?;
         let shown = again::<CallFunctionParameters>(alloc, this.as_str())?;
         assert_eq!(rt; shown == this, fine, "this, {count} arrays");
-        let arguments = format!(in alloc;
-            "{{\"arguments\":[{value}],\"awaitPromise\":true,\"functionDeclaration\":\"f\",\"target\":{{\"realm\":\"r\"}}}}"
-        )?;
-        let shown = again::<CallFunctionParameters>(alloc, arguments.as_str())?;
-        assert_eq!(rt; shown == arguments, fine, "arguments, {count} arrays");
+        let argument = with_argument(alloc, value.as_str())?;
+        let shown = again::<CallFunctionParameters>(alloc, argument.as_str())?;
+        assert_eq!(rt; shown == argument, fine, "an argument, {count} arrays");
     }
     Ok(())
 }
 
-/// What becomes of some parts with further members: the compact text, or the fault.
-fn made(alloc: Global, rule: &str, ext: Members) -> Result<String, Fail> {
-    let realm = text(alloc, "r1")?;
-    let context = text(alloc, "c1")?;
-    let target = value_of::<Target>(alloc, r#"{"realm":"r1"}"#)?;
-    match rule {
-        "EvaluateParameters" => {
-            let expression = text(alloc, "1")?;
-            let root = Some(Ownership::Root);
-            told(
-                alloc,
-                EvaluateParameters::new(expression, target, true, root, None, ext),
-            )
-        }
-        "CallFunctionParameters" => {
-            let function = text(alloc, "f")?;
-            let arguments = value_of::<Vec<LocalValue>>(alloc, r#"[{"handle":"h1"}]"#)?;
-            let this = value_of::<LocalValue>(alloc, r#"{"type":"null"}"#)?;
-            told(
-                alloc,
-                CallFunctionParameters::new(
-                    function,
-                    false,
-                    target,
-                    Some(arguments),
-                    None,
-                    Some(this),
-                    Some(true),
-                    ext,
-                ),
-            )
-        }
-        "DisownParameters" => {
-            let handles = value_of::<Vec<String>>(alloc, r#"["h1"]"#)?;
-            told(alloc, DisownParameters::new(handles, target, ext))
-        }
-        "GetRealmsParameters" => told(
-            alloc,
-            GetRealmsParameters::new(Some(context), Some(RealmType::Worklet), ext),
-        ),
-        "RealmInfo" => {
-            let origin = text(alloc, "o")?;
-            told(alloc, RealmInfo::new(realm, origin, context, ext))
-        }
-        "GetRealmsResult" => {
-            let realms = value_of::<Vec<RealmInfo>>(alloc, "[]")?;
-            told(alloc, GetRealmsResult::new(realms, ext))
-        }
-        "RealmDestroyedParameters" => told(alloc, RealmDestroyedParameters::new(realm, ext)),
-        _ => Err(Fail::from("no such rule")),
-    }
-}
-
 #[test]
 fn constructors(rt: HostRuntime) -> Result<(), Fail> {
-    let alloc = rt.alloc();
-    let rows = [
+    const ROWS: &[(&str, &str, &str)] = &[
         (
             "EvaluateParameters",
             r#"{"x":[1]}"#,
@@ -437,17 +455,12 @@ fn constructors(rt: HostRuntime) -> Result<(), Fail> {
         ),
         ("RealmDestroyedParameters", r#"{"realm":1}"#, "Clash"),
     ];
-    for (rule, further, shown) in rows {
-        let ext = members_of(alloc, further)?;
-        assert_eq!(rt; made(alloc, rule, ext)?.as_str(), shown, "{rule} {further}");
-    }
-    Ok(())
+    makes::<Script>(&rt, rt.alloc(), ROWS)
 }
 
 #[test]
 fn levels_of_further_members(rt: HostRuntime) -> Result<(), Fail> {
-    let alloc = rt.alloc();
-    let rules = [
+    const NAMES: &[&str] = &[
         "EvaluateParameters",
         "CallFunctionParameters",
         "DisownParameters",
@@ -456,13 +469,5 @@ fn levels_of_further_members(rt: HostRuntime) -> Result<(), Fail> {
         "GetRealmsResult",
         "RealmDestroyedParameters",
     ];
-    for rule in rules {
-        for (levels, fine) in [(60, true), (61, false)] {
-            let further = nested(alloc, levels)?;
-            let ext = members_of(alloc, further.as_str())?;
-            let told = made(alloc, rule, ext)?;
-            assert_eq!(rt; told.as_str() != "TooDeep", fine, "{rule}, {levels} levels");
-        }
-    }
-    Ok(())
+    makes_60_levels::<Script>(&rt, rt.alloc(), NAMES)
 }

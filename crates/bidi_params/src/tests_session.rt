@@ -1,59 +1,106 @@
 //! The types of the session module: read, written again, and made of their parts.
-ghost use Rattle.std.specs.Prelude.{IfOk};
-
+use crate::tests_support::{
+    NO_FIT, Types, again, makes, makes_60_levels, reads, text, text_of_tree, told, value_of,
+};
 use crate::{
     Capabilities, CapabilitiesRequest, CapabilityRequest, NewParameters, NewResult, StatusResult,
     SubscribeParameters, SubscribeResult, UnsubscribeByEvents, UnsubscribeById,
     UnsubscribeParameters,
 };
-use bidi_shape::{Ext, MakeFault, Shape};
-use bidi_tree::{Members, Tree, read, write};
-use std::alloc::{AllocError, Global};
+use bidi_tree::{Members, Tree};
+use std::alloc::Global;
 use std::test::Fail;
 
-const NO_FIT: &str = "the tree does not fit the rule";
+struct Session;
 
-/// The compact text of a value.
-fn text_of<X: Shape>(alloc: Global, value: &X) -> Result<String, Fail> {
-    let tree = value.to_tree(alloc)?;
-    if tree.is_writable() {
-        Ok(write(alloc, &tree)?)
-    } else {
-        Err(Fail::from("not writable"))
+impl Types for Session {
+    fn again(alloc: Global, name: &str, text: &str) -> Result<String, Fail> {
+        match name {
+            "StatusResult" => again::<StatusResult>(alloc, text),
+            "NewParameters" => again::<NewParameters>(alloc, text),
+            "CapabilitiesRequest" => again::<CapabilitiesRequest>(alloc, text),
+            "CapabilityRequest" => again::<CapabilityRequest>(alloc, text),
+            "NewResult" => again::<NewResult>(alloc, text),
+            "Capabilities" => again::<Capabilities>(alloc, text),
+            "SubscribeParameters" => again::<SubscribeParameters>(alloc, text),
+            "SubscribeResult" => again::<SubscribeResult>(alloc, text),
+            "UnsubscribeParameters" => again::<UnsubscribeParameters>(alloc, text),
+            "UnsubscribeById" => again::<UnsubscribeById>(alloc, text),
+            "UnsubscribeByEvents" => again::<UnsubscribeByEvents>(alloc, text),
+            _ => Err(Fail::from("no type of that name")),
+        }
+    }
+
+    fn made(alloc: Global, name: &str, ext: Members) -> Result<String, Fail> {
+        match name {
+            "StatusResult" => {
+                let message = text(alloc, "ready")?;
+                told(alloc, StatusResult::new(true, message, ext))
+            }
+            "NewParameters" => told(alloc, NewParameters::new(value_of(alloc, "{}")?, ext)),
+            "CapabilitiesRequest" => requests_with(alloc, ext),
+            "CapabilityRequest" => {
+                let browser_name = Some(text(alloc, "b")?);
+                told(
+                    alloc,
+                    CapabilityRequest::new(Some(false), browser_name, None, None, ext),
+                )
+            }
+            "NewResult" => new_result_with(alloc, ext),
+            "Capabilities" => capabilities_with(alloc, ext),
+            "SubscribeParameters" => subscribe_with(alloc, ext),
+            "SubscribeResult" => told(alloc, SubscribeResult::new(text(alloc, "s")?, ext)),
+            "UnsubscribeById" => {
+                let subscriptions = value_of(alloc, r#"["a"]"#)?;
+                told(alloc, UnsubscribeById::new(subscriptions, ext))
+            }
+            "UnsubscribeByEvents" => {
+                let events = value_of(alloc, r#"["e"]"#)?;
+                told(alloc, UnsubscribeByEvents::new(alloc, events, ext))
+            }
+            _ => Err(Fail::from("no constructor of that name")),
+        }
     }
 }
 
-/// The compact text of the value that a text reads as, or the fault.
-fn again<X: Shape>(alloc: Global, text: &str) -> Result<String, Fail> {
-    let tree = read(alloc, text, None).ok().ok_or("not JSON")?;
-    match X::from_tree(alloc, &tree) {
-        Ok(value) => text_of(alloc, &value),
-        Err(fault) => Ok(format!(in alloc; "{fault}")?),
-    }
+fn requests_with(alloc: Global, ext: Members) -> Result<String, Fail> {
+    let always_match = Some(value_of(alloc, r#"{"browserName":"b"}"#)?);
+    let first_match = Some(value_of(alloc, "[{}]")?);
+    told(
+        alloc,
+        CapabilitiesRequest::new(always_match, first_match, ext),
+    )
 }
 
-/// The same of the type of that name.
-fn again_as(alloc: Global, name: &str, text: &str) -> Result<String, Fail> {
-    match name {
-        "StatusResult" => again::<StatusResult>(alloc, text),
-        "NewParameters" => again::<NewParameters>(alloc, text),
-        "CapabilitiesRequest" => again::<CapabilitiesRequest>(alloc, text),
-        "CapabilityRequest" => again::<CapabilityRequest>(alloc, text),
-        "NewResult" => again::<NewResult>(alloc, text),
-        "Capabilities" => again::<Capabilities>(alloc, text),
-        "SubscribeParameters" => again::<SubscribeParameters>(alloc, text),
-        "SubscribeResult" => again::<SubscribeResult>(alloc, text),
-        "UnsubscribeParameters" => again::<UnsubscribeParameters>(alloc, text),
-        "UnsubscribeById" => again::<UnsubscribeById>(alloc, text),
-        "UnsubscribeByEvents" => again::<UnsubscribeByEvents>(alloc, text),
-        _ => Err(Fail::from("no type of that name")),
-    }
+fn new_result_with(alloc: Global, ext: Members) -> Result<String, Fail> {
+    let session_id = text(alloc, "s")?;
+    let capabilities = value_of(
+        alloc,
+        r#"{"acceptInsecureCerts":true,"browserName":"b","browserVersion":"v","platformName":"p","setWindowRect":false,"userAgent":"u"}"#,
+    )?;
+    told(alloc, NewResult::new(session_id, capabilities, ext))
+}
+
+fn capabilities_with(alloc: Global, ext: Members) -> Result<String, Fail> {
+    let browser = text(alloc, "b")?;
+    let version = text(alloc, "v")?;
+    let platform = text(alloc, "p")?;
+    let agent = text(alloc, "u")?;
+    told(
+        alloc,
+        Capabilities::new(true, browser, version, platform, false, agent, ext),
+    )
+}
+
+fn subscribe_with(alloc: Global, ext: Members) -> Result<String, Fail> {
+    let events = value_of(alloc, r#"["e"]"#)?;
+    let contexts = Some(value_of(alloc, r#"["c"]"#)?);
+    told(alloc, SubscribeParameters::new(events, contexts, None, ext))
 }
 
 #[test]
 fn read_and_written(rt: HostRuntime) -> Result<(), Fail> {
-    let alloc = rt.alloc();
-    let rows = [
+    const ROWS: &[(&str, &str, &str)] = &[
         (
             "StatusResult",
             r#"{"ready":true,"message":"ready"}"#,
@@ -232,30 +279,22 @@ fn read_and_written(rt: HostRuntime) -> Result<(), Fail> {
             NO_FIT,
         ),
     ];
-    for (name, text, shown) in rows {
-        assert_eq!(rt;
-            again_as(alloc, name, text)?.as_str(),
-            shown,
-            "{name} {text}"
-        );
-    }
-    Ok(())
+    reads::<Session>(&rt, rt.alloc(), ROWS)
 }
 
-/// The further members as a text.
-fn further_of(alloc: Global, ext: &Ext) -> Result<String, Fail> {
-    let tree = Tree::Map(ext.copy_members()?);
-    if tree.is_writable() {
-        Ok(write(alloc, &tree)?)
-    } else {
-        Err(Fail::from("not writable"))
-    }
+/// Which alternative a text reads as, and its further members.
+fn alternative_of(alloc: Global, text: &str) -> Result<(&'static str, String), Fail> {
+    let (name, ext) = match value_of::<UnsubscribeParameters>(alloc, text)? {
+        UnsubscribeParameters::ById(by_id) => ("by id", by_id.ext),
+        UnsubscribeParameters::ByEvents(by_events) => ("by events", by_events.ext),
+    };
+    let further = Tree::Map(ext.copy_members()?);
+    Ok((name, text_of_tree(alloc, &further)?))
 }
 
 #[test]
 fn alternatives(rt: HostRuntime) -> Result<(), Fail> {
-    let alloc = rt.alloc();
-    let rows = [
+    const ROWS: &[(&str, &str, &str)] = &[
         (r#"{"subscriptions":["a"]}"#, "by id", "{}"),
         (r#"{"events":["b"]}"#, "by events", "{}"),
         (
@@ -269,130 +308,17 @@ fn alternatives(rt: HostRuntime) -> Result<(), Fail> {
             r#"{"subscriptions":[]}"#,
         ),
     ];
-    for (text, name, further) in rows {
-        let tree = read(alloc, text, None).ok().ok_or("not JSON")?;
-        let (found, ext) = match UnsubscribeParameters::from_tree(alloc, &tree) {
-            Ok(UnsubscribeParameters::ById(by_id)) => ("by id", by_id.ext),
-            Ok(UnsubscribeParameters::ByEvents(by_events)) => ("by events", by_events.ext),
-            Err(_) => return Err(Fail::from("no fit")),
-        };
-        assert_eq!(rt; found, name, "{text}");
-        assert_eq!(rt; further_of(alloc, &ext)?.as_str(), further, "{text}");
+    for (text, name, shown) in ROWS {
+        let (found, further) = alternative_of(rt.alloc(), text)?;
+        assert_eq!(rt; found, *name, "{text}");
+        assert_eq!(rt; further.as_str(), *shown, "{text}");
     }
     Ok(())
 }
 
-/// The value that a text reads as.
-fn part<X: Shape>(alloc: Global, text: &str) -> Result<X, Fail>
-    ensures { IfOk result X.shape.well }
-{
-    let tree = read(alloc, text, None).ok().ok_or("not JSON")?;
-    match X::from_tree(alloc, &tree) {
-        Ok(value) => Ok(value),
-        Err(_) => Err(Fail::from("no fit")),
-    }
-}
-
-/// The members of a map, by its text.
-fn members_in(alloc: Global, text: &str) -> Result<Members, Fail> {
-    match read(alloc, text, None) {
-        Ok(Tree::Map(members)) => Ok(members),
-        _ => Err(Fail::from("no map")),
-    }
-}
-
-/// The compact text of what was made, or the fault.
-fn told<X: Shape>(alloc: Global, made: Result<X, MakeFault>) -> Result<String, Fail> {
-    match made {
-        Ok(value) => text_of(alloc, &value),
-        Err(fault) => Ok(format!(in alloc; "{fault:?}")?),
-    }
-}
-
-/// What becomes of the same parts with further members, as a value of the type of that name.
-fn made_as(alloc: Global, name: &str, further: &str) -> Result<String, Fail> {
-    let ext = members_in(alloc, further)?;
-    match name {
-        "StatusResult" => told(
-            alloc,
-            StatusResult::new(true, part(alloc, r#""ready""#)?, ext),
-        ),
-        "NewParameters" => told(alloc, NewParameters::new(part(alloc, "{}")?, ext)),
-        "CapabilitiesRequest" => {
-            let always_match = part(alloc, r#"{"browserName":"b"}"#)?;
-            let first_match = part(alloc, "[{}]")?;
-            told(
-                alloc,
-                CapabilitiesRequest::new(Some(always_match), Some(first_match), ext),
-            )
-        }
-        "CapabilityRequest" => {
-            let browser_name = part(alloc, r#""b""#)?;
-            told(
-                alloc,
-                CapabilityRequest::new(Some(false), Some(browser_name), None, None, ext),
-            )
-        }
-        "NewResult" => {
-            let session_id = part(alloc, r#""s""#)?;
-            let capabilities = part(
-                alloc,
-                r#"{"acceptInsecureCerts":true,"browserName":"b","browserVersion":"v","platformName":"p","setWindowRect":false,"userAgent":"u"}"#,
-            )?;
-            told(alloc, NewResult::new(session_id, capabilities, ext))
-        }
-        "Capabilities" => {
-            let browser_name = part(alloc, r#""b""#)?;
-            let browser_version = part(alloc, r#""v""#)?;
-            let platform_name = part(alloc, r#""p""#)?;
-            let user_agent = part(alloc, r#""u""#)?;
-            told(
-                alloc,
-                Capabilities::new(
-                    true,
-                    browser_name,
-                    browser_version,
-                    platform_name,
-                    false,
-                    user_agent,
-                    ext,
-                ),
-            )
-        }
-        "SubscribeParameters" => {
-            let events = part(alloc, r#"["e"]"#)?;
-            let contexts = part(alloc, r#"["c"]"#)?;
-            told(
-                alloc,
-                SubscribeParameters::new(events, Some(contexts), None, ext),
-            )
-        }
-        "SubscribeResult" => told(alloc, SubscribeResult::new(part(alloc, r#""s""#)?, ext)),
-        "UnsubscribeById" => told(alloc, UnsubscribeById::new(part(alloc, r#"["a"]"#)?, ext)),
-        "UnsubscribeByEvents" => {
-            let events = part(alloc, r#"["e"]"#)?;
-            told(alloc, UnsubscribeByEvents::new(alloc, events, ext))
-        }
-        _ => Err(Fail::from("no constructor of that name")),
-    }
-}
-
-/// A text of lists within each other.
-fn nested(alloc: Global, levels: usize) -> Result<String, AllocError> {
-    let mut text = String::new(alloc);
-    for _ in 0..levels {
-        text.push('[')?;
-    }
-    for _ in 0..levels {
-        text.push(']')?;
-    }
-    Ok(text)
-}
-
 #[test]
 fn made_of_parts(rt: HostRuntime) -> Result<(), Fail> {
-    let alloc = rt.alloc();
-    let rows = [
+    const ROWS: &[(&str, &str, &str)] = &[
         (
             "StatusResult",
             r#"{"x":[1]}"#,
@@ -498,20 +424,10 @@ fn made_of_parts(rt: HostRuntime) -> Result<(), Fail> {
             "TooDeep",
         ),
     ];
-    for (name, further, shown) in rows {
-        assert_eq!(rt;
-            made_as(alloc, name, further)?.as_str(),
-            shown,
-            "{name} {further}"
-        );
-    }
-    for (levels, fine) in [(60, true), (61, false)] {
-        let text = nested(alloc, levels)?;
-        let further = format!(in alloc; "{{\"x\":{text}}}")?;
-        for name in ["StatusResult", "UnsubscribeByEvents"] {
-            let made = made_as(alloc, name, further.as_str())?;
-            assert_eq!(rt; made.as_str() != "TooDeep", fine, "{name}, {levels} levels");
-        }
-    }
-    Ok(())
+    makes::<Session>(&rt, rt.alloc(), ROWS)
+}
+
+#[test]
+fn levels_of_further_members(rt: HostRuntime) -> Result<(), Fail> {
+    makes_60_levels::<Session>(&rt, rt.alloc(), &["StatusResult", "UnsubscribeByEvents"])
 }

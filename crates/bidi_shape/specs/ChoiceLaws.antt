@@ -1,12 +1,12 @@
 -- Values or null, and values of one of two types: their trees, when they are well and the same, and their laws.
-use Rattle.std.specs.Prelude.{◌≡◌, Option, Some, None}
-use Rattle.std.proofs.Common.{sym, subst}
+use Rattle.std.proofs.Common.{◌≡◌, ◌≤◌, ℕ, max, Option, Some, None, refl, zero-le, sym, subst, arith}
 use Rattle.bidi_tree.specs.Node as tree
-use Rattle.bidi_tree.specs.Node.{Node}
+use Rattle.bidi_tree.specs.Node.{Node, IsWhole}
 use Rattle.bidi_shape.specs.Term.{Term, null, either}
 use Rattle.bidi_shape.specs.Fits.{Fits, fits_null, fits_first, fits_second}
 use Rattle.bidi_shape.specs.Value.{ShapeOf}
 use Rattle.bidi_shape.specs.ValueLaws.{SameOption}
+use Rattle.bidi_shape.specs.WholeLaws.{whole_within}
 use Rattle.bidi_shape.specs.declared.choice.Either.{Either}
 use Rattle.bidi_shape.specs.declared.choice.Either.TheVariants.{First, Second}
 
@@ -34,6 +34,10 @@ nullable_one tree_of well same τ fits one None (Some y) v w e = v (subst (λ t.
 nullable_one tree_of well same τ fits one (Some x) None v w e = w (subst (λ t. Fits t τ) e (fits x v))
 nullable_one tree_of well same τ fits one (Some x) (Some y) v w e = one x y v w e
 
+pub nullable_whole : {X : Type 0} (s : ShapeOf X) (o : Option X) → NullableWell s.well s.rule o → IsWhole (nullable_tree s.tree_of o) s.deepest
+nullable_whole s None w = (refl, zero-le)
+nullable_whole s (Some v) w = s.whole v w
+
 -- the shape of a value or null
 abbrev pub nullable_shape : {X : Type 0} → ShapeOf X → ShapeOf (Option X)
 nullable_shape s = record {
@@ -43,6 +47,8 @@ nullable_shape s = record {
   same = SameOption s.same;
   fits = λ v w. nullable_fits s.tree_of s.well s.rule s.fits v w;
   one_value = λ v w a b e. nullable_one s.tree_of s.well s.same s.rule s.fits s.one_value v w a b e;
+  deepest = s.deepest;
+  whole = nullable_whole s;
 }
 
 -- ---- a value of the first type that fits
@@ -73,6 +79,10 @@ either_one s t (First a) (Second b) v w e = w.1 (subst (λ x. Fits x s.rule) e (
 either_one s t (Second a) (First b) v w e = v.1 (subst (λ x. Fits x s.rule) (sym e) (s.fits b w))
 either_one s t (Second a) (Second b) v w e = t.one_value a b v.0 w.0 e
 
+pub either_whole : {A B : Type 0} (s : ShapeOf A) (t : ShapeOf B) (v : Either A B) → EitherWell s t v → IsWhole (either_tree s.tree_of t.tree_of v) (max s.deepest t.deepest)
+either_whole s t (First a) w = whole_within (s.tree_of a) s.deepest (max s.deepest t.deepest) (omega arith) (s.whole a w)
+either_whole s t (Second b) w = whole_within (t.tree_of b) t.deepest (max s.deepest t.deepest) (omega arith) (t.whole b w.0)
+
 -- the shape of a choice
 abbrev pub either_shape : {A B : Type 0} → ShapeOf A → ShapeOf B → ShapeOf (Either A B)
 either_shape s t = record {
@@ -82,6 +92,8 @@ either_shape s t = record {
   same = EitherSame s t;
   fits = either_fits s t;
   one_value = either_one s t;
+  deepest = max s.deepest t.deepest;
+  whole = either_whole s t;
 }
 
 -- what the first type does not take and the second does not take fits neither

@@ -1,11 +1,13 @@
 -- The members of a map, one after the other: the table of each kind of member, and of what may stand there else.
-use Rattle.std.specs.Prelude.{◌≡◌, [], ◌∷◌, Some, IfSome, option_map}
+use Rattle.std.proofs.Common.{◌≡◌, max, [], ◌∷◌, Some, option_map, refl, zero-le, arith}
+use Rattle.std.specs.Prelude.{IfSome}
 use Rattle.bidi_tree.specs.Node as tree
 use Rattle.bidi_tree.specs.Node.{no_members}
 use Rattle.bidi_shape.specs.Term.{required, optional, extensible, closed, exactly, no_more, row}
 use Rattle.bidi_shape.specs.Fits.{fits_exactly}
 use Rattle.bidi_shape.specs.Value.{ShapeOf}
 use Rattle.bidi_shape.specs.ValueLaws.{others_of, SameOption, optional_fits, optional_one}
+use Rattle.bidi_shape.specs.WholeLaws.{whole_within, parts_within, optional_whole}
 use Rattle.bidi_shape.specs.Table.{Table, head, tail, same_head, same_tail, same_some}
 use Rattle.bidi_shape.specs.declared.ext.Ext.{Ext}
 use Rattle.bidi_shape.specs.declared.fields.Required.{Required}
@@ -24,6 +26,8 @@ required_table s t = record {
   same = λ f g. s.same f.0 g.0 × t.same f.1 g.1;
   parts_fit = λ ks ws f w. (s.fits f.0 w.0, t.parts_fit (tail ks) ws f.1 w.1);
   one = λ ws f g a b e o. (s.one_value f.0 g.0 a.0 b.0 (same_some (same_head e)), t.one ws f.1 g.1 a.1 b.1 (same_tail e) o);
+  deepest = max s.deepest t.deepest;
+  whole = λ ws f w. (whole_within (s.tree_of f.0) s.deepest (max s.deepest t.deepest) (omega arith) (s.whole f.0 w.0), parts_within (t.parts ws f.1) t.deepest (max s.deepest t.deepest) (omega arith) (t.whole ws f.1 w.1));
 }
 
 -- a member that may be there
@@ -37,6 +41,8 @@ optional_table s t = record {
   same = λ f g. SameOption s.same f.0 g.0 × t.same f.1 g.1;
   parts_fit = λ ks ws f w. (optional_fits s.tree_of s.well s.rule s.fits f.0 w.0, t.parts_fit (tail ks) ws f.1 w.1);
   one = λ ws f g a b e o. (optional_one s.tree_of s.well s.same s.one_value f.0 g.0 a.0 b.0 (same_head e), t.one ws f.1 g.1 a.1 b.1 (same_tail e) o);
+  deepest = max s.deepest t.deepest;
+  whole = λ ws f w. optional_whole s.tree_of s.well (max s.deepest t.deepest) (λ v x. whole_within (s.tree_of v) s.deepest (max s.deepest t.deepest) (omega arith) (s.whole v x)) f.0 w.0 (t.parts ws f.1) (parts_within (t.parts ws f.1) t.deepest (max s.deepest t.deepest) (omega arith) (t.whole ws f.1 w.1));
 }
 
 -- a member that is a given text
@@ -50,6 +56,8 @@ literal_table t = record {
   same = λ f g. t.same f.0 g.0;
   parts_fit = λ ks ws f w. (fits_exactly (head ws), t.parts_fit (tail ks) (tail ws) f.0 w);
   one = λ ws f g a b e o. t.one (tail ws) f.0 g.0 a b (same_tail e) o;
+  deepest = t.deepest;
+  whole = λ ws f w. ((refl, zero-le), t.whole (tail ws) f.0 w);
 }
 
 -- any other members
@@ -63,6 +71,8 @@ ext_table = record {
   same = λ e f. others_of e ≡ others_of f;
   parts_fit = λ ks ws e w. tt;
   one = λ ws e f a b p o. o;
+  deepest = 0;
+  whole = λ ws e w. tt;
 }
 
 -- no other member
@@ -76,4 +86,6 @@ closed_table = record {
   same = λ e f. Unit {0};
   parts_fit = λ ks ws e w. tt;
   one = λ ws e f a b p o. tt;
+  deepest = 0;
+  whole = λ ws e w. tt;
 }

@@ -10,6 +10,7 @@ pub mod MapLaws
 pub mod OthersLaws
 pub mod ValueLaws
 pub mod ListLaws
+pub mod WholeLaws
 pub mod ChoiceLaws
 pub mod Table
 pub mod WordLaws

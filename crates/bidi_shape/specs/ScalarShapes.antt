@@ -1,5 +1,5 @@
 -- Texts, truth values and whole numbers: each stands for the tree that it is.
-use Rattle.std.specs.Prelude.{◌≡◌, pos, Bool, String, string_bytes}
+use Rattle.std.proofs.Common.{◌≡◌, pos, Bool, String, string_bytes, refl, zero-le}
 use Rattle.std.specs.declared.alloc.Global.{Global}
 use Rattle.bidi_tree.specs.Node as tree
 use Rattle.bidi_tree.specs.declared.number.JsUint.{JsUint}
@@ -17,6 +17,8 @@ string_shape = record {
   same = λ s t. string_bytes s ≡ string_bytes t;
   fits = λ s w. fits_text (string_bytes s);
   one_value = λ s t v w e. text_one (string_bytes s) (string_bytes t) e;
+  deepest = 0;
+  whole = λ s w. (refl, zero-le);
 }
 
 abbrev pub bool_shape : ShapeOf Bool
@@ -27,6 +29,8 @@ bool_shape = record {
   same = λ b c. b ≡ c;
   fits = λ b w. fits_bool b;
   one_value = λ b c v w e. bool_one b c e;
+  deepest = 0;
+  whole = λ b w. (refl, zero-le);
 }
 
 abbrev pub js_uint_shape : ShapeOf JsUint
@@ -37,6 +41,8 @@ js_uint_shape = record {
   same = λ m n. m.value ≡ n.value;
   fits = λ n w. fits_js_uint n.value n.in_range;
   one_value = λ m n v w e. uint_one m.value n.value e;
+  deepest = 0;
+  whole = λ m w. (refl, zero-le);
 }
 
 abbrev pub js_int_shape : ShapeOf JsInt
@@ -47,4 +53,6 @@ js_int_shape = record {
   same = λ m n. m.value ≡ n.value;
   fits = λ n w. fits_js_int n.value n.in_range;
   one_value = λ m n v w e. int_one m.value n.value e;
+  deepest = 0;
+  whole = λ m w. (refl, zero-le);
 }

@@ -1,5 +1,5 @@
 -- Map types: the rows of their members, the values that these give, and the laws of both.
-use Rattle.std.specs.Prelude.{◌≡◌, ℕ, List, [], ◌∷◌, true, Option, Some, Result}
+use Rattle.std.specs.Prelude.{◌≡◌, ℕ, suc, max, List, [], ◌∷◌, true, Option, Some, Result}
 use Rattle.std.proofs.Common.{sym, ap, ◌∙◌, subst}
 use Rattle.std.specs.Result.{IsErrAnd}
 use Rattle.bidi_tree.specs.Node as tree
@@ -11,6 +11,7 @@ use Rattle.bidi_shape.specs.Profile.{term_of}
 use Rattle.bidi_shape.specs.Fits.{Fits, fits_rule, RowsFit, OthersFit, without}
 use Rattle.bidi_shape.specs.Parts.{joined, distinct, PartsAt, PartsFit}
 use Rattle.bidi_shape.specs.MapLaws.{map_fits, map_one, map_again, map_inside, without-without, Aligned-PartsFit}
+use Rattle.bidi_shape.specs.WholeLaws.{PartsAreWhole, deepest_other, map_whole}
 use Rattle.bidi_shape.specs.Outcome.{WhenNoFit, IfNoFit, handed_on}
 use Rattle.bidi_shape.specs.declared.fault.ShapeFault.{ShapeFault}
 
@@ -109,6 +110,9 @@ pub record Table (F : Type 0) : Type 1 where
   pub same : F → F → Type 0
   pub parts_fit : (ks ws : List (List ℕ)) (f : F) → well f → PartsFit (rows ks ws) (parts ws f)
   pub one : (ws : List (List ℕ)) (f g : F) → well f → well g → parts ws f ≡ parts ws g → others f ≡ others g → same f g
+  -- the most levels of a part, in which no Odd stands
+  pub deepest : ℕ
+  pub whole : (ws : List (List ℕ)) (f : F) → well f → PartsAreWhole (parts ws f) deepest
 
 abbrev pub tree_by : {F : Type 0} → Table F → List (List ℕ) → List (List ℕ) → F → Node
 tree_by t ks ws f = table_tree (t.rows ks ws) (t.parts ws f) (t.others f)
@@ -184,4 +188,6 @@ map_shape τ t ws m is d = record {
   same = λ v w. t.same (m v) (m w);
   fits = λ v w. fits_by t τ (names_in τ) ws is d (m v) w;
   one_value = λ v w a b e. one_by t (names_in τ) ws d (m v) (m w) a b e;
+  deepest = suc (max t.deepest (deepest_other t.openness));
+  whole = λ v w. map_whole (t.rows (names_in τ) ws) t.openness (t.parts ws (m v)) (t.others (m v)) t.deepest (t.whole ws (m v) w.0) w.1.may;
 }

@@ -20,4 +20,6 @@ shape_through τ s m is = record {
   same = λ v w. s.same (m v) (m w);
   fits = λ v w. fits_named (s.tree_of (m v)) τ s.rule is (s.fits (m v) w);
   one_value = λ v w a b e. s.one_value (m v) (m w) a b e;
+  deepest = s.deepest;
+  whole = λ v w. s.whole (m v) w;
 }

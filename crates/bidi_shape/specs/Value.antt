@@ -1,6 +1,6 @@
 -- What a type owes whose values are the trees that fit a rule.
-use Rattle.std.specs.Prelude.{◌≡◌}
-use Rattle.bidi_tree.specs.Node.{Node}
+use Rattle.std.specs.Prelude.{◌≡◌, ℕ}
+use Rattle.bidi_tree.specs.Node.{Node, IsWhole}
 use Rattle.bidi_shape.specs.Term.{Term}
 use Rattle.bidi_shape.specs.Fits.{Fits}
 
@@ -18,3 +18,6 @@ pub record ShapeOf (V : Type 0) : Type 1 where
   pub fits : (v : V) → well v → Fits (tree_of v) rule
   -- one tree is the tree of one value
   pub one_value : (v w : V) → well v → well w → tree_of v ≡ tree_of w → same v w
+  -- the most levels of such a tree, in which no Odd stands
+  pub deepest : ℕ
+  pub whole : (v : V) → well v → IsWhole (tree_of v) deepest

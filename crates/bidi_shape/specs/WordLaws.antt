@@ -1,6 +1,6 @@
 -- Types whose values are a few texts: a table of the texts and values, and the laws that it gives.
 use Rattle.std.specs.Prelude.{◌≡◌, ℕ, List, [], ◌∷◌, Bool, true, false, Option, Some, None, if◌then◌else◌, refl}
-use Rattle.std.proofs.Common.{sym, ap, ◌∙◌, subst, bytes_eq, true≢false}
+use Rattle.std.proofs.Common.{sym, ap, ◌∙◌, subst, bytes_eq, true≢false, zero-le}
 use Rattle.std.proofs.lemmas.Slice.Eq.{bytes_eq-Decides}
 use Rattle.bidi_tree.specs.Node as tree
 use Rattle.bidi_tree.specs.Node.{Node}
@@ -106,6 +106,8 @@ word_shape w = record {
   same = λ v u. v ≡ u;
   fits = λ v u. word_fits w v;
   one_value = λ v u a b e. word_one w v u e;
+  deepest = 0;
+  whole = λ v u. (refl, zero-le);
 }
 
 -- ---- for readers

@@ -1,11 +1,9 @@
 //! A value or null, and the first of two types that fits.
 ghost use Rattle.std.specs.Prelude.{◌≡◌, IfOk};
 ghost use Rattle.bidi_tree.specs.View.{node};
-ghost use Rattle.bidi_shape.specs.Term.{either, null};
 ghost use Rattle.bidi_shape.specs.Fits.{Fits};
 ghost use Rattle.bidi_shape.specs.Outcome.{IfNoFit};
 ghost use Rattle.bidi_shape.specs.Table.{unfolded};
-ghost use Rattle.bidi_shape.specs.ValueLaws.{SameOption};
 
 use crate::fault::ShapeFault;
 use crate::shape::Shape;

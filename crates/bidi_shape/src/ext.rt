@@ -5,7 +5,7 @@ ghost use Rattle.std.specs.List.Sorted.{IsStrictlySortedBy-prop};
 
 use crate::members::{MAX_LEVELS, has_listed};
 use bidi_tree::Members;
-use std::alloc::AllocError;
+use std::alloc::{AllocError, Global};
 use thiserror::Error;
 
 /// A member has a known name.
@@ -22,11 +22,20 @@ pub struct Ext {
 
 impl Ext {
     ghost use Rattle.std.specs.Prelude.{◌≡◌, IfOk, MatchResult, IsTrue, ◌↔◌, true, false};
-    ghost use Rattle.bidi_tree.specs.Node.{MembersAreWhole};
+    ghost use Rattle.bidi_tree.specs.Node.{MembersAreWhole, no_members};
     ghost use Rattle.bidi_tree.specs.View.{members_node};
     ghost use Rattle.bidi_shape.specs.Fits.{without};
     ghost use Rattle.bidi_shape.specs.Parts.{has_named, texts_in};
     ghost use Rattle.bidi_shape.specs.ValueLaws.{others_of};
+
+    /// No members. Takes no memory.
+    pub fn empty(alloc: Global) -> Ext
+        ensures { others_of result ≡ no_members }
+    {
+        Ext {
+            members: Members::new(alloc),
+        }
+    }
 
     /// The members, where none of them has a known name. Takes no memory.
     ///

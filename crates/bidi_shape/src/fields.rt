@@ -1,14 +1,11 @@
 //! The members of a map, as a list of types.
-ghost use Rattle.std.specs.Prelude.{◌≡◌, ℕ, IfOk, OnOk, List, [], ◌∷◌, map, option_map, Option, Some, None, IfSome};
-ghost use Rattle.bidi_tree.specs.Node as tree;
+ghost use Rattle.std.specs.Prelude.{◌≡◌, IfOk, OnOk};
+ghost use Rattle.bidi_tree.specs.Node.{AreAscending};
 ghost use Rattle.bidi_tree.specs.View.{members_node};
-ghost use Rattle.bidi_shape.specs.Term.{Need, required as is_required, optional as is_optional, Openness, extensible, closed, Term, exactly, Rows, no_more, row};
-ghost use Rattle.bidi_shape.specs.Fits.{RowsFit, OthersFit, without, fits_exactly};
-ghost use Rattle.bidi_tree.specs.Node.{Members, no_members, AreAscending};
-ghost use Rattle.bidi_shape.specs.Parts.{PartsAt, PartsFit, texts_in};
+ghost use Rattle.bidi_shape.specs.Fits.{RowsFit, OthersFit, without};
+ghost use Rattle.bidi_shape.specs.Parts.{PartsAt, texts_in};
 ghost use Rattle.bidi_shape.specs.Outcome.{IfNoFit};
-ghost use Rattle.bidi_shape.specs.ValueLaws.{others_of, SameOption, optional_fits, optional_one};
-ghost use Rattle.bidi_shape.specs.Table.{head, tail, same_head, same_tail, same_some, Table};
+ghost use Rattle.bidi_shape.specs.Table.{head, tail, Table};
 
 use crate::ext::Ext;
 use crate::fault::ShapeFault;

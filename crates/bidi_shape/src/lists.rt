@@ -1,11 +1,12 @@
 //! Lists of any length, of at least one item, and of two.
 ghost use Rattle.std.proofs.Common.{zero-le};
-ghost use Rattle.std.specs.Prelude.{◌≡◌, ◌≤◌, IfOk, length, map};
+ghost use Rattle.std.specs.Prelude.{◌≡◌, ◌≤◌, IfOk, length, map, suc, max};
 ghost use Rattle.std.specs.List.{AllByRecursion};
 ghost use Rattle.bidi_tree.specs.View.{node, items_node};
 ghost use Rattle.bidi_shape.specs.Term.{list_of, pair_of};
 ghost use Rattle.bidi_shape.specs.Fits.{AllFit};
 ghost use Rattle.bidi_shape.specs.ListLaws.{list_tree, SameEach, list_fits, list_one, pair_tree, pair_fits, first_same, second_same};
+ghost use Rattle.bidi_shape.specs.WholeLaws.{list_whole, pair_whole};
 ghost use Rattle.bidi_shape.specs.Outcome.{IfNoFit};
 
 use crate::fault::ShapeFault;
@@ -45,6 +46,8 @@ impl<X: Shape> Shape for Vec<X> {
       same = λ v w. SameEach X.shape.same v.items w.items;
       fits = λ v w. list_fits X.shape.tree_of X.shape.well X.shape.rule X.shape.fits 0 v.items zero-le w;
       one_value = λ v w a b e. list_one X.shape.tree_of X.shape.well X.shape.same X.shape.one_value v.items w.items a b e;
+      deepest = suc X.shape.deepest;
+      whole = λ v w. list_whole X.shape.tree_of X.shape.well X.shape.deepest X.shape.whole v.items w;
     } };
 
     fn from_tree(alloc: Global, tree: &Tree) -> Result<Vec<X>, ShapeFault> {
@@ -73,6 +76,8 @@ impl<X: Shape> Shape for OneOrMore<X> {
       same = λ v w. SameEach X.shape.same v.items.items w.items.items;
       fits = λ v w. list_fits X.shape.tree_of X.shape.well X.shape.rule X.shape.fits 1 v.items.items w.0 w.1;
       one_value = λ v w a b e. list_one X.shape.tree_of X.shape.well X.shape.same X.shape.one_value v.items.items w.items.items a.1 b.1 e;
+      deepest = suc X.shape.deepest;
+      whole = λ v w. list_whole X.shape.tree_of X.shape.well X.shape.deepest X.shape.whole v.items.items w.1;
     } };
 
     fn from_tree(alloc: Global, tree: &Tree) -> Result<OneOrMore<X>, ShapeFault> {
@@ -99,6 +104,8 @@ impl<X: Shape, Y: Shape> Shape for (X, Y) {
       same = λ v w. X.shape.same v.0 w.0 × Y.shape.same v.1 w.1;
       fits = λ v w. pair_fits (X.shape.tree_of v.0) (Y.shape.tree_of v.1) X.shape.rule Y.shape.rule (X.shape.fits v.0 w.0) (Y.shape.fits v.1 w.1);
       one_value = λ v w a b e. (X.shape.one_value v.0 w.0 a.0 b.0 (first_same _ _ _ _ e), Y.shape.one_value v.1 w.1 a.1 b.1 (second_same _ _ _ _ e));
+      deepest = suc (max X.shape.deepest Y.shape.deepest);
+      whole = λ v w. pair_whole (X.shape.tree_of v.0) (Y.shape.tree_of v.1) X.shape.deepest Y.shape.deepest (X.shape.whole v.0 w.0) (Y.shape.whole v.1 w.1);
     } };
 
     fn from_tree(alloc: Global, tree: &Tree) -> Result<(X, Y), ShapeFault> {

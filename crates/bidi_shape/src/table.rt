@@ -8,11 +8,13 @@ ghost use Rattle.bidi_shape.specs.Term.{map_of};
 ghost use Rattle.bidi_shape.specs.Table.{IsTable, tree_by, good_by, unfolded};
 ghost use Rattle.bidi_shape.specs.Parts.{texts_in};
 
+use crate::ext::Ext;
 use crate::fault::ShapeFault;
 use crate::fields::Fields;
 use crate::members::map_inside;
+use crate::shape::Shape;
 use bidi_tree::Tree;
-use std::alloc::Global;
+use std::alloc::{AllocError, Global};
 
 /// A type whose values are maps, by its rule.
 pub trait Ruled {
@@ -39,4 +41,26 @@ pub fn read_fields<'a, V: Ruled, F: Fields>(
     let members = map_inside(tree)?;
     let fields = F::read(alloc, members, names, texts, names)?;
     Ok(fields)
+}
+
+impl Ruled for Ext {
+    ghost use Rattle.bidi_shape.specs.Term.{open_map, no_more};
+
+    ghost rule = { open_map no_more };
+}
+
+/// Any map: `{ Extensible }`.
+impl Shape for Ext {
+    ghost use Rattle.std.specs.Prelude.{refl, []};
+    ghost use Rattle.bidi_shape.specs.Table.{map_shape};
+
+    ghost shape = { map_shape ⟦<Ext as Ruled>⟧.rule ⟦<Ext as Fields>⟧.table [] (λ e. e) refl refl };
+
+    fn from_tree(alloc: Global, tree: &Tree) -> Result<Ext, ShapeFault> {
+        read_fields::<Ext, Ext>(alloc, tree, &[], &[])
+    }
+
+    fn to_tree(&self, alloc: Global) -> Result<Tree, AllocError> {
+        Ok(Tree::Map(self.copy_members()?))
+    }
 }

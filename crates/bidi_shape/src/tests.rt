@@ -851,3 +851,28 @@ fn constructors(rt: HostRuntime) -> Result<(), Fail> {
     }
     Ok(())
 }
+
+#[test]
+fn faults_are_told(rt: HostRuntime) -> Result<(), Fail> {
+    let clash = Clash.to_string(rt.alloc())?;
+    assert_eq!(rt; clash.as_str(), "a member has a known name");
+    let unread = ShapeFault::NoMemory.to_string(rt.alloc())?;
+    assert_eq!(rt; unread.as_str(), "out of memory");
+    let rows = [
+        (MakeFault::Clash, "a further member has a known name"),
+        (
+            MakeFault::Shadowed,
+            "an earlier alternative takes the value",
+        ),
+        (
+            MakeFault::TooDeep,
+            "a further member has too many levels, or a number that is not kept",
+        ),
+        (MakeFault::NoMemory, "out of memory"),
+    ];
+    for (fault, expected) in rows {
+        let text = fault.to_string(rt.alloc())?;
+        assert_eq!(rt; text.as_str(), expected);
+    }
+    Ok(())
+}

@@ -1,3 +1,3 @@
 pub mod BesideLemmas
 pub mod NestedLemmas
-pub mod LogEntryLemmas
+pub mod PartLemmas

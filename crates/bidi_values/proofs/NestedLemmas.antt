@@ -12,14 +12,13 @@ use Rattle.bidi_tree.specs.View.{node, items_of, items_node}
 use Rattle.bidi_tree.specs.declared.tree.Tree.{Tree, List as TreeList}
 use Rattle.bidi_tree.proofs.TreeLemmas.{node-List}
 use Rattle.bidi_shape.specs.Term.{Term, map_of, closed, rule, list_of, pair_of, either, text}
-use Rattle.bidi_shape.specs.Name.{Name}
 use Rattle.bidi_shape.specs.Parts.{joined}
-use Rattle.bidi_shape.specs.Profile.{term_of}
-use Rattle.bidi_shape.specs.Fits.{Fits, AllFit, fits_list, fits_pair, fits_rule}
+use Rattle.bidi_shape.specs.Fits.{Fits, AllFit, fits_pair}
 use Rattle.bidi_shape.specs.Value.{ShapeOf}
+use Rattle.bidi_shape.proofs.FitsLemmas.{list_inside, rule_inside}
 use Rattle.bidi_values.specs.BesideLaws.{BesideOf, and_value, around, holding, value_inside, value_levels}
 use Rattle.bidi_values.specs.Content.{content, pair_content, contents_of, pairs_of, content-Plain, content-List, content-Pairs}
-use Rattle.bidi_values.specs.NestedLaws.{NestingOf, SameBeside, Agrees, value_tree, values_tree, pairs_tree, pair_node, PartsAreWell, ValuesAreWell, PairsAreWell, value_fits_inside}
+use Rattle.bidi_values.specs.NestedLaws.{NestingOf, SameBeside, Agrees, value_tree, values_tree, pairs_tree, pair_node, PartsAreWell, ValuesAreWell, PairsAreWell, same_items, same_pair, value_fits_inside}
 use Rattle.bidi_values.specs.View.{nested_tree, nested_pair_tree, NestedIsWell, NestedPairIsWell}
 use Rattle.bidi_values.specs.declared.nested.Nested.{Nested, Plain as PlainOf, List as ListOf, Pairs as PairsOf}
 use Rattle.bidi_values.specs.declared.nested.NestedPair.{NestedPair}
@@ -41,18 +40,6 @@ around_same {a = a} {b = b} e h t = ap (λ rs. kind.map (joined rs (a.parts h) (
 
 holding_same : {H : Type 0} {a b : BesideOf H} (e : SameBeside a b) (τ : Term) → holding a τ ≡ holding b τ
 holding_same e τ = ap (λ rs. map_of (and_value rs τ) closed) e.rows
-
-items_fit : {ts : Items} {least : ℕ} {τ : Term} → Fits (kind.list ts) (list_of least τ) → AllFit ts τ
-items_fit f = inside f refl
-  where
-    inside : {t : Node} {ts : Items} {least : ℕ} {τ : Term} → Fits t (list_of least τ) → t ≡ kind.list ts → AllFit ts τ
-    inside {ts = ts} (fits_list us least τ h f) e = let same : us ≡ ts = cc in subst (λ x. AllFit x τ) same f
-
-first_of : {u v x y : Node} → pair_node u v ≡ pair_node x y → u ≡ x
-first_of e = cc
-
-second_of : {u v x y : Node} → pair_node u v ≡ pair_node x y → v ≡ y
-second_of e = cc
 
 -- ---- lists of values and pairs
 
@@ -127,7 +114,7 @@ module _ {P L M : Type 0} (n : NestingOf P L M) where
 
         by_kind : Fits t n.plain.rule ⊎ (Fits t (holding n.list (list_of 0 (rule n.values))) ⊎ Fits t (holding n.pairs (list_of 0 (rule n.pair_rule)))) → ⊥
         by_kind (inl f) = n.list_not_plain h (kind.list items) (a.list.well h w) (subst (λ x. Fits x n.plain.rule) (sym here) f)
-        by_kind (inr (inl f)) = bad (items_fit (value_inside n.list h (kind.list items) (list_of 0 (rule n.values)) (subst (λ x. Fits x (holding n.list (list_of 0 (rule n.values)))) (sym here) f)))
+        by_kind (inr (inl f)) = bad (list_inside (value_inside n.list h (kind.list items) (list_of 0 (rule n.values)) (subst (λ x. Fits x (holding n.list (list_of 0 (rule n.values)))) (sym here) f))).1
         by_kind (inr (inr f)) = n.list_not_pairs h (kind.list items) (a.list.well h w) (subst (λ x. Fits x (holding n.pairs (list_of 0 (rule n.pair_rule)))) (sym here) f)
 
     pub pairs_misfit : (h : M) (items : Items) (t : Node) → around m h (kind.list items) ≡ t → m.well h → (AllFit items (rule n.pair_rule) → ⊥) → Fits t (rule n.values) → ⊥
@@ -139,7 +126,7 @@ module _ {P L M : Type 0} (n : NestingOf P L M) where
         by_kind : Fits t n.plain.rule ⊎ (Fits t (holding n.list (list_of 0 (rule n.values))) ⊎ Fits t (holding n.pairs (list_of 0 (rule n.pair_rule)))) → ⊥
         by_kind (inl f) = n.pairs_not_plain h (kind.list items) (a.pairs.well h w) (subst (λ x. Fits x n.plain.rule) (sym here) f)
         by_kind (inr (inl f)) = n.pairs_not_list h (kind.list items) (a.pairs.well h w) (subst (λ x. Fits x (holding n.list (list_of 0 (rule n.values)))) (sym here) f)
-        by_kind (inr (inr f)) = bad (items_fit (value_inside n.pairs h (kind.list items) (list_of 0 (rule n.pair_rule)) (subst (λ x. Fits x (holding n.pairs (list_of 0 (rule n.pair_rule)))) (sym here) f)))
+        by_kind (inr (inr f)) = bad (list_inside (value_inside n.pairs h (kind.list items) (list_of 0 (rule n.pair_rule)) (subst (λ x. Fits x (holding n.pairs (list_of 0 (rule n.pair_rule)))) (sym here) f))).1
 
     -- what is none of the three
     pub no_value : (t : Node) → ((τ : Term) → Fits t (holding l (list_of 0 τ)) → ⊥) → ((τ : Term) → Fits t (holding m (list_of 0 τ)) → ⊥) → (Fits t s.rule → ⊥) → Fits t (rule n.values) → ⊥
@@ -153,20 +140,17 @@ module _ {P L M : Type 0} (n : NestingOf P L M) where
   -- ---- pairs
 
   pair_inside : {t : Node} → Fits t (rule n.pair_rule) → (u : Node) × (v : Node) × (t ≡ pair_node u v) × Fits u (either (rule n.values) text) × Fits v (rule n.values)
-  pair_inside {t} f = of_pair (subst (Fits t) n.is_pair (of_rule f))
+  pair_inside {t} f = of_pair (subst (Fits t) n.is_pair (rule_inside f))
     where
-      of_rule : {t : Node} {r : Name} → Fits t (rule r) → Fits t (term_of r)
-      of_rule (fits_rule t r f) = f
-
       of_pair : {t : Node} {σ τ : Term} → Fits t (pair_of σ τ) → (u : Node) × (v : Node) × (t ≡ pair_node u v) × Fits u σ × Fits v τ
       of_pair (fits_pair u v σ τ f g) = (u, v, refl, f, g)
 
   -- a list of two whose key or value does not fit
   pub key_misfit : (t u v : Node) → t ≡ pair_node u v → (Fits u (either (rule n.values) text) → ⊥) → Fits t (rule n.pair_rule) → ⊥
-  key_misfit t u v is bad f = let p = pair_inside f in bad (subst (λ x. Fits x (either (rule n.values) text)) (first_of (sym p.2 ∙ is)) p.3)
+  key_misfit t u v is bad f = let p = pair_inside f in bad (subst (λ x. Fits x (either (rule n.values) text)) (same_pair (sym p.2 ∙ is)).0 p.3)
 
   pub value_misfit : (t u v : Node) → t ≡ pair_node u v → (Fits v (rule n.values) → ⊥) → Fits t (rule n.pair_rule) → ⊥
-  value_misfit t u v is bad f = let p = pair_inside f in bad (subst (λ x. Fits x (rule n.values)) (second_of (sym p.2 ∙ is)) p.4)
+  value_misfit t u v is bad f = let p = pair_inside f in bad (subst (λ x. Fits x (rule n.values)) (same_pair (sym p.2 ∙ is)).1 p.4)
 
   pub no_pair : (t : Node) → ((u v : Node) → t ≡ pair_node u v → ⊥) → Fits t (rule n.pair_rule) → ⊥
   no_pair t bad f = let p = pair_inside f in bad p.0 p.1 p.2
@@ -195,11 +179,8 @@ list_again (kind.text s) ts e = cc
 list_again (kind.list us) ts e = cc
 list_again (kind.map ms) ts e = cc
 
-same_list : {xs ys : Items} → kind.list xs ≡ kind.list ys → xs ≡ ys
-same_list e = cc
-
 -- the items of a list, where they are two
 pub two_read : (r : Option (Bor Tree × Bor Tree)) (t : Node) (items : List Tree) → Some (items_node items) ≡ list_in t → MatchOption r (length items ≡ 2 → ⊥) (λ p. items ≡ p.0.now ∷ p.1.now ∷ [])
     → MatchOption r ((u v : Node) → t ≡ pair_node u v → ⊥) (λ p. t ≡ pair_node (node p.0.now) (node p.1.now))
-two_read None t items is no_two = λ u v e. no_two (length_of_two items u v (same_list (sym (list_again t (items_node items) is) ∙ e)))
+two_read None t items is no_two = λ u v e. no_two (length_of_two items u v (same_items (sym (list_again t (items_node items) is) ∙ e)))
 two_read (Some p) t items is two = list_again t (items_node items) is ∙ ap (λ x. kind.list (items_node x)) two

@@ -1,18 +1,19 @@
 -- The members that stand beside the `value` of a closed map, and the laws of such maps.
 use Rattle.std.proofs.Common.{◌≡◌, ◌≤◌, ◌<◌, max, arith, Ordering, Less, Equal, Greater, nat_cmp, ℕ, List, [], ◌∷◌, codes, Bool, true, false, ◌||◌, Option, Some, bytes_eq, true≢false, refl, sym, ap, ◌∙◌, subst}
-use Rattle.std.proofs.lemmas.Bool.{or_parts}
+use Rattle.std.proofs.lemmas.Bool.{or_parts, or_from}
 use Rattle.std.specs.Cmp.Lexicographic.{slice_cmp}
 use Rattle.std.specs.Ordering.{match_ordering}
 use Rattle.std.specs.List.{list_any}
 use Rattle.bidi_tree.specs.Node as node
-use Rattle.bidi_tree.specs.Node.{Node, Members, no_members, member, get_member, levels, members_levels, AreAscending}
+use Rattle.bidi_tree.specs.Node.{Node, Members, no_members, member, get_member, levels, members_levels, has_odd, AreAscending}
 use Rattle.bidi_shape.specs.Term.{Need, required, Term, closed, map_of, Rows, no_more, row, names_of}
 use Rattle.bidi_shape.specs.Fits.{Fits, fits_map, RowsFit, no_row, there, absent, without}
 use Rattle.bidi_shape.specs.Parts.{joined, distinct, PartsAt, PartsFit, PartFits}
 use Rattle.bidi_shape.specs.Table.{Table}
+use Rattle.bidi_shape.specs.WholeLaws.{PartsAreWhole, no_odd-joined}
 use Rattle.bidi_shape.specs.MapLaws.{map_one, map_inside, PartsAt-joined, Aligned-PartsFit, RowsFit-PartsAt, unnamed, without_joined_among, at-joined_other}
 
-abbrev is_named : List (List ℕ) → List ℕ → Bool
+abbrev pub is_named : List (List ℕ) → List ℕ → Bool
 is_named ks q = list_any (bytes_eq q) ks
 
 -- the rows of the other members, and then `value`
@@ -32,6 +33,9 @@ pub record BesideOf (H : Type 0) : Type 1 where
   pub free : list_any (bytes_eq (codes "value")) (names_of rows) ≡ false
   pub parts_fit : (h : H) → well h → PartsFit rows (parts h)
   pub one : (g h : H) → well g → well h → parts g ≡ parts h → same g h
+  -- the most levels of what stands there, in which there is no Odd
+  pub deepest : ℕ
+  pub whole : (h : H) → well h → PartsAreWhole (parts h) deepest
 
 -- the term of such a map whose `value` fits a term
 abbrev pub holding : {H : Type 0} → BesideOf H → Term → Term
@@ -48,30 +52,34 @@ RowsFit-and_value no_more τ ms t f e h = there ms (codes "value") required τ n
 RowsFit-and_value (row k need σ rs) τ ms t (there m l n ρ rest u e f more) is h = there m l n ρ (and_value rest τ) u e f (RowsFit-and_value rest τ m t more is h)
 RowsFit-and_value (row k need σ rs) τ ms t (absent m l ρ rest e more) is h = absent m l ρ (and_value rest τ) e (RowsFit-and_value rest τ m t more is h)
 
-RowsFit-value : {rs : Rows} {τ : Term} {ms : Members} → RowsFit ms (row (codes "value") required τ rs) → PartFits required τ (get_member (codes "value") ms)
-RowsFit-value (there m l n ρ rest u e f more) = subst (PartFits required ρ) (sym e) f
+-- of rows that fit, the first does
+pub RowsFit-first : {k : List ℕ} {τ : Term} {rs : Rows} {ms : Members} → RowsFit ms (row k required τ rs) → PartFits required τ (get_member k ms)
+RowsFit-first (there m l n ρ rest u e f more) = subst (PartFits required ρ) (sym e) f
 
-RowsFit-row : {k : List ℕ} {need : Need} {σ : Term} {rs qs : Rows} {ms : Members} → (RowsFit ms qs → RowsFit ms rs) → RowsFit ms (row k need σ qs) → RowsFit ms (row k need σ rs)
-RowsFit-row {rs} go (there m l n ρ rest u e f more) = there m l n ρ rs u e f (go more)
-RowsFit-row {rs} go (absent m l ρ rest e more) = absent m l ρ rs e (go more)
-
-RowsFit-more : {k : List ℕ} {need : Need} {σ : Term} {rs : Rows} {ms : Members} → RowsFit ms (row k need σ rs) → RowsFit ms rs
+-- and so do the rows behind it
+pub RowsFit-more : {k : List ℕ} {need : Need} {σ : Term} {rs : Rows} {ms : Members} → RowsFit ms (row k need σ rs) → RowsFit ms rs
 RowsFit-more (there m l n ρ rest u e f more) = more
 RowsFit-more (absent m l ρ rest e more) = more
+
+-- what follows of the rows behind a row follows of all
+pub RowsFit-row : {k : List ℕ} {need : Need} {σ : Term} {rs qs : Rows} {ms : Members} → (RowsFit ms qs → RowsFit ms rs) → RowsFit ms (row k need σ qs) → RowsFit ms (row k need σ rs)
+RowsFit-row {rs} go (there m l n ρ rest u e f more) = there m l n ρ rs u e f (go more)
+RowsFit-row {rs} go (absent m l ρ rest e more) = absent m l ρ rs e (go more)
 
 pub RowsFit-head : (rs : Rows) (τ : Term) (ms : Members) → RowsFit ms (and_value rs τ) → RowsFit ms rs
 RowsFit-head no_more τ ms f = no_row ms
 RowsFit-head (row k need σ rs) τ ms f = RowsFit-row (RowsFit-head rs τ ms) f
 
 pub value_fits : (rs : Rows) (τ : Term) (ms : Members) → RowsFit ms (and_value rs τ) → PartFits required τ (get_member (codes "value") ms)
-value_fits no_more τ ms f = RowsFit-value f
+value_fits no_more τ ms f = RowsFit-first f
 value_fits (row k need σ rs) τ ms f = value_fits rs τ ms (RowsFit-more f)
 
 or_later : (b c : Bool) → c ≡ true → (b || c) ≡ true
 or_later true c e = refl
 or_later false c e = e
 
-or_kept : (b c d : Bool) → (c ≡ true → d ≡ true) → (b || c) ≡ true → (b || d) ≡ true
+-- what follows of the second of two follows of both
+pub or_kept : (b c d : Bool) → (c ≡ true → d ≡ true) → (b || c) ≡ true → (b || d) ≡ true
 or_kept true c d go e = refl
 or_kept false c d go e = go e
 
@@ -146,6 +154,10 @@ module _ {H : Type 0} (s : BesideOf H) where
       (Aligned-PartsFit s.rows (s.parts g) (s.parts_fit g v)) (Aligned-PartsFit s.rows (s.parts h) (s.parts_fit h w)) (beside t) (beside u) e in
       (s.one g h v w p.0, let same : member (codes "value") t no_members ≡ member (codes "value") u no_members = p.1 in cc)
 
+  -- no Odd stands in the map where none stands in its value
+  pub around_no_odd : (h : H) (t : Node) → s.well h → has_odd t ≡ false → has_odd (around s h t) ≡ false
+  around_no_odd h t w e = no_odd-joined s.rows (s.parts h) (member (codes "value") t no_members) s.deepest (s.whole h w) (or_from (has_odd t) false e refl)
+
   -- and fewer levels than the map
   pub value_levels : (h : H) (t : Node) → levels t < levels (around s h t)
   value_levels h t = let inside = member_levels (codes "value") t (joined s.rows (s.parts h) (member (codes "value") t no_members)) (value_at h t) in omega (arith, inside)
@@ -162,4 +174,6 @@ beside_by t ks m alone once free = record {
   free = free;
   parts_fit = λ h w. t.parts_fit ks [] (m h) w;
   one = λ g h a b e. t.one [] (m g) (m h) a b e (alone (m g) (m h));
+  deepest = t.deepest;
+  whole = λ h w. t.whole [] (m h) w;
 }

@@ -66,4 +66,6 @@ table_through t m = record {
   same = λ g h. t.same (m g) (m h);
   parts_fit = λ ks ws g w. t.parts_fit ks ws (m g) w;
   one = λ ws g h a b e o. t.one ws (m g) (m h) a b e o;
+  deepest = t.deepest;
+  whole = λ ws g w. t.whole ws (m g) w;
 }

@@ -1,13 +1,15 @@
 -- Values that may hold others: their trees, when they are well and the same, and their laws.
-use Rattle.std.proofs.Common.{◌≡◌, ◌≤◌, ◌⊎◌, inl, inr, ℕ, List, refl, sym, subst, arith}
+use Rattle.std.proofs.Common.{◌≡◌, ◌≤◌, ◌⊎◌, inl, inr, ℕ, List, false, ◌||◌, refl, sym, subst, arith}
+use Rattle.std.proofs.lemmas.Bool.{or_from}
 use Rattle.bidi_tree.specs.Node as node
-use Rattle.bidi_tree.specs.Node.{Node, Items, no_items, item, Members, no_members, member, get_member, levels, items_levels, members_levels}
+use Rattle.bidi_tree.specs.Node.{Node, Items, no_items, item, Members, no_members, member, get_member, levels, items_levels, members_levels, has_odd, items_have_odd}
 use Rattle.bidi_shape.specs.Name.{Name}
 use Rattle.bidi_shape.specs.Term.{Term, Rows, Openness, map_of, text, either, rule, capped, list_of, pair_of}
 use Rattle.bidi_shape.specs.Profile.{term_of}
-use Rattle.bidi_shape.specs.Fits.{Fits, AllFit, no_item, an_item, fits_text, fits_map, fits_list, fits_pair, fits_first, fits_second, fits_rule, fits_capped}
+use Rattle.bidi_shape.specs.Fits.{Fits, AllFit, no_item, an_item, fits_text, fits_list, fits_pair, fits_first, fits_second, fits_rule, fits_capped}
 use Rattle.bidi_shape.specs.Value.{ShapeOf}
-use Rattle.bidi_values.specs.BesideLaws.{BesideOf, around, holding, around_fits, around_one, value_levels}
+use Rattle.bidi_shape.proofs.FitsLemmas.{map_kind, rule_inside, capped_inside}
+use Rattle.bidi_values.specs.BesideLaws.{BesideOf, around, holding, around_fits, around_one, around_no_odd, value_levels}
 use Rattle.bidi_values.specs.Content.{Content, plain, list, pairs, Contents, no_values, value, Pairs, no_pairs, pair, Key, value_key, text_key}
 
 -- ---- rules
@@ -110,36 +112,26 @@ abbrev mutual
   SameKey n j k = ⊥
 
 text_no_map : {k : List ℕ} {rs : Rows} {o : Openness} → Fits (node.text k) (map_of rs o) → ⊥
-text_no_map f = is_map f refl
-  where
-    is_map : {t : Node} {k : List ℕ} {rs : Rows} {o : Openness} → Fits t (map_of rs o) → t ≡ node.text k → ⊥
-    is_map (fits_map ms rs o f h) e = cc
+text_no_map f = let e = (map_kind f).1 in cc
 
-same_items : {xs ys : Items} → node.list xs ≡ node.list ys → xs ≡ ys
+-- equal lists have equal items, and these an equal first and equal others
+pub same_items : {xs ys : Items} → node.list xs ≡ node.list ys → xs ≡ ys
 same_items e = cc
 
-first_item : {x y : Node} {xs ys : Items} → item x xs ≡ item y ys → x ≡ y
+pub first_item : {x y : Node} {xs ys : Items} → item x xs ≡ item y ys → x ≡ y
 first_item e = cc
 
-other_items : {x y : Node} {xs ys : Items} → item x xs ≡ item y ys → xs ≡ ys
+pub other_items : {x y : Node} {xs ys : Items} → item x xs ≡ item y ys → xs ≡ ys
 other_items e = cc
 
-same_pair : {x y u v : Node} → pair_node x u ≡ pair_node y v → (x ≡ y) × (u ≡ v)
+-- equal pairs have an equal key and an equal value
+pub same_pair : {x y u v : Node} → pair_node x u ≡ pair_node y v → (x ≡ y) × (u ≡ v)
 same_pair e = (cc, cc)
 
 -- well: each part is, and the cap holds
 pub record IsWell {P L M : Type 0} (n : NestingOf P L M) (v : Content P L M) : Type 0 where
   pub parts : PartsAreWell n v
   pub cap : levels (value_tree n v) ≤ 60
-
-rule_inside : {t : Node} {n : Name} → Fits t (rule n) → Fits t (term_of n)
-rule_inside (fits_rule t n f) = f
-
-capped_inside : {t : Node} {τ : Term} → Fits t (capped τ) → Fits t τ
-capped_inside (fits_capped t τ h f) = f
-
-cap_inside : {t : Node} {τ : Term} → Fits t (capped τ) → levels t ≤ 60
-cap_inside (fits_capped t τ h f) = h
 
 module _ {P L M : Type 0} (n : NestingOf P L M) where
   -- what fits the alternatives fits the rule, within the cap
@@ -148,10 +140,7 @@ module _ {P L M : Type 0} (n : NestingOf P L M) where
 
   -- and what fits the rule fits the alternatives
   pub value_fits_inside : (t : Node) → Fits t (rule n.values) → Fits t n.inside
-  value_fits_inside t f = capped_inside (subst (Fits t) n.is_capped (rule_inside f))
-
-  pub within_cap : (t : Node) → Fits t (rule n.values) → levels t ≤ 60
-  within_cap t f = cap_inside (subst (Fits t) n.is_capped (rule_inside f))
+  value_fits_inside t f = (capped_inside (subst (Fits t) n.is_capped (rule_inside f))).1
 
   mutual
     pub value_fits : (v : Content P L M) → PartsAreWell n v → levels (value_tree n v) ≤ 60 → Fits (value_tree n v) (rule n.values)
@@ -248,6 +237,29 @@ module _ {P L M : Type 0} (n : NestingOf P L M) where
     key_one (text_key j) (value_key w) a b g h e = text_not_value j (subst (λ t. Fits t (rule n.values)) (sym e) (value_fits w b h))
     key_one (text_key j) (text_key k) a b g h e = cc
 
+  -- ---- no Odd stands in a tree
+
+  mutual
+    pub value_no_odd : (v : Content P L M) → PartsAreWell n v → has_odd (value_tree n v) ≡ false
+    value_no_odd (plain p) w = (n.plain.whole p w).0
+    value_no_odd (list h vs) w = around_no_odd n.list h (node.list (values_tree n vs)) w.0 (values_no_odd vs w.1)
+    value_no_odd (pairs h ps) w = around_no_odd n.pairs h (node.list (pairs_tree n ps)) w.0 (pairs_no_odd ps w.1)
+
+    pub values_no_odd : (vs : Contents P L M) → ValuesAreWell n vs → items_have_odd (values_tree n vs) ≡ false
+    values_no_odd no_values w = refl
+    values_no_odd (value v vs) w = or_from (has_odd (value_tree n v)) (items_have_odd (values_tree n vs)) (value_no_odd v w.0) (values_no_odd vs w.1)
+
+    pub pairs_no_odd : (ps : Pairs P L M) → PairsAreWell n ps → items_have_odd (pairs_tree n ps) ≡ false
+    pairs_no_odd no_pairs w = refl
+    pairs_no_odd (pair k v ps) w =
+        let value = or_from (has_odd (value_tree n v)) false (value_no_odd v w.0.1) refl in
+        or_from (has_odd (pair_node (key_tree n k) (value_tree n v))) (items_have_odd (pairs_tree n ps))
+        (or_from (has_odd (key_tree n k)) (has_odd (value_tree n v) || false) (key_no_odd k w.0.0) value) (pairs_no_odd ps w.1)
+
+    pub key_no_odd : (k : Key P L M) → KeyIsWell n k → has_odd (key_tree n k) ≡ false
+    key_no_odd (value_key v) w = value_no_odd v w
+    key_no_odd (text_key k) w = refl
+
   -- the shape of such values
   abbrev pub nested_shape : {V : Type 0} → (V → Content P L M) → ShapeOf V
   nested_shape content = record {
@@ -257,6 +269,8 @@ module _ {P L M : Type 0} (n : NestingOf P L M) where
     same = λ v w. Same n (content v) (content w);
     fits = λ v w. value_fits (content v) w.parts w.cap;
     one_value = λ v w a b e. value_one (content v) (content w) a.parts b.parts a.cap b.cap e;
+    deepest = 60;
+    whole = λ v w. (value_no_odd (content v) w.parts, w.cap);
   }
 
 -- ---- what a rule says of its parts, and what these say of themselves
@@ -265,10 +279,12 @@ pub record SameBeside {H : Type 0} (a b : BesideOf H) : Type 0 where
   pub rows : a.rows ≡ b.rows
   pub parts : (h : H) → a.parts h ≡ b.parts h
   pub well : (h : H) → a.well h → b.well h
+  pub same : (g h : H) → b.same g h → a.same g h
 
 pub record Agrees {P L M : Type 0} (n : NestingOf P L M) (s : ShapeOf P) (l : BesideOf L) (m : BesideOf M) : Type 0 where
   pub rule : s.rule ≡ n.plain.rule
   pub tree : (p : P) → s.tree_of p ≡ n.plain.tree_of p
   pub well : (p : P) → s.well p → n.plain.well p
+  pub same : (p q : P) → n.plain.same p q → s.same p q
   pub list : SameBeside l n.list
   pub pairs : SameBeside m n.pairs

@@ -6,13 +6,10 @@ use Rattle.std.specs.Ordering.{match_ordering}
 use Rattle.std.specs.List.{list_any}
 use Rattle.bidi_tree.specs.Node as node
 use Rattle.bidi_tree.specs.Node.{Node, Members, no_members, member, get_member}
-use Rattle.bidi_shape.specs.Term.{Need, required, optional, Term, closed, map_of, Rows, no_more, row, names_of}
+use Rattle.bidi_shape.specs.Term.{required, optional, Term, closed, map_of, Rows, no_more, row, names_of}
 use Rattle.bidi_shape.specs.Fits.{Fits, fits_map, RowsFit, no_row, there, absent, without}
 use Rattle.bidi_shape.specs.MapLaws.{at-without_other}
-use Rattle.bidi_values.specs.BesideLaws.{and_value}
-
-abbrev is_named : List (List ℕ) → List ℕ → Bool
-is_named ks q = list_any (bytes_eq q) ks
+use Rattle.bidi_values.specs.BesideLaws.{is_named, and_value, RowsFit-row, or_kept}
 
 -- the rows of the other members, and then `value`, which may be there
 abbrev pub and_value_or_not : Rows → Term → Rows
@@ -20,10 +17,6 @@ and_value_or_not no_more τ = row (codes "value") optional τ no_more
 and_value_or_not (row k need σ rows) τ = row k need σ (and_value_or_not rows τ)
 
 -- ---- names
-
-or_kept : (b c d : Bool) → (c ≡ true → d ≡ true) → (b || c) ≡ true → (b || d) ≡ true
-or_kept true c d go e = refl
-or_kept false c d go e = go e
 
 more_names : (rs : Rows) (τ : Term) (q : List ℕ) → is_named (names_of rs) q ≡ true → is_named (names_of (and_value_or_not rs τ)) q ≡ true
 more_names no_more τ q e = absurd (true≢false (sym e))
@@ -90,17 +83,13 @@ rows_without (row k need σ rs) τ ms n (absent m l ρ rest e more) = absent m l
 last_row : {τ : Term} {ms : Members} → RowsFit ms (row (codes "value") required τ no_more) → RowsFit ms (row (codes "value") optional τ no_more)
 last_row (there m l x ρ rest u e f more) = there m l optional ρ rest u e f more
 
-row_kept : {k : List ℕ} {need : Need} {σ : Term} {rs qs : Rows} {ms : Members} → (RowsFit ms qs → RowsFit ms rs) → RowsFit ms (row k need σ qs) → RowsFit ms (row k need σ rs)
-row_kept {rs = rs} go (there m l n ρ rest u e f more) = there m l n ρ rs u e f (go more)
-row_kept {rs = rs} go (absent m l ρ rest e more) = absent m l ρ rs e (go more)
-
 rows_with : (rs : Rows) (τ : Term) (ms : Members) → RowsFit ms (and_value rs τ) → RowsFit ms (and_value_or_not rs τ)
 rows_with no_more τ ms f = last_row f
-rows_with (row k need σ rs) τ ms f = row_kept (rows_with rs τ ms) f
+rows_with (row k need σ rs) τ ms f = RowsFit-row (rows_with rs τ ms) f
 
 rows_head : (rs : Rows) (τ : Term) (ms : Members) → RowsFit ms (and_value_or_not rs τ) → RowsFit ms rs
 rows_head no_more τ ms f = no_row ms
-rows_head (row k need σ rs) τ ms f = row_kept (rows_head rs τ ms) f
+rows_head (row k need σ rs) τ ms f = RowsFit-row (rows_head rs τ ms) f
 
 value_row : {τ : Term} {ms : Members} {t : Node} → get_member (codes "value") ms ≡ Some t → RowsFit ms (row (codes "value") optional τ no_more) → RowsFit ms (row (codes "value") required τ no_more)
 value_row here (there m l x ρ rest u e f more) = there m l required ρ rest u e f more
@@ -111,10 +100,7 @@ value_row here (absent m l ρ rest e more) = absurd (none_some (sym e ∙ here))
 
 rows_full : (rs : Rows) (τ : Term) (ms : Members) (t : Node) → get_member (codes "value") ms ≡ Some t → RowsFit ms (and_value_or_not rs τ) → RowsFit ms (and_value rs τ)
 rows_full no_more τ ms t here f = value_row here f
-rows_full (row k need σ rs) τ ms t here f = row_kept (rows_full rs τ ms t here) f
-
-map_parts : {ms : Members} {rs : Rows} → Fits (node.map ms) (map_of rs closed) → RowsFit ms rs × (without (names_of rs) ms ≡ no_members)
-map_parts (fits_map m r o f h) = (f, h)
+rows_full (row k need σ rs) τ ms t here f = RowsFit-row (rows_full rs τ ms t here) f
 
 -- ---- the maps
 

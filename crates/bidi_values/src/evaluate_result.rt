@@ -107,7 +107,7 @@ impl Shape for EvaluateException {
 
 /// What a script that was run gives: its value, or its error.
 ///
-/// `EvaluateSuccess / EvaluateException`
+/// The maps of [`EvaluateSuccess`] and [`EvaluateException`], in this order.
 ///
 /// After WebDriver BiDi, "The script.EvaluateResult Type".
 #[derive(Drop)]

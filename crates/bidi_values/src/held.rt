@@ -258,7 +258,7 @@ impl Shape for RemoteDate {
     }
 }
 
-/// A value that a remote end holds, of which a message tells its type alone.
+/// A value that a remote end holds, of which a message tells no content.
 ///
 /// `{ type: Opaque, ? handle: text, ? internalId: text }`
 ///

@@ -2,7 +2,7 @@
 //! or a log entry.
 //!
 //! Each type is a [`Shape`](bidi_shape::Shape) of its rule. A type that takes further members has a constructor,
-//! which refuses parts that no tree of the rule has.
+//! which refuses the parts that are no value of it.
 #![tactic(auto)]
 
 mod beside;

@@ -10,14 +10,14 @@ use std::alloc::{AllocError, Global};
 
 /// A value that a client sends to a script, of at most 60 levels.
 ///
-/// `RemoteReference / PrimitiveValue / { type: "array" / "set", value: [*LocalValue] } /
-/// { type: "object" / "map", value: [*[LocalValue / text, LocalValue]] } / { type: "date", value: text } /
-/// { type: "regexp", value: RegExpValue }`
+/// `Reference / Primitive / { type: "array", value: [*LocalValue] } / { type: "date", value: text } /
+/// { type: "map", value: [*LocalPair] } / { type: "object", value: [*LocalPair] } /
+/// { type: "regexp", value: RegExpValue } / { type: "set", value: [*LocalValue] }`
 ///
 /// After WebDriver BiDi, "The script.LocalValue Type".
 pub type LocalValue = Nested<LocalPlain, ListKind, PairsKind>;
 
-/// A key and a value of an object or a map.
+/// A key and a value of an object or a map: `[LocalValue / text, LocalValue]`.
 pub type LocalPair = NestedPair<LocalPlain, ListKind, PairsKind>;
 
 /// A key of an object or a map: a text, or any other value.
@@ -115,8 +115,9 @@ impl Nests<ListKind, PairsKind> for LocalPlain {
       rule = refl;
       tree = λ p. refl;
       well = λ p w. w;
-      list = record { rows = refl; parts = λ h. refl; well = λ h w. w };
-      pairs = record { rows = refl; parts = λ h. refl; well = λ h w. w };
+      same = λ p q e. e;
+      list = record { rows = refl; parts = λ h. refl; well = λ h w. w; same = λ g h e. e };
+      pairs = record { rows = refl; parts = λ h. refl; well = λ h w. w; same = λ g h e. e };
     } };
 }
 

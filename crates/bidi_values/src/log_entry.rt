@@ -111,7 +111,8 @@ impl Shape for Source {
 
 /// What every log entry has.
 ///
-/// `( level: Level, source: Source, text: text / null, timestamp: js-uint, ? stackTrace: StackTrace )`
+/// `( level: "debug" / "info" / "warn" / "error", source: Source, text: text / null, timestamp: js-uint,
+/// ? stackTrace: StackTrace )`
 ///
 /// After WebDriver BiDi, "The log.LogEntry Type".
 #[derive(Drop)]
@@ -272,7 +273,7 @@ impl Shape for JavascriptEntry {
     }
 }
 
-/// An entry of any other type or with other members.
+/// An entry that is neither of the two: of any other type, with other members, or with some that do not fit.
 ///
 /// `{ Base, type: text, Extensible }`
 ///

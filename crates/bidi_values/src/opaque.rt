@@ -1,9 +1,9 @@
-//! Values that only a type is told of.
+//! Values of which no content is told.
 use bidi_shape::{Named, Shape, ShapeFault, read_word, write_word};
 use bidi_tree::Tree;
 use std::alloc::{AllocError, Global};
 
-/// The type of a value of which a message tells no more.
+/// The type of a value of which a message tells no content.
 ///
 /// `"symbol" / "function" / "weakmap" / "weakset" / "generator" / "error" / "proxy" / "promise" / "typedarray" /
 /// "arraybuffer"`

@@ -101,7 +101,8 @@ impl Shape for Number {
 
 /// A primitive value.
 ///
-/// `{ type: "undefined" } / { type: "null" } / { type: "string", value: text } / { type: "number", value: Number } /
+/// `{ type: "undefined" } / { type: "null" } / { type: "string", value: text } /
+/// { type: "number", value: js-int / "NaN" / "-0" / "Infinity" / "-Infinity" } /
 /// { type: "boolean", value: bool } / { type: "bigint", value: text }`
 ///
 /// After WebDriver BiDi, "The script.PrimitiveProtocolValue Type".
@@ -112,7 +113,7 @@ pub enum Primitive {
     String(String),
     Number(Number),
     Boolean(bool),
-    /// Its digits, in decimal.
+    /// A text, of any characters.
     BigInt(String),
 }
 

@@ -8,9 +8,9 @@ use std::alloc::{AllocError, Global};
 
 /// A value that a script gives back, of at most 60 levels.
 ///
-/// `PrimitiveValue /
+/// `Primitive /
 /// { type: "array" / "set", ? handle: text, ? internalId: text, ? value: [*RemoteValue] } /
-/// { type: "object" / "map", ? handle: text, ? internalId: text, ? value: [*[RemoteValue / text, RemoteValue]] } /
+/// { type: "object" / "map", ? handle: text, ? internalId: text, ? value: [*RemotePair] } /
 /// { type: "regexp", value: RegExpValue, ? handle: text, ? internalId: text } /
 /// { type: "date", value: text, ? handle: text, ? internalId: text } /
 /// { type: Opaque, ? handle: text, ? internalId: text }`
@@ -18,7 +18,7 @@ use std::alloc::{AllocError, Global};
 /// After WebDriver BiDi, "The script.RemoteValue Type".
 pub type RemoteValue = Nested<RemotePlain, RemoteList, RemotePairs>;
 
-/// A key and a value of an object or a map.
+/// A key and a value of an object or a map: `[RemoteValue / text, RemoteValue]`.
 pub type RemotePair = NestedPair<RemotePlain, RemoteList, RemotePairs>;
 
 /// A key of an object or a map: a text, or any other value.
@@ -124,7 +124,8 @@ impl Nests<RemoteList, RemotePairs> for RemotePlain {
       rule = refl;
       tree = λ p. refl;
       well = λ p w. w;
-      list = record { rows = refl; parts = λ h. refl; well = λ h w. w };
-      pairs = record { rows = refl; parts = λ h. refl; well = λ h w. w };
+      same = λ p q e. e;
+      list = record { rows = refl; parts = λ h. refl; well = λ h w. w; same = λ g h e. e };
+      pairs = record { rows = refl; parts = λ h. refl; well = λ h w. w; same = λ g h e. e };
     } };
 }

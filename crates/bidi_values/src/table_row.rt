@@ -138,7 +138,7 @@ impl Shape for ArgumentRow {
 
 /// What a script of that text does.
 ///
-/// `ReturnsRow / ThrowsRow / ArgumentRow`
+/// The maps of [`ReturnsRow`], [`ThrowsRow`] and [`ArgumentRow`], in this order.
 ///
 /// This project's own, as docs/FORMATS.md gives it, "Table of a play".
 #[derive(Drop)]

@@ -1,44 +1,31 @@
 //! Each type through the bound `Shape`, and each constructor.
-use crate::tests_support::{NO_FIT, again, members_of, text_of, tree_of};
+use crate::tests_support::{
+    Choice, NO_FIT, chooses_same, deep, members_of, reads, refuses, stays, text_of, value_of,
+};
 use crate::{
     ContextTarget, Level, Opaque, Primitive, RealmTarget, Reference, RegExpValue,
     RemoteObjectReference, SharedReference, Source, StackTrace, Target,
 };
 use bidi_shape::{MakeFault, Shape};
-use bidi_tree::{Members, Tree, write};
-use std::alloc::{AllocError, Global};
+use bidi_tree::{Tree, write};
+use std::alloc::Global;
 use std::test::Fail;
 
 /// The compact text of the value that was made, or the fault.
-fn made<X: Shape>(alloc: Global, answer: Result<X, MakeFault>) -> Result<String, Fail> {
+fn told<X: Shape>(alloc: Global, answer: Result<X, MakeFault>) -> Result<String, Fail> {
     match answer {
         Ok(value) => text_of(alloc, &value),
         Err(fault) => Ok(format!(in alloc; "{fault:?}")?),
     }
 }
 
-/// Some text.
-fn some(alloc: Global, text: &str) -> Result<Option<String>, AllocError> {
-    Ok(Some(String::from_str(alloc, text)?))
-}
-
-/// A map with a member `x` that is so many lists within each other.
-fn deep(alloc: Global, levels: usize) -> Result<String, AllocError> {
-    let mut text = String::from_str(alloc, "{\"x\":")?;
-    for _ in 0..levels {
-        text.push('[')?;
-    }
-    for _ in 0..levels {
-        text.push(']')?;
-    }
-    text.push('}')?;
-    Ok(text)
+fn id(alloc: Global, text: &str) -> Result<String, Fail> {
+    Ok(String::from_str(alloc, text)?)
 }
 
 #[test]
 fn primitives(rt: HostRuntime) -> Result<(), Fail> {
-    let alloc = rt.alloc();
-    let fitting = [
+    const FITTING: &[&str] = &[
         "{\"type\":\"undefined\"}",
         "{\"type\":\"null\"}",
         "{\"type\":\"string\",\"value\":\"a\"}",
@@ -51,10 +38,7 @@ fn primitives(rt: HostRuntime) -> Result<(), Fail> {
         "{\"type\":\"boolean\",\"value\":true}",
         "{\"type\":\"bigint\",\"value\":\"9007199254740992\"}",
     ];
-    for text in fitting {
-        assert_eq!(rt; again::<Primitive>(alloc, text)?.as_str(), text);
-    }
-    let others = [
+    const OTHERS: &[&str] = &[
         "{\"type\":\"number\",\"value\":-0}",
         "{\"type\":\"number\",\"value\":1.5}",
         "{\"type\":\"number\",\"value\":9007199254740992}",
@@ -71,16 +55,13 @@ fn primitives(rt: HostRuntime) -> Result<(), Fail> {
         "{}",
         "null",
     ];
-    for text in others {
-        assert_eq!(rt; again::<Primitive>(alloc, text)?.as_str(), NO_FIT, "{text}");
-    }
-    Ok(())
+    stays::<Primitive>(&rt, rt.alloc(), FITTING)?;
+    refuses::<Primitive>(&rt, rt.alloc(), OTHERS)
 }
 
 #[test]
 fn words(rt: HostRuntime) -> Result<(), Fail> {
-    let alloc = rt.alloc();
-    let opaque = [
+    const OPAQUE: &[&str] = &[
         "\"symbol\"",
         "\"function\"",
         "\"weakmap\"",
@@ -92,25 +73,16 @@ fn words(rt: HostRuntime) -> Result<(), Fail> {
         "\"typedarray\"",
         "\"arraybuffer\"",
     ];
-    for text in opaque {
-        assert_eq!(rt; again::<Opaque>(alloc, text)?.as_str(), text);
-    }
-    for text in ["\"node\"", "\"Symbol\"", "1"] {
-        assert_eq!(rt; again::<Opaque>(alloc, text)?.as_str(), NO_FIT, "{text}");
-    }
-    for text in ["\"debug\"", "\"info\"", "\"warn\"", "\"error\""] {
-        assert_eq!(rt; again::<Level>(alloc, text)?.as_str(), text);
-    }
-    for text in ["\"log\"", "null"] {
-        assert_eq!(rt; again::<Level>(alloc, text)?.as_str(), NO_FIT, "{text}");
-    }
-    Ok(())
+    const LEVELS: &[&str] = &["\"debug\"", "\"info\"", "\"warn\"", "\"error\""];
+    stays::<Opaque>(&rt, rt.alloc(), OPAQUE)?;
+    refuses::<Opaque>(&rt, rt.alloc(), &["\"node\"", "\"Symbol\"", "1"])?;
+    stays::<Level>(&rt, rt.alloc(), LEVELS)?;
+    refuses::<Level>(&rt, rt.alloc(), &["\"log\"", "null"])
 }
 
 #[test]
 fn closed_maps(rt: HostRuntime) -> Result<(), Fail> {
-    let alloc = rt.alloc();
-    let reg_exp = [
+    const REG_EXPS: &[(&str, &str)] = &[
         ("{\"pattern\":\"a\"}", "{\"pattern\":\"a\"}"),
         (
             "{\"pattern\":\"a\",\"flags\":\"gi\"}",
@@ -120,14 +92,7 @@ fn closed_maps(rt: HostRuntime) -> Result<(), Fail> {
         ("{\"flags\":\"g\"}", NO_FIT),
         ("{\"pattern\":\"a\",\"x\":1}", NO_FIT),
     ];
-    for (text, shown) in reg_exp {
-        assert_eq!(rt;
-            again::<RegExpValue>(alloc, text)?.as_str(),
-            shown,
-            "{text}"
-        );
-    }
-    let source = [
+    const SOURCES: &[(&str, &str)] = &[
         ("{\"realm\":\"r\"}", "{\"realm\":\"r\"}"),
         (
             "{\"realm\":\"r\",\"context\":\"c\"}",
@@ -137,10 +102,7 @@ fn closed_maps(rt: HostRuntime) -> Result<(), Fail> {
         ("{\"context\":\"c\"}", NO_FIT),
         ("{\"realm\":\"r\",\"x\":1}", NO_FIT),
     ];
-    for (text, shown) in source {
-        assert_eq!(rt; again::<Source>(alloc, text)?.as_str(), shown, "{text}");
-    }
-    let trace = [
+    const TRACES: &[(&str, &str)] = &[
         ("{\"callFrames\":[]}", "{\"callFrames\":[]}"),
         (
             "{\"callFrames\":[{\"url\":\"u\",\"lineNumber\":2,\"functionName\":\"f\",\"columnNumber\":1}]}",
@@ -157,16 +119,23 @@ fn closed_maps(rt: HostRuntime) -> Result<(), Fail> {
         ("{\"callFrames\":[],\"x\":1}", NO_FIT),
         ("{}", NO_FIT),
     ];
-    for (text, shown) in trace {
-        assert_eq!(rt; again::<StackTrace>(alloc, text)?.as_str(), shown, "{text}");
+    reads::<RegExpValue>(&rt, rt.alloc(), REG_EXPS)?;
+    reads::<Source>(&rt, rt.alloc(), SOURCES)?;
+    reads::<StackTrace>(&rt, rt.alloc(), TRACES)
+}
+
+impl Choice for Target {
+    fn kind(&self) -> &'static str {
+        match self {
+            Target::Context(_) => "context",
+            Target::Realm(_) => "realm",
+        }
     }
-    Ok(())
 }
 
 #[test]
 fn targets(rt: HostRuntime) -> Result<(), Fail> {
-    let alloc = rt.alloc();
-    let rows = [
+    const ROWS: &[(&str, &str)] = &[
         ("{\"context\":\"c\"}", "context"),
         ("{\"context\":\"c\",\"sandbox\":\"s\"}", "context"),
         ("{\"context\":\"c\",\"realm\":\"r\"}", "context"),
@@ -176,28 +145,26 @@ fn targets(rt: HostRuntime) -> Result<(), Fail> {
             "{\"context\":\"c\",\"realm\":\"r\",\"sandbox\":null}",
             "realm",
         ),
-        ("{\"context\":\"c\",\"sandbox\":null}", "neither"),
-        ("{\"context\":\"c\",\"x\":1.5}", "neither"),
-        ("{\"context\":5}", "neither"),
-        ("{}", "neither"),
+        ("{\"context\":\"c\",\"sandbox\":null}", "none"),
+        ("{\"context\":\"c\",\"x\":1.5}", "none"),
+        ("{\"context\":5}", "none"),
+        ("{}", "none"),
     ];
-    for (text, name) in rows {
-        let found = match Target::from_tree(alloc, &tree_of(alloc, text)?) {
-            Ok(Target::Context(_)) => "context",
-            Ok(Target::Realm(_)) => "realm",
-            Err(_) => "neither",
-        };
-        assert_eq!(rt; found, name, "{text}");
-        let shown = if name == "neither" { NO_FIT } else { text };
-        assert_eq!(rt; again::<Target>(alloc, text)?.as_str(), shown, "{text}");
+    chooses_same::<Target>(&rt, rt.alloc(), ROWS)
+}
+
+impl Choice for Reference {
+    fn kind(&self) -> &'static str {
+        match self {
+            Reference::Shared(_) => "shared",
+            Reference::RemoteObject(_) => "object",
+        }
     }
-    Ok(())
 }
 
 #[test]
 fn references(rt: HostRuntime) -> Result<(), Fail> {
-    let alloc = rt.alloc();
-    let rows = [
+    const ROWS: &[(&str, &str)] = &[
         ("{\"sharedId\":\"s\"}", "shared"),
         ("{\"handle\":\"h\",\"sharedId\":\"s\"}", "shared"),
         ("{\"handle\":\"h\"}", "object"),
@@ -205,26 +172,20 @@ fn references(rt: HostRuntime) -> Result<(), Fail> {
             "{\"handle\":\"h\",\"type\":\"array\",\"value\":[]}",
             "object",
         ),
-        ("{\"handle\":5,\"type\":\"array\",\"value\":[]}", "neither"),
-        ("{\"handle\":5,\"sharedId\":\"s\"}", "neither"),
-        ("{\"handle\":\"h\",\"sharedId\":5}", "neither"),
-        ("{\"handle\":\"h\",\"x\":-0}", "neither"),
-        ("{\"type\":\"undefined\"}", "neither"),
+        ("{\"handle\":5,\"type\":\"array\",\"value\":[]}", "none"),
+        ("{\"handle\":5,\"sharedId\":\"s\"}", "none"),
+        ("{\"handle\":\"h\",\"sharedId\":5}", "none"),
+        ("{\"handle\":\"h\",\"x\":-0}", "none"),
+        ("{\"type\":\"undefined\"}", "none"),
     ];
-    for (text, name) in rows {
-        let found = match Reference::from_tree(alloc, &tree_of(alloc, text)?) {
-            Ok(Reference::Shared(_)) => "shared",
-            Ok(Reference::RemoteObject(_)) => "object",
-            Err(_) => "neither",
-        };
-        assert_eq!(rt; found, name, "{text}");
-        let shown = if name == "neither" { NO_FIT } else { text };
-        assert_eq!(rt; again::<Reference>(alloc, text)?.as_str(), shown, "{text}");
-    }
-    let array = tree_of(alloc, "{\"type\":\"array\",\"value\":[],\"handle\":\"h\"}")?;
-    let object = RemoteObjectReference::from_tree(alloc, &array)
-        .ok()
-        .ok_or("no reference")?;
+    chooses_same::<Reference>(&rt, rt.alloc(), ROWS)
+}
+
+#[test]
+fn a_reference_keeps_further_members(rt: HostRuntime) -> Result<(), Fail> {
+    let alloc = rt.alloc();
+    let text = "{\"type\":\"array\",\"value\":[],\"handle\":\"h\"}";
+    let object = value_of::<RemoteObjectReference>(alloc, text)?;
     let ext = Tree::Map(object.ext.copy_members()?);
     assert!(rt; ext.is_writable());
     assert_eq!(rt;
@@ -234,101 +195,138 @@ fn references(rt: HostRuntime) -> Result<(), Fail> {
     Ok(())
 }
 
+/// What becomes of the same parts with further members, as a value of that type: the compact text, or the fault.
+fn made_as(alloc: Global, name: &str, further: &str) -> Result<String, Fail> {
+    let ext = members_of(alloc, further)?;
+    match name {
+        "ContextTarget" => {
+            let sandbox = Some(id(alloc, "s")?);
+            told(alloc, ContextTarget::new(id(alloc, "c")?, sandbox, ext))
+        }
+        "RealmTarget" => told(alloc, RealmTarget::new(alloc, id(alloc, "r")?, ext)),
+        "SharedReference" => {
+            let handle = Some(id(alloc, "h")?);
+            told(alloc, SharedReference::new(id(alloc, "s")?, handle, ext))
+        }
+        "RemoteObjectReference" => {
+            let handle = id(alloc, "h")?;
+            told(alloc, RemoteObjectReference::new(alloc, handle, None, ext))
+        }
+        "RemoteObjectReference with sharedId" => {
+            let handle = id(alloc, "h")?;
+            let shared_id = Some(id(alloc, "s")?);
+            told(
+                alloc,
+                RemoteObjectReference::new(alloc, handle, shared_id, ext),
+            )
+        }
+        _ => Err(Fail::from("no constructor of that name")),
+    }
+}
+
 #[test]
-fn made_targets(rt: HostRuntime) -> Result<(), Fail> {
-    let alloc = rt.alloc();
-    let context = [
-        ("{}", "{\"context\":\"c\",\"sandbox\":\"s\"}"),
+fn made_of_parts(rt: HostRuntime) -> Result<(), Fail> {
+    const ROWS: &[(&str, &str, &str)] = &[
         (
+            "ContextTarget",
+            "{}",
+            "{\"context\":\"c\",\"sandbox\":\"s\"}",
+        ),
+        (
+            "ContextTarget",
             "{\"realm\":\"r\"}",
             "{\"context\":\"c\",\"realm\":\"r\",\"sandbox\":\"s\"}",
         ),
-        ("{\"context\":1.5}", "Clash"),
-        ("{\"sandbox\":1}", "Clash"),
-        ("{\"x\":[-0]}", "TooDeep"),
-    ];
-    for (further, shown) in context {
-        let ext = members_of(alloc, further)?;
-        let target = ContextTarget::new(String::from_str(alloc, "c")?, some(alloc, "s")?, ext);
-        assert_eq!(rt; made(alloc, target)?.as_str(), shown, "{further}");
-    }
-    let realm = [
-        ("{}", "{\"realm\":\"r\"}"),
-        ("{\"x\":1}", "{\"realm\":\"r\",\"x\":1}"),
-        ("{\"context\":5}", "{\"context\":5,\"realm\":\"r\"}"),
+        ("ContextTarget", "{\"context\":1.5}", "Clash"),
+        ("ContextTarget", "{\"sandbox\":1}", "Clash"),
+        ("ContextTarget", "{\"x\":[-0]}", "TooDeep"),
+        ("RealmTarget", "{}", "{\"realm\":\"r\"}"),
+        ("RealmTarget", "{\"x\":1}", "{\"realm\":\"r\",\"x\":1}"),
         (
+            "RealmTarget",
+            "{\"context\":5}",
+            "{\"context\":5,\"realm\":\"r\"}",
+        ),
+        (
+            "RealmTarget",
             "{\"context\":\"c\",\"sandbox\":1}",
             "{\"context\":\"c\",\"realm\":\"r\",\"sandbox\":1}",
         ),
-        ("{\"context\":\"c\"}", "Shadowed"),
-        ("{\"context\":\"c\",\"sandbox\":\"s\"}", "Shadowed"),
-        ("{\"context\":\"c\",\"realm\":\"x\"}", "Clash"),
-        ("{\"realm\":1.5}", "Clash"),
-        ("{\"x\":1.5}", "TooDeep"),
+        ("RealmTarget", "{\"context\":\"c\"}", "Shadowed"),
+        (
+            "RealmTarget",
+            "{\"context\":\"c\",\"sandbox\":\"s\"}",
+            "Shadowed",
+        ),
+        (
+            "RealmTarget",
+            "{\"context\":\"c\",\"realm\":\"x\"}",
+            "Clash",
+        ),
+        ("RealmTarget", "{\"realm\":1.5}", "Clash"),
+        ("RealmTarget", "{\"x\":1.5}", "TooDeep"),
         // No context target has such a member.
-        ("{\"context\":\"c\",\"x\":1.5}", "TooDeep"),
+        ("RealmTarget", "{\"context\":\"c\",\"x\":1.5}", "TooDeep"),
+        (
+            "SharedReference",
+            "{}",
+            "{\"handle\":\"h\",\"sharedId\":\"s\"}",
+        ),
+        (
+            "SharedReference",
+            "{\"x\":1}",
+            "{\"handle\":\"h\",\"sharedId\":\"s\",\"x\":1}",
+        ),
+        ("SharedReference", "{\"handle\":1.5}", "Clash"),
+        ("SharedReference", "{\"sharedId\":\"s\"}", "Clash"),
+        ("SharedReference", "{\"x\":1.5}", "TooDeep"),
+        ("RemoteObjectReference", "{}", "{\"handle\":\"h\"}"),
+        (
+            "RemoteObjectReference",
+            "{\"type\":\"array\",\"value\":[]}",
+            "{\"handle\":\"h\",\"type\":\"array\",\"value\":[]}",
+        ),
+        ("RemoteObjectReference", "{\"sharedId\":\"s\"}", "Clash"),
+        ("RemoteObjectReference", "{\"handle\":1.5}", "Clash"),
+        ("RemoteObjectReference", "{\"x\":[-0]}", "TooDeep"),
+        ("RemoteObjectReference with sharedId", "{}", "Shadowed"),
+        (
+            "RemoteObjectReference with sharedId",
+            "{\"x\":1}",
+            "Shadowed",
+        ),
+        (
+            "RemoteObjectReference with sharedId",
+            "{\"handle\":1}",
+            "Clash",
+        ),
+        // No shared reference has such a member.
+        (
+            "RemoteObjectReference with sharedId",
+            "{\"x\":1.5}",
+            "TooDeep",
+        ),
     ];
-    for (further, shown) in realm {
-        let ext = members_of(alloc, further)?;
-        let target = RealmTarget::new(alloc, String::from_str(alloc, "r")?, ext);
-        assert_eq!(rt; made(alloc, target)?.as_str(), shown, "{further}");
-    }
-    for (levels, is_made) in [(60, true), (61, false)] {
-        let further = deep(alloc, levels)?;
-        let ext = members_of(alloc, further.as_str())?;
-        let target = RealmTarget::new(alloc, String::from_str(alloc, "r")?, ext);
-        assert_eq!(rt; target.is_ok(), is_made, "{levels} levels");
+    for (name, further, shown) in ROWS {
+        let found = made_as(rt.alloc(), name, further)?;
+        assert_eq!(rt; found.as_str(), *shown, "{name} {further}");
     }
     Ok(())
 }
 
 #[test]
-fn made_references(rt: HostRuntime) -> Result<(), Fail> {
-    let alloc = rt.alloc();
-    let shared = [
-        ("{}", "{\"handle\":\"h\",\"sharedId\":\"s\"}"),
-        ("{\"x\":1}", "{\"handle\":\"h\",\"sharedId\":\"s\",\"x\":1}"),
-        ("{\"handle\":1.5}", "Clash"),
-        ("{\"sharedId\":\"s\"}", "Clash"),
-        ("{\"x\":1.5}", "TooDeep"),
+fn levels_of_further_members(rt: HostRuntime) -> Result<(), Fail> {
+    const ROWS: &[(&str, usize, bool)] = &[
+        ("RealmTarget", 60, true),
+        ("RealmTarget", 61, false),
+        ("SharedReference", 60, true),
+        ("SharedReference", 61, false),
     ];
-    for (further, shown) in shared {
-        let ext = members_of(alloc, further)?;
-        let reference = SharedReference::new(String::from_str(alloc, "s")?, some(alloc, "h")?, ext);
-        assert_eq!(rt; made(alloc, reference)?.as_str(), shown, "{further}");
-    }
-    let object = [
-        (false, "{}", "{\"handle\":\"h\"}"),
-        (
-            false,
-            "{\"type\":\"array\",\"value\":[]}",
-            "{\"handle\":\"h\",\"type\":\"array\",\"value\":[]}",
-        ),
-        (false, "{\"sharedId\":\"s\"}", "Clash"),
-        (false, "{\"handle\":1.5}", "Clash"),
-        (false, "{\"x\":[-0]}", "TooDeep"),
-        (true, "{}", "Shadowed"),
-        (true, "{\"x\":1}", "Shadowed"),
-        (true, "{\"handle\":1}", "Clash"),
-        // No shared reference has such a member.
-        (true, "{\"x\":1.5}", "TooDeep"),
-    ];
-    for (is_shared, further, shown) in object {
-        let ext = members_of(alloc, further)?;
-        let shared_id = if is_shared { some(alloc, "s")? } else { None };
-        let handle = String::from_str(alloc, "h")?;
-        let reference = RemoteObjectReference::new(alloc, handle, shared_id, ext);
-        assert_eq!(rt;
-            made(alloc, reference)?.as_str(),
-            shown,
-            "{is_shared} {further}"
-        );
-    }
-    for (levels, is_made) in [(60, true), (61, false)] {
-        let further = deep(alloc, levels)?;
-        let ext = members_of(alloc, further.as_str())?;
-        let reference = SharedReference::new(String::from_str(alloc, "s")?, None, ext);
-        assert_eq!(rt; reference.is_ok(), is_made, "{levels} levels");
+    for (name, levels, is_made) in ROWS {
+        let further = deep(rt.alloc(), *levels)?;
+        let found = made_as(rt.alloc(), name, further.as_str())?;
+        let is_text = found.as_str().starts_with("{");
+        assert_eq!(rt; is_text, *is_made, "{name}, {levels} levels");
     }
     Ok(())
 }

@@ -1,60 +1,30 @@
 //! Results of scripts, rows of a play's table and log entries through the bound `Shape`, and the constructor.
-use crate::tests_support::{NO_FIT, again, members_of, text_of, tree_of};
+use crate::tests_support::{
+    Choice, NO_FIT, arrays, chooses, deep, members_of, reads, reads_any, reads_one, refuses, stays,
+    text_of,
+};
 use crate::{
     BaseLogEntry, ConsoleEntry, EvaluateException, EvaluateResult, EvaluateSuccess,
     ExceptionDetails, GenericLogEntry, JavascriptEntry, Level, LogEntry, Source, StackTrace,
     TableRow,
 };
-use bidi_shape::Shape;
-use bidi_tree::{JsUint, Members, Tree};
-use std::alloc::{AllocError, Global};
+use bidi_tree::JsUint;
+use std::alloc::Global;
 use std::test::Fail;
-
-/// The text that a tree gives where it fits a rule, or `no fit`.
-fn shown_if<'a>(fits: bool, shown: &'a str) -> &'a str {
-    if fits { shown } else { NO_FIT }
-}
-
-/// The text of so many arrays within each other, of which the last holds these items.
-fn arrays(alloc: Global, depth: usize, items: &str) -> Result<String, AllocError> {
-    let mut text = String::new(alloc);
-    for _ in 1..depth {
-        text.push_str(r#"{"type":"array","value":["#)?;
-    }
-    text.push_str(r#"{"type":"array","value":["#)?;
-    text.push_str(items)?;
-    for _ in 0..depth {
-        text.push_str("]}")?;
-    }
-    Ok(text)
-}
 
 /// A remote value of 59, of 60 or of 61 levels.
 fn value_of_levels(alloc: Global, levels: usize) -> Result<String, Fail> {
     match levels {
-        59 => Ok(arrays(alloc, 29, r#"{"type":"null"}"#)?),
-        60 => Ok(arrays(alloc, 30, "")?),
-        61 => Ok(arrays(alloc, 30, r#"{"type":"null"}"#)?),
+        59 => arrays(alloc, 29, r#"{"type":"null"}"#),
+        60 => arrays(alloc, 30, ""),
+        61 => arrays(alloc, 30, r#"{"type":"null"}"#),
         _ => Err(Fail::from("no such value")),
     }
 }
 
-/// A text of lists within each other.
-fn lists(alloc: Global, levels: usize) -> Result<String, AllocError> {
-    let mut text = String::new(alloc);
-    for _ in 0..levels {
-        text.push('[')?;
-    }
-    for _ in 0..levels {
-        text.push(']')?;
-    }
-    Ok(text)
-}
-
 #[test]
 fn exceptions(rt: HostRuntime) -> Result<(), Fail> {
-    let alloc = rt.alloc();
-    let rows = [
+    const ROWS: &[(&str, &str)] = &[
         (
             r#"{"text":"t","stackTrace":{"callFrames":[]},"lineNumber":2,"exception":{"type":"null"},"columnNumber":1}"#,
             r#"{"columnNumber":1,"exception":{"type":"null"},"lineNumber":2,"stackTrace":{"callFrames":[]},"text":"t"}"#,
@@ -92,32 +62,37 @@ fn exceptions(rt: HostRuntime) -> Result<(), Fail> {
             NO_FIT,
         ),
     ];
-    for (text, shown) in rows {
-        assert_eq!(rt;
-            again::<ExceptionDetails>(alloc, text)?.as_str(),
-            shown,
-            "{text}"
-        );
+    reads::<ExceptionDetails>(&rt, rt.alloc(), ROWS)
+}
+
+/// The details of an exception that is a value of so many levels.
+fn exception_of(alloc: Global, levels: usize) -> Result<String, Fail> {
+    let value = value_of_levels(alloc, levels)?;
+    Ok(format!(in alloc;
+        r#"{{"columnNumber":1,"exception":{value},"lineNumber":2,"stackTrace":{{"callFrames":[]}},"text":"t"}}"#
+    )?)
+}
+
+#[test]
+fn levels_of_exceptions(rt: HostRuntime) -> Result<(), Fail> {
+    let alloc = rt.alloc();
+    stays::<ExceptionDetails>(&rt, alloc, &[exception_of(alloc, 59)?.as_str()])?;
+    stays::<ExceptionDetails>(&rt, alloc, &[exception_of(alloc, 60)?.as_str()])?;
+    refuses::<ExceptionDetails>(&rt, alloc, &[exception_of(alloc, 61)?.as_str()])
+}
+
+impl Choice for EvaluateResult {
+    fn kind(&self) -> &'static str {
+        match self {
+            EvaluateResult::Success(_) => "success",
+            EvaluateResult::Exception(_) => "exception",
+        }
     }
-    for (levels, fits) in [(59, true), (60, true), (61, false)] {
-        let value = value_of_levels(alloc, levels)?;
-        let text = format!(in alloc;
-            r#"{{"columnNumber":1,"exception":{value},"lineNumber":2,"stackTrace":{{"callFrames":[]}},"text":"t"}}"#
-        )?;
-        let shown = shown_if(fits, text.as_str());
-        assert_eq!(rt;
-            again::<ExceptionDetails>(alloc, text.as_str())?.as_str(),
-            shown,
-            "{levels} levels"
-        );
-    }
-    Ok(())
 }
 
 #[test]
 fn evaluate_results(rt: HostRuntime) -> Result<(), Fail> {
-    let alloc = rt.alloc();
-    let rows = [
+    const ROWS: &[(&str, &str, &str)] = &[
         (
             r#"{"type":"success","result":{"type":"number","value":1},"realm":"r"}"#,
             "success",
@@ -130,73 +105,55 @@ fn evaluate_results(rt: HostRuntime) -> Result<(), Fail> {
         ),
         (
             r#"{"type":"failure","result":{"type":"null"},"realm":"r"}"#,
-            "neither",
+            "none",
             NO_FIT,
         ),
         (
             r#"{"type":"exception","result":{"type":"null"},"realm":"r"}"#,
-            "neither",
+            "none",
             NO_FIT,
         ),
         (
             r#"{"type":"success","exceptionDetails":{"columnNumber":1,"exception":{"type":"null"},"lineNumber":2,"stackTrace":{"callFrames":[]},"text":"t"},"realm":"r"}"#,
-            "neither",
+            "none",
             NO_FIT,
         ),
         (
             r#"{"type":"success","result":{"type":"null"},"realm":"r","x":1}"#,
-            "neither",
+            "none",
             NO_FIT,
         ),
         (
             r#"{"type":"success","result":{"type":"null"}}"#,
-            "neither",
+            "none",
             NO_FIT,
         ),
         (
             r#"{"type":"success","result":{"type":"node"},"realm":"r"}"#,
-            "neither",
+            "none",
             NO_FIT,
         ),
-        (
-            r#"{"result":{"type":"null"},"realm":"r"}"#,
-            "neither",
-            NO_FIT,
-        ),
-        ("null", "neither", NO_FIT),
+        (r#"{"result":{"type":"null"},"realm":"r"}"#, "none", NO_FIT),
+        ("null", "none", NO_FIT),
     ];
-    for (text, name, shown) in rows {
-        let found = match EvaluateResult::from_tree(alloc, &tree_of(alloc, text)?) {
-            Ok(EvaluateResult::Success(_)) => "success",
-            Ok(EvaluateResult::Exception(_)) => "exception",
-            Err(_) => "neither",
-        };
-        assert_eq!(rt; found, name, "{text}");
-        assert_eq!(rt;
-            again::<EvaluateResult>(alloc, text)?.as_str(),
-            shown,
-            "{text}"
-        );
-        let success = shown_if(name == "success", shown);
-        assert_eq!(rt;
-            again::<EvaluateSuccess>(alloc, text)?.as_str(),
-            success,
-            "{text}"
-        );
-        let exception = shown_if(name == "exception", shown);
-        assert_eq!(rt;
-            again::<EvaluateException>(alloc, text)?.as_str(),
-            exception,
-            "{text}"
-        );
+    chooses::<EvaluateResult>(&rt, rt.alloc(), ROWS)?;
+    reads_one::<EvaluateSuccess>(&rt, rt.alloc(), "success", ROWS)?;
+    reads_one::<EvaluateException>(&rt, rt.alloc(), "exception", ROWS)
+}
+
+impl Choice for TableRow {
+    fn kind(&self) -> &'static str {
+        match self {
+            TableRow::Returns(_) => "returns",
+            TableRow::Throws(_) => "throws",
+            TableRow::Argument(_) => "argument",
+        }
     }
-    Ok(())
 }
 
 #[test]
 fn table_rows(rt: HostRuntime) -> Result<(), Fail> {
-    let alloc = rt.alloc();
-    let rows = [
+    const ROWS: &[(&str, &str, &str)] = &[
         (
             r#"{"text":"1+1","returns":{"type":"number","value":2}}"#,
             "returns",
@@ -241,33 +198,35 @@ fn table_rows(rt: HostRuntime) -> Result<(), Fail> {
         (r#"{"returns":{"type":"null"}}"#, "none", NO_FIT),
         (r#"["t"]"#, "none", NO_FIT),
     ];
-    for (text, name, shown) in rows {
-        let found = match TableRow::from_tree(alloc, &tree_of(alloc, text)?) {
-            Ok(TableRow::Returns(_)) => "returns",
-            Ok(TableRow::Throws(_)) => "throws",
-            Ok(TableRow::Argument(_)) => "argument",
-            Err(_) => "none",
-        };
-        assert_eq!(rt; found, name, "{text}");
-        assert_eq!(rt; again::<TableRow>(alloc, text)?.as_str(), shown, "{text}");
+    chooses::<TableRow>(&rt, rt.alloc(), ROWS)
+}
+
+/// A row that returns a value of so many levels.
+fn returns_of(alloc: Global, levels: usize) -> Result<String, Fail> {
+    let value = value_of_levels(alloc, levels)?;
+    Ok(format!(in alloc; r#"{{"returns":{value},"text":"t"}}"#)?)
+}
+
+#[test]
+fn levels_of_table_rows(rt: HostRuntime) -> Result<(), Fail> {
+    let alloc = rt.alloc();
+    stays::<TableRow>(&rt, alloc, &[returns_of(alloc, 60)?.as_str()])?;
+    refuses::<TableRow>(&rt, alloc, &[returns_of(alloc, 61)?.as_str()])
+}
+
+impl Choice for LogEntry {
+    fn kind(&self) -> &'static str {
+        match self {
+            LogEntry::Console(_) => "console",
+            LogEntry::Javascript(_) => "javascript",
+            LogEntry::Generic(_) => "generic",
+        }
     }
-    for (levels, fits) in [(60, true), (61, false)] {
-        let value = value_of_levels(alloc, levels)?;
-        let text = format!(in alloc; r#"{{"returns":{value},"text":"t"}}"#)?;
-        let shown = shown_if(fits, text.as_str());
-        assert_eq!(rt;
-            again::<TableRow>(alloc, text.as_str())?.as_str(),
-            shown,
-            "{levels} levels"
-        );
-    }
-    Ok(())
 }
 
 #[test]
 fn log_entries(rt: HostRuntime) -> Result<(), Fail> {
-    let alloc = rt.alloc();
-    let rows = [
+    const ROWS: &[(&str, &str, &str)] = &[
         (
             r#"{"type":"console","method":"log","args":[{"type":"string","value":"a"}],"level":"info","source":{"realm":"r"},"text":"a","timestamp":1}"#,
             "console",
@@ -391,55 +350,28 @@ fn log_entries(rt: HostRuntime) -> Result<(), Fail> {
         ),
         ("\"console\"", "none", NO_FIT),
     ];
-    for (text, name, shown) in rows {
-        let found = match LogEntry::from_tree(alloc, &tree_of(alloc, text)?) {
-            Ok(LogEntry::Console(_)) => "console",
-            Ok(LogEntry::Javascript(_)) => "javascript",
-            Ok(LogEntry::Generic(_)) => "generic",
-            Err(_) => "none",
-        };
-        assert_eq!(rt; found, name, "{text}");
-        assert_eq!(rt; again::<LogEntry>(alloc, text)?.as_str(), shown, "{text}");
-        let console = shown_if(name == "console", shown);
-        assert_eq!(rt;
-            again::<ConsoleEntry>(alloc, text)?.as_str(),
-            console,
-            "{text}"
-        );
-        let javascript = shown_if(name == "javascript", shown);
-        assert_eq!(rt;
-            again::<JavascriptEntry>(alloc, text)?.as_str(),
-            javascript,
-            "{text}"
-        );
-        // Each log entry is a generic one, if nothing else.
-        assert_eq!(rt;
-            again::<GenericLogEntry>(alloc, text)?.as_str(),
-            shown,
-            "{text}"
-        );
-    }
-    let levels = [
-        ("debug", true),
-        ("info", true),
-        ("warn", true),
-        ("error", true),
-        ("fatal", false),
-        ("Info", false),
-        ("", false),
+    chooses::<LogEntry>(&rt, rt.alloc(), ROWS)?;
+    reads_one::<ConsoleEntry>(&rt, rt.alloc(), "console", ROWS)?;
+    reads_one::<JavascriptEntry>(&rt, rt.alloc(), "javascript", ROWS)?;
+    // Each log entry is a generic one, if nothing else.
+    reads_any::<GenericLogEntry>(&rt, rt.alloc(), ROWS)
+}
+
+#[test]
+fn named_levels(rt: HostRuntime) -> Result<(), Fail> {
+    const LEVELS: &[&str] = &[
+        r#"{"level":"debug","source":{"realm":"r"},"text":"t","timestamp":1,"type":"javascript"}"#,
+        r#"{"level":"info","source":{"realm":"r"},"text":"t","timestamp":1,"type":"javascript"}"#,
+        r#"{"level":"warn","source":{"realm":"r"},"text":"t","timestamp":1,"type":"javascript"}"#,
+        r#"{"level":"error","source":{"realm":"r"},"text":"t","timestamp":1,"type":"javascript"}"#,
     ];
-    for (level, fits) in levels {
-        let text = format!(in alloc;
-            r#"{{"level":"{level}","source":{{"realm":"r"}},"text":"t","timestamp":1,"type":"javascript"}}"#
-        )?;
-        let shown = shown_if(fits, text.as_str());
-        assert_eq!(rt;
-            again::<LogEntry>(alloc, text.as_str())?.as_str(),
-            shown,
-            "level {level}"
-        );
-    }
-    Ok(())
+    const OTHERS: &[&str] = &[
+        r#"{"level":"fatal","source":{"realm":"r"},"text":"t","timestamp":1,"type":"javascript"}"#,
+        r#"{"level":"Info","source":{"realm":"r"},"text":"t","timestamp":1,"type":"javascript"}"#,
+        r#"{"level":"","source":{"realm":"r"},"text":"t","timestamp":1,"type":"javascript"}"#,
+    ];
+    stays::<LogEntry>(&rt, rt.alloc(), LEVELS)?;
+    refuses::<LogEntry>(&rt, rt.alloc(), OTHERS)
 }
 
 /// What becomes of an entry of that type with further members: the compact text, or the fault.
@@ -467,10 +399,15 @@ fn made(
     }
 }
 
+/// The same of an entry with the text `t` and no stack trace.
+fn made_with_text(alloc: Global, kind: &str, further: &str) -> Result<String, Fail> {
+    let text = String::from_str(alloc, "t")?;
+    made(alloc, Some(text), None, kind, further)
+}
+
 #[test]
 fn made_entries(rt: HostRuntime) -> Result<(), Fail> {
-    let alloc = rt.alloc();
-    let rows = [
+    const ROWS: &[(&str, &str, &str)] = &[
         ("javascript", "{}", "Shadowed"),
         (
             "javascript",
@@ -531,66 +468,54 @@ fn made_entries(rt: HostRuntime) -> Result<(), Fail> {
             "Clash",
         ),
     ];
-    for (kind, further, shown) in rows {
-        let found = made(
-            alloc,
-            Some(String::from_str(alloc, "t")?),
-            None,
-            kind,
-            further,
-        )?;
-        assert_eq!(rt; found.as_str(), shown, "{kind} {further}");
-    }
-    for (levels, fine) in [(60, true), (61, false)] {
-        let further = format!(in alloc; r#"{{"x":{}}}"#, lists(alloc, levels)?)?;
-        let found = made(
-            alloc,
-            Some(String::from_str(alloc, "t")?),
-            None,
-            "other",
-            further.as_str(),
-        )?;
-        assert_eq!(rt; found.as_str() != "TooDeep", fine, "{levels} levels");
-    }
-    // The list of an argument of 60 levels has 61, and yet a console entry takes it.
-    let value = value_of_levels(alloc, 60)?;
-    let deep = [
-        (
-            format!(in alloc; r#"{{"args":[{value}],"method":"log"}}"#)?,
-            "Shadowed",
-        ),
-        (format!(in alloc; r#"{{"args":[{value}]}}"#)?, "TooDeep"),
-    ];
-    for (further, shown) in deep {
-        let found = made(
-            alloc,
-            Some(String::from_str(alloc, "t")?),
-            None,
-            "console",
-            further.as_str(),
-        )?;
-        assert_eq!(rt; found.as_str(), shown, "{shown}");
+    for (kind, further, shown) in ROWS {
+        let found = made_with_text(rt.alloc(), kind, further)?;
+        assert_eq!(rt; found.as_str(), *shown, "{kind} {further}");
     }
     Ok(())
 }
 
 #[test]
+fn levels_of_made_entries(rt: HostRuntime) -> Result<(), Fail> {
+    let alloc = rt.alloc();
+    for (levels, fine) in [(60, true), (61, false)] {
+        let found = made_with_text(alloc, "other", deep(alloc, levels)?.as_str())?;
+        assert_eq!(rt; found.as_str() != "TooDeep", fine, "{levels} levels");
+    }
+    Ok(())
+}
+
+/// The list of an argument of 60 levels has 61, and yet a console entry takes it.
+#[test]
+fn a_deep_argument_shadows(rt: HostRuntime) -> Result<(), Fail> {
+    let alloc = rt.alloc();
+    let value = value_of_levels(alloc, 60)?;
+    let taken = format!(in alloc; r#"{{"args":[{value}],"method":"log"}}"#)?;
+    let found = made_with_text(alloc, "console", taken.as_str())?;
+    assert_eq!(rt; found.as_str(), "Shadowed");
+    let too_deep = format!(in alloc; r#"{{"args":[{value}]}}"#)?;
+    let found = made_with_text(alloc, "console", too_deep.as_str())?;
+    assert_eq!(rt; found.as_str(), "TooDeep");
+    Ok(())
+}
+
+/// The same of an entry without a text, and with a stack trace.
+fn made_with_trace(alloc: Global, kind: &str, further: &str) -> Result<String, Fail> {
+    let trace = StackTrace {
+        call_frames: Vec::new(alloc),
+    };
+    made(alloc, None, Some(trace), kind, further)
+}
+
+#[test]
 fn made_without_text(rt: HostRuntime) -> Result<(), Fail> {
     let alloc = rt.alloc();
-    let rows = [
-        ("javascript", "{}", "Shadowed"),
-        (
-            "other",
-            "{}",
-            r#"{"level":"info","source":{"realm":"r"},"stackTrace":{"callFrames":[]},"text":null,"timestamp":1,"type":"other"}"#,
-        ),
-    ];
-    for (kind, further, shown) in rows {
-        let trace = StackTrace {
-            call_frames: Vec::new(alloc),
-        };
-        let found = made(alloc, None, Some(trace), kind, further)?;
-        assert_eq!(rt; found.as_str(), shown, "{kind} {further}");
-    }
+    let shadowed = made_with_trace(alloc, "javascript", "{}")?;
+    assert_eq!(rt; shadowed.as_str(), "Shadowed");
+    let other = made_with_trace(alloc, "other", "{}")?;
+    assert_eq!(rt;
+        other.as_str(),
+        r#"{"level":"info","source":{"realm":"r"},"stackTrace":{"callFrames":[]},"text":null,"timestamp":1,"type":"other"}"#
+    );
     Ok(())
 }

@@ -1,19 +1,15 @@
 //! Values that may hold others through the bound `Shape`, their cap and their copies.
-use crate::tests_support::{NO_FIT, again, around, text_of, tree_of};
-use crate::{LocalPlain, LocalValue, Nested, Reference, RemoteValue};
-use bidi_shape::Shape;
+use crate::tests_support::{arrays, refuses, stays, text_of, value_of};
+use crate::{
+    Beside, ListKind, LocalPlain, LocalValue, Nested, Nests, PairsKind, Reference, RemoteList,
+    RemotePairs, RemotePlain, RemoteValue,
+};
 use std::alloc::Global;
 use std::test::Fail;
 
-/// A text of so many arrays within each other, the innermost empty.
-fn arrays(alloc: Global, count: usize) -> Result<String, Fail> {
-    Ok(around(alloc, r#"{"type":"array","value":["#, "", "]}", count)?)
-}
-
 #[test]
 fn local_values(rt: HostRuntime) -> Result<(), Fail> {
-    let alloc = rt.alloc();
-    let same = [
+    const SAME: &[&str] = &[
         r#"{"type":"array","value":[]}"#,
         r#"{"type":"array","value":[{"type":"null"},{"type":"set","value":[]}]}"#,
         r#"{"type":"set","value":[{"type":"undefined"}]}"#,
@@ -28,10 +24,7 @@ fn local_values(rt: HostRuntime) -> Result<(), Fail> {
         r#"{"handle":"h"}"#,
         r#"{"sharedId":"s"}"#,
     ];
-    for text in same {
-        assert_eq!(rt; again::<LocalValue>(alloc, text)?.as_str(), text, "{text}");
-    }
-    let refused = [
+    const REFUSED: &[&str] = &[
         r#"{"type":"array"}"#,
         r#"{"type":"array","value":{}}"#,
         r#"{"type":"array","value":[1]}"#,
@@ -48,36 +41,28 @@ fn local_values(rt: HostRuntime) -> Result<(), Fail> {
         r#""array""#,
         r#"[]"#,
     ];
-    for text in refused {
-        assert_eq!(rt;
-            again::<LocalValue>(alloc, text)?.as_str(),
-            NO_FIT,
-            "{text}"
-        );
-    }
-    Ok(())
+    stays::<LocalValue>(&rt, rt.alloc(), SAME)?;
+    refuses::<LocalValue>(&rt, rt.alloc(), REFUSED)
 }
 
 #[test]
 fn a_map_with_a_handle_is_a_reference(rt: HostRuntime) -> Result<(), Fail> {
     let alloc = rt.alloc();
     let text = r#"{"handle":"h","type":"array","value":[]}"#;
-    match LocalValue::from_tree(alloc, &tree_of(alloc, text)?) {
-        Ok(Nested::Plain(LocalPlain::Reference(Reference::RemoteObject(object)))) => {
-            assert_eq!(rt; object.handle.as_str(), "h");
-            assert!(rt; object.ext.members.contains_key("type"));
-            assert!(rt; object.ext.members.contains_key("value"));
-            assert_eq!(rt; text_of(alloc, &object)?.as_str(), text);
-        }
-        _ => return Err(Fail::from("no reference")),
-    }
+    let value = value_of::<LocalValue>(alloc, text)?;
+    let Nested::Plain(LocalPlain::Reference(Reference::RemoteObject(object))) = &value else {
+        return Err(Fail::from("no reference"));
+    };
+    assert_eq!(rt; object.handle.as_str(), "h");
+    assert!(rt; object.ext.members.contains_key("type"));
+    assert!(rt; object.ext.members.contains_key("value"));
+    assert_eq!(rt; text_of(alloc, object)?.as_str(), text);
     Ok(())
 }
 
 #[test]
 fn remote_values(rt: HostRuntime) -> Result<(), Fail> {
-    let alloc = rt.alloc();
-    let same = [
+    const SAME: &[&str] = &[
         r#"{"type":"array"}"#,
         r#"{"handle":"h","internalId":"i","type":"array","value":[{"type":"null"}]}"#,
         r#"{"handle":"h","type":"set"}"#,
@@ -90,10 +75,7 @@ fn remote_values(rt: HostRuntime) -> Result<(), Fail> {
         r#"{"type":"promise"}"#,
         r#"{"type":"boolean","value":true}"#,
     ];
-    for text in same {
-        assert_eq!(rt; again::<RemoteValue>(alloc, text)?.as_str(), text, "{text}");
-    }
-    let refused = [
+    const REFUSED: &[&str] = &[
         r#"{"handle":5,"type":"array"}"#,
         r#"{"type":"array","value":null}"#,
         r#"{"type":"array","value":[],"x":1}"#,
@@ -104,67 +86,57 @@ fn remote_values(rt: HostRuntime) -> Result<(), Fail> {
         r#"{"type":"regexp"}"#,
         r#"{"type":"object","value":[["a"]]}"#,
     ];
-    for text in refused {
-        assert_eq!(rt;
-            again::<RemoteValue>(alloc, text)?.as_str(),
-            NO_FIT,
-            "{text}"
-        );
-    }
-    Ok(())
+    stays::<RemoteValue>(&rt, rt.alloc(), SAME)?;
+    refuses::<RemoteValue>(&rt, rt.alloc(), REFUSED)
 }
 
 #[test]
 fn values_have_at_most_60_levels(rt: HostRuntime) -> Result<(), Fail> {
     let alloc = rt.alloc();
-    let fits = arrays(alloc, 30)?;
-    let deep = arrays(alloc, 31)?;
-    assert_eq!(rt;
-        again::<LocalValue>(alloc, fits.as_str())?.as_str(),
-        fits.as_str()
-    );
-    assert_eq!(rt;
-        again::<RemoteValue>(alloc, fits.as_str())?.as_str(),
-        fits.as_str()
-    );
-    assert_eq!(rt; again::<LocalValue>(alloc, deep.as_str())?.as_str(), NO_FIT);
-    assert_eq!(rt;
-        again::<RemoteValue>(alloc, deep.as_str())?.as_str(),
-        NO_FIT
-    );
-    Ok(())
+    let fits = arrays(alloc, 30, "")?;
+    let deep = arrays(alloc, 31, "")?;
+    stays::<LocalValue>(&rt, alloc, &[fits.as_str()])?;
+    stays::<RemoteValue>(&rt, alloc, &[fits.as_str()])?;
+    refuses::<LocalValue>(&rt, alloc, &[deep.as_str()])?;
+    refuses::<RemoteValue>(&rt, alloc, &[deep.as_str()])
+}
+
+/// The compact text of the value that a text reads as, once it was found within the cap.
+fn checked_of<P: Nests<L, M>, L: Beside, M: Beside>(
+    alloc: Global,
+    text: &str,
+) -> Result<String, Fail> {
+    let value = value_of::<Nested<P, L, M>>(alloc, text)?.checked(alloc)?;
+    text_of(alloc, &value)
 }
 
 #[test]
 fn a_value_within_the_cap_passes(rt: HostRuntime) -> Result<(), Fail> {
-    let alloc = rt.alloc();
-    let text = arrays(alloc, 30)?;
-    match LocalValue::from_tree(alloc, &tree_of(alloc, text.as_str())?) {
-        Ok(value) => match value.checked(alloc) {
-            Ok(value) => assert_eq!(rt; text_of(alloc, &value)?.as_str(), text.as_str()),
-            Err(_) => return Err(Fail::from("refused")),
-        },
-        Err(_) => return Err(Fail::from("no fit")),
-    }
+    let text = arrays(rt.alloc(), 30, "")?;
+    let checked = checked_of::<LocalPlain, ListKind, PairsKind>(rt.alloc(), text.as_str())?;
+    assert_eq!(rt; checked.as_str(), text.as_str());
     Ok(())
+}
+
+/// The compact text of a copy of the value that a text reads as.
+fn copy_of<P: Nests<L, M>, L: Beside, M: Beside>(
+    alloc: Global,
+    text: &str,
+) -> Result<String, Fail> {
+    let copy = value_of::<Nested<P, L, M>>(alloc, text)?.copy(alloc)?;
+    text_of(alloc, &copy)
 }
 
 #[test]
 fn copies_are_equal(rt: HostRuntime) -> Result<(), Fail> {
-    let alloc = rt.alloc();
-    let texts = [
+    const TEXTS: &[&str] = &[
         r#"{"handle":"h","type":"function"}"#,
         r#"{"handle":"h","internalId":"i","type":"array","value":[{"type":"object","value":[["k",{"handle":"g","type":"date","value":"d"}]]}]}"#,
         r#"{"type":"bigint","value":"1"}"#,
     ];
-    for text in texts {
-        match RemoteValue::from_tree(alloc, &tree_of(alloc, text)?) {
-            Ok(value) => {
-                let copy = value.copy(alloc)?;
-                assert_eq!(rt; text_of(alloc, &copy)?.as_str(), text);
-            }
-            Err(_) => return Err(Fail::from("no fit")),
-        }
+    for text in TEXTS {
+        let copy = copy_of::<RemotePlain, RemoteList, RemotePairs>(rt.alloc(), text)?;
+        assert_eq!(rt; copy.as_str(), *text);
     }
     Ok(())
 }

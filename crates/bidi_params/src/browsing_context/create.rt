@@ -65,7 +65,7 @@ impl Shape for ContextType {
 ///
 /// `{ type: "tab" / "window", ? referenceContext: text, ? background: bool, ? userContext: text, Extensible }`
 ///
-/// Absent, `background` is false, and `userContext` is the default one.
+/// `background` has no effect here. Absent, `userContext` is the default one.
 ///
 /// After WebDriver BiDi, "The browsingContext.create Command".
 #[derive(Drop)]
@@ -291,7 +291,7 @@ impl Shape for ActivateParameters {
 ///
 /// `{ context: text, ? promptUnload: bool, Extensible }`
 ///
-/// Absent, `promptUnload` is false.
+/// `promptUnload` has no effect here, since no page asks.
 ///
 /// After WebDriver BiDi, "The browsingContext.close Command".
 #[derive(Drop)]

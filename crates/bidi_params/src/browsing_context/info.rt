@@ -1,7 +1,6 @@
 //! What is told of a browsing context and of those below it.
-ghost use Rattle.std.specs.Prelude.{◌≡◌, IfOk, Some, codes, option_map};
+ghost use Rattle.std.specs.Prelude.{◌≡◌, IfOk, Some, codes, map, option_map};
 ghost use Rattle.std.specs.List.{AllByRecursion};
-ghost use Rattle.std.specs.Prelude.{map};
 ghost use Rattle.bidi_tree.specs.Node.{get_member};
 ghost use Rattle.bidi_tree.specs.View.{node, items_node, members_node};
 ghost use Rattle.bidi_shape.specs.Name.{info};
@@ -16,7 +15,8 @@ ghost use Rattle.bidi_params.specs.declared.browsing_context.info.Info.{out-Info
 ghost use Rattle.bidi_params.specs.InfoView.{beside_of, content, children_content, tree_of_info, InfoIsWell};
 
 use bidi_shape::{
-    Ext, Fields, Optional, Required, Shape, ShapeFault, add_member, add_optional, map_inside,
+    Ext, Fields, MakeFault, Optional, Required, Shape, ShapeFault, add_member, add_optional,
+    map_inside,
 };
 use bidi_tree::{Members, Tree, find_member, put_member};
 use std::alloc::{AllocError, Global};
@@ -39,6 +39,79 @@ pub struct Info {
     /// The context directly above, or null at the top; absent where it stands in the tree.
     pub parent: Option<Option<String>>,
     pub ext: Ext,
+}
+
+impl Info {
+    ghost use Rattle.std.specs.Prelude.{◌≡◌, ◌≤◌, ◌⊎◌, ◌∷◌, IfOk, IfSome, true, codes};
+    ghost use Rattle.bidi_tree.specs.Node.{MembersAreWhole, levels};
+    ghost use Rattle.bidi_tree.specs.View.{members_node};
+    ghost use Rattle.bidi_shape.specs.Parts.{has_named};
+    ghost use Rattle.bidi_shape.specs.Made.{Makes};
+    ghost use Rattle.bidi_shape.specs.ValueLaws.{others_of};
+    ghost use Rattle.bidi_params.specs.InfoLaws.{names};
+    ghost use Rattle.bidi_params.specs.InfoParts.{map_of_parts};
+    ghost use Rattle.bidi_params.specs.declared.browsing_context.info.Info.{out-Info};
+
+    /// The Info of these parts, with further members. Costs the making of its tree.
+    ///
+    /// # Errors
+    /// - `Clash`: a further member is called `children`, `clientWindow`, `context`, `originalOpener`, `url`,
+    ///   `userContext` or `parent`.
+    /// - `TooDeep`: a further member has an `Odd` in it, or more than 60 levels; or the Info has more than 60.
+    /// - `NoMemory`: a growth was refused.
+    pub fn new(
+        alloc: Global,
+        children: Option<Vec<Info>>,
+        client_window: String,
+        context: String,
+        original_opener: Option<String>,
+        url: String,
+        user_context: String,
+        parent: Option<Option<String>>,
+        ext: Members,
+    ) -> Result<Info, MakeFault>
+        requires children { IfSome children ⟦<Vec<Info> as Shape>⟧.shape.well }
+        ensures made { Makes result
+            (has_named (codes "children" ∷ names) (members_node ext.entries) ≡ true)
+            ⊥
+            (¬ MembersAreWhole (members_node ext.entries) 60
+            ⊎ ¬ (levels (map_of_parts children client_window context original_opener url user_context parent (members_node ext.entries)) ≤ 60))
+            (λ v. ((out-Info v).children ≡ children) × ((out-Info v).client_window ≡ client_window) × ((out-Info v).context ≡ context)
+            × ((out-Info v).original_opener ≡ original_opener) × ((out-Info v).url ≡ url) × ((out-Info v).user_context ≡ user_context)
+            × ((out-Info v).parent ≡ parent) × (others_of (out-Info v).ext ≡ members_node ext.entries)) }
+        ensures well { IfOk result (λ v. ⟦<Info as Shape>⟧.shape.well v) }
+    {
+        let ext = Ext::new(
+            ext,
+            &[
+                "children",
+                "clientWindow",
+                "context",
+                "originalOpener",
+                "url",
+                "userContext",
+                "parent",
+            ],
+        )?;
+        if !ext.is_whole() {
+            return Err(MakeFault::TooDeep);
+        }
+        let made = Info {
+            children,
+            client_window,
+            context,
+            original_opener,
+            url,
+            user_context,
+            parent,
+            ext,
+        };
+        if made.to_tree(alloc)?.is_within(MAX_LEVELS) {
+            Ok(made)
+        } else {
+            Err(MakeFault::TooDeep)
+        }
+    }
 }
 
 /// The members beside `children`.

@@ -150,7 +150,7 @@ impl Shape for NavigateParameters {
 ///
 /// `{ context: text, ? ignoreCache: bool, ? wait: Wait, Extensible }`
 ///
-/// Absent, `ignoreCache` is false and `wait` is `none`.
+/// `ignoreCache` has no effect here, since nothing is cached. Absent, `wait` is `none`.
 ///
 /// After WebDriver BiDi, "The browsingContext.reload Command".
 #[derive(Drop)]

@@ -22,7 +22,8 @@ use std::alloc::{AllocError, Global};
 /// `{ functionDeclaration: text, awaitPromise: bool, target: Target, ? arguments: [*LocalValue],
 /// ? resultOwnership: Ownership, ? this: LocalValue, ? userActivation: bool, Extensible }`
 ///
-/// Absent, `arguments` is empty, `this` is undefined, `resultOwnership` is `none` and `userActivation` is false.
+/// `awaitPromise` and `userActivation` have no effect here. Absent, `arguments` is empty, and `resultOwnership` is
+/// `none`.
 ///
 /// After WebDriver BiDi, "The script.callFunction Command".
 #[derive(Drop)]

@@ -67,7 +67,7 @@ impl Shape for Ownership {
 /// `{ expression: text, target: Target, awaitPromise: bool, ? resultOwnership: Ownership, ? userActivation: bool,
 /// Extensible }`
 ///
-/// Absent, `resultOwnership` is `none` and `userActivation` is false.
+/// `awaitPromise` and `userActivation` have no effect here. Absent, `resultOwnership` is `none`.
 ///
 /// After WebDriver BiDi, "The script.evaluate Command".
 #[derive(Drop)]
