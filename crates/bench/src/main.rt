@@ -1,9 +1,10 @@
 //! Times of the project's crates, beside those of what they stand on.
 //!
-//! `bench tree [ROUNDS]` reads and writes trees, `bench shape` maps of ten members, `bench values` remote values. Counts go to standard output, times to standard error.
+//! `bench tree [ROUNDS]` reads and writes trees, `bench shape` maps of ten members, `bench values` remote values, `bench messages` commands and an event. `bench events N` writes N lines of an event, to be checked. Counts go to standard output, times to standard error.
 #![tactic(auto)]
 
 mod measure;
+mod messages;
 mod shape;
 mod texts;
 mod tree;
@@ -18,7 +19,7 @@ fn main(rt: HostRuntime) -> Result<()> {
     let mut words = env::args(&rt)?;
     let _program = words.next();
     let Some(name) = words.next() else {
-        bail!("usage: bench tree|shape|values [ROUNDS]");
+        bail!("usage: bench tree|shape|values|messages|events [ROUNDS]");
     };
     let rounds = match words.next() {
         Some(text) => text.parse::<u32>().context("ROUNDS is a number")?,
@@ -28,6 +29,8 @@ fn main(rt: HostRuntime) -> Result<()> {
         "tree" => tree::run(&rt, rounds),
         "shape" => shape::run(&rt, rounds),
         "values" => shape::run_values(&rt, rounds),
+        "messages" => messages::run(&rt, rounds),
+        "events" => messages::lines(&rt, rounds),
         _ => bail!("no benchmark has that name"),
     }
 }

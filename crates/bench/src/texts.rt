@@ -8,6 +8,10 @@ pub const SHORT: &str = "{\"id\":1,\"method\":\"session.status\",\"params\":{}}"
 pub const MIDDLE: &str =
     "{\"id\":7,\"method\":\"script.callFunction\",\"params\":{\"arguments\":[{\"type\":\"number\",\"value\":4},{\"type\":\"string\",\"value\":\"word\"}],\"awaitPromise\":true,\"functionDeclaration\":\"(a, b) => a+b\",\"target\":{\"context\":\"c-1\"}}}";
 
+/// An entry of the log, of 274 bytes.
+pub const EVENT: &str =
+    "{\"method\":\"log.entryAdded\",\"params\":{\"args\":[{\"type\":\"string\",\"value\":\"hi\"}],\"level\":\"info\",\"method\":\"info\",\"source\":{\"context\":\"00000000-0002-8000-8000-000000000001\",\"realm\":\"00000000-0003-8000-8000-000000000001\"},\"text\":\"hi\",\"timestamp\":7,\"type\":\"console\"},\"type\":\"event\"}";
+
 /// The capabilities of a session, with four members that their rule does not name.
 pub const TEN_MEMBERS: &str =
     "{\"acceptInsecureCerts\":false,\"browserName\":\"memory\",\"browserVersion\":\"1.0\",\"platformName\":\"any\",\"setWindowRect\":false,\"userAgent\":\"memory/1.0\",\"x:a\":1,\"x:b\":true,\"x:c\":\"text\",\"x:d\":[]}";

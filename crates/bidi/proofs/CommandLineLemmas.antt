@@ -1,33 +1,51 @@
--- What `clap`'s faults of a line say of the answer to it.
-use Rattle.std.proofs.Common.{◌≡◌, true, List, [], ◌∷◌, codes, refl, ap, ◌∙◌, inl, inr}
-use Rattle.clap.specs.Words.{HasKind, Kinds, Text, is_simple_and_free, kind_of, takes}
+-- What `clap`'s faults of a line, and its reading, say of the answer to it.
+use Rattle.std.proofs.Common.{◌≡◌, true, List, [], ◌∷◌, codes, refl, sym, subst, inl, inr, Some, None}
+use Rattle.std.specs.Prelude.{Box, Option, option_map}
+use Rattle.std.specs.Box.{box_value}
+use Rattle.clap.specs.Words.{HasKind, Kinds, Row, Text, is_simple, is_simple_and_free, kind_of, subcommand_of, subcommand_rows}
+use Rattle.clap.specs.declared.parser.matches.ArgMatches.TheViews.{out-SubCommand}
+use Rattle.clap.specs.declared.parser.matches.SubCommand.{SubCommand}
 use Rattle.clap.specs.declared.error.Error.{Error}
 use Rattle.clap.specs.declared.error.kind.ErrorKind.{ErrorKind}
-use Rattle.clap.specs.declared.error.kind.ErrorKind.TheVariants.{OutOfMemory}
+use Rattle.clap.specs.declared.error.kind.ErrorKind.TheVariants.{InvalidValue, OutOfMemory}
 use Rattle.clap.proofs.OnLiterals.{clap_on_literals}
 use Rattle.bidi.specs.declared.arguments.LineFault.{LineFault}
 use Rattle.bidi.specs.declared.arguments.LineFault.TheVariants.{Help, Usage, NoMemory}
 use Rattle.bidi.specs.declared.arguments.Run.{Run}
-use Rattle.bidi.specs.declared.arguments.Run.TheVariants.{Play}
-use Rattle.bidi.specs.CommandLine.{AsksFor, Causes, IsRefusedFor, IsRequest, bidi_app}
+use Rattle.bidi.specs.declared.arguments.Run.TheVariants.{Play, Show, Check}
+use Rattle.bidi.specs.declared.message_lines.Side.TheVariants.{Local, Remote}
+use Rattle.bidi.specs.CommandLine.{AsksFor, Causes, IsReadAs, IsRefusedFor, IsRequest, IsSaidBy, bidi_app, faults_of, run_in}
+use Rattle.bidi.proofs.PlayLines.{play_lines}
 
--- the command is one whose faults clap lists
+-- the command is one whose faults clap lists, and whose reading it states
 pub is_listed : is_simple_and_free bidi_app ≡ true
 unfolding clap_on_literals
 is_listed = refl
 
-takes_name : takes bidi_app (codes "play" ∷ []) ≡ true
+pub is_read : is_simple bidi_app ≡ true
 unfolding clap_on_literals
-takes_name = refl
+is_read = refl
 
-takes_mark : takes bidi_app (codes "play" ∷ codes "--" ∷ []) ≡ true
+reads_name : IsReadAs (codes "play" ∷ []) Play
 unfolding clap_on_literals
-takes_mark = refl
+reads_name = (refl, refl)
 
--- clap takes a line that asks for a run
-pub takes_run : (line : List Text) (run : Run) → AsksFor line run → takes bidi_app line ≡ true
-takes_run line Play (inl e) = ap (takes bidi_app) e ∙ takes_name
-takes_run line Play (inr e) = ap (takes bidi_app) e ∙ takes_mark
+reads_mark : IsReadAs (codes "play" ∷ codes "--" ∷ []) Play
+unfolding clap_on_literals
+reads_mark = (refl, refl)
+
+-- clap reads a line that asks for a run as that run
+pub asked_read : (line : List Text) (run : Run) → AsksFor line run → IsReadAs line run
+asked_read line Play (inl e) = subst (λ l. IsReadAs l Play) (sym e) reads_name
+asked_read line Play (inr e) = subst (λ l. IsReadAs l Play) (sym e) reads_mark
+asked_read line (Show side) asks = asks
+asked_read line (Check side) asks = asks
+
+-- and a line that clap reads as a run asks for it
+pub read_asked : (line : List Text) (run : Run) → IsReadAs line run → AsksFor line run
+read_asked line Play read = play_lines line read.0 read.1
+read_asked line (Show side) read = read
+read_asked line (Check side) read = read
 
 -- a want of memory is no request
 no_request : (kind : ErrorKind) → kind ≡ OutOfMemory → IsRequest kind → ⊥
@@ -35,15 +53,83 @@ no_request kind memory (inl h) = cc
 no_request kind memory (inr h) = cc
 
 -- a refusal that the error causes has its cause among the faults
-pub refused : (faults : Kinds) (error : Error) (fault : LineFault) → HasKind faults error → Causes (kind_of error) fault → IsRefusedFor faults fault
-refused faults error NoMemory kind cause = tt
-refused faults error (Help text) (inl memory) cause = absurd (no_request (kind_of error) memory cause)
-refused faults error (Help text) (inr among) cause = (kind_of error, among, cause)
-refused faults error (Usage text) (inl memory) cause = absurd (cause.2 memory)
-refused faults error (Usage text) (inr among) cause = (kind_of error, among, cause)
+pub refused : (line : List Text) (error : Error) (fault : LineFault) → HasKind (faults_of line) error → Causes (kind_of error) fault → IsRefusedFor line fault
+refused line error NoMemory kind cause = tt
+refused line error (Help text) (inl memory) cause = absurd (no_request (kind_of error) memory cause)
+refused line error (Help text) (inr among) cause = (kind_of error, among, cause)
+refused line error (Usage text) (inl memory) cause = absurd (cause.2 memory)
+refused line error (Usage text) (inr among) cause = inl (kind_of error, among, cause)
 
--- a want of memory is told as such
-pub no_memory : (error : Error) (fault : LineFault) → kind_of error ≡ OutOfMemory → Causes (kind_of error) fault → fault ≡ NoMemory
-no_memory error NoMemory memory cause = refl
-no_memory error (Help text) memory cause = absurd (no_request (kind_of error) memory cause)
-no_memory error (Usage text) memory cause = absurd (cause.2 memory)
+-- so has one for an option that names no end
+pub refused_end : (line : List Text) (fault : LineFault) → Causes InvalidValue fault → faults_of line ≡ [] → run_in (subcommand_of bidi_app line) ≡ None → IsRefusedFor line fault
+refused_end line NoMemory cause takes none = tt
+refused_end line (Help text) (inl h) takes none = absurd cc
+refused_end line (Help text) (inr h) takes none = absurd cc
+refused_end line (Usage text) cause takes none = inr (takes, none)
+
+-- where clap has no fault to list, the fault is a want of memory, and is told as such
+pub no_memory : (faults : Kinds) (error : Error) (fault : LineFault) → faults ≡ [] → HasKind faults error → Causes (kind_of error) fault → fault ≡ NoMemory
+no_memory faults error NoMemory none kind cause = refl
+no_memory [] error (Help text) none (inl memory) cause = absurd (no_request (kind_of error) memory cause)
+no_memory [] error (Usage text) none (inl memory) cause = absurd (cause.2 memory)
+no_memory [] error (Help text) none (inr among) cause = absurd among
+no_memory [] error (Usage text) none (inr among) cause = absurd among
+no_memory (k ∷ ks) error fault none kind cause = absurd cc
+
+-- one run, where two are the same option
+pub same_run : (run other : Run) → Some run ≡ Some other → run ≡ other
+same_run run other e = cc
+
+-- no run is none
+pub no_run : (run : Run) → (let none : Option Run = None in none) ≡ Some run → ⊥
+no_run run e = cc
+
+-- the subcommand that was met, from its name and its rows
+pub met : {Z : Type 0} (sub : Option (Box SubCommand Z)) (name : Text) (rows : List Row) → Some name ≡ option_map (λ b. (out-SubCommand (box_value b)).name.now) sub
+    → Some rows ≡ option_map (λ p. p.1) (subcommand_rows sub) → subcommand_rows sub ≡ Some (name, rows)
+met None name rows named found = absurd cc
+met (Some b) name rows named found = cc
+
+-- clap reads the words that are given for a run as that run
+show_local : IsReadAs (codes "show" ∷ codes "--from" ∷ codes "local" ∷ []) (Show Local)
+unfolding clap_on_literals
+show_local = (refl, refl)
+
+show_local_attached : IsReadAs (codes "show" ∷ codes "--from=local" ∷ []) (Show Local)
+unfolding clap_on_literals
+show_local_attached = (refl, refl)
+
+show_remote : IsReadAs (codes "show" ∷ codes "--from" ∷ codes "remote" ∷ []) (Show Remote)
+unfolding clap_on_literals
+show_remote = (refl, refl)
+
+show_remote_attached : IsReadAs (codes "show" ∷ codes "--from=remote" ∷ []) (Show Remote)
+unfolding clap_on_literals
+show_remote_attached = (refl, refl)
+
+check_local : IsReadAs (codes "check" ∷ codes "--from" ∷ codes "local" ∷ []) (Check Local)
+unfolding clap_on_literals
+check_local = (refl, refl)
+
+check_local_attached : IsReadAs (codes "check" ∷ codes "--from=local" ∷ []) (Check Local)
+unfolding clap_on_literals
+check_local_attached = (refl, refl)
+
+check_remote : IsReadAs (codes "check" ∷ codes "--from" ∷ codes "remote" ∷ []) (Check Remote)
+unfolding clap_on_literals
+check_remote = (refl, refl)
+
+check_remote_attached : IsReadAs (codes "check" ∷ codes "--from=remote" ∷ []) (Check Remote)
+unfolding clap_on_literals
+check_remote_attached = (refl, refl)
+
+pub said_asks : (line : List Text) (run : Run) → IsSaidBy run line → AsksFor line run
+said_asks line Play e = inl e
+said_asks line (Show Local) (inl e) = subst (λ l. IsReadAs l (Show Local)) (sym e) show_local
+said_asks line (Show Local) (inr e) = subst (λ l. IsReadAs l (Show Local)) (sym e) show_local_attached
+said_asks line (Show Remote) (inl e) = subst (λ l. IsReadAs l (Show Remote)) (sym e) show_remote
+said_asks line (Show Remote) (inr e) = subst (λ l. IsReadAs l (Show Remote)) (sym e) show_remote_attached
+said_asks line (Check Local) (inl e) = subst (λ l. IsReadAs l (Check Local)) (sym e) check_local
+said_asks line (Check Local) (inr e) = subst (λ l. IsReadAs l (Check Local)) (sym e) check_local_attached
+said_asks line (Check Remote) (inl e) = subst (λ l. IsReadAs l (Check Remote)) (sym e) check_remote
+said_asks line (Check Remote) (inr e) = subst (λ l. IsReadAs l (Check Remote)) (sym e) check_remote_attached

@@ -1,5 +1,6 @@
 -- The first line feed.
-use Rattle.std.proofs.Common.{◌≡◌, ℕ, suc, ◌+◌, ◌-◌, ◌<◌, ◌≤◌, Bool, true, false, ltb, cond, List, [], ◌∷◌, ◌++◌, length, take, drop, refl, sym, ◌∙◌, ap, subst, length-drop, take_all, arith, Some, None}
+use Rattle.std.proofs.Common.{◌≡◌, ℕ, suc, ◌+◌, ◌-◌, ◌<◌, ◌≤◌, Bool, true, false, ◌||◌, ltb, cond, List, [], ◌∷◌, ◌++◌, length, take, drop, refl, sym, ◌∙◌, ap, ap₂, subst, length-drop, take_all, take-append-drop, arith, Some, None}
+use Rattle.std.proofs.lemmas.List.{drop-drop, drop-take, take-take}
 use Rattle.std.specs.Prelude.{◌==◌, position}
 use Rattle.std.specs.List.{list_any, position_or_len}
 use Rattle.std.proofs.lemmas.Bool.Decides.{nat_tests}
@@ -76,3 +77,38 @@ feed_there line more bytes e = ap (λ (bs : List ℕ). has_feed bs) e ∙ (list_
 -- the line of a text, grouped to the left
 pub text_grouped : (c : ℕ) (t : List ℕ) → ended (sent_line (Text c t)) ≡ 60 ∷ 32 ∷ (decimal c ++ 32 ∷ (t ++ 10 ∷ []))
 text_grouped c t = append_assoc (60 ∷ 32 ∷ decimal c) (32 ∷ t) (10 ∷ [])
+
+-- the first bytes are those of a beginning, and the first of the rest
+take_sum : (bs : List ℕ) (n i : ℕ) → take (n + i) bs ≡ take n bs ++ take i (drop n bs)
+take_sum bs n i = sym (take-append-drop n (take (n + i) bs)) ∙ ap₂ (λ (a b : List ℕ). a ++ b) (take-take n (n + i) bs (omega arith)) (drop-take n i bs)
+
+-- no line feed stands in two parts, so none in both together
+no_feed_append : (a b : List ℕ) → has_feed a ≡ false → has_feed b ≡ false → has_feed (a ++ b) ≡ false
+no_feed_append a b p q = let whole = list_any-append (λ b. b == 10) a b in grind (arith, whole, p, q)
+
+-- the first line feed behind a beginning that has none
+pub feed_behind_some : (bs : List ℕ) (n i : ℕ) → has_feed (take n bs) ≡ false → Some i ≡ position (λ b. b == 10) (drop n bs)
+    → (bs ≡ take (n + i) bs ++ 10 ∷ drop (n + i + 1) bs) × (has_feed (take (n + i) bs) ≡ false)
+feed_behind_some bs n i seen e =
+    let found = feed_some (drop n bs) i e in
+    let front = take_sum bs n i in
+    let back : drop (i + 1) (drop n bs) ≡ drop (n + i + 1) bs = drop-drop (i + 1) n bs ∙ ap (λ (k : ℕ). drop k bs) (omega arith) in (
+      sym (take-append-drop n bs) ∙ (ap (λ (r : List ℕ). take n bs ++ r) found.0 ∙ (sym (append_assoc (take n bs) (take i (drop n bs)) (10 ∷ drop (i + 1) (drop n bs)))
+          ∙ ap₂ (λ (a b : List ℕ). a ++ 10 ∷ b) (sym front) back)),
+      ap has_feed front ∙ no_feed_append (take n bs) (take i (drop n bs)) seen found.1,
+    )
+
+pub feed_behind_none : (bs : List ℕ) (n : ℕ) → has_feed (take n bs) ≡ false → None ≡ position (λ b. b == 10) (drop n bs) → has_feed bs ≡ false
+feed_behind_none bs n seen e = ap has_feed (sym (take-append-drop n bs)) ∙ no_feed_append (take n bs) (drop n bs) seen (feed_none (drop n bs) e)
+
+left_false : (a b : Bool) → (a || b) ≡ false → a ≡ false
+left_false true b e = e
+left_false false b e = refl
+
+-- where no line feed stands among the first bytes, none stands among fewer
+pub no_feed_front : (bs : List ℕ) (m n : ℕ) → m ≤ n → has_feed (take n bs) ≡ false → has_feed (take m bs) ≡ false
+no_feed_front bs m n le none =
+    let front = take m (take n bs) in
+    let back = drop m (take n bs) in
+    let whole : has_feed (front ++ back) ≡ false = ap has_feed (take-append-drop m (take n bs)) ∙ none in
+    ap has_feed (sym (take-take m n bs le)) ∙ left_false (has_feed front) (has_feed back) (sym (list_any-append (λ b. b == 10) front back) ∙ whole)

@@ -5,6 +5,8 @@ pub mod DigitLemmas
 pub mod WordLemmas
 pub mod FeedLemmas
 pub mod DeviceLemmas
+pub mod InputLineLemmas
+pub mod ListingLemmas
 pub mod AnswerLemmas
 pub mod PlayLemmas
 pub mod ReadingLemmas
@@ -12,3 +14,5 @@ pub mod OneTextLemmas
 mod CommandLineFacts
 mod CommandLineLemmas
 mod PlayLines
+pub mod ReplyLemmas
+pub mod MessageLineLemmas

@@ -12,7 +12,6 @@ use Rattle.bidi.specs.Plays.{AreHeardAs, Play, PlaysPart, HasNoPlayLine, StopsAt
 use Rattle.bidi.specs.Faults.{play_fault_of}
 use Rattle.bidi.specs.declared.remote_end.RemoteFault.{RemoteFault}
 use Rattle.bidi.specs.declared.remote_end.RemoteFault.TheVariants as remote
-use Rattle.bidi.specs.declared.playing.PlayFault.{PlayFault}
 use Rattle.bidi.proofs.AnswerLemmas.{answers_more}
 use Rattle.bidi.proofs.FeedLemmas.{one_front}
 
@@ -69,7 +68,7 @@ remote_stop remote.NoMemory at_end bytes rest steps wrote p worn = part_so_far b
 remote_stop remote.WornOut at_end bytes rest steps wrote p worn = (steps, rest, p, worn refl)
 
 -- what holds of the fault that a call gives holds of its result
-pub by_fault : {T : Type 0} (r : Result T PlayFault) (f : PlayFault) (P : PlayFault → Type 0) → IsErr r × IsErrAnd r (λ x. x ≡ f) → P f → IfErr r P
+pub by_fault : {T F : Type 0} (r : Result T F) (f : F) (P : F → Type 0) → IsErr r × IsErrAnd r (λ x. x ≡ f) → P f → IfErr r P
 by_fault (Ok x) f P e p = tt
 by_fault (Err x) f P e p = subst P (sym e.1) p
 

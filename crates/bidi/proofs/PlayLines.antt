@@ -1,19 +1,19 @@
--- The lines in which clap finds no fault are `play` and `play --`.
+-- The lines that clap takes and reads as a play are `play` and `play --`.
 use Rattle.std.proofs.Common.{◌≡◌, ◌⊎◌, ℕ, Bool, true, false, zero, suc, List, [], ◌∷◌, ◌++◌, Option, None, Some, codes, refl, sym, ap, ap₂, subst, ◌||◌, ◌∙◌, inl, inr, cond, slice_get, length, bytes_eq, is_some, option_map, append-nil, append_assoc}
 use Rattle.std.specs.Str.{chars}
 use Rattle.std.specs.List.{fold}
 use Rattle.clap.specs.Lexer.{long_of, short_of}
 use Rattle.clap.specs.Walk.{Held, Names, Rule, Step, Text, Walk, finished, nothing_held, settled, subcommand_or_other, walk_from, has_long, has_short, long_or_other, short_or_plain, bundle_met, bundle_step, after_flag, walked}
 use Rattle.clap.specs.Walk as walk
-use Rattle.clap.specs.Simple.{App, Shape, built, entered, filled, help_rule, names_of, with_index}
+use Rattle.clap.specs.Simple.{App, Shape, built, entered, filled, help_rule, names_of, subcommand_of, with_index}
 use Rattle.clap.specs.Faults.{bundle_fault, bundle_step_fault, check_fault, defaults_fault, entered_fault, flag_word_fault, flags_fault, level_fault, long_fault, other_fault, settle_fault, short_fault, step_fault, stray_fault, turn_fault, walk_fault}
 use Rattle.clap.specs.Kinds.{Kinds, or_else}
 use Rattle.std.specs.Option.{option_map_or}
 use Rattle.std.proofs.lemmas.Slice.Eq.{bytes_eq-Decides}
 use Rattle.clap.proofs.OnLiterals.{clap_on_literals}
-use Rattle.bidi.specs.declared.arguments.Run.{Run}
-use Rattle.bidi.specs.declared.arguments.Run.TheVariants.{Play}
-use Rattle.bidi.specs.CommandLine.{AsksFor, bidi_app, faults_of}
+use Rattle.bidi.specs.declared.arguments.Run.TheVariants.{Play, Show, Check}
+use Rattle.bidi.specs.declared.message_lines.Side.{Side}
+use Rattle.bidi.specs.CommandLine.{AsksFor, bidi_app, faults_of, run_in}
 
 -- the one option of each command
 abbrev help : Rule
@@ -135,41 +135,88 @@ leaf_lines (x ∷ line) none =
 
 -- ---- the first word
 
-abbrev named : Bool → Option Text
-named is_play = option_map {T = Text × List Text} (λ s. s.0) (cond is_play (Some (play, [])) None)
+abbrev show : Text
+show = codes "show"
 
-abbrev top_met : Bool → Text → Held × Step
-top_met is_play word = subcommand_or_other rules (named is_play) walk.idle 1 word nothing_held
+abbrev check : Text
+check = codes "check"
 
-top_turn : (is_play : Bool) (word : Text) → or_else (other_fault top (named is_play) word nothing_held) (step_fault top 1 (top_met is_play word).0 (top_met is_play word).1) ≡ []
-    → (is_play ≡ true) ⊎ (bytes_eq word dashes ≡ true)
-top_turn true word none = inl refl
-top_turn false word none = inr (turn_refused (stray_fault top) (λ e. cc) word (bytes_eq word dashes) (long_of word) none)
+-- the subcommand that the first word names
+abbrev named : Bool → Bool → Bool → Option Text
+named is_play is_show is_check =
+    option_map {T = Text × List Text} (λ s. s.0) (cond is_play (Some (play, [])) (cond is_show (Some (show, [])) (cond is_check (Some (check, [])) None)))
 
--- the walk has met `play`, and these words after it
-abbrev after_play : List Text → Walk
-after_play line = record (walk_from nothing_held) { stopped = Some (play, line) }
+abbrev top_met : Option Text → Text → Held × Step
+top_met name word = subcommand_or_other rules name walk.idle 1 word nothing_held
 
-stays : (line done : List Text) → fold (walked top.rules names) (after_play done) line ≡ after_play (done ++ line)
+abbrev first_fault : Option Text → Text → Kinds
+first_fault name word = or_else (other_fault top name word nothing_held) (step_fault top 1 (top_met name word).0 (top_met name word).1)
+
+top_turn : (is_play is_show is_check : Bool) (word : Text) → first_fault (named is_play is_show is_check) word ≡ []
+    → (is_play ≡ true) ⊎ ((is_show ≡ true) ⊎ ((is_check ≡ true) ⊎ (bytes_eq word dashes ≡ true)))
+top_turn true is_show is_check word none = inl refl
+top_turn false true is_check word none = inr (inl refl)
+top_turn false false true word none = inr (inr (inl refl))
+top_turn false false false word none = inr (inr (inr (turn_refused (stray_fault top) (λ e. cc) word (bytes_eq word dashes) (long_of word) none)))
+
+-- the walk has met a subcommand, and these words after it
+abbrev after : Text → List Text → Walk
+after name line = record (walk_from nothing_held) { stopped = Some (name, line) }
+
+stays : (name : Text) (line done : List Text) → fold (walked top.rules names) (after name done) line ≡ after name (done ++ line)
 unfolding clap_on_literals
-stays [] done = ap after_play (sym (append-nil done))
-stays (x ∷ line) done = stays line (done ++ x ∷ []) ∙ ap after_play (append_assoc done (x ∷ []) line)
+stays name [] done = ap (after name) (sym (append-nil done))
+stays name (x ∷ line) done = stays name line (done ++ x ∷ []) ∙ ap (after name) (append_assoc done (x ∷ []) line)
 
-stop_is : (line : List Text) → (walk.walk top.rules names nothing_held (play ∷ line)).stopped ≡ Some (play, line)
+abbrev stop_of : List Text → Option (Text × List Text)
+stop_of line = (walk.walk top.rules names nothing_held line).stopped
+
+stop_play : (line : List Text) → stop_of (play ∷ line) ≡ Some (play, line)
 unfolding clap_on_literals
-stop_is line = ap (λ (w : Walk). w.stopped) (stays line [])
+stop_play line = ap (λ (w : Walk). w.stopped) (stays play line [])
+
+stop_show : (line : List Text) → stop_of (show ∷ line) ≡ Some (show, line)
+unfolding clap_on_literals
+stop_show line = ap (λ (w : Walk). w.stopped) (stays show line [])
+
+stop_check : (line : List Text) → stop_of (check ∷ line) ≡ Some (check, line)
+unfolding clap_on_literals
+stop_check line = ap (λ (w : Walk). w.stopped) (stays check line [])
 
 entered_play : (line : List Text) → faults_of (play ∷ line) ≡ [] → AsksFor (play ∷ line) Play
 entered_play line none =
-    let stop = (walk.walk top.rules names nothing_held (play ∷ line)).stopped in
+    let stop = stop_of (play ∷ line) in
     let rest = later top names (play ∷ line) (is_some (entered app stop)) in
     let part = or_else-nil (walk_fault top names (walk_from nothing_held) (play ∷ line)) (or_else (entered_fault app stop) rest) none in
     let below = or_else-nil (entered_fault app stop) rest part.1 in
-    let at_leaf : level_fault leaf [] nothing_held line false [] ≡ [] = subst (λ s. entered_fault app s ≡ []) (stop_is line) below.0 in
+    let at_leaf : level_fault leaf [] nothing_held line false [] ≡ [] = subst (λ s. entered_fault app s ≡ []) (stop_play line) below.0 in
     elim (leaf_lines line at_leaf) [
       | inl e ↦ inl (ap (λ rest. play ∷ rest) e)
       | inr e ↦ inr (ap (λ rest. play ∷ rest) e)
     ]
+
+-- a line that begins with another subcommand is read as no play
+show_is_no_play : (side : Option Side) → option_map Show side ≡ Some Play → ⊥
+show_is_no_play None e = cc
+show_is_no_play (Some side) e = cc
+
+check_is_no_play : (side : Option Side) → option_map Check side ≡ Some Play → ⊥
+check_is_no_play None e = cc
+check_is_no_play (Some side) e = cc
+
+entered_show : (line : List Text) → run_in (entered app (Some (show, line))) ≡ Some Play → ⊥
+unfolding clap_on_literals
+entered_show line e = show_is_no_play _ e
+
+entered_check : (line : List Text) → run_in (entered app (Some (check, line))) ≡ Some Play → ⊥
+unfolding clap_on_literals
+entered_check line e = check_is_no_play _ e
+
+read_show : (line : List Text) → run_in (subcommand_of bidi_app (show ∷ line)) ≡ Some Play → ⊥
+read_show line e = entered_show line (subst (λ s. run_in (entered app s) ≡ Some Play) (stop_show line) e)
+
+read_check : (line : List Text) → run_in (subcommand_of bidi_app (check ∷ line)) ≡ Some Play → ⊥
+read_check line e = entered_check line (subst (λ s. run_in (entered app s) ≡ Some Play) (stop_check line) e)
 
 or_false : (b : Bool) → (b || false) ≡ true → b ≡ true
 or_false true e = refl
@@ -181,23 +228,29 @@ unfolding clap_on_literals
 entered_none [] none = cc
 entered_none (y ∷ line) none = cc
 
--- clap finds no fault in `play` and `play --` alone
-pub play_lines : (line : List Text) → faults_of line ≡ [] → AsksFor line Play
+-- a word is the name that it is like
+same_word : (name word : Text) → (bytes_eq name word || false) ≡ true → name ≡ word
+same_word name word e = (bytes_eq-Decides name word).0 (or_false _ e)
+
+-- clap takes `play` and `play --` alone as a play
+pub play_lines : (line : List Text) → faults_of line ≡ [] → run_in (subcommand_of bidi_app line) ≡ Some Play → AsksFor line Play
 unfolding clap_on_literals
-play_lines [] none = absurd cc
-play_lines (word ∷ line) none =
-    let stop = (walk.walk top.rules names nothing_held (word ∷ line)).stopped in
+play_lines [] none read = absurd cc
+play_lines (word ∷ line) none read =
+    let stop = stop_of (word ∷ line) in
     let part = or_else-nil (walk_fault top names (walk_from nothing_held) (word ∷ line))
     (or_else (entered_fault app stop) (later top names (word ∷ line) (is_some (entered app stop)))) none in
     let turn = or_else-nil (turn_fault top names (walk_from nothing_held) word)
     (walk_fault top names (walked top.rules names (walk_from nothing_held) word) line) part.0 in
-    elim (top_turn (bytes_eq play word || false) word turn.0) [
-      | inl e ↦ let same : play ≡ word = (bytes_eq-Decides play word).0 (or_false _ e) in
+    elim (top_turn (bytes_eq play word || false) (bytes_eq show word || false) (bytes_eq check word || false) word turn.0) [
+      | inl e ↦ let same = same_word play word e in
           subst (λ w. AsksFor (w ∷ line) Play) same (entered_play line (subst (λ w. faults_of (w ∷ line) ≡ []) (sym same) none))
-      | inr e ↦ let same : word ≡ dashes = (bytes_eq-Decides word dashes).0 e in
-          absurd (entered_none line (subst (λ w. faults_of (w ∷ line) ≡ []) same none))
+      | inr other ↦ elim other [
+        | inl e ↦ absurd (read_show line (subst (λ w. run_in (subcommand_of bidi_app (w ∷ line)) ≡ Some Play) (sym (same_word show word e)) read))
+        | inr last ↦ elim last [
+          | inl e ↦ absurd (read_check line (subst (λ w. run_in (subcommand_of bidi_app (w ∷ line)) ≡ Some Play) (sym (same_word check word e)) read))
+          | inr e ↦ let same : word ≡ dashes = (bytes_eq-Decides word dashes).0 e in
+              absurd (entered_none line (subst (λ w. faults_of (w ∷ line) ≡ []) same none))
+        ]
+      ]
     ]
-
--- the run of a line in which clap finds no fault is the one that the line asks for
-pub run_asked : (line : List Text) (run : Run) → faults_of line ≡ [] → AsksFor line run
-run_asked line Play none = play_lines line none

@@ -1,12 +1,15 @@
 -- What a turn leaves as it was, and what a step that was answered comes to.
-use Rattle.std.proofs.Common.{◌≡◌, ℕ, Bool, true, false, cond, List, refl, sym, ◌∙◌, Ok, Err}
+use Rattle.std.proofs.Common.{◌≡◌, ℕ, Bool, true, false, cond, List, [], ◌∷◌, refl, sym, ap, ◌∙◌, Ok, Err}
 use Rattle.std.specs.Prelude.{Result, IfOk, OnOk}
+use Rattle.bidi_tree.specs.Node.{Node}
 use Rattle.bidi_messages.specs.Verdict.{Verdict, Accepted, Refused, IsVerdict}
+use Rattle.bidi_messages.specs.Command.{id_in, method_in}
+use Rattle.bidi_messages.specs.declared.error_code.ErrorCode.{ErrorCode}
 use Rattle.bidi.specs.declared.remote_end.RemoteEnd.{RemoteEnd}
 use Rattle.bidi.specs.Step.{Step}
-use Rattle.bidi.specs.Sent.{Sent}
+use Rattle.bidi.specs.Sent.{Sent, Text}
 use Rattle.bidi.specs.History.{Input, Open, Drop, Heard, IsHeardAs, Deed, Opened, Dropped, moment, open_conns, is_open}
-use Rattle.bidi.specs.Machine.{Refusal, Denied, Lost, answered, may_open, turn, with_turn, told}
+use Rattle.bidi.specs.Machine.{Refusal, Denied, Lost, answered, settled, outcome, outcome_text, reply_text, may_open, turn, with_turn, told}
 use Rattle.bidi.specs.Stands.{AgreesWith}
 
 -- the moment is that of the last At
@@ -27,9 +30,22 @@ moment-drop past c = dropped_when past c (is_open past c)
 -- a text changes nothing that is asked of the past
 heard_when : (past : List Deed) (c : ℕ) (v : Verdict) (b : Bool)
     → (let t : Result Deed Refusal = cond b (answered c v) (Err (Lost c)) in (moment (with_turn past t) ≡ moment past) × (open_conns (with_turn past t) ≡ open_conns past))
-heard_when past c (Accepted command) true = (refl, refl)
+heard_when past c (Accepted command) true = settled_when (outcome (method_in command))
+  where
+    settled_when : (o : Result Node ErrorCode) → (moment (with_turn past (settled c (id_in command) o)) ≡ moment past) × (open_conns (with_turn past (settled c (id_in command) o)) ≡ open_conns past)
+    settled_when (Ok result) = (refl, refl)
+    settled_when (Err code) = (refl, refl)
 heard_when past c (Refused id code) true = (refl, refl)
 heard_when past c v false = (refl, refl)
+
+-- what is told of a text of an open connection is its reply
+pub told_reply : (past : List Deed) (c : ℕ) (v : Verdict) → is_open past c ≡ true → told (Heard c v) (turn past (Heard c v)) ≡ Text c (reply_text v) ∷ []
+told_reply past c (Accepted command) is = rw is (told_when (outcome (method_in command)) refl)
+  where
+    told_when : (o : Result Node ErrorCode) → o ≡ outcome (method_in command) → told (Heard c (Accepted command)) (settled c (id_in command) o) ≡ Text c (outcome_text (id_in command) o) ∷ []
+    told_when (Ok result) same = ap (λ x. Text c (outcome_text (id_in command) x) ∷ []) (sym same)
+    told_when (Err code) same = refl
+told_reply past c (Refused id code) is = rw is refl
 
 agrees_after_text : (end : RemoteEnd) (past : List Deed) (c : ℕ) (v : Verdict) → AgreesWith end past → AgreesWith end (with_turn past (turn past (Heard c v)))
 agrees_after_text end past c v a =

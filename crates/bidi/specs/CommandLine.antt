@@ -1,13 +1,16 @@
 -- What the words of a command line ask for, as `clap` reads them.
-use Rattle.std.specs.Prelude.{◌≡◌, ◌≢◌, ◌⊎◌, ℕ, true, List, [], ◌∷◌, ⊤, codes, map}
+use Rattle.std.specs.Prelude.{◌≡◌, ◌≢◌, ◌⊎◌, ℕ, true, List, [], ◌∷◌, ◌++◌, ⊤, Option, Some, None, option_and_then, option_map, if◌then◌else◌, codes, map}
+use Rattle.std.specs.Str.{bytes_eq}
 use Rattle.std.specs.Borrow.{Bor}
-use Rattle.clap.specs.Words.{App, IsAmong, Kinds, Shape, Text, fault_of, new_app, with_subcommand}
+use Rattle.clap.specs.Words.{App, IsAmong, Kinds, Row, Rule, Shape, Text, fault_of, first_of, new_app, new_rule, subcommand_of, with_rule, with_subcommand}
 use Rattle.clap.specs.declared.error.kind.ErrorKind.{ErrorKind}
 use Rattle.clap.specs.declared.error.kind.ErrorKind.TheVariants.{DisplayHelp, DisplayVersion, OutOfMemory}
 use Rattle.bidi.specs.declared.arguments.LineFault.{LineFault}
 use Rattle.bidi.specs.declared.arguments.LineFault.TheVariants.{Help, Usage, NoMemory}
 use Rattle.bidi.specs.declared.arguments.Run.{Run}
-use Rattle.bidi.specs.declared.arguments.Run.TheVariants.{Play}
+use Rattle.bidi.specs.declared.arguments.Run.TheVariants.{Play, Show, Check}
+use Rattle.bidi.specs.declared.message_lines.Side.{Side}
+use Rattle.bidi.specs.declared.message_lines.Side.TheVariants.{Local, Remote}
 
 -- the settings: a line leaves out the program's name and names a subcommand, and `help` is none
 abbrev pub with_settings : Shape → Shape
@@ -17,21 +20,67 @@ with_settings s = record s { no_binary_name = true; disable_help_subcommand = tr
 abbrev pub play_shape : Shape
 play_shape = (new_app (codes "play")).top
 
+-- the option `--from`, which is required
+abbrev pub from_rule : Rule
+from_rule = record (new_rule (codes "from")) { long = Some (codes "from"); value_names = 1; required = true }
+
+-- a subcommand of this name with that option
+abbrev pub from_shape : Text → Shape
+from_shape name = (with_rule (new_app name) from_rule).top
+
 -- the program's command, which wants one of its subcommands
 abbrev pub bidi_app : App
-bidi_app = with_subcommand (record { top = with_settings (new_app (codes "bidi")).top; subs = [] }) play_shape
+bidi_app = with_subcommand (with_subcommand (with_subcommand (record { top = with_settings (new_app (codes "bidi")).top; subs = [] }) play_shape)
+    (from_shape (codes "show"))) (from_shape (codes "check"))
 
 -- the words as texts
 abbrev pub line_of : List (Bor (List ℕ)) → List Text
 line_of words = map (λ word. word.now) words
 
--- the line asks for the run: `play` is asked for by its name, with or without the mark that ends the options
-abbrev pub AsksFor : List Text → Run → Type 0
-AsksFor line Play = (line ≡ codes "play" ∷ []) ⊎ (line ≡ codes "play" ∷ codes "--" ∷ [])
-
 -- the faults that clap lists for the line, of which there are none where it takes the line
 abbrev pub faults_of : List Text → Kinds
 faults_of line = fault_of bidi_app line
+
+-- the end of this name
+abbrev pub side_named : Text → Option Side
+side_named text = if bytes_eq text (codes "local") then Some Local else (if bytes_eq text (codes "remote") then Some Remote else None)
+
+-- the end that a subcommand's option names
+abbrev pub side_in : List Row → Option Side
+side_in rows = option_and_then side_named (first_of (codes "from") rows)
+
+-- the run of the subcommand of this name, whose option names this end
+abbrev pub run_named : Text → Option Side → Option Run
+run_named name side =
+    if bytes_eq name (codes "play") then Some Play
+    else (if bytes_eq name (codes "show") then option_map Show side
+    else (if bytes_eq name (codes "check") then option_map Check side else None))
+
+-- the run of a subcommand, by its name and what was found for its option
+abbrev pub run_in : Option (Text × List Row) → Option Run
+run_in None = None
+run_in (Some (name, rows)) = run_named name (side_in rows)
+
+-- clap takes the line, and reads it as the run
+abbrev pub IsReadAs : List Text → Run → Type 0
+IsReadAs line run = (faults_of line ≡ []) × (run_in (subcommand_of bidi_app line) ≡ Some run)
+
+-- the line asks for the run: `play` is asked for by its name, with or without the mark that ends the options
+abbrev pub AsksFor : List Text → Run → Type 0
+AsksFor line Play = (line ≡ codes "play" ∷ []) ⊎ (line ≡ codes "play" ∷ codes "--" ∷ [])
+AsksFor line (Show side) = IsReadAs line (Show side)
+AsksFor line (Check side) = IsReadAs line (Check side)
+
+-- the name of an end
+abbrev pub side_text : Side → Text
+side_text Local = codes "local"
+side_text Remote = codes "remote"
+
+-- the words that are given for a run
+abbrev pub IsSaidBy : Run → List Text → Type 0
+IsSaidBy Play line = line ≡ codes "play" ∷ []
+IsSaidBy (Show side) line = (line ≡ codes "show" ∷ codes "--from" ∷ side_text side ∷ []) ⊎ (line ≡ codes "show" ∷ (codes "--from=" ++ side_text side) ∷ [])
+IsSaidBy (Check side) line = (line ≡ codes "check" ∷ codes "--from" ∷ side_text side ∷ []) ⊎ (line ≡ codes "check" ∷ (codes "--from=" ++ side_text side) ∷ [])
 
 -- help, or the version, was asked for
 abbrev pub IsRequest : ErrorKind → Type 0
@@ -47,8 +96,8 @@ Causes kind (Help text) = IsRequest kind
 Causes kind (Usage text) = IsMistake kind
 Causes kind NoMemory = ⊤
 
--- a refusal has its cause among the faults of the line
-abbrev pub IsRefusedFor : Kinds → LineFault → Type 0
-IsRefusedFor faults (Help text) = (kind : ErrorKind) × IsAmong kind faults × IsRequest kind
-IsRefusedFor faults (Usage text) = (kind : ErrorKind) × IsAmong kind faults × IsMistake kind
-IsRefusedFor faults NoMemory = ⊤
+-- a refusal has its cause among the faults of the line, or clap takes the line and its option names no end
+abbrev pub IsRefusedFor : List Text → LineFault → Type 0
+IsRefusedFor line (Help text) = (kind : ErrorKind) × IsAmong kind (faults_of line) × IsRequest kind
+IsRefusedFor line (Usage text) = ((kind : ErrorKind) × IsAmong kind (faults_of line) × IsMistake kind) ⊎ ((faults_of line ≡ []) × (run_in (subcommand_of bidi_app line) ≡ None))
+IsRefusedFor line NoMemory = ⊤

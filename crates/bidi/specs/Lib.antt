@@ -7,4 +7,8 @@ pub mod Lines
 pub mod Devices
 pub mod Plays
 pub mod Faults
+pub mod InputLines
+pub mod MessageLines
+pub mod Listings
+pub mod Runs
 pub mod CommandLine

@@ -1,8 +1,9 @@
 -- The protocol machine: what a remote end does at each input, and what it sends. After WebDriver BiDi, "Transport" and "The session.status Command".
-use Rattle.std.specs.Prelude.{ℕ, true, not, ◌&&◌, nat_lt, Bool, if◌then◌else◌, List, [], ◌∷◌, ◌++◌, length, Option, Result, Ok, Err, bytes_eq, codes}
+use Rattle.std.specs.Prelude.{ℕ, true, not, ◌&&◌, nat_lt, Bool, if◌then◌else◌, List, [], ◌∷◌, ◌++◌, length, Option, Some, Result, Ok, Err, bytes_eq, codes}
 use Rattle.bidi_tree.specs.Node.{Node}
 use Rattle.bidi_messages.specs.declared.error_code.ErrorCode.{ErrorCode}
-use Rattle.bidi_messages.specs.Command.{CommandData, session_status}
+use Rattle.bidi_messages.specs.declared.error_code.ErrorCode.TheVariants.{InvalidSessionId, UnsupportedOperation}
+use Rattle.bidi_messages.specs.Command.{id_in, method_in}
 use Rattle.bidi_messages.specs.Verdict.{Verdict, Accepted, Refused}
 use Rattle.bidi_messages.specs.Message.{status_tree, response_text, error_text}
 use Rattle.bidi.specs.Sent as sent
@@ -19,9 +20,22 @@ pub data Refusal : Type 0 where
 abbrev pub may_open : List Deed → ℕ → List ℕ → Bool
 may_open past c resource = bytes_eq resource (codes "/session") && (not (is_open past c) && nat_lt (length (open_conns past)) 64)
 
--- what a text of an open connection does: an accepted command is told its result, any other text is in error
+-- The result of a command, or the code of its refusal, by its method. No session is active: so the remote end is
+-- ready for one, though it makes none yet, and no connection has a session.
+abbrev pub outcome : List ℕ → Result Node ErrorCode
+outcome method =
+    if bytes_eq method (codes "session.status") then Ok (status_tree true (codes "ready"))
+    else if bytes_eq method (codes "session.new") then Err UnsupportedOperation
+    else Err InvalidSessionId
+
+-- what a command does that has this outcome
+abbrev pub settled : ℕ → ℕ → Result Node ErrorCode → Result Deed Refusal
+settled c id (Ok result) = Ok Told
+settled c id (Err code) = Err (Error c (Some id) code)
+
+-- what a text of an open connection does: an accepted command is told its outcome, any other text is in error
 abbrev pub answered : ℕ → Verdict → Result Deed Refusal
-answered c (Accepted command) = Ok Told
+answered c (Accepted command) = settled c (id_in command) (outcome (method_in command))
 answered c (Refused id code) = Err (Error c id code)
 
 -- what an input does, asked of the past before it, or why it is not taken
@@ -41,13 +55,14 @@ abbrev pub deeds : List Input → List Deed
 deeds [] = []
 deeds (i ∷ history) = with_turn (deeds history) (turn (deeds history) i)
 
--- the result of an accepted command: no session is active, so the remote end is ready for a new one
-abbrev pub result_of : CommandData → Node
-result_of (session_status others) = status_tree true (codes "ready")
+-- the text of the reply to a command that has this outcome
+abbrev pub outcome_text : ℕ → Result Node ErrorCode → List ℕ
+outcome_text id (Ok result) = response_text id result
+outcome_text id (Err code) = error_text (Some id) code
 
 -- the text of the reply to a text of an open connection
 abbrev pub reply_text : Verdict → List ℕ
-reply_text (Accepted command) = response_text command.id (result_of command.asks)
+reply_text (Accepted command) = outcome_text (id_in command) (outcome (method_in command))
 reply_text (Refused id code) = error_text id code
 
 -- what is sent where the input has done this, or was not taken for this

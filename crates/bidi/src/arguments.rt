@@ -1,11 +1,14 @@
 //! The command line: which of its runs the program is asked for.
-ghost use Rattle.std.specs.Prelude.{◌≡◌, ◌↔◌, IfErr, IfOk, IsSome, MatchResult, Some, codes};
-ghost use Rattle.clap.specs.Words.{app_of, kind_of, subcommand_name_of};
+ghost use Rattle.std.specs.Prelude.{◌≡◌, false, IfErr, IfOk, MatchResult, codes, option_and_then};
+ghost use Rattle.clap.specs.Words.{app_of, found_of, first_value, kind_of, new_app, rule_of, subcommand_rows_of, with_rule};
+ghost use Rattle.clap.specs.declared.builder.command.Command.TheViews.{out-Command};
+ghost use Rattle.clap.specs.declared.error.kind.ErrorKind.TheVariants.{InvalidValue};
 ghost use Rattle.bidi.specs.declared.arguments.Run.{Run};
-ghost use Rattle.bidi.specs.CommandLine.{AsksFor, Causes, IsRefusedFor, bidi_app, faults_of, line_of};
+ghost use Rattle.bidi.specs.CommandLine.{AsksFor, Causes, IsRefusedFor, IsSaidBy, bidi_app, from_rule, line_of, run_in, run_named, side_named};
 
+use super::message_lines::Side;
 use clap::error::ErrorKind;
-use clap::{ArgMatches, Command};
+use clap::{Arg, ArgMatches, Command};
 use std::alloc::{AllocError, Global};
 use thiserror::Error;
 
@@ -14,6 +17,10 @@ use thiserror::Error;
 pub enum Run {
     /// Plays the lines of the standard input.
     Play,
+    /// Writes a line for each text of this end.
+    Show(Side),
+    /// Writes a line for each text of this end that is refused.
+    Check(Side),
 }
 
 /// Why no run was found, with the text to show.
@@ -41,8 +48,11 @@ pub fn command_line(alloc: Global, words: &[&str]) -> Result<Run, LineFault>
     ensures asked { (run : Run) → AsksFor (line_of words.now) run
         → MatchResult result (λ found. found ≡ run) (λ fault. fault ≡ LineFault.NoMemory) }
 
-    // Any other refusal has its cause among the faults that `clap` finds in the line.
-    ensures err { IfErr result (IsRefusedFor (faults_of (line_of words.now))) }
+    // The words that are given for a run ask for it.
+    ensures said { (run : Run) → IsSaidBy run (line_of words.now) → AsksFor (line_of words.now) run }
+
+    // Any other refusal has its cause among the faults that `clap` finds in the line, or in an end that is none.
+    ensures err { IfErr result (IsRefusedFor (line_of words.now)) }
 {
     let Ok(command) = command(alloc) else {
         return Err(LineFault::NoMemory);
@@ -50,7 +60,7 @@ pub fn command_line(alloc: Global, words: &[&str]) -> Result<Run, LineFault>
     match command.try_get_matches_from(words) {
         Ok(matches) => match run_of(&matches) {
             Some(run) => Ok(run),
-            None => unreachable!(),
+            None => Err(no_end(alloc)),
         },
         Err(error) => Err(fault(alloc, &error)),
     }
@@ -63,22 +73,93 @@ fn command<'a>(alloc: Global) -> Result<Command<'a>, AllocError>
     let play = Command::new(alloc, "play").about(
         "Plays steps from the standard input and writes what is sent",
     );
+    let show = with_from(
+        alloc,
+        "show",
+        "Writes a line for each text of the standard input",
+    )?;
+    let check = with_from(
+        alloc,
+        "check",
+        "Writes a line for each text of the standard input that is refused",
+    )?;
     Command::new(alloc, "bidi")
         .about("The two ends of WebDriver BiDi")
         .bin_name("bidi")?
         .no_binary_name(true)
         .disable_help_subcommand(true)
         .subcommand_required(true)
-        .subcommand(play)
+        .subcommand(play)?
+        .subcommand(show)?
+        .subcommand(check)
 }
 
-// The run of the subcommand that was met.
-fn run_of(matches: &ArgMatches<'_>) -> Option<Run>
-    ensures { IsSome result ↔ (subcommand_name_of matches.now ≡ Some (codes "play")) }
+// A subcommand of this name, with the option `--from`.
+fn with_from<'a>(alloc: Global, name: &'a str, about: &'a str) -> Result<Command<'a>, AllocError>
+    ensures app { IfOk result (λ command. app_of command ≡ with_rule (new_app name.entry.now) from_rule) }
+    ensures local { IfOk result (λ command. (out-Command command).has_globals ≡ false) }
 {
-    match matches.subcommand_name()? {
+    Command::new(alloc, name)
+        .about(about)
+        .arg(from_option(alloc))
+}
+
+// The option that says whose texts are read.
+fn from_option<'a>(alloc: Global) -> Arg<'a>
+    ensures rule { rule_of result ≡ from_rule }
+    ensures local { result.global ≡ false }
+{
+    Arg::new(alloc, "from")
+        .long("from")
+        .value_name("END")
+        .help("The end that sends the texts: local or remote")
+        .required(true)
+}
+
+// The run of the subcommand that was met, where its end is one.
+fn run_of(matches: &ArgMatches<'_>) -> Option<Run>
+    ensures { result ≡ run_in (subcommand_rows_of matches.now) }
+{
+    let (name, inner) = matches.subcommand()?;
+    run_named(name, side_of(inner))
+}
+
+// The run of the subcommand of this name, whose option names this end.
+fn run_named(name: &str, side: Option<Side>) -> Option<Run>
+    ensures { result ≡ run_named name.now side }
+{
+    match name {
         "play" => Some(Run::Play),
+        "show" => Some(Run::Show(side?)),
+        "check" => Some(Run::Check(side?)),
         _ => None,
+    }
+}
+
+// The end that `--from` names.
+fn side_of(matches: &ArgMatches<'_>) -> Option<Side>
+    ensures { result ≡ option_and_then side_named (first_value (found_of matches.now) (codes "from")) }
+{
+    match matches.get_str("from")? {
+        "local" => Some(Side::Local),
+        "remote" => Some(Side::Remote),
+        _ => None,
+    }
+}
+
+// What is told where `--from` names no end.
+fn no_end(alloc: Global) -> LineFault
+    ensures { Causes InvalidValue result }
+{
+    let Ok(mut command) = command(alloc) else {
+        return LineFault::NoMemory;
+    };
+    match command.error(
+        ErrorKind::InvalidValue,
+        "`--from` takes `local` or `remote`",
+    ) {
+        Ok(error) => fault(alloc, &error),
+        Err(_) => LineFault::NoMemory,
     }
 }
 
@@ -108,6 +189,10 @@ mod tests {
     fn kind_of(answer: &Result<Run, LineFault>) -> &'static str {
         match answer {
             Ok(Run::Play) => "play",
+            Ok(Run::Show(Side::Local)) => "show local",
+            Ok(Run::Show(Side::Remote)) => "show remote",
+            Ok(Run::Check(Side::Local)) => "check local",
+            Ok(Run::Check(Side::Remote)) => "check remote",
             Err(LineFault::Help(text)) if !text.is_empty() => "help",
             Err(LineFault::Usage(text)) if !text.is_empty() => "usage",
             Err(LineFault::NoMemory) => "no memory",
@@ -132,6 +217,28 @@ mod tests {
             (&["play", "extra"], "usage"),
             (&["play", "play"], "usage"),
             (&["play", "--x"], "usage"),
+            (&["show", "--from", "local"], "show local"),
+            (&["show", "--from", "remote"], "show remote"),
+            (&["check", "--from", "local"], "check local"),
+            (&["check", "--from", "remote"], "check remote"),
+            (&["show", "--from=local"], "show local"),
+            (&["check", "--from=remote", "--"], "check remote"),
+            (&["show", "--help"], "help"),
+            (&["check", "-h"], "help"),
+            (&["show"], "usage"),
+            (&["check", "--from"], "usage"),
+            (&["show", "--from", ""], "usage"),
+            (&["show", "--from="], "usage"),
+            (&["show", "--from", "Local"], "usage"),
+            (&["show", "--from", "both"], "usage"),
+            (&["show", "local"], "usage"),
+            (&["show", "-f", "local"], "usage"),
+            (&["show", "--fro", "local"], "usage"),
+            (&["show", "--from", "local", "remote"], "usage"),
+            (&["show", "--from", "local", "--from", "local"], "usage"),
+            (&["show", "--", "--from", "local"], "usage"),
+            (&["--from", "local", "show"], "usage"),
+            (&["play", "--from", "local"], "usage"),
         ];
         for (words, want) in rows {
             let answer = command_line(rt.alloc(), words);
@@ -159,7 +266,9 @@ mod tests {
 Usage: bidi <COMMAND>
 
 Commands:
-  play  Plays steps from the standard input and writes what is sent
+  play   Plays steps from the standard input and writes what is sent
+  show   Writes a line for each text of the standard input
+  check  Writes a line for each text of the standard input that is refused
 
 Options:
   -h, --help  Print help

@@ -154,11 +154,15 @@ pub enum ReadToEndFault {
 const CHUNK: usize = 4096;
 
 // One read, whose bytes go to the end of `buffer`. Room is made first, so that no byte is lost.
-fn read_some<S: Source>(source: &mut S, buffer: &mut Vec<u8>) -> Result<usize, ReadToEndFault>
+pub(crate) fn read_some<S: Source>(
+    source: &mut S,
+    buffer: &mut Vec<u8>,
+) -> Result<usize, ReadToEndFault>
     ensures bytes { ReadsOn (S.left source.old) (S.left source.new) buffer.old.items buffer.new.items }
     ensures count { IfOk result (λ n. vec_len buffer.new ≡ vec_len buffer.old + n) }
     ensures end { IfOk result (λ n. n ≡ 0 → IsAtEnd (S.left source.new)) }
     ensures told { TellsEnd result CHUNK (S.has_ended source.old) (S.has_ended source.new) }
+    ensures err { OnErr result (buffer.new.items ≡ buffer.old.items) }
     ensures ok { OnOk result (S.failures source.new ≡ S.failures source.old) }
     ensures device { IsErrOf result ReadToEndFault.Device → S.failures source.new ≡ S.failures source.old + 1 }
     ensures no_memory { IsErrOf result ReadToEndFault.NoMemory → S.failures source.new ≡ S.failures source.old }

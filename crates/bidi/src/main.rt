@@ -1,14 +1,18 @@
 //! Programs over the two ends of WebDriver BiDi.
 //!
 //! `bidi play` reads a play from standard input, a step a line, and writes what the remote end sends.
+//! `bidi show` writes a line for each text of a local or a remote end, and `bidi check` one for each that is refused.
 #![tactic(auto)]
 
 mod arguments;
 mod device;
+mod line_reader;
 mod lines;
+mod message_lines;
 mod playing;
 mod remote_end;
 mod running;
+mod showing;
 mod step;
 mod tally;
 #[cfg(test)]

@@ -1,5 +1,5 @@
 //! The remote end.
-ghost use Rattle.std.specs.Prelude.{◌≡◌, ℕ, ◌<◌, ◌≤◌, ◌==◌, ◌↔◌, not, true, List, [], ◌∷◌, map, filter, IsTrue, IfOk, OnOk, OnErr, IsOk, IsErrOf, string_bytes, length, None};
+ghost use Rattle.std.specs.Prelude.{◌≡◌, ℕ, ◌<◌, ◌≤◌, ◌==◌, ◌↔◌, not, true, List, [], ◌∷◌, map, filter, IsTrue, IfOk, OnOk, OnErr, IsOk, IsErrOf, string_bytes, length, None, codes};
 ghost use Rattle.std.specs.List.{list_any};
 ghost use Rattle.bidi_messages.specs.Verdict.{IsVerdict};
 ghost use Rattle.bidi_messages.specs.Verdict as judged;
@@ -8,14 +8,18 @@ ghost use Rattle.bidi.specs.Step.{step_of};
 ghost use Rattle.bidi.specs.Step as play;
 ghost use Rattle.bidi.specs.Sent.{sent_of};
 ghost use Rattle.bidi.specs.History.{Input, At, Open, Drop, Heard, IsHeardAs, Deed, is_open, open_conns};
-ghost use Rattle.bidi.specs.Machine.{turn, with_turn, told, deeds, out, reply_text};
+ghost use Rattle.bidi.specs.Machine.{turn, with_turn, told, deeds, out, outcome, outcome_text, reply_text};
+ghost use Rattle.bidi_messages.specs.Message.{status_tree};
+ghost use Rattle.bidi_messages.specs.Method.{method_text};
 ghost use Rattle.bidi_messages.specs.declared.error_code.ErrorCode.TheVariants.{InvalidArgument};
 ghost use Rattle.bidi.specs.declared.remote_end.RemoteFault.TheVariants.{NoMemory};
 
 use super::step::{Sent, Step};
 use bidi_messages::{
-    CommandData, ErrorCode, StatusResult, Verdict, error_text, judge, response_text,
+    Command, ErrorCode, Method, ResultData, Subject, Verdict, error_text, judge, response_text,
 };
+use bidi_params::StatusResult;
+use bidi_shape::{Ext, Shape};
 use bidi_tree::JsUint;
 use std::alloc::{AllocError, Global};
 use thiserror::Error;
@@ -25,12 +29,6 @@ const MOST_STEPS: u64 = 1_000_000_000;
 
 /// How many connections may be open.
 const MOST_CONNECTIONS: usize = 64;
-
-/// The result of `session.status`, since no session is active.
-const READY: StatusResult = StatusResult {
-    ready: true,
-    message: "ready",
-};
 
 /// Why a step was refused.
 #[derive(Clone, Copy, Debug, PartialEq, Eq, Error)]
@@ -200,7 +198,7 @@ fn answer(
     verdict: Verdict,
 ) -> Result<Vec<Sent>, AllocError>
     ensures { IfOk result (λ sent. (past : List Deed) → conns.now.items ≡ open_conns past
-        → map sent_of sent.items ≡ told (Heard conn.value (verdict_of verdict)) (turn past (Heard conn.value (verdict_of verdict)))) }
+        → map sent_of sent.items ≡ told (Heard conn.value (verdict_of ⟦<Command as Shape>⟧.shape verdict)) (turn past (Heard conn.value (verdict_of ⟦<Command as Shape>⟧.shape verdict)))) }
 {
     let mut sent = Vec::new(alloc);
     let is_open = has(conns, conn.value);
@@ -215,14 +213,38 @@ fn answer(
 
 // The reply to what was judged.
 fn reply_to(alloc: Global, verdict: Verdict) -> Result<String, AllocError>
-    ensures { IfOk result (λ reply. string_bytes reply ≡ reply_text (verdict_of verdict)) }
+    ensures { IfOk result (λ reply. string_bytes reply ≡ reply_text (verdict_of ⟦<Command as Shape>⟧.shape verdict)) }
 {
     match verdict {
-        Verdict::Accepted(command) => match command.data {
-            CommandData::SessionStatus(_) => response_text(alloc, command.id, READY),
-        },
+        Verdict::Accepted(command) => answer_to(alloc, command.id, command.data.method()),
         Verdict::Refused { id, code } => error_text(alloc, id, code),
     }
+}
+
+// The answer to a command, by its method: no connection has a session.
+fn answer_to(alloc: Global, id: JsUint, method: Method) -> Result<String, AllocError>
+    ensures { IfOk result (λ reply. string_bytes reply ≡ outcome_text id.value (outcome (method_text method))) }
+{
+    match method {
+        Method::SessionStatus => {
+            let status = ready(alloc)?;
+            response_text(alloc, id, &status)
+        }
+        Method::SessionNew => error_text(alloc, Some(id), ErrorCode::UnsupportedOperation),
+        _ => error_text(alloc, Some(id), ErrorCode::InvalidSessionId),
+    }
+}
+
+// The result of `session.status`, since no session is active.
+fn ready(alloc: Global) -> Result<ResultData, AllocError>
+    ensures tree { IfOk result (λ r. ⟦<ResultData as Subject<Method>>⟧.subject.tree_of r ≡ status_tree true (codes "ready")) }
+    ensures well { IfOk result ⟦<ResultData as Subject<Method>>⟧.subject.well }
+{
+    Ok(ResultData::SessionStatus(StatusResult {
+        ready: true,
+        message: String::from_str(alloc, "ready")?,
+        ext: Ext::empty(alloc),
+    }))
 }
 
 #[tactic(auto, using(crate::proofs::ConnectionLemmas::any_open))]

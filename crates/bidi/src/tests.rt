@@ -1,8 +1,11 @@
-//! Plays over memory, as the program runs them.
+//! Runs over memory, as the program makes them.
 mod devices;
 mod examples;
 mod limits;
+mod listings;
+mod messages;
 mod plays;
+pub(crate) mod stop_at;
 
 use super::arguments::Run;
 use super::device::Device;
@@ -19,12 +22,17 @@ struct Outcome {
 
 /// Plays the input.
 fn played(alloc: Global, input: &[u8]) -> Outcome {
+    outcome_of(alloc, &Run::Play, input)
+}
+
+/// Runs what is asked for over the input.
+fn outcome_of(alloc: Global, asked: &Run, input: &[u8]) -> Outcome {
     let mut output = Vec::new(alloc);
     let mut told = Vec::new(alloc);
     let mut source = Device::new(input);
     let mut sink = Device::new(&mut output);
     let mut faults = Device::new(&mut told);
-    let status = run(alloc, &Run::Play, &mut source, &mut sink, &mut faults);
+    let status = run(alloc, asked, &mut source, &mut sink, &mut faults);
     Outcome {
         status,
         output,

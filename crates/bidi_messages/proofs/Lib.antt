@@ -1,1 +1,6 @@
+pub mod AboutLemmas
+pub mod ReadingLemmas
 pub mod VerdictLemmas
+pub mod SendingLemmas
+pub mod CommandLemmas
+pub mod MessageLemmas

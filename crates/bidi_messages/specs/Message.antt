@@ -1,9 +1,12 @@
--- The messages of the remote end, as trees and as texts. After WebDriver BiDi, "Protocol".
-use Rattle.std.specs.Prelude.{ℕ, pos, List, Option, Some, None, Bool, codes}
+-- The messages that a remote end sends, as trees and as texts: no member stands beside those of the message's rule.
+-- After WebDriver BiDi, "Protocol".
+use Rattle.std.specs.Prelude.{ℕ, pos, Bool, List, Option, Some, None, codes}
 use Rattle.bidi_tree.specs.Node.{Node, null, boolean, whole, text, map, no_members, member}
 use Rattle.bidi_tree.specs.Text.{compact_text}
 use Rattle.bidi_messages.specs.declared.error_code.ErrorCode.{ErrorCode}
+use Rattle.bidi_messages.specs.declared.event.EventName.{EventName}
 use Rattle.bidi_messages.specs.ErrorCode.{error_code_text}
+use Rattle.bidi_messages.specs.EventName.{event_text as name_of}
 
 -- an id, or null where there is none
 abbrev pub id_tree : Option ℕ → Node
@@ -25,7 +28,14 @@ error_tree id code = map (
     member (codes "message") (text (error_code_text code)) (
     member (codes "type") (text (codes "error")) no_members))))
 
--- `StatusResult = { ready: bool, message: text }`
+-- `{ type: "event", method: "E", params: Q }`
+abbrev pub event_tree : EventName → Node → Node
+event_tree event params = map (
+    member (codes "method") (text (name_of event)) (
+    member (codes "params") params (
+    member (codes "type") (text (codes "event")) no_members)))
+
+-- `{ ready: bool, message: text }`
 abbrev pub status_tree : Bool → List ℕ → Node
 status_tree ready message = map (
     member (codes "message") (text message) (
@@ -37,3 +47,6 @@ response_text id result = compact_text (response_tree id result)
 
 abbrev pub error_text : Option ℕ → ErrorCode → List ℕ
 error_text id code = compact_text (error_tree id code)
+
+abbrev pub event_text : EventName → Node → List ℕ
+event_text event params = compact_text (event_tree event params)

@@ -1,17 +1,19 @@
 -- What a text is judged to be. After WebDriver BiDi, "Transport"; that an id past js-uint is not echoed is this project's own.
-use Rattle.std.specs.Prelude.{◌≡◌, ℕ, pos, negsuc, ◌^◌, List, Option, Some, None, option_and_then, if◌then◌else◌, nat_lt, codes}
-use Rattle.std.specs.List.{list_any}
-use Rattle.std.specs.Str.{bytes_eq}
+use Rattle.std.specs.Prelude.{◌≡◌, ℕ, pos, negsuc, ◌^◌, List, Option, Some, None, option_and_then, is_some, if◌then◌else◌, nat_lt, codes}
 use Rattle.bidi_tree.specs.Node.{Node, null, boolean, whole, odd, text, list, map, get_of}
 use Rattle.bidi_tree.specs.Kind.{text_in}
 use Rattle.bidi_tree.specs.Text.{tree_of_text}
+use Rattle.bidi_shape.specs.Name.{command}
+use Rattle.bidi_shape.specs.Term.{rule}
 use Rattle.bidi_shape.specs.Fits.{Fits}
+use Rattle.bidi_shape.specs.WordLaws.{value_named}
+use Rattle.bidi_messages.specs.Method.{method_words}
 use Rattle.bidi_messages.specs.declared.error_code.ErrorCode.{ErrorCode}
 use Rattle.bidi_messages.specs.declared.error_code.ErrorCode.TheVariants.{InvalidArgument, UnknownCommand}
-use Rattle.bidi_messages.specs.Command.{Command, tree_of_command, IsWell, command_term, methods}
 
+-- a text is accepted as the command of its tree, or refused with an id and a code
 pub data Verdict : Type 0 where
-  Accepted : Command → Verdict
+  Accepted : (command : Node) → Verdict
   Refused : (id : Option ℕ) (code : ErrorCode) → Verdict
 
 -- the tree of a command text, which has at most 1,048,576 bytes
@@ -36,15 +38,15 @@ echoed_id t = option_and_then js_uint_in (get_of (codes "id") t)
 -- a text that is the method of no command is an unknown command, and all else is an invalid argument
 abbrev pub code_for_method : Option (List ℕ) → ErrorCode
 code_for_method None = InvalidArgument
-code_for_method (Some s) = if list_any (bytes_eq s) methods then InvalidArgument else UnknownCommand
+code_for_method (Some s) = if is_some (value_named method_words.first method_words.rest s) then InvalidArgument else UnknownCommand
 
 -- the code of a tree that fits no command
 abbrev pub refusal_code : Node → ErrorCode
 refusal_code t = code_for_method (option_and_then text_in (get_of (codes "method") t))
 
--- A text is accepted as the well command whose tree it has, where that tree fits the rule.
+-- A text is accepted where its tree fits the rule of commands.
 -- It is refused with no id where it has no tree, and else with the id and the code of its tree.
 pub data IsVerdict (s : List ℕ) : Verdict → Type 0 where
-  is_command : (c : Command) → command_tree s ≡ Some (tree_of_command c) → Fits (tree_of_command c) command_term → IsWell c → IsVerdict s (Accepted c)
+  is_command : (t : Node) → command_tree s ≡ Some t → Fits t (rule command) → IsVerdict s (Accepted t)
   is_not_json : command_tree s ≡ None → IsVerdict s (Refused None InvalidArgument)
-  is_no_command : (t : Node) → command_tree s ≡ Some t → (Fits t command_term → ⊥) → IsVerdict s (Refused (echoed_id t) (refusal_code t))
+  is_no_command : (t : Node) → command_tree s ≡ Some t → (Fits t (rule command) → ⊥) → IsVerdict s (Refused (echoed_id t) (refusal_code t))

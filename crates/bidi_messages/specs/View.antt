@@ -1,20 +1,22 @@
--- What contracts see of a verdict and of a command.
-use Rattle.std.specs.Prelude.{option_map}
-use Rattle.bidi_shape.specs.ValueLaws.{others_of}
+-- What contracts see of a verdict.
+use Rattle.std.specs.Prelude.{◌≡◌, ℕ, List, Some, option_map}
+use Rattle.bidi_shape.specs.Value.{ShapeOf}
 use Rattle.bidi_messages.specs.declared.command.Command.{Command}
-use Rattle.bidi_messages.specs.declared.command.CommandData.{CommandData}
-use Rattle.bidi_messages.specs.declared.command.CommandData.TheVariants.{SessionStatus}
 use Rattle.bidi_messages.specs.declared.judging.Verdict.{Verdict}
 use Rattle.bidi_messages.specs.declared.judging.Verdict.TheVariants.{Accepted, Refused}
-use Rattle.bidi_messages.specs.Command as spec
 use Rattle.bidi_messages.specs.Verdict as judged
 
-abbrev pub data_of : CommandData → spec.CommandData
-data_of (SessionStatus params) = spec.session_status (others_of params.ext)
+-- a command by its tree, and a refusal by its id and code
+abbrev pub verdict_of : ShapeOf Command → Verdict → judged.Verdict
+verdict_of shape (Accepted c) = judged.Accepted (shape.tree_of c)
+verdict_of shape (Refused id code) = judged.Refused (option_map (λ n. n.value) id) code
 
-abbrev pub command_of : Command → spec.Command
-command_of c = record { id = c.id.value; asks = data_of c.«data»; others = others_of c.ext }
+-- a command that is accepted is well
+abbrev pub IsWell : ShapeOf Command → Verdict → Type 0
+IsWell shape (Accepted c) = shape.well c
+IsWell shape (Refused id code) = Unit {0}
 
-abbrev pub verdict_of : Verdict → judged.Verdict
-verdict_of (Accepted c) = judged.Accepted (command_of c)
-verdict_of (Refused id code) = judged.Refused (option_map (λ n. n.value) id) code
+-- the text of a well command is accepted as that command
+abbrev pub AcceptsAs : ShapeOf Command → List ℕ → Command → Verdict → Type 0
+AcceptsAs shape s c (Accepted d) = shape.well c → judged.command_tree s ≡ Some (shape.tree_of c) → shape.same d c
+AcceptsAs shape s c (Refused id code) = shape.well c → judged.command_tree s ≡ Some (shape.tree_of c) → ⊥

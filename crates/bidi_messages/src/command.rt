@@ -1,7 +1,20 @@
 //! Commands.
-use bidi_shape::{
-    Ext, Fields, Literal, Required, Ruled, Shape, ShapeFault, add_literal, add_member, read_fields,
+ghost use Rattle.std.specs.Prelude.{◌≡◌, IfOk};
+ghost use Rattle.bidi_tree.specs.View.{node};
+ghost use Rattle.bidi_shape.specs.Term.{rule as named};
+ghost use Rattle.bidi_shape.specs.Fits.{Fits};
+ghost use Rattle.bidi_shape.specs.Outcome.{IfNoFit};
+ghost use Rattle.bidi_messages.specs.Method.{params_of as params_rule};
+
+use crate::method::Method;
+use crate::subject::{Subject, read_about, write_about};
+use bidi_params::{
+    ActivateParameters, CallFunctionParameters, CloseParameters, CreateParameters,
+    DisownParameters, EmptyParams, EvaluateParameters, GetRealmsParameters, GetTreeParameters,
+    NavigateParameters, NewParameters, ReloadParameters, SubscribeParameters,
+    TraverseHistoryParameters, UnsubscribeParameters,
 };
+use bidi_shape::{Ext, Ruled, Shape, ShapeFault};
 use bidi_tree::{JsUint, Tree};
 use std::alloc::{AllocError, Global};
 
@@ -18,81 +31,177 @@ pub struct Command {
 }
 
 /// What a command asks: its method, with its params.
+///
+/// After WebDriver BiDi, "Protocol".
 #[derive(Drop)]
 pub enum CommandData {
     SessionStatus(EmptyParams),
+    SessionNew(NewParameters),
+    SessionEnd(EmptyParams),
+    SessionSubscribe(SubscribeParameters),
+    SessionUnsubscribe(UnsubscribeParameters),
+    BrowsingContextActivate(ActivateParameters),
+    BrowsingContextClose(CloseParameters),
+    BrowsingContextCreate(CreateParameters),
+    BrowsingContextGetTree(GetTreeParameters),
+    BrowsingContextNavigate(NavigateParameters),
+    BrowsingContextReload(ReloadParameters),
+    BrowsingContextTraverseHistory(TraverseHistoryParameters),
+    ScriptEvaluate(EvaluateParameters),
+    ScriptCallFunction(CallFunctionParameters),
+    ScriptDisown(DisownParameters),
+    ScriptGetRealms(GetRealmsParameters),
 }
 
-/// Params without a member that has a meaning.
+impl Subject<Method> for CommandData {
+    ghost use Rattle.std.specs.Prelude.{refl};
+    ghost use Rattle.bidi_messages.specs.CommandData.{ParamShapes, command_subject};
+
+    ghost subject = { command_subject (record { empty_params = ⟦<EmptyParams as Shape>⟧.shape; new_parameters = ⟦<NewParameters as Shape>⟧.shape; subscribe_parameters = ⟦<SubscribeParameters as Shape>⟧.shape; unsubscribe_parameters = ⟦<UnsubscribeParameters as Shape>⟧.shape; activate_parameters = ⟦<ActivateParameters as Shape>⟧.shape; close_parameters = ⟦<CloseParameters as Shape>⟧.shape; create_parameters = ⟦<CreateParameters as Shape>⟧.shape; get_tree_parameters = ⟦<GetTreeParameters as Shape>⟧.shape; navigate_parameters = ⟦<NavigateParameters as Shape>⟧.shape; reload_parameters = ⟦<ReloadParameters as Shape>⟧.shape; traverse_history_parameters = ⟦<TraverseHistoryParameters as Shape>⟧.shape; evaluate_parameters = ⟦<EvaluateParameters as Shape>⟧.shape; call_function_parameters = ⟦<CallFunctionParameters as Shape>⟧.shape; disown_parameters = ⟦<DisownParameters as Shape>⟧.shape; get_realms_parameters = ⟦<GetRealmsParameters as Shape>⟧.shape }) 70 (record { empty_params = record { is_rule = refl; within = refl }; new_parameters = record { is_rule = refl; within = refl }; subscribe_parameters = record { is_rule = refl; within = refl }; unsubscribe_parameters = record { is_rule = refl; within = refl }; activate_parameters = record { is_rule = refl; within = refl }; close_parameters = record { is_rule = refl; within = refl }; create_parameters = record { is_rule = refl; within = refl }; get_tree_parameters = record { is_rule = refl; within = refl }; navigate_parameters = record { is_rule = refl; within = refl }; reload_parameters = record { is_rule = refl; within = refl }; traverse_history_parameters = record { is_rule = refl; within = refl }; evaluate_parameters = record { is_rule = refl; within = refl }; call_function_parameters = record { is_rule = refl; within = refl }; disown_parameters = record { is_rule = refl; within = refl }; get_realms_parameters = record { is_rule = refl; within = refl } }) };
+
+    fn kind(&self) -> Method {
+        match self {
+            CommandData::SessionStatus(_) => Method::SessionStatus,
+            CommandData::SessionNew(_) => Method::SessionNew,
+            CommandData::SessionEnd(_) => Method::SessionEnd,
+            CommandData::SessionSubscribe(_) => Method::SessionSubscribe,
+            CommandData::SessionUnsubscribe(_) => Method::SessionUnsubscribe,
+            CommandData::BrowsingContextActivate(_) => Method::BrowsingContextActivate,
+            CommandData::BrowsingContextClose(_) => Method::BrowsingContextClose,
+            CommandData::BrowsingContextCreate(_) => Method::BrowsingContextCreate,
+            CommandData::BrowsingContextGetTree(_) => Method::BrowsingContextGetTree,
+            CommandData::BrowsingContextNavigate(_) => Method::BrowsingContextNavigate,
+            CommandData::BrowsingContextReload(_) => Method::BrowsingContextReload,
+            CommandData::BrowsingContextTraverseHistory(_) =>
+                Method::BrowsingContextTraverseHistory,
+            CommandData::ScriptEvaluate(_) => Method::ScriptEvaluate,
+            CommandData::ScriptCallFunction(_) => Method::ScriptCallFunction,
+            CommandData::ScriptDisown(_) => Method::ScriptDisown,
+            CommandData::ScriptGetRealms(_) => Method::ScriptGetRealms,
+        }
+    }
+
+    fn read(alloc: Global, kind: Method, tree: &Tree) -> Result<CommandData, ShapeFault> {
+        match kind {
+            Method::SessionStatus => Ok(CommandData::SessionStatus(EmptyParams::from_tree(
+                alloc, tree,
+            )?)),
+            Method::SessionNew => Ok(CommandData::SessionNew(NewParameters::from_tree(
+                alloc, tree,
+            )?)),
+            Method::SessionEnd => Ok(CommandData::SessionEnd(EmptyParams::from_tree(alloc, tree)?)),
+            Method::SessionSubscribe => Ok(CommandData::SessionSubscribe(
+                SubscribeParameters::from_tree(alloc, tree)?,
+            )),
+            Method::SessionUnsubscribe => Ok(CommandData::SessionUnsubscribe(
+                UnsubscribeParameters::from_tree(alloc, tree)?,
+            )),
+            Method::BrowsingContextActivate => Ok(CommandData::BrowsingContextActivate(
+                ActivateParameters::from_tree(alloc, tree)?,
+            )),
+            Method::BrowsingContextClose => Ok(CommandData::BrowsingContextClose(
+                CloseParameters::from_tree(alloc, tree)?,
+            )),
+            Method::BrowsingContextCreate => Ok(CommandData::BrowsingContextCreate(
+                CreateParameters::from_tree(alloc, tree)?,
+            )),
+            Method::BrowsingContextGetTree => Ok(CommandData::BrowsingContextGetTree(
+                GetTreeParameters::from_tree(alloc, tree)?,
+            )),
+            Method::BrowsingContextNavigate => Ok(CommandData::BrowsingContextNavigate(
+                NavigateParameters::from_tree(alloc, tree)?,
+            )),
+            Method::BrowsingContextReload => Ok(CommandData::BrowsingContextReload(
+                ReloadParameters::from_tree(alloc, tree)?,
+            )),
+            Method::BrowsingContextTraverseHistory => Ok(
+                CommandData::BrowsingContextTraverseHistory(TraverseHistoryParameters::from_tree(
+                    alloc, tree,
+                )?),
+            ),
+            Method::ScriptEvaluate => Ok(CommandData::ScriptEvaluate(EvaluateParameters::from_tree(
+                alloc, tree,
+            )?)),
+            Method::ScriptCallFunction => Ok(CommandData::ScriptCallFunction(
+                CallFunctionParameters::from_tree(alloc, tree)?,
+            )),
+            Method::ScriptDisown => Ok(CommandData::ScriptDisown(DisownParameters::from_tree(
+                alloc, tree,
+            )?)),
+            Method::ScriptGetRealms => Ok(CommandData::ScriptGetRealms(
+                GetRealmsParameters::from_tree(alloc, tree)?,
+            )),
+        }
+    }
+
+    fn content(&self, alloc: Global) -> Result<Tree, AllocError> {
+        match self {
+            CommandData::SessionStatus(params) => params.to_tree(alloc),
+            CommandData::SessionNew(params) => params.to_tree(alloc),
+            CommandData::SessionEnd(params) => params.to_tree(alloc),
+            CommandData::SessionSubscribe(params) => params.to_tree(alloc),
+            CommandData::SessionUnsubscribe(params) => params.to_tree(alloc),
+            CommandData::BrowsingContextActivate(params) => params.to_tree(alloc),
+            CommandData::BrowsingContextClose(params) => params.to_tree(alloc),
+            CommandData::BrowsingContextCreate(params) => params.to_tree(alloc),
+            CommandData::BrowsingContextGetTree(params) => params.to_tree(alloc),
+            CommandData::BrowsingContextNavigate(params) => params.to_tree(alloc),
+            CommandData::BrowsingContextReload(params) => params.to_tree(alloc),
+            CommandData::BrowsingContextTraverseHistory(params) => params.to_tree(alloc),
+            CommandData::ScriptEvaluate(params) => params.to_tree(alloc),
+            CommandData::ScriptCallFunction(params) => params.to_tree(alloc),
+            CommandData::ScriptDisown(params) => params.to_tree(alloc),
+            CommandData::ScriptGetRealms(params) => params.to_tree(alloc),
+        }
+    }
+}
+
+impl CommandData {
+    /// The method. Takes no memory.
+    pub fn method(&self) -> Method
+        ensures { result ≡ ⟦<CommandData as Subject<Method>>⟧.subject.kind self.now }
+    {
+        self.kind()
+    }
+}
+
+/// Reads the params of a method.
 ///
-/// `EmptyParams = { Extensible }`
-#[derive(Drop)]
-pub struct EmptyParams {
-    pub ext: Ext,
+/// # Errors
+/// - `NoFit`: the tree does not fit the rule of the method's params.
+/// - `NoMemory`: a growth was refused.
+pub fn data_of(alloc: Global, method: Method, tree: &Tree) -> Result<CommandData, ShapeFault>
+    ensures ok { IfOk result (λ v. (⟦<CommandData as Subject<Method>>⟧.subject.kind v ≡ method)
+        × (⟦<CommandData as Subject<Method>>⟧.subject.tree_of v ≡ node tree.now)
+        × ⟦<CommandData as Subject<Method>>⟧.subject.well v) }
+    ensures no_fit { IfNoFit result (Fits (node tree.now) (named (params_rule method)) → ⊥) }
+{
+    CommandData::read(alloc, method, tree)
 }
-
-impl Ruled for EmptyParams {
-    ghost use Rattle.bidi_shape.specs.Name.{empty_params};
-    ghost use Rattle.bidi_shape.specs.Term.{rule as named};
-
-    ghost rule = { named empty_params };
-}
-
-impl Shape for EmptyParams {
-    ghost use Rattle.std.specs.Prelude.{refl, []};
-    ghost use Rattle.bidi_shape.specs.Name.{empty_params};
-    ghost use Rattle.bidi_shape.specs.Term.{rule as named};
-    ghost use Rattle.bidi_shape.specs.Table.{map_shape};
-
-    ghost shape = { map_shape (named empty_params) ⟦<Ext as Fields>⟧.table [] (λ p. p.ext) refl refl };
-
-    fn from_tree(alloc: Global, tree: &Tree) -> Result<EmptyParams, ShapeFault> {
-        let ext = read_fields::<EmptyParams, Ext>(alloc, tree, &[], &[])?;
-        Ok(EmptyParams { ext })
-    }
-
-    fn to_tree(&self, alloc: Global) -> Result<Tree, AllocError> {
-        Ok(Tree::Map(self.ext.copy_members()?))
-    }
-}
-
-/// The members of a command.
-type Parts = Required<JsUint, Literal<Required<EmptyParams, Ext>>>;
 
 impl Ruled for Command {
-    ghost use Rattle.bidi_messages.specs.Command.{command_term};
+    ghost use Rattle.bidi_shape.specs.Name.{command};
+    ghost use Rattle.bidi_shape.specs.Term.{rule as named};
 
-    ghost rule = { command_term };
+    ghost rule = { named command };
 }
 
 impl Shape for Command {
-    ghost use Rattle.std.specs.Prelude.{refl, [], ◌∷◌, codes};
-    ghost use Rattle.bidi_shape.specs.Table.{map_shape};
-    ghost use Rattle.bidi_messages.specs.Command.{command_term};
-    ghost use Rattle.bidi_messages.specs.Parts.{params_in};
+    ghost use Rattle.std.specs.Prelude.{refl, codes};
+    ghost use Rattle.bidi_messages.specs.About.{about_shape};
 
-    ghost shape = { map_shape command_term ⟦<Parts as Fields>⟧.table (codes "session.status" ∷ []) (λ c. (c.id, record { 0 = (params_in c.«data», c.ext) })) refl refl };
+    ghost shape = { about_shape (codes "id") ⟦<JsUint as Shape>⟧.shape ⟦<Method as bidi_shape::Named>⟧.words ⟦<CommandData as Subject<Method>>⟧.subject ⟦<Command as Ruled>⟧.rule (λ c. (c.id, (c.«data», c.ext))) refl refl };
 
     fn from_tree(alloc: Global, tree: &Tree) -> Result<Command, ShapeFault> {
-        let Required(id, Literal(Required(params, ext))) = read_fields::<Command, Parts>(
-            alloc,
-            tree,
-            &["id", "method", "params"],
-            &["session.status"],
-        )?;
+        let about = read_about::<Command, JsUint, Method, CommandData>(alloc, tree, "id")?;
         Ok(Command {
-            id,
-            data: CommandData::SessionStatus(params),
-            ext,
+            id: about.head,
+            data: about.subject,
+            ext: about.ext,
         })
     }
 
     fn to_tree(&self, alloc: Global) -> Result<Tree, AllocError> {
-        let CommandData::SessionStatus(params) = &self.data;
-        let mut members = self.ext.copy_members()?;
-        add_member(alloc, &mut members, "params", params)?;
-        add_literal(alloc, &mut members, "method", "session.status")?;
-        add_member(alloc, &mut members, "id", &self.id)?;
-        Ok(Tree::Map(members))
+        write_about(alloc, "id", &self.id, &self.data, &self.ext)
     }
 }

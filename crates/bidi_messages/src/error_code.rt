@@ -1,13 +1,16 @@
 //! Error codes.
-ghost use Rattle.std.specs.Prelude.{◌≡◌};
-ghost use Rattle.bidi_messages.specs.ErrorCode.{error_code_text};
+use bidi_shape::{Named, Shape, ShapeFault, read_word, write_word};
+use bidi_tree::Tree;
+use std::alloc::{AllocError, Global};
 
-/// Why a command was refused.
+/// Why a command was refused, or a text that is none.
+///
+/// Its text is a rule of its own: `ErrorCode`, a choice of 23 texts.
 ///
 /// After WebDriver BiDi, "Errors"; the list is the profile's.
 #[derive(Clone, Copy, Debug, PartialEq, Eq)]
 pub enum ErrorCode {
-    /// An argument of the command is not as the rules or the checks ask.
+    /// An argument of the command is not as the rules or the checks ask, or the text is no command.
     InvalidArgument,
     /// A selector is not valid.
     InvalidSelector,
@@ -55,11 +58,41 @@ pub enum ErrorCode {
     UnsupportedOperation,
 }
 
-impl ErrorCode {
-    /// Its text in a message. Takes no memory.
-    pub fn name(&self) -> &'static str
-        ensures { result.now ≡ error_code_text self.now }
-    {
+impl Named for ErrorCode {
+    ghost use Rattle.bidi_messages.specs.ErrorCode.{error_code_words};
+
+    ghost words = { error_code_words };
+
+    fn named(text: &str) -> Option<ErrorCode> {
+        match text {
+            "invalid argument" => Some(ErrorCode::InvalidArgument),
+            "invalid selector" => Some(ErrorCode::InvalidSelector),
+            "invalid session id" => Some(ErrorCode::InvalidSessionId),
+            "move target out of bounds" => Some(ErrorCode::MoveTargetOutOfBounds),
+            "no such alert" => Some(ErrorCode::NoSuchAlert),
+            "no such element" => Some(ErrorCode::NoSuchElement),
+            "no such frame" => Some(ErrorCode::NoSuchFrame),
+            "no such handle" => Some(ErrorCode::NoSuchHandle),
+            "no such history entry" => Some(ErrorCode::NoSuchHistoryEntry),
+            "no such intercept" => Some(ErrorCode::NoSuchIntercept),
+            "no such node" => Some(ErrorCode::NoSuchNode),
+            "no such request" => Some(ErrorCode::NoSuchRequest),
+            "no such script" => Some(ErrorCode::NoSuchScript),
+            "no such storage partition" => Some(ErrorCode::NoSuchStoragePartition),
+            "no such user context" => Some(ErrorCode::NoSuchUserContext),
+            "session not created" => Some(ErrorCode::SessionNotCreated),
+            "unable to capture screen" => Some(ErrorCode::UnableToCaptureScreen),
+            "unable to close browser" => Some(ErrorCode::UnableToCloseBrowser),
+            "unable to set cookie" => Some(ErrorCode::UnableToSetCookie),
+            "unable to set file input" => Some(ErrorCode::UnableToSetFileInput),
+            "unknown command" => Some(ErrorCode::UnknownCommand),
+            "unknown error" => Some(ErrorCode::UnknownError),
+            "unsupported operation" => Some(ErrorCode::UnsupportedOperation),
+            _ => None,
+        }
+    }
+
+    fn name(&self) -> &'static str {
         match self {
             ErrorCode::InvalidArgument => "invalid argument",
             ErrorCode::InvalidSelector => "invalid selector",
@@ -85,5 +118,19 @@ impl ErrorCode {
             ErrorCode::UnknownError => "unknown error",
             ErrorCode::UnsupportedOperation => "unsupported operation",
         }
+    }
+}
+
+impl Shape for ErrorCode {
+    ghost use Rattle.bidi_shape.specs.WordLaws.{word_shape};
+
+    ghost shape = { word_shape ⟦<ErrorCode as Named>⟧.words };
+
+    fn from_tree(alloc: Global, tree: &Tree) -> Result<ErrorCode, ShapeFault> {
+        read_word(tree)
+    }
+
+    fn to_tree(&self, alloc: Global) -> Result<Tree, AllocError> {
+        write_word(alloc, self)
     }
 }

@@ -3,12 +3,13 @@ ghost use Rattle.std.specs.Prelude.{◌≡◌, IfOk, option_map};
 ghost use Rattle.bidi_tree.specs.Kind.{text_in};
 ghost use Rattle.bidi_tree.specs.View.{node};
 ghost use Rattle.bidi_messages.specs.Verdict as judged;
-ghost use Rattle.bidi_messages.specs.View.{verdict_of};
+ghost use Rattle.bidi_messages.specs.View.{verdict_of, IsWell, AcceptsAs};
+ghost use Rattle.bidi_messages.specs.declared.command.Command.{Command};
 
 use crate::command::Command;
 use crate::error_code::ErrorCode;
 use crate::method::Method;
-use bidi_shape::{Shape, ShapeFault};
+use bidi_shape::{Named, Shape, ShapeFault};
 use bidi_tree::{JsUint, ReadFault, Tree, read};
 use std::alloc::{AllocError, Global};
 
@@ -25,16 +26,19 @@ pub enum Verdict {
 /// Judges a text.
 ///
 /// A text that is not JSON, or longer than 1,048,576 bytes, is refused as an invalid argument, with no id.
-/// A tree that fits no command is refused with its member `id` where that is a js-uint: as an unknown command
-/// where its `method` is a text that names none, else as an invalid argument.
+/// A tree that fits no command is refused with its member `id` where that is a js-uint, else with none: as an
+/// unknown command where its `method` is a text that names none, else as an invalid argument.
 ///
 /// # Errors
 /// No memory, where a growth was refused.
 ///
 /// After WebDriver BiDi, "Transport".
 pub fn judge(alloc: Global, text: &str) -> Result<Verdict, AllocError>
-    ensures verdict { IfOk result (λ v. judged.IsVerdict text.now (verdict_of v)) }
-    ensures no_other { IfOk result (λ v. (w : judged.Verdict) → judged.IsVerdict text.now w → w ≡ verdict_of v) }
+    ensures verdict { IfOk result (λ v. judged.IsVerdict text.now (verdict_of ⟦<Command as Shape>⟧.shape v)) }
+    ensures no_other { IfOk result (λ v. (w : judged.Verdict) → judged.IsVerdict text.now w → w ≡ verdict_of ⟦<Command as Shape>⟧.shape v) }
+    ensures well { IfOk result (IsWell ⟦<Command as Shape>⟧.shape) }
+    // The text of a well command is accepted as that command.
+    ensures again { (c : Command) → IfOk result (AcceptsAs ⟦<Command as Shape>⟧.shape text.now c) }
 {
     let Some(tree) = command_tree(alloc, text)? else {
         return Ok(Verdict::Refused {

@@ -1,18 +1,31 @@
-//! Messages of WebDriver BiDi: commands and how a text is judged, and the texts of responses and errors.
+//! The messages of WebDriver BiDi: commands, results, events and errors, and the texts of all of them.
 //!
-//! So far there is one command, `session.status`.
+//! A remote end hands each text to [`judge`], which accepts it as a [`Command`] or says what error it gets. A local
+//! end hands each text to [`read_message`]; the result of a [`Response`] is read by [`result_of`], with the method of
+//! the command that it answers. [`text_of`] gives the text of any of them, which reads back as the same.
 #![tactic(auto)]
 
 mod command;
 mod error_code;
+mod event;
 mod judging;
 mod message;
 mod method;
+mod result_data;
+mod sending;
+mod subject;
 #[cfg(test)]
 mod tests;
+mod text;
 
-pub use command::{Command, CommandData, EmptyParams};
+pub use bidi_shape::Named;
+pub use command::{Command, CommandData, data_of};
 pub use error_code::ErrorCode;
+pub use event::{Event, EventData, EventName};
 pub use judging::{Verdict, judge};
-pub use message::{StatusResult, error_text, response_text};
+pub use message::{ErrorResponse, Message, Response};
 pub use method::Method;
+pub use result_data::{ResultData, result_of};
+pub use sending::{error_text, event_text, response_text};
+pub use subject::Subject;
+pub use text::{MessageFault, Sent, read_message, text_of};

@@ -1,76 +1,165 @@
-//! The texts of the remote end's messages.
-ghost use Rattle.std.specs.Prelude.{◌≡◌, IfOk, string_bytes, option_map};
-ghost use Rattle.bidi_tree.specs.View.{node};
-ghost use Rattle.bidi_messages.specs.Message.{id_tree, status_tree, response_text, error_text};
-
+//! The messages of the remote end.
 use crate::error_code::ErrorCode;
-use bidi_shape::{Shape, add_literal, add_member};
-use bidi_tree::{JsUint, Members, Tree, put_member, write};
+use crate::event::Event;
+use bidi_shape::{
+    Either, Ext, Fields, Literal, Optional, Required, Ruled, Shape, ShapeFault, add_literal,
+    add_member, add_optional, read_choice, read_fields,
+};
+use bidi_tree::{JsUint, Tree};
 use std::alloc::{AllocError, Global};
 
-/// What is sent as the result of `session.status`.
+/// The answer to a command that was carried out, with its result.
 ///
-/// `StatusResult = { ready: bool, message: text, Extensible }`, with no other members.
+/// `CommandResponse = { type: "success", id: js-uint, result: { Extensible }, Extensible }`. The rule of the result
+/// is that of the command's method, which a response does not tell: see [`result_of`](crate::result_of).
 ///
-/// After WebDriver BiDi, "The session.status Command".
-#[derive(Clone, Copy, Debug, PartialEq, Eq)]
-pub struct StatusResult {
-    pub ready: bool,
-    pub message: &'static str,
+/// After WebDriver BiDi, "Protocol".
+#[derive(Drop)]
+pub struct Response {
+    pub id: JsUint,
+    /// The members of the result.
+    pub result: Ext,
+    pub ext: Ext,
 }
 
-/// The text of a response to `session.status`: compact, its members in byte order of their names.
+type ResponseParts = Literal<Required<JsUint, Required<Ext, Ext>>>;
+
+impl Ruled for Response {
+    ghost use Rattle.bidi_shape.specs.Name.{command_response};
+    ghost use Rattle.bidi_shape.specs.Term.{rule as named};
+
+    ghost rule = { named command_response };
+}
+
+impl Shape for Response {
+    ghost use Rattle.std.specs.Prelude.{refl, [], ◌∷◌, codes};
+    ghost use Rattle.bidi_shape.specs.Table.{map_shape};
+
+    ghost shape = { map_shape ⟦<Response as Ruled>⟧.rule ⟦<ResponseParts as Fields>⟧.table (codes "success" ∷ []) (λ v. record { 0 = (v.id, (v.«result», v.ext)) }) refl refl };
+
+    fn from_tree(alloc: Global, tree: &Tree) -> Result<Response, ShapeFault> {
+        let Literal(Required(id, Required(result, ext))) = read_fields::<Response, ResponseParts>(
+            alloc,
+            tree,
+            &["type", "id", "result"],
+            &["success"],
+        )?;
+        Ok(Response { id, result, ext })
+    }
+
+    fn to_tree(&self, alloc: Global) -> Result<Tree, AllocError> {
+        let mut members = self.ext.copy_members()?;
+        add_member(alloc, &mut members, "result", &self.result)?;
+        add_member(alloc, &mut members, "id", &self.id)?;
+        add_literal(alloc, &mut members, "type", "success")?;
+        Ok(Tree::Map(members))
+    }
+}
+
+/// The answer to a command that failed, or to a text that is none.
 ///
-/// # Errors
-/// No memory, where a growth was refused.
-pub fn response_text(alloc: Global, id: JsUint, status: StatusResult) -> Result<String, AllocError>
-    ensures { IfOk result (λ s. string_bytes s
-        ≡ response_text id.value (status_tree status.ready status.message.now)) }
-{
-    let mut members = Members::new(alloc);
-    add_member(alloc, &mut members, "id", &id)?;
-    put_member(
-        &mut members,
-        String::from_str(alloc, "result")?,
-        status_tree(alloc, status)?,
-    )?;
-    add_literal(alloc, &mut members, "type", "success")?;
-    write(alloc, &Tree::Map(members))
-}
-
-fn status_tree(alloc: Global, status: StatusResult) -> Result<Tree, AllocError>
-    ensures { IfOk result (λ t. node t ≡ status_tree status.ready status.message.now) }
-{
-    let mut members = Members::new(alloc);
-    add_literal(alloc, &mut members, "message", status.message)?;
-    add_member(alloc, &mut members, "ready", &status.ready)?;
-    Ok(Tree::Map(members))
-}
-
-/// The text of an error, whose message is the code's text.
+/// `ErrorResponse = { type: "error", id: js-uint / null, error: ErrorCode, message: text, ? stacktrace: text, Extensible }`
 ///
-/// # Errors
-/// No memory, where a growth was refused.
-pub fn error_text(alloc: Global, id: Option<JsUint>, code: ErrorCode) -> Result<String, AllocError>
-    ensures { IfOk result (λ s. string_bytes s ≡ error_text (option_map (λ n. n.value) id) code) }
-{
-    let mut members = Members::new(alloc);
-    add_literal(alloc, &mut members, "error", code.name())?;
-    put_member(
-        &mut members,
-        String::from_str(alloc, "id")?,
-        id_tree(alloc, id)?,
-    )?;
-    add_literal(alloc, &mut members, "message", code.name())?;
-    add_literal(alloc, &mut members, "type", "error")?;
-    write(alloc, &Tree::Map(members))
+/// After WebDriver BiDi, "Protocol" and "Errors".
+#[derive(Drop)]
+pub struct ErrorResponse {
+    pub id: Option<JsUint>,
+    pub error: ErrorCode,
+    pub message: String,
+    pub stacktrace: Option<String>,
+    pub ext: Ext,
 }
 
-fn id_tree(alloc: Global, id: Option<JsUint>) -> Result<Tree, AllocError>
-    ensures { IfOk result (λ t. node t ≡ id_tree (option_map (λ n. n.value) id)) }
-{
-    match id {
-        Some(id) => id.to_tree(alloc),
-        None => Ok(Tree::Null),
+type ErrorParts = Literal<
+    Required<Option<JsUint>, Required<ErrorCode, Required<String, Optional<String, Ext>>>>,
+>;
+
+impl Ruled for ErrorResponse {
+    ghost use Rattle.bidi_shape.specs.Name.{error_response};
+    ghost use Rattle.bidi_shape.specs.Term.{rule as named};
+
+    ghost rule = { named error_response };
+}
+
+impl Shape for ErrorResponse {
+    ghost use Rattle.std.specs.Prelude.{refl, [], ◌∷◌, codes};
+    ghost use Rattle.bidi_shape.specs.Table.{map_shape};
+
+    ghost shape = { map_shape ⟦<ErrorResponse as Ruled>⟧.rule ⟦<ErrorParts as Fields>⟧.table (codes "error" ∷ []) (λ v. record { 0 = (v.id, (v.error, (v.message, (v.stacktrace, v.ext)))) }) refl refl };
+
+    fn from_tree(alloc: Global, tree: &Tree) -> Result<ErrorResponse, ShapeFault> {
+        let Literal(Required(id, Required(error, Required(message, Optional(stacktrace, ext))))) =
+            read_fields::<ErrorResponse, ErrorParts>(
+                alloc,
+                tree,
+                &["type", "id", "error", "message", "stacktrace"],
+                &["error"],
+            )?;
+        Ok(ErrorResponse {
+            id,
+            error,
+            message,
+            stacktrace,
+            ext,
+        })
+    }
+
+    fn to_tree(&self, alloc: Global) -> Result<Tree, AllocError> {
+        let mut members = self.ext.copy_members()?;
+        add_optional(alloc, &mut members, "stacktrace", &self.stacktrace)?;
+        add_member(alloc, &mut members, "message", &self.message)?;
+        add_member(alloc, &mut members, "error", &self.error)?;
+        add_member(alloc, &mut members, "id", &self.id)?;
+        add_literal(alloc, &mut members, "type", "error")?;
+        Ok(Tree::Map(members))
+    }
+}
+
+/// A message of the remote end.
+///
+/// `Message = CommandResponse / ErrorResponse / Event`
+///
+/// After WebDriver BiDi, "Protocol".
+#[derive(Drop)]
+pub enum Message {
+    Response(Response),
+    Error(ErrorResponse),
+    Event(Event),
+}
+
+type Alternatives = Either<Response, Either<ErrorResponse, Event>>;
+
+impl Ruled for Message {
+    ghost use Rattle.bidi_shape.specs.Name.{message};
+    ghost use Rattle.bidi_shape.specs.Term.{rule as named};
+
+    ghost rule = { named message };
+}
+
+impl Shape for Message {
+    ghost use Rattle.std.specs.Prelude.{refl};
+    ghost use Rattle.bidi_shape.specs.ThroughLaws.{shape_through};
+    ghost use Rattle.bidi_shape.specs.declared.choice.Either.TheVariants.{First, Second};
+    ghost use Rattle.bidi_messages.specs.declared.message.Message.TheVariants.{Response, Error, Event};
+
+    ghost shape = { shape_through ⟦<Message as Ruled>⟧.rule ⟦<Alternatives as Shape>⟧.shape
+        (λ v. elim v [ Response r ↦ First r | Error e ↦ Second (First e) | Event e ↦ Second (Second e) ]) refl };
+
+    fn from_tree(alloc: Global, tree: &Tree) -> Result<Message, ShapeFault> {
+        use Either::{First, Second};
+
+        match read_choice::<Message, Alternatives>(alloc, tree)? {
+            First(response) => Ok(Message::Response(response)),
+            Second(First(error)) => Ok(Message::Error(error)),
+            Second(Second(event)) => Ok(Message::Event(event)),
+        }
+    }
+
+    fn to_tree(&self, alloc: Global) -> Result<Tree, AllocError> {
+        match self {
+            Message::Response(response) => response.to_tree(alloc),
+            Message::Error(error) => error.to_tree(alloc),
+            Message::Event(event) => event.to_tree(alloc),
+        }
     }
 }

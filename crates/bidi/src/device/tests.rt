@@ -1,56 +1,9 @@
 //! Devices over memory, with a reader and a writer that fail once.
 use super::*;
+use crate::tests::stop_at::StopAt;
 use std::alloc::Global;
 use std::io;
-use std::io::ErrorKind;
 use std::test::Fail;
-
-/// A reader of one byte a call, or a writer of two, that fails once, at the call of this number.
-#[derive(Drop)]
-struct StopAt<T> {
-    inner: T,
-    calls: usize,
-}
-
-impl<T> StopAt<T> {
-    fn new(inner: T, calls: usize) -> StopAt<T> {
-        StopAt { inner, calls }
-    }
-
-    fn stops(&mut self) -> bool {
-        let stops = self.calls == 1;
-        self.calls = self.calls.saturating_sub(1);
-        stops
-    }
-}
-
-impl<T: Read> Read for StopAt<T> {
-    fn read(&mut self, buffer: &mut [u8]) -> io::Result<usize> {
-        if self.stops() {
-            return Err(io::Error::from(ErrorKind::BrokenPipe));
-        }
-        if buffer.len() < 1 {
-            return Ok(0);
-        }
-        self.inner.read(&mut buffer[..1])
-    }
-}
-
-impl<T: Write> Write for StopAt<T> {
-    fn write(&mut self, bytes: &[u8]) -> io::Result<usize> {
-        if self.stops() {
-            return Err(io::Error::from(ErrorKind::BrokenPipe));
-        }
-        if bytes.len() < 2 {
-            return self.inner.write(bytes);
-        }
-        self.inner.write(&bytes[..2])
-    }
-
-    fn flush(&mut self) -> io::Result<()> {
-        self.inner.flush()
-    }
-}
 
 /// A writer that takes nothing.
 #[derive(Drop)]
@@ -83,7 +36,7 @@ fn tells_the_end_once_it_is_met(rt: HostRuntime) {
 fn reads_on_after_a_failure_at_any_byte(rt: HostRuntime) -> Result<(), Fail> {
     let text = b"hello";
     for stop in 1..=text.len() + 1 {
-        let mut source = Device::new(StopAt::new(text.as_slice(), stop));
+        let mut source = Device::new(StopAt::new(text.as_slice(), stop, 1));
         let mut buffer = Vec::new(rt.alloc());
         let outcome = read_to_end(&mut source, &mut buffer);
         assert_eq!(rt; outcome, Err(ReadToEndFault::Device), "stop at {stop}");
@@ -111,7 +64,7 @@ fn writes_a_beginning_before_a_failure_at_any_write(rt: HostRuntime) -> Result<(
     let text = b"hello";
     for (stop, held) in [(1, 0), (2, 2), (3, 4)] {
         let sink: Vec<u8> = Vec::new(rt.alloc());
-        let mut sink = Device::new(StopAt::new(sink, stop));
+        let mut sink = Device::new(StopAt::new(sink, stop, 2));
         assert_eq!(rt;
             write_all(&mut sink, text),
             Err(DeviceFault),

@@ -2,8 +2,7 @@
 use crate::arguments::Run;
 use crate::device::Device;
 use crate::running::run;
-use std::io;
-use std::io::{ErrorKind, Read, Write};
+use crate::tests::stop_at::StopAt;
 use std::str::from_utf8;
 use std::test::Fail;
 
@@ -14,59 +13,12 @@ const OPENED: &str = "opened 1\n";
 const WHOLE: &str =
     "opened 1\n< 1 {\"id\":1,\"result\":{\"message\":\"ready\",\"ready\":true},\"type\":\"success\"}\n";
 
-/// A reader of one byte a call, or a writer of seven, that fails once, at the call of this number.
-#[derive(Drop)]
-struct StopAt<T> {
-    inner: T,
-    calls: usize,
-}
-
-impl<T> StopAt<T> {
-    fn new(inner: T, calls: usize) -> StopAt<T> {
-        StopAt { inner, calls }
-    }
-
-    fn stops(&mut self) -> bool {
-        let stops = self.calls == 1;
-        self.calls = self.calls.saturating_sub(1);
-        stops
-    }
-}
-
-impl<T: Read> Read for StopAt<T> {
-    fn read(&mut self, buffer: &mut [u8]) -> io::Result<usize> {
-        if self.stops() {
-            return Err(io::Error::from(ErrorKind::BrokenPipe));
-        }
-        if buffer.len() < 1 {
-            return Ok(0);
-        }
-        self.inner.read(&mut buffer[..1])
-    }
-}
-
-impl<T: Write> Write for StopAt<T> {
-    fn write(&mut self, bytes: &[u8]) -> io::Result<usize> {
-        if self.stops() {
-            return Err(io::Error::from(ErrorKind::BrokenPipe));
-        }
-        if bytes.len() < 7 {
-            return self.inner.write(bytes);
-        }
-        self.inner.write(&bytes[..7])
-    }
-
-    fn flush(&mut self) -> io::Result<()> {
-        self.inner.flush()
-    }
-}
-
 #[test]
 fn plays_the_lines_before_a_failed_read(rt: HostRuntime) {
     for stop in 1..=PLAY.len() + 1 {
         let mut output = Vec::new(rt.alloc());
         let mut told = Vec::new(rt.alloc());
-        let mut source = Device::new(StopAt::new(PLAY.as_bytes(), stop));
+        let mut source = Device::new(StopAt::new(PLAY.as_bytes(), stop, 1));
         let mut sink = Device::new(&mut output);
         let mut faults = Device::new(&mut told);
         let status = run(rt.alloc(), &Run::Play, &mut source, &mut sink, &mut faults);
@@ -96,7 +48,7 @@ fn writes_a_beginning_before_a_failed_write(rt: HostRuntime) -> Result<(), Fail>
         let mut output = Vec::new(rt.alloc());
         let mut told = Vec::new(rt.alloc());
         let mut source = Device::new(PLAY.as_bytes());
-        let mut sink = Device::new(StopAt::new(&mut output, stop));
+        let mut sink = Device::new(StopAt::new(&mut output, stop, 7));
         let mut faults = Device::new(&mut told);
         let status = run(rt.alloc(), &Run::Play, &mut source, &mut sink, &mut faults);
         assert!(rt;
@@ -120,7 +72,7 @@ fn a_fault_that_cannot_be_told_changes_nothing(rt: HostRuntime) {
     let mut told = Vec::new(rt.alloc());
     let mut source = Device::new(b"at 01\n".as_slice());
     let mut sink = Device::new(&mut output);
-    let mut faults = Device::new(StopAt::new(&mut told, 1));
+    let mut faults = Device::new(StopAt::new(&mut told, 1, 7));
     let status = run(rt.alloc(), &Run::Play, &mut source, &mut sink, &mut faults);
     assert_eq!(rt; output.len(), 0);
     assert_eq!(rt; told.len(), 0);

@@ -1,5 +1,7 @@
 //! The plays of `examples/`, each a test of its name.
-use super::played;
+use super::{outcome_of, played};
+use crate::arguments::Run;
+use crate::message_lines::Side;
 use std::str::from_utf8;
 use std::test::Fail;
 
@@ -61,4 +63,19 @@ fn refusals(rt: HostRuntime) -> Result<(), Fail> {
     assert_eq!(rt; from_utf8(&found.output), Ok(wanted.as_str()));
     assert_eq!(rt; found.status, 0);
     Ok(())
+}
+
+const BROWSERS: &str =
+    r#"{"method":"log.entryAdded","params":{"args":[],"level":"info","method":"info","source":{"context":"c","realm":"r","userContext":"default"},"text":"hi","timestamp":7,"type":"console"},"type":"event"}
+{"method":"browsingContext.navigationCommitted","params":{"context":"c","navigation":"n","timestamp":5,"url":"about:blank"},"type":"event"}
+{"id":3,"result":{"scrollY":0.5},"type":"success"}
+{"method":"browsingContext.load","params":{"context":"c","navigation":"n","timestamp":5,"url":"about:blank"},"type":"event"}
+"#;
+
+#[test]
+fn browsers(rt: HostRuntime) {
+    let wanted = "line 1: no fit\nline 2: no fit\nline 3: no fit\n";
+    let found = outcome_of(rt.alloc(), &Run::Check(Side::Remote), BROWSERS.as_bytes());
+    assert_eq!(rt; from_utf8(&found.output), Ok(wanted));
+    assert_eq!(rt; found.status, 1);
 }

@@ -1,0 +1,58 @@
+//! Judging command texts, and reading and writing events, beside `serde_json` alone.
+use crate::measure::{Subject, measure_text};
+use crate::texts;
+use anyhow::{Result, bail};
+use bidi_messages::{Verdict, judge, read_message, text_of};
+use std::alloc::Global;
+use std::rt::Clock;
+
+/// Texts that are judged.
+struct Commands;
+
+impl Subject for Commands {
+    fn read(alloc: Global, text: &str) -> Result<()> {
+        let _verdict = judge(alloc, text)?;
+        Ok(())
+    }
+
+    fn read_and_write(alloc: Global, text: &str) -> Result<usize> {
+        match judge(alloc, text)? {
+            Verdict::Accepted(command) => {
+                let written = text_of(alloc, &command)?;
+                Ok(written.len())
+            }
+            Verdict::Refused { .. } => bail!("the text is no command"),
+        }
+    }
+}
+
+/// Texts of the remote end.
+struct Messages;
+
+impl Subject for Messages {
+    fn read(alloc: Global, text: &str) -> Result<()> {
+        let _message = read_message(alloc, text)?;
+        Ok(())
+    }
+
+    fn read_and_write(alloc: Global, text: &str) -> Result<usize> {
+        let message = read_message(alloc, text)?;
+        let written = text_of(alloc, &message)?;
+        Ok(written.len())
+    }
+}
+
+/// Measures a short command, one with params, and an event.
+pub fn run<R: Clock + Print + Eprint + AllocGlobal>(rt: &R, rounds: u32) -> Result<()> {
+    measure_text::<Commands, R>(rt, "short command", texts::SHORT, rounds)?;
+    measure_text::<Commands, R>(rt, "middle command", texts::MIDDLE, rounds)?;
+    measure_text::<Messages, R>(rt, "event", texts::EVENT, rounds)
+}
+
+/// Writes so many lines of an event.
+pub fn lines<R: Print>(rt: &R, count: u32) -> Result<()> {
+    for _ in 0..count {
+        println!(rt; "{}", texts::EVENT)?;
+    }
+    Ok(())
+}

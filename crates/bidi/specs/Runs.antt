@@ -1,0 +1,23 @@
+-- What a run writes for the bytes that it reads, and the status that it ends with.
+use Rattle.std.specs.Prelude.{◌≡◌, ℕ, Bool, List, length, nat_lt, if◌then◌else◌}
+use Rattle.bidi.specs.Plays as plays
+use Rattle.bidi.specs.Plays.{PlaysAll}
+use Rattle.bidi.specs.Listings as listings
+use Rattle.bidi.specs.Listings.{ListsAll}
+use Rattle.bidi.specs.declared.arguments.Run.{Run}
+use Rattle.bidi.specs.declared.arguments.Run.TheVariants.{Play, Show, Check}
+use Rattle.bidi.specs.declared.playing.PlayFault.{PlayFault}
+use Rattle.bidi.specs.declared.showing.Listing.TheVariants.{All, RefusedAlone}
+use Rattle.bidi.specs.declared.showing.ShowFault.{ShowFault}
+
+-- A run that met no fault has worked on all bytes. Its status is 0, but 1 where a check found a line to refuse.
+abbrev pub Completes : Run → ℕ → List ℕ → List ℕ → Type 0
+Completes Play status read wrote = (status ≡ 0) × PlaysAll read wrote
+Completes (Show side) status read wrote = (status ≡ 0) × ListsAll All side read wrote
+Completes (Check side) status read wrote = (status ≡ (if nat_lt 0 (length wrote) then 1 else 0)) × ListsAll RefusedAlone side read wrote
+
+-- A run that met a fault has its status, and the fault says what was read and written before it.
+abbrev pub Stops : Run → ℕ → Bool → List ℕ → List ℕ → Type 0
+Stops Play status at_end read wrote = (fault : PlayFault) × (status ≡ plays.status_of fault) × plays.StopsAt fault at_end read wrote
+Stops (Show side) status at_end read wrote = (fault : ShowFault) × (status ≡ listings.status_of fault) × listings.StopsAt All side fault at_end read wrote
+Stops (Check side) status at_end read wrote = (fault : ShowFault) × (status ≡ listings.status_of fault) × listings.StopsAt RefusedAlone side fault at_end read wrote

@@ -1,0 +1,29 @@
+-- How a text of the remote end reads. After WebDriver BiDi, "Transport".
+use Rattle.std.specs.Prelude.{◌≡◌, ℕ, List, Option, Some, None, Result, Ok, Err}
+use Rattle.bidi_tree.specs.Node.{Node}
+use Rattle.bidi_tree.specs.Text.{tree_of_text}
+use Rattle.bidi_shape.specs.Name.{message}
+use Rattle.bidi_shape.specs.Term.{rule}
+use Rattle.bidi_shape.specs.Fits.{Fits}
+use Rattle.bidi_shape.specs.Value.{ShapeOf}
+use Rattle.bidi_messages.specs.declared.message.Message.{Message}
+use Rattle.bidi_messages.specs.declared.text.MessageFault.{MessageFault}
+use Rattle.bidi_messages.specs.declared.text.MessageFault.TheVariants.{NotJson, NoFit, NoMemory}
+
+-- the text has no tree, or one that fits no message; of memory nothing is said
+abbrev pub IsCause : MessageFault → List ℕ → Type 0
+IsCause NotJson s = tree_of_text None s ≡ None
+IsCause NoFit s = (t : Node) × (tree_of_text None s ≡ Some t) × (Fits t (rule message) → ⊥)
+IsCause NoMemory s = Unit {0}
+
+-- of a text that has a tree, the tree fits no message
+abbrev pub IsMisfit : MessageFault → Node → Type 0
+IsMisfit NotJson t = ⊥
+IsMisfit NoFit t = Fits t (rule message) → ⊥
+IsMisfit NoMemory t = Unit {0}
+
+-- a text that has the tree of a well message reads as that message, where there is memory
+abbrev pub ReadsAs : ShapeOf Message → List ℕ → Message → Result Message MessageFault → Type 0
+ReadsAs shape s m (Ok v) = shape.well m → tree_of_text None s ≡ Some (shape.tree_of m) → shape.same v m
+ReadsAs shape s m (Err NoMemory) = Unit {0}
+ReadsAs shape s m (Err e) = shape.well m → tree_of_text None s ≡ Some (shape.tree_of m) → ⊥

@@ -1,0 +1,227 @@
+//! Events.
+ghost use Rattle.std.specs.Prelude.{◌≡◌, IfOk};
+ghost use Rattle.bidi_tree.specs.View.{node};
+
+use crate::subject::{Subject, read_about, write_about};
+use bidi_params::{Info, NavigationInfo, RealmDestroyedParameters, RealmInfo};
+use bidi_shape::{Ext, Named, Ruled, Shape, ShapeFault, read_word, write_word};
+use bidi_tree::Tree;
+use bidi_values::LogEntry;
+use std::alloc::{AllocError, Global};
+
+/// The name of an event: its member `method`.
+///
+/// After WebDriver BiDi, "Protocol".
+#[derive(Clone, Copy, Debug, PartialEq, Eq)]
+pub enum EventName {
+    ContextCreated,
+    ContextDestroyed,
+    NavigationStarted,
+    DomContentLoaded,
+    Load,
+    RealmCreated,
+    RealmDestroyed,
+    EntryAdded,
+}
+
+impl Named for EventName {
+    ghost use Rattle.bidi_messages.specs.EventName.{event_words};
+
+    ghost words = { event_words };
+
+    fn named(text: &str) -> Option<EventName> {
+        match text {
+            "browsingContext.contextCreated" => Some(EventName::ContextCreated),
+            "browsingContext.contextDestroyed" => Some(EventName::ContextDestroyed),
+            "browsingContext.navigationStarted" => Some(EventName::NavigationStarted),
+            "browsingContext.domContentLoaded" => Some(EventName::DomContentLoaded),
+            "browsingContext.load" => Some(EventName::Load),
+            "script.realmCreated" => Some(EventName::RealmCreated),
+            "script.realmDestroyed" => Some(EventName::RealmDestroyed),
+            "log.entryAdded" => Some(EventName::EntryAdded),
+            _ => None,
+        }
+    }
+
+    fn name(&self) -> &'static str {
+        match self {
+            EventName::ContextCreated => "browsingContext.contextCreated",
+            EventName::ContextDestroyed => "browsingContext.contextDestroyed",
+            EventName::NavigationStarted => "browsingContext.navigationStarted",
+            EventName::DomContentLoaded => "browsingContext.domContentLoaded",
+            EventName::Load => "browsingContext.load",
+            EventName::RealmCreated => "script.realmCreated",
+            EventName::RealmDestroyed => "script.realmDestroyed",
+            EventName::EntryAdded => "log.entryAdded",
+        }
+    }
+}
+
+/// The member `type` of an event.
+#[derive(Clone, Copy, Debug, PartialEq, Eq)]
+enum EventType {
+    Event,
+}
+
+impl Named for EventType {
+    ghost use Rattle.bidi_messages.specs.Event.{event_type_words};
+
+    ghost words = { event_type_words };
+
+    fn named(text: &str) -> Option<EventType> {
+        match text {
+            "event" => Some(EventType::Event),
+            _ => None,
+        }
+    }
+
+    fn name(&self) -> &'static str {
+        match self {
+            EventType::Event => "event",
+        }
+    }
+}
+
+impl Shape for EventType {
+    ghost use Rattle.bidi_shape.specs.WordLaws.{word_shape};
+
+    ghost shape = { word_shape ⟦<EventType as Named>⟧.words };
+
+    fn from_tree(alloc: Global, tree: &Tree) -> Result<EventType, ShapeFault> {
+        read_word(tree)
+    }
+
+    fn to_tree(&self, alloc: Global) -> Result<Tree, AllocError> {
+        write_word(alloc, self)
+    }
+}
+
+/// An event of the remote end.
+///
+/// `Event = { type: "event", method: "E", params: Q, Extensible }`, where `data` has the name and its params.
+///
+/// After WebDriver BiDi, "Protocol".
+#[derive(Drop)]
+pub struct Event {
+    pub data: EventData,
+    pub ext: Ext,
+}
+
+/// What an event tells: its name, with its params.
+///
+/// After WebDriver BiDi, "Protocol".
+#[derive(Drop)]
+pub enum EventData {
+    ContextCreated(Info),
+    ContextDestroyed(Info),
+    NavigationStarted(NavigationInfo),
+    DomContentLoaded(NavigationInfo),
+    Load(NavigationInfo),
+    RealmCreated(RealmInfo),
+    RealmDestroyed(RealmDestroyedParameters),
+    EntryAdded(LogEntry),
+}
+
+impl Subject<EventName> for EventData {
+    ghost use Rattle.std.specs.Prelude.{refl};
+    ghost use Rattle.bidi_messages.specs.EventData.{EventShapes, event_subject};
+
+    ghost subject = { event_subject (record { info = ⟦<Info as Shape>⟧.shape; navigation_info = ⟦<NavigationInfo as Shape>⟧.shape; realm_info = ⟦<RealmInfo as Shape>⟧.shape; realm_destroyed_parameters = ⟦<RealmDestroyedParameters as Shape>⟧.shape; log_entry = ⟦<LogEntry as Shape>⟧.shape }) 70 (record { info = record { is_rule = refl; within = refl }; navigation_info = record { is_rule = refl; within = refl }; realm_info = record { is_rule = refl; within = refl }; realm_destroyed_parameters = record { is_rule = refl; within = refl }; log_entry = record { is_rule = refl; within = refl } }) };
+
+    fn kind(&self) -> EventName {
+        match self {
+            EventData::ContextCreated(_) => EventName::ContextCreated,
+            EventData::ContextDestroyed(_) => EventName::ContextDestroyed,
+            EventData::NavigationStarted(_) => EventName::NavigationStarted,
+            EventData::DomContentLoaded(_) => EventName::DomContentLoaded,
+            EventData::Load(_) => EventName::Load,
+            EventData::RealmCreated(_) => EventName::RealmCreated,
+            EventData::RealmDestroyed(_) => EventName::RealmDestroyed,
+            EventData::EntryAdded(_) => EventName::EntryAdded,
+        }
+    }
+
+    fn read(alloc: Global, kind: EventName, tree: &Tree) -> Result<EventData, ShapeFault> {
+        match kind {
+            EventName::ContextCreated => Ok(EventData::ContextCreated(Info::from_tree(
+                alloc, tree,
+            )?)),
+            EventName::ContextDestroyed => Ok(EventData::ContextDestroyed(Info::from_tree(
+                alloc, tree,
+            )?)),
+            EventName::NavigationStarted => Ok(EventData::NavigationStarted(
+                NavigationInfo::from_tree(alloc, tree)?,
+            )),
+            EventName::DomContentLoaded => Ok(EventData::DomContentLoaded(NavigationInfo::from_tree(
+                alloc, tree,
+            )?)),
+            EventName::Load => Ok(EventData::Load(NavigationInfo::from_tree(alloc, tree)?)),
+            EventName::RealmCreated => Ok(EventData::RealmCreated(RealmInfo::from_tree(
+                alloc, tree,
+            )?)),
+            EventName::RealmDestroyed => Ok(EventData::RealmDestroyed(
+                RealmDestroyedParameters::from_tree(alloc, tree)?,
+            )),
+            EventName::EntryAdded => Ok(EventData::EntryAdded(LogEntry::from_tree(alloc, tree)?)),
+        }
+    }
+
+    fn content(&self, alloc: Global) -> Result<Tree, AllocError> {
+        match self {
+            EventData::ContextCreated(params) => params.to_tree(alloc),
+            EventData::ContextDestroyed(params) => params.to_tree(alloc),
+            EventData::NavigationStarted(params) => params.to_tree(alloc),
+            EventData::DomContentLoaded(params) => params.to_tree(alloc),
+            EventData::Load(params) => params.to_tree(alloc),
+            EventData::RealmCreated(params) => params.to_tree(alloc),
+            EventData::RealmDestroyed(params) => params.to_tree(alloc),
+            EventData::EntryAdded(params) => params.to_tree(alloc),
+        }
+    }
+}
+
+impl EventData {
+    /// The event's name. Takes no memory.
+    pub fn event(&self) -> EventName
+        ensures { result ≡ ⟦<EventData as Subject<EventName>>⟧.subject.kind self.now }
+    {
+        self.kind()
+    }
+
+    /// Makes the tree of the params.
+    ///
+    /// # Errors
+    /// No memory, where a growth was refused.
+    pub fn tree_of(&self, alloc: Global) -> Result<Tree, AllocError>
+        ensures { IfOk result (λ t. node t ≡ ⟦<EventData as Subject<EventName>>⟧.subject.tree_of self.now) }
+    {
+        self.content(alloc)
+    }
+}
+
+impl Ruled for Event {
+    ghost use Rattle.bidi_shape.specs.Name.{event};
+    ghost use Rattle.bidi_shape.specs.Term.{rule as named};
+
+    ghost rule = { named event };
+}
+
+impl Shape for Event {
+    ghost use Rattle.std.specs.Prelude.{refl, codes};
+    ghost use Rattle.bidi_messages.specs.About.{about_shape};
+    ghost use Rattle.bidi_messages.specs.declared.event.EventType.TheVariants.{Event as event_type};
+
+    ghost shape = { about_shape (codes "type") ⟦<EventType as Shape>⟧.shape ⟦<EventName as Named>⟧.words ⟦<EventData as Subject<EventName>>⟧.subject ⟦<Event as Ruled>⟧.rule (λ e. (event_type, (e.«data», e.ext))) refl refl };
+
+    fn from_tree(alloc: Global, tree: &Tree) -> Result<Event, ShapeFault> {
+        let about = read_about::<Event, EventType, EventName, EventData>(alloc, tree, "type")?;
+        Ok(Event {
+            data: about.subject,
+            ext: about.ext,
+        })
+    }
+
+    fn to_tree(&self, alloc: Global) -> Result<Tree, AllocError> {
+        write_about(alloc, "type", &EventType::Event, &self.data, &self.ext)
+    }
+}

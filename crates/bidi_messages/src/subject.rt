@@ -1,0 +1,133 @@
+//! What a message is about: a method with its params.
+ghost use Rattle.std.specs.Prelude.{◌≡◌, IfOk, OnOk, Some, codes, true};
+ghost use Rattle.bidi_tree.specs.Node as kind;
+ghost use Rattle.bidi_tree.specs.Node.{put, get_member};
+ghost use Rattle.bidi_tree.specs.View.{node, members_node};
+ghost use Rattle.bidi_shape.specs.Term.{required};
+ghost use Rattle.bidi_shape.specs.Fits.{Fits};
+ghost use Rattle.bidi_shape.specs.Parts.{PartFits, distinct};
+ghost use Rattle.bidi_shape.specs.Outcome.{IfNoFit};
+ghost use Rattle.bidi_shape.specs.Table.{unfolded};
+ghost use Rattle.bidi_messages.specs.Subject.{SubjectOf};
+ghost use Rattle.bidi_messages.specs.About.{about_term, about_tree, AboutIsWell, names_about};
+
+use bidi_shape::{
+    Ext, Fields, Named, Required, Ruled, Shape, ShapeFault, add_literal, add_member, map_inside,
+    read_word,
+};
+use bidi_tree::{Members, Tree, find_member, put_member};
+use std::alloc::{AllocError, Global};
+
+/// A value of one of several kinds, each with a rule of its own.
+pub trait Subject<K: Drop>: Drop {
+    // The kind of a value, the rule of each kind, the tree of a value, and the laws of these.
+    ghost subject: { SubjectOf Self K };
+
+    /// The kind of the value. Takes no memory.
+    fn kind(&self) -> K
+        ensures { result ≡ subject.kind self.now };
+
+    /// Reads the value of that kind whose tree this is.
+    ///
+    /// # Errors
+    /// - `NoFit`: the tree does not fit the kind's rule.
+    /// - `NoMemory`: a growth was refused.
+    fn read(alloc: Global, kind: K, tree: &Tree) -> Result<Self, ShapeFault>
+        ensures ok { IfOk result (λ v. (subject.kind v ≡ kind) × (subject.tree_of v ≡ node tree.now) × subject.well v) }
+        ensures no_fit { IfNoFit result (Fits (node tree.now) (subject.rule kind) → ⊥) };
+
+    /// Makes the tree of the value.
+    ///
+    /// # Errors
+    /// No memory, where a growth was refused.
+    fn content(&self, alloc: Global) -> Result<Tree, AllocError>
+        ensures { IfOk result (λ t. node t ≡ subject.tree_of self.now) };
+}
+
+/// A map that says what it is about: its first member, its method with the params, and its other members.
+#[derive(Drop)]
+pub(crate) struct About<X: Drop, D: Drop> {
+    pub head: X,
+    pub subject: D,
+    pub ext: Ext,
+}
+
+/// Reads `{ NAME: X, method: "M", params: P, Extensible }`, where the params are those of the method.
+///
+/// # Errors
+/// - `NoFit`: the tree does not fit the rule.
+/// - `NoMemory`: a growth was refused.
+pub(crate) fn read_about<V: Ruled, X: Shape, K: Named, D: Subject<K>>(
+    alloc: Global,
+    tree: &Tree,
+    name: &str,
+) -> Result<About<X, D>, ShapeFault>
+    requires says { unfolded V.rule ≡ about_term name.now X.shape K.words D.subject }
+    requires once { distinct (names_about name.now) ≡ true }
+    ensures ok { IfOk result (λ a. (about_tree name.now X.shape K.words D.subject a.head a.subject a.ext ≡ node tree.now)
+        × AboutIsWell name.now X.shape K.words D.subject a.head a.subject a.ext) }
+    ensures no_fit { IfNoFit result (Fits (node tree.now) V.rule → ⊥) }
+{
+    let members = map_inside(tree)?;
+    let Required(head, ext) = Required::<X, Ext>::read(
+        alloc,
+        members,
+        &[name],
+        &[],
+        &[name, "method", "params"],
+    )?;
+    let kind = word_at(members, "method")?;
+    let subject = content_at::<K, D>(alloc, members, "params", kind)?;
+    Ok(About { head, subject, ext })
+}
+
+/// The value whose text a member is.
+fn word_at<K: Named>(members: &Members, name: &str) -> Result<K, ShapeFault>
+    ensures ok { IfOk result (λ k. get_member name.now (members_node members.now.entries) ≡ Some (kind.text (K.words.text_of k))) }
+    ensures no_fit { IfNoFit result (PartFits required K.words.rule (get_member name.now (members_node members.now.entries)) → ⊥) }
+{
+    match find_member(members, name) {
+        Some(tree) => read_word(tree),
+        None => Err(ShapeFault::NoFit),
+    }
+}
+
+/// The value of a kind that a member is.
+fn content_at<K: Drop, D: Subject<K>>(
+    alloc: Global,
+    members: &Members,
+    name: &str,
+    kind: K,
+) -> Result<D, ShapeFault>
+    ensures ok { IfOk result (λ v. (D.subject.kind v ≡ kind) × (get_member name.now (members_node members.now.entries) ≡ Some (D.subject.tree_of v)) × D.subject.well v) }
+    ensures no_fit { IfNoFit result (PartFits required (D.subject.rule kind) (get_member name.now (members_node members.now.entries)) → ⊥) }
+{
+    match find_member(members, name) {
+        Some(tree) => D::read(alloc, kind, tree),
+        None => Err(ShapeFault::NoFit),
+    }
+}
+
+/// Makes the map of a first member, a subject and other members.
+///
+/// # Errors
+/// No memory, where a growth was refused.
+pub(crate) fn write_about<X: Shape, K: Named, D: Subject<K>>(
+    alloc: Global,
+    name: &str,
+    head: &X,
+    subject: &D,
+    ext: &Ext,
+) -> Result<Tree, AllocError>
+    ensures { IfOk result (λ t. node t ≡ about_tree name.now X.shape K.words D.subject head.now subject.now ext.now) }
+{
+    let mut members = ext.copy_members()?;
+    put_member(
+        &mut members,
+        String::from_str(alloc, "params")?,
+        subject.content(alloc)?,
+    )?;
+    add_literal(alloc, &mut members, "method", subject.kind().name())?;
+    add_member(alloc, &mut members, name, head)?;
+    Ok(Tree::Map(members))
+}

@@ -1,0 +1,114 @@
+//! The texts of commands and messages, and the message of a text.
+ghost use Rattle.std.specs.Prelude.{◌≡◌, ℕ, Some, None, IfOk, IfErr, string_bytes};
+ghost use Rattle.bidi_tree.specs.View.{node};
+ghost use Rattle.bidi_tree.specs.Text.{tree_of, tree_of_text, compact_text};
+ghost use Rattle.bidi_messages.specs.Reading.{IsCause, IsMisfit, ReadsAs};
+
+use crate::command::Command;
+use crate::event::Event;
+use crate::message::{ErrorResponse, Message, Response};
+use bidi_shape::{Shape, ShapeFault};
+use bidi_tree::{ReadFault, Tree, read, write};
+use std::alloc::{AllocError, Global};
+use thiserror::Error;
+
+/// What is sent over a connection as a text: a command, or a message.
+pub trait Sent: Shape {
+    ghost use Rattle.std.specs.Prelude.{nat_le, true};
+
+    // Its trees have few enough levels to be written.
+    ghost writable: { nat_le Self.shape.deepest 100 ≡ true };
+}
+
+impl Sent for Command {
+    ghost use Rattle.std.specs.Prelude.{refl};
+
+    ghost writable = { refl };
+}
+
+impl Sent for Response {
+    ghost use Rattle.std.specs.Prelude.{refl};
+
+    ghost writable = { refl };
+}
+
+impl Sent for ErrorResponse {
+    ghost use Rattle.std.specs.Prelude.{refl};
+
+    ghost writable = { refl };
+}
+
+impl Sent for Event {
+    ghost use Rattle.std.specs.Prelude.{refl};
+
+    ghost writable = { refl };
+}
+
+impl Sent for Message {
+    ghost use Rattle.std.specs.Prelude.{refl};
+
+    ghost writable = { refl };
+}
+
+/// The text of a command or a message: compact, its members in byte order of their names.
+///
+/// It reads back: the tree of the text is that of the value, which is the one well value that has it.
+///
+/// # Errors
+/// No memory, where a growth was refused.
+pub fn text_of<M: Sent>(alloc: Global, value: &M) -> Result<String, AllocError>
+    requires { M.shape.well value.now }
+    ensures text { IfOk result (λ s. string_bytes s ≡ compact_text (M.shape.tree_of value.now)) }
+    ensures reads_back { IfOk result (λ s. tree_of (string_bytes s) ≡ Some (M.shape.tree_of value.now)) }
+{
+    let tree = value.to_tree(alloc)?;
+    write(alloc, &tree)
+}
+
+/// Why a text is no message of the remote end.
+#[derive(Clone, Copy, Debug, PartialEq, Eq, Error)]
+pub enum MessageFault {
+    /// The text is not JSON.
+    #[error("not JSON")]
+    NotJson,
+    /// Its tree fits no message of the profile.
+    #[error("no message of the profile")]
+    NoFit,
+    /// A growth was refused.
+    #[error("out of memory")]
+    NoMemory,
+}
+
+/// Reads a message of the remote end. Its text may have any length.
+///
+/// # Errors
+/// 1. `NotJson`: the text is not JSON.
+/// 2. `NoFit`: its tree fits no message.
+/// 3. `NoMemory`: a growth was refused.
+///
+/// After WebDriver BiDi, "Transport".
+pub fn read_message(alloc: Global, text: &str) -> Result<Message, MessageFault>
+    ensures ok { IfOk result (λ m. (tree_of_text None text.now ≡ Some (⟦<Message as Shape>⟧.shape.tree_of m)) × ⟦<Message as Shape>⟧.shape.well m) }
+    ensures err { IfErr result (λ e. IsCause e text.now) }
+    // The text of a well message reads as that message.
+    ensures again { (m : Message) → ReadsAs ⟦<Message as Shape>⟧.shape text.now m result }
+{
+    match read(alloc, text, None) {
+        Ok(tree) => message_of(alloc, &tree),
+        Err(ReadFault::NotJson) => Err(MessageFault::NotJson),
+        Err(ReadFault::TooLong) => unreachable!(),
+        Err(ReadFault::NoMemory) => Err(MessageFault::NoMemory),
+    }
+}
+
+/// The message whose tree this is.
+fn message_of(alloc: Global, tree: &Tree) -> Result<Message, MessageFault>
+    ensures ok { IfOk result (λ m. (⟦<Message as Shape>⟧.shape.tree_of m ≡ node tree.now) × ⟦<Message as Shape>⟧.shape.well m) }
+    ensures err { IfErr result (λ e. IsMisfit e (node tree.now)) }
+{
+    match Message::from_tree(alloc, tree) {
+        Ok(message) => Ok(message),
+        Err(ShapeFault::NoFit) => Err(MessageFault::NoFit),
+        Err(ShapeFault::NoMemory) => Err(MessageFault::NoMemory),
+    }
+}
