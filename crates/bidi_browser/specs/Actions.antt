@@ -1,0 +1,98 @@
+-- What the browser is asked: its commands, and the steps of a play that it takes. After WebDriver BiDi, "The browsingContext Module" and "The script Module".
+use Prim.Native.String.{String}
+use Rattle.std.specs.Prelude.{ℕ, ℤ, Bool, List, [], ◌∷◌, codes, bytes_eq, Option, unwrap_or, option_map, is_some, is_none, ◌&&◌, ◌||◌, if◌then◌else◌}
+use Rattle.bidi_tree.specs.Node.{Node, null}
+use Rattle.bidi_browser.specs.Params.{tree_if_at, text_if_at, number_if_at, trees_if_at, text_at, texts_at, whole_at, entry_at}
+
+-- a tab of a window, or a window of its own
+pub data CreateType : Type 0 where
+  Tab : CreateType
+  OwnWindow : CreateType
+
+-- what a navigation's reply waits for: its start, domContentLoaded, load
+pub data Wait : Type 0 where
+  Started : Wait
+  Interactive : Wait
+  Complete : Wait
+
+-- where a script runs: in the realm of a context, or in a realm by its id; with no sandbox its text is empty
+pub data Target : Type 0 where
+  ContextTarget : (context : List ℕ) (sandbox : List ℕ) → Target
+  RealmTarget : (realm : List ℕ) → Target
+
+-- a command or a step, with the members that matter; values are the trees of local values
+pub data Action : Type 0 where
+  Activate : (context : List ℕ) → Action
+  Close : (context : List ℕ) → Action
+  Create : (type : CreateType) (reference : Option (List ℕ)) (user : Option (List ℕ)) → Action
+  GetTree : (depth : Option ℕ) (root : Option (List ℕ)) → Action
+  Navigate : (context : List ℕ) (url : List ℕ) (wait : Wait) → Action
+  Reload : (context : List ℕ) (wait : Wait) → Action
+  TraverseHistory : (context : List ℕ) (delta : ℤ) → Action
+  -- owned, where the value gets a handle
+  Evaluate : (expression : List ℕ) (target : Target) (owned : Bool) → Action
+  CallFunction : (declaration : List ℕ) (target : Target) (arguments : List Node) (this : Option Node) (owned : Bool) → Action
+  Disown : (handles : List (List ℕ)) (target : Target) → Action
+  GetRealms : (context : Option (List ℕ)) (type : Option (List ℕ)) → Action
+  -- steps of a play
+  Frame : (context : List ℕ) (url : List ℕ) → Action
+  Unframe : (context : List ℕ) → Action
+  Log : (context : List ℕ) (level : List ℕ) (text : List ℕ) → Action
+  -- a row of the table, where its text is one
+  TableRow : (row : Option Node) → Action
+
+-- ---- an action, read from the params of its command
+
+-- the text is there, and is that word
+abbrev pub is_text : String → Option (List ℕ) → Bool
+is_text word text = bytes_eq (unwrap_or text []) (codes word)
+
+-- a tab or a window
+abbrev pub create_type_of : Node → CreateType
+create_type_of params = if is_text "window" (text_if_at "type" params) then OwnWindow else Tab
+
+-- what the reply waits for; absent, it is none
+abbrev pub wait_of : Node → Wait
+wait_of params =
+    if is_text "complete" (text_if_at "wait" params) then Complete
+    else if is_text "interactive" (text_if_at "wait" params) then Interactive
+    else Started
+
+-- the value is to be owned; absent, it is not
+abbrev pub is_owned : Node → Bool
+is_owned params = is_text "root" (text_if_at "resultOwnership" params)
+
+-- a text stands there, or nothing at all
+abbrev pub is_well_at : String → Node → Bool
+is_well_at name params = is_none (tree_if_at name params) || is_some (text_if_at name params)
+
+-- by context, where `context` is a text and `sandbox`, if it is there, is one too; else by realm
+abbrev pub target_in : Node → Target
+target_in t =
+    if is_some (text_if_at "context" t) && is_well_at "sandbox" t
+    then ContextTarget (text_at "context" t) (text_at "sandbox" t)
+    else RealmTarget (text_at "realm" t)
+
+-- the target of a command
+abbrev pub target_of : Node → Target
+target_of params = target_in (unwrap_or (tree_if_at "target" params) null)
+
+-- the commands that the browser answers, and what each asks by its params
+abbrev pub browser_commands : List (String × (Node → Action))
+browser_commands =
+    ("browsingContext.activate", λ p. Activate (text_at "context" p))
+    ∷ ("browsingContext.close", λ p. Close (text_at "context" p))
+    ∷ ("browsingContext.create", λ p. Create (create_type_of p) (text_if_at "referenceContext" p) (text_if_at "userContext" p))
+    ∷ ("browsingContext.getTree", λ p. GetTree (number_if_at "maxDepth" p) (text_if_at "root" p))
+    ∷ ("browsingContext.navigate", λ p. Navigate (text_at "context" p) (text_at "url" p) (wait_of p))
+    ∷ ("browsingContext.reload", λ p. Reload (text_at "context" p) (wait_of p))
+    ∷ ("browsingContext.traverseHistory", λ p. TraverseHistory (text_at "context" p) (whole_at "delta" p))
+    ∷ ("script.evaluate", λ p. Evaluate (text_at "expression" p) (target_of p) (is_owned p))
+    ∷ ("script.callFunction", λ p. CallFunction (text_at "functionDeclaration" p) (target_of p) (unwrap_or (trees_if_at "arguments" p) []) (tree_if_at "this" p) (is_owned p))
+    ∷ ("script.disown", λ p. Disown (texts_at "handles" p) (target_of p))
+    ∷ ("script.getRealms", λ p. GetRealms (text_if_at "context" p) (text_if_at "type" p))
+    ∷ []
+
+-- what a command of that method asks of the browser, if it is one of its commands
+abbrev pub action_of : List ℕ → Node → Option Action
+action_of method params = option_map (λ reading. reading params) (entry_at browser_commands method)

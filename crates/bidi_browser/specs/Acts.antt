@@ -1,0 +1,66 @@
+-- What the browser has done. Its past is a list of acts, the newest first, each in numbers that are already resolved.
+use Rattle.std.specs.Prelude.{ℕ, suc, Bool, true, false, if◌then◌else◌, List, [], ◌∷◌, Option, is_none}
+use Rattle.url.specs.Parts.{Parts}
+use Rattle.bidi_tree.specs.Node.{Node}
+use Rattle.bidi_browser.specs.Ids.{Kind, Context, Realm, Navigation, Handle, Window}
+
+-- where a navigation leads: to a URL, to the same entry again, or to another entry of the session history
+pub data Move : Type 0 where
+  To : (url : Parts) → Move
+  Again : Move
+  Across : (place : ℕ) → Move
+
+-- how a script ended, with the tree of a remote value
+pub data Ending : Type 0 where
+  Returned : (value : Node) → Ending
+  Threw : (value : Node) → Ending
+
+-- what the table says of a script: how it ends, or which of its arguments it gives back
+pub data Row : Type 0 where
+  EndsIn : (ending : Ending) → Row
+  GivesBack : (argument : ℕ) → Row
+
+-- what an accepted command or an effective step did
+pub data Act : Type 0 where
+  -- a top-level context came, in a window that stood or in a new one
+  Made : (window : Option ℕ) → Act
+  -- a child of a context came, at a URL
+  Framed : (parent : ℕ) (url : Parts) → Act
+  -- a context went, and all below it
+  Removed : (context : ℕ) → Act
+  Moved : (context : ℕ) (move : Move) → Act
+  Logged : (context : ℕ) (level : List ℕ) (text : List ℕ) → Act
+  Tabled : (text : List ℕ) (row : Row) → Act
+  -- a script ended in a realm, and where held is true its value got a handle
+  Ran : (realm : ℕ) (ending : Ending) (held : Bool) → Act
+  Disowned : (realm : ℕ) (handles : List (List ℕ)) → Act
+  -- nothing changed
+  Looked : Act
+
+-- whether an act gives out an id of the kind
+abbrev pub gives : Kind → Act → Bool
+gives Context (Made w) = true
+gives Context (Framed p url) = true
+gives Realm (Made w) = true
+gives Realm (Framed p url) = true
+gives Realm (Moved c move) = true
+gives Navigation (Moved c move) = true
+gives Handle (Ran r ending held) = held
+gives Window (Made w) = is_none w
+gives kind act = false
+
+-- at the start stand one context, its realm and its window
+abbrev pub given_at_start : Kind → ℕ
+given_at_start Context = 1
+given_at_start Realm = 1
+given_at_start Window = 1
+given_at_start kind = 0
+
+-- how many ids of the kind were given out, those at the start too
+abbrev pub given : List Act → Kind → ℕ
+given [] kind = given_at_start kind
+given (act ∷ past) kind = if gives kind act then suc (given past kind) else given past kind
+
+-- the number that the next thing of the kind gets; none is given out twice
+abbrev pub next_number : List Act → Kind → ℕ
+next_number past kind = suc (given past kind)

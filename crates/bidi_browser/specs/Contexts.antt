@@ -1,0 +1,81 @@
+-- Which contexts there are, and how they lie below one another: questions about the browser's past. After WebDriver BiDi, "The browsingContext Module".
+use Rattle.std.specs.Prelude.{ℕ, zero, suc, ◌==◌, nat_eq, nat_lt, Bool, false, not, ◌&&◌, ◌||◌, if◌then◌else◌, List, [], ◌∷◌, ◌++◌, filter, flat_map, Option, Some, None, is_none, unwrap_or}
+use Rattle.std.specs.Option.{option_eq}
+use Rattle.bidi_browser.specs.Ids.{Context, Window}
+use Rattle.bidi_browser.specs.Acts.{Act, Made, Framed, Removed, Moved, given, next_number}
+
+-- the context of which c is a child
+abbrev pub parent_of : List Act → ℕ → Option ℕ
+parent_of [] c = None
+parent_of (Framed p url ∷ past) c = if c == next_number past Context then Some p else parent_of past c
+parent_of (act ∷ past) c = parent_of past c
+
+-- the end of the chain of parents: the top-level context
+abbrev pub top_of : List Act → ℕ → ℕ
+top_of [] c = c
+top_of (Framed p url ∷ past) c = if c == next_number past Context then top_of past p else top_of past c
+top_of (act ∷ past) c = top_of past c
+
+-- how many contexts the chain has; a top-level context is at level 1
+abbrev pub level_of : List Act → ℕ → ℕ
+level_of [] c = 1
+level_of (Framed p url ∷ past) c = if c == next_number past Context then suc (level_of past p) else level_of past c
+level_of (act ∷ past) c = level_of past c
+
+-- whether a stands on that chain: a is c, or an ancestor of it
+abbrev pub is_under : List Act → ℕ → ℕ → Bool
+is_under [] a c = a == c
+is_under (Framed p url ∷ past) a c = if c == next_number past Context then a == c || is_under past a p else is_under past a c
+is_under (act ∷ past) a c = is_under past a c
+
+-- the window of a context: for a child that of its parent
+abbrev pub window_of : List Act → ℕ → ℕ
+window_of [] c = 1
+window_of (Made w ∷ past) c = if c == next_number past Context then unwrap_or w (next_number past Window) else window_of past c
+window_of (Framed p url ∷ past) c = if c == next_number past Context then window_of past p else window_of past c
+window_of (act ∷ past) c = window_of past c
+
+-- a context was born that has a number given out
+abbrev pub is_born : List Act → ℕ → Bool
+is_born past c = nat_lt 0 c && nat_lt c (next_number past Context)
+
+-- a removal takes a context and all below it, a navigation all below it
+abbrev pub is_gone : List Act → ℕ → Bool
+is_gone [] c = false
+is_gone (Removed a ∷ past) c = is_under past a c || is_gone past c
+is_gone (Moved a move ∷ past) c = (is_under past a c && not (a == c)) || is_gone past c
+is_gone (act ∷ past) c = is_gone past c
+
+-- born, and not gone
+abbrev pub is_alive : List Act → ℕ → Bool
+is_alive past c = is_born past c && not (is_gone past c)
+
+-- 1, 2, .. n
+abbrev pub up_to : ℕ → List ℕ
+up_to zero = []
+up_to (suc n) = up_to n ++ suc n ∷ []
+
+-- the live contexts, by creation
+abbrev pub contexts : List Act → List ℕ
+contexts past = filter (is_alive past) (up_to (given past Context))
+
+-- the live top-level contexts, by creation
+abbrev pub tops : List Act → List ℕ
+tops past = filter (λ c. is_none (parent_of past c)) (contexts past)
+
+-- the live children of a context, by creation
+abbrev pub children_of : List Act → ℕ → List ℕ
+children_of past c = filter (λ d. option_eq nat_eq (parent_of past d) (Some c)) (contexts past)
+
+-- a context and all below it, parents before children, each subtree whole, as far as n levels
+abbrev pub subtree_within : ℕ → List Act → ℕ → List ℕ
+subtree_within zero past c = []
+subtree_within (suc n) past c = c ∷ flat_map (subtree_within n past) (children_of past c)
+
+-- the same without a bound, since no context stands below level 16
+abbrev pub subtree_of : List Act → ℕ → List ℕ
+subtree_of = subtree_within 16
+
+-- all live contexts: the top-level ones by creation, each with its subtree
+abbrev pub tree_order : List Act → List ℕ
+tree_order past = flat_map (subtree_of past) (tops past)

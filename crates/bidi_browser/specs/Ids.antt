@@ -1,0 +1,38 @@
+-- Ids: the kinds of things that have one, and its text. After RFC 9562, 4 and 5.8; what stands in the bytes is this project's own.
+use Rattle.std.specs.Prelude.{ℕ, List, ◌∷◌, ◌++◌, drop}
+use Rattle.std.specs.Int.{w16, w32, w64, to_be_bytes}
+use Rattle.uuid.specs.Text.{hyphenated_text, lower}
+
+-- what has an id
+pub data Kind : Type 0 where
+  Session : Kind
+  Context : Kind
+  Realm : Kind
+  Navigation : Kind
+  Subscription : Kind
+  Handle : Kind
+  Window : Kind
+
+-- the number of a kind in its ids
+abbrev pub kind_number : Kind → ℕ
+kind_number Session = 1
+kind_number Context = 2
+kind_number Realm = 3
+kind_number Navigation = 4
+kind_number Subscription = 5
+kind_number Handle = 6
+kind_number Window = 7
+
+-- the session in four bytes, the kind in two, version 8 and its variant with zeros, and the number in six
+abbrev pub id_bytes : Kind → ℕ → ℕ → List ℕ
+id_bytes kind session n =
+    to_be_bytes w32 session
+    ++ (to_be_bytes w16 (kind_number kind) ++ (128 ∷ 0 ∷ 128 ∷ 0 ∷ drop 2 (to_be_bytes w64 n)))
+
+-- the id of the n-th subscription of a session; any other kind has session 0
+abbrev pub id_text : Kind → ℕ → ℕ → List ℕ
+id_text kind session n = hyphenated_text lower (id_bytes kind session n)
+
+-- the id of the n-th thing of a kind that is no subscription
+abbrev pub id_of : Kind → ℕ → List ℕ
+id_of kind n = id_text kind 0 n

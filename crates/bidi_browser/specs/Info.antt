@@ -1,0 +1,47 @@
+-- The tree of what is told of a context. After WebDriver BiDi, "The browsingContext.Info Type"; that `originalOpener` is null and `userContext` is `default` is this project's own.
+use Rattle.std.specs.Prelude.{ℕ, ◌-◌, zero, suc, map, Option, Some, None, option_map}
+use Rattle.bidi_tree.specs.Node.{Node, null, text, Members, no_members}
+use Rattle.bidi_browser.specs.Ids.{Context, Window}
+use Rattle.bidi_browser.specs.Acts.{Act}
+use Rattle.bidi_browser.specs.Urls.{url_text}
+use Rattle.bidi_browser.specs.Contexts.{parent_of, window_of, children_of}
+use Rattle.bidi_browser.specs.Places.{url_of}
+use Rattle.bidi_browser.specs.Maps.{◌being◌and◌, mapped, listed, word, id_tree}
+use Rattle.std.specs.Prelude.{List}
+
+-- the parent's id, or null for a top-level context
+abbrev pub parent_tree : Option ℕ → Node
+parent_tree None = null
+parent_tree (Some p) = id_tree Context p
+
+-- null at depth 0, else the list; with no depth there is no bound
+abbrev pub children_tree : Option ℕ → List Node → Node
+children_tree None infos = listed infos
+children_tree (Some zero) infos = null
+children_tree (Some (suc n)) infos = listed infos
+
+-- one less
+abbrev pub depth_below : Option ℕ → Option ℕ
+depth_below = option_map (λ n. n - 1)
+
+-- the members of an Info, without the parent
+abbrev pub info_members : List Act → ℕ → Node → Members
+info_members past c children =
+    "children" being children and
+    "clientWindow" being id_tree Window (window_of past c) and
+    "context" being id_tree Context c and
+    "originalOpener" being null and
+    "url" being text (url_text (url_of past c)) and
+    "userContext" being word "default" and no_members
+
+-- an Info that stands in the list of its parent's, as far as n levels
+abbrev pub info_within : ℕ → List Act → Option ℕ → ℕ → Node
+info_within zero past depth c = null
+info_within (suc n) past depth c =
+    mapped (info_members past c (children_tree depth (map (info_within n past (depth_below depth)) (children_of past c))))
+
+-- the Info of a context, with its parent; no context stands below level 16
+abbrev pub info_of : List Act → Option ℕ → ℕ → Node
+info_of past depth c =
+    mapped ("parent" being parent_tree (parent_of past c) and
+    info_members past c (children_tree depth (map (info_within 16 past (depth_below depth)) (children_of past c))))

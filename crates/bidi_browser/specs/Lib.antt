@@ -1,0 +1,15 @@
+pub mod Ids
+pub mod Urls
+pub mod Acts
+pub mod Contexts
+pub mod Places
+pub mod Realms
+pub mod Params
+pub mod Actions
+pub mod Checks
+pub mod Values
+pub mod Maps
+pub mod Info
+pub mod Occurrences
+pub mod Outcome
+pub mod Occurs

@@ -1,0 +1,137 @@
+-- What an act brings about, in order: events, and the reply's result in its place among them. The past is that before the act.
+use Rattle.std.specs.Prelude.{ℕ, Bool, true, false, List, [], ◌∷◌, ◌++◌, map, filter, flat_map, codes, bytes_eq, Option, Some, None, unwrap_or}
+use Rattle.url.specs.Parts.{Parts}
+use Rattle.bidi_tree.specs.Node.{Node, text, no_members}
+use Rattle.bidi_browser.specs.Ids.{Context, Realm, Navigation, Handle, id_of}
+use Rattle.bidi_browser.specs.Urls.{url_text}
+use Rattle.bidi_browser.specs.Acts.{Act, Made, Framed, Removed, Moved, Logged, Tabled, Ran, Disowned, Looked, Move, Across, Ending, Returned, Threw, next_number}
+use Rattle.bidi_browser.specs.Contexts.{contexts, tops, children_of, tree_order}
+use Rattle.bidi_browser.specs.Places.{entries_of, moved, present}
+use Rattle.bidi_browser.specs.Actions.{Wait, Started, Interactive, Complete, Action, Navigate, Reload, GetTree, GetRealms}
+use Rattle.bidi_browser.specs.Values.{with_member}
+use Rattle.bidi_browser.specs.Maps.{◌being◌and◌, mapped, listed, nothing, word, number, id_tree}
+use Rattle.bidi_browser.specs.Info.{info_of}
+use Rattle.bidi_messages.specs.declared.event.EventName.TheVariants.{NavigationStarted, DomContentLoaded, Load}
+use Rattle.bidi_browser.specs.Occurrences.{Occurrence, context_created, realm_created, realm_destroyed, realm_info, removal, navigation_event, entry_added}
+
+-- an event occurs, or the reply is given
+pub data Item : Type 0 where
+  Happens : (occurrence : Occurrence) → Item
+  Replies : (result : Node) → Item
+
+-- ---- contexts
+
+-- a context came, with its realm
+abbrev pub birth : List Act → Act → List Item
+birth past act =
+    let c = next_number past Context in
+    Happens (context_created (act ∷ past) c) ∷ Happens (realm_created (act ∷ past) c) ∷ []
+
+-- the result of a create
+abbrev pub created_result : List Act → Node
+created_result past = mapped ("context" being id_tree Context (next_number past Context) and no_members)
+
+-- ---- navigation
+
+-- what a navigation's reply waits for; that of a traversal stands last
+abbrev pub wait_in : Action → Wait
+wait_in (Navigate id address wait) = wait
+wait_in (Reload id wait) = wait
+wait_in action = Complete
+
+-- the result of navigate and reload; that of a traversal is empty
+abbrev pub navigated_result : List Act → Parts → Move → Node
+navigated_result past url (Across place) = nothing
+navigated_result past url move = mapped (
+    "navigation" being id_tree Navigation (next_number past Navigation) and
+    "url" being text (url_text url) and no_members)
+
+-- all below the context goes, child by child, and its realm gives way to a new one
+abbrev pub unloading : List Act → Act → ℕ → List Item
+unloading past act c =
+    map Happens (flat_map (removal past) (children_of past c))
+    ++ Happens (realm_destroyed past c) ∷ Happens (realm_created (act ∷ past) c) ∷ []
+
+-- the events of a navigation, with the reply directly after that for which it waits
+abbrev pub replying : Wait → Item → Item → List Item → Item → Item → List Item
+replying Started reply started unloaded ready loaded = started ∷ reply ∷ unloaded ++ ready ∷ loaded ∷ []
+replying Interactive reply started unloaded ready loaded = started ∷ unloaded ++ ready ∷ reply ∷ loaded ∷ []
+replying Complete reply started unloaded ready loaded = started ∷ unloaded ++ ready ∷ loaded ∷ reply ∷ []
+
+-- a navigation of a context
+abbrev pub navigation : List Act → ℕ → Wait → ℕ → Move → List Item
+navigation past moment wait c move =
+    let url = present (moved (entries_of past c) move) in
+    replying wait (Replies (navigated_result past url move))
+    (Happens (navigation_event past moment c url NavigationStarted))
+    (unloading past (Moved c move) c)
+    (Happens (navigation_event past moment c url DomContentLoaded))
+    (Happens (navigation_event past moment c url Load))
+
+-- ---- scripts
+
+-- the value, with the handle that it got as its member `handle`
+abbrev pub shown : List Act → Bool → Node → Node
+shown past true value = with_member "handle" (id_tree Handle (next_number past Handle)) value
+shown past false value = value
+
+-- what is told of a thrown value; lines, frames and the text are this project's own
+abbrev pub exception_details : Node → Node
+exception_details value = mapped (
+    "columnNumber" being number 0 and
+    "exception" being value and
+    "lineNumber" being number 0 and
+    "stackTrace" being mapped ("callFrames" being listed [] and no_members) and
+    "text" being word "thrown" and no_members)
+
+-- the result of a script that ended in a realm
+abbrev pub script_result : List Act → ℕ → Ending → Bool → Node
+script_result past r (Returned value) held = mapped (
+    "type" being word "success" and
+    "result" being shown past held value and
+    "realm" being id_tree Realm r and no_members)
+script_result past r (Threw value) held = mapped (
+    "type" being word "exception" and
+    "exceptionDetails" being exception_details (shown past held value) and
+    "realm" being id_tree Realm r and no_members)
+
+-- ---- commands that look
+
+-- the live context of an id, as a list
+abbrev pub only : List Act → List ℕ → List ℕ
+only past id = filter (λ c. bytes_eq id (id_of Context c)) (contexts past)
+
+-- the contexts that getTree shows: the root, or else all top-level ones
+abbrev pub roots : List Act → Option (List ℕ) → List ℕ
+roots past None = tops past
+roots past (Some id) = only past id
+
+-- the contexts whose realms getRealms shows: all realms are windows
+abbrev pub realm_holders : List Act → Option (List ℕ) → Bool → List ℕ
+realm_holders past context false = []
+realm_holders past None true = tree_order past
+realm_holders past (Some id) true = only past id
+
+-- no type is asked for, or that of a window
+abbrev pub takes_windows : Option (List ℕ) → Bool
+takes_windows type = bytes_eq (unwrap_or type (codes "window")) (codes "window")
+
+-- what a command that looks is told
+abbrev pub looked_result : List Act → Action → Node
+looked_result past (GetTree depth root) = mapped ("contexts" being listed (map (info_of past depth) (roots past root)) and no_members)
+looked_result past (GetRealms context type) = mapped ("realms" being listed (map (realm_info past) (realm_holders past context (takes_windows type))) and no_members)
+looked_result past action = nothing
+
+-- ---- every act
+
+-- what an act brings about at a moment, where the action asked for it
+abbrev pub occurs : List Act → ℕ → Action → Act → List Item
+occurs past moment action (Made w) = birth past (Made w) ++ Replies (created_result past) ∷ []
+occurs past moment action (Framed p url) = birth past (Framed p url)
+occurs past moment action (Removed c) = map Happens (removal past c) ++ Replies nothing ∷ []
+occurs past moment action (Moved c move) = navigation past moment (wait_in action) c move
+occurs past moment action (Logged c level line) = Happens (entry_added past moment c level line) ∷ []
+occurs past moment action (Tabled t row) = []
+occurs past moment action (Ran r ending held) = Replies (script_result past r ending held) ∷ []
+occurs past moment action (Disowned r ids) = Replies nothing ∷ []
+occurs past moment action Looked = Replies (looked_result past action) ∷ []

@@ -1,0 +1,233 @@
+-- What the browser does at an action: its checks in order, and the act where none fails. After WebDriver BiDi, the commands of "The browsingContext Module" and "The script Module".
+use Rattle.std.specs.Prelude.{ℕ, nat_lt, ℤ, Bool, true, not, ◌&&◌, ◌||◌, List, [], ◌∷◌, length, find, slice_get, codes, bytes_eq, Option, Some, None, is_none, is_some, unwrap_or, Result, Ok, Err}
+use Rattle.bidi_tree.specs.Node.{Node, levels, no_members}
+use Rattle.bidi_messages.specs.declared.error_code.ErrorCode.{ErrorCode}
+use Rattle.bidi_messages.specs.declared.error_code.ErrorCode.TheVariants.{InvalidArgument, NoSuchFrame, NoSuchHistoryEntry, NoSuchUserContext, UnknownError, UnsupportedOperation}
+use Rattle.bidi_browser.specs.Ids.{Context, Realm, id_of}
+use Rattle.bidi_browser.specs.Urls.{parsed}
+use Rattle.bidi_browser.specs.Acts.{Act, Made, Framed, Removed, Moved, Logged, Tabled, Ran, Disowned, Looked, To, Again, Across, Ending, Returned, Threw, Row, EndsIn, GivesBack}
+use Rattle.bidi_browser.specs.Contexts.{parent_of, level_of, window_of, contexts, tops}
+use Rattle.bidi_browser.specs.Places.{entries_of, place_across}
+use Rattle.bidi_browser.specs.Realms.{realm_of, realms, value_of, handles_of, held_value, row_of, tabled_texts}
+use Rattle.bidi_browser.specs.Params.{text_at, tree_if_at, number_if_at}
+use Rattle.bidi_browser.specs.Actions.{CreateType, Tab, OwnWindow, Target, ContextTarget, RealmTarget, Action, Activate, Close, Create, GetTree, Navigate, Reload, TraverseHistory, Evaluate, CallFunction, Disown, GetRealms, Frame, Unframe, Log, TableRow}
+use Rattle.bidi_browser.specs.Checks.{◌>>=◌, need, found}
+use Rattle.bidi_browser.specs.Values.{argument, arguments, takes_handle, has_handle}
+use Rattle.bidi_browser.specs.Maps.{◌being◌and◌, mapped, word}
+
+-- ---- contexts
+
+-- the live context of an id
+abbrev pub context_named : List Act → List ℕ → Result ℕ ErrorCode
+context_named past id = found (find (λ c. bytes_eq id (id_of Context c)) (contexts past)) NoSuchFrame
+
+-- the live top-level context of an id
+abbrev pub top_named : List Act → List ℕ → Result ℕ ErrorCode
+top_named past id = do
+  c ← context_named past id
+  top ← need (is_none (parent_of past c)) InvalidArgument
+  Ok c
+
+-- the one of an id that may be left out
+abbrev pub top_if_named : List Act → Option (List ℕ) → Result (Option ℕ) ErrorCode
+top_if_named past None = Ok None
+top_if_named past (Some id) = do
+  c ← top_named past id
+  Ok (Some c)
+
+-- the window of the oldest top-level context that is alive
+abbrev pub oldest_window : List Act → List ℕ → Option ℕ
+oldest_window past [] = None
+oldest_window past (c ∷ cs) = Some (window_of past c)
+
+-- a tab takes the window of the reference, or else that of the oldest; with neither, and for a window, it is a new one
+abbrev pub window_for : List Act → CreateType → Option ℕ → Option ℕ
+window_for past OwnWindow reference = None
+window_for past Tab (Some c) = Some (window_of past c)
+window_for past Tab None = oldest_window past (tops past)
+
+-- the one user context is `default`
+abbrev pub is_user : Option (List ℕ) → Bool
+is_user user = bytes_eq (unwrap_or user (codes "default")) (codes "default")
+
+-- fewer than 1,024 contexts are alive
+abbrev pub has_room : List Act → Bool
+has_room past = nat_lt (length (contexts past)) 1024
+
+-- the reference, then the user context, then the room
+abbrev pub create_outcome : List Act → CreateType → Option (List ℕ) → Option (List ℕ) → Result Act ErrorCode
+create_outcome past type reference user = do
+  c ← top_if_named past reference
+  known ← need (is_user user) NoSuchUserContext
+  room ← need (has_room past) UnknownError
+  Ok (Made (window_for past type c))
+
+-- only a top-level context is closed
+abbrev pub close_outcome : List Act → List ℕ → Result Act ErrorCode
+close_outcome past id = do
+  c ← top_named past id
+  Ok (Removed c)
+
+-- an action that looks at what a check gives
+abbrev pub looked : {A : Type 0} → Result A ErrorCode → Result Act ErrorCode
+looked (Ok x) = Ok Looked
+looked (Err code) = Err code
+
+-- the same where an id is given; with none it looks at all
+abbrev pub looked_at : List Act → Option (List ℕ) → Result Act ErrorCode
+looked_at past None = Ok Looked
+looked_at past (Some id) = looked (context_named past id)
+
+-- a child stands below a context that is above level 16
+abbrev pub frame_outcome : List Act → List ℕ → List ℕ → Result Act ErrorCode
+frame_outcome past id address = do
+  c ← context_named past id
+  url ← found (parsed address) InvalidArgument
+  room ← need (has_room past) UnknownError
+  high ← need (nat_lt (level_of past c) 16) UnknownError
+  Ok (Framed c url)
+
+-- only a child is taken out by a play
+abbrev pub unframe_outcome : List Act → List ℕ → Result Act ErrorCode
+unframe_outcome past id = do
+  c ← context_named past id
+  child ← need (is_some (parent_of past c)) InvalidArgument
+  Ok (Removed c)
+
+-- ---- navigation
+
+-- the context, then the URL
+abbrev pub navigate_outcome : List Act → List ℕ → List ℕ → Result Act ErrorCode
+navigate_outcome past id address = do
+  c ← context_named past id
+  url ← found (parsed address) InvalidArgument
+  Ok (Moved c (To url))
+
+-- the context alone
+abbrev pub reload_outcome : List Act → List ℕ → Result Act ErrorCode
+reload_outcome past id = do
+  c ← context_named past id
+  Ok (Moved c Again)
+
+-- a top-level context, then the place
+abbrev pub traverse_outcome : List Act → List ℕ → ℤ → Result Act ErrorCode
+traverse_outcome past id delta = do
+  c ← top_named past id
+  place ← found (place_across (entries_of past c) delta) NoSuchHistoryEntry
+  Ok (Moved c (Across place))
+
+-- ---- scripts
+
+-- the live realm of a target
+abbrev pub realm_targeted : List Act → Target → Result ℕ ErrorCode
+realm_targeted past (ContextTarget id sandbox) = do
+  c ← context_named past id
+  no_sandbox ← need (bytes_eq sandbox []) UnsupportedOperation
+  Ok (realm_of past c)
+realm_targeted past (RealmTarget id) = found (find (λ r. bytes_eq id (id_of Realm r)) (realms past)) NoSuchFrame
+
+-- a script ended; its value gets a handle where it is to be owned and takes one, and a realm has at most 1,000
+abbrev pub ending_outcome : List Act → ℕ → Bool → Ending → Result Act ErrorCode
+ending_outcome past r owned ending =
+    let held = owned && takes_handle (value_of ending) in do
+      room ← need (not held || nat_lt (length (handles_of past r)) 1000) UnknownError
+      Ok (Ran r ending held)
+
+-- `{"type":"undefined"}`
+abbrev pub undefined : Node
+undefined = mapped ("type" being word "undefined" and no_members)
+
+-- a row gives its own ending, or an argument; where there is no such argument, undefined
+abbrev pub ending_of : Row → List Node → Ending
+ending_of (EndsIn ending) values = ending
+ending_of (GivesBack n) values = Returned (unwrap_or (slice_get values n) undefined)
+
+-- the target, then the row, then the number of handles
+abbrev pub evaluate_outcome : List Act → List ℕ → Target → Bool → Result Act ErrorCode
+evaluate_outcome past expression target owned = do
+  r ← realm_targeted past target
+  row ← found (row_of past expression) UnsupportedOperation
+  ending_outcome past r owned (ending_of row [])
+
+-- `this`, where it is given
+abbrev pub this_resolved : List Act → ℕ → Option Node → Result (Option Node) ErrorCode
+this_resolved past r None = Ok None
+this_resolved past r (Some value) = do
+  v ← argument (held_value past r) value
+  Ok (Some v)
+
+-- the target, then each argument, then `this`, then the row, then the number of handles
+abbrev pub call_outcome : List Act → List ℕ → Target → List Node → Option Node → Bool → Result Act ErrorCode
+call_outcome past declaration target values this owned = do
+  r ← realm_targeted past target
+  resolved ← arguments (held_value past r) values
+  self ← this_resolved past r this
+  row ← found (row_of past declaration) UnsupportedOperation
+  ending_outcome past r owned (ending_of row resolved)
+
+-- the target alone
+abbrev pub disown_outcome : List Act → List (List ℕ) → Target → Result Act ErrorCode
+disown_outcome past ids target = do
+  r ← realm_targeted past target
+  Ok (Disowned r ids)
+
+-- ---- the log and the table
+
+-- the context alone
+abbrev pub log_outcome : List Act → List ℕ → List ℕ → List ℕ → Result Act ErrorCode
+log_outcome past id level line = do
+  c ← context_named past id
+  Ok (Logged c level line)
+
+-- what a row of the table says: a tree that fits the rule TableRow has one of the three members
+abbrev pub row_said : Option Node → Option Node → Option ℕ → Row
+row_said (Some value) thrown argument = EndsIn (Returned value)
+row_said None (Some value) argument = EndsIn (Threw value)
+row_said None None argument = GivesBack (unwrap_or argument 0)
+
+-- the row that a tree is
+abbrev pub row_in : Node → Row
+row_in t = row_said (tree_if_at "returns" t) (tree_if_at "throws" t) (number_if_at "argument" t)
+
+-- a value in the table has no handle and no internal id, and a thrown one, which its details wrap, at most 59 levels
+abbrev pub may_end_in : Ending → Bool
+may_end_in (Returned value) = not (has_handle value)
+may_end_in (Threw value) = not (has_handle value) && nat_lt (levels value) 60
+
+-- a row may end in such a value, and give back any argument
+abbrev pub may_say : Row → Bool
+may_say (EndsIn ending) = may_end_in ending
+may_say (GivesBack n) = true
+
+-- a text has one row, and 1,024 texts have one at most
+abbrev pub row_outcome : List Act → Option Node → Result Act ErrorCode
+row_outcome past row = do
+  t ← found row InvalidArgument
+  fit ← need (may_say (row_in t)) InvalidArgument
+  room ← need (is_some (row_of past (text_at "text" t)) || nat_lt (length (tabled_texts past)) 1024) UnknownError
+  Ok (Tabled (text_at "text" t) (row_in t))
+
+-- ---- every action
+
+-- the act of an action, or the code of the first check that fails; a step of a play that has a code has no effect
+abbrev pub outcome : List Act → Action → Result Act ErrorCode
+outcome past (Activate id) = looked (top_named past id)
+outcome past (Close id) = close_outcome past id
+outcome past (Create type reference user) = create_outcome past type reference user
+outcome past (GetTree depth root) = looked_at past root
+outcome past (Navigate id address wait) = navigate_outcome past id address
+outcome past (Reload id wait) = reload_outcome past id
+outcome past (TraverseHistory id delta) = traverse_outcome past id delta
+outcome past (Evaluate expression target owned) = evaluate_outcome past expression target owned
+outcome past (CallFunction declaration target values this owned) = call_outcome past declaration target values this owned
+outcome past (Disown ids target) = disown_outcome past ids target
+outcome past (GetRealms context type) = looked_at past context
+outcome past (Frame id address) = frame_outcome past id address
+outcome past (Unframe id) = unframe_outcome past id
+outcome past (Log id level line) = log_outcome past id level line
+outcome past (TableRow row) = row_outcome past row
+
+-- the past with the act, where there is one
+abbrev pub with_act : List Act → Result Act ErrorCode → List Act
+with_act past (Ok act) = act ∷ past
+with_act past (Err code) = past

@@ -1,0 +1,51 @@
+-- Realms, the handles that hold values in them, and the table that stands for running scripts. After WebDriver BiDi, "The script Module".
+use Rattle.std.specs.Prelude.{ℕ, ◌==◌, Bool, true, not, if◌then◌else◌, List, [], ◌∷◌, ◌++◌, map, filter, find, bytes_eq, Option, Some, None, is_some, option_map}
+use Rattle.std.specs.List.{list_any}
+use Rattle.bidi_tree.specs.Node.{Node}
+use Rattle.bidi_browser.specs.Ids.{Context, Realm, Handle, id_of}
+use Rattle.bidi_browser.specs.Acts.{Act, Made, Framed, Moved, Tabled, Ran, Disowned, Ending, Returned, Threw, Row, next_number}
+use Rattle.bidi_browser.specs.Contexts.{contexts}
+
+-- the realm of a context: each birth and each navigation makes a new one
+abbrev pub realm_of : List Act → ℕ → ℕ
+realm_of [] c = 1
+realm_of (Made w ∷ past) c = if c == next_number past Context then next_number past Realm else realm_of past c
+realm_of (Framed p url ∷ past) c = if c == next_number past Context then next_number past Realm else realm_of past c
+realm_of (Moved d move ∷ past) c = if c == d then next_number past Realm else realm_of past c
+realm_of (act ∷ past) c = realm_of past c
+
+-- the live realms
+abbrev pub realms : List Act → List ℕ
+realms past = map (realm_of past) (contexts past)
+
+-- the value that a script ended with, whether it returned or threw it
+abbrev pub value_of : Ending → Node
+value_of (Returned value) = value
+value_of (Threw value) = value
+
+-- the id of the n-th handle is among these
+abbrev pub has_id : List (List ℕ) → ℕ → Bool
+has_id ids n = list_any (bytes_eq (id_of Handle n)) ids
+
+-- the handles given in a realm and not disowned since, by number, each with its value
+abbrev pub handles_of : List Act → ℕ → List (ℕ × Node)
+handles_of [] r = []
+handles_of (Ran q ending true ∷ past) r = if q == r then handles_of past r ++ (next_number past Handle, value_of ending) ∷ [] else handles_of past r
+handles_of (Disowned q ids ∷ past) r = if q == r then filter (λ held. not (has_id ids held.0)) (handles_of past r) else handles_of past r
+handles_of (act ∷ past) r = handles_of past r
+
+-- the value that a handle holds in a realm; a handle of another realm is unknown there
+abbrev pub held_value : List Act → ℕ → List ℕ → Option Node
+held_value past r id = option_map (λ held. held.1) (find (λ held. bytes_eq id (id_of Handle held.0)) (handles_of past r))
+
+-- the last row of a text
+abbrev pub row_of : List Act → List ℕ → Option Row
+row_of [] text = None
+row_of (Tabled t row ∷ past) text = if bytes_eq t text then Some row else row_of past text
+row_of (act ∷ past) text = row_of past text
+
+-- the texts that have a row, each once
+abbrev pub tabled_texts : List Act → List (List ℕ)
+tabled_texts [] = []
+tabled_texts (Tabled t row ∷ past) = if is_some (row_of past t) then tabled_texts past else t ∷ tabled_texts past
+tabled_texts (act ∷ past) = tabled_texts past

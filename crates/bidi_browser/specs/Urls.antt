@@ -1,0 +1,31 @@
+-- URLs: what a text is read as, how a URL is shown, and its origin. After the URL Standard, "URL parsing", "URL serializing" and "Origin".
+use Rattle.std.specs.Prelude.{ℕ, List, [], codes, Option, None, if◌then◌else◌}
+use Rattle.std.specs.Result.{result_ok}
+use Rattle.url.specs.Parts.{Parts, serialize}
+use Rattle.url.specs.Parser.{parse_url}
+use Rattle.url.specs.Origin.{is_http, origin_of, ascii_serialization}
+
+-- the URL of a text that is an absolute URL
+abbrev pub parsed : List ℕ → Option Parts
+parsed text = result_ok (parse_url None text)
+
+-- the URL as it is shown
+abbrev pub url_text : Parts → List ℕ
+url_text = serialize
+
+-- the origin of an http or https URL; any other URL has the origin `null`, which is this project's own
+abbrev pub origin_text : Parts → List ℕ
+origin_text url = if is_http url.scheme then ascii_serialization (origin_of url) else codes "null"
+
+-- `about:blank`, where each new top-level context is
+abbrev pub about_blank : Parts
+about_blank = record {
+  scheme = codes "about";
+  username = [];
+  password = [];
+  host = None;
+  port = None;
+  path = codes "blank";
+  query = None;
+  fragment = None;
+}

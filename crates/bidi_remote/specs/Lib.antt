@@ -1,0 +1,11 @@
+pub mod Capabilities
+pub mod Commands
+pub mod Step
+pub mod History
+pub mod Sessions
+pub mod Connections
+pub mod Subscriptions
+pub mod LogBuffer
+pub mod Outcome
+pub mod Sent
+pub mod Strike
