@@ -1,6 +1,7 @@
 -- The first id of each kind, as its text.
 use Rattle.std.specs.Prelude.{◌≡◌, refl, codes}
-use Rattle.bidi_browser.specs.Ids.{Session, Context, Realm, Navigation, Subscription, Handle, Window, id_of, id_text}
+use Rattle.bidi_browser.specs.declared.id.Kind.TheVariants.{Session, Context, Realm, Navigation, Subscription, Handle, Window}
+use Rattle.bidi_browser.specs.Ids.{id_of, id_text}
 use Rattle.bidi_browser.proofs.OnLiterals.{browser_on_literals}
 
 pub first_session : id_of Session 1 ≡ codes "00000000-0001-8000-8000-000000000001"

@@ -1,17 +1,9 @@
--- Ids: the kinds of things that have one, and its text. After RFC 9562, 4 and 5.8; what stands in the bytes is this project's own.
+-- Ids: the text of each. After RFC 9562, 4 and 5.8; what stands in the bytes is this project's own.
 use Rattle.std.specs.Prelude.{ℕ, List, ◌∷◌, ◌++◌, drop}
 use Rattle.std.specs.Int.{w16, w32, w64, to_be_bytes}
 use Rattle.uuid.specs.Text.{hyphenated_text, lower}
-
--- what has an id
-pub data Kind : Type 0 where
-  Session : Kind
-  Context : Kind
-  Realm : Kind
-  Navigation : Kind
-  Subscription : Kind
-  Handle : Kind
-  Window : Kind
+use Rattle.bidi_browser.specs.declared.id.Kind.{Kind}
+use Rattle.bidi_browser.specs.declared.id.Kind.TheVariants.{Session, Context, Realm, Navigation, Subscription, Handle, Window}
 
 -- the number of a kind in its ids
 abbrev pub kind_number : Kind → ℕ

@@ -3,7 +3,8 @@ use Prim.Native.String.{String}
 use Rattle.std.specs.Prelude.{ℕ, pos, List, codes}
 use Rattle.bidi_tree.specs.Node.{Node, whole, text, list, map, Members, no_members, put}
 use Rattle.bidi_tree.specs.View.{items_of}
-use Rattle.bidi_browser.specs.Ids.{Kind, id_of}
+use Rattle.bidi_browser.specs.declared.id.Kind.{Kind}
+use Rattle.bidi_browser.specs.Ids.{id_of}
 
 -- the members with one more
 infixr 3 ◌being◌and◌

@@ -1,11 +1,11 @@
 -- What can occur: the eight events, each with its context and its params. After WebDriver BiDi, the events of its modules.
-use Rattle.std.specs.Prelude.{ℕ, ◌==◌, Bool, List, [], ◌∷◌, ◌++◌, map, codes, Some, None}
+use Rattle.std.specs.Prelude.{ℕ, ◌==◌, Bool, List, [], ◌∷◌, ◌++◌, map, Some, None}
 use Rattle.std.specs.List.{list_any}
 use Rattle.url.specs.Parts.{Parts}
 use Rattle.bidi_tree.specs.Node.{Node, text, no_members}
 use Rattle.bidi_messages.specs.declared.event.EventName.{EventName}
 use Rattle.bidi_messages.specs.declared.event.EventName.TheVariants.{ContextCreated, ContextDestroyed, NavigationStarted, DomContentLoaded, Load, RealmCreated, RealmDestroyed, EntryAdded}
-use Rattle.bidi_browser.specs.Ids.{Context, Realm, Navigation}
+use Rattle.bidi_browser.specs.declared.id.Kind.TheVariants.{Context, Realm, Navigation}
 use Rattle.bidi_browser.specs.Urls.{url_text, origin_text}
 use Rattle.bidi_browser.specs.Acts.{Act, next_number}
 use Rattle.bidi_browser.specs.Contexts.{top_of, subtree_of, tree_order}

@@ -2,7 +2,8 @@
 use Rattle.std.specs.Prelude.{ℕ, Bool, true, false, List, [], ◌∷◌, ◌++◌, map, filter, flat_map, codes, bytes_eq, Option, Some, None, unwrap_or}
 use Rattle.url.specs.Parts.{Parts}
 use Rattle.bidi_tree.specs.Node.{Node, text, no_members}
-use Rattle.bidi_browser.specs.Ids.{Context, Realm, Navigation, Handle, id_of}
+use Rattle.bidi_browser.specs.declared.id.Kind.TheVariants.{Context, Realm, Navigation, Handle}
+use Rattle.bidi_browser.specs.Ids.{id_of}
 use Rattle.bidi_browser.specs.Urls.{url_text}
 use Rattle.bidi_browser.specs.Acts.{Act, Made, Framed, Removed, Moved, Logged, Tabled, Ran, Disowned, Looked, Move, Across, Ending, Returned, Threw, next_number}
 use Rattle.bidi_browser.specs.Contexts.{contexts, tops, children_of, tree_order}

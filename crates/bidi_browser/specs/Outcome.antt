@@ -3,7 +3,8 @@ use Rattle.std.specs.Prelude.{ℕ, nat_lt, ℤ, Bool, true, not, ◌&&◌, ◌||
 use Rattle.bidi_tree.specs.Node.{Node, levels, no_members}
 use Rattle.bidi_messages.specs.declared.error_code.ErrorCode.{ErrorCode}
 use Rattle.bidi_messages.specs.declared.error_code.ErrorCode.TheVariants.{InvalidArgument, NoSuchFrame, NoSuchHistoryEntry, NoSuchUserContext, UnknownError, UnsupportedOperation}
-use Rattle.bidi_browser.specs.Ids.{Context, Realm, id_of}
+use Rattle.bidi_browser.specs.declared.id.Kind.TheVariants.{Context, Realm}
+use Rattle.bidi_browser.specs.Ids.{id_of}
 use Rattle.bidi_browser.specs.Urls.{parsed}
 use Rattle.bidi_browser.specs.Acts.{Act, Made, Framed, Removed, Moved, Logged, Tabled, Ran, Disowned, Looked, To, Again, Across, Ending, Returned, Threw, Row, EndsIn, GivesBack}
 use Rattle.bidi_browser.specs.Contexts.{parent_of, level_of, window_of, contexts, tops}

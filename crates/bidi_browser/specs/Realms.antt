@@ -2,7 +2,8 @@
 use Rattle.std.specs.Prelude.{ℕ, ◌==◌, Bool, true, not, if◌then◌else◌, List, [], ◌∷◌, ◌++◌, map, filter, find, bytes_eq, Option, Some, None, is_some, option_map}
 use Rattle.std.specs.List.{list_any}
 use Rattle.bidi_tree.specs.Node.{Node}
-use Rattle.bidi_browser.specs.Ids.{Context, Realm, Handle, id_of}
+use Rattle.bidi_browser.specs.declared.id.Kind.TheVariants.{Context, Realm, Handle}
+use Rattle.bidi_browser.specs.Ids.{id_of}
 use Rattle.bidi_browser.specs.Acts.{Act, Made, Framed, Moved, Tabled, Ran, Disowned, Ending, Returned, Threw, Row, next_number}
 use Rattle.bidi_browser.specs.Contexts.{contexts}
 

@@ -1,7 +1,8 @@
 -- Worked examples of contexts.
 use Rattle.std.specs.Prelude.{◌≡◌, ℕ, List, [], ◌∷◌, ◌++◌, map, codes, refl}
 use Rattle.bidi_browser.specs.Contexts.{up_to}
-use Rattle.bidi_browser.specs.Ids.{Context, id_of}
+use Rattle.bidi_browser.specs.declared.id.Kind.TheVariants.{Context}
+use Rattle.bidi_browser.specs.Ids.{id_of}
 use Rattle.bidi_remote.specs.Step.{Step, Frame}
 use Rattle.bidi_remote.specs.Sent as sent
 use Rattle.bidi_remote.proofs.Rows.{after, ask, begun, event, frame, machine_on_literals, refusal, success, unframe}

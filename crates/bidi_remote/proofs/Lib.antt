@@ -10,3 +10,13 @@ pub mod TableFacts
 pub mod StrikeFacts
 pub mod LimitFacts
 pub mod CommandLemmas
+pub mod CapabilityLemmas
+pub mod FindLemmas
+pub mod BeginLemmas
+pub mod ConnectionLemmas
+pub mod SessionLemmas
+pub mod OpeningLemmas
+pub mod TurnLemmas
+pub mod AskLemmas
+pub mod TakeLemmas
+pub mod AnswerLemmas

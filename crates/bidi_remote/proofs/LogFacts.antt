@@ -1,7 +1,8 @@
 -- Worked examples of log entries and of those that wait.
 use Rattle.std.specs.Prelude.{◌≡◌, ℕ, List, [], ◌∷◌, ◌++◌, map, drop, codes, decimal, refl}
 use Rattle.bidi_browser.specs.Contexts.{up_to}
-use Rattle.bidi_browser.specs.Ids.{Context, id_of}
+use Rattle.bidi_browser.specs.declared.id.Kind.TheVariants.{Context}
+use Rattle.bidi_browser.specs.Ids.{id_of}
 use Rattle.bidi_remote.specs.Sent.{Sent}
 use Rattle.bidi_browser.proofs.Spelling.{said}
 use Rattle.bidi_remote.specs.Step.{Step, At, Open, Drop, Log}

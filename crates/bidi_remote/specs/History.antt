@@ -1,5 +1,5 @@
 -- What a remote end hears in its steps, what came of it, and what can be asked of its past. After WebDriver BiDi, "Transport".
-use Rattle.std.specs.Prelude.{◌≡◌, ℕ, List, [], ◌∷◌, Option, Some, None}
+use Rattle.std.specs.Prelude.{◌≡◌, ℕ, List, [], ◌∷◌, Option, Some, None, ⊤}
 use Rattle.bidi_tree.specs.Node.{Node}
 use Rattle.bidi_tree.specs.Text.{tree_of_text}
 use Rattle.bidi_shape.specs.Name.{table_row}
@@ -45,6 +45,13 @@ IsHeardAs (step.Frame id url) i = i ≡ InPage (Frame id url)
 IsHeardAs (step.Unframe id) i = i ≡ InPage (Unframe id)
 IsHeardAs (step.Log id level text) i = i ≡ InPage (Log id level text)
 IsHeardAs (step.TableRow text) i = (row : Option Node) × IsRow text row × (i ≡ InPage (TableRow row))
+
+-- each step is heard as the input at its place
+abbrev pub AreHeardAs : List step.Step → List Input → Type 0
+AreHeardAs [] [] = ⊤
+AreHeardAs [] (i ∷ inputs) = ⊥
+AreHeardAs (x ∷ steps) [] = ⊥
+AreHeardAs (x ∷ steps) (i ∷ inputs) = IsHeardAs x i × AreHeardAs steps inputs
 
 -- ---- what came of it
 

@@ -9,3 +9,9 @@ pub mod LogBuffer
 pub mod Outcome
 pub mod Sent
 pub mod Strike
+pub mod Built
+pub mod View
+pub mod ConnectionRows
+pub mod Stands
+pub mod Replies
+pub mod Asked

@@ -3,7 +3,8 @@ use Rattle.std.specs.Prelude.{ℕ, nat_lt, Bool, not, ◌&&◌, if◌then◌else
 use Rattle.std.specs.List.{list_all}
 use Rattle.bidi_messages.specs.declared.error_code.ErrorCode.{ErrorCode}
 use Rattle.bidi_messages.specs.declared.error_code.ErrorCode.TheVariants.{InvalidArgument, InvalidSessionId, SessionNotCreated, UnknownCommand, UnknownError, UnsupportedOperation}
-use Rattle.bidi_browser.specs.Ids.{Session, Subscription, id_of, id_text}
+use Rattle.bidi_browser.specs.declared.id.Kind.TheVariants.{Session, Subscription}
+use Rattle.bidi_browser.specs.Ids.{id_of, id_text}
 use Rattle.bidi_browser.specs.Acts.{Act}
 use Rattle.bidi_browser.specs.Contexts.{top_of}
 use Rattle.bidi_browser.specs.Checks.{◌>>=◌, need, found}

@@ -1,5 +1,18 @@
 //! The remote end: connections, sessions, subscriptions, and which texts go out on which connection.
 //!
-//! So far this crate has definitions alone: what a remote end's past is, what can be asked of it, and what
-//! the protocol machine answers to each step.
+//! A [`RemoteEnd`] takes steps and answers each at once. So far it has connections and sessions; the definitions
+//! already say what the whole protocol machine answers to each step.
 #![tactic(auto)]
+
+mod capabilities;
+mod connections;
+mod remote_end;
+mod results;
+mod sessions;
+mod step;
+mod tables;
+#[cfg(test)]
+mod tests;
+
+pub use remote_end::{RemoteEnd, RemoteFault};
+pub use step::{Sent, Step};

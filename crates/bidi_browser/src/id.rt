@@ -1,0 +1,77 @@
+//! Ids.
+ghost use Rattle.std.specs.Prelude.{◌≡◌, ◌<◌, ◌^◌, bytes_eq, string_bytes, IfOk};
+ghost use Rattle.bidi_browser.specs.Ids.{kind_number, id_bytes, id_text};
+
+use std::alloc::{AllocError, Global};
+use uuid::Uuid;
+
+/// What has an id.
+#[derive(Clone, Copy, Debug, PartialEq, Eq)]
+pub enum Kind {
+    Session,
+    Context,
+    Realm,
+    Navigation,
+    Subscription,
+    Handle,
+    /// A client window.
+    Window,
+}
+
+/// The id of the `n`-th thing of a kind, for a subscription of its session; any other kind has session 0.
+///
+/// `ssssssss-kkkk-8000-8000-nnnnnnnnnnnn`, the session, the kind and the number in lower-case hexadecimal.
+///
+/// # Errors
+/// No memory, where a growth was refused.
+///
+/// After RFC 9562, 4 and 5.8; what stands in the bytes is this project's own.
+pub fn id_text(alloc: Global, kind: Kind, session: u32, n: u64) -> Result<String, AllocError>
+    requires { n < 2 ^ 48 }
+    ensures { IfOk result (λ s. string_bytes s ≡ id_text kind session n) }
+{
+    let mut buffer = Uuid::encode_buffer();
+    let text = id_of(kind, session, n)
+        .hyphenated()
+        .encode_lower(&mut buffer);
+    String::from_str(alloc, text)
+}
+
+/// Whether a text is the id of that thing, in just these letters. Takes no memory.
+pub fn is_id(text: &str, kind: Kind, session: u32, n: u64) -> bool
+    requires { n < 2 ^ 48 }
+    ensures { result ≡ bytes_eq text.now (id_text kind session n) }
+{
+    let mut buffer = Uuid::encode_buffer();
+    let id = id_of(kind, session, n)
+        .hyphenated()
+        .encode_lower(&mut buffer);
+    text == id
+}
+
+fn id_of(kind: Kind, session: u32, n: u64) -> Uuid
+    requires { n < 2 ^ 48 }
+    ensures { result ≡ id_bytes kind session n }
+{
+    let s = session.to_be_bytes();
+    let k = number_of(kind).to_be_bytes();
+    let n = n.to_be_bytes();
+    Uuid::new_v8([
+        s[0], s[1], s[2], s[3], k[0], k[1], 0x80, 0, 0x80, 0, n[2], n[3], n[4], n[5], n[6], n[7],
+    ])
+}
+
+/// The number of a kind in its ids.
+fn number_of(kind: Kind) -> u16
+    ensures { result ≡ kind_number kind }
+{
+    match kind {
+        Kind::Session => 1,
+        Kind::Context => 2,
+        Kind::Realm => 3,
+        Kind::Navigation => 4,
+        Kind::Subscription => 5,
+        Kind::Handle => 6,
+        Kind::Window => 7,
+    }
+}

@@ -1,0 +1,131 @@
+-- How the table of open connections answers the questions about the past, and moves with it.
+use Rattle.std.proofs.Common.{◌≡◌, ◌∙◌, ℕ, Bool, true, false, not, List, [], ◌∷◌, ◌++◌, refl, sym, ap, arith}
+use Rattle.std.specs.Prelude.{◌==◌, filter, map, find, if◌then◌else◌, Option, Some, None}
+use Rattle.std.specs.List.{list_any}
+use Rattle.std.proofs.lemmas.Bool.Decides.{nat_tests}
+use Rattle.std.proofs.lemmas.List.{map-append}
+use Rattle.std.proofs.lemmas.List.Elements.{filter-append}
+use Rattle.bidi_remote.specs.declared.connections.Connection.{Connection}
+use Rattle.bidi_remote.specs.History.{Deed, Opened, Dropped, Began, Ended}
+use Rattle.bidi_remote.specs.Sessions.{next_session}
+use Rattle.bidi_remote.specs.Connections.{Standing, Shut, Alone, SpeaksFor, is_shut, is_for, opened_for, standing_of, openings, connections_of}
+use Rattle.bidi_remote.specs.ConnectionRows.{Row, row_of, rows, begun, closes}
+use Rattle.bidi_remote.specs.Sent.{Close}
+
+-- ---- rows
+
+-- the rows of these numbers, which stand so
+abbrev pub rows_by : (ℕ → Standing) → List ℕ → List Row
+rows_by f cs = map (λ c. (c, f c)) (filter (λ c. not (is_shut (f c))) cs)
+
+-- how the connection of a row stands; without a row it is shut
+abbrev pub standing_in : Option Row → Standing
+standing_in None = Shut
+standing_in (Some row) = row.1
+
+pub shut_by : (s : Standing) → is_shut s ≡ true → s ≡ Shut
+shut_by Shut e = refl
+shut_by Alone e = cc
+shut_by (SpeaksFor s) e = cc
+
+for_not_shut : (s : ℕ) (x : Standing) → is_for s x ≡ true → is_shut x ≡ false
+for_not_shut s Shut e = cc
+for_not_shut s Alone e = cc
+for_not_shut s (SpeaksFor t) e = refl
+
+opened_not_shut : (s : Option ℕ) → is_shut (opened_for s) ≡ false
+opened_not_shut None = refl
+opened_not_shut (Some s) = refl
+
+-- no row has the number of a connection that is shut
+find-shut : (f : ℕ → Standing) (c : ℕ) (cs : List ℕ) → is_shut (f c) ≡ true → find (λ row. row.0 == c) (rows_by f cs) ≡ None
+find-shut f c [] e = refl
+find-shut f c (x ∷ cs) e = let ih = find-shut f c cs e in grind (arith, nat_tests, ih)
+
+-- the row of one that is open and stands among the numbers
+find-open : (f : ℕ → Standing) (c : ℕ) (cs : List ℕ) → is_shut (f c) ≡ false → list_any (λ d. d == c) cs ≡ true → find (λ row. row.0 == c) (rows_by f cs) ≡ Some (c, f c)
+find-open f c [] e there = cc
+find-open f c (x ∷ cs) e there = let ih = find-open f c cs e in grind (arith, nat_tests, ih)
+
+-- ---- one deed more
+
+-- a connection that was shut stands nowhere among the open ones
+opened-apart : (f g : ℕ → Standing) (c : ℕ) (cs : List ℕ) → is_shut (f c) ≡ true → ((d : ℕ) → (d == c) ≡ false → g d ≡ f d)
+    → rows_by g (filter (λ d. not (c == d)) cs) ≡ rows_by f cs
+opened-apart f g c [] e same = refl
+opened-apart f g c (x ∷ cs) e same = let ih = opened-apart f g c cs e same in let at = same x in grind (arith, nat_tests, ih, at)
+
+-- an opening goes to the end
+pub rows-opened : (past : List Deed) (c : ℕ) (s : Option ℕ) → is_shut (standing_of past c) ≡ true → rows (Opened c s ∷ past) ≡ rows past ++ (c, opened_for s) ∷ []
+rows-opened past c s e =
+    let g = standing_of (Opened c s ∷ past) in
+    let cs = filter (λ d. not (c == d)) (openings past) in
+    let split = filter-append (λ d. not (is_shut (g d))) cs (c ∷ []) in
+    let parts = map-append {B = Row} (λ d. (d, g d)) (filter (λ d. not (is_shut (g d))) cs) (filter (λ d. not (is_shut (g d))) (c ∷ [])) in
+    let front = opened-apart (standing_of past) g c (openings past) e (λ d apart. rw apart refl) in
+    grind (arith, nat_tests, split, parts, front, opened_not_shut s)
+
+dropped-rows : (f g : ℕ → Standing) (c : ℕ) (cs : List ℕ) → ((d : ℕ) → g d ≡ (if d == c then Shut else f d))
+    → rows_by g cs ≡ filter (λ row. not (row.0 == c)) (rows_by f cs)
+dropped-rows f g c [] same = refl
+dropped-rows f g c (x ∷ cs) same = let ih = dropped-rows f g c cs same in let at = same x in grind (arith, nat_tests, ih, at)
+
+-- a drop takes the connection out
+pub rows-dropped : (past : List Deed) (c : ℕ) → rows (Dropped c ∷ past) ≡ filter (λ row. not (row.0 == c)) (rows past)
+rows-dropped past c = dropped-rows (standing_of past) (standing_of (Dropped c ∷ past)) c (openings past) (λ d. refl)
+
+begun-rows : (f g : ℕ → Standing) (c s : ℕ) (cs : List ℕ) → is_shut (f c) ≡ false → ((d : ℕ) → g d ≡ (if d == c then SpeaksFor s else f d))
+    → rows_by g cs ≡ map (begun c s) (rows_by f cs)
+begun-rows f g c s [] e same = refl
+begun-rows f g c s (x ∷ cs) e same = let ih = begun-rows f g c s cs e same in let at = same x in grind (arith, nat_tests, ih, at)
+
+-- a new session is that of the connection that asked for it
+pub rows-began : (past : List Deed) (c : ℕ) → is_shut (standing_of past c) ≡ false → rows (Began c ∷ past) ≡ map (begun c (next_session past)) (rows past)
+rows-began past c e = begun-rows (standing_of past) (standing_of (Began c ∷ past)) c (next_session past) (openings past) e (λ d. refl)
+
+ended-rows : (f g : ℕ → Standing) (s : ℕ) (cs : List ℕ) → ((d : ℕ) → g d ≡ (if is_for s (f d) then Shut else f d))
+    → rows_by g cs ≡ filter (λ row. not (is_for s row.1)) (rows_by f cs)
+ended-rows f g s [] same = refl
+ended-rows f g s (x ∷ cs) same = let ih = ended-rows f g s cs same in let at = same x in let open_for = for_not_shut s (f x) in grind (arith, nat_tests, ih, at, open_for)
+
+-- the end of a session takes its connections out
+pub rows-ended : (past : List Deed) (s : ℕ) → rows (Ended s ∷ past) ≡ filter (λ row. not (is_for s row.1)) (rows past)
+rows-ended past s = ended-rows (standing_of past) (standing_of (Ended s ∷ past)) s (openings past) (λ d. refl)
+
+closes-rows : (f : ℕ → Standing) (s : ℕ) (cs : List ℕ) → closes s (rows_by f cs) ≡ map Close (filter (λ c. is_for s (f c)) cs)
+closes-rows f s [] = refl
+closes-rows f s (x ∷ cs) = let ih = closes-rows f s cs in let open_for = for_not_shut s (f x) in grind (arith, nat_tests, ih, open_for)
+
+-- the connections of a session are closed
+pub closes-past : (past : List Deed) (s : ℕ) → closes s (rows past) ≡ map Close (connections_of past s)
+closes-past past s = closes-rows (standing_of past) s (openings past)
+
+-- ---- the table in hand
+
+-- an open connection was opened
+abbrev pub WasOpened : List Deed → ℕ → Type 0
+WasOpened past c = is_shut (standing_of past c) ≡ false → list_any (λ d. d == c) (openings past) ≡ true
+
+find-rows : (past : List Deed) (c : ℕ) (b : Bool) → b ≡ is_shut (standing_of past c) → WasOpened past c → standing_in (find (λ row. row.0 == c) (rows past)) ≡ standing_of past c
+find-rows past c true is opened = ap standing_in (find-shut (standing_of past) c (openings past) (sym is)) ∙ sym (shut_by (standing_of past c) (sym is))
+find-rows past c false is opened = ap standing_in (find-open (standing_of past) c (openings past) (sym is) (opened (sym is)))
+
+-- how a connection stands that was looked up; where none was found it is shut
+abbrev pub standing_found : Option Connection → Standing
+standing_found None = Shut
+standing_found (Some c) = opened_for c.session
+
+found-row : (c : ℕ) (items : List Connection) → standing_in (find (λ row. row.0 == c) (map row_of items)) ≡ standing_found (find (λ x. x.number.value == c) items)
+found-row c [] = refl
+found-row c (x ∷ items) = let ih = found-row c items in grind (arith, nat_tests, ih)
+
+-- the table says how a connection stands
+pub standing-found : (past : List Deed) (c : ℕ) (items : List Connection) → WasOpened past c → map row_of items ≡ rows past
+    → standing_found (find (λ x. x.number.value == c) items) ≡ standing_of past c
+standing-found past c items opened same =
+    sym (found-row c items) ∙ (ap (λ all. standing_in (find (λ row. row.0 == c) all)) same ∙ find-rows past c (is_shut (standing_of past c)) refl opened)
+
+-- a test of rows, over the table
+pub filter-rows : (p : Row → Bool) (items : List Connection) → map row_of (filter (λ c. p (row_of c)) items) ≡ filter p (map row_of items)
+filter-rows p [] = refl
+filter-rows p (x ∷ items) = let ih = filter-rows p items in grind (arith, nat_tests, ih)

@@ -1,0 +1,38 @@
+use Rattle.std.proofs.Common.{refl, sym, subst, ap, ◌∙◌, rules}
+use Rattle.bidi_remote.specs.declared.step.Step.{Step}
+use Rattle.bidi_remote.specs.Step.{Text}
+use Rattle.bidi_remote.specs.View.{step_of}
+use Rattle.bidi_remote.specs.History.{At, Open, Drop, NotText, IsHeardAs}
+use Rattle.bidi_remote.proofs.TakeLemmas.{step_heard, text_heard}
+use Rattle.bidi_remote.proofs.tables.Tables.take.Goals as goal
+
+pub returns-in-At-clause-ok : goal.returns-in-At-clause-ok
+returns-in-At-clause-ok c =
+    let i = At c.in-At.moment.value in (
+      i,
+      subst (λ (s : Step). IsHeardAs (step_of s) i) (sym c.in-At.is) refl,
+      λ h a. record {
+        sends = search rules;
+        agree = record { moment = refl; made = a.made; sessions = a.sessions; connections = a.connections };
+      },
+    )
+
+pub returns-in-Open-clause-ok : goal.returns-in-Open-clause-ok
+returns-in-Open-clause-ok c =
+    let i = Open c.in-Open.conn.value c.as_str.result.now in
+    step_heard c.open.result (step_of c.args.step) c.args.self.now c.open.new.self i (subst (λ (s : Step). IsHeardAs (step_of s) i) (sym c.in-Open.is) (ap (Open c.in-Open.conn.value) c.as_str.ensures.value)) c.open.ensures.ok
+
+pub returns-in-Drop-clause-ok : goal.returns-in-Drop-clause-ok
+returns-in-Drop-clause-ok c =
+    let i = Drop c.in-Drop.conn.value in
+    step_heard c.drop_connection.result (step_of c.args.step) c.args.self.now c.drop_connection.new.self i (subst (λ (s : Step). IsHeardAs (step_of s) i) (sym c.in-Drop.is) refl) c.drop_connection.ensures.ok
+
+pub returns-in-Text-clause-ok : goal.returns-in-Text-clause-ok
+returns-in-Text-clause-ok c =
+    text_heard c.hear.result (step_of c.args.step) c.in-Text.conn.value c.as_str-in-Text.result.now c.args.self.now c.hear.new.self
+    (ap step_of c.in-Text.is ∙ ap (Text c.in-Text.conn.value) (sym c.as_str-in-Text.ensures.value)) c.hear.ensures.ok
+
+pub returns-in-NotText-clause-ok : goal.returns-in-NotText-clause-ok
+returns-in-NotText-clause-ok c =
+    let i = NotText c.in-NotText.conn.value in
+    step_heard c.hear_no_text.result (step_of c.args.step) c.args.self.now c.args.self.now i (subst (λ (s : Step). IsHeardAs (step_of s) i) (sym c.in-NotText.is) refl) c.hear_no_text.ensures

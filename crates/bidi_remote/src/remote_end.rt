@@ -1,0 +1,96 @@
+//! The remote end.
+ghost use Rattle.std.specs.Prelude.{◌≡◌, ℕ, ◌<◌, ◌≤◌, ◌↔◌, List, [], ◌∷◌, map, IsTrue, IfOk, OnErr, IsOk, IsErrOf, length};
+ghost use Rattle.bidi_remote.specs.Step as steps;
+ghost use Rattle.bidi_remote.specs.View.{step_of, sent_of};
+ghost use Rattle.bidi_remote.specs.History.{Input, IsHeardAs};
+ghost use Rattle.bidi_remote.specs.Connections.{is_open};
+ghost use Rattle.bidi_remote.specs.Outcome.{deeds};
+ghost use Rattle.bidi_remote.specs.Sent.{out};
+ghost use Rattle.bidi_remote.specs.Built.{so_far};
+ghost use Rattle.bidi_remote.specs.declared.remote_end.RemoteFault.TheVariants.{NoMemory};
+
+use crate::step::{Sent, Step};
+use crate::tables::Tables;
+use std::alloc::{AllocError, Global};
+use thiserror::Error;
+
+/// How many steps a remote end accepts.
+const MOST_STEPS: u64 = 1_000_000_000;
+
+/// Why a step was refused.
+#[derive(Clone, Copy, Debug, PartialEq, Eq, Error)]
+pub enum RemoteFault {
+    /// A growth was refused.
+    #[error("out of memory")]
+    NoMemory,
+    /// The remote end has accepted 1,000,000,000 steps.
+    #[error("too many steps")]
+    WornOut,
+}
+
+impl From<AllocError> for RemoteFault {
+    ghost from_gives = { λ _ fault. fault ≡ NoMemory };
+
+    fn from(_error: AllocError) -> RemoteFault {
+        RemoteFault::NoMemory
+    }
+}
+
+/// The remote end of the protocol, which takes steps and answers each at once.
+#[derive(Drop)]
+pub struct RemoteEnd {
+    alloc: Global,
+    tables: Tables,
+    /// How many steps were accepted.
+    count: u64,
+    ghost few: { tables.made ≤ count },
+}
+
+impl RemoteEnd {
+    ghost use Rattle.bidi_remote.specs.Stands.{StandsFor};
+
+    /// A remote end that has taken no step.
+    ///
+    /// # Errors
+    /// No memory, where a growth was refused.
+    pub fn new(alloc: Global) -> Result<RemoteEnd, AllocError>
+        ensures { IfOk result (λ end. StandsFor end []) }
+    {
+        Ok(RemoteEnd {
+            alloc,
+            tables: Tables::new(alloc),
+            count: 0,
+        })
+    }
+
+    /// Takes one step, and returns what is sent, in order.
+    ///
+    /// `At`, and `Drop` of an open connection, take no memory. A step looks through at most 64 connections and
+    /// 8 sessions; a text costs what its reading costs.
+    ///
+    /// # Errors
+    /// After either the remote end is as it was.
+    /// 1. `NoMemory`, where a growth was refused.
+    /// 2. `WornOut`, after 1,000,000,000 steps.
+    ///
+    /// After WebDriver BiDi, "Transport".
+    pub fn step(&mut self, step: Step) -> Result<Vec<Sent>, RemoteFault>
+        // The step is heard as one input, and whatever history the end stands for, it answers as the machine does.
+        ensures ok { IfOk result (λ sent. (i : Input) × IsHeardAs (step_of step) i
+            × ((h : List Input) → StandsFor self.old h
+            → (map sent_of sent.items ≡ out h (so_far (deeds h) i)) × StandsFor self.new (so_far (deeds h) i ∷ h))) }
+        ensures err { OnErr result ((h : List Input) → StandsFor self.old h → StandsFor self.new h) }
+        ensures worn_out { (h : List Input) → StandsFor self.old h → IsErrOf result RemoteFault.WornOut ↔ (1000000000 ≤ length h) }
+        ensures at { (h : List Input) (n : ℕ) → StandsFor self.old h → length h < 1000000000
+            → step_of step ≡ steps.At n → IsOk result }
+        ensures drop { (h : List Input) (c : ℕ) → StandsFor self.old h → length h < 1000000000
+            → step_of step ≡ steps.Drop c → IsTrue (is_open (deeds h) c) → IsOk result }
+    {
+        if self.count >= MOST_STEPS {
+            return Err(RemoteFault::WornOut);
+        }
+        let sent = self.tables.take(self.alloc, step)?;
+        self.count += 1;
+        Ok(sent)
+    }
+}
