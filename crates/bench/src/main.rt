@@ -1,10 +1,11 @@
 //! Times of the project's crates, beside those of what they stand on.
 //!
-//! `bench tree [ROUNDS]` reads and writes trees, `bench shape` maps of ten members, `bench values` remote values, `bench messages` commands and an event. `bench events N` writes N lines of an event, to be checked. Counts go to standard output, times to standard error.
+//! `bench tree [ROUNDS]` reads and writes trees, `bench shape` maps of ten members, `bench values` remote values, `bench messages` commands and an event. `bench events N` writes N lines of an event, to be checked, and `bench turns N` a play with N moments and N commands by turns. Counts go to standard output, times to standard error.
 #![tactic(auto)]
 
 mod measure;
 mod messages;
+mod plays;
 mod shape;
 mod texts;
 mod tree;
@@ -19,7 +20,7 @@ fn main(rt: HostRuntime) -> Result<()> {
     let mut words = env::args(&rt)?;
     let _program = words.next();
     let Some(name) = words.next() else {
-        bail!("usage: bench tree|shape|values|messages|events [ROUNDS]");
+        bail!("usage: bench tree|shape|values|messages|events|turns [ROUNDS]");
     };
     let rounds = match words.next() {
         Some(text) => text.parse::<u32>().context("ROUNDS is a number")?,
@@ -31,6 +32,7 @@ fn main(rt: HostRuntime) -> Result<()> {
         "values" => shape::run_values(&rt, rounds),
         "messages" => messages::run(&rt, rounds),
         "events" => messages::lines(&rt, rounds),
+        "turns" => plays::turns(&rt, rounds),
         _ => bail!("no benchmark has that name"),
     }
 }

@@ -1,6 +1,4 @@
 pub mod ResultLemmas
-pub mod ConnectionLemmas
-pub mod TurnLemmas
 pub mod DigitLemmas
 pub mod WordLemmas
 pub mod FeedLemmas
@@ -14,5 +12,4 @@ pub mod OneTextLemmas
 mod CommandLineFacts
 mod CommandLineLemmas
 mod PlayLines
-pub mod ReplyLemmas
 pub mod MessageLineLemmas

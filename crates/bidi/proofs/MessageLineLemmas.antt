@@ -1,6 +1,5 @@
 -- The line of a message is that of its tree.
-use Rattle.std.proofs.Common.{◌≡◌, ◌∙◌, ℕ, List, ◌∷◌, ◌++◌, codes, decimal, String, Global, string_bytes, Result, Ok, Err, IfOk, Option, Some, None, option_map, unwrap_or, sym, ap, ap₂, subst}
-use Rattle.bidi_tree.specs.Node.{Node}
+use Rattle.std.proofs.Common.{◌≡◌, ◌∙◌, ℕ, List, ◌∷◌, ◌++◌, codes, decimal, String, Global, string_bytes, Result, Ok, Err, IfOk, option_map, unwrap_or, sym, ap, ap₂, subst}
 use Rattle.bidi_tree.specs.Text.{compact_text}
 use Rattle.bidi_messages.specs.Method.{method_text}
 use Rattle.bidi_messages.specs.CommandData.{method_of}

@@ -1,21 +1,39 @@
 -- The play of some bytes writes one text, since a text has one verdict.
-use Rattle.std.proofs.Common.{◌≡◌, ℕ, List, [], ◌∷◌, ◌++◌, reverse, append_assoc, refl, sym, ◌∙◌, ap, subst}
+use Rattle.std.proofs.Common.{◌≡◌, ℕ, Option, List, [], ◌∷◌, ◌++◌, reverse, append_assoc, refl, sym, ◌∙◌, ap, subst}
 use Rattle.std.proofs.lemmas.Grind.{flat_map-append}
+use Rattle.bidi_tree.specs.Node.{Node}
+use Rattle.bidi_shape.specs.Name.{table_row}
+use Rattle.bidi_shape.specs.Term.{rule}
+use Rattle.bidi_shape.specs.Fits.{Fits}
+use Rattle.bidi_shape.specs.Table.{same_some}
+use Rattle.bidi_browser.specs.Actions.{TableRow}
 use Rattle.bidi_messages.specs.Verdict.{Verdict, IsVerdict}
 use Rattle.bidi_messages.proofs.VerdictLemmas.{one_verdict}
-use Rattle.bidi.specs.Step as step
-use Rattle.bidi.specs.Step.{Step}
-use Rattle.bidi.specs.Sent.{Sent}
-use Rattle.bidi.specs.History.{Input, Heard, IsHeardAs}
-use Rattle.bidi.specs.Machine.{answers, answers_after}
+use Rattle.bidi_remote.specs.Step as step
+use Rattle.bidi_remote.specs.Step.{Step}
+use Rattle.bidi_remote.specs.History.{Input, Heard, InPage, IsRow, is_row, is_not_json, is_no_row, IsHeardAs, AreHeardAs}
+use Rattle.bidi_remote.specs.Built.{all_so_far, all_so_far_after}
+use Rattle.bidi_remote.specs.Sent.{Sent, answers, answers_after}
 use Rattle.bidi.specs.Lines.{ended, sent_line, written}
-use Rattle.bidi.specs.Plays.{AreHeardAs, Plays, PlaysPart}
-use Rattle.bidi.proofs.AnswerLemmas.{answers_append}
+use Rattle.bidi.specs.Plays.{Plays, PlaysPart}
+use Rattle.bidi.proofs.AnswerLemmas.{answers_so_far}
 use Rattle.bidi.proofs.ReadingLemmas.{front_steps, all_steps}
 
 -- a text has one verdict
 abbrev pub OneVerdict : Type 0
 OneVerdict = (text : List ℕ) (v w : Verdict) → IsVerdict text v → IsVerdict text w → v ≡ w
+
+-- and is one row of the table, or none
+one_row : {s : List ℕ} {r q : Option Node} → IsRow s r → IsRow s q → r ≡ q
+one_row (is_row t e f) (is_row u h g) = sym e ∙ h
+one_row (is_row t e f) (is_not_json h) = sym e ∙ h
+one_row (is_row t e f) (is_no_row u h misfit) = absurd (misfit (subst (λ x. Fits x (rule table_row)) (same_some (sym e ∙ h)) f))
+one_row (is_not_json h) (is_row t e f) = sym h ∙ e
+one_row (is_not_json h) (is_not_json e) = refl
+one_row (is_not_json h) (is_no_row t e misfit) = refl
+one_row (is_no_row t h misfit) (is_row u e f) = absurd (misfit (subst (λ x. Fits x (rule table_row)) (same_some (sym e ∙ h)) f))
+one_row (is_no_row t h misfit) (is_not_json e) = refl
+one_row (is_no_row t h misfit) (is_no_row u e also) = refl
 
 -- so a step is heard as one input
 pub one_input : OneVerdict → (s : Step) (i j : Input) → IsHeardAs s i → IsHeardAs s j → i ≡ j
@@ -24,6 +42,10 @@ one_input one (step.Open c resource) i j a b = a ∙ sym b
 one_input one (step.Drop c) i j a b = a ∙ sym b
 one_input one (step.Text c text) i j a b = a.2 ∙ (ap (λ v. Heard c v) (one text a.0 b.0 a.1 b.1) ∙ sym b.2)
 one_input one (step.NotText c) i j a b = a ∙ sym b
+one_input one (step.Frame context url) i j a b = a ∙ sym b
+one_input one (step.Unframe context) i j a b = a ∙ sym b
+one_input one (step.Log context level text) i j a b = a ∙ sym b
+one_input one (step.TableRow text) i j a b = a.2 ∙ (ap (λ r. InPage (TableRow r)) (one_row a.1 b.1) ∙ sym b.2)
 
 -- and some steps as one list of inputs
 one_inputs : OneVerdict → (steps : List Step) (inputs others : List Input) → AreHeardAs steps inputs → AreHeardAs steps others → inputs ≡ others
@@ -51,7 +73,7 @@ pub one_text : OneVerdict → (bytes text other : List ℕ) → Plays bytes text
 one_text one bytes text other (steps, rest, p, none) (others, end, q, end_none) =
     let same = all_steps steps others rest end p.each q.each (sym p.lines ∙ q.lines) none end_none in
     let heard = subst (λ (ss : List Step). AreHeardAs ss q.inputs) (sym same) q.heard in
-    p.answer ∙ (ap (λ (is : List Input). written (answers is)) (one_inputs one steps p.inputs q.inputs p.heard heard) ∙ sym q.answer)
+    p.answer ∙ (ap (λ (is : List Input). written (answers (all_so_far is))) (one_inputs one steps p.inputs q.inputs p.heard heard) ∙ sym q.answer)
 
 -- what was written for some of its lines is a beginning of it
 pub begins_text : OneVerdict → (bytes wrote text : List ℕ) → PlaysPart bytes wrote → Plays bytes text → (more : List ℕ) × (text ≡ wrote ++ more)
@@ -59,10 +81,12 @@ begins_text one bytes wrote text (steps, rest, whole, more, p, e) (all, end, q, 
     let front = front_steps steps all rest end p.each q.each (sym p.lines ∙ q.lines) none in
     let heard = subst (λ (ss : List Step). AreHeardAs ss q.inputs) front.1 q.heard in
     let later = front_inputs one steps front.0 p.inputs q.inputs p.heard heard in
-    let behind = written (answers_after (reverse p.inputs) later.0) in (
+    let built = all_so_far p.inputs in
+    let next = answers_after (reverse built) (all_so_far_after (reverse built) later.0) in
+    let behind = written next in (
       more ++ behind,
-      q.answer ∙ (ap (λ (is : List Input). written (answers is)) later.1
-          ∙ (ap written (answers_append p.inputs later.0) ∙ (flat_map-append (λ (z : Sent). ended (sent_line z)) (answers p.inputs) (answers_after (reverse p.inputs) later.0)
+      q.answer ∙ (ap (λ (is : List Input). written (answers (all_so_far is))) later.1
+          ∙ (ap written (answers_so_far p.inputs later.0) ∙ (flat_map-append (λ (z : Sent). ended (sent_line z)) (answers built) next
           ∙ (ap (λ (t : List ℕ). t ++ behind) (sym p.answer ∙ e) ∙ append_assoc wrote more behind)))),
     )
 

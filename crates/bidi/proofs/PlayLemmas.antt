@@ -3,16 +3,16 @@ use Rattle.std.proofs.Common.{◌≡◌, ℕ, ◌≤◌, Bool, false, List, [], 
 use Rattle.std.specs.Prelude.{Result, IsErr, IsErrAnd, IfErr}
 use Rattle.std.specs.List.{AllByRecursion}
 use Rattle.std.proofs.lemmas.Grind.{flat_map-append}
-use Rattle.bidi.specs.Step.{Step}
-use Rattle.bidi.specs.Sent.{Sent}
-use Rattle.bidi.specs.History.{Input, IsHeardAs}
-use Rattle.bidi.specs.Machine.{answers, out}
+use Rattle.bidi_remote.specs.Step.{Step}
+use Rattle.bidi_remote.specs.History.{Input, IsHeardAs, AreHeardAs}
+use Rattle.bidi_remote.specs.Built.{all_so_far}
+use Rattle.bidi_remote.specs.Sent.{Sent, answers, out}
 use Rattle.bidi.specs.Lines.{line_of, ended, said, CanBeSaid, has_feed, written, sent_line}
-use Rattle.bidi.specs.Plays.{AreHeardAs, Play, PlaysPart, HasNoPlayLine, StopsAt}
+use Rattle.bidi.specs.Plays.{Play, PlaysPart, HasNoPlayLine, StopsAt}
 use Rattle.bidi.specs.Faults.{play_fault_of}
-use Rattle.bidi.specs.declared.remote_end.RemoteFault.{RemoteFault}
-use Rattle.bidi.specs.declared.remote_end.RemoteFault.TheVariants as remote
-use Rattle.bidi.proofs.AnswerLemmas.{answers_more}
+use Rattle.bidi_remote.specs.declared.remote_end.RemoteFault.{RemoteFault}
+use Rattle.bidi_remote.specs.declared.remote_end.RemoteFault.TheVariants as remote
+use Rattle.bidi.proofs.AnswerLemmas.{last_so_far, answers_more}
 use Rattle.bidi.proofs.FeedLemmas.{one_front}
 
 pub all_more : (steps : List Step) (s : Step) → AllByRecursion CanBeSaid steps → CanBeSaid s → AllByRecursion CanBeSaid (steps ++ s ∷ [])
@@ -32,8 +32,10 @@ regroup front line more =
 
 -- a play that goes on by one line
 unfoldable pub play_more : (bytes rest line more : List ℕ) (steps : List Step) (text : List ℕ) (s : Step) (i : Input) (p : Play bytes steps rest text)
-    → rest ≡ line ++ 10 ∷ more → line ≡ line_of s → CanBeSaid s → IsHeardAs s i → Play bytes (steps ++ s ∷ []) more (text ++ written (out (reverse p.inputs) i))
+    → rest ≡ line ++ 10 ∷ more → line ≡ line_of s → CanBeSaid s → IsHeardAs s i
+    → Play bytes (steps ++ s ∷ []) more (text ++ written (out (reverse (all_so_far p.inputs)) (last_so_far p.inputs i)))
 play_more bytes rest line more steps text s i p r l c h =
+    let next = out (reverse (all_so_far p.inputs)) (last_so_far p.inputs i) in
     let say : Step → List ℕ = λ z. ended (line_of z) in
     record {
       lines = p.lines ∙ (ap (λ (z : List ℕ). said steps ++ z) (r ∙ ap (λ (z : List ℕ). z ++ 10 ∷ more) l)
@@ -41,8 +43,8 @@ play_more bytes rest line more steps text s i p r l c h =
       each = all_more steps s p.each c;
       inputs = p.inputs ++ i ∷ [];
       heard = heard_more steps p.inputs s i p.heard h;
-      answer = ap (λ (z : List ℕ). z ++ written (out (reverse p.inputs) i)) p.answer
-          ∙ sym (ap written (answers_more p.inputs i) ∙ flat_map-append (λ (z : Sent). ended (sent_line z)) (answers p.inputs) (out (reverse p.inputs) i));
+      answer = ap (λ (z : List ℕ). z ++ written next) p.answer
+          ∙ sym (ap written (answers_more p.inputs i) ∙ flat_map-append (λ (z : Sent). ended (sent_line z)) (answers (all_so_far p.inputs)) next);
     }
 
 -- as many steps as inputs

@@ -1,10 +1,11 @@
 -- Bytes say one list of steps.
-use Rattle.std.proofs.Common.{◌≡◌, ℕ, ◌<◌, ◌^◌, false, List, [], ◌∷◌, ◌++◌, drop, append_assoc, refl, sym, ◌∙◌, ap, arith}
+use Rattle.std.proofs.Common.{◌≡◌, ℕ, ◌<◌, ◌^◌, true, false, List, [], ◌∷◌, ◌++◌, drop, append_assoc, refl, sym, ◌∙◌, ap, arith}
 use Rattle.std.specs.Prelude.{◌==◌, decimal}
 use Rattle.std.proofs.lemmas.Bool.Decides.{nat_tests}
 use Rattle.std.specs.List.{AllByRecursion}
 use Rattle.std.proofs.lemmas.Fmt.{decimal_injective}
-use Rattle.bidi.specs.Step.{Step, At, Open, Drop, Text, NotText}
+use Rattle.bidi_remote.specs.Step.{Step, At, Open, Drop, Text, NotText, Frame, Unframe, Log, TableRow}
+use Rattle.bidi_remote.specs.Built.{is_built_step}
 use Rattle.bidi.specs.Lines.{line_of, number_of, ended, said, CanBeSaid}
 use Rattle.bidi.specs.Plays.{HasNoPlayLine}
 use Rattle.bidi.proofs.ResultLemmas.{no_truth}
@@ -25,20 +26,24 @@ numbered c d text other a b e =
     (decimal_injective c d (omega arith) (omega arith) h.0, h.1)
 
 -- a line says one step
-pub one_step : (s t : Step) → number_of s < 2 ^ 53 → number_of t < 2 ^ 53 → line_of s ≡ line_of t → s ≡ t
-one_step (At n) (At m) a b e = ap At (decimal_injective n m (omega arith) (omega arith) (ap (drop 3) e))
-one_step (Drop c) (Drop d) a b e = ap Drop (decimal_injective c d (omega arith) (omega arith) (ap (drop 5) e))
-one_step (NotText c) (NotText d) a b e = ap NotText (decimal_injective c d (omega arith) (omega arith) (ap (drop 7) e))
-one_step (Open c resource) (Open d other) a b e = let h = numbered c d resource other a b (ap (drop 5) e) in let i = h.0 in let j = h.1 in cc
-one_step (Text c text) (Text d other) a b e = let h = numbered c d text other a b (ap (drop 2) e) in let i = h.0 in let j = h.1 in cc
-one_step s t a b e = absurd (apart (first (line_of s)) (first (line_of t)) (ap first e) refl)
+pub one_step : (s t : Step) → is_built_step s ≡ true → number_of s < 2 ^ 53 → number_of t < 2 ^ 53 → line_of s ≡ line_of t → s ≡ t
+one_step (At n) (At m) built a b e = ap At (decimal_injective n m (omega arith) (omega arith) (ap (drop 3) e))
+one_step (Drop c) (Drop d) built a b e = ap Drop (decimal_injective c d (omega arith) (omega arith) (ap (drop 5) e))
+one_step (NotText c) (NotText d) built a b e = ap NotText (decimal_injective c d (omega arith) (omega arith) (ap (drop 7) e))
+one_step (Open c resource) (Open d other) built a b e = let h = numbered c d resource other a b (ap (drop 5) e) in let i = h.0 in let j = h.1 in cc
+one_step (Text c text) (Text d other) built a b e = let h = numbered c d text other a b (ap (drop 2) e) in let i = h.0 in let j = h.1 in cc
+one_step (Frame context url) t built a b e = cc
+one_step (Unframe context) t built a b e = cc
+one_step (Log context level text) t built a b e = cc
+one_step (TableRow text) t built a b e = cc
+one_step s t built a b e = absurd (apart (first (line_of s)) (first (line_of t)) (ap first e) refl)
 
 -- the first line, and what is behind it
 first_line : (s t : Step) (more other : List ℕ) → CanBeSaid s → CanBeSaid t → ended (line_of s) ++ more ≡ ended (line_of t) ++ other → (s ≡ t) × (more ≡ other)
 first_line s t more other a b e =
     let h = one_front 10 (line_of s) more (line_of t) other a.one_line b.one_line
     (sym (append_assoc (line_of s) (10 ∷ []) more) ∙ (e ∙ append_assoc (line_of t) (10 ∷ []) other)) in
-    (one_step s t a.number b.number h.0, h.1)
+    (one_step s t a.built a.number b.number h.0, h.1)
 
 -- some lines at the front of the bytes say the first of the steps that all lines at their front say
 pub front_steps : (steps all : List Step) (rest end : List ℕ) → AllByRecursion CanBeSaid steps → AllByRecursion CanBeSaid all

@@ -1,9 +1,10 @@
 -- The first word of a step's line.
-use Rattle.std.proofs.Common.{◌≡◌, ℕ, false, List, ◌∷◌, ◌++◌, refl}
+use Rattle.std.proofs.Common.{◌≡◌, ℕ, true, false, List, ◌∷◌, ◌++◌, refl}
 use Rattle.std.specs.Prelude.{◌==◌, decimal, codes}
 use Rattle.std.specs.List.{list_any}
-use Rattle.bidi.specs.Step.{Step}
-use Rattle.bidi.specs.Step as step
+use Rattle.bidi_remote.specs.Step.{Step}
+use Rattle.bidi_remote.specs.Step as step
+use Rattle.bidi_remote.specs.Built.{is_built_step}
 use Rattle.bidi.specs.Lines.{line_of}
 
 -- what a search for the first space answers
@@ -17,13 +18,18 @@ has_space line h (step.Open c r) e = h (codes "open") (decimal c ++ 32 ∷ r) e 
 has_space line h (step.Drop c) e = h (codes "drop") (decimal c) e refl
 has_space line h (step.Text c t) e = h (codes ">") (decimal c ++ 32 ∷ t) e refl
 has_space line h (step.NotText c) e = h (codes "binary") (decimal c) e refl
+has_space line h (step.Frame context url) e = h (codes "frame") (context ++ 32 ∷ url) e refl
+has_space line h (step.Unframe context) e = h (codes "unframe") context e refl
+has_space line h (step.Log context level text) e = h (codes "log") (context ++ 32 ∷ level ++ 32 ∷ text) e refl
+has_space line h (step.TableRow text) e = h (codes "value") text e refl
 
--- and begins with one of five words
+-- and that of a step that is built begins with one of five words
 pub known_word : (line word rest : List ℕ) → Splits line (λ xs ys. (word ≡ xs) × (rest ≡ ys))
     → (word ≡ codes "at" → ⊥) → (word ≡ codes "drop" → ⊥) → (word ≡ codes "binary" → ⊥) → (word ≡ codes "open" → ⊥) → (word ≡ codes ">" → ⊥)
-    → (s : Step) → line ≡ line_of s → ⊥
-known_word line word rest h a d b o t (step.At n) e = a (h (codes "at") (decimal n) e refl).0
-known_word line word rest h a d b o t (step.Open c r) e = o (h (codes "open") (decimal c ++ 32 ∷ r) e refl).0
-known_word line word rest h a d b o t (step.Drop c) e = d (h (codes "drop") (decimal c) e refl).0
-known_word line word rest h a d b o t (step.Text c x) e = t (h (codes ">") (decimal c ++ 32 ∷ x) e refl).0
-known_word line word rest h a d b o t (step.NotText c) e = b (h (codes "binary") (decimal c) e refl).0
+    → (s : Step) → is_built_step s ≡ true → line ≡ line_of s → ⊥
+known_word line word rest h a d b o t (step.At n) built e = a (h (codes "at") (decimal n) e refl).0
+known_word line word rest h a d b o t (step.Open c r) built e = o (h (codes "open") (decimal c ++ 32 ∷ r) e refl).0
+known_word line word rest h a d b o t (step.Drop c) built e = d (h (codes "drop") (decimal c) e refl).0
+known_word line word rest h a d b o t (step.Text c x) built e = t (h (codes ">") (decimal c ++ 32 ∷ x) e refl).0
+known_word line word rest h a d b o t (step.NotText c) built e = b (h (codes "binary") (decimal c) e refl).0
+known_word line word rest h a d b o t s built e = cc

@@ -1,6 +1,6 @@
 -- The fault of a play that a fault of the remote end becomes.
-use Rattle.bidi.specs.declared.remote_end.RemoteFault.{RemoteFault}
-use Rattle.bidi.specs.declared.remote_end.RemoteFault.TheVariants as remote
+use Rattle.bidi_remote.specs.declared.remote_end.RemoteFault.{RemoteFault}
+use Rattle.bidi_remote.specs.declared.remote_end.RemoteFault.TheVariants as remote
 use Rattle.bidi.specs.declared.playing.PlayFault.{PlayFault}
 use Rattle.bidi.specs.declared.playing.PlayFault.TheVariants.{NoMemory, WornOut}
 

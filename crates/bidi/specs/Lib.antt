@@ -1,8 +1,3 @@
-pub mod Step
-pub mod Sent
-pub mod History
-pub mod Machine
-pub mod Stands
 pub mod Lines
 pub mod Devices
 pub mod Plays

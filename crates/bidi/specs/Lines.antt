@@ -1,32 +1,43 @@
 -- The lines of a play, which say its steps, and the lines that are written. Their forms are this project's own.
-use Rattle.std.specs.Prelude.{◌≡◌, ℕ, ◌<◌, ◌≤◌, ◌^◌, ◌==◌, List, [], ◌∷◌, ◌++◌, length, codes, decimal, IsUtf8, Bool, false}
+use Rattle.std.specs.Prelude.{◌≡◌, ℕ, ◌<◌, ◌≤◌, ◌^◌, ◌==◌, List, [], ◌∷◌, ◌++◌, length, codes, decimal, IsUtf8, Bool, true, false}
 use Rattle.std.specs.List.{flat_map, list_any}
-use Rattle.bidi.specs.Step.{Step, At, Open, Drop, Text, NotText}
-use Rattle.bidi.specs.Sent as sent
-use Rattle.bidi.specs.Sent.{Sent}
+use Rattle.bidi_remote.specs.Step.{Step, At, Open, Drop, Text, NotText, Frame, Unframe, Log, TableRow}
+use Rattle.bidi_remote.specs.Sent as sent
+use Rattle.bidi_remote.specs.Sent.{Sent}
+use Rattle.bidi_remote.specs.Built.{is_built_step}
 
--- the one line of a step, without its line feed: a word, a number, and a text to the end of the line, each parted by one space
+-- The one line of a step, without its line feed: a word and the fields of the step, each parted by one space; the last is the rest of the line.
 abbrev pub line_of : Step → List ℕ
 line_of (At n) = codes "at " ++ decimal n
 line_of (Open c resource) = codes "open " ++ decimal c ++ 32 ∷ resource
 line_of (Drop c) = codes "drop " ++ decimal c
 line_of (Text c text) = codes "> " ++ decimal c ++ 32 ∷ text
 line_of (NotText c) = codes "binary " ++ decimal c
+line_of (Frame context url) = codes "frame " ++ context ++ 32 ∷ url
+line_of (Unframe context) = codes "unframe " ++ context
+line_of (Log context level text) = codes "log " ++ context ++ 32 ∷ level ++ 32 ∷ text
+line_of (TableRow text) = codes "value " ++ text
 
--- the number in it
+-- the number in it, or 0
 abbrev pub number_of : Step → ℕ
 number_of (At n) = n
 number_of (Open c resource) = c
 number_of (Drop c) = c
 number_of (Text c text) = c
 number_of (NotText c) = c
+number_of (Frame context url) = 0
+number_of (Unframe context) = 0
+number_of (Log context level text) = 0
+number_of (TableRow text) = 0
 
 -- a line feed stands in the bytes
 abbrev pub has_feed : List ℕ → Bool
 has_feed bytes = list_any (λ b. b == 10) bytes
 
--- a step that a play can say: its number is a js-uint, and its line is one line of UTF-8 with at most 2,097,152 bytes
+-- A step that a play can say: its number is a js-uint, and its line is one line of UTF-8 with at most 2,097,152 bytes.
+-- It is one that is built: the lines of a page are no play lines yet.
 pub record CanBeSaid (s : Step) : Type 0 where
+  pub built : is_built_step s ≡ true
   pub number : number_of s < 2 ^ 53
   pub utf8 : IsUtf8 (line_of s)
   pub one_line : has_feed (line_of s) ≡ false
@@ -43,9 +54,11 @@ said steps = flat_map (λ s. ended (line_of s)) steps
 -- the line that tells what is sent, without its line feed
 abbrev pub sent_line : Sent → List ℕ
 sent_line (sent.Text c text) = codes "< " ++ decimal c ++ 32 ∷ text
+sent_line (sent.Close c) = codes "close " ++ decimal c
 sent_line (sent.Opened c) = codes "opened " ++ decimal c
 sent_line (sent.Denied c) = codes "denied " ++ decimal c
 sent_line (sent.Lost c) = codes "lost " ++ decimal c
+sent_line sent.NoEffect = codes "no effect"
 
 -- the lines of all that is sent
 abbrev pub written : List Sent → List ℕ

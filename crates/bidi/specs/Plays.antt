@@ -1,28 +1,22 @@
 -- What `play` writes for the bytes that it reads, and why it may stop before their end.
-use Rattle.std.specs.Prelude.{◌≡◌, ◌≢◌, ℕ, ◌+◌, ◌<◌, ◌≤◌, ◌⊎◌, Bool, true, false, List, [], ◌∷◌, ◌++◌, length, Option, ⊤}
+use Rattle.std.specs.Prelude.{◌≡◌, ◌≢◌, ℕ, ◌+◌, ◌<◌, ◌≤◌, ◌⊎◌, Bool, true, false, List, [], ◌++◌, length, Option}
 use Rattle.std.specs.List.{AllByRecursion}
 use Rattle.std.specs.Io.KnownBytes.{Appends, Consumes}
 use Rattle.bidi.specs.declared.playing.PlayFault.{PlayFault}
 use Rattle.bidi.specs.declared.playing.PlayFault.TheVariants.{Read, Write, BadLine, NoMemory, WornOut}
-use Rattle.bidi.specs.Step.{Step}
-use Rattle.bidi.specs.History.{Input, IsHeardAs}
-use Rattle.bidi.specs.Machine.{answers}
+use Rattle.bidi_remote.specs.Step.{Step}
+use Rattle.bidi_remote.specs.History.{Input, AreHeardAs}
+use Rattle.bidi_remote.specs.Built.{all_so_far}
+use Rattle.bidi_remote.specs.Sent.{answers}
 use Rattle.bidi.specs.Lines.{line_of, CanBeSaid, has_feed, ended, said, written}
 
--- each step is heard as the input at its place
-abbrev pub AreHeardAs : List Step → List Input → Type 0
-AreHeardAs [] [] = ⊤
-AreHeardAs [] (i ∷ inputs) = ⊥
-AreHeardAs (s ∷ steps) [] = ⊥
-AreHeardAs (s ∷ steps) (i ∷ inputs) = IsHeardAs s i × AreHeardAs steps inputs
-
--- The bytes begin with the lines of these steps, with this rest behind them, and the text is the lines of what the machine answers to the steps.
+-- The bytes begin with the lines of these steps, with this rest behind them, and the text is the lines of what the machine answers to the steps, as far as it is built.
 pub record Play (bytes : List ℕ) (steps : List Step) (rest : List ℕ) (text : List ℕ) : Type 0 where
   pub lines : bytes ≡ said steps ++ rest
   pub each : AllByRecursion CanBeSaid steps
   pub inputs : List Input
   pub heard : AreHeardAs steps inputs
-  pub answer : text ≡ written (answers inputs)
+  pub answer : text ≡ written (answers (all_so_far inputs))
 
 -- no play line stands at the front of the bytes
 abbrev pub HasNoPlayLine : List ℕ → Type 0

@@ -1,12 +1,12 @@
 //! Lines: the step that one says, and those of what is sent.
-ghost use Rattle.std.specs.Prelude.{◌≡◌, ℕ, ◌<◌, ◌≤◌, ◌^◌, ◌==◌, ◌↔◌, List, [], ◌∷◌, ◌++◌, false, map, length, decimal, string_bytes, IsTrue, IfOk, IfSome, IfNone, IsSomeAnd, position};
+ghost use Rattle.std.specs.Prelude.{◌≡◌, ℕ, ◌<◌, ◌≤◌, ◌^◌, ◌==◌, ◌↔◌, List, [], ◌∷◌, ◌++◌, true, false, map, length, decimal, string_bytes, IsTrue, IfOk, IfSome, IfNone, IsSomeAnd, position};
 ghost use Rattle.std.specs.List.{list_any};
-ghost use Rattle.bidi.specs.Step as play;
-ghost use Rattle.bidi.specs.Step.{step_of};
-ghost use Rattle.bidi.specs.Sent.{sent_of};
+ghost use Rattle.bidi_remote.specs.Step as play;
+ghost use Rattle.bidi_remote.specs.View.{step_of, sent_of};
+ghost use Rattle.bidi_remote.specs.Built.{is_built_step};
 ghost use Rattle.bidi.specs.Lines.{line_of, number_of, has_feed, CanBeSaid, ended, sent_line, written};
 
-use super::step::{Sent, Step};
+use bidi_remote::{Sent, Step};
 use bidi_tree::JsUint;
 use std::alloc::{AllocError, Global};
 
@@ -49,8 +49,8 @@ pub fn read_step(alloc: Global, line: &[u8]) -> Result<Option<Step>, AllocError>
 
 // The step whose words stand in a line.
 fn read_words(alloc: Global, line: &str) -> Result<Option<Step>, AllocError>
-    ensures some { IfOk result (λ found. IfSome found (λ step. (number_of (step_of step) < 2 ^ 53) × (line.now ≡ line_of (step_of step)))) }
-    ensures none { IfOk result (λ found. IfNone found ((s : play.Step) → number_of s < 2 ^ 53 → line.now ≡ line_of s → ⊥)) }
+    ensures some { IfOk result (λ found. IfSome found (λ step. (is_built_step (step_of step) ≡ true) × (number_of (step_of step) < 2 ^ 53) × (line.now ≡ line_of (step_of step)))) }
+    ensures none { IfOk result (λ found. IfNone found ((s : play.Step) → is_built_step s ≡ true → number_of s < 2 ^ 53 → line.now ≡ line_of s → ⊥)) }
 {
     let Some((word, rest)) = parts(line) else {
         return Ok(None);
@@ -152,6 +152,7 @@ fn line_of_sent(alloc: Global, sent: Sent) -> Result<String, AllocError>
 {
     match sent {
         Sent::Text(conn, text) => text_line(alloc, conn.value, text.as_str()),
+        Sent::Close(conn) => format!(in alloc; "close {}\n", conn.value),
         Sent::Opened(conn) => format!(in alloc; "opened {}\n", conn.value),
         Sent::Denied(conn) => format!(in alloc; "denied {}\n", conn.value),
         Sent::Lost(conn) => format!(in alloc; "lost {}\n", conn.value),

@@ -10,10 +10,8 @@ mod line_reader;
 mod lines;
 mod message_lines;
 mod playing;
-mod remote_end;
 mod running;
 mod showing;
-mod step;
 mod tally;
 #[cfg(test)]
 mod tests;

@@ -1,7 +1,7 @@
 //! Plays: lines of steps in, lines of what is sent out.
 ghost use Rattle.std.specs.Prelude.{◌≡◌, ℕ, ◌+◌, ◌≤◌, Bool, false, List, ◌∷◌, length, map, IfOk, IfErr, OnOk, IsErrOf, IsTrue, MatchResult};
 ghost use Rattle.std.specs.Io.KnownBytes.{Appends, IsAtEnd};
-ghost use Rattle.bidi.specs.Step as play;
+ghost use Rattle.bidi_remote.specs.Step as play;
 ghost use Rattle.bidi.specs.Lines.{has_feed};
 ghost use Rattle.bidi.specs.Plays.{Moves, Play, PlaysAll, StopsAt, failed_writes};
 ghost use Rattle.bidi.specs.declared.playing.PlayFault.TheVariants.{Write, NoMemory};
@@ -9,7 +9,7 @@ ghost use Rattle.bidi.specs.Faults.{play_fault_of};
 
 use super::device::{DeviceFault, ReadToEndFault, Sink, Source, read_to_end, write_all};
 use super::lines::{LONGEST_LINE, lines_of, next_line, read_step};
-use super::remote_end::{RemoteEnd, RemoteFault};
+use bidi_remote::{RemoteEnd, RemoteFault};
 use std::alloc::{AllocError, Global};
 use thiserror::Error;
 

@@ -5,7 +5,9 @@ mod limits;
 mod listings;
 mod messages;
 mod plays;
+mod sessions;
 pub(crate) mod stop_at;
+mod tables;
 
 use super::arguments::Run;
 use super::device::Device;

@@ -1,4 +1,5 @@
 //! The plays of `examples/`, each a test of its name.
+use super::tables::check_rows;
 use super::{outcome_of, played};
 use crate::arguments::Run;
 use crate::message_lines::Side;
@@ -63,6 +64,31 @@ fn refusals(rt: HostRuntime) -> Result<(), Fail> {
     assert_eq!(rt; from_utf8(&found.output), Ok(wanted.as_str()));
     assert_eq!(rt; found.status, 0);
     Ok(())
+}
+
+const SESSIONS: &str = r#"a session from its making to its end
+open 1 /session
+  opened 1
+> 1 {"id":1,"method":"session.status","params":{}}
+  < 1 {"id":1,"result":{"message":"ready","ready":true},"type":"success"}
+> 1 {"id":2,"method":"session.new","params":{"capabilities":{"alwaysMatch":{"browserName":"memory-browser"}}}}
+  < 1 {"id":2,"result":{"capabilities":CAPABILITIES,"sessionId":"00000000-0001-8000-8000-000000000001"},"type":"success"}
+open 2 /session/00000000-0001-8000-8000-000000000001
+  opened 2
+> 2 {"id":3,"method":"session.new","params":{"capabilities":{}}}
+  < 2 {"error":"session not created","id":3,"message":"session not created","type":"error"}
+> 2 {"id":4,"method":"session.end","params":{}}
+  < 2 {"id":4,"result":{},"type":"success"}
+  close 1
+  close 2
+> 1 {"id":5,"method":"session.status","params":{}}
+  lost 1
+open 1 /session/00000000-0001-8000-8000-000000000001
+  denied 1"#;
+
+#[test]
+fn sessions(rt: HostRuntime) -> Result<(), Fail> {
+    check_rows(&rt, SESSIONS)
 }
 
 const BROWSERS: &str =

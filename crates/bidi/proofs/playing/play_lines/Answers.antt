@@ -2,14 +2,15 @@ use Rattle.std.proofs.Common.{◌≡◌, ℕ, ◌+◌, List, [], ◌∷◌, ◌+
 use Rattle.std.proofs.lemmas.List.{length-reverse}
 use Rattle.std.specs.Io.KnownBytes.{Appends}
 use Rattle.std.proofs.KnownBytes.{Appends-nil, Appends-trans}
-use Rattle.bidi.specs.Step.{step_of}
-use Rattle.bidi.specs.History.{Input}
-use Rattle.bidi.specs.Machine.{out}
+use Rattle.bidi_remote.specs.View.{step_of}
+use Rattle.bidi_remote.specs.History.{Input}
+use Rattle.bidi_remote.specs.Built.{all_so_far}
+use Rattle.bidi_remote.specs.Sent.{out}
+use Rattle.bidi_remote.specs.Stands.{StandsFor}
 use Rattle.bidi.specs.Lines.{written}
-use Rattle.bidi.specs.Stands.{StandsFor}
 use Rattle.bidi.specs.declared.playing.PlayFault.TheVariants.{NoMemory, Write}
 use Rattle.bidi.specs.Faults.{play_fault_of}
-use Rattle.bidi.proofs.AnswerLemmas.{reverse_more}
+use Rattle.bidi.proofs.AnswerLemmas.{last_so_far, reverse_more, length-all_so_far}
 use Rattle.bidi.proofs.FeedLemmas.{feed_there}
 use Rattle.bidi.proofs.PlayLemmas.{play_more, no_line, part_so_far, part_of_text, remote_stop, by_fault, length-heard}
 use Rattle.bidi.proofs.ResultLemmas.{if_none_at, if_some_at}
@@ -48,13 +49,13 @@ pub returns-in_err-sent-clause-err : goal.returns-in_err-sent-clause-err
 returns-in_err-sent-clause-err g c =
     let s = c.lines.invariant in
     let e = c.in_err-sent.field-0.0 in
-    let history = reverse s.2.inputs in
+    let history = reverse (all_so_far s.2.inputs) in
     by_fault c.from_residual-in_err-sent.result (play_fault_of e) _ c.from_residual-in_err-sent.ensures (
       s.1,
       s.3.writes,
       λ at_end. remote_stop e at_end c.args.input.now c.lines.rest.now s.0 s.1 s.2 (λ worn.
           let long = (c.in_err-sent.ensures.worn_out history s.3.stands).0 (ap Err worn) in
-          omega (arith, long, length-reverse s.2.inputs, length-heard s.0 s.2.inputs s.2.heard)),
+          omega (arith, long, length-reverse (all_so_far s.2.inputs), length-all_so_far s.2.inputs, length-heard s.0 s.2.inputs s.2.heard)),
     )
 
 pub returns-in_err-text-clause-err : goal.returns-in_err-text-clause-err
@@ -70,8 +71,9 @@ returns-in_err-write_all-clause-err g c =
     let x = c.in-Some-2.step in
     let said = if_some_at c.in_ok-step.field-0 x _ c.in_ok-step.ensures.some c.in-Some-2.is in
     let heard = c.in_ok-sent.ensures.ok in
-    let text = written (out (reverse s.2.inputs) heard.0) in
-    let same : c.deref.result.now ≡ text = c.deref.ensures.value ∙ (c.in_ok-text.ensures ∙ ap written (heard.2 (reverse s.2.inputs) s.3.stands).0) in
+    let history = reverse (all_so_far s.2.inputs) in
+    let text = written (out history (last_so_far s.2.inputs heard.0)) in
+    let same : c.deref.result.now ≡ text = c.deref.ensures.value ∙ (c.in_ok-text.ensures ∙ ap written (heard.2 history s.3.stands).0) in
     let front = c.in_err-write_all.ensures.err in
     let part = subst (λ (t : List ℕ). Appends (g.W.Sink.contents c.lines.sink) (g.W.Sink.contents c.write_all.new.sink) (take front.0 t)) same front.2 in
     by_fault c.from_residual-in_err-write_all.result Write _ c.from_residual-in_err-write_all.ensures (
@@ -89,9 +91,9 @@ lines-preserved g c =
     let x = c.in-Some-2.step in
     let said = if_some_at c.in_ok-step.field-0 x _ c.in_ok-step.ensures.some c.in-Some-2.is in
     let heard = c.in_ok-sent.ensures.ok in
-    let history = reverse s.2.inputs in
+    let history = reverse (all_so_far s.2.inputs) in
     let after = heard.2 history s.3.stands in
-    let text = written (out history heard.0) in
+    let text = written (out history (last_so_far s.2.inputs heard.0)) in
     let same : c.deref.result.now ≡ text = c.deref.ensures.value ∙ (c.in_ok-text.ensures ∙ ap written after.0) in (
       s.0 ++ step_of x ∷ [],
       s.1 ++ text,
