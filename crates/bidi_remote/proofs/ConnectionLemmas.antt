@@ -23,17 +23,19 @@ abbrev pub standing_in : Option Row → Standing
 standing_in None = Shut
 standing_in (Some row) = row.1
 
-pub shut_by : (s : Standing) → is_shut s ≡ true → s ≡ Shut
-shut_by Shut e = refl
-shut_by Alone e = cc
-shut_by (SpeaksFor s) e = cc
+-- what is shut is `Shut`
+pub is_Shut : (s : Standing) → is_shut s ≡ true → s ≡ Shut
+is_Shut Shut e = refl
+is_Shut Alone e = cc
+is_Shut (SpeaksFor s) e = cc
 
 for_not_shut : (s : ℕ) (x : Standing) → is_for s x ≡ true → is_shut x ≡ false
 for_not_shut s Shut e = cc
 for_not_shut s Alone e = cc
 for_not_shut s (SpeaksFor t) e = refl
 
-opened_not_shut : (s : Option ℕ) → is_shut (opened_for s) ≡ false
+-- what was just opened is open
+pub opened_not_shut : (s : Option ℕ) → is_shut (opened_for s) ≡ false
 opened_not_shut None = refl
 opened_not_shut (Some s) = refl
 
@@ -107,7 +109,7 @@ abbrev pub WasOpened : List Deed → ℕ → Type 0
 WasOpened past c = is_shut (standing_of past c) ≡ false → list_any (λ d. d == c) (openings past) ≡ true
 
 find-rows : (past : List Deed) (c : ℕ) (b : Bool) → b ≡ is_shut (standing_of past c) → WasOpened past c → standing_in (find (λ row. row.0 == c) (rows past)) ≡ standing_of past c
-find-rows past c true is opened = ap standing_in (find-shut (standing_of past) c (openings past) (sym is)) ∙ sym (shut_by (standing_of past c) (sym is))
+find-rows past c true is opened = ap standing_in (find-shut (standing_of past) c (openings past) (sym is)) ∙ sym (is_Shut (standing_of past c) (sym is))
 find-rows past c false is opened = ap standing_in (find-open (standing_of past) c (openings past) (sym is) (opened (sym is)))
 
 -- how a connection stands that was looked up; where none was found it is shut

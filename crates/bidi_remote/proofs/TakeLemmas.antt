@@ -12,13 +12,13 @@ use Rattle.bidi_remote.specs.Step.{Step, Text}
 use Rattle.bidi_remote.specs.Built.{so_far}
 use Rattle.bidi_remote.specs.History.{Input, Heard, IsHeardAs, Deed, Opened, Dropped, Began, Ended, Told}
 use Rattle.bidi_remote.specs.Sessions.{next_session, sessions}
-use Rattle.bidi_remote.specs.Connections.{is_shut, is_open, is_for, opened_for, standing_of, open_connections}
+use Rattle.bidi_remote.specs.Connections.{is_shut, is_open, is_for, standing_of, open_connections}
 use Rattle.bidi_remote.specs.ConnectionRows.{row_of, rows, begun}
 use Rattle.bidi_remote.specs.Outcome.{deeds, may_open, session_of_resource, is_ready}
 use Rattle.bidi_remote.specs.Sent.{Sent}
 use Rattle.bidi_remote.specs.View.{sent_of}
 use Rattle.bidi_remote.specs.Stands.{AgreeWith, Takes}
-use Rattle.bidi_remote.proofs.ConnectionLemmas.{rows-opened, rows-dropped, rows-began, rows-ended, filter-rows, standing_found, standing-found}
+use Rattle.bidi_remote.proofs.ConnectionLemmas.{opened_not_shut, rows-opened, rows-dropped, rows-began, rows-ended, filter-rows, standing_found, standing-found}
 use Rattle.bidi_remote.proofs.OpeningLemmas.{was_opened}
 use Rattle.bidi_remote.proofs.SessionLemmas.{sessions-began, sessions-ended}
 use Rattle.bidi_remote.proofs.TurnLemmas.{Gives}
@@ -105,11 +105,7 @@ agree-ended t past n v s a shut less = record {
 -- an open connection was found, and no other
 pub found-shut : (found : Option Connection) → is_shut (standing_found found) ≡ not (is_some found)
 found-shut None = refl
-found-shut (Some c) = opened c.session
-  where
-    opened : (s : Option ℕ) → is_shut (opened_for s) ≡ false
-    opened None = refl
-    opened (Some n) = refl
+found-shut (Some c) = opened_not_shut c.session
 
 -- none was found, so it is shut
 pub shut_by : (t : Tables) (h : List Input) (c : ℕ) (found : Option Connection) (items : List Connection) → items ≡ t.connections.items → found ≡ find (λ x. x.number.value == c) items

@@ -87,12 +87,6 @@ module _ (past : List Deed) (c : ℕ) (t : Node) where
       turn-open past c (Accepted t) (ap is_shut stands ∙ not_shut)
       ∙ (ap (asked past c (id_of_command t)) asks ∙ ap (λ u. replied c (id_of_command t) (outcome past c u x)) stands)
 
-  -- a command that is refused
-  pub heard-code : (s : Standing) (x : Command) (code : ErrorCode) → standing_of past c ≡ s → is_shut s ≡ false → command_of t ≡ Some x → outcome past c s x ≡ Err code
-      → Gives past (Heard c (Accepted t)) (Text c (error_text (Some (id_of_command t)) code) ∷ []) past
-  heard-code s x code stands not_shut asks is =
-      by_turn (Err (Error c (Some (id_of_command t)) code)) (turn-asked s x stands not_shut asks ∙ ap (replied c (id_of_command t)) is) refl
-
   -- `session.status`, with a session or without one
   pub heard-status : (s : Standing) → standing_of past c ≡ s → is_shut s ≡ false → outcome past c s Status ≡ Ok Told → command_of t ≡ Some Status
       → Gives past (Heard c (Accepted t)) (Text c (response_text (id_of_command t) (status_result past)) ∷ []) (Told ∷ past)

@@ -15,6 +15,10 @@ pub record AgreeWith (tables : Tables) (past : List Deed) : Type 0 where
   pub sessions : tables.sessions.items ≡ sessions past
   pub connections : map row_of tables.connections.items ≡ rows past
 
+-- the tables agree with every history that they agreed with
+abbrev pub Keeps : Tables → Tables → Type 0
+Keeps old new = (h : List Input) → AgreeWith old (deeds h) → AgreeWith new (deeds h)
+
 -- what is sent at an input after a history, and the tables after it, are as the machine says
 pub record Takes (after : Tables) (sent : List Sent) (history : List Input) (i : Input) : Type 0 where
   pub sends : sent ≡ out history i

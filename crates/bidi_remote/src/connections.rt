@@ -1,5 +1,5 @@
 //! Open connections, and the session that each speaks for.
-ghost use Rattle.std.specs.Prelude.{◌≡◌, ◌==◌, not, false, ◌++◌, List, Option, find, filter, map, length, nat_lt, IfOk};
+ghost use Rattle.std.specs.Prelude.{◌≡◌, ◌==◌, not, false, ◌++◌, Option, find, filter, map, length, nat_lt, IfOk};
 ghost use Rattle.bidi_remote.specs.View.{sent_of};
 ghost use Rattle.bidi_remote.specs.Connections.{is_for};
 ghost use Rattle.bidi_remote.specs.ConnectionRows.{row_of, begun, closes};

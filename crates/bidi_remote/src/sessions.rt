@@ -1,5 +1,5 @@
 //! Active sessions, by their numbers, and the resources that name them.
-ghost use Rattle.std.specs.Prelude.{◌≡◌, ◌++◌, ◌==◌, not, nat_lt, length, find, filter, map, codes, bytes_eq, Some, None, option_map, if◌then◌else◌};
+ghost use Rattle.std.specs.Prelude.{◌≡◌, ◌++◌, ◌==◌, not, nat_lt, length, find, filter, codes, bytes_eq, Some, None, option_map, if◌then◌else◌};
 ghost use Rattle.bidi_browser.specs.declared.id.Kind.TheVariants.{Session};
 ghost use Rattle.bidi_browser.specs.Ids.{id_of};
 

@@ -1,5 +1,5 @@
 //! The tables of a remote end, and what each step does to them.
-ghost use Rattle.std.specs.Prelude.{◌≡◌, ◌≤◌, ◌+◌, ℕ, List, [], ◌∷◌, map, Option, Some, None, Ok, Err, true, IsTrue, IfOk, OnOk, OnErr, IsOk, option_map};
+ghost use Rattle.std.specs.Prelude.{◌≡◌, ◌≤◌, ◌+◌, ℕ, List, [], ◌∷◌, map, Option, Some, None, Ok, Err, IsTrue, IfOk, OnOk, OnErr, IsOk, option_map};
 ghost use Rattle.bidi_tree.specs.Node.{Node};
 ghost use Rattle.bidi_messages.specs.declared.error_code.ErrorCode.TheVariants.{InvalidArgument};
 ghost use Rattle.bidi_messages.specs.Message.{response_text, error_text};
@@ -8,8 +8,7 @@ ghost use Rattle.bidi_messages.specs.Verdict as judged;
 ghost use Rattle.bidi_messages.specs.View.{verdict_of, IsWell};
 ghost use Rattle.bidi_remote.specs.Step as steps;
 ghost use Rattle.bidi_remote.specs.View.{step_of, sent_of};
-ghost use Rattle.bidi_remote.specs.Sent.{Text};
-ghost use Rattle.bidi_remote.specs.Sent.{status_result};
+ghost use Rattle.bidi_remote.specs.Sent.{Text, status_result};
 ghost use Rattle.bidi_remote.specs.Capabilities.{request_of};
 ghost use Rattle.bidi_remote.specs.History.{Input, Open, Drop, Heard, NotText, IsHeardAs, Ended};
 ghost use Rattle.bidi_remote.specs.Connections.{is_open, standing_of, opened_for, Alone, SpeaksFor};
@@ -41,7 +40,7 @@ pub(crate) struct Tables {
 }
 
 impl Tables {
-    ghost use Rattle.bidi_remote.specs.Stands.{AgreeWith, Takes};
+    ghost use Rattle.bidi_remote.specs.Stands.{AgreeWith, Keeps, Takes};
     ghost use Rattle.bidi_remote.specs.ConnectionRows.{rows, closes};
     ghost use Rattle.bidi_remote.specs.Replies.{new_reply};
     ghost use Rattle.bidi_browser.specs.Maps.{nothing};
@@ -63,7 +62,7 @@ impl Tables {
         requires { self.now.made ≤ 1000000000 }
         ensures ok { IfOk result (λ sent. (i : Input) × IsHeardAs (step_of step) i
             × ((h : List Input) → AgreeWith self.old (deeds h) → Takes self.new (map sent_of sent.items) h (so_far (deeds h) i))) }
-        ensures err { OnErr result ((h : List Input) → AgreeWith self.old (deeds h) → AgreeWith self.new (deeds h)) }
+        ensures err { OnErr result (Keeps self.old self.new) }
         ensures made { self.new.made ≤ self.old.made + 1 }
         ensures unmade { OnErr result (self.new.made ≡ self.old.made) }
         ensures at { (n : ℕ) → step_of step ≡ steps.At n → IsOk result }
@@ -86,7 +85,7 @@ impl Tables {
     fn open(&mut self, alloc: Global, conn: JsUint, resource: &str) -> Result<Vec<Sent>, AllocError>
         ensures ok { (h : List Input) → AgreeWith self.old (deeds h)
             → IfOk result (λ sent. Takes self.new (map sent_of sent.items) h (Open conn.value resource.now)) }
-        ensures err { OnErr result ((h : List Input) → AgreeWith self.old (deeds h) → AgreeWith self.new (deeds h)) }
+        ensures err { OnErr result (Keeps self.old self.new) }
         ensures made { self.new.made ≡ self.old.made }
     {
         let Some(session) = session_of(&self.sessions, resource) else {
@@ -113,7 +112,7 @@ impl Tables {
     fn drop_connection(&mut self, alloc: Global, conn: JsUint) -> Result<Vec<Sent>, AllocError>
         ensures ok { (h : List Input) → AgreeWith self.old (deeds h)
             → IfOk result (λ sent. Takes self.new (map sent_of sent.items) h (Drop conn.value)) }
-        ensures err { OnErr result ((h : List Input) → AgreeWith self.old (deeds h) → AgreeWith self.new (deeds h)) }
+        ensures err { OnErr result (Keeps self.old self.new) }
         ensures made { self.new.made ≡ self.old.made }
         ensures quiet { (h : List Input) → AgreeWith self.old (deeds h) → IsTrue (is_open (deeds h) conn.value) → IsOk result }
     {
@@ -129,7 +128,7 @@ impl Tables {
         requires { self.now.made ≤ 1000000000 }
         ensures ok { IfOk result (λ sent. (v : judged.Verdict) × IsVerdict text.now v × ((h : List Input) → AgreeWith self.old (deeds h)
             → Takes self.new (map sent_of sent.items) h (so_far (deeds h) (Heard conn.value v)))) }
-        ensures err { OnErr result ((h : List Input) → AgreeWith self.old (deeds h) → AgreeWith self.new (deeds h)) }
+        ensures err { OnErr result (Keeps self.old self.new) }
         ensures made { self.new.made ≤ self.old.made + 1 }
         ensures unmade { OnErr result (self.new.made ≡ self.old.made) }
     {
@@ -148,7 +147,7 @@ impl Tables {
         requires well { IsWell ⟦<Command as Shape>⟧.shape verdict.now }
         ensures ok { (h : List Input) → AgreeWith self.old (deeds h) → IfOk result (λ sent. Takes self.new (map sent_of sent.items) h
             (so_far (deeds h) (Heard conn.value (verdict_of ⟦<Command as Shape>⟧.shape verdict.now)))) }
-        ensures err { OnErr result ((h : List Input) → AgreeWith self.old (deeds h) → AgreeWith self.new (deeds h)) }
+        ensures err { OnErr result (Keeps self.old self.new) }
         ensures made { self.new.made ≤ self.old.made + 1 }
         ensures unmade { OnErr result (self.new.made ≡ self.old.made) }
     {
@@ -188,7 +187,7 @@ impl Tables {
         ensures ok { (h : List Input) (t : Node) → AgreeWith self.old (deeds h) → standing_of (deeds h) conn.value ≡ opened_for session
             → Asks t id.value (asked_of ⟦<NewParameters as Shape>⟧.shape asked.now)
             → IfOk result (λ sent. Takes self.new (map sent_of sent.items) h (Heard conn.value (judged_so_far (opened_for session) (Accepted t)))) }
-        ensures err { OnErr result ((h : List Input) → AgreeWith self.old (deeds h) → AgreeWith self.new (deeds h)) }
+        ensures err { OnErr result (Keeps self.old self.new) }
         ensures made { self.new.made ≤ self.old.made + 1 }
         ensures unmade { OnErr result (self.new.made ≡ self.old.made) }
     {
@@ -211,7 +210,7 @@ impl Tables {
         ensures ok { (h : List Input) (t : Node) → AgreeWith self.old (deeds h) → standing_of (deeds h) conn.value ≡ Alone
             → Asks t id.value (asked_of ⟦<NewParameters as Shape>⟧.shape asked.now)
             → IfOk result (λ sent. Takes self.new (map sent_of sent.items) h (Heard conn.value (Accepted t))) }
-        ensures err { OnErr result ((h : List Input) → AgreeWith self.old (deeds h) → AgreeWith self.new (deeds h)) }
+        ensures err { OnErr result (Keeps self.old self.new) }
         ensures made { self.new.made ≤ self.old.made + 1 }
         ensures unmade { OnErr result (self.new.made ≡ self.old.made) }
     {
@@ -234,7 +233,7 @@ impl Tables {
         ensures ok { (h : List Input) (t : Node) → AgreeWith self.old (deeds h) → standing_of (deeds h) conn.value ≡ SpeaksFor session
             → Asks t id.value (asked_of ⟦<NewParameters as Shape>⟧.shape asked.now)
             → IfOk result (λ sent. Takes self.new (map sent_of sent.items) h (Heard conn.value (judged_so_far (SpeaksFor session) (Accepted t)))) }
-        ensures err { OnErr result ((h : List Input) → AgreeWith self.old (deeds h) → AgreeWith self.new (deeds h)) }
+        ensures err { OnErr result (Keeps self.old self.new) }
         ensures made { self.new.made ≡ self.old.made }
     {
         match asked {
@@ -272,7 +271,7 @@ impl Tables {
         ensures ok { (h : List Input) → AgreeWith self.old (deeds h) → standing_of (deeds h) conn.value ≡ Alone
             → OnOk result (AgreeWith self.new (with_turn (deeds h)
             (replied conn.value id.value (new_outcome (deeds h) conn.value (request_of (⟦<NewParameters as Shape>⟧.shape.tree_of params.now)))))) }
-        ensures err { OnErr result ((h : List Input) → AgreeWith self.old (deeds h) → AgreeWith self.new (deeds h)) }
+        ensures err { OnErr result (Keeps self.old self.new) }
         ensures made { self.new.made ≤ self.old.made + 1 }
         ensures unmade { OnErr result (self.new.made ≡ self.old.made) }
     {
@@ -303,7 +302,7 @@ impl Tables {
             → IfOk result (λ sent. map sent_of sent.items
             ≡ Text conn.value (response_text id.value nothing) ∷ closes session (rows (deeds h))) }
         ensures ok { (h : List Input) → AgreeWith self.old (deeds h) → OnOk result (AgreeWith self.new (Ended session ∷ deeds h)) }
-        ensures err { OnErr result ((h : List Input) → AgreeWith self.old (deeds h) → AgreeWith self.new (deeds h)) }
+        ensures err { OnErr result (Keeps self.old self.new) }
         ensures made { self.new.made ≡ self.old.made }
     {
         let text = end_text(alloc, id)?;

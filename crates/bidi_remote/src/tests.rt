@@ -94,3 +94,15 @@ fn a_session_lives_until_its_end(rt: HostRuntime) -> Result<(), Fail> {
     }
     Ok(())
 }
+
+#[test]
+fn faults_have_texts(rt: HostRuntime) -> Result<(), Fail> {
+    let rows = [
+        (RemoteFault::NoMemory, "out of memory"),
+        (RemoteFault::WornOut, "too many steps"),
+    ];
+    for (fault, text) in rows {
+        assert_eq!(rt; format!(in rt.alloc(); "{fault}")?.as_str(), text);
+    }
+    Ok(())
+}

@@ -3,7 +3,7 @@ use Rattle.bidi_remote.specs.History.{Drop}
 use Rattle.bidi_remote.specs.View.{sent_of}
 use Rattle.bidi_remote.specs.Outcome.{deeds}
 use Rattle.bidi_remote.specs.declared.step.Sent.TheVariants.{Lost}
-use Rattle.bidi_remote.proofs.ConnectionLemmas.{shut_by as is_Shut}
+use Rattle.bidi_remote.proofs.ConnectionLemmas.{is_Shut}
 use Rattle.bidi_remote.proofs.TurnLemmas.{drop-shut, drop-open}
 use Rattle.bidi_remote.proofs.TakeLemmas.{takes, only_takes, anyway, shut_by, open_by, agree-dropped, closed_open}
 use Rattle.bidi_remote.proofs.tables.Tables.drop_connection.Goals as goal

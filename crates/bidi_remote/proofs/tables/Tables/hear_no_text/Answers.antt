@@ -1,7 +1,7 @@
 use Rattle.bidi_remote.specs.History.{NotText}
 use Rattle.bidi_remote.specs.Outcome.{deeds}
 use Rattle.bidi_remote.specs.declared.step.Sent.TheVariants.{Lost}
-use Rattle.bidi_remote.proofs.ConnectionLemmas.{shut_by as is_Shut}
+use Rattle.bidi_remote.proofs.ConnectionLemmas.{is_Shut}
 use Rattle.bidi_remote.proofs.TurnLemmas.{no_text-shut, no_text-open}
 use Rattle.bidi_remote.proofs.TakeLemmas.{sent_takes, only_takes, shut_by, open_by}
 use Rattle.bidi_remote.proofs.tables.Tables.hear_no_text.Goals as goal
