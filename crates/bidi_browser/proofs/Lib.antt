@@ -3,3 +3,7 @@ pub mod Spelling
 pub mod IdFacts
 pub mod UrlFacts
 pub mod ArgumentFacts
+pub mod TreeLemmas
+pub mod RowLemmas
+pub mod PushLemmas
+pub mod ToldLemmas

@@ -13,3 +13,6 @@ pub mod Info
 pub mod Occurrences
 pub mod Outcome
 pub mod Occurs
+pub mod View
+pub mod ContextRows
+pub mod Stands

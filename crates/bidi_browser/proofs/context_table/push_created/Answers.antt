@@ -1,0 +1,16 @@
+use Rattle.bidi_messages.specs.contracts.event.EventDataSubjectEventName.TheImpl.{ghosts}
+use Rattle.bidi_browser.specs.declared.occurrence.Occurrence.{Occurrence}
+use Rattle.bidi_browser.specs.View.{occurrence_of}
+use Rattle.bidi_browser.specs.ContextRows.{row_of, created_in}
+use Rattle.bidi_browser.proofs.PushLemmas.{told-more, AllByRecursion-more}
+use Rattle.bidi_browser.proofs.context_table.push_created.Goals as goal
+
+pub loop-context-preserved : goal.loop-context-preserved
+loop-context-preserved c =
+    let held = c.loop-context in
+    let came = c.in_ok-created in
+    record {
+      told = told-more (occurrence_of ghosts.subject) created_in row_of c.args.contexts.now held.context-index c.context-item.result c.args.all.now.items held.all.items c.push.new.self.items came.field-0
+          c.loop-context-test.true c.context-item.is held.invariant.told c.in_ok-push.ensures.items came.ensures.told;
+      well = λ w. AllByRecursion-more (λ (o : Occurrence). ghosts.subject.well o.event) held.all.items c.push.new.self.items came.field-0 c.in_ok-push.ensures.items (held.invariant.well w) came.ensures.well;
+    }

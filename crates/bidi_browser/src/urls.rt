@@ -1,0 +1,37 @@
+//! The first URL of a context, and the origins of URLs.
+ghost use Rattle.std.specs.Prelude.{◌≡◌, IfOk, string_bytes};
+ghost use Rattle.url.specs.Origin as spec;
+ghost use Rattle.bidi_browser.specs.Urls.{about_blank, origin_text};
+
+use std::alloc::{AllocError, Global};
+use url::Url;
+
+/// `about:blank`, where each new top-level context is.
+pub(crate) fn about_blank(alloc: Global) -> Result<Url, AllocError>
+    ensures { IfOk result (λ url. url ≡ about_blank) }
+{
+    match Url::parse(alloc, "about:blank") {
+        Ok(url) => Ok(url),
+        Err(_) => Err(AllocError),
+    }
+}
+
+/// The serialised origin of an http or https URL; any other URL has the origin `null`.
+pub(crate) fn origin_text(alloc: Global, url: &Url) -> Result<String, AllocError>
+    ensures { IfOk result (λ s. string_bytes s ≡ origin_text url.now) }
+{
+    if !is_http(url) {
+        return String::from_str(alloc, "null");
+    }
+    match url.origin() {
+        Ok(origin) => origin.ascii_serialization(alloc),
+        Err(_) => Err(AllocError),
+    }
+}
+
+/// Whether the scheme is http or https.
+fn is_http(url: &Url) -> bool
+    ensures { result ≡ spec.is_http url.now.scheme }
+{
+    url.scheme() == "http" || url.scheme() == "https"
+}
