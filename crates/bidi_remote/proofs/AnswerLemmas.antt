@@ -7,17 +7,17 @@ use Rattle.bidi_browser.specs.Maps.{◌being◌and◌, mapped, nothing}
 use Rattle.bidi_browser.specs.declared.id.Kind.TheVariants.{Session}
 use Rattle.bidi_browser.specs.Ids.{id_of}
 use Rattle.bidi_remote.specs.Capabilities.{Request, matching, capabilities}
-use Rattle.bidi_remote.specs.Commands.{Command, Status, New, End, id_of_command}
+use Rattle.bidi_remote.specs.Commands.{Command, Status, New, End, command_of, id_of_command}
 use Rattle.bidi_remote.specs.History.{Deed, Heard, Began, Ended, Told}
 use Rattle.bidi_remote.specs.Sessions.{next_session}
 use Rattle.bidi_remote.specs.Connections.{Alone, SpeaksFor, standing_of}
-use Rattle.bidi_remote.specs.ConnectionRows.{rows, closes}
+use Rattle.bidi_remote.specs.ConnectionRows.{rows, to_each}
 use Rattle.bidi_remote.specs.Outcome.{is_ready, new_outcome, replied, with_turn}
-use Rattle.bidi_remote.specs.Sent.{Text, status_result}
+use Rattle.bidi_remote.specs.Sent.{Text, Close, status_result}
 use Rattle.bidi_remote.specs.Replies.{new_reply}
 use Rattle.bidi_remote.specs.Built.{is_built, judged_so_far}
 use Rattle.bidi_remote.specs.Asked.{Asks, AsksWhat}
-use Rattle.bidi_remote.proofs.ConnectionLemmas.{closes-past}
+use Rattle.bidi_remote.proofs.ConnectionLemmas.{each-past}
 use Rattle.bidi_remote.proofs.TurnLemmas.{Gives, heard-status, heard-new, heard-end}
 
 module _ (past : List Deed) (c id : ℕ) (t : Node) where
@@ -45,12 +45,19 @@ module _ (past : List Deed) (c id : ℕ) (t : Node) where
       subst (λ n. Gives past (Heard c (Accepted t)) (new_reply past c n (new_outcome past c request)) (with_turn past (replied c n (new_outcome past c request)))) asks.same_id (heard-new past c t request stands what.0)
 
   pub end_in : (s : ℕ) (o : Option Command) → o ≡ Some End → Asks t id o → standing_of past c ≡ SpeaksFor s
-      → Gives past (Heard c (judged_so_far (SpeaksFor s) (Accepted t))) (Text c (response_text id nothing) ∷ closes s (rows past)) (Ended s ∷ past)
+      → Gives past (Heard c (judged_so_far (SpeaksFor s) (Accepted t))) (Text c (response_text id nothing) ∷ to_each Close s (rows past)) (Ended s ∷ past)
   end_in s o is asks stands =
       let what : AsksWhat t (Some End) = subst (AsksWhat t) is asks.what in
-      subst (λ v. Gives past (Heard c v) (Text c (response_text id nothing) ∷ closes s (rows past)) (Ended s ∷ past)) (sym (so_far-built s what.1))
-      (subst (λ n. Gives past (Heard c (Accepted t)) (Text c (response_text n nothing) ∷ closes s (rows past)) (Ended s ∷ past)) asks.same_id
-      (subst (λ all. Gives past (Heard c (Accepted t)) (Text c (response_text (id_of_command t) nothing) ∷ all) (Ended s ∷ past)) (sym (closes-past past s)) (heard-end past c t s stands what.0)))
+      subst (λ v. Gives past (Heard c v) (Text c (response_text id nothing) ∷ to_each Close s (rows past)) (Ended s ∷ past)) (sym (so_far-built s what.1))
+      (subst (λ n. Gives past (Heard c (Accepted t)) (Text c (response_text n nothing) ∷ to_each Close s (rows past)) (Ended s ∷ past)) asks.same_id
+      (subst (λ all. Gives past (Heard c (Accepted t)) (Text c (response_text (id_of_command t) nothing) ∷ all) (Ended s ∷ past)) (sym (each-past Close past s)) (heard-end past c t s stands what.0)))
+
+  -- a command that is built is asked as it is
+  pub built_in : (s : ℕ) (x : Command) (o : Option Command) → o ≡ Some x → Asks t id o
+      → (command_of t ≡ Some x) × (id_of_command t ≡ id) × (judged_so_far (SpeaksFor s) (Accepted t) ≡ Accepted t)
+  built_in s x o is asks =
+      let what : AsksWhat t (Some x) = subst (AsksWhat t) is asks.what in
+      (what.0, asks.same_id, so_far-built s what.1)
 
 -- ---- a new session
 

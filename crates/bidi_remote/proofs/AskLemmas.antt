@@ -1,6 +1,6 @@
 -- What the tree of a command in hand asks.
-use Rattle.std.proofs.Common.{◌≡◌, ℕ, pos, List, Bool, true, false, unwrap_or, option_map, option_and_then, refl, ap, ap₂, Err}
-use Rattle.std.specs.Prelude.{codes, bytes_eq, if◌then◌else◌}
+use Rattle.std.proofs.Common.{◌≡◌, ◌∙◌, ℕ, pos, List, unwrap_or, option_map, option_and_then, refl, ap, ap₂}
+use Rattle.std.specs.Prelude.{Bool, codes, bytes_eq}
 use Rattle.std.specs.List.{list_any}
 use Rattle.bidi_shape.specs.ValueLaws.{others_of}
 use Rattle.bidi_tree.specs.Node.{Node, whole, text, put}
@@ -15,13 +15,11 @@ use Rattle.bidi_messages.specs.declared.command.Command as declared_command
 use Rattle.bidi_messages.specs.declared.command.CommandData.{CommandData}
 use Rattle.bidi_messages.specs.declared.command.CommandData.TheVariants as Of
 use Rattle.bidi_messages.proofs.CommandLemmas.{method_in-tree, params_in-tree}
-use Rattle.bidi_browser.specs.Params.{natural, text_at, texts_at, has_texts_at}
-use Rattle.bidi_remote.specs.Commands.{Command, UnsubscribeById, UnsubscribeByEvents, command_in, command_of, id_of_command}
-use Rattle.bidi_messages.specs.declared.error_code.ErrorCode.TheVariants.{InvalidSessionId}
-use Rattle.bidi_remote.specs.History.{Deed}
-use Rattle.bidi_remote.specs.Outcome.{outcome_alone}
+use Rattle.bidi_browser.specs.Params.{natural, text_at}
+use Rattle.bidi_remote.specs.Commands.{command_in, command_of, id_of_command}
 use Rattle.bidi_remote.specs.Built.{built_methods}
 use Rattle.bidi_remote.specs.Asked.{asked_of, IsWellAsked, AsksWhat, Asks}
+use Rattle.bidi_remote.proofs.SubscribeAskLemmas.{subscribe-asks, unsubscribe-asks}
 
 -- the tree of a command
 abbrev pub tree_of : declared_command.Command → Node
@@ -31,40 +29,34 @@ tree_of c = ghosts.shape.tree_of c
 abbrev is_built_text : List ℕ → Bool
 is_built_text method = list_any (λ name. bytes_eq (codes name) method) built_methods
 
--- an unsubscribe, by ids or by events, is asked by a session alone
-unsubscribe_alone : (p : Node) (b : Bool) (past : List Deed) (c : ℕ)
-    → (let x : Command = if b then UnsubscribeById (texts_at "subscriptions" p) else UnsubscribeByEvents (texts_at "events" p) in outcome_alone past c x ≡ Err InvalidSessionId)
-unsubscribe_alone p true past c = refl
-unsubscribe_alone p false past c = refl
-
 -- a tree of this method, with these params, asks what a command in hand asks
-what : (t : Node) (d : CommandData) → text_at "method" t ≡ method_text (method_of d) → command_of t ≡ command_in (method_text (method_of d)) (asks.ghosts.subject.tree_of d)
+what : (t : Node) (d : CommandData) → asks.ghosts.subject.well d → text_at "method" t ≡ method_text (method_of d) → command_of t ≡ command_in (method_text (method_of d)) (asks.ghosts.subject.tree_of d)
     → AsksWhat t (asked_of params.ghosts.shape d)
-what t (Of.SessionStatus p) m e = (e, ap is_built_text m)
-what t (Of.SessionNew p) m e = (e, ap is_built_text m)
-what t (Of.SessionEnd p) m e = (e, ap is_built_text m)
-what t (Of.SessionSubscribe p) m e = (_, e, ap is_built_text m, λ past c. refl)
-what t (Of.SessionUnsubscribe p) m e = (_, e, ap is_built_text m, unsubscribe_alone (asks.ghosts.subject.tree_of (Of.SessionUnsubscribe p)) (has_texts_at "subscriptions" (asks.ghosts.subject.tree_of (Of.SessionUnsubscribe p))))
-what t (Of.BrowsingContextActivate p) m e = (_, e, ap is_built_text m, λ past c. refl)
-what t (Of.BrowsingContextClose p) m e = (_, e, ap is_built_text m, λ past c. refl)
-what t (Of.BrowsingContextCreate p) m e = (_, e, ap is_built_text m, λ past c. refl)
-what t (Of.BrowsingContextGetTree p) m e = (_, e, ap is_built_text m, λ past c. refl)
-what t (Of.BrowsingContextNavigate p) m e = (_, e, ap is_built_text m, λ past c. refl)
-what t (Of.BrowsingContextReload p) m e = (_, e, ap is_built_text m, λ past c. refl)
-what t (Of.BrowsingContextTraverseHistory p) m e = (_, e, ap is_built_text m, λ past c. refl)
-what t (Of.ScriptEvaluate p) m e = (_, e, ap is_built_text m, λ past c. refl)
-what t (Of.ScriptCallFunction p) m e = (_, e, ap is_built_text m, λ past c. refl)
-what t (Of.ScriptDisown p) m e = (_, e, ap is_built_text m, λ past c. refl)
-what t (Of.ScriptGetRealms p) m e = (_, e, ap is_built_text m, λ past c. refl)
+what t (Of.SessionStatus p) w m e = (e, ap is_built_text m)
+what t (Of.SessionNew p) w m e = (e, ap is_built_text m)
+what t (Of.SessionEnd p) w m e = (e, ap is_built_text m)
+what t (Of.SessionSubscribe p) w m e = (e ∙ subscribe-asks p w, ap is_built_text m)
+what t (Of.SessionUnsubscribe p) w m e = (e ∙ unsubscribe-asks p w, ap is_built_text m)
+what t (Of.BrowsingContextActivate p) w m e = (_, e, ap is_built_text m, λ past c. refl)
+what t (Of.BrowsingContextClose p) w m e = (_, e, ap is_built_text m, λ past c. refl)
+what t (Of.BrowsingContextCreate p) w m e = (_, e, ap is_built_text m, λ past c. refl)
+what t (Of.BrowsingContextGetTree p) w m e = (_, e, ap is_built_text m, λ past c. refl)
+what t (Of.BrowsingContextNavigate p) w m e = (_, e, ap is_built_text m, λ past c. refl)
+what t (Of.BrowsingContextReload p) w m e = (_, e, ap is_built_text m, λ past c. refl)
+what t (Of.BrowsingContextTraverseHistory p) w m e = (_, e, ap is_built_text m, λ past c. refl)
+what t (Of.ScriptEvaluate p) w m e = (_, e, ap is_built_text m, λ past c. refl)
+what t (Of.ScriptCallFunction p) w m e = (_, e, ap is_built_text m, λ past c. refl)
+what t (Of.ScriptDisown p) w m e = (_, e, ap is_built_text m, λ past c. refl)
+what t (Of.ScriptGetRealms p) w m e = (_, e, ap is_built_text m, λ past c. refl)
 
 -- its id
 id_of_command-tree : (c : declared_command.Command) → id_of_command (tree_of c) ≡ c.id.value
 id_of_command-tree c = ap (λ o. unwrap_or (option_map natural (option_and_then whole_in o)) 0) (get_member-put (codes "id") (whole (pos c.id.value))
     (put (codes "method") (text (method_text (method_of c.«data»))) (put (codes "params") (asks.ghosts.subject.tree_of c.«data») (others_of c.ext))))
 
--- the tree of a command in hand asks what it asks
-pub asks-tree : (c : declared_command.Command) → Asks (tree_of c) c.id.value (asked_of params.ghosts.shape c.«data»)
-asks-tree c = record { same_id = id_of_command-tree c; what = what (tree_of c) c.«data» (method_in-tree c) (ap₂ command_in (method_in-tree c) (params_in-tree c)) }
+-- the tree of a well command in hand asks what it asks
+pub asks-tree : (c : declared_command.Command) → ghosts.shape.well c → Asks (tree_of c) c.id.value (asked_of params.ghosts.shape c.«data»)
+asks-tree c w = record { same_id = id_of_command-tree c; what = what (tree_of c) c.«data» w.subject (method_in-tree c) (ap₂ command_in (method_in-tree c) (params_in-tree c)) }
 
 well_asked : (d : CommandData) → asks.ghosts.subject.well d → IsWellAsked params.ghosts.shape d
 well_asked (Of.SessionNew p) w = w

@@ -4,8 +4,8 @@ use Rattle.std.specs.Prelude.{◌==◌}
 use Rattle.std.proofs.lemmas.Bool.Decides.{nat_tests}
 use Rattle.bidi_remote.specs.declared.connections.Connection.{Connection}
 use Rattle.bidi_remote.specs.Connections.{SpeaksFor, is_for}
-use Rattle.bidi_remote.specs.ConnectionRows.{Row, row_of, begun, closes}
-use Rattle.bidi_remote.specs.Sent.{Sent, Close}
+use Rattle.bidi_remote.specs.ConnectionRows.{Row, row_of, begun, to_each}
+use Rattle.bidi_remote.specs.Sent.{Sent}
 
 -- the first of them changed by g
 abbrev pub over : {X : Type 0} → (X → X) → ℕ → List X → List X
@@ -37,31 +37,32 @@ begun-same c s row e = grind (arith, nat_tests, e)
 pub begun-other : (c s : ℕ) (row : Row) → (row.0 == c) ≡ false → begun c s row ≡ row
 begun-other c s row e = rw e refl
 
--- ---- closes
+-- ---- what each connection of a session is sent
 
-yes : (s : ℕ) (items : List Connection) (i : ℕ) (d : Connection) → i < length items → is_for s (row_of (get_or items i d)).1 ≡ true
-    → closes s (map row_of (drop i items)) ≡ Close (get_or items i d).number.value ∷ closes s (map row_of (drop (suc i) items))
-yes s [] i d less is = absurd (omega arith)
-yes s (x ∷ items) zero d less is = rw is refl
-yes s (x ∷ items) (suc i) d less is = yes s items i d (omega arith) is
+module _ (what : ℕ → Sent) (s : ℕ) where
+  yes : (items : List Connection) (i : ℕ) (d : Connection) → i < length items → is_for s (row_of (get_or items i d)).1 ≡ true
+      → to_each what s (map row_of (drop i items)) ≡ what (get_or items i d).number.value ∷ to_each what s (map row_of (drop (suc i) items))
+  yes [] i d less is = absurd (omega arith)
+  yes (x ∷ items) zero d less is = rw is refl
+  yes (x ∷ items) (suc i) d less is = yes items i d (omega arith) is
 
-no_close : (s : ℕ) (items : List Connection) (i : ℕ) (d : Connection) → i < length items → is_for s (row_of (get_or items i d)).1 ≡ false
-    → closes s (map row_of (drop i items)) ≡ closes s (map row_of (drop (suc i) items))
-no_close s [] i d less is = absurd (omega arith)
-no_close s (x ∷ items) zero d less is = rw is refl
-no_close s (x ∷ items) (suc i) d less is = no_close s items i d (omega arith) is
+  no_other : (items : List Connection) (i : ℕ) (d : Connection) → i < length items → is_for s (row_of (get_or items i d)).1 ≡ false
+      → to_each what s (map row_of (drop i items)) ≡ to_each what s (map row_of (drop (suc i) items))
+  no_other [] i d less is = absurd (omega arith)
+  no_other (x ∷ items) zero d less is = rw is refl
+  no_other (x ∷ items) (suc i) d less is = no_other items i d (omega arith) is
 
--- the next connection speaks for the session
-pub closes-next : (s : ℕ) (items : List Connection) (i : ℕ) (d : Connection) (sent : List Sent) → i < length items → is_for s (row_of (get_or items i d)).1 ≡ true
-    → (sent ++ Close (get_or items i d).number.value ∷ []) ++ closes s (map row_of (drop (i + 1) items)) ≡ sent ++ closes s (map row_of (drop i items))
-closes-next s items i d sent less is =
-    let e : i + 1 ≡ suc i = omega arith in
-    append_assoc sent (Close (get_or items i d).number.value ∷ []) (closes s (map row_of (drop (i + 1) items)))
-    ∙ ap (λ rest. sent ++ rest) (ap (λ k. Close (get_or items i d).number.value ∷ closes s (map row_of (drop k items))) e ∙ sym (yes s items i d less is))
+  -- the next connection speaks for the session
+  pub to_each-next : (items : List Connection) (i : ℕ) (d : Connection) (sent : List Sent) → i < length items → is_for s (row_of (get_or items i d)).1 ≡ true
+      → (sent ++ what (get_or items i d).number.value ∷ []) ++ to_each what s (map row_of (drop (i + 1) items)) ≡ sent ++ to_each what s (map row_of (drop i items))
+  to_each-next items i d sent less is =
+      let e : i + 1 ≡ suc i = omega arith in
+      append_assoc sent (what (get_or items i d).number.value ∷ []) (to_each what s (map row_of (drop (i + 1) items)))
+      ∙ ap (λ rest. sent ++ rest) (ap (λ k. what (get_or items i d).number.value ∷ to_each what s (map row_of (drop k items))) e ∙ sym (yes items i d less is))
 
--- it does not
-pub closes-other : (s : ℕ) (items : List Connection) (i : ℕ) (d : Connection) (sent : List Sent) → i < length items → is_for s (row_of (get_or items i d)).1 ≡ false
-    → sent ++ closes s (map row_of (drop (i + 1) items)) ≡ sent ++ closes s (map row_of (drop i items))
-closes-other s items i d sent less is =
-    let e : i + 1 ≡ suc i = omega arith in
-    ap (λ rest. sent ++ rest) (ap (λ k. closes s (map row_of (drop k items))) e ∙ sym (no_close s items i d less is))
+  -- it does not
+  pub to_each-other : (items : List Connection) (i : ℕ) (d : Connection) (sent : List Sent) → i < length items → is_for s (row_of (get_or items i d)).1 ≡ false
+      → sent ++ to_each what s (map row_of (drop (i + 1) items)) ≡ sent ++ to_each what s (map row_of (drop i items))
+  to_each-other items i d sent less is =
+      let e : i + 1 ≡ suc i = omega arith in
+      ap (λ rest. sent ++ rest) (ap (λ k. to_each what s (map row_of (drop k items))) e ∙ sym (no_other items i d less is))

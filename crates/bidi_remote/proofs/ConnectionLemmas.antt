@@ -9,8 +9,8 @@ use Rattle.bidi_remote.specs.declared.connections.Connection.{Connection}
 use Rattle.bidi_remote.specs.History.{Deed, Opened, Dropped, Began, Ended}
 use Rattle.bidi_remote.specs.Sessions.{next_session}
 use Rattle.bidi_remote.specs.Connections.{Standing, Shut, Alone, SpeaksFor, is_shut, is_for, opened_for, standing_of, openings, connections_of}
-use Rattle.bidi_remote.specs.ConnectionRows.{Row, row_of, rows, begun, closes}
-use Rattle.bidi_remote.specs.Sent.{Close}
+use Rattle.bidi_remote.specs.ConnectionRows.{Row, row_of, rows, begun, to_each}
+use Rattle.bidi_remote.specs.Sent.{Sent}
 
 -- ---- rows
 
@@ -94,13 +94,13 @@ ended-rows f g s (x ∷ cs) same = let ih = ended-rows f g s cs same in let at =
 pub rows-ended : (past : List Deed) (s : ℕ) → rows (Ended s ∷ past) ≡ filter (λ row. not (is_for s row.1)) (rows past)
 rows-ended past s = ended-rows (standing_of past) (standing_of (Ended s ∷ past)) s (openings past) (λ d. refl)
 
-closes-rows : (f : ℕ → Standing) (s : ℕ) (cs : List ℕ) → closes s (rows_by f cs) ≡ map Close (filter (λ c. is_for s (f c)) cs)
-closes-rows f s [] = refl
-closes-rows f s (x ∷ cs) = let ih = closes-rows f s cs in let open_for = for_not_shut s (f x) in grind (arith, nat_tests, ih, open_for)
+each-row : (what : ℕ → Sent) (f : ℕ → Standing) (s : ℕ) (cs : List ℕ) → to_each what s (rows_by f cs) ≡ map what (filter (λ c. is_for s (f c)) cs)
+each-row what f s [] = refl
+each-row what f s (x ∷ cs) = let ih = each-row what f s cs in let open_for = for_not_shut s (f x) in grind (arith, nat_tests, ih, open_for)
 
--- the connections of a session are closed
-pub closes-past : (past : List Deed) (s : ℕ) → closes s (rows past) ≡ map Close (connections_of past s)
-closes-past past s = closes-rows (standing_of past) s (openings past)
+-- the connections of a session are those that speak for it
+pub each-past : (what : ℕ → Sent) (past : List Deed) (s : ℕ) → to_each what s (rows past) ≡ map what (connections_of past s)
+each-past what past s = each-row what (standing_of past) s (openings past)
 
 -- ---- the table in hand
 
@@ -126,8 +126,3 @@ pub standing-found : (past : List Deed) (c : ℕ) (items : List Connection) → 
     → standing_found (find (λ x. x.number.value == c) items) ≡ standing_of past c
 standing-found past c items opened same =
     sym (found-row c items) ∙ (ap (λ all. standing_in (find (λ row. row.0 == c) all)) same ∙ find-rows past c (is_shut (standing_of past c)) refl opened)
-
--- a test of rows, over the table
-pub filter-rows : (p : Row → Bool) (items : List Connection) → map row_of (filter (λ c. p (row_of c)) items) ≡ filter p (map row_of items)
-filter-rows p [] = refl
-filter-rows p (x ∷ items) = let ih = filter-rows p items in grind (arith, nat_tests, ih)

@@ -1,5 +1,5 @@
 -- How the table of active sessions moves with the past.
-use Rattle.std.proofs.Common.{◌≡◌, ◌<◌, ℕ, suc, zero, Bool, not, ◌&&◌, ◌||◌, List, [], ◌∷◌, ◌++◌, refl, arith}
+use Rattle.std.proofs.Common.{◌≡◌, ◌<◌, ◌≤◌, ℕ, suc, zero, Bool, true, ◌&&◌, ◌||◌, List, [], ◌∷◌, ◌++◌, refl, arith}
 use Rattle.std.specs.Prelude.{◌==◌, filter}
 use Rattle.std.proofs.lemmas.Bool.Decides.{nat_tests}
 use Rattle.std.proofs.lemmas.List.Elements.{filter-append}
@@ -24,10 +24,14 @@ sessions-began past c =
     let front = past-range (is_active past) m (sessions_made past) (omega arith) in
     grind (arith, nat_tests, parts, front)
 
-both : (q p : ℕ → Bool) (xs : List ℕ) → filter (λ x. q x && p x) xs ≡ filter q (filter p xs)
+-- two tests at once are one after the other
+pub both : {X : Type 0} (q p : X → Bool) (xs : List X) → filter (λ x. q x && p x) xs ≡ filter q (filter p xs)
 both q p [] = refl
 both q p (x ∷ xs) = let ih = both q p xs in grind (arith, nat_tests, ih)
 
--- the end of a session takes it out
-pub sessions-ended : (past : List Deed) (s : ℕ) → sessions (Ended s ∷ past) ≡ filter (λ t. not (t == s)) (sessions past)
-sessions-ended past s = both (λ t. not (t == s)) (is_active past) (up_to (sessions_made past))
+-- an active session was made
+pub active_made : (past : List Deed) (s : ℕ) → is_active past s ≡ true → (0 < s) × (s ≤ sessions_made past)
+active_made [] s active = cc
+active_made (Began c ∷ past) s active = let ih = active_made past s in grind (arith, nat_tests, ih)
+active_made (Ended t ∷ past) s active = let ih = active_made past s in grind (arith, nat_tests, ih)
+active_made (d ∷ past) s active = active_made past s active

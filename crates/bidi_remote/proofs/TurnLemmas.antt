@@ -1,8 +1,9 @@
 -- What the machine does at each input, where it is known how the connection stands and what its text asks.
-use Rattle.std.proofs.Common.{◌≡◌, ◌∙◌, ℕ, Bool, true, false, List, [], ◌∷◌, map, refl, ap, Result, Ok, Err, Option, Some, None}
+use Rattle.std.proofs.Common.{◌≡◌, ◌∙◌, ℕ, Bool, true, false, List, [], ◌∷◌, ◌++◌, flat_map, map, refl, ap, Result, Ok, Err, Option, Some, None}
 use Rattle.bidi_tree.specs.Node.{Node}
 use Rattle.bidi_messages.specs.declared.error_code.ErrorCode.{ErrorCode}
 use Rattle.bidi_messages.specs.declared.error_code.ErrorCode.TheVariants.{InvalidArgument, SessionNotCreated}
+use Rattle.bidi_messages.specs.declared.event.EventName.{EventName}
 use Rattle.bidi_messages.specs.Verdict.{Verdict, Accepted, Refused}
 use Rattle.bidi_messages.specs.Message.{response_text, error_text}
 use Rattle.bidi_browser.specs.Maps.{nothing}
@@ -11,11 +12,11 @@ use Rattle.bidi_browser.specs.Actions.{Action}
 use Rattle.bidi_browser.specs.Occurs.{Replies}
 use Rattle.bidi_remote.specs.Capabilities.{Request, matching}
 use Rattle.bidi_remote.specs.Commands.{Command, Status, New, End, command_of, id_of_command}
-use Rattle.bidi_remote.specs.History.{Input, Open, Drop, Heard, NotText, Deed, Opened, Dropped, Began, Ended, Told}
+use Rattle.bidi_remote.specs.History.{Input, Open, Drop, Heard, NotText, Deed, Opened, Dropped, Began, Ended, Subscribed, Cancelled, Dismissed, Told, Scope}
 use Rattle.bidi_remote.specs.Connections.{Standing, Shut, Alone, SpeaksFor, is_shut, standing_of, connections_of}
-use Rattle.bidi_remote.specs.Outcome.{Refusal, Denied, Lost, Error, is_ready, session_of_resource, may_open, opening, replied, answered, asked, outcome, new_outcome, turn, with_turn}
+use Rattle.bidi_remote.specs.Outcome.{Refusal, Denied, Lost, Error, is_ready, session_of_resource, may_open, opening, replied, answered, asked, outcome, outcome_in, new_outcome, turn, with_turn}
 use Rattle.bidi_remote.specs.Sent as sent
-use Rattle.bidi_remote.specs.Sent.{Sent, Text, Close, status_result, new_result, items, told}
+use Rattle.bidi_remote.specs.Sent.{Sent, Text, Close, status_result, new_result, subscribe_result, items, announced, closed, sent_to, told}
 use Rattle.bidi_remote.specs.Replies.{new_reply}
 use Rattle.bidi_remote.specs.Built.{judged_so_far}
 
@@ -70,6 +71,22 @@ items-ended : (past : List Deed) (a : Option Action) (s : ℕ) → items past a 
 items-ended past None s = refl
 items-ended past (Some action) s = refl
 
+items-subscribed : (past : List Deed) (a : Option Action) (s : ℕ) (es : List EventName) (scope : Scope) → items past a (Subscribed s es scope) ≡ Replies (subscribe_result past s) ∷ []
+items-subscribed past None s es scope = refl
+items-subscribed past (Some action) s es scope = refl
+
+-- an unsubscribe of a session, by ids or by events
+pub data Unsubscribes (s : ℕ) : Deed → Type 0 where
+  by_ids : (ns : List ℕ) → Unsubscribes s (Cancelled s ns)
+  by_events : (es : List EventName) → Unsubscribes s (Dismissed s es)
+
+told-nothing : (past : List Deed) (c : ℕ) (t : Node) (s : ℕ) (a : Option Action) (d : Deed) → Unsubscribes s d
+    → announced past d ++ (flat_map (sent_to past c (id_of_command t)) (items past a d) ++ closed past d) ≡ Text c (response_text (id_of_command t) nothing) ∷ []
+told-nothing past c t s None d (by_ids ns) = refl
+told-nothing past c t s None d (by_events es) = refl
+told-nothing past c t s (Some action) d (by_ids ns) = refl
+told-nothing past c t s (Some action) d (by_events es) = refl
+
 module _ (past : List Deed) (c : ℕ) (t : Node) where
   told-told : told past (Heard c (Accepted t)) (Ok Told) ≡ Text c (response_text (id_of_command t) (status_result past)) ∷ []
   told-told = rw (items-told past (sent.action_in (command_of t))) refl
@@ -109,6 +126,33 @@ module _ (past : List Deed) (c : ℕ) (t : Node) where
   pub heard-end : (s : ℕ) → standing_of past c ≡ SpeaksFor s → command_of t ≡ Some End
       → Gives past (Heard c (Accepted t)) (Text c (response_text (id_of_command t) nothing) ∷ map Close (connections_of past s)) (Ended s ∷ past)
   heard-end s stands asks = by_turn (Ok (Ended s)) (turn-asked (SpeaksFor s) End stands refl asks) (told-ended s)
+
+  told-subscribed : (s : ℕ) (es : List EventName) (scope : Scope)
+      → told past (Heard c (Accepted t)) (Ok (Subscribed s es scope)) ≡ announced past (Subscribed s es scope) ++ Text c (response_text (id_of_command t) (subscribe_result past s)) ∷ []
+  told-subscribed s es scope = rw (items-subscribed past (sent.action_in (command_of t)) s es scope) refl
+
+  module _ (s : ℕ) (x : Command) (stands : standing_of past c ≡ SpeaksFor s) (asks : command_of t ≡ Some x) where
+    -- a command of a session does what its outcome says
+    turn-in : (r : Result Deed ErrorCode) → outcome_in past s x ≡ r → turn past (Heard c (Accepted t)) ≡ replied c (id_of_command t) r
+    turn-in r is = turn-asked (SpeaksFor s) x stands refl asks ∙ ap (replied c (id_of_command t)) is
+
+    pub heard-code : (code : ErrorCode) → outcome_in past s x ≡ Err code
+        → Gives past (Heard c (Accepted t)) (Text c (error_text (Some (id_of_command t)) code) ∷ []) past
+    heard-code code is = by_turn (Err (Error c (Some (id_of_command t)) code)) (turn-in (Err code) is) refl
+
+    -- `session.subscribe`
+    pub heard-subscribed : (es : List EventName) (scope : Scope) → outcome_in past s x ≡ Ok (Subscribed s es scope)
+        → Gives past (Heard c (Accepted t)) (announced past (Subscribed s es scope) ++ Text c (response_text (id_of_command t) (subscribe_result past s)) ∷ []) (Subscribed s es scope ∷ past)
+    heard-subscribed es scope is = by_turn (Ok (Subscribed s es scope)) (turn-in (Ok (Subscribed s es scope)) is) (told-subscribed s es scope)
+
+    -- `session.unsubscribe`
+    pub heard-unsubscribed : (d : Deed) → Unsubscribes s d → outcome_in past s x ≡ Ok d
+        → Gives past (Heard c (Accepted t)) (Text c (response_text (id_of_command t) nothing) ∷ []) (d ∷ past)
+    heard-unsubscribed d ends is = by_turn (Ok d) (turn-in (Ok d) is) (told-unsubscribed d ends)
+      where
+        told-unsubscribed : (d : Deed) → Unsubscribes s d → told past (Heard c (Accepted t)) (Ok d) ≡ Text c (response_text (id_of_command t) nothing) ∷ []
+        told-unsubscribed d (by_ids ns) = told-nothing past c t s (sent.action_in (command_of t)) d (by_ids ns)
+        told-unsubscribed d (by_events es) = told-nothing past c t s (sent.action_in (command_of t)) d (by_events es)
 
 -- ---- connections
 

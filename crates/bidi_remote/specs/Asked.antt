@@ -1,21 +1,40 @@
 -- What a command in hand asks, as far as it is built.
-use Rattle.std.specs.Prelude.{◌≡◌, ℕ, true, false, Option, Some, None, Err, List, ⊤}
+use Rattle.std.specs.Prelude.{◌≡◌, ℕ, true, false, Option, Some, None, option_map, Err, List, map, String, string_bytes, ⊤}
+use Rattle.std.specs.declared.alloc.Global.{Global}
 use Rattle.bidi_tree.specs.Node.{Node}
 use Rattle.bidi_shape.specs.Value.{ShapeOf}
 use Rattle.bidi_params.specs.declared.session.capabilities.NewParameters.{NewParameters}
+use Rattle.bidi_params.specs.declared.session.subscribe.SubscribeParameters.{SubscribeParameters}
+use Rattle.bidi_params.specs.declared.session.subscribe.UnsubscribeParameters.{UnsubscribeParameters}
+use Rattle.bidi_params.specs.declared.session.subscribe.UnsubscribeParameters.TheVariants.{ById, ByEvents}
 use Rattle.bidi_messages.specs.declared.error_code.ErrorCode.TheVariants.{InvalidSessionId}
 use Rattle.bidi_messages.specs.declared.command.CommandData.{CommandData}
 use Rattle.bidi_messages.specs.declared.command.CommandData.TheVariants as Of
 use Rattle.bidi_remote.specs.Capabilities.{request_of}
-use Rattle.bidi_remote.specs.Commands.{Command, Status, New, End, command_of, id_of_command}
+use Rattle.bidi_remote.specs.Commands.{Command, Status, New, End, Subscribe, UnsubscribeById, UnsubscribeByEvents, command_of, id_of_command}
 use Rattle.bidi_remote.specs.History.{Deed}
 use Rattle.bidi_remote.specs.Outcome.{outcome_alone}
 use Rattle.bidi_remote.specs.Built.{is_built}
 
+-- the bytes of some texts
+abbrev pub texts : List (String Global) → List (List ℕ)
+texts ss = map string_bytes ss
+
+-- what the params of a subscribe and of an unsubscribe ask
+abbrev pub subscribe_asked : SubscribeParameters → Command
+subscribe_asked p = Subscribe (texts p.events.items.items) (option_map (λ ids. texts ids.items.items) p.contexts) (option_map (λ ids. texts ids.items.items) p.user_contexts)
+
+abbrev pub unsubscribe_asked : UnsubscribeParameters → Command
+unsubscribe_asked (ById p) = UnsubscribeById (texts p.subscriptions.items.items)
+unsubscribe_asked (ByEvents p) = UnsubscribeByEvents (texts p.events.items.items)
+
+-- what a command in hand asks
 abbrev pub asked_of : ShapeOf NewParameters → CommandData → Option Command
 asked_of shape (Of.SessionStatus params) = Some Status
 asked_of shape (Of.SessionNew params) = Some (New (request_of (shape.tree_of params)))
 asked_of shape (Of.SessionEnd params) = Some End
+asked_of shape (Of.SessionSubscribe params) = Some (subscribe_asked params)
+asked_of shape (Of.SessionUnsubscribe params) = Some (unsubscribe_asked params)
 asked_of shape d = None
 
 -- the request for a session is well

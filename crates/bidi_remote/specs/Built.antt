@@ -16,7 +16,7 @@ use Rattle.bidi_remote.specs.Outcome.{deeds}
 
 -- the methods that are built
 abbrev pub built_methods : List String
-built_methods = "session.status" ∷ "session.new" ∷ "session.end" ∷ []
+built_methods = "session.status" ∷ "session.new" ∷ "session.end" ∷ "session.subscribe" ∷ "session.unsubscribe" ∷ []
 
 -- the command has one of them
 abbrev pub is_built : Node → Bool

@@ -3,7 +3,7 @@ use Rattle.std.specs.Prelude.{ℕ, ◌==◌, List, map, filter, if◌then◌else
 use Rattle.bidi_remote.specs.declared.connections.Connection.{Connection}
 use Rattle.bidi_remote.specs.History.{Deed}
 use Rattle.bidi_remote.specs.Connections.{Standing, SpeaksFor, is_for, opened_for, standing_of, open_connections}
-use Rattle.bidi_remote.specs.Sent.{Sent, Close}
+use Rattle.bidi_remote.specs.Sent.{Sent}
 
 -- a connection, and how it stands
 abbrev pub Row : Type 0
@@ -21,6 +21,6 @@ rows past = map (λ c. (c, standing_of past c)) (open_connections past)
 abbrev pub begun : ℕ → ℕ → Row → Row
 begun c s row = if row.0 == c then (c, SpeaksFor s) else row
 
--- those that speak for a session are closed
-abbrev pub closes : ℕ → List Row → List Sent
-closes s rows = map (λ row. Close row.0) (filter (λ row. is_for s row.1) rows)
+-- what is sent to each connection that speaks for a session
+abbrev pub to_each : (ℕ → Sent) → ℕ → List Row → List Sent
+to_each what s rows = map (λ row. what row.0) (filter (λ row. is_for s row.1) rows)

@@ -12,6 +12,12 @@ pub mod Strike
 pub mod Built
 pub mod View
 pub mod ConnectionRows
+pub mod SubscriptionRows
+pub mod SessionView
 pub mod Stands
+pub mod Given
 pub mod Replies
 pub mod Asked
+pub mod Checked
+pub mod Announced
+pub mod Unsubscribed

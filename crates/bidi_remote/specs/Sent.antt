@@ -66,9 +66,13 @@ new_result past = mapped (
     "capabilities" being capabilities and
     "sessionId" being text (id_of Session (next_session past)) and no_members)
 
+-- a subscription of the session
+abbrev pub subscription_tree : ℕ → ℕ → Node
+subscription_tree s n = mapped ("subscription" being text (id_text Subscription s n) and no_members)
+
 -- the next subscription of the session
 abbrev pub subscribe_result : List Deed → ℕ → Node
-subscribe_result past s = mapped ("subscription" being text (id_text Subscription s (next_subscription past s)) and no_members)
+subscribe_result past s = subscription_tree s (next_subscription past s)
 
 -- ---- what a deed brings about
 

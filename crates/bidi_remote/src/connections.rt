@@ -2,11 +2,12 @@
 ghost use Rattle.std.specs.Prelude.{◌≡◌, ◌==◌, not, false, ◌++◌, Option, find, filter, map, length, nat_lt, IfOk};
 ghost use Rattle.bidi_remote.specs.View.{sent_of};
 ghost use Rattle.bidi_remote.specs.Connections.{is_for};
-ghost use Rattle.bidi_remote.specs.ConnectionRows.{row_of, begun, closes};
+ghost use Rattle.bidi_remote.specs.ConnectionRows.{row_of, begun, to_each};
+ghost use Rattle.bidi_remote.specs.Sent.{Text, Close};
 
 use crate::step::Sent;
 use bidi_tree::JsUint;
-use std::alloc::AllocError;
+use std::alloc::{AllocError, Global};
 
 /// How many connections may be open.
 const MOST_CONNECTIONS: usize = 64;
@@ -75,13 +76,32 @@ pub(crate) fn begin(connections: &mut [Connection], number: JsUint, session: u32
     }
 }
 
+/// Adds a text for each connection of a session, in order of opening.
+pub(crate) fn push_text(
+    alloc: Global,
+    connections: &[Connection],
+    session: u32,
+    text: &str,
+    sent: &mut Vec<Sent>,
+) -> Result<(), AllocError>
+    ensures { IfOk result (λ _. map sent_of sent.new.items ≡ map sent_of sent.old.items ++ to_each (λ c. Text c text.now) session (map row_of connections.now)) }
+{
+    for connection in connections {
+        if connection.is_for(session) {
+            let copy = String::from_str(alloc, text)?;
+            sent.push(Sent::Text(connection.number, copy))?;
+        }
+    }
+    Ok(())
+}
+
 /// Adds that each connection of a session is closed, in order of opening.
 pub(crate) fn push_closes(
     connections: &[Connection],
     session: u32,
     sent: &mut Vec<Sent>,
 ) -> Result<(), AllocError>
-    ensures { IfOk result (λ _. map sent_of sent.new.items ≡ map sent_of sent.old.items ++ closes session (map row_of connections.now)) }
+    ensures { IfOk result (λ _. map sent_of sent.new.items ≡ map sent_of sent.old.items ++ to_each Close session (map row_of connections.now)) }
 {
     for connection in connections {
         if connection.is_for(session) {

@@ -7,6 +7,7 @@ ghost use Rattle.bidi_remote.specs.Connections.{is_open};
 ghost use Rattle.bidi_remote.specs.Outcome.{deeds};
 ghost use Rattle.bidi_remote.specs.Sent.{out};
 ghost use Rattle.bidi_remote.specs.Built.{so_far};
+ghost use Rattle.bidi_remote.specs.Given.{ids_given};
 ghost use Rattle.bidi_remote.specs.declared.remote_end.RemoteFault.TheVariants.{NoMemory};
 
 use crate::step::{Sent, Step};
@@ -43,7 +44,7 @@ pub struct RemoteEnd {
     tables: Tables,
     /// How many steps were accepted.
     count: u64,
-    ghost few: { tables.made ≤ count },
+    ghost few: { ids_given tables ≤ count },
 }
 
 impl RemoteEnd {
@@ -58,15 +59,15 @@ impl RemoteEnd {
     {
         Ok(RemoteEnd {
             alloc,
-            tables: Tables::new(alloc),
+            tables: Tables::new(alloc)?,
             count: 0,
         })
     }
 
     /// Takes one step, and returns what is sent, in order.
     ///
-    /// `At`, and `Drop` of an open connection, take no memory. A step looks through at most 64 connections and
-    /// 8 sessions; a text costs what its reading costs.
+    /// `At`, and `Drop` of an open connection, take no memory. A step looks through at most 64 connections,
+    /// 8 sessions and the 256 subscriptions of one; a text costs what its reading costs.
     ///
     /// # Errors
     /// After either the remote end is as it was.

@@ -6,11 +6,12 @@ ghost use Rattle.bidi_browser.specs.declared.id.Kind.TheVariants.{Session};
 ghost use Rattle.bidi_browser.specs.Ids.{id_of};
 ghost use Rattle.bidi_browser.specs.Maps.{◌being◌and◌, mapped, nothing};
 ghost use Rattle.bidi_remote.specs.Capabilities.{capabilities};
+ghost use Rattle.bidi_remote.specs.Sent.{subscription_tree};
 
 use crate::capabilities::{BROWSER_NAME, BROWSER_VERSION, PLATFORM_NAME};
 use bidi_browser::{Kind, id_text};
 use bidi_messages::{Method, ResultData, Subject, response_text};
-use bidi_params::{Capabilities, EmptyResult, NewResult, StatusResult};
+use bidi_params::{Capabilities, EmptyResult, NewResult, StatusResult, SubscribeResult};
 use bidi_shape::{Ext, Shape};
 use bidi_tree::JsUint;
 use std::alloc::{AllocError, Global};
@@ -38,6 +39,28 @@ pub(crate) fn end_text(alloc: Global, id: JsUint) -> Result<String, AllocError>
     ensures { IfOk result (λ s. string_bytes s ≡ response_text id.value nothing) }
 {
     let result = end_result(alloc);
+    response_text(alloc, id, &result)
+}
+
+/// The text of the response to `session.subscribe`, for the subscription of that number.
+pub(crate) fn subscribe_text(
+    alloc: Global,
+    id: JsUint,
+    session: u32,
+    number: u32,
+) -> Result<String, AllocError>
+    ensures { IfOk result (λ s. string_bytes s ≡ response_text id.value
+        (subscription_tree session number)) }
+{
+    let result = subscribe_result(alloc, session, number)?;
+    response_text(alloc, id, &result)
+}
+
+/// The text of the response to `session.unsubscribe`.
+pub(crate) fn unsubscribe_text(alloc: Global, id: JsUint) -> Result<String, AllocError>
+    ensures { IfOk result (λ s. string_bytes s ≡ response_text id.value nothing) }
+{
+    let result = unsubscribe_result(alloc);
     response_text(alloc, id, &result)
 }
 
@@ -92,6 +115,29 @@ fn end_result(alloc: Global) -> ResultData
     ensures well { ⟦<ResultData as Subject<Method>>⟧.subject.well result }
 {
     ResultData::SessionEnd(EmptyResult {
+        ext: Ext::empty(alloc),
+    })
+}
+
+/// The result of `session.subscribe`: the id of the subscription of that number.
+fn subscribe_result(alloc: Global, session: u32, number: u32) -> Result<ResultData, AllocError>
+    ensures tree { IfOk result (λ r. ⟦<ResultData as Subject<Method>>⟧.subject.tree_of r
+        ≡ subscription_tree session number) }
+    ensures well { IfOk result ⟦<ResultData as Subject<Method>>⟧.subject.well }
+{
+    let subscription = id_text(alloc, Kind::Subscription, session, u64::from(number))?;
+    Ok(ResultData::SessionSubscribe(SubscribeResult {
+        subscription,
+        ext: Ext::empty(alloc),
+    }))
+}
+
+/// The result of `session.unsubscribe`.
+fn unsubscribe_result(alloc: Global) -> ResultData
+    ensures tree { ⟦<ResultData as Subject<Method>>⟧.subject.tree_of result ≡ nothing }
+    ensures well { ⟦<ResultData as Subject<Method>>⟧.subject.well result }
+{
+    ResultData::SessionUnsubscribe(EmptyResult {
         ext: Ext::empty(alloc),
     })
 }

@@ -1,13 +1,10 @@
-use Rattle.std.proofs.Common.{◌≡◌, ◌∙◌, ℕ, suc, ◌+◌, ◌<◌, List, ◌∷◌, Bool, true, false, ◌&&◌, length, get_or, drop, drop-cons, add-one, map, true≢false, sym, ap, subst, arith}
+use Rattle.std.proofs.Common.{◌≡◌, ◌∙◌, ℕ, ◌+◌, List, ◌∷◌, Bool, true, false, ◌&&◌, drop, map, true≢false, sym, ap, subst, arith}
 use Rattle.std.specs.List.{list_all, AllByRecursion}
 use Rattle.bidi_params.specs.contracts.session.capabilities.CapabilityRequestShape.TheImpl.{ghosts}
 use Rattle.bidi_remote.specs.Capabilities.{is_known, are_apart}
+use Rattle.bidi_remote.proofs.ListLemmas.{from-item}
 use Rattle.bidi_remote.proofs.CapabilityLemmas.{asked, asked_if_any}
 use Rattle.bidi_remote.proofs.capabilities.are_all_apart.Goals as goal
-
--- an item, and those behind it
-from_item : {X : Type 0} (xs : List X) (i : ℕ) (x : X) → i < length xs → x ≡ get_or xs i x → drop i xs ≡ x ∷ drop (i + 1) xs
-from_item xs i x h e = rw (add-one, drop-cons xs i x) (ap (λ y. y ∷ drop (suc i) xs) (sym e))
 
 rest_true : (b c : Bool) → (b && c) ≡ true → c ≡ true
 rest_true true c e = e
@@ -28,7 +25,7 @@ returns-then-not-is_none_or_apart c =
     let xs = c.args.choices.now in
     let i = c.loop-choice.choice-index in
     let x = c.choice-item.result in
-    let is = from_item xs i x (omega arith) c.choice-item.is in
+    let is = from-item xs i x (omega arith) c.choice-item.is in
     sym (c.loop-choice.invariant.2 ∙ all_from test asked xs i x false is (sym c.is_none_or_apart.ensures ∙ c.if-not-is_none_or_apart.true))
 
 pub loop-choice-preserved : goal.loop-choice-preserved
@@ -37,7 +34,7 @@ loop-choice-preserved c =
     let xs = c.args.choices.now in
     let i = c.loop-choice.choice-index in
     let x = c.choice-item.result in
-    let is = from_item xs i x (omega arith) c.choice-item.is in (
+    let is = from-item xs i x (omega arith) c.choice-item.is in (
       (subst (AllByRecursion ghosts.shape.well) is c.loop-choice.invariant.0).1,
       rest_pass (list_all is_known) asked xs i x is c.loop-choice.invariant.1,
       c.loop-choice.invariant.2 ∙ all_from test asked xs i x true is (sym c.is_none_or_apart.ensures ∙ c.if-not-is_none_or_apart.false),

@@ -7,8 +7,11 @@ use Rattle.bidi_remote.specs.Connections.{is_shut}
 use Rattle.bidi_remote.specs.ConnectionRows.{row_of, begun}
 use Rattle.bidi_remote.specs.Outcome.{deeds}
 use Rattle.bidi_remote.specs.Sent.{Text}
+use Rattle.bidi_remote.specs.SessionView.{row_of as subscription_row}
 use Rattle.bidi_remote.specs.Stands.{AgreeWith}
 use Rattle.bidi_remote.specs.View.{sent_of}
+use Rattle.bidi_remote.specs.Sessions.{next_session}
+use Rattle.bidi_remote.proofs.SpeakingLemmas.{made-none}
 use Rattle.bidi_remote.proofs.AnswerLemmas.{no_error, new-began, began-reply, began-past}
 use Rattle.bidi_remote.proofs.TakeLemmas.{is_ready-sessions, agree-began}
 use Rattle.bidi_remote.proofs.tables.Tables.begin.Goals as goal
@@ -39,4 +42,5 @@ returns-clause-ok c = λ h a alone.
     let lc = length-map c.deref_mut.result.now row_of in let d = c.deref_mut.ensures.len in with_items_is held c.begin.new.connections (omega (arith, e, la, lb, lc, d)) in
     let rows = ap (map row_of) items ∙ (all ∙ ap (λ xs. map (begun conn (c.args.self.now.made + 1)) (map row_of xs)) c.deref_mut.ensures.value) in
     subst (AgreeWith _) (began-past past conn c.args.id.value request is)
-    (agree-began c.args.self.now past conn (c.args.self.now.made + 1) (with_items held c.begin.new.connections) c.push.new.self a (ap is_shut alone) refl c.in_ok-push.ensures.items rows)
+    (agree-began c.args.self.now past conn (c.args.self.now.made + 1) (with_items held c.begin.new.connections) c.push.new.self _ a (ap is_shut alone)
+    (made-none h (next_session past) (omega arith)) refl (ap (λ items. record { number = c.args.self.now.made + 1; made = 0; subscriptions = map subscription_row items }) c.new.ensures.items) c.in_ok-push.ensures.items rows)

@@ -16,8 +16,8 @@ returns-then-is_none-clause-ok c = λ h a.
 pub returns-then-is_none-clause-err : goal.returns-then-is_none-clause-err
 returns-then-is_none-clause-err c = anyway c.only.result (λ h a. a)
 
-pub returns-then-is_none-clause-made : goal.returns-then-is_none-clause-made
-returns-then-is_none-clause-made c = refl
+pub returns-then-is_none-clause-no_id : goal.returns-then-is_none-clause-no_id
+returns-then-is_none-clause-no_id c = refl
 
 pub returns-then-is_none-clause-quiet : goal.returns-then-is_none-clause-quiet
 returns-then-is_none-clause-quiet c = λ h a is.
@@ -30,8 +30,8 @@ returns-clause-ok c = λ h a.
     takes (record c.args.self.now { connections = c.close.new.connections }) h (Drop c.args.conn.value) (map sent_of c.new.result.items) (drop-open (deeds h) c.args.conn.value opened) none
     (agree-dropped c.args.self.now (deeds h) c.args.conn.value c.close.new.connections a c.close.ensures)
 
-pub returns-clause-made : goal.returns-clause-made
-returns-clause-made c = refl
+pub returns-clause-no_id : goal.returns-clause-no_id
+returns-clause-no_id c = refl
 
 pub returns-clause-quiet : goal.returns-clause-quiet
 returns-clause-quiet c = λ h a is. refl

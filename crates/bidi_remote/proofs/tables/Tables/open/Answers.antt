@@ -6,7 +6,7 @@ use Rattle.bidi_remote.specs.ConnectionRows.{row_of}
 use Rattle.bidi_remote.specs.Connections.{is_shut, standing_of}
 use Rattle.bidi_remote.specs.declared.step.Sent.TheVariants.{Denied, Opened}
 use Rattle.bidi_remote.proofs.TurnLemmas.{open-unknown, open-denied, open-opened}
-use Rattle.bidi_remote.proofs.TakeLemmas.{takes, only_takes, anyway, agree-opened, may_open-true, resource-names, no_value}
+use Rattle.bidi_remote.proofs.TakeLemmas.{takes, only_takes, anyway, agree-connections, agree-opened, may_open-true, resource-names, no_value}
 use Rattle.bidi_remote.proofs.tables.Tables.open.Goals as goal
 
 pub returns-in_default-clause-ok : goal.returns-in_default-clause-ok
@@ -17,8 +17,8 @@ returns-in_default-clause-ok c = λ h a.
 pub returns-in_default-clause-err : goal.returns-in_default-clause-err
 returns-in_default-clause-err c = anyway c.only.result (λ h a. a)
 
-pub returns-in_default-clause-made : goal.returns-in_default-clause-made
-returns-in_default-clause-made c = refl
+pub returns-in_default-clause-no_id : goal.returns-in_default-clause-no_id
+returns-in_default-clause-no_id c = refl
 
 pub returns-then-not-may_open-clause-ok : goal.returns-then-not-may_open-clause-ok
 returns-then-not-may_open-clause-ok c = λ h a.
@@ -29,8 +29,8 @@ returns-then-not-may_open-clause-ok c = λ h a.
 pub returns-then-not-may_open-clause-err : goal.returns-then-not-may_open-clause-err
 returns-then-not-may_open-clause-err c = anyway c.only-then-not-may_open.result (λ h a. a)
 
-pub returns-then-not-may_open-clause-made : goal.returns-then-not-may_open-clause-made
-returns-then-not-may_open-clause-made c = refl
+pub returns-then-not-may_open-clause-no_id : goal.returns-then-not-may_open-clause-no_id
+returns-then-not-may_open-clause-no_id c = refl
 
 pub returns-in_err-sent-clause-ok : goal.returns-in_err-sent-clause-ok
 returns-in_err-sent-clause-ok c = λ h a. search rules
@@ -38,18 +38,18 @@ returns-in_err-sent-clause-ok c = λ h a. search rules
 pub returns-in_err-sent-clause-err : goal.returns-in_err-sent-clause-err
 returns-in_err-sent-clause-err c = anyway c.from_residual.result (λ h a. a)
 
-pub returns-in_err-sent-clause-made : goal.returns-in_err-sent-clause-made
-returns-in_err-sent-clause-made c = refl
+pub returns-in_err-sent-clause-no_id : goal.returns-in_err-sent-clause-no_id
+returns-in_err-sent-clause-no_id c = refl
 
 pub returns-in_err-push-clause-ok : goal.returns-in_err-push-clause-ok
 returns-in_err-push-clause-ok c = λ h a. search rules
 
 pub returns-in_err-push-clause-err : goal.returns-in_err-push-clause-err
 returns-in_err-push-clause-err c =
-    anyway c.from_residual-in_err-push.result (λ h a. record { moment = a.moment; made = a.made; sessions = a.sessions; connections = ap (map row_of) c.in_err-push.ensures.items ∙ a.connections })
+    anyway c.from_residual-in_err-push.result (λ h a. agree-connections c.args.self.now (deeds h) c.push.new.self a (ap (map row_of) c.in_err-push.ensures.items))
 
-pub returns-in_err-push-clause-made : goal.returns-in_err-push-clause-made
-returns-in_err-push-clause-made c = refl
+pub returns-in_err-push-clause-no_id : goal.returns-in_err-push-clause-no_id
+returns-in_err-push-clause-no_id c = refl
 
 pub returns-clause-ok : goal.returns-clause-ok
 returns-clause-ok c = λ h a.
@@ -62,5 +62,5 @@ returns-clause-ok c = λ h a.
     (open-opened (deeds h) conn c.args.resource.now c.in-Some.session named may) only
     (agree-opened c.args.self.now (deeds h) (record { number = c.args.conn; session = c.in-Some.session }) c.push.new.self a shut c.in_ok-push.ensures.items)
 
-pub returns-clause-made : goal.returns-clause-made
-returns-clause-made c = refl
+pub returns-clause-no_id : goal.returns-clause-no_id
+returns-clause-no_id c = refl

@@ -30,7 +30,7 @@ returns-in-Accepted-clause-ok c = λ h a.
     let found = sym (ap standing_found c.in-Some.is) ∙ stands c.args.self.now h conn c.find.result c.deref.result.now c.deref.ensures.value c.find.ensures a in
     subst (λ i. IfOk c.answer.result (λ sent. Takes c.answer.new.self (map sent_of sent.items) h i))
     (ap₂ (λ s v. Heard conn (judged_so_far s v)) found (sym (ap (verdict_of ghosts.shape) c.in-Accepted.is)))
-    (c.answer.ensures.ok h (tree_of c.in-Accepted.command) a (sym found) (asks-tree c.in-Accepted.command))
+    (c.answer.ensures.ok h (tree_of c.in-Accepted.command) a (sym found) (asks-tree c.in-Accepted.command (subst (IsWell ghosts.shape) c.in-Accepted.is c.requires.well)))
 
 pub returns-in-Refused-clause-ok : goal.returns-in-Refused-clause-ok
 returns-in-Refused-clause-ok c = λ h a.

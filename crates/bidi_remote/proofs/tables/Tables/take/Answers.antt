@@ -3,7 +3,8 @@ use Rattle.bidi_remote.specs.declared.step.Step.{Step}
 use Rattle.bidi_remote.specs.Step.{Text}
 use Rattle.bidi_remote.specs.View.{step_of}
 use Rattle.bidi_remote.specs.History.{At, Open, Drop, NotText, IsHeardAs}
-use Rattle.bidi_remote.proofs.TakeLemmas.{step_heard, text_heard}
+use Rattle.bidi_remote.specs.Outcome.{deeds}
+use Rattle.bidi_remote.proofs.TakeLemmas.{step_heard, text_heard, agree-time}
 use Rattle.bidi_remote.proofs.tables.Tables.take.Goals as goal
 
 pub returns-in-At-clause-ok : goal.returns-in-At-clause-ok
@@ -13,7 +14,7 @@ returns-in-At-clause-ok c =
       subst (λ (s : Step). IsHeardAs (step_of s) i) (sym c.in-At.is) refl,
       λ h a. record {
         sends = search rules;
-        agree = record { moment = refl; made = a.made; sessions = a.sessions; connections = a.connections };
+        agree = agree-time c.args.self.now (deeds h) c.in-At.moment.value a;
       },
     )
 

@@ -1,0 +1,50 @@
+-- Lists that are looked at through a function.
+use Rattle.std.proofs.Common.{◌≡◌, ◌<◌, ◌≤◌, ◌+◌, ℕ, suc, Bool, cond, Option, Some, None, ◌&&◌, ◌||◌, length, get_or, drop, drop-cons, add-one, option_map, List, [], ◌∷◌, ◌++◌, map, refl, sym, ap, ap₂, arith}
+use Rattle.std.specs.Prelude.{filter, find, flat_map, nat_lt}
+use Rattle.std.specs.List.{list_any, list_all, position, position_or_len}
+use Rattle.std.proofs.lemmas.Bool.Decides.{nat_tests}
+
+-- a test of what is seen
+pub map-filter : {X Y : Type 0} (g : X → Y) (p : Y → Bool) (xs : List X) → map g (filter (λ x. p (g x)) xs) ≡ filter p (map g xs)
+map-filter g p [] = refl
+map-filter g p (x ∷ xs) = let ih = map-filter g p xs in grind (arith, nat_tests, ih)
+
+-- some item passes, as it is seen
+pub any-map : {X Y : Type 0} (g : X → Y) (p : Y → Bool) (xs : List X) → list_any p (map g xs) ≡ list_any (λ x. p (g x)) xs
+any-map g p [] = refl
+any-map g p (x ∷ xs) = ap (λ b. p (g x) || b) (any-map g p xs)
+
+-- tests that agree
+pub all-same : {X : Type 0} (p q : X → Bool) (xs : List X) → ((x : X) → p x ≡ q x) → list_all p xs ≡ list_all q xs
+all-same p q [] same = refl
+all-same p q (x ∷ xs) same = ap₂ (λ b c. b && c) (same x) (all-same p q xs same)
+
+-- the first item that passes, as it is seen
+pub find-map : {X Y Z : Type 0} (g : X → Y) (f : Y → Z) (p : Y → Bool) (xs : List X) → option_map f (find p (map g xs)) ≡ option_map (λ x. f (g x)) (find (λ x. p (g x)) xs)
+find-map g f p [] = refl
+find-map g f p (x ∷ xs) = let ih = find-map g f p xs in grind (arith, nat_tests, ih)
+
+-- no item passes
+pub position-none : {X : Type 0} (p : X → Bool) (xs : List X) → (let none : Option ℕ = None in position p xs ≡ none) → find p xs ≡ None
+position-none p xs none = fails p xs (past-end (nat_lt (position_or_len p xs) (length xs)) refl none)
+  where
+    past-end : (b : Bool) → nat_lt (position_or_len p xs) (length xs) ≡ b → (let none : Option ℕ = None in cond (nat_lt (position_or_len p xs) (length xs)) (Some (position_or_len p xs)) None ≡ none) → length xs ≤ position_or_len p xs
+    past-end b e is = grind (arith, nat_tests, e, is)
+
+    fails : {X : Type 0} (p : X → Bool) (xs : List X) → length xs ≤ position_or_len p xs → find p xs ≡ None
+    fails p [] le = refl
+    fails p (x ∷ xs) le = let ih = fails p xs in grind (arith, nat_tests, ih, le)
+
+-- an item, and those behind it
+pub from-item : {X : Type 0} (xs : List X) (i : ℕ) (x : X) → i < length xs → x ≡ get_or xs i x → drop i xs ≡ x ∷ drop (i + 1) xs
+from-item xs i x less is = rw (add-one, drop-cons xs i x) (ap (λ y. y ∷ drop (suc i) xs) (sym is))
+
+-- tests that agree
+pub filter-same : {X : Type 0} (p q : X → Bool) (xs : List X) → ((x : X) → p x ≡ q x) → filter p xs ≡ filter q xs
+filter-same p q [] same = refl
+filter-same p q (x ∷ xs) same = let ih = filter-same p q xs same in let here = same x in grind (arith, nat_tests, ih, here)
+
+-- functions that agree
+pub flat_map-same : {X Y : Type 0} (f g : X → List Y) (xs : List X) → ((x : X) → f x ≡ g x) → flat_map f xs ≡ flat_map g xs
+flat_map-same f g [] same = refl
+flat_map-same f g (x ∷ xs) same = ap₂ (λ ys zs. ys ++ zs) (same x) (flat_map-same f g xs same)

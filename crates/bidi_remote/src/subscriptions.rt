@@ -1,0 +1,168 @@
+//! Subscriptions of a session, by events and scope.
+ghost use Rattle.std.specs.Prelude.{◌≡◌, map, string_bytes, option_map, find, filter, not, bytes_eq};
+ghost use Rattle.std.specs.List.{list_all, list_any};
+ghost use Rattle.bidi_remote.specs.Subscriptions.{is_global, is_listed, covers};
+ghost use Rattle.bidi_remote.specs.SubscriptionRows.{row_covers, row_holds, loses_all, stripped, dismissed};
+ghost use Rattle.bidi_remote.specs.Checked.{IfChecked};
+ghost use Rattle.bidi_remote.specs.SessionView.{scope_of, row_of};
+ghost use Rattle.bidi_browser.specs.Ids.{id_text};
+ghost use Rattle.bidi_remote.specs.Unsubscribed.{numbers_named};
+ghost use Rattle.bidi_browser.specs.Occurrences.{is_among};
+
+use crate::event_names::is_among;
+use crate::refusal::Refusal;
+use bidi_browser::{Kind, is_id};
+use bidi_messages::{ErrorCode, EventName};
+use std::alloc::Global;
+
+/// The contexts that a subscription covers.
+#[derive(Drop)]
+pub(crate) enum Scope {
+    /// All contexts.
+    All,
+    /// Those below some top-level contexts, which are told by their numbers.
+    Below(Vec<u64>),
+}
+
+impl Scope {
+    fn is_global(&self) -> bool
+        ensures { result ≡ is_global (scope_of self.now) }
+    {
+        match self {
+            Scope::All => true,
+            Scope::Below(_) => false,
+        }
+    }
+
+    fn covers(&self, top: u64) -> bool
+        ensures { result ≡ covers (scope_of self.now) top }
+    {
+        match self {
+            Scope::All => true,
+            Scope::Below(tops) => tops.contains(&top),
+        }
+    }
+}
+
+/// A live subscription.
+#[derive(Drop)]
+pub(crate) struct Subscription {
+    pub number: u32,
+    /// The events that it still holds for.
+    pub events: Vec<EventName>,
+    pub scope: Scope,
+}
+
+impl Subscription {
+    /// Whether it holds for the event, in contexts below the top-level one.
+    pub(crate) fn covers(&self, event: EventName, top: u64) -> bool
+        ensures { result ≡ row_covers event top (row_of self.now) }
+    {
+        is_among(&self.events, event) && self.scope.covers(top)
+    }
+
+    // Whether it is global, and loses its last events with these.
+    fn loses_all(&self, events: &[EventName]) -> bool
+        ensures { result ≡ loses_all events.now (row_of self.now) }
+    {
+        self.scope.is_global() && !self.events.is_empty() && are_among(events, &self.events)
+    }
+}
+
+/// Whether a subscription holds for the event, in contexts below the top-level one.
+pub(crate) fn any_covers(subscriptions: &[Subscription], event: EventName, top: u64) -> bool
+    ensures { result ≡ list_any (λ s. row_covers event top (row_of s)) subscriptions.now }
+{
+    subscriptions
+        .iter()
+        .any(|subscription| subscription.covers(event, top))
+}
+
+/// Whether a global subscription holds for each of these events.
+pub(crate) fn all_global(subscriptions: &[Subscription], events: &[EventName]) -> bool
+    ensures { result ≡ list_all (λ e. list_any (λ s. row_holds e (row_of s)) subscriptions.now) events.now }
+{
+    events.iter().all(|event| any_global(subscriptions, *event))
+}
+
+// Whether a global subscription holds for the event.
+fn any_global(subscriptions: &[Subscription], event: EventName) -> bool
+    ensures { result ≡ list_any (λ s. row_holds event (row_of s)) subscriptions.now }
+{
+    subscriptions
+        .iter()
+        .any(|s| s.scope.is_global() && is_among(&s.events, event))
+}
+
+/// The numbers of the subscriptions of a session that have these ids.
+///
+/// # Errors
+/// - `invalid argument`: no subscription has the id.
+/// - No memory, where a growth was refused.
+pub(crate) fn numbers_of(
+    alloc: Global,
+    subscriptions: &[Subscription],
+    session: u32,
+    ids: &[String],
+) -> Result<Vec<u32>, Refusal>
+    ensures { IfChecked result (λ numbers. numbers.items) (numbers_named session (map row_of subscriptions.now) (map string_bytes ids.now)) }
+{
+    let mut numbers = Vec::new(alloc);
+    for id in ids {
+        match number_of(subscriptions, session, id) {
+            Some(number) => numbers.push(number)?,
+            None => return Err(Refusal::Code(ErrorCode::InvalidArgument)),
+        }
+    }
+    Ok(numbers)
+}
+
+// The number of the subscription of a session that has the id.
+fn number_of(subscriptions: &[Subscription], session: u32, id: &str) -> Option<u32>
+    ensures { result ≡ option_map (λ s. s.number) (find (λ s. bytes_eq id.now (id_text Kind.Subscription session s.number)) subscriptions.now) }
+{
+    subscriptions
+        .iter()
+        .find(|s| is_id(id, Kind::Subscription, session, u64::from(s.number)))
+        .map(|s| s.number)
+}
+
+/// Takes out the subscriptions with these numbers.
+pub(crate) fn cancel(subscriptions: &mut Vec<Subscription>, numbers: &[u32])
+    ensures { subscriptions.new.items ≡ filter (λ s. not (is_listed numbers.now s.number)) subscriptions.old.items }
+{
+    subscriptions.retain(|s| !is_listed(numbers, s.number));
+}
+
+// Whether the number is one of these.
+fn is_listed(numbers: &[u32], number: u32) -> bool
+    ensures { result ≡ is_listed numbers.now number }
+{
+    numbers.contains(&number)
+}
+
+/// Takes these events from each global subscription, and takes out those that so lose their last.
+pub(crate) fn dismiss(subscriptions: &mut Vec<Subscription>, events: &[EventName])
+    ensures { map row_of subscriptions.new.items ≡ dismissed events.now (map row_of subscriptions.old.items) }
+{
+    subscriptions.retain(|s| !s.loses_all(events));
+    strip(subscriptions, events);
+}
+
+// Takes these events from each global subscription.
+fn strip(subscriptions: &mut [Subscription], events: &[EventName])
+    ensures { map row_of subscriptions.new ≡ map (stripped events.now) (map row_of subscriptions.old) }
+{
+    for subscription in subscriptions.iter_mut() {
+        if subscription.scope.is_global() {
+            subscription.events.retain(|e| !is_among(events, *e));
+        }
+    }
+}
+
+// Whether each of these events is one of those.
+fn are_among(those: &[EventName], these: &[EventName]) -> bool
+    ensures { result ≡ list_all (is_among those.now) these.now }
+{
+    these.iter().all(|event| is_among(those, *event))
+}
