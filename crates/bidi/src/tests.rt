@@ -7,6 +7,7 @@ mod messages;
 mod plays;
 mod sessions;
 pub(crate) mod stop_at;
+mod subscriptions;
 mod tables;
 
 use super::arguments::Run;

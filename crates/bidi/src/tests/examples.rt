@@ -91,6 +91,39 @@ fn sessions(rt: HostRuntime) -> Result<(), Fail> {
     check_rows(&rt, SESSIONS)
 }
 
+const SUBSCRIPTIONS: &str = r#"subscriptions, what each is told at once, and their end
+open 1 /session
+  opened 1
+> 1 {"id":1,"method":"session.new","params":{"capabilities":{}}}
+  < 1 {"id":1,"result":{"capabilities":CAPABILITIES,"sessionId":"00000000-0001-8000-8000-000000000001"},"type":"success"}
+open 2 /session/00000000-0001-8000-8000-000000000001
+  opened 2
+> 1 {"id":2,"method":"session.subscribe","params":{"events":["browsingContext","script"]}}
+  < 1 CONTEXT
+  < 2 CONTEXT
+  < 1 REALM
+  < 2 REALM
+  < 1 {"id":2,"result":{"subscription":"00000001-0005-8000-8000-000000000001"},"type":"success"}
+> 2 {"id":3,"method":"session.subscribe","params":{"contexts":["00000000-0002-8000-8000-000000000001"],"events":["browsingContext","log.entryAdded"]}}
+  < 2 {"id":3,"result":{"subscription":"00000001-0005-8000-8000-000000000002"},"type":"success"}
+> 2 {"id":4,"method":"session.subscribe","params":{"contexts":["nowhere"],"events":["log.entryAdded"]}}
+  < 2 {"error":"no such frame","id":4,"message":"no such frame","type":"error"}
+> 1 {"id":5,"method":"session.unsubscribe","params":{"events":["script"]}}
+  < 1 {"id":5,"result":{},"type":"success"}
+> 1 {"id":6,"method":"session.unsubscribe","params":{"events":["script"]}}
+  < 1 {"error":"invalid argument","id":6,"message":"invalid argument","type":"error"}
+> 2 {"id":7,"method":"session.unsubscribe","params":{"subscriptions":["00000001-0005-8000-8000-000000000001","00000001-0005-8000-8000-000000000002"]}}
+  < 2 {"id":7,"result":{},"type":"success"}
+> 2 {"id":8,"method":"session.subscribe","params":{"events":["script.realmCreated"]}}
+  < 1 REALM
+  < 2 REALM
+  < 2 {"id":8,"result":{"subscription":"00000001-0005-8000-8000-000000000003"},"type":"success"}"#;
+
+#[test]
+fn subscriptions(rt: HostRuntime) -> Result<(), Fail> {
+    check_rows(&rt, SUBSCRIPTIONS)
+}
+
 const BROWSERS: &str =
     r#"{"method":"log.entryAdded","params":{"args":[],"level":"info","method":"info","source":{"context":"c","realm":"r","userContext":"default"},"text":"hi","timestamp":7,"type":"console"},"type":"event"}
 {"method":"browsingContext.navigationCommitted","params":{"context":"c","navigation":"n","timestamp":5,"url":"about:blank"},"type":"event"}
