@@ -10,8 +10,8 @@ ghost use Rattle.bidi_messages.specs.View.{verdict_of, IsWell};
 ghost use Rattle.bidi.specs.MessageLines.{HasVerdict, IsMessageLine, Shows, ShowsMessage, id_text, shown_of, verdict_shown};
 
 use bidi_messages::{
-    Command, ErrorCode, ErrorResponse, Event, Message, MessageFault, Named, Response, Verdict,
-    judge, read_message, text_of,
+    Command, ErrorCode, ErrorResponse, Event, Message, MessageFault, Method, Named, Response, Sent,
+    Verdict, judge, read_message, text_of,
 };
 use bidi_shape::Shape;
 use bidi_tree::JsUint;
@@ -72,29 +72,30 @@ fn show_verdict(alloc: Global, verdict: Verdict) -> Result<Shown, AllocError>
     ensures { IfOk result (λ shown. shown_of shown ≡ verdict_shown (verdict_of ⟦<Command as Shape>⟧.shape verdict)) }
 {
     match verdict {
-        Verdict::Accepted(command) => Ok(Shown::Taken(accepted_line(alloc, &command)?)),
+        Verdict::Accepted(command) => Ok(Shown::Taken(accepted_line(alloc, command)?)),
         Verdict::Refused { id, code } => Ok(Shown::Refused(refused_line(alloc, id, code)?)),
     }
 }
 
 // `accepted ID METHOD TEXT`
-fn accepted_line(alloc: Global, command: &Command) -> Result<String, AllocError>
-    requires { ⟦<Command as Shape>⟧.shape.well command.now }
-    ensures { IfOk result (λ line. string_bytes line ≡ codes "accepted " ++ decimal command.now.id.value
-        ++ 32 ∷ method_text (method_of command.now.«data») ++ 32 ∷ compact_text (⟦<Command as Shape>⟧.shape.tree_of command.now)) }
+fn accepted_line(alloc: Global, command: Command) -> Result<String, AllocError>
+    requires { ⟦<Command as Shape>⟧.shape.well command }
+    ensures { IfOk result (λ line. string_bytes line ≡ codes "accepted " ++ decimal command.id.value
+        ++ 32 ∷ method_text (method_of command.«data») ++ 32 ∷ compact_text (⟦<Command as Shape>⟧.shape.tree_of command)) }
 {
-    let text = text_of(alloc, command)?;
-    let head = accepted_head(alloc, command)?;
+    let id = command.id;
+    let method = command.data.method();
+    let text = text_for(alloc, command)?;
+    let head = accepted_head(alloc, id, method)?;
     format!(in alloc; "{head} {text}")
 }
 
 // `accepted ID METHOD`
-fn accepted_head(alloc: Global, command: &Command) -> Result<String, AllocError>
-    ensures { IfOk result (λ head. string_bytes head ≡ codes "accepted " ++ decimal command.now.id.value ++ 32 ∷ method_text (method_of command.now.«data»)) }
+fn accepted_head(alloc: Global, id: JsUint, method: Method) -> Result<String, AllocError>
+    ensures { IfOk result (λ head. string_bytes head ≡ codes "accepted " ++ decimal id.value ++ 32 ∷ method_text method) }
 {
-    let method = command.data.method();
     let name = method.name();
-    format!(in alloc; "accepted {} {name}", command.id.value)
+    format!(in alloc; "accepted {} {name}", id.value)
 }
 
 // `refused ID CODE`
@@ -123,16 +124,16 @@ fn show_text(alloc: Global, text: &str) -> Result<Shown, AllocError>
     ensures { IfOk result (λ shown. ShowsMessage text.now (shown_of shown)) }
 {
     match read_message(alloc, text) {
-        Ok(message) => Ok(Shown::Taken(message_line(alloc, &message)?)),
+        Ok(message) => Ok(Shown::Taken(message_line(alloc, message)?)),
         Err(MessageFault::NotJson) => Ok(Shown::Refused(String::from_str(alloc, "not json")?)),
         Err(MessageFault::NoFit) => Ok(Shown::Refused(String::from_str(alloc, "no fit")?)),
         Err(MessageFault::NoMemory) => Err(AllocError),
     }
 }
 
-fn message_line(alloc: Global, message: &Message) -> Result<String, AllocError>
-    requires { ⟦<Message as Shape>⟧.shape.well message.now }
-    ensures { IfOk result (λ line. IsMessageLine (⟦<Message as Shape>⟧.shape.tree_of message.now) (string_bytes line)) }
+fn message_line(alloc: Global, message: Message) -> Result<String, AllocError>
+    requires { ⟦<Message as Shape>⟧.shape.well message }
+    ensures { IfOk result (λ line. IsMessageLine (⟦<Message as Shape>⟧.shape.tree_of message) (string_bytes line)) }
 {
     match message {
         Message::Response(response) => response_line(alloc, response),
@@ -142,36 +143,48 @@ fn message_line(alloc: Global, message: &Message) -> Result<String, AllocError>
 }
 
 // `response ID TEXT`
-fn response_line(alloc: Global, response: &Response) -> Result<String, AllocError>
-    requires { ⟦<Response as Shape>⟧.shape.well response.now }
-    ensures { IfOk result (λ line. string_bytes line ≡ codes "response " ++ decimal response.now.id.value
-        ++ 32 ∷ compact_text (⟦<Response as Shape>⟧.shape.tree_of response.now)) }
+fn response_line(alloc: Global, response: Response) -> Result<String, AllocError>
+    requires { ⟦<Response as Shape>⟧.shape.well response }
+    ensures { IfOk result (λ line. string_bytes line ≡ codes "response " ++ decimal response.id.value
+        ++ 32 ∷ compact_text (⟦<Response as Shape>⟧.shape.tree_of response)) }
 {
-    let text = text_of(alloc, response)?;
-    format!(in alloc; "response {} {text}", response.id.value)
+    let id = response.id;
+    let text = text_for(alloc, response)?;
+    format!(in alloc; "response {} {text}", id.value)
 }
 
 // `error ID TEXT`
-fn error_line(alloc: Global, error: &ErrorResponse) -> Result<String, AllocError>
-    requires { ⟦<ErrorResponse as Shape>⟧.shape.well error.now }
-    ensures { IfOk result (λ line. string_bytes line ≡ codes "error " ++ id_text (option_map (λ n. n.value) error.now.id)
-        ++ 32 ∷ compact_text (⟦<ErrorResponse as Shape>⟧.shape.tree_of error.now)) }
+fn error_line(alloc: Global, error: ErrorResponse) -> Result<String, AllocError>
+    requires { ⟦<ErrorResponse as Shape>⟧.shape.well error }
+    ensures { IfOk result (λ line. string_bytes line ≡ codes "error " ++ id_text (option_map (λ n. n.value) error.id)
+        ++ 32 ∷ compact_text (⟦<ErrorResponse as Shape>⟧.shape.tree_of error)) }
 {
-    let text = text_of(alloc, error)?;
-    match &error.id {
+    let id = error.id;
+    let text = text_for(alloc, error)?;
+    match id {
         None => format!(in alloc; "error null {text}"),
         Some(id) => format!(in alloc; "error {} {text}", id.value),
     }
 }
 
 // `event METHOD TEXT`
-fn event_line(alloc: Global, event: &Event) -> Result<String, AllocError>
-    requires { ⟦<Event as Shape>⟧.shape.well event.now }
-    ensures { IfOk result (λ line. string_bytes line ≡ codes "event " ++ event_text (event_of event.now.«data»)
-        ++ 32 ∷ compact_text (⟦<Event as Shape>⟧.shape.tree_of event.now)) }
+fn event_line(alloc: Global, event: Event) -> Result<String, AllocError>
+    requires { ⟦<Event as Shape>⟧.shape.well event }
+    ensures { IfOk result (λ line. string_bytes line ≡ codes "event " ++ event_text (event_of event.«data»)
+        ++ 32 ∷ compact_text (⟦<Event as Shape>⟧.shape.tree_of event)) }
 {
-    let text = text_of(alloc, event)?;
-    let name = event.data.event();
-    let name = name.name();
+    let event_name = event.data.event();
+    let text = text_for(alloc, event)?;
+    let name = event_name.name();
     format!(in alloc; "event {name} {text}")
+}
+
+// ---- of both
+
+// The text of a command or a message, which is used up.
+fn text_for<M: Sent>(alloc: Global, message: M) -> Result<String, AllocError>
+    requires { M.shape.well message }
+    ensures { IfOk result (λ s. string_bytes s ≡ compact_text (M.shape.tree_of message)) }
+{
+    text_of(alloc, &message)
 }

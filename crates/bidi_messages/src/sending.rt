@@ -13,25 +13,29 @@ use bidi_tree::{JsUint, Members, Tree, put_member, write};
 use std::alloc::{AllocError, Global};
 
 /// The text of the response to a command: compact, its members in byte order of their names.
+/// The result is used up.
 ///
 /// # Errors
 /// No memory, where a growth was refused.
 pub fn response_text(
     alloc: Global,
     id: JsUint,
-    result_data: &ResultData,
+    result_data: ResultData,
 ) -> Result<String, AllocError>
-    requires { ⟦<ResultData as Subject<Method>>⟧.subject.well result_data.now }
+    requires { ⟦<ResultData as Subject<Method>>⟧.subject.well result_data }
     ensures { IfOk result (λ s. string_bytes s
-        ≡ response_text id.value (⟦<ResultData as Subject<Method>>⟧.subject.tree_of result_data.now)) }
+        ≡ response_text id.value (⟦<ResultData as Subject<Method>>⟧.subject.tree_of result_data)) }
 {
     let tree = response_tree(alloc, id, result_data)?;
     write(alloc, &tree)
 }
 
-fn response_tree(alloc: Global, id: JsUint, result_data: &ResultData) -> Result<Tree, AllocError>
-    ensures { IfOk result (λ t. node t
-        ≡ response_tree id.value (⟦<ResultData as Subject<Method>>⟧.subject.tree_of result_data.now)) }
+fn response_tree<D: Subject<Method>>(
+    alloc: Global,
+    id: JsUint,
+    result_data: D,
+) -> Result<Tree, AllocError>
+    ensures { IfOk result (λ t. node t ≡ response_tree id.value (D.subject.tree_of result_data)) }
 {
     let mut members = Members::new(alloc);
     add_member(alloc, &mut members, "id", &id)?;

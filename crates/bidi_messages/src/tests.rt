@@ -428,7 +428,7 @@ fn sent_texts(rt: HostRuntime) -> Result<(), Fail> {
         ext: Ext::empty(alloc),
     });
     assert_eq!(rt;
-        response_text(alloc, one, &full)?.as_str(),
+        response_text(alloc, one, full)?.as_str(),
         "{\"id\":1,\"result\":{\"message\":\"full\",\"ready\":false},\"type\":\"success\"}"
     );
     assert_eq!(rt;

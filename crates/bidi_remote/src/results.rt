@@ -22,7 +22,7 @@ pub(crate) fn status_text(alloc: Global, id: JsUint, is_ready: bool) -> Result<S
         (if is_ready then status_tree true (codes "ready") else status_tree false (codes "full"))) }
 {
     let result = status_result(alloc, is_ready)?;
-    response_text(alloc, id, &result)
+    response_text(alloc, id, result)
 }
 
 /// The text of the response to `session.new`, for the session of that number.
@@ -31,7 +31,7 @@ pub(crate) fn new_text(alloc: Global, id: JsUint, session: u32) -> Result<String
         (mapped ("capabilities" being capabilities and "sessionId" being text (id_of Session session) and no_members))) }
 {
     let result = new_result(alloc, session)?;
-    response_text(alloc, id, &result)
+    response_text(alloc, id, result)
 }
 
 /// The text of the response to `session.end`.
@@ -39,7 +39,7 @@ pub(crate) fn end_text(alloc: Global, id: JsUint) -> Result<String, AllocError>
     ensures { IfOk result (λ s. string_bytes s ≡ response_text id.value nothing) }
 {
     let result = end_result(alloc);
-    response_text(alloc, id, &result)
+    response_text(alloc, id, result)
 }
 
 /// The text of the response to `session.subscribe`, for the subscription of that number.
@@ -53,7 +53,7 @@ pub(crate) fn subscribe_text(
         (subscription_tree session number)) }
 {
     let result = subscribe_result(alloc, session, number)?;
-    response_text(alloc, id, &result)
+    response_text(alloc, id, result)
 }
 
 /// The text of the response to `session.unsubscribe`.
@@ -61,7 +61,7 @@ pub(crate) fn unsubscribe_text(alloc: Global, id: JsUint) -> Result<String, Allo
     ensures { IfOk result (λ s. string_bytes s ≡ response_text id.value nothing) }
 {
     let result = unsubscribe_result(alloc);
-    response_text(alloc, id, &result)
+    response_text(alloc, id, result)
 }
 
 /// The result of `session.status`.

@@ -5,4 +5,4 @@ use Rattle.bidi_messages.proofs.SendingLemmas.{response_writable}
 use Rattle.bidi_messages.proofs.sending.response_text.Goals as goal
 
 pub write-requires : goal.write-requires
-write-requires c = subst IsWritable (sym c.in_ok-tree.ensures) (response_writable c.args.id.value _ (ghosts.subject.whole c.args.result_data.now c.requires))
+write-requires c = subst IsWritable (sym c.in_ok-tree.ensures) (response_writable c.args.id.value _ (ghosts.subject.whole c.args.result_data c.requires))
