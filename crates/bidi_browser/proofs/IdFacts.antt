@@ -41,3 +41,8 @@ thousand_and_first_handle = refl
 pub subscription_of_session_eleven : id_text Subscription 11 281474976710655 ≡ codes "0000000b-0005-8000-8000-ffffffffffff"
 unfolding browser_on_literals
 subscription_of_session_eleven = refl
+
+-- a session that is given for another kind does not show
+pub handle_without_its_session : id_text Handle 7 1 ≡ codes "00000000-0006-8000-8000-000000000001"
+unfolding browser_on_literals
+handle_without_its_session = refl

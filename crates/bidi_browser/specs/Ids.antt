@@ -15,13 +15,18 @@ kind_number Subscription = 5
 kind_number Handle = 6
 kind_number Window = 7
 
+-- the session in an id: that of a subscription, and 0 in the id of any other kind
+abbrev pub session_in : Kind → ℕ → ℕ
+session_in Subscription session = session
+session_in _ session = 0
+
 -- the session in four bytes, the kind in two, version 8 and its variant with zeros, and the number in six
 abbrev pub id_bytes : Kind → ℕ → ℕ → List ℕ
 id_bytes kind session n =
-    to_be_bytes w32 session
+    to_be_bytes w32 (session_in kind session)
     ++ (to_be_bytes w16 (kind_number kind) ++ (128 ∷ 0 ∷ 128 ∷ 0 ∷ drop 2 (to_be_bytes w64 n)))
 
--- the id of the n-th subscription of a session; any other kind has session 0
+-- the id of the n-th thing of a kind, for a subscription of its session
 abbrev pub id_text : Kind → ℕ → ℕ → List ℕ
 id_text kind session n = hyphenated_text lower (id_bytes kind session n)
 

@@ -1,6 +1,6 @@
 //! Ids.
 ghost use Rattle.std.specs.Prelude.{◌≡◌, ◌<◌, ◌^◌, bytes_eq, string_bytes, IfOk};
-ghost use Rattle.bidi_browser.specs.Ids.{kind_number, id_bytes, id_text};
+ghost use Rattle.bidi_browser.specs.Ids.{kind_number, session_in, id_bytes, id_text};
 
 use std::alloc::{AllocError, Global};
 use uuid::Uuid;
@@ -18,7 +18,8 @@ pub enum Kind {
     Window,
 }
 
-/// The id of the `n`-th thing of a kind, for a subscription of its session; any other kind has session 0.
+/// The id of the `n`-th thing of a kind, for a subscription of its session. Any other kind has session 0 in its ids,
+/// whatever session is given.
 ///
 /// `ssssssss-kkkk-8000-8000-nnnnnnnnnnnn`, the session, the kind and the number in lower-case hexadecimal.
 ///
@@ -53,12 +54,22 @@ fn id_of(kind: Kind, session: u32, n: u64) -> Uuid
     requires { n < 2 ^ 48 }
     ensures { result ≡ id_bytes kind session n }
 {
-    let s = session.to_be_bytes();
+    let s = session_in(kind, session).to_be_bytes();
     let k = number_of(kind).to_be_bytes();
     let n = n.to_be_bytes();
     Uuid::new_v8([
         s[0], s[1], s[2], s[3], k[0], k[1], 0x80, 0, 0x80, 0, n[2], n[3], n[4], n[5], n[6], n[7],
     ])
+}
+
+/// The session in the ids of a kind.
+fn session_in(kind: Kind, session: u32) -> u32
+    ensures { result ≡ session_in kind session }
+{
+    match kind {
+        Kind::Subscription => session,
+        _ => 0,
+    }
 }
 
 /// The number of a kind in its ids.
