@@ -10,8 +10,6 @@ mod context_table;
 mod contexts;
 mod id;
 mod occurrence;
-#[cfg(test)]
-mod tests;
 mod urls;
 
 pub use browser::Browser;

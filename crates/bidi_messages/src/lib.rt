@@ -14,8 +14,6 @@ mod method;
 mod result_data;
 mod sending;
 mod subject;
-#[cfg(test)]
-mod tests;
 mod text;
 
 pub use bidi_shape::Named;

@@ -8,16 +8,6 @@ mod base;
 mod browsing_context;
 mod script;
 mod session;
-#[cfg(test)]
-mod tests_browsing;
-#[cfg(test)]
-mod tests_info;
-#[cfg(test)]
-mod tests_script;
-#[cfg(test)]
-mod tests_session;
-#[cfg(test)]
-mod tests_support;
 
 pub use base::{EmptyParams, EmptyResult};
 pub use browsing_context::{

@@ -16,8 +16,6 @@ mod step;
 mod subscribing;
 mod subscriptions;
 mod tables;
-#[cfg(test)]
-mod tests;
 mod unsubscribing;
 
 pub use remote_end::{RemoteEnd, RemoteFault};

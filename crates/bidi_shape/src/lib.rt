@@ -18,8 +18,6 @@ mod scalars;
 mod shape;
 mod table;
 mod tagged;
-#[cfg(test)]
-mod tests;
 mod words;
 
 pub use choice::{Either, read_choice};

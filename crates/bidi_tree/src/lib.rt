@@ -12,8 +12,6 @@ mod copying;
 mod levels;
 mod number;
 mod reading;
-#[cfg(test)]
-mod tests;
 mod tree;
 mod whole;
 mod writing;

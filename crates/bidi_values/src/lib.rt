@@ -22,14 +22,6 @@ mod remote_value;
 mod stack_trace;
 mod table_row;
 mod target;
-#[cfg(test)]
-mod tests;
-#[cfg(test)]
-mod tests_entries;
-#[cfg(test)]
-mod tests_nested;
-#[cfg(test)]
-mod tests_support;
 mod writing;
 
 pub use beside::Beside;
