@@ -28,10 +28,13 @@ from_rule = record (new_rule (codes "from")) { long = Some (codes "from"); value
 abbrev pub from_shape : Text → Shape
 from_shape name = (with_rule (new_app name) from_rule).top
 
+-- the program's command before it has subcommands
+abbrev pub bare_app : App
+bare_app = record { top = with_settings (new_app (codes "bidi")).top; subs = [] }
+
 -- the program's command, which wants one of its subcommands
 abbrev pub bidi_app : App
-bidi_app = with_subcommand (with_subcommand (with_subcommand (record { top = with_settings (new_app (codes "bidi")).top; subs = [] }) play_shape)
-    (from_shape (codes "show"))) (from_shape (codes "check"))
+bidi_app = with_subcommand (with_subcommand (with_subcommand bare_app play_shape) (from_shape (codes "show"))) (from_shape (codes "check"))
 
 -- the words as texts
 abbrev pub line_of : List (Bor (List ℕ)) → List Text

@@ -1,10 +1,10 @@
 //! The command line: which of its runs the program is asked for.
 ghost use Rattle.std.specs.Prelude.{◌≡◌, false, IfErr, IfOk, MatchResult, codes, option_and_then};
-ghost use Rattle.clap.specs.Words.{app_of, found_of, first_value, kind_of, new_app, rule_of, subcommand_rows_of, with_rule};
+ghost use Rattle.clap.specs.Words.{app_of, found_of, first_value, kind_of, new_app, rule_of, subcommand_rows_of, with_rule, with_subcommand};
 ghost use Rattle.clap.specs.declared.builder.command.Command.TheViews.{out-Command};
 ghost use Rattle.clap.specs.declared.error.kind.ErrorKind.TheVariants.{InvalidValue};
 ghost use Rattle.bidi.specs.declared.arguments.Run.{Run};
-ghost use Rattle.bidi.specs.CommandLine.{AsksFor, Causes, IsRefusedFor, IsSaidBy, bidi_app, from_rule, line_of, run_in, run_named, side_named};
+ghost use Rattle.bidi.specs.CommandLine.{AsksFor, Causes, IsRefusedFor, IsSaidBy, bare_app, bidi_app, from_rule, from_shape, play_shape, line_of, run_in, run_named, side_named};
 
 use super::message_lines::Side;
 use clap::error::ErrorKind;
@@ -70,28 +70,47 @@ pub fn command_line(alloc: Global, words: &[&str]) -> Result<Run, LineFault>
 fn command<'a>(alloc: Global) -> Result<Command<'a>, AllocError>
     ensures { IfOk result (λ command. app_of command ≡ bidi_app) }
 {
-    let play = Command::new(alloc, "play").about(
-        "Plays steps from the standard input and writes what is sent",
-    );
-    let show = with_from(
+    let command = with_play(alloc)?;
+    let command = with_listing(
         alloc,
+        command,
         "show",
         "Writes a line for each text of the standard input",
     )?;
-    let check = with_from(
+    with_listing(
         alloc,
+        command,
         "check",
         "Writes a line for each text of the standard input that is refused",
-    )?;
+    )
+}
+
+// The program's command with the subcommand `play` alone.
+fn with_play<'a>(alloc: Global) -> Result<Command<'a>, AllocError>
+    ensures { IfOk result (λ command. app_of command ≡ with_subcommand bare_app play_shape) }
+{
     Command::new(alloc, "bidi")
         .about("The two ends of WebDriver BiDi")
         .bin_name("bidi")?
         .no_binary_name(true)
         .disable_help_subcommand(true)
         .subcommand_required(true)
-        .subcommand(play)?
-        .subcommand(show)?
-        .subcommand(check)
+        .subcommand(Command::new(alloc, "play").about(
+            "Plays steps from the standard input and writes what is sent",
+        ))
+}
+
+// The command with one more subcommand, of this name, with the option `--from`.
+fn with_listing<'a>(
+    alloc: Global,
+    command: Command<'a>,
+    name: &'a str,
+    about: &'a str,
+) -> Result<Command<'a>, AllocError>
+    ensures { IfOk result (λ c. app_of c ≡ with_subcommand (app_of command.entry) (from_shape name.entry.now)) }
+{
+    let listing = with_from(alloc, name, about)?;
+    command.subcommand(listing)
 }
 
 // A subcommand of this name, with the option `--from`.
@@ -178,106 +197,4 @@ fn fault(alloc: Global, error: &clap::Error) -> LineFault
     } else {
         LineFault::Help(text)
     }
-}
-
-#[cfg(test)]
-mod tests {
-    use super::*;
-    use std::test::Fail;
-
-    /// The kind of an answer, whose text is shown where it has one.
-    fn kind_of(answer: &Result<Run, LineFault>) -> &'static str {
-        match answer {
-            Ok(Run::Play) => "play",
-            Ok(Run::Show(Side::Local)) => "show local",
-            Ok(Run::Show(Side::Remote)) => "show remote",
-            Ok(Run::Check(Side::Local)) => "check local",
-            Ok(Run::Check(Side::Remote)) => "check remote",
-            Err(LineFault::Help(text)) if !text.is_empty() => "help",
-            Err(LineFault::Usage(text)) if !text.is_empty() => "usage",
-            Err(LineFault::NoMemory) => "no memory",
-            _ => "no text",
-        }
-    }
-
-    #[test]
-    fn answers_each_line(rt: HostRuntime) {
-        let rows = [
-            (["play"].as_slice(), "play"),
-            (&["play", "--"], "play"),
-            (&["--help"], "help"),
-            (&["-h"], "help"),
-            (&["play", "--help"], "help"),
-            (&[], "usage"),
-            (&[""], "usage"),
-            (&["pair"], "usage"),
-            (&["help"], "usage"),
-            (&["--version"], "usage"),
-            (&["--", "play"], "usage"),
-            (&["play", "extra"], "usage"),
-            (&["play", "play"], "usage"),
-            (&["play", "--x"], "usage"),
-            (&["show", "--from", "local"], "show local"),
-            (&["show", "--from", "remote"], "show remote"),
-            (&["check", "--from", "local"], "check local"),
-            (&["check", "--from", "remote"], "check remote"),
-            (&["show", "--from=local"], "show local"),
-            (&["check", "--from=remote", "--"], "check remote"),
-            (&["show", "--help"], "help"),
-            (&["check", "-h"], "help"),
-            (&["show"], "usage"),
-            (&["check", "--from"], "usage"),
-            (&["show", "--from", ""], "usage"),
-            (&["show", "--from="], "usage"),
-            (&["show", "--from", "Local"], "usage"),
-            (&["show", "--from", "both"], "usage"),
-            (&["show", "local"], "usage"),
-            (&["show", "-f", "local"], "usage"),
-            (&["show", "--fro", "local"], "usage"),
-            (&["show", "--from", "local", "remote"], "usage"),
-            (&["show", "--from", "local", "--from", "local"], "usage"),
-            (&["show", "--", "--from", "local"], "usage"),
-            (&["--from", "local", "show"], "usage"),
-            (&["play", "--from", "local"], "usage"),
-        ];
-        for (words, want) in rows {
-            let answer = command_line(rt.alloc(), words);
-            assert_eq!(rt; kind_of(&answer), want, "{words:?}");
-        }
-    }
-
-    #[test]
-    fn shows_the_text_of_clap(rt: HostRuntime) -> Result<(), Fail> {
-        let alloc = rt.alloc();
-        for (word, want) in [("--help", HELP), ("pair", USAGE)] {
-            match command_line(alloc, &[word]) {
-                Err(fault) => {
-                    let text = format!(in alloc; "{fault}")?;
-                    assert_eq!(rt; text.as_str(), want);
-                }
-                Ok(_) => assert!(rt; false, "{word}"),
-            }
-        }
-        Ok(())
-    }
-
-    const HELP: &str = "The two ends of WebDriver BiDi
-
-Usage: bidi <COMMAND>
-
-Commands:
-  play   Plays steps from the standard input and writes what is sent
-  show   Writes a line for each text of the standard input
-  check  Writes a line for each text of the standard input that is refused
-
-Options:
-  -h, --help  Print help
-";
-
-    const USAGE: &str = "error: unrecognized subcommand 'pair'
-
-Usage: bidi <COMMAND>
-
-For more information, try '--help'.
-";
 }

@@ -1,44 +1,49 @@
 //! Runs over memory, as the program makes them.
-mod devices;
+mod command_lines;
 mod examples;
-mod limits;
+mod failures;
 mod listings;
-mod messages;
 mod plays;
 mod sessions;
 pub(crate) mod stop_at;
 mod subscriptions;
-mod tables;
+pub(crate) mod tables;
 
 use super::arguments::Run;
 use super::device::Device;
 use super::running::run;
 use std::alloc::Global;
+use std::process::Abort;
+use std::test::Fail;
+use tables::{check, input_of, outcome_text, spelled_out, wanted_of};
 
-/// What a run answered: its status, what it wrote, and what it told of a fault.
-#[derive(Drop)]
-struct Outcome {
-    status: u8,
-    output: Vec<u8>,
-    told: Vec<u8>,
+/// Runs all that is asked for over the input of each row, and compares what comes out with the row's outcome.
+fn check_rows<R: Abort + AllocGlobal>(rt: &R, asked: &[Run], table: &str) -> Result<(), Fail> {
+    let table = spelled_out(rt.alloc(), table)?;
+    for row in table.split("\n\n") {
+        let found = outcomes(rt.alloc(), asked, row)?;
+        check(rt, row, found, wanted_of(rt.alloc(), row)?);
+    }
+    Ok(())
 }
 
-/// Plays the input.
-fn played(alloc: Global, input: &[u8]) -> Outcome {
-    outcome_of(alloc, &Run::Play, input)
+/// The outcomes of these runs over the input of a row.
+fn outcomes(alloc: Global, asked: &[Run], row: &str) -> Result<String, Fail> {
+    let input = input_of(alloc, row)?;
+    let mut all = String::new(alloc);
+    for run in asked {
+        all.push_str(outcome_of(alloc, run, &input)?.as_str())?;
+    }
+    Ok(all)
 }
 
-/// Runs what is asked for over the input.
-fn outcome_of(alloc: Global, asked: &Run, input: &[u8]) -> Outcome {
+/// The outcome of one run.
+fn outcome_of(alloc: Global, asked: &Run, input: &[u8]) -> Result<String, Fail> {
     let mut output = Vec::new(alloc);
     let mut told = Vec::new(alloc);
     let mut source = Device::new(input);
     let mut sink = Device::new(&mut output);
     let mut faults = Device::new(&mut told);
     let status = run(alloc, asked, &mut source, &mut sink, &mut faults);
-    Outcome {
-        status,
-        output,
-        told,
-    }
+    outcome_text(alloc, &output, &told, status)
 }

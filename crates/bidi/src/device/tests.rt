@@ -1,9 +1,144 @@
 //! Devices over memory, with a reader and a writer that fail once.
 use super::*;
 use crate::tests::stop_at::StopAt;
-use std::alloc::Global;
+use crate::tests::tables::check_text;
+use std::alloc::{AllocError, Global};
 use std::io;
 use std::test::Fail;
+
+/// Reads of `abc` into buffers of 2, 2, 0 and 2 bytes: what each gives, and whether the end was told.
+const READS: &str = "Ok(2) [ab] false
+Ok(1) [c] false
+Ok(0) [] false
+Ok(0) [] true
+";
+
+/// Two readings of `hello` to its end, a byte a read, where each read in its turn fails: what each answers, all
+/// bytes that were read, and whether the end was told.
+const READINGS: &str = "Err(Device) [] false
+Ok(()) [hello] true
+Err(Device) [h] false
+Ok(()) [hello] true
+Err(Device) [he] false
+Ok(()) [hello] true
+Err(Device) [hel] false
+Ok(()) [hello] true
+Err(Device) [hell] false
+Ok(()) [hello] true
+Err(Device) [hello] false
+Ok(()) [hello] true
+";
+
+#[test]
+fn reads_on_after_a_failure_and_tells_the_end(rt: HostRuntime) -> Result<(), Fail> {
+    let alloc = rt.alloc();
+    check_text(&rt, "reads", reads(alloc, b"abc")?, READS);
+    check_text(&rt, "readings", readings(alloc, b"hello")?, READINGS);
+    assert!(rt; reads_all(alloc, 3 * CHUNK + 1)?, "more than one chunk");
+    Ok(())
+}
+
+fn reads(alloc: Global, text: &[u8]) -> Result<String, AllocError> {
+    let mut source = Device::new(text);
+    let mut told = String::new(alloc);
+    push_read(&mut told, &mut source, &mut [0; 2])?;
+    push_read(&mut told, &mut source, &mut [0; 2])?;
+    push_read(&mut told, &mut source, &mut [])?;
+    push_read(&mut told, &mut source, &mut [0; 2])?;
+    Ok(told)
+}
+
+/// Appends what one read gives.
+fn push_read(
+    told: &mut String,
+    source: &mut Device<&[u8]>,
+    buffer: &mut [u8],
+) -> Result<(), AllocError> {
+    let count = source.read(buffer);
+    let bytes = buffer.get(..count.unwrap_or(0)).unwrap_or(b"");
+    write!(
+        told,
+        "{count:?} [{}] {}\n",
+        bytes.escape_ascii(),
+        source.has_ended
+    )
+}
+
+fn readings(alloc: Global, text: &[u8]) -> Result<String, AllocError> {
+    let mut told = String::new(alloc);
+    for stop in 1..=6usize {
+        let mut source = Device::new(StopAt::new(text, stop, 1));
+        let mut bytes = Vec::new(alloc);
+        push_reading(&mut told, &mut source, &mut bytes)?;
+        push_reading(&mut told, &mut source, &mut bytes)?;
+    }
+    Ok(told)
+}
+
+/// Appends what one reading to the end gives.
+fn push_reading(
+    told: &mut String,
+    source: &mut Device<StopAt<&[u8]>>,
+    bytes: &mut Vec<u8>,
+) -> Result<(), AllocError> {
+    let answer = read_to_end(source, bytes);
+    write!(
+        told,
+        "{answer:?} [{}] {}\n",
+        bytes.escape_ascii(),
+        source.has_ended
+    )
+}
+
+/// Whether an input of so many bytes is read whole.
+fn reads_all(alloc: Global, length: usize) -> Result<bool, Fail> {
+    let bytes = vec![in alloc; 7u8; length]?;
+    let mut buffer = Vec::new(alloc);
+    read_to_end(&mut Device::new(bytes.as_slice()), &mut buffer)?;
+    Ok(buffer.as_slice() == bytes.as_slice())
+}
+
+/// `hello` written and then its rest, two bytes a write, where each write in its turn fails: what each writing
+/// answers, and all bytes that were written.
+const WRITINGS: &str = "Err(DeviceFault) []
+Ok(()) [hello]
+Err(DeviceFault) [he]
+Ok(()) [hello]
+Err(DeviceFault) [hell]
+Ok(()) [hello]
+";
+
+/// A write and a writing of one byte, and of none, to a writer that takes nothing.
+const NOTHING: &str = "Err(DeviceFault) Err(DeviceFault) Ok(0) Ok(())";
+
+#[test]
+fn writes_on_after_a_failure(rt: HostRuntime) -> Result<(), Fail> {
+    check_text(&rt, "writings", writings(rt.alloc(), b"hello")?, WRITINGS);
+    check_text(&rt, "nothing", writings_of_nothing(rt.alloc())?, NOTHING);
+    Ok(())
+}
+
+fn writings(alloc: Global, text: &[u8]) -> Result<String, AllocError> {
+    let mut told = String::new(alloc);
+    for stop in 1..=3usize {
+        let held = Vec::new(alloc);
+        let mut sink = Device::new(StopAt::new(held, stop, 2));
+        push_writing(&mut told, &mut sink, text)?;
+        let rest = text.get(sink.inner.inner.len()..).unwrap_or(b"");
+        push_writing(&mut told, &mut sink, rest)?;
+    }
+    Ok(told)
+}
+
+/// Appends what one writing gives.
+fn push_writing(
+    told: &mut String,
+    sink: &mut Device<StopAt<Vec<u8>>>,
+    bytes: &[u8],
+) -> Result<(), AllocError> {
+    let answer = write_all(sink, bytes);
+    write!(told, "{answer:?} [{}]\n", sink.inner.inner.escape_ascii())
+}
 
 /// A writer that takes nothing.
 #[derive(Drop)]
@@ -19,88 +154,26 @@ impl Write for Full {
     }
 }
 
-#[test]
-fn tells_the_end_once_it_is_met(rt: HostRuntime) {
-    let mut source = Device::new(b"abc".as_slice());
-    let mut buffer = [0u8; 2];
-    assert_eq!(rt; source.read(&mut buffer), Ok(2));
-    assert_eq!(rt; buffer, *b"ab");
-    assert_eq!(rt; source.read(&mut buffer), Ok(1));
-    assert_eq!(rt; source.read(&mut []), Ok(0));
-    assert!(rt; !source.has_ended);
-    assert_eq!(rt; source.read(&mut buffer), Ok(0));
-    assert!(rt; source.has_ended);
-}
-
-#[test]
-fn reads_on_after_a_failure_at_any_byte(rt: HostRuntime) -> Result<(), Fail> {
-    let text = b"hello";
-    for stop in 1..=text.len() + 1 {
-        let mut source = Device::new(StopAt::new(text.as_slice(), stop, 1));
-        let mut buffer = Vec::new(rt.alloc());
-        let outcome = read_to_end(&mut source, &mut buffer);
-        assert_eq!(rt; outcome, Err(ReadToEndFault::Device), "stop at {stop}");
-        assert_eq!(rt; buffer.len(), stop - 1);
-        assert!(rt; !source.has_ended);
-        assert_eq!(rt; read_to_end(&mut source, &mut buffer), Ok(()));
-        assert_eq!(rt; buffer.as_slice(), text.as_slice());
-        assert!(rt; source.has_ended);
-    }
-    Ok(())
-}
-
-#[test]
-fn reads_more_than_one_chunk(rt: HostRuntime) -> Result<(), Fail> {
-    let bytes = vec![in rt.alloc(); 7u8; 3 * CHUNK + 1]?;
-    let mut source = Device::new(bytes.as_slice());
-    let mut buffer = Vec::new(rt.alloc());
-    assert_eq!(rt; read_to_end(&mut source, &mut buffer), Ok(()));
-    assert_eq!(rt; buffer.as_slice(), bytes.as_slice());
-    Ok(())
-}
-
-#[test]
-fn writes_a_beginning_before_a_failure_at_any_write(rt: HostRuntime) -> Result<(), Fail> {
-    let text = b"hello";
-    for (stop, held) in [(1, 0), (2, 2), (3, 4)] {
-        let sink: Vec<u8> = Vec::new(rt.alloc());
-        let mut sink = Device::new(StopAt::new(sink, stop, 2));
-        assert_eq!(rt;
-            write_all(&mut sink, text),
-            Err(DeviceFault),
-            "stop at {stop}"
-        );
-        assert_eq!(rt; sink.inner.inner.as_slice(), &text[..held]);
-        assert_eq!(rt; write_all(&mut sink, &text[held..]), Ok(()));
-        assert_eq!(rt; sink.inner.inner.as_slice(), text.as_slice());
-    }
-    Ok(())
-}
-
-#[test]
-fn a_write_of_nothing_is_a_failure(rt: HostRuntime) {
+fn writings_of_nothing(alloc: Global) -> Result<String, AllocError> {
     let mut sink = Device::new(Full);
-    assert_eq!(rt; sink.write(b"x"), Err(DeviceFault));
-    assert_eq!(rt; write_all(&mut sink, b"x"), Err(DeviceFault));
-    assert_eq!(rt; sink.write(b""), Ok(0));
-    assert_eq!(rt; write_all(&mut sink, b""), Ok(()));
+    let one = sink.write(b"x");
+    let all = write_all(&mut sink, b"x");
+    let none = sink.write(b"");
+    let rest = write_all(&mut sink, b"");
+    format!(in alloc; "{one:?} {all:?} {none:?} {rest:?}")
 }
 
 #[test]
-fn the_streams_of_the_process(rt: HostRuntime) {
-    let mut buffer = [0u8; 2];
-    let mut input = Device::new(rt.reader());
-    assert_eq!(rt; input.read(&mut buffer), Ok(0));
-    let mut output = Device::new(io::writer(&rt));
-    assert_eq!(rt; write_all(&mut output, b"hello\n"), Ok(()));
-}
-
-#[test]
-fn faults_have_a_text(rt: HostRuntime) -> Result<(), Fail> {
-    let alloc: Global = rt.alloc();
-    let device = format!(in alloc; "{}", DeviceFault)?;
-    assert_eq!(rt; device.as_str(), "a device failed");
-    let memory = format!(in alloc; "{}", ReadToEndFault::NoMemory)?;
-    assert_eq!(rt; memory.as_str(), "out of memory");
+fn takes_the_streams_of_the_process(rt: HostRuntime) -> Result<(), Fail> {
+    let read = Device::new(rt.reader()).read(&mut [0; 2]);
+    let written = write_all(&mut Device::new(io::writer(&rt)), b"hello\n");
+    check_text(
+        &rt,
+        "streams",
+        format!(in rt.alloc(); "{read:?} {written:?}")?,
+        "Ok(0) Ok(())",
+    );
+    let faults = format!(in rt.alloc(); "{DeviceFault}, {}", ReadToEndFault::NoMemory)?;
+    check_text(&rt, "faults", faults, "a device failed, out of memory");
     Ok(())
 }

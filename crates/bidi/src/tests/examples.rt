@@ -1,69 +1,44 @@
-//! The plays of `examples/`, each a test of its name.
-use super::tables::check_rows;
-use super::{outcome_of, played};
+//! The inputs of `examples/` with what they write, each a test of its name.
+use super::check_rows;
 use crate::arguments::Run;
 use crate::message_lines::Side;
-use std::str::from_utf8;
 use std::test::Fail;
+
+const STATUS: &str = r#"one command
+open 1 /session
+  opened 1
+> 1 {"id":1,"method":"session.status","params":{}}
+  < 1 {"id":1,"result":{"message":"ready","ready":true},"type":"success"}"#;
 
 #[test]
 fn status(rt: HostRuntime) -> Result<(), Fail> {
-    let play = "open 1 /session\n> 1 {\"id\":1,\"method\":\"session.status\",\"params\":{}}\n";
-    let wanted =
-        "opened 1\n< 1 {\"id\":1,\"result\":{\"message\":\"ready\",\"ready\":true},\"type\":\"success\"}\n";
-    let found = played(rt.alloc(), play.as_bytes());
-    assert_eq!(rt; from_utf8(&found.output), Ok(wanted));
-    assert_eq!(rt; found.status, 0);
-    Ok(())
+    check_rows(&rt, &[Run::Play], STATUS)
 }
+
+const REFUSALS: &str = r#"texts and connections that are refused
+open 1 /session
+  opened 1
+> 1 {"id":1
+  < 1 {"error":"invalid argument","id":null,"message":"invalid argument","type":"error"}
+> 1 {"id":9007199254740991,"method":"session.fly","params":{}}
+  < 1 {"error":"unknown command","id":9007199254740991,"message":"unknown command","type":"error"}
+> 1 {"id":9007199254740992,"method":"session.status","params":{}}
+  < 1 {"error":"invalid argument","id":null,"message":"invalid argument","type":"error"}
+> 1 {"id":5,"method":"session.status","params":{"x":1.5}}
+  < 1 {"error":"invalid argument","id":5,"message":"invalid argument","type":"error"}
+binary 1
+  < 1 {"error":"invalid argument","id":null,"message":"invalid argument","type":"error"}
+open 1 /session
+  denied 1
+open 2 /other
+  denied 2
+drop 1
+> 1 {"id":6,"method":"session.status","params":{}}
+  lost 1"#;
 
 #[test]
 fn refusals(rt: HostRuntime) -> Result<(), Fail> {
-    let alloc = rt.alloc();
-    let rows = [
-        ("open 1 /session", "opened 1"),
-        (
-            "> 1 {\"id\":1",
-            "< 1 {\"error\":\"invalid argument\",\"id\":null,\"message\":\"invalid argument\",\"type\":\"error\"}",
-        ),
-        (
-            "> 1 {\"id\":9007199254740991,\"method\":\"session.fly\",\"params\":{}}",
-            "< 1 {\"error\":\"unknown command\",\"id\":9007199254740991,\"message\":\"unknown command\",\"type\":\"error\"}",
-        ),
-        (
-            "> 1 {\"id\":9007199254740992,\"method\":\"session.status\",\"params\":{}}",
-            "< 1 {\"error\":\"invalid argument\",\"id\":null,\"message\":\"invalid argument\",\"type\":\"error\"}",
-        ),
-        (
-            "> 1 {\"id\":5,\"method\":\"session.status\",\"params\":{\"x\":1.5}}",
-            "< 1 {\"error\":\"invalid argument\",\"id\":5,\"message\":\"invalid argument\",\"type\":\"error\"}",
-        ),
-        (
-            "binary 1",
-            "< 1 {\"error\":\"invalid argument\",\"id\":null,\"message\":\"invalid argument\",\"type\":\"error\"}",
-        ),
-        ("open 1 /session", "denied 1"),
-        ("open 2 /other", "denied 2"),
-        ("drop 1", ""),
-        (
-            "> 1 {\"id\":6,\"method\":\"session.status\",\"params\":{}}",
-            "lost 1",
-        ),
-    ];
-    let mut play = String::new(alloc);
-    let mut wanted = String::new(alloc);
-    for (line, answer) in rows {
-        play.push_str(line)?;
-        play.push_str("\n")?;
-        if !answer.is_empty() {
-            wanted.push_str(answer)?;
-            wanted.push_str("\n")?;
-        }
-    }
-    let found = played(alloc, play.as_bytes());
-    assert_eq!(rt; from_utf8(&found.output), Ok(wanted.as_str()));
-    assert_eq!(rt; found.status, 0);
-    Ok(())
+    check_rows(&rt, &[Run::Play], REFUSALS)
 }
 
 const SESSIONS: &str = r#"a session from its making to its end
@@ -88,7 +63,7 @@ open 1 /session/00000000-0001-8000-8000-000000000001
 
 #[test]
 fn sessions(rt: HostRuntime) -> Result<(), Fail> {
-    check_rows(&rt, SESSIONS)
+    check_rows(&rt, &[Run::Play], SESSIONS)
 }
 
 const SUBSCRIPTIONS: &str = r#"subscriptions, what each is told at once, and their end
@@ -121,20 +96,20 @@ open 2 /session/00000000-0001-8000-8000-000000000001
 
 #[test]
 fn subscriptions(rt: HostRuntime) -> Result<(), Fail> {
-    check_rows(&rt, SUBSCRIPTIONS)
+    check_rows(&rt, &[Run::Play], SUBSCRIPTIONS)
 }
 
-const BROWSERS: &str =
-    r#"{"method":"log.entryAdded","params":{"args":[],"level":"info","method":"info","source":{"context":"c","realm":"r","userContext":"default"},"text":"hi","timestamp":7,"type":"console"},"type":"event"}
+const BROWSERS: &str = r#"texts outside the profile, and one inside
+{"method":"log.entryAdded","params":{"args":[],"level":"info","method":"info","source":{"context":"c","realm":"r","userContext":"default"},"text":"hi","timestamp":7,"type":"console"},"type":"event"}
 {"method":"browsingContext.navigationCommitted","params":{"context":"c","navigation":"n","timestamp":5,"url":"about:blank"},"type":"event"}
 {"id":3,"result":{"scrollY":0.5},"type":"success"}
 {"method":"browsingContext.load","params":{"context":"c","navigation":"n","timestamp":5,"url":"about:blank"},"type":"event"}
-"#;
+  line 1: no fit
+  line 2: no fit
+  line 3: no fit
+= 1"#;
 
 #[test]
-fn browsers(rt: HostRuntime) {
-    let wanted = "line 1: no fit\nline 2: no fit\nline 3: no fit\n";
-    let found = outcome_of(rt.alloc(), &Run::Check(Side::Remote), BROWSERS.as_bytes());
-    assert_eq!(rt; from_utf8(&found.output), Ok(wanted));
-    assert_eq!(rt; found.status, 1);
+fn browsers(rt: HostRuntime) -> Result<(), Fail> {
+    check_rows(&rt, &[Run::Check(Side::Remote)], BROWSERS)
 }

@@ -1,155 +1,295 @@
-//! Plays and what they write.
-use super::played;
-use std::str::from_utf8;
+//! Plays of few lines: what each line gives, which lines are none, and limits met and passed.
+use super::check_rows;
+use crate::arguments::Run;
+use std::alloc::{AllocError, Global};
 use std::test::Fail;
 
-const STATUS: &str = "> 1 {\"id\":1,\"method\":\"session.status\",\"params\":{}}\n";
+/// Texts of an open connection.
+const TEXTS: &str = r#"status
+open 1 /session
+  opened 1
+> 1 {"id":1,"method":"session.status","params":{}}
+  < 1 {"id":1,"result":{"message":"ready","ready":true},"type":"success"}
 
-const READY: &str =
-    "< 1 {\"id\":1,\"result\":{\"message\":\"ready\",\"ready\":true},\"type\":\"success\"}\n";
+not json
+open 1 /session
+  opened 1
+> 1 {"id":1
+  < 1 {"error":"invalid argument","id":null,"message":"invalid argument","type":"error"}
 
-const REFUSED: &str =
-    "< 1 {\"error\":\"invalid argument\",\"id\":null,\"message\":\"invalid argument\",\"type\":\"error\"}\n";
+unknown command
+open 1 /session
+  opened 1
+> 1 {"id":9007199254740991,"method":"session.fly","params":{}}
+  < 1 {"error":"unknown command","id":9007199254740991,"message":"unknown command","type":"error"}
+
+id past js-uint
+open 1 /session
+  opened 1
+> 1 {"id":9007199254740992,"method":"session.status","params":{}}
+  < 1 {"error":"invalid argument","id":null,"message":"invalid argument","type":"error"}
+
+fraction in params
+open 1 /session
+  opened 1
+> 1 {"id":5,"method":"session.status","params":{"x":1.5}}
+  < 1 {"error":"invalid argument","id":5,"message":"invalid argument","type":"error"}
+
+empty text
+open 1 /session
+  opened 1
+> 1\x20
+  < 1 {"error":"invalid argument","id":null,"message":"invalid argument","type":"error"}
+
+no text
+open 1 /session
+  opened 1
+binary 1
+  < 1 {"error":"invalid argument","id":null,"message":"invalid argument","type":"error"}
+
+carriage return behind a text
+open 1 /session
+  opened 1
+> 1 {"id":1,"method":"session.status","params":{}}\r
+  < 1 {"id":1,"result":{"message":"ready","ready":true},"type":"success"}
+
+space before a text
+open 1 /session
+  opened 1
+> 1  {"id":1,"method":"session.status","params":{}}
+  < 1 {"id":1,"result":{"message":"ready","ready":true},"type":"success"}"#;
+
+/// Connections that are opened, denied, dropped or lost.
+const CONNECTIONS: &str = r#"no line
+
+text of no connection
+> 9 {}
+  lost 9
+
+no text of no connection
+binary 9
+  lost 9
+
+drop of no connection
+drop 9
+  lost 9
+
+another resource
+open 1 /x
+  denied 1
+
+empty resource
+open 1\x20
+  denied 1
+
+resource with a space
+open 1 /session\x20
+  denied 1
+
+resource with a carriage return
+open 1 /session\r
+  denied 1
+
+opened twice
+open 1 /session
+  opened 1
+open 1 /session
+  denied 1
+> 1\x20
+  < 1 {"error":"invalid argument","id":null,"message":"invalid argument","type":"error"}
+
+opened again
+open 1 /session
+  opened 1
+drop 1
+binary 1
+  lost 1
+open 1 /session
+  opened 1
+
+moments
+at 0
+at 9007199254740991
+at 5
+
+greatest number
+open 9007199254740991 /session
+  opened 9007199254740991"#;
+
+/// Lines of no form, each the last that is read.
+const BAD_LINES: &str = r#"leading zero
+at 01
+! bidi: line 1 is no play line
+= 2
+
+sign
+at +1
+! bidi: line 1 is no play line
+= 2
+
+negative
+at -1
+! bidi: line 1 is no play line
+= 2
+
+past js-uint
+at 9007199254740992
+! bidi: line 1 is no play line
+= 2
+
+no number
+at\x20
+! bidi: line 1 is no play line
+= 2
+
+no space
+at
+! bidi: line 1 is no play line
+= 2
+
+carriage return
+at 5\r
+! bidi: line 1 is no play line
+= 2
+
+space behind
+at 5\x20
+! bidi: line 1 is no play line
+= 2
+
+space before
+\x20at 5
+! bidi: line 1 is no play line
+= 2
+
+two spaces
+at  5
+! bidi: line 1 is no play line
+= 2
+
+two spaces before a number
+open  1 /session
+! bidi: line 1 is no play line
+= 2
+
+tab
+at\x095
+! bidi: line 1 is no play line
+= 2
+
+no resource
+open 1
+! bidi: line 1 is no play line
+= 2
+
+no text
+> 1
+! bidi: line 1 is no play line
+= 2
+
+text behind a drop
+drop 1 x
+! bidi: line 1 is no play line
+= 2
+
+another word
+frame 1
+! bidi: line 1 is no play line
+= 2
+
+capital
+At 5
+! bidi: line 1 is no play line
+= 2
+
+empty line
+\n\
+! bidi: line 1 is no play line
+= 2
+
+second line empty
+at 1\n
+at 2
+! bidi: line 2 is no play line
+= 2
+
+no line feed
+at 5\
+! bidi: line 1 is no play line
+= 2
+
+no line feed behind a line
+open 1 /session
+  opened 1
+at 5\
+! bidi: line 2 is no play line
+= 2
+
+not UTF-8
+> 1 \xff
+! bidi: line 1 is no play line
+= 2
+
+not UTF-8 behind a line
+open 1 /x
+  denied 1
+> 1 \xc3
+! bidi: line 2 is no play line
+= 2
+
+lines behind
+open 1 /x
+  denied 1
+at x
+! bidi: line 2 is no play line
+= 2
+open 2 /x"#;
+
+/// Lines of 2,097,152 bytes, and of one more.
+const LONG_LINES: &str = r#"longest line
+open 1 MANY
+  denied 1
+
+one byte more
+open 1 MANYx
+! bidi: line 1 is no play line
+= 2
+
+one byte more and no line feed
+open 1 MANYx\
+! bidi: line 1 is no play line
+= 2
+
+longest line and no line feed
+open 1 MANY\
+! bidi: line 1 is no play line
+= 2"#;
+
+/// What follows the opening of 64 connections.
+const PAST_THE_LIMIT: &str = r#"open 65 /session
+  denied 65
+drop 3
+open 65 /session
+  opened 65
+open 66 /session
+  denied 66"#;
 
 #[test]
-fn answers_each_text_of_an_open_connection(rt: HostRuntime) -> Result<(), Fail> {
-    let alloc = rt.alloc();
-    let rows = [
-        ("status", STATUS, READY),
-        ("not json", "> 1 {\"id\":1\n", REFUSED),
-        (
-            "unknown command",
-            "> 1 {\"id\":9007199254740991,\"method\":\"session.fly\",\"params\":{}}\n",
-            "< 1 {\"error\":\"unknown command\",\"id\":9007199254740991,\"message\":\"unknown command\",\"type\":\"error\"}\n",
-        ),
-        (
-            "id past js-uint",
-            "> 1 {\"id\":9007199254740992,\"method\":\"session.status\",\"params\":{}}\n",
-            REFUSED,
-        ),
-        (
-            "fraction in params",
-            "> 1 {\"id\":5,\"method\":\"session.status\",\"params\":{\"x\":1.5}}\n",
-            "< 1 {\"error\":\"invalid argument\",\"id\":5,\"message\":\"invalid argument\",\"type\":\"error\"}\n",
-        ),
-        ("empty text", "> 1 \n", REFUSED),
-        ("no text", "binary 1\n", REFUSED),
-        (
-            "carriage return behind a text",
-            "> 1 {\"id\":1,\"method\":\"session.status\",\"params\":{}}\r\n",
-            READY,
-        ),
-        (
-            "space before a text",
-            "> 1  {\"id\":1,\"method\":\"session.status\",\"params\":{}}\n",
-            READY,
-        ),
-    ];
-    for (name, line, reply) in rows {
-        let input = format!(in alloc; "open 1 /session\n{line}")?;
-        let wanted = format!(in alloc; "opened 1\n{reply}")?;
-        let found = played(alloc, input.as_bytes());
-        assert_eq!(rt; from_utf8(&found.output), Ok(wanted.as_str()), "{name}");
-        assert_eq!(rt; from_utf8(&found.told), Ok(""), "{name}");
-        assert_eq!(rt; found.status, 0, "{name}");
-    }
-    Ok(())
+fn each_line_is_answered_up_to_a_bad_one(rt: HostRuntime) -> Result<(), Fail> {
+    let play = [Run::Play];
+    check_rows(&rt, &play, TEXTS)?;
+    check_rows(&rt, &play, CONNECTIONS)?;
+    check_rows(&rt, &play, past_64(rt.alloc())?.as_str())?;
+    check_rows(&rt, &play, BAD_LINES)?;
+    check_rows(&rt, &play, LONG_LINES)
 }
 
-#[test]
-fn opens_and_drops_connections(rt: HostRuntime) {
-    let rows = [
-        ("no line", "", ""),
-        ("text of no connection", "> 9 {}\n", "lost 9\n"),
-        ("no text of no connection", "binary 9\n", "lost 9\n"),
-        ("drop of no connection", "drop 9\n", "lost 9\n"),
-        ("another resource", "open 1 /x\n", "denied 1\n"),
-        ("empty resource", "open 1 \n", "denied 1\n"),
-        ("resource with a space", "open 1 /session \n", "denied 1\n"),
-        (
-            "resource with a carriage return",
-            "open 1 /session\r\n",
-            "denied 1\n",
-        ),
-        (
-            "opened twice",
-            "open 1 /session\nopen 1 /session\n> 1 \n",
-            "opened 1\ndenied 1\n< 1 {\"error\":\"invalid argument\",\"id\":null,\"message\":\"invalid argument\",\"type\":\"error\"}\n",
-        ),
-        (
-            "opened again",
-            "open 1 /session\ndrop 1\nbinary 1\nopen 1 /session\n",
-            "opened 1\nlost 1\nopened 1\n",
-        ),
-        ("moments", "at 0\nat 9007199254740991\nat 5\n", ""),
-        (
-            "greatest number",
-            "open 9007199254740991 /session\n",
-            "opened 9007199254740991\n",
-        ),
-    ];
-    for (name, input, wanted) in rows {
-        let found = played(rt.alloc(), input.as_bytes());
-        assert_eq!(rt; from_utf8(&found.output), Ok(wanted), "{name}");
-        assert_eq!(rt; from_utf8(&found.told), Ok(""), "{name}");
-        assert_eq!(rt; found.status, 0, "{name}");
+/// A row that opens 64 connections and goes past them.
+fn past_64(alloc: Global) -> Result<String, AllocError> {
+    let mut row = String::from_str(alloc, "one more than 64\n")?;
+    for conn in 1..=64u8 {
+        write!(row, "open {conn} /session\n  opened {conn}\n")?;
     }
-}
-
-#[test]
-fn stops_at_the_first_bad_line(rt: HostRuntime) {
-    let first = "bidi: line 1 is no play line\n";
-    let second = "bidi: line 2 is no play line\n";
-    let rows: [(&str, &[u8], &str, &str); 24] = [
-        ("leading zero", b"at 01\n", "", first),
-        ("sign", b"at +1\n", "", first),
-        ("negative", b"at -1\n", "", first),
-        ("past js-uint", b"at 9007199254740992\n", "", first),
-        ("no number", b"at \n", "", first),
-        ("no space", b"at\n", "", first),
-        ("carriage return", b"at 5\r\n", "", first),
-        ("space behind", b"at 5 \n", "", first),
-        ("space before", b" at 5\n", "", first),
-        ("two spaces", b"at  5\n", "", first),
-        (
-            "two spaces before a number",
-            b"open  1 /session\n",
-            "",
-            first,
-        ),
-        ("tab", b"at\t5\n", "", first),
-        ("no resource", b"open 1\n", "", first),
-        ("no text", b"> 1\n", "", first),
-        ("text behind a drop", b"drop 1 x\n", "", first),
-        ("another word", b"frame 1\n", "", first),
-        ("capital", b"At 5\n", "", first),
-        ("empty line", b"\n", "", first),
-        ("second line empty", b"at 1\n\nat 2\n", "", second),
-        ("no line feed", b"at 5", "", first),
-        (
-            "no line feed behind a line",
-            b"open 1 /session\nat 5",
-            "opened 1\n",
-            second,
-        ),
-        ("not UTF-8", b"> 1 \xff\n", "", first),
-        (
-            "not UTF-8 behind a line",
-            b"open 1 /x\n> 1 \xc3\n",
-            "denied 1\n",
-            second,
-        ),
-        (
-            "lines behind",
-            b"open 1 /x\nat x\nopen 2 /x\n",
-            "denied 1\n",
-            second,
-        ),
-    ];
-    for (name, input, wanted, told) in rows {
-        let found = played(rt.alloc(), input);
-        assert_eq!(rt; from_utf8(&found.output), Ok(wanted), "{name}");
-        assert_eq!(rt; from_utf8(&found.told), Ok(told), "{name}");
-        assert_eq!(rt; found.status, 2, "{name}");
-    }
+    row.push_str(PAST_THE_LIMIT)?;
+    Ok(row)
 }

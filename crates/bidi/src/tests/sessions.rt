@@ -1,7 +1,9 @@
 //! Sessions, and the connections that speak for them.
-use super::tables::check_rows;
+use super::check_rows;
+use crate::arguments::Run;
 use std::test::Fail;
 
+/// What connections and sessions do to one another.
 const SESSIONS: &str = r#"one session for a connection
 open 1 /session
   opened 1
@@ -191,11 +193,7 @@ open 1 /session
 > 1 {"id":8,"method":"session.new","params":{"capabilities":{}}}
   < 1 {"id":8,"result":{"capabilities":CAPABILITIES,"sessionId":"00000000-0001-8000-8000-000000000001"},"type":"success"}"#;
 
-#[test]
-fn sessions_begin_and_end(rt: HostRuntime) -> Result<(), Fail> {
-    check_rows(&rt, SESSIONS)
-}
-
+/// At most eight sessions are active.
 const EIGHT_SESSIONS: &str = r#"ready again after one end
 open 1 /session
   opened 1
@@ -269,6 +267,7 @@ open 10 /session/00000000-0001-8000-8000-00000000000a
   < 9 {"id":21,"result":{"message":"ready","ready":true},"type":"success"}"#;
 
 #[test]
-fn at_most_eight_are_active(rt: HostRuntime) -> Result<(), Fail> {
-    check_rows(&rt, EIGHT_SESSIONS)
+fn sessions_begin_and_end(rt: HostRuntime) -> Result<(), Fail> {
+    check_rows(&rt, &[Run::Play], SESSIONS)?;
+    check_rows(&rt, &[Run::Play], EIGHT_SESSIONS)
 }

@@ -1,7 +1,10 @@
 //! Subscriptions: what each is told at once, why one is refused, and how they end.
-use super::tables::check_rows;
+use super::check_rows;
+use crate::arguments::Run;
+use std::alloc::{AllocError, Global};
 use std::test::Fail;
 
+/// What a subscription is told at once.
 const TOLD_AT_ONCE: &str = r#"events of a module
 BEGUN
 > 1 {"id":1,"method":"session.subscribe","params":{"events":["browsingContext"]}}
@@ -176,11 +179,7 @@ open 1 /session
 > 1 {"id":6,"method":"session.unsubscribe","params":{"subscriptions":["00000002-0005-8000-8000-000000000001"]}}
   < 1 {"id":6,"result":{},"type":"success"}"#;
 
-#[test]
-fn a_subscription_is_told_what_stands(rt: HostRuntime) -> Result<(), Fail> {
-    check_rows(&rt, TOLD_AT_ONCE)
-}
-
+/// Commands that are refused, and change nothing.
 const REFUSED: &str = r#"connection without a session
 open 1 /session
   opened 1
@@ -294,11 +293,7 @@ BEGUN
 > 1 {"id":9,"method":"session.unsubscribe","params":{"events":[],"subscriptions":[]}}
   < 1 {"error":"invalid argument","id":9,"message":"invalid argument","type":"error"}"#;
 
-#[test]
-fn a_refused_command_changes_nothing(rt: HostRuntime) -> Result<(), Fail> {
-    check_rows(&rt, REFUSED)
-}
-
+/// Subscriptions that end by their ids.
 const ENDED: &str = r#"id named twice
 BEGUN
 > 1 {"id":1,"method":"session.subscribe","params":{"events":["log.entryAdded"]}}
@@ -418,11 +413,7 @@ open 2 /session
 > 2 {"id":3,"method":"session.unsubscribe","params":{"subscriptions":["00000002-0005-8000-8000-000000000001"]}}
   < 2 {"id":3,"result":{},"type":"success"}"#;
 
-#[test]
-fn subscriptions_end_by_their_ids(rt: HostRuntime) -> Result<(), Fail> {
-    check_rows(&rt, ENDED)
-}
-
+/// Events that are taken from global subscriptions.
 const TAKEN: &str = r#"event that no subscription holds
 BEGUN
 > 1 {"id":1,"method":"session.unsubscribe","params":{"events":["log.entryAdded"]}}
@@ -629,12 +620,7 @@ open 2 /session
 > 2 {"id":2,"method":"session.unsubscribe","params":{"subscriptions":["00000002-0005-8000-8000-000000000001"]}}
   < 2 {"id":2,"result":{},"type":"success"}"#;
 
-#[test]
-fn events_are_taken_from_global_subscriptions(rt: HostRuntime) -> Result<(), Fail> {
-    check_rows(&rt, TAKEN)
-}
-
-/// What follows 256 subscriptions of the first session.
+/// What follows 256 subscriptions of the first session, which has no more.
 const PAST_THE_LIMIT: &str =
     r#"> 1 {"id":257,"method":"session.subscribe","params":{"events":["session"]}}
   < 1 {"error":"unknown error","id":257,"message":"unknown error","type":"error"}
@@ -663,18 +649,26 @@ open 2 /session
   < 1 {"error":"unknown error","id":265,"message":"unknown error","type":"error"}"#;
 
 #[test]
-fn at_most_256_of_a_session_live(rt: HostRuntime) -> Result<(), Fail> {
-    let mut table = String::from_str(rt.alloc(), "one more than 256\nBEGUN\n")?;
+fn subscriptions_begin_and_end(rt: HostRuntime) -> Result<(), Fail> {
+    let play = [Run::Play];
+    check_rows(&rt, &play, TOLD_AT_ONCE)?;
+    check_rows(&rt, &play, REFUSED)?;
+    check_rows(&rt, &play, ENDED)?;
+    check_rows(&rt, &play, TAKEN)?;
+    check_rows(&rt, &play, past_256(rt.alloc())?.as_str())
+}
+
+/// A row that makes 256 subscriptions and goes past them.
+fn past_256(alloc: Global) -> Result<String, AllocError> {
+    let mut row = String::from_str(alloc, "one more than 256\nBEGUN\n")?;
     for n in 1..=256u16 {
         write!(
-            table,
-            "> 1 {{\"id\":{n},\"method\":\"session.subscribe\",\"params\":{{\"events\":[\"session\"]}}}}\n"
-        )?;
-        write!(
-            table,
-            "  < 1 {{\"id\":{n},\"result\":{{\"subscription\":\"00000001-0005-8000-8000-{n:012x}\"}},\"type\":\"success\"}}\n"
+            row,
+            r#"> 1 {{"id":{n},"method":"session.subscribe","params":{{"events":["session"]}}}}
+  < 1 {{"id":{n},"result":{{"subscription":"00000001-0005-8000-8000-{n:012x}"}},"type":"success"}}
+"#
         )?;
     }
-    table.push_str(PAST_THE_LIMIT)?;
-    check_rows(&rt, table.as_str())
+    row.push_str(PAST_THE_LIMIT)?;
+    Ok(row)
 }
