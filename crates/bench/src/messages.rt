@@ -2,7 +2,7 @@
 use crate::measure::{Subject, measure_text};
 use crate::texts;
 use anyhow::{Result, bail};
-use bidi_messages::{Verdict, judge, read_message, text_of};
+use bidi_messages::{Sent, Verdict, judge, read_message, text_of};
 use std::alloc::Global;
 use std::rt::Clock;
 
@@ -17,10 +17,7 @@ impl Subject for Commands {
 
     fn read_and_write(alloc: Global, text: &str) -> Result<usize> {
         match judge(alloc, text)? {
-            Verdict::Accepted(command) => {
-                let written = text_of(alloc, &command)?;
-                Ok(written.len())
-            }
+            Verdict::Accepted(command) => length(alloc, command),
             Verdict::Refused { .. } => bail!("the text is no command"),
         }
     }
@@ -37,9 +34,16 @@ impl Subject for Messages {
 
     fn read_and_write(alloc: Global, text: &str) -> Result<usize> {
         let message = read_message(alloc, text)?;
-        let written = text_of(alloc, &message)?;
-        Ok(written.len())
+        length(alloc, message)
     }
+}
+
+/// How many bytes the text of a command or a message has.
+fn length<M: Sent>(alloc: Global, message: M) -> Result<usize>
+    requires { M.shape.well message }
+{
+    let written = text_of(alloc, &message)?;
+    Ok(written.len())
 }
 
 /// Measures a short command, one with params, and an event.
