@@ -1,11 +1,12 @@
--- The first word of a step's line.
+-- The first word of a step's line, and the context that it names.
 use Rattle.std.proofs.Common.{◌≡◌, ℕ, true, false, List, ◌∷◌, ◌++◌, refl}
-use Rattle.std.specs.Prelude.{◌==◌, decimal, codes}
+use Rattle.std.specs.Prelude.{◌==◌, IfSome, decimal, codes}
 use Rattle.std.specs.List.{list_any}
+use Rattle.bidi_values.specs.Level.{level_text}
 use Rattle.bidi_remote.specs.Step.{Step}
 use Rattle.bidi_remote.specs.Step as step
 use Rattle.bidi_remote.specs.Built.{is_built_step}
-use Rattle.bidi.specs.Lines.{line_of}
+use Rattle.bidi.specs.Lines.{line_of, context_in, IsContext}
 
 -- what a search for the first space answers
 abbrev pub Splits : List ℕ → (List ℕ → List ℕ → Type 0) → Type 0
@@ -20,7 +21,7 @@ has_space line h (step.Text c t) e = h (codes ">") (decimal c ++ 32 ∷ t) e ref
 has_space line h (step.NotText c) e = h (codes "binary") (decimal c) e refl
 has_space line h (step.Frame context url) e = h (codes "frame") (context ++ 32 ∷ url) e refl
 has_space line h (step.Unframe context) e = h (codes "unframe") context e refl
-has_space line h (step.Log context level text) e = h (codes "log") (context ++ 32 ∷ level ++ 32 ∷ text) e refl
+has_space line h (step.Log context level text) e = h (codes "log") (context ++ 32 ∷ level_text level ++ 32 ∷ text) e refl
 has_space line h (step.TableRow text) e = h (codes "value") text e refl
 
 -- and that of a step that is built begins with one of five words
@@ -33,3 +34,12 @@ known_word line word rest h a d b o t (step.Drop c) built e = d (h (codes "drop"
 known_word line word rest h a d b o t (step.Text c x) built e = t (h (codes ">") (decimal c ++ 32 ∷ x) e refl).0
 known_word line word rest h a d b o t (step.NotText c) built e = b (h (codes "binary") (decimal c) e refl).0
 known_word line word rest h a d b o t s built e = cc
+
+-- a step that is built names no context
+pub names_no_context : (s : Step) → is_built_step s ≡ true → IfSome (context_in s) IsContext
+names_no_context (step.At n) built = tt
+names_no_context (step.Open c r) built = tt
+names_no_context (step.Drop c) built = tt
+names_no_context (step.Text c t) built = tt
+names_no_context (step.NotText c) built = tt
+names_no_context s built = cc

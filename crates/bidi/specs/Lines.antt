@@ -1,6 +1,7 @@
 -- The lines of a play, which say its steps, and the lines that are written. Their forms are this project's own.
-use Rattle.std.specs.Prelude.{◌≡◌, ℕ, ◌<◌, ◌≤◌, ◌^◌, ◌==◌, List, [], ◌∷◌, ◌++◌, length, codes, decimal, IsUtf8, Bool, true, false}
+use Rattle.std.specs.Prelude.{◌≡◌, ◌≢◌, IfSome, Option, Some, None, ℕ, ◌<◌, ◌≤◌, ◌^◌, ◌==◌, List, [], ◌∷◌, ◌++◌, length, codes, decimal, IsUtf8, Bool, true, false}
 use Rattle.std.specs.List.{flat_map, list_any}
+use Rattle.bidi_values.specs.Level.{level_text}
 use Rattle.bidi_remote.specs.Step.{Step, At, Open, Drop, Text, NotText, Frame, Unframe, Log, TableRow}
 use Rattle.bidi_remote.specs.Sent as sent
 use Rattle.bidi_remote.specs.Sent.{Sent}
@@ -15,7 +16,7 @@ line_of (Text c text) = codes "> " ++ decimal c ++ 32 ∷ text
 line_of (NotText c) = codes "binary " ++ decimal c
 line_of (Frame context url) = codes "frame " ++ context ++ 32 ∷ url
 line_of (Unframe context) = codes "unframe " ++ context
-line_of (Log context level text) = codes "log " ++ context ++ 32 ∷ level ++ 32 ∷ text
+line_of (Log context level text) = codes "log " ++ context ++ 32 ∷ level_text level ++ 32 ∷ text
 line_of (TableRow text) = codes "value " ++ text
 
 -- the number in it, or 0
@@ -30,15 +31,28 @@ number_of (Unframe context) = 0
 number_of (Log context level text) = 0
 number_of (TableRow text) = 0
 
+-- the context that a step names, if it names one
+abbrev pub context_in : Step → Option (List ℕ)
+context_in (Frame context url) = Some context
+context_in (Unframe context) = Some context
+context_in (Log context level text) = Some context
+context_in s = None
+
+-- a context is one byte or more, and no space
+abbrev pub IsContext : List ℕ → Type 0
+IsContext context = (context ≢ []) × (list_any (λ b. b == 32) context ≡ false)
+
 -- a line feed stands in the bytes
 abbrev pub has_feed : List ℕ → Bool
 has_feed bytes = list_any (λ b. b == 10) bytes
 
--- A step that a play can say: its number is a js-uint, and its line is one line of UTF-8 with at most 2,097,152 bytes.
+-- A step that a play can say: its number is a js-uint, its context has no space and is not empty, and its line is one line
+-- of UTF-8 with at most 2,097,152 bytes. So no two such steps share a line.
 -- It is one that is built: the lines of a page are no play lines yet.
 pub record CanBeSaid (s : Step) : Type 0 where
   pub built : is_built_step s ≡ true
   pub number : number_of s < 2 ^ 53
+  pub context : IfSome (context_in s) IsContext
   pub utf8 : IsUtf8 (line_of s)
   pub one_line : has_feed (line_of s) ≡ false
   pub short : length (line_of s) ≤ 2097152

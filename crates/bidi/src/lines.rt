@@ -33,6 +33,7 @@ pub(crate) fn feed_at(bytes: &[u8]) -> Option<usize>
 ///
 /// # Errors
 /// No memory, where a growth was refused.
+#[tactic(auto, using(crate::proofs::WordLemmas::names_no_context))]
 pub fn read_step(alloc: Global, line: &[u8]) -> Result<Option<Step>, AllocError>
     requires { has_feed line.now ≡ false }
     ensures some { IfOk result (λ found. IfSome found (λ step. CanBeSaid (step_of step) × (line.now ≡ line_of (step_of step)))) }

@@ -2,6 +2,7 @@
 use Prim.Native.String.{String}
 use Rattle.std.specs.Prelude.{ℕ, ℤ, Bool, List, [], ◌∷◌, codes, bytes_eq, Option, unwrap_or, option_map, is_some, is_none, ◌&&◌, ◌||◌, if◌then◌else◌}
 use Rattle.bidi_tree.specs.Node.{Node, null}
+use Rattle.bidi_values.specs.declared.log_entry.Level.{Level}
 use Rattle.bidi_browser.specs.Params.{tree_if_at, text_if_at, number_if_at, trees_if_at, text_at, texts_at, whole_at, entry_at}
 
 -- a tab of a window, or a window of its own
@@ -37,7 +38,7 @@ pub data Action : Type 0 where
   -- steps of a play
   Frame : (context : List ℕ) (url : List ℕ) → Action
   Unframe : (context : List ℕ) → Action
-  Log : (context : List ℕ) (level : List ℕ) (text : List ℕ) → Action
+  Log : (context : List ℕ) (level : Level) (text : List ℕ) → Action
   -- a row of the table, where its text is one
   TableRow : (row : Option Node) → Action
 

@@ -2,6 +2,7 @@
 use Rattle.std.specs.Prelude.{ℕ, suc, Bool, true, false, if◌then◌else◌, List, [], ◌∷◌, Option, is_none}
 use Rattle.url.specs.Parts.{Parts}
 use Rattle.bidi_tree.specs.Node.{Node}
+use Rattle.bidi_values.specs.declared.log_entry.Level.{Level}
 use Rattle.bidi_browser.specs.declared.id.Kind.{Kind}
 use Rattle.bidi_browser.specs.declared.id.Kind.TheVariants.{Context, Realm, Navigation, Handle, Window}
 
@@ -30,7 +31,7 @@ pub data Act : Type 0 where
   -- a context went, and all below it
   Removed : (context : ℕ) → Act
   Moved : (context : ℕ) (move : Move) → Act
-  Logged : (context : ℕ) (level : List ℕ) (text : List ℕ) → Act
+  Logged : (context : ℕ) (level : Level) (text : List ℕ) → Act
   Tabled : (text : List ℕ) (row : Row) → Act
   -- a script ended in a realm, and where held is true its value got a handle
   Ran : (realm : ℕ) (ending : Ending) (held : Bool) → Act

@@ -72,7 +72,7 @@ abbrev pub subtree_within : ℕ → List Act → ℕ → List ℕ
 subtree_within zero past c = []
 subtree_within (suc n) past c = c ∷ flat_map (subtree_within n past) (children_of past c)
 
--- the same without a bound, since no context stands below level 16
+-- the same as far as there are contexts: no context stands below level 16
 abbrev pub subtree_of : List Act → ℕ → List ℕ
 subtree_of = subtree_within 16
 

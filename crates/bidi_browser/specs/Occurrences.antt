@@ -3,6 +3,8 @@ use Rattle.std.specs.Prelude.{ℕ, ◌==◌, Bool, List, [], ◌∷◌, ◌++◌
 use Rattle.std.specs.List.{list_any}
 use Rattle.url.specs.Parts.{Parts}
 use Rattle.bidi_tree.specs.Node.{Node, text, no_members}
+use Rattle.bidi_values.specs.declared.log_entry.Level.{Level}
+use Rattle.bidi_values.specs.Level.{level_text}
 use Rattle.bidi_messages.specs.declared.event.EventName.{EventName}
 use Rattle.bidi_messages.specs.declared.event.EventName.TheVariants.{ContextCreated, ContextDestroyed, NavigationStarted, DomContentLoaded, Load, RealmCreated, RealmDestroyed, EntryAdded}
 use Rattle.bidi_browser.specs.declared.id.Kind.TheVariants.{Context, Realm, Navigation}
@@ -80,12 +82,12 @@ navigation_event past moment c url event = occurrence past c event (mapped (
     "timestamp" being number moment and
     "url" being text (url_text url) and no_members))
 
--- a log entry of the console, its args the one text, at the moment
-abbrev pub entry_added : List Act → ℕ → ℕ → List ℕ → List ℕ → Occurrence
+-- a log entry of the console, its method its level and its args the one text, at the moment
+abbrev pub entry_added : List Act → ℕ → ℕ → Level → List ℕ → Occurrence
 entry_added past moment c level line = occurrence past c EntryAdded (mapped (
     "type" being word "console" and
-    "level" being text level and
-    "method" being text level and
+    "level" being text (level_text level) and
+    "method" being text (level_text level) and
     "text" being text line and
     "args" being listed (mapped ("type" being word "string" and "value" being text line and no_members) ∷ []) and
     "source" being mapped ("context" being id_tree Context c and "realm" being id_tree Realm (realm_of past c) and no_members) and

@@ -8,7 +8,7 @@ use Rattle.bidi_browser.specs.Urls.{url_text}
 use Rattle.bidi_browser.specs.Acts.{Act, Made, Framed, Removed, Moved, Logged, Tabled, Ran, Disowned, Looked, Move, Across, Ending, Returned, Threw, next_number}
 use Rattle.bidi_browser.specs.Contexts.{contexts, tops, children_of, tree_order}
 use Rattle.bidi_browser.specs.Places.{entries_of, moved, present}
-use Rattle.bidi_browser.specs.Actions.{Wait, Started, Interactive, Complete, Action, Navigate, Reload, GetTree, GetRealms}
+use Rattle.bidi_browser.specs.Actions.{Wait, Started, Interactive, Complete, Action, Unframe, Navigate, Reload, GetTree, GetRealms}
 use Rattle.bidi_browser.specs.Values.{with_member}
 use Rattle.bidi_browser.specs.Maps.{◌being◌and◌, mapped, listed, nothing, word, number, id_tree}
 use Rattle.bidi_browser.specs.Info.{info_of}
@@ -27,6 +27,11 @@ abbrev pub birth : List Act → Act → List Item
 birth past act =
     let c = next_number past Context in
     Happens (context_created (act ∷ past) c) ∷ Happens (realm_created (act ∷ past) c) ∷ []
+
+-- the reply to a removal: a close has one, and nobody asked for an unframe
+abbrev pub removal_reply : Action → List Item
+removal_reply (Unframe id) = []
+removal_reply action = Replies nothing ∷ []
 
 -- the result of a create
 abbrev pub created_result : List Act → Node
@@ -129,7 +134,7 @@ looked_result past action = nothing
 abbrev pub occurs : List Act → ℕ → Action → Act → List Item
 occurs past moment action (Made w) = birth past (Made w) ++ Replies (created_result past) ∷ []
 occurs past moment action (Framed p url) = birth past (Framed p url)
-occurs past moment action (Removed c) = map Happens (removal past c) ++ Replies nothing ∷ []
+occurs past moment action (Removed c) = map Happens (removal past c) ++ removal_reply action
 occurs past moment action (Moved c move) = navigation past moment (wait_in action) c move
 occurs past moment action (Logged c level line) = Happens (entry_added past moment c level line) ∷ []
 occurs past moment action (Tabled t row) = []

@@ -6,6 +6,7 @@ use Rattle.bidi_messages.specs.declared.error_code.ErrorCode.TheVariants.{Invali
 use Rattle.bidi_browser.specs.declared.id.Kind.TheVariants.{Context, Realm}
 use Rattle.bidi_browser.specs.Ids.{id_of}
 use Rattle.bidi_browser.specs.Urls.{parsed}
+use Rattle.bidi_values.specs.declared.log_entry.Level.{Level}
 use Rattle.bidi_browser.specs.Acts.{Act, Made, Framed, Removed, Moved, Logged, Tabled, Ran, Disowned, Looked, To, Again, Across, Ending, Returned, Threw, Row, EndsIn, GivesBack}
 use Rattle.bidi_browser.specs.Contexts.{parent_of, level_of, window_of, contexts, tops}
 use Rattle.bidi_browser.specs.Places.{entries_of, place_across}
@@ -79,7 +80,7 @@ abbrev pub looked_at : List Act → Option (List ℕ) → Result Act ErrorCode
 looked_at past None = Ok Looked
 looked_at past (Some id) = looked (context_named past id)
 
--- a child stands below a context that is above level 16
+-- the context, the URL, room for one more, and the context's level, so that no child stands below level 16
 abbrev pub frame_outcome : List Act → List ℕ → List ℕ → Result Act ErrorCode
 frame_outcome past id address = do
   c ← context_named past id
@@ -175,7 +176,7 @@ disown_outcome past ids target = do
 -- ---- the log and the table
 
 -- the context alone
-abbrev pub log_outcome : List Act → List ℕ → List ℕ → List ℕ → Result Act ErrorCode
+abbrev pub log_outcome : List Act → List ℕ → Level → List ℕ → Result Act ErrorCode
 log_outcome past id level line = do
   c ← context_named past id
   Ok (Logged c level line)

@@ -4,6 +4,7 @@ use Rattle.std.specs.Prelude.{ℕ, List, [], ◌∷◌, ◌++◌, map, reverse, 
 use Rattle.serde_json.proofs.OnLiterals.{serde_json_on_literals}
 use Rattle.bidi_browser.proofs.OnLiterals.{browser_on_literals}
 use Rattle.bidi_browser.proofs.Spelling.{said}
+use Rattle.bidi_values.specs.declared.log_entry.Level.{Level}
 use Rattle.bidi_remote.specs.Step.{Step, Open, Text, Frame, Unframe, Log, TableRow}
 use Rattle.bidi_remote.specs.Sent as sent
 use Rattle.bidi_remote.specs.Sent.{Sent, out}
@@ -32,8 +33,8 @@ frame c url = Frame (said c) (codes url)
 abbrev pub unframe : String → Step
 unframe c = Unframe (said c)
 
-abbrev pub log : String → String → String → Step
-log c level s = Log (said c) (codes level) (codes s)
+abbrev pub log : String → Level → String → Step
+log c level s = Log (said c) level (codes s)
 
 abbrev pub value : String → Step
 value s = TableRow (said s)

@@ -1,6 +1,7 @@
 -- Worked examples of subscribing and unsubscribing.
 use Rattle.std.specs.Prelude.{◌≡◌, [], ◌∷◌, ◌++◌, codes, refl}
 use Rattle.bidi_browser.proofs.Spelling.{said}
+use Rattle.bidi_values.specs.declared.log_entry.Level.TheVariants.{Info, Warn}
 use Rattle.bidi_remote.specs.Step.{Open, Drop}
 use Rattle.bidi_remote.specs.Sent as sent
 use Rattle.bidi_remote.proofs.Rows.{after, ask, ask_on, begun, event, frame, log, machine_on_literals, new_session, open_session, refusal, success}
@@ -164,7 +165,7 @@ pub scope_is_the_top_level_context :
     after (begun
     ++ frame "$c1" "about:blank"
     ∷ ask "{'id':1,'method':'session.subscribe','params':{'events':['log.entryAdded'],'contexts':['$c2']}}" ∷ [])
-    (log "$c1" "warn" "x")
+    (log "$c1" Warn "x")
     ≡ event 1 "log.entryAdded" "{'args':[{'type':'string','value':'x'}],'level':'warn','method':'warn','source':{'context':'$c1','realm':'$r1'},'text':'x','timestamp':0,'type':'console'}" ∷ []
 unfolding machine_on_literals
 scope_is_the_top_level_context = refl
@@ -173,7 +174,7 @@ pub scope_does_not_cover_other_contexts :
     after (begun
     ++ ask "{'id':9,'method':'browsingContext.create','params':{'type':'tab'}}"
     ∷ ask "{'id':1,'method':'session.subscribe','params':{'events':['log.entryAdded'],'contexts':['$c2']}}" ∷ [])
-    (log "$c1" "info" "x")
+    (log "$c1" Info "x")
     ≡ []
 unfolding machine_on_literals
 scope_does_not_cover_other_contexts = refl
@@ -232,7 +233,7 @@ pub refused_unsubscribe_changes_nothing :
     after (begun
     ++ ask "{'id':1,'method':'session.subscribe','params':{'events':['log']}}"
     ∷ ask "{'id':2,'method':'session.unsubscribe','params':{'subscriptions':['$u1','$u2']}}" ∷ [])
-    (log "$c1" "info" "x")
+    (log "$c1" Info "x")
     ≡ event 1 "log.entryAdded" "{'args':[{'type':'string','value':'x'}],'level':'info','method':'info','source':{'context':'$c1','realm':'$r1'},'text':'x','timestamp':0,'type':'console'}" ∷ []
 unfolding machine_on_literals
 refused_unsubscribe_changes_nothing = refl
@@ -251,7 +252,7 @@ pub unsubscribed_event_does_not_come :
     after (begun
     ++ ask "{'id':1,'method':'session.subscribe','params':{'events':['log']}}"
     ∷ ask "{'id':2,'method':'session.unsubscribe','params':{'subscriptions':['$u1']}}" ∷ [])
-    (log "$c1" "info" "x")
+    (log "$c1" Info "x")
     ≡ []
 unfolding machine_on_literals
 unsubscribed_event_does_not_come = refl
@@ -291,7 +292,7 @@ pub unmatched_event_leaves_the_others :
     after (begun
     ++ ask "{'id':1,'method':'session.subscribe','params':{'events':['log.entryAdded']}}"
     ∷ ask "{'id':2,'method':'session.unsubscribe','params':{'events':['log.entryAdded','browsingContext.load']}}" ∷ [])
-    (log "$c1" "info" "x")
+    (log "$c1" Info "x")
     ≡ event 1 "log.entryAdded" "{'args':[{'type':'string','value':'x'}],'level':'info','method':'info','source':{'context':'$c1','realm':'$r1'},'text':'x','timestamp':0,'type':'console'}" ∷ []
 unfolding machine_on_literals
 unmatched_event_leaves_the_others = refl
@@ -328,7 +329,7 @@ pub every_global_subscription_loses_the_event :
     ++ ask "{'id':1,'method':'session.subscribe','params':{'events':['log']}}"
     ∷ ask "{'id':2,'method':'session.subscribe','params':{'events':['log']}}"
     ∷ ask "{'id':3,'method':'session.unsubscribe','params':{'events':['log']}}" ∷ [])
-    (log "$c1" "info" "x")
+    (log "$c1" Info "x")
     ≡ []
 unfolding machine_on_literals
 every_global_subscription_loses_the_event = refl
@@ -346,7 +347,7 @@ pub scoped_subscription_is_untouched_by_events :
     ++ ask "{'id':1,'method':'session.subscribe','params':{'events':['log'],'contexts':['$c1']}}"
     ∷ ask "{'id':2,'method':'session.subscribe','params':{'events':['log']}}"
     ∷ ask "{'id':3,'method':'session.unsubscribe','params':{'events':['log']}}" ∷ [])
-    (log "$c1" "info" "x")
+    (log "$c1" Info "x")
     ≡ event 1 "log.entryAdded" "{'args':[{'type':'string','value':'x'}],'level':'info','method':'info','source':{'context':'$c1','realm':'$r1'},'text':'x','timestamp':0,'type':'console'}" ∷ []
 unfolding machine_on_literals
 scoped_subscription_is_untouched_by_events = refl
@@ -385,7 +386,7 @@ pub each_connection_of_the_session_hears_it :
     after (begun
     ++ Open 2 (said "/session/$s1")
     ∷ ask "{'id':1,'method':'session.subscribe','params':{'events':['log.entryAdded']}}" ∷ [])
-    (log "$c1" "info" "x")
+    (log "$c1" Info "x")
     ≡ event 1 "log.entryAdded" "{'args':[{'type':'string','value':'x'}],'level':'info','method':'info','source':{'context':'$c1','realm':'$r1'},'text':'x','timestamp':0,'type':'console'}"
     ∷ event 2 "log.entryAdded" "{'args':[{'type':'string','value':'x'}],'level':'info','method':'info','source':{'context':'$c1','realm':'$r1'},'text':'x','timestamp':0,'type':'console'}" ∷ []
 unfolding machine_on_literals
@@ -397,7 +398,7 @@ pub reopened_connection_hears_it_last :
     ∷ ask "{'id':1,'method':'session.subscribe','params':{'events':['log.entryAdded']}}"
     ∷ Drop 1
     ∷ Open 1 (said "/session/$s1") ∷ [])
-    (log "$c1" "info" "x")
+    (log "$c1" Info "x")
     ≡ event 2 "log.entryAdded" "{'args':[{'type':'string','value':'x'}],'level':'info','method':'info','source':{'context':'$c1','realm':'$r1'},'text':'x','timestamp':0,'type':'console'}"
     ∷ event 1 "log.entryAdded" "{'args':[{'type':'string','value':'x'}],'level':'info','method':'info','source':{'context':'$c1','realm':'$r1'},'text':'x','timestamp':0,'type':'console'}" ∷ []
 unfolding machine_on_literals
@@ -411,7 +412,7 @@ pub sessions_hear_it_in_order_of_making :
     ∷ new_session
     ∷ ask "{'id':1,'method':'session.subscribe','params':{'events':['log.entryAdded']}}"
     ∷ ask_on 2 "{'id':1,'method':'session.subscribe','params':{'events':['log.entryAdded']}}" ∷ [])
-    (log "$c1" "info" "x")
+    (log "$c1" Info "x")
     ≡ event 2 "log.entryAdded" "{'args':[{'type':'string','value':'x'}],'level':'info','method':'info','source':{'context':'$c1','realm':'$r1'},'text':'x','timestamp':0,'type':'console'}"
     ∷ event 1 "log.entryAdded" "{'args':[{'type':'string','value':'x'}],'level':'info','method':'info','source':{'context':'$c1','realm':'$r1'},'text':'x','timestamp':0,'type':'console'}" ∷ []
 unfolding machine_on_literals
@@ -422,7 +423,7 @@ pub session_that_is_not_subscribed_hears_nothing :
     ++ Open 2 (codes "/session")
     ∷ ask_on 2 "{'id':0,'method':'session.new','params':{'capabilities':{}}}"
     ∷ ask "{'id':1,'method':'session.subscribe','params':{'events':['log.entryAdded']}}" ∷ [])
-    (log "$c1" "info" "x")
+    (log "$c1" Info "x")
     ≡ event 1 "log.entryAdded" "{'args':[{'type':'string','value':'x'}],'level':'info','method':'info','source':{'context':'$c1','realm':'$r1'},'text':'x','timestamp':0,'type':'console'}" ∷ []
 unfolding machine_on_literals
 session_that_is_not_subscribed_hears_nothing = refl

@@ -1,5 +1,6 @@
--- What the remote end does so far. The definitions speak of every command and step; this file alone says which of them
--- are not built yet, and goes when all are.
+-- What the remote end does so far. The definitions speak of every command and step; this file says which of them are not
+-- built yet, and goes when all are. Two fields of relations say the same of the tables: `unlogged` in Stands here, and
+-- `frameless` in that of bidi_browser.
 use Prim.Native.String.{String}
 use Rattle.std.specs.Prelude.{Bool, true, false, List, [], ◌∷◌, if◌then◌else◌, codes, bytes_eq, Some}
 use Rattle.std.specs.List.{list_any}

@@ -1,5 +1,6 @@
 -- A step of a remote end, as contracts see it.
 use Rattle.std.specs.Prelude.{ℕ, List}
+use Rattle.bidi_values.specs.declared.log_entry.Level.{Level}
 
 -- what a connection or a play does to the remote end, with numbers and the bytes of texts
 pub data Step : Type 0 where
@@ -10,5 +11,5 @@ pub data Step : Type 0 where
   NotText : (conn : ℕ) → Step
   Frame : (context : List ℕ) (url : List ℕ) → Step
   Unframe : (context : List ℕ) → Step
-  Log : (context : List ℕ) (level : List ℕ) (text : List ℕ) → Step
+  Log : (context : List ℕ) (level : Level) (text : List ℕ) → Step
   TableRow : (text : List ℕ) → Step
