@@ -47,8 +47,7 @@ abbrev pub has_feed : List ℕ → Bool
 has_feed bytes = list_any (λ b. b == 10) bytes
 
 -- A step that a play can say: its number is a js-uint, its context has no space and is not empty, and its line is one line
--- of UTF-8 with at most 2,097,152 bytes. So no two such steps share a line.
--- It is one that is built: the lines of a page are no play lines yet.
+-- of UTF-8 with at most 2,097,152 bytes. It is one that is built: the lines of a page are no play lines yet.
 pub record CanBeSaid (s : Step) : Type 0 where
   pub built : is_built_step s ≡ true
   pub number : number_of s < 2 ^ 53
