@@ -7,3 +7,4 @@ pub mod TreeLemmas
 pub mod RowLemmas
 pub mod PushLemmas
 pub mod ToldLemmas
+pub mod AcceptedLemmas

@@ -12,6 +12,7 @@ pub mod Maps
 pub mod Info
 pub mod Occurrences
 pub mod Outcome
+pub mod Accepted
 pub mod Occurs
 pub mod View
 pub mod ContextRows
