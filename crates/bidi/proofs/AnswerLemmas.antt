@@ -1,10 +1,10 @@
 -- More inputs at the end of a run.
 use Rattle.std.proofs.Common.{◌≡◌, List, [], ◌∷◌, ◌++◌, length, reverse, append_assoc, append-nil, refl, sym, ◌∙◌, ap, arith}
 use Rattle.std.proofs.lemmas.List.{reverse-append}
-use Rattle.bidi_remote.specs.History.{Input}
-use Rattle.bidi_remote.specs.Outcome.{deeds}
-use Rattle.bidi_remote.specs.Built.{so_far, all_so_far_after, all_so_far}
-use Rattle.bidi_remote.specs.Sent.{answers_after, answers, out}
+use Rattle.bidi_remote.specs.Machine.History.{Input}
+use Rattle.bidi_remote.specs.Machine.Outcome.{deeds}
+use Rattle.bidi_remote.specs.Machine.Built.{so_far, all_so_far_after, all_so_far}
+use Rattle.bidi_remote.specs.Machine.Sent.{answers_after, answers, out}
 
 -- ---- any inputs
 

@@ -6,7 +6,7 @@ use Rattle.std.specs.List.{list_any, position_or_len}
 use Rattle.std.proofs.lemmas.Bool.Decides.{nat_tests}
 use Rattle.std.proofs.lemmas.List.Folds.{list_any-append}
 use Rattle.bidi.proofs.ResultLemmas.{no_truth}
-use Rattle.bidi_remote.specs.Sent.{Text}
+use Rattle.bidi_remote.specs.Machine.Sent.{Text}
 use Rattle.std.specs.Prelude.{decimal}
 use Rattle.std.proofs.Common.{append_assoc}
 use Rattle.bidi.specs.Lines.{has_feed, ended, sent_line}

@@ -9,11 +9,11 @@ use Rattle.bidi_shape.specs.Table.{same_some}
 use Rattle.bidi_browser.specs.Actions.{TableRow}
 use Rattle.bidi_messages.specs.Verdict.{Verdict, IsVerdict}
 use Rattle.bidi_messages.proofs.VerdictLemmas.{one_verdict}
-use Rattle.bidi_remote.specs.Step as step
-use Rattle.bidi_remote.specs.Step.{Step}
-use Rattle.bidi_remote.specs.History.{Input, Heard, InPage, IsRow, is_row, is_not_json, is_no_row, IsHeardAs, AreHeardAs}
-use Rattle.bidi_remote.specs.Built.{all_so_far, all_so_far_after}
-use Rattle.bidi_remote.specs.Sent.{Sent, answers, answers_after}
+use Rattle.bidi_remote.specs.Machine.Step as step
+use Rattle.bidi_remote.specs.Machine.Step.{Step}
+use Rattle.bidi_remote.specs.Machine.History.{Input, Heard, InPage, IsRow, is_row, is_not_json, is_no_row, IsHeardAs, AreHeardAs}
+use Rattle.bidi_remote.specs.Machine.Built.{all_so_far, all_so_far_after}
+use Rattle.bidi_remote.specs.Machine.Sent.{Sent, answers, answers_after}
 use Rattle.bidi.specs.Lines.{ended, sent_line, written}
 use Rattle.bidi.specs.Plays.{Plays, PlaysPart}
 use Rattle.bidi.proofs.AnswerLemmas.{answers_so_far}

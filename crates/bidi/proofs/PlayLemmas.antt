@@ -3,10 +3,11 @@ use Rattle.std.proofs.Common.{◌≡◌, ℕ, ◌≤◌, Bool, false, List, [], 
 use Rattle.std.specs.Prelude.{Result, IsErr, IsErrAnd, IfErr}
 use Rattle.std.specs.List.{AllByRecursion}
 use Rattle.std.proofs.lemmas.Grind.{flat_map-append}
-use Rattle.bidi_remote.specs.Step.{Step}
-use Rattle.bidi_remote.specs.History.{Input, IsHeardAs, AreHeardAs}
-use Rattle.bidi_remote.specs.Built.{all_so_far}
-use Rattle.bidi_remote.specs.Sent.{Sent, answers, out}
+use Rattle.bidi_remote.specs.Machine.Step.{Step}
+use Rattle.bidi_remote.specs.Machine.History.{Input, IsHeardAs, AreHeardAs}
+use Rattle.bidi_remote.specs.Machine.Built.{all_so_far}
+use Rattle.bidi_remote.specs.Machine.Sent.{Sent, answers, out}
+use Rattle.bidi_remote.specs.Tables.Messages.{AllReadBack}
 use Rattle.bidi.specs.Lines.{line_of, ended, said, CanBeSaid, has_feed, written, sent_line}
 use Rattle.bidi.specs.Plays.{Play, PlaysPart, HasNoPlayLine, StopsAt}
 use Rattle.bidi.specs.Faults.{play_fault_of}
@@ -25,6 +26,11 @@ heard_more [] (j ∷ inputs) s i a h = absurd a
 heard_more (y ∷ ys) [] s i a h = absurd a
 heard_more (y ∷ ys) (j ∷ inputs) s i a h = (a.0, heard_more ys inputs s i a.1 h)
 
+-- more that is sent reads back
+pub read_more : (xs ys : List Sent) → AllReadBack xs → AllReadBack ys → AllReadBack (xs ++ ys)
+read_more [] ys a b = b
+read_more (x ∷ xs) ys a b = (a.0, read_more xs ys a.1 b)
+
 pub regroup : (front line more : List ℕ) → (front ++ (ended line ++ [])) ++ more ≡ front ++ (line ++ 10 ∷ more)
 regroup front line more =
     append_assoc front (ended line ++ []) more
@@ -32,9 +38,9 @@ regroup front line more =
 
 -- a play that goes on by one line
 unfoldable pub play_more : (bytes rest line more : List ℕ) (steps : List Step) (text : List ℕ) (s : Step) (i : Input) (p : Play bytes steps rest text)
-    → rest ≡ line ++ 10 ∷ more → line ≡ line_of s → CanBeSaid s → IsHeardAs s i
+    → rest ≡ line ++ 10 ∷ more → line ≡ line_of s → CanBeSaid s → IsHeardAs s i → AllReadBack (out (reverse (all_so_far p.inputs)) (last_so_far p.inputs i))
     → Play bytes (steps ++ s ∷ []) more (text ++ written (out (reverse (all_so_far p.inputs)) (last_so_far p.inputs i)))
-play_more bytes rest line more steps text s i p r l c h =
+play_more bytes rest line more steps text s i p r l c h reads =
     let next = out (reverse (all_so_far p.inputs)) (last_so_far p.inputs i) in
     let say : Step → List ℕ = λ z. ended (line_of z) in
     record {
@@ -45,6 +51,7 @@ play_more bytes rest line more steps text s i p r l c h =
       heard = heard_more steps p.inputs s i p.heard h;
       answer = ap (λ (z : List ℕ). z ++ written next) p.answer
           ∙ sym (ap written (answers_more p.inputs i) ∙ flat_map-append (λ (z : Sent). ended (sent_line z)) (answers (all_so_far p.inputs)) next);
+      reads_back = subst AllReadBack (sym (answers_more p.inputs i)) (read_more (answers (all_so_far p.inputs)) next p.reads_back reads);
     }
 
 -- as many steps as inputs

@@ -4,8 +4,8 @@ use Rattle.std.specs.Prelude.{◌==◌, decimal}
 use Rattle.std.proofs.lemmas.Bool.Decides.{nat_tests}
 use Rattle.std.specs.List.{AllByRecursion}
 use Rattle.std.proofs.lemmas.Fmt.{decimal_injective}
-use Rattle.bidi_remote.specs.Step.{Step, At, Open, Drop, Text, NotText, Frame, Unframe, Log, TableRow}
-use Rattle.bidi_remote.specs.Built.{is_built_step}
+use Rattle.bidi_remote.specs.Machine.Step.{Step, At, Open, Drop, Text, NotText, Frame, Unframe, Log, TableRow}
+use Rattle.bidi_remote.specs.Machine.Built.{is_built_step}
 use Rattle.bidi.specs.Lines.{line_of, number_of, ended, said, CanBeSaid}
 use Rattle.bidi.specs.Plays.{HasNoPlayLine}
 use Rattle.bidi.proofs.ResultLemmas.{no_truth}

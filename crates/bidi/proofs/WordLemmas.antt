@@ -3,9 +3,9 @@ use Rattle.std.proofs.Common.{◌≡◌, ℕ, true, false, List, ◌∷◌, ◌+
 use Rattle.std.specs.Prelude.{◌==◌, IfSome, decimal, codes}
 use Rattle.std.specs.List.{list_any}
 use Rattle.bidi_values.specs.Level.{level_text}
-use Rattle.bidi_remote.specs.Step.{Step}
-use Rattle.bidi_remote.specs.Step as step
-use Rattle.bidi_remote.specs.Built.{is_built_step}
+use Rattle.bidi_remote.specs.Machine.Step.{Step}
+use Rattle.bidi_remote.specs.Machine.Step as step
+use Rattle.bidi_remote.specs.Machine.Built.{is_built_step}
 use Rattle.bidi.specs.Lines.{line_of, context_in, IsContext}
 
 -- what a search for the first space answers

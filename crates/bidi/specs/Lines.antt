@@ -2,10 +2,10 @@
 use Rattle.std.specs.Prelude.{◌≡◌, ◌≢◌, IfSome, Option, Some, None, ℕ, ◌<◌, ◌≤◌, ◌^◌, ◌==◌, List, [], ◌∷◌, ◌++◌, length, codes, decimal, IsUtf8, Bool, true, false}
 use Rattle.std.specs.List.{flat_map, list_any}
 use Rattle.bidi_values.specs.Level.{level_text}
-use Rattle.bidi_remote.specs.Step.{Step, At, Open, Drop, Text, NotText, Frame, Unframe, Log, TableRow}
-use Rattle.bidi_remote.specs.Sent as sent
-use Rattle.bidi_remote.specs.Sent.{Sent}
-use Rattle.bidi_remote.specs.Built.{is_built_step}
+use Rattle.bidi_remote.specs.Machine.Step.{Step, At, Open, Drop, Text, NotText, Frame, Unframe, Log, TableRow}
+use Rattle.bidi_remote.specs.Machine.Sent as sent
+use Rattle.bidi_remote.specs.Machine.Sent.{Sent}
+use Rattle.bidi_remote.specs.Machine.Built.{is_built_step}
 
 -- The one line of a step, without its line feed: a word and the fields of the step, each parted by one space; the last is the rest of the line.
 abbrev pub line_of : Step → List ℕ

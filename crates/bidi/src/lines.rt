@@ -1,9 +1,9 @@
 //! Lines: the step that one says, and those of what is sent.
 ghost use Rattle.std.specs.Prelude.{◌≡◌, ℕ, ◌<◌, ◌≤◌, ◌^◌, ◌==◌, ◌↔◌, List, [], ◌∷◌, ◌++◌, true, false, map, length, decimal, string_bytes, IsTrue, IfOk, IfSome, IfNone, IsSomeAnd, position};
 ghost use Rattle.std.specs.List.{list_any};
-ghost use Rattle.bidi_remote.specs.Step as play;
-ghost use Rattle.bidi_remote.specs.View.{step_of, sent_of};
-ghost use Rattle.bidi_remote.specs.Built.{is_built_step};
+ghost use Rattle.bidi_remote.specs.Machine.Step as play;
+ghost use Rattle.bidi_remote.specs.Tables.View.{step_of, sent_of};
+ghost use Rattle.bidi_remote.specs.Machine.Built.{is_built_step};
 ghost use Rattle.bidi.specs.Lines.{line_of, number_of, has_feed, CanBeSaid, ended, sent_line, written};
 
 use bidi_remote::{Sent, Step};

@@ -1,7 +1,7 @@
 //! Plays: lines of steps in, lines of what is sent out.
 ghost use Rattle.std.specs.Prelude.{◌≡◌, ℕ, ◌+◌, ◌≤◌, Bool, false, List, ◌∷◌, length, map, IfOk, IfErr, OnOk, IsErrOf, IsTrue, MatchResult};
 ghost use Rattle.std.specs.Io.KnownBytes.{Appends, IsAtEnd};
-ghost use Rattle.bidi_remote.specs.Step as play;
+ghost use Rattle.bidi_remote.specs.Machine.Step as play;
 ghost use Rattle.bidi.specs.Lines.{has_feed};
 ghost use Rattle.bidi.specs.Plays.{Moves, Play, PlaysAll, StopsAt, failed_writes};
 ghost use Rattle.bidi.specs.declared.playing.PlayFault.TheVariants.{Write, NoMemory};

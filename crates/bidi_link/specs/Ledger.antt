@@ -8,9 +8,9 @@ use Rattle.bidi_browser.specs.Actions.{is_text}
 use Rattle.bidi_browser.specs.Params.{tree_if_at, text_if_at, number_if_at, text_at}
 use Rattle.bidi_browser.specs.Maps.{◌being◌and◌, mapped, number}
 use Rattle.bidi_messages.specs.Verdict.{Accepted}
-use Rattle.bidi_remote.specs.History.{Input, Open, Drop, Heard}
-use Rattle.bidi_remote.specs.Connections.{is_open}
-use Rattle.bidi_remote.specs.Outcome.{deeds}
+use Rattle.bidi_remote.specs.Machine.History.{Input, Open, Drop, Heard}
+use Rattle.bidi_remote.specs.Machine.Connections.{is_open}
+use Rattle.bidi_remote.specs.Machine.Outcome.{deeds}
 use Rattle.bidi_link.specs.Pairing.{Sending, Deed, Handed, Linked, Sent, Unsent, TakenUp, TakenDown, Cut, history, links, is_link, is_cut, commands, unsent, ups, downs, texts, received}
 
 -- ---- what a link has received

@@ -1,9 +1,9 @@
 -- Both ends in memory: the past of what was handed to the remote end, sent, and carried on each link. This project's own.
 use Rattle.std.specs.Prelude.{ℕ, suc, ◌==◌, Bool, false, ◌||◌, if◌then◌else◌, List, [], ◌∷◌, ◌++◌, reverse, take, flat_map}
 use Rattle.bidi_tree.specs.Node.{Node}
-use Rattle.bidi_remote.specs.History.{Input}
-use Rattle.bidi_remote.specs.Sent as sent
-use Rattle.bidi_remote.specs.Sent.{answers}
+use Rattle.bidi_remote.specs.Machine.History.{Input}
+use Rattle.bidi_remote.specs.Machine.Sent as sent
+use Rattle.bidi_remote.specs.Machine.Sent.{answers}
 
 -- a command that a local end sends: its method and its params
 pub record Sending : Type 0 where

@@ -1,12 +1,126 @@
--- What a remote end sends may be written.
-use Rattle.std.proofs.Common.{◌≡◌, ◌≤◌, ℕ, false, ◌||◌, refl, arith}
-use Rattle.std.proofs.lemmas.Bool.{or_from}
-use Rattle.bidi_tree.specs.Node.{Node, levels, has_odd, IsWhole, IsWritable}
-use Rattle.bidi_messages.specs.declared.event.EventName.{EventName}
-use Rattle.bidi_messages.specs.Message.{response_tree, event_tree}
+-- What a remote end sends may be written, and is the text of a well message.
+use Rattle.std.proofs.Common.{◌≡◌, ◌∙◌, ◌≤◌, ◌⊎◌, inl, inr, ℕ, pos, nat_le, true, false, bytes_eq, List, [], codes, Option, Some, None, IsSome, Result, Ok, Err, IfOk, String, Global, string_bytes, refl, sym, ap, subst, zero-le, arith}
+use Rattle.std.proofs.lemmas.Bool.{leb-true}
+use Rattle.bidi_tree.specs.Node.{Node, Members, no_members, member, put, map, text, whole, levels, IsWhole, IsWritable, MembersAreWhole}
+use Rattle.bidi_tree.specs.Kind.{map_in}
+use Rattle.bidi_tree.specs.Text.{tree_of, compact_text}
+use Rattle.bidi_tree.specs.declared.number.JsUint.{JsUint}
+use Rattle.bidi_tree.proofs.MemberLemmas.{get_member-put}
+use Rattle.bidi_shape.specs.Name.{Name, error_response, command_response}
+use Rattle.bidi_shape.specs.Term.{Rows, Openness, required, extensible, exactly, js_uint, map_of, row, rule, names_of}
+use Rattle.bidi_shape.specs.Profile.{term_of}
+use Rattle.bidi_shape.specs.Fits.{Fits, without}
+use Rattle.bidi_shape.specs.MapLaws.{apart}
+use Rattle.bidi_shape.specs.ChoiceLaws.{NullableWell, nullable_tree}
+use Rattle.bidi_shape.specs.ValueLaws.{others_of}
+use Rattle.bidi_shape.specs.WholeLaws.{whole_within}
+use Rattle.bidi_shape.specs.Table.{TableWell}
+use Rattle.bidi_shape.specs.Value.{ShapeOf}
+use Rattle.bidi_shape.specs.declared.ext.Ext.{Ext}
+use Rattle.bidi_shape.proofs.FitsLemmas.{exactly_kind, js_uint_kind, map_kind, map_inside, RowFits, row_inside, either_inside, rule_inside}
+use Rattle.bidi_messages.specs.Method.{result_of}
+use Rattle.bidi_messages.specs.ErrorCode.{error_code_text}
+use Rattle.bidi_messages.specs.EventData.{event_of}
+use Rattle.bidi_messages.specs.EventName.{event_text}
+use Rattle.bidi_messages.specs.Reading.{IsMessageText}
+use Rattle.bidi_messages.specs.declared.method.Method.{Method}
+use Rattle.bidi_messages.specs.declared.method.Method.TheVariants.{ScriptEvaluate, ScriptCallFunction}
+use Rattle.bidi_messages.specs.declared.error_code.ErrorCode.{ErrorCode}
+use Rattle.bidi_messages.specs.declared.event.EventData.{EventData}
+use Rattle.bidi_messages.specs.declared.message.Message.{Message}
+use Rattle.bidi_messages.specs.declared.message.Message.TheVariants.{Response as AsResponse, Error as AsError, Event as AsEvent}
+use Rattle.bidi_messages.specs.contracts.event.EventDataSubjectEventName.TheImpl as told
+use Rattle.bidi_messages.specs.contracts.message.MessageShape.TheImpl as message
 
-pub response_writable : (id : ℕ) (t : Node) → IsWhole t 70 → IsWritable (response_tree id t)
-response_writable id t w = let deep : levels t ≤ 70 = w.1 in (or_from (has_odd t) false w.0 refl, omega arith)
+-- the text of a well message's tree is that of a well message
+pub is_text : {E : Type 0} (shape : ShapeOf Message) (m : Message) (t : Node) → shape.well m → t ≡ shape.tree_of m
+    → (r : Result (String Global) E) → IfOk r (λ s. string_bytes s ≡ compact_text t) → IfOk r (λ s. tree_of (string_bytes s) ≡ Some t) → IfOk r (λ s. IsMessageText shape (string_bytes s))
+is_text shape m t well is (Ok s) written back = (m, well, written ∙ ap compact_text is, back ∙ ap Some is)
+is_text shape m t well is (Err e) written back = tt
 
-pub event_writable : (e : EventName) (t : Node) → IsWhole t 70 → IsWritable (event_tree e t)
-event_writable e t w = let deep : levels t ≤ 70 = w.1 in (or_from (has_odd t) false w.0 refl, omega arith)
+-- and the tree may be written
+pub writable : (shape : ShapeOf Message) → nat_le shape.deepest 100 ≡ true → (m : Message) (t : Node) → shape.well m → t ≡ shape.tree_of m → IsWritable t
+writable shape shallow m t well is =
+    subst IsWritable (sym is) (whole_within (shape.tree_of m) shape.deepest 100 (leb-true shape.deepest 100 shallow) (shape.whole m well))
+
+-- ---- results are maps
+
+map_is : {t : Node} → (ms : Members) × (t ≡ map ms) → IsSome (map_in t)
+map_is p = subst (λ u. IsSome (map_in u)) (sym p.1) refl
+
+one_of_maps : {t : Node} {rs ss : Rows} {o p : Openness} → Fits t (map_of rs o) ⊎ Fits t (map_of ss p) → IsSome (map_in t)
+one_of_maps (inl f) = map_is (map_kind f)
+one_of_maps (inr f) = map_is (map_kind f)
+
+-- what fits the rule of a method's result is a map
+pub result_is_map : (k : Method) (t : Node) → Fits t (rule (result_of k)) → IsSome (map_in t)
+result_is_map ScriptEvaluate t fit = one_of_maps (either_inside (rule_inside fit))
+result_is_map ScriptCallFunction t fit = one_of_maps (either_inside (rule_inside fit))
+result_is_map k t fit = map_is (map_kind (rule_inside fit))
+
+-- ---- maps of one type are none of another
+
+type_is : (o : Option Node) (s : List ℕ) → RowFits required (exactly s) o → o ≡ Some (text s)
+type_is (Some t) s fit = ap Some (exactly_kind fit)
+type_is None s fit = absurd fit
+
+-- a map with one type does not fit a rule that asks for another
+other_type : (n : Name) (s u : List ℕ) (rs : Rows) (o : Openness) (ms : Members) → term_of n ≡ map_of (row (codes "type") required (exactly s) rs) o → bytes_eq u s ≡ false
+    → Fits (map (put (codes "type") (text u) ms)) (rule n) → ⊥
+other_type n s u rs o ms of differ fit =
+    let rows = map_inside (subst (Fits (map (put (codes "type") (text u) ms))) of (rule_inside fit)) in
+    let there = sym (get_member-put (codes "type") (text u) ms) ∙ type_is _ s (row_inside rows.0).0 in
+    let same : u ≡ s = cc there in
+    apart u s differ same
+
+-- ---- well messages with no members beside those of their rules
+
+-- no member stands beside
+none_beside : (rs : Rows) (ms : Members) → ms ≡ no_members → TableWell rs extensible ms
+none_beside rs ms none = record { no_known = ap (without (names_of rs)) none ∙ sym none; may = subst (λ x. MembersAreWhole x 60) (sym none) (refl, zero-le) }
+
+-- the members of a map of few levels
+inside : (ms : Members) (n : ℕ) → IsWhole (map ms) n → levels (map ms) ≤ 61 → MembersAreWhole ms 60
+inside ms n w small = (w.0, omega arith)
+
+-- no name takes no member
+without-none : (ms : Members) → without [] ms ≡ ms
+without-none no_members = refl
+without-none (member k t ms) = ap (member k t) (without-none ms)
+
+abbrev pub a_response : JsUint → Ext → Ext → Message
+a_response id contents e = AsResponse (record { id = id; «result» = contents; ext = e })
+
+pub response_well : (id : JsUint) (contents e : Ext) (t : Node) (n : ℕ) → map (others_of contents) ≡ t → IsWhole t n → levels t ≤ 61 → others_of e ≡ no_members
+    → message.ghosts.shape.well (a_response id contents e)
+response_well id contents e t n is w small none =
+    let may = inside (others_of contents) n (subst (λ u. IsWhole u n) (sym is) w) (subst (λ u. levels u ≤ 61) (sym is) small) in
+    ((tt, ((tt, record { no_known = without-none (others_of contents); may = may }), tt)), none_beside _ (others_of e) none)
+
+-- null is no id
+id_well : (id : Option JsUint) → NullableWell (λ n. Unit {0}) js_uint id
+id_well None = λ fit. (let p = js_uint_kind fit in cc p.1)
+id_well (Some n) = tt
+
+abbrev pub an_error : Option JsUint → ErrorCode → String Global → Ext → Message
+an_error id code said e = AsError (record { id = id; error = code; message = said; stacktrace = None; ext = e })
+
+-- its members after its type
+abbrev after_error : Option JsUint → ErrorCode → String Global → Ext → Members
+after_error id code said e = put (codes "id") (nullable_tree (λ n. whole (pos n.value)) id) (put (codes "error") (text (error_code_text code)) (put (codes "message") (text (string_bytes said)) (others_of e)))
+
+pub error_well : (id : Option JsUint) (code : ErrorCode) (said : String Global) (e : Ext) → others_of e ≡ no_members → message.ghosts.shape.well (an_error id code said e)
+error_well id code said e none =
+    (((id_well id, (tt, (tt, (tt, tt)))), none_beside _ (others_of e) none), other_type command_response (codes "success") (codes "error") _ _ (after_error id code said e) refl refl)
+
+abbrev pub an_event : EventData → Ext → Message
+an_event d e = AsEvent (record { «data» = d; ext = e })
+
+abbrev after_event : EventData → Ext → Members
+after_event d e = put (codes "method") (text (event_text (event_of d))) (put (codes "params") (told.ghosts.subject.tree_of d) (others_of e))
+
+pub event_well : (d : EventData) (e : Ext) → told.ghosts.subject.well d → others_of e ≡ no_members → message.ghosts.shape.well (an_event d e)
+event_well d e well none = (
+  (record { head = tt; subject = well; others = none_beside _ (others_of e) none }, other_type error_response (codes "error") (codes "event") _ _ (after_event d e) refl refl),
+  other_type command_response (codes "success") (codes "event") _ _ (after_event d e) refl refl,
+)

@@ -1,7 +1,7 @@
 -- How a text of the remote end reads. After WebDriver BiDi, "Transport".
-use Rattle.std.specs.Prelude.{◌≡◌, ℕ, List, Option, Some, None, Result, Ok, Err}
+use Rattle.std.specs.Prelude.{◌≡◌, ℕ, List, Some, None, Result, Ok, Err}
 use Rattle.bidi_tree.specs.Node.{Node}
-use Rattle.bidi_tree.specs.Text.{tree_of_text}
+use Rattle.bidi_tree.specs.Text.{tree_of_text, compact_text}
 use Rattle.bidi_shape.specs.Name.{message}
 use Rattle.bidi_shape.specs.Term.{rule}
 use Rattle.bidi_shape.specs.Fits.{Fits}
@@ -27,3 +27,7 @@ abbrev pub ReadsAs : ShapeOf Message → List ℕ → Message → Result Message
 ReadsAs shape s m (Ok v) = shape.well m → tree_of_text None s ≡ Some (shape.tree_of m) → shape.same v m
 ReadsAs shape s m (Err NoMemory) = Unit {0}
 ReadsAs shape s m (Err e) = shape.well m → tree_of_text None s ≡ Some (shape.tree_of m) → ⊥
+
+-- the text is that of a well message, and reads back
+abbrev pub IsMessageText : ShapeOf Message → List ℕ → Type 0
+IsMessageText shape s = (m : Message) × shape.well m × (s ≡ compact_text (shape.tree_of m)) × (tree_of_text None s ≡ Some (shape.tree_of m))

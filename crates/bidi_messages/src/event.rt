@@ -59,7 +59,7 @@ impl Named for EventName {
 
 /// The member `type` of an event.
 #[derive(Clone, Copy, Debug, PartialEq, Eq)]
-enum EventType {
+pub(crate) enum EventType {
     Event,
 }
 

@@ -1,15 +1,21 @@
 //! The texts that a remote end sends: no member stands beside those of the message's rule.
-ghost use Rattle.std.specs.Prelude.{◌≡◌, IfOk, string_bytes, option_map};
+ghost use Rattle.std.specs.Prelude.{◌≡◌, ◌≤◌, IfOk, IsSome, string_bytes, option_map};
+ghost use Rattle.bidi_tree.specs.Node.{levels, map};
+ghost use Rattle.bidi_tree.specs.Kind.{map_in};
 ghost use Rattle.bidi_tree.specs.View.{node};
-ghost use Rattle.bidi_messages.specs.Message.{id_tree, response_tree, event_tree, response_text, error_text, event_text};
+ghost use Rattle.bidi_shape.specs.ValueLaws.{others_of};
+ghost use Rattle.bidi_messages.specs.Message.{response_text, error_text, event_text};
+ghost use Rattle.bidi_messages.specs.Reading.{IsMessageText};
 
 use crate::error_code::ErrorCode;
-use crate::event::{EventData, EventName};
+use crate::event::{EventData, EventName, EventType};
+use crate::message::{ErrorResponse, Message, Response};
 use crate::method::Method;
 use crate::result_data::ResultData;
-use crate::subject::Subject;
-use bidi_shape::{Named, Shape, add_literal, add_member};
-use bidi_tree::{JsUint, Members, Tree, put_member, write};
+use crate::subject::{Subject, write_about};
+use crate::text::text_of;
+use bidi_shape::{Ext, Named, Shape, add_literal, add_member};
+use bidi_tree::{JsUint, Tree, put_member, write};
 use std::alloc::{AllocError, Global};
 
 /// The text of the response to a command: compact, its members in byte order of their names.
@@ -22,28 +28,48 @@ pub fn response_text(
     id: JsUint,
     result_data: ResultData,
 ) -> Result<String, AllocError>
-    requires { ⟦<ResultData as Subject<Method>>⟧.subject.well result_data }
-    ensures { IfOk result (λ s. string_bytes s
+    requires well { ⟦<ResultData as Subject<Method>>⟧.subject.well result_data }
+    // A response holds any members of at most 60 levels each, so a result has at most 61: one that is deeper could be
+    // written, and nobody could read it.
+    requires small { levels (⟦<ResultData as Subject<Method>>⟧.subject.tree_of result_data) ≤ 61 }
+    ensures text { IfOk result (λ s. string_bytes s
         ≡ response_text id.value (⟦<ResultData as Subject<Method>>⟧.subject.tree_of result_data)) }
+    ensures reads_back { IfOk result (λ s. IsMessageText ⟦<Message as Shape>⟧.shape (string_bytes s)) }
 {
-    let tree = response_tree(alloc, id, result_data)?;
+    let members = contents(alloc, result_data)?;
+    let response = Response {
+        id,
+        result: members,
+        ext: Ext::empty(alloc),
+    };
+    let tree = response_tree(alloc, response)?;
     write(alloc, &tree)
 }
 
-fn response_tree<D: Subject<Method>>(
-    alloc: Global,
-    id: JsUint,
-    result_data: D,
-) -> Result<Tree, AllocError>
-    ensures { IfOk result (λ t. node t ≡ response_tree id.value (D.subject.tree_of result_data)) }
+/// The members of a result. It is used up.
+fn contents<D: Subject<Method>>(alloc: Global, result_data: D) -> Result<Ext, AllocError>
+    requires { IsSome (map_in (D.subject.tree_of result_data)) }
+    ensures { IfOk result (λ e. map (others_of e) ≡ D.subject.tree_of result_data) }
 {
-    let mut members = Members::new(alloc);
-    add_member(alloc, &mut members, "id", &id)?;
+    let Tree::Map(members) = result_data.content(alloc)? else {
+        unreachable!()
+    };
+    // The contract of `len` has the order of the names, which an `Ext` keeps.
+    let _ = members.len();
+    Ok(Ext { members })
+}
+
+/// The tree of a response, which is used up: its members are not copied.
+fn response_tree(alloc: Global, response: Response) -> Result<Tree, AllocError>
+    ensures { IfOk result (λ t. node t ≡ ⟦<Response as Shape>⟧.shape.tree_of response) }
+{
+    let mut members = response.ext.members;
     put_member(
         &mut members,
         String::from_str(alloc, "result")?,
-        result_data.content(alloc)?,
+        Tree::Map(response.result.members),
     )?;
+    add_member(alloc, &mut members, "id", &response.id)?;
     add_literal(alloc, &mut members, "type", "success")?;
     Ok(Tree::Map(members))
 }
@@ -54,26 +80,13 @@ fn response_tree<D: Subject<Method>>(
 /// No memory, where a growth was refused.
 pub fn event_text(alloc: Global, event: &EventData) -> Result<String, AllocError>
     requires { ⟦<EventData as Subject<EventName>>⟧.subject.well event.now }
-    ensures { IfOk result (λ s. string_bytes s
+    ensures text { IfOk result (λ s. string_bytes s
         ≡ event_text (⟦<EventData as Subject<EventName>>⟧.subject.kind event.now) (⟦<EventData as Subject<EventName>>⟧.subject.tree_of event.now)) }
+    ensures reads_back { IfOk result (λ s. IsMessageText ⟦<Message as Shape>⟧.shape (string_bytes s)) }
 {
-    let tree = event_tree(alloc, event)?;
+    let ext = Ext::empty(alloc);
+    let tree = write_about(alloc, "type", &EventType::Event, event, &ext)?;
     write(alloc, &tree)
-}
-
-fn event_tree(alloc: Global, event: &EventData) -> Result<Tree, AllocError>
-    ensures { IfOk result (λ t. node t
-        ≡ event_tree (⟦<EventData as Subject<EventName>>⟧.subject.kind event.now) (⟦<EventData as Subject<EventName>>⟧.subject.tree_of event.now)) }
-{
-    let mut members = Members::new(alloc);
-    add_literal(alloc, &mut members, "method", event.kind().name())?;
-    put_member(
-        &mut members,
-        String::from_str(alloc, "params")?,
-        event.content(alloc)?,
-    )?;
-    add_literal(alloc, &mut members, "type", "event")?;
-    Ok(Tree::Map(members))
 }
 
 /// The text of an error, whose message is the code's text.
@@ -81,25 +94,16 @@ fn event_tree(alloc: Global, event: &EventData) -> Result<Tree, AllocError>
 /// # Errors
 /// No memory, where a growth was refused.
 pub fn error_text(alloc: Global, id: Option<JsUint>, code: ErrorCode) -> Result<String, AllocError>
-    ensures { IfOk result (λ s. string_bytes s ≡ error_text (option_map (λ n. n.value) id) code) }
+    ensures text { IfOk result (λ s. string_bytes s ≡ error_text (option_map (λ n. n.value) id) code) }
+    ensures reads_back { IfOk result (λ s. IsMessageText ⟦<Message as Shape>⟧.shape (string_bytes s)) }
 {
-    let mut members = Members::new(alloc);
-    add_literal(alloc, &mut members, "error", code.name())?;
-    put_member(
-        &mut members,
-        String::from_str(alloc, "id")?,
-        id_tree(alloc, id)?,
-    )?;
-    add_literal(alloc, &mut members, "message", code.name())?;
-    add_literal(alloc, &mut members, "type", "error")?;
-    write(alloc, &Tree::Map(members))
-}
-
-fn id_tree(alloc: Global, id: Option<JsUint>) -> Result<Tree, AllocError>
-    ensures { IfOk result (λ t. node t ≡ id_tree (option_map (λ n. n.value) id)) }
-{
-    match id {
-        Some(id) => id.to_tree(alloc),
-        None => Ok(Tree::Null),
-    }
+    let message = String::from_str(alloc, code.name())?;
+    let response = ErrorResponse {
+        id,
+        error: code,
+        message,
+        stacktrace: None,
+        ext: Ext::empty(alloc),
+    };
+    text_of(alloc, &response)
 }

@@ -16,9 +16,9 @@ use Rattle.bidi_messages.specs.declared.command.CommandData.{CommandData}
 use Rattle.bidi_messages.specs.declared.command.CommandData.TheVariants as Of
 use Rattle.bidi_messages.proofs.CommandLemmas.{method_in-tree, params_in-tree}
 use Rattle.bidi_browser.specs.Params.{natural, text_at}
-use Rattle.bidi_remote.specs.Commands.{command_in, command_of, id_of_command}
-use Rattle.bidi_remote.specs.Built.{built_methods}
-use Rattle.bidi_remote.specs.Asked.{asked_of, IsWellAsked, AsksWhat, Asks}
+use Rattle.bidi_remote.specs.Machine.Commands.{command_in, command_of, id_of_command}
+use Rattle.bidi_remote.specs.Machine.Built.{built_methods}
+use Rattle.bidi_remote.specs.Tables.Asked.{asked_of, IsWellAsked, AsksWhat, Asks}
 use Rattle.bidi_remote.proofs.SubscribeAskLemmas.{subscribe-asks, unsubscribe-asks}
 
 -- the tree of a command

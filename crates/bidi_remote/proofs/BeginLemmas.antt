@@ -3,9 +3,9 @@ use Rattle.std.proofs.Common.{◌≡◌, ◌∙◌, ◌<◌, ◌≤◌, ◌+◌,
 use Rattle.std.specs.Prelude.{◌==◌}
 use Rattle.std.proofs.lemmas.Bool.Decides.{nat_tests}
 use Rattle.bidi_remote.specs.declared.connections.Connection.{Connection}
-use Rattle.bidi_remote.specs.Connections.{SpeaksFor, is_for}
-use Rattle.bidi_remote.specs.ConnectionRows.{Row, row_of, begun, to_each}
-use Rattle.bidi_remote.specs.Sent.{Sent}
+use Rattle.bidi_remote.specs.Machine.Connections.{SpeaksFor, is_for}
+use Rattle.bidi_remote.specs.Tables.ConnectionRows.{Row, row_of, begun, to_each}
+use Rattle.bidi_remote.specs.Machine.Sent.{Sent}
 
 -- the first of them changed by g
 abbrev pub over : {X : Type 0} → (X → X) → ℕ → List X → List X

@@ -25,7 +25,7 @@ use Rattle.bidi_params.specs.contracts.session.capabilities.CapabilitiesRequestS
 use Rattle.bidi_params.specs.contracts.session.capabilities.NewParametersShape.TheImpl as whole
 use Rattle.bidi_messages.specs.declared.error_code.ErrorCode.TheVariants.{InvalidArgument, SessionNotCreated}
 use Rattle.bidi_browser.specs.Params.{items_in}
-use Rattle.bidi_remote.specs.Capabilities.{Capability, Request, has_colon, requested, requested_in, request_in, request_of, is_known, are_apart, is_met, matching}
+use Rattle.bidi_remote.specs.Machine.Capabilities.{Capability, Request, has_colon, requested, requested_in, request_in, request_of, is_known, are_apart, is_met, matching}
 
 -- ---- truth values
 

@@ -5,7 +5,7 @@ use Rattle.bidi_messages.specs.declared.error_code.ErrorCode.{ErrorCode}
 use Rattle.bidi_browser.specs.Checks.{◌>>=◌, found}
 use Rattle.bidi_remote.specs.declared.refusal.Refusal.{Refusal}
 use Rattle.bidi_remote.specs.declared.refusal.Refusal.TheVariants.{Code, NoMemory}
-use Rattle.bidi_remote.specs.Checked.{IfChecked, behind}
+use Rattle.bidi_remote.specs.Tables.Checked.{IfChecked, behind}
 
 -- one check, then the rest
 abbrev pub joined : {A Y : Type 0} → (A → List Y) → Result A ErrorCode → Result (List Y) ErrorCode → Result (List Y) ErrorCode

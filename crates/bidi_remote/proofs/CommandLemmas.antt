@@ -9,7 +9,7 @@ use Rattle.bidi_shape.specs.Profile.{CommandRow, command_map, one_of_commands, s
 use Rattle.bidi_shape.specs.Fits.{Fits}
 use Rattle.bidi_shape.proofs.FitsLemmas.{exactly_kind, map_kind, map_inside, RowFits, row_inside, either_inside, rule_inside}
 use Rattle.bidi_browser.specs.Params.{text_at, tree_if_at}
-use Rattle.bidi_remote.specs.Commands.{Command, command_in, command_of}
+use Rattle.bidi_remote.specs.Machine.Commands.{Command, command_in, command_of}
 
 -- a required member of one text is read as that text
 text-required : (o : Option Node) (s : List ℕ) → RowFits required (exactly s) o → unwrap_or (option_and_then text_in o) [] ≡ s

@@ -6,22 +6,17 @@ use Rattle.std.proofs.lemmas.Bool.Decides.{nat_tests}
 use Rattle.std.proofs.lemmas.List.{map-append}
 use Rattle.std.proofs.lemmas.List.Elements.{filter-append}
 use Rattle.bidi_remote.specs.declared.connections.Connection.{Connection}
-use Rattle.bidi_remote.specs.History.{Deed, Opened, Dropped, Began, Ended}
-use Rattle.bidi_remote.specs.Sessions.{next_session}
-use Rattle.bidi_remote.specs.Connections.{Standing, Shut, Alone, SpeaksFor, is_shut, is_for, opened_for, standing_of, openings, connections_of}
-use Rattle.bidi_remote.specs.ConnectionRows.{Row, row_of, rows, begun, to_each}
-use Rattle.bidi_remote.specs.Sent.{Sent}
+use Rattle.bidi_remote.specs.Machine.History.{Deed, Opened, Dropped, Began, Ended}
+use Rattle.bidi_remote.specs.Machine.Sessions.{next_session}
+use Rattle.bidi_remote.specs.Machine.Connections.{Standing, Shut, Alone, SpeaksFor, is_shut, is_for, opened_for, standing_of, openings, connections_of}
+use Rattle.bidi_remote.specs.Tables.ConnectionRows.{standing_in, Row, row_of, rows, begun, to_each}
+use Rattle.bidi_remote.specs.Machine.Sent.{Sent}
 
 -- ---- rows
 
 -- the rows of these numbers, which stand so
 abbrev pub rows_by : (ℕ → Standing) → List ℕ → List Row
 rows_by f cs = map (λ c. (c, f c)) (filter (λ c. not (is_shut (f c))) cs)
-
--- how the connection of a row stands; without a row it is shut
-abbrev pub standing_in : Option Row → Standing
-standing_in None = Shut
-standing_in (Some row) = row.1
 
 -- what is shut is `Shut`
 pub is_Shut : (s : Standing) → is_shut s ≡ true → s ≡ Shut
@@ -112,17 +107,16 @@ find-rows : (past : List Deed) (c : ℕ) (b : Bool) → b ≡ is_shut (standing_
 find-rows past c true is opened = ap standing_in (find-shut (standing_of past) c (openings past) (sym is)) ∙ sym (is_Shut (standing_of past c) (sym is))
 find-rows past c false is opened = ap standing_in (find-open (standing_of past) c (openings past) (sym is) (opened (sym is)))
 
--- how a connection stands that was looked up; where none was found it is shut
+-- how the connection stands that was found; without one it is shut
 abbrev pub standing_found : Option Connection → Standing
 standing_found None = Shut
 standing_found (Some c) = opened_for c.session
 
-found-row : (c : ℕ) (items : List Connection) → standing_in (find (λ row. row.0 == c) (map row_of items)) ≡ standing_found (find (λ x. x.number.value == c) items)
+-- it is found as its row is
+pub found-row : (c : ℕ) (items : List Connection) → standing_found (find (λ x. x.number.value == c) items) ≡ standing_in (find (λ row. row.0 == c) (map row_of items))
 found-row c [] = refl
 found-row c (x ∷ items) = let ih = found-row c items in grind (arith, nat_tests, ih)
 
 -- the table says how a connection stands
-pub standing-found : (past : List Deed) (c : ℕ) (items : List Connection) → WasOpened past c → map row_of items ≡ rows past
-    → standing_found (find (λ x. x.number.value == c) items) ≡ standing_of past c
-standing-found past c items opened same =
-    sym (found-row c items) ∙ (ap (λ all. standing_in (find (λ row. row.0 == c) all)) same ∙ find-rows past c (is_shut (standing_of past c)) refl opened)
+pub standing-found : (past : List Deed) (c : ℕ) (all : List Row) → WasOpened past c → all ≡ rows past → standing_in (find (λ row. row.0 == c) all) ≡ standing_of past c
+standing-found past c all opened same = ap (λ xs. standing_in (find (λ row. row.0 == c) xs)) same ∙ find-rows past c (is_shut (standing_of past c)) refl opened

@@ -24,6 +24,11 @@ pub find-map : {X Y Z : Type 0} (g : X → Y) (f : Y → Z) (p : Y → Bool) (xs
 find-map g f p [] = refl
 find-map g f p (x ∷ xs) = let ih = find-map g f p xs in grind (arith, nat_tests, ih)
 
+-- the same, of the item itself
+pub find-seen : {X Y : Type 0} (g : X → Y) (p : Y → Bool) (xs : List X) → find p (map g xs) ≡ option_map g (find (λ x. p (g x)) xs)
+find-seen g p [] = refl
+find-seen g p (x ∷ xs) = let ih = find-seen g p xs in grind (arith, nat_tests, ih)
+
 -- no item passes
 pub position-none : {X : Type 0} (p : X → Bool) (xs : List X) → (let none : Option ℕ = None in position p xs ≡ none) → find p xs ≡ None
 position-none p xs none = fails p xs (past-end (nat_lt (position_or_len p xs) (length xs)) refl none)
@@ -48,3 +53,8 @@ filter-same p q (x ∷ xs) same = let ih = filter-same p q xs same in let here =
 pub flat_map-same : {X Y : Type 0} (f g : X → List Y) (xs : List X) → ((x : X) → f x ≡ g x) → flat_map f xs ≡ flat_map g xs
 flat_map-same f g [] same = refl
 flat_map-same f g (x ∷ xs) same = ap₂ (λ ys zs. ys ++ zs) (same x) (flat_map-same f g xs same)
+
+-- an option that has no value
+pub no_value : {X : Type 0} (o : Option X) → ((x : X) → o ≡ Some x → ⊥) → o ≡ None
+no_value None h = refl
+no_value (Some x) h = absurd (h x refl)

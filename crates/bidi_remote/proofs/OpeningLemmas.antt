@@ -13,13 +13,13 @@ use Rattle.bidi_browser.specs.Acts.{Act}
 use Rattle.bidi_browser.specs.Contexts.{up_to}
 use Rattle.bidi_browser.specs.Checks.{◌>>=◌, need}
 use Rattle.bidi_browser.specs.Outcome as browser
-use Rattle.bidi_remote.specs.Commands.{Command, Status, New, End, Subscribe, UnsubscribeById, UnsubscribeByEvents, OfBrowser, command_of, id_of_command}
-use Rattle.bidi_remote.specs.History.{Input, At, Open, Drop, Heard, NotText, InPage, Deed, Time, Opened, Dropped, Began, Ended, Subscribed, Cancelled, Dismissed, Did, Told, acts}
-use Rattle.bidi_remote.specs.Sessions.{sessions_made, is_active, sessions}
-use Rattle.bidi_remote.specs.Connections.{Standing, Shut, Alone, SpeaksFor, is_shut, is_open, standing_of, openings}
-use Rattle.bidi_remote.specs.Capabilities.{matching}
-use Rattle.bidi_remote.specs.Subscriptions.{subscriptions, holds_globally}
-use Rattle.bidi_remote.specs.Outcome.{Refusal, Lost, outcome, replied, asked, answered, in_page, opening, is_ready, all_named, scope_asked, subscriptions_named, subscribe_outcome, unsubscribe_by_events_outcome, session_of_resource, may_open, turn, with_turn, deeds, did}
+use Rattle.bidi_remote.specs.Machine.Commands.{Command, Status, New, End, Subscribe, UnsubscribeById, UnsubscribeByEvents, OfBrowser, command_of, id_of_command}
+use Rattle.bidi_remote.specs.Machine.History.{Input, At, Open, Drop, Heard, NotText, InPage, Deed, Time, Opened, Dropped, Began, Ended, Subscribed, Cancelled, Dismissed, Did, Told, acts}
+use Rattle.bidi_remote.specs.Machine.Sessions.{sessions_made, is_active, sessions}
+use Rattle.bidi_remote.specs.Machine.Connections.{Standing, Shut, Alone, SpeaksFor, is_shut, is_open, standing_of, openings}
+use Rattle.bidi_remote.specs.Machine.Capabilities.{matching}
+use Rattle.bidi_remote.specs.Machine.Subscriptions.{subscriptions, holds_globally}
+use Rattle.bidi_remote.specs.Machine.Outcome.{Refusal, Lost, outcome, replied, asked, answered, in_page, opening, is_ready, all_named, scope_asked, subscriptions_named, subscribe_outcome, unsubscribe_by_events_outcome, session_of_resource, may_open, turn, with_turn, deeds, did}
 use Rattle.bidi_remote.proofs.ConnectionLemmas.{WasOpened}
 
 -- ---- what each turn rests on

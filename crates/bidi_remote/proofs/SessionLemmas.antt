@@ -4,8 +4,8 @@ use Rattle.std.specs.Prelude.{◌==◌, filter}
 use Rattle.std.proofs.lemmas.Bool.Decides.{nat_tests}
 use Rattle.std.proofs.lemmas.List.Elements.{filter-append}
 use Rattle.bidi_browser.specs.Contexts.{up_to}
-use Rattle.bidi_remote.specs.History.{Deed, Began, Ended}
-use Rattle.bidi_remote.specs.Sessions.{sessions_made, next_session, is_active, sessions}
+use Rattle.bidi_remote.specs.Machine.History.{Deed, Began, Ended}
+use Rattle.bidi_remote.specs.Machine.Sessions.{sessions_made, next_session, is_active, sessions}
 
 -- the numbers up to n are other numbers than a greater one
 past-range : (p : ℕ → Bool) (m n : ℕ) → n < m → filter (λ s. s == m || p s) (up_to n) ≡ filter p (up_to n)

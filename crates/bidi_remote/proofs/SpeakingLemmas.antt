@@ -1,12 +1,12 @@
 -- Whatever the history, a session is active that a connection speaks for.
-use Rattle.std.proofs.Common.{◌≡◌, ◌<◌, ℕ, true, false, List, [], ◌∷◌, refl, arith, Result, Ok, Err, Option, Some, None}
+use Rattle.std.proofs.Common.{◌≡◌, ◌<◌, ◌≤◌, ℕ, suc, Bool, true, false, cond, List, [], ◌∷◌, length, refl, arith, Result, Ok, Err, Option, Some, None}
 use Rattle.std.specs.Prelude.{◌==◌, if◌then◌else◌}
 use Rattle.std.proofs.lemmas.Bool.Decides.{nat_tests}
-use Rattle.bidi_remote.specs.History.{Input, Deed, Opened, Dropped, Began, Ended, Subscribed}
-use Rattle.bidi_remote.specs.Sessions.{sessions_made, is_active}
-use Rattle.bidi_remote.specs.Connections.{Standing, Shut, Alone, SpeaksFor, is_for, opened_for, standing_of}
-use Rattle.bidi_remote.specs.Subscriptions.{subscriptions_made}
-use Rattle.bidi_remote.specs.Outcome.{Refusal, turn, with_turn, deeds}
+use Rattle.bidi_remote.specs.Machine.History.{Input, Deed, Opened, Dropped, Began, Ended, Subscribed}
+use Rattle.bidi_remote.specs.Machine.Sessions.{sessions_made, is_active}
+use Rattle.bidi_remote.specs.Machine.Connections.{Standing, Shut, Alone, SpeaksFor, is_for, opened_for, standing_of}
+use Rattle.bidi_remote.specs.Machine.Subscriptions.{subscriptions_made}
+use Rattle.bidi_remote.specs.Machine.Outcome.{Refusal, turn, with_turn, deeds}
 use Rattle.bidi_remote.proofs.OpeningLemmas.{IsFairIfDone, turn_fair}
 use Rattle.bidi_remote.proofs.SessionLemmas.{active_made}
 
@@ -59,3 +59,27 @@ none_more past (Ok d) fair active was = was
 pub made-none : (h : List Input) (s : ℕ) → sessions_made (deeds h) < s → subscriptions_made (deeds h) s ≡ 0
 made-none [] s less = refl
 made-none (i ∷ h) s less = none_more (deeds h) (turn (deeds h) i) (turn_fair (deeds h) i) (speaks-active h) (made-none h) s less
+
+-- ---- and there are no more sessions and subscriptions than steps
+
+sessions_more : (past : List Deed) (r : Result Deed Refusal) → sessions_made (with_turn past r) ≤ suc (sessions_made past)
+sessions_more past (Err refusal) = omega arith
+sessions_more past (Ok (Began c)) = omega arith
+sessions_more past (Ok d) = omega arith
+
+pub few-sessions : (h : List Input) → sessions_made (deeds h) ≤ length h
+few-sessions [] = omega arith
+few-sessions (i ∷ h) = let more = sessions_more (deeds h) (turn (deeds h) i) in let ih = few-sessions h in omega (arith, more, ih)
+
+made_one : (b : Bool) (n : ℕ) → cond b (suc n) n ≤ suc n
+made_one true n = omega arith
+made_one false n = omega arith
+
+subscriptions_more : (past : List Deed) (r : Result Deed Refusal) (s : ℕ) → subscriptions_made (with_turn past r) s ≤ suc (subscriptions_made past s)
+subscriptions_more past (Err refusal) s = omega arith
+subscriptions_more past (Ok (Subscribed t es scope)) s = made_one (s == t) (subscriptions_made past s)
+subscriptions_more past (Ok d) s = omega arith
+
+pub few-subscriptions : (h : List Input) (s : ℕ) → subscriptions_made (deeds h) s ≤ length h
+few-subscriptions [] s = omega arith
+few-subscriptions (i ∷ h) s = let more = subscriptions_more (deeds h) (turn (deeds h) i) s in let ih = few-subscriptions h s in omega (arith, more, ih)

@@ -16,10 +16,10 @@ use Rattle.bidi_browser.specs.declared.id.Kind.TheVariants.{Subscription}
 use Rattle.bidi_browser.specs.Ids.{id_text}
 use Rattle.bidi_browser.specs.Contexts.{up_to, is_alive}
 use Rattle.bidi_browser.specs.Occurrences.{event_place, is_among}
-use Rattle.bidi_remote.specs.History.{Deed, Began, Ended, Subscribed, Cancelled, Dismissed, Scope, acts}
-use Rattle.bidi_remote.specs.Sessions.{sessions_made, next_session, is_active, sessions}
-use Rattle.bidi_remote.specs.Subscriptions.{subscriptions_made, next_subscription, subscriptions, events_of, scope_of, is_listed, is_global, is_kept, is_live, holds, holds_globally, covers, is_enabled, is_newly_enabled}
-use Rattle.bidi_remote.specs.SubscriptionRows.{Row, row_at, events_left, subscription_rows, SessionRow, session_row, session_rows, any_covers, any_global, row_covers, without, loses_all, stripped, dismissed, subscribed, updated}
+use Rattle.bidi_remote.specs.Machine.History.{Deed, Began, Ended, Subscribed, Cancelled, Dismissed, Scope, acts}
+use Rattle.bidi_remote.specs.Machine.Sessions.{sessions_made, next_session, is_active, sessions}
+use Rattle.bidi_remote.specs.Machine.Subscriptions.{subscriptions_made, next_subscription, subscriptions, events_of, scope_of, is_listed, is_global, is_kept, is_live, holds, holds_globally, covers, is_enabled, is_newly_enabled}
+use Rattle.bidi_remote.specs.Tables.SubscriptionRows.{Row, row_at, events_left, subscription_rows, SessionRow, session_row, session_rows, any_covers, any_global, row_covers, without, loses_all, stripped, dismissed, subscribed, updated}
 use Rattle.bidi_remote.proofs.SessionLemmas.{both, active_made, sessions-began}
 
 -- ---- events

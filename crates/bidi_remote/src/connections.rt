@@ -1,9 +1,9 @@
 //! Open connections, and the session that each speaks for.
-ghost use Rattle.std.specs.Prelude.{◌≡◌, ◌==◌, not, false, ◌++◌, Option, find, filter, map, length, nat_lt, IfOk};
-ghost use Rattle.bidi_remote.specs.View.{sent_of};
-ghost use Rattle.bidi_remote.specs.Connections.{is_for};
-ghost use Rattle.bidi_remote.specs.ConnectionRows.{row_of, begun, to_each};
-ghost use Rattle.bidi_remote.specs.Sent.{Text, Close};
+ghost use Rattle.std.specs.Prelude.{◌≡◌, ◌==◌, not, [], ◌∷◌, ◌++◌, find, filter, map, length, nat_lt, IfOk, OnOk, OnErr};
+ghost use Rattle.bidi_remote.specs.Machine.Connections.{is_for};
+ghost use Rattle.bidi_remote.specs.Machine.Sent.{Text, Close};
+ghost use Rattle.bidi_remote.specs.Tables.ConnectionRows.{row_of, begun, to_each};
+ghost use Rattle.bidi_remote.specs.Tables.View.{sent_of};
 
 use crate::step::Sent;
 use bidi_tree::JsUint;
@@ -11,6 +11,17 @@ use std::alloc::{AllocError, Global};
 
 /// How many connections may be open.
 const MOST_CONNECTIONS: usize = 64;
+
+/// How a connection stands.
+#[derive(Clone, Copy)]
+pub(crate) enum Standing {
+    /// It is not open.
+    Shut,
+    /// It is open, without a session.
+    Alone,
+    /// It speaks for the session of that number.
+    SpeaksFor(u32),
+}
 
 /// An open connection.
 #[derive(Clone, Copy)]
@@ -21,7 +32,7 @@ pub(crate) struct Connection {
 }
 
 impl Connection {
-    /// Whether it speaks for the session.
+    // Whether it speaks for the session.
     fn is_for(&self, session: u32) -> bool
         ensures { result ≡ is_for session (row_of self.now).1 }
     {
@@ -32,8 +43,96 @@ impl Connection {
     }
 }
 
-/// The open connection of that number.
-pub(crate) fn find(connections: &[Connection], number: JsUint) -> Option<Connection>
+/// The open connections, in order of opening.
+#[derive(Drop)]
+pub(crate) struct Connections {
+    open: Vec<Connection>,
+}
+
+impl Connections {
+    ghost use Rattle.bidi_remote.specs.Tables.ConnectionRows.{rows_in, standing_in_hand, standing_in};
+
+    /// None is open. Takes no memory.
+    pub(crate) fn new(alloc: Global) -> Connections
+        ensures { rows_in result ≡ [] }
+    {
+        Connections {
+            open: Vec::new(alloc),
+        }
+    }
+
+    /// How the connection of that number stands.
+    pub(crate) fn standing_of(&self, number: JsUint) -> Standing
+        ensures { standing_in_hand result ≡ standing_in (find (λ row. row.0 == number.value) (rows_in self.now)) }
+    {
+        match find(&self.open, number) {
+            None => Standing::Shut,
+            Some(connection) => match connection.session {
+                None => Standing::Alone,
+                Some(session) => Standing::SpeaksFor(session),
+            },
+        }
+    }
+
+    /// Whether there is room for one more.
+    pub(crate) fn has_room(&self) -> bool
+        ensures { result ≡ nat_lt (length (rows_in self.now)) 64 }
+    {
+        self.open.len() < MOST_CONNECTIONS
+    }
+
+    /// Opens a connection, for a session or for none.
+    pub(crate) fn open(&mut self, number: JsUint, session: Option<u32>) -> Result<(), AllocError>
+        ensures ok { OnOk result (rows_in self.new ≡ rows_in self.old ++ row_of (record { number = number; session = session }) ∷ []) }
+        ensures err { OnErr result (rows_in self.new ≡ rows_in self.old) }
+    {
+        Ok(self.open.push(Connection { number, session })?)
+    }
+
+    /// Takes out the connection of that number.
+    pub(crate) fn close(&mut self, number: JsUint)
+        ensures { rows_in self.new ≡ filter (λ row. not (row.0 == number.value)) (rows_in self.old) }
+    {
+        self.open.retain(|c| c.number.value != number.value);
+    }
+
+    /// Takes out the connections of a session.
+    pub(crate) fn close_all(&mut self, session: u32)
+        ensures { rows_in self.new ≡ filter (λ row. not (is_for session row.1)) (rows_in self.old) }
+    {
+        self.open.retain(|c| !c.is_for(session));
+    }
+
+    /// Makes the connection of that number speak for a session.
+    pub(crate) fn begin(&mut self, number: JsUint, session: u32)
+        ensures { rows_in self.new ≡ map (begun number.value session) (rows_in self.old) }
+    {
+        begin(&mut self.open, number, session);
+    }
+
+    /// Adds a text for each connection of a session, in order of opening.
+    pub(crate) fn push_text(
+        &self,
+        alloc: Global,
+        session: u32,
+        text: &str,
+        sent: &mut Vec<Sent>,
+    ) -> Result<(), AllocError>
+        ensures { IfOk result (λ _. map sent_of sent.new.items ≡ map sent_of sent.old.items ++ to_each (λ c. Text c text.now) session (rows_in self.now)) }
+    {
+        push_text(alloc, &self.open, session, text, sent)
+    }
+
+    /// Adds that each connection of a session is closed, in order of opening.
+    pub(crate) fn push_closes(&self, session: u32, sent: &mut Vec<Sent>) -> Result<(), AllocError>
+        ensures { IfOk result (λ _. map sent_of sent.new.items ≡ map sent_of sent.old.items ++ to_each Close session (rows_in self.now)) }
+    {
+        push_closes(&self.open, session, sent)
+    }
+}
+
+// The open connection of that number.
+fn find(connections: &[Connection], number: JsUint) -> Option<Connection>
     ensures { result ≡ find (λ c. c.number.value == number.value) connections.now }
 {
     for connection in connections {
@@ -44,29 +143,8 @@ pub(crate) fn find(connections: &[Connection], number: JsUint) -> Option<Connect
     None
 }
 
-/// Whether there is room for one more.
-pub(crate) fn has_room(connections: &[Connection]) -> bool
-    ensures { result ≡ nat_lt (length connections.now) 64 }
-{
-    connections.len() < MOST_CONNECTIONS
-}
-
-/// Takes out the connection of that number.
-pub(crate) fn close(connections: &mut Vec<Connection>, number: JsUint)
-    ensures { connections.new.items ≡ filter (λ c. not (c.number.value == number.value)) connections.old.items }
-{
-    connections.retain(|c| c.number.value != number.value);
-}
-
-/// Takes out the connections of a session.
-pub(crate) fn close_all(connections: &mut Vec<Connection>, session: u32)
-    ensures { connections.new.items ≡ filter (λ c. not (is_for session (row_of c).1)) connections.old.items }
-{
-    connections.retain(|c| !c.is_for(session));
-}
-
-/// Makes the connection of that number speak for a session.
-pub(crate) fn begin(connections: &mut [Connection], number: JsUint, session: u32)
+// Makes the connection of that number speak for a session.
+fn begin(connections: &mut [Connection], number: JsUint, session: u32)
     ensures { map row_of connections.new ≡ map (begun number.value session) (map row_of connections.old) }
 {
     for connection in connections.iter_mut() {
@@ -76,8 +154,8 @@ pub(crate) fn begin(connections: &mut [Connection], number: JsUint, session: u32
     }
 }
 
-/// Adds a text for each connection of a session, in order of opening.
-pub(crate) fn push_text(
+// Adds a text for each connection of a session.
+fn push_text(
     alloc: Global,
     connections: &[Connection],
     session: u32,
@@ -95,8 +173,8 @@ pub(crate) fn push_text(
     Ok(())
 }
 
-/// Adds that each connection of a session is closed, in order of opening.
-pub(crate) fn push_closes(
+// Adds that each connection of a session is closed.
+fn push_closes(
     connections: &[Connection],
     session: u32,
     sent: &mut Vec<Sent>,

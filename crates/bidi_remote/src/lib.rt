@@ -1,22 +1,20 @@
 //! The remote end: connections, sessions, subscriptions, and which texts go out on which connection.
 //!
-//! A [`RemoteEnd`] takes steps and answers each at once. So far it has connections, sessions and subscriptions;
+//! A [`RemoteEnd`] takes steps and answers each at once. So far it has connections, sessions and subscriptions, and routes events to those that hear them;
 //! the definitions already say what the whole protocol machine answers to each step.
 #![tactic(auto)]
 
-mod announcing;
-mod capabilities;
 mod connections;
-mod event_names;
+mod deciding;
 mod refusal;
 mod remote_end;
-mod results;
+mod session;
 mod sessions;
 mod step;
-mod subscribing;
 mod subscriptions;
 mod tables;
-mod unsubscribing;
+mod telling;
+mod turn;
 
 pub use remote_end::{RemoteEnd, RemoteFault};
 pub use step::{Sent, Step};

@@ -1,13 +1,13 @@
 //! The remote end.
 ghost use Rattle.std.specs.Prelude.{◌≡◌, ℕ, ◌<◌, ◌≤◌, ◌↔◌, List, [], ◌∷◌, map, IsTrue, IfOk, OnErr, IsOk, IsErrOf, length};
-ghost use Rattle.bidi_remote.specs.Step as steps;
-ghost use Rattle.bidi_remote.specs.View.{step_of, sent_of};
-ghost use Rattle.bidi_remote.specs.History.{Input, IsHeardAs};
-ghost use Rattle.bidi_remote.specs.Connections.{is_open};
-ghost use Rattle.bidi_remote.specs.Outcome.{deeds};
-ghost use Rattle.bidi_remote.specs.Sent.{out};
-ghost use Rattle.bidi_remote.specs.Built.{so_far};
-ghost use Rattle.bidi_remote.specs.Given.{ids_given};
+ghost use Rattle.bidi_remote.specs.Machine.Step as steps;
+ghost use Rattle.bidi_remote.specs.Tables.Messages.{AllReadBack};
+ghost use Rattle.bidi_remote.specs.Tables.View.{step_of, sent_of};
+ghost use Rattle.bidi_remote.specs.Machine.History.{Input, IsHeardAs};
+ghost use Rattle.bidi_remote.specs.Machine.Connections.{is_open};
+ghost use Rattle.bidi_remote.specs.Machine.Outcome.{deeds};
+ghost use Rattle.bidi_remote.specs.Machine.Sent.{out};
+ghost use Rattle.bidi_remote.specs.Machine.Built.{so_far};
 ghost use Rattle.bidi_remote.specs.declared.remote_end.RemoteFault.TheVariants.{NoMemory};
 
 use crate::step::{Sent, Step};
@@ -44,11 +44,10 @@ pub struct RemoteEnd {
     tables: Tables,
     /// How many steps were accepted.
     count: u64,
-    ghost few: { ids_given tables ≤ count },
 }
 
 impl RemoteEnd {
-    ghost use Rattle.bidi_remote.specs.Stands.{StandsFor};
+    ghost use Rattle.bidi_remote.specs.Tables.Stands.{StandsFor};
 
     /// A remote end that has taken no step.
     ///
@@ -67,7 +66,7 @@ impl RemoteEnd {
     /// Takes one step, and returns what is sent, in order.
     ///
     /// `At`, and `Drop` of an open connection, take no memory. A step looks through at most 64 connections,
-    /// 8 sessions and the 256 subscriptions of one; a text costs what its reading costs.
+    /// 8 sessions and the 256 subscriptions of each; a text costs what its reading costs.
     ///
     /// # Errors
     /// After either the remote end is as it was.
@@ -80,6 +79,8 @@ impl RemoteEnd {
         ensures ok { IfOk result (λ sent. (i : Input) × IsHeardAs (step_of step) i
             × ((h : List Input) → StandsFor self.old h
             → (map sent_of sent.items ≡ out h (so_far (deeds h) i)) × StandsFor self.new (so_far (deeds h) i ∷ h))) }
+        // Each text that is sent is that of a message, and reads back as it.
+        ensures reads_back { (h : List Input) → StandsFor self.old h → IfOk result (λ sent. AllReadBack (map sent_of sent.items)) }
         ensures err { OnErr result ((h : List Input) → StandsFor self.old h → StandsFor self.new h) }
         ensures worn_out { (h : List Input) → StandsFor self.old h → IsErrOf result RemoteFault.WornOut ↔ (1000000000 ≤ length h) }
         ensures at { (h : List Input) (n : ℕ) → StandsFor self.old h → length h < 1000000000

@@ -1,11 +1,15 @@
 //! Active sessions, and the resources that name them.
-ghost use Rattle.std.specs.Prelude.{◌≡◌, ◌++◌, ◌==◌, not, nat_lt, length, find, filter, codes, bytes_eq, Some, None, option_map, if◌then◌else◌};
+ghost use Rattle.std.specs.Prelude.{◌≡◌, ◌<◌, ◌+◌, [], ◌∷◌, ◌++◌, ◌==◌, not, nat_lt, length, find, filter, map, codes, bytes_eq, Some, None, option_map, if◌then◌else◌, OnOk, vec_len, vec_capacity};
 ghost use Rattle.std.specs.List.{position};
 ghost use Rattle.bidi_browser.specs.declared.id.Kind.TheVariants.{Session as OfSession};
 ghost use Rattle.bidi_browser.specs.Ids.{id_of};
+ghost use Rattle.bidi_remote.specs.Tables.SubscriptionRows.{begun, subscribed, cancelled, lost, changed, row_in, any_covers};
+ghost use Rattle.bidi_remote.specs.Tables.SessionView.{scope_of, row_of};
 
-use crate::subscriptions::Subscription;
+use crate::subscriptions::{Scope, Subscription, any_covers, cancel, dismiss};
 use bidi_browser::{Kind, is_id};
+use bidi_messages::EventName;
+use std::alloc::{AllocError, Global};
 
 /// How many sessions may be active.
 const MOST_SESSIONS: usize = 8;
@@ -20,29 +24,220 @@ pub(crate) struct Session {
     pub subscriptions: Vec<Subscription>,
 }
 
-/// Whether there is room for one more.
-pub(crate) fn is_ready(sessions: &[Session]) -> bool
-    ensures { result ≡ nat_lt (length sessions.now) 8 }
-{
-    sessions.len() < MOST_SESSIONS
+impl Session {
+    ghost use Rattle.bidi_remote.specs.Tables.SessionView.{session_row_of, HasRoom};
+
+    /// Whether the event is enabled for it, in contexts below the top-level one.
+    pub(crate) fn hears(&self, event: EventName, top: u64) -> bool
+        ensures { result ≡ any_covers (session_row_of self.now).subscriptions event top }
+    {
+        any_covers(&self.subscriptions, event, top)
+    }
+
+    // Makes room for one more subscription.
+    fn reserve(&mut self) -> Result<(), AllocError>
+        ensures row { session_row_of self.new ≡ session_row_of self.old }
+        ensures room { OnOk result (HasRoom self.new) }
+    {
+        self.subscriptions.reserve(1)
+    }
+
+    // Adds a subscription, with the next number.
+    fn subscribe(&mut self, events: Vec<EventName>, scope: Scope)
+        requires { HasRoom self.now }
+        ensures { self.old.made < 4294967295 → session_row_of self.new ≡ subscribed events.items (scope_of scope) (session_row_of self.old) }
+    {
+        let number = self.made.wrapping_add(1);
+        self.subscriptions.push_reserved(Subscription {
+            number,
+            events,
+            scope,
+        });
+        self.made = number;
+    }
+
+    // Takes out the subscriptions with these numbers.
+    fn cancel(&mut self, numbers: &[u32])
+        ensures { session_row_of self.new ≡ cancelled numbers.now (session_row_of self.old) }
+    {
+        cancel(&mut self.subscriptions, numbers);
+    }
+
+    // Takes these events from the global subscriptions.
+    fn dismiss(&mut self, events: &[EventName])
+        ensures { session_row_of self.new ≡ lost events.now (session_row_of self.old) }
+    {
+        dismiss(&mut self.subscriptions, events);
+    }
 }
 
-/// Takes out the session of that number.
-pub(crate) fn end(sessions: &mut Vec<Session>, number: u32)
-    ensures { sessions.new.items ≡ filter (λ s. not (s.number == number)) sessions.old.items }
-{
-    sessions.retain(|s| s.number != number);
+/// The active sessions, in order of making.
+#[derive(Drop)]
+pub(crate) struct Sessions {
+    alloc: Global,
+    /// How many were made.
+    made: u32,
+    active: Vec<Session>,
 }
 
-/// The place of the session of that number.
-pub(crate) fn place_of(sessions: &[Session], number: u32) -> Option<usize>
+impl Sessions {
+    ghost use Rattle.bidi_remote.specs.Tables.SessionView.{session_row_of, rows_in, HasRoomForOne, HasRoomIn};
+
+    /// None was made. Takes no memory.
+    pub(crate) fn new(alloc: Global) -> Sessions
+        ensures rows { rows_in result ≡ [] }
+        ensures made { result.made ≡ 0 }
+    {
+        Sessions {
+            alloc,
+            made: 0,
+            active: Vec::new(alloc),
+        }
+    }
+
+    /// All of them.
+    pub(crate) fn all(&self) -> &[Session]
+        ensures { map session_row_of result.now ≡ rows_in self.now }
+    {
+        &self.active
+    }
+
+    /// Whether there is room for one more.
+    pub(crate) fn is_ready(&self) -> bool
+        ensures { result ≡ nat_lt (length (rows_in self.now)) 8 }
+    {
+        self.active.len() < MOST_SESSIONS
+    }
+
+    /// The number of the next one. No more are made than there are steps, so it never wraps.
+    pub(crate) fn next(&self) -> u32
+        ensures { self.now.made < 4294967295 → result ≡ self.now.made + 1 }
+    {
+        self.made.wrapping_add(1)
+    }
+
+    /// The number of the next subscription of a session: 1 where it has made none. It never wraps either.
+    pub(crate) fn next_subscription(&self, number: u32) -> u32
+        ensures { (row_in number (rows_in self.now)).made < 4294967295 → result ≡ (row_in number (rows_in self.now)).made + 1 }
+    {
+        match find(&self.active, number) {
+            Some(session) => session.made.wrapping_add(1),
+            None => 1,
+        }
+    }
+
+    /// The live subscriptions of a session. One that is not active has none.
+    pub(crate) fn subscriptions_of(&self, number: u32) -> &[Subscription]
+        ensures { map row_of result.now ≡ (row_in number (rows_in self.now)).subscriptions }
+    {
+        match find(&self.active, number) {
+            Some(session) => &session.subscriptions,
+            None => &[],
+        }
+    }
+
+    /// What a resource names: `/session` a connection without a session, `/session/ID` an active session.
+    pub(crate) fn named(&self, resource: &str) -> Option<Option<u32>>
+        ensures { result ≡ (if bytes_eq resource.now (codes "/session") then Some None
+            else option_map (λ r. Some r.number) (find (λ r. bytes_eq resource.now (codes "/session/" ++ id_of OfSession r.number)) (rows_in self.now))) }
+    {
+        named(&self.active, resource)
+    }
+
+    /// Makes room for one more.
+    pub(crate) fn reserve(&mut self) -> Result<(), AllocError>
+        ensures rows { rows_in self.new ≡ rows_in self.old }
+        ensures made { self.new.made ≡ self.old.made }
+        ensures room { OnOk result (HasRoomForOne self.new) }
+    {
+        self.active.reserve(1)
+    }
+
+    /// Makes room for one more subscription of a session.
+    pub(crate) fn reserve_in(&mut self, number: u32) -> Result<(), AllocError>
+        ensures rows { rows_in self.new ≡ rows_in self.old }
+        ensures made { self.new.made ≡ self.old.made }
+        ensures room { OnOk result (HasRoomIn number self.new) }
+    {
+        match place_of(&self.active, number) {
+            Some(place) => self.active[place].reserve(),
+            None => Ok(()),
+        }
+    }
+
+    /// Begins the next session, and returns its number.
+    pub(crate) fn begin(&mut self) -> u32
+        requires { HasRoomForOne self.now }
+        ensures number { self.old.made < 4294967295 → result ≡ self.old.made + 1 }
+        ensures made { self.new.made ≡ result }
+        ensures rows { rows_in self.new ≡ rows_in self.old ++ begun result ∷ [] }
+    {
+        let number = self.next();
+        self.active.push_reserved(Session {
+            number,
+            made: 0,
+            subscriptions: Vec::new(self.alloc),
+        });
+        self.made = number;
+        number
+    }
+
+    /// Takes out a session.
+    pub(crate) fn end(&mut self, number: u32)
+        ensures rows { rows_in self.new ≡ filter (λ r. not (r.number == number)) (rows_in self.old) }
+        ensures made { self.new.made ≡ self.old.made }
+    {
+        self.active.retain(|s| s.number != number);
+    }
+
+    /// Adds a subscription to a session, with its next number.
+    pub(crate) fn subscribe(&mut self, number: u32, events: Vec<EventName>, scope: Scope)
+        requires { HasRoomIn number self.now }
+        ensures rows { (row_in number (rows_in self.old)).made < 4294967295 → rows_in self.new ≡ changed number (subscribed events.items (scope_of scope)) (rows_in self.old) }
+        ensures made { self.new.made ≡ self.old.made }
+    {
+        if let Some(place) = place_of(&self.active, number) {
+            self.active[place].subscribe(events, scope);
+        }
+    }
+
+    /// Takes the subscriptions with these numbers from a session.
+    pub(crate) fn cancel(&mut self, number: u32, numbers: &[u32])
+        ensures rows { rows_in self.new ≡ changed number (cancelled numbers.now) (rows_in self.old) }
+        ensures made { self.new.made ≡ self.old.made }
+    {
+        if let Some(place) = place_of(&self.active, number) {
+            self.active[place].cancel(numbers);
+        }
+    }
+
+    /// Takes these events from the global subscriptions of a session.
+    pub(crate) fn dismiss(&mut self, number: u32, events: &[EventName])
+        ensures rows { rows_in self.new ≡ changed number (lost events.now) (rows_in self.old) }
+        ensures made { self.new.made ≡ self.old.made }
+    {
+        if let Some(place) = place_of(&self.active, number) {
+            self.active[place].dismiss(events);
+        }
+    }
+}
+
+// The session of that number.
+fn find(sessions: &[Session], number: u32) -> Option<&Session>
+    ensures { option_map (λ s. s.now) result ≡ find (λ s. s.number == number) sessions.now }
+{
+    sessions.iter().find(|s| s.number == number)
+}
+
+// Its place.
+fn place_of(sessions: &[Session], number: u32) -> Option<usize>
     ensures { result ≡ position (λ s. s.number == number) sessions.now }
 {
     sessions.iter().position(|s| s.number == number)
 }
 
-/// What a resource names: `/session` a connection without a session, `/session/ID` an active session.
-pub(crate) fn session_of(sessions: &[Session], resource: &str) -> Option<Option<u32>>
+// What a resource names.
+fn named(sessions: &[Session], resource: &str) -> Option<Option<u32>>
     ensures { result ≡ (if bytes_eq resource.now (codes "/session") then Some None
         else option_map (λ s. Some s.number) (find (λ s. bytes_eq resource.now (codes "/session/" ++ id_of OfSession s.number)) sessions.now)) }
 {

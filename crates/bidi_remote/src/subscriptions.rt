@@ -1,15 +1,13 @@
 //! Subscriptions of a session, by events and scope.
-ghost use Rattle.std.specs.Prelude.{◌≡◌, map, string_bytes, option_map, find, filter, not, bytes_eq};
+ghost use Rattle.std.specs.Prelude.{◌≡◌, ◌&&◌, map, string_bytes, option_map, find, filter, not, bytes_eq};
 ghost use Rattle.std.specs.List.{list_all, list_any};
-ghost use Rattle.bidi_remote.specs.Subscriptions.{is_global, is_listed, covers};
-ghost use Rattle.bidi_remote.specs.SubscriptionRows.{row_covers, row_holds, loses_all, stripped, dismissed};
-ghost use Rattle.bidi_remote.specs.Checked.{IfChecked};
-ghost use Rattle.bidi_remote.specs.SessionView.{scope_of, row_of};
+ghost use Rattle.bidi_remote.specs.Machine.Subscriptions.{is_global, is_listed, covers};
+ghost use Rattle.bidi_remote.specs.Tables.SubscriptionRows.{row_covers, row_holds, numbers_named, loses_all, stripped, dismissed};
+ghost use Rattle.bidi_remote.specs.Tables.Checked.{IfChecked};
+ghost use Rattle.bidi_remote.specs.Tables.SessionView.{scope_of, row_of};
 ghost use Rattle.bidi_browser.specs.Ids.{id_text};
-ghost use Rattle.bidi_remote.specs.Unsubscribed.{numbers_named};
 ghost use Rattle.bidi_browser.specs.Occurrences.{is_among};
 
-use crate::event_names::is_among;
 use crate::refusal::Refusal;
 use bidi_browser::{Kind, is_id};
 use bidi_messages::{ErrorCode, EventName};
@@ -54,11 +52,11 @@ pub(crate) struct Subscription {
 }
 
 impl Subscription {
-    /// Whether it holds for the event, in contexts below the top-level one.
-    pub(crate) fn covers(&self, event: EventName, top: u64) -> bool
+    // Whether it holds for the event, in contexts below the top-level one.
+    fn covers(&self, event: EventName, top: u64) -> bool
         ensures { result ≡ row_covers event top (row_of self.now) }
     {
-        is_among(&self.events, event) && self.scope.covers(top)
+        covers(&self.events, &self.scope, event, top)
     }
 
     // Whether it is global, and loses its last events with these.
@@ -67,6 +65,13 @@ impl Subscription {
     {
         self.scope.is_global() && !self.events.is_empty() && are_among(events, &self.events)
     }
+}
+
+/// Whether these events in this scope have the event, in contexts below the top-level one.
+pub(crate) fn covers(events: &[EventName], scope: &Scope, event: EventName, top: u64) -> bool
+    ensures { result ≡ (is_among events.now event && covers (scope_of scope.now) top) }
+{
+    is_among(events, event) && scope.covers(top)
 }
 
 /// Whether a subscription holds for the event, in contexts below the top-level one.
@@ -165,4 +170,11 @@ fn are_among(those: &[EventName], these: &[EventName]) -> bool
     ensures { result ≡ list_all (is_among those.now) these.now }
 {
     these.iter().all(|event| is_among(those, *event))
+}
+
+// Whether the event is one of these.
+fn is_among(events: &[EventName], event: EventName) -> bool
+    ensures { result ≡ is_among events.now event }
+{
+    events.contains(&event)
 }

@@ -9,7 +9,7 @@ use bidi_messages::{
     Subject, Verdict, data_of, error_text, event_text, judge, read_message, response_text,
     result_of, text_of,
 };
-use bidi_tree::{JsUint, Tree};
+use bidi_tree::{JsUint, Tree, are_whole};
 use std::alloc::{AllocError, Global};
 use std::test::Fail;
 
@@ -330,6 +330,8 @@ fn further(alloc: Global, text: &str) -> Result<String, Fail> {
 
 const SENT: &str = r#"
 response session.status {"message":"full","ready":false} -> {"id":1,"result":{"message":"full","ready":false},"type":"success"}
+response script.evaluate {"exceptionDetails":{"columnNumber":0,"exception":{"type":"array","value":[{"type":"array","value":[{"type":"array","value":[{"type":"array","value":[{"type":"array","value":[{"type":"array","value":[{"type":"array","value":[{"type":"array","value":[{"type":"array","value":[{"type":"array","value":[{"type":"array","value":[{"type":"array","value":[{"type":"array","value":[{"type":"array","value":[{"type":"array","value":[{"type":"array","value":[{"type":"array","value":[{"type":"array","value":[{"type":"array","value":[{"type":"array","value":[{"type":"array","value":[{"type":"array","value":[{"type":"array","value":[{"type":"array","value":[{"type":"array","value":[{"type":"array","value":[{"type":"array","value":[{"type":"array","value":[{"type":"array","value":[{"type":"array"}]}]}]}]}]}]}]}]}]}]}]}]}]}]}]}]}]}]}]}]}]}]}]}]}]}]}]}]}]},"lineNumber":0,"stackTrace":{"callFrames":[]},"text":"thrown"},"realm":"r","type":"exception"} -> {"id":1,"result":{"exceptionDetails":{"columnNumber":0,"exception":{"type":"array","value":[{"type":"array","value":[{"type":"array","value":[{"type":"array","value":[{"type":"array","value":[{"type":"array","value":[{"type":"array","value":[{"type":"array","value":[{"type":"array","value":[{"type":"array","value":[{"type":"array","value":[{"type":"array","value":[{"type":"array","value":[{"type":"array","value":[{"type":"array","value":[{"type":"array","value":[{"type":"array","value":[{"type":"array","value":[{"type":"array","value":[{"type":"array","value":[{"type":"array","value":[{"type":"array","value":[{"type":"array","value":[{"type":"array","value":[{"type":"array","value":[{"type":"array","value":[{"type":"array","value":[{"type":"array","value":[{"type":"array","value":[{"type":"array"}]}]}]}]}]}]}]}]}]}]}]}]}]}]}]}]}]}]}]}]}]}]}]}]}]}]}]}]}]},"lineNumber":0,"stackTrace":{"callFrames":[]},"text":"thrown"},"realm":"r","type":"exception"},"type":"success"}
+response script.evaluate {"exceptionDetails":{"columnNumber":0,"exception":{"type":"array","value":[{"type":"array","value":[{"type":"array","value":[{"type":"array","value":[{"type":"array","value":[{"type":"array","value":[{"type":"array","value":[{"type":"array","value":[{"type":"array","value":[{"type":"array","value":[{"type":"array","value":[{"type":"array","value":[{"type":"array","value":[{"type":"array","value":[{"type":"array","value":[{"type":"array","value":[{"type":"array","value":[{"type":"array","value":[{"type":"array","value":[{"type":"array","value":[{"type":"array","value":[{"type":"array","value":[{"type":"array","value":[{"type":"array","value":[{"type":"array","value":[{"type":"array","value":[{"type":"array","value":[{"type":"array","value":[{"type":"array","value":[{"type":"array","value":[]}]}]}]}]}]}]}]}]}]}]}]}]}]}]}]}]}]}]}]}]}]}]}]}]}]}]}]}]}]},"lineNumber":0,"stackTrace":{"callFrames":[]},"text":"thrown"},"realm":"r","type":"exception"} -> too deep
 error null invalid argument -> {"error":"invalid argument","id":null,"message":"invalid argument","type":"error"}
 error 1 unknown command -> {"error":"unknown command","id":1,"message":"unknown command","type":"error"}
 event-again {"method":"script.realmDestroyed","params":{"realm":"r"},"type":"event"} -> same
@@ -403,7 +405,11 @@ fn response(alloc: Global, text: &str) -> Result<String, Fail> {
     let (method, members) = text.split_once(' ').ok_or("no result")?;
     let method = Method::named(method).ok_or("no method")?;
     let id = JsUint::new(1).ok_or("no number")?;
-    let answer = result_of(alloc, method, &members_of(alloc, members)?)?;
+    let members = members_of(alloc, members)?;
+    if !are_whole(&members, 60) {
+        return owned(alloc, "too deep");
+    }
+    let answer = result_of(alloc, method, &members)?;
     Ok(response_text(alloc, id, answer)?)
 }
 

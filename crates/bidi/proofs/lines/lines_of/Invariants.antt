@@ -1,5 +1,5 @@
 use Rattle.std.proofs.Common.{◌≡◌, map}
-use Rattle.bidi_remote.specs.View.{sent_of}
+use Rattle.bidi_remote.specs.Tables.View.{sent_of}
 use Rattle.bidi.specs.Lines.{written}
 use Rattle.bidi.proofs.lines.lines_of.Given as goal
 

@@ -2,11 +2,12 @@ use Rattle.std.proofs.Common.{◌≡◌, ℕ, ◌+◌, List, [], ◌∷◌, ◌+
 use Rattle.std.proofs.lemmas.List.{length-reverse}
 use Rattle.std.specs.Io.KnownBytes.{Appends}
 use Rattle.std.proofs.KnownBytes.{Appends-nil, Appends-trans}
-use Rattle.bidi_remote.specs.View.{step_of}
-use Rattle.bidi_remote.specs.History.{Input}
-use Rattle.bidi_remote.specs.Built.{all_so_far}
-use Rattle.bidi_remote.specs.Sent.{out}
-use Rattle.bidi_remote.specs.Stands.{StandsFor}
+use Rattle.bidi_remote.specs.Tables.View.{step_of}
+use Rattle.bidi_remote.specs.Machine.History.{Input}
+use Rattle.bidi_remote.specs.Machine.Built.{all_so_far}
+use Rattle.bidi_remote.specs.Machine.Sent.{out}
+use Rattle.bidi_remote.specs.Tables.Messages.{AllReadBack}
+use Rattle.bidi_remote.specs.Tables.Stands.{StandsFor}
 use Rattle.bidi.specs.Lines.{written}
 use Rattle.bidi.specs.declared.playing.PlayFault.TheVariants.{NoMemory, Write}
 use Rattle.bidi.specs.Faults.{play_fault_of}
@@ -19,13 +20,13 @@ use Rattle.bidi.proofs.playing.play_lines.Goals as goal
 pub returns-in_err-end-clause-err : goal.returns-in_err-end-clause-err
 returns-in_err-end-clause-err g c =
     by_fault c.from_residual.result NoMemory _ c.from_residual.ensures
-    ([], Appends-nil _, λ at_end. part_so_far c.args.input.now c.args.input.now [] [] (record { lines = refl; each = tt; inputs = []; heard = tt; answer = refl }))
+    ([], Appends-nil _, λ at_end. part_so_far c.args.input.now c.args.input.now [] [] (record { lines = refl; each = tt; inputs = []; heard = tt; answer = refl; reads_back = tt }))
 
 pub lines-init : goal.lines-init
 lines-init g c = (
   [],
   [],
-  record { lines = refl; each = tt; inputs = []; heard = tt; answer = refl },
+  record { lines = refl; each = tt; inputs = []; heard = tt; answer = refl; reads_back = tt },
   record { stands = c.in_ok-end.ensures; writes = Appends-nil _; failures = refl; lines = refl; room = omega arith },
 )
 
@@ -80,7 +81,8 @@ returns-in_err-write_all-clause-err g c =
       s.1 ++ take front.0 text,
       Appends-trans _ _ _ _ _ s.3.writes part,
       λ at_end. part_of_text c.args.input.now more (s.0 ++ step_of x ∷ []) s.1 text front.0
-          (play_more c.args.input.now rest line more s.0 s.1 (step_of x) heard.0 s.2 c.in-Some.ensures.some said.1 said.0 heard.1),
+          (play_more c.args.input.now rest line more s.0 s.1 (step_of x) heard.0 s.2 c.in-Some.ensures.some said.1 said.0 heard.1
+          (subst AllReadBack (heard.2 history s.3.stands).0 (c.in_ok-sent.ensures.reads_back history s.3.stands))),
     )
 
 pub lines-preserved : goal.lines-preserved
@@ -97,7 +99,8 @@ lines-preserved g c =
     let same : c.deref.result.now ≡ text = c.deref.ensures.value ∙ (c.in_ok-text.ensures ∙ ap written after.0) in (
       s.0 ++ step_of x ∷ [],
       s.1 ++ text,
-      play_more c.args.input.now rest line more s.0 s.1 (step_of x) heard.0 s.2 c.in-Some.ensures.some said.1 said.0 heard.1,
+      play_more c.args.input.now rest line more s.0 s.1 (step_of x) heard.0 s.2 c.in-Some.ensures.some said.1 said.0 heard.1
+          (subst AllReadBack after.0 (c.in_ok-sent.ensures.reads_back history s.3.stands)),
       record {
         stands = subst (λ (h : List Input). StandsFor c.step.new.self h) (sym (reverse_more s.2.inputs heard.0)) after.1;
         writes = Appends-trans _ _ _ _ _ s.3.writes (subst (Appends (g.W.Sink.contents c.lines.sink) (g.W.Sink.contents c.write_all.new.sink)) same c.in_ok-write_all.ensures.ok);

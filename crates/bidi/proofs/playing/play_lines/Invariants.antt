@@ -1,9 +1,9 @@
 -- The lines before the rest were played, and no write has failed.
 use Rattle.std.proofs.Common.{◌≡◌, ◌+◌, ◌≤◌, ℕ, List, length, reverse}
 use Rattle.std.specs.Io.KnownBytes.{Appends}
-use Rattle.bidi_remote.specs.Step.{Step}
-use Rattle.bidi_remote.specs.Built.{all_so_far}
-use Rattle.bidi_remote.specs.Stands.{StandsFor}
+use Rattle.bidi_remote.specs.Machine.Step.{Step}
+use Rattle.bidi_remote.specs.Machine.Built.{all_so_far}
+use Rattle.bidi_remote.specs.Tables.Stands.{StandsFor}
 use Rattle.bidi.specs.Plays.{Play}
 use Rattle.bidi.proofs.playing.play_lines.Given as goal
 

@@ -1,8 +1,12 @@
-use Rattle.std.proofs.Common.{sym, subst}
-use Rattle.bidi_tree.specs.Node.{IsWritable}
-use Rattle.bidi_messages.specs.contracts.event.EventDataSubjectEventName.TheImpl.{ghosts}
-use Rattle.bidi_messages.proofs.SendingLemmas.{event_writable}
+use Rattle.std.proofs.Common.{refl}
+use Rattle.bidi_messages.specs.contracts.message.MessageShape.TheImpl as message
+use Rattle.bidi_messages.proofs.SendingLemmas.{is_text, writable, an_event, event_well}
 use Rattle.bidi_messages.proofs.sending.event_text.Goals as goal
 
 pub write-requires : goal.write-requires
-write-requires c = subst IsWritable (sym c.in_ok-tree.ensures) (event_writable (ghosts.subject.kind c.args.event.now) _ (ghosts.subject.whole c.args.event.now c.requires))
+write-requires c =
+    writable message.ghosts.shape refl (an_event c.args.event.now c.empty-ext.result) _ (event_well c.args.event.now c.empty-ext.result c.requires c.empty-ext.ensures) c.in_ok-tree.ensures
+
+pub returns-clause-reads_back : goal.returns-clause-reads_back
+returns-clause-reads_back c =
+    is_text message.ghosts.shape (an_event c.args.event.now c.empty-ext.result) _ (event_well c.args.event.now c.empty-ext.result c.requires c.empty-ext.ensures) c.in_ok-tree.ensures c.write.result c.write.ensures.text c.write.ensures.reads_back

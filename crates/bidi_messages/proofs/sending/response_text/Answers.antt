@@ -1,8 +1,12 @@
-use Rattle.std.proofs.Common.{sym, subst}
-use Rattle.bidi_tree.specs.Node.{IsWritable}
 use Rattle.bidi_messages.specs.contracts.result_data.ResultDataSubjectMethod.TheImpl.{ghosts}
-use Rattle.bidi_messages.proofs.SendingLemmas.{response_writable}
+use Rattle.bidi_messages.specs.contracts.message.MessageShape.TheImpl as message
+use Rattle.bidi_messages.proofs.SendingLemmas.{is_text, result_is_map, a_response, response_well}
 use Rattle.bidi_messages.proofs.sending.response_text.Goals as goal
 
-pub write-requires : goal.write-requires
-write-requires c = subst IsWritable (sym c.in_ok-tree.ensures) (response_writable c.args.id.value _ (ghosts.subject.whole c.args.result_data c.requires))
+pub contents-requires : goal.contents-requires
+contents-requires c = result_is_map (ghosts.subject.kind c.args.result_data) _ (ghosts.subject.fits c.args.result_data c.requires.well)
+
+pub returns-clause-reads_back : goal.returns-clause-reads_back
+returns-clause-reads_back c =
+    let well = response_well c.args.id c.in_ok-members.members c.empty.result _ 70 c.in_ok-members.ensures (ghosts.subject.whole c.args.result_data c.requires.well) c.requires.small c.empty.ensures in
+    is_text message.ghosts.shape (a_response c.args.id c.in_ok-members.members c.empty.result) _ well c.in_ok-tree.ensures c.write.result c.write.ensures.text c.write.ensures.reads_back

@@ -4,9 +4,9 @@ use Rattle.bidi_messages.specs.declared.error_code.ErrorCode.TheVariants.{Invali
 use Rattle.bidi_browser.specs.declared.id.Kind.TheVariants.{Subscription}
 use Rattle.bidi_browser.specs.Ids.{id_text}
 use Rattle.bidi_browser.specs.Checks.{found}
-use Rattle.bidi_remote.specs.Checked.{behind}
-use Rattle.bidi_remote.specs.SessionView.{row_of}
-use Rattle.bidi_remote.specs.Unsubscribed.{number_named, numbers_named}
+use Rattle.bidi_remote.specs.Tables.Checked.{behind}
+use Rattle.bidi_remote.specs.Tables.SessionView.{row_of}
+use Rattle.bidi_remote.specs.Tables.SubscriptionRows.{number_named, numbers_named}
 use Rattle.bidi_remote.proofs.ListLemmas.{find-map, from-item}
 use Rattle.bidi_remote.proofs.CheckLemmas.{joined-ok, joined-err}
 use Rattle.bidi_remote.proofs.subscriptions.numbers_of.Goals as goal

@@ -2,9 +2,9 @@ use Rattle.std.proofs.Common.{◌∙◌, ◌<◌, length, map, set, get_or, sym,
 use Rattle.std.proofs.lemmas.Fn.{filter_same}
 use Rattle.std.proofs.lemmas.List.{map-set, length-map}
 use Rattle.std.proofs.Math.ListN.{get_or-map}
-use Rattle.bidi_remote.specs.Subscriptions.{is_global}
-use Rattle.bidi_remote.specs.SessionView.{row_of}
-use Rattle.bidi_remote.specs.SubscriptionRows.{stripped}
+use Rattle.bidi_remote.specs.Machine.Subscriptions.{is_global}
+use Rattle.bidi_remote.specs.Tables.SessionView.{row_of}
+use Rattle.bidi_remote.specs.Tables.SubscriptionRows.{stripped}
 use Rattle.bidi_remote.proofs.BeginLemmas.{over-all, over-next}
 use Rattle.bidi_remote.proofs.RowLemmas.{stripped-global, stripped-other}
 use Rattle.bidi_remote.proofs.subscriptions.strip.Goals.{then-is_global, else-is_global}

@@ -1,21 +1,19 @@
-use Rattle.std.proofs.Common.{◌≡◌, sym, subst, map, IfOk}
-use Rattle.bidi_messages.specs.Verdict.{Accepted}
-use Rattle.bidi_remote.specs.History.{Heard}
-use Rattle.bidi_remote.specs.Connections.{standing_of, opened_for}
-use Rattle.bidi_remote.specs.Outcome.{deeds}
-use Rattle.bidi_remote.specs.Built.{judged_so_far}
-use Rattle.bidi_remote.specs.Stands.{Takes}
-use Rattle.bidi_remote.specs.View.{sent_of}
+use Rattle.std.proofs.Common.{Err, subst}
+use Rattle.bidi_params.specs.contracts.session.capabilities.NewParametersShape.TheImpl.{ghosts}
+use Rattle.bidi_remote.specs.Machine.Outcome.{deeds}
+use Rattle.bidi_remote.specs.Tables.Asked.{asked_of, outcome_so_far}
+use Rattle.bidi_remote.specs.Tables.ConnectionRows.{standing_in_hand}
+use Rattle.bidi_remote.specs.Tables.Turns.{Decides}
+use Rattle.bidi_remote.proofs.TakeLemmas.{turn_takes, code_takes}
 use Rattle.bidi_remote.proofs.tables.Tables.answer.Goals as goal
 
-pub returns-in-None-clause-ok : goal.returns-in-None-clause-ok
-returns-in-None-clause-ok c = λ h t a stands asks.
-    let conn = c.args.conn.value in
-    subst (λ s. standing_of (deeds h) conn ≡ opened_for s → IfOk c.answer_alone.result (λ sent. Takes c.answer_alone.new.self (map sent_of sent.items) h (Heard conn (judged_so_far (opened_for s) (Accepted t)))))
-    (sym c.in-None.is) (λ alone. c.answer_alone.ensures.ok h t a alone asks) stands
+pub returns-in-Ok-clause-ok : goal.returns-in-Ok-clause-ok
+returns-in-Ok-clause-ok c = λ h t short a stands opened asks.
+    turn_takes c.take_turn.result c.take_turn.new.self h c.args.asker t (standing_in_hand c.args.standing) (asked_of ghosts.shape c.args.asked.now) stands opened asks c.in-Ok.turn (c.in-Ok.ensures.ok h short a stands)
+    (λ i is. c.take_turn.ensures.ok h i short a is)
 
-pub returns-in-Some-clause-ok : goal.returns-in-Some-clause-ok
-returns-in-Some-clause-ok c = λ h t a stands asks.
-    let conn = c.args.conn.value in
-    subst (λ s. standing_of (deeds h) conn ≡ opened_for s → IfOk c.answer_in.result (λ sent. Takes c.answer_in.new.self (map sent_of sent.items) h (Heard conn (judged_so_far (opened_for s) (Accepted t)))))
-    (sym c.in-Some.is) (λ speaks. c.answer_in.ensures.ok h t a speaks asks) stands
+pub returns-in-Err-Code-clause-ok : goal.returns-in-Err-Code-clause-ok
+returns-in-Err-Code-clause-ok c = λ h t short a stands opened asks.
+    code_takes c.refuse.result c.args.self.now h c.args.asker t (standing_in_hand c.args.standing) (asked_of ghosts.shape c.args.asked.now) stands opened asks c.in-Err-Code.code
+    (subst (λ r. Decides (Err r) (deeds h) c.args.asker (asked_of ghosts.shape c.args.asked.now) (outcome_so_far (deeds h) c.args.asker.conn.value (standing_in_hand c.args.standing) (asked_of ghosts.shape c.args.asked.now))) c.in-Err-Code.field-0-is (c.in-Err-Code.ensures.ok h short a stands)) a
+    c.refuse.ensures.sent c.refuse.ensures.reads_back

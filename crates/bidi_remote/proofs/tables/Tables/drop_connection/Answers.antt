@@ -1,37 +1,35 @@
-use Rattle.std.proofs.Common.{refl, rules, map, [], ◌≡◌}
-use Rattle.bidi_remote.specs.History.{Drop}
-use Rattle.bidi_remote.specs.View.{sent_of}
-use Rattle.bidi_remote.specs.Outcome.{deeds}
+use Rattle.std.proofs.Common.{◌∙◌, map, Ok, Err, refl, sym, ap}
 use Rattle.bidi_remote.specs.declared.step.Sent.TheVariants.{Lost}
-use Rattle.bidi_remote.proofs.ConnectionLemmas.{is_Shut}
+use Rattle.bidi_remote.specs.Machine.Connections.{is_shut}
+use Rattle.bidi_remote.specs.Machine.History.{Drop, Dropped}
+use Rattle.bidi_remote.specs.Machine.Outcome as outcome
+use Rattle.bidi_remote.specs.Machine.Outcome.{deeds}
+use Rattle.bidi_remote.specs.Tables.ConnectionRows.{standing_in_hand}
+use Rattle.bidi_remote.specs.Tables.View.{sent_of}
+use Rattle.bidi_remote.proofs.ChangeLemmas.{stands, not_shut, agree-dropped}
 use Rattle.bidi_remote.proofs.TurnLemmas.{drop-shut, drop-open}
-use Rattle.bidi_remote.proofs.TakeLemmas.{takes, only_takes, anyway, shut_by, open_by, agree-dropped, closed_open}
+use Rattle.bidi_remote.proofs.TakeLemmas.{takes, only_takes, closed_open, nothing}
 use Rattle.bidi_remote.proofs.tables.Tables.drop_connection.Goals as goal
 
-pub returns-then-is_none-clause-ok : goal.returns-then-is_none-clause-ok
-returns-then-is_none-clause-ok c = λ h a.
-    let shut = shut_by c.args.self.now h c.args.conn.value c.find.result c.deref.result.now c.deref.ensures.value c.find.ensures a c.if-is_none.ensures in
-    only_takes c.only.result (Lost c.args.conn) c.args.self.now h (Drop c.args.conn.value) c.only.ensures (drop-shut (deeds h) c.args.conn.value (is_Shut _ shut)) a
+pub returns-in-Shut-clause-ok : goal.returns-in-Shut-clause-ok
+returns-in-Shut-clause-ok c = λ h a.
+    let conn = c.args.conn.value in
+    let shut = sym (stands c.args.self.now h conn (standing_in_hand c.standing_of.result) a c.standing_of.ensures) ∙ ap standing_in_hand c.in-Shut.is in
+    only_takes c.only.result (Lost c.args.conn) c.args.self.now h (Drop conn) (Err (outcome.Lost conn)) c.only.ensures (drop-shut (deeds h) conn shut) refl tt a
 
-pub returns-then-is_none-clause-err : goal.returns-then-is_none-clause-err
-returns-then-is_none-clause-err c = anyway c.only.result (λ h a. a)
+pub returns-in-Shut-clause-quiet : goal.returns-in-Shut-clause-quiet
+returns-in-Shut-clause-quiet c = λ h a is.
+    let conn = c.args.conn.value in
+    let shut = sym (stands c.args.self.now h conn (standing_in_hand c.standing_of.result) a c.standing_of.ensures) ∙ ap standing_in_hand c.in-Shut.is in
+    absurd (closed_open (deeds h) conn (ap is_shut shut) is)
 
-pub returns-then-is_none-clause-no_id : goal.returns-then-is_none-clause-no_id
-returns-then-is_none-clause-no_id c = refl
-
-pub returns-then-is_none-clause-quiet : goal.returns-then-is_none-clause-quiet
-returns-then-is_none-clause-quiet c = λ h a is.
-    absurd (closed_open (deeds h) c.args.conn.value (shut_by c.args.self.now h c.args.conn.value c.find.result c.deref.result.now c.deref.ensures.value c.find.ensures a c.if-is_none.ensures) is)
-
-pub returns-clause-ok : goal.returns-clause-ok
-returns-clause-ok c = λ h a.
-    let opened = open_by c.args.self.now h c.args.conn.value c.find.result c.deref.result.now c.deref.ensures.value c.find.ensures a c.if-is_none.ensures in
-    let none : map sent_of c.new.result.items ≡ [] = search rules in
-    takes (record c.args.self.now { connections = c.close.new.connections }) h (Drop c.args.conn.value) (map sent_of c.new.result.items) (drop-open (deeds h) c.args.conn.value opened) none
-    (agree-dropped c.args.self.now (deeds h) c.args.conn.value c.close.new.connections a c.close.ensures)
-
-pub returns-clause-no_id : goal.returns-clause-no_id
-returns-clause-no_id c = refl
-
-pub returns-clause-quiet : goal.returns-clause-quiet
-returns-clause-quiet c = λ h a is. refl
+pub returns-in_default : goal.returns-in_default
+returns-in_default c = record {
+  ok = λ h a.
+      let conn = c.args.conn.value in
+      let opened = ap is_shut (sym (stands c.args.self.now h conn (standing_in_hand c.standing_of.result) a c.standing_of.ensures)) ∙ not_shut c.standing_of.result c.in_default.not-Shut in
+      takes (record c.args.self.now { connections = c.close.new.self }) h (Drop conn) (Ok (Dropped conn)) (map sent_of c.new.result.items) (drop-open (deeds h) conn opened)
+      (ap (map sent_of) c.new.ensures.items) (nothing c.new.result.items c.new.ensures.items) (agree-dropped c.args.self.now (deeds h) conn c.close.new.self a c.close.ensures);
+  err = tt;
+  quiet = λ h a is. refl;
+}

@@ -1,17 +1,24 @@
-use Rattle.bidi_remote.specs.History.{NotText}
-use Rattle.bidi_remote.specs.Outcome.{deeds}
+use Rattle.std.proofs.Common.{◌∙◌, None, Err, refl, sym, ap}
+use Rattle.bidi_messages.specs.declared.error_code.ErrorCode.TheVariants.{InvalidArgument}
 use Rattle.bidi_remote.specs.declared.step.Sent.TheVariants.{Lost}
-use Rattle.bidi_remote.proofs.ConnectionLemmas.{is_Shut}
+use Rattle.bidi_remote.specs.Machine.Connections.{is_shut}
+use Rattle.bidi_remote.specs.Machine.History.{NotText}
+use Rattle.bidi_remote.specs.Machine.Outcome as outcome
+use Rattle.bidi_remote.specs.Machine.Outcome.{deeds}
+use Rattle.bidi_remote.specs.Tables.ConnectionRows.{standing_in_hand}
+use Rattle.bidi_remote.proofs.ChangeLemmas.{stands, not_shut}
 use Rattle.bidi_remote.proofs.TurnLemmas.{no_text-shut, no_text-open}
-use Rattle.bidi_remote.proofs.TakeLemmas.{sent_takes, only_takes, shut_by, open_by}
+use Rattle.bidi_remote.proofs.TakeLemmas.{only_takes, refused_takes}
 use Rattle.bidi_remote.proofs.tables.Tables.hear_no_text.Goals as goal
 
-pub returns-then-is_none : goal.returns-then-is_none
-returns-then-is_none c = λ h a.
-    let shut = shut_by c.args.self.now h c.args.conn.value c.find.result c.deref.result.now c.deref.ensures.value c.find.ensures a c.if-is_none.ensures in
-    only_takes c.only.result (Lost c.args.conn) c.args.self.now h (NotText c.args.conn.value) c.only.ensures (no_text-shut (deeds h) c.args.conn.value (is_Shut _ shut)) a
+pub returns-in-Shut : goal.returns-in-Shut
+returns-in-Shut c = λ h a.
+    let conn = c.args.conn.value in
+    let shut = sym (stands c.args.self.now h conn (standing_in_hand c.standing_of.result) a c.standing_of.ensures) ∙ ap standing_in_hand c.in-Shut.is in
+    only_takes c.only.result (Lost c.args.conn) c.args.self.now h (NotText conn) (Err (outcome.Lost conn)) c.only.ensures (no_text-shut (deeds h) conn shut) refl tt a
 
-pub returns : goal.returns
-returns c = λ h a.
-    let opened = open_by c.args.self.now h c.args.conn.value c.find.result c.deref.result.now c.deref.ensures.value c.find.ensures a c.if-is_none.ensures in
-    sent_takes c.refuse.result c.args.self.now h (NotText c.args.conn.value) c.refuse.ensures (no_text-open (deeds h) c.args.conn.value opened) a
+pub returns-in_default : goal.returns-in_default
+returns-in_default c = λ h a.
+    let conn = c.args.conn.value in
+    let opened = ap is_shut (sym (stands c.args.self.now h conn (standing_in_hand c.standing_of.result) a c.standing_of.ensures)) ∙ not_shut c.standing_of.result c.in_default.not-Shut in
+    refused_takes c.refuse.result c.args.self.now h (NotText conn) (Err (outcome.Error conn None InvalidArgument)) _ c.refuse.ensures.sent c.refuse.ensures.reads_back (no_text-open (deeds h) conn opened) refl a

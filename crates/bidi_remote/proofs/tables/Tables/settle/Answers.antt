@@ -1,42 +1,53 @@
-use Rattle.std.proofs.Common.{◌∙◌, sym, subst, ap, ap₂, map, Some, IfOk}
+use Rattle.std.proofs.Common.{◌∙◌, Err, option_map, refl, sym, subst, ap, ap₂, map, IfOk}
 use Rattle.bidi_messages.specs.contracts.command.CommandShape.TheImpl.{ghosts}
+use Rattle.bidi_messages.specs.Verdict.{Refused}
 use Rattle.bidi_messages.specs.View.{verdict_of, IsWell}
-use Rattle.bidi_remote.specs.History.{Heard}
-use Rattle.bidi_remote.specs.Connections.{is_shut, standing_of}
-use Rattle.bidi_remote.specs.Outcome.{deeds}
-use Rattle.bidi_remote.specs.Built.{judged_so_far}
-use Rattle.bidi_remote.specs.Stands.{Takes}
-use Rattle.bidi_remote.specs.View.{sent_of}
 use Rattle.bidi_remote.specs.declared.step.Sent.TheVariants.{Lost}
+use Rattle.bidi_remote.specs.Machine.History.{Heard}
+use Rattle.bidi_remote.specs.Machine.Connections.{is_shut, standing_of}
+use Rattle.bidi_remote.specs.Machine.Outcome as outcome
+use Rattle.bidi_remote.specs.Machine.Outcome.{deeds}
+use Rattle.bidi_remote.specs.Machine.Built.{judged_so_far}
+use Rattle.bidi_remote.specs.Tables.ConnectionRows.{standing_in_hand}
+use Rattle.bidi_remote.specs.Tables.Stands.{Takes}
+use Rattle.bidi_remote.specs.Tables.View.{sent_of}
 use Rattle.bidi_remote.proofs.AskLemmas.{tree_of, asks-tree, well-asked}
-use Rattle.bidi_remote.proofs.ConnectionLemmas.{standing_found}
-use Rattle.bidi_remote.proofs.TurnLemmas.{heard-shut, heard-refused, refused-so-far}
-use Rattle.bidi_remote.proofs.TakeLemmas.{sent_takes, only_takes, stands, found-shut, no_value}
+use Rattle.bidi_remote.proofs.ChangeLemmas.{stands, not_shut}
+use Rattle.bidi_remote.proofs.TurnLemmas.{heard-shut, heard-open, refused-so-far}
+use Rattle.bidi_remote.proofs.TakeLemmas.{only_takes, refused_takes, told-refused, anyway}
 use Rattle.bidi_remote.proofs.tables.Tables.settle.Goals as goal
 
-pub returns-in_default-clause-ok : goal.returns-in_default-clause-ok
-returns-in_default-clause-ok c = λ h a.
+pub returns-in-Shut-clause-ok : goal.returns-in-Shut-clause-ok
+returns-in-Shut-clause-ok c = λ h short a.
     let conn = c.args.conn.value in
     let v = judged_so_far (standing_of (deeds h) conn) (verdict_of ghosts.shape c.args.verdict.now) in
-    let shut = sym (stands c.args.self.now h conn c.find.result c.deref.result.now c.deref.ensures.value c.find.ensures a) ∙ ap standing_found (no_value c.find.result c.in_default.not-Some) in
-    only_takes c.only.result (Lost c.args.conn) c.args.self.now h (Heard conn v) c.only.ensures (heard-shut (deeds h) conn v shut) a
+    let shut = sym (stands c.args.self.now h conn (standing_in_hand c.standing_of-standing.result) a c.standing_of-standing.ensures) ∙ ap standing_in_hand c.in-Shut.is in
+    only_takes c.only.result (Lost c.args.conn) c.args.self.now h (Heard conn v) (Err (outcome.Lost conn)) c.only.ensures (heard-shut (deeds h) conn v shut) (sym (told-refused (deeds h) conn v (outcome.Lost conn))) tt a
 
-pub answer-requires-clause-well : goal.answer-requires-clause-well
-answer-requires-clause-well c = well-asked _ (subst (IsWell ghosts.shape) c.in-Accepted.is c.requires.well)
+pub answer-requires : goal.answer-requires
+answer-requires c = well-asked _ (subst (IsWell ghosts.shape) c.in-Accepted.is c.requires)
 
-pub returns-in-Accepted-clause-ok : goal.returns-in-Accepted-clause-ok
-returns-in-Accepted-clause-ok c = λ h a.
-    let conn = c.args.conn.value in
-    let found = sym (ap standing_found c.in-Some.is) ∙ stands c.args.self.now h conn c.find.result c.deref.result.now c.deref.ensures.value c.find.ensures a in
-    subst (λ i. IfOk c.answer.result (λ sent. Takes c.answer.new.self (map sent_of sent.items) h i))
-    (ap₂ (λ s v. Heard conn (judged_so_far s v)) found (sym (ap (verdict_of ghosts.shape) c.in-Accepted.is)))
-    (c.answer.ensures.ok h (tree_of c.in-Accepted.command) a (sym found) (asks-tree c.in-Accepted.command (subst (IsWell ghosts.shape) c.in-Accepted.is c.requires.well)))
+pub returns-in-Accepted : goal.returns-in-Accepted
+returns-in-Accepted c = record {
+  ok = λ h short a.
+      let conn = c.args.conn.value in
+      let stand = stands c.args.self.now h conn (standing_in_hand c.standing_of-standing.result) a c.standing_of-standing.ensures in
+      subst (λ i. IfOk c.answer.result (λ all. Takes c.answer.new.self (map sent_of all.items) h i))
+      (ap₂ (λ s v. Heard conn (judged_so_far s v)) stand (sym (ap (verdict_of ghosts.shape) c.in-Accepted.is)))
+      (c.answer.ensures.ok h (tree_of c.in-Accepted.command) short a (sym stand) (not_shut c.standing_of-standing.result c.in_default.not-Shut)
+      (asks-tree c.in-Accepted.command (subst (IsWell ghosts.shape) c.in-Accepted.is c.requires)));
+  err = c.answer.ensures.err;
+}
 
-pub returns-in-Refused-clause-ok : goal.returns-in-Refused-clause-ok
-returns-in-Refused-clause-ok c = λ h a.
-    let conn = c.args.conn.value in
-    let found = stands c.args.self.now h conn c.find.result c.deref.result.now c.deref.ensures.value c.find.ensures a in
-    let opened = sym (ap is_shut found) ∙ (ap (λ o. is_shut (standing_found o)) c.in-Some.is ∙ found-shut (Some c.in-Some.connection)) in
-    subst (λ v. IfOk c.refuse.result (λ sent. Takes c.args.self.now (map sent_of sent.items) h (Heard conn v)))
-    (sym (refused-so-far (standing_of (deeds h) conn) _ _) ∙ ap (judged_so_far (standing_of (deeds h) conn)) (sym (ap (verdict_of ghosts.shape) c.in-Refused.is)))
-    (sent_takes c.refuse.result c.args.self.now h (Heard conn _) c.refuse.ensures (heard-refused (deeds h) conn _ _ opened) a)
+pub returns-in-Refused : goal.returns-in-Refused
+returns-in-Refused c = record {
+  ok = λ h short a.
+      let conn = c.args.conn.value in
+      let stand = stands c.args.self.now h conn (standing_in_hand c.standing_of-standing.result) a c.standing_of-standing.ensures in
+      let v = Refused (option_map (λ n. n.value) c.in-Refused.id) c.in-Refused.code in
+      let opened = ap is_shut (sym stand) ∙ not_shut c.standing_of-standing.result c.in_default.not-Shut in
+      subst (λ v. IfOk c.refuse.result (λ all. Takes c.args.self.now (map sent_of all.items) h (Heard conn v)))
+      (sym (refused-so-far (standing_of (deeds h) conn) _ _) ∙ ap (judged_so_far (standing_of (deeds h) conn)) (sym (ap (verdict_of ghosts.shape) c.in-Refused.is)))
+      (refused_takes c.refuse.result c.args.self.now h (Heard conn v) (Err (outcome.Error conn (option_map (λ n. n.value) c.in-Refused.id) c.in-Refused.code)) _ c.refuse.ensures.sent c.refuse.ensures.reads_back (heard-open (deeds h) conn v opened) refl a);
+  err = anyway c.refuse.result (λ h a. a);
+}

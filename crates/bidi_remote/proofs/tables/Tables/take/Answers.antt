@@ -1,21 +1,20 @@
-use Rattle.std.proofs.Common.{refl, sym, subst, ap, ◌∙◌, rules}
+use Rattle.std.proofs.Common.{refl, sym, subst, ap, ◌∙◌, map, Ok}
 use Rattle.bidi_remote.specs.declared.step.Step.{Step}
-use Rattle.bidi_remote.specs.Step.{Text}
-use Rattle.bidi_remote.specs.View.{step_of}
-use Rattle.bidi_remote.specs.History.{At, Open, Drop, NotText, IsHeardAs}
-use Rattle.bidi_remote.specs.Outcome.{deeds}
-use Rattle.bidi_remote.proofs.TakeLemmas.{step_heard, text_heard, agree-time}
+use Rattle.bidi_remote.specs.Machine.Step.{Text}
+use Rattle.bidi_remote.specs.Machine.History.{At, Open, Drop, NotText, Time, IsHeardAs}
+use Rattle.bidi_remote.specs.Machine.Outcome.{deeds}
+use Rattle.bidi_remote.specs.Tables.View.{step_of, sent_of}
+use Rattle.bidi_remote.proofs.ChangeLemmas.{agree-time}
+use Rattle.bidi_remote.proofs.TakeLemmas.{takes, nothing, step_heard, text_heard}
 use Rattle.bidi_remote.proofs.tables.Tables.take.Goals as goal
 
 pub returns-in-At-clause-ok : goal.returns-in-At-clause-ok
 returns-in-At-clause-ok c =
-    let i = At c.in-At.moment.value in (
-      i,
-      subst (λ (s : Step). IsHeardAs (step_of s) i) (sym c.in-At.is) refl,
-      λ h a. record {
-        sends = search rules;
-        agree = agree-time c.args.self.now (deeds h) c.in-At.moment.value a;
-      },
+    let n = c.in-At.moment.value in (
+      At n,
+      subst (λ (s : Step). IsHeardAs (step_of s) (At n)) (sym c.in-At.is) refl,
+      λ h short a. takes (record c.args.self.now { moment = n }) h (At n) (Ok (Time n)) (map sent_of c.new.result.items) refl (ap (map sent_of) c.new.ensures.items) (nothing c.new.result.items c.new.ensures.items)
+          (agree-time c.args.self.now (deeds h) n a),
     )
 
 pub returns-in-Open-clause-ok : goal.returns-in-Open-clause-ok

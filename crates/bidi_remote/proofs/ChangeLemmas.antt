@@ -1,0 +1,191 @@
+-- How the tables move with the past.
+use Rattle.std.proofs.Common.{◌≡◌, ◌∙◌, ℕ, ◌+◌, Bool, true, false, cond, not, ◌&&◌, List, [], ◌∷◌, ◌++◌, map, length, refl, sym, ap, ap₂, arith, Err, Option, Some, None}
+use Rattle.std.specs.Prelude.{◌==◌, filter, find, nat_lt, bytes_eq, codes, if◌then◌else◌, option_map}
+use Rattle.std.proofs.lemmas.List.{length-map}
+use Rattle.bidi_browser.specs.declared.id.Kind.TheVariants.{Session as OfSession}
+use Rattle.bidi_browser.specs.Ids.{id_of}
+use Rattle.bidi_messages.specs.declared.event.EventName.{EventName}
+use Rattle.bidi_remote.specs.declared.connections.Connections.{Connections}
+use Rattle.bidi_remote.specs.declared.sessions.Sessions.{Sessions}
+use Rattle.bidi_remote.specs.declared.tables.Tables.{Tables}
+use Rattle.bidi_remote.specs.Machine.History.{Input, Open, Deed, Scope, Time, Opened, Dropped, Began, Ended, Subscribed, Cancelled, Dismissed, Told}
+use Rattle.bidi_remote.specs.Machine.Sessions.{next_session}
+use Rattle.bidi_remote.specs.Machine.Subscriptions.{subscriptions_made}
+use Rattle.bidi_remote.specs.Machine.LogBuffer.{Missed}
+use Rattle.bidi_remote.specs.Machine.Connections.{Standing, Shut, is_shut, is_open, is_for, opened_for, standing_of, open_connections}
+use Rattle.bidi_remote.specs.Machine.Outcome.{Denied, deeds, may_open, opening, session_of_resource, turn}
+use Rattle.bidi_remote.specs.Tables.ConnectionRows as connections
+use Rattle.bidi_remote.specs.Tables.ConnectionRows.{rows, standing_in, standing_in_hand, opening_by}
+use Rattle.bidi_remote.specs.declared.connections.Standing as declared_standing
+use Rattle.bidi_remote.specs.declared.connections.Standing.TheVariants as in_code
+use Rattle.bidi_remote.specs.Tables.SessionView as in_hand
+use Rattle.bidi_remote.specs.Tables.SubscriptionRows.{SessionRow, session_rows, begun, subscribed, cancelled, lost, updated, changed}
+use Rattle.bidi_remote.specs.Tables.Stands.{AgreeWith}
+use Rattle.bidi_remote.proofs.ConnectionLemmas.{rows-opened, rows-dropped, rows-began, rows-ended, standing-found}
+use Rattle.bidi_remote.proofs.OpeningLemmas.{was_opened}
+use Rattle.bidi_remote.proofs.SubscriptionLemmas.{session_rows-began, session_rows-ended, session_rows-subscribed, session_rows-cancelled, session_rows-dismissed, numbers-session_rows}
+use Rattle.bidi_remote.proofs.RowLemmas.{changed-updated, one-row}
+use Rattle.bidi_remote.proofs.ListLemmas.{find-map}
+
+-- ---- the tables after a deed
+
+-- another moment
+pub agree-time : (t : Tables) (past : List Deed) (n : ℕ) → AgreeWith t past → AgreeWith (record t { moment = n }) (Time n ∷ past)
+agree-time t past n a = record { moment = refl; made = a.made; sessions = a.sessions; connections = a.connections; browser = a.browser; unlogged = a.unlogged }
+
+-- the status was told
+pub agree-told : (t : Tables) (past : List Deed) → AgreeWith t past → AgreeWith t (Told ∷ past)
+agree-told t past a = record { moment = a.moment; made = a.made; sessions = a.sessions; connections = a.connections; browser = a.browser; unlogged = a.unlogged }
+
+-- a connection more
+pub agree-opened : (t : Tables) (past : List Deed) (c : ℕ) (s : Option ℕ) (v : Connections) → AgreeWith t past → is_shut (standing_of past c) ≡ true
+    → connections.rows_in v ≡ connections.rows_in t.connections ++ (c, opened_for s) ∷ [] → AgreeWith (record t { connections = v }) (Opened c s ∷ past)
+agree-opened t past c s v a shut is = record {
+  moment = a.moment;
+  made = a.made;
+  sessions = a.sessions;
+  connections = is ∙ (ap (λ xs. xs ++ (c, opened_for s) ∷ []) a.connections ∙ sym (rows-opened past c s shut));
+  browser = a.browser;
+  unlogged = a.unlogged;
+}
+
+-- a connection less
+pub agree-dropped : (t : Tables) (past : List Deed) (c : ℕ) (v : Connections) → AgreeWith t past → connections.rows_in v ≡ filter (λ row. not (row.0 == c)) (connections.rows_in t.connections)
+    → AgreeWith (record t { connections = v }) (Dropped c ∷ past)
+agree-dropped t past c v a is = record {
+  moment = a.moment;
+  made = a.made;
+  sessions = a.sessions;
+  connections = is ∙ (ap (filter (λ row. not (row.0 == c))) a.connections ∙ sym (rows-dropped past c));
+  browser = a.browser;
+  unlogged = a.unlogged;
+}
+
+-- of no entries, none is missed
+if_none : {X : Type 0} (b : Bool) {xs : List X} → xs ≡ [] → cond b [] xs ≡ []
+if_none true none = refl
+if_none false none = none
+
+still_none : (b : Bool) (f : Missed → Missed) {all : List Missed} → all ≡ [] → cond b (map f all) all ≡ []
+still_none true f none = ap (map f) none
+still_none false f none = none
+
+-- a session more, which is that of an open connection and has no subscription yet
+pub agree-began : (t : Tables) (past : List Deed) (c n : ℕ) (v : Connections) (s : Sessions) → AgreeWith t past → is_shut (standing_of past c) ≡ false → subscriptions_made past (next_session past) ≡ 0 → n ≡ t.sessions.made + 1
+    → s.made ≡ n → in_hand.rows_in s ≡ in_hand.rows_in t.sessions ++ begun n ∷ [] → connections.rows_in v ≡ map (connections.begun c n) (connections.rows_in t.connections)
+    → AgreeWith (record t { connections = v; sessions = s }) (Began c ∷ past)
+agree-began t past c n v s a opened fresh next made more is =
+    let number : n ≡ next_session past = let m = a.made in omega (arith, m, next) in record {
+      moment = a.moment;
+      made = made ∙ number;
+      sessions = more ∙ (ap₂ (λ rows k. rows ++ begun k ∷ []) a.sessions number ∙ sym (session_rows-began past c fresh));
+      connections = is ∙ (ap₂ (λ k rows. map (connections.begun c k) rows) number a.connections ∙ sym (rows-began past c opened));
+      browser = a.browser;
+      unlogged = λ k. if_none (k == next_session past) (a.unlogged k);
+    }
+
+-- a session less, and its connections
+pub agree-ended : (t : Tables) (past : List Deed) (n : ℕ) (v : Connections) (s : Sessions) → AgreeWith t past → connections.rows_in v ≡ filter (λ row. not (is_for n row.1)) (connections.rows_in t.connections)
+    → in_hand.rows_in s ≡ filter (λ r. not (r.number == n)) (in_hand.rows_in t.sessions) → s.made ≡ t.sessions.made → AgreeWith (record t { connections = v; sessions = s }) (Ended n ∷ past)
+agree-ended t past n v s a shut less made = record {
+  moment = a.moment;
+  made = made ∙ a.made;
+  sessions = less ∙ (ap (filter (λ r. not (r.number == n))) a.sessions ∙ sym (session_rows-ended past n));
+  connections = shut ∙ (ap (filter (λ row. not (is_for n row.1))) a.connections ∙ sym (rows-ended past n));
+  browser = a.browser;
+  unlogged = a.unlogged;
+}
+
+module _ (t : Tables) (past : List Deed) (n : ℕ) (s : Sessions) (a : AgreeWith t past) (made : s.made ≡ t.sessions.made) where
+  -- the first of that number is the only one
+  row-changed : (f : SessionRow → SessionRow) → in_hand.rows_in s ≡ changed n f (in_hand.rows_in t.sessions) → in_hand.rows_in s ≡ updated n f (session_rows past)
+  row-changed f is = is ∙ (ap (changed n f) a.sessions ∙ changed-updated n f (session_rows past) (one-row past n))
+
+  -- a subscription more
+  pub agree-subscribed : (es : List EventName) (scope : Scope) → in_hand.rows_in s ≡ changed n (subscribed es scope) (in_hand.rows_in t.sessions) → AgreeWith (record t { sessions = s }) (Subscribed n es scope ∷ past)
+  agree-subscribed es scope is = record {
+    moment = a.moment;
+    made = made ∙ a.made;
+    sessions = row-changed (subscribed es scope) is ∙ sym (session_rows-subscribed past n es scope);
+    connections = a.connections;
+    browser = a.browser;
+    unlogged = λ k. still_none (k == n) _ (a.unlogged k);
+  }
+
+  -- subscriptions less
+  pub agree-cancelled : (ns : List ℕ) → in_hand.rows_in s ≡ changed n (cancelled ns) (in_hand.rows_in t.sessions) → AgreeWith (record t { sessions = s }) (Cancelled n ns ∷ past)
+  agree-cancelled ns is = record {
+    moment = a.moment;
+    made = made ∙ a.made;
+    sessions = row-changed (cancelled ns) is ∙ sym (session_rows-cancelled past n ns);
+    connections = a.connections;
+    browser = a.browser;
+    unlogged = a.unlogged;
+  }
+
+  -- events less
+  pub agree-dismissed : (es : List EventName) → in_hand.rows_in s ≡ changed n (lost es) (in_hand.rows_in t.sessions) → AgreeWith (record t { sessions = s }) (Dismissed n es ∷ past)
+  agree-dismissed es is = record {
+    moment = a.moment;
+    made = made ∙ a.made;
+    sessions = row-changed (lost es) is ∙ sym (session_rows-dismissed past n es);
+    connections = a.connections;
+    browser = a.browser;
+    unlogged = a.unlogged;
+  }
+
+-- ---- what the tables say
+
+-- how a connection stands
+pub stands : (t : Tables) (h : List Input) (c : ℕ) (x : Standing) → AgreeWith t (deeds h) → x ≡ standing_in (find (λ row. row.0 == c) (connections.rows_in t.connections)) → x ≡ standing_of (deeds h) c
+stands t h c x a is = is ∙ standing-found (deeds h) c (connections.rows_in t.connections) (was_opened h c) a.connections
+
+-- what is not said to be shut is open
+pub not_shut : (s : declared_standing.Standing) → (s ≡ in_code.Shut → ⊥) → is_shut (standing_in_hand s) ≡ false
+not_shut in_code.Shut h = absurd (h refl)
+not_shut in_code.Alone h = refl
+not_shut (in_code.SpeaksFor s) h = refl
+
+-- as many connections are open
+length-open : (t : Tables) (past : List Deed) → AgreeWith t past → length (connections.rows_in t.connections) ≡ length (open_connections past)
+length-open t past a = ap length a.connections ∙ length-map (open_connections past) (λ c. (c, standing_of past c))
+
+-- a resource names what it names
+resource-names : (t : Tables) (past : List Deed) (resource : List ℕ) (o : Option (Option ℕ)) → AgreeWith t past
+    → o ≡ (if bytes_eq resource (codes "/session") then Some None else option_map (λ r. Some r.number) (find (λ r. bytes_eq resource (codes "/session/" ++ id_of OfSession r.number)) (in_hand.rows_in t.sessions)))
+    → session_of_resource past resource ≡ o
+resource-names t past resource o a is =
+    let named = λ (n : ℕ). bytes_eq resource (codes "/session/" ++ id_of OfSession n) in
+    sym (is ∙ ap (λ o. if bytes_eq resource (codes "/session") then Some None else o)
+    (sym (find-map (λ r. r.number) Some named (in_hand.rows_in t.sessions)) ∙ ap (λ ns. option_map Some (find named ns)) (ap (map (λ r. r.number)) a.sessions ∙ numbers-session_rows past)))
+
+-- what may not be opened is denied
+opening-denied : (past : List Deed) (c : ℕ) (o : Option (Option ℕ)) → may_open past c ≡ false → opening past c o ≡ Err (Denied c)
+opening-denied past c None no_room = refl
+opening-denied past c (Some s) no_room = rw no_room refl
+
+opening-may : (past : List Deed) (c : ℕ) (o : Option (Option ℕ)) → may_open past c ≡ true → opening past c o ≡ opening_by c o
+opening-may past c None room = refl
+opening-may past c (Some s) room = rw room refl
+
+-- a connection that is shut may be opened where there is room
+pub opens : (t : Tables) (past : List Deed) (c : ℕ) (resource : List ℕ) (o : Option (Option ℕ)) (room : Bool) → AgreeWith t past → standing_of past c ≡ Shut → room ≡ nat_lt (length (connections.rows_in t.connections)) 64 → room ≡ true
+    → o ≡ (if bytes_eq resource (codes "/session") then Some None else option_map (λ r. Some r.number) (find (λ r. bytes_eq resource (codes "/session/" ++ id_of OfSession r.number)) (in_hand.rows_in t.sessions)))
+    → opening_by c o ≡ turn past (Open c resource)
+opens t past c resource o room a shut has free is =
+    let may : may_open past c ≡ true = rw (shut, sym (ap (λ n. nat_lt n 64) (length-open t past a)) ∙ (sym has ∙ free)) refl in
+    sym (ap (opening past c) (resource-names t past resource o a is) ∙ opening-may past c o may)
+
+-- and is denied where there is none
+pub opens-full : (t : Tables) (past : List Deed) (c : ℕ) (resource : List ℕ) (room : Bool) → AgreeWith t past → room ≡ nat_lt (length (connections.rows_in t.connections)) 64 → room ≡ false → Err (Denied c) ≡ turn past (Open c resource)
+opens-full t past c resource room a has none =
+    let may : may_open past c ≡ false = full (not (is_open past c)) (sym (ap (λ n. nat_lt n 64) (length-open t past a)) ∙ (sym has ∙ none)) in
+    sym (opening-denied past c (session_of_resource past resource) may)
+  where
+    full : (b : Bool) {r : Bool} → r ≡ false → (b && r) ≡ false
+    full true none = none
+    full false none = refl
+
+-- so is one that is open
+pub opens-open : (past : List Deed) (c : ℕ) (resource : List ℕ) → is_shut (standing_of past c) ≡ false → Err (Denied c) ≡ turn past (Open c resource)
+opens-open past c resource opened = let may : may_open past c ≡ false = rw opened refl in sym (opening-denied past c (session_of_resource past resource) may)

@@ -1,0 +1,137 @@
+-- What a command comes to, by the tables and by the past.
+use Rattle.std.proofs.Common.{◌≡◌, ◌∙◌, ℕ, Bool, true, false, not, ◌&&◌, List, [], ◌∷◌, ◌++◌, append-nil, map, length, Option, Some, unwrap_or, Result, Ok, Err, refl, sym, ap, ap₂}
+use Rattle.std.specs.Prelude.{filter, nat_lt}
+use Rattle.std.specs.List.{list_any, list_all, AllByRecursion, items_where_true}
+use Rattle.std.proofs.lemmas.List.{length-map}
+use Rattle.bidi_messages.specs.declared.error_code.ErrorCode.{ErrorCode}
+use Rattle.bidi_messages.specs.declared.error_code.ErrorCode.TheVariants.{InvalidArgument, UnknownError}
+use Rattle.bidi_messages.specs.declared.event.EventName.{EventName}
+use Rattle.bidi_messages.specs.declared.result_data.ResultData.{ResultData}
+use Rattle.bidi_browser.specs.Checks.{◌>>=◌, need, found}
+use Rattle.bidi_browser.specs.Acts.{Act}
+use Rattle.bidi_browser.specs.Contexts.{is_alive}
+use Rattle.bidi_browser.specs.Occurrences.{Occurrence, tree_events, is_among}
+use Rattle.bidi_browser.specs.Occurs.{Replies}
+use Rattle.bidi_remote.specs.declared.tables.Tables.{Tables}
+use Rattle.bidi_remote.specs.declared.turn.Asker.{Asker}
+use Rattle.bidi_remote.specs.declared.turn.Change.{Change}
+use Rattle.bidi_remote.specs.declared.turn.Turn.{Turn}
+use Rattle.bidi_remote.specs.declared.subscriptions.Subscription.{Subscription}
+use Rattle.bidi_remote.specs.Machine.Capabilities.{Request, matching}
+use Rattle.bidi_remote.specs.Machine.Commands.{Command}
+use Rattle.bidi_remote.specs.Machine.History.{Deed, Began, Subscribed, Dismissed, Scope, acts}
+use Rattle.bidi_remote.specs.Machine.Sessions.{is_active}
+use Rattle.bidi_remote.specs.Machine.Subscriptions.{subscriptions, is_newly_enabled, holds_globally, covers}
+use Rattle.bidi_remote.specs.Machine.LogBuffer.{Missed, missed, last_hundred, waiting_for}
+use Rattle.bidi_remote.specs.Machine.Outcome.{is_ready, new_outcome, all_named, scope_asked, subscribe_outcome, subscriptions_named, unsubscribe_by_events_outcome}
+use Rattle.bidi_remote.specs.Machine.Sent.{items, action_in, announcements}
+use Rattle.bidi_remote.specs.Tables.Routes.{is_new}
+use Rattle.bidi_remote.specs.Tables.SessionView as in_hand
+use Rattle.bidi_remote.specs.Tables.SessionView.{row_of}
+use Rattle.bidi_remote.specs.Tables.Stands.{AgreeWith}
+use Rattle.bidi_remote.specs.Tables.SubscriptionRows.{session_row, session_rows, row_at, subscription_rows, row_in, begun, row_covers, row_holds, any_global, numbers_named}
+use Rattle.bidi_remote.specs.Tables.Turns.{Decides, deed_of, announced_by, seen, result_tree}
+use Rattle.bidi_remote.proofs.ListLemmas.{filter-same, any-map, all-same}
+use Rattle.bidi_remote.proofs.SubscriptionLemmas.{newly-enabled, numbers-session_rows, find-active, named-subscription_rows, global-held}
+
+-- ---- a turn
+
+module _ (turn : Turn) (past : List Deed) (asker : Asker) (asked : Option Command) (answer : Result Deed ErrorCode) (change : Change) (r : ResultData)
+    (same : turn.change ≡ change) (before : turn.telling.before.items ≡ []) (reply : turn.telling.reply ≡ Some (record { to = asker; outcome = r })) (after : turn.telling.after.items ≡ [])
+    (is : answer ≡ Ok (deed_of change)) (told : Replies (result_tree r) ∷ [] ≡ items past (action_in asked) (deed_of change)) where
+  -- a change that is announced, and then replied to
+  pub announced-decides : seen turn.telling.announced.items ≡ announced_by past (deed_of change) → Decides (Ok turn) past asker asked answer
+  announced-decides announced = (
+    is ∙ ap (λ x. Ok (deed_of x)) (sym same),
+    record {
+      announced = announced ∙ ap (λ x. announced_by past (deed_of x)) (sym same);
+      items = rw (before, reply, after) (told ∙ ap (λ x. items past (action_in asked) (deed_of x)) (sym same));
+    },
+    rw reply refl,
+  )
+
+-- ---- the table of sessions
+
+-- whether there is room for a session
+pub is_ready-rows : (t : Tables) (past : List Deed) (b : Bool) → AgreeWith t past → b ≡ nat_lt (length (in_hand.rows_in t.sessions)) 8 → b ≡ is_ready past
+is_ready-rows t past b a is =
+    is ∙ ap (λ n. nat_lt n 8) (ap length a.sessions ∙ (sym (length-map (session_rows past) (λ r. r.number)) ∙ ap length (numbers-session_rows past)))
+
+-- the row of an active session
+pub row-active : (t : Tables) (past : List Deed) (s : ℕ) → AgreeWith t past → is_active past s ≡ true → row_in s (in_hand.rows_in t.sessions) ≡ session_row past s
+row-active t past s a active = ap (row_in s) a.sessions ∙ ap (λ o. unwrap_or o (begun s)) (find-active past s active)
+
+-- ---- `session.new`
+
+no_error : {E : Type 0} (r : Result (Unit {0}) E) → ((e : E) → r ≡ Err e → ⊥) → r ≡ Ok tt
+no_error (Ok tt) h = refl
+no_error (Err e) h = absurd (h e refl)
+
+pub new-began : (past : List Deed) (c : ℕ) (request : Request) (fits : Result (Unit {0}) ErrorCode) → fits ≡ matching request → ((e : ErrorCode) → fits ≡ Err e → ⊥) → true ≡ is_ready past → new_outcome past c request ≡ Ok (Began c)
+new-began past c request fits same fit room = rw (sym same ∙ no_error fits fit, sym room) refl
+
+-- ---- `session.subscribe`
+
+-- whether an occurrence is new, by the three answers
+pub is-new : (past : List Act) (held : List Subscription) (es : List EventName) (scope : Scope) (o : Occurrence) (live was is : Bool) → live ≡ is_alive past o.top
+    → was ≡ list_any (λ s. row_covers o.event o.top (row_of s)) held → is ≡ (is_among es o.event && covers scope o.top) → (live && (not was && is)) ≡ is_new past (map row_of held) es scope o
+is-new past held es scope o live was is lives covered covers =
+    ap₂ (λ a b. a && b) lives (ap₂ (λ a b. not a && b) (covered ∙ sym (any-map row_of (row_covers o.event o.top) held)) covers)
+
+-- the third answer decides, where the others let it
+pub third : (live was is : Bool) → live ≡ true → not was ≡ true → is ≡ (live && (not was && is))
+third live was is lives not_was = rw (lives, not_was) refl
+
+-- and where they do not
+pub not_live : (live was is : Bool) → live ≡ false → false ≡ (live && (not was && is))
+not_live live was is dead = rw dead refl
+
+pub not_new : (live was is : Bool) → not was ≡ false → false ≡ (live && (not was && is))
+not_new true was is covered = rw covered refl
+not_new false was is covered = refl
+
+-- what is kept of items of which each has P
+pub all-kept : {X : Type 0} (P : X → Type 0) (bs : List Bool) (xs : List X) → AllByRecursion P xs → AllByRecursion P (items_where_true bs xs)
+all-kept P [] xs all = tt
+all-kept P (b ∷ bs) [] all = tt
+all-kept P (true ∷ bs) (x ∷ xs) all = (all.0, all-kept P bs xs all.1)
+all-kept P (false ∷ bs) (x ∷ xs) all = all-kept P bs xs all.1
+
+-- as many subscriptions are held as live
+pub held-length : (past : List Deed) (s : ℕ) (held : List Subscription) → map row_of held ≡ subscription_rows past s → length held ≡ length (subscriptions past s)
+held-length past s held rows = sym (length-map held row_of) ∙ (ap length rows ∙ length-map (subscriptions past s) (row_at past s))
+
+-- the checks, one after another
+pub subscribe-checked : (past : List Deed) (s n : ℕ) (names : List (List ℕ)) (contexts users : Option (List (List ℕ))) (es : List EventName) (scope : Scope) (few : Bool)
+    → all_named names ≡ Ok es → scope_asked (acts past) contexts users ≡ Ok scope → n ≡ length (subscriptions past s) → nat_lt n 256 ≡ few
+    → subscribe_outcome past s names contexts users ≡ (need few UnknownError >>= λ room. Ok (Subscribed s es scope))
+subscribe-checked past s n names contexts users es scope few named scoped long is =
+    rw (named, scoped) (ap (λ (b : Bool). need b UnknownError >>= λ room. Ok (Subscribed s es scope)) (ap (λ k. nat_lt k 256) (sym long) ∙ is))
+
+-- where nothing was logged, nothing waits
+none-waits : (past : List Deed) (s : ℕ) → missed past s ≡ [] → waiting_for past s ≡ []
+none-waits past s none = ap (λ (all : List Missed). map (λ m. m.entry) (filter (λ m. not m.announced) (last_hundred all))) none
+
+-- what is new by the table is what is announced
+pub new-announced : (past : List Deed) (s : ℕ) (held : List Subscription) (es : List EventName) (scope : Scope) → is_active past s ≡ true → missed past s ≡ [] → map row_of held ≡ subscription_rows past s
+    → filter (is_new (acts past) (map row_of held) es scope) (tree_events (acts past)) ≡ announcements past (Subscribed s es scope) s
+new-announced past s held es scope active none rows =
+    filter-same _ _ (tree_events (acts past)) (λ o. ap (λ all. is_new (acts past) all es scope o) rows ∙ sym (newly-enabled past s es scope o.event o.top active))
+    ∙ ap (filter (λ o. is_newly_enabled past (Subscribed s es scope) s o.event o.top)) (sym (append-nil (tree_events (acts past))) ∙ ap (λ later. tree_events (acts past) ++ later) (sym (none-waits past s none)))
+
+-- ---- `session.unsubscribe`
+
+-- the ids name in the table what they name in the past
+pub numbers-named : (past : List Deed) (s : ℕ) (ids : List (List ℕ)) → numbers_named s (subscription_rows past s) ids ≡ subscriptions_named past s ids
+numbers-named past s [] = refl
+numbers-named past s (id ∷ ids) =
+    ap₂ (λ (o : Option ℕ) (r : Result (List ℕ) ErrorCode). found o InvalidArgument >>= λ n. r >>= λ ns. Ok (n ∷ ns)) (sym (named-subscription_rows past s id)) (numbers-named past s ids)
+
+-- each event is held globally in hand where it is in the past
+pub all-held : (past : List Deed) (s : ℕ) (held : List Subscription) (es : List EventName) → map row_of held ≡ subscription_rows past s
+    → list_all (λ e. list_any (λ x. row_holds e (row_of x)) held) es ≡ list_all (holds_globally past s) es
+all-held past s held es rows = all-same _ _ es (λ e. sym (any-map row_of (row_holds e) held) ∙ (ap (λ all. any_global all e) rows ∙ sym (global-held past s e)))
+
+pub dismiss-checked : (past : List Deed) (s : ℕ) (names : List (List ℕ)) (es : List EventName) (b : Bool) → all_named names ≡ Ok es → list_all (holds_globally past s) es ≡ b
+    → unsubscribe_by_events_outcome past s names ≡ (need b InvalidArgument >>= λ held. Ok (Dismissed s es))
+dismiss-checked past s names es b named held = rw named (ap (λ (b : Bool). need b InvalidArgument >>= λ held. Ok (Dismissed s es)) held)

@@ -1,0 +1,23 @@
+use Rattle.std.proofs.Common.{sym, ap, subst, arith}
+use Rattle.bidi_params.specs.contracts.session.capabilities.NewParametersShape.TheImpl.{ghosts}
+use Rattle.bidi_remote.specs.Machine.Connections.{SpeaksFor}
+use Rattle.bidi_remote.specs.Machine.Outcome.{deeds}
+use Rattle.bidi_remote.specs.Tables.Asked.{asked_of, outcome_so_far}
+use Rattle.bidi_remote.specs.Tables.Turns.{Decides}
+use Rattle.bidi_remote.proofs.SpeakingLemmas.{speaks-active, few-subscriptions}
+use Rattle.bidi_remote.proofs.deciding.decide_in.Goals as goal
+
+pub returns-in-SessionSubscribe-clause-ok : goal.returns-in-SessionSubscribe-clause-ok
+returns-in-SessionSubscribe-clause-ok c = λ h short a speaks.
+    let conn = c.args.asker.conn.value in
+    let s = c.args.session in
+    let few = few-subscriptions h s in
+    subst (λ asked. Decides c.decide_subscribe.result (deeds h) c.args.asker asked (outcome_so_far (deeds h) conn (SpeaksFor s) asked)) (sym (ap (asked_of ghosts.shape) c.in-SessionSubscribe.is))
+    (c.decide_subscribe.ensures.ok (deeds h) a (speaks-active h conn s speaks) (omega (arith, few, short)))
+
+pub returns-in-SessionUnsubscribe-clause-ok : goal.returns-in-SessionUnsubscribe-clause-ok
+returns-in-SessionUnsubscribe-clause-ok c = λ h short a speaks.
+    let conn = c.args.asker.conn.value in
+    let s = c.args.session in
+    subst (λ asked. Decides c.decide_unsubscribe.result (deeds h) c.args.asker asked (outcome_so_far (deeds h) conn (SpeaksFor s) asked)) (sym (ap (asked_of ghosts.shape) c.in-SessionUnsubscribe.is))
+    (c.decide_unsubscribe.ensures.ok (deeds h) a (speaks-active h conn s speaks))

@@ -1,0 +1,46 @@
+use Rattle.std.proofs.Common.{◌≡◌, ◌∙◌, true, false, nat_lt, [], ◌∷◌, map, length, option_map, Some, sym, ap, arith}
+use Rattle.std.proofs.lemmas.Bool.Decides.{nat_tests}
+use Rattle.std.specs.Prelude.{filter}
+use Rattle.bidi_browser.specs.Occurrences.{tree_events}
+use Rattle.bidi_browser.specs.Occurs.{Replies}
+use Rattle.bidi_remote.specs.declared.turn.Change.TheVariants.{Subscribe}
+use Rattle.bidi_remote.specs.Machine.History.{acts}
+use Rattle.bidi_remote.specs.Machine.Subscriptions.{next_subscription}
+use Rattle.bidi_remote.specs.Machine.Outcome.{all_named}
+use Rattle.bidi_remote.specs.Machine.Sent.{subscription_tree}
+use Rattle.bidi_remote.specs.Tables.Asked.{texts, subscribe_asked}
+use Rattle.bidi_remote.specs.Tables.SessionView.{scope_of, row_of}
+use Rattle.bidi_remote.specs.Tables.Routes.{is_new}
+use Rattle.bidi_remote.specs.Tables.Turns.{seen}
+use Rattle.bidi_remote.proofs.DecideLemmas.{announced-decides, row-active, held-length, subscribe-checked, new-announced}
+use Rattle.bidi_remote.proofs.session.subscribe.decide_subscribe.Goals as goal
+
+pub returns-then-held-ge-MOST_SUBSCRIPTIONS-clause-ok : goal.returns-then-held-ge-MOST_SUBSCRIPTIONS-clause-ok
+returns-then-held-ge-MOST_SUBSCRIPTIONS-clause-ok c = λ past a active few.
+    let s = c.args.session in
+    let held = c.subscriptions_of-held.result.now in
+    let full = c.if-held-ge-MOST_SUBSCRIPTIONS.true in
+    let none : nat_lt (length held) 256 ≡ false = grind (arith, nat_tests, full) in
+    let row = row-active c.args.tables.now past s a active in
+    subscribe-checked past s (length held) (texts c.args.params.now.events.items.items) (option_map (λ l. texts l.items.items) c.args.params.now.contexts) (option_map (λ l. texts l.items.items) c.args.params.now.user_contexts) c.in_ok-events.events.items (scope_of c.in_ok-scope.scope) false (ap (λ xs. all_named (texts xs)) (sym c.deref.ensures.value) ∙ c.in_ok-events.ensures) (c.in_ok-scope.ensures (acts past) a.browser)
+    (held-length past s held (c.subscriptions_of-held.ensures ∙ ap (λ r. r.subscriptions) row)) none
+
+pub returns-clause-ok : goal.returns-clause-ok
+returns-clause-ok c = λ past a active few.
+    let s = c.args.session in
+    let es = c.in_ok-events.events in
+    let scope = c.in_ok-scope.scope in
+    let held = c.subscriptions_of-held.result.now in
+    let less = c.if-held-ge-MOST_SUBSCRIPTIONS.false in
+    let room : nat_lt (length held) 256 ≡ true = grind (arith, nat_tests, less) in
+    let row = row-active c.args.tables.now past s a active in
+    let rows = c.subscriptions_of-held.ensures ∙ ap (λ r. r.subscriptions) row in
+    let made = ap (λ r. r.made) row in
+    let next : c.next_subscription.result ≡ next_subscription past s = let n = c.next_subscription.ensures (omega (arith, made, few)) in omega (arith, n, made) in
+    announced-decides c.announced.result past c.args.asker (Some (subscribe_asked c.args.params.now)) _ (Subscribe s es scope) c.in_ok-reply.reply
+    c.announced.ensures.change c.announced.ensures.before c.announced.ensures.reply c.announced.ensures.after
+    (subscribe-checked past s (length held) (texts c.args.params.now.events.items.items) (option_map (λ l. texts l.items.items) c.args.params.now.contexts) (option_map (λ l. texts l.items.items) c.args.params.now.user_contexts) es.items (scope_of scope) true (ap (λ xs. all_named (texts xs)) (sym c.deref.ensures.value) ∙ c.in_ok-events.ensures) (c.in_ok-scope.ensures (acts past) a.browser) (held-length past s held rows) room)
+    (ap (λ t. Replies t ∷ []) (c.in_ok-reply.ensures.tree ∙ ap (subscription_tree s) next))
+    (ap (λ v. seen v.items) c.announced.ensures.announced ∙ (c.in_ok-announced.ensures.ok (acts past) a.browser
+    ∙ (ap (λ events. filter (is_new (acts past) (map row_of held) events (scope_of scope)) (tree_events (acts past))) c.deref-2.ensures.value
+    ∙ new-announced past s held es.items (scope_of scope) active (a.unlogged s) rows)))

@@ -1,0 +1,15 @@
+use Rattle.std.proofs.Common.{◌≡◌, ◌∙◌, ◌++◌, false, refl, rules}
+use Rattle.std.specs.Prelude.{bytes_eq, codes}
+use Rattle.bidi_browser.specs.declared.id.Kind.TheVariants.{Session as OfSession}
+use Rattle.bidi_browser.specs.Ids.{id_of}
+use Rattle.bidi_remote.specs.declared.sessions.Session.{Session}
+use Rattle.bidi_remote.proofs.FindLemmas.{find-none, differ}
+use Rattle.bidi_remote.proofs.sessions.named.Goals as goal
+
+pub returns-in_err-id : goal.returns-in_err-id
+returns-in_err-id c =
+    let resource = c.args.resource.now in
+    let other : bytes_eq resource (codes "/session") ≡ false = search (rules, c.if-eq.ensures) in
+    let none = find-none (λ (s : Session). bytes_eq resource (codes "/session/" ++ id_of OfSession s.number)) c.args.sessions.now
+    (λ s. differ resource (codes "/session/" ++ id_of OfSession s.number) (c.in_err-id.ensures.cases (id_of OfSession s.number))) in
+    c.from_residual.ensures ∙ rw (other, none) refl

@@ -1,0 +1,47 @@
+-- What a command asks, read from its tree. After WebDriver BiDi, "The session Module".
+use Prim.Native.String.{String}
+use Rattle.std.specs.Prelude.{ℕ, List, [], ◌∷◌, Option, unwrap_or, option_map, if◌then◌else◌}
+use Rattle.std.specs.Option.{option_or}
+use Rattle.bidi_tree.specs.Node.{Node, null}
+use Rattle.bidi_browser.specs.Params.{tree_if_at, text_at, texts_at, texts_if_at, number_at, has_texts_at, entry_at}
+use Rattle.bidi_browser.specs.Actions.{Action, action_of}
+use Rattle.bidi_remote.specs.Machine.Capabilities.{Request, request_of}
+
+-- a command, with the members of its params that matter
+pub data Command : Type 0 where
+  Status : Command
+  New : (request : Request) → Command
+  End : Command
+  Subscribe : (events : List (List ℕ)) (contexts : Option (List (List ℕ))) (users : Option (List (List ℕ))) → Command
+  UnsubscribeById : (subscriptions : List (List ℕ)) → Command
+  UnsubscribeByEvents : (events : List (List ℕ)) → Command
+  OfBrowser : (action : Action) → Command
+
+-- by ids, where `subscriptions` is a list of at least one text; else by events
+abbrev pub unsubscribe_of : Node → Command
+unsubscribe_of params =
+    if has_texts_at "subscriptions" params then UnsubscribeById (texts_at "subscriptions" params)
+    else UnsubscribeByEvents (texts_at "events" params)
+
+-- the commands of sessions, and what each asks by its params
+abbrev pub session_commands : List (String × (Node → Command))
+session_commands =
+    ("session.status", λ p. Status)
+    ∷ ("session.new", λ p. New (request_of p))
+    ∷ ("session.end", λ p. End)
+    ∷ ("session.subscribe", λ p. Subscribe (texts_at "events" p) (texts_if_at "contexts" p) (texts_if_at "userContexts" p))
+    ∷ ("session.unsubscribe", unsubscribe_of)
+    ∷ []
+
+-- what a command of that method asks, if there is one
+abbrev pub command_in : List ℕ → Node → Option Command
+command_in method params =
+    option_or (option_map (λ reading. reading params) (entry_at session_commands method)) (option_map OfBrowser (action_of method params))
+
+-- what a tree asks; each tree that fits the rule of commands asks something
+abbrev pub command_of : Node → Option Command
+command_of t = command_in (text_at "method" t) (unwrap_or (tree_if_at "params" t) null)
+
+-- its id
+abbrev pub id_of_command : Node → ℕ
+id_of_command t = number_at "id" t

@@ -1,0 +1,11 @@
+-- What the tables of a remote end mean: the rows that contracts see, and the past that they stand for.
+pub mod View
+pub mod ConnectionRows
+pub mod SubscriptionRows
+pub mod SessionView
+pub mod Messages
+pub mod Routes
+pub mod Asked
+pub mod Checked
+pub mod Turns
+pub mod Stands

@@ -1,0 +1,27 @@
+-- What contracts see of a step and of what is sent: numbers, and the bytes of texts.
+use Rattle.std.specs.Prelude.{List, [], ◌∷◌, Option, Some, None, string_bytes}
+use Rattle.bidi_remote.specs.declared.step.Step as declared_step
+use Rattle.bidi_remote.specs.declared.step.Step.TheVariants as step_in_code
+use Rattle.bidi_remote.specs.declared.step.Sent as declared_sent
+use Rattle.bidi_remote.specs.declared.step.Sent.TheVariants as sent_in_code
+use Rattle.bidi_remote.specs.Machine.Step as step
+use Rattle.bidi_remote.specs.Machine.Sent as sent
+
+abbrev pub step_of : declared_step.Step → step.Step
+step_of (step_in_code.At n) = step.At n.value
+step_of (step_in_code.Open c resource) = step.Open c.value (string_bytes resource)
+step_of (step_in_code.Drop c) = step.Drop c.value
+step_of (step_in_code.Text c text) = step.Text c.value (string_bytes text)
+step_of (step_in_code.NotText c) = step.NotText c.value
+
+abbrev pub sent_of : declared_sent.Sent → sent.Sent
+sent_of (sent_in_code.Text c text) = sent.Text c.value (string_bytes text)
+sent_of (sent_in_code.Close c) = sent.Close c.value
+sent_of (sent_in_code.Opened c) = sent.Opened c.value
+sent_of (sent_in_code.Denied c) = sent.Denied c.value
+sent_of (sent_in_code.Lost c) = sent.Lost c.value
+
+-- one thing that may be sent
+abbrev pub sent_if : Option declared_sent.Sent → List sent.Sent
+sent_if None = []
+sent_if (Some x) = sent_of x ∷ []

@@ -1,0 +1,89 @@
+//! What a command comes to.
+ghost use Rattle.std.specs.Prelude.{◌≡◌, List};
+ghost use Rattle.bidi_remote.specs.Machine.Connections.{standing_of, Alone, SpeaksFor};
+ghost use Rattle.bidi_remote.specs.Machine.History.{Input};
+ghost use Rattle.bidi_remote.specs.Machine.Outcome.{deeds};
+ghost use Rattle.bidi_remote.specs.Tables.Asked.{IsWellAsked, asked_of, outcome_so_far};
+ghost use Rattle.bidi_remote.specs.Tables.ConnectionRows.{standing_in_hand};
+ghost use Rattle.bidi_remote.specs.Tables.Stands.{AgreeWith, IsShort};
+ghost use Rattle.bidi_remote.specs.Tables.Turns.{Decides, IsWellDecided};
+
+use crate::connections::Standing;
+use crate::refusal::Refusal;
+use crate::session::{decide_end, decide_new, decide_status, decide_subscribe, decide_unsubscribe};
+use crate::tables::Tables;
+use crate::turn::{Asker, Turn};
+use bidi_messages::{CommandData, ErrorCode};
+use bidi_params::NewParameters;
+use bidi_shape::Shape;
+use std::alloc::Global;
+
+/// What a command comes to on a connection that stands so: a turn, or why there is none. Nothing is changed.
+///
+/// # Errors
+/// - `invalid session id`: the connection has no session, and the command is neither `session.status` nor `session.new`.
+/// - What its command is refused for.
+/// - No memory, where a growth was refused.
+pub(crate) fn decide(
+    alloc: Global,
+    tables: &Tables,
+    asker: Asker,
+    standing: Standing,
+    asked: &CommandData,
+) -> Result<Turn, Refusal>
+    requires { IsWellAsked ⟦<NewParameters as Shape>⟧.shape asked.now }
+    ensures ok { (h : List Input) → IsShort h → AgreeWith tables.now (deeds h) → standing_of (deeds h) asker.conn.value ≡ standing_in_hand standing
+        → (let what = asked_of ⟦<NewParameters as Shape>⟧.shape asked.now in Decides result (deeds h) asker what (outcome_so_far (deeds h) asker.conn.value (standing_in_hand standing) what)) }
+    ensures well { IsWellDecided result }
+{
+    match standing {
+        Standing::Shut => Err(Refusal::Code(ErrorCode::InvalidSessionId)),
+        Standing::Alone => decide_alone(alloc, tables, asker, asked),
+        Standing::SpeaksFor(session) => decide_in(alloc, tables, asker, session, asked),
+    }
+}
+
+// What it comes to on a connection without a session.
+fn decide_alone(
+    alloc: Global,
+    tables: &Tables,
+    asker: Asker,
+    asked: &CommandData,
+) -> Result<Turn, Refusal>
+    requires { IsWellAsked ⟦<NewParameters as Shape>⟧.shape asked.now }
+    ensures ok { (h : List Input) → IsShort h → AgreeWith tables.now (deeds h)
+        → (let what = asked_of ⟦<NewParameters as Shape>⟧.shape asked.now in Decides result (deeds h) asker what (outcome_so_far (deeds h) asker.conn.value Alone what)) }
+    ensures well { IsWellDecided result }
+{
+    match asked {
+        CommandData::SessionStatus(_) => decide_status(alloc, tables, asker),
+        CommandData::SessionNew(params) => decide_new(alloc, tables, asker, params),
+        _ => Err(Refusal::Code(ErrorCode::InvalidSessionId)),
+    }
+}
+
+// What it comes to on a connection that speaks for a session.
+fn decide_in(
+    alloc: Global,
+    tables: &Tables,
+    asker: Asker,
+    session: u32,
+    asked: &CommandData,
+) -> Result<Turn, Refusal>
+    ensures ok { (h : List Input) → IsShort h → AgreeWith tables.now (deeds h) → standing_of (deeds h) asker.conn.value ≡ SpeaksFor session
+        → (let what = asked_of ⟦<NewParameters as Shape>⟧.shape asked.now in Decides result (deeds h) asker what (outcome_so_far (deeds h) asker.conn.value (SpeaksFor session) what)) }
+    ensures well { IsWellDecided result }
+{
+    match asked {
+        CommandData::SessionStatus(_) => decide_status(alloc, tables, asker),
+        CommandData::SessionNew(_) => Err(Refusal::Code(ErrorCode::SessionNotCreated)),
+        CommandData::SessionEnd(_) => decide_end(alloc, asker, session),
+        CommandData::SessionSubscribe(params) => {
+            decide_subscribe(alloc, tables, asker, session, params)
+        }
+        CommandData::SessionUnsubscribe(params) => {
+            decide_unsubscribe(alloc, tables, asker, session, params)
+        }
+        _ => Err(Refusal::Code(ErrorCode::UnsupportedOperation)),
+    }
+}

@@ -1,0 +1,14 @@
+//! The commands of the session module, a file each: what one comes to, and what tells of it.
+mod capabilities;
+mod end;
+mod event_names;
+mod new;
+mod status;
+mod subscribe;
+mod unsubscribe;
+
+pub(crate) use end::decide_end;
+pub(crate) use new::decide_new;
+pub(crate) use status::decide_status;
+pub(crate) use subscribe::decide_subscribe;
+pub(crate) use unsubscribe::decide_unsubscribe;

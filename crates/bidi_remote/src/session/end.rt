@@ -1,0 +1,31 @@
+//! `session.end`.
+ghost use Rattle.std.specs.Prelude.{◌≡◌, List, Ok, Some};
+ghost use Rattle.bidi_browser.specs.Maps.{nothing};
+ghost use Rattle.bidi_remote.specs.Machine.Commands.{End};
+ghost use Rattle.bidi_remote.specs.Machine.History.{Deed, Ended};
+ghost use Rattle.bidi_remote.specs.Tables.Turns.{Decides, IsWellDecided, result_tree};
+
+use crate::refusal::Refusal;
+use crate::turn::{Asker, Change, Turn};
+use bidi_messages::{Method, ResultData, Subject};
+use bidi_params::EmptyResult;
+use bidi_shape::Ext;
+use std::alloc::Global;
+
+/// Ends a session.
+pub(crate) fn decide_end(alloc: Global, asker: Asker, session: u32) -> Result<Turn, Refusal>
+    ensures ok { (past : List Deed) → Decides result past asker (Some End) (Ok (Ended session)) }
+    ensures well { IsWellDecided result }
+{
+    Ok(Turn::replied(alloc, Change::End(session), asker, end_result(alloc)))
+}
+
+// The result.
+fn end_result(alloc: Global) -> ResultData
+    ensures tree { result_tree result ≡ nothing }
+    ensures well { ⟦<ResultData as Subject<Method>>⟧.subject.well result }
+{
+    ResultData::SessionEnd(EmptyResult {
+        ext: Ext::empty(alloc),
+    })
+}

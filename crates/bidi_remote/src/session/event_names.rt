@@ -1,0 +1,57 @@
+//! Names of events, and of the modules that stand for theirs.
+ghost use Rattle.std.specs.Prelude.{◌≡◌, map, string_bytes, option_map};
+ghost use Rattle.bidi_remote.specs.Tables.Checked.{IfChecked, behind};
+ghost use Rattle.bidi_remote.specs.Machine.Outcome.{events_of_module, events_named, all_named};
+
+use crate::refusal::Refusal;
+use bidi_messages::{ErrorCode, EventName};
+use bidi_shape::Named;
+use std::alloc::Global;
+
+/// The events of some names, in order.
+///
+/// # Errors
+/// - `invalid argument`: a name is neither an event's nor a module's.
+/// - No memory, where a growth was refused.
+pub(crate) fn all_named(alloc: Global, names: &[String]) -> Result<Vec<EventName>, Refusal>
+    ensures { IfChecked result (λ events. events.items) (all_named (map string_bytes names.now)) }
+{
+    let mut events = Vec::new(alloc);
+    for name in names {
+        push_named(name, &mut events)?;
+    }
+    Ok(events)
+}
+
+// Adds the events of a name.
+fn push_named(name: &str, events: &mut Vec<EventName>) -> Result<(), Refusal>
+    ensures { IfChecked result (λ _. events.new.items) (behind events.old.items (events_named name.now)) }
+{
+    if let Some(event) = EventName::named(name) {
+        events.push(event)?;
+        return Ok(());
+    }
+    match events_of_module(name) {
+        Some(module) => Ok(events.extend_from_slice(module)?),
+        None => Err(Refusal::Code(ErrorCode::InvalidArgument)),
+    }
+}
+
+// The events of a module.
+fn events_of_module(name: &str) -> Option<&'static [EventName]>
+    ensures { option_map (λ events. events.now) result ≡ events_of_module name.now }
+{
+    match name {
+        "session" => Some(&[]),
+        "browsingContext" => Some(&[
+            EventName::ContextCreated,
+            EventName::ContextDestroyed,
+            EventName::NavigationStarted,
+            EventName::DomContentLoaded,
+            EventName::Load,
+        ]),
+        "script" => Some(&[EventName::RealmCreated, EventName::RealmDestroyed]),
+        "log" => Some(&[EventName::EntryAdded]),
+        _ => None,
+    }
+}

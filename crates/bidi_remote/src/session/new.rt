@@ -1,0 +1,84 @@
+//! `session.new`.
+ghost use Rattle.std.specs.Prelude.{◌≡◌, ◌<◌, List, Some, IfOk};
+ghost use Rattle.bidi_tree.specs.Node.{text, no_members};
+ghost use Rattle.bidi_browser.specs.declared.id.Kind.TheVariants.{Session};
+ghost use Rattle.bidi_browser.specs.Ids.{id_of};
+ghost use Rattle.bidi_browser.specs.Maps.{◌being◌and◌, mapped};
+ghost use Rattle.bidi_remote.specs.Machine.Capabilities.{capabilities, request_of};
+ghost use Rattle.bidi_remote.specs.Machine.Commands.{New};
+ghost use Rattle.bidi_remote.specs.Machine.History.{Deed};
+ghost use Rattle.bidi_remote.specs.Machine.Outcome.{new_outcome};
+ghost use Rattle.bidi_remote.specs.Machine.Sessions.{sessions_made};
+ghost use Rattle.bidi_remote.specs.Tables.Stands.{AgreeWith};
+ghost use Rattle.bidi_remote.specs.Tables.Turns.{Decides, IsWellDecided, result_tree};
+
+use crate::refusal::Refusal;
+use crate::session::capabilities::{
+    BROWSER_NAME, BROWSER_VERSION, PLATFORM_NAME, match_capabilities,
+};
+use crate::tables::Tables;
+use crate::turn::{Asker, Change, Turn};
+use bidi_browser::{Kind, id_text};
+use bidi_messages::{ErrorCode, Method, ResultData, Subject};
+use bidi_params::{Capabilities, NewParameters, NewResult};
+use bidi_shape::{Ext, Shape};
+use std::alloc::{AllocError, Global};
+
+/// Makes a session for a connection that has none.
+///
+/// # Errors
+/// The first that holds:
+/// - `invalid argument` or `session not created`, as the capabilities are matched.
+/// - `session not created`: eight sessions are active.
+/// - No memory, where a growth was refused.
+pub(crate) fn decide_new(
+    alloc: Global,
+    tables: &Tables,
+    asker: Asker,
+    params: &NewParameters,
+) -> Result<Turn, Refusal>
+    requires { ⟦<NewParameters as Shape>⟧.shape.well params.now }
+    ensures ok { (past : List Deed) → AgreeWith tables.now past → sessions_made past < 4294967295
+        → (let request = request_of (⟦<NewParameters as Shape>⟧.shape.tree_of params.now) in Decides result past asker (Some (New request)) (new_outcome past asker.conn.value request)) }
+    ensures well { IsWellDecided result }
+{
+    if let Err(code) = match_capabilities(params) {
+        return Err(Refusal::Code(code));
+    }
+    if !tables.sessions.is_ready() {
+        return Err(Refusal::Code(ErrorCode::SessionNotCreated));
+    }
+    let reply = new_result(alloc, tables.sessions.next())?;
+    Ok(Turn::replied(alloc, Change::Begin(asker.conn), asker, reply))
+}
+
+// The result: the id of the session of that number, and what the browser can do.
+fn new_result(alloc: Global, session: u32) -> Result<ResultData, AllocError>
+    ensures tree { IfOk result (λ r. result_tree r
+        ≡ mapped ("capabilities" being capabilities and "sessionId" being text (id_of Session session) and no_members)) }
+    ensures well { IfOk result ⟦<ResultData as Subject<Method>>⟧.subject.well }
+{
+    let session_id = id_text(alloc, Kind::Session, 0, u64::from(session))?;
+    let capabilities = capabilities(alloc)?;
+    Ok(ResultData::SessionNew(NewResult {
+        session_id,
+        capabilities,
+        ext: Ext::empty(alloc),
+    }))
+}
+
+// What the browser can do.
+fn capabilities(alloc: Global) -> Result<Capabilities, AllocError>
+    ensures tree { IfOk result (λ c. ⟦<Capabilities as Shape>⟧.shape.tree_of c ≡ capabilities) }
+    ensures well { IfOk result ⟦<Capabilities as Shape>⟧.shape.well }
+{
+    Ok(Capabilities {
+        accept_insecure_certs: false,
+        browser_name: String::from_str(alloc, BROWSER_NAME)?,
+        browser_version: String::from_str(alloc, BROWSER_VERSION)?,
+        platform_name: String::from_str(alloc, PLATFORM_NAME)?,
+        set_window_rect: false,
+        user_agent: String::from_str(alloc, "memory-browser/1.0")?,
+        ext: Ext::empty(alloc),
+    })
+}

@@ -1,0 +1,42 @@
+//! `session.status`.
+ghost use Rattle.std.specs.Prelude.{◌≡◌, ◌≤◌, List, Ok, Some, IfOk, if◌then◌else◌, true, false, codes};
+ghost use Rattle.bidi_tree.specs.Node.{levels};
+ghost use Rattle.bidi_messages.specs.Message.{status_tree};
+ghost use Rattle.bidi_remote.specs.Machine.Commands.{Status};
+ghost use Rattle.bidi_remote.specs.Machine.History.{Deed, Told};
+ghost use Rattle.bidi_remote.specs.Tables.Stands.{AgreeWith};
+ghost use Rattle.bidi_remote.specs.Tables.Turns.{Decides, IsWellDecided, result_tree};
+
+use crate::refusal::Refusal;
+use crate::tables::Tables;
+use crate::turn::{Asker, Change, Turn};
+use bidi_messages::{Method, ResultData, Subject};
+use bidi_params::StatusResult;
+use bidi_shape::Ext;
+use std::alloc::{AllocError, Global};
+
+/// Tells whether there is room for a session.
+///
+/// # Errors
+/// No memory, where a growth was refused.
+pub(crate) fn decide_status(alloc: Global, tables: &Tables, asker: Asker) -> Result<Turn, Refusal>
+    ensures ok { (past : List Deed) → AgreeWith tables.now past → Decides result past asker (Some Status) (Ok Told) }
+    ensures well { IsWellDecided result }
+{
+    let reply = status_result(alloc, tables.sessions.is_ready())?;
+    Ok(Turn::replied(alloc, Change::Nothing, asker, reply))
+}
+
+// The result.
+fn status_result(alloc: Global, is_ready: bool) -> Result<ResultData, AllocError>
+    ensures tree { IfOk result (λ r. result_tree r ≡ (if is_ready then status_tree true (codes "ready") else status_tree false (codes "full"))) }
+    ensures well { IfOk result ⟦<ResultData as Subject<Method>>⟧.subject.well }
+    ensures small { IfOk result (λ r. levels (result_tree r) ≤ 61) }
+{
+    let message = if is_ready { "ready" } else { "full" };
+    Ok(ResultData::SessionStatus(StatusResult {
+        ready: is_ready,
+        message: String::from_str(alloc, message)?,
+        ext: Ext::empty(alloc),
+    }))
+}

@@ -1,0 +1,91 @@
+//! `session.unsubscribe`.
+ghost use Rattle.std.specs.Prelude.{◌≡◌, List, Some, true};
+ghost use Rattle.bidi_browser.specs.Maps.{nothing};
+ghost use Rattle.bidi_remote.specs.Machine.History.{Deed};
+ghost use Rattle.bidi_remote.specs.Machine.Outcome.{outcome_in, unsubscribe_by_id_outcome, unsubscribe_by_events_outcome};
+ghost use Rattle.bidi_remote.specs.Machine.Sessions.{is_active};
+ghost use Rattle.bidi_remote.specs.Tables.Asked.{texts, unsubscribe_asked};
+ghost use Rattle.bidi_remote.specs.Tables.Checked.{IfChecked};
+ghost use Rattle.bidi_remote.specs.Tables.Stands.{AgreeWith};
+ghost use Rattle.bidi_remote.specs.Tables.Turns.{Decides, IsWellDecided, deed_of, result_tree};
+
+use crate::refusal::Refusal;
+use crate::session::event_names::all_named;
+use crate::subscriptions::{all_global, numbers_of};
+use crate::tables::Tables;
+use crate::turn::{Asker, Change, Turn};
+use bidi_messages::{ErrorCode, Method, ResultData, Subject};
+use bidi_params::{EmptyResult, UnsubscribeParameters};
+use bidi_shape::Ext;
+use std::alloc::Global;
+
+/// Ends subscriptions of a session by their ids, or takes events from its global ones.
+///
+/// # Errors
+/// The first that holds:
+/// - `invalid argument`: no live subscription has an id; or a name is neither an event's nor a module's, or no global
+///   subscription holds for an event.
+/// - No memory, where a growth was refused.
+pub(crate) fn decide_unsubscribe(
+    alloc: Global,
+    tables: &Tables,
+    asker: Asker,
+    session: u32,
+    params: &UnsubscribeParameters,
+) -> Result<Turn, Refusal>
+    ensures ok { (past : List Deed) → AgreeWith tables.now past → is_active past session ≡ true
+        → Decides result past asker (Some (unsubscribe_asked params.now)) (outcome_in past session (unsubscribe_asked params.now)) }
+    ensures well { IsWellDecided result }
+{
+    let change = match params {
+        UnsubscribeParameters::ById(by_id) => {
+            end_by_ids(alloc, tables, session, &by_id.subscriptions.items)?
+        }
+        UnsubscribeParameters::ByEvents(by_events) => {
+            end_by_events(alloc, tables, session, &by_events.events.items)?
+        }
+    };
+    Ok(Turn::replied(alloc, change, asker, unsubscribe_result(alloc)))
+}
+
+// Ends the subscriptions that have these ids.
+fn end_by_ids(
+    alloc: Global,
+    tables: &Tables,
+    session: u32,
+    ids: &[String],
+) -> Result<Change, Refusal>
+    ensures { (past : List Deed) → AgreeWith tables.now past → is_active past session ≡ true
+        → IfChecked result deed_of (unsubscribe_by_id_outcome past session (texts ids.now)) }
+{
+    let held = tables.sessions.subscriptions_of(session);
+    let numbers = numbers_of(alloc, held, session, ids)?;
+    Ok(Change::Cancel(session, numbers))
+}
+
+// Takes the events of these names from the global subscriptions.
+fn end_by_events(
+    alloc: Global,
+    tables: &Tables,
+    session: u32,
+    names: &[String],
+) -> Result<Change, Refusal>
+    ensures { (past : List Deed) → AgreeWith tables.now past → is_active past session ≡ true
+        → IfChecked result deed_of (unsubscribe_by_events_outcome past session (texts names.now)) }
+{
+    let events = all_named(alloc, names)?;
+    if !all_global(tables.sessions.subscriptions_of(session), &events) {
+        return Err(Refusal::Code(ErrorCode::InvalidArgument));
+    }
+    Ok(Change::Dismiss(session, events))
+}
+
+// The result.
+fn unsubscribe_result(alloc: Global) -> ResultData
+    ensures tree { result_tree result ≡ nothing }
+    ensures well { ⟦<ResultData as Subject<Method>>⟧.subject.well result }
+{
+    ResultData::SessionUnsubscribe(EmptyResult {
+        ext: Ext::empty(alloc),
+    })
+}

@@ -1,0 +1,252 @@
+//! What is sent for a turn: its events to those that hear them, and the reply in its place.
+ghost use Rattle.std.specs.Prelude.{◌≡◌, ◌≤◌, ◌++◌, List, map, flat_map, filter, IfOk, IfSome};
+ghost use Rattle.std.specs.List.{AllByRecursion, list_any};
+ghost use Rattle.bidi_tree.specs.Node.{levels};
+ghost use Rattle.bidi_browser.specs.View.{occurrence_of};
+ghost use Rattle.bidi_remote.specs.Machine.History.{Deed};
+ghost use Rattle.bidi_remote.specs.Machine.Sent.{Text};
+ghost use Rattle.bidi_remote.specs.Tables.ConnectionRows.{rows_in, to_each};
+ghost use Rattle.bidi_remote.specs.Tables.SubscriptionRows.{any_covers};
+ghost use Rattle.bidi_remote.specs.Tables.SessionView as sessions;
+ghost use Rattle.bidi_remote.specs.Tables.SessionView.{session_row_of};
+ghost use Rattle.bidi_remote.specs.Tables.Messages.{AllReadBack};
+ghost use Rattle.bidi_remote.specs.Tables.Routes.{to_one, to_all};
+ghost use Rattle.bidi_remote.specs.Tables.Stands.{AgreeWith};
+ghost use Rattle.bidi_remote.specs.Tables.Turns.{IsWellTold, deed_of, asker_in, reply_in, result_tree, items_in, seen, sent_of_item, sent_for, to_subscriber_in, closed_in};
+ghost use Rattle.bidi_remote.specs.Tables.View.{sent_of, sent_if};
+
+use crate::connections::Connections;
+use crate::sessions::Session;
+use crate::step::Sent;
+use crate::tables::Tables;
+use crate::turn::{Change, Reply, Telling};
+use bidi_browser::Occurrence;
+use bidi_messages::{EventData, EventName, Method, ResultData, Subject, event_text, response_text};
+use std::alloc::{AllocError, Global};
+
+/// All that is sent for a change: what it announces, then its events with the reply in its place, then the closes.
+///
+/// Each event's text is made once; sessions come in order of making, and the connections of each in order of opening.
+pub(crate) fn tell(
+    alloc: Global,
+    tables: &Tables,
+    change: &Change,
+    telling: Telling,
+) -> Result<Vec<Sent>, AllocError>
+    requires { IsWellTold telling }
+    ensures told { (past : List Deed) → AgreeWith tables.now past → IfOk result (λ sent. map sent_of sent.items
+        ≡ sent_for past (asker_in telling.reply) (deed_of change.now) (seen telling.announced.items) (items_in telling)) }
+    ensures reads_back { IfOk result (λ sent. AllReadBack (map sent_of sent.items)) }
+{
+    let Telling {
+        announced,
+        before,
+        reply,
+        after,
+    } = telling;
+    let reply = reply_sent(alloc, reply)?;
+    all_sent(alloc, tables, change, &announced, &before, reply, &after)
+}
+
+// What is sent, one after another.
+fn all_sent(
+    alloc: Global,
+    tables: &Tables,
+    change: &Change,
+    announced: &[Occurrence],
+    before: &[Occurrence],
+    reply: Option<Sent>,
+    after: &[Occurrence],
+) -> Result<Vec<Sent>, AllocError>
+    requires announced { AllByRecursion (λ o. ⟦<EventData as Subject<EventName>>⟧.subject.well o.event) announced.now }
+    requires before { AllByRecursion (λ o. ⟦<EventData as Subject<EventName>>⟧.subject.well o.event) before.now }
+    requires after { AllByRecursion (λ o. ⟦<EventData as Subject<EventName>>⟧.subject.well o.event) after.now }
+    ensures sent { IfOk result (λ sent. map sent_of sent.items ≡ to_subscriber_in (rows_in tables.now.connections) (deed_of change.now) (seen announced.now)
+        ++ ((flat_map (to_all (sessions.rows_in tables.now.sessions) (rows_in tables.now.connections)) (seen before.now)
+        ++ (sent_if reply ++ flat_map (to_all (sessions.rows_in tables.now.sessions) (rows_in tables.now.connections)) (seen after.now)))
+        ++ closed_in (rows_in tables.now.connections) (deed_of change.now))) }
+    ensures reads_back { AllReadBack (sent_if reply) → IfOk result (λ sent. AllReadBack (map sent_of sent.items)) }
+{
+    let mut sent = Vec::new(alloc);
+    push_announced(alloc, &tables.connections, change, announced, &mut sent)?;
+    push_events(alloc, tables, before, &mut sent)?;
+    push_if(reply, &mut sent)?;
+    push_events(alloc, tables, after, &mut sent)?;
+    push_closes(&tables.connections, change, &mut sent)?;
+    Ok(sent)
+}
+
+// The reply, where somebody asked.
+fn reply_sent(alloc: Global, reply: Option<Reply>) -> Result<Option<Sent>, AllocError>
+    requires { IfSome reply (λ r. ⟦<ResultData as Subject<Method>>⟧.subject.well r.outcome × (levels (result_tree r.outcome) ≤ 61)) }
+    ensures reply { (past : List Deed) → IfOk result (λ sent. sent_if sent ≡ flat_map (sent_of_item past (asker_in reply)) (reply_in reply)) }
+    ensures reads_back { IfOk result (λ sent. AllReadBack (sent_if sent)) }
+{
+    match reply {
+        Some(Reply { to, outcome }) => {
+            let text = response_text(alloc, to.id, outcome)?;
+            Ok(Some(Sent::Text(to.conn, text)))
+        }
+        None => Ok(None),
+    }
+}
+
+// Adds the reply, if there is one.
+fn push_if(reply: Option<Sent>, sent: &mut Vec<Sent>) -> Result<(), AllocError>
+    ensures { IfOk result (λ _. map sent_of sent.new.items ≡ map sent_of sent.old.items ++ sent_if reply) }
+{
+    if let Some(reply) = reply {
+        sent.push(reply)?;
+    }
+    Ok(())
+}
+
+// Adds what is announced, to each connection of the session that subscribed.
+fn push_announced(
+    alloc: Global,
+    connections: &Connections,
+    change: &Change,
+    announced: &[Occurrence],
+    sent: &mut Vec<Sent>,
+) -> Result<(), AllocError>
+    requires { AllByRecursion (λ o. ⟦<EventData as Subject<EventName>>⟧.subject.well o.event) announced.now }
+    ensures sent { IfOk result (λ _. map sent_of sent.new.items ≡ map sent_of sent.old.items ++ to_subscriber_in (rows_in connections.now) (deed_of change.now) (seen announced.now)) }
+    ensures reads_back { AllReadBack (map sent_of sent.old.items) → IfOk result (λ _. AllReadBack (map sent_of sent.new.items)) }
+{
+    match change {
+        Change::Subscribe(session, _, _) => {
+            push_to_session(alloc, connections, *session, announced, sent)
+        }
+        _ => Ok(()),
+    }
+}
+
+// Adds events for each connection of a session.
+fn push_to_session(
+    alloc: Global,
+    connections: &Connections,
+    session: u32,
+    occurrences: &[Occurrence],
+    sent: &mut Vec<Sent>,
+) -> Result<(), AllocError>
+    requires { AllByRecursion (λ o. ⟦<EventData as Subject<EventName>>⟧.subject.well o.event) occurrences.now }
+    ensures sent { IfOk result (λ _. map sent_of sent.new.items ≡ map sent_of sent.old.items ++ flat_map (to_one (rows_in connections.now) session) (seen occurrences.now)) }
+    ensures reads_back { AllReadBack (map sent_of sent.old.items) → IfOk result (λ _. AllReadBack (map sent_of sent.new.items)) }
+{
+    for occurrence in occurrences {
+        push_to_one(alloc, connections, session, occurrence, sent)?;
+    }
+    Ok(())
+}
+
+// Adds an event for each connection of a session.
+fn push_to_one(
+    alloc: Global,
+    connections: &Connections,
+    session: u32,
+    occurrence: &Occurrence,
+    sent: &mut Vec<Sent>,
+) -> Result<(), AllocError>
+    requires { ⟦<EventData as Subject<EventName>>⟧.subject.well occurrence.now.event }
+    ensures sent { IfOk result (λ _. map sent_of sent.new.items
+        ≡ map sent_of sent.old.items ++ to_one (rows_in connections.now) session (occurrence_of ⟦<EventData as Subject<EventName>>⟧.subject occurrence.now)) }
+    ensures reads_back { AllReadBack (map sent_of sent.old.items) → IfOk result (λ _. AllReadBack (map sent_of sent.new.items)) }
+{
+    let text = event_text(alloc, &occurrence.event)?;
+    connections.push_text(alloc, session, &text, sent)
+}
+
+// Adds events for all that hear them.
+fn push_events(
+    alloc: Global,
+    tables: &Tables,
+    occurrences: &[Occurrence],
+    sent: &mut Vec<Sent>,
+) -> Result<(), AllocError>
+    requires { AllByRecursion (λ o. ⟦<EventData as Subject<EventName>>⟧.subject.well o.event) occurrences.now }
+    ensures sent { IfOk result (λ _. map sent_of sent.new.items
+        ≡ map sent_of sent.old.items ++ flat_map (to_all (sessions.rows_in tables.now.sessions) (rows_in tables.now.connections)) (seen occurrences.now)) }
+    ensures reads_back { AllReadBack (map sent_of sent.old.items) → IfOk result (λ _. AllReadBack (map sent_of sent.new.items)) }
+{
+    for occurrence in occurrences {
+        push_event(
+            alloc,
+            tables.sessions.all(),
+            &tables.connections,
+            occurrence,
+            sent,
+        )?;
+    }
+    Ok(())
+}
+
+// Adds an event for all that hear it. Its text is made where somebody does.
+fn push_event(
+    alloc: Global,
+    sessions: &[Session],
+    connections: &Connections,
+    occurrence: &Occurrence,
+    sent: &mut Vec<Sent>,
+) -> Result<(), AllocError>
+    requires { ⟦<EventData as Subject<EventName>>⟧.subject.well occurrence.now.event }
+    ensures sent { IfOk result (λ _. map sent_of sent.new.items
+        ≡ map sent_of sent.old.items ++ to_all (map session_row_of sessions.now) (rows_in connections.now) (occurrence_of ⟦<EventData as Subject<EventName>>⟧.subject occurrence.now)) }
+    ensures reads_back { AllReadBack (map sent_of sent.old.items) → IfOk result (λ _. AllReadBack (map sent_of sent.new.items)) }
+{
+    let event = occurrence.event.kind();
+    if !is_heard(sessions, event, occurrence.top) {
+        return Ok(());
+    }
+    let text = event_text(alloc, &occurrence.event)?;
+    push_heard(
+        alloc,
+        sessions,
+        connections,
+        event,
+        occurrence.top,
+        &text,
+        sent,
+    )
+}
+
+// Whether the event is enabled for some session, in contexts below the top-level one.
+fn is_heard(sessions: &[Session], event: EventName, top: u64) -> bool
+    ensures { result ≡ list_any (λ s. any_covers (session_row_of s).subscriptions event top) sessions.now }
+{
+    sessions.iter().any(|session| session.hears(event, top))
+}
+
+// Adds the text of an event for each session for which it is enabled.
+fn push_heard(
+    alloc: Global,
+    sessions: &[Session],
+    connections: &Connections,
+    event: EventName,
+    top: u64,
+    text: &str,
+    sent: &mut Vec<Sent>,
+) -> Result<(), AllocError>
+    ensures { IfOk result (λ _. map sent_of sent.new.items ≡ map sent_of sent.old.items
+        ++ flat_map (λ r. to_each (λ c. Text c text.now) r.number (rows_in connections.now)) (filter (λ r. any_covers r.subscriptions event top) (map session_row_of sessions.now))) }
+{
+    for session in sessions {
+        if session.hears(event, top) {
+            connections.push_text(alloc, session.number, text, sent)?;
+        }
+    }
+    Ok(())
+}
+
+// Adds the closes of a session that ends.
+fn push_closes(
+    connections: &Connections,
+    change: &Change,
+    sent: &mut Vec<Sent>,
+) -> Result<(), AllocError>
+    ensures { IfOk result (λ _. map sent_of sent.new.items ≡ map sent_of sent.old.items ++ closed_in (rows_in connections.now) (deed_of change.now)) }
+{
+    match change {
+        Change::End(session) => connections.push_closes(*session, sent),
+        _ => Ok(()),
+    }
+}

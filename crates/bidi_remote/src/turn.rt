@@ -1,0 +1,94 @@
+//! What a command, or a step of a page, brings about.
+ghost use Rattle.std.specs.Prelude.{◌≡◌, Some, []};
+
+use crate::subscriptions::Scope;
+use bidi_browser::Occurrence;
+use bidi_messages::{EventName, ResultData};
+use bidi_tree::JsUint;
+use std::alloc::Global;
+
+/// What will change, with all that is put in already made. A session is told by its number.
+#[derive(Drop)]
+pub(crate) enum Change {
+    /// Nothing.
+    Nothing,
+    /// A session begins, for the connection of that number.
+    Begin(JsUint),
+    /// A session ends, and its connections are closed.
+    End(u32),
+    /// A session subscribes to these events, in this scope.
+    Subscribe(u32, Vec<EventName>, Scope),
+    /// A session loses the subscriptions of these numbers.
+    Cancel(u32, Vec<u32>),
+    /// A session loses these events from its global subscriptions.
+    Dismiss(u32, Vec<EventName>),
+}
+
+/// Who asked: a connection, with the id of its command.
+#[derive(Clone, Copy)]
+pub(crate) struct Asker {
+    pub conn: JsUint,
+    pub id: JsUint,
+}
+
+/// The result of a command, for who asked.
+pub(crate) struct Reply {
+    pub to: Asker,
+    pub outcome: ResultData,
+}
+
+/// What is told of a change, in this order.
+pub(crate) struct Telling {
+    /// Events for the session that subscribed, and for no other.
+    pub announced: Vec<Occurrence>,
+    /// Events for all that hear them, before the reply.
+    pub before: Vec<Occurrence>,
+    /// The reply, where somebody asked.
+    pub reply: Option<Reply>,
+    /// Events for all that hear them, behind the reply.
+    pub after: Vec<Occurrence>,
+}
+
+/// A change, and what is told of it.
+pub(crate) struct Turn {
+    pub change: Change,
+    pub telling: Telling,
+}
+
+impl Turn {
+    /// A change of which only a reply tells.
+    pub(crate) fn replied(alloc: Global, change: Change, to: Asker, outcome: ResultData) -> Turn
+        ensures change { result.change ≡ change }
+        ensures announced { result.telling.announced.items ≡ [] }
+        ensures before { result.telling.before.items ≡ [] }
+        ensures reply { result.telling.reply ≡ Some (record { to = to; outcome = outcome }) }
+        ensures after { result.telling.after.items ≡ [] }
+    {
+        Turn::announced(alloc, change, Vec::new(alloc), to, outcome)
+    }
+
+    /// A change that is announced, and then replied to.
+    pub(crate) fn announced(
+        alloc: Global,
+        change: Change,
+        announced: Vec<Occurrence>,
+        to: Asker,
+        outcome: ResultData,
+    ) -> Turn
+        ensures change { result.change ≡ change }
+        ensures announced { result.telling.announced ≡ announced }
+        ensures before { result.telling.before.items ≡ [] }
+        ensures reply { result.telling.reply ≡ Some (record { to = to; outcome = outcome }) }
+        ensures after { result.telling.after.items ≡ [] }
+    {
+        Turn {
+            change,
+            telling: Telling {
+                announced,
+                before: Vec::new(alloc),
+                reply: Some(Reply { to, outcome }),
+                after: Vec::new(alloc),
+            },
+        }
+    }
+}
