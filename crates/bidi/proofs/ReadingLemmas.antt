@@ -1,12 +1,11 @@
 -- Bytes say one list of steps.
-use Rattle.std.proofs.Common.{◌≡◌, ℕ, ◌<◌, ◌^◌, true, false, List, [], ◌∷◌, ◌++◌, drop, append_assoc, refl, sym, ◌∙◌, ap, arith}
+use Rattle.std.proofs.Common.{◌≡◌, ℕ, ◌<◌, ◌^◌, false, List, [], ◌∷◌, ◌++◌, drop, append_assoc, refl, sym, ◌∙◌, ap, ap₂, arith}
 use Rattle.std.specs.Prelude.{◌==◌, decimal}
 use Rattle.std.proofs.lemmas.Bool.Decides.{nat_tests}
 use Rattle.std.specs.List.{AllByRecursion}
 use Rattle.std.proofs.lemmas.Fmt.{decimal_injective}
 use Rattle.bidi_remote.specs.Machine.Step.{Step, At, Open, Drop, Text, NotText, Frame, Unframe, Log, TableRow}
-use Rattle.bidi_remote.specs.Machine.Built.{is_built_step}
-use Rattle.bidi.specs.Lines.{line_of, number_of, ended, said, CanBeSaid}
+use Rattle.bidi.specs.Lines.{line_of, ended, said, IsContext, IsSayable, CanBeSaid}
 use Rattle.bidi.specs.Plays.{HasNoPlayLine}
 use Rattle.bidi.proofs.ResultLemmas.{no_truth}
 use Rattle.bidi.proofs.DigitLemmas.{no_space}
@@ -25,25 +24,31 @@ numbered c d text other a b e =
     let h = one_front 32 (decimal c) text (decimal d) other (no_space c (omega arith)) (no_space d (omega arith)) e in
     (decimal_injective c d (omega arith) (omega arith) h.0, h.1)
 
+-- a context and a text behind it are determined
+named : (context id url other : List ℕ) → IsContext context → IsContext id → context ++ 32 ∷ url ≡ id ++ 32 ∷ other → (context ≡ id) × (url ≡ other)
+named context id url other a b e = one_front 32 context url id other a.1 b.1 e
+
 -- a line says one step
-pub one_step : (s t : Step) → is_built_step s ≡ true → number_of s < 2 ^ 53 → number_of t < 2 ^ 53 → line_of s ≡ line_of t → s ≡ t
-one_step (At n) (At m) built a b e = ap At (decimal_injective n m (omega arith) (omega arith) (ap (drop 3) e))
-one_step (Drop c) (Drop d) built a b e = ap Drop (decimal_injective c d (omega arith) (omega arith) (ap (drop 5) e))
-one_step (NotText c) (NotText d) built a b e = ap NotText (decimal_injective c d (omega arith) (omega arith) (ap (drop 7) e))
-one_step (Open c resource) (Open d other) built a b e = let h = numbered c d resource other a b (ap (drop 5) e) in let i = h.0 in let j = h.1 in cc
-one_step (Text c text) (Text d other) built a b e = let h = numbered c d text other a b (ap (drop 2) e) in let i = h.0 in let j = h.1 in cc
-one_step (Frame context url) t built a b e = cc
-one_step (Unframe context) t built a b e = cc
-one_step (Log context level text) t built a b e = cc
-one_step (TableRow text) t built a b e = cc
-one_step s t built a b e = absurd (apart (first (line_of s)) (first (line_of t)) (ap first e) refl)
+pub one_step : (s t : Step) → IsSayable s → IsSayable t → line_of s ≡ line_of t → s ≡ t
+one_step (At n) (At m) a b e = let below = a.number in let less = b.number in ap At (decimal_injective n m (omega arith) (omega arith) (ap (drop 3) e))
+one_step (Drop c) (Drop d) a b e = let below = a.number in let less = b.number in ap Drop (decimal_injective c d (omega arith) (omega arith) (ap (drop 5) e))
+one_step (NotText c) (NotText d) a b e = let below = a.number in let less = b.number in ap NotText (decimal_injective c d (omega arith) (omega arith) (ap (drop 7) e))
+one_step (Open c resource) (Open d other) a b e = let h = numbered c d resource other a.number b.number (ap (drop 5) e) in let i = h.0 in let j = h.1 in cc
+one_step (Text c text) (Text d other) a b e = let h = numbered c d text other a.number b.number (ap (drop 2) e) in let i = h.0 in let j = h.1 in cc
+one_step (Frame context url) (Frame id other) a b e = let h = named context id url other a.context b.context (ap (drop 6) e) in ap₂ Frame h.0 h.1
+one_step (Unframe context) (Unframe id) a b e = ap Unframe (ap (drop 8) e)
+one_step (Log context level text) t a b e = let built = a.built in cc
+one_step (TableRow text) t a b e = let built = a.built in cc
+one_step s (Log context level text) a b e = let built = b.built in cc
+one_step s (TableRow text) a b e = let built = b.built in cc
+one_step s t a b e = absurd (apart (first (line_of s)) (first (line_of t)) (ap first e) refl)
 
 -- the first line, and what is behind it
 first_line : (s t : Step) (more other : List ℕ) → CanBeSaid s → CanBeSaid t → ended (line_of s) ++ more ≡ ended (line_of t) ++ other → (s ≡ t) × (more ≡ other)
 first_line s t more other a b e =
     let h = one_front 10 (line_of s) more (line_of t) other a.one_line b.one_line
     (sym (append_assoc (line_of s) (10 ∷ []) more) ∙ (e ∙ append_assoc (line_of t) (10 ∷ []) other)) in
-    (one_step s t a.built a.number b.number h.0, h.1)
+    (one_step s t a.parts b.parts h.0, h.1)
 
 -- some lines at the front of the bytes say the first of the steps that all lines at their front say
 pub front_steps : (steps all : List Step) (rest end : List ℕ) → AllByRecursion CanBeSaid steps → AllByRecursion CanBeSaid all

@@ -1,12 +1,12 @@
--- The first word of a step's line, and the context that it names.
+-- The first word of a step's line.
 use Rattle.std.proofs.Common.{◌≡◌, ℕ, true, false, List, ◌∷◌, ◌++◌, refl}
-use Rattle.std.specs.Prelude.{◌==◌, IfSome, decimal, codes}
+use Rattle.std.specs.Prelude.{◌==◌, decimal, codes}
 use Rattle.std.specs.List.{list_any}
 use Rattle.bidi_values.specs.Level.{level_text}
 use Rattle.bidi_remote.specs.Machine.Step.{Step}
 use Rattle.bidi_remote.specs.Machine.Step as step
 use Rattle.bidi_remote.specs.Machine.Built.{is_built_step}
-use Rattle.bidi.specs.Lines.{line_of, context_in, IsContext}
+use Rattle.bidi.specs.Lines.{line_of}
 
 -- what a search for the first space answers
 abbrev pub Splits : List ℕ → (List ℕ → List ℕ → Type 0) → Type 0
@@ -24,22 +24,15 @@ has_space line h (step.Unframe context) e = h (codes "unframe") context e refl
 has_space line h (step.Log context level text) e = h (codes "log") (context ++ 32 ∷ level_text level ++ 32 ∷ text) e refl
 has_space line h (step.TableRow text) e = h (codes "value") text e refl
 
--- and that of a step that is built begins with one of five words
+-- and that of a step that is built begins with one of seven words
 pub known_word : (line word rest : List ℕ) → Splits line (λ xs ys. (word ≡ xs) × (rest ≡ ys))
-    → (word ≡ codes "at" → ⊥) → (word ≡ codes "drop" → ⊥) → (word ≡ codes "binary" → ⊥) → (word ≡ codes "open" → ⊥) → (word ≡ codes ">" → ⊥)
+    → (word ≡ codes "at" → ⊥) → (word ≡ codes "drop" → ⊥) → (word ≡ codes "binary" → ⊥) → (word ≡ codes "open" → ⊥) → (word ≡ codes ">" → ⊥) → (word ≡ codes "frame" → ⊥) → (word ≡ codes "unframe" → ⊥)
     → (s : Step) → is_built_step s ≡ true → line ≡ line_of s → ⊥
-known_word line word rest h a d b o t (step.At n) built e = a (h (codes "at") (decimal n) e refl).0
-known_word line word rest h a d b o t (step.Open c r) built e = o (h (codes "open") (decimal c ++ 32 ∷ r) e refl).0
-known_word line word rest h a d b o t (step.Drop c) built e = d (h (codes "drop") (decimal c) e refl).0
-known_word line word rest h a d b o t (step.Text c x) built e = t (h (codes ">") (decimal c ++ 32 ∷ x) e refl).0
-known_word line word rest h a d b o t (step.NotText c) built e = b (h (codes "binary") (decimal c) e refl).0
-known_word line word rest h a d b o t s built e = cc
-
--- a step that is built names no context
-pub names_no_context : (s : Step) → is_built_step s ≡ true → IfSome (context_in s) IsContext
-names_no_context (step.At n) built = tt
-names_no_context (step.Open c r) built = tt
-names_no_context (step.Drop c) built = tt
-names_no_context (step.Text c t) built = tt
-names_no_context (step.NotText c) built = tt
-names_no_context s built = cc
+known_word line word rest h a d b o t f u (step.At n) built e = a (h (codes "at") (decimal n) e refl).0
+known_word line word rest h a d b o t f u (step.Open c r) built e = o (h (codes "open") (decimal c ++ 32 ∷ r) e refl).0
+known_word line word rest h a d b o t f u (step.Drop c) built e = d (h (codes "drop") (decimal c) e refl).0
+known_word line word rest h a d b o t f u (step.Text c x) built e = t (h (codes ">") (decimal c ++ 32 ∷ x) e refl).0
+known_word line word rest h a d b o t f u (step.NotText c) built e = b (h (codes "binary") (decimal c) e refl).0
+known_word line word rest h a d b o t f u (step.Frame context url) built e = f (h (codes "frame") (context ++ 32 ∷ url) e refl).0
+known_word line word rest h a d b o t f u (step.Unframe context) built e = u (h (codes "unframe") context e refl).0
+known_word line word rest h a d b o t f u s built e = cc

@@ -46,12 +46,15 @@ IsContext context = (context ≢ []) × (list_any (λ b. b == 32) context ≡ fa
 abbrev pub has_feed : List ℕ → Bool
 has_feed bytes = list_any (λ b. b == 10) bytes
 
--- A step that a play can say: its number is a js-uint, its context has no space and is not empty, and its line is one line
--- of UTF-8 with at most 2,097,152 bytes. It is one that is built: the lines of a page are no play lines yet.
-pub record CanBeSaid (s : Step) : Type 0 where
+-- the parts of a step fit a line: its number is a js-uint, and its context has no space and is not empty. It is one that is built: the lines of the log and of the table are no play lines yet.
+pub record IsSayable (s : Step) : Type 0 where
   pub built : is_built_step s ≡ true
   pub number : number_of s < 2 ^ 53
   pub context : IfSome (context_in s) IsContext
+
+-- A step that a play can say: its parts fit a line, which is one line of UTF-8 with at most 2,097,152 bytes.
+pub record CanBeSaid (s : Step) : Type 0 where
+  pub parts : IsSayable s
   pub utf8 : IsUtf8 (line_of s)
   pub one_line : has_feed (line_of s) ≡ false
   pub short : length (line_of s) ≤ 2097152

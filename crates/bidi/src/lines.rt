@@ -3,8 +3,7 @@ ghost use Rattle.std.specs.Prelude.{◌≡◌, ℕ, ◌<◌, ◌≤◌, ◌^◌,
 ghost use Rattle.std.specs.List.{list_any};
 ghost use Rattle.bidi_remote.specs.Machine.Step as play;
 ghost use Rattle.bidi_remote.specs.Tables.View.{step_of, sent_of};
-ghost use Rattle.bidi_remote.specs.Machine.Built.{is_built_step};
-ghost use Rattle.bidi.specs.Lines.{line_of, number_of, has_feed, CanBeSaid, ended, sent_line, written};
+ghost use Rattle.bidi.specs.Lines.{line_of, has_feed, IsContext, IsSayable, CanBeSaid, ended, sent_line, written};
 
 use bidi_remote::{Sent, Step};
 use bidi_tree::JsUint;
@@ -33,7 +32,6 @@ pub(crate) fn feed_at(bytes: &[u8]) -> Option<usize>
 ///
 /// # Errors
 /// No memory, where a growth was refused.
-#[tactic(auto, using(crate::proofs::WordLemmas::names_no_context))]
 pub fn read_step(alloc: Global, line: &[u8]) -> Result<Option<Step>, AllocError>
     requires { has_feed line.now ≡ false }
     ensures some { IfOk result (λ found. IfSome found (λ step. CanBeSaid (step_of step) × (line.now ≡ line_of (step_of step)))) }
@@ -50,8 +48,8 @@ pub fn read_step(alloc: Global, line: &[u8]) -> Result<Option<Step>, AllocError>
 
 // The step whose words stand in a line.
 fn read_words(alloc: Global, line: &str) -> Result<Option<Step>, AllocError>
-    ensures some { IfOk result (λ found. IfSome found (λ step. (is_built_step (step_of step) ≡ true) × (number_of (step_of step) < 2 ^ 53) × (line.now ≡ line_of (step_of step)))) }
-    ensures none { IfOk result (λ found. IfNone found ((s : play.Step) → is_built_step s ≡ true → number_of s < 2 ^ 53 → line.now ≡ line_of s → ⊥)) }
+    ensures some { IfOk result (λ found. IfSome found (λ step. IsSayable (step_of step) × (line.now ≡ line_of (step_of step)))) }
+    ensures none { IfOk result (λ found. IfNone found ((s : play.Step) → IsSayable s → line.now ≡ line_of s → ⊥)) }
 {
     let Some((word, rest)) = parts(line) else {
         return Ok(None);
@@ -81,6 +79,16 @@ fn read_words(alloc: Global, line: &str) -> Result<Option<Step>, AllocError>
             None => Ok(None),
             Some((conn, text)) => Ok(Some(Step::Text(conn, text))),
         }
+    } else if is_text(word, "frame") {
+        match read_context_and_text(alloc, rest)? {
+            None => Ok(None),
+            Some((context, url)) => Ok(Some(Step::Frame(context, url))),
+        }
+    } else if is_text(word, "unframe") {
+        match read_context(alloc, rest)? {
+            None => Ok(None),
+            Some(context) => Ok(Some(Step::Unframe(context))),
+        }
     } else {
         Ok(None)
     }
@@ -98,6 +106,37 @@ fn read_number_and_text(alloc: Global, rest: &str) -> Result<Option<(JsUint, Str
         None => Ok(None),
         Some(n) => Ok(Some((n, String::from_str(alloc, text)?))),
     }
+}
+
+// The context, and the text behind the first space.
+fn read_context_and_text(alloc: Global, rest: &str) -> Result<Option<(String, String)>, AllocError>
+    ensures some { IfOk result (λ found. IfSome found (λ x. IsContext (string_bytes x.0) × (rest.now ≡ string_bytes x.0 ++ 32 ∷ string_bytes x.1))) }
+    ensures none { IfOk result (λ found. IfNone found ((context text : List ℕ) → IsContext context → rest.now ≡ context ++ 32 ∷ text → ⊥)) }
+{
+    let Some((context, text)) = parts(rest) else {
+        return Ok(None);
+    };
+    match read_context(alloc, context)? {
+        None => Ok(None),
+        Some(context) => Ok(Some((context, String::from_str(alloc, text)?))),
+    }
+}
+
+// The context that the text is.
+fn read_context(alloc: Global, text: &str) -> Result<Option<String>, AllocError>
+    ensures some { IfOk result (λ found. IfSome found (λ context. IsContext (string_bytes context) × (text.now ≡ string_bytes context))) }
+    ensures none { IfOk result (λ found. IfNone found (IsContext text.now → ⊥)) }
+{
+    if is_text(text, "") || has_space(text) {
+        return Ok(None);
+    }
+    Ok(Some(String::from_str(alloc, text)?))
+}
+
+fn has_space(text: &str) -> bool
+    ensures { result ≡ list_any (λ b. b == 32) text.now }
+{
+    text.as_bytes().iter().any(|b| *b == b' ')
 }
 
 // The js-uint whose decimal form the text is.
@@ -157,6 +196,7 @@ fn line_of_sent(alloc: Global, sent: Sent) -> Result<String, AllocError>
         Sent::Opened(conn) => format!(in alloc; "opened {}\n", conn.value),
         Sent::Denied(conn) => format!(in alloc; "denied {}\n", conn.value),
         Sent::Lost(conn) => format!(in alloc; "lost {}\n", conn.value),
+        Sent::NoEffect => String::from_str(alloc, "no effect\n"),
     }
 }
 

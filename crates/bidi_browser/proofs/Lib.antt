@@ -3,8 +3,13 @@ pub mod Spelling
 pub mod IdFacts
 pub mod UrlFacts
 pub mod ArgumentFacts
-pub mod TreeLemmas
-pub mod RowLemmas
 pub mod PushLemmas
-pub mod ToldLemmas
+pub mod InfoLemmas
+pub mod TellingLemmas
 pub mod AcceptedLemmas
+pub mod BirthLemmas
+pub mod RemovalLemmas
+pub mod TableLemmas
+pub mod PlanLemmas
+pub mod WalkLemmas
+pub mod RowLemmas

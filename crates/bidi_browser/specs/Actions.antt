@@ -1,6 +1,6 @@
 -- What the browser is asked: its commands, and the steps of a play that it takes. After WebDriver BiDi, "The browsingContext Module" and "The script Module".
 use Prim.Native.String.{String}
-use Rattle.std.specs.Prelude.{ℕ, ℤ, Bool, List, [], ◌∷◌, codes, bytes_eq, Option, unwrap_or, option_map, is_some, is_none, ◌&&◌, ◌||◌, if◌then◌else◌}
+use Rattle.std.specs.Prelude.{ℕ, ℤ, Bool, true, false, List, [], ◌∷◌, codes, bytes_eq, Option, unwrap_or, option_map, is_some, is_none, ◌&&◌, ◌||◌, if◌then◌else◌}
 use Rattle.bidi_tree.specs.Node.{Node, null}
 use Rattle.bidi_values.specs.declared.log_entry.Level.{Level}
 use Rattle.bidi_browser.specs.Params.{tree_if_at, text_if_at, number_if_at, trees_if_at, text_at, texts_at, whole_at, entry_at}
@@ -41,6 +41,14 @@ pub data Action : Type 0 where
   Log : (context : List ℕ) (level : Level) (text : List ℕ) → Action
   -- a row of the table, where its text is one
   TableRow : (row : Option Node) → Action
+
+-- somebody asked for it, and gets a reply: a command, and no step of a play
+abbrev pub is_asked : Action → Bool
+is_asked (Frame id url) = false
+is_asked (Unframe id) = false
+is_asked (Log id level text) = false
+is_asked (TableRow row) = false
+is_asked action = true
 
 -- ---- an action, read from the params of its command
 

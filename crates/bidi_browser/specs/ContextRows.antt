@@ -1,55 +1,114 @@
--- The table of live contexts: of each its number, its window, its realm and its URL, in order of birth; and what is told of a row. So far each row is of a top-level context.
-use Rattle.std.specs.Prelude.{ℕ, List, map}
+-- The table of live contexts: of each its row, in order of birth; how rows lie below one another, and what is told of them.
+use Rattle.std.specs.Prelude.{ℕ, zero, suc, nat_eq, List, [], ◌∷◌, filter, flat_map, map, Option, Some, None}
+use Rattle.std.specs.Option.{option_eq}
 use Rattle.url.specs.Parts.{Parts}
-use Rattle.bidi_tree.specs.Node.{Node, null, text, no_members}
-use Rattle.bidi_messages.specs.declared.event.EventName.TheVariants.{ContextCreated, RealmCreated}
+use Rattle.bidi_tree.specs.Node.{Node, null, text, Members, no_members}
+use Rattle.bidi_messages.specs.declared.event.EventName.{EventName}
+use Rattle.bidi_messages.specs.declared.event.EventName.TheVariants.{ContextCreated, ContextDestroyed, RealmCreated, RealmDestroyed}
 use Rattle.bidi_browser.specs.declared.id.Kind.TheVariants as kind
 use Rattle.bidi_browser.specs.declared.contexts.Context.{Context}
 use Rattle.bidi_browser.specs.Urls.{url_text, origin_text}
 use Rattle.bidi_browser.specs.Acts.{Act}
-use Rattle.bidi_browser.specs.Contexts.{contexts, window_of}
+use Rattle.bidi_browser.specs.Contexts.{contexts, parent_of, top_of, level_of, window_of}
 use Rattle.bidi_browser.specs.Places.{url_of}
 use Rattle.bidi_browser.specs.Realms.{realm_of}
 use Rattle.bidi_browser.specs.Maps.{◌being◌and◌, mapped, word, id_tree}
+use Rattle.bidi_browser.specs.Info.{parent_tree, children_tree, depth_below}
 use Rattle.bidi_browser.specs.Occurrences.{Occurrence}
 
--- a context, its window, its realm and its URL
-abbrev pub Row : Type 0
-Row = ℕ × ℕ × ℕ × Parts
+-- a live context: its number, its parent if it is a child, its top-level context, its level, its window, its realm and its URL
+pub record Row : Type 0 where
+  pub number : ℕ
+  pub parent : Option ℕ
+  pub top : ℕ
+  pub level : ℕ
+  pub window : ℕ
+  pub realm : ℕ
+  pub url : Parts
 
 -- the row of a context in hand
 abbrev pub row_of : Context → Row
-row_of c = (c.number, c.window, c.realm, c.url)
+row_of c = record { number = c.number; parent = c.parent; top = c.top; level = c.level; window = c.window; realm = c.realm; url = c.url }
 
--- the rows that a past makes
+-- the row that a past makes of a context
+abbrev pub row_at : List Act → ℕ → Row
+row_at past c = record { number = c; parent = parent_of past c; top = top_of past c; level = level_of past c; window = window_of past c; realm = realm_of past c; url = url_of past c }
+
+-- the rows of the live contexts, by creation
 abbrev pub rows : List Act → List Row
-rows past = map (λ c. (c, window_of past c, realm_of past c, url_of past c)) (contexts past)
+rows past = map (row_at past) (contexts past)
+
+-- ---- how they lie below one another
+
+-- the children of a context; of none, the top-level contexts
+abbrev pub children_in : List Row → Option ℕ → List Row
+children_in rows parent = filter (λ r. option_eq nat_eq r.parent parent) rows
+
+-- all that stands below it in tree order, as far as n levels
+abbrev pub below : ℕ → List Row → Option ℕ → List Row
+below zero rows parent = []
+below (suc n) rows parent = flat_map (λ r. r ∷ below n rows (Some r.number)) (children_in rows parent)
 
 -- ---- what is told of a row
 
--- the Info of its context, without children
-abbrev pub info_in : Row → Node
-info_in row = mapped (
-    "parent" being null and
-    "children" being null and
-    "clientWindow" being id_tree kind.Window row.1 and
-    "context" being id_tree kind.Context row.0 and
+-- the members of its Info, without the parent
+abbrev pub members_in : Row → Node → Members
+members_in row children =
+    "children" being children and
+    "clientWindow" being id_tree kind.Window row.window and
+    "context" being id_tree kind.Context row.number and
     "originalOpener" being null and
-    "url" being text (url_text row.3) and
-    "userContext" being word "default" and no_members)
+    "url" being text (url_text row.url) and
+    "userContext" being word "default" and no_members
+
+-- its Info, with its parent where it is to be shown
+abbrev pub shown_info : Option Node → Row → Node → Node
+shown_info None row children = mapped (members_in row children)
+shown_info (Some parent) row children = mapped ("parent" being parent and members_in row children)
+
+-- its Info where it stands in the list of its parent's, and at the root
+abbrev pub inner_info : Row → Node → Node
+inner_info row children = shown_info None row children
+
+abbrev pub root_info : Row → Node → Node
+root_info row children = shown_info (Some (parent_tree row.parent)) row children
+
+-- the Infos of a context's children, as far as n levels
+abbrev pub infos_below : ℕ → List Row → Option ℕ → ℕ → List Node
+infos_below zero rows depth parent = []
+infos_below (suc n) rows depth parent =
+    map (λ r. inner_info r (children_tree depth (infos_below n rows (depth_below depth) r.number))) (children_in rows (Some parent))
+
+-- the whole Info of a row, with its parent; no context stands below level 16
+abbrev pub info_in : List Row → Option ℕ → Row → Node
+info_in rows depth row = root_info row (children_tree depth (infos_below 16 rows (depth_below depth) row.number))
 
 -- what is told of its realm
 abbrev pub realm_info_in : Row → Node
 realm_info_in row = mapped (
-    "realm" being id_tree kind.Realm row.2 and
-    "origin" being text (origin_text row.3) and
+    "realm" being id_tree kind.Realm row.realm and
+    "origin" being text (origin_text row.url) and
     "type" being word "window" and
-    "context" being id_tree kind.Context row.0 and no_members)
+    "context" being id_tree kind.Context row.number and no_members)
+
+-- ---- its events
+
+-- an event of it
+abbrev pub occurrence_in : Row → EventName → Node → Occurrence
+occurrence_in row event params = record { event = event; context = row.number; top = row.top; params = params }
 
 -- its context came
 abbrev pub created_in : Row → Occurrence
-created_in row = record { event = ContextCreated; context = row.0; top = row.0; params = info_in row }
+created_in row = occurrence_in row ContextCreated (root_info row null)
+
+-- its context goes, with all these rows below it
+abbrev pub destroyed_in : List Row → Row → Occurrence
+destroyed_in rows row = occurrence_in row ContextDestroyed (info_in rows None row)
 
 -- its realm came
 abbrev pub realm_created_in : Row → Occurrence
-realm_created_in row = record { event = RealmCreated; context = row.0; top = row.0; params = realm_info_in row }
+realm_created_in row = occurrence_in row RealmCreated (realm_info_in row)
+
+-- its realm goes
+abbrev pub realm_destroyed_in : Row → Occurrence
+realm_destroyed_in row = occurrence_in row RealmDestroyed (mapped ("realm" being id_tree kind.Realm row.realm and no_members))

@@ -1,7 +1,8 @@
 -- Which contexts there are, and how they lie below one another: questions about the browser's past. After WebDriver BiDi, "The browsingContext Module".
-use Rattle.std.specs.Prelude.{ℕ, zero, suc, ◌==◌, nat_eq, nat_lt, Bool, false, not, ◌&&◌, ◌||◌, if◌then◌else◌, List, [], ◌∷◌, ◌++◌, filter, flat_map, Option, Some, None, is_none, unwrap_or}
+use Rattle.std.specs.Prelude.{ℕ, zero, suc, ◌==◌, nat_eq, nat_lt, Bool, false, not, ◌&&◌, ◌||◌, if◌then◌else◌, List, [], ◌∷◌, ◌++◌, filter, flat_map, find, bytes_eq, Option, Some, None, is_none, unwrap_or}
 use Rattle.std.specs.Option.{option_eq}
 use Rattle.bidi_browser.specs.declared.id.Kind.TheVariants.{Context, Window}
+use Rattle.bidi_browser.specs.Ids.{id_of}
 use Rattle.bidi_browser.specs.Acts.{Act, Made, Framed, Removed, Moved, given, next_number}
 
 -- the context of which c is a child
@@ -58,6 +59,10 @@ up_to (suc n) = up_to n ++ suc n ∷ []
 -- the live contexts, by creation
 abbrev pub contexts : List Act → List ℕ
 contexts past = filter (is_alive past) (up_to (given past Context))
+
+-- the live context of an id, in just its letters
+abbrev pub context_of : List Act → List ℕ → Option ℕ
+context_of past id = find (λ c. bytes_eq id (id_of Context c)) (contexts past)
 
 -- the live top-level contexts, by creation
 abbrev pub tops : List Act → List ℕ

@@ -16,4 +16,8 @@ pub mod Accepted
 pub mod Occurs
 pub mod View
 pub mod ContextRows
+pub mod InfosInHand
+pub mod Found
+pub mod Asked
+pub mod Plans
 pub mod Stands

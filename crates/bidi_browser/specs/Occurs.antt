@@ -1,12 +1,11 @@
 -- What an act brings about, in order: events, and the reply's result in its place among them. The past is that before the act.
-use Rattle.std.specs.Prelude.{ℕ, Bool, true, false, List, [], ◌∷◌, ◌++◌, map, filter, flat_map, codes, bytes_eq, Option, Some, None, unwrap_or}
+use Rattle.std.specs.Prelude.{ℕ, Bool, true, false, List, [], ◌∷◌, ◌++◌, map, flat_map, codes, bytes_eq, Option, Some, None, option_to_list, unwrap_or}
 use Rattle.url.specs.Parts.{Parts}
 use Rattle.bidi_tree.specs.Node.{Node, text, no_members}
 use Rattle.bidi_browser.specs.declared.id.Kind.TheVariants.{Context, Realm, Navigation, Handle}
-use Rattle.bidi_browser.specs.Ids.{id_of}
 use Rattle.bidi_browser.specs.Urls.{url_text}
 use Rattle.bidi_browser.specs.Acts.{Act, Made, Framed, Removed, Moved, Logged, Tabled, Ran, Disowned, Looked, Move, Across, Ending, Returned, Threw, next_number}
-use Rattle.bidi_browser.specs.Contexts.{contexts, tops, children_of, tree_order}
+use Rattle.bidi_browser.specs.Contexts.{context_of, tops, children_of, tree_order}
 use Rattle.bidi_browser.specs.Places.{entries_of, moved, present}
 use Rattle.bidi_browser.specs.Actions.{Wait, Started, Interactive, Complete, Action, Unframe, Navigate, Reload, GetTree, GetRealms}
 use Rattle.bidi_browser.specs.Values.{with_member}
@@ -105,7 +104,7 @@ script_result past r (Threw value) held = mapped (
 
 -- the live context of an id, as a list
 abbrev pub only : List Act → List ℕ → List ℕ
-only past id = filter (λ c. bytes_eq id (id_of Context c)) (contexts past)
+only past id = option_to_list (context_of past id)
 
 -- the contexts that getTree shows: the root, or else all top-level ones
 abbrev pub roots : List Act → Option (List ℕ) → List ℕ

@@ -3,12 +3,12 @@ use Rattle.std.specs.Prelude.{ℕ, nat_lt, ℤ, Bool, true, not, ◌&&◌, ◌||
 use Rattle.bidi_tree.specs.Node.{Node, levels, no_members}
 use Rattle.bidi_messages.specs.declared.error_code.ErrorCode.{ErrorCode}
 use Rattle.bidi_messages.specs.declared.error_code.ErrorCode.TheVariants.{InvalidArgument, NoSuchFrame, NoSuchHistoryEntry, NoSuchUserContext, UnknownError, UnsupportedOperation}
-use Rattle.bidi_browser.specs.declared.id.Kind.TheVariants.{Context, Realm}
+use Rattle.bidi_browser.specs.declared.id.Kind.TheVariants.{Realm}
 use Rattle.bidi_browser.specs.Ids.{id_of}
 use Rattle.bidi_browser.specs.Urls.{parsed}
 use Rattle.bidi_values.specs.declared.log_entry.Level.{Level}
 use Rattle.bidi_browser.specs.Acts.{Act, Made, Framed, Removed, Moved, Logged, Tabled, Ran, Disowned, Looked, To, Again, Across, Ending, Returned, Threw, Row, EndsIn, GivesBack}
-use Rattle.bidi_browser.specs.Contexts.{parent_of, level_of, window_of, contexts, tops}
+use Rattle.bidi_browser.specs.Contexts.{parent_of, level_of, window_of, contexts, context_of, tops}
 use Rattle.bidi_browser.specs.Places.{entries_of, place_across}
 use Rattle.bidi_browser.specs.Realms.{realm_of, realms, value_of, handles_of, held_value, row_of, tabled_texts}
 use Rattle.bidi_browser.specs.Params.{text_at, tree_if_at, number_if_at}
@@ -21,7 +21,7 @@ use Rattle.bidi_browser.specs.Maps.{◌being◌and◌, mapped, word}
 
 -- the live context of an id
 abbrev pub context_named : List Act → List ℕ → Result ℕ ErrorCode
-context_named past id = found (find (λ c. bytes_eq id (id_of Context c)) (contexts past)) NoSuchFrame
+context_named past id = found (context_of past id) NoSuchFrame
 
 -- the live top-level context of an id
 abbrev pub top_named : List Act → List ℕ → Result ℕ ErrorCode

@@ -1,31 +1,50 @@
 //! The browser.
-ghost use Rattle.std.specs.Prelude.{◌≡◌, List, [], IfOk, map, find, bytes_eq, option_map};
+ghost use Rattle.std.specs.Prelude.{◌≡◌, ℕ, ◌<◌, ◌^◌, nat_lt, length, List, [], ◌∷◌, Ok, IfOk, IsTrue, OnOk, map, option_map};
 ghost use Rattle.std.specs.List.{AllByRecursion};
-ghost use Rattle.bidi_browser.specs.Ids.{id_of};
+ghost use Rattle.bidi_browser.specs.Accepted.{AreAccepted};
 ghost use Rattle.bidi_browser.specs.Acts.{Act};
-ghost use Rattle.bidi_browser.specs.Contexts.{contexts, is_alive, top_of};
+ghost use Rattle.bidi_browser.specs.Actions as asked;
+ghost use Rattle.bidi_browser.specs.Asked.{action_of};
+ghost use Rattle.bidi_browser.specs.Contexts.{context_of, is_alive, top_of};
 ghost use Rattle.bidi_browser.specs.Occurrences.{tree_events};
+ghost use Rattle.bidi_browser.specs.Outcome.{has_room, outcome};
 ghost use Rattle.bidi_browser.specs.View.{occurrence_of};
 
-use crate::context_table::{has_number, number_of, push_created, push_realms};
-use crate::contexts::Context;
-use crate::id::Kind;
+use crate::action::Action;
+use crate::births::{plan_create, plan_frame};
+use crate::context_table::Contexts;
+use crate::looking::{plan_activate, plan_get_tree};
 use crate::occurrence::Occurrence;
+use crate::plan::{Change, Edit, Plan};
+use crate::refusal::Refusal;
+use crate::removals::{plan_close, plan_unframe};
+use crate::telling::{push_created, push_realms};
 use bidi_messages::{EventData, EventName, Subject};
 use std::alloc::{AllocError, Global};
 
+/// How many contexts may live.
+const MOST_CONTEXTS: usize = 1024;
+
+/// The numbers that ids can show lie below it.
+const NO_ID: u64 = 1 << 48;
+
 /// A browser held in memory: its live contexts, each with its window, its realm and its URL.
 ///
-/// So far it stays as it starts: no command and no step of a play changes it yet.
+/// What it is asked it first plans, and changes nothing; then a plan's change is given room, and put in place without
+/// a further growth. So whoever tells of a plan can do so between the two, and give up while all is as it was.
 #[derive(Drop)]
 pub struct Browser {
-    alloc: Global,
-    /// The live contexts, in order of birth; so far top-level ones alone.
-    contexts: Vec<Context>,
+    pub(crate) alloc: Global,
+    pub(crate) contexts: Contexts,
+    /// The numbers that the next context, realm and window get.
+    pub(crate) next_context: u64,
+    pub(crate) next_realm: u64,
+    pub(crate) next_window: u64,
 }
 
 impl Browser {
     ghost use Rattle.bidi_browser.specs.Stands.{StandsFor};
+    ghost use Rattle.bidi_browser.specs.Plans.{HasIds, HasRoom, Plans, IsWellPlanned, Makes};
 
     /// A browser as it starts: one context at `about:blank`, in a window of its own.
     ///
@@ -34,10 +53,77 @@ impl Browser {
     pub fn new(alloc: Global) -> Result<Browser, AllocError>
         ensures { IfOk result (λ b. StandsFor b []) }
     {
-        let first = Context::first(alloc)?;
-        let mut contexts = Vec::new(alloc);
-        contexts.push(first)?;
-        Ok(Browser { alloc, contexts })
+        Ok(Browser {
+            alloc,
+            contexts: Contexts::new(alloc)?,
+            next_context: 2,
+            next_realm: 2,
+            next_window: 2,
+        })
+    }
+
+    /// What an action comes to at a moment. Nothing is changed.
+    ///
+    /// Looks through the live contexts. An Info looks through them once for each context in it; a removal makes an event
+    /// for each context that goes.
+    ///
+    /// # Errors
+    /// - `Code`: the first check that fails, in the order of each command; of a step of a page, which then has no
+    ///   effect, it says no more than that.
+    /// - `NoMemory`: a growth was refused.
+    ///
+    /// After WebDriver BiDi, "The browsingContext Module".
+    pub fn plan(&self, action: Action, moment: u64) -> Result<Plan, Refusal>
+        // Whatever past the browser stands for, short of 2^48 ids of a kind, the plan is that of the definitions.
+        ensures plans { (past : List Act) → StandsFor self.now past → HasIds past → Plans result past moment (action_of action.entry) }
+        ensures well { IsWellPlanned result }
+    {
+        match action {
+            Action::Activate(params) => plan_activate(self, &params.context),
+            Action::Close(params) => plan_close(self, &params.context),
+            Action::Create(params) => plan_create(self, params),
+            Action::GetTree(params) => plan_get_tree(self, params),
+            Action::Frame(context, url) => plan_frame(self, context, url),
+            Action::Unframe(context) => plan_unframe(self, context),
+        }
+    }
+
+    /// Makes room for what a change puts in. What the browser stands for stays, whatever comes of it.
+    ///
+    /// # Errors
+    /// No memory, where a growth was refused.
+    pub fn reserve(&mut self, change: &Change) -> Result<(), AllocError>
+        ensures kept { (past : List Act) → StandsFor self.old past → StandsFor self.new past }
+        ensures room { OnOk result (HasRoom self.new change.now) }
+    {
+        match &change.edit {
+            Edit::Add { .. } => self.contexts.reserve(),
+            _ => Ok(()),
+        }
+    }
+
+    /// Puts a change in place, for which room was made. Takes no memory.
+    pub fn apply(&mut self, change: Change)
+        requires { HasRoom self.now change }
+        // Whatever past it was planned in, the browser stands for that past with the act.
+        ensures { (past : List Act) (action : asked.Action) (act : Act) → StandsFor self.old past → HasIds past
+            → outcome past action ≡ Ok act → Makes change past act → StandsFor self.new (act ∷ past) }
+    {
+        match change.edit {
+            Edit::Keep => {}
+            Edit::Add {
+                context,
+                opens_window,
+            } => {
+                self.next_context = self.next_context.wrapping_add(1);
+                self.next_realm = self.next_realm.wrapping_add(1);
+                if opens_window {
+                    self.next_window = self.next_window.wrapping_add(1);
+                }
+                self.contexts.add(context);
+            }
+            Edit::Remove(numbers) => self.contexts.remove(&numbers),
+        }
     }
 
     /// The number of the top-level context of a live context, by its id, in just the letters of the id.
@@ -46,10 +132,9 @@ impl Browser {
     ///
     /// After WebDriver BiDi, "The browsingContext Module".
     pub fn top_of(&self, context: &str) -> Option<u64>
-        ensures { (past : List Act) → StandsFor self.now past
-            → result ≡ option_map (top_of past) (find (λ c. bytes_eq context.now (id_of Kind.Context c)) (contexts past)) }
+        ensures { (past : List Act) → StandsFor self.now past → result ≡ option_map (top_of past) (context_of past context.now) }
     {
-        number_of(&self.contexts, context)
+        self.contexts.named(context).map(|context| context.top)
     }
 
     /// Whether the context of that number is alive.
@@ -58,13 +143,13 @@ impl Browser {
     pub fn is_live(&self, context: u64) -> bool
         ensures { (past : List Act) → StandsFor self.now past → result ≡ is_alive past context }
     {
-        has_number(&self.contexts, context)
+        self.contexts.has(context)
     }
 
     /// What tells of all that stands: contextCreated of every live context, then realmCreated of every realm,
     /// both in tree order.
     ///
-    /// Makes two events for each live context.
+    /// Makes two events for each live context. Looks through all of them once, and once more for each.
     ///
     /// # Errors
     /// No memory, where a growth was refused.
@@ -75,9 +160,21 @@ impl Browser {
             → IfOk result (λ all. map (occurrence_of ⟦<EventData as Subject<EventName>>⟧.subject) all.items ≡ tree_events past) }
         ensures well { IfOk result (λ all. AllByRecursion (λ o. ⟦<EventData as Subject<EventName>>⟧.subject.well o.event) all.items) }
     {
+        let contexts = self.contexts.in_tree_order()?;
         let mut all = Vec::new(self.alloc);
-        push_created(self.alloc, &self.contexts, &mut all)?;
-        push_realms(self.alloc, &self.contexts, &mut all)?;
+        push_created(self.alloc, &contexts, &mut all)?;
+        push_realms(self.alloc, &contexts, &mut all)?;
         Ok(all)
+    }
+
+    // Whether one more context may live, and ids are left for it, its realm and its window.
+    pub(crate) fn has_room(&self) -> bool
+        ensures ids { IsTrue result → (self.now.next_context < 2 ^ 48) × (self.now.next_realm < 2 ^ 48) × (self.now.next_window < 2 ^ 48) }
+        ensures room { (past : List Act) → StandsFor self.now past → HasIds past → result ≡ has_room past }
+    {
+        self.contexts.len() < MOST_CONTEXTS
+            && self.next_context < NO_ID
+            && self.next_realm < NO_ID
+            && self.next_window < NO_ID
     }
 }

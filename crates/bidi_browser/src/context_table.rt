@@ -1,63 +1,264 @@
-//! The table of live contexts.
-ghost use Rattle.std.specs.Prelude.{◌≡◌, ◌==◌, ◌++◌, IfOk, map, find, bytes_eq, option_map};
-ghost use Rattle.std.specs.List.{AllByRecursion, list_any};
+//! The table of live contexts. What else the crate knows of how they are kept, it asks of this table.
+ghost use Rattle.std.specs.Prelude.{◌≡◌, ◌≤◌, ◌==◌, ◌*◌, ◌++◌, ℕ, List, ◌∷◌, [], true, nat_eq, None, IfOk, OnOk, map, find, filter, not, length, bytes_eq, is_none, option_map};
+ghost use Rattle.std.specs.List.{list_any};
+ghost use Rattle.std.specs.Option.{option_eq};
 ghost use Rattle.bidi_browser.specs.Ids.{id_of};
-ghost use Rattle.bidi_browser.specs.View.{occurrence_of};
-ghost use Rattle.bidi_browser.specs.ContextRows.{row_of, created_in, realm_created_in};
+ghost use Rattle.bidi_browser.specs.Acts.{Act, Removed, gives, next_number};
+ghost use Rattle.bidi_browser.specs.Contexts.{contexts, context_of, is_alive, parent_of, tops, subtree_of, tree_order};
+ghost use Rattle.bidi_browser.specs.Info.{info_of, depth_below, children_tree};
+ghost use Rattle.bidi_browser.specs.ContextRows.{row_of, row_at, children_in, below, infos_below, info_in};
+ghost use Rattle.bidi_browser.specs.InfosInHand.{AreWithin, AreWithinIfTold, IsWithin, children_node};
 
 use crate::contexts::Context;
 use crate::id::Kind;
-use crate::occurrence::Occurrence;
-use bidi_messages::{EventData, EventName, Subject};
+use bidi_params::Info;
+use bidi_shape::Shape;
 use std::alloc::{AllocError, Global};
 
-/// The number of the context of that id.
-pub(crate) fn number_of(contexts: &[Context], id: &str) -> Option<u64>
-    ensures { result ≡ option_map (λ c. c.number) (find (λ c. bytes_eq id.now (id_of Kind.Context c.number)) contexts.now) }
-{
-    contexts
-        .iter()
-        .find(|context| context.is_named(id))
-        .map(|context| context.number)
+/// How many levels of contexts stand below one another at most.
+const MOST_LEVELS: u64 = 16;
+
+/// The live contexts, in order of birth.
+#[derive(Drop)]
+pub(crate) struct Contexts {
+    alloc: Global,
+    live: Vec<Context>,
 }
 
-/// Whether a context has that number.
-pub(crate) fn has_number(contexts: &[Context], number: u64) -> bool
+impl Contexts {
+    ghost use Rattle.bidi_browser.specs.Stands.{IsTableOf};
+    ghost use Rattle.bidi_browser.specs.Accepted.{AreAccepted};
+    ghost use Rattle.bidi_browser.specs.Plans.{HasRoomForOne};
+
+    /// The one context that stands at the start.
+    pub(crate) fn new(alloc: Global) -> Result<Contexts, AllocError>
+        ensures { IfOk result (λ contexts. IsTableOf contexts []) }
+    {
+        let first = Context::top_level(alloc, 1, 1, 1)?;
+        let mut live = Vec::new(alloc);
+        live.push(first)?;
+        Ok(Contexts { alloc, live })
+    }
+
+    /// How many there are.
+    pub(crate) fn len(&self) -> usize
+        ensures { (past : List Act) → IsTableOf self.now past → result ≡ length (contexts past) }
+    {
+        self.live.len()
+    }
+
+    /// Whether the context of that number is alive. Looks through them.
+    pub(crate) fn has(&self, number: u64) -> bool
+        ensures { (past : List Act) → IsTableOf self.now past → result ≡ is_alive past number }
+    {
+        has_number(&self.live, number)
+    }
+
+    /// The context of that id. Looks through them.
+    pub(crate) fn named(&self, id: &str) -> Option<&Context>
+        ensures { (past : List Act) → IsTableOf self.now past → option_map (λ c. row_of c.now) result ≡ option_map (row_at past) (context_of past id.now) }
+    {
+        named(&self.live, id)
+    }
+
+    /// The oldest top-level context.
+    pub(crate) fn oldest(&self) -> Option<&Context>
+        ensures { (past : List Act) → IsTableOf self.now past → option_map (λ c. row_of c.now) result ≡ option_map (row_at past) (find (λ c. is_none (parent_of past c)) (contexts past)) }
+    {
+        oldest(&self.live)
+    }
+
+    /// A context and all below it, in tree order.
+    pub(crate) fn subtree<'a>(
+        &'a self,
+        context: &'a Context,
+    ) -> Result<Vec<&'a Context>, AllocError>
+        ensures { (past : List Act) (c : ℕ) → IsTableOf self.now past → row_of context.now ≡ row_at past c → IfOk result (λ all. map (λ c. row_of c.now) all.items ≡ map (row_at past) (subtree_of past c)) }
+    {
+        let mut all = Vec::new(self.alloc);
+        all.push(context)?;
+        push_below(&self.live, Some(context.number), MOST_LEVELS - 1, &mut all)?;
+        Ok(all)
+    }
+
+    /// All of them in tree order.
+    pub(crate) fn in_tree_order(&self) -> Result<Vec<&Context>, AllocError>
+        ensures { (past : List Act) → IsTableOf self.now past → IfOk result (λ all. map (λ c. row_of c.now) all.items ≡ map (row_at past) (tree_order past)) }
+    {
+        let mut all = Vec::new(self.alloc);
+        push_below(&self.live, None, MOST_LEVELS, &mut all)?;
+        Ok(all)
+    }
+
+    /// The whole Info of a context, as deep as is asked.
+    pub(crate) fn info(&self, context: &Context, depth: Option<u64>) -> Result<Info, AllocError>
+        ensures tree { (past : List Act) (c : ℕ) → IsTableOf self.now past → row_of context.now ≡ row_at past c → IfOk result (λ i. ⟦<Info as Shape>⟧.shape.tree_of i ≡ info_of past depth c) }
+        ensures well { IfOk result (IsWithin ⟦<Info as Shape>⟧.shape 34) }
+    {
+        whole_info(self.alloc, &self.live, context, depth)
+    }
+
+    /// The Info of each top-level context, as deep as is asked.
+    pub(crate) fn top_infos(&self, depth: Option<u64>) -> Result<Vec<Info>, AllocError>
+        ensures tree { (past : List Act) → IsTableOf self.now past → IfOk result (λ all. map ⟦<Info as Shape>⟧.shape.tree_of all.items ≡ map (info_of past depth) (tops past)) }
+        ensures well { IfOk result (λ all. AreWithin ⟦<Info as Shape>⟧.shape 34 all.items) }
+    {
+        top_infos(self.alloc, &self.live, depth)
+    }
+
+    /// Makes room for one more.
+    pub(crate) fn reserve(&mut self) -> Result<(), AllocError>
+        ensures kept { (past : List Act) → IsTableOf self.old past → IsTableOf self.new past }
+        ensures room { OnOk result (HasRoomForOne self.new) }
+    {
+        self.live.reserve(1)
+    }
+
+    /// Adds the context that an act made. Takes no memory.
+    pub(crate) fn add(&mut self, context: Context)
+        requires { HasRoomForOne self.now }
+        ensures { (past : List Act) (act : Act) → IsTableOf self.old past → AreAccepted (act ∷ past) → gives Kind.Context act ≡ true
+            → row_of context ≡ row_at (act ∷ past) (next_number past Kind.Context) → IsTableOf self.new (act ∷ past) }
+    {
+        self.live.push_reserved(context);
+    }
+
+    /// Takes out a context and all below it, by their numbers.
+    pub(crate) fn remove(&mut self, numbers: &[u64])
+        ensures { (past : List Act) (c : ℕ) → IsTableOf self.old past → AreAccepted (Removed c ∷ past) → numbers.now ≡ subtree_of past c → IsTableOf self.new (Removed c ∷ past) }
+    {
+        take_out(&mut self.live, numbers);
+    }
+}
+
+// Takes out the contexts of these numbers.
+fn take_out(contexts: &mut Vec<Context>, numbers: &[u64])
+    ensures { contexts.new.items ≡ filter (λ c. not (list_any (λ n. n == c.number) numbers.now)) contexts.old.items }
+{
+    contexts.retain(|context| !is_listed(numbers, context.number));
+}
+
+// Whether a number is among these.
+fn is_listed(numbers: &[u64], number: u64) -> bool
+    ensures { result ≡ list_any (λ n. n == number) numbers.now }
+{
+    numbers.iter().any(|n| *n == number)
+}
+
+// Whether a context has that number.
+fn has_number(contexts: &[Context], number: u64) -> bool
     ensures { result ≡ list_any (λ c. c.number == number) contexts.now }
 {
     contexts.iter().any(|context| context.number == number)
 }
 
-/// Adds that each context came.
-pub(crate) fn push_created(
-    alloc: Global,
-    contexts: &[Context],
-    all: &mut Vec<Occurrence>,
-) -> Result<(), AllocError>
-    ensures told { IfOk result (λ _. map (occurrence_of ⟦<EventData as Subject<EventName>>⟧.subject) all.new.items
-        ≡ map (occurrence_of ⟦<EventData as Subject<EventName>>⟧.subject) all.old.items ++ map created_in (map row_of contexts.now)) }
-    ensures well { IfOk result (λ _. AllByRecursion (λ o. ⟦<EventData as Subject<EventName>>⟧.subject.well o.event) all.old.items
-        → AllByRecursion (λ o. ⟦<EventData as Subject<EventName>>⟧.subject.well o.event) all.new.items) }
+// The context of that id.
+fn named<'a>(contexts: &'a [Context], id: &str) -> Option<&'a Context>
+    ensures { option_map (λ c. c.now) result ≡ find (λ c. bytes_eq id.now (id_of Kind.Context c.number)) contexts.now }
 {
+    contexts.iter().find(|context| context.is_named(id))
+}
+
+// The oldest top-level context.
+fn oldest(contexts: &[Context]) -> Option<&Context>
+    ensures { option_map (λ c. c.now) result ≡ find (λ c. option_eq nat_eq c.parent None) contexts.now }
+{
+    contexts.iter().find(|context| context.parent.is_none())
+}
+
+// Adds all that stands below a context in tree order, and with none all that stand, as far as so many levels.
+fn push_below<'a>(
+    contexts: &'a [Context],
+    parent: Option<u64>,
+    levels: u64,
+    all: &mut Vec<&'a Context>,
+) -> Result<(), AllocError>
+    ensures { IfOk result (λ _. map (λ c. row_of c.now) all.new.items ≡ map (λ c. row_of c.now) all.old.items ++ below levels (map row_of contexts.now) parent) }
+{
+    if levels == 0 {
+        return Ok(());
+    }
     for context in contexts {
-        all.push(context.created(alloc)?)?;
+        if context.parent == parent {
+            all.push(context)?;
+            push_below(contexts, Some(context.number), levels - 1, all)?;
+        }
     }
     Ok(())
 }
 
-/// Adds that the realm of each context came.
-pub(crate) fn push_realms(
+// The Info of each top-level context.
+fn top_infos(
     alloc: Global,
     contexts: &[Context],
-    all: &mut Vec<Occurrence>,
-) -> Result<(), AllocError>
-    ensures told { IfOk result (λ _. map (occurrence_of ⟦<EventData as Subject<EventName>>⟧.subject) all.new.items
-        ≡ map (occurrence_of ⟦<EventData as Subject<EventName>>⟧.subject) all.old.items ++ map realm_created_in (map row_of contexts.now)) }
-    ensures well { IfOk result (λ _. AllByRecursion (λ o. ⟦<EventData as Subject<EventName>>⟧.subject.well o.event) all.old.items
-        → AllByRecursion (λ o. ⟦<EventData as Subject<EventName>>⟧.subject.well o.event) all.new.items) }
+    depth: Option<u64>,
+) -> Result<Vec<Info>, AllocError>
+    ensures tree { IfOk result (λ all. map ⟦<Info as Shape>⟧.shape.tree_of all.items ≡ map (info_in (map row_of contexts.now) depth) (children_in (map row_of contexts.now) None)) }
+    ensures well { IfOk result (λ all. AreWithin ⟦<Info as Shape>⟧.shape 34 all.items) }
 {
+    let mut all = Vec::new(alloc);
     for context in contexts {
-        all.push(context.realm_created(alloc)?)?;
+        if context.parent.is_none() {
+            all.push(whole_info(alloc, contexts, context, depth)?)?;
+        }
     }
-    Ok(())
+    Ok(all)
+}
+
+// The whole Info of a context.
+fn whole_info(
+    alloc: Global,
+    contexts: &[Context],
+    context: &Context,
+    depth: Option<u64>,
+) -> Result<Info, AllocError>
+    ensures tree { IfOk result (λ i. ⟦<Info as Shape>⟧.shape.tree_of i ≡ info_in (map row_of contexts.now) depth (row_of context.now)) }
+    ensures well { IfOk result (IsWithin ⟦<Info as Shape>⟧.shape 34) }
+{
+    let children = children(alloc, contexts, context.number, depth, MOST_LEVELS)?;
+    context.root_info(alloc, children)
+}
+
+// The Infos of a context's children, as far as so many levels, where they are asked for.
+#[cycle(infos)]
+fn children(
+    alloc: Global,
+    contexts: &[Context],
+    parent: u64,
+    depth: Option<u64>,
+    levels: u64,
+) -> Result<Option<Vec<Info>>, AllocError>
+    ensures tree { IfOk result (λ told. children_node ⟦<Info as Shape>⟧.shape.tree_of told ≡ children_tree depth (infos_below levels (map row_of contexts.now) (depth_below depth) parent)) }
+    ensures well { levels ≤ 29 → IfOk result (AreWithinIfTold ⟦<Info as Shape>⟧.shape (2 * levels)) }
+{
+    match depth {
+        Some(0) => Ok(None),
+        Some(depth) => Ok(Some(infos(alloc, contexts, parent, Some(depth - 1), levels)?)),
+        None => Ok(Some(infos(alloc, contexts, parent, None, levels)?)),
+    }
+}
+
+// The Infos of a context's children, as far as so many levels.
+#[cycle(infos)]
+fn infos(
+    alloc: Global,
+    contexts: &[Context],
+    parent: u64,
+    depth: Option<u64>,
+    levels: u64,
+) -> Result<Vec<Info>, AllocError>
+    ensures tree { IfOk result (λ all. map ⟦<Info as Shape>⟧.shape.tree_of all.items ≡ infos_below levels (map row_of contexts.now) depth parent) }
+    ensures well { levels ≤ 29 → IfOk result (λ all. AreWithin ⟦<Info as Shape>⟧.shape (2 * levels) all.items) }
+{
+    let mut all = Vec::new(alloc);
+    if levels == 0 {
+        return Ok(all);
+    }
+    for context in contexts {
+        if context.parent == Some(parent) {
+            let children = children(alloc, contexts, context.number, depth, levels - 1)?;
+            all.push(context.info(alloc, children)?)?;
+        }
+    }
+    Ok(all)
 }

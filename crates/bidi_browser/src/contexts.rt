@@ -1,5 +1,6 @@
 //! A live context, and what is told of one.
-ghost use Rattle.std.specs.Prelude.{◌≡◌, ◌<◌, ◌^◌, IfOk, bytes_eq};
+ghost use Rattle.std.specs.Prelude.{◌≡◌, ℕ, ◌≤◌, ◌<◌, ◌+◌, ◌^◌, None, Some, IfOk, IfSome, bytes_eq, option_map};
+ghost use Rattle.std.proofs.Props.{props};
 ghost use Rattle.bidi_browser.specs.Ids.{id_of};
 ghost use Rattle.bidi_browser.specs.View.{occurrence_of};
 
@@ -7,38 +8,76 @@ use crate::id::{Kind, id_text, is_id};
 use crate::occurrence::Occurrence;
 use crate::urls::{about_blank, origin_text};
 use bidi_messages::{EventData, EventName, Subject};
-use bidi_params::{Info, RealmInfo};
+use bidi_params::{Info, RealmDestroyedParameters, RealmInfo};
 use bidi_shape::{Ext, Shape};
 use std::alloc::{AllocError, Global};
 use url::Url;
 
-/// A live context: so far a top-level one.
+/// A live context.
 #[derive(Drop)]
 pub(crate) struct Context {
     pub number: u64,
-    window: u64,
-    realm: u64,
+    /// The context of which it is a child; a top-level one has none.
+    pub parent: Option<u64>,
+    /// Its top-level context.
+    pub top: u64,
+    /// How many contexts stand from its top-level one down to it.
+    pub level: u64,
+    pub window: u64,
+    pub realm: u64,
     url: Url,
     ghost number_fits: { number < 2 ^ 48 },
+    ghost parent_fits: { IfSome parent (λ p. p < 2 ^ 48) } by { Prim.hlevel props },
     ghost window_fits: { window < 2 ^ 48 },
     ghost realm_fits: { realm < 2 ^ 48 },
 }
 
 impl Context {
     ghost use Rattle.bidi_browser.specs.Urls.{about_blank};
-    ghost use Rattle.bidi_browser.specs.ContextRows.{row_of, info_in, realm_info_in, created_in, realm_created_in};
+    ghost use Rattle.bidi_browser.specs.ContextRows.{row_of, inner_info, root_info, shown_info, realm_info_in, created_in, realm_created_in, realm_destroyed_in, occurrence_in};
+    ghost use Rattle.bidi_browser.specs.Info.{parent_tree};
+    ghost use Rattle.bidi_browser.specs.InfosInHand.{children_node, parent_node, AreWithinIfTold, IsWithin};
+    ghost use Rattle.bidi_messages.specs.declared.event.EventName.TheVariants.{ContextDestroyed};
 
-    /// The context that stands at the start.
-    pub(crate) fn first(alloc: Global) -> Result<Context, AllocError>
-        ensures { IfOk result (λ c. row_of c ≡ (1, 1, 1, about_blank)) }
+    /// A top-level context at `about:blank`.
+    pub(crate) fn top_level(
+        alloc: Global,
+        number: u64,
+        window: u64,
+        realm: u64,
+    ) -> Result<Context, AllocError>
+        requires number { number < 2 ^ 48 }
+        requires window { window < 2 ^ 48 }
+        requires realm { realm < 2 ^ 48 }
+        ensures { IfOk result (λ c. row_of c ≡ record { number = number; parent = None; top = number; level = 1; window = window; realm = realm; url = about_blank }) }
     {
         let url = about_blank(alloc)?;
         Ok(Context {
-            number: 1,
-            window: 1,
-            realm: 1,
+            number,
+            parent: None,
+            top: number,
+            level: 1,
+            window,
+            realm,
             url,
         })
+    }
+
+    /// A child of it, at a URL.
+    pub(crate) fn child(&self, number: u64, realm: u64, url: Url) -> Context
+        requires number { number < 2 ^ 48 }
+        requires realm { realm < 2 ^ 48 }
+        ensures { self.now.level < 16 → row_of result ≡ record { number = number; parent = Some self.now.number; top = self.now.top; level = self.now.level + 1; window = self.now.window; realm = realm; url = url } }
+    {
+        Context {
+            number,
+            parent: Some(self.number),
+            top: self.top,
+            level: self.level.wrapping_add(1),
+            window: self.window,
+            realm,
+            url,
+        }
     }
 
     /// Whether a text is its id.
@@ -48,19 +87,60 @@ impl Context {
         is_id(id, Kind::Context, 0, self.number)
     }
 
-    /// Its Info, without its children.
-    fn info(&self, alloc: Global) -> Result<Info, AllocError>
-        ensures tree { IfOk result (λ i. ⟦<Info as Shape>⟧.shape.tree_of i ≡ info_in (row_of self.now)) }
-        ensures well { IfOk result ⟦<Info as Shape>⟧.shape.well }
+    /// Its Info as it stands in the list of its parent's, with these children.
+    pub(crate) fn info(
+        &self,
+        alloc: Global,
+        children: Option<Vec<Info>>,
+    ) -> Result<Info, AllocError>
+        ensures tree { IfOk result (λ i. ⟦<Info as Shape>⟧.shape.tree_of i ≡ inner_info (row_of self.now) (children_node ⟦<Info as Shape>⟧.shape.tree_of children)) }
+        ensures well { (n : ℕ) → AreWithinIfTold ⟦<Info as Shape>⟧.shape n children → n ≤ 58 → IfOk result (IsWithin ⟦<Info as Shape>⟧.shape (n + 2)) }
+    {
+        self.shown(alloc, None, children)
+    }
+
+    /// Its Info at the root of a tree, with its parent and these children.
+    pub(crate) fn root_info(
+        &self,
+        alloc: Global,
+        children: Option<Vec<Info>>,
+    ) -> Result<Info, AllocError>
+        ensures tree { IfOk result (λ i. ⟦<Info as Shape>⟧.shape.tree_of i ≡ root_info (row_of self.now) (children_node ⟦<Info as Shape>⟧.shape.tree_of children)) }
+        ensures well { (n : ℕ) → AreWithinIfTold ⟦<Info as Shape>⟧.shape n children → n ≤ 58 → IfOk result (IsWithin ⟦<Info as Shape>⟧.shape (n + 2)) }
+    {
+        let parent = self.parent_id(alloc)?;
+        self.shown(alloc, Some(parent), children)
+    }
+
+    // The id of its parent.
+    fn parent_id(&self, alloc: Global) -> Result<Option<String>, AllocError>
+        ensures { IfOk result (λ id. parent_node id ≡ parent_tree self.now.parent) }
+    {
+        match self.parent {
+            Some(parent) => Ok(Some(id_text(alloc, Kind::Context, 0, parent)?)),
+            None => Ok(None),
+        }
+    }
+
+    // Its Info, with its parent where it is to be shown, and these children.
+    fn shown(
+        &self,
+        alloc: Global,
+        parent: Option<Option<String>>,
+        children: Option<Vec<Info>>,
+    ) -> Result<Info, AllocError>
+        ensures tree { IfOk result (λ i. ⟦<Info as Shape>⟧.shape.tree_of i
+            ≡ shown_info (option_map parent_node parent) (row_of self.now) (children_node ⟦<Info as Shape>⟧.shape.tree_of children)) }
+        ensures well { (n : ℕ) → AreWithinIfTold ⟦<Info as Shape>⟧.shape n children → n ≤ 58 → IfOk result (IsWithin ⟦<Info as Shape>⟧.shape (n + 2)) }
     {
         Ok(Info {
-            children: None,
+            children,
             client_window: id_text(alloc, Kind::Window, 0, self.window)?,
             context: id_text(alloc, Kind::Context, 0, self.number)?,
             original_opener: None,
             url: String::from_str(alloc, self.url.as_str())?,
             user_context: String::from_str(alloc, "default")?,
-            parent: Some(None),
+            parent,
             ext: Ext::empty(alloc),
         })
     }
@@ -83,12 +163,16 @@ impl Context {
         ensures told { IfOk result (λ o. occurrence_of ⟦<EventData as Subject<EventName>>⟧.subject o ≡ created_in (row_of self.now)) }
         ensures well { IfOk result (λ o. ⟦<EventData as Subject<EventName>>⟧.subject.well o.event) }
     {
-        let info = self.info(alloc)?;
-        Ok(Occurrence {
-            event: EventData::ContextCreated(info),
-            context: self.number,
-            top: self.number,
-        })
+        let info = self.root_info(alloc, None)?;
+        Ok(self.occurrence(EventData::ContextCreated(info)))
+    }
+
+    /// That it goes, with its whole Info. Takes no memory.
+    pub(crate) fn destroyed(&self, info: Info) -> Occurrence
+        ensures told { occurrence_of ⟦<EventData as Subject<EventName>>⟧.subject result ≡ occurrence_in (row_of self.now) ContextDestroyed (⟦<Info as Shape>⟧.shape.tree_of info) }
+        ensures well { ⟦<Info as Shape>⟧.shape.well info → ⟦<EventData as Subject<EventName>>⟧.subject.well result.event }
+    {
+        self.occurrence(EventData::ContextDestroyed(info))
     }
 
     /// That its realm came.
@@ -97,10 +181,32 @@ impl Context {
         ensures well { IfOk result (λ o. ⟦<EventData as Subject<EventName>>⟧.subject.well o.event) }
     {
         let info = self.realm_info(alloc)?;
-        Ok(Occurrence {
-            event: EventData::RealmCreated(info),
+        Ok(self.occurrence(EventData::RealmCreated(info)))
+    }
+
+    /// That its realm goes.
+    pub(crate) fn realm_destroyed(&self, alloc: Global) -> Result<Occurrence, AllocError>
+        ensures told { IfOk result (λ o. occurrence_of ⟦<EventData as Subject<EventName>>⟧.subject o ≡ realm_destroyed_in (row_of self.now)) }
+        ensures well { IfOk result (λ o. ⟦<EventData as Subject<EventName>>⟧.subject.well o.event) }
+    {
+        let realm = id_text(alloc, Kind::Realm, 0, self.realm)?;
+        let params = RealmDestroyedParameters {
+            realm,
+            ext: Ext::empty(alloc),
+        };
+        Ok(self.occurrence(EventData::RealmDestroyed(params)))
+    }
+
+    // An event of it.
+    fn occurrence(&self, event: EventData) -> Occurrence
+        ensures event { result.event ≡ event }
+        ensures context { result.context ≡ self.now.number }
+        ensures top { result.top ≡ self.now.top }
+    {
+        Occurrence {
+            event,
             context: self.number,
-            top: self.number,
-        })
+            top: self.top,
+        }
     }
 }

@@ -1,17 +1,29 @@
 //! A browser held in memory: contexts, session history, realms and a table that stands for running scripts.
 //!
-//! So far a [`Browser`] stays as it starts. It says which contexts are alive, and tells of all that stands by
-//! [`Occurrence`]s. Beside it the crate makes ids, and has definitions: what the browser's past is, what can be
-//! asked of it, and what each command and each step of a play does to it.
+//! A [`Browser`] plans what an [`Action`] comes to: a [`Plan`] has the events and the result, and the [`Change`] that
+//! [`Browser::apply`] puts in place, in room that [`Browser::reserve`] made for it; an action that is refused has a
+//! [`Refusal`]. So far the browser takes what makes and removes contexts, and what shows them. It says which contexts
+//! are alive, and tells of all that stands by [`Occurrence`]s. Beside it the crate makes ids, and has definitions: what
+//! the browser's past is, what can be asked of it, and what each command and each step of a play does to it.
 #![tactic(auto)]
 
+mod action;
+mod births;
 mod browser;
 mod context_table;
 mod contexts;
 mod id;
+mod looking;
 mod occurrence;
+mod plan;
+mod refusal;
+mod removals;
+mod telling;
 mod urls;
 
+pub use action::Action;
 pub use browser::Browser;
 pub use id::{Kind, id_text, is_id};
 pub use occurrence::Occurrence;
+pub use plan::{Change, Plan};
+pub use refusal::Refusal;

@@ -1,10 +1,13 @@
 //! The first URL of a context, and the origins of URLs.
 ghost use Rattle.std.specs.Prelude.{◌≡◌, IfOk, string_bytes};
 ghost use Rattle.url.specs.Origin as spec;
-ghost use Rattle.bidi_browser.specs.Urls.{about_blank, origin_text};
+ghost use Rattle.bidi_browser.specs.Found.{IsUrlOf};
+ghost use Rattle.bidi_browser.specs.Urls.{about_blank, origin_text, parsed};
 
+use crate::refusal::Refusal;
+use bidi_messages::ErrorCode;
 use std::alloc::{AllocError, Global};
-use url::Url;
+use url::{ParseError, Url};
 
 /// `about:blank`, where each new top-level context is.
 pub(crate) fn about_blank(alloc: Global) -> Result<Url, AllocError>
@@ -13,6 +16,21 @@ pub(crate) fn about_blank(alloc: Global) -> Result<Url, AllocError>
     match Url::parse(alloc, "about:blank") {
         Ok(url) => Ok(url),
         Err(_) => Err(AllocError),
+    }
+}
+
+/// The absolute URL that a text is.
+///
+/// # Errors
+/// - `invalid argument`: it is none.
+/// - No memory, where a growth was refused.
+pub(crate) fn parsed(alloc: Global, text: &str) -> Result<Url, Refusal>
+    ensures { IsUrlOf result (parsed text.now) }
+{
+    match Url::parse(alloc, text) {
+        Ok(url) => Ok(url),
+        Err(ParseError::Overflow | ParseError::OutOfMemory) => Err(Refusal::NoMemory),
+        Err(_) => Err(Refusal::Code(ErrorCode::InvalidArgument)),
     }
 }
 

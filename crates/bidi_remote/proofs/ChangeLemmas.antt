@@ -4,14 +4,20 @@ use Rattle.std.specs.Prelude.{◌==◌, filter, find, nat_lt, bytes_eq, codes, i
 use Rattle.std.proofs.lemmas.List.{length-map}
 use Rattle.bidi_browser.specs.declared.id.Kind.TheVariants.{Session as OfSession}
 use Rattle.bidi_browser.specs.Ids.{id_of}
+use Rattle.bidi_browser.specs.declared.browser.Browser.{Browser}
+use Rattle.bidi_browser.specs.declared.plan.Edit.{Edit}
+use Rattle.bidi_browser.specs.declared.plan.Edit.TheVariants.{Keep, Add, Remove}
+use Rattle.bidi_browser.specs.Acts.{Act, Made, Framed, Removed, Moved, Logged, Tabled, Ran, Disowned, Looked}
+use Rattle.bidi_browser.specs.Plans.{EditMakes}
+use Rattle.bidi_browser.specs.Stands.{StandsFor}
 use Rattle.bidi_messages.specs.declared.event.EventName.{EventName}
 use Rattle.bidi_remote.specs.declared.connections.Connections.{Connections}
 use Rattle.bidi_remote.specs.declared.sessions.Sessions.{Sessions}
 use Rattle.bidi_remote.specs.declared.tables.Tables.{Tables}
-use Rattle.bidi_remote.specs.Machine.History.{Input, Open, Deed, Scope, Time, Opened, Dropped, Began, Ended, Subscribed, Cancelled, Dismissed, Told}
+use Rattle.bidi_remote.specs.Machine.History.{Input, Open, Deed, Scope, Time, Opened, Dropped, Began, Ended, Subscribed, Cancelled, Dismissed, Did, Told, acts}
 use Rattle.bidi_remote.specs.Machine.Sessions.{next_session}
 use Rattle.bidi_remote.specs.Machine.Subscriptions.{subscriptions_made}
-use Rattle.bidi_remote.specs.Machine.LogBuffer.{Missed}
+use Rattle.bidi_remote.specs.Machine.LogBuffer.{Missed, missed}
 use Rattle.bidi_remote.specs.Machine.Connections.{Standing, Shut, is_shut, is_open, is_for, opened_for, standing_of, open_connections}
 use Rattle.bidi_remote.specs.Machine.Outcome.{Denied, deeds, may_open, opening, session_of_resource, turn}
 use Rattle.bidi_remote.specs.Tables.ConnectionRows as connections
@@ -36,6 +42,24 @@ agree-time t past n a = record { moment = refl; made = a.made; sessions = a.sess
 -- the status was told
 pub agree-told : (t : Tables) (past : List Deed) → AgreeWith t past → AgreeWith t (Told ∷ past)
 agree-told t past a = record { moment = a.moment; made = a.made; sessions = a.sessions; connections = a.connections; browser = a.browser; unlogged = a.unlogged }
+
+-- the browser did something that logs nothing
+pub agree-did : (t : Tables) (past : List Deed) (act : Act) (b : Browser) → AgreeWith t past → ((s : ℕ) → missed (Did act ∷ past) s ≡ missed past s) → StandsFor b (act ∷ acts past) → AgreeWith (record t { browser = b }) (Did act ∷ past)
+agree-did t past act b a quiet stands = record { moment = a.moment; made = a.made; sessions = a.sessions; connections = a.connections; browser = stands; unlogged = λ s. quiet s ∙ a.unlogged s }
+
+-- so does no change of the browser that is built
+pub quiet-edit : (edit : Edit) (past : List Deed) (act : Act) → EditMakes edit (acts past) act → (s : ℕ) → missed (Did act ∷ past) s ≡ missed past s
+quiet-edit Keep past act is s = rw is refl
+quiet-edit (Remove numbers) past act is s = rw (is.1) refl
+quiet-edit (Add context opens) past (Made w) is s = refl
+quiet-edit (Add context opens) past (Framed p url) is s = refl
+quiet-edit (Add context opens) past (Removed c) is s = absurd (cc)
+quiet-edit (Add context opens) past (Moved c move) is s = absurd (cc)
+quiet-edit (Add context opens) past (Logged c level text) is s = absurd (cc)
+quiet-edit (Add context opens) past (Tabled t row) is s = absurd (cc)
+quiet-edit (Add context opens) past (Ran r ending held) is s = absurd (cc)
+quiet-edit (Add context opens) past (Disowned r ids) is s = absurd (cc)
+quiet-edit (Add context opens) past Looked is s = absurd (cc)
 
 -- a connection more
 pub agree-opened : (t : Tables) (past : List Deed) (c : ℕ) (s : Option ℕ) (v : Connections) → AgreeWith t past → is_shut (standing_of past c) ≡ true

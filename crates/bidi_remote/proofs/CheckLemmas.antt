@@ -3,8 +3,8 @@ use Rattle.std.proofs.Common.{◌≡◌, ◌∙◌, List, ◌++◌, append_assoc
 use Rattle.std.specs.Result.{IsErrAnd}
 use Rattle.bidi_messages.specs.declared.error_code.ErrorCode.{ErrorCode}
 use Rattle.bidi_browser.specs.Checks.{◌>>=◌, found}
-use Rattle.bidi_remote.specs.declared.refusal.Refusal.{Refusal}
-use Rattle.bidi_remote.specs.declared.refusal.Refusal.TheVariants.{Code, NoMemory}
+use Rattle.bidi_browser.specs.declared.refusal.Refusal.{Refusal}
+use Rattle.bidi_browser.specs.declared.refusal.Refusal.TheVariants.{Code, NoMemory}
 use Rattle.bidi_remote.specs.Tables.Checked.{IfChecked, behind}
 
 -- one check, then the rest

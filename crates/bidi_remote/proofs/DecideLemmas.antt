@@ -1,5 +1,5 @@
 -- What a command comes to, by the tables and by the past.
-use Rattle.std.proofs.Common.{◌≡◌, ◌∙◌, ℕ, Bool, true, false, not, ◌&&◌, List, [], ◌∷◌, ◌++◌, append-nil, map, length, Option, Some, unwrap_or, Result, Ok, Err, refl, sym, ap, ap₂}
+use Rattle.std.proofs.Common.{◌≡◌, ◌∙◌, ℕ, Bool, true, false, not, ◌&&◌, List, [], ◌∷◌, ◌++◌, append-nil, map, length, Option, Some, unwrap_or, Result, Ok, Err, refl, sym, ap, ap₂, subst}
 use Rattle.std.specs.Prelude.{filter, nat_lt}
 use Rattle.std.specs.List.{list_any, list_all, AllByRecursion, items_where_true}
 use Rattle.std.proofs.lemmas.List.{length-map}
@@ -8,13 +8,14 @@ use Rattle.bidi_messages.specs.declared.error_code.ErrorCode.TheVariants.{Invali
 use Rattle.bidi_messages.specs.declared.event.EventName.{EventName}
 use Rattle.bidi_messages.specs.declared.result_data.ResultData.{ResultData}
 use Rattle.bidi_browser.specs.Checks.{◌>>=◌, need, found}
-use Rattle.bidi_browser.specs.Acts.{Act}
+use Rattle.bidi_browser.specs.Acts.{Act, Looked}
 use Rattle.bidi_browser.specs.Contexts.{is_alive}
 use Rattle.bidi_browser.specs.Occurrences.{Occurrence, tree_events, is_among}
 use Rattle.bidi_browser.specs.Occurs.{Replies}
 use Rattle.bidi_remote.specs.declared.tables.Tables.{Tables}
 use Rattle.bidi_remote.specs.declared.turn.Asker.{Asker}
 use Rattle.bidi_remote.specs.declared.turn.Change.{Change}
+use Rattle.bidi_remote.specs.declared.turn.Change.TheVariants.{Nothing, Begin, End, Subscribe, Cancel, Dismiss, Browse}
 use Rattle.bidi_remote.specs.declared.turn.Turn.{Turn}
 use Rattle.bidi_remote.specs.declared.subscriptions.Subscription.{Subscription}
 use Rattle.bidi_remote.specs.Machine.Capabilities.{Request, matching}
@@ -30,22 +31,35 @@ use Rattle.bidi_remote.specs.Tables.SessionView as in_hand
 use Rattle.bidi_remote.specs.Tables.SessionView.{row_of}
 use Rattle.bidi_remote.specs.Tables.Stands.{AgreeWith}
 use Rattle.bidi_remote.specs.Tables.SubscriptionRows.{session_row, session_rows, row_at, subscription_rows, row_in, begun, row_covers, row_holds, any_global, numbers_named}
-use Rattle.bidi_remote.specs.Tables.Turns.{Decides, deed_of, announced_by, seen, result_tree}
+use Rattle.bidi_browser.specs.View.{seen, result_tree}
+use Rattle.bidi_remote.specs.Tables.Turns.{Decides, IsMade, IsOfSessions, deed_of, announced_by}
 use Rattle.bidi_remote.proofs.ListLemmas.{filter-same, any-map, all-same}
 use Rattle.bidi_remote.proofs.SubscriptionLemmas.{newly-enabled, numbers-session_rows, find-active, named-subscription_rows, global-held}
 
 -- ---- a turn
 
-module _ (turn : Turn) (past : List Deed) (asker : Asker) (asked : Option Command) (answer : Result Deed ErrorCode) (change : Change) (r : ResultData)
+-- a change of sessions leaves the browser as it is
+pub made-of_sessions : (change : Change) (past : List Act) (act : Act) → IsOfSessions change → IsMade change past act
+made-of_sessions (Browse change) past act ours = absurd ours
+made-of_sessions Nothing past act ours = tt
+made-of_sessions (Begin c) past act ours = tt
+made-of_sessions (End s) past act ours = tt
+made-of_sessions (Subscribe s es scope) past act ours = tt
+made-of_sessions (Cancel s ns) past act ours = tt
+made-of_sessions (Dismiss s es) past act ours = tt
+
+module _ (turn : Turn) (past : List Deed) (asker : Asker) (asked : Option Command) (answer : Result Deed ErrorCode) (change : Change) (r : ResultData) (ours : IsOfSessions change)
     (same : turn.change ≡ change) (before : turn.telling.before.items ≡ []) (reply : turn.telling.reply ≡ Some (record { to = asker; outcome = r })) (after : turn.telling.after.items ≡ [])
-    (is : answer ≡ Ok (deed_of change)) (told : Replies (result_tree r) ∷ [] ≡ items past (action_in asked) (deed_of change)) where
+    (is : answer ≡ Ok (deed_of change Looked)) (told : Replies (result_tree r) ∷ [] ≡ items past (action_in asked) (deed_of change Looked)) where
   -- a change that is announced, and then replied to
-  pub announced-decides : seen turn.telling.announced.items ≡ announced_by past (deed_of change) → Decides (Ok turn) past asker asked answer
+  pub announced-decides : seen turn.telling.announced.items ≡ announced_by past (deed_of change Looked) → Decides (Ok turn) past asker asked answer
   announced-decides announced = (
-    is ∙ ap (λ x. Ok (deed_of x)) (sym same),
+    Looked,
+    is ∙ ap (λ x. Ok (deed_of x Looked)) (sym same),
+    subst (λ x. IsMade x (acts past) Looked) (sym same) (made-of_sessions change (acts past) Looked ours),
     record {
-      announced = announced ∙ ap (λ x. announced_by past (deed_of x)) (sym same);
-      items = rw (before, reply, after) (told ∙ ap (λ x. items past (action_in asked) (deed_of x)) (sym same));
+      announced = announced ∙ ap (λ x. announced_by past (deed_of x Looked)) (sym same);
+      items = rw (before, reply, after) (told ∙ ap (λ x. items past (action_in asked) (deed_of x Looked)) (sym same));
     },
     rw reply refl,
   )

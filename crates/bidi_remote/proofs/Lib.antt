@@ -14,7 +14,9 @@ pub mod OpeningLemmas
 pub mod TurnLemmas
 pub mod ChangeLemmas
 pub mod TakeLemmas
+pub mod BrowseLemmas
 pub mod TellLemmas
 pub mod DecideLemmas
 pub mod SubscribeAskLemmas
+pub mod BrowserAskLemmas
 pub mod AskLemmas

@@ -10,6 +10,7 @@ use Rattle.bidi_messages.specs.Verdict.{Verdict, Accepted, Refused}
 use Rattle.bidi_browser.specs.declared.id.Kind.TheVariants.{Session}
 use Rattle.bidi_browser.specs.Ids.{id_of}
 use Rattle.bidi_browser.specs.Acts.{Act}
+use Rattle.bidi_browser.specs.Actions.{Action}
 use Rattle.bidi_browser.specs.Contexts.{up_to}
 use Rattle.bidi_browser.specs.Checks.{◌>>=◌, need}
 use Rattle.bidi_browser.specs.Outcome as browser
@@ -24,11 +25,12 @@ use Rattle.bidi_remote.proofs.ConnectionLemmas.{WasOpened}
 
 -- ---- what each turn rests on
 
--- A connection is opened for an active session, a session begins on an open connection alone, and one subscribes that a connection speaks for.
+-- A connection is opened for an active session, a session begins on an open connection alone, one subscribes that a connection speaks for, and the browser does what an action comes to.
 abbrev pub IsFair : List Deed → Deed → Type 0
 IsFair past (Opened c o) = (s : ℕ) → o ≡ Some s → is_active past s ≡ true
 IsFair past (Began c) = standing_of past c ≡ Alone
 IsFair past (Subscribed s events scope) = (c : ℕ) × (standing_of past c ≡ SpeaksFor s)
+IsFair past (Did act) = (action : Action) × (browser.outcome (acts past) action ≡ Ok act)
 IsFair past d = ⊤
 
 -- the deed, where there is one, is fair
@@ -41,9 +43,9 @@ checked : {A : Type 0} (past : List Deed) (r : Result A ErrorCode) (next : A →
 checked past (Ok x) next h = h x
 checked past (Err code) next h = tt
 
-did_fair : (past : List Deed) (r : Result Act ErrorCode) → IsFairIfDone past (did r)
-did_fair past (Ok act) = tt
-did_fair past (Err code) = tt
+did_fair : (past : List Deed) (action : Action) (r : Result Act ErrorCode) → browser.outcome (acts past) action ≡ r → IsFairIfDone past (did r)
+did_fair past action (Ok act) is = (action, is)
+did_fair past action (Err code) is = tt
 
 new_fair : (past : List Deed) (c : ℕ) (m : Result (Unit {0}) ErrorCode) (room : Bool) → standing_of past c ≡ Alone
     → (let r : Result Deed ErrorCode = m >>= λ fit. need room SessionNotCreated >>= λ few. Ok (Began c) in IsFairIfDone past r)
@@ -78,7 +80,7 @@ outcome_fair past c (SpeaksFor s) End e = tt
 outcome_fair past c (SpeaksFor s) (Subscribe names contexts users) e = subscribe_fair past c s names contexts users e
 outcome_fair past c (SpeaksFor s) (UnsubscribeById ids) e = checked past (subscriptions_named past s ids) (λ ns. Ok (Cancelled s ns)) (λ ns. tt)
 outcome_fair past c (SpeaksFor s) (UnsubscribeByEvents names) e = by_events_fair past s names
-outcome_fair past c (SpeaksFor s) (OfBrowser action) e = did_fair past (browser.outcome (acts past) action)
+outcome_fair past c (SpeaksFor s) (OfBrowser action) e = did_fair past action (browser.outcome (acts past) action) refl
 
 replied_fair : (past : List Deed) (c id : ℕ) (r : Result Deed ErrorCode) → IsFairIfDone past r → IsFairIfDone past (replied c id r)
 replied_fair past c id (Ok d) h = h
@@ -113,9 +115,9 @@ opening_fair past c b None e active = tt
 opening_fair past c true (Some o) e active = rw e (λ s is. active s (ap Some is))
 opening_fair past c false (Some o) e active = rw e tt
 
-in_page_fair : (past : List Deed) (r : Result Act ErrorCode) → IsFairIfDone past (in_page r)
-in_page_fair past (Ok act) = tt
-in_page_fair past (Err code) = tt
+in_page_fair : (past : List Deed) (action : Action) (r : Result Act ErrorCode) → browser.outcome (acts past) action ≡ r → IsFairIfDone past (in_page r)
+in_page_fair past action (Ok act) is = (action, is)
+in_page_fair past action (Err code) is = tt
 
 -- what a turn does is fair
 pub turn_fair : (past : List Deed) (i : Input) → IsFairIfDone past (turn past i)
@@ -126,7 +128,7 @@ turn_fair past (Open c resource) =
 turn_fair past (Drop c) = when_open past c (is_open past c) (Ok (Dropped c)) tt
 turn_fair past (Heard c v) = when_open past c (is_open past c) (answered past c v) (answered_fair past c v)
 turn_fair past (NotText c) = when_open past c (is_open past c) (answered past c (Refused None InvalidArgument)) tt
-turn_fair past (InPage action) = in_page_fair past (browser.outcome (acts past) action)
+turn_fair past (InPage action) = in_page_fair past action (browser.outcome (acts past) action) refl
 
 -- ---- so what is open was opened
 

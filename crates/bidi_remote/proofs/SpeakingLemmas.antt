@@ -2,11 +2,14 @@
 use Rattle.std.proofs.Common.{◌≡◌, ◌<◌, ◌≤◌, ℕ, suc, Bool, true, false, cond, List, [], ◌∷◌, length, refl, arith, Result, Ok, Err, Option, Some, None}
 use Rattle.std.specs.Prelude.{◌==◌, if◌then◌else◌}
 use Rattle.std.proofs.lemmas.Bool.Decides.{nat_tests}
-use Rattle.bidi_remote.specs.Machine.History.{Input, Deed, Opened, Dropped, Began, Ended, Subscribed}
+use Rattle.bidi_remote.specs.Machine.History.{Input, Deed, Opened, Dropped, Began, Ended, Subscribed, Did, acts}
 use Rattle.bidi_remote.specs.Machine.Sessions.{sessions_made, is_active}
 use Rattle.bidi_remote.specs.Machine.Connections.{Standing, Shut, Alone, SpeaksFor, is_for, opened_for, standing_of}
 use Rattle.bidi_remote.specs.Machine.Subscriptions.{subscriptions_made}
 use Rattle.bidi_remote.specs.Machine.Outcome.{Refusal, turn, with_turn, deeds}
+use Rattle.bidi_browser.specs.Plans.{HasIds}
+use Rattle.bidi_browser.proofs.BirthLemmas.{given-few}
+use Rattle.bidi_remote.specs.Tables.Stands.{IsShort}
 use Rattle.bidi_remote.proofs.OpeningLemmas.{IsFairIfDone, turn_fair}
 use Rattle.bidi_remote.proofs.SessionLemmas.{active_made}
 
@@ -83,3 +86,17 @@ subscriptions_more past (Ok d) s = omega arith
 pub few-subscriptions : (h : List Input) (s : ℕ) → subscriptions_made (deeds h) s ≤ length h
 few-subscriptions [] s = omega arith
 few-subscriptions (i ∷ h) s = let more = subscriptions_more (deeds h) (turn (deeds h) i) s in let ih = few-subscriptions h s in omega (arith, more, ih)
+
+-- ---- so ids are left for what the browser makes
+
+acts_more : (past : List Deed) (r : Result Deed Refusal) → length (acts (with_turn past r)) ≤ suc (length (acts past))
+acts_more past (Err refusal) = omega arith
+acts_more past (Ok (Did act)) = omega arith
+acts_more past (Ok d) = omega arith
+
+few-acts : (h : List Input) → length (acts (deeds h)) ≤ length h
+few-acts [] = omega arith
+few-acts (i ∷ h) = let more = acts_more (deeds h) (turn (deeds h) i) in let ih = few-acts h in omega (arith, more, ih)
+
+pub has-ids : (h : List Input) → IsShort h → HasIds (acts (deeds h))
+has-ids h short kind = let few = few-acts h in let given = given-few (acts (deeds h)) kind in omega (arith, few, given, short)

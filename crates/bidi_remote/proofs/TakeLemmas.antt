@@ -2,6 +2,8 @@
 use Rattle.std.proofs.Common.{◌≡◌, ◌∙◌, ℕ, Bool, true, false, List, [], ◌∷◌, map, refl, sym, ap, subst, Result, Ok, Err, Vec, Global, IfOk, Option, Some, rules}
 use Rattle.std.specs.Prelude.{IsTrue, OnErr}
 use Rattle.bidi_tree.specs.Node.{Node}
+use Rattle.bidi_browser.specs.Acts.{Act}
+use Rattle.bidi_browser.specs.Actions.{Action}
 use Rattle.bidi_messages.specs.Message.{error_text}
 use Rattle.bidi_messages.specs.Verdict.{Verdict, IsVerdict, Accepted, Refused}
 use Rattle.bidi_messages.specs.declared.error_code.ErrorCode.{ErrorCode}
@@ -10,7 +12,7 @@ use Rattle.bidi_remote.specs.declared.tables.Tables.{Tables}
 use Rattle.bidi_remote.specs.declared.turn.Asker.{Asker}
 use Rattle.bidi_remote.specs.declared.turn.Turn.{Turn}
 use Rattle.bidi_remote.specs.Machine.Step.{Step, Text}
-use Rattle.bidi_remote.specs.Machine.History.{Input, Open, Heard, IsHeardAs, Deed}
+use Rattle.bidi_remote.specs.Machine.History.{Input, Open, Heard, InPage, IsHeardAs, Deed, acts}
 use Rattle.bidi_remote.specs.Machine.Commands.{Command, command_of, id_of_command}
 use Rattle.bidi_remote.specs.Machine.Connections.{Standing, is_shut, is_open, standing_of}
 use Rattle.bidi_remote.specs.Machine.Outcome.{Refusal, Error, deeds, turn, with_turn, replied}
@@ -20,7 +22,8 @@ use Rattle.bidi_remote.specs.Machine.Built.{so_far, judged_so_far}
 use Rattle.bidi_remote.specs.Tables.Messages.{ReadsBack, AllReadBack}
 use Rattle.bidi_remote.specs.Tables.Stands.{AgreeWith, IsShort, Takes}
 use Rattle.bidi_remote.specs.Tables.Asked.{Asks, outcome_so_far}
-use Rattle.bidi_remote.specs.Tables.Turns.{Decides, deed_of, asker_in, seen, items_in, sent_for}
+use Rattle.bidi_browser.specs.View.{seen}
+use Rattle.bidi_remote.specs.Tables.Turns.{Decides, IsMade, deed_of, asker_in, items_in, sent_for}
 use Rattle.bidi_remote.specs.Tables.View.{sent_of}
 use Rattle.bidi_remote.proofs.ChangeLemmas.{opens-open}
 use Rattle.bidi_remote.proofs.TurnLemmas.{heard-open, answered-so-far, turn-built, told-for}
@@ -31,6 +34,13 @@ takes t h i r all is sends reads agree = record {
   reads_back = reads;
   agree = subst (λ x. AgreeWith t (with_turn (deeds h) x)) (sym is) agree;
 }
+
+-- what was sent for a turn, with the tables after it
+pub all_taken : {E : Type 0} (t : Tables) (h : List Input) (i : Input) (d : Deed) (sends : List Sent) (q : Result (Vec declared_sent.Sent Global) E)
+    → IfOk q (λ all. (map sent_of all.items ≡ sends) × AllReadBack (map sent_of all.items) × AgreeWith t (d ∷ deeds h)) → turn (deeds h) i ≡ Ok d → sends ≡ told (deeds h) i (Ok d)
+    → IfOk q (λ all. Takes t (map sent_of all.items) h i)
+all_taken t h i d sends (Err e) all is same = tt
+all_taken t h i d sends (Ok v) all is same = takes t h i (Ok d) (map sent_of v.items) is (all.0 ∙ same) all.1 all.2
 
 -- one thing alone is sent, which is no text
 pub only_takes : {E : Type 0} (r : Result (Vec declared_sent.Sent Global) E) (x : declared_sent.Sent) (t : Tables) (h : List Input) (i : Input) (turned : Result Deed Refusal) → IfOk r (λ all. all.items ≡ x ∷ [])
@@ -81,36 +91,31 @@ module _ {E : Type 0} (r : Result (Vec declared_sent.Sent Global) E) (t : Tables
 
   -- a turn was taken
   pub turn_takes : (decided : Turn) → Decides (Ok decided) (deeds h) asker o (outcome_so_far (deeds h) c s o)
-      → ((i : Input) → turn (deeds h) i ≡ Ok (deed_of decided.change) → IfOk r (λ all. (map sent_of all.items ≡ sent_for (deeds h) (asker_in decided.telling.reply) (deed_of decided.change) (seen decided.telling.announced.items) (items_in decided.telling))
-      × AllReadBack (map sent_of all.items) × AgreeWith t (deed_of decided.change ∷ deeds h)))
+      → ((i : Input) (act : Act) → turn (deeds h) i ≡ Ok (deed_of decided.change act) → IsMade decided.change (acts (deeds h)) act
+      → IfOk r (λ all. (map sent_of all.items ≡ sent_for (deeds h) (asker_in decided.telling.reply) (deed_of decided.change act) (seen decided.telling.announced.items) (items_in decided.telling))
+      × AllReadBack (map sent_of all.items) × AgreeWith t (deed_of decided.change act ∷ deeds h)))
       → IfOk r (λ all. Takes t (map sent_of all.items) h (Heard c (judged_so_far s (Accepted tree))))
-  turn_takes decided is taken = subst (λ v. IfOk r (λ all. Takes t (map sent_of all.items) h (Heard c v))) (sym built.0) (by r (taken i turn_is))
+  turn_takes decided is taken = subst (λ v. IfOk r (λ all. Takes t (map sent_of all.items) h (Heard c v))) (sym built.0) (all_taken t h i d _ r (taken i is.0 turn_is is.2) turn_is sends)
     where
       past : List Deed
       past = deeds h
 
       d : Deed
-      d = deed_of decided.change
+      d = deed_of decided.change is.0
 
       i : Input
       i = Heard c (Accepted tree)
 
       built : (judged_so_far s (Accepted tree) ≡ Accepted tree) × (action_in o ≡ action_in (command_of tree))
-      built = turn-built past c tree s o d opened asks.what is.0
+      built = turn-built past c tree s o d opened asks.what is.1
 
       turn_is : turn past i ≡ Ok d
-      turn_is = ap (λ v. turn past (Heard c v)) (sym built.0) ∙ turned (Ok d) is.0
+      turn_is = ap (λ v. turn past (Heard c v)) (sym built.0) ∙ turned (Ok d) is.1
 
       sends : sent_for past (asker_in decided.telling.reply) d (seen decided.telling.announced.items) (items_in decided.telling) ≡ told past i (Ok d)
       sends =
-          ap (λ who. sent_for past who d (seen decided.telling.announced.items) (items_in decided.telling)) (is.2 ∙ ap (λ n. Some (c, n)) (sym asks.same_id))
-          ∙ told-for past c tree d (seen decided.telling.announced.items) (items_in decided.telling) is.1.announced (is.1.items ∙ ap (λ a. items past a d) built.1)
-
-      by : (q : Result (Vec declared_sent.Sent Global) E)
-          → IfOk q (λ all. (map sent_of all.items ≡ sent_for past (asker_in decided.telling.reply) d (seen decided.telling.announced.items) (items_in decided.telling)) × AllReadBack (map sent_of all.items) × AgreeWith t (d ∷ past))
-          → IfOk q (λ all. Takes t (map sent_of all.items) h i)
-      by (Err e) all = tt
-      by (Ok v) all = takes t h i (Ok d) (map sent_of v.items) turn_is (all.0 ∙ sends) all.1 all.2
+          ap (λ who. sent_for past who d (seen decided.telling.announced.items) (items_in decided.telling)) (is.4 ∙ ap (λ n. Some (c, n)) (sym asks.same_id))
+          ∙ told-for past c tree d (seen decided.telling.announced.items) (items_in decided.telling) is.3.announced (is.3.items ∙ ap (λ a. items past a d) built.1)
 
 -- what holds anyway holds after an error
 pub anyway : {S E : Type 0} (r : Result S E) {P : Type 0} → P → OnErr r P
@@ -148,6 +153,13 @@ pub step_heard : {E : Type 0} (r : Result (Vec declared_sent.Sent Global) E) (x 
     → IfOk r (λ all. (j : Input) × IsHeardAs x j × TakesIt old after (map sent_of all.items) j)
 step_heard (Err e) x old after i is f = tt
 step_heard (Ok all) x old after i is f = (i, is, λ h short. f h)
+
+-- so is a step of a page, while the history is short
+pub page_heard : {E : Type 0} (r : Result (Vec declared_sent.Sent Global) E) (x : Step) (old after : Tables) (action : Action) → IsHeardAs x (InPage action)
+    → ((h : List Input) → IsShort h → AgreeWith old (deeds h) → IfOk r (λ all. Takes after (map sent_of all.items) h (InPage action)))
+    → IfOk r (λ all. (j : Input) × IsHeardAs x j × TakesIt old after (map sent_of all.items) j)
+page_heard (Err e) x old after action is f = tt
+page_heard (Ok all) x old after action is f = (InPage action, is, f)
 
 -- a text is heard as its verdict
 pub text_heard : {E : Type 0} (r : Result (Vec declared_sent.Sent Global) E) (x : Step) (c : ℕ) (text : List ℕ) (old after : Tables) → x ≡ Text c text

@@ -3,6 +3,7 @@ use Rattle.std.proofs.Common.{◌≡◌, ◌∙◌, ℕ, Bool, true, false, ◌&
 use Rattle.std.specs.Prelude.{filter, IfOk}
 use Rattle.std.specs.List.{AllByRecursion, list_any}
 use Rattle.std.proofs.lemmas.Bool.Decides.{nat_tests}
+use Rattle.std.proofs.lemmas.Grind.{flat_map-append}
 use Rattle.bidi_messages.specs.declared.event.EventName.{EventName}
 use Rattle.bidi_messages.specs.contracts.message.MessageShape.TheImpl.{ghosts}
 use Rattle.bidi_messages.specs.Reading.{IsMessageText}
@@ -81,10 +82,6 @@ closed-past past d = refl
 sent-happened : (past : List Deed) (asker : Option (ℕ × ℕ)) (os : List Occurrence) → flat_map (sent_of_item past asker) (map Happens os) ≡ flat_map (to_all (session_rows past) (rows past)) os
 sent-happened past asker [] = refl
 sent-happened past asker (o ∷ os) = ap₂ (λ xs ys. xs ++ ys) (sym (to_all-past past o)) (sent-happened past asker os)
-
-flat_map-append : {X Y : Type 0} (f : X → List Y) (xs ys : List X) → flat_map f (xs ++ ys) ≡ flat_map f xs ++ flat_map f ys
-flat_map-append f [] ys = refl
-flat_map-append f (x ∷ xs) ys = ap (λ zs. f x ++ zs) (flat_map-append f xs ys) ∙ sym (append_assoc (f x) (flat_map f xs) (flat_map f ys))
 
 -- all of them, and the reply among them
 sent-items : (past : List Deed) (asker : Option (ℕ × ℕ)) (before after : List Occurrence) (reply : List Item)

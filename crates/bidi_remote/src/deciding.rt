@@ -1,18 +1,23 @@
 //! What a command comes to.
-ghost use Rattle.std.specs.Prelude.{◌≡◌, List};
+ghost use Rattle.std.specs.Prelude.{◌≡◌, List, Some, true};
+ghost use Rattle.bidi_browser.specs.Actions.{is_asked};
+ghost use Rattle.bidi_browser.specs.Asked.{action_of};
+ghost use Rattle.bidi_browser.specs.Outcome.{outcome};
+ghost use Rattle.bidi_browser.specs.Plans.{HasIds};
 ghost use Rattle.bidi_remote.specs.Machine.Connections.{standing_of, Alone, SpeaksFor};
-ghost use Rattle.bidi_remote.specs.Machine.History.{Input};
-ghost use Rattle.bidi_remote.specs.Machine.Outcome.{deeds};
+ghost use Rattle.bidi_remote.specs.Machine.Commands.{OfBrowser};
+ghost use Rattle.bidi_remote.specs.Machine.History.{Input, Deed, acts};
+ghost use Rattle.bidi_remote.specs.Machine.Outcome.{deeds, did};
 ghost use Rattle.bidi_remote.specs.Tables.Asked.{IsWellAsked, asked_of, outcome_so_far};
 ghost use Rattle.bidi_remote.specs.Tables.ConnectionRows.{standing_in_hand};
 ghost use Rattle.bidi_remote.specs.Tables.Stands.{AgreeWith, IsShort};
 ghost use Rattle.bidi_remote.specs.Tables.Turns.{Decides, IsWellDecided};
 
 use crate::connections::Standing;
-use crate::refusal::Refusal;
 use crate::session::{decide_end, decide_new, decide_status, decide_subscribe, decide_unsubscribe};
 use crate::tables::Tables;
 use crate::turn::{Asker, Turn};
+use bidi_browser::{Action, Refusal};
 use bidi_messages::{CommandData, ErrorCode};
 use bidi_params::NewParameters;
 use bidi_shape::Shape;
@@ -84,6 +89,33 @@ fn decide_in(
         CommandData::SessionUnsubscribe(params) => {
             decide_unsubscribe(alloc, tables, asker, session, params)
         }
+        CommandData::BrowsingContextActivate(params) => {
+            decide_browsing(alloc, tables, asker, Action::Activate(params))
+        }
+        CommandData::BrowsingContextClose(params) => {
+            decide_browsing(alloc, tables, asker, Action::Close(params))
+        }
+        CommandData::BrowsingContextCreate(params) => {
+            decide_browsing(alloc, tables, asker, Action::Create(params))
+        }
+        CommandData::BrowsingContextGetTree(params) => {
+            decide_browsing(alloc, tables, asker, Action::GetTree(params))
+        }
         _ => Err(Refusal::Code(ErrorCode::UnsupportedOperation)),
     }
+}
+
+// What a command of the browser comes to.
+fn decide_browsing(
+    alloc: Global,
+    tables: &Tables,
+    asker: Asker,
+    action: Action,
+) -> Result<Turn, Refusal>
+    ensures ok { (past : List Deed) → AgreeWith tables.now past → HasIds (acts past) → is_asked (action_of action.entry) ≡ true
+        → Decides result past asker (Some (OfBrowser (action_of action.entry))) (did (outcome (acts past) (action_of action.entry))) }
+    ensures well { IsWellDecided result }
+{
+    let plan = tables.browser.plan(action, tables.moment)?;
+    Ok(Turn::planned(alloc, plan, Some(asker)))
 }

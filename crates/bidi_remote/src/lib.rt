@@ -1,12 +1,12 @@
 //! The remote end: connections, sessions, subscriptions, and which texts go out on which connection.
 //!
-//! A [`RemoteEnd`] takes steps and answers each at once. So far it has connections, sessions and subscriptions, and routes events to those that hear them;
+//! A [`RemoteEnd`] takes steps and answers each at once. So far it has connections, sessions and
+//! subscriptions, the commands and steps that make, show and remove contexts, and routes events to those that hear them;
 //! the definitions already say what the whole protocol machine answers to each step.
 #![tactic(auto)]
 
 mod connections;
 mod deciding;
-mod refusal;
 mod remote_end;
 mod session;
 mod sessions;

@@ -66,7 +66,8 @@ impl RemoteEnd {
     /// Takes one step, and returns what is sent, in order.
     ///
     /// `At`, and `Drop` of an open connection, take no memory. A step looks through at most 64 connections,
-    /// 8 sessions and the 256 subscriptions of each; a text costs what its reading costs.
+    /// 8 sessions and the 256 subscriptions of each, and what the browser looks through, which `Browser::plan` says; a text
+    /// costs what its reading costs.
     ///
     /// # Errors
     /// After either the remote end is as it was.

@@ -14,6 +14,10 @@ pub enum Step {
     Text(JsUint, String),
     /// A message came in that is no text.
     NotText(JsUint),
+    /// A child of the context of that id comes, at a URL.
+    Frame(String, String),
+    /// The child of that id goes.
+    Unframe(String),
 }
 
 /// What a remote end sends, or tells of a connection.
@@ -29,4 +33,6 @@ pub enum Sent {
     Denied(JsUint),
     /// The connection is not open, so the step is lost.
     Lost(JsUint),
+    /// The step of a page has no effect.
+    NoEffect,
 }

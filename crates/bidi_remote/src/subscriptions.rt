@@ -8,8 +8,7 @@ ghost use Rattle.bidi_remote.specs.Tables.SessionView.{scope_of, row_of};
 ghost use Rattle.bidi_browser.specs.Ids.{id_text};
 ghost use Rattle.bidi_browser.specs.Occurrences.{is_among};
 
-use crate::refusal::Refusal;
-use bidi_browser::{Kind, is_id};
+use bidi_browser::{Kind, Refusal, is_id};
 use bidi_messages::{ErrorCode, EventName};
 use std::alloc::Global;
 

@@ -5,9 +5,12 @@ ghost use Rattle.bidi_messages.specs.Message.{error_text};
 ghost use Rattle.bidi_messages.specs.Verdict.{IsVerdict, Accepted};
 ghost use Rattle.bidi_messages.specs.Verdict as judged;
 ghost use Rattle.bidi_messages.specs.View.{verdict_of, IsWell};
+ghost use Rattle.bidi_browser.specs.Actions.{is_asked};
+ghost use Rattle.bidi_browser.specs.Acts.{Act};
+ghost use Rattle.bidi_browser.specs.Asked.{action_of};
 ghost use Rattle.bidi_remote.specs.Machine.Step as steps;
 ghost use Rattle.bidi_remote.specs.Machine.Sent.{Text};
-ghost use Rattle.bidi_remote.specs.Machine.History.{Input, Open, Drop, Heard, NotText, IsHeardAs};
+ghost use Rattle.bidi_remote.specs.Machine.History.{Input, Open, Drop, Heard, NotText, InPage, IsHeardAs, acts};
 ghost use Rattle.bidi_remote.specs.Machine.Connections.{is_open, standing_of, is_shut};
 ghost use Rattle.bidi_remote.specs.Machine.Outcome.{deeds, turn};
 ghost use Rattle.bidi_remote.specs.Machine.Built.{so_far, judged_so_far};
@@ -18,12 +21,11 @@ ghost use Rattle.bidi_remote.specs.Tables.View.{step_of, sent_of};
 
 use crate::connections::{Connections, Standing};
 use crate::deciding::decide;
-use crate::refusal::Refusal;
 use crate::sessions::Sessions;
 use crate::step::{Sent, Step};
 use crate::telling::tell;
 use crate::turn::{Asker, Change, Turn};
-use bidi_browser::Browser;
+use bidi_browser::{Action, Browser, Refusal};
 use bidi_messages::{Command, CommandData, ErrorCode, Verdict, error_text, judge};
 use bidi_params::NewParameters;
 use bidi_shape::Shape;
@@ -33,7 +35,7 @@ use std::alloc::{AllocError, Global};
 /// What a remote end knows of the steps that it has taken.
 #[derive(Drop)]
 pub(crate) struct Tables {
-    moment: u64,
+    pub moment: u64,
     pub connections: Connections,
     pub sessions: Sessions,
     pub browser: Browser,
@@ -41,7 +43,8 @@ pub(crate) struct Tables {
 
 impl Tables {
     ghost use Rattle.bidi_remote.specs.Tables.Stands.{AgreeWith, Keeps, IsShort, Takes};
-    ghost use Rattle.bidi_remote.specs.Tables.Turns.{HasRoom, IsWellTold, deed_of, asker_in, seen, items_in, sent_for};
+    ghost use Rattle.bidi_browser.specs.View.{seen};
+    ghost use Rattle.bidi_remote.specs.Tables.Turns.{HasRoom, IsMade, IsWellTold, deed_of, asker_in, items_in, sent_for};
 
     /// No step was taken.
     pub(crate) fn new(alloc: Global) -> Result<Tables, AllocError>
@@ -73,6 +76,10 @@ impl Tables {
             Step::Drop(conn) => self.drop_connection(alloc, conn),
             Step::Text(conn, text) => self.hear(alloc, conn, text.as_str()),
             Step::NotText(conn) => self.hear_no_text(alloc, conn),
+            Step::Frame(context, url) => {
+                self.page(alloc, Action::Frame(context.as_str(), url.as_str()))
+            }
+            Step::Unframe(context) => self.page(alloc, Action::Unframe(context.as_str())),
         }
     }
 
@@ -194,12 +201,25 @@ impl Tables {
         }
     }
 
+    // Takes a step of a page, which has no effect where the browser refuses it.
+    fn page(&mut self, alloc: Global, action: Action) -> Result<Vec<Sent>, AllocError>
+        ensures ok { (h : List Input) → IsShort h → AgreeWith self.old (deeds h)
+            → is_asked (action_of action.entry) ≡ false → IfOk result (λ sent. Takes self.new (map sent_of sent.items) h (InPage (action_of action.entry))) }
+        ensures err { OnErr result (Keeps self.old self.new) }
+    {
+        match self.browser.plan(action, self.moment) {
+            Ok(plan) => self.take_turn(alloc, Turn::planned(alloc, plan, None)),
+            Err(Refusal::Code(_)) => only(alloc, Sent::NoEffect),
+            Err(Refusal::NoMemory) => Err(AllocError),
+        }
+    }
+
     // Takes a turn that was decided: tells it, makes room for it, and puts it in.
     fn take_turn(&mut self, alloc: Global, decided: Turn) -> Result<Vec<Sent>, AllocError>
         requires { IsWellTold decided.telling }
-        ensures ok { (h : List Input) (i : Input) → IsShort h → AgreeWith self.old (deeds h) → turn (deeds h) i ≡ Ok (deed_of decided.change)
-            → IfOk result (λ sent. (map sent_of sent.items ≡ sent_for (deeds h) (asker_in decided.telling.reply) (deed_of decided.change) (seen decided.telling.announced.items) (items_in decided.telling))
-            × AllReadBack (map sent_of sent.items) × AgreeWith self.new (deed_of decided.change ∷ deeds h)) }
+        ensures ok { (h : List Input) (i : Input) (act : Act) → IsShort h → AgreeWith self.old (deeds h) → turn (deeds h) i ≡ Ok (deed_of decided.change act) → IsMade decided.change (acts (deeds h)) act
+            → IfOk result (λ sent. (map sent_of sent.items ≡ sent_for (deeds h) (asker_in decided.telling.reply) (deed_of decided.change act) (seen decided.telling.announced.items) (items_in decided.telling))
+            × AllReadBack (map sent_of sent.items) × AgreeWith self.new (deed_of decided.change act ∷ deeds h)) }
         ensures err { OnErr result (Keeps self.old self.new) }
     {
         let Turn { change, telling } = decided;
@@ -217,6 +237,7 @@ impl Tables {
         match change {
             Change::Begin(_) => self.sessions.reserve(),
             Change::Subscribe(session, _, _) => self.sessions.reserve_in(*session),
+            Change::Browse(change) => self.browser.reserve(change),
             _ => Ok(()),
         }
     }
@@ -224,8 +245,8 @@ impl Tables {
     // Puts a change in. Takes no memory.
     fn apply(&mut self, change: Change)
         requires { HasRoom self.now change }
-        ensures { (h : List Input) (i : Input) → IsShort h → AgreeWith self.old (deeds h) → turn (deeds h) i ≡ Ok (deed_of change)
-            → AgreeWith self.new (deed_of change ∷ deeds h) }
+        ensures { (h : List Input) (i : Input) (act : Act) → IsShort h → AgreeWith self.old (deeds h) → turn (deeds h) i ≡ Ok (deed_of change act) → IsMade change (acts (deeds h)) act
+            → AgreeWith self.new (deed_of change act ∷ deeds h) }
     {
         match change {
             Change::Nothing => {}
@@ -242,6 +263,7 @@ impl Tables {
             }
             Change::Cancel(session, numbers) => self.sessions.cancel(session, &numbers),
             Change::Dismiss(session, events) => self.sessions.dismiss(session, &events),
+            Change::Browse(change) => self.browser.apply(change),
         }
     }
 }

@@ -2,7 +2,8 @@
 ghost use Rattle.std.specs.Prelude.{◌≡◌, ◌≤◌, ◌++◌, List, map, flat_map, filter, IfOk, IfSome};
 ghost use Rattle.std.specs.List.{AllByRecursion, list_any};
 ghost use Rattle.bidi_tree.specs.Node.{levels};
-ghost use Rattle.bidi_browser.specs.View.{occurrence_of};
+ghost use Rattle.bidi_browser.specs.Acts.{Act};
+ghost use Rattle.bidi_browser.specs.View.{occurrence_of, result_tree, seen};
 ghost use Rattle.bidi_remote.specs.Machine.History.{Deed};
 ghost use Rattle.bidi_remote.specs.Machine.Sent.{Text};
 ghost use Rattle.bidi_remote.specs.Tables.ConnectionRows.{rows_in, to_each};
@@ -12,7 +13,7 @@ ghost use Rattle.bidi_remote.specs.Tables.SessionView.{session_row_of};
 ghost use Rattle.bidi_remote.specs.Tables.Messages.{AllReadBack};
 ghost use Rattle.bidi_remote.specs.Tables.Routes.{to_one, to_all};
 ghost use Rattle.bidi_remote.specs.Tables.Stands.{AgreeWith};
-ghost use Rattle.bidi_remote.specs.Tables.Turns.{IsWellTold, deed_of, asker_in, reply_in, result_tree, items_in, seen, sent_of_item, sent_for, to_subscriber_in, closed_in};
+ghost use Rattle.bidi_remote.specs.Tables.Turns.{IsWellTold, deed_of, asker_in, reply_in, items_in, sent_of_item, sent_for, to_subscriber_in, closed_in};
 ghost use Rattle.bidi_remote.specs.Tables.View.{sent_of, sent_if};
 
 use crate::connections::Connections;
@@ -34,8 +35,8 @@ pub(crate) fn tell(
     telling: Telling,
 ) -> Result<Vec<Sent>, AllocError>
     requires { IsWellTold telling }
-    ensures told { (past : List Deed) → AgreeWith tables.now past → IfOk result (λ sent. map sent_of sent.items
-        ≡ sent_for past (asker_in telling.reply) (deed_of change.now) (seen telling.announced.items) (items_in telling)) }
+    ensures told { (past : List Deed) (act : Act) → AgreeWith tables.now past → IfOk result (λ sent. map sent_of sent.items
+        ≡ sent_for past (asker_in telling.reply) (deed_of change.now act) (seen telling.announced.items) (items_in telling)) }
     ensures reads_back { IfOk result (λ sent. AllReadBack (map sent_of sent.items)) }
 {
     let Telling {
@@ -61,10 +62,10 @@ fn all_sent(
     requires announced { AllByRecursion (λ o. ⟦<EventData as Subject<EventName>>⟧.subject.well o.event) announced.now }
     requires before { AllByRecursion (λ o. ⟦<EventData as Subject<EventName>>⟧.subject.well o.event) before.now }
     requires after { AllByRecursion (λ o. ⟦<EventData as Subject<EventName>>⟧.subject.well o.event) after.now }
-    ensures sent { IfOk result (λ sent. map sent_of sent.items ≡ to_subscriber_in (rows_in tables.now.connections) (deed_of change.now) (seen announced.now)
+    ensures sent { (act : Act) → IfOk result (λ sent. map sent_of sent.items ≡ to_subscriber_in (rows_in tables.now.connections) (deed_of change.now act) (seen announced.now)
         ++ ((flat_map (to_all (sessions.rows_in tables.now.sessions) (rows_in tables.now.connections)) (seen before.now)
         ++ (sent_if reply ++ flat_map (to_all (sessions.rows_in tables.now.sessions) (rows_in tables.now.connections)) (seen after.now)))
-        ++ closed_in (rows_in tables.now.connections) (deed_of change.now))) }
+        ++ closed_in (rows_in tables.now.connections) (deed_of change.now act))) }
     ensures reads_back { AllReadBack (sent_if reply) → IfOk result (λ sent. AllReadBack (map sent_of sent.items)) }
 {
     let mut sent = Vec::new(alloc);
@@ -110,7 +111,7 @@ fn push_announced(
     sent: &mut Vec<Sent>,
 ) -> Result<(), AllocError>
     requires { AllByRecursion (λ o. ⟦<EventData as Subject<EventName>>⟧.subject.well o.event) announced.now }
-    ensures sent { IfOk result (λ _. map sent_of sent.new.items ≡ map sent_of sent.old.items ++ to_subscriber_in (rows_in connections.now) (deed_of change.now) (seen announced.now)) }
+    ensures sent { (act : Act) → IfOk result (λ _. map sent_of sent.new.items ≡ map sent_of sent.old.items ++ to_subscriber_in (rows_in connections.now) (deed_of change.now act) (seen announced.now)) }
     ensures reads_back { AllReadBack (map sent_of sent.old.items) → IfOk result (λ _. AllReadBack (map sent_of sent.new.items)) }
 {
     match change {
@@ -243,7 +244,7 @@ fn push_closes(
     change: &Change,
     sent: &mut Vec<Sent>,
 ) -> Result<(), AllocError>
-    ensures { IfOk result (λ _. map sent_of sent.new.items ≡ map sent_of sent.old.items ++ closed_in (rows_in connections.now) (deed_of change.now)) }
+    ensures { (act : Act) → IfOk result (λ _. map sent_of sent.new.items ≡ map sent_of sent.old.items ++ closed_in (rows_in connections.now) (deed_of change.now act)) }
 {
     match change {
         Change::End(session) => connections.push_closes(*session, sent),

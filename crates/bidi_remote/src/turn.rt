@@ -1,8 +1,9 @@
 //! What a command, or a step of a page, brings about.
-ghost use Rattle.std.specs.Prelude.{◌≡◌, Some, []};
+ghost use Rattle.std.specs.Option.{option_zip};
+ghost use Rattle.std.specs.Prelude.{◌≡◌, Some, [], option_map};
 
 use crate::subscriptions::Scope;
-use bidi_browser::Occurrence;
+use bidi_browser::{Change as BrowserChange, Occurrence, Plan};
 use bidi_messages::{EventName, ResultData};
 use bidi_tree::JsUint;
 use std::alloc::Global;
@@ -22,6 +23,8 @@ pub(crate) enum Change {
     Cancel(u32, Vec<u32>),
     /// A session loses these events from its global subscriptions.
     Dismiss(u32, Vec<EventName>),
+    /// The browser changes.
+    Browse(BrowserChange),
 }
 
 /// Who asked: a connection, with the id of its command.
@@ -88,6 +91,31 @@ impl Turn {
                 before: Vec::new(alloc),
                 reply: Some(Reply { to, outcome }),
                 after: Vec::new(alloc),
+            },
+        }
+    }
+
+    /// What the browser planned, with its result for who asked, if somebody did.
+    pub(crate) fn planned(alloc: Global, plan: Plan, to: Option<Asker>) -> Turn
+        ensures change { result.change ≡ Change.Browse plan.change }
+        ensures announced { result.telling.announced.items ≡ [] }
+        ensures before { result.telling.before ≡ plan.before }
+        ensures reply { result.telling.reply ≡ option_map (λ r. record { to = r.0; outcome = r.1 }) (option_zip to plan.result) }
+        ensures after { result.telling.after ≡ plan.after }
+    {
+        let Plan {
+            before,
+            result: outcome,
+            after,
+            change,
+        } = plan;
+        Turn {
+            change: Change::Browse(change),
+            telling: Telling {
+                announced: Vec::new(alloc),
+                before,
+                reply: to.zip(outcome).map(|(to, outcome)| Reply { to, outcome }),
+                after,
             },
         }
     }

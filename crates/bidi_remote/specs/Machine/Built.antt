@@ -1,6 +1,5 @@
 -- What the remote end does so far. The definitions speak of every command and step; this file says which of them are not
--- built yet, and goes when all are. Two fields of relations say the same of the tables: `unlogged` in Stands of the tables, and
--- `frameless` in that of bidi_browser.
+-- built yet, and goes when all are. A field of a relation says the same of the tables: `unlogged` in Stands of the tables.
 use Prim.Native.String.{String}
 use Rattle.std.specs.Prelude.{Bool, true, false, List, [], ◌∷◌, if◌then◌else◌, codes, bytes_eq, Some}
 use Rattle.std.specs.List.{list_any}
@@ -17,7 +16,9 @@ use Rattle.bidi_remote.specs.Machine.Outcome.{deeds}
 
 -- the methods that are built
 abbrev pub built_methods : List String
-built_methods = "session.status" ∷ "session.new" ∷ "session.end" ∷ "session.subscribe" ∷ "session.unsubscribe" ∷ []
+built_methods =
+    "session.status" ∷ "session.new" ∷ "session.end" ∷ "session.subscribe" ∷ "session.unsubscribe"
+    ∷ "browsingContext.activate" ∷ "browsingContext.close" ∷ "browsingContext.create" ∷ "browsingContext.getTree" ∷ []
 
 -- the command has one of them
 abbrev pub is_built : Node → Bool
@@ -47,14 +48,14 @@ all_so_far_after h (i ∷ inputs) = let j = so_far (deeds h) i in j ∷ all_so_f
 abbrev pub all_so_far : List Input → List Input
 all_so_far inputs = all_so_far_after [] inputs
 
--- the steps that are built: those of a page are not
+-- the steps that are built: the log and the table are not
 abbrev pub is_built_step : Step → Bool
 is_built_step (At n) = true
 is_built_step (Open c resource) = true
 is_built_step (Drop c) = true
 is_built_step (Text c text) = true
 is_built_step (NotText c) = true
-is_built_step (Frame id url) = false
-is_built_step (Unframe id) = false
+is_built_step (Frame id url) = true
+is_built_step (Unframe id) = true
 is_built_step (Log id level text) = false
 is_built_step (TableRow text) = false

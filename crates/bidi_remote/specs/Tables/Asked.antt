@@ -11,8 +11,9 @@ use Rattle.bidi_messages.specs.declared.error_code.ErrorCode.{ErrorCode}
 use Rattle.bidi_messages.specs.declared.error_code.ErrorCode.TheVariants.{InvalidSessionId, UnsupportedOperation}
 use Rattle.bidi_messages.specs.declared.command.CommandData.{CommandData}
 use Rattle.bidi_messages.specs.declared.command.CommandData.TheVariants as Of
+use Rattle.bidi_browser.specs.Asked.{activate_asked, close_asked, create_asked, get_tree_asked}
 use Rattle.bidi_remote.specs.Machine.Capabilities.{request_of}
-use Rattle.bidi_remote.specs.Machine.Commands.{Command, Status, New, End, Subscribe, UnsubscribeById, UnsubscribeByEvents, command_of, id_of_command}
+use Rattle.bidi_remote.specs.Machine.Commands.{Command, Status, New, End, Subscribe, UnsubscribeById, UnsubscribeByEvents, OfBrowser, command_of, id_of_command}
 use Rattle.bidi_remote.specs.Machine.History.{Deed}
 use Rattle.bidi_remote.specs.Machine.Connections.{Standing, SpeaksFor}
 use Rattle.bidi_remote.specs.Machine.Outcome.{outcome, outcome_alone}
@@ -37,6 +38,10 @@ asked_of shape (Of.SessionNew params) = Some (New (request_of (shape.tree_of par
 asked_of shape (Of.SessionEnd params) = Some End
 asked_of shape (Of.SessionSubscribe params) = Some (subscribe_asked params)
 asked_of shape (Of.SessionUnsubscribe params) = Some (unsubscribe_asked params)
+asked_of shape (Of.BrowsingContextActivate params) = Some (OfBrowser (activate_asked params))
+asked_of shape (Of.BrowsingContextClose params) = Some (OfBrowser (close_asked params))
+asked_of shape (Of.BrowsingContextCreate params) = Some (OfBrowser (create_asked params))
+asked_of shape (Of.BrowsingContextGetTree params) = Some (OfBrowser (get_tree_asked params))
 asked_of shape d = None
 
 -- the request for a session is well; of another command nothing is asked

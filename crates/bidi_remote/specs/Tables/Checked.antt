@@ -2,8 +2,8 @@
 use Rattle.std.specs.Prelude.{◌≡◌, ⊤, List, ◌++◌, Result, Ok, Err}
 use Rattle.bidi_messages.specs.declared.error_code.ErrorCode.{ErrorCode}
 use Rattle.bidi_browser.specs.Checks.{◌>>=◌}
-use Rattle.bidi_remote.specs.declared.refusal.Refusal.{Refusal}
-use Rattle.bidi_remote.specs.declared.refusal.Refusal.TheVariants.{Code, NoMemory}
+use Rattle.bidi_browser.specs.declared.refusal.Refusal.{Refusal}
+use Rattle.bidi_browser.specs.declared.refusal.Refusal.TheVariants.{Code, NoMemory}
 
 -- they give what the definition gives, or its code, unless a growth was refused
 abbrev pub IfChecked : {A B : Type 0} → Result A Refusal → (A → B) → Result B ErrorCode → Type 0

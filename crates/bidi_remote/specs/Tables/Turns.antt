@@ -1,28 +1,25 @@
 -- What a turn in hand is: the deed that its change makes, and what is told of it.
-use Rattle.std.specs.Prelude.{◌≡◌, ℕ, ◌≤◌, List, [], ◌∷◌, ◌++◌, map, flat_map, Option, Some, None, Result, Ok, Err, IfSome, ⊤}
-use Rattle.std.specs.List.{AllByRecursion}
-use Rattle.bidi_tree.specs.Node.{Node, levels}
+use Rattle.std.specs.Prelude.{◌≡◌, ℕ, List, [], ◌∷◌, ◌++◌, map, flat_map, Option, Some, None, Result, Ok, Err, IfSome, ⊤}
 use Rattle.bidi_messages.specs.declared.error_code.ErrorCode.{ErrorCode}
-use Rattle.bidi_messages.specs.declared.result_data.ResultData.{ResultData}
-use Rattle.bidi_messages.specs.contracts.event.EventDataSubjectEventName.TheImpl as events
-use Rattle.bidi_messages.specs.contracts.result_data.ResultDataSubjectMethod.TheImpl as results
 use Rattle.bidi_messages.specs.Message.{response_text}
-use Rattle.bidi_browser.specs.declared.occurrence.Occurrence as in_hand
-use Rattle.bidi_browser.specs.View.{occurrence_of}
+use Rattle.bidi_browser.specs.Acts.{Act}
+use Rattle.bidi_browser.specs.View.{seen, result_tree}
+use Rattle.bidi_browser.specs.Plans as browser
+use Rattle.bidi_browser.specs.Plans.{AreWell, IsWellResult}
 use Rattle.bidi_browser.specs.Actions.{Action}
 use Rattle.bidi_browser.specs.Occurrences.{Occurrence}
 use Rattle.bidi_browser.specs.Occurs.{Item, Happens, Replies}
-use Rattle.bidi_remote.specs.declared.refusal.Refusal.{Refusal}
-use Rattle.bidi_remote.specs.declared.refusal.Refusal.TheVariants.{Code, NoMemory}
+use Rattle.bidi_browser.specs.declared.refusal.Refusal.{Refusal}
+use Rattle.bidi_browser.specs.declared.refusal.Refusal.TheVariants.{Code, NoMemory}
 use Rattle.bidi_remote.specs.declared.tables.Tables.{Tables}
 use Rattle.bidi_remote.specs.declared.turn.Asker.{Asker}
 use Rattle.bidi_remote.specs.declared.turn.Change.{Change}
-use Rattle.bidi_remote.specs.declared.turn.Change.TheVariants.{Nothing, Begin, End, Subscribe, Cancel, Dismiss}
+use Rattle.bidi_remote.specs.declared.turn.Change.TheVariants.{Nothing, Begin, End, Subscribe, Cancel, Dismiss, Browse}
 use Rattle.bidi_remote.specs.declared.turn.Reply.{Reply}
 use Rattle.bidi_remote.specs.declared.turn.Telling.{Telling}
 use Rattle.bidi_remote.specs.declared.turn.Turn.{Turn}
 use Rattle.bidi_remote.specs.Machine.Commands.{Command}
-use Rattle.bidi_remote.specs.Machine.History.{Deed, Began, Ended, Subscribed, Cancelled, Dismissed, Told}
+use Rattle.bidi_remote.specs.Machine.History.{Deed, Began, Ended, Subscribed, Cancelled, Dismissed, Did, Told, acts}
 use Rattle.bidi_remote.specs.Machine.Sent.{Sent, Text, Close, to_session, to_hearers, announcements, items, action_in, closed}
 use Rattle.bidi_remote.specs.Tables.ConnectionRows as connections
 use Rattle.bidi_remote.specs.Tables.ConnectionRows.{to_each}
@@ -31,30 +28,34 @@ use Rattle.bidi_remote.specs.Tables.SessionView.{scope_of, HasRoomForOne, HasRoo
 
 -- ---- what a change does
 
--- the deed that it makes
-abbrev pub deed_of : Change → Deed
-deed_of Nothing = Told
-deed_of (Begin c) = Began c.value
-deed_of (End s) = Ended s
-deed_of (Subscribe s es scope) = Subscribed s es.items (scope_of scope)
-deed_of (Cancel s ns) = Cancelled s ns.items
-deed_of (Dismiss s es) = Dismissed s es.items
+-- the deed that it makes; that of the browser is what the browser did
+abbrev pub deed_of : Change → Act → Deed
+deed_of Nothing act = Told
+deed_of (Begin c) act = Began c.value
+deed_of (End s) act = Ended s
+deed_of (Subscribe s es scope) act = Subscribed s es.items (scope_of scope)
+deed_of (Cancel s ns) act = Cancelled s ns.items
+deed_of (Dismiss s es) act = Dismissed s es.items
+deed_of (Browse change) act = Did act
+
+-- a change of the browser makes of its tables what the act makes of its past
+abbrev pub IsMade : Change → List Act → Act → Type 0
+IsMade (Browse change) past act = browser.Makes change past act
+IsMade change past act = ⊤
+
+-- it is one of sessions, and not of the browser
+abbrev pub IsOfSessions : Change → Type 0
+IsOfSessions (Browse change) = ⊥
+IsOfSessions change = ⊤
 
 -- there is room in the tables for what it adds
 abbrev pub HasRoom : Tables → Change → Type 0
 HasRoom tables (Begin c) = HasRoomForOne tables.sessions
 HasRoom tables (Subscribe s es scope) = HasRoomIn s tables.sessions
+HasRoom tables (Browse change) = browser.HasRoom tables.browser change
 HasRoom tables change = ⊤
 
 -- ---- what is told of it
-
--- occurrences in hand
-abbrev pub seen : List in_hand.Occurrence → List Occurrence
-seen os = map (occurrence_of events.ghosts.subject) os
-
--- a result in hand
-abbrev pub result_tree : ResultData → Node
-result_tree r = results.ghosts.subject.tree_of r
 
 -- the reply, where somebody asked
 abbrev pub reply_in : Option Reply → List Item
@@ -80,19 +81,19 @@ pub record Tells (t : Telling) (past : List Deed) (action : Option Action) (d : 
   pub announced : seen t.announced.items ≡ announced_by past d
   pub items : items_in t ≡ items past action d
 
--- A message can be made of each event and of the result: a response holds members of at most 60 levels, so a result has at most 61.
+-- a message can be made of each event and of the result
 pub record IsWellTold (t : Telling) : Type 0 where
-  pub announced : AllByRecursion (λ o. events.ghosts.subject.well o.event) t.announced.items
-  pub before : AllByRecursion (λ o. events.ghosts.subject.well o.event) t.before.items
-  pub reply : IfSome t.reply (λ r. results.ghosts.subject.well r.outcome × (levels (result_tree r.outcome) ≤ 61))
-  pub after : AllByRecursion (λ o. events.ghosts.subject.well o.event) t.after.items
+  pub announced : AreWell t.announced.items
+  pub before : AreWell t.before.items
+  pub reply : IfSome t.reply (λ r. IsWellResult r.outcome)
+  pub after : AreWell t.after.items
 
 -- ---- what was decided
 
 -- a turn in hand, or a code, is what a command comes to after this past, and its reply goes to who asked
 abbrev pub Decides : Result Turn Refusal → List Deed → Asker → Option Command → Result Deed ErrorCode → Type 0
 Decides (Ok turn) past asker asked answer =
-    (answer ≡ Ok (deed_of turn.change)) × Tells turn.telling past (action_in asked) (deed_of turn.change)
+    (act : Act) × (answer ≡ Ok (deed_of turn.change act)) × IsMade turn.change (acts past) act × Tells turn.telling past (action_in asked) (deed_of turn.change act)
     × (asker_in turn.telling.reply ≡ Some (asker.conn.value, asker.id.value))
 Decides (Err (Code code)) past asker asked answer = answer ≡ Err code
 Decides (Err NoMemory) past asker asked answer = ⊤

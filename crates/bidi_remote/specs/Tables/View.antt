@@ -13,6 +13,8 @@ step_of (step_in_code.Open c resource) = step.Open c.value (string_bytes resourc
 step_of (step_in_code.Drop c) = step.Drop c.value
 step_of (step_in_code.Text c text) = step.Text c.value (string_bytes text)
 step_of (step_in_code.NotText c) = step.NotText c.value
+step_of (step_in_code.Frame context url) = step.Frame (string_bytes context) (string_bytes url)
+step_of (step_in_code.Unframe context) = step.Unframe (string_bytes context)
 
 abbrev pub sent_of : declared_sent.Sent → sent.Sent
 sent_of (sent_in_code.Text c text) = sent.Text c.value (string_bytes text)
@@ -20,6 +22,7 @@ sent_of (sent_in_code.Close c) = sent.Close c.value
 sent_of (sent_in_code.Opened c) = sent.Opened c.value
 sent_of (sent_in_code.Denied c) = sent.Denied c.value
 sent_of (sent_in_code.Lost c) = sent.Lost c.value
+sent_of sent_in_code.NoEffect = sent.NoEffect
 
 -- one thing that may be sent
 abbrev pub sent_if : Option declared_sent.Sent → List sent.Sent

@@ -3,10 +3,11 @@ ghost use Rattle.std.specs.Prelude.{◌≡◌, List, Ok, Some};
 ghost use Rattle.bidi_browser.specs.Maps.{nothing};
 ghost use Rattle.bidi_remote.specs.Machine.Commands.{End};
 ghost use Rattle.bidi_remote.specs.Machine.History.{Deed, Ended};
-ghost use Rattle.bidi_remote.specs.Tables.Turns.{Decides, IsWellDecided, result_tree};
+ghost use Rattle.bidi_browser.specs.View.{result_tree};
+ghost use Rattle.bidi_remote.specs.Tables.Turns.{Decides, IsWellDecided};
 
-use crate::refusal::Refusal;
 use crate::turn::{Asker, Change, Turn};
+use bidi_browser::Refusal;
 use bidi_messages::{Method, ResultData, Subject};
 use bidi_params::EmptyResult;
 use bidi_shape::Ext;

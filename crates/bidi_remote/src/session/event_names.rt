@@ -3,7 +3,7 @@ ghost use Rattle.std.specs.Prelude.{◌≡◌, map, string_bytes, option_map};
 ghost use Rattle.bidi_remote.specs.Tables.Checked.{IfChecked, behind};
 ghost use Rattle.bidi_remote.specs.Machine.Outcome.{events_of_module, events_named, all_named};
 
-use crate::refusal::Refusal;
+use bidi_browser::Refusal;
 use bidi_messages::{ErrorCode, EventName};
 use bidi_shape::Named;
 use std::alloc::Global;

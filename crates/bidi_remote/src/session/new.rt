@@ -10,15 +10,15 @@ ghost use Rattle.bidi_remote.specs.Machine.History.{Deed};
 ghost use Rattle.bidi_remote.specs.Machine.Outcome.{new_outcome};
 ghost use Rattle.bidi_remote.specs.Machine.Sessions.{sessions_made};
 ghost use Rattle.bidi_remote.specs.Tables.Stands.{AgreeWith};
-ghost use Rattle.bidi_remote.specs.Tables.Turns.{Decides, IsWellDecided, result_tree};
+ghost use Rattle.bidi_browser.specs.View.{result_tree};
+ghost use Rattle.bidi_remote.specs.Tables.Turns.{Decides, IsWellDecided};
 
-use crate::refusal::Refusal;
 use crate::session::capabilities::{
     BROWSER_NAME, BROWSER_VERSION, PLATFORM_NAME, match_capabilities,
 };
 use crate::tables::Tables;
 use crate::turn::{Asker, Change, Turn};
-use bidi_browser::{Kind, id_text};
+use bidi_browser::{Kind, Refusal, id_text};
 use bidi_messages::{ErrorCode, Method, ResultData, Subject};
 use bidi_params::{Capabilities, NewParameters, NewResult};
 use bidi_shape::{Ext, Shape};

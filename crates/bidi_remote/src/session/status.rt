@@ -5,11 +5,12 @@ ghost use Rattle.bidi_messages.specs.Message.{status_tree};
 ghost use Rattle.bidi_remote.specs.Machine.Commands.{Status};
 ghost use Rattle.bidi_remote.specs.Machine.History.{Deed, Told};
 ghost use Rattle.bidi_remote.specs.Tables.Stands.{AgreeWith};
-ghost use Rattle.bidi_remote.specs.Tables.Turns.{Decides, IsWellDecided, result_tree};
+ghost use Rattle.bidi_browser.specs.View.{result_tree};
+ghost use Rattle.bidi_remote.specs.Tables.Turns.{Decides, IsWellDecided};
 
-use crate::refusal::Refusal;
 use crate::tables::Tables;
 use crate::turn::{Asker, Change, Turn};
+use bidi_browser::Refusal;
 use bidi_messages::{Method, ResultData, Subject};
 use bidi_params::StatusResult;
 use bidi_shape::Ext;

@@ -1,5 +1,5 @@
 //! `session.unsubscribe`.
-ghost use Rattle.std.specs.Prelude.{◌≡◌, List, Some, true};
+ghost use Rattle.std.specs.Prelude.{◌≡◌, List, Some, true, IfOk};
 ghost use Rattle.bidi_browser.specs.Maps.{nothing};
 ghost use Rattle.bidi_remote.specs.Machine.History.{Deed};
 ghost use Rattle.bidi_remote.specs.Machine.Outcome.{outcome_in, unsubscribe_by_id_outcome, unsubscribe_by_events_outcome};
@@ -7,13 +7,15 @@ ghost use Rattle.bidi_remote.specs.Machine.Sessions.{is_active};
 ghost use Rattle.bidi_remote.specs.Tables.Asked.{texts, unsubscribe_asked};
 ghost use Rattle.bidi_remote.specs.Tables.Checked.{IfChecked};
 ghost use Rattle.bidi_remote.specs.Tables.Stands.{AgreeWith};
-ghost use Rattle.bidi_remote.specs.Tables.Turns.{Decides, IsWellDecided, deed_of, result_tree};
+ghost use Rattle.bidi_browser.specs.View.{result_tree};
+ghost use Rattle.bidi_browser.specs.Acts.{Looked};
+ghost use Rattle.bidi_remote.specs.Tables.Turns.{Decides, IsWellDecided, IsOfSessions, deed_of};
 
-use crate::refusal::Refusal;
 use crate::session::event_names::all_named;
 use crate::subscriptions::{all_global, numbers_of};
 use crate::tables::Tables;
 use crate::turn::{Asker, Change, Turn};
+use bidi_browser::Refusal;
 use bidi_messages::{ErrorCode, Method, ResultData, Subject};
 use bidi_params::{EmptyResult, UnsubscribeParameters};
 use bidi_shape::Ext;
@@ -55,8 +57,9 @@ fn end_by_ids(
     session: u32,
     ids: &[String],
 ) -> Result<Change, Refusal>
-    ensures { (past : List Deed) → AgreeWith tables.now past → is_active past session ≡ true
-        → IfChecked result deed_of (unsubscribe_by_id_outcome past session (texts ids.now)) }
+    ensures checked { (past : List Deed) → AgreeWith tables.now past → is_active past session ≡ true
+        → IfChecked result (λ change. deed_of change Looked) (unsubscribe_by_id_outcome past session (texts ids.now)) }
+    ensures of_sessions { IfOk result IsOfSessions }
 {
     let held = tables.sessions.subscriptions_of(session);
     let numbers = numbers_of(alloc, held, session, ids)?;
@@ -70,8 +73,9 @@ fn end_by_events(
     session: u32,
     names: &[String],
 ) -> Result<Change, Refusal>
-    ensures { (past : List Deed) → AgreeWith tables.now past → is_active past session ≡ true
-        → IfChecked result deed_of (unsubscribe_by_events_outcome past session (texts names.now)) }
+    ensures checked { (past : List Deed) → AgreeWith tables.now past → is_active past session ≡ true
+        → IfChecked result (λ change. deed_of change Looked) (unsubscribe_by_events_outcome past session (texts names.now)) }
+    ensures of_sessions { IfOk result IsOfSessions }
 {
     let events = all_named(alloc, names)?;
     if !all_global(tables.sessions.subscriptions_of(session), &events) {

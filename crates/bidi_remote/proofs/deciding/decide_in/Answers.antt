@@ -1,10 +1,10 @@
-use Rattle.std.proofs.Common.{sym, ap, subst, arith}
+use Rattle.std.proofs.Common.{refl, sym, ap, subst, arith}
 use Rattle.bidi_params.specs.contracts.session.capabilities.NewParametersShape.TheImpl.{ghosts}
 use Rattle.bidi_remote.specs.Machine.Connections.{SpeaksFor}
 use Rattle.bidi_remote.specs.Machine.Outcome.{deeds}
 use Rattle.bidi_remote.specs.Tables.Asked.{asked_of, outcome_so_far}
 use Rattle.bidi_remote.specs.Tables.Turns.{Decides}
-use Rattle.bidi_remote.proofs.SpeakingLemmas.{speaks-active, few-subscriptions}
+use Rattle.bidi_remote.proofs.SpeakingLemmas.{speaks-active, few-subscriptions, has-ids}
 use Rattle.bidi_remote.proofs.deciding.decide_in.Goals as goal
 
 pub returns-in-SessionSubscribe-clause-ok : goal.returns-in-SessionSubscribe-clause-ok
@@ -21,3 +21,31 @@ returns-in-SessionUnsubscribe-clause-ok c = λ h short a speaks.
     let s = c.args.session in
     subst (λ asked. Decides c.decide_unsubscribe.result (deeds h) c.args.asker asked (outcome_so_far (deeds h) conn (SpeaksFor s) asked)) (sym (ap (asked_of ghosts.shape) c.in-SessionUnsubscribe.is))
     (c.decide_unsubscribe.ensures.ok (deeds h) a (speaks-active h conn s speaks))
+
+pub returns-in-BrowsingContextActivate-clause-ok : goal.returns-in-BrowsingContextActivate-clause-ok
+returns-in-BrowsingContextActivate-clause-ok c = λ h short a speaks.
+    let conn = c.args.asker.conn.value in
+    let s = c.args.session in
+    subst (λ asked. Decides c.decide_browsing.result (deeds h) c.args.asker asked (outcome_so_far (deeds h) conn (SpeaksFor s) asked)) (sym (ap (asked_of ghosts.shape) c.in-BrowsingContextActivate.is))
+    (c.decide_browsing.ensures.ok (deeds h) a (has-ids h short) refl)
+
+pub returns-in-BrowsingContextClose-clause-ok : goal.returns-in-BrowsingContextClose-clause-ok
+returns-in-BrowsingContextClose-clause-ok c = λ h short a speaks.
+    let conn = c.args.asker.conn.value in
+    let s = c.args.session in
+    subst (λ asked. Decides c.decide_browsing-in-BrowsingContextClose.result (deeds h) c.args.asker asked (outcome_so_far (deeds h) conn (SpeaksFor s) asked)) (sym (ap (asked_of ghosts.shape) c.in-BrowsingContextClose.is))
+    (c.decide_browsing-in-BrowsingContextClose.ensures.ok (deeds h) a (has-ids h short) refl)
+
+pub returns-in-BrowsingContextCreate-clause-ok : goal.returns-in-BrowsingContextCreate-clause-ok
+returns-in-BrowsingContextCreate-clause-ok c = λ h short a speaks.
+    let conn = c.args.asker.conn.value in
+    let s = c.args.session in
+    subst (λ asked. Decides c.decide_browsing-in-BrowsingContextCreate.result (deeds h) c.args.asker asked (outcome_so_far (deeds h) conn (SpeaksFor s) asked)) (sym (ap (asked_of ghosts.shape) c.in-BrowsingContextCreate.is))
+    (c.decide_browsing-in-BrowsingContextCreate.ensures.ok (deeds h) a (has-ids h short) refl)
+
+pub returns-in-BrowsingContextGetTree-clause-ok : goal.returns-in-BrowsingContextGetTree-clause-ok
+returns-in-BrowsingContextGetTree-clause-ok c = λ h short a speaks.
+    let conn = c.args.asker.conn.value in
+    let s = c.args.session in
+    subst (λ asked. Decides c.decide_browsing-in-BrowsingContextGetTree.result (deeds h) c.args.asker asked (outcome_so_far (deeds h) conn (SpeaksFor s) asked)) (sym (ap (asked_of ghosts.shape) c.in-BrowsingContextGetTree.is))
+    (c.decide_browsing-in-BrowsingContextGetTree.ensures.ok (deeds h) a (has-ids h short) refl)

@@ -3,11 +3,10 @@ use Rattle.std.specs.Prelude.{flat_map}
 use Rattle.std.specs.List.{AllByRecursion}
 use Rattle.std.proofs.lemmas.List.{drop_all}
 use Rattle.bidi_messages.specs.contracts.event.EventDataSubjectEventName.TheImpl.{ghosts}
-use Rattle.bidi_browser.specs.View.{occurrence_of}
+use Rattle.bidi_browser.specs.View.{occurrence_of, seen}
 use Rattle.bidi_remote.specs.Tables.ConnectionRows.{rows_in}
 use Rattle.bidi_remote.specs.Tables.Routes.{to_all}
 use Rattle.bidi_remote.specs.Tables.SessionView as sessions
-use Rattle.bidi_remote.specs.Tables.Turns.{seen}
 use Rattle.bidi_remote.specs.Tables.View.{sent_of}
 use Rattle.bidi_remote.proofs.ListLemmas.{from-item}
 use Rattle.bidi_remote.proofs.telling.push_events.Goals as goal

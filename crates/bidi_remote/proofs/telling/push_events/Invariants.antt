@@ -6,7 +6,7 @@ use Rattle.bidi_remote.specs.Tables.ConnectionRows.{rows_in}
 use Rattle.bidi_remote.specs.Tables.Messages.{AllReadBack}
 use Rattle.bidi_remote.specs.Tables.Routes.{to_all}
 use Rattle.bidi_remote.specs.Tables.SessionView as sessions
-use Rattle.bidi_remote.specs.Tables.Turns.{seen}
+use Rattle.bidi_browser.specs.View.{seen}
 use Rattle.bidi_remote.specs.Tables.View.{sent_of}
 use Rattle.bidi_remote.proofs.telling.push_events.Given as goal
 

@@ -3,10 +3,9 @@ use Rattle.std.proofs.Common.{◌∙◌, ◌++◌, ◌+◌, append_assoc, append
 use Rattle.std.specs.Prelude.{flat_map}
 use Rattle.std.specs.List.{AllByRecursion}
 use Rattle.bidi_messages.specs.contracts.event.EventDataSubjectEventName.TheImpl.{ghosts}
-use Rattle.bidi_browser.specs.View.{occurrence_of}
+use Rattle.bidi_browser.specs.View.{occurrence_of, seen}
 use Rattle.bidi_remote.specs.Tables.ConnectionRows.{rows_in}
 use Rattle.bidi_remote.specs.Tables.Routes.{to_one}
-use Rattle.bidi_remote.specs.Tables.Turns.{seen}
 use Rattle.bidi_remote.specs.Tables.View.{sent_of}
 use Rattle.bidi_remote.proofs.ListLemmas.{from-item}
 use Rattle.bidi_remote.proofs.telling.push_to_session.Goals as goal

@@ -5,7 +5,7 @@ use Rattle.bidi_messages.specs.contracts.event.EventDataSubjectEventName.TheImpl
 use Rattle.bidi_remote.specs.Tables.ConnectionRows.{rows_in}
 use Rattle.bidi_remote.specs.Tables.Messages.{AllReadBack}
 use Rattle.bidi_remote.specs.Tables.Routes.{to_one}
-use Rattle.bidi_remote.specs.Tables.Turns.{seen}
+use Rattle.bidi_browser.specs.View.{seen}
 use Rattle.bidi_remote.specs.Tables.View.{sent_of}
 use Rattle.bidi_remote.proofs.telling.push_to_session.Given as goal
 

@@ -11,7 +11,7 @@ use Rattle.bidi_remote.specs.Machine.Sent.{subscription_tree}
 use Rattle.bidi_remote.specs.Tables.Asked.{texts, subscribe_asked}
 use Rattle.bidi_remote.specs.Tables.SessionView.{scope_of, row_of}
 use Rattle.bidi_remote.specs.Tables.Routes.{is_new}
-use Rattle.bidi_remote.specs.Tables.Turns.{seen}
+use Rattle.bidi_browser.specs.View.{seen}
 use Rattle.bidi_remote.proofs.DecideLemmas.{announced-decides, row-active, held-length, subscribe-checked, new-announced}
 use Rattle.bidi_remote.proofs.session.subscribe.decide_subscribe.Goals as goal
 
@@ -37,7 +37,7 @@ returns-clause-ok c = λ past a active few.
     let rows = c.subscriptions_of-held.ensures ∙ ap (λ r. r.subscriptions) row in
     let made = ap (λ r. r.made) row in
     let next : c.next_subscription.result ≡ next_subscription past s = let n = c.next_subscription.ensures (omega (arith, made, few)) in omega (arith, n, made) in
-    announced-decides c.announced.result past c.args.asker (Some (subscribe_asked c.args.params.now)) _ (Subscribe s es scope) c.in_ok-reply.reply
+    announced-decides c.announced.result past c.args.asker (Some (subscribe_asked c.args.params.now)) _ (Subscribe s es scope) c.in_ok-reply.reply tt
     c.announced.ensures.change c.announced.ensures.before c.announced.ensures.reply c.announced.ensures.after
     (subscribe-checked past s (length held) (texts c.args.params.now.events.items.items) (option_map (λ l. texts l.items.items) c.args.params.now.contexts) (option_map (λ l. texts l.items.items) c.args.params.now.user_contexts) es.items (scope_of scope) true (ap (λ xs. all_named (texts xs)) (sym c.deref.ensures.value) ∙ c.in_ok-events.ensures) (c.in_ok-scope.ensures (acts past) a.browser) (held-length past s held rows) room)
     (ap (λ t. Replies t ∷ []) (c.in_ok-reply.ensures.tree ∙ ap (subscription_tree s) next))

@@ -3,10 +3,9 @@ use Rattle.std.specs.Prelude.{filter}
 use Rattle.std.specs.List.{AllByRecursion}
 use Rattle.std.proofs.lemmas.Fn.{filter_same}
 use Rattle.bidi_messages.specs.contracts.event.EventDataSubjectEventName.TheImpl.{ghosts}
-use Rattle.bidi_browser.specs.View.{occurrence_of}
+use Rattle.bidi_browser.specs.View.{occurrence_of, seen}
 use Rattle.bidi_remote.specs.Tables.Routes.{is_new}
 use Rattle.bidi_remote.specs.Tables.SessionView.{scope_of, row_of}
-use Rattle.bidi_remote.specs.Tables.Turns.{seen}
 use Rattle.bidi_remote.proofs.ListLemmas.{map-filter}
 use Rattle.bidi_remote.proofs.DecideLemmas.{all-kept}
 use Rattle.bidi_remote.proofs.session.subscribe.newly_enabled.Goals as goal

@@ -6,8 +6,8 @@ use Rattle.bidi_remote.specs.Tables.SubscriptionRows.{row_holds}
 use Rattle.bidi_remote.proofs.DecideLemmas.{row-active, all-held, dismiss-checked}
 use Rattle.bidi_remote.proofs.session.unsubscribe.end_by_events.Goals as goal
 
-pub returns-then-not-all_global : goal.returns-then-not-all_global
-returns-then-not-all_global c = λ past a active.
+pub returns-then-not-all_global-clause-checked : goal.returns-then-not-all_global-clause-checked
+returns-then-not-all_global-clause-checked c = λ past a active.
     let s = c.args.session in
     let held = c.subscriptions_of.result.now in
     let es = c.in_ok-events.events.items in
@@ -15,8 +15,8 @@ returns-then-not-all_global c = λ past a active.
     dismiss-checked past s (texts c.args.names.now) es false c.in_ok-events.ensures
     (sym (all-held past s held es rows) ∙ (ap (list_all (λ e. list_any (λ x. row_holds e (row_of x)) held)) (sym c.deref.ensures.value) ∙ (sym c.all_global.ensures ∙ c.if-not-all_global.true)))
 
-pub returns : goal.returns
-returns c = λ past a active.
+pub returns-clause-checked : goal.returns-clause-checked
+returns-clause-checked c = λ past a active.
     let s = c.args.session in
     let held = c.subscriptions_of.result.now in
     let es = c.in_ok-events.events.items in

@@ -1,11 +1,12 @@
-use Rattle.std.proofs.Common.{refl, sym, subst, ap, ◌∙◌, map, Ok}
+use Rattle.std.proofs.Common.{refl, sym, subst, ap, ap₂, ◌∙◌, map, Ok}
+use Rattle.bidi_browser.specs.Actions.{Frame, Unframe}
 use Rattle.bidi_remote.specs.declared.step.Step.{Step}
 use Rattle.bidi_remote.specs.Machine.Step.{Text}
-use Rattle.bidi_remote.specs.Machine.History.{At, Open, Drop, NotText, Time, IsHeardAs}
+use Rattle.bidi_remote.specs.Machine.History.{At, Open, Drop, NotText, InPage, Time, IsHeardAs}
 use Rattle.bidi_remote.specs.Machine.Outcome.{deeds}
 use Rattle.bidi_remote.specs.Tables.View.{step_of, sent_of}
 use Rattle.bidi_remote.proofs.ChangeLemmas.{agree-time}
-use Rattle.bidi_remote.proofs.TakeLemmas.{takes, nothing, step_heard, text_heard}
+use Rattle.bidi_remote.proofs.TakeLemmas.{takes, nothing, step_heard, page_heard, text_heard}
 use Rattle.bidi_remote.proofs.tables.Tables.take.Goals as goal
 
 pub returns-in-At-clause-ok : goal.returns-in-At-clause-ok
@@ -36,3 +37,15 @@ pub returns-in-NotText-clause-ok : goal.returns-in-NotText-clause-ok
 returns-in-NotText-clause-ok c =
     let i = NotText c.in-NotText.conn.value in
     step_heard c.hear_no_text.result (step_of c.args.step) c.args.self.now c.args.self.now i (subst (λ (s : Step). IsHeardAs (step_of s) i) (sym c.in-NotText.is) refl) c.hear_no_text.ensures
+
+pub returns-in-Frame-clause-ok : goal.returns-in-Frame-clause-ok
+returns-in-Frame-clause-ok c =
+    let action = Frame c.as_str-in-Frame.result.now c.as_str-in-Frame-2.result.now in
+    page_heard c.page.result (step_of c.args.step) c.args.self.now c.page.new.self action
+    (subst (λ (s : Step). IsHeardAs (step_of s) (InPage action)) (sym c.in-Frame.is) (ap₂ (λ id url. InPage (Frame id url)) c.as_str-in-Frame.ensures.value c.as_str-in-Frame-2.ensures.value)) (λ h short a. c.page.ensures.ok h short a refl)
+
+pub returns-in-Unframe-clause-ok : goal.returns-in-Unframe-clause-ok
+returns-in-Unframe-clause-ok c =
+    let action = Unframe c.as_str-in-Unframe.result.now in
+    page_heard c.page-in-Unframe.result (step_of c.args.step) c.args.self.now c.page-in-Unframe.new.self action
+    (subst (λ (s : Step). IsHeardAs (step_of s) (InPage action)) (sym c.in-Unframe.is) (ap (λ id. InPage (Unframe id)) c.as_str-in-Unframe.ensures.value)) (λ h short a. c.page-in-Unframe.ensures.ok h short a refl)

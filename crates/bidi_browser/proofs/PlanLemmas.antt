@@ -1,0 +1,178 @@
+-- Why a plan in hand is that of the definitions.
+use Rattle.std.proofs.Common.{◌≡◌, ◌∙◌, ◌≤◌, ◌+◌, ℕ, suc, Bool, true, false, List, [], ◌∷◌, ◌++◌, map, Option, Some, None, Result, Ok, Err, unwrap_or, refl, sym, ap, ap₂, subst, arith}
+use Rattle.std.specs.Prelude.{not, find, nat_lt, is_none, is_some, Vec, option_map, option_to_list, IfSome}
+use Rattle.std.specs.Borrow.{Bor}
+use Rattle.std.specs.Result.{IsErrAnd}
+use Rattle.std.specs.declared.alloc.Global.{Global}
+use Rattle.url.specs.Parts.{Parts}
+use Rattle.bidi_tree.specs.Node.{Node, levels}
+use Rattle.bidi_messages.specs.declared.result_data.ResultData.{ResultData}
+use Rattle.bidi_messages.specs.declared.error_code.ErrorCode.TheVariants.{NoSuchFrame}
+use Rattle.bidi_messages.specs.contracts.result_data.ResultDataSubjectMethod.TheImpl as results
+use Rattle.bidi_params.specs.declared.browsing_context.info.Info.{Info}
+use Rattle.bidi_browser.specs.declared.refusal.Refusal.{Refusal}
+use Rattle.bidi_browser.specs.declared.refusal.Refusal.TheVariants.{Code, NoMemory}
+use Rattle.bidi_browser.specs.declared.occurrence.Occurrence as in_hand
+use Rattle.bidi_browser.specs.declared.contexts.Context as declared_context
+use Rattle.bidi_browser.specs.declared.plan.Plan.{Plan}
+use Rattle.bidi_browser.specs.declared.plan.Edit.TheVariants.{Keep}
+use Rattle.bidi_browser.specs.declared.id.Kind.TheVariants.{Context, Realm, Window}
+use Rattle.bidi_browser.specs.Urls.{about_blank, parsed}
+use Rattle.bidi_browser.specs.Acts.{Act, Made, Framed, Looked, next_number}
+use Rattle.bidi_browser.specs.Accepted.{AreAccepted}
+use Rattle.bidi_browser.specs.Actions.{Action, GetTree, is_asked}
+use Rattle.bidi_browser.specs.Found.{AreRoots}
+use Rattle.bidi_browser.specs.Maps.{nothing}
+use Rattle.bidi_browser.specs.Contexts.{parent_of, top_of, level_of, window_of, contexts, context_of, tops, subtree_of, tree_order}
+use Rattle.bidi_browser.specs.Checks.{found}
+use Rattle.bidi_browser.specs.Info.{info_of}
+use Rattle.bidi_browser.specs.Outcome.{outcome, context_named, looked, looked_at, has_room, frame_outcome, oldest_window}
+use Rattle.bidi_browser.specs.Occurrences.{Occurrence, realm_destroyed, context_destroyed, removal, tree_events}
+use Rattle.bidi_browser.specs.Occurs.{Happens, Replies, roots, birth, occurs}
+use Rattle.bidi_browser.specs.ContextRows.{Row, row_of, row_at, created_in, realm_created_in, realm_destroyed_in}
+use Rattle.bidi_browser.specs.Plans.{Plans, AreWell, IsWellResult, IsWellTold, reply_in}
+use Rattle.bidi_browser.specs.View.{seen, result_tree}
+use Rattle.bidi_browser.proofs.BirthLemmas.{row-made, row-framed}
+use Rattle.bidi_browser.proofs.RowLemmas.{oldest-window, created-stand, realms-stand}
+
+-- ---- what only looks
+
+-- its result, and nothing else
+pub looked-plans : (plan : Plan) (past : List Act) (moment : ℕ) (action : Action) (r : ResultData) → is_asked action ≡ true → outcome past action ≡ Ok Looked → Replies (result_tree r) ∷ [] ≡ occurs past moment action Looked
+    → plan.before.items ≡ [] → plan.result ≡ Some r → plan.after.items ≡ [] → plan.change.edit ≡ Keep → Plans (Ok plan) past moment action
+looked-plans plan past moment action r asked checked told before reply after change = (Looked, checked, rw (before, reply, after) told, rw (reply, asked) refl, rw change refl)
+
+-- the context that is asked for
+pub root-found : (past : List Act) (id : List ℕ) (c : ℕ) (root : Option (List ℕ)) → root ≡ Some id → context_named past id ≡ Ok c → (looked_at past root ≡ Ok Looked) × (roots past root ≡ c ∷ [])
+root-found past id c root is named = rw is (ap looked named, ap option_to_list (of-found (context_of past id) c named))
+  where
+    of-found : (o : Option ℕ) (c : ℕ) → found o NoSuchFrame ≡ Ok c → o ≡ Some c
+    of-found None c e = absurd (cc)
+    of-found (Some d) c e = cc
+
+-- its one Info
+pub one-info : {A : Type 0} (tree_of : A → Node) (past : List Act) (depth : Option ℕ) (c : ℕ) (none all : List A) (info : A) → all ≡ none ++ info ∷ [] → none ≡ [] → tree_of info ≡ info_of past depth c
+    → map tree_of all ≡ map (info_of past depth) (c ∷ [])
+one-info tree_of past depth c none all info pushed empty is = ap (map tree_of) (pushed ∙ ap (λ xs. xs ++ info ∷ []) empty) ∙ ap (λ t. t ∷ []) is
+
+-- the check of getTree fails
+pub refused-roots : (tree_of : Info → Node) (q : Result (Vec Info Global) Refusal) (r : Result Plan Refusal) (refusal : Refusal) (past : List Act) (moment : ℕ) (shown depth : Option ℕ) (root : Option (List ℕ)) → shown ≡ depth
+    → AreRoots tree_of q past shown root → q ≡ Err refusal → IsErrAnd r (λ e. e ≡ refusal) → Plans r past moment (GetTree depth root)
+refused-roots tree_of q (Err e) (Code code) past moment shown depth root same checked failed is =
+    subst (λ x. Plans (Err x) past moment (GetTree depth root)) (sym is) (subst (λ x. AreRoots tree_of x past shown root) failed checked)
+refused-roots tree_of q (Err e) NoMemory past moment shown depth root same checked failed is = subst (λ x. Plans (Err x) past moment (GetTree depth root)) (sym is) tt
+refused-roots tree_of q (Ok plan) refusal past moment shown depth root same checked failed is = absurd is
+
+-- a result of which a message can be made
+pub result-well : (r : ResultData) (t : Node) → results.ghosts.subject.well r → result_tree r ≡ t → levels t ≤ 61 → IsWellResult r
+result-well r t well is few = (well, subst (λ u. levels u ≤ 61) (sym is) few)
+
+-- a plan without events, with such a result
+pub told-well : (plan : Plan) (r : ResultData) → plan.before.items ≡ [] → plan.result ≡ Some r → plan.after.items ≡ [] → IsWellResult r → IsWellTold plan
+told-well plan r before reply after well = record {
+  before = subst AreWell (sym before) tt;
+  result = subst (λ o. IfSome o IsWellResult) (sym reply) well;
+  after = subst AreWell (sym after) tt;
+}
+
+-- ---- births
+
+-- the checks of a frame
+pub frame-passes : (past : List Act) (id address : List ℕ) (p : ℕ) (url : Parts) → context_named past id ≡ Ok p → parsed address ≡ Some url → has_room past ≡ true → nat_lt (level_of past p) 16 ≡ true
+    → frame_outcome past id address ≡ Ok (Framed p url)
+frame-passes past id address p url named read room high = rw (named, read, room, high) refl
+
+-- the events of a birth
+born-told : (past : List Act) (act : Act) (row : Row) (os : List Occurrence) → row ≡ row_at (act ∷ past) (next_number past Context) → os ≡ created_in row ∷ realm_created_in row ∷ []
+    → map Happens os ≡ birth past act
+born-told past act row os is told = ap (map Happens) (told ∙ ap (λ r. created_in r ∷ realm_created_in r ∷ []) is)
+
+-- a birth that somebody asked for
+pub asked-birth : (past : List Act) (act : Act) (row : Row) (before after : List in_hand.Occurrence) (reply : Option ResultData) (t : Node) → row ≡ row_at (act ∷ past) (next_number past Context)
+    → seen before ≡ created_in row ∷ realm_created_in row ∷ [] → reply_in reply ≡ Replies t ∷ [] → after ≡ []
+    → map Happens (seen before) ++ (reply_in reply ++ map Happens (seen after)) ≡ birth past act ++ Replies t ∷ []
+asked-birth past act row before after reply t is told replied none = ap₂ (λ xs ys. xs ++ ys) (born-told past act row (seen before) is told) (ap₂ (λ xs os. xs ++ map Happens (seen os)) replied none)
+
+-- and one that nobody asked for
+pub unasked-birth : (past : List Act) (act : Act) (row : Row) (before after : List in_hand.Occurrence) → row ≡ row_at (act ∷ past) (next_number past Context)
+    → seen before ≡ created_in row ∷ realm_created_in row ∷ [] → after ≡ [] → map Happens (seen before) ++ map Happens (seen after) ≡ birth past act
+unasked-birth past act row before after is told none = ap₂ (λ xs os. xs ++ map Happens (seen os)) (born-told past act row (seen before) is told) none
+
+-- whether there is no window yet
+pub none-is : (o : Option ℕ) (b : Bool) → is_some o ≡ not b → b ≡ is_none o
+none-is None true e = refl
+none-is None false e = absurd (cc)
+none-is (Some n) true e = absurd (cc)
+none-is (Some n) false e = refl
+
+-- the row of a new top-level context
+pub made-row : (past : List Act) (w : Option ℕ) (row : Row) (number window realm next : ℕ) → AreAccepted past → number ≡ next_number past Context → realm ≡ next_number past Realm → next ≡ next_number past Window → window ≡ unwrap_or w next
+    → row ≡ record { number = number; parent = None; top = number; level = 1; window = window; realm = realm; url = about_blank } → row ≡ row_at (Made w ∷ past) (next_number past Context)
+made-row past w row number window realm next accepted n r v opened is =
+    is ∙ (ap₂ (λ k x. record { number = k; parent = None; top = k; level = 1; window = x; realm = realm; url = about_blank }) n (opened ∙ ap (unwrap_or w) v)
+    ∙ (ap (λ x. record { number = next_number past Context; parent = None; top = next_number past Context; level = 1; window = unwrap_or w (next_number past Window); realm = x; url = about_blank }) r
+    ∙ sym (row-made past w accepted)))
+
+-- the row of a new child
+pub framed-row : (past : List Act) (p : ℕ) (url : Parts) (parent row : Row) (number realm : ℕ) → number ≡ next_number past Context → realm ≡ next_number past Realm → parent ≡ row_at past p
+    → row ≡ record { number = number; parent = Some parent.number; top = parent.top; level = parent.level + 1; window = parent.window; realm = realm; url = url } → row ≡ row_at (Framed p url ∷ past) (next_number past Context)
+framed-row past p url parent row number realm n r is made =
+    made ∙ (ap₂ (λ k x. record { number = k; parent = Some parent.number; top = parent.top; level = parent.level + 1; window = parent.window; realm = x; url = url }) n r
+    ∙ (ap (λ (q : Row). record { number = next_number past Context; parent = Some q.number; top = q.top; level = q.level + 1; window = q.window; realm = next_number past Realm; url = url }) is
+    ∙ (ap (λ k. record { number = next_number past Context; parent = Some p; top = top_of past p; level = k; window = window_of past p; realm = next_number past Realm; url = url }) (one-more (level_of past p))
+    ∙ sym (row-framed past p url))))
+  where
+    one-more : (n : ℕ) → n + 1 ≡ suc n
+    one-more n = omega arith
+
+-- ---- windows
+
+-- the window of the oldest top-level context in hand
+pub window-stands : (past : List Act) (o : Option (Bor declared_context.Context)) (window : Option ℕ) → window ≡ option_map (λ c. c.now.window) o
+    → option_map (λ c. row_of c.now) o ≡ option_map (row_at past) (find (λ c. is_none (parent_of past c)) (contexts past)) → window ≡ oldest_window past (tops past)
+window-stands past o window is found = is ∙ (window-rows o ∙ (ap (option_map (λ (r : Row). r.window)) found ∙ (window-at (find (λ c. is_none (parent_of past c)) (contexts past)) ∙ sym (oldest-window past))))
+  where
+    window-rows : (o : Option (Bor declared_context.Context)) → option_map (λ c. c.now.window) o ≡ option_map (λ (r : Row). r.window) (option_map (λ c. row_of c.now) o)
+    window-rows None = refl
+    window-rows (Some c) = refl
+
+    window-at : (o : Option ℕ) → option_map (λ (r : Row). r.window) (option_map (row_at past) o) ≡ option_map (window_of past) o
+    window-at None = refl
+    window-at (Some c) = refl
+
+-- ---- several contexts
+
+-- the numbers of contexts in hand
+pub numbers-of : (past : List Act) (gs : List (Bor declared_context.Context)) (cs : List ℕ) → map (λ g. row_of g.now) gs ≡ map (row_at past) cs → map (λ g. g.now.number) gs ≡ cs
+numbers-of past gs cs same = sym (map-map gs) ∙ (ap (map (λ (r : Row). r.number)) same ∙ numbers-at cs)
+  where
+    map-map : (gs : List (Bor declared_context.Context)) → map (λ (r : Row). r.number) (map (λ g. row_of g.now) gs) ≡ map (λ g. g.now.number) gs
+    map-map [] = refl
+    map-map (g ∷ gs) = ap (λ ns. g.now.number ∷ ns) (map-map gs)
+
+    numbers-at : (cs : List ℕ) → map (λ (r : Row). r.number) (map (row_at past) cs) ≡ cs
+    numbers-at [] = refl
+    numbers-at (c ∷ cs) = ap (λ ns. c ∷ ns) (numbers-at cs)
+
+-- each context, then each realm, tells of the whole tree
+pub events-told : (past : List Act) (first second : List Row) (none some all : List Occurrence) → first ≡ map (row_at past) (tree_order past) → second ≡ map (row_at past) (tree_order past) → none ≡ []
+    → some ≡ none ++ map created_in first → all ≡ some ++ map realm_created_in second → all ≡ tree_events past
+events-told past first second none some all one two empty came realms =
+    realms ∙ ap₂ (λ xs ys. xs ++ ys) (came ∙ (ap₂ (λ xs rs. xs ++ map created_in rs) empty one ∙ created-stand past (tree_order past))) (ap (map realm_created_in) two ∙ realms-stand past (tree_order past))
+
+-- ---- removals
+
+-- a removal that somebody asked for
+pub asked-removal : (past : List Act) (c : ℕ) (before after : List in_hand.Occurrence) (reply : Option ResultData) → seen before ≡ removal past c → reply_in reply ≡ Replies nothing ∷ [] → after ≡ []
+    → map Happens (seen before) ++ (reply_in reply ++ map Happens (seen after)) ≡ map Happens (removal past c) ++ Replies nothing ∷ []
+asked-removal past c before after reply told replied none = ap₂ (λ os xs. map Happens os ++ xs) told (ap₂ (λ xs os. xs ++ map Happens (seen os)) replied none)
+
+-- the realms of a subtree, then the context
+pub removal-told : (past : List Act) (c : ℕ) (rows : List Row) (none realms all : List Occurrence) (last : Occurrence) → rows ≡ map (row_at past) (subtree_of past c) → none ≡ [] → realms ≡ none ++ map realm_destroyed_in rows
+    → all ≡ realms ++ last ∷ [] → last ≡ context_destroyed past c → all ≡ removal past c
+removal-told past c rows none realms all last below empty gone added is =
+    added ∙ ap₂ (λ xs x. xs ++ x ∷ []) (gone ∙ (ap₂ (λ xs rs. xs ++ map realm_destroyed_in rs) empty below ∙ each (subtree_of past c))) is
+  where
+    each : (cs : List ℕ) → map realm_destroyed_in (map (row_at past) cs) ≡ map (realm_destroyed past) cs
+    each [] = refl
+    each (d ∷ cs) = ap (λ os. realm_destroyed past d ∷ os) (each cs)

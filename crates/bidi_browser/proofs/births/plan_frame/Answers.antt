@@ -1,0 +1,27 @@
+use Rattle.std.proofs.Common.{◌≡◌, ◌<◌, true, nat_lt, refl, ap, arith}
+use Rattle.std.proofs.lemmas.Bool.Decides.{nat_tests}
+use Rattle.bidi_browser.specs.Acts.{Framed}
+use Rattle.bidi_browser.specs.ContextRows.{row_of}
+use Rattle.bidi_browser.specs.Contexts.{level_of}
+use Rattle.bidi_browser.specs.Outcome.{has_room}
+use Rattle.bidi_browser.proofs.PlanLemmas.{frame-passes, framed-row, unasked-birth}
+use Rattle.bidi_browser.proofs.births.plan_frame.Goals as goal
+
+pub returns-clause-plans : goal.returns-clause-plans
+returns-clause-plans c = λ past moment stands ids.
+    let found = c.in_ok-parent.ensures past stands.contexts in
+    let p = found.0 in
+    let url = c.in_ok-url.url in
+    let parent = c.in_ok-parent.parent.now in
+    let level = ap (λ r. r.level) found.2 in
+    let low = c.if-parent-ge-LOWEST_LEVEL.false in
+    let less : parent.level < 16 = omega (arith, low) in
+    let high : nat_lt (level_of past p) 16 ≡ true = grind (arith, nat_tests, less, level) in
+    let room : has_room past ≡ true = let some = c.if-not-has_room.false in let same = c.has_room.ensures.room past stands ids in grind (arith, nat_tests, some, same) in
+    let row = framed-row past p url (row_of parent) (row_of c.child-context.result) _ _ stands.next_context stands.next_realm found.2 (c.child-context.ensures less) in (
+      Framed p url,
+      frame-passes past _ _ p url found.1 c.in_ok-url.ensures room high,
+      unasked-birth past (Framed p url) (row_of c.child-context.result) _ _ row c.in_ok-before.ensures.told c.new.ensures.items,
+      refl,
+      (refl, row, refl),
+    )

@@ -1,0 +1,25 @@
+use Rattle.std.proofs.Common.{◌∷◌, [], Some, sym, ap, subst, refl, arith}
+use Rattle.bidi_messages.specs.declared.result_data.ResultData.TheVariants.{BrowsingContextClose}
+use Rattle.bidi_browser.specs.Acts.{Removed}
+use Rattle.bidi_browser.specs.Occurs.{Replies}
+use Rattle.bidi_browser.specs.Plans.{AreWell}
+use Rattle.bidi_browser.proofs.PlanLemmas.{asked-removal, result-well}
+use Rattle.bidi_browser.proofs.removals.plan_close.Goals as goal
+
+pub returns-clause-plans : goal.returns-clause-plans
+returns-clause-plans c = λ past moment stands.
+    let found = c.in_ok-context.ensures past stands.contexts in
+    let told = c.in_ok-before.ensures.told past found.0 stands found.2 in (
+      Removed found.0,
+      rw found.1 refl,
+      asked-removal past found.0 c.in_ok-before.before.items _ (Some (BrowsingContextClose c.nothing.result)) told.0 (ap (λ t. Replies t ∷ []) c.nothing.ensures.tree) c.new.ensures.items,
+      refl,
+      told.1,
+    )
+
+pub returns-clause-well : goal.returns-clause-well
+returns-clause-well c = record {
+  before = c.in_ok-before.ensures.well;
+  result = result-well (BrowsingContextClose c.nothing.result) _ c.nothing.ensures.well c.nothing.ensures.tree (omega arith);
+  after = subst AreWell (sym c.new.ensures.items) tt;
+}

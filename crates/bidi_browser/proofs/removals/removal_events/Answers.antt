@@ -1,0 +1,16 @@
+use Rattle.std.proofs.Common.{◌∙◌, ◌∷◌, [], None, map, ap}
+use Rattle.std.proofs.lemmas.List.{map-append}
+use Rattle.bidi_messages.specs.contracts.event.EventDataSubjectEventName.TheImpl.{ghosts}
+use Rattle.bidi_messages.specs.declared.event.EventName.TheVariants.{ContextDestroyed}
+use Rattle.bidi_browser.specs.ContextRows.{row_of, occurrence_in}
+use Rattle.bidi_browser.specs.Info.{info_of}
+use Rattle.bidi_browser.specs.View.{occurrence_of, seen}
+use Rattle.bidi_browser.proofs.PlanLemmas.{removal-told}
+use Rattle.bidi_browser.proofs.removals.removal_events.Goals as goal
+
+pub returns-clause-told : goal.returns-clause-told
+returns-clause-told c = λ past k stands is below.
+    removal-told past k (map (λ g. row_of g.now) c.args.gone.now) (seen c.new-all.result.items) (seen c.push_realms_gone.new.all.items) (seen c.push.new.self.items) (occurrence_of ghosts.subject c.destroyed.result)
+    below (ap seen c.new-all.ensures.items) c.in_ok-push_realms_gone.ensures.told
+    (ap seen c.in_ok-push.ensures.items ∙ map-append (occurrence_of ghosts.subject) c.push_realms_gone.new.all.items (c.destroyed.result ∷ []))
+    (c.destroyed.ensures.told ∙ (ap (occurrence_in (row_of c.args.context.now) ContextDestroyed) (c.in_ok-info.ensures.tree past k stands.contexts is) ∙ ap (λ r. occurrence_in r ContextDestroyed (info_of past None k)) is))

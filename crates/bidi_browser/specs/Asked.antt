@@ -1,0 +1,38 @@
+-- What an action in hand asks.
+use Rattle.std.specs.Prelude.{option_map, string_bytes}
+use Rattle.bidi_params.specs.declared.browsing_context.create.ContextType.{ContextType}
+use Rattle.bidi_params.specs.declared.browsing_context.create.ContextType.TheVariants as type
+use Rattle.bidi_params.specs.declared.browsing_context.create.ActivateParameters.{ActivateParameters}
+use Rattle.bidi_params.specs.declared.browsing_context.create.CloseParameters.{CloseParameters}
+use Rattle.bidi_params.specs.declared.browsing_context.create.CreateParameters.{CreateParameters}
+use Rattle.bidi_params.specs.declared.browsing_context.get_tree.GetTreeParameters.{GetTreeParameters}
+use Rattle.bidi_browser.specs.declared.action.Action as declared_action
+use Rattle.bidi_browser.specs.declared.action.Action.TheVariants as in_code
+use Rattle.bidi_browser.specs.Actions.{CreateType, Tab, OwnWindow, Action, Activate, Close, Create, GetTree, Frame, Unframe}
+
+-- as what a context is created
+abbrev pub create_type_of : ContextType → CreateType
+create_type_of type.Tab = Tab
+create_type_of type.Window = OwnWindow
+
+-- what the params of a command ask
+abbrev pub activate_asked : ActivateParameters → Action
+activate_asked p = Activate (string_bytes p.context)
+
+abbrev pub close_asked : CloseParameters → Action
+close_asked p = Close (string_bytes p.context)
+
+abbrev pub create_asked : CreateParameters → Action
+create_asked p = Create (create_type_of p.kind) (option_map string_bytes p.reference_context) (option_map string_bytes p.user_context)
+
+abbrev pub get_tree_asked : GetTreeParameters → Action
+get_tree_asked p = GetTree (option_map (λ n. n.value) p.max_depth) (option_map string_bytes p.root)
+
+-- what an action in hand asks
+abbrev pub action_of : declared_action.Action → Action
+action_of (in_code.Activate p) = activate_asked p.now
+action_of (in_code.Close p) = close_asked p.now
+action_of (in_code.Create p) = create_asked p.now
+action_of (in_code.GetTree p) = get_tree_asked p.now
+action_of (in_code.Frame context url) = Frame context.now url.now
+action_of (in_code.Unframe context) = Unframe context.now

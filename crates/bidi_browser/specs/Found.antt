@@ -1,0 +1,45 @@
+-- What a look-up or a check in code comes to, held against that of the definitions.
+use Rattle.std.specs.Prelude.{◌≡◌, ℕ, List, map, Vec, Option, Some, None, Result, Ok, Err, ⊤}
+use Rattle.std.specs.Borrow.{Bor}
+use Rattle.bidi_messages.specs.declared.error_code.ErrorCode.{ErrorCode}
+use Rattle.bidi_messages.specs.declared.error_code.ErrorCode.TheVariants.{InvalidArgument}
+use Rattle.std.specs.declared.alloc.Global.{Global}
+use Rattle.bidi_tree.specs.Node.{Node}
+use Rattle.bidi_params.specs.declared.browsing_context.info.Info.{Info}
+use Rattle.url.specs.Parts.{Parts}
+use Rattle.bidi_browser.specs.declared.refusal.Refusal.{Refusal}
+use Rattle.bidi_browser.specs.declared.refusal.Refusal.TheVariants.{Code, NoMemory}
+use Rattle.bidi_browser.specs.declared.contexts.Context.{Context}
+use Rattle.bidi_browser.specs.Acts.{Act, Looked}
+use Rattle.bidi_browser.specs.Info.{info_of}
+use Rattle.bidi_browser.specs.Occurs.{roots}
+use Rattle.bidi_browser.specs.Outcome.{looked_at}
+use Rattle.bidi_browser.specs.ContextRows.{row_of, row_at}
+
+-- a context in hand, or a code, is what the past gives
+abbrev pub IsFound : Result (Bor Context) ErrorCode → List Act → Result ℕ ErrorCode → Type 0
+IsFound (Ok context) past answer = (c : ℕ) × (answer ≡ Ok c) × (row_of context.now ≡ row_at past c)
+IsFound (Err code) past answer = answer ≡ Err code
+
+-- the same where none may be named
+abbrev pub IsFoundIfNamed : Result (Option (Bor Context)) ErrorCode → List Act → Result (Option ℕ) ErrorCode → Type 0
+IsFoundIfNamed (Ok None) past answer = answer ≡ Ok None
+IsFoundIfNamed (Ok (Some context)) past answer = (c : ℕ) × (answer ≡ Ok (Some c)) × (row_of context.now ≡ row_at past c)
+IsFoundIfNamed (Err code) past answer = answer ≡ Err code
+
+-- a check gives what the definition gives, or its code
+abbrev pub IsChecked : {A B : Type 0} → (A → B) → Result A ErrorCode → Result B ErrorCode → Type 0
+IsChecked view (Ok x) answer = answer ≡ Ok (view x)
+IsChecked view (Err code) answer = answer ≡ Err code
+
+-- the Infos of the contexts that getTree shows, or the code of its check
+abbrev pub AreRoots : (Info → Node) → Result (Vec Info Global) Refusal → List Act → Option ℕ → Option (List ℕ) → Type 0
+AreRoots tree_of (Ok infos) past depth root = (looked_at past root ≡ Ok Looked) × (map tree_of infos.items ≡ map (info_of past depth) (roots past root))
+AreRoots tree_of (Err (Code code)) past depth root = looked_at past root ≡ Err code
+AreRoots tree_of (Err NoMemory) past depth root = ⊤
+
+-- a URL in hand is that of a text, or the text is none
+abbrev pub IsUrlOf : Result Parts Refusal → Option Parts → Type 0
+IsUrlOf (Ok url) read = read ≡ Some url
+IsUrlOf (Err (Code code)) read = (code ≡ InvalidArgument) × (read ≡ None)
+IsUrlOf (Err NoMemory) read = ⊤

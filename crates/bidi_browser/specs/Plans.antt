@@ -1,0 +1,94 @@
+-- What a plan in hand is: what it tells, and what its change makes of the tables.
+use Rattle.std.specs.Prelude.{◌≡◌, ◌≤◌, ◌<◌, ◌^◌, ℕ, true, List, [], ◌∷◌, ◌++◌, map, Option, Some, None, Result, Ok, Err, is_some, IfSome, ⊤, vec_len, vec_capacity}
+use Rattle.std.specs.List.{AllByRecursion}
+use Rattle.bidi_tree.specs.Node.{levels}
+use Rattle.bidi_messages.specs.declared.result_data.ResultData.{ResultData}
+use Rattle.bidi_messages.specs.contracts.event.EventDataSubjectEventName.TheImpl as events
+use Rattle.bidi_messages.specs.contracts.result_data.ResultDataSubjectMethod.TheImpl as results
+use Rattle.bidi_browser.specs.declared.id.Kind.{Kind}
+use Rattle.bidi_browser.specs.declared.id.Kind.TheVariants.{Context, Window}
+use Rattle.bidi_browser.specs.declared.browser.Browser.{Browser}
+use Rattle.bidi_browser.specs.declared.context_table.Contexts.{Contexts}
+use Rattle.bidi_browser.specs.declared.occurrence.Occurrence.{Occurrence}
+use Rattle.bidi_browser.specs.declared.plan.Plan.{Plan}
+use Rattle.bidi_browser.specs.declared.plan.Change.{Change}
+use Rattle.bidi_browser.specs.declared.plan.Edit.{Edit}
+use Rattle.bidi_browser.specs.declared.plan.Edit.TheVariants.{Keep, Add, Remove}
+use Rattle.bidi_browser.specs.declared.refusal.Refusal.{Refusal}
+use Rattle.bidi_browser.specs.declared.refusal.Refusal.TheVariants.{Code, NoMemory}
+use Rattle.bidi_browser.specs.Acts.{Act, Removed, Looked, gives, next_number}
+use Rattle.bidi_browser.specs.Contexts.{subtree_of}
+use Rattle.bidi_browser.specs.Actions.{Action, is_asked}
+use Rattle.bidi_browser.specs.Outcome.{outcome}
+use Rattle.bidi_browser.specs.Occurs.{Item, Happens, Replies, occurs}
+use Rattle.bidi_browser.specs.ContextRows.{row_of, row_at}
+use Rattle.bidi_browser.specs.View.{seen, result_tree}
+
+-- ---- ids and room
+
+-- the next thing of each kind gets a number that an id can show
+abbrev pub HasIds : List Act → Type 0
+HasIds past = (kind : Kind) → next_number past kind < 2 ^ 48
+
+-- there is room for one more context
+abbrev pub HasRoomForOne : Contexts → Type 0
+HasRoomForOne contexts = vec_len contexts.live < vec_capacity contexts.live
+
+-- and for what a change puts in
+abbrev pub EditHasRoom : Browser → Edit → Type 0
+EditHasRoom browser (Add context opens_window) = HasRoomForOne browser.contexts
+EditHasRoom browser edit = ⊤
+
+abbrev pub HasRoom : Browser → Change → Type 0
+HasRoom browser change = EditHasRoom browser change.edit
+
+-- ---- what a plan tells
+
+-- the reply, where somebody asked
+abbrev pub reply_in : Option ResultData → List Item
+reply_in None = []
+reply_in (Some r) = Replies (result_tree r) ∷ []
+
+-- the events, with the reply in its place
+abbrev pub items_in : Plan → List Item
+items_in p = map Happens (seen p.before.items) ++ (reply_in p.result ++ map Happens (seen p.after.items))
+
+-- events of which a message can be made
+abbrev pub AreWell : List Occurrence → Type 0
+AreWell os = AllByRecursion (λ o. events.ghosts.subject.well o.event) os
+
+-- a result of which a message can be made: a response holds members of at most 60 levels, so a result has at most 61
+abbrev pub IsWellResult : ResultData → Type 0
+IsWellResult r = results.ghosts.subject.well r × (levels (result_tree r) ≤ 61)
+
+-- a message can be made of each event and of the result
+pub record IsWellTold (p : Plan) : Type 0 where
+  pub before : AreWell p.before.items
+  pub result : IfSome p.result IsWellResult
+  pub after : AreWell p.after.items
+
+-- ---- what a plan changes
+
+-- what an edit makes of the tables, an act makes of the past
+abbrev pub EditMakes : Edit → List Act → Act → Type 0
+EditMakes Keep past act = act ≡ Looked
+EditMakes (Add context opens_window) past act =
+    (gives Context act ≡ true) × (row_of context ≡ row_at (act ∷ past) (next_number past Context)) × (opens_window ≡ gives Window act)
+EditMakes (Remove numbers) past act = (c : ℕ) × (act ≡ Removed c) × (numbers.items ≡ subtree_of past c)
+
+abbrev pub Makes : Change → List Act → Act → Type 0
+Makes change past act = EditMakes change.edit past act
+
+-- ---- what a plan is
+
+-- the act of an action, all that it brings about, with a reply where somebody asked, and the change that it makes; or the code of the check that fails
+abbrev pub Plans : Result Plan Refusal → List Act → ℕ → Action → Type 0
+Plans (Ok plan) past moment action =
+    (act : Act) × (outcome past action ≡ Ok act) × (items_in plan ≡ occurs past moment action act) × (is_some plan.result ≡ is_asked action) × Makes plan.change past act
+Plans (Err (Code code)) past moment action = outcome past action ≡ Err code
+Plans (Err NoMemory) past moment action = ⊤
+
+-- where there is a plan, it is told well
+abbrev pub IsWellPlanned : Result Plan Refusal → Type 0
+IsWellPlanned (Ok plan) = IsWellTold plan
+IsWellPlanned (Err refusal) = ⊤

@@ -1,0 +1,15 @@
+//! What the browser is asked.
+use bidi_params::{ActivateParameters, CloseParameters, CreateParameters, GetTreeParameters};
+
+/// A command of the browser, by its parameters, or a step of a page.
+#[derive(Clone, Copy)]
+pub enum Action<'a> {
+    Activate(&'a ActivateParameters),
+    Close(&'a CloseParameters),
+    Create(&'a CreateParameters),
+    GetTree(&'a GetTreeParameters),
+    /// A child of the context of that id comes, at a URL.
+    Frame(&'a str, &'a str),
+    /// The child of that id goes.
+    Unframe(&'a str),
+}

@@ -1,0 +1,176 @@
+//! Plans of what makes a context.
+ghost use Rattle.std.specs.Prelude.{◌≡◌, ◌≤◌, ◌<◌, ◌^◌, ℕ, List, Option, [], ◌∷◌, IfOk, IfSome, option_map, string_bytes};
+ghost use Rattle.bidi_tree.specs.Node.{no_members};
+ghost use Rattle.bidi_browser.specs.Acts.{Act, Made};
+ghost use Rattle.bidi_browser.specs.Actions.{Frame};
+ghost use Rattle.bidi_browser.specs.Asked.{create_asked, create_type_of};
+ghost use Rattle.bidi_browser.specs.ContextRows.{row_of, row_at, created_in, realm_created_in};
+ghost use Rattle.bidi_browser.specs.Contexts.{tops};
+ghost use Rattle.bidi_browser.specs.Found.{IsChecked};
+ghost use Rattle.bidi_browser.specs.Maps.{◌being◌and◌, mapped, id_tree};
+ghost use Rattle.bidi_browser.specs.Outcome.{create_outcome, is_user, oldest_window, window_for};
+ghost use Rattle.bidi_browser.specs.Plans.{AreWell, HasIds, Plans, IsWellPlanned, IsWellResult};
+ghost use Rattle.bidi_browser.specs.Stands.{IsTableOf, StandsFor};
+ghost use Rattle.bidi_browser.specs.View.{result_tree, seen};
+
+use crate::browser::Browser;
+use crate::context_table::Contexts;
+use crate::contexts::Context;
+use crate::id::{Kind, id_text};
+use crate::looking::{context_named, top_if_named};
+use crate::occurrence::Occurrence;
+use crate::plan::{Change, Edit, Plan};
+use crate::refusal::Refusal;
+use crate::urls::parsed;
+use bidi_messages::{ErrorCode, Method, ResultData, Subject};
+use bidi_params::{ContextType, CreateParameters, CreateResult};
+use bidi_shape::Ext;
+use std::alloc::{AllocError, Global};
+
+/// No context stands below this level.
+const LOWEST_LEVEL: u64 = 16;
+
+/// Makes a top-level context at `about:blank`.
+///
+/// # Errors
+/// The first that holds:
+/// - `no such frame`: the reference is not live.
+/// - `invalid argument`: it is a child of another context.
+/// - `no such user context`: another than the default one is asked for.
+/// - `unknown error`: 1,024 contexts live.
+/// - No memory, where a growth was refused.
+pub(crate) fn plan_create(browser: &Browser, params: &CreateParameters) -> Result<Plan, Refusal>
+    ensures plans { (past : List Act) (moment : ℕ) → StandsFor browser.now past → HasIds past → Plans result past moment (create_asked params.now) }
+    ensures well { IsWellPlanned result }
+{
+    let window = window_checked(browser, params)?;
+    let opens_window = window.is_none();
+    let context = Context::top_level(
+        browser.alloc,
+        browser.next_context,
+        window.unwrap_or(browser.next_window),
+        browser.next_realm,
+    )?;
+    let before = births(browser.alloc, &context)?;
+    let result = created(browser.alloc, context.number)?;
+    Ok(Plan {
+        before,
+        result: Some(result),
+        after: Vec::new(browser.alloc),
+        change: Change {
+            edit: Edit::Add {
+                context,
+                opens_window,
+            },
+        },
+    })
+}
+
+// The window of a new top-level context where all checks pass, or none where a new one is opened.
+fn window_checked(browser: &Browser, params: &CreateParameters) -> Result<Option<u64>, ErrorCode>
+    ensures checked { (past : List Act) → StandsFor browser.now past → HasIds past
+        → IsChecked Made result (create_outcome past (create_type_of params.now.kind) (option_map string_bytes params.now.reference_context) (option_map string_bytes params.now.user_context)) }
+    ensures ids { IfOk result (λ _. (browser.now.next_context < 2 ^ 48) × (browser.now.next_realm < 2 ^ 48) × (browser.now.next_window < 2 ^ 48)) }
+    ensures fits { IfOk result (λ window. IfSome window (λ n. n < 2 ^ 48)) }
+{
+    let reference = top_if_named(&browser.contexts, &params.reference_context)?;
+    if !is_user(&params.user_context) {
+        return Err(ErrorCode::NoSuchUserContext);
+    }
+    if !browser.has_room() {
+        return Err(ErrorCode::UnknownError);
+    }
+    Ok(window_for(&browser.contexts, params.kind, reference))
+}
+
+// Whether the user context is the default one, which is the only one.
+fn is_user(user: &Option<String>) -> bool
+    ensures { result ≡ is_user (option_map string_bytes user.now) }
+{
+    match user {
+        None => true,
+        Some(user) => user.as_str() == "default",
+    }
+}
+
+// A tab takes the window of its reference, or else that of the oldest top-level context.
+fn window_for(contexts: &Contexts, kind: ContextType, reference: Option<&Context>) -> Option<u64>
+    ensures window { (past : List Act) (c : Option ℕ) → IsTableOf contexts.now past → option_map (λ r. row_of r.now) reference.entry ≡ option_map (row_at past) c
+        → result ≡ window_for past (create_type_of kind) c }
+    ensures fits { IfSome result (λ n. n < 2 ^ 48) }
+{
+    match kind {
+        ContextType::Window => None,
+        ContextType::Tab => match reference {
+            Some(context) => Some(context.window),
+            None => oldest_window(contexts),
+        },
+    }
+}
+
+// The window of the oldest top-level context.
+fn oldest_window(contexts: &Contexts) -> Option<u64>
+    ensures window { (past : List Act) → IsTableOf contexts.now past → result ≡ oldest_window past (tops past) }
+    ensures fits { IfSome result (λ n. n < 2 ^ 48) }
+{
+    match contexts.oldest() {
+        Some(context) => Some(context.window),
+        None => None,
+    }
+}
+
+/// Makes a child of a context, at a URL.
+///
+/// # Errors
+/// The first that holds:
+/// - `no such frame`: the context is not live.
+/// - `invalid argument`: the text is no absolute URL.
+/// - `unknown error`: 1,024 contexts live, or the context stands at level 16.
+/// - No memory, where a growth was refused.
+pub(crate) fn plan_frame(browser: &Browser, context: &str, url: &str) -> Result<Plan, Refusal>
+    ensures plans { (past : List Act) (moment : ℕ) → StandsFor browser.now past → HasIds past → Plans result past moment (Frame context.now url.now) }
+    ensures well { IsWellPlanned result }
+{
+    let parent = context_named(&browser.contexts, context)?;
+    let url = parsed(browser.alloc, url)?;
+    if !browser.has_room() || parent.level >= LOWEST_LEVEL {
+        return Err(Refusal::Code(ErrorCode::UnknownError));
+    }
+    let context = parent.child(browser.next_context, browser.next_realm, url);
+    let before = births(browser.alloc, &context)?;
+    Ok(Plan {
+        before,
+        result: None,
+        after: Vec::new(browser.alloc),
+        change: Change {
+            edit: Edit::Add {
+                context,
+                opens_window: false,
+            },
+        },
+    })
+}
+
+// The events of a birth.
+fn births(alloc: Global, context: &Context) -> Result<Vec<Occurrence>, AllocError>
+    ensures told { IfOk result (λ all. seen all.items ≡ created_in (row_of context.now) ∷ realm_created_in (row_of context.now) ∷ []) }
+    ensures well { IfOk result (λ all. AreWell all.items) }
+{
+    let mut all = Vec::new(alloc);
+    all.push(context.created(alloc)?)?;
+    all.push(context.realm_created(alloc)?)?;
+    Ok(all)
+}
+
+// The result of a create.
+fn created(alloc: Global, number: u64) -> Result<ResultData, AllocError>
+    requires { number < 2 ^ 48 }
+    ensures tree { IfOk result (λ r. result_tree r ≡ mapped ("context" being id_tree Kind.Context number and no_members)) }
+    ensures well { IfOk result IsWellResult }
+{
+    let context = id_text(alloc, Kind::Context, 0, number)?;
+    Ok(ResultData::BrowsingContextCreate(CreateResult {
+        context,
+        ext: Ext::empty(alloc),
+    }))
+}

@@ -1,0 +1,38 @@
+//! What an action comes to, before anything is changed.
+ghost use Rattle.std.specs.Prelude.{◌≡◌};
+
+use crate::contexts::Context;
+use crate::occurrence::Occurrence;
+use bidi_messages::ResultData;
+
+/// What an accepted action brings about: what is told of it, and what it changes. It is used up by telling the one and
+/// applying the other.
+pub struct Plan {
+    /// The events before the reply.
+    pub before: Vec<Occurrence>,
+    /// The result, for a command; nobody asked for a step of a page.
+    pub result: Option<ResultData>,
+    /// The events behind the reply.
+    pub after: Vec<Occurrence>,
+    pub change: Change,
+}
+
+/// What an action changes, with all that it puts in already made.
+#[derive(Drop)]
+pub struct Change {
+    pub(crate) edit: Edit,
+}
+
+/// What is done to the tables.
+#[derive(Drop)]
+pub(crate) enum Edit {
+    /// Nothing.
+    Keep,
+    /// A context comes, in a window that stands or in a new one.
+    Add {
+        context: Context,
+        opens_window: bool,
+    },
+    /// The contexts of these numbers go: one of them with all below it.
+    Remove(Vec<u64>),
+}

@@ -1,0 +1,105 @@
+//! Plans of what removes contexts.
+ghost use Rattle.std.specs.Prelude.{◌≡◌, ℕ, List, map, IfOk};
+ghost use Rattle.bidi_browser.specs.Acts.{Act, Removed};
+ghost use Rattle.bidi_browser.specs.Actions.{Close, Unframe};
+ghost use Rattle.bidi_browser.specs.ContextRows.{row_of, row_at};
+ghost use Rattle.bidi_browser.specs.Contexts.{subtree_of};
+ghost use Rattle.bidi_browser.specs.Occurrences.{removal};
+ghost use Rattle.bidi_browser.specs.Plans.{AreWell, Makes, Plans, IsWellPlanned};
+ghost use Rattle.bidi_browser.specs.Stands.{StandsFor};
+ghost use Rattle.bidi_browser.specs.View.{seen};
+
+use crate::browser::Browser;
+use crate::contexts::Context;
+use crate::looking::{context_named, nothing, top_named};
+use crate::occurrence::Occurrence;
+use crate::plan::{Change, Edit, Plan};
+use crate::refusal::Refusal;
+use crate::telling::push_realms_gone;
+use bidi_messages::{ErrorCode, ResultData};
+use std::alloc::{AllocError, Global};
+
+/// Closes a top-level context, and all below it.
+///
+/// # Errors
+/// The first that holds:
+/// - `no such frame`: the context is not live.
+/// - `invalid argument`: it is a child of another.
+/// - No memory, where a growth was refused.
+pub(crate) fn plan_close(browser: &Browser, context: &str) -> Result<Plan, Refusal>
+    ensures plans { (past : List Act) (moment : ℕ) → StandsFor browser.now past → Plans result past moment (Close context.now) }
+    ensures well { IsWellPlanned result }
+{
+    let context = top_named(&browser.contexts, context)?;
+    let (before, change) = removal(browser, context)?;
+    let result = ResultData::BrowsingContextClose(nothing(browser.alloc));
+    Ok(Plan {
+        before,
+        result: Some(result),
+        after: Vec::new(browser.alloc),
+        change,
+    })
+}
+
+/// Takes out a child, and all below it.
+///
+/// # Errors
+/// The first that holds:
+/// - `no such frame`: the context is not live.
+/// - `invalid argument`: it is a top-level one.
+/// - No memory, where a growth was refused.
+pub(crate) fn plan_unframe(browser: &Browser, context: &str) -> Result<Plan, Refusal>
+    ensures plans { (past : List Act) (moment : ℕ) → StandsFor browser.now past → Plans result past moment (Unframe context.now) }
+    ensures well { IsWellPlanned result }
+{
+    let context = context_named(&browser.contexts, context)?;
+    if context.parent.is_none() {
+        return Err(Refusal::Code(ErrorCode::InvalidArgument));
+    }
+    let (before, change) = removal(browser, context)?;
+    Ok(Plan {
+        before,
+        result: None,
+        after: Vec::new(browser.alloc),
+        change,
+    })
+}
+
+// A context and all below it go: the events, and the change.
+fn removal(browser: &Browser, context: &Context) -> Result<(Vec<Occurrence>, Change), AllocError>
+    ensures told { (past : List Act) (c : ℕ) → StandsFor browser.now past → row_of context.now ≡ row_at past c
+        → IfOk result (λ r. (seen r.0.items ≡ removal past c) × Makes r.1 past (Removed c)) }
+    ensures well { IfOk result (λ r. AreWell r.0.items) }
+{
+    let gone = browser.contexts.subtree(context)?;
+    let before = removal_events(browser, context, &gone)?;
+    let numbers = numbers_of(browser.alloc, &gone)?;
+    let change = Change {
+        edit: Edit::Remove(numbers),
+    };
+    Ok((before, change))
+}
+
+// The events of a removal: the end of each realm in tree order, then of the context.
+fn removal_events(
+    browser: &Browser,
+    context: &Context,
+    gone: &[&Context],
+) -> Result<Vec<Occurrence>, AllocError>
+    ensures told { (past : List Act) (c : ℕ) → StandsFor browser.now past → row_of context.now ≡ row_at past c → map (λ g. row_of g.now) gone.now ≡ map (row_at past) (subtree_of past c)
+        → IfOk result (λ all. seen all.items ≡ removal past c) }
+    ensures well { IfOk result (λ all. AreWell all.items) }
+{
+    let info = browser.contexts.info(context, None)?;
+    let mut all = Vec::new(browser.alloc);
+    push_realms_gone(browser.alloc, gone, &mut all)?;
+    all.push(context.destroyed(info))?;
+    Ok(all)
+}
+
+// The numbers of some contexts.
+fn numbers_of(alloc: Global, contexts: &[&Context]) -> Result<Vec<u64>, AllocError>
+    ensures { IfOk result (λ all. all.items ≡ map (λ c. c.now.number) contexts.now) }
+{
+    contexts.iter().map(|context| context.number).collect(alloc)
+}

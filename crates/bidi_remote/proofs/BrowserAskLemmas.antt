@@ -1,0 +1,92 @@
+-- What the tree of a `browsingContext` command in hand asks.
+use Rattle.std.proofs.Common.{◌≡◌, pos, [], ◌∷◌, Option, Some, None, option_map, option_and_then, codes, String, string_bytes, Global, refl}
+use Rattle.std.specs.Prelude.{if◌then◌else◌}
+use Rattle.bidi_tree.specs.Node as tree
+use Rattle.bidi_tree.specs.Node.{Node}
+use Rattle.bidi_tree.specs.Kind.{text_in, whole_in}
+use Rattle.bidi_tree.specs.declared.number.JsUint.{JsUint}
+use Rattle.bidi_tree.proofs.MemberLemmas.{get_member-put}
+use Rattle.bidi_shape.specs.Name.{close_parameters, create_parameters, get_tree_parameters}
+use Rattle.bidi_shape.specs.Term.{names_of}
+use Rattle.bidi_shape.specs.Profile.{term_of}
+use Rattle.bidi_shape.specs.MapLaws.{PartsAt-joined, unnamed}
+use Rattle.bidi_shape.specs.Table.{rows_in}
+use Rattle.bidi_shape.specs.ValueLaws.{others_of}
+use Rattle.bidi_params.specs.Words.{context_type_text}
+use Rattle.bidi_params.specs.contracts.session.capabilities.NewParametersShape.TheImpl as params
+use Rattle.bidi_params.specs.contracts.browsing_context.create.ActivateParametersShape.TheImpl as activate
+use Rattle.bidi_params.specs.contracts.browsing_context.create.CloseParametersShape.TheImpl as close
+use Rattle.bidi_params.specs.contracts.browsing_context.create.CreateParametersShape.TheImpl as create
+use Rattle.bidi_params.specs.contracts.browsing_context.get_tree.GetTreeParametersShape.TheImpl as get_tree
+use Rattle.bidi_params.specs.declared.browsing_context.create.ContextType.{ContextType}
+use Rattle.bidi_params.specs.declared.browsing_context.create.ContextType.TheVariants as type
+use Rattle.bidi_params.specs.declared.browsing_context.create.ActivateParameters.{ActivateParameters}
+use Rattle.bidi_params.specs.declared.browsing_context.create.CloseParameters.{CloseParameters}
+use Rattle.bidi_params.specs.declared.browsing_context.create.CreateParameters.{CreateParameters}
+use Rattle.bidi_params.specs.declared.browsing_context.get_tree.GetTreeParameters.{GetTreeParameters}
+use Rattle.bidi_messages.specs.declared.command.CommandData.TheVariants.{BrowsingContextActivate, BrowsingContextClose, BrowsingContextCreate, BrowsingContextGetTree}
+use Rattle.bidi_browser.specs.Params.{natural}
+use Rattle.bidi_browser.specs.Actions.{OwnWindow, Tab, is_text}
+use Rattle.bidi_browser.specs.Asked.{create_type_of}
+use Rattle.bidi_remote.specs.Machine.Commands.{command_in}
+use Rattle.bidi_remote.specs.Tables.Asked.{asked_of}
+
+-- ---- members that may be there
+
+-- the tree of a text
+abbrev text_tree : String Global → Node
+text_tree s = tree.text (string_bytes s)
+
+-- the tree of a number
+abbrev number_tree : JsUint → Node
+number_tree n = tree.whole (pos n.value)
+
+-- a text that may be there reads as it is
+text-optional : (o : Option (String Global)) → option_and_then text_in (option_map text_tree o) ≡ option_map string_bytes o
+text-optional None = refl
+text-optional (Some s) = refl
+
+-- so does a number
+number-optional : (o : Option JsUint) → option_map natural (option_and_then whole_in (option_map number_tree o)) ≡ option_map (λ n. n.value) o
+number-optional None = refl
+number-optional (Some n) = refl
+
+-- the text of a type of context reads as that type
+type-read : (t : ContextType) → (if is_text "window" (Some (context_type_text t)) then OwnWindow else Tab) ≡ create_type_of t
+type-read type.Tab = refl
+type-read type.Window = refl
+
+-- ---- the four commands
+
+-- a `browsingContext.activate` asks for its context
+pub activate-asks : (p : ActivateParameters) → activate.ghosts.shape.well p
+    → command_in (codes "browsingContext.activate") (activate.ghosts.shape.tree_of p) ≡ asked_of params.ghosts.shape (BrowsingContextActivate p)
+activate-asks p w = rw (get_member-put (codes "context") (text_tree p.context) (others_of p.ext)) refl
+
+-- a `browsingContext.close` asks for its context
+pub close-asks : (p : CloseParameters) → close.ghosts.shape.well p
+    → command_in (codes "browsingContext.close") (close.ghosts.shape.tree_of p) ≡ asked_of params.ghosts.shape (BrowsingContextClose p)
+close-asks p w =
+    let rs = rows_in (term_of close_parameters) in
+    let others = others_of p.ext in
+    let at = PartsAt-joined rs (Some (text_tree p.context) ∷ option_map tree.boolean p.prompt_unload ∷ []) others refl tt (unnamed (names_of rs) others w.1.no_known) in
+    rw at.0 refl
+
+-- a `browsingContext.create` asks for its type, its reference context and its user context
+pub create-asks : (p : CreateParameters) → create.ghosts.shape.well p
+    → command_in (codes "browsingContext.create") (create.ghosts.shape.tree_of p) ≡ asked_of params.ghosts.shape (BrowsingContextCreate p)
+create-asks p w =
+    let rs = rows_in (term_of create_parameters) in
+    let others = others_of p.ext in
+    let parts = Some (tree.text (context_type_text p.kind)) ∷ option_map text_tree p.reference_context ∷ option_map tree.boolean p.background ∷ option_map text_tree p.user_context ∷ [] in
+    let at = PartsAt-joined rs parts others refl tt (unnamed (names_of rs) others w.1.no_known) in
+    rw (at.0, at.1.0, at.1.1.1.0, type-read p.kind, text-optional p.reference_context, text-optional p.user_context) refl
+
+-- a `browsingContext.getTree` asks for its depth and its root
+pub get_tree-asks : (p : GetTreeParameters) → get_tree.ghosts.shape.well p
+    → command_in (codes "browsingContext.getTree") (get_tree.ghosts.shape.tree_of p) ≡ asked_of params.ghosts.shape (BrowsingContextGetTree p)
+get_tree-asks p w =
+    let rs = rows_in (term_of get_tree_parameters) in
+    let others = others_of p.ext in
+    let at = PartsAt-joined rs (option_map number_tree p.max_depth ∷ option_map text_tree p.root ∷ []) others refl tt (unnamed (names_of rs) others w.1.no_known) in
+    rw (at.0, at.1.0, number-optional p.max_depth, text-optional p.root) refl
