@@ -1,5 +1,6 @@
 //! Runs over memory, as the program makes them.
 mod command_lines;
+mod contexts;
 mod examples;
 mod failures;
 mod listings;

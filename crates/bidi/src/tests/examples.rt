@@ -99,6 +99,49 @@ fn subscriptions(rt: HostRuntime) -> Result<(), Fail> {
     check_rows(&rt, &[Run::Play], SUBSCRIPTIONS)
 }
 
+const FRAMES: &str = r#"frames, what is told of them and shown, and a close that takes them
+open 1 /session
+  opened 1
+> 1 {"id":1,"method":"session.new","params":{"capabilities":{}}}
+  < 1 {"id":1,"result":{"capabilities":CAPABILITIES,"sessionId":"00000000-0001-8000-8000-000000000001"},"type":"success"}
+> 1 {"id":2,"method":"session.subscribe","params":{"events":["browsingContext","script"]}}
+  < 1 CONTEXT
+  < 1 REALM
+  < 1 {"id":2,"result":{"subscription":"00000001-0005-8000-8000-000000000001"},"type":"success"}
+> 1 {"id":3,"method":"browsingContext.create","params":{"type":"window"}}
+  < 1 {"method":"browsingContext.contextCreated","params":{"children":null,"clientWindow":"00000000-0007-8000-8000-000000000002","context":"00000000-0002-8000-8000-000000000002","originalOpener":null,"parent":null,"url":"about:blank","userContext":"default"},"type":"event"}
+  < 1 {"method":"script.realmCreated","params":{"context":"00000000-0002-8000-8000-000000000002","origin":"null","realm":"00000000-0003-8000-8000-000000000002","type":"window"},"type":"event"}
+  < 1 {"id":3,"result":{"context":"00000000-0002-8000-8000-000000000002"},"type":"success"}
+frame 00000000-0002-8000-8000-000000000001 http://a.test
+  < 1 {"method":"browsingContext.contextCreated","params":{"children":null,"clientWindow":"00000000-0007-8000-8000-000000000001","context":"00000000-0002-8000-8000-000000000003","originalOpener":null,"parent":"00000000-0002-8000-8000-000000000001","url":"http://a.test/","userContext":"default"},"type":"event"}
+  < 1 {"method":"script.realmCreated","params":{"context":"00000000-0002-8000-8000-000000000003","origin":"http://a.test","realm":"00000000-0003-8000-8000-000000000003","type":"window"},"type":"event"}
+frame 00000000-0002-8000-8000-000000000003 about:blank
+  < 1 {"method":"browsingContext.contextCreated","params":{"children":null,"clientWindow":"00000000-0007-8000-8000-000000000001","context":"00000000-0002-8000-8000-000000000004","originalOpener":null,"parent":"00000000-0002-8000-8000-000000000003","url":"about:blank","userContext":"default"},"type":"event"}
+  < 1 {"method":"script.realmCreated","params":{"context":"00000000-0002-8000-8000-000000000004","origin":"null","realm":"00000000-0003-8000-8000-000000000004","type":"window"},"type":"event"}
+frame 00000000-0002-8000-8000-000000000003 /relative
+  no effect
+> 1 {"id":4,"method":"browsingContext.getTree","params":{"maxDepth":1}}
+  < 1 {"id":4,"result":{"contexts":[{"children":[{"children":null,"clientWindow":"00000000-0007-8000-8000-000000000001","context":"00000000-0002-8000-8000-000000000003","originalOpener":null,"url":"http://a.test/","userContext":"default"}],"clientWindow":"00000000-0007-8000-8000-000000000001","context":"00000000-0002-8000-8000-000000000001","originalOpener":null,"parent":null,"url":"about:blank","userContext":"default"},{"children":[],"clientWindow":"00000000-0007-8000-8000-000000000002","context":"00000000-0002-8000-8000-000000000002","originalOpener":null,"parent":null,"url":"about:blank","userContext":"default"}]},"type":"success"}
+> 1 {"id":5,"method":"browsingContext.getTree","params":{"root":"00000000-0002-8000-8000-000000000003"}}
+  < 1 {"id":5,"result":{"contexts":[{"children":[{"children":[],"clientWindow":"00000000-0007-8000-8000-000000000001","context":"00000000-0002-8000-8000-000000000004","originalOpener":null,"url":"about:blank","userContext":"default"}],"clientWindow":"00000000-0007-8000-8000-000000000001","context":"00000000-0002-8000-8000-000000000003","originalOpener":null,"parent":"00000000-0002-8000-8000-000000000001","url":"http://a.test/","userContext":"default"}]},"type":"success"}
+> 1 {"id":6,"method":"browsingContext.close","params":{"context":"00000000-0002-8000-8000-000000000003"}}
+  < 1 {"error":"invalid argument","id":6,"message":"invalid argument","type":"error"}
+> 1 {"id":7,"method":"browsingContext.close","params":{"context":"00000000-0002-8000-8000-000000000001"}}
+  < 1 {"method":"script.realmDestroyed","params":{"realm":"00000000-0003-8000-8000-000000000001"},"type":"event"}
+  < 1 {"method":"script.realmDestroyed","params":{"realm":"00000000-0003-8000-8000-000000000003"},"type":"event"}
+  < 1 {"method":"script.realmDestroyed","params":{"realm":"00000000-0003-8000-8000-000000000004"},"type":"event"}
+  < 1 {"method":"browsingContext.contextDestroyed","params":{"children":[{"children":[{"children":[],"clientWindow":"00000000-0007-8000-8000-000000000001","context":"00000000-0002-8000-8000-000000000004","originalOpener":null,"url":"about:blank","userContext":"default"}],"clientWindow":"00000000-0007-8000-8000-000000000001","context":"00000000-0002-8000-8000-000000000003","originalOpener":null,"url":"http://a.test/","userContext":"default"}],"clientWindow":"00000000-0007-8000-8000-000000000001","context":"00000000-0002-8000-8000-000000000001","originalOpener":null,"parent":null,"url":"about:blank","userContext":"default"},"type":"event"}
+  < 1 {"id":7,"result":{},"type":"success"}
+unframe 00000000-0002-8000-8000-000000000004
+  no effect
+> 1 {"id":8,"method":"browsingContext.getTree","params":{}}
+  < 1 {"id":8,"result":{"contexts":[{"children":[],"clientWindow":"00000000-0007-8000-8000-000000000002","context":"00000000-0002-8000-8000-000000000002","originalOpener":null,"parent":null,"url":"about:blank","userContext":"default"}]},"type":"success"}"#;
+
+#[test]
+fn frames(rt: HostRuntime) -> Result<(), Fail> {
+    check_rows(&rt, &[Run::Play], FRAMES)
+}
+
 const BROWSERS: &str = r#"texts outside the profile, and one inside
 {"method":"log.entryAdded","params":{"args":[],"level":"info","method":"info","source":{"context":"c","realm":"r","userContext":"default"},"text":"hi","timestamp":7,"type":"console"},"type":"event"}
 {"method":"browsingContext.navigationCommitted","params":{"context":"c","navigation":"n","timestamp":5,"url":"about:blank"},"type":"event"}
