@@ -1,9 +1,8 @@
 //! Times of the project's crates, beside those of what they stand on.
 //!
-//! `bench tree [ROUNDS]` reads and writes trees, `bench shape` maps of ten members, `bench values` remote values, `bench messages` commands and an event. `bench events N` writes N lines of an event, to be checked, and `bench turns N` a play with N moments and N commands by turns. `bench contexts N` takes N creates of contexts, frames on 16 levels, 1,000 looks at the whole tree and a close of each top-level context, by a remote end; N is at most 1,008. Counts go to standard output, times to standard error.
+//! `bench tree [ROUNDS]` reads and writes trees, `bench shape` maps of ten members, `bench values` remote values, `bench messages` commands and an event. `bench events N` writes N lines of an event, to be checked, and `bench turns N` a play with N moments and N commands by turns. Counts go to standard output, times to standard error.
 #![tactic(auto)]
 
-mod contexts;
 mod measure;
 mod messages;
 mod plays;
@@ -21,7 +20,7 @@ fn main(rt: HostRuntime) -> Result<()> {
     let mut words = env::args(&rt)?;
     let _program = words.next();
     let Some(name) = words.next() else {
-        bail!("usage: bench tree|shape|values|messages|events|turns|contexts [ROUNDS]");
+        bail!("usage: bench tree|shape|values|messages|events|turns [ROUNDS]");
     };
     let rounds = match words.next() {
         Some(text) => text.parse::<u32>().context("ROUNDS is a number")?,
@@ -34,7 +33,6 @@ fn main(rt: HostRuntime) -> Result<()> {
         "messages" => messages::run(&rt, rounds),
         "events" => messages::lines(&rt, rounds),
         "turns" => plays::turns(&rt, rounds),
-        "contexts" => contexts::run(&rt, rounds),
         _ => bail!("no benchmark has that name"),
     }
 }
