@@ -10,6 +10,7 @@ use Rattle.bidi_messages.specs.declared.result_data.ResultData.{ResultData}
 use Rattle.bidi_messages.specs.declared.error_code.ErrorCode.TheVariants.{NoSuchFrame}
 use Rattle.bidi_messages.specs.contracts.result_data.ResultDataSubjectMethod.TheImpl as results
 use Rattle.bidi_params.specs.declared.browsing_context.info.Info.{Info}
+use Rattle.bidi_values.specs.declared.log_entry.Level.{Level}
 use Rattle.bidi_browser.specs.declared.refusal.Refusal.{Refusal}
 use Rattle.bidi_browser.specs.declared.refusal.Refusal.TheVariants.{Code, NoMemory}
 use Rattle.bidi_browser.specs.declared.occurrence.Occurrence as in_hand
@@ -18,19 +19,19 @@ use Rattle.bidi_browser.specs.declared.plan.Plan.{Plan}
 use Rattle.bidi_browser.specs.declared.plan.Edit.TheVariants.{Keep}
 use Rattle.bidi_browser.specs.declared.id.Kind.TheVariants.{Context, Realm, Window}
 use Rattle.bidi_browser.specs.Urls.{about_blank, parsed}
-use Rattle.bidi_browser.specs.Acts.{Act, Made, Framed, Looked, next_number}
+use Rattle.bidi_browser.specs.Acts.{Act, Made, Framed, Logged, Looked, next_number}
 use Rattle.bidi_browser.specs.Accepted.{AreAccepted}
-use Rattle.bidi_browser.specs.Actions.{Action, GetTree, is_asked}
+use Rattle.bidi_browser.specs.Actions.{Action, GetTree, Log, is_asked}
 use Rattle.bidi_browser.specs.Found.{AreRoots}
 use Rattle.bidi_browser.specs.Maps.{nothing}
 use Rattle.bidi_browser.specs.Contexts.{parent_of, top_of, level_of, window_of, contexts, context_of, tops, subtree_of, tree_order}
 use Rattle.bidi_browser.specs.Checks.{found}
 use Rattle.bidi_browser.specs.Info.{info_of}
-use Rattle.bidi_browser.specs.Outcome.{outcome, context_named, looked, looked_at, has_room, frame_outcome, oldest_window}
+use Rattle.bidi_browser.specs.Outcome.{outcome, context_named, looked, looked_at, has_room, frame_outcome, log_outcome, oldest_window}
 use Rattle.bidi_browser.specs.Occurrences.{Occurrence, realm_destroyed, context_destroyed, removal, tree_events}
 use Rattle.bidi_browser.specs.Occurs.{Happens, Replies, roots, birth, occurs}
-use Rattle.bidi_browser.specs.ContextRows.{Row, row_of, row_at, created_in, realm_created_in, realm_destroyed_in}
-use Rattle.bidi_browser.specs.Plans.{Plans, AreWell, IsWellResult, IsWellTold, reply_in}
+use Rattle.bidi_browser.specs.ContextRows.{Row, row_of, row_at, created_in, realm_created_in, realm_destroyed_in, entry_added_in}
+use Rattle.bidi_browser.specs.Plans.{Plans, AreWell, IsWellResult, IsWellTold, reply_in, leaves_tables}
 use Rattle.bidi_browser.specs.View.{seen, result_tree}
 use Rattle.bidi_browser.proofs.BirthLemmas.{row-made, row-framed}
 use Rattle.bidi_browser.proofs.RowLemmas.{oldest-window, created-stand, realms-stand}
@@ -40,7 +41,7 @@ use Rattle.bidi_browser.proofs.RowLemmas.{oldest-window, created-stand, realms-s
 -- its result, and nothing else
 pub looked-plans : (plan : Plan) (past : List Act) (moment : ℕ) (action : Action) (r : ResultData) → is_asked action ≡ true → outcome past action ≡ Ok Looked → Replies (result_tree r) ∷ [] ≡ occurs past moment action Looked
     → plan.before.items ≡ [] → plan.result ≡ Some r → plan.after.items ≡ [] → plan.change.edit ≡ Keep → Plans (Ok plan) past moment action
-looked-plans plan past moment action r asked checked told before reply after change = (Looked, checked, rw (before, reply, after) told, rw (reply, asked) refl, rw change refl)
+looked-plans plan past moment action r asked checked told before reply after change = (Looked, checked, rw (before, reply, after) told, rw (reply, asked) refl, rw change refl, λ unasked. after)
 
 -- the context that is asked for
 pub root-found : (past : List Act) (id : List ℕ) (c : ℕ) (root : Option (List ℕ)) → root ≡ Some id → context_named past id ≡ Ok c → (looked_at past root ≡ Ok Looked) × (roots past root ≡ c ∷ [])
@@ -176,3 +177,18 @@ removal-told past c rows none realms all last below empty gone added is =
     each : (cs : List ℕ) → map realm_destroyed_in (map (row_at past) cs) ≡ map (realm_destroyed past) cs
     each [] = refl
     each (d ∷ cs) = ap (λ os. realm_destroyed past d ∷ os) (each cs)
+
+-- ---- the log
+
+-- an entry is told, and nobody asked for it
+pub logged-plans : (past : List Act) (moment c : ℕ) (id : List ℕ) (level : Level) (line : List ℕ) (row : Row) (before after : List in_hand.Occurrence) → context_named past id ≡ Ok c → row ≡ row_at past c
+    → seen before ≡ entry_added_in row moment level line ∷ [] → after ≡ []
+    → (act : Act) × (log_outcome past id level line ≡ Ok act) × (map Happens (seen before) ++ map Happens (seen after) ≡ occurs past moment (Log id level line) act) × (false ≡ false) × (leaves_tables act ≡ true) × (false ≡ false → after ≡ [])
+logged-plans past moment c id level line row before after named is told none = (
+  Logged c level line,
+  rw named refl,
+  ap₂ (λ xs os. map Happens xs ++ map Happens (seen os)) (told ∙ ap (λ r. entry_added_in r moment level line ∷ []) is) none,
+  refl,
+  refl,
+  λ unasked. none,
+)

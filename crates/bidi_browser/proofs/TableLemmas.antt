@@ -4,8 +4,13 @@ use Rattle.std.specs.Prelude.{◌==◌, not, filter, option_map}
 use Rattle.std.specs.Borrow.{Bor}
 use Rattle.std.specs.List.{list_any}
 use Rattle.bidi_browser.specs.declared.contexts.Context.{Context}
+use Rattle.bidi_browser.specs.declared.browser.Browser.{Browser}
 use Rattle.bidi_browser.specs.Accepted.{AreAccepted}
-use Rattle.bidi_browser.specs.Acts.{Act, Removed}
+use Rattle.bidi_browser.specs.Actions.{Action}
+use Rattle.bidi_browser.specs.Outcome.{outcome}
+use Rattle.bidi_browser.specs.Plans.{leaves_tables}
+use Rattle.bidi_browser.specs.Stands.{StandsFor}
+use Rattle.bidi_browser.specs.Acts.{Act, Removed, Logged, Looked}
 use Rattle.bidi_browser.specs.Contexts.{tops, subtree_of, tree_order}
 use Rattle.bidi_browser.specs.Info.{info_of}
 use Rattle.bidi_browser.specs.ContextRows.{Row, row_of, row_at, rows, children_in, below, info_in}
@@ -64,3 +69,11 @@ pub removed-rows : (past : List Act) (a : ℕ) (numbers : List ℕ) (all : List 
     → filter (λ r. not (list_any (λ n. n == r.number) numbers)) all ≡ rows (Removed a ∷ past)
 removed-rows past a numbers all accepted table is =
     ap₂ (λ ns rs. filter (λ r. not (list_any (λ n. n == r.number) ns)) rs) is table ∙ sym (rows-removed past a accepted.2 (act-sound past accepted.0 (Removed a) accepted.1))
+
+-- an act that leaves the tables as they are leaves what a browser stands for with it
+pub kept-stands : (b : Browser) (past : List Act) (action : Action) (act : Act) → leaves_tables act ≡ true → outcome past action ≡ Ok act → StandsFor b past → StandsFor b (act ∷ past)
+kept-stands b past action Looked leaves done s =
+    record { contexts = record { rows = s.contexts.rows; accepted = (action, done, s.contexts.accepted) }; next_context = s.next_context; next_realm = s.next_realm; next_window = s.next_window }
+kept-stands b past action (Logged c level line) leaves done s =
+    record { contexts = record { rows = s.contexts.rows; accepted = (action, done, s.contexts.accepted) }; next_context = s.next_context; next_realm = s.next_realm; next_window = s.next_window }
+kept-stands b past action act leaves done s = absurd (cc)

@@ -8,7 +8,7 @@ use Rattle.bidi_params.specs.declared.browsing_context.create.CreateParameters.{
 use Rattle.bidi_params.specs.declared.browsing_context.get_tree.GetTreeParameters.{GetTreeParameters}
 use Rattle.bidi_browser.specs.declared.action.Action as declared_action
 use Rattle.bidi_browser.specs.declared.action.Action.TheVariants as in_code
-use Rattle.bidi_browser.specs.Actions.{CreateType, Tab, OwnWindow, Action, Activate, Close, Create, GetTree, Frame, Unframe}
+use Rattle.bidi_browser.specs.Actions.{CreateType, Tab, OwnWindow, Action, Activate, Close, Create, GetTree, Frame, Unframe, Log}
 
 -- as what a context is created
 abbrev pub create_type_of : ContextType → CreateType
@@ -36,3 +36,4 @@ action_of (in_code.Create p) = create_asked p.now
 action_of (in_code.GetTree p) = get_tree_asked p.now
 action_of (in_code.Frame context url) = Frame context.now url.now
 action_of (in_code.Unframe context) = Unframe context.now
+action_of (in_code.Log context level text) = Log context.now level text.now

@@ -3,8 +3,9 @@ use Rattle.std.specs.Prelude.{ℕ, zero, suc, nat_eq, List, [], ◌∷◌, filte
 use Rattle.std.specs.Option.{option_eq}
 use Rattle.url.specs.Parts.{Parts}
 use Rattle.bidi_tree.specs.Node.{Node, null, text, Members, no_members}
+use Rattle.bidi_values.specs.declared.log_entry.Level.{Level}
 use Rattle.bidi_messages.specs.declared.event.EventName.{EventName}
-use Rattle.bidi_messages.specs.declared.event.EventName.TheVariants.{ContextCreated, ContextDestroyed, RealmCreated, RealmDestroyed}
+use Rattle.bidi_messages.specs.declared.event.EventName.TheVariants.{ContextCreated, ContextDestroyed, RealmCreated, RealmDestroyed, EntryAdded}
 use Rattle.bidi_browser.specs.declared.id.Kind.TheVariants as kind
 use Rattle.bidi_browser.specs.declared.contexts.Context.{Context}
 use Rattle.bidi_browser.specs.Urls.{url_text, origin_text}
@@ -14,7 +15,7 @@ use Rattle.bidi_browser.specs.Places.{url_of}
 use Rattle.bidi_browser.specs.Realms.{realm_of}
 use Rattle.bidi_browser.specs.Maps.{◌being◌and◌, mapped, word, id_tree}
 use Rattle.bidi_browser.specs.Info.{parent_tree, children_tree, depth_below}
-use Rattle.bidi_browser.specs.Occurrences.{Occurrence}
+use Rattle.bidi_browser.specs.Occurrences.{Occurrence, console_entry}
 
 -- a live context: its number, its parent if it is a child, its top-level context, its level, its window, its realm and its URL
 pub record Row : Type 0 where
@@ -96,6 +97,10 @@ realm_info_in row = mapped (
 -- an event of it
 abbrev pub occurrence_in : Row → EventName → Node → Occurrence
 occurrence_in row event params = record { event = event; context = row.number; top = row.top; params = params }
+
+-- an entry was logged in it, at the moment
+abbrev pub entry_added_in : Row → ℕ → Level → List ℕ → Occurrence
+entry_added_in row moment level line = occurrence_in row EntryAdded (console_entry moment row.number row.realm level line)
 
 -- its context came
 abbrev pub created_in : Row → Occurrence

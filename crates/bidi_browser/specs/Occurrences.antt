@@ -82,13 +82,17 @@ navigation_event past moment c url event = occurrence past c event (mapped (
     "timestamp" being number moment and
     "url" being text (url_text url) and no_members))
 
--- a log entry of the console, its method its level and its args the one text, at the moment
-abbrev pub entry_added : List Act → ℕ → ℕ → Level → List ℕ → Occurrence
-entry_added past moment c level line = occurrence past c EntryAdded (mapped (
+-- a log entry of the console from a context and its realm, its method its level and its args the one text, at the moment
+abbrev pub console_entry : ℕ → ℕ → ℕ → Level → List ℕ → Node
+console_entry moment c r level line = mapped (
     "type" being word "console" and
     "level" being text (level_text level) and
     "method" being text (level_text level) and
     "text" being text line and
     "args" being listed (mapped ("type" being word "string" and "value" being text line and no_members) ∷ []) and
-    "source" being mapped ("context" being id_tree Context c and "realm" being id_tree Realm (realm_of past c) and no_members) and
-    "timestamp" being number moment and no_members))
+    "source" being mapped ("context" being id_tree Context c and "realm" being id_tree Realm r and no_members) and
+    "timestamp" being number moment and no_members)
+
+-- it was logged in the context
+abbrev pub entry_added : List Act → ℕ → ℕ → Level → List ℕ → Occurrence
+entry_added past moment c level line = occurrence past c EntryAdded (console_entry moment c (realm_of past c) level line)

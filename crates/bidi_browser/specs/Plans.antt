@@ -1,5 +1,5 @@
 -- What a plan in hand is: what it tells, and what its change makes of the tables.
-use Rattle.std.specs.Prelude.{◌≡◌, ◌≤◌, ◌<◌, ◌^◌, ℕ, true, List, [], ◌∷◌, ◌++◌, map, Option, Some, None, Result, Ok, Err, is_some, IfSome, ⊤, vec_len, vec_capacity}
+use Rattle.std.specs.Prelude.{◌≡◌, ◌≤◌, ◌<◌, ◌^◌, ℕ, Bool, true, false, List, [], ◌∷◌, ◌++◌, map, Option, Some, None, Result, Ok, Err, is_some, IfSome, ⊤, vec_len, vec_capacity}
 use Rattle.std.specs.List.{AllByRecursion}
 use Rattle.bidi_tree.specs.Node.{levels}
 use Rattle.bidi_messages.specs.declared.result_data.ResultData.{ResultData}
@@ -16,7 +16,7 @@ use Rattle.bidi_browser.specs.declared.plan.Edit.{Edit}
 use Rattle.bidi_browser.specs.declared.plan.Edit.TheVariants.{Keep, Add, Remove}
 use Rattle.bidi_browser.specs.declared.refusal.Refusal.{Refusal}
 use Rattle.bidi_browser.specs.declared.refusal.Refusal.TheVariants.{Code, NoMemory}
-use Rattle.bidi_browser.specs.Acts.{Act, Removed, Looked, gives, next_number}
+use Rattle.bidi_browser.specs.Acts.{Act, Removed, Logged, Looked, gives, next_number}
 use Rattle.bidi_browser.specs.Contexts.{subtree_of}
 use Rattle.bidi_browser.specs.Actions.{Action, is_asked}
 use Rattle.bidi_browser.specs.Outcome.{outcome}
@@ -69,9 +69,15 @@ pub record IsWellTold (p : Plan) : Type 0 where
 
 -- ---- what a plan changes
 
+-- the act leaves the tables as they are
+abbrev pub leaves_tables : Act → Bool
+leaves_tables Looked = true
+leaves_tables (Logged c level text) = true
+leaves_tables act = false
+
 -- what an edit makes of the tables, an act makes of the past
 abbrev pub EditMakes : Edit → List Act → Act → Type 0
-EditMakes Keep past act = act ≡ Looked
+EditMakes Keep past act = leaves_tables act ≡ true
 EditMakes (Add context opens_window) past act =
     (gives Context act ≡ true) × (row_of context ≡ row_at (act ∷ past) (next_number past Context)) × (opens_window ≡ gives Window act)
 EditMakes (Remove numbers) past act = (c : ℕ) × (act ≡ Removed c) × (numbers.items ≡ subtree_of past c)
@@ -81,10 +87,11 @@ Makes change past act = EditMakes change.edit past act
 
 -- ---- what a plan is
 
--- the act of an action, all that it brings about, with a reply where somebody asked, and the change that it makes; or the code of the check that fails
+-- the act of an action, all that it brings about, with a reply where somebody asked, and the change that it makes; or the code of the check that fails. Behind no reply stands nothing.
 abbrev pub Plans : Result Plan Refusal → List Act → ℕ → Action → Type 0
 Plans (Ok plan) past moment action =
     (act : Act) × (outcome past action ≡ Ok act) × (items_in plan ≡ occurs past moment action act) × (is_some plan.result ≡ is_asked action) × Makes plan.change past act
+    × (is_asked action ≡ false → plan.after.items ≡ [])
 Plans (Err (Code code)) past moment action = outcome past action ≡ Err code
 Plans (Err NoMemory) past moment action = ⊤
 

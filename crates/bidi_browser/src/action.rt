@@ -1,5 +1,6 @@
 //! What the browser is asked.
 use bidi_params::{ActivateParameters, CloseParameters, CreateParameters, GetTreeParameters};
+use bidi_values::Level;
 
 /// A command of the browser, by its parameters, or a step of a page.
 #[derive(Clone, Copy)]
@@ -12,4 +13,6 @@ pub enum Action<'a> {
     Frame(&'a str, &'a str),
     /// The child of that id goes.
     Unframe(&'a str),
+    /// A text is logged in the context of that id, as grave as is said.
+    Log(&'a str, Level, &'a str),
 }

@@ -13,6 +13,7 @@ ghost use Rattle.bidi_browser.specs.View.{occurrence_of};
 use crate::action::Action;
 use crate::births::{plan_create, plan_frame};
 use crate::context_table::Contexts;
+use crate::logging::plan_log;
 use crate::looking::{plan_activate, plan_get_tree};
 use crate::occurrence::Occurrence;
 use crate::plan::{Change, Edit, Plan};
@@ -20,6 +21,7 @@ use crate::refusal::Refusal;
 use crate::removals::{plan_close, plan_unframe};
 use crate::telling::{push_created, push_realms};
 use bidi_messages::{EventData, EventName, Subject};
+use bidi_tree::JsUint;
 use std::alloc::{AllocError, Global};
 
 /// How many contexts may live.
@@ -73,9 +75,9 @@ impl Browser {
     /// - `NoMemory`: a growth was refused.
     ///
     /// After WebDriver BiDi, "The browsingContext Module".
-    pub fn plan(&self, action: Action, moment: u64) -> Result<Plan, Refusal>
+    pub fn plan(&self, action: Action, moment: JsUint) -> Result<Plan, Refusal>
         // Whatever past the browser stands for, short of 2^48 ids of a kind, the plan is that of the definitions.
-        ensures plans { (past : List Act) → StandsFor self.now past → HasIds past → Plans result past moment (action_of action.entry) }
+        ensures plans { (past : List Act) → StandsFor self.now past → HasIds past → Plans result past moment.value (action_of action.entry) }
         ensures well { IsWellPlanned result }
     {
         match action {
@@ -85,6 +87,7 @@ impl Browser {
             Action::GetTree(params) => plan_get_tree(self, params),
             Action::Frame(context, url) => plan_frame(self, context, url),
             Action::Unframe(context) => plan_unframe(self, context),
+            Action::Log(context, level, text) => plan_log(self, moment, context, level, text),
         }
     }
 

@@ -10,6 +10,7 @@ use crate::urls::{about_blank, origin_text};
 use bidi_messages::{EventData, EventName, Subject};
 use bidi_params::{Info, RealmDestroyedParameters, RealmInfo};
 use bidi_shape::{Ext, Shape};
+use bidi_values::LogEntry;
 use std::alloc::{AllocError, Global};
 use url::Url;
 
@@ -37,7 +38,7 @@ impl Context {
     ghost use Rattle.bidi_browser.specs.ContextRows.{row_of, inner_info, root_info, shown_info, realm_info_in, created_in, realm_created_in, realm_destroyed_in, occurrence_in};
     ghost use Rattle.bidi_browser.specs.Info.{parent_tree};
     ghost use Rattle.bidi_browser.specs.InfosInHand.{children_node, parent_node, AreWithinIfTold, IsWithin};
-    ghost use Rattle.bidi_messages.specs.declared.event.EventName.TheVariants.{ContextDestroyed};
+    ghost use Rattle.bidi_messages.specs.declared.event.EventName.TheVariants.{ContextDestroyed, EntryAdded};
 
     /// A top-level context at `about:blank`.
     pub(crate) fn top_level(
@@ -195,6 +196,14 @@ impl Context {
             ext: Ext::empty(alloc),
         };
         Ok(self.occurrence(EventData::RealmDestroyed(params)))
+    }
+
+    /// That an entry was logged in it. Takes no memory.
+    pub(crate) fn logged(&self, entry: LogEntry) -> Occurrence
+        ensures told { occurrence_of ⟦<EventData as Subject<EventName>>⟧.subject result ≡ occurrence_in (row_of self.now) EntryAdded (⟦<LogEntry as Shape>⟧.shape.tree_of entry) }
+        ensures well { ⟦<LogEntry as Shape>⟧.shape.well entry → ⟦<EventData as Subject<EventName>>⟧.subject.well result.event }
+    {
+        self.occurrence(EventData::EntryAdded(entry))
     }
 
     // An event of it.

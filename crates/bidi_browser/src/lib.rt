@@ -13,6 +13,7 @@ mod browser;
 mod context_table;
 mod contexts;
 mod id;
+mod logging;
 mod looking;
 mod occurrence;
 mod plan;

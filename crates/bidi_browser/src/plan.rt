@@ -12,7 +12,7 @@ pub struct Plan {
     pub before: Vec<Occurrence>,
     /// The result, for a command; nobody asked for a step of a page.
     pub result: Option<ResultData>,
-    /// The events behind the reply.
+    /// The events behind the reply. Where nobody asked there are none.
     pub after: Vec<Occurrence>,
     pub change: Change,
 }
@@ -26,7 +26,7 @@ pub struct Change {
 /// What is done to the tables.
 #[derive(Drop)]
 pub(crate) enum Edit {
-    /// Nothing.
+    /// Nothing: the action looks, or logs an entry, which the browser tells and does not keep.
     Keep,
     /// A context comes, in a window that stands or in a new one.
     Add {

@@ -21,6 +21,7 @@ returns-clause-plans c = λ past moment stands ids.
           (ap (λ t. Replies t ∷ []) (c.in_ok-result.ensures.tree ∙ ap (λ n. mapped ("context" being id_tree Context n and no_members)) number)) c.new.ensures.items,
       refl,
       (refl, row, none-is w c.is_none-opens_window.result c.is_none-opens_window.ensures),
+      λ unasked. c.new.ensures.items,
     )
 
 pub returns-clause-well : goal.returns-clause-well

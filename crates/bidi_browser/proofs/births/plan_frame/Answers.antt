@@ -24,4 +24,5 @@ returns-clause-plans c = λ past moment stands ids.
       unasked-birth past (Framed p url) (row_of c.child-context.result) _ _ row c.in_ok-before.ensures.told c.new.ensures.items,
       refl,
       (refl, row, refl),
+      λ unasked. c.new.ensures.items,
     )

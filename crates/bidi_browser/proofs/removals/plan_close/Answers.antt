@@ -15,6 +15,7 @@ returns-clause-plans c = λ past moment stands.
       asked-removal past found.0 c.in_ok-before.before.items _ (Some (BrowsingContextClose c.nothing.result)) told.0 (ap (λ t. Replies t ∷ []) c.nothing.ensures.tree) c.new.ensures.items,
       refl,
       told.1,
+      λ unasked. c.new.ensures.items,
     )
 
 pub returns-clause-well : goal.returns-clause-well

@@ -1,0 +1,115 @@
+//! The plan of what logs an entry.
+ghost use Rattle.std.specs.Prelude.{◌≡◌, ℕ, List, [], ◌∷◌, IfOk};
+ghost use Rattle.bidi_tree.specs.Node.{no_members, text};
+ghost use Rattle.bidi_browser.specs.Acts.{Act};
+ghost use Rattle.bidi_browser.specs.Actions.{Log};
+ghost use Rattle.bidi_browser.specs.ContextRows.{row_of, entry_added_in};
+ghost use Rattle.bidi_browser.specs.Maps.{◌being◌and◌, mapped, word, id_tree};
+ghost use Rattle.bidi_browser.specs.Occurrences.{console_entry};
+ghost use Rattle.bidi_browser.specs.Plans.{AreWell, Plans, IsWellPlanned};
+ghost use Rattle.bidi_browser.specs.Stands.{StandsFor};
+ghost use Rattle.bidi_browser.specs.View.{seen};
+
+use crate::browser::Browser;
+use crate::contexts::Context;
+use crate::id::{Kind, id_text};
+use crate::looking::context_named;
+use crate::occurrence::Occurrence;
+use crate::plan::{Change, Edit, Plan};
+use crate::refusal::Refusal;
+use bidi_shape::{Named, Shape};
+use bidi_tree::JsUint;
+use bidi_values::{
+    BaseLogEntry, ConsoleEntry, Level, LogEntry, Primitive, RemotePlain, RemoteValue, Source,
+};
+use std::alloc::{AllocError, Global};
+
+/// Logs a text in a context, as an entry of the console. The browser tells it, and keeps nothing of it.
+///
+/// # Errors
+/// The first that holds:
+/// - `no such frame`: the context is not live.
+/// - No memory, where a growth was refused.
+pub(crate) fn plan_log(
+    browser: &Browser,
+    moment: JsUint,
+    context: &str,
+    level: Level,
+    text: &str,
+) -> Result<Plan, Refusal>
+    ensures plans { (past : List Act) → StandsFor browser.now past → Plans result past moment.value (Log context.now level text.now) }
+    ensures well { IsWellPlanned result }
+{
+    let context = context_named(&browser.contexts, context)?;
+    let before = logged(browser.alloc, moment, context, level, text)?;
+    Ok(Plan {
+        before,
+        result: None,
+        after: Vec::new(browser.alloc),
+        change: Change { edit: Edit::Keep },
+    })
+}
+
+// The event of an entry.
+fn logged(
+    alloc: Global,
+    moment: JsUint,
+    context: &Context,
+    level: Level,
+    text: &str,
+) -> Result<Vec<Occurrence>, AllocError>
+    ensures told { IfOk result (λ all. seen all.items ≡ entry_added_in (row_of context.now) moment.value level text.now ∷ []) }
+    ensures well { IfOk result (λ all. AreWell all.items) }
+{
+    let entry = entry(alloc, moment, context, level, text)?;
+    let mut all = Vec::new(alloc);
+    all.push(context.logged(LogEntry::Console(entry)))?;
+    Ok(all)
+}
+
+// An entry of the console: its method is the level's name, and the text is its one argument.
+fn entry(
+    alloc: Global,
+    moment: JsUint,
+    context: &Context,
+    level: Level,
+    text: &str,
+) -> Result<ConsoleEntry, AllocError>
+    ensures tree { IfOk result (λ e. ⟦<ConsoleEntry as Shape>⟧.shape.tree_of e ≡ console_entry moment.value context.now.number context.now.realm level text.now) }
+    ensures well { IfOk result ⟦<ConsoleEntry as Shape>⟧.shape.well }
+{
+    let base = BaseLogEntry {
+        level,
+        source: source(alloc, context)?,
+        text: Some(String::from_str(alloc, text)?),
+        timestamp: moment,
+        stack_trace: None,
+    };
+    let mut args = Vec::new(alloc);
+    args.push(text_value(alloc, text)?)?;
+    Ok(ConsoleEntry {
+        base,
+        method: String::from_str(alloc, level.name())?,
+        args,
+    })
+}
+
+// The context as the source of an entry, with its realm.
+fn source(alloc: Global, context: &Context) -> Result<Source, AllocError>
+    ensures { IfOk result (λ s. ⟦<Source as Shape>⟧.shape.tree_of s
+        ≡ mapped ("context" being id_tree Kind.Context context.now.number and "realm" being id_tree Kind.Realm context.now.realm and no_members)) }
+{
+    Ok(Source {
+        realm: id_text(alloc, Kind::Realm, 0, context.realm)?,
+        context: Some(id_text(alloc, Kind::Context, 0, context.number)?),
+    })
+}
+
+// A text as a value.
+fn text_value(alloc: Global, line: &str) -> Result<RemoteValue, AllocError>
+    ensures tree { IfOk result (λ v. ⟦<RemoteValue as Shape>⟧.shape.tree_of v ≡ mapped ("type" being word "string" and "value" being text line.now and no_members)) }
+    ensures well { IfOk result ⟦<RemoteValue as Shape>⟧.shape.well }
+{
+    let text = String::from_str(alloc, line)?;
+    Ok(RemoteValue::Plain(RemotePlain::Primitive(Primitive::String(text))))
+}
