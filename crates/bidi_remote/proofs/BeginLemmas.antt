@@ -30,6 +30,16 @@ over-next g i xs ys y less same at =
     let e : i + 1 ≡ suc i = omega arith in
     ap (λ k. over g k xs) e ∙ (next g i xs y less ∙ (ap (λ zs. set zs i (g (get_or zs i y))) (sym same) ∙ ap (λ z. set ys i (g z)) at))
 
+-- what stands at a place is put there again
+set-again : {X : Type 0} (xs : List X) (i : ℕ) (x : X) → get_or xs i x ≡ x → set xs i x ≡ xs
+set-again [] i x at = refl
+set-again (y ∷ xs) zero x at = ap (λ z. z ∷ xs) (sym at)
+set-again (y ∷ xs) (suc i) x at = ap (λ zs. y ∷ zs) (set-again xs i x at)
+
+-- the next one is as it would be changed
+pub over-kept : {X : Type 0} (g : X → X) (i : ℕ) (xs ys : List X) (y : X) → i < length xs → ys ≡ over g i xs → get_or ys i y ≡ y → y ≡ g y → ys ≡ over g (i + 1) xs
+over-kept g i xs ys y less same at is = sym (set-again ys i y at) ∙ (ap (set ys i) is ∙ sym (over-next g i xs ys y less same at))
+
 -- a row of that number begins, and any other is as it was
 pub begun-same : (c s : ℕ) (row : Row) → row.0 ≡ c → begun c s row ≡ (row.0, SpeaksFor s)
 begun-same c s row e = grind (arith, nat_tests, e)

@@ -1,23 +1,27 @@
 -- How the tables move with the past.
-use Rattle.std.proofs.Common.{◌≡◌, ◌∙◌, ℕ, ◌+◌, Bool, true, false, cond, not, ◌&&◌, List, [], ◌∷◌, ◌++◌, map, length, refl, sym, ap, ap₂, arith, Err, Option, Some, None}
+use Rattle.std.proofs.Common.{◌≡◌, ◌∙◌, ℕ, ◌+◌, Bool, true, false, cond, not, ◌&&◌, List, [], ◌∷◌, ◌++◌, map, length, refl, sym, ap, ap₂, subst, arith, Err, Option, Some, None}
 use Rattle.std.specs.Prelude.{◌==◌, filter, find, nat_lt, bytes_eq, codes, if◌then◌else◌, option_map}
+use Rattle.std.specs.List.{AllByRecursion}
 use Rattle.std.proofs.lemmas.List.{length-map}
 use Rattle.bidi_browser.specs.declared.id.Kind.TheVariants.{Session as OfSession}
 use Rattle.bidi_browser.specs.Ids.{id_of}
 use Rattle.bidi_browser.specs.declared.browser.Browser.{Browser}
-use Rattle.bidi_browser.specs.declared.plan.Edit.{Edit}
-use Rattle.bidi_browser.specs.declared.plan.Edit.TheVariants.{Keep, Add, Remove}
-use Rattle.bidi_browser.specs.Acts.{Act, Made, Framed, Removed, Moved, Logged, Tabled, Ran, Disowned, Looked}
-use Rattle.bidi_browser.specs.Plans.{EditMakes}
+use Rattle.bidi_browser.specs.Acts.{Act, Logged}
+use Rattle.bidi_browser.specs.Occurrences.{entry_added}
 use Rattle.bidi_browser.specs.Stands.{StandsFor}
+use Rattle.bidi_tree.specs.declared.number.JsUint.{JsUint}
+use Rattle.bidi_values.specs.declared.log_entry.Level.{Level}
+use Rattle.bidi_messages.specs.contracts.message.MessageShape.TheImpl.{ghosts}
+use Rattle.bidi_messages.specs.Reading.{IsMessageText}
 use Rattle.bidi_messages.specs.declared.event.EventName.{EventName}
+use Rattle.bidi_messages.specs.declared.event.EventName.TheVariants.{EntryAdded}
 use Rattle.bidi_remote.specs.declared.connections.Connections.{Connections}
 use Rattle.bidi_remote.specs.declared.sessions.Sessions.{Sessions}
 use Rattle.bidi_remote.specs.declared.tables.Tables.{Tables}
-use Rattle.bidi_remote.specs.Machine.History.{Input, Open, Deed, Scope, Time, Opened, Dropped, Began, Ended, Subscribed, Cancelled, Dismissed, Did, Told, acts}
-use Rattle.bidi_remote.specs.Machine.Sessions.{next_session}
-use Rattle.bidi_remote.specs.Machine.Subscriptions.{subscriptions_made}
-use Rattle.bidi_remote.specs.Machine.LogBuffer.{Missed, missed}
+use Rattle.bidi_remote.specs.Machine.History.{Input, Open, Deed, Scope, Time, Opened, Dropped, Began, Ended, Subscribed, Cancelled, Dismissed, Did, Told, acts, moment}
+use Rattle.bidi_remote.specs.Machine.Sessions.{is_active, sessions, next_session}
+use Rattle.bidi_remote.specs.Machine.Subscriptions.{subscriptions_made, is_enabled}
+use Rattle.bidi_remote.specs.Machine.LogBuffer.{Missed, missed, announced_at, last_hundred}
 use Rattle.bidi_remote.specs.Machine.Connections.{Standing, Shut, is_shut, is_open, is_for, opened_for, standing_of, open_connections}
 use Rattle.bidi_remote.specs.Machine.Outcome.{Denied, deeds, may_open, opening, session_of_resource, turn}
 use Rattle.bidi_remote.specs.Tables.ConnectionRows as connections
@@ -25,8 +29,13 @@ use Rattle.bidi_remote.specs.Tables.ConnectionRows.{rows, standing_in, standing_
 use Rattle.bidi_remote.specs.declared.connections.Standing as declared_standing
 use Rattle.bidi_remote.specs.declared.connections.Standing.TheVariants as in_code
 use Rattle.bidi_remote.specs.Tables.SessionView as in_hand
-use Rattle.bidi_remote.specs.Tables.SubscriptionRows.{SessionRow, session_rows, begun, subscribed, cancelled, lost, updated, changed}
+use Rattle.bidi_remote.specs.Tables.SubscriptionRows.{SessionRow, session_rows, subscription_rows, begun, subscribed, cancelled, lost, logged, updated, changed}
+use Rattle.bidi_remote.specs.Tables.EventTexts.{Written, written}
+use Rattle.bidi_remote.specs.Tables.MissedRows.{place_of, IsEntry}
 use Rattle.bidi_remote.specs.Tables.Stands.{AgreeWith}
+use Rattle.bidi_remote.specs.Tables.Turns.{IsQuiet}
+use Rattle.bidi_remote.proofs.LogLemmas.{rows-logged}
+use Rattle.bidi_remote.proofs.PlaceLemmas.{entries-announced, entries-logged}
 use Rattle.bidi_remote.proofs.ConnectionLemmas.{rows-opened, rows-dropped, rows-began, rows-ended, standing-found}
 use Rattle.bidi_remote.proofs.OpeningLemmas.{was_opened}
 use Rattle.bidi_remote.proofs.SubscriptionLemmas.{session_rows-began, session_rows-ended, session_rows-subscribed, session_rows-cancelled, session_rows-dismissed, numbers-session_rows}
@@ -36,30 +45,47 @@ use Rattle.bidi_remote.proofs.ListLemmas.{find-map}
 -- ---- the tables after a deed
 
 -- another moment
-pub agree-time : (t : Tables) (past : List Deed) (n : ℕ) → AgreeWith t past → AgreeWith (record t { moment = n }) (Time n ∷ past)
-agree-time t past n a = record { moment = refl; made = a.made; sessions = a.sessions; connections = a.connections; browser = a.browser; unlogged = a.unlogged }
+pub agree-time : (t : Tables) (past : List Deed) (n : JsUint) → AgreeWith t past → AgreeWith (record t { moment = n }) (Time n.value ∷ past)
+agree-time t past n a = record { moment = refl; made = a.made; sessions = a.sessions; connections = a.connections; browser = a.browser; entries = a.entries }
 
 -- the status was told
 pub agree-told : (t : Tables) (past : List Deed) → AgreeWith t past → AgreeWith t (Told ∷ past)
-agree-told t past a = record { moment = a.moment; made = a.made; sessions = a.sessions; connections = a.connections; browser = a.browser; unlogged = a.unlogged }
+agree-told t past a = record { moment = a.moment; made = a.made; sessions = a.sessions; connections = a.connections; browser = a.browser; entries = a.entries }
 
--- the browser did something that logs nothing
-pub agree-did : (t : Tables) (past : List Deed) (act : Act) (b : Browser) → AgreeWith t past → ((s : ℕ) → missed (Did act ∷ past) s ≡ missed past s) → StandsFor b (act ∷ acts past) → AgreeWith (record t { browser = b }) (Did act ∷ past)
-agree-did t past act b a quiet stands = record { moment = a.moment; made = a.made; sessions = a.sessions; connections = a.connections; browser = stands; unlogged = λ s. quiet s ∙ a.unlogged s }
+-- another browser that stands for the same
+pub agree-kept : (t : Tables) (past : List Deed) (b : Browser) → AgreeWith t past → StandsFor b (acts past) → AgreeWith (record t { browser = b }) past
+agree-kept t past b a stands = record { moment = a.moment; made = a.made; sessions = a.sessions; connections = a.connections; browser = stands; entries = a.entries }
 
--- so does no change of the browser that is built
-pub quiet-edit : (edit : Edit) (past : List Deed) (act : Act) → EditMakes edit (acts past) act → (s : ℕ) → missed (Did act ∷ past) s ≡ missed past s
-quiet-edit Keep past act is s = rw is refl
-quiet-edit (Remove numbers) past act is s = rw (is.1) refl
-quiet-edit (Add context opens) past (Made w) is s = refl
-quiet-edit (Add context opens) past (Framed p url) is s = refl
-quiet-edit (Add context opens) past (Removed c) is s = absurd (cc)
-quiet-edit (Add context opens) past (Moved c move) is s = absurd (cc)
-quiet-edit (Add context opens) past (Logged c level text) is s = absurd (cc)
-quiet-edit (Add context opens) past (Tabled t row) is s = absurd (cc)
-quiet-edit (Add context opens) past (Ran r ending held) is s = absurd (cc)
-quiet-edit (Add context opens) past (Disowned r ids) is s = absurd (cc)
-quiet-edit (Add context opens) past Looked is s = absurd (cc)
+-- what is no entry of the log is missed by nobody
+quiet-act : (past : List Deed) (act : Act) → IsQuiet act → (s : ℕ) → missed (Did act ∷ past) s ≡ missed past s
+quiet-act past (Logged c level line) quiet s = absurd quiet
+quiet-act past act quiet s = refl
+
+-- the browser did something else than to log
+pub agree-did : (t : Tables) (past : List Deed) (act : Act) (b : Browser) → AgreeWith t past → IsQuiet act → StandsFor b (act ∷ acts past) → AgreeWith (record t { browser = b }) (Did act ∷ past)
+agree-did t past act b a quiet stands =
+    let same = quiet-act past act quiet in record {
+      moment = a.moment;
+      made = a.made;
+      sessions = a.sessions ∙ sym (λ i. map (λ s. record { number = s; made = subscriptions_made past s; subscriptions = subscription_rows past s; missed = map place_of (last_hundred (same s i)) }) (sessions past));
+      connections = a.connections;
+      browser = stands;
+      entries = λ s. subst (AllByRecursion IsEntry) (sym (same s)) (a.entries s);
+    }
+
+-- it logged an entry, which each session hears or misses
+pub agree-logged : (t : Tables) (past : List Deed) (c : ℕ) (level : Level) (line : List ℕ) (b : Browser) (s : Sessions) (w : Written) → AgreeWith t past → w ≡ written (entry_added (acts past) (moment past) c level line)
+    → IsMessageText ghosts.shape w.text → s.made ≡ t.sessions.made → in_hand.rows_in s ≡ map (logged w) (in_hand.rows_in t.sessions) → StandsFor b (Logged c level line ∷ acts past)
+    → AgreeWith (record t { browser = b; sessions = s }) (Did (Logged c level line) ∷ past)
+agree-logged t past c level line b s w a is text made rows stands =
+    let o = entry_added (acts past) (moment past) c level line in record {
+      moment = a.moment;
+      made = made ∙ a.made;
+      sessions = rows ∙ (ap₂ (λ v all. map (logged v) all) is a.sessions ∙ sym (rows-logged past c level line));
+      connections = a.connections;
+      browser = stands;
+      entries = λ k. entries-logged (is_enabled past k EntryAdded o.top) (missed past k) o refl (subst (λ v. IsMessageText ghosts.shape v.text) is text) (a.entries k);
+    }
 
 -- a connection more
 pub agree-opened : (t : Tables) (past : List Deed) (c : ℕ) (s : Option ℕ) (v : Connections) → AgreeWith t past → is_shut (standing_of past c) ≡ true
@@ -70,7 +96,7 @@ agree-opened t past c s v a shut is = record {
   sessions = a.sessions;
   connections = is ∙ (ap (λ xs. xs ++ (c, opened_for s) ∷ []) a.connections ∙ sym (rows-opened past c s shut));
   browser = a.browser;
-  unlogged = a.unlogged;
+  entries = a.entries;
 }
 
 -- a connection less
@@ -82,17 +108,17 @@ agree-dropped t past c v a is = record {
   sessions = a.sessions;
   connections = is ∙ (ap (filter (λ row. not (row.0 == c))) a.connections ∙ sym (rows-dropped past c));
   browser = a.browser;
-  unlogged = a.unlogged;
+  entries = a.entries;
 }
 
--- of no entries, none is missed
-if_none : {X : Type 0} (b : Bool) {xs : List X} → xs ≡ [] → cond b [] xs ≡ []
-if_none true none = refl
-if_none false none = none
+-- of no entries, and of entries of which some are announced
+if_none : (b : Bool) (ms : List Missed) → AllByRecursion IsEntry ms → AllByRecursion IsEntry (cond b [] ms)
+if_none true ms all = tt
+if_none false ms all = all
 
-still_none : (b : Bool) (f : Missed → Missed) {all : List Missed} → all ≡ [] → cond b (map f all) all ≡ []
-still_none true f none = ap (map f) none
-still_none false f none = none
+if_announced : (b : Bool) (p : ℕ → Bool) (ms : List Missed) → AllByRecursion IsEntry ms → AllByRecursion IsEntry (cond b (map (announced_at p) ms) ms)
+if_announced true p ms all = entries-announced p ms all
+if_announced false p ms all = all
 
 -- a session more, which is that of an open connection and has no subscription yet
 pub agree-began : (t : Tables) (past : List Deed) (c n : ℕ) (v : Connections) (s : Sessions) → AgreeWith t past → is_shut (standing_of past c) ≡ false → subscriptions_made past (next_session past) ≡ 0 → n ≡ t.sessions.made + 1
@@ -105,7 +131,7 @@ agree-began t past c n v s a opened fresh next made more is =
       sessions = more ∙ (ap₂ (λ rows k. rows ++ begun k ∷ []) a.sessions number ∙ sym (session_rows-began past c fresh));
       connections = is ∙ (ap₂ (λ k rows. map (connections.begun c k) rows) number a.connections ∙ sym (rows-began past c opened));
       browser = a.browser;
-      unlogged = λ k. if_none (k == next_session past) (a.unlogged k);
+      entries = λ k. if_none (k == next_session past) (missed past k) (a.entries k);
     }
 
 -- a session less, and its connections
@@ -117,7 +143,7 @@ agree-ended t past n v s a shut less made = record {
   sessions = less ∙ (ap (filter (λ r. not (r.number == n))) a.sessions ∙ sym (session_rows-ended past n));
   connections = shut ∙ (ap (filter (λ row. not (is_for n row.1))) a.connections ∙ sym (rows-ended past n));
   browser = a.browser;
-  unlogged = a.unlogged;
+  entries = a.entries;
 }
 
 module _ (t : Tables) (past : List Deed) (n : ℕ) (s : Sessions) (a : AgreeWith t past) (made : s.made ≡ t.sessions.made) where
@@ -126,14 +152,14 @@ module _ (t : Tables) (past : List Deed) (n : ℕ) (s : Sessions) (a : AgreeWith
   row-changed f is = is ∙ (ap (changed n f) a.sessions ∙ changed-updated n f (session_rows past) (one-row past n))
 
   -- a subscription more
-  pub agree-subscribed : (es : List EventName) (scope : Scope) → in_hand.rows_in s ≡ changed n (subscribed es scope) (in_hand.rows_in t.sessions) → AgreeWith (record t { sessions = s }) (Subscribed n es scope ∷ past)
-  agree-subscribed es scope is = record {
+  pub agree-subscribed : (es : List EventName) (scope : Scope) → is_active past n ≡ true → in_hand.rows_in s ≡ changed n (subscribed (acts past) es scope) (in_hand.rows_in t.sessions) → AgreeWith (record t { sessions = s }) (Subscribed n es scope ∷ past)
+  agree-subscribed es scope active is = record {
     moment = a.moment;
     made = made ∙ a.made;
-    sessions = row-changed (subscribed es scope) is ∙ sym (session_rows-subscribed past n es scope);
+    sessions = row-changed (subscribed (acts past) es scope) is ∙ sym (session_rows-subscribed past n es scope active);
     connections = a.connections;
     browser = a.browser;
-    unlogged = λ k. still_none (k == n) _ (a.unlogged k);
+    entries = λ k. if_announced (k == n) _ (missed past k) (a.entries k);
   }
 
   -- subscriptions less
@@ -144,7 +170,7 @@ module _ (t : Tables) (past : List Deed) (n : ℕ) (s : Sessions) (a : AgreeWith
     sessions = row-changed (cancelled ns) is ∙ sym (session_rows-cancelled past n ns);
     connections = a.connections;
     browser = a.browser;
-    unlogged = a.unlogged;
+    entries = a.entries;
   }
 
   -- events less
@@ -155,7 +181,7 @@ module _ (t : Tables) (past : List Deed) (n : ℕ) (s : Sessions) (a : AgreeWith
     sessions = row-changed (lost es) is ∙ sym (session_rows-dismissed past n es);
     connections = a.connections;
     browser = a.browser;
-    unlogged = a.unlogged;
+    entries = a.entries;
   }
 
 -- ---- what the tables say

@@ -1,11 +1,13 @@
 -- What a command comes to, by the tables and by the past.
-use Rattle.std.proofs.Common.{◌≡◌, ◌∙◌, ℕ, Bool, true, false, not, ◌&&◌, List, [], ◌∷◌, ◌++◌, append-nil, map, length, Option, Some, unwrap_or, Result, Ok, Err, refl, sym, ap, ap₂, subst}
+use Rattle.std.proofs.Common.{◌≡◌, ◌∙◌, ℕ, Bool, true, false, not, ◌&&◌, List, [], ◌∷◌, ◌++◌, map, length, Option, Some, unwrap_or, Result, Ok, Err, refl, sym, ap, ap₂, subst}
 use Rattle.std.specs.Prelude.{filter, nat_lt}
 use Rattle.std.specs.List.{list_any, list_all, AllByRecursion, items_where_true}
-use Rattle.std.proofs.lemmas.List.{length-map}
+use Rattle.std.proofs.lemmas.List.{length-map, map-append}
+use Rattle.std.proofs.lemmas.List.Elements.{filter-append}
 use Rattle.bidi_messages.specs.declared.error_code.ErrorCode.{ErrorCode}
 use Rattle.bidi_messages.specs.declared.error_code.ErrorCode.TheVariants.{InvalidArgument, UnknownError}
 use Rattle.bidi_messages.specs.declared.event.EventName.{EventName}
+use Rattle.bidi_messages.specs.declared.event.EventName.TheVariants.{EntryAdded}
 use Rattle.bidi_messages.specs.declared.result_data.ResultData.{ResultData}
 use Rattle.bidi_browser.specs.Checks.{◌>>=◌, need, found}
 use Rattle.bidi_browser.specs.Acts.{Act, Looked}
@@ -23,17 +25,19 @@ use Rattle.bidi_remote.specs.Machine.Commands.{Command}
 use Rattle.bidi_remote.specs.Machine.History.{Deed, Began, Subscribed, Dismissed, Scope, acts}
 use Rattle.bidi_remote.specs.Machine.Sessions.{is_active}
 use Rattle.bidi_remote.specs.Machine.Subscriptions.{subscriptions, is_newly_enabled, holds_globally, covers}
-use Rattle.bidi_remote.specs.Machine.LogBuffer.{Missed, missed, last_hundred, waiting_for}
+use Rattle.bidi_remote.specs.Machine.LogBuffer.{missed, waiting_for}
 use Rattle.bidi_remote.specs.Machine.Outcome.{is_ready, new_outcome, all_named, scope_asked, subscribe_outcome, subscriptions_named, unsubscribe_by_events_outcome}
 use Rattle.bidi_remote.specs.Machine.Sent.{items, action_in, announcements}
-use Rattle.bidi_remote.specs.Tables.Routes.{is_new}
+use Rattle.bidi_remote.specs.Tables.EventTexts.{Written, written, written_in, AreMessages}
+use Rattle.bidi_remote.specs.Tables.MissedRows.{places, waiting, IsEntry}
 use Rattle.bidi_remote.specs.Tables.SessionView as in_hand
 use Rattle.bidi_remote.specs.Tables.SessionView.{row_of}
 use Rattle.bidi_remote.specs.Tables.Stands.{AgreeWith}
-use Rattle.bidi_remote.specs.Tables.SubscriptionRows.{session_row, session_rows, row_at, subscription_rows, row_in, begun, row_covers, row_holds, any_global, numbers_named}
-use Rattle.bidi_browser.specs.View.{seen, result_tree}
+use Rattle.bidi_remote.specs.Tables.SubscriptionRows.{session_row, session_rows, row_at, subscription_rows, row_in, begun, row_covers, row_holds, any_global, is_new, numbers_named}
+use Rattle.bidi_browser.specs.View.{result_tree}
 use Rattle.bidi_remote.specs.Tables.Turns.{Decides, IsMade, IsOfSessions, deed_of, announced_by}
 use Rattle.bidi_remote.proofs.ListLemmas.{filter-same, any-map, all-same}
+use Rattle.bidi_remote.proofs.PlaceLemmas.{waiting-places, waiting-events, new-written}
 use Rattle.bidi_remote.proofs.SubscriptionLemmas.{newly-enabled, numbers-session_rows, find-active, named-subscription_rows, global-held}
 
 -- ---- a turn
@@ -42,7 +46,7 @@ use Rattle.bidi_remote.proofs.SubscriptionLemmas.{newly-enabled, numbers-session
 pub made-of_sessions : (change : Change) (past : List Act) (act : Act) → IsOfSessions change → IsMade change past act
 made-of_sessions (Browse change) past act ours = absurd ours
 made-of_sessions Nothing past act ours = tt
-made-of_sessions (Begin c) past act ours = tt
+made-of_sessions (Begin c buffer) past act ours = ours
 made-of_sessions (End s) past act ours = tt
 made-of_sessions (Subscribe s es scope) past act ours = tt
 made-of_sessions (Cancel s ns) past act ours = tt
@@ -52,17 +56,22 @@ module _ (turn : Turn) (past : List Deed) (asker : Asker) (asked : Option Comman
     (same : turn.change ≡ change) (before : turn.telling.before.items ≡ []) (reply : turn.telling.reply ≡ Some (record { to = asker; outcome = r })) (after : turn.telling.after.items ≡ [])
     (is : answer ≡ Ok (deed_of change Looked)) (told : Replies (result_tree r) ∷ [] ≡ items past (action_in asked) (deed_of change Looked)) where
   -- a change that is announced, and then replied to
-  pub announced-decides : seen turn.telling.announced.items ≡ announced_by past (deed_of change Looked) → Decides (Ok turn) past asker asked answer
-  announced-decides announced = (
+  pub announced-decides : written_in turn.telling.announced.items ≡ map written (announced_by past (deed_of change Looked)) → AreMessages (written_in turn.telling.announced.items) → Decides (Ok turn) past asker asked answer
+  announced-decides announced messages = (
     Looked,
     is ∙ ap (λ x. Ok (deed_of x Looked)) (sym same),
     subst (λ x. IsMade x (acts past) Looked) (sym same) (made-of_sessions change (acts past) Looked ours),
     record {
-      announced = announced ∙ ap (λ x. announced_by past (deed_of x Looked)) (sym same);
+      announced = announced ∙ ap (λ x. map written (announced_by past (deed_of x Looked))) (sym same);
+      messages = messages;
       items = rw (before, reply, after) (told ∙ ap (λ x. items past (action_in asked) (deed_of x Looked)) (sym same));
     },
     rw reply refl,
   )
+
+  -- one of which only a reply tells
+  pub replied-decides : turn.telling.announced.items ≡ [] → announced_by past (deed_of change Looked) ≡ [] → Decides (Ok turn) past asker asked answer
+  replied-decides none quiet = announced-decides (ap written_in none ∙ ap (map written) (sym quiet)) (subst (λ es. AreMessages (written_in es)) (sym none) tt)
 
 -- ---- the table of sessions
 
@@ -86,11 +95,11 @@ new-began past c request fits same fit room = rw (sym same ∙ no_error fits fit
 
 -- ---- `session.subscribe`
 
--- whether an occurrence is new, by the three answers
-pub is-new : (past : List Act) (held : List Subscription) (es : List EventName) (scope : Scope) (o : Occurrence) (live was is : Bool) → live ≡ is_alive past o.top
-    → was ≡ list_any (λ s. row_covers o.event o.top (row_of s)) held → is ≡ (is_among es o.event && covers scope o.top) → (live && (not was && is)) ≡ is_new past (map row_of held) es scope o
-is-new past held es scope o live was is lives covered covers =
-    ap₂ (λ a b. a && b) lives (ap₂ (λ a b. not a && b) (covered ∙ sym (any-map row_of (row_covers o.event o.top) held)) covers)
+-- whether an event is new, by the three answers
+pub is-new : (past : List Act) (held : List Subscription) (es : List EventName) (scope : Scope) (e : EventName) (top : ℕ) (live was is : Bool) → live ≡ is_alive past top
+    → was ≡ list_any (λ s. row_covers e top (row_of s)) held → is ≡ (is_among es e && covers scope top) → (live && (not was && is)) ≡ is_new past (map row_of held) es scope e top
+is-new past held es scope e top live was is lives covered covers =
+    ap₂ (λ a b. a && b) lives (ap₂ (λ a b. not a && b) (covered ∙ sym (any-map row_of (row_covers e top) held)) covers)
 
 -- the third answer decides, where the others let it
 pub third : (live was is : Bool) → live ≡ true → not was ≡ true → is ≡ (live && (not was && is))
@@ -122,16 +131,19 @@ pub subscribe-checked : (past : List Deed) (s n : ℕ) (names : List (List ℕ))
 subscribe-checked past s n names contexts users es scope few named scoped long is =
     rw (named, scoped) (ap (λ (b : Bool). need b UnknownError >>= λ room. Ok (Subscribed s es scope)) (ap (λ k. nat_lt k 256) (sym long) ∙ is))
 
--- where nothing was logged, nothing waits
-none-waits : (past : List Deed) (s : ℕ) → missed past s ≡ [] → waiting_for past s ≡ []
-none-waits past s none = ap (λ (all : List Missed). map (λ m. m.entry) (filter (λ m. not m.announced) (last_hundred all))) none
-
--- what is new by the table is what is announced
-pub new-announced : (past : List Deed) (s : ℕ) (held : List Subscription) (es : List EventName) (scope : Scope) → is_active past s ≡ true → missed past s ≡ [] → map row_of held ≡ subscription_rows past s
-    → filter (is_new (acts past) (map row_of held) es scope) (tree_events (acts past)) ≡ announcements past (Subscribed s es scope) s
-new-announced past s held es scope active none rows =
-    filter-same _ _ (tree_events (acts past)) (λ o. ap (λ all. is_new (acts past) all es scope o) rows ∙ sym (newly-enabled past s es scope o.event o.top active))
-    ∙ ap (filter (λ o. is_newly_enabled past (Subscribed s es scope) s o.event o.top)) (sym (append-nil (tree_events (acts past))) ∙ ap (λ later. tree_events (acts past) ++ later) (sym (none-waits past s none)))
+-- what is new by the table is what is announced: of the tree, then of the entries that wait
+pub new-announced : (past : List Deed) (s : ℕ) (held : List Subscription) (es : List EventName) (scope : Scope) (tree waits : List Written) → is_active past s ≡ true → AllByRecursion IsEntry (missed past s) → map row_of held ≡ subscription_rows past s
+    → tree ≡ map written (filter (λ o. is_new (acts past) (map row_of held) es scope o.event o.top) (tree_events (acts past)))
+    → waits ≡ filter (λ w. is_new (acts past) (map row_of held) es scope EntryAdded w.top) (waiting (places past s)) → tree ++ waits ≡ map written (announcements past (Subscribed s es scope) s)
+new-announced past s held es scope tree waits active entries rows told later =
+    let in_hand = λ (o : Occurrence). is_new (acts past) (map row_of held) es scope o.event o.top in
+    let newly = λ (o : Occurrence). is_newly_enabled past (Subscribed s es scope) s o.event o.top in
+    let same = λ (o : Occurrence). ap (λ all. is_new (acts past) all es scope o.event o.top) rows ∙ sym (newly-enabled past s es scope o.event o.top active) in
+    ap₂ (λ xs ys. xs ++ ys) told
+    (later ∙ (ap (filter (λ w. is_new (acts past) (map row_of held) es scope EntryAdded w.top)) (waiting-places past s)
+    ∙ new-written (is_new (acts past) (map row_of held) es scope) (waiting_for past s) (waiting-events past s entries)))
+    ∙ (sym (map-append written (filter in_hand (tree_events (acts past))) (filter in_hand (waiting_for past s)))
+    ∙ ap (map written) (sym (filter-append in_hand (tree_events (acts past)) (waiting_for past s)) ∙ filter-same in_hand newly (tree_events (acts past) ++ waiting_for past s) same))
 
 -- ---- `session.unsubscribe`
 

@@ -5,9 +5,12 @@ pub mod FindLemmas
 pub mod ListLemmas
 pub mod CheckLemmas
 pub mod BeginLemmas
+pub mod CopyLemmas
 pub mod ConnectionLemmas
 pub mod SessionLemmas
+pub mod PlaceLemmas
 pub mod SubscriptionLemmas
+pub mod LogLemmas
 pub mod SpeakingLemmas
 pub mod RowLemmas
 pub mod OpeningLemmas

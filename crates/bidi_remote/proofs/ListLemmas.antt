@@ -1,7 +1,7 @@
 -- Lists that are looked at through a function.
-use Rattle.std.proofs.Common.{◌≡◌, ◌<◌, ◌≤◌, ◌+◌, ℕ, suc, Bool, cond, Option, Some, None, ◌&&◌, ◌||◌, length, get_or, drop, drop-cons, add-one, option_map, List, [], ◌∷◌, ◌++◌, map, refl, sym, ap, ap₂, arith}
+use Rattle.std.proofs.Common.{◌≡◌, ◌<◌, ◌≤◌, ◌+◌, ℕ, suc, Bool, true, false, cond, Option, Some, None, ◌&&◌, ◌||◌, length, get_or, drop, drop-cons, add-one, option_map, List, [], ◌∷◌, ◌++◌, map, refl, sym, ap, ap₂, arith}
 use Rattle.std.specs.Prelude.{filter, find, flat_map, nat_lt}
-use Rattle.std.specs.List.{list_any, list_all, position, position_or_len}
+use Rattle.std.specs.List.{AllByRecursion, list_any, list_all, position, position_or_len}
 use Rattle.std.proofs.lemmas.Bool.Decides.{nat_tests}
 
 -- a test of what is seen
@@ -58,3 +58,27 @@ flat_map-same f g (x ∷ xs) same = ap₂ (λ ys zs. ys ++ zs) (same x) (flat_ma
 pub no_value : {X : Type 0} (o : Option X) → ((x : X) → o ≡ Some x → ⊥) → o ≡ None
 no_value None h = refl
 no_value (Some x) h = absurd (h x refl)
+
+-- what is so of each that passes
+passes-next : {X : Type 0} (f g : ℕ → X) (p : ℕ → Bool) (n : ℕ) (ns : List ℕ) (b : Bool) → p n ≡ b → (p n ≡ true → f n ≡ g n) → map f (filter p ns) ≡ map g (filter p ns) → map f (filter p (n ∷ ns)) ≡ map g (filter p (n ∷ ns))
+passes-next f g p n ns true is same rest = rw is (ap₂ (λ x xs. x ∷ xs) (same is) rest)
+passes-next f g p n ns false is same rest = rw is rest
+
+pub each-passing : {X : Type 0} (f g : ℕ → X) (p : ℕ → Bool) (ns : List ℕ) → ((n : ℕ) → p n ≡ true → f n ≡ g n) → map f (filter p ns) ≡ map g (filter p ns)
+each-passing f g p [] same = refl
+each-passing f g p (n ∷ ns) same = passes-next f g p n ns (p n) refl (same n) (each-passing f g p ns same)
+
+-- one function after another
+pub map-twice : {A B C : Type 0} (f : B → C) (g : A → B) (xs : List A) → map f (map g xs) ≡ map (λ x. f (g x)) xs
+map-twice f g [] = refl
+map-twice f g (x ∷ xs) = ap (λ ys. f (g x) ∷ ys) (map-twice f g xs)
+
+-- each of two lists, one behind the other
+pub all-append : {X : Type 0} (P : X → Type 0) (xs ys : List X) → AllByRecursion P xs → AllByRecursion P ys → AllByRecursion P (xs ++ ys)
+all-append P [] ys a b = b
+all-append P (x ∷ xs) ys a b = (a.0, all-append P xs ys a.1 b)
+
+-- a list for each, seen by g
+pub flat_map-map : {X Y Z : Type 0} (f : Y → List Z) (g : X → Y) (xs : List X) → flat_map f (map g xs) ≡ flat_map (λ x. f (g x)) xs
+flat_map-map f g [] = refl
+flat_map-map f g (x ∷ xs) = ap (λ ys. f (g x) ++ ys) (flat_map-map f g xs)

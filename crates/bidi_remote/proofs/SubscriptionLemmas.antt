@@ -1,5 +1,5 @@
 -- How the table of subscriptions moves with the past.
-use Rattle.std.proofs.Common.{◌≡◌, ◌∙◌, ◌<◌, ◌≤◌, ℕ, suc, zero, Bool, true, false, not, ◌&&◌, ◌||◌, List, [], ◌∷◌, ◌++◌, length, get_or, Some, refl, sym, ap, subst, arith, eq-eqb, eqb-true}
+use Rattle.std.proofs.Common.{◌≡◌, ◌∙◌, ◌<◌, ◌≤◌, ℕ, suc, zero, Bool, true, false, not, ◌&&◌, ◌||◌, List, [], ◌∷◌, ◌++◌, length, get_or, Some, refl, sym, ap, ap₂, subst, arith, eq-eqb, eqb-true}
 use Rattle.std.specs.Prelude.{◌==◌, filter, map, find, bytes_eq, option_map, if◌then◌else◌}
 use Rattle.std.specs.List.{list_any, list_all}
 use Rattle.std.proofs.Math.Bool.{and-true, and-false, and_assoc}
@@ -19,7 +19,11 @@ use Rattle.bidi_browser.specs.Occurrences.{event_place, is_among}
 use Rattle.bidi_remote.specs.Machine.History.{Deed, Began, Ended, Subscribed, Cancelled, Dismissed, Scope, acts}
 use Rattle.bidi_remote.specs.Machine.Sessions.{sessions_made, next_session, is_active, sessions}
 use Rattle.bidi_remote.specs.Machine.Subscriptions.{subscriptions_made, next_subscription, subscriptions, events_of, scope_of, is_listed, is_global, is_kept, is_live, holds, holds_globally, covers, is_enabled, is_newly_enabled}
-use Rattle.bidi_remote.specs.Tables.SubscriptionRows.{Row, row_at, events_left, subscription_rows, SessionRow, session_row, session_rows, any_covers, any_global, row_covers, without, loses_all, stripped, dismissed, subscribed, updated}
+use Rattle.bidi_remote.specs.Tables.SubscriptionRows.{Row, row_at, events_left, subscription_rows, SessionRow, session_row, session_rows, any_covers, any_global, row_covers, without, loses_all, stripped, dismissed, begun, subscribed, updated, is_new}
+use Rattle.bidi_remote.specs.Tables.MissedRows.{places, all_left}
+use Rattle.bidi_remote.specs.Machine.LogBuffer.{missed}
+use Rattle.bidi_remote.proofs.ListLemmas.{each-passing}
+use Rattle.bidi_remote.proofs.PlaceLemmas.{places-announced}
 use Rattle.bidi_remote.proofs.SessionLemmas.{both, active_made, sessions-began}
 
 -- ---- events
@@ -331,28 +335,39 @@ rows_updated : (past next : List Deed) (s : ℕ) (f : SessionRow → SessionRow)
 rows_updated past next s f active own other =
     (λ i. map (λ n. row_updated past next s n f (n == s) refl own other i) (active i)) ∙ sym (map-map (λ r. if r.number == s then f r else r) (session_row past) (sessions past))
 
+-- what it announces leaves its place
+places-subscribed : (past : List Deed) (s : ℕ) (es : List EventName) (scope : Scope) → is_active past s ≡ true
+    → places (Subscribed s es scope ∷ past) s ≡ all_left (is_new (acts past) (subscription_rows past s) es scope EntryAdded) (places past s)
+places-subscribed past s es scope active =
+    rw (itself s) (places-announced (is_newly_enabled past (Subscribed s es scope) s EntryAdded) (is_new (acts past) (subscription_rows past s) es scope EntryAdded) (missed past s)
+    (λ top. newly-enabled past s es scope EntryAdded top active))
+
+-- and other sessions announce nothing
+places-subscribed-other : (past : List Deed) (s t : ℕ) (es : List EventName) (scope : Scope) → (s == t) ≡ false → places (Subscribed t es scope ∷ past) s ≡ places past s
+places-subscribed-other past s t es scope apart = rw apart refl
+
 -- it has the new subscription
-pub session_rows-subscribed : (past : List Deed) (s : ℕ) (es : List EventName) (scope : Scope) → session_rows (Subscribed s es scope ∷ past) ≡ updated s (subscribed es scope) (session_rows past)
-session_rows-subscribed past s es scope =
+pub session_rows-subscribed : (past : List Deed) (s : ℕ) (es : List EventName) (scope : Scope) → is_active past s ≡ true → session_rows (Subscribed s es scope ∷ past) ≡ updated s (subscribed (acts past) es scope) (session_rows past)
+session_rows-subscribed past s es scope active =
     let more : subscriptions_made (Subscribed s es scope ∷ past) s ≡ next_subscription past s = rw (itself s) refl in
-    rows_updated past (Subscribed s es scope ∷ past) s (subscribed es scope) refl
-    (λ i. record { number = s; made = more i; subscriptions = rows-subscribed past s es scope i })
-    (λ n apart i. record { number = n; made = made-subscribed-other past n s es scope apart i; subscriptions = rows-subscribed-other past n s es scope apart i })
+    rows_updated past (Subscribed s es scope ∷ past) s (subscribed (acts past) es scope) refl
+    (λ i. record { number = s; made = more i; subscriptions = rows-subscribed past s es scope i; missed = places-subscribed past s es scope active i })
+    (λ n apart i. record { number = n; made = made-subscribed-other past n s es scope apart i; subscriptions = rows-subscribed-other past n s es scope apart i; missed = places-subscribed-other past n s es scope apart i })
 
 -- it is without those that an unsubscribe named
 pub session_rows-cancelled : (past : List Deed) (s : ℕ) (ns : List ℕ) → session_rows (Cancelled s ns ∷ past) ≡ updated s (λ r. record r { subscriptions = without ns r.subscriptions }) (session_rows past)
 session_rows-cancelled past s ns =
     rows_updated past (Cancelled s ns ∷ past) s (λ r. record r { subscriptions = without ns r.subscriptions }) refl
-    (λ i. record { number = s; made = subscriptions_made past s; subscriptions = rows-cancelled past s ns i })
-    (λ n apart i. record { number = n; made = subscriptions_made past n; subscriptions = rows-cancelled-other past n s ns apart i })
+    (λ i. record { number = s; made = subscriptions_made past s; subscriptions = rows-cancelled past s ns i; missed = places past s })
+    (λ n apart i. record { number = n; made = subscriptions_made past n; subscriptions = rows-cancelled-other past n s ns apart i; missed = places past n })
 
 -- and without those events
 pub session_rows-dismissed : (past : List Deed) (s : ℕ) (es : List EventName)
     → session_rows (Dismissed s es ∷ past) ≡ updated s (λ r. record r { subscriptions = dismissed es r.subscriptions }) (session_rows past)
 session_rows-dismissed past s es =
     rows_updated past (Dismissed s es ∷ past) s (λ r. record r { subscriptions = dismissed es r.subscriptions }) refl
-    (λ i. record { number = s; made = subscriptions_made past s; subscriptions = rows-dismissed past s es i })
-    (λ n apart i. record { number = n; made = subscriptions_made past n; subscriptions = rows-dismissed-other past n s es apart i })
+    (λ i. record { number = s; made = subscriptions_made past s; subscriptions = rows-dismissed past s es i; missed = places past s })
+    (λ n apart i. record { number = n; made = subscriptions_made past n; subscriptions = rows-dismissed-other past n s es apart i; missed = places past n })
 
 -- the end of a session takes its row out
 pub session_rows-ended : (past : List Deed) (s : ℕ) → session_rows (Ended s ∷ past) ≡ filter (λ r. not (r.number == s)) (session_rows past)
@@ -361,14 +376,28 @@ session_rows-ended past s =
     (λ n. grind (arith, nat_tests)) (λ n stays. refl)
     ∙ map-id (filter (λ r. not (r.number == s)) (session_rows past))
 
+-- a new session has missed nothing, and the others what they had
+places-began : (past : List Deed) (c : ℕ) → places (Began c ∷ past) (next_session past) ≡ []
+places-began past c = rw (itself (next_session past)) refl
+
+places-began-other : (past : List Deed) (c s : ℕ) → (s == next_session past) ≡ false → places (Began c ∷ past) s ≡ places past s
+places-began-other past c s apart = rw apart refl
+
+row-began-other : (past : List Deed) (c s : ℕ) → is_active past s ≡ true → session_row (Began c ∷ past) s ≡ session_row past s
+row-began-other past c s active =
+    let made = (active_made past s active).1 in
+    let apart : (s == next_session past) ≡ false = grind (arith, nat_tests, made) in
+    (λ i. record { number = s; made = subscriptions_made past s; subscriptions = subscription_rows past s; missed = places-began-other past c s apart i })
+
 -- the row of a new session is the last, and has no subscription where none was made for its number
 pub session_rows-began : (past : List Deed) (c : ℕ) → subscriptions_made past (next_session past) ≡ 0
-    → session_rows (Began c ∷ past) ≡ session_rows past ++ record { number = next_session past; made = 0; subscriptions = [] } ∷ []
+    → session_rows (Began c ∷ past) ≡ session_rows past ++ begun (next_session past) ∷ []
 session_rows-began past c none =
     let s = next_session past in
-    ap (map (session_row past)) (sessions-began past c)
-    ∙ (map-append (session_row past) (sessions past) (s ∷ [])
-    ∙ (λ i. session_rows past ++ record { number = s; made = none i; subscriptions = map (row_at past s) (filter (is_live past s) (up_to (none i))) } ∷ []))
+    ap (map (session_row (Began c ∷ past))) (sessions-began past c)
+    ∙ (map-append (session_row (Began c ∷ past)) (sessions past) (s ∷ [])
+    ∙ ap₂ (λ rows row. rows ++ row ∷ []) (each-passing (session_row (Began c ∷ past)) (session_row past) (is_active past) (up_to (sessions_made past)) (λ n active. row-began-other past c n active))
+    (λ i. record { number = s; made = none i; subscriptions = map (row_at past s) (filter (is_live past s) (up_to (none i))); missed = places-began past c i }))
 
 -- ---- what is found in the tables
 

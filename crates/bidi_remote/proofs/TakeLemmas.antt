@@ -22,7 +22,7 @@ use Rattle.bidi_remote.specs.Machine.Built.{so_far, judged_so_far}
 use Rattle.bidi_remote.specs.Tables.Messages.{ReadsBack, AllReadBack}
 use Rattle.bidi_remote.specs.Tables.Stands.{AgreeWith, IsShort, Takes}
 use Rattle.bidi_remote.specs.Tables.Asked.{Asks, outcome_so_far}
-use Rattle.bidi_browser.specs.View.{seen}
+use Rattle.bidi_remote.specs.Tables.EventTexts.{written_in, AreMessages}
 use Rattle.bidi_remote.specs.Tables.Turns.{Decides, IsMade, deed_of, asker_in, items_in, sent_for}
 use Rattle.bidi_remote.specs.Tables.View.{sent_of}
 use Rattle.bidi_remote.proofs.ChangeLemmas.{opens-open}
@@ -91,11 +91,11 @@ module _ {E : Type 0} (r : Result (Vec declared_sent.Sent Global) E) (t : Tables
 
   -- a turn was taken
   pub turn_takes : (decided : Turn) → Decides (Ok decided) (deeds h) asker o (outcome_so_far (deeds h) c s o)
-      → ((i : Input) (act : Act) → turn (deeds h) i ≡ Ok (deed_of decided.change act) → IsMade decided.change (acts (deeds h)) act
-      → IfOk r (λ all. (map sent_of all.items ≡ sent_for (deeds h) (asker_in decided.telling.reply) (deed_of decided.change act) (seen decided.telling.announced.items) (items_in decided.telling))
+      → ((i : Input) (act : Act) → turn (deeds h) i ≡ Ok (deed_of decided.change act) → IsMade decided.change (acts (deeds h)) act → AreMessages (written_in decided.telling.announced.items)
+      → IfOk r (λ all. (map sent_of all.items ≡ sent_for (deeds h) (asker_in decided.telling.reply) (deed_of decided.change act) (written_in decided.telling.announced.items) (items_in decided.telling))
       × AllReadBack (map sent_of all.items) × AgreeWith t (deed_of decided.change act ∷ deeds h)))
       → IfOk r (λ all. Takes t (map sent_of all.items) h (Heard c (judged_so_far s (Accepted tree))))
-  turn_takes decided is taken = subst (λ v. IfOk r (λ all. Takes t (map sent_of all.items) h (Heard c v))) (sym built.0) (all_taken t h i d _ r (taken i is.0 turn_is is.2) turn_is sends)
+  turn_takes decided is taken = subst (λ v. IfOk r (λ all. Takes t (map sent_of all.items) h (Heard c v))) (sym built.0) (all_taken t h i d _ r (taken i is.0 turn_is is.2 is.3.messages) turn_is sends)
     where
       past : List Deed
       past = deeds h
@@ -112,10 +112,10 @@ module _ {E : Type 0} (r : Result (Vec declared_sent.Sent Global) E) (t : Tables
       turn_is : turn past i ≡ Ok d
       turn_is = ap (λ v. turn past (Heard c v)) (sym built.0) ∙ turned (Ok d) is.1
 
-      sends : sent_for past (asker_in decided.telling.reply) d (seen decided.telling.announced.items) (items_in decided.telling) ≡ told past i (Ok d)
+      sends : sent_for past (asker_in decided.telling.reply) d (written_in decided.telling.announced.items) (items_in decided.telling) ≡ told past i (Ok d)
       sends =
-          ap (λ who. sent_for past who d (seen decided.telling.announced.items) (items_in decided.telling)) (is.4 ∙ ap (λ n. Some (c, n)) (sym asks.same_id))
-          ∙ told-for past c tree d (seen decided.telling.announced.items) (items_in decided.telling) is.3.announced (is.3.items ∙ ap (λ a. items past a d) built.1)
+          ap (λ who. sent_for past who d (written_in decided.telling.announced.items) (items_in decided.telling)) (is.4 ∙ ap (λ n. Some (c, n)) (sym asks.same_id))
+          ∙ told-for past c tree d (written_in decided.telling.announced.items) (items_in decided.telling) is.3.announced (is.3.items ∙ ap (λ a. items past a d) built.1)
 
 -- what holds anyway holds after an error
 pub anyway : {S E : Type 0} (r : Result S E) {P : Type 0} → P → OnErr r P

@@ -20,9 +20,10 @@ use Rattle.bidi_remote.specs.Tables.ConnectionRows as connections
 use Rattle.bidi_remote.specs.Tables.ConnectionRows.{rows, to_each}
 use Rattle.bidi_remote.specs.Tables.SubscriptionRows.{SessionRow, session_row, session_rows, subscription_rows, any_covers}
 use Rattle.bidi_remote.specs.Tables.Messages.{ReadsBack, AllReadBack}
+use Rattle.bidi_remote.specs.Tables.EventTexts.{Written, AreMessages}
 use Rattle.bidi_remote.specs.Tables.Routes.{to_one, to_all}
 use Rattle.bidi_remote.specs.Tables.Turns.{sent_for, sent_of_item, to_subscriber, to_subscriber_in, closed_in}
-use Rattle.bidi_remote.proofs.ListLemmas.{flat_map-same}
+use Rattle.bidi_remote.proofs.ListLemmas.{all-append, flat_map-same}
 use Rattle.bidi_remote.proofs.ConnectionLemmas.{each-past}
 use Rattle.bidi_remote.proofs.SubscriptionLemmas.{covers-enabled}
 
@@ -49,7 +50,7 @@ module _ (rows : List connections.Row) (text : List ℕ) (e : EventName) (top : 
 -- ---- by the past
 
 -- each connection of a session is sent what each that speaks for it is
-to_one-past : (past : List Deed) (s : ℕ) (o : Occurrence) → to_one (rows past) s o ≡ to_session past o s
+to_one-past : (past : List Deed) (s : ℕ) (o : Occurrence) → to_one (rows past) s (occurrence_text o) ≡ to_session past o s
 to_one-past past s o = each-past (λ c. Text c (occurrence_text o)) past s
 
 -- the rows of the active sessions that hear an event
@@ -62,16 +63,16 @@ hearing f row hears active enabled [] same = refl
 hearing f row hears active enabled (n ∷ ns) same = let ih = hearing f row hears active enabled ns same in let at = same n in grind (arith, nat_tests, ih, at)
 
 -- an event goes to its hearers
-to_all-past : (past : List Deed) (o : Occurrence) → to_all (session_rows past) (rows past) o ≡ to_hearers past o
+pub to_all-past : (past : List Deed) (o : Occurrence) → to_all (session_rows past) (rows past) o ≡ to_hearers past o
 to_all-past past o =
-    hearing (λ r. to_one (rows past) r.number o) (session_row past) (λ r. any_covers r.subscriptions o.event o.top) (is_active past) (λ s. is_enabled past s o.event o.top) (up_to (sessions_made past))
+    hearing (λ r. to_one (rows past) r.number (occurrence_text o)) (session_row past) (λ r. any_covers r.subscriptions o.event o.top) (is_active past) (λ s. is_enabled past s o.event o.top) (up_to (sessions_made past))
     (λ s. rows_hear past o (is_active past s) s refl)
     ∙ flat_map-same _ _ (hearers past o) (λ s. to_one-past past s o)
 
 -- what is announced goes to the session that subscribed
-to_subscriber-past : (past : List Deed) (d : Deed) (os : List Occurrence) → to_subscriber_in (rows past) d os ≡ to_subscriber past d os
-to_subscriber-past past (history.Subscribed s es scope) os = flat_map-same _ _ os (λ o. to_one-past past s o)
-to_subscriber-past past d os = refl
+to_subscriber-past : (past : List Deed) (d : Deed) (ws : List Written) → to_subscriber_in (rows past) d ws ≡ to_subscriber past d ws
+to_subscriber-past past (history.Subscribed s es scope) ws = flat_map-same _ _ ws (λ w. each-past (λ c. Text c w.text) past s)
+to_subscriber-past past d ws = refl
 
 -- the end of a session closes its connections
 closed-past : (past : List Deed) (d : Deed) → closed_in (rows past) d ≡ closed past d
@@ -98,12 +99,12 @@ in-order a b c d e =
     ap (λ xs. xs ++ e) (append_assoc (a ++ b) c d ∙ append_assoc a b (c ++ d)) ∙ append_assoc a (b ++ (c ++ d)) e
 
 -- what is sent by the rows of the tables, in its order
-abbrev pub sent_in : List SessionRow → List connections.Row → Deed → List Sent → List Occurrence → List Occurrence → List Occurrence → List Sent
+abbrev pub sent_in : List SessionRow → List connections.Row → Deed → List Sent → List Written → List Occurrence → List Occurrence → List Sent
 sent_in sessions rows d replied announced before after =
     to_subscriber_in rows d announced ++ ((flat_map (to_all sessions rows) before ++ (replied ++ flat_map (to_all sessions rows) after)) ++ closed_in rows d)
 
 -- it is what the past says
-pub sent_in-past : (past : List Deed) (d : Deed) (asker : Option (ℕ × ℕ)) (announced before after : List Occurrence) (reply : List Item) (replied : List Sent)
+pub sent_in-past : (past : List Deed) (d : Deed) (asker : Option (ℕ × ℕ)) (announced : List Written) (before after : List Occurrence) (reply : List Item) (replied : List Sent)
     → replied ≡ flat_map (sent_of_item past asker) reply
     → sent_in (session_rows past) (rows past) d replied announced before after ≡ sent_for past asker d announced (map Happens before ++ (reply ++ map Happens after))
 sent_in-past past d asker announced before after reply replied is =
@@ -112,10 +113,6 @@ sent_in-past past d asker announced before after reply replied is =
     (ap₂ (λ xs ys. xs ++ ys) (ap (λ xs. all before ++ (xs ++ all after)) is ∙ sym (sent-items past asker before after reply)) (closed-past past d))
 
 -- ---- texts that read back
-
-all-append : {X : Type 0} (P : X → Type 0) (xs ys : List X) → AllByRecursion P xs → AllByRecursion P ys → AllByRecursion P (xs ++ ys)
-all-append P [] ys a b = b
-all-append P (x ∷ xs) ys a b = (a.0, all-append P xs ys a.1 b)
 
 all-map : {X Y : Type 0} (P : Y → Type 0) (f : X → Y) → ((x : X) → P (f x)) → (xs : List X) → AllByRecursion P (map f xs)
 all-map P f each [] = tt
@@ -142,6 +139,13 @@ module _ (rows : List connections.Row) (text : List ℕ) (is : IsMessageText gho
   -- and to those of all sessions that hear an event
   pub heard-read : (e : EventName) (top : ℕ) (all : List SessionRow) → AllReadBack (heard rows text e top all)
   heard-read e top all = all-flat_map ReadsBack (λ r. to_each (λ n. Text n text) r.number rows) (λ r. each-reads r.number) (filter (λ r. any_covers r.subscriptions e top) all)
+
+-- what is announced reads back
+pub subscriber-read : (rows : List connections.Row) (d : Deed) (ws : List Written) → AreMessages ws → AllReadBack (to_subscriber_in rows d ws)
+subscriber-read rows (history.Subscribed s es scope) [] all = tt
+subscriber-read rows (history.Subscribed s es scope) (w ∷ ws) all =
+    all-append ReadsBack (to_one rows s w.text) (flat_map (λ v. to_one rows s v.text) ws) (each-reads rows w.text all.0 s) (subscriber-read rows (history.Subscribed s es scope) ws all.1)
+subscriber-read rows d ws all = tt
 
 -- closes are no texts
 pub closed-read : (rows : List connections.Row) (d : Deed) → AllReadBack (closed_in rows d)

@@ -1,20 +1,20 @@
 -- What the machine does at each input, where it is known how the connection stands and what its command comes to.
-use Rattle.std.proofs.Common.{◌≡◌, ◌∙◌, ℕ, true, false, List, ◌++◌, flat_map, refl, sym, ap, ap₂, Ok, Err, Option, Some, None}
+use Rattle.std.proofs.Common.{◌≡◌, ◌∙◌, ℕ, true, false, List, ◌++◌, map, flat_map, refl, sym, ap, ap₂, Ok, Err, Option, Some, None}
 use Rattle.bidi_tree.specs.Node.{Node}
 use Rattle.bidi_messages.specs.declared.error_code.ErrorCode.{ErrorCode}
 use Rattle.bidi_messages.specs.declared.error_code.ErrorCode.TheVariants.{InvalidArgument}
 use Rattle.bidi_messages.specs.Verdict.{Verdict, Accepted, Refused}
 use Rattle.bidi_browser.specs.Occurs.{Item, Happens, Replies}
-use Rattle.bidi_browser.specs.Occurrences.{Occurrence}
 use Rattle.bidi_remote.specs.Machine.Commands.{Command, command_of, id_of_command}
 use Rattle.bidi_remote.specs.Machine.History.{Drop, Heard, NotText, Deed, Dropped, Subscribed}
-use Rattle.bidi_remote.specs.Machine.Connections.{Standing, Shut, Alone, SpeaksFor, is_shut, standing_of}
+use Rattle.bidi_remote.specs.Machine.Connections.{Standing, Shut, Alone, SpeaksFor, is_shut, standing_of, connections_of}
 use Rattle.bidi_remote.specs.Machine.Outcome.{Lost, Error, replied, answered, asked, outcome, turn}
-use Rattle.bidi_remote.specs.Machine.Sent.{items, announced, closed, sent_to, action_in, told}
+use Rattle.bidi_remote.specs.Machine.Sent.{Text, items, announced, closed, sent_to, action_in, told}
 use Rattle.bidi_remote.specs.Machine.Built.{is_built, judged_so_far}
 use Rattle.bidi_remote.specs.Tables.Asked.{AsksWhat, outcome_so_far}
+use Rattle.bidi_remote.specs.Tables.EventTexts.{Written, written}
 use Rattle.bidi_remote.specs.Tables.Turns.{announced_by, sent_of_item, sent_for, to_subscriber}
-use Rattle.bidi_remote.proofs.ListLemmas.{flat_map-same}
+use Rattle.bidi_remote.proofs.ListLemmas.{flat_map-map, flat_map-same}
 
 -- ---- what a connection hears, by how it stands
 
@@ -70,14 +70,14 @@ module _ (past : List Deed) (c : ℕ) (t : Node) where
 
 -- ---- what is sent for a turn
 
-announced-told : (past : List Deed) (d : Deed) → to_subscriber past d (announced_by past d) ≡ announced past d
-announced-told past (Subscribed s es scope) = refl
+announced-told : (past : List Deed) (d : Deed) → to_subscriber past d (map written (announced_by past d)) ≡ announced past d
+announced-told past (Subscribed s es scope) = flat_map-map (λ w. map (λ c. Text c w.text) (connections_of past s)) written (announced_by past (Subscribed s es scope))
 announced-told past d = refl
 
 -- of a command, what the machine tells
-pub told-for : (past : List Deed) (c : ℕ) (t : Node) (d : Deed) (os : List Occurrence) (all : List Item) → os ≡ announced_by past d → all ≡ items past (action_in (command_of t)) d
-    → sent_for past (Some (c, id_of_command t)) d os all ≡ told past (Heard c (Accepted t)) (Ok d)
-told-for past c t d os all same_announced same_items =
+pub told-for : (past : List Deed) (c : ℕ) (t : Node) (d : Deed) (ws : List Written) (all : List Item) → ws ≡ map written (announced_by past d) → all ≡ items past (action_in (command_of t)) d
+    → sent_for past (Some (c, id_of_command t)) d ws all ≡ told past (Heard c (Accepted t)) (Ok d)
+told-for past c t d ws all same_announced same_items =
     ap₂ (λ xs ys. xs ++ (ys ++ closed past d)) (ap (to_subscriber past d) same_announced ∙ announced-told past d)
     (flat_map-same _ _ all (λ item. one item) ∙ ap (flat_map (sent_to past c (id_of_command t))) same_items)
   where

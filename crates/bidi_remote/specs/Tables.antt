@@ -1,6 +1,8 @@
 -- What the tables of a remote end mean: the rows that contracts see, and the past that they stand for.
 pub mod View
 pub mod ConnectionRows
+pub mod EventTexts
+pub mod MissedRows
 pub mod SubscriptionRows
 pub mod SessionView
 pub mod Messages

@@ -1,12 +1,16 @@
 //! The remote end: connections, sessions, subscriptions, and which texts go out on which connection.
 //!
 //! A [`RemoteEnd`] takes steps and answers each at once. So far it has connections, sessions and
-//! subscriptions, the commands and steps that make, show and remove contexts, and routes events to those that hear them;
-//! the definitions already say what the whole protocol machine answers to each step.
+//! subscriptions, the commands and steps that make, show and remove contexts, and the log; it routes events to those that
+//! hear them, and keeps the log entries that a session misses until it subscribes. The definitions already say what the
+//! whole protocol machine answers to each step.
 #![tactic(auto)]
 
+mod announcing;
 mod connections;
 mod deciding;
+mod event_texts;
+mod log_buffer;
 mod remote_end;
 mod session;
 mod sessions;

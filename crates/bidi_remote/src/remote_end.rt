@@ -67,7 +67,8 @@ impl RemoteEnd {
     ///
     /// `At`, and `Drop` of an open connection, take no memory. A step looks through at most 64 connections,
     /// 8 sessions and the 256 subscriptions of each, and what the browser looks through, which `Browser::plan` says; a text
-    /// costs what its reading costs.
+    /// costs what its reading costs. A log entry's text is made once: each connection that hears it gets a copy, and all
+    /// sessions that miss it share it. A subscribe looks through the hundred that its session missed last.
     ///
     /// # Errors
     /// After either the remote end is as it was.

@@ -1,15 +1,22 @@
 //! Active sessions, and the resources that name them.
-ghost use Rattle.std.specs.Prelude.{◌≡◌, ◌<◌, ◌+◌, [], ◌∷◌, ◌++◌, ◌==◌, not, nat_lt, length, find, filter, map, codes, bytes_eq, Some, None, option_map, if◌then◌else◌, OnOk, vec_len, vec_capacity};
+ghost use Rattle.std.specs.Prelude.{◌≡◌, ◌<◌, ◌+◌, List, [], ◌∷◌, ◌++◌, ◌==◌, not, nat_lt, length, find, filter, map, replicate, codes, bytes_eq, Some, None, option_map, if◌then◌else◌, IfOk, OnOk, vec_len, vec_capacity};
 ghost use Rattle.std.specs.List.{position};
 ghost use Rattle.bidi_browser.specs.declared.id.Kind.TheVariants.{Session as OfSession};
 ghost use Rattle.bidi_browser.specs.Ids.{id_of};
-ghost use Rattle.bidi_remote.specs.Tables.SubscriptionRows.{begun, subscribed, cancelled, lost, changed, row_in, any_covers};
-ghost use Rattle.bidi_remote.specs.Tables.SessionView.{scope_of, row_of};
+ghost use Rattle.bidi_browser.specs.Acts.{Act};
+ghost use Rattle.bidi_browser.specs.Stands.{StandsFor};
+ghost use Rattle.bidi_remote.specs.Tables.EventTexts.{Written, written_of, written_in};
+ghost use Rattle.bidi_remote.specs.Tables.MissedRows.{waiting};
+ghost use Rattle.bidi_remote.specs.Tables.SubscriptionRows.{begun, subscribed, cancelled, lost, logged, changed, row_in, any_covers};
+ghost use Rattle.bidi_remote.specs.Tables.SessionView.{scope_of, row_of, session_row_of, places_in};
 
+use crate::event_texts::EventText;
+use crate::log_buffer::LogBuffer;
 use crate::subscriptions::{Scope, Subscription, any_covers, cancel, dismiss};
-use bidi_browser::{Kind, is_id};
+use bidi_browser::{Browser, Kind, is_id};
 use bidi_messages::EventName;
 use std::alloc::{AllocError, Global};
+use std::rc::Rc;
 
 /// How many sessions may be active.
 const MOST_SESSIONS: usize = 8;
@@ -22,10 +29,12 @@ pub(crate) struct Session {
     pub made: u32,
     /// The live ones, by number.
     pub subscriptions: Vec<Subscription>,
+    /// The log entries that it did not hear.
+    pub missed: LogBuffer,
 }
 
 impl Session {
-    ghost use Rattle.bidi_remote.specs.Tables.SessionView.{session_row_of, HasRoom};
+    ghost use Rattle.bidi_remote.specs.Tables.SessionView.{HasRoom};
 
     /// Whether the event is enabled for it, in contexts below the top-level one.
     pub(crate) fn hears(&self, event: EventName, top: u64) -> bool
@@ -42,18 +51,29 @@ impl Session {
         self.subscriptions.reserve(1)
     }
 
-    // Adds a subscription, with the next number.
-    fn subscribe(&mut self, events: Vec<EventName>, scope: Scope)
+    // Adds a subscription, with the next number; the entries that it newly enables are announced.
+    fn subscribe(&mut self, browser: &Browser, events: Vec<EventName>, scope: Scope)
         requires { HasRoom self.now }
-        ensures { self.old.made < 4294967295 → session_row_of self.new ≡ subscribed events.items (scope_of scope) (session_row_of self.old) }
+        ensures { (past : List Act) → StandsFor browser.now past → self.old.made < 4294967295 → session_row_of self.new ≡ subscribed past events.items (scope_of scope) (session_row_of self.old) }
     {
         let number = self.made.wrapping_add(1);
+        self.missed
+            .announce(browser, &self.subscriptions, &events, &scope);
         self.subscriptions.push_reserved(Subscription {
             number,
             events,
             scope,
         });
         self.made = number;
+    }
+
+    // Misses an entry, unless it hears it.
+    fn log(&mut self, entry: Rc<EventText>)
+        ensures { session_row_of self.new ≡ logged (written_of entry.value) (session_row_of self.old) }
+    {
+        if !self.hears(EventName::EntryAdded, entry.top) {
+            self.missed.add(entry);
+        }
     }
 
     // Takes out the subscriptions with these numbers.
@@ -81,7 +101,7 @@ pub(crate) struct Sessions {
 }
 
 impl Sessions {
-    ghost use Rattle.bidi_remote.specs.Tables.SessionView.{session_row_of, rows_in, HasRoomForOne, HasRoomIn};
+    ghost use Rattle.bidi_remote.specs.Tables.SessionView.{rows_in, HasRoomForOne, HasRoomIn};
 
     /// None was made. Takes no memory.
     pub(crate) fn new(alloc: Global) -> Sessions
@@ -136,6 +156,16 @@ impl Sessions {
         }
     }
 
+    /// The entries that wait for a session, the oldest first. For one that is not active none does.
+    pub(crate) fn waiting_for(&self, number: u32) -> Result<Vec<Rc<EventText>>, AllocError>
+        ensures { IfOk result (λ all. written_in all.items ≡ waiting (row_in number (rows_in self.now)).missed) }
+    {
+        match find(&self.active, number) {
+            Some(session) => session.missed.waiting(self.alloc),
+            None => Ok(Vec::new(self.alloc)),
+        }
+    }
+
     /// What a resource names: `/session` a connection without a session, `/session/ID` an active session.
     pub(crate) fn named(&self, resource: &str) -> Option<Option<u32>>
         ensures { result ≡ (if bytes_eq resource.now (codes "/session") then Some None
@@ -165,18 +195,19 @@ impl Sessions {
         }
     }
 
-    /// Begins the next session, and returns its number.
-    pub(crate) fn begin(&mut self) -> u32
+    /// Begins the next session, which has missed nothing, and returns its number.
+    pub(crate) fn begin(&mut self, missed: LogBuffer) -> u32
         requires { HasRoomForOne self.now }
         ensures number { self.old.made < 4294967295 → result ≡ self.old.made + 1 }
         ensures made { self.new.made ≡ result }
-        ensures rows { rows_in self.new ≡ rows_in self.old ++ begun result ∷ [] }
+        ensures rows { places_in missed ≡ [] → rows_in self.new ≡ rows_in self.old ++ begun result ∷ [] }
     {
         let number = self.next();
         self.active.push_reserved(Session {
             number,
             made: 0,
             subscriptions: Vec::new(self.alloc),
+            missed,
         });
         self.made = number;
         number
@@ -190,14 +221,21 @@ impl Sessions {
         self.active.retain(|s| s.number != number);
     }
 
-    /// Adds a subscription to a session, with its next number.
-    pub(crate) fn subscribe(&mut self, number: u32, events: Vec<EventName>, scope: Scope)
+    /// Adds a subscription to a session, with its next number; the entries that it newly enables are announced.
+    pub(crate) fn subscribe(
+        &mut self,
+        number: u32,
+        browser: &Browser,
+        events: Vec<EventName>,
+        scope: Scope,
+    )
         requires { HasRoomIn number self.now }
-        ensures rows { (row_in number (rows_in self.old)).made < 4294967295 → rows_in self.new ≡ changed number (subscribed events.items (scope_of scope)) (rows_in self.old) }
+        ensures rows { (past : List Act) → StandsFor browser.now past → (row_in number (rows_in self.old)).made < 4294967295
+            → rows_in self.new ≡ changed number (subscribed past events.items (scope_of scope)) (rows_in self.old) }
         ensures made { self.new.made ≡ self.old.made }
     {
         if let Some(place) = place_of(&self.active, number) {
-            self.active[place].subscribe(events, scope);
+            self.active[place].subscribe(browser, events, scope);
         }
     }
 
@@ -218,6 +256,33 @@ impl Sessions {
     {
         if let Some(place) = place_of(&self.active, number) {
             self.active[place].dismiss(events);
+        }
+    }
+
+    /// A copy of an entry for each session. They share its text.
+    pub(crate) fn copies_of(&self, entry: &Rc<EventText>) -> Result<Vec<Rc<EventText>>, AllocError>
+        ensures { IfOk result (λ all. written_in all.items ≡ replicate (length (rows_in self.now)) (written_of entry.now.value)) }
+    {
+        Vec::from_elem(self.alloc, entry.clone()?, self.active.len())
+    }
+
+    /// An entry was logged, of which these are copies: each session hears it, or misses it. Takes no memory.
+    pub(crate) fn log(&mut self, copies: Vec<Rc<EventText>>)
+        ensures rows { (w : Written) → written_in copies.items ≡ replicate (length (rows_in self.old)) w → rows_in self.new ≡ map (logged w) (rows_in self.old) }
+        ensures made { self.new.made ≡ self.old.made }
+    {
+        log(&mut self.active, copies);
+    }
+}
+
+// Each session hears an entry, or misses it.
+fn log(sessions: &mut [Session], copies: Vec<Rc<EventText>>)
+    ensures { (w : Written) → written_in copies.items ≡ replicate (length sessions.old) w → map session_row_of sessions.new ≡ map (logged w) (map session_row_of sessions.old) }
+{
+    let mut copies = copies;
+    for session in sessions.iter_mut() {
+        if let Some(entry) = copies.pop() {
+            session.log(entry);
         }
     }
 }

@@ -1,5 +1,6 @@
 //! Steps of a remote end, and what it sends.
 use bidi_tree::JsUint;
+use bidi_values::Level;
 
 /// A step of a remote end. A connection is told by its number.
 #[derive(Drop)]
@@ -18,6 +19,8 @@ pub enum Step {
     Frame(String, String),
     /// The child of that id goes.
     Unframe(String),
+    /// A text is logged in the context of that id, as grave as is said.
+    Log(String, Level, String),
 }
 
 /// What a remote end sends, or tells of a connection.

@@ -5,12 +5,13 @@ ghost use Rattle.bidi_messages.specs.Message.{error_text};
 ghost use Rattle.bidi_messages.specs.Verdict.{IsVerdict, Accepted};
 ghost use Rattle.bidi_messages.specs.Verdict as judged;
 ghost use Rattle.bidi_messages.specs.View.{verdict_of, IsWell};
-ghost use Rattle.bidi_browser.specs.Actions.{is_asked};
+ghost use Rattle.bidi_browser.specs.Actions.{is_asked, Log};
 ghost use Rattle.bidi_browser.specs.Acts.{Act};
+ghost use Rattle.bidi_browser.specs.Plans as planned;
 ghost use Rattle.bidi_browser.specs.Asked.{action_of};
 ghost use Rattle.bidi_remote.specs.Machine.Step as steps;
 ghost use Rattle.bidi_remote.specs.Machine.Sent.{Text};
-ghost use Rattle.bidi_remote.specs.Machine.History.{Input, Open, Drop, Heard, NotText, InPage, IsHeardAs, acts};
+ghost use Rattle.bidi_remote.specs.Machine.History.{Input, Open, Drop, Heard, NotText, InPage, IsHeardAs, acts, moment};
 ghost use Rattle.bidi_remote.specs.Machine.Connections.{is_open, standing_of, is_shut};
 ghost use Rattle.bidi_remote.specs.Machine.Outcome.{deeds, turn};
 ghost use Rattle.bidi_remote.specs.Machine.Built.{so_far, judged_so_far};
@@ -21,21 +22,23 @@ ghost use Rattle.bidi_remote.specs.Tables.View.{step_of, sent_of};
 
 use crate::connections::{Connections, Standing};
 use crate::deciding::decide;
+use crate::event_texts::event_texts;
 use crate::sessions::Sessions;
 use crate::step::{Sent, Step};
-use crate::telling::tell;
+use crate::telling::{tell, tell_entry};
 use crate::turn::{Asker, Change, Turn};
-use bidi_browser::{Action, Browser, Refusal};
+use bidi_browser::{Action, Browser, Change as BrowserChange, Occurrence, Plan, Refusal};
 use bidi_messages::{Command, CommandData, ErrorCode, Verdict, error_text, judge};
 use bidi_params::NewParameters;
 use bidi_shape::Shape;
 use bidi_tree::JsUint;
+use bidi_values::Level;
 use std::alloc::{AllocError, Global};
 
 /// What a remote end knows of the steps that it has taken.
 #[derive(Drop)]
 pub(crate) struct Tables {
-    pub moment: u64,
+    pub moment: JsUint,
     pub connections: Connections,
     pub sessions: Sessions,
     pub browser: Browser,
@@ -43,15 +46,15 @@ pub(crate) struct Tables {
 
 impl Tables {
     ghost use Rattle.bidi_remote.specs.Tables.Stands.{AgreeWith, Keeps, IsShort, Takes};
-    ghost use Rattle.bidi_browser.specs.View.{seen};
-    ghost use Rattle.bidi_remote.specs.Tables.Turns.{HasRoom, IsMade, IsWellTold, deed_of, asker_in, items_in, sent_for};
+    ghost use Rattle.bidi_remote.specs.Tables.Turns.{HasRoom, IsMade, IsWellTold, is_log, deed_of, asker_in, items_in, sent_for};
+    ghost use Rattle.bidi_remote.specs.Tables.EventTexts.{written_in, AreMessages};
 
     /// No step was taken.
     pub(crate) fn new(alloc: Global) -> Result<Tables, AllocError>
         ensures { IfOk result (λ tables. AgreeWith tables []) }
     {
         Ok(Tables {
-            moment: 0,
+            moment: JsUint { value: 0 },
             connections: Connections::new(alloc),
             sessions: Sessions::new(alloc),
             browser: Browser::new(alloc)?,
@@ -69,7 +72,7 @@ impl Tables {
     {
         match step {
             Step::At(moment) => {
-                self.moment = moment.value;
+                self.moment = moment;
                 Ok(Vec::new(alloc))
             }
             Step::Open(conn, resource) => self.open(alloc, conn, resource.as_str()),
@@ -80,6 +83,9 @@ impl Tables {
                 self.page(alloc, Action::Frame(context.as_str(), url.as_str()))
             }
             Step::Unframe(context) => self.page(alloc, Action::Unframe(context.as_str())),
+            Step::Log(context, level, text) => {
+                self.log(alloc, context.as_str(), level, text.as_str())
+            }
         }
     }
 
@@ -204,7 +210,7 @@ impl Tables {
     // Takes a step of a page, which has no effect where the browser refuses it.
     fn page(&mut self, alloc: Global, action: Action) -> Result<Vec<Sent>, AllocError>
         ensures ok { (h : List Input) → IsShort h → AgreeWith self.old (deeds h)
-            → is_asked (action_of action.entry) ≡ false → IfOk result (λ sent. Takes self.new (map sent_of sent.items) h (InPage (action_of action.entry))) }
+            → is_asked (action_of action.entry) ≡ false → is_log (action_of action.entry) ≡ false → IfOk result (λ sent. Takes self.new (map sent_of sent.items) h (InPage (action_of action.entry))) }
         ensures err { OnErr result (Keeps self.old self.new) }
     {
         match self.browser.plan(action, self.moment) {
@@ -214,11 +220,53 @@ impl Tables {
         }
     }
 
+    // Logs an entry, which each session hears or misses. It has no effect where the browser refuses it.
+    fn log(
+        &mut self,
+        alloc: Global,
+        context: &str,
+        level: Level,
+        text: &str,
+    ) -> Result<Vec<Sent>, AllocError>
+        ensures ok { (h : List Input) → IsShort h → AgreeWith self.old (deeds h) → IfOk result (λ sent. Takes self.new (map sent_of sent.items) h (InPage (Log context.now level text.now))) }
+        ensures err { OnErr result (Keeps self.old self.new) }
+    {
+        match self
+            .browser
+            .plan(Action::Log(context, level, text), self.moment)
+        {
+            Ok(plan) => self.take_entry(alloc, plan),
+            Err(Refusal::Code(_)) => only(alloc, Sent::NoEffect),
+            Err(Refusal::NoMemory) => Err(AllocError),
+        }
+    }
+
+    // Takes an entry that was planned: tells it to those that hear it, and keeps it for those that miss it.
+    fn take_entry(&mut self, alloc: Global, plan: Plan) -> Result<Vec<Sent>, AllocError>
+        requires { planned.IsWellTold plan }
+        ensures ok { (h : List Input) (context text : List ℕ) (level : Level) → IsShort h → AgreeWith self.old (deeds h)
+            → planned.Plans (Ok plan) (acts (deeds h)) (moment (deeds h)) (Log context level text) → IfOk result (λ sent. Takes self.new (map sent_of sent.items) h (InPage (Log context level text))) }
+        ensures err { OnErr result (Keeps self.old self.new) }
+    {
+        let (told, change) = told_by(plan);
+        let mut entries = event_texts(alloc, &told)?;
+        let Some(entry) = entries.pop() else {
+            return Ok(Vec::new(alloc));
+        };
+        let sent = tell_entry(alloc, self, &entry)?;
+        let copies = self.sessions.copies_of(&entry)?;
+        self.browser.reserve(&change)?;
+        self.browser.apply(change);
+        self.sessions.log(copies);
+        Ok(sent)
+    }
+
     // Takes a turn that was decided: tells it, makes room for it, and puts it in.
     fn take_turn(&mut self, alloc: Global, decided: Turn) -> Result<Vec<Sent>, AllocError>
         requires { IsWellTold decided.telling }
         ensures ok { (h : List Input) (i : Input) (act : Act) → IsShort h → AgreeWith self.old (deeds h) → turn (deeds h) i ≡ Ok (deed_of decided.change act) → IsMade decided.change (acts (deeds h)) act
-            → IfOk result (λ sent. (map sent_of sent.items ≡ sent_for (deeds h) (asker_in decided.telling.reply) (deed_of decided.change act) (seen decided.telling.announced.items) (items_in decided.telling))
+            → AreMessages (written_in decided.telling.announced.items)
+            → IfOk result (λ sent. (map sent_of sent.items ≡ sent_for (deeds h) (asker_in decided.telling.reply) (deed_of decided.change act) (written_in decided.telling.announced.items) (items_in decided.telling))
             × AllReadBack (map sent_of sent.items) × AgreeWith self.new (deed_of decided.change act ∷ deeds h)) }
         ensures err { OnErr result (Keeps self.old self.new) }
     {
@@ -235,7 +283,7 @@ impl Tables {
         ensures room { OnOk result (HasRoom self.new change.now) }
     {
         match change {
-            Change::Begin(_) => self.sessions.reserve(),
+            Change::Begin(_, _) => self.sessions.reserve(),
             Change::Subscribe(session, _, _) => self.sessions.reserve_in(*session),
             Change::Browse(change) => self.browser.reserve(change),
             _ => Ok(()),
@@ -250,8 +298,8 @@ impl Tables {
     {
         match change {
             Change::Nothing => {}
-            Change::Begin(conn) => {
-                let session = self.sessions.begin();
+            Change::Begin(conn, missed) => {
+                let session = self.sessions.begin(missed);
                 self.connections.begin(conn, session);
             }
             Change::End(session) => {
@@ -259,13 +307,28 @@ impl Tables {
                 self.sessions.end(session);
             }
             Change::Subscribe(session, events, scope) => {
-                self.sessions.subscribe(session, events, scope);
+                self.sessions
+                    .subscribe(session, &self.browser, events, scope);
             }
             Change::Cancel(session, numbers) => self.sessions.cancel(session, &numbers),
             Change::Dismiss(session, events) => self.sessions.dismiss(session, &events),
             Change::Browse(change) => self.browser.apply(change),
         }
     }
+}
+
+// What a plan tells before a reply, and what it changes.
+fn told_by(plan: Plan) -> (Vec<Occurrence>, BrowserChange)
+    ensures told { result.0 ≡ plan.before }
+    ensures change { result.1 ≡ plan.change }
+{
+    let Plan {
+        before,
+        result: _result,
+        after: _after,
+        change,
+    } = plan;
+    (before, change)
 }
 
 // One thing alone is sent.

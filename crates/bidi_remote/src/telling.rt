@@ -1,11 +1,15 @@
 //! What is sent for a turn: its events to those that hear them, and the reply in its place.
-ghost use Rattle.std.specs.Prelude.{◌≡◌, ◌≤◌, ◌++◌, List, map, flat_map, filter, IfOk, IfSome};
+ghost use Rattle.std.specs.Prelude.{◌≡◌, ◌≤◌, ◌++◌, List, map, flat_map, filter, string_bytes, IfOk, IfSome};
 ghost use Rattle.std.specs.List.{AllByRecursion, list_any};
 ghost use Rattle.bidi_tree.specs.Node.{levels};
 ghost use Rattle.bidi_browser.specs.Acts.{Act};
 ghost use Rattle.bidi_browser.specs.View.{occurrence_of, result_tree, seen};
 ghost use Rattle.bidi_remote.specs.Machine.History.{Deed};
-ghost use Rattle.bidi_remote.specs.Machine.Sent.{Text};
+ghost use Rattle.bidi_browser.specs.Occurrences as heard;
+ghost use Rattle.bidi_messages.specs.declared.event.EventName.TheVariants.{EntryAdded};
+ghost use Rattle.bidi_messages.specs.Reading.{IsMessageText};
+ghost use Rattle.bidi_remote.specs.Machine.Sent.{Text, to_hearers};
+ghost use Rattle.bidi_remote.specs.Tables.EventTexts.{written, written_of, written_in, AreMessages};
 ghost use Rattle.bidi_remote.specs.Tables.ConnectionRows.{rows_in, to_each};
 ghost use Rattle.bidi_remote.specs.Tables.SubscriptionRows.{any_covers};
 ghost use Rattle.bidi_remote.specs.Tables.SessionView as sessions;
@@ -17,13 +21,18 @@ ghost use Rattle.bidi_remote.specs.Tables.Turns.{IsWellTold, deed_of, asker_in, 
 ghost use Rattle.bidi_remote.specs.Tables.View.{sent_of, sent_if};
 
 use crate::connections::Connections;
+use crate::event_texts::EventText;
 use crate::sessions::Session;
 use crate::step::Sent;
 use crate::tables::Tables;
 use crate::turn::{Change, Reply, Telling};
 use bidi_browser::Occurrence;
-use bidi_messages::{EventData, EventName, Method, ResultData, Subject, event_text, response_text};
+use bidi_messages::{
+    EventData, EventName, Message, Method, ResultData, Subject, event_text, response_text,
+};
+use bidi_shape::Shape;
 use std::alloc::{AllocError, Global};
+use std::rc::Rc;
 
 /// All that is sent for a change: what it announces, then its events with the reply in its place, then the closes.
 ///
@@ -36,8 +45,8 @@ pub(crate) fn tell(
 ) -> Result<Vec<Sent>, AllocError>
     requires { IsWellTold telling }
     ensures told { (past : List Deed) (act : Act) → AgreeWith tables.now past → IfOk result (λ sent. map sent_of sent.items
-        ≡ sent_for past (asker_in telling.reply) (deed_of change.now act) (seen telling.announced.items) (items_in telling)) }
-    ensures reads_back { IfOk result (λ sent. AllReadBack (map sent_of sent.items)) }
+        ≡ sent_for past (asker_in telling.reply) (deed_of change.now act) (written_in telling.announced.items) (items_in telling)) }
+    ensures reads_back { AreMessages (written_in telling.announced.items) → IfOk result (λ sent. AllReadBack (map sent_of sent.items)) }
 {
     let Telling {
         announced,
@@ -49,24 +58,45 @@ pub(crate) fn tell(
     all_sent(alloc, tables, change, &announced, &before, reply, &after)
 }
 
+/// The text of a log entry, for each connection of the sessions that hear it.
+pub(crate) fn tell_entry(
+    alloc: Global,
+    tables: &Tables,
+    entry: &EventText,
+) -> Result<Vec<Sent>, AllocError>
+    ensures told { (past : List Deed) (o : heard.Occurrence) → AgreeWith tables.now past → o.event ≡ EntryAdded → written_of entry.now ≡ written o → IfOk result (λ sent. map sent_of sent.items ≡ to_hearers past o) }
+    ensures reads_back { IsMessageText ⟦<Message as Shape>⟧.shape (string_bytes entry.now.text) → IfOk result (λ sent. AllReadBack (map sent_of sent.items)) }
+{
+    let mut sent = Vec::new(alloc);
+    push_heard(
+        alloc,
+        tables.sessions.all(),
+        &tables.connections,
+        EventName::EntryAdded,
+        entry.top,
+        &entry.text,
+        &mut sent,
+    )?;
+    Ok(sent)
+}
+
 // What is sent, one after another.
 fn all_sent(
     alloc: Global,
     tables: &Tables,
     change: &Change,
-    announced: &[Occurrence],
+    announced: &[Rc<EventText>],
     before: &[Occurrence],
     reply: Option<Sent>,
     after: &[Occurrence],
 ) -> Result<Vec<Sent>, AllocError>
-    requires announced { AllByRecursion (λ o. ⟦<EventData as Subject<EventName>>⟧.subject.well o.event) announced.now }
     requires before { AllByRecursion (λ o. ⟦<EventData as Subject<EventName>>⟧.subject.well o.event) before.now }
     requires after { AllByRecursion (λ o. ⟦<EventData as Subject<EventName>>⟧.subject.well o.event) after.now }
-    ensures sent { (act : Act) → IfOk result (λ sent. map sent_of sent.items ≡ to_subscriber_in (rows_in tables.now.connections) (deed_of change.now act) (seen announced.now)
+    ensures sent { (act : Act) → IfOk result (λ sent. map sent_of sent.items ≡ to_subscriber_in (rows_in tables.now.connections) (deed_of change.now act) (written_in announced.now)
         ++ ((flat_map (to_all (sessions.rows_in tables.now.sessions) (rows_in tables.now.connections)) (seen before.now)
         ++ (sent_if reply ++ flat_map (to_all (sessions.rows_in tables.now.sessions) (rows_in tables.now.connections)) (seen after.now)))
         ++ closed_in (rows_in tables.now.connections) (deed_of change.now act))) }
-    ensures reads_back { AllReadBack (sent_if reply) → IfOk result (λ sent. AllReadBack (map sent_of sent.items)) }
+    ensures reads_back { AreMessages (written_in announced.now) → AllReadBack (sent_if reply) → IfOk result (λ sent. AllReadBack (map sent_of sent.items)) }
 {
     let mut sent = Vec::new(alloc);
     push_announced(alloc, &tables.connections, change, announced, &mut sent)?;
@@ -107,12 +137,10 @@ fn push_announced(
     alloc: Global,
     connections: &Connections,
     change: &Change,
-    announced: &[Occurrence],
+    announced: &[Rc<EventText>],
     sent: &mut Vec<Sent>,
 ) -> Result<(), AllocError>
-    requires { AllByRecursion (λ o. ⟦<EventData as Subject<EventName>>⟧.subject.well o.event) announced.now }
-    ensures sent { (act : Act) → IfOk result (λ _. map sent_of sent.new.items ≡ map sent_of sent.old.items ++ to_subscriber_in (rows_in connections.now) (deed_of change.now act) (seen announced.now)) }
-    ensures reads_back { AllReadBack (map sent_of sent.old.items) → IfOk result (λ _. AllReadBack (map sent_of sent.new.items)) }
+    ensures { (act : Act) → IfOk result (λ _. map sent_of sent.new.items ≡ map sent_of sent.old.items ++ to_subscriber_in (rows_in connections.now) (deed_of change.now act) (written_in announced.now)) }
 {
     match change {
         Change::Subscribe(session, _, _) => {
@@ -122,39 +150,20 @@ fn push_announced(
     }
 }
 
-// Adds events for each connection of a session.
+// Adds texts for each connection of a session.
 fn push_to_session(
     alloc: Global,
     connections: &Connections,
     session: u32,
-    occurrences: &[Occurrence],
+    texts: &[Rc<EventText>],
     sent: &mut Vec<Sent>,
 ) -> Result<(), AllocError>
-    requires { AllByRecursion (λ o. ⟦<EventData as Subject<EventName>>⟧.subject.well o.event) occurrences.now }
-    ensures sent { IfOk result (λ _. map sent_of sent.new.items ≡ map sent_of sent.old.items ++ flat_map (to_one (rows_in connections.now) session) (seen occurrences.now)) }
-    ensures reads_back { AllReadBack (map sent_of sent.old.items) → IfOk result (λ _. AllReadBack (map sent_of sent.new.items)) }
+    ensures { IfOk result (λ _. map sent_of sent.new.items ≡ map sent_of sent.old.items ++ flat_map (λ w. to_one (rows_in connections.now) session w.text) (written_in texts.now)) }
 {
-    for occurrence in occurrences {
-        push_to_one(alloc, connections, session, occurrence, sent)?;
+    for event in texts {
+        connections.push_text(alloc, session, &event.text, sent)?;
     }
     Ok(())
-}
-
-// Adds an event for each connection of a session.
-fn push_to_one(
-    alloc: Global,
-    connections: &Connections,
-    session: u32,
-    occurrence: &Occurrence,
-    sent: &mut Vec<Sent>,
-) -> Result<(), AllocError>
-    requires { ⟦<EventData as Subject<EventName>>⟧.subject.well occurrence.now.event }
-    ensures sent { IfOk result (λ _. map sent_of sent.new.items
-        ≡ map sent_of sent.old.items ++ to_one (rows_in connections.now) session (occurrence_of ⟦<EventData as Subject<EventName>>⟧.subject occurrence.now)) }
-    ensures reads_back { AllReadBack (map sent_of sent.old.items) → IfOk result (λ _. AllReadBack (map sent_of sent.new.items)) }
-{
-    let text = event_text(alloc, &occurrence.event)?;
-    connections.push_text(alloc, session, &text, sent)
 }
 
 // Adds events for all that hear them.

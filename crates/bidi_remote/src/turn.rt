@@ -2,19 +2,22 @@
 ghost use Rattle.std.specs.Option.{option_zip};
 ghost use Rattle.std.specs.Prelude.{◌≡◌, Some, [], option_map};
 
+use crate::event_texts::EventText;
+use crate::log_buffer::LogBuffer;
 use crate::subscriptions::Scope;
 use bidi_browser::{Change as BrowserChange, Occurrence, Plan};
 use bidi_messages::{EventName, ResultData};
 use bidi_tree::JsUint;
 use std::alloc::Global;
+use std::rc::Rc;
 
 /// What will change, with all that is put in already made. A session is told by its number.
 #[derive(Drop)]
 pub(crate) enum Change {
     /// Nothing.
     Nothing,
-    /// A session begins, for the connection of that number.
-    Begin(JsUint),
+    /// A session begins, for the connection of that number, and has missed nothing.
+    Begin(JsUint, LogBuffer),
     /// A session ends, and its connections are closed.
     End(u32),
     /// A session subscribes to these events, in this scope.
@@ -42,8 +45,8 @@ pub(crate) struct Reply {
 
 /// What is told of a change, in this order.
 pub(crate) struct Telling {
-    /// Events for the session that subscribed, and for no other.
-    pub announced: Vec<Occurrence>,
+    /// Texts of events for the session that subscribed, and for no other.
+    pub announced: Vec<Rc<EventText>>,
     /// Events for all that hear them, before the reply.
     pub before: Vec<Occurrence>,
     /// The reply, where somebody asked.
@@ -74,7 +77,7 @@ impl Turn {
     pub(crate) fn announced(
         alloc: Global,
         change: Change,
-        announced: Vec<Occurrence>,
+        announced: Vec<Rc<EventText>>,
         to: Asker,
         outcome: ResultData,
     ) -> Turn

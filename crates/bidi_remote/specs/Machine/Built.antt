@@ -1,5 +1,5 @@
 -- What the remote end does so far. The definitions speak of every command and step; this file says which of them are not
--- built yet, and goes when all are. A field of a relation says the same of the tables: `unlogged` in Stands of the tables.
+-- built yet, and goes when all are.
 use Prim.Native.String.{String}
 use Rattle.std.specs.Prelude.{Bool, true, false, List, [], ◌∷◌, if◌then◌else◌, codes, bytes_eq, Some}
 use Rattle.std.specs.List.{list_any}
@@ -48,7 +48,7 @@ all_so_far_after h (i ∷ inputs) = let j = so_far (deeds h) i in j ∷ all_so_f
 abbrev pub all_so_far : List Input → List Input
 all_so_far inputs = all_so_far_after [] inputs
 
--- the steps that are built: the log and the table are not
+-- the steps that are built: the table is not
 abbrev pub is_built_step : Step → Bool
 is_built_step (At n) = true
 is_built_step (Open c resource) = true
@@ -57,5 +57,5 @@ is_built_step (Text c text) = true
 is_built_step (NotText c) = true
 is_built_step (Frame id url) = true
 is_built_step (Unframe id) = true
-is_built_step (Log id level text) = false
+is_built_step (Log id level text) = true
 is_built_step (TableRow text) = false

@@ -1,12 +1,14 @@
 -- What contracts see of a session in hand and of its subscriptions: the rows of their tables.
-use Rattle.std.specs.Prelude.{◌≡◌, ◌<◌, ◌==◌, ℕ, List, map, get_or, Some, vec_len, vec_capacity}
+use Rattle.std.specs.Prelude.{◌≡◌, ◌<◌, ◌==◌, ℕ, List, map, get_or, Option, Some, vec_len, vec_capacity}
 use Rattle.std.specs.List.{position}
+use Rattle.bidi_remote.specs.declared.log_buffer.LogBuffer.{LogBuffer}
 use Rattle.bidi_remote.specs.declared.subscriptions.Scope as declared_scope
 use Rattle.bidi_remote.specs.declared.subscriptions.Scope.TheVariants as in_code
 use Rattle.bidi_remote.specs.declared.subscriptions.Subscription.{Subscription}
 use Rattle.bidi_remote.specs.declared.sessions.Session.{Session}
 use Rattle.bidi_remote.specs.declared.sessions.Sessions.{Sessions}
 use Rattle.bidi_remote.specs.Machine.History.{Scope, All, Below}
+use Rattle.bidi_remote.specs.Tables.EventTexts.{Written, place_row}
 use Rattle.bidi_remote.specs.Tables.SubscriptionRows.{Row, SessionRow}
 
 abbrev pub scope_of : declared_scope.Scope → Scope
@@ -16,8 +18,12 @@ scope_of (in_code.Below tops) = Below tops.items
 abbrev pub row_of : Subscription → Row
 row_of s = record { number = s.number; events = s.events.items; scope = scope_of s.scope }
 
+-- the places of a buffer in hand
+abbrev pub places_in : LogBuffer → List (Option Written)
+places_in b = map place_row b.places.items
+
 abbrev pub session_row_of : Session → SessionRow
-session_row_of s = record { number = s.number; made = s.made; subscriptions = map row_of s.subscriptions.items }
+session_row_of s = record { number = s.number; made = s.made; subscriptions = map row_of s.subscriptions.items; missed = places_in s.missed }
 
 -- the rows of a table in hand
 abbrev pub rows_in : Sessions → List SessionRow

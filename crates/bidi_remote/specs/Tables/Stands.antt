@@ -1,5 +1,6 @@
 -- The history that the tables of a remote end stand for.
-use Rattle.std.specs.Prelude.{◌≡◌, ℕ, ◌<◌, List, [], ◌∷◌, length}
+use Rattle.std.specs.Prelude.{◌≡◌, ℕ, ◌<◌, List, ◌∷◌, length}
+use Rattle.std.specs.List.{AllByRecursion}
 use Rattle.bidi_remote.specs.declared.remote_end.RemoteEnd.{RemoteEnd}
 use Rattle.bidi_remote.specs.declared.tables.Tables.{Tables}
 use Rattle.bidi_browser.specs.Stands as browser
@@ -12,17 +13,18 @@ use Rattle.bidi_remote.specs.Tables.Messages.{AllReadBack}
 use Rattle.bidi_remote.specs.Tables.ConnectionRows as connections
 use Rattle.bidi_remote.specs.Tables.ConnectionRows.{rows}
 use Rattle.bidi_remote.specs.Tables.SubscriptionRows.{session_rows}
+use Rattle.bidi_remote.specs.Tables.MissedRows.{IsEntry}
 use Rattle.bidi_remote.specs.Tables.SessionView as sessions
 
 -- the tables answer each question as the past does
 pub record AgreeWith (tables : Tables) (past : List Deed) : Type 0 where
-  pub moment : tables.moment ≡ moment past
+  pub moment : tables.moment.value ≡ moment past
   pub made : tables.sessions.made ≡ sessions_made past
   pub sessions : sessions.rows_in tables.sessions ≡ session_rows past
   pub connections : connections.rows_in tables.connections ≡ rows past
   pub browser : browser.StandsFor tables.browser (acts past)
-  -- so far nothing is logged, so no entry waits
-  pub unlogged : (s : ℕ) → missed past s ≡ []
+  -- what a session missed is an entry, whose text reads back
+  pub entries : (s : ℕ) → AllByRecursion IsEntry (missed past s)
 
 -- the tables agree with every history that they agreed with
 abbrev pub Keeps : Tables → Tables → Type 0

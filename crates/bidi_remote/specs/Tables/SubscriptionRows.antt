@@ -4,12 +4,17 @@ use Rattle.std.specs.List.{list_any, list_all}
 use Rattle.bidi_messages.specs.declared.error_code.ErrorCode.{ErrorCode}
 use Rattle.bidi_messages.specs.declared.error_code.ErrorCode.TheVariants.{InvalidArgument}
 use Rattle.bidi_messages.specs.declared.event.EventName.{EventName}
+use Rattle.bidi_messages.specs.declared.event.EventName.TheVariants.{EntryAdded}
 use Rattle.bidi_browser.specs.declared.id.Kind.TheVariants.{Subscription}
+use Rattle.bidi_browser.specs.Acts.{Act}
+use Rattle.bidi_browser.specs.Contexts.{is_alive}
 use Rattle.bidi_browser.specs.Ids.{id_text}
 use Rattle.bidi_browser.specs.Checks.{◌>>=◌, found}
 use Rattle.bidi_browser.specs.Occurrences.{is_among}
 use Rattle.bidi_remote.specs.Machine.History.{Deed, Scope}
 use Rattle.bidi_remote.specs.Machine.Sessions.{sessions}
+use Rattle.bidi_remote.specs.Tables.EventTexts.{Written}
+use Rattle.bidi_remote.specs.Tables.MissedRows.{places, all_left, with_missed}
 use Rattle.bidi_remote.specs.Machine.Subscriptions.{subscriptions_made, subscriptions, events_of, scope_of, holds, is_global, is_listed, covers}
 
 -- a live subscription: its number, the events that it still holds for, and its scope
@@ -30,15 +35,16 @@ row_at past s n = record { number = n; events = events_left past s n; scope = sc
 abbrev pub subscription_rows : List Deed → ℕ → List Row
 subscription_rows past s = map (row_at past s) (subscriptions past s)
 
--- an active session: its number, how many subscriptions it has made, and the live ones
+-- an active session: its number, how many subscriptions it has made, the live ones, and the log entries that it has missed
 pub record SessionRow : Type 0 where
   pub number : ℕ
   pub made : ℕ
   pub subscriptions : List Row
+  pub missed : List (Option Written)
 
 -- the row of a session
 abbrev pub session_row : List Deed → ℕ → SessionRow
-session_row past s = record { number = s; made = subscriptions_made past s; subscriptions = subscription_rows past s }
+session_row past s = record { number = s; made = subscriptions_made past s; subscriptions = subscription_rows past s; missed = places past s }
 
 -- the active sessions, in order of making
 abbrev pub session_rows : List Deed → List SessionRow
@@ -53,6 +59,10 @@ row_covers e top r = is_among r.events e && covers r.scope top
 -- one of them does
 abbrev pub any_covers : List Row → EventName → ℕ → Bool
 any_covers rows e top = list_any (row_covers e top) rows
+
+-- the top-level context is alive, none of these subscriptions covers the event there, and these events in this scope do
+abbrev pub is_new : List Act → List Row → List EventName → Scope → EventName → ℕ → Bool
+is_new past held events scope e top = is_alive past top && (not (any_covers held e top) && (is_among events e && covers scope top))
 
 -- it is global, and holds for the event
 abbrev pub row_holds : EventName → Row → Bool
@@ -94,11 +104,15 @@ dismissed es rows = map (stripped es) (filter (λ r. not (loses_all es r)) rows)
 
 -- a session that has just begun
 abbrev pub begun : ℕ → SessionRow
-begun s = record { number = s; made = 0; subscriptions = [] }
+begun s = record { number = s; made = 0; subscriptions = []; missed = [] }
 
--- one more subscription, with the next number
-abbrev pub subscribed : List EventName → Scope → SessionRow → SessionRow
-subscribed es scope r = record r { made = suc r.made; subscriptions = r.subscriptions ++ record { number = suc r.made; events = es; scope = scope } ∷ [] }
+-- one more subscription, with the next number; the entries that it newly enables are announced
+abbrev pub subscribed : List Act → List EventName → Scope → SessionRow → SessionRow
+subscribed past es scope r = record r {
+  made = suc r.made;
+  subscriptions = r.subscriptions ++ record { number = suc r.made; events = es; scope = scope } ∷ [];
+  missed = all_left (is_new past r.subscriptions es scope EntryAdded) r.missed;
+}
 
 -- the subscriptions with these numbers go
 abbrev pub cancelled : List ℕ → SessionRow → SessionRow
@@ -107,6 +121,10 @@ cancelled ns r = record r { subscriptions = without ns r.subscriptions }
 -- the global subscriptions lose these events
 abbrev pub lost : List EventName → SessionRow → SessionRow
 lost es r = record r { subscriptions = dismissed es r.subscriptions }
+
+-- an entry was logged, which the session hears or misses
+abbrev pub logged : Written → SessionRow → SessionRow
+logged w r = if any_covers r.subscriptions EntryAdded w.top then r else record r { missed = with_missed w r.missed }
 
 -- the rows of that session are changed, and no other
 abbrev pub updated : ℕ → (SessionRow → SessionRow) → List SessionRow → List SessionRow

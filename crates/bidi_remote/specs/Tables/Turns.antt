@@ -1,12 +1,12 @@
 -- What a turn in hand is: the deed that its change makes, and what is told of it.
-use Rattle.std.specs.Prelude.{◌≡◌, ℕ, List, [], ◌∷◌, ◌++◌, map, flat_map, Option, Some, None, Result, Ok, Err, IfSome, ⊤}
+use Rattle.std.specs.Prelude.{◌≡◌, ℕ, Bool, true, false, List, [], ◌∷◌, ◌++◌, map, flat_map, Option, Some, None, Result, Ok, Err, IfSome, ⊤}
 use Rattle.bidi_messages.specs.declared.error_code.ErrorCode.{ErrorCode}
 use Rattle.bidi_messages.specs.Message.{response_text}
-use Rattle.bidi_browser.specs.Acts.{Act}
+use Rattle.bidi_browser.specs.Acts.{Act, Logged}
 use Rattle.bidi_browser.specs.View.{seen, result_tree}
 use Rattle.bidi_browser.specs.Plans as browser
 use Rattle.bidi_browser.specs.Plans.{AreWell, IsWellResult}
-use Rattle.bidi_browser.specs.Actions.{Action}
+use Rattle.bidi_browser.specs.Actions.{Action, Log}
 use Rattle.bidi_browser.specs.Occurrences.{Occurrence}
 use Rattle.bidi_browser.specs.Occurs.{Item, Happens, Replies}
 use Rattle.bidi_browser.specs.declared.refusal.Refusal.{Refusal}
@@ -20,37 +20,50 @@ use Rattle.bidi_remote.specs.declared.turn.Telling.{Telling}
 use Rattle.bidi_remote.specs.declared.turn.Turn.{Turn}
 use Rattle.bidi_remote.specs.Machine.Commands.{Command}
 use Rattle.bidi_remote.specs.Machine.History.{Deed, Began, Ended, Subscribed, Cancelled, Dismissed, Did, Told, acts}
-use Rattle.bidi_remote.specs.Machine.Sent.{Sent, Text, Close, to_session, to_hearers, announcements, items, action_in, closed}
+use Rattle.bidi_remote.specs.Machine.Connections.{connections_of}
+use Rattle.bidi_remote.specs.Machine.Sent.{Sent, Text, Close, to_hearers, announcements, items, action_in, closed}
 use Rattle.bidi_remote.specs.Tables.ConnectionRows as connections
 use Rattle.bidi_remote.specs.Tables.ConnectionRows.{to_each}
+use Rattle.bidi_remote.specs.Tables.EventTexts.{Written, written, written_in, AreMessages}
 use Rattle.bidi_remote.specs.Tables.Routes.{to_one}
-use Rattle.bidi_remote.specs.Tables.SessionView.{scope_of, HasRoomForOne, HasRoomIn}
+use Rattle.bidi_remote.specs.Tables.SessionView.{scope_of, places_in, HasRoomForOne, HasRoomIn}
 
 -- ---- what a change does
 
 -- the deed that it makes; that of the browser is what the browser did
 abbrev pub deed_of : Change → Act → Deed
 deed_of Nothing act = Told
-deed_of (Begin c) act = Began c.value
+deed_of (Begin c buffer) act = Began c.value
 deed_of (End s) act = Ended s
 deed_of (Subscribe s es scope) act = Subscribed s es.items (scope_of scope)
 deed_of (Cancel s ns) act = Cancelled s ns.items
 deed_of (Dismiss s es) act = Dismissed s es.items
 deed_of (Browse change) act = Did act
 
--- a change of the browser makes of its tables what the act makes of its past
+-- an entry of the log is no turn: it goes a way of its own
+abbrev pub is_log : Action → Bool
+is_log (Log context level text) = true
+is_log action = false
+
+abbrev pub IsQuiet : Act → Type 0
+IsQuiet (Logged c level text) = ⊥
+IsQuiet act = ⊤
+
+-- a change of the browser makes of its tables what the act makes of its past; a new session has missed nothing
 abbrev pub IsMade : Change → List Act → Act → Type 0
-IsMade (Browse change) past act = browser.Makes change past act
+IsMade (Browse change) past act = browser.Makes change past act × IsQuiet act
+IsMade (Begin c buffer) past act = places_in buffer ≡ []
 IsMade change past act = ⊤
 
--- it is one of sessions, and not of the browser
+-- it is one of sessions, and not of the browser; a new session has missed nothing
 abbrev pub IsOfSessions : Change → Type 0
 IsOfSessions (Browse change) = ⊥
+IsOfSessions (Begin c buffer) = places_in buffer ≡ []
 IsOfSessions change = ⊤
 
 -- there is room in the tables for what it adds
 abbrev pub HasRoom : Tables → Change → Type 0
-HasRoom tables (Begin c) = HasRoomForOne tables.sessions
+HasRoom tables (Begin c buffer) = HasRoomForOne tables.sessions
 HasRoom tables (Subscribe s es scope) = HasRoomIn s tables.sessions
 HasRoom tables (Browse change) = browser.HasRoom tables.browser change
 HasRoom tables change = ⊤
@@ -78,12 +91,12 @@ announced_by past d = []
 
 -- all that is told of a deed is told, and no more
 pub record Tells (t : Telling) (past : List Deed) (action : Option Action) (d : Deed) : Type 0 where
-  pub announced : seen t.announced.items ≡ announced_by past d
+  pub announced : written_in t.announced.items ≡ map written (announced_by past d)
+  pub messages : AreMessages (written_in t.announced.items)
   pub items : items_in t ≡ items past action d
 
 -- a message can be made of each event and of the result
 pub record IsWellTold (t : Telling) : Type 0 where
-  pub announced : AreWell t.announced.items
   pub before : AreWell t.before.items
   pub reply : IfSome t.reply (λ r. IsWellResult r.outcome)
   pub after : AreWell t.after.items
@@ -112,14 +125,14 @@ sent_of_item past None (Replies result) = []
 sent_of_item past (Some a) (Replies result) = Text a.0 (response_text a.1 result) ∷ []
 
 -- what is announced goes to the session that subscribed
-abbrev pub to_subscriber : List Deed → Deed → List Occurrence → List Sent
-to_subscriber past (Subscribed s es scope) os = flat_map (λ o. to_session past o s) os
-to_subscriber past d os = []
+abbrev pub to_subscriber : List Deed → Deed → List Written → List Sent
+to_subscriber past (Subscribed s es scope) ws = flat_map (λ w. map (λ c. Text c w.text) (connections_of past s)) ws
+to_subscriber past d ws = []
 
 -- the same by the table of connections
-abbrev pub to_subscriber_in : List connections.Row → Deed → List Occurrence → List Sent
-to_subscriber_in rows (Subscribed s es scope) os = flat_map (to_one rows s) os
-to_subscriber_in rows d os = []
+abbrev pub to_subscriber_in : List connections.Row → Deed → List Written → List Sent
+to_subscriber_in rows (Subscribed s es scope) ws = flat_map (λ w. to_one rows s w.text) ws
+to_subscriber_in rows d ws = []
 
 -- and the closes of a session that ends
 abbrev pub closed_in : List connections.Row → Deed → List Sent
@@ -127,5 +140,5 @@ closed_in rows (Ended s) = to_each Close s rows
 closed_in rows d = []
 
 -- what is sent for a deed of which this is announced, and these items are told
-abbrev pub sent_for : List Deed → Option (ℕ × ℕ) → Deed → List Occurrence → List Item → List Sent
+abbrev pub sent_for : List Deed → Option (ℕ × ℕ) → Deed → List Written → List Item → List Sent
 sent_for past asker d announced items = to_subscriber past d announced ++ (flat_map (sent_of_item past asker) items ++ closed past d)

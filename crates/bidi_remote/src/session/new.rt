@@ -13,6 +13,7 @@ ghost use Rattle.bidi_remote.specs.Tables.Stands.{AgreeWith};
 ghost use Rattle.bidi_browser.specs.View.{result_tree};
 ghost use Rattle.bidi_remote.specs.Tables.Turns.{Decides, IsWellDecided};
 
+use crate::log_buffer::LogBuffer;
 use crate::session::capabilities::{
     BROWSER_NAME, BROWSER_VERSION, PLATFORM_NAME, match_capabilities,
 };
@@ -49,7 +50,8 @@ pub(crate) fn decide_new(
         return Err(Refusal::Code(ErrorCode::SessionNotCreated));
     }
     let reply = new_result(alloc, tables.sessions.next())?;
-    Ok(Turn::replied(alloc, Change::Begin(asker.conn), asker, reply))
+    let change = Change::Begin(asker.conn, LogBuffer::new(alloc)?);
+    Ok(Turn::replied(alloc, change, asker, reply))
 }
 
 // The result: the id of the session of that number, and what the browser can do.

@@ -1,31 +1,34 @@
 //! `session.subscribe`.
 ghost use Rattle.std.specs.Prelude.{◌≡◌, ◌<◌, List, map, filter, string_bytes, option_map, Some, IfOk, true};
-ghost use Rattle.std.specs.List.{AllByRecursion};
 ghost use Rattle.bidi_browser.specs.Acts.{Act};
 ghost use Rattle.bidi_browser.specs.Occurrences.{tree_events};
 ghost use Rattle.bidi_browser.specs.Stands.{StandsFor};
-ghost use Rattle.bidi_browser.specs.View.{occurrence_of, result_tree, seen};
-ghost use Rattle.bidi_remote.specs.Machine.History.{Deed};
+ghost use Rattle.bidi_browser.specs.View.{result_tree};
+ghost use Rattle.bidi_remote.specs.Machine.History.{Deed, Subscribed};
 ghost use Rattle.bidi_remote.specs.Machine.Sessions.{is_active};
 ghost use Rattle.bidi_remote.specs.Machine.Subscriptions.{subscriptions_made};
 ghost use Rattle.bidi_remote.specs.Machine.Outcome.{tops_named, scope_asked, outcome_in};
-ghost use Rattle.bidi_remote.specs.Machine.Sent.{subscription_tree};
+ghost use Rattle.bidi_remote.specs.Machine.Sent.{announcements, subscription_tree};
 ghost use Rattle.bidi_remote.specs.Tables.Asked.{texts, subscribe_asked};
 ghost use Rattle.bidi_remote.specs.Tables.Checked.{IfChecked};
 ghost use Rattle.bidi_remote.specs.Tables.SessionView.{scope_of, row_of};
-ghost use Rattle.bidi_remote.specs.Tables.Routes.{is_new};
+ghost use Rattle.bidi_remote.specs.Tables.EventTexts.{written, written_in, AreMessages};
+ghost use Rattle.bidi_remote.specs.Tables.SubscriptionRows.{is_new};
 ghost use Rattle.bidi_remote.specs.Tables.Stands.{AgreeWith};
 ghost use Rattle.bidi_remote.specs.Tables.Turns.{Decides, IsWellDecided};
 
+use crate::announcing::is_new;
+use crate::event_texts::{EventText, event_texts};
 use crate::session::event_names::all_named;
-use crate::subscriptions::{Scope, Subscription, any_covers, covers};
+use crate::subscriptions::{Scope, Subscription};
 use crate::tables::Tables;
 use crate::turn::{Asker, Change, Turn};
-use bidi_browser::{Browser, Kind, Occurrence, Refusal, id_text};
-use bidi_messages::{ErrorCode, EventData, EventName, Method, ResultData, Subject};
+use bidi_browser::{Browser, Kind, Refusal, id_text};
+use bidi_messages::{ErrorCode, EventName, Method, ResultData, Subject};
 use bidi_params::{SubscribeParameters, SubscribeResult};
 use bidi_shape::Ext;
 use std::alloc::{AllocError, Global};
+use std::rc::Rc;
 
 /// How many subscriptions of a session may live.
 const MOST_SUBSCRIPTIONS: usize = 256;
@@ -33,7 +36,7 @@ const MOST_SUBSCRIPTIONS: usize = 256;
 /// Subscribes a session to events, in all contexts or below some. What tells of all that stands is announced to it at
 /// once, where the subscription newly enables it.
 ///
-/// Makes two events for each live context.
+/// Makes two events for each live context, and looks through the log entries that wait.
 ///
 /// # Errors
 /// The first that holds:
@@ -59,7 +62,7 @@ pub(crate) fn decide_subscribe(
     if held.len() >= MOST_SUBSCRIPTIONS {
         return Err(Refusal::Code(ErrorCode::UnknownError));
     }
-    let announced = newly_enabled(&tables.browser, held, &events, &scope)?;
+    let announced = newly_enabled(alloc, tables, session, &events, &scope)?;
     let reply = subscribe_result(alloc, session, tables.sessions.next_subscription(session))?;
     Ok(Turn::announced(
         alloc,
@@ -70,36 +73,49 @@ pub(crate) fn decide_subscribe(
     ))
 }
 
-// What tells of all that stands, where these events in this scope newly enable it.
+// What these events in this scope newly enable: what tells of all that stands, then the entries that wait.
 fn newly_enabled(
-    browser: &Browser,
-    held: &[Subscription],
+    alloc: Global,
+    tables: &Tables,
+    session: u32,
     events: &[EventName],
     scope: &Scope,
-) -> Result<Vec<Occurrence>, AllocError>
-    ensures ok { (past : List Act) → StandsFor browser.now past
-        → IfOk result (λ all. seen all.items ≡ filter (is_new past (map row_of held.now) events.now (scope_of scope.now)) (tree_events past)) }
-    ensures well { IfOk result (λ all. AllByRecursion (λ o. ⟦<EventData as Subject<EventName>>⟧.subject.well o.event) all.items) }
+) -> Result<Vec<Rc<EventText>>, AllocError>
+    ensures { (past : List Deed) → AgreeWith tables.now past → is_active past session ≡ true
+        → IfOk result (λ all. (written_in all.items ≡ map written (announcements past (Subscribed session events.now (scope_of scope.now)) session)) × AreMessages (written_in all.items)) }
 {
-    let mut all = browser.tree_events()?;
-    all.retain(|occurrence| is_new(browser, held, events, scope, occurrence));
+    let held = tables.sessions.subscriptions_of(session);
+    let mut all = standing(alloc, &tables.browser, held, events, scope)?;
+    let mut waiting = tables.sessions.waiting_for(session)?;
+    waiting.retain(|entry| {
+        is_new(
+            &tables.browser,
+            held,
+            events,
+            scope,
+            EventName::EntryAdded,
+            entry.top,
+        )
+    });
+    all.append(&mut waiting)?;
     Ok(all)
 }
 
-// Whether the occurrence is of a live top-level context for which these events in this scope newly enable it.
-fn is_new(
+// What tells of all that stands, where these events in this scope newly enable it.
+fn standing(
+    alloc: Global,
     browser: &Browser,
     held: &[Subscription],
     events: &[EventName],
     scope: &Scope,
-    occurrence: &Occurrence,
-) -> bool
-    ensures { (past : List Act) → StandsFor browser.now past
-        → result ≡ is_new past (map row_of held.now) events.now (scope_of scope.now) (occurrence_of ⟦<EventData as Subject<EventName>>⟧.subject occurrence.now) }
+) -> Result<Vec<Rc<EventText>>, AllocError>
+    ensures ok { (past : List Act) → StandsFor browser.now past
+        → IfOk result (λ all. written_in all.items ≡ map written (filter (λ o. is_new past (map row_of held.now) events.now (scope_of scope.now) o.event o.top) (tree_events past))) }
+    ensures reads_back { IfOk result (λ all. AreMessages (written_in all.items)) }
 {
-    let event = occurrence.event.kind();
-    let top = occurrence.top;
-    browser.is_live(top) && !any_covers(held, event, top) && covers(events, scope, event, top)
+    let mut all = browser.tree_events()?;
+    all.retain(|o| is_new(browser, held, events, scope, o.event.kind(), o.top));
+    event_texts(alloc, &all)
 }
 
 // The scope that is asked for.

@@ -1,17 +1,15 @@
 use Rattle.std.proofs.Common.{◌∙◌, ◌++◌, map, flat_map, sym, ap, subst}
 use Rattle.bidi_browser.specs.Acts.{Looked}
 use Rattle.bidi_remote.specs.Tables.ConnectionRows.{rows_in}
+use Rattle.bidi_remote.specs.Tables.EventTexts.{written_in}
 use Rattle.bidi_remote.specs.Tables.Messages.{AllReadBack}
 use Rattle.bidi_remote.specs.Tables.Routes.{to_all}
 use Rattle.bidi_remote.specs.Tables.SessionView as sessions
 use Rattle.bidi_browser.specs.View.{seen}
 use Rattle.bidi_remote.specs.Tables.Turns.{deed_of, to_subscriber_in, closed_in}
 use Rattle.bidi_remote.specs.Tables.View.{sent_of, sent_if}
-use Rattle.bidi_remote.proofs.TellLemmas.{in-order, more-read, closed-read}
+use Rattle.bidi_remote.proofs.TellLemmas.{in-order, more-read, subscriber-read, closed-read}
 use Rattle.bidi_remote.proofs.telling.all_sent.Goals as goal
-
-pub push_announced-requires : goal.push_announced-requires
-push_announced-requires c = c.requires.announced
 
 pub push_events-requires : goal.push_events-requires
 push_events-requires c = c.requires.before
@@ -21,7 +19,7 @@ returns-clause-sent c = λ act.
     let t = c.args.tables.now in
     let d = deed_of c.args.change.now act in
     let all = flat_map (to_all (sessions.rows_in t.sessions) (rows_in t.connections)) in
-    let first = to_subscriber_in (rows_in t.connections) d (seen c.args.announced.now) in
+    let first = to_subscriber_in (rows_in t.connections) d (written_in c.args.announced.now) in
     let before = all (seen c.args.before.now) in
     let replied = sent_if c.args.reply in
     let after = all (seen c.args.after.now) in
@@ -31,13 +29,14 @@ returns-clause-sent c = λ act.
     (c.in_ok-push_events-2.ensures.sent ∙ ap (λ xs. xs ++ after)
     (c.in_ok-push_if.ensures ∙ ap (λ xs. xs ++ replied)
     (c.in_ok-push_events.ensures.sent ∙ ap (λ xs. xs ++ before)
-    (c.in_ok-push_announced.ensures.sent act ∙ ap (λ xs. map sent_of xs ++ first) c.new-sent.ensures.items))))
+    (c.in_ok-push_announced.ensures act ∙ ap (λ xs. map sent_of xs ++ first) c.new-sent.ensures.items))))
     ∙ in-order first before replied after closes)
 
 pub returns-clause-reads_back : goal.returns-clause-reads_back
-returns-clause-reads_back c = λ replied.
+returns-clause-reads_back c = λ announced replied.
     let none = subst AllReadBack (sym (ap (map sent_of) c.new-sent.ensures.items)) tt in
     more-read _ _ (c.in_ok-push_closes.ensures Looked) (closed-read (rows_in c.args.tables.now.connections) (deed_of c.args.change.now Looked))
     (c.in_ok-push_events-2.ensures.reads_back
     (more-read _ _ c.in_ok-push_if.ensures replied
-    (c.in_ok-push_events.ensures.reads_back (c.in_ok-push_announced.ensures.reads_back none))))
+    (c.in_ok-push_events.ensures.reads_back
+    (more-read _ _ (c.in_ok-push_announced.ensures Looked) (subscriber-read (rows_in c.args.tables.now.connections) (deed_of c.args.change.now Looked) (written_in c.args.announced.now) announced) none))))

@@ -1,43 +1,28 @@
+use Rattle.std.proofs.Common.{◌∙◌, ◌++◌, ◌+◌, append_assoc, append-nil, map, drop, sym, ap, arith}
+use Rattle.std.specs.Prelude.{flat_map, string_bytes}
 use Rattle.std.proofs.lemmas.List.{drop_all}
-use Rattle.std.proofs.Common.{◌∙◌, ◌++◌, ◌+◌, append_assoc, append-nil, map, drop, sym, ap, subst, arith}
-use Rattle.std.specs.Prelude.{flat_map}
-use Rattle.std.specs.List.{AllByRecursion}
-use Rattle.bidi_messages.specs.contracts.event.EventDataSubjectEventName.TheImpl.{ghosts}
-use Rattle.bidi_browser.specs.View.{occurrence_of, seen}
 use Rattle.bidi_remote.specs.Tables.ConnectionRows.{rows_in}
+use Rattle.bidi_remote.specs.Tables.EventTexts.{written_in}
 use Rattle.bidi_remote.specs.Tables.Routes.{to_one}
 use Rattle.bidi_remote.specs.Tables.View.{sent_of}
 use Rattle.bidi_remote.proofs.ListLemmas.{from-item}
 use Rattle.bidi_remote.proofs.telling.push_to_session.Goals as goal
 
-pub push_to_one-requires : goal.push_to_one-requires
-push_to_one-requires c =
-    (subst (AllByRecursion (λ o. ghosts.subject.well o.event)) (from-item c.args.occurrences.now c.loop-occurrence.occurrence-index c.occurrence-item.result (omega arith) c.occurrence-item.is) c.loop-occurrence.invariant.0).0
-
-pub loop-occurrence-preserved : goal.loop-occurrence-preserved
-loop-occurrence-preserved c =
-    let all = c.args.occurrences.now in
-    let i = c.loop-occurrence.occurrence-index in
-    let x = c.occurrence-item.result in
+pub loop-event-preserved : goal.loop-event-preserved
+loop-event-preserved c =
+    let texts = c.args.texts.now in
+    let i = c.loop-event.event-index in
+    let x = c.event-item.result in
     let s = c.args.session in
     let rows = rows_in c.args.connections.now in
-    let sent = map sent_of c.loop-occurrence.sent.items in
-    let rest = flat_map (to_one rows s) (seen (drop (i + 1) all)) in
-    let is = from-item all i x (omega arith) c.occurrence-item.is in (
-      (subst (AllByRecursion (λ o. ghosts.subject.well o.event)) is c.loop-occurrence.invariant.0).1,
-      c.loop-occurrence.invariant.1
-          ∙ (ap (λ left. sent ++ flat_map (to_one rows s) (seen left)) is
-          ∙ (sym (append_assoc sent (to_one rows s (occurrence_of ghosts.subject x)) rest)
-          ∙ ap (λ zs. zs ++ rest) (sym c.in_ok-push_to_one.ensures.sent))),
-      λ before. c.in_ok-push_to_one.ensures.reads_back (c.loop-occurrence.invariant.2 before),
-    )
+    let sent = map sent_of c.loop-event.sent.items in
+    let rest = flat_map (λ w. to_one rows s w.text) (written_in (drop (i + 1) texts)) in
+    c.loop-event.invariant
+    ∙ (ap (λ left. sent ++ flat_map (λ w. to_one rows s w.text) (written_in left)) (from-item texts i x (omega arith) c.event-item.is)
+    ∙ (sym (append_assoc sent (to_one rows s (string_bytes x.value.text)) rest) ∙ ap (λ zs. zs ++ rest) (sym (c.in_ok-push_text.ensures ∙ ap (λ text. sent ++ to_one rows s text) (c.deref-in-loop-event.ensures ∙ ap (λ e. string_bytes e.text) c.deref.ensures)))))
 
-pub returns-clause-sent : goal.returns-clause-sent
-returns-clause-sent c =
-    sym (c.loop-occurrence.invariant.1
-    ∙ (ap (λ left. map sent_of c.loop-occurrence.sent.items ++ flat_map (to_one (rows_in c.args.connections.now) c.args.session) (seen left))
-    (drop_all c.loop-occurrence.occurrence-index c.args.occurrences.now c.loop-occurrence-test.false)
-    ∙ append-nil (map sent_of c.loop-occurrence.sent.items)))
-
-pub returns-clause-reads_back : goal.returns-clause-reads_back
-returns-clause-reads_back c = c.loop-occurrence.invariant.2
+pub returns : goal.returns
+returns c =
+    sym (c.loop-event.invariant
+    ∙ (ap (λ left. map sent_of c.loop-event.sent.items ++ flat_map (λ w. to_one (rows_in c.args.connections.now) c.args.session w.text) (written_in left)) (drop_all c.loop-event.event-index c.args.texts.now c.loop-event-test.false)
+    ∙ append-nil (map sent_of c.loop-event.sent.items)))

@@ -1,17 +1,13 @@
 use Rattle.std.proofs.Common.{◌≡◌, ◌++◌, map, drop}
 use Rattle.std.specs.Prelude.{flat_map}
-use Rattle.std.specs.List.{AllByRecursion}
-use Rattle.bidi_messages.specs.contracts.event.EventDataSubjectEventName.TheImpl.{ghosts}
 use Rattle.bidi_remote.specs.Tables.ConnectionRows.{rows_in}
-use Rattle.bidi_remote.specs.Tables.Messages.{AllReadBack}
+use Rattle.bidi_remote.specs.Tables.EventTexts.{written_in}
 use Rattle.bidi_remote.specs.Tables.Routes.{to_one}
-use Rattle.bidi_browser.specs.View.{seen}
 use Rattle.bidi_remote.specs.Tables.View.{sent_of}
 use Rattle.bidi_remote.proofs.telling.push_to_session.Given as goal
 
--- what is left is added to what was sent, which reads back if what was sent before does
-abbrev pub invariant-loop-occurrence : goal.invariant-loop-occurrence
-invariant-loop-occurrence l = AllByRecursion (λ o. ghosts.subject.well o.event) (drop l.occurrence-index l.occurrences) × (
-    map sent_of l.initial.sent.items ++ flat_map (to_one (rows_in l.connections) l.session) (seen l.occurrences)
-    ≡ map sent_of l.sent.items ++ flat_map (to_one (rows_in l.connections) l.session) (seen (drop l.occurrence-index l.occurrences)))
-    × (AllReadBack (map sent_of l.initial.sent.items) → AllReadBack (map sent_of l.sent.items))
+-- the texts that were looked at were sent
+abbrev pub invariant-loop-event : goal.invariant-loop-event
+invariant-loop-event l =
+    map sent_of l.initial.sent.items ++ flat_map (λ w. to_one (rows_in l.connections) l.session w.text) (written_in l.texts)
+    ≡ map sent_of l.sent.items ++ flat_map (λ w. to_one (rows_in l.connections) l.session w.text) (written_in (drop l.event-index l.texts))

@@ -1,6 +1,7 @@
-use Rattle.std.proofs.Common.{◌≡◌, ◌∙◌, map, ap, ap₂, subst}
+use Rattle.std.proofs.Common.{◌≡◌, ◌∙◌, map, sym, ap, ap₂, subst}
 use Rattle.std.specs.Prelude.{IfOk}
 use Rattle.bidi_remote.specs.Tables.ConnectionRows.{rows_in}
+use Rattle.bidi_remote.specs.Tables.EventTexts.{written_in, AreMessages}
 use Rattle.bidi_remote.specs.Tables.SessionView as sessions
 use Rattle.bidi_browser.specs.View.{seen}
 use Rattle.bidi_remote.specs.Tables.Turns.{deed_of, reply_in, asker_in}
@@ -16,10 +17,10 @@ returns-clause-told c = λ past act a.
     let replied = sent_if c.in_ok-reply.reply in
     let sent = sent_in (sessions.rows_in t.sessions) (rows_in t.connections) change replied in
     subst (λ xs. IfOk c.all_sent.result (λ sent. map sent_of sent.items ≡ xs))
-    (ap (λ os. sent (seen os) (seen c.deref-2.result.now) (seen c.deref-3.result.now)) c.deref.ensures.value
-    ∙ (ap₂ (λ before after. sent (seen told.announced.items) (seen before) (seen after)) c.deref-2.ensures.value c.deref-3.ensures.value
-    ∙ (ap₂ (λ ss cs. sent_in ss cs change replied (seen told.announced.items) (seen told.before.items) (seen told.after.items)) a.sessions a.connections
-    ∙ sent_in-past past change (asker_in told.reply) (seen told.announced.items) (seen told.before.items) (seen told.after.items) (reply_in told.reply) replied (c.in_ok-reply.ensures.reply past)))) (c.all_sent.ensures.sent act)
+    (ap (λ es. sent (written_in es) (seen c.deref-2.result.now) (seen c.deref-3.result.now)) c.deref.ensures.value
+    ∙ (ap₂ (λ before after. sent (written_in told.announced.items) (seen before) (seen after)) c.deref-2.ensures.value c.deref-3.ensures.value
+    ∙ (ap₂ (λ ss cs. sent_in ss cs change replied (written_in told.announced.items) (seen told.before.items) (seen told.after.items)) a.sessions a.connections
+    ∙ sent_in-past past change (asker_in told.reply) (written_in told.announced.items) (seen told.before.items) (seen told.after.items) (reply_in told.reply) replied (c.in_ok-reply.ensures.reply past)))) (c.all_sent.ensures.sent act)
 
 pub returns-clause-reads_back : goal.returns-clause-reads_back
-returns-clause-reads_back c = c.all_sent.ensures.reads_back c.in_ok-reply.ensures.reads_back
+returns-clause-reads_back c = λ announced. c.all_sent.ensures.reads_back (subst (λ es. AreMessages (written_in es)) (sym c.deref.ensures.value) announced) c.in_ok-reply.ensures.reads_back

@@ -1,18 +1,15 @@
-use Rattle.std.proofs.Common.{◌≡◌, ◌∙◌, true, false, nat_lt, [], ◌∷◌, map, length, option_map, Some, sym, ap, arith}
+use Rattle.std.proofs.Common.{◌≡◌, ◌∙◌, true, false, nat_lt, [], ◌∷◌, map, length, option_map, Some, sym, ap, subst, arith}
 use Rattle.std.proofs.lemmas.Bool.Decides.{nat_tests}
-use Rattle.std.specs.Prelude.{filter}
-use Rattle.bidi_browser.specs.Occurrences.{tree_events}
 use Rattle.bidi_browser.specs.Occurs.{Replies}
-use Rattle.bidi_remote.specs.declared.turn.Change.TheVariants.{Subscribe}
-use Rattle.bidi_remote.specs.Machine.History.{acts}
+use Rattle.bidi_remote.specs.declared.turn.Change.TheVariants as change
+use Rattle.bidi_remote.specs.Machine.History.{Subscribed, acts}
 use Rattle.bidi_remote.specs.Machine.Subscriptions.{next_subscription}
 use Rattle.bidi_remote.specs.Machine.Outcome.{all_named}
-use Rattle.bidi_remote.specs.Machine.Sent.{subscription_tree}
+use Rattle.bidi_remote.specs.Machine.Sent.{announcements, subscription_tree}
 use Rattle.bidi_remote.specs.Tables.Asked.{texts, subscribe_asked}
-use Rattle.bidi_remote.specs.Tables.SessionView.{scope_of, row_of}
-use Rattle.bidi_remote.specs.Tables.Routes.{is_new}
-use Rattle.bidi_browser.specs.View.{seen}
-use Rattle.bidi_remote.proofs.DecideLemmas.{announced-decides, row-active, held-length, subscribe-checked, new-announced}
+use Rattle.bidi_remote.specs.Tables.SessionView.{scope_of}
+use Rattle.bidi_remote.specs.Tables.EventTexts.{written, written_in, AreMessages}
+use Rattle.bidi_remote.proofs.DecideLemmas.{announced-decides, row-active, held-length, subscribe-checked}
 use Rattle.bidi_remote.proofs.session.subscribe.decide_subscribe.Goals as goal
 
 pub returns-then-held-ge-MOST_SUBSCRIPTIONS-clause-ok : goal.returns-then-held-ge-MOST_SUBSCRIPTIONS-clause-ok
@@ -37,10 +34,10 @@ returns-clause-ok c = λ past a active few.
     let rows = c.subscriptions_of-held.ensures ∙ ap (λ r. r.subscriptions) row in
     let made = ap (λ r. r.made) row in
     let next : c.next_subscription.result ≡ next_subscription past s = let n = c.next_subscription.ensures (omega (arith, made, few)) in omega (arith, n, made) in
-    announced-decides c.announced.result past c.args.asker (Some (subscribe_asked c.args.params.now)) _ (Subscribe s es scope) c.in_ok-reply.reply tt
+    let newly = c.in_ok-announced.ensures past a active in
+    announced-decides c.announced.result past c.args.asker (Some (subscribe_asked c.args.params.now)) _ (change.Subscribe s es scope) c.in_ok-reply.reply tt
     c.announced.ensures.change c.announced.ensures.before c.announced.ensures.reply c.announced.ensures.after
     (subscribe-checked past s (length held) (texts c.args.params.now.events.items.items) (option_map (λ l. texts l.items.items) c.args.params.now.contexts) (option_map (λ l. texts l.items.items) c.args.params.now.user_contexts) es.items (scope_of scope) true (ap (λ xs. all_named (texts xs)) (sym c.deref.ensures.value) ∙ c.in_ok-events.ensures) (c.in_ok-scope.ensures (acts past) a.browser) (held-length past s held rows) room)
     (ap (λ t. Replies t ∷ []) (c.in_ok-reply.ensures.tree ∙ ap (subscription_tree s) next))
-    (ap (λ v. seen v.items) c.announced.ensures.announced ∙ (c.in_ok-announced.ensures.ok (acts past) a.browser
-    ∙ (ap (λ events. filter (is_new (acts past) (map row_of held) events (scope_of scope)) (tree_events (acts past))) c.deref-2.ensures.value
-    ∙ new-announced past s held es.items (scope_of scope) active (a.unlogged s) rows)))
+    (ap (λ v. written_in v.items) c.announced.ensures.announced ∙ (newly.0 ∙ ap (λ events. map written (announcements past (Subscribed s events (scope_of scope)) s)) c.deref-2.ensures.value))
+    (subst (λ v. AreMessages (written_in v.items)) (sym c.announced.ensures.announced) newly.1)

@@ -10,7 +10,7 @@ use Rattle.bidi_remote.proofs.tables.Tables.answer.Goals as goal
 pub returns-in-Ok-clause-ok : goal.returns-in-Ok-clause-ok
 returns-in-Ok-clause-ok c = λ h t short a stands opened asks.
     turn_takes c.take_turn.result c.take_turn.new.self h c.args.asker t (standing_in_hand c.args.standing) (asked_of ghosts.shape c.args.asked.now) stands opened asks c.in-Ok.turn (c.in-Ok.ensures.ok h short a stands)
-    (λ i act is made. c.take_turn.ensures.ok h i act short a is made)
+    (λ i act is made messages. c.take_turn.ensures.ok h i act short a is made messages)
 
 pub returns-in-Err-Code-clause-ok : goal.returns-in-Err-Code-clause-ok
 returns-in-Err-Code-clause-ok c = λ h t short a stands opened asks.

@@ -1,5 +1,5 @@
 use Rattle.std.proofs.Common.{◌∙◌, ◌∷◌, Ok, sym, ap, subst, arith}
-use Rattle.bidi_browser.specs.Plans.{EditMakes}
+use Rattle.bidi_remote.specs.declared.turn.Change.TheVariants.{Browse}
 use Rattle.bidi_remote.specs.Machine.History.{acts}
 use Rattle.bidi_remote.specs.Machine.Connections.{is_shut}
 use Rattle.bidi_remote.specs.Machine.Outcome.{deeds}
@@ -12,14 +12,14 @@ use Rattle.bidi_remote.specs.Tables.Turns.{IsMade, deed_of}
 use Rattle.bidi_remote.proofs.OpeningLemmas.{IsFairIfDone, turn_fair}
 use Rattle.bidi_remote.proofs.SpeakingLemmas.{speaks-active, made-none, few-sessions, few-subscriptions, has-ids}
 use Rattle.bidi_remote.proofs.DecideLemmas.{row-active}
-use Rattle.bidi_remote.proofs.ChangeLemmas.{agree-told, agree-did, quiet-edit, agree-began, agree-ended, agree-subscribed, agree-cancelled, agree-dismissed}
+use Rattle.bidi_remote.proofs.ChangeLemmas.{agree-told, agree-did, agree-began, agree-ended, agree-subscribed, agree-cancelled, agree-dismissed}
 use Rattle.bidi_remote.proofs.tables.Tables.apply.Goals as goal
 
 pub returns-in-Nothing : goal.returns-in-Nothing
 returns-in-Nothing c = λ h i act short a is made. subst (λ x. AgreeWith (c.args.self.now) (deed_of x act ∷ deeds h)) (sym c.in-Nothing.is) (agree-told c.args.self.now (deeds h) a)
 
 pub returns-in-Begin : goal.returns-in-Begin
-returns-in-Begin c = λ h i act short a is made.
+returns-in-Begin c = λ h i act short a is made_so.
     let past = deeds h in
     let conn = c.in-Begin.conn.value in
     let alone = subst (IsFairIfDone past) (is ∙ ap (λ x. Ok (deed_of x act)) c.in-Begin.is) (turn_fair past i) in
@@ -27,7 +27,7 @@ returns-in-Begin c = λ h i act short a is made.
     let few = few-sessions h in
     subst (λ x. AgreeWith (record c.args.self.now { connections = c.begin.new.self; sessions = c.begin-session.new.self }) (deed_of x act ∷ past)) (sym c.in-Begin.is)
     (agree-began c.args.self.now past conn c.begin-session.result c.begin.new.self c.begin-session.new.self a (ap is_shut alone) (made-none h (next_session past) (omega arith))
-    (c.begin-session.ensures.number (omega (arith, made, few, short))) c.begin-session.ensures.made c.begin-session.ensures.rows c.begin.ensures)
+    (c.begin-session.ensures.number (omega (arith, made, few, short))) c.begin-session.ensures.made (c.begin-session.ensures.rows (subst (λ x. IsMade x (acts past) act) c.in-Begin.is made_so)) c.begin.ensures)
 
 pub returns-in-End : goal.returns-in-End
 returns-in-End c = λ h i act short a is made.
@@ -39,10 +39,11 @@ returns-in-Subscribe c = λ h i act short a is made.
     let past = deeds h in
     let s = c.in-Subscribe.session in
     let asker = subst (IsFairIfDone past) (is ∙ ap (λ x. Ok (deed_of x act)) c.in-Subscribe.is) (turn_fair past i) in
-    let row = ap (λ r. r.made) (row-active c.args.self.now past s a (speaks-active h asker.0 s asker.1)) in
+    let active = speaks-active h asker.0 s asker.1 in
+    let row = ap (λ r. r.made) (row-active c.args.self.now past s a active) in
     let few = few-subscriptions h s in
     subst (λ x. AgreeWith (record c.args.self.now { sessions = c.subscribe.new.self }) (deed_of x act ∷ past)) (sym c.in-Subscribe.is)
-    (agree-subscribed c.args.self.now past s c.subscribe.new.self a c.subscribe.ensures.made c.in-Subscribe.events.items (scope_of c.in-Subscribe.scope) (c.subscribe.ensures.rows (omega (arith, row, few, short))))
+    (agree-subscribed c.args.self.now past s c.subscribe.new.self a c.subscribe.ensures.made c.in-Subscribe.events.items (scope_of c.in-Subscribe.scope) active (c.subscribe.ensures.rows (acts past) a.browser (omega (arith, row, few, short))))
 
 pub returns-in-Cancel : goal.returns-in-Cancel
 returns-in-Cancel c = λ h i act short a is made.
@@ -62,7 +63,7 @@ pub returns-in-Browse : goal.returns-in-Browse
 returns-in-Browse c = λ h i act short a is made.
     let past = deeds h in
     let change = c.in-Browse.change in
-    let made_so : EditMakes change.edit (acts past) act = subst (λ x. IsMade x (acts past) act) c.in-Browse.is made in
+    let made_so : IsMade (Browse change) (acts past) act = subst (λ x. IsMade x (acts past) act) c.in-Browse.is made in
     let asked = subst (IsFairIfDone past) (is ∙ ap (λ x. Ok (deed_of x act)) c.in-Browse.is) (turn_fair past i) in
     subst (λ x. AgreeWith (record c.args.self.now { browser = c.apply.new.self }) (deed_of x act ∷ past)) (sym c.in-Browse.is)
-    (agree-did c.args.self.now past act c.apply.new.self a (quiet-edit change.edit past act made_so) (c.apply.ensures (acts past) asked.0 act a.browser (has-ids h short) asked.1 made_so))
+    (agree-did c.args.self.now past act c.apply.new.self a made_so.1 (c.apply.ensures (acts past) asked.0 act a.browser (has-ids h short) asked.1 made_so.0))

@@ -1,5 +1,5 @@
 use Rattle.std.proofs.Common.{refl, sym, subst, ap, ap₂, ◌∙◌, map, Ok}
-use Rattle.bidi_browser.specs.Actions.{Frame, Unframe}
+use Rattle.bidi_browser.specs.Actions.{Frame, Unframe, Log}
 use Rattle.bidi_remote.specs.declared.step.Step.{Step}
 use Rattle.bidi_remote.specs.Machine.Step.{Text}
 use Rattle.bidi_remote.specs.Machine.History.{At, Open, Drop, NotText, InPage, Time, IsHeardAs}
@@ -11,10 +11,10 @@ use Rattle.bidi_remote.proofs.tables.Tables.take.Goals as goal
 
 pub returns-in-At-clause-ok : goal.returns-in-At-clause-ok
 returns-in-At-clause-ok c =
-    let n = c.in-At.moment.value in (
-      At n,
-      subst (λ (s : Step). IsHeardAs (step_of s) (At n)) (sym c.in-At.is) refl,
-      λ h short a. takes (record c.args.self.now { moment = n }) h (At n) (Ok (Time n)) (map sent_of c.new.result.items) refl (ap (map sent_of) c.new.ensures.items) (nothing c.new.result.items c.new.ensures.items)
+    let n = c.in-At.moment in (
+      At n.value,
+      subst (λ (s : Step). IsHeardAs (step_of s) (At n.value)) (sym c.in-At.is) refl,
+      λ h short a. takes (record c.args.self.now { moment = n }) h (At n.value) (Ok (Time n.value)) (map sent_of c.new.result.items) refl (ap (map sent_of) c.new.ensures.items) (nothing c.new.result.items c.new.ensures.items)
           (agree-time c.args.self.now (deeds h) n a),
     )
 
@@ -42,10 +42,16 @@ pub returns-in-Frame-clause-ok : goal.returns-in-Frame-clause-ok
 returns-in-Frame-clause-ok c =
     let action = Frame c.as_str-in-Frame.result.now c.as_str-in-Frame-2.result.now in
     page_heard c.page.result (step_of c.args.step) c.args.self.now c.page.new.self action
-    (subst (λ (s : Step). IsHeardAs (step_of s) (InPage action)) (sym c.in-Frame.is) (ap₂ (λ id url. InPage (Frame id url)) c.as_str-in-Frame.ensures.value c.as_str-in-Frame-2.ensures.value)) (λ h short a. c.page.ensures.ok h short a refl)
+    (subst (λ (s : Step). IsHeardAs (step_of s) (InPage action)) (sym c.in-Frame.is) (ap₂ (λ id url. InPage (Frame id url)) c.as_str-in-Frame.ensures.value c.as_str-in-Frame-2.ensures.value)) (λ h short a. c.page.ensures.ok h short a refl refl)
 
 pub returns-in-Unframe-clause-ok : goal.returns-in-Unframe-clause-ok
 returns-in-Unframe-clause-ok c =
     let action = Unframe c.as_str-in-Unframe.result.now in
     page_heard c.page-in-Unframe.result (step_of c.args.step) c.args.self.now c.page-in-Unframe.new.self action
-    (subst (λ (s : Step). IsHeardAs (step_of s) (InPage action)) (sym c.in-Unframe.is) (ap (λ id. InPage (Unframe id)) c.as_str-in-Unframe.ensures.value)) (λ h short a. c.page-in-Unframe.ensures.ok h short a refl)
+    (subst (λ (s : Step). IsHeardAs (step_of s) (InPage action)) (sym c.in-Unframe.is) (ap (λ id. InPage (Unframe id)) c.as_str-in-Unframe.ensures.value)) (λ h short a. c.page-in-Unframe.ensures.ok h short a refl refl)
+
+pub returns-in-Log-clause-ok : goal.returns-in-Log-clause-ok
+returns-in-Log-clause-ok c =
+    let action = Log c.as_str-in-Log.result.now c.in-Log.level c.as_str-in-Log-2.result.now in
+    page_heard c.log.result (step_of c.args.step) c.args.self.now c.log.new.self action
+    (subst (λ (s : Step). IsHeardAs (step_of s) (InPage action)) (sym c.in-Log.is) (ap₂ (λ id line. InPage (Log id c.in-Log.level line)) c.as_str-in-Log.ensures.value c.as_str-in-Log-2.ensures.value)) c.log.ensures.ok

@@ -1,0 +1,17 @@
+use Rattle.std.proofs.Common.{◌≡◌, List, map, deque_len, deque_capacity}
+use Rattle.bidi_messages.specs.declared.event.EventName.TheVariants.{EntryAdded}
+use Rattle.bidi_browser.specs.Acts.{Act}
+use Rattle.bidi_browser.specs.Stands.{StandsFor}
+use Rattle.bidi_remote.specs.Tables.EventTexts.{place_row}
+use Rattle.bidi_remote.specs.Tables.MissedRows.{left}
+use Rattle.bidi_remote.specs.Tables.SessionView.{scope_of, row_of}
+use Rattle.bidi_remote.specs.Tables.SubscriptionRows.{is_new}
+use Rattle.bidi_remote.proofs.BeginLemmas.{over}
+use Rattle.bidi_remote.proofs.announcing.announce.Given as goal
+
+-- the entries that are announced have left the places that were looked at
+abbrev pub invariant-loop-at : goal.invariant-loop-at
+invariant-loop-at l =
+    (deque_len l.places ≡ deque_len l.fn.places) × (deque_capacity l.places ≡ deque_capacity l.fn.places)
+    × ((past : List Act) → StandsFor l.browser past
+    → map place_row l.places.items ≡ over (left (is_new past (map row_of l.held) l.events (scope_of l.scope) EntryAdded)) l.at (map place_row l.fn.places.items))

@@ -1,0 +1,30 @@
+use Rattle.std.proofs.Common.{◌∙◌, ◌++◌, map, sym, ap, ap₂, subst}
+use Rattle.bidi_messages.specs.contracts.message.MessageShape.TheImpl.{ghosts}
+use Rattle.bidi_messages.specs.declared.event.EventName.TheVariants.{EntryAdded}
+use Rattle.bidi_messages.specs.Reading.{IsMessageText}
+use Rattle.bidi_remote.specs.Machine.Sent.{occurrence_text}
+use Rattle.bidi_remote.specs.Tables.ConnectionRows.{rows, rows_in}
+use Rattle.bidi_remote.specs.Tables.Messages.{AllReadBack}
+use Rattle.bidi_remote.specs.Tables.SessionView.{session_row_of}
+use Rattle.bidi_remote.specs.Tables.SubscriptionRows.{session_rows}
+use Rattle.bidi_remote.specs.Tables.View.{sent_of}
+use Rattle.bidi_remote.proofs.TellLemmas.{heard, heard-read, more-read, to_all-past}
+use Rattle.bidi_remote.proofs.telling.tell_entry.Goals as goal
+
+pub returns-clause-told : goal.returns-clause-told
+returns-clause-told c = λ past o a event is.
+    let t = c.args.tables.now in
+    let entry = c.args.entry.now in
+    let cs = rows_in t.connections in
+    let all = map session_row_of c.all.result.now in
+    c.in_ok-push_heard.ensures
+    ∙ (ap (λ xs. map sent_of xs ++ heard cs c.deref.result.now EntryAdded entry.top all) c.new-sent.ensures.items
+    ∙ (ap₂ (λ text ss. heard cs text EntryAdded entry.top ss) c.deref.ensures (c.all.ensures ∙ a.sessions)
+    ∙ (ap₂ (λ w rs. heard rs w.text EntryAdded w.top (session_rows past)) is a.connections
+    ∙ (ap (λ e. heard (rows past) (occurrence_text o) e o.top (session_rows past)) (sym event) ∙ to_all-past past o))))
+
+pub returns-clause-reads_back : goal.returns-clause-reads_back
+returns-clause-reads_back c = λ text.
+    more-read _ _ c.in_ok-push_heard.ensures
+    (heard-read (rows_in c.args.tables.now.connections) c.deref.result.now (subst (IsMessageText ghosts.shape) (sym c.deref.ensures) text) EntryAdded c.args.entry.now.top (map session_row_of c.all.result.now))
+    (subst AllReadBack (sym (ap (map sent_of) c.new-sent.ensures.items)) tt)

@@ -1,0 +1,58 @@
+//! What a subscription newly enables, and announces.
+ghost use Rattle.std.specs.Prelude.{◌≡◌, List, map};
+ghost use Rattle.std.specs.VecDeque.{deque_len, deque_capacity};
+ghost use Rattle.bidi_browser.specs.Acts.{Act};
+ghost use Rattle.bidi_browser.specs.Stands.{StandsFor};
+ghost use Rattle.bidi_messages.specs.declared.event.EventName.TheVariants.{EntryAdded};
+ghost use Rattle.bidi_remote.specs.Tables.EventTexts.{place_row};
+ghost use Rattle.bidi_remote.specs.Tables.MissedRows.{all_left};
+ghost use Rattle.bidi_remote.specs.Tables.SessionView.{scope_of, row_of};
+ghost use Rattle.bidi_remote.specs.Tables.SubscriptionRows.{is_new};
+
+use crate::event_texts::EventText;
+use crate::subscriptions::{Scope, Subscription, any_covers, covers};
+use bidi_browser::Browser;
+use bidi_messages::EventName;
+use std::collections::VecDeque;
+use std::rc::Rc;
+
+/// Whether the top-level context is alive, and these events in this scope enable the event there, which no subscription
+/// that is held does.
+///
+/// Looks through the live contexts and what is held. Takes no memory.
+pub(crate) fn is_new(
+    browser: &Browser,
+    held: &[Subscription],
+    events: &[EventName],
+    scope: &Scope,
+    event: EventName,
+    top: u64,
+) -> bool
+    ensures { (past : List Act) → StandsFor browser.now past → result ≡ is_new past (map row_of held.now) events.now (scope_of scope.now) event top }
+{
+    browser.is_live(top) && !any_covers(held, event, top) && covers(events, scope, event, top)
+}
+
+/// Takes the entries out of their places that these events in this scope newly enable.
+pub(crate) fn announce(
+    places: &mut VecDeque<Option<Rc<EventText>>>,
+    browser: &Browser,
+    held: &[Subscription],
+    events: &[EventName],
+    scope: &Scope,
+)
+    ensures places { (past : List Act) → StandsFor browser.now past → map place_row places.new.items
+        ≡ all_left (is_new past (map row_of held.now) events.now (scope_of scope.now) EntryAdded) (map place_row places.old.items) }
+    ensures len { deque_len places.new ≡ deque_len places.old }
+    ensures capacity { deque_capacity places.new ≡ deque_capacity places.old }
+{
+    for at in 0..places.len() {
+        let top = match &places[at] {
+            Some(entry) => entry.top,
+            None => continue,
+        };
+        if is_new(browser, held, events, scope, EventName::EntryAdded, top) {
+            places[at] = None;
+        }
+    }
+}

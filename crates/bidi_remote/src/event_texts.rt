@@ -1,0 +1,49 @@
+//! Events as they are sent.
+ghost use Rattle.std.specs.Prelude.{◌≡◌, ◌∷◌, ◌++◌, [], map, string_bytes, IfOk};
+ghost use Rattle.std.specs.List.{AllByRecursion};
+ghost use Rattle.bidi_browser.specs.View.{occurrence_of, seen};
+ghost use Rattle.bidi_messages.specs.Reading.{IsMessageText};
+ghost use Rattle.bidi_remote.specs.Tables.EventTexts.{written, written_of, written_in, AreMessages};
+
+use bidi_browser::Occurrence;
+use bidi_messages::{EventData, EventName, Message, Subject, event_text};
+use bidi_shape::Shape;
+use std::alloc::{AllocError, Global};
+use std::rc::Rc;
+
+/// The text of an event, with the number of its top-level context. It is made once, and shared by all that keep it.
+#[derive(Drop)]
+pub(crate) struct EventText {
+    pub top: u64,
+    pub text: String,
+}
+
+/// The text of an occurrence.
+pub(crate) fn event_text_of(
+    alloc: Global,
+    occurrence: &Occurrence,
+) -> Result<Rc<EventText>, AllocError>
+    requires { ⟦<EventData as Subject<EventName>>⟧.subject.well occurrence.now.event }
+    ensures written { IfOk result (λ e. written_of e.value ≡ written (occurrence_of ⟦<EventData as Subject<EventName>>⟧.subject occurrence.now)) }
+    ensures reads_back { IfOk result (λ e. IsMessageText ⟦<Message as Shape>⟧.shape (string_bytes e.value.text)) }
+{
+    let text = event_text(alloc, &occurrence.event)?;
+    let top = occurrence.top;
+    Ok(Rc::new(alloc, EventText { top, text })?)
+}
+
+/// The texts of some.
+pub(crate) fn event_texts(
+    alloc: Global,
+    occurrences: &[Occurrence],
+) -> Result<Vec<Rc<EventText>>, AllocError>
+    requires { AllByRecursion (λ o. ⟦<EventData as Subject<EventName>>⟧.subject.well o.event) occurrences.now }
+    ensures written { IfOk result (λ all. written_in all.items ≡ map written (seen occurrences.now)) }
+    ensures reads_back { IfOk result (λ all. AreMessages (written_in all.items)) }
+{
+    let mut all = Vec::new(alloc);
+    for occurrence in occurrences {
+        all.push(event_text_of(alloc, occurrence)?)?;
+    }
+    Ok(all)
+}
