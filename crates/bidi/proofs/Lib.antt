@@ -2,6 +2,7 @@ pub mod ResultLemmas
 pub mod DigitLemmas
 pub mod WordLemmas
 pub mod FeedLemmas
+pub mod LevelLemmas
 pub mod DeviceLemmas
 pub mod InputLineLemmas
 pub mod ListingLemmas

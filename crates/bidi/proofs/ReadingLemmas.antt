@@ -4,12 +4,15 @@ use Rattle.std.specs.Prelude.{◌==◌, decimal}
 use Rattle.std.proofs.lemmas.Bool.Decides.{nat_tests}
 use Rattle.std.specs.List.{AllByRecursion}
 use Rattle.std.proofs.lemmas.Fmt.{decimal_injective}
+use Rattle.bidi_values.specs.Level.{level_text}
+use Rattle.bidi_values.specs.declared.log_entry.Level.{Level}
 use Rattle.bidi_remote.specs.Machine.Step.{Step, At, Open, Drop, Text, NotText, Frame, Unframe, Log, TableRow}
 use Rattle.bidi.specs.Lines.{line_of, ended, said, IsContext, IsSayable, CanBeSaid}
 use Rattle.bidi.specs.Plays.{HasNoPlayLine}
 use Rattle.bidi.proofs.ResultLemmas.{no_truth}
 use Rattle.bidi.proofs.DigitLemmas.{no_space}
 use Rattle.bidi.proofs.FeedLemmas.{one_front}
+use Rattle.bidi.proofs.LevelLemmas.{graded}
 
 abbrev first : List ℕ → ℕ
 first [] = 0
@@ -28,6 +31,15 @@ numbered c d text other a b e =
 named : (context id url other : List ℕ) → IsContext context → IsContext id → context ++ 32 ∷ url ≡ id ++ 32 ∷ other → (context ≡ id) × (url ≡ other)
 named context id url other a b e = one_front 32 context url id other a.1 b.1 e
 
+-- a context, a level and a text behind it are determined
+logged : (context id : List ℕ) (level grave : Level) (text other : List ℕ) → IsContext context → IsContext id
+    → context ++ 32 ∷ level_text level ++ 32 ∷ text ≡ id ++ 32 ∷ level_text grave ++ 32 ∷ other → (context ≡ id) × (level ≡ grave) × (text ≡ other)
+logged context id level grave text other a b e =
+    let h = named context id (level_text level ++ 32 ∷ text) (level_text grave ++ 32 ∷ other) a b
+    (sym (append_assoc context (32 ∷ level_text level) (32 ∷ text)) ∙ (e ∙ append_assoc id (32 ∷ level_text grave) (32 ∷ other))) in
+    let g = graded level grave text other h.1 in
+    (h.0, g.0, g.1)
+
 -- a line says one step
 pub one_step : (s t : Step) → IsSayable s → IsSayable t → line_of s ≡ line_of t → s ≡ t
 one_step (At n) (At m) a b e = let below = a.number in let less = b.number in ap At (decimal_injective n m (omega arith) (omega arith) (ap (drop 3) e))
@@ -37,9 +49,8 @@ one_step (Open c resource) (Open d other) a b e = let h = numbered c d resource 
 one_step (Text c text) (Text d other) a b e = let h = numbered c d text other a.number b.number (ap (drop 2) e) in let i = h.0 in let j = h.1 in cc
 one_step (Frame context url) (Frame id other) a b e = let h = named context id url other a.context b.context (ap (drop 6) e) in ap₂ Frame h.0 h.1
 one_step (Unframe context) (Unframe id) a b e = ap Unframe (ap (drop 8) e)
-one_step (Log context level text) t a b e = let built = a.built in cc
+one_step (Log context level text) (Log id grave other) a b e = let h = logged context id level grave text other a.context b.context (ap (drop 4) e) in let i = h.0 in let j = h.1 in let k = h.2 in cc
 one_step (TableRow text) t a b e = let built = a.built in cc
-one_step s (Log context level text) a b e = let built = b.built in cc
 one_step s (TableRow text) a b e = let built = b.built in cc
 one_step s t a b e = absurd (apart (first (line_of s)) (first (line_of t)) (ap first e) refl)
 

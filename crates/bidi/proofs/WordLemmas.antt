@@ -24,15 +24,16 @@ has_space line h (step.Unframe context) e = h (codes "unframe") context e refl
 has_space line h (step.Log context level text) e = h (codes "log") (context ++ 32 ∷ level_text level ++ 32 ∷ text) e refl
 has_space line h (step.TableRow text) e = h (codes "value") text e refl
 
--- and that of a step that is built begins with one of seven words
+-- and that of a step that is built begins with one of eight words
 pub known_word : (line word rest : List ℕ) → Splits line (λ xs ys. (word ≡ xs) × (rest ≡ ys))
-    → (word ≡ codes "at" → ⊥) → (word ≡ codes "drop" → ⊥) → (word ≡ codes "binary" → ⊥) → (word ≡ codes "open" → ⊥) → (word ≡ codes ">" → ⊥) → (word ≡ codes "frame" → ⊥) → (word ≡ codes "unframe" → ⊥)
+    → (word ≡ codes "at" → ⊥) → (word ≡ codes "drop" → ⊥) → (word ≡ codes "binary" → ⊥) → (word ≡ codes "open" → ⊥) → (word ≡ codes ">" → ⊥) → (word ≡ codes "frame" → ⊥) → (word ≡ codes "unframe" → ⊥) → (word ≡ codes "log" → ⊥)
     → (s : Step) → is_built_step s ≡ true → line ≡ line_of s → ⊥
-known_word line word rest h a d b o t f u (step.At n) built e = a (h (codes "at") (decimal n) e refl).0
-known_word line word rest h a d b o t f u (step.Open c r) built e = o (h (codes "open") (decimal c ++ 32 ∷ r) e refl).0
-known_word line word rest h a d b o t f u (step.Drop c) built e = d (h (codes "drop") (decimal c) e refl).0
-known_word line word rest h a d b o t f u (step.Text c x) built e = t (h (codes ">") (decimal c ++ 32 ∷ x) e refl).0
-known_word line word rest h a d b o t f u (step.NotText c) built e = b (h (codes "binary") (decimal c) e refl).0
-known_word line word rest h a d b o t f u (step.Frame context url) built e = f (h (codes "frame") (context ++ 32 ∷ url) e refl).0
-known_word line word rest h a d b o t f u (step.Unframe context) built e = u (h (codes "unframe") context e refl).0
-known_word line word rest h a d b o t f u s built e = cc
+known_word line word rest h a d b o t f u l (step.At n) built e = a (h (codes "at") (decimal n) e refl).0
+known_word line word rest h a d b o t f u l (step.Open c r) built e = o (h (codes "open") (decimal c ++ 32 ∷ r) e refl).0
+known_word line word rest h a d b o t f u l (step.Drop c) built e = d (h (codes "drop") (decimal c) e refl).0
+known_word line word rest h a d b o t f u l (step.Text c x) built e = t (h (codes ">") (decimal c ++ 32 ∷ x) e refl).0
+known_word line word rest h a d b o t f u l (step.NotText c) built e = b (h (codes "binary") (decimal c) e refl).0
+known_word line word rest h a d b o t f u l (step.Frame context url) built e = f (h (codes "frame") (context ++ 32 ∷ url) e refl).0
+known_word line word rest h a d b o t f u l (step.Unframe context) built e = u (h (codes "unframe") context e refl).0
+known_word line word rest h a d b o t f u l (step.Log context level text) built e = l (h (codes "log") (context ++ 32 ∷ level_text level ++ 32 ∷ text) e refl).0
+known_word line word rest h a d b o t f u l (step.TableRow text) built e = cc

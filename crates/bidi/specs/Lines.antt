@@ -46,7 +46,7 @@ IsContext context = (context ≢ []) × (list_any (λ b. b == 32) context ≡ fa
 abbrev pub has_feed : List ℕ → Bool
 has_feed bytes = list_any (λ b. b == 10) bytes
 
--- the parts of a step fit a line: its number is a js-uint, and its context has no space and is not empty. It is one that is built: the lines of the log and of the table are no play lines yet.
+-- the parts of a step fit a line: its number is a js-uint, and its context has no space and is not empty. It is one that is built: the line of the table is no play line yet.
 pub record IsSayable (s : Step) : Type 0 where
   pub built : is_built_step s ≡ true
   pub number : number_of s < 2 ^ 53

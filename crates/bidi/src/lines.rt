@@ -1,12 +1,15 @@
 //! Lines: the step that one says, and those of what is sent.
 ghost use Rattle.std.specs.Prelude.{◌≡◌, ℕ, ◌<◌, ◌≤◌, ◌^◌, ◌==◌, ◌↔◌, List, [], ◌∷◌, ◌++◌, true, false, map, length, decimal, string_bytes, IsTrue, IfOk, IfSome, IfNone, IsSomeAnd, position};
 ghost use Rattle.std.specs.List.{list_any};
+ghost use Rattle.bidi_values.specs.Level.{level_text};
 ghost use Rattle.bidi_remote.specs.Machine.Step as play;
 ghost use Rattle.bidi_remote.specs.Tables.View.{step_of, sent_of};
 ghost use Rattle.bidi.specs.Lines.{line_of, has_feed, IsContext, IsSayable, CanBeSaid, ended, sent_line, written};
 
 use bidi_remote::{Sent, Step};
+use bidi_shape::Named;
 use bidi_tree::JsUint;
+use bidi_values::Level;
 use std::alloc::{AllocError, Global};
 
 /// How many bytes a line may have, without its line feed.
@@ -89,6 +92,11 @@ fn read_words(alloc: Global, line: &str) -> Result<Option<Step>, AllocError>
             None => Ok(None),
             Some(context) => Ok(Some(Step::Unframe(context))),
         }
+    } else if is_text(word, "log") {
+        match read_entry(alloc, rest)? {
+            None => Ok(None),
+            Some((context, level, text)) => Ok(Some(Step::Log(context, level, text))),
+        }
     } else {
         Ok(None)
     }
@@ -120,6 +128,33 @@ fn read_context_and_text(alloc: Global, rest: &str) -> Result<Option<(String, St
         None => Ok(None),
         Some(context) => Ok(Some((context, String::from_str(alloc, text)?))),
     }
+}
+
+// The context, the level behind the first space, and the text behind the next.
+fn read_entry(alloc: Global, rest: &str) -> Result<Option<(String, Level, String)>, AllocError>
+    ensures some { IfOk result (λ found. IfSome found (λ x. IsContext (string_bytes x.0) × (rest.now ≡ string_bytes x.0 ++ 32 ∷ level_text x.1 ++ 32 ∷ string_bytes x.2))) }
+    ensures none { IfOk result (λ found. IfNone found ((context text : List ℕ) (level : Level) → IsContext context → rest.now ≡ context ++ 32 ∷ level_text level ++ 32 ∷ text → ⊥)) }
+{
+    let Some((context, entry)) = parts(rest) else {
+        return Ok(None);
+    };
+    let Some((level, text)) = level_and_text(entry) else {
+        return Ok(None);
+    };
+    match read_context(alloc, context)? {
+        None => Ok(None),
+        Some(context) => Ok(Some((context, level, String::from_str(alloc, text)?))),
+    }
+}
+
+// The level, and the text behind the first space.
+fn level_and_text(rest: &str) -> Option<(Level, &str)>
+    ensures some { IfSome result (λ x. rest.now ≡ level_text x.0 ++ 32 ∷ x.1.now) }
+    ensures none { IfNone result ((level : Level) (text : List ℕ) → rest.now ≡ level_text level ++ 32 ∷ text → ⊥) }
+{
+    let (word, text) = parts(rest)?;
+    let level = Level::named(word)?;
+    Some((level, text))
 }
 
 // The context that the text is.

@@ -4,6 +4,7 @@ mod contexts;
 mod examples;
 mod failures;
 mod listings;
+mod log;
 mod plays;
 mod sessions;
 pub(crate) mod stop_at;
@@ -16,7 +17,7 @@ use super::running::run;
 use std::alloc::Global;
 use std::process::Abort;
 use std::test::Fail;
-use tables::{check, input_of, outcome_text, spelled_out, wanted_of};
+use tables::{check, input_of, outcome_text, spelled_out, wanted_of, with_ids};
 
 /// Runs all that is asked for over the input of each row, and compares what comes out with the row's outcome.
 fn check_rows<R: Abort + AllocGlobal>(rt: &R, asked: &[Run], table: &str) -> Result<(), Fail> {
@@ -26,6 +27,12 @@ fn check_rows<R: Abort + AllocGlobal>(rt: &R, asked: &[Run], table: &str) -> Res
         check(rt, row, found, wanted_of(rt.alloc(), row)?);
     }
     Ok(())
+}
+
+/// Runs the plays of a table in which ids stand as short words.
+fn check_plays<R: Abort + AllocGlobal>(rt: &R, table: &str) -> Result<(), Fail> {
+    let table = with_ids(rt.alloc(), table)?;
+    check_rows(rt, &[Run::Play], table.as_str())
 }
 
 /// The outcomes of these runs over the input of a row.

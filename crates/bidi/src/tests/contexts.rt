@@ -1,11 +1,8 @@
 //! The context tree: what is shown of it, what makes and removes contexts, and who is told.
 //!
-//! In these tables `C1` stands for the id of the first context, and so `R1` for that of a realm, `W1` of a window, `S1`
-//! of a session, `U1` of a subscription of the first session and `V1` of one of the second.
-use super::check_rows;
-use crate::arguments::Run;
+//! Ids stand as short words, as `with_ids` says.
+use super::check_plays;
 use std::alloc::{AllocError, Global};
-use std::process::Abort;
 use std::test::Fail;
 
 /// What getTree shows.
@@ -1202,33 +1199,3 @@ fn push_16_levels(row: &mut String) -> Result<(), AllocError> {
 "#,
     )
 }
-
-/// Runs the plays of a table in which ids stand as short words.
-fn check_plays<R: Abort + AllocGlobal>(rt: &R, table: &str) -> Result<(), Fail> {
-    let table = with_ids(rt.alloc(), table)?;
-    check_rows(rt, &[Run::Play], table.as_str())
-}
-
-/// The table with the ids for which its words stand, the longer words first.
-fn with_ids(alloc: Global, table: &str) -> Result<String, AllocError> {
-    let mut whole = String::from_str(alloc, table)?;
-    for k in 1..=18u8 {
-        let n = 19 - k;
-        for (word, kind) in KINDS {
-            let short = format!(in alloc; "{word}{n}")?;
-            let id = format!(in alloc; "{kind}-8000-8000-{n:012x}")?;
-            whole = whole.replace(alloc, short.as_str(), id.as_str())?;
-        }
-    }
-    Ok(whole)
-}
-
-/// The letter of each kind of id in these tables, and how such an id begins.
-const KINDS: [(&str, &str); 6] = [
-    ("S", "00000000-0001"),
-    ("C", "00000000-0002"),
-    ("R", "00000000-0003"),
-    ("U", "00000001-0005"),
-    ("V", "00000002-0005"),
-    ("W", "00000000-0007"),
-];

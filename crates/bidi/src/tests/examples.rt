@@ -142,6 +142,40 @@ fn frames(rt: HostRuntime) -> Result<(), Fail> {
     check_rows(&rt, &[Run::Play], FRAMES)
 }
 
+const LOG: &str = r#"entries before and after a subscribe, on two connections
+open 1 /session
+  opened 1
+log 00000000-0002-8000-8000-000000000001 debug before the session
+> 1 {"id":1,"method":"session.new","params":{"capabilities":{}}}
+  < 1 {"id":1,"result":{"capabilities":CAPABILITIES,"sessionId":"00000000-0001-8000-8000-000000000001"},"type":"success"}
+open 2 /session/00000000-0001-8000-8000-000000000001
+  opened 2
+at 7
+log 00000000-0002-8000-8000-000000000001 info before the subscribe
+log 00000000-0002-8000-8000-000000000001 warn and one more
+at 9
+> 1 {"id":2,"method":"session.subscribe","params":{"events":["log.entryAdded"]}}
+  < 1 {"method":"log.entryAdded","params":{"args":[{"type":"string","value":"before the subscribe"}],"level":"info","method":"info","source":{"context":"00000000-0002-8000-8000-000000000001","realm":"00000000-0003-8000-8000-000000000001"},"text":"before the subscribe","timestamp":7,"type":"console"},"type":"event"}
+  < 2 {"method":"log.entryAdded","params":{"args":[{"type":"string","value":"before the subscribe"}],"level":"info","method":"info","source":{"context":"00000000-0002-8000-8000-000000000001","realm":"00000000-0003-8000-8000-000000000001"},"text":"before the subscribe","timestamp":7,"type":"console"},"type":"event"}
+  < 1 {"method":"log.entryAdded","params":{"args":[{"type":"string","value":"and one more"}],"level":"warn","method":"warn","source":{"context":"00000000-0002-8000-8000-000000000001","realm":"00000000-0003-8000-8000-000000000001"},"text":"and one more","timestamp":7,"type":"console"},"type":"event"}
+  < 2 {"method":"log.entryAdded","params":{"args":[{"type":"string","value":"and one more"}],"level":"warn","method":"warn","source":{"context":"00000000-0002-8000-8000-000000000001","realm":"00000000-0003-8000-8000-000000000001"},"text":"and one more","timestamp":7,"type":"console"},"type":"event"}
+  < 1 {"id":2,"result":{"subscription":"00000001-0005-8000-8000-000000000001"},"type":"success"}
+log 00000000-0002-8000-8000-000000000001 error after it, "at once"
+  < 1 {"method":"log.entryAdded","params":{"args":[{"type":"string","value":"after it, \"at once\""}],"level":"error","method":"error","source":{"context":"00000000-0002-8000-8000-000000000001","realm":"00000000-0003-8000-8000-000000000001"},"text":"after it, \"at once\"","timestamp":9,"type":"console"},"type":"event"}
+  < 2 {"method":"log.entryAdded","params":{"args":[{"type":"string","value":"after it, \"at once\""}],"level":"error","method":"error","source":{"context":"00000000-0002-8000-8000-000000000001","realm":"00000000-0003-8000-8000-000000000001"},"text":"after it, \"at once\"","timestamp":9,"type":"console"},"type":"event"}
+> 2 {"id":3,"method":"session.subscribe","params":{"events":["log.entryAdded"]}}
+  < 2 {"id":3,"result":{"subscription":"00000001-0005-8000-8000-000000000002"},"type":"success"}
+drop 1
+log 00000000-0002-8000-8000-000000000001 info to who is left
+  < 2 {"method":"log.entryAdded","params":{"args":[{"type":"string","value":"to who is left"}],"level":"info","method":"info","source":{"context":"00000000-0002-8000-8000-000000000001","realm":"00000000-0003-8000-8000-000000000001"},"text":"to who is left","timestamp":9,"type":"console"},"type":"event"}
+log nowhere info to nobody
+  no effect"#;
+
+#[test]
+fn log(rt: HostRuntime) -> Result<(), Fail> {
+    check_rows(&rt, &[Run::Play], LOG)
+}
+
 const BROWSERS: &str = r#"texts outside the profile, and one inside
 {"method":"log.entryAdded","params":{"args":[],"level":"info","method":"info","source":{"context":"c","realm":"r","userContext":"default"},"text":"hi","timestamp":7,"type":"console"},"type":"event"}
 {"method":"browsingContext.navigationCommitted","params":{"context":"c","navigation":"n","timestamp":5,"url":"about:blank"},"type":"event"}
