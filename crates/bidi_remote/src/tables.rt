@@ -324,10 +324,12 @@ fn told_by(plan: Plan) -> (Vec<Occurrence>, BrowserChange)
 {
     let Plan {
         before,
-        result: _result,
-        after: _after,
+        result,
+        after,
         change,
     } = plan;
+    drop(result);
+    drop(after);
     (before, change)
 }
 

@@ -49,8 +49,9 @@ pub(crate) fn decide_new(
     if !tables.sessions.is_ready() {
         return Err(Refusal::Code(ErrorCode::SessionNotCreated));
     }
+    let missed = LogBuffer::new(alloc)?;
     let reply = new_result(alloc, tables.sessions.next())?;
-    let change = Change::Begin(asker.conn, LogBuffer::new(alloc)?);
+    let change = Change::Begin(asker.conn, missed);
     Ok(Turn::replied(alloc, change, asker, reply))
 }
 
