@@ -40,11 +40,12 @@ deed_of (Cancel s ns) act = Cancelled s ns.items
 deed_of (Dismiss s es) act = Dismissed s es.items
 deed_of (Browse change) act = Did act
 
--- an entry of the log is no turn: it goes a way of its own
+-- the action logs an entry
 abbrev pub is_log : Action → Bool
 is_log (Log context level text) = true
 is_log action = false
 
+-- the act logs none: an entry is no turn, but goes a way of its own
 abbrev pub IsQuiet : Act → Type 0
 IsQuiet (Logged c level text) = ⊥
 IsQuiet act = ⊤
