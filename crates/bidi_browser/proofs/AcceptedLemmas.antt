@@ -208,7 +208,7 @@ level-child (Framed q url ∷ past) c p acc e =
 level-child (act ∷ past) c p acc e = level-child past c p acc.2 e
 
 -- what stands on the chain of a context has no greater number
-under-le : (past : List Act) → AreAccepted past → (a c : ℕ) → is_under past a c ≡ true → a ≤ c
+pub under-le : (past : List Act) → AreAccepted past → (a c : ℕ) → is_under past a c ≡ true → a ≤ c
 under-le [] acc a c e = let same = (Decides-eqb a c).0 e in omega arith
 under-le (Framed q url ∷ past) acc a c e =
     let alive = (act-sound past acc.0 (Framed q url) acc.1).alive in

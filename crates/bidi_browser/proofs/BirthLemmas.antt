@@ -10,6 +10,7 @@ use Rattle.bidi_browser.specs.declared.id.Kind.TheVariants.{Context, Realm, Wind
 use Rattle.bidi_browser.specs.Urls.{about_blank}
 use Rattle.bidi_browser.specs.Acts.{Act, Made, Framed, Removed, Moved, gives, given, next_number}
 use Rattle.bidi_browser.specs.Contexts.{parent_of, top_of, level_of, window_of, is_under, is_gone, is_alive, up_to, contexts}
+use Rattle.bidi_browser.specs.Places.{begun_at}
 use Rattle.bidi_browser.specs.Accepted.{AreAccepted}
 use Rattle.bidi_browser.specs.ContextRows.{Row, row_at, rows}
 use Rattle.bidi_browser.proofs.AcceptedLemmas.{act-sound, alive-below}
@@ -70,7 +71,7 @@ level-unborn (act ∷ past) c unborn = level-unborn past c unborn
 -- ---- the rows
 
 -- a number is itself
-same-number : (n : ℕ) → (n == n) ≡ true
+pub same-number : (n : ℕ) → (n == n) ≡ true
 same-number n = grind (arith, nat_tests)
 
 -- an older number is another
@@ -78,7 +79,7 @@ other-number : (c n : ℕ) → c ≤ n → (c == suc n) ≡ false
 other-number c n older = grind (arith, nat_tests)
 
 -- the row of a number that passes
-abbrev row_if : (ℕ → Row) → Bool → ℕ → List Row
+abbrev pub row_if : (ℕ → Row) → Bool → ℕ → List Row
 row_if f b c = if b then f c ∷ [] else []
 
 -- it is that of a number in a filter
@@ -87,7 +88,7 @@ row-one f true c = refl
 row-one f false c = refl
 
 -- that of the last number stands at the end
-rows-split : (f : ℕ → Row) (p : ℕ → Bool) (n : ℕ) → map f (filter p (up_to (suc n))) ≡ map f (filter p (up_to n)) ++ row_if f (p (suc n)) (suc n)
+pub rows-split : (f : ℕ → Row) (p : ℕ → Bool) (n : ℕ) → map f (filter p (up_to (suc n))) ≡ map f (filter p (up_to n)) ++ row_if f (p (suc n)) (suc n)
 rows-split f p n = ap (map f) (filter-append p (up_to n) (suc n ∷ [])) ∙ (map-append f (filter p (up_to n)) (filter p (suc n ∷ []))
     ∙ ap (λ rs. map f (filter p (up_to n)) ++ rs) (row-one f (p (suc n)) (suc n)))
 
@@ -162,7 +163,7 @@ pub row-made : (past : List Act) (w : Option ℕ) → AreAccepted past → row_a
       level = 1;
       window = unwrap_or w (next_number past Window);
       realm = next_number past Realm;
-      url = about_blank;
+      entries = begun_at about_blank;
     }
 row-made past w acc =
     rw (
@@ -174,5 +175,5 @@ row-made past w acc =
 
 -- the new context of a frame
 pub row-framed : (past : List Act) (p : ℕ) (url : Parts) → row_at (Framed p url ∷ past) (next_number past Context)
-    ≡ record { number = next_number past Context; parent = Some p; top = top_of past p; level = suc (level_of past p); window = window_of past p; realm = next_number past Realm; url = url }
+    ≡ record { number = next_number past Context; parent = Some p; top = top_of past p; level = suc (level_of past p); window = window_of past p; realm = next_number past Realm; entries = begun_at url }
 row-framed past p url = rw (same-number (next_number past Context)) refl

@@ -22,7 +22,7 @@ use Rattle.bidi_params.proofs.InfoLemmas.{info_made}
 use Rattle.bidi_browser.specs.declared.id.Kind.TheVariants.{Context, Window}
 use Rattle.bidi_browser.specs.Ids.{id_of}
 use Rattle.bidi_browser.specs.Urls.{url_text}
-use Rattle.bidi_browser.specs.ContextRows.{Row, shown_info}
+use Rattle.bidi_browser.specs.ContextRows.{Row, url_in, shown_info}
 use Rattle.bidi_browser.specs.InfosInHand.{children_node, parent_node, IsWithin, AreWithin, AreWithinIfTold}
 
 -- the tree of an Info in hand
@@ -46,7 +46,7 @@ info-told i f c whole made same = ap (info_tree info_parts) made ∙ (same (tree
 
 -- what stands beside the children
 pub beside-told : (window number url user : String Global) (parent : Option (Option (String Global))) (ext : Ext) (row : Row) (x : Node)
-    → string_bytes window ≡ id_of Window row.window → string_bytes number ≡ id_of Context row.number → string_bytes url ≡ url_text row.url → string_bytes user ≡ codes "default" → others_of ext ≡ no_members
+    → string_bytes window ≡ id_of Window row.window → string_bytes number ≡ id_of Context row.number → string_bytes url ≡ url_text (url_in row) → string_bytes user ≡ codes "default" → others_of ext ≡ no_members
     → info_map info_parts.table (window, (number, (None, (url, (user, (parent, ext)))))) x ≡ shown_info (option_map parent_node parent) row x
 beside-told window number url user None ext row x w n u d e = rw (w, n, u, d, e) refl
 beside-told window number url user (Some None) ext row x w n u d e = rw (w, n, u, d, e) refl

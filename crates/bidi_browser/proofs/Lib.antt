@@ -9,7 +9,9 @@ pub mod TellingLemmas
 pub mod AcceptedLemmas
 pub mod BirthLemmas
 pub mod RemovalLemmas
+pub mod MoveLemmas
 pub mod TableLemmas
 pub mod PlanLemmas
+pub mod NavigationLemmas
 pub mod WalkLemmas
 pub mod RowLemmas

@@ -1,9 +1,10 @@
 -- Why a plan in hand is that of the definitions.
-use Rattle.std.proofs.Common.{◌≡◌, ◌∙◌, ◌≤◌, ◌+◌, ℕ, suc, Bool, true, false, List, [], ◌∷◌, ◌++◌, map, Option, Some, None, Result, Ok, Err, unwrap_or, refl, sym, ap, ap₂, subst, arith}
+use Rattle.std.proofs.Common.{◌≡◌, ◌∙◌, ◌≤◌, ◌<◌, ◌+◌, ℕ, zero, suc, length, get_or, Bool, true, false, List, [], ◌∷◌, ◌++◌, map, Option, Some, None, Result, Ok, Err, unwrap_or, refl, sym, ap, ap₂, subst, arith}
 use Rattle.std.specs.Prelude.{not, find, nat_lt, is_none, is_some, Vec, option_map, option_to_list, IfSome}
 use Rattle.std.specs.Borrow.{Bor}
 use Rattle.std.specs.Result.{IsErrAnd}
 use Rattle.std.specs.declared.alloc.Global.{Global}
+use Rattle.std.proofs.lemmas.List.{append_assoc}
 use Rattle.url.specs.Parts.{Parts}
 use Rattle.bidi_tree.specs.Node.{Node, levels}
 use Rattle.bidi_messages.specs.declared.result_data.ResultData.{ResultData}
@@ -20,6 +21,7 @@ use Rattle.bidi_browser.specs.declared.plan.Edit.TheVariants.{Keep}
 use Rattle.bidi_browser.specs.declared.id.Kind.TheVariants.{Context, Realm, Window}
 use Rattle.bidi_browser.specs.Urls.{about_blank, parsed}
 use Rattle.bidi_browser.specs.Acts.{Act, Made, Framed, Logged, Looked, next_number}
+use Rattle.bidi_browser.specs.Places.{begun_at}
 use Rattle.bidi_browser.specs.Accepted.{AreAccepted}
 use Rattle.bidi_browser.specs.Actions.{Action, GetTree, Log, is_asked}
 use Rattle.bidi_browser.specs.Found.{AreRoots}
@@ -34,7 +36,7 @@ use Rattle.bidi_browser.specs.ContextRows.{Row, row_of, row_at, created_in, real
 use Rattle.bidi_browser.specs.Plans.{Plans, AreWell, IsWellResult, IsWellTold, reply_in, leaves_tables}
 use Rattle.bidi_browser.specs.View.{seen, result_tree}
 use Rattle.bidi_browser.proofs.BirthLemmas.{row-made, row-framed}
-use Rattle.bidi_browser.proofs.RowLemmas.{oldest-window, created-stand, realms-stand}
+use Rattle.bidi_browser.proofs.RowLemmas.{oldest-window, created-stand, realms-stand, realms_gone-stand}
 
 -- ---- what only looks
 
@@ -108,19 +110,19 @@ none-is (Some n) false e = refl
 
 -- the row of a new top-level context
 pub made-row : (past : List Act) (w : Option ℕ) (row : Row) (number window realm next : ℕ) → AreAccepted past → number ≡ next_number past Context → realm ≡ next_number past Realm → next ≡ next_number past Window → window ≡ unwrap_or w next
-    → row ≡ record { number = number; parent = None; top = number; level = 1; window = window; realm = realm; url = about_blank } → row ≡ row_at (Made w ∷ past) (next_number past Context)
+    → row ≡ record { number = number; parent = None; top = number; level = 1; window = window; realm = realm; entries = begun_at about_blank } → row ≡ row_at (Made w ∷ past) (next_number past Context)
 made-row past w row number window realm next accepted n r v opened is =
-    is ∙ (ap₂ (λ k x. record { number = k; parent = None; top = k; level = 1; window = x; realm = realm; url = about_blank }) n (opened ∙ ap (unwrap_or w) v)
-    ∙ (ap (λ x. record { number = next_number past Context; parent = None; top = next_number past Context; level = 1; window = unwrap_or w (next_number past Window); realm = x; url = about_blank }) r
+    is ∙ (ap₂ (λ k x. record { number = k; parent = None; top = k; level = 1; window = x; realm = realm; entries = begun_at about_blank }) n (opened ∙ ap (unwrap_or w) v)
+    ∙ (ap (λ x. record { number = next_number past Context; parent = None; top = next_number past Context; level = 1; window = unwrap_or w (next_number past Window); realm = x; entries = begun_at about_blank }) r
     ∙ sym (row-made past w accepted)))
 
 -- the row of a new child
 pub framed-row : (past : List Act) (p : ℕ) (url : Parts) (parent row : Row) (number realm : ℕ) → number ≡ next_number past Context → realm ≡ next_number past Realm → parent ≡ row_at past p
-    → row ≡ record { number = number; parent = Some parent.number; top = parent.top; level = parent.level + 1; window = parent.window; realm = realm; url = url } → row ≡ row_at (Framed p url ∷ past) (next_number past Context)
+    → row ≡ record { number = number; parent = Some parent.number; top = parent.top; level = parent.level + 1; window = parent.window; realm = realm; entries = begun_at url } → row ≡ row_at (Framed p url ∷ past) (next_number past Context)
 framed-row past p url parent row number realm n r is made =
-    made ∙ (ap₂ (λ k x. record { number = k; parent = Some parent.number; top = parent.top; level = parent.level + 1; window = parent.window; realm = x; url = url }) n r
-    ∙ (ap (λ (q : Row). record { number = next_number past Context; parent = Some q.number; top = q.top; level = q.level + 1; window = q.window; realm = next_number past Realm; url = url }) is
-    ∙ (ap (λ k. record { number = next_number past Context; parent = Some p; top = top_of past p; level = k; window = window_of past p; realm = next_number past Realm; url = url }) (one-more (level_of past p))
+    made ∙ (ap₂ (λ k x. record { number = k; parent = Some parent.number; top = parent.top; level = parent.level + 1; window = parent.window; realm = x; entries = begun_at url }) n r
+    ∙ (ap (λ (q : Row). record { number = next_number past Context; parent = Some q.number; top = q.top; level = q.level + 1; window = q.window; realm = next_number past Realm; entries = begun_at url }) is
+    ∙ (ap (λ k. record { number = next_number past Context; parent = Some p; top = top_of past p; level = k; window = window_of past p; realm = next_number past Realm; entries = begun_at url }) (one-more (level_of past p))
     ∙ sym (row-framed past p url))))
   where
     one-more : (n : ℕ) → n + 1 ≡ suc n
@@ -142,6 +144,17 @@ window-stands past o window is found = is ∙ (window-rows o ∙ (ap (option_map
     window-at (Some c) = refl
 
 -- ---- several contexts
+
+-- one of several contexts in hand
+pub rows-at : (past : List Act) (gs : List (Bor declared_context.Context)) (cs : List ℕ) (i : ℕ) (g : Bor declared_context.Context) → map (λ x. row_of x.now) gs ≡ map (row_at past) cs → i < length gs → g ≡ get_or gs i g
+    → (i < length cs) × (row_of g.now ≡ row_at past (get_or cs i 0))
+rows-at past [] cs i g same less at = absurd (omega arith)
+rows-at past (x ∷ gs) [] i g same less at = absurd (cc)
+rows-at past (x ∷ gs) (c ∷ cs) zero g same less at = (omega arith, let head : row_of x.now ≡ row_at past c = cc in ap (λ y. row_of y.now) at ∙ head)
+rows-at past (x ∷ gs) (c ∷ cs) (suc i) g same less at =
+    let rest : map (λ y. row_of y.now) gs ≡ map (row_at past) cs = cc in
+    let below = rows-at past gs cs i g rest (omega arith) at in
+    let near = below.0 in (omega (arith, near), below.1)
 
 -- the numbers of contexts in hand
 pub numbers-of : (past : List Act) (gs : List (Bor declared_context.Context)) (cs : List ℕ) → map (λ g. row_of g.now) gs ≡ map (row_at past) cs → map (λ g. g.now.number) gs ≡ cs
@@ -168,15 +181,13 @@ pub asked-removal : (past : List Act) (c : ℕ) (before after : List in_hand.Occ
     → map Happens (seen before) ++ (reply_in reply ++ map Happens (seen after)) ≡ map Happens (removal past c) ++ Replies nothing ∷ []
 asked-removal past c before after reply told replied none = ap₂ (λ os xs. map Happens os ++ xs) told (ap₂ (λ xs os. xs ++ map Happens (seen os)) replied none)
 
--- the realms of a subtree, then the context
-pub removal-told : (past : List Act) (c : ℕ) (rows : List Row) (none realms all : List Occurrence) (last : Occurrence) → rows ≡ map (row_at past) (subtree_of past c) → none ≡ [] → realms ≡ none ++ map realm_destroyed_in rows
-    → all ≡ realms ++ last ∷ [] → last ≡ context_destroyed past c → all ≡ removal past c
-removal-told past c rows none realms all last below empty gone added is =
-    added ∙ ap₂ (λ xs x. xs ++ x ∷ []) (gone ∙ (ap₂ (λ xs rs. xs ++ map realm_destroyed_in rs) empty below ∙ each (subtree_of past c))) is
-  where
-    each : (cs : List ℕ) → map realm_destroyed_in (map (row_at past) cs) ≡ map (realm_destroyed past) cs
-    each [] = refl
-    each (d ∷ cs) = ap (λ os. realm_destroyed past d ∷ os) (each cs)
+-- behind what was told, the realms of a subtree, then the context
+pub removal-told : (past : List Act) (c : ℕ) (rows : List Row) (before realms all : List Occurrence) (last : Occurrence) → rows ≡ map (row_at past) (subtree_of past c) → realms ≡ before ++ map realm_destroyed_in rows
+    → all ≡ realms ++ last ∷ [] → last ≡ context_destroyed past c → all ≡ before ++ removal past c
+removal-told past c rows before realms all last below gone added is =
+    let ends = map (realm_destroyed past) (subtree_of past c) in
+    added ∙ (ap₂ (λ xs x. xs ++ x ∷ []) (gone ∙ ap (λ xs. before ++ xs) (ap (map realm_destroyed_in) below ∙ realms_gone-stand past (subtree_of past c))) is
+    ∙ append_assoc before ends (context_destroyed past c ∷ []))
 
 -- ---- the log
 

@@ -10,17 +10,17 @@ use Rattle.bidi_browser.specs.Acts.{Act, Framed, Removed, given, next_number}
 use Rattle.bidi_browser.specs.Contexts.{parent_of, level_of, is_under, is_born, is_gone, is_alive, up_to, contexts, children_of, subtree_within, subtree_of}
 use Rattle.bidi_browser.specs.Accepted.{AreAccepted}
 use Rattle.bidi_browser.specs.ContextRows.{Row, row_at, rows}
-use Rattle.bidi_browser.proofs.AcceptedLemmas.{act-sound, alive-above, alive-below, parent-born, under-parent, levels-accepted, level-child, parents-alive}
+use Rattle.bidi_browser.proofs.AcceptedLemmas.{act-sound, alive-above, alive-below, parent-born, under-parent, under-le, levels-accepted, level-child, parents-alive}
 
 -- ---- lists
 
 -- the numbers up to n are those from 1 to n
-any-up-to : (c n : ℕ) → list_any (λ x. x == c) (up_to n) ≡ (nat_lt 0 c && nat_lt c (suc n))
+pub any-up-to : (c n : ℕ) → list_any (λ x. x == c) (up_to n) ≡ (nat_lt 0 c && nat_lt c (suc n))
 any-up-to c zero = grind (arith, nat_tests)
 any-up-to c (suc n) = grind (arith, nat_tests, any-up-to c n, list_any-append (λ x. x == c) (up_to n) (suc n ∷ []))
 
 -- a filter has just those of a list that pass
-any-filter : (c : ℕ) (p : ℕ → Bool) (xs : List ℕ) → list_any (λ d. d == c) (filter p xs) ≡ (p c && list_any (λ d. d == c) xs)
+pub any-filter : (c : ℕ) (p : ℕ → Bool) (xs : List ℕ) → list_any (λ d. d == c) (filter p xs) ≡ (p c && list_any (λ d. d == c) xs)
 any-filter c p [] = grind (arith, nat_tests)
 any-filter c p (x ∷ xs) = grind (arith, nat_tests, any-filter c p xs)
 
@@ -64,14 +64,14 @@ flat-back f r g b (x ∷ xs) each e =
     or-split (r x && list_any f (g x)) (list_any f (flat_map g (filter r xs))) b
     (λ here. let both = and-both (r x) (list_any f (g x)) here in each x both.0 both.1) (flat-back f r g b xs each) (sym (any-flat f g (r x) x (filter r xs)) ∙ e)
 
--- what stands with another in each of these lists stands with it in all together
-flat-more : (f h r : ℕ → Bool) (g : ℕ → List ℕ) (xs : List ℕ) → ((d : ℕ) → r d ≡ true → list_any f (g d) ≡ true → list_any h (g d) ≡ true)
-    → list_any f (flat_map g (filter r xs)) ≡ true → list_any h (flat_map g (filter r xs)) ≡ true
-flat-more f h r g [] each e = absurd (cc)
-flat-more f h r g (x ∷ xs) each e =
-    any-flat h g (r x) x (filter r xs) ∙ or-both (r x && list_any f (g x)) (list_any f (flat_map g (filter r xs))) (r x && list_any h (g x)) (list_any h (flat_map g (filter r xs)))
-    (λ here. let both = and-both (r x) (list_any f (g x)) here in let more = each x both.0 both.1 in rw (both.0, more) refl) (flat-more f h r g xs each)
-    (sym (any-flat f g (r x) x (filter r xs)) ∙ e)
+-- what stands in each list of g where another stands in that of h, stands in all of g together where that stands in all of h
+flat-wide : (f k r : ℕ → Bool) (h g : ℕ → List ℕ) (xs : List ℕ) → ((d : ℕ) → r d ≡ true → list_any f (h d) ≡ true → list_any k (g d) ≡ true)
+    → list_any f (flat_map h (filter r xs)) ≡ true → list_any k (flat_map g (filter r xs)) ≡ true
+flat-wide f k r h g [] each e = absurd (cc)
+flat-wide f k r h g (x ∷ xs) each e =
+    any-flat k g (r x) x (filter r xs) ∙ or-both (r x && list_any f (h x)) (list_any f (flat_map h (filter r xs))) (r x && list_any k (g x)) (list_any k (flat_map g (filter r xs)))
+    (λ here. let both = and-both (r x) (list_any f (h x)) here in let more = each x both.0 both.1 in rw (both.0, more) refl) (flat-wide f k r h g xs each)
+    (sym (any-flat f h (r x) x (filter r xs)) ∙ e)
 
 -- what stands in one of these lists stands in all together
 flat-in : (f r : ℕ → Bool) (g : ℕ → List ℕ) (c : ℕ) (xs : List ℕ) → list_any (λ d. d == c) xs ≡ true → r c ≡ true → list_any f (g c) ≡ true
@@ -134,7 +134,7 @@ child-in (suc n) past acc a p c e alive deep stands =
     let equal : level_of past p ≡ level_of past a = ap (level_of past) (sym same) in
     flat-in (λ x. x == c) (λ d. option_eq nat_eq (parent_of past d) (Some a)) (subtree_within n past) c (contexts past)
     (any-contexts past c ∙ alive) (same-option (parent_of past c) a (e ∙ ap (λ m. Some m) (sym same))) (root-in n past c (omega arith)))
-    (flat-more (λ x. x == p) (λ x. x == c) (λ d. option_eq nat_eq (parent_of past d) (Some a)) (subtree_within n past) (contexts past)
+    (flat-wide (λ x. x == p) (λ x. x == c) (λ d. option_eq nat_eq (parent_of past d) (Some a)) (subtree_within n past) (subtree_within n past) (contexts past)
     (λ d child later.
     let level = level-child past d a acc (option-same (parent_of past d) a child) in
     child-in n past acc d p c e alive (omega arith) later))
@@ -202,6 +202,40 @@ any-subtree past a c acc root alive =
     agree (list_any (λ n. n == c) (subtree_within 16 past a)) (is_under past a c)
     (subtree-under 16 past acc a a c (under-self past a)) (under-in c 16 past acc a c (omega arith) (omega arith) alive)
 
+-- a subtree that goes deeper has no less
+subtree-deeper : (n : ℕ) (past : List Act) (d c : ℕ) → list_any (λ x. x == c) (subtree_within n past d) ≡ true → list_any (λ x. x == c) (subtree_within (suc n) past d) ≡ true
+subtree-deeper zero past d c stands = absurd (cc)
+subtree-deeper (suc n) past d c stands =
+    or-both (d == c) (list_any (λ x. x == c) (flat_map (subtree_within n past) (children_of past d))) (d == c) (list_any (λ x. x == c) (flat_map (subtree_within (suc n) past) (children_of past d)))
+    (λ here. here)
+    (flat-wide (λ x. x == c) (λ x. x == c) (λ e. option_eq nat_eq (parent_of past e) (Some d)) (subtree_within n past) (subtree_within (suc n) past) (contexts past)
+    (λ e child later. subtree-deeper n past e c later)) stands
+
+-- below a context stand just the live contexts that have it on their chain, and are not it
+pub any-below : (past : List Act) (a c : ℕ) → AreAccepted past → is_alive past a ≡ true → is_alive past c ≡ true
+    → list_any (λ n. n == c) (flat_map (subtree_of past) (children_of past a)) ≡ (is_under past a c && not (a == c))
+any-below past a c acc root alive =
+    agree (list_any (λ n. n == c) (flat_map (subtree_of past) (children_of past a))) (is_under past a c && not (a == c))
+    (flat-back (λ x. x == c) (λ d. option_eq nat_eq (parent_of past d) (Some a)) (subtree_of past) (is_under past a c && not (a == c)) (contexts past)
+    (λ d child later.
+    let parent = option-same (parent_of past d) a child in
+    let up = under-parent past acc a d a (under-self past a) parent in
+    let under = subtree-under 16 past acc a d c up later in
+    let less = (parent-born past acc d a parent).smaller in
+    let more = under-le past acc d c (subtree-under 16 past acc d d c (under-self past d) later) in
+    grind (arith, nat_tests, under, less, more)))
+    (λ e.
+    let both = and-both (is_under past a c) (not (a == c)) e in
+    let whole = any-subtree past a c acc root alive ∙ both.0 in
+    let other = both.1 in
+    flat-wide (λ x. x == c) (λ x. x == c) (λ d. option_eq nat_eq (parent_of past d) (Some a)) (subtree_within 15 past) (subtree_of past) (contexts past)
+    (λ d child later. subtree-deeper 15 past d c later)
+    (below-root (a == c) (list_any (λ x. x == c) (flat_map (subtree_within 15 past) (children_of past a))) other whole))
+  where
+    below-root : (s t : Bool) → not s ≡ true → (s || t) ≡ true → t ≡ true
+    below-root true t other e = absurd (cc)
+    below-root false t other e = e
+
 -- ---- the rows
 
 -- one more number in a filter on rows
@@ -212,7 +246,7 @@ filtered-step f k true true x rs ps keeps ih = ih ∙ sym (ap (λ b. cond b (f x
 filtered-step f k true false x rs ps keeps ih = ap (λ ws. f x ∷ ws) ih ∙ sym (ap (λ b. cond b (f x ∷ filter k (map f ps)) (filter k (map f ps))) keeps)
 
 -- a filter on the rows is one on the numbers
-rows-filtered : (past : List Act) (r p m : ℕ → Bool) (xs : List ℕ) → ((c : ℕ) → r c ≡ (p c && not (m c)))
+pub rows-filtered : (past : List Act) (r p m : ℕ → Bool) (xs : List ℕ) → ((c : ℕ) → r c ≡ (p c && not (m c)))
     → map (row_at past) (filter r xs) ≡ filter (λ w. not (m w.number)) (map (row_at past) (filter p xs))
 rows-filtered past r p m [] each = refl
 rows-filtered past r p m (x ∷ xs) each =
@@ -220,7 +254,7 @@ rows-filtered past r p m (x ∷ xs) each =
     ∙ filtered-step (row_at past) (λ w. not (m w.number)) (p x) (m x) x (filter r xs) (filter p xs) refl (rows-filtered past r p m xs each)
 
 -- what stays alive
-stays : (b u g m : Bool) → ((b && not g) ≡ true → m ≡ u) → (b && not (u || g)) ≡ ((b && not g) && not m)
+pub stays : (b u g m : Bool) → ((b && not g) ≡ true → m ≡ u) → (b && not (u || g)) ≡ ((b && not g) && not m)
 stays false u g m same = refl
 stays true u true m same = grind arith
 stays true u false m same = grind (arith, same refl)

@@ -73,7 +73,7 @@ removed-rows past a numbers all accepted table is =
 -- an act that leaves the tables as they are leaves what a browser stands for with it
 pub kept-stands : (b : Browser) (past : List Act) (action : Action) (act : Act) → leaves_tables act ≡ true → outcome past action ≡ Ok act → StandsFor b past → StandsFor b (act ∷ past)
 kept-stands b past action Looked leaves done s =
-    record { contexts = record { rows = s.contexts.rows; accepted = (action, done, s.contexts.accepted) }; next_context = s.next_context; next_realm = s.next_realm; next_window = s.next_window }
+    record { contexts = record { rows = s.contexts.rows; accepted = (action, done, s.contexts.accepted) }; next_context = s.next_context; next_realm = s.next_realm; next_navigation = s.next_navigation; next_window = s.next_window }
 kept-stands b past action (Logged c level line) leaves done s =
-    record { contexts = record { rows = s.contexts.rows; accepted = (action, done, s.contexts.accepted) }; next_context = s.next_context; next_realm = s.next_realm; next_window = s.next_window }
+    record { contexts = record { rows = s.contexts.rows; accepted = (action, done, s.contexts.accepted) }; next_context = s.next_context; next_realm = s.next_realm; next_navigation = s.next_navigation; next_window = s.next_window }
 kept-stands b past action act leaves done s = absurd (cc)

@@ -1,19 +1,31 @@
 -- What an action in hand asks.
-use Rattle.std.specs.Prelude.{option_map, string_bytes}
+use Rattle.std.specs.Prelude.{Option, Some, None, option_map, string_bytes}
 use Rattle.bidi_params.specs.declared.browsing_context.create.ContextType.{ContextType}
 use Rattle.bidi_params.specs.declared.browsing_context.create.ContextType.TheVariants as type
 use Rattle.bidi_params.specs.declared.browsing_context.create.ActivateParameters.{ActivateParameters}
 use Rattle.bidi_params.specs.declared.browsing_context.create.CloseParameters.{CloseParameters}
 use Rattle.bidi_params.specs.declared.browsing_context.create.CreateParameters.{CreateParameters}
 use Rattle.bidi_params.specs.declared.browsing_context.get_tree.GetTreeParameters.{GetTreeParameters}
+use Rattle.bidi_params.specs.declared.browsing_context.navigate.Wait as declared_wait
+use Rattle.bidi_params.specs.declared.browsing_context.navigate.Wait.TheVariants as wait
+use Rattle.bidi_params.specs.declared.browsing_context.navigate.NavigateParameters.{NavigateParameters}
+use Rattle.bidi_params.specs.declared.browsing_context.navigate.ReloadParameters.{ReloadParameters}
+use Rattle.bidi_params.specs.declared.browsing_context.navigate.TraverseHistoryParameters.{TraverseHistoryParameters}
 use Rattle.bidi_browser.specs.declared.action.Action as declared_action
 use Rattle.bidi_browser.specs.declared.action.Action.TheVariants as in_code
-use Rattle.bidi_browser.specs.Actions.{CreateType, Tab, OwnWindow, Action, Activate, Close, Create, GetTree, Frame, Unframe, Log}
+use Rattle.bidi_browser.specs.Actions.{CreateType, Tab, OwnWindow, Wait, Started, Interactive, Complete, Action, Activate, Close, Create, GetTree, Navigate, Reload, TraverseHistory, Frame, Unframe, Log}
 
 -- as what a context is created
 abbrev pub create_type_of : ContextType → CreateType
 create_type_of type.Tab = Tab
 create_type_of type.Window = OwnWindow
+
+-- what the reply to a navigation waits for; absent, it is none
+abbrev pub wait_of : Option declared_wait.Wait → Wait
+wait_of None = Started
+wait_of (Some wait.None) = Started
+wait_of (Some wait.Interactive) = Interactive
+wait_of (Some wait.Complete) = Complete
 
 -- what the params of a command ask
 abbrev pub activate_asked : ActivateParameters → Action
@@ -28,12 +40,24 @@ create_asked p = Create (create_type_of p.kind) (option_map string_bytes p.refer
 abbrev pub get_tree_asked : GetTreeParameters → Action
 get_tree_asked p = GetTree (option_map (λ n. n.value) p.max_depth) (option_map string_bytes p.root)
 
+abbrev pub navigate_asked : NavigateParameters → Action
+navigate_asked p = Navigate (string_bytes p.context) (string_bytes p.url) (wait_of p.wait)
+
+abbrev pub reload_asked : ReloadParameters → Action
+reload_asked p = Reload (string_bytes p.context) (wait_of p.wait)
+
+abbrev pub traverse_asked : TraverseHistoryParameters → Action
+traverse_asked p = TraverseHistory (string_bytes p.context) p.delta.value
+
 -- what an action in hand asks
 abbrev pub action_of : declared_action.Action → Action
 action_of (in_code.Activate p) = activate_asked p.now
 action_of (in_code.Close p) = close_asked p.now
 action_of (in_code.Create p) = create_asked p.now
 action_of (in_code.GetTree p) = get_tree_asked p.now
+action_of (in_code.Navigate p) = navigate_asked p.now
+action_of (in_code.Reload p) = reload_asked p.now
+action_of (in_code.TraverseHistory p) = traverse_asked p.now
 action_of (in_code.Frame context url) = Frame context.now url.now
 action_of (in_code.Unframe context) = Unframe context.now
 action_of (in_code.Log context level text) = Log context.now level text.now

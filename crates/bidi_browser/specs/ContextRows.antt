@@ -1,5 +1,5 @@
 -- The table of live contexts: of each its row, in order of birth; how rows lie below one another, and what is told of them.
-use Rattle.std.specs.Prelude.{ℕ, zero, suc, nat_eq, List, [], ◌∷◌, filter, flat_map, map, Option, Some, None}
+use Rattle.std.specs.Prelude.{ℕ, zero, suc, nat_eq, ◌==◌, if◌then◌else◌, List, [], ◌∷◌, filter, flat_map, map, Option, Some, None}
 use Rattle.std.specs.Option.{option_eq}
 use Rattle.url.specs.Parts.{Parts}
 use Rattle.bidi_tree.specs.Node.{Node, null, text, Members, no_members}
@@ -9,15 +9,16 @@ use Rattle.bidi_messages.specs.declared.event.EventName.TheVariants.{ContextCrea
 use Rattle.bidi_browser.specs.declared.id.Kind.TheVariants as kind
 use Rattle.bidi_browser.specs.declared.contexts.Context.{Context}
 use Rattle.bidi_browser.specs.Urls.{url_text, origin_text}
-use Rattle.bidi_browser.specs.Acts.{Act}
+use Rattle.bidi_browser.specs.Acts.{Act, Move}
 use Rattle.bidi_browser.specs.Contexts.{contexts, parent_of, top_of, level_of, window_of}
-use Rattle.bidi_browser.specs.Places.{url_of}
+use Rattle.bidi_browser.specs.Places.{Entries, present, moved, entries_of}
 use Rattle.bidi_browser.specs.Realms.{realm_of}
-use Rattle.bidi_browser.specs.Maps.{◌being◌and◌, mapped, word, id_tree}
+use Rattle.bidi_browser.specs.Maps.{◌being◌and◌, mapped, word, number, id_tree}
 use Rattle.bidi_browser.specs.Info.{parent_tree, children_tree, depth_below}
+use Rattle.bidi_browser.specs.HistoryInHand.{entries_in}
 use Rattle.bidi_browser.specs.Occurrences.{Occurrence, console_entry}
 
--- a live context: its number, its parent if it is a child, its top-level context, its level, its window, its realm and its URL
+-- a live context: its number, its parent if it is a child, its top-level context, its level, its window, its realm and its entries
 pub record Row : Type 0 where
   pub number : ℕ
   pub parent : Option ℕ
@@ -25,15 +26,19 @@ pub record Row : Type 0 where
   pub level : ℕ
   pub window : ℕ
   pub realm : ℕ
-  pub url : Parts
+  pub entries : Entries
+
+-- the URL of the present entry
+abbrev pub url_in : Row → Parts
+url_in row = present row.entries
 
 -- the row of a context in hand
 abbrev pub row_of : Context → Row
-row_of c = record { number = c.number; parent = c.parent; top = c.top; level = c.level; window = c.window; realm = c.realm; url = c.url }
+row_of c = record { number = c.number; parent = c.parent; top = c.top; level = c.level; window = c.window; realm = c.realm; entries = entries_in c.history }
 
 -- the row that a past makes of a context
 abbrev pub row_at : List Act → ℕ → Row
-row_at past c = record { number = c; parent = parent_of past c; top = top_of past c; level = level_of past c; window = window_of past c; realm = realm_of past c; url = url_of past c }
+row_at past c = record { number = c; parent = parent_of past c; top = top_of past c; level = level_of past c; window = window_of past c; realm = realm_of past c; entries = entries_of past c }
 
 -- the rows of the live contexts, by creation
 abbrev pub rows : List Act → List Row
@@ -59,7 +64,7 @@ members_in row children =
     "clientWindow" being id_tree kind.Window row.window and
     "context" being id_tree kind.Context row.number and
     "originalOpener" being null and
-    "url" being text (url_text row.url) and
+    "url" being text (url_text (url_in row)) and
     "userContext" being word "default" and no_members
 
 -- its Info, with its parent where it is to be shown
@@ -84,11 +89,11 @@ infos_below (suc n) rows depth parent =
 abbrev pub info_in : List Row → Option ℕ → Row → Node
 info_in rows depth row = root_info row (children_tree depth (infos_below 16 rows (depth_below depth) row.number))
 
--- what is told of its realm
-abbrev pub realm_info_in : Row → Node
-realm_info_in row = mapped (
-    "realm" being id_tree kind.Realm row.realm and
-    "origin" being text (origin_text row.url) and
+-- what is told of a realm of it, where it is at a URL
+abbrev pub realm_info_at : Row → ℕ → Parts → Node
+realm_info_at row realm url = mapped (
+    "realm" being id_tree kind.Realm realm and
+    "origin" being text (origin_text url) and
     "type" being word "window" and
     "context" being id_tree kind.Context row.number and no_members)
 
@@ -110,10 +115,33 @@ created_in row = occurrence_in row ContextCreated (root_info row null)
 abbrev pub destroyed_in : List Row → Row → Occurrence
 destroyed_in rows row = occurrence_in row ContextDestroyed (info_in rows None row)
 
+-- a realm of it came, where it is at a URL
+abbrev pub realm_began_in : Row → ℕ → Parts → Occurrence
+realm_began_in row realm url = occurrence_in row RealmCreated (realm_info_at row realm url)
+
 -- its realm came
 abbrev pub realm_created_in : Row → Occurrence
-realm_created_in row = occurrence_in row RealmCreated (realm_info_in row)
+realm_created_in row = realm_began_in row row.realm (url_in row)
 
 -- its realm goes
 abbrev pub realm_destroyed_in : Row → Occurrence
 realm_destroyed_in row = occurrence_in row RealmDestroyed (mapped ("realm" being id_tree kind.Realm row.realm and no_members))
+
+-- what is told of a navigation of it to a URL, at the moment
+abbrev pub navigation_info_in : Row → ℕ → ℕ → Parts → Node
+navigation_info_in row moment navigation url = mapped (
+    "context" being id_tree kind.Context row.number and
+    "navigation" being id_tree kind.Navigation navigation and
+    "timestamp" being number moment and
+    "url" being text (url_text url) and no_members)
+
+-- ---- how it changes
+
+-- it has a new realm, and moved in its session history
+abbrev pub moved_in : ℕ → Move → Row → Row
+moved_in realm move row = record row { realm = realm; entries = moved row.entries move }
+
+-- the first row of a context is changed, and no other
+abbrev pub changed : ℕ → (Row → Row) → List Row → List Row
+changed c f [] = []
+changed c f (r ∷ rows) = if r.number == c then f r ∷ rows else r ∷ changed c f rows

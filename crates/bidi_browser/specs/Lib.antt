@@ -15,9 +15,11 @@ pub mod Outcome
 pub mod Accepted
 pub mod Occurs
 pub mod View
+pub mod HistoryInHand
 pub mod ContextRows
 pub mod InfosInHand
 pub mod Found
 pub mod Asked
+pub mod Navigations
 pub mod Plans
 pub mod Stands

@@ -63,15 +63,23 @@ replying Started reply started unloaded ready loaded = started ∷ reply ∷ unl
 replying Interactive reply started unloaded ready loaded = started ∷ unloaded ++ ready ∷ reply ∷ loaded ∷ []
 replying Complete reply started unloaded ready loaded = started ∷ unloaded ++ ready ∷ loaded ∷ reply ∷ []
 
--- a navigation of a context
-abbrev pub navigation : List Act → ℕ → Wait → ℕ → Move → List Item
-navigation past moment wait c move =
-    let url = present (moved (entries_of past c) move) in
-    replying wait (Replies (navigated_result past url move))
+-- where a navigation of a context leads
+abbrev pub led_to : List Act → ℕ → Move → Parts
+led_to past c move = present (moved (entries_of past c) move)
+
+-- a navigation of a context, with this reply
+abbrev pub navigating : List Act → ℕ → Wait → ℕ → Move → Item → List Item
+navigating past moment wait c move reply =
+    let url = led_to past c move in
+    replying wait reply
     (Happens (navigation_event past moment c url NavigationStarted))
     (unloading past (Moved c move) c)
     (Happens (navigation_event past moment c url DomContentLoaded))
     (Happens (navigation_event past moment c url Load))
+
+-- a navigation of a context
+abbrev pub navigation : List Act → ℕ → Wait → ℕ → Move → List Item
+navigation past moment wait c move = navigating past moment wait c move (Replies (navigated_result past (led_to past c move) move))
 
 -- ---- scripts
 

@@ -1,27 +1,32 @@
 -- What a plan in hand is: what it tells, and what its change makes of the tables.
-use Rattle.std.specs.Prelude.{◌≡◌, ◌≤◌, ◌<◌, ◌^◌, ℕ, Bool, true, false, List, [], ◌∷◌, ◌++◌, map, Option, Some, None, Result, Ok, Err, is_some, IfSome, ⊤, vec_len, vec_capacity}
-use Rattle.std.specs.List.{AllByRecursion}
+use Rattle.std.specs.Prelude.{◌≡◌, ◌≤◌, ◌<◌, ◌^◌, ◌==◌, ℕ, Bool, true, false, List, [], ◌∷◌, ◌++◌, map, flat_map, get_or, Option, Some, None, Result, Ok, Err, is_some, IfSome, ⊤, vec_len, vec_capacity}
+use Rattle.std.specs.List.{AllByRecursion, position}
 use Rattle.bidi_tree.specs.Node.{levels}
 use Rattle.bidi_messages.specs.declared.result_data.ResultData.{ResultData}
 use Rattle.bidi_messages.specs.contracts.event.EventDataSubjectEventName.TheImpl as events
 use Rattle.bidi_messages.specs.contracts.result_data.ResultDataSubjectMethod.TheImpl as results
 use Rattle.bidi_browser.specs.declared.id.Kind.{Kind}
-use Rattle.bidi_browser.specs.declared.id.Kind.TheVariants.{Context, Window}
+use Rattle.bidi_browser.specs.declared.id.Kind.TheVariants.{Context, Realm, Window}
 use Rattle.bidi_browser.specs.declared.browser.Browser.{Browser}
 use Rattle.bidi_browser.specs.declared.context_table.Contexts.{Contexts}
+use Rattle.bidi_browser.specs.declared.contexts.Context as declared_context
 use Rattle.bidi_browser.specs.declared.occurrence.Occurrence.{Occurrence}
+use Rattle.bidi_browser.specs.declared.session_history.Move.{Move}
 use Rattle.bidi_browser.specs.declared.plan.Plan.{Plan}
+use Rattle.bidi_browser.specs.declared.plan.Navigation.{Navigation}
 use Rattle.bidi_browser.specs.declared.plan.Change.{Change}
 use Rattle.bidi_browser.specs.declared.plan.Edit.{Edit}
-use Rattle.bidi_browser.specs.declared.plan.Edit.TheVariants.{Keep, Add, Remove}
+use Rattle.bidi_browser.specs.declared.plan.Edit.TheVariants.{Keep, Add, Remove, Navigate}
 use Rattle.bidi_browser.specs.declared.refusal.Refusal.{Refusal}
 use Rattle.bidi_browser.specs.declared.refusal.Refusal.TheVariants.{Code, NoMemory}
-use Rattle.bidi_browser.specs.Acts.{Act, Removed, Logged, Looked, gives, next_number}
-use Rattle.bidi_browser.specs.Contexts.{subtree_of}
+use Rattle.bidi_browser.specs.Acts.{Act, Removed, Moved, Logged, Looked, gives, next_number}
+use Rattle.bidi_browser.specs.Contexts.{children_of, subtree_of}
 use Rattle.bidi_browser.specs.Actions.{Action, is_asked}
 use Rattle.bidi_browser.specs.Outcome.{outcome}
 use Rattle.bidi_browser.specs.Occurs.{Item, Happens, Replies, occurs}
+use Rattle.bidi_browser.specs.Places.{entries_of}
 use Rattle.bidi_browser.specs.ContextRows.{row_of, row_at}
+use Rattle.bidi_browser.specs.HistoryInHand.{move_of, Leads, HasRoomFor}
 use Rattle.bidi_browser.specs.View.{seen, result_tree}
 
 -- ---- ids and room
@@ -34,9 +39,14 @@ HasIds past = (kind : Kind) → next_number past kind < 2 ^ 48
 abbrev pub HasRoomForOne : Contexts → Type 0
 HasRoomForOne contexts = vec_len contexts.live < vec_capacity contexts.live
 
+-- there is room for what a move adds to the session history of the context of that number, where it is there
+abbrev pub HasRoomIn : Contexts → ℕ → Move → Type 0
+HasRoomIn contexts number move = (i : ℕ) (d : declared_context.Context) → position (λ c. c.number == number) contexts.live.items ≡ Some i → HasRoomFor (get_or contexts.live.items i d).history move
+
 -- and for what a change puts in
 abbrev pub EditHasRoom : Browser → Edit → Type 0
 EditHasRoom browser (Add context opens_window) = HasRoomForOne browser.contexts
+EditHasRoom browser (Navigate n) = HasRoomIn browser.contexts n.context n.to
 EditHasRoom browser edit = ⊤
 
 abbrev pub HasRoom : Browser → Change → Type 0
@@ -75,12 +85,19 @@ leaves_tables Looked = true
 leaves_tables (Logged c level text) = true
 leaves_tables act = false
 
+-- a navigation in hand is that of the past: its realm is the next, an entry stands where it leads or comes with it, and all below its context goes
+pub record IsNavigation (n : Navigation) (past : List Act) : Type 0 where
+  pub realm : n.realm ≡ next_number past Realm
+  pub leads : Leads (entries_of past n.context) (move_of n.to)
+  pub gone : n.gone.items ≡ flat_map (subtree_of past) (children_of past n.context)
+
 -- what an edit makes of the tables, an act makes of the past
 abbrev pub EditMakes : Edit → List Act → Act → Type 0
 EditMakes Keep past act = leaves_tables act ≡ true
 EditMakes (Add context opens_window) past act =
     (gives Context act ≡ true) × (row_of context ≡ row_at (act ∷ past) (next_number past Context)) × (opens_window ≡ gives Window act)
 EditMakes (Remove numbers) past act = (c : ℕ) × (act ≡ Removed c) × (numbers.items ≡ subtree_of past c)
+EditMakes (Navigate n) past act = (act ≡ Moved n.context (move_of n.to)) × IsNavigation n past
 
 abbrev pub Makes : Change → List Act → Act → Type 0
 Makes change past act = EditMakes change.edit past act

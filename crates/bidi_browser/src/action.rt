@@ -1,5 +1,8 @@
 //! What the browser is asked.
-use bidi_params::{ActivateParameters, CloseParameters, CreateParameters, GetTreeParameters};
+use bidi_params::{
+    ActivateParameters, CloseParameters, CreateParameters, GetTreeParameters, NavigateParameters,
+    ReloadParameters, TraverseHistoryParameters,
+};
 use bidi_values::Level;
 
 /// A command of the browser, by its parameters, or a step of a page.
@@ -9,6 +12,9 @@ pub enum Action<'a> {
     Close(&'a CloseParameters),
     Create(&'a CreateParameters),
     GetTree(&'a GetTreeParameters),
+    Navigate(&'a NavigateParameters),
+    Reload(&'a ReloadParameters),
+    TraverseHistory(&'a TraverseHistoryParameters),
     /// A child of the context of that id comes, at a URL.
     Frame(&'a str, &'a str),
     /// The child of that id goes.

@@ -1,5 +1,5 @@
 //! The browser.
-ghost use Rattle.std.specs.Prelude.{◌≡◌, ℕ, ◌<◌, ◌^◌, nat_lt, length, List, [], ◌∷◌, Ok, IfOk, IsTrue, OnOk, map, option_map};
+ghost use Rattle.std.specs.Prelude.{◌≡◌, ℕ, ◌<◌, ◌^◌, nat_lt, length, List, [], ◌∷◌, Ok, IfOk, IsOk, IsTrue, OnOk, map, option_map};
 ghost use Rattle.std.specs.List.{AllByRecursion};
 ghost use Rattle.bidi_browser.specs.Accepted.{AreAccepted};
 ghost use Rattle.bidi_browser.specs.Acts.{Act};
@@ -15,12 +15,13 @@ use crate::births::{plan_create, plan_frame};
 use crate::context_table::Contexts;
 use crate::logging::plan_log;
 use crate::looking::{plan_activate, plan_get_tree};
+use crate::navigation::{plan_navigate, plan_reload, plan_traverse_history};
 use crate::occurrence::Occurrence;
-use crate::plan::{Change, Edit, Plan};
+use crate::plan::{Change, Edit, Numbers, Plan};
 use crate::refusal::Refusal;
 use crate::removals::{plan_close, plan_unframe};
 use crate::telling::{push_created, push_realms};
-use bidi_messages::{EventData, EventName, Subject};
+use bidi_messages::{ErrorCode, EventData, EventName, Subject};
 use bidi_tree::JsUint;
 use std::alloc::{AllocError, Global};
 
@@ -30,7 +31,7 @@ const MOST_CONTEXTS: usize = 1024;
 /// The numbers that ids can show lie below it.
 const NO_ID: u64 = 1 << 48;
 
-/// A browser held in memory: its live contexts, each with its window, its realm and its URL.
+/// A browser held in memory: its live contexts, each with its window, its realm and its session history.
 ///
 /// What it is asked it first plans, and changes nothing; then a plan's change is given room, and put in place without
 /// a further growth. So whoever tells of a plan can do so between the two, and give up while all is as it was.
@@ -38,14 +39,16 @@ const NO_ID: u64 = 1 << 48;
 pub struct Browser {
     pub(crate) alloc: Global,
     pub(crate) contexts: Contexts,
-    /// The numbers that the next context, realm and window get.
+    /// The numbers that the next context, realm, navigation and window get.
     pub(crate) next_context: u64,
     pub(crate) next_realm: u64,
+    pub(crate) next_navigation: u64,
     pub(crate) next_window: u64,
 }
 
 impl Browser {
     ghost use Rattle.bidi_browser.specs.Stands.{StandsFor};
+    ghost use Rattle.bidi_browser.specs.Navigations.{AreNext};
     ghost use Rattle.bidi_browser.specs.Plans.{HasIds, HasRoom, Plans, IsWellPlanned, Makes};
 
     /// A browser as it starts: one context at `about:blank`, in a window of its own.
@@ -60,6 +63,7 @@ impl Browser {
             contexts: Contexts::new(alloc)?,
             next_context: 2,
             next_realm: 2,
+            next_navigation: 1,
             next_window: 2,
         })
     }
@@ -67,7 +71,7 @@ impl Browser {
     /// What an action comes to at a moment. Nothing is changed.
     ///
     /// Looks through the live contexts. An Info looks through them once for each context in it; a removal makes an event
-    /// for each context that goes.
+    /// for each context that goes, and so does a navigation, which copies nothing of a session history.
     ///
     /// # Errors
     /// - `Code`: the first check that fails, in the order of each command; of a step of a page, which then has no
@@ -85,6 +89,9 @@ impl Browser {
             Action::Close(params) => plan_close(self, &params.context),
             Action::Create(params) => plan_create(self, params),
             Action::GetTree(params) => plan_get_tree(self, params),
+            Action::Navigate(params) => plan_navigate(self, moment, params),
+            Action::Reload(params) => plan_reload(self, moment, params),
+            Action::TraverseHistory(params) => plan_traverse_history(self, moment, params),
             Action::Frame(context, url) => plan_frame(self, context, url),
             Action::Unframe(context) => plan_unframe(self, context),
             Action::Log(context, level, text) => plan_log(self, moment, context, level, text),
@@ -101,6 +108,7 @@ impl Browser {
     {
         match &change.edit {
             Edit::Add { .. } => self.contexts.reserve(),
+            Edit::Navigate(navigation) => self.contexts.reserve_in(navigation),
             _ => Ok(()),
         }
     }
@@ -126,6 +134,11 @@ impl Browser {
                 self.contexts.add(context);
             }
             Edit::Remove(numbers) => self.contexts.remove(&numbers),
+            Edit::Navigate(navigation) => {
+                self.next_realm = navigation.realm.wrapping_add(1);
+                self.next_navigation = self.next_navigation.wrapping_add(1);
+                self.contexts.navigate(navigation);
+            }
         }
     }
 
@@ -179,5 +192,20 @@ impl Browser {
             && self.next_context < NO_ID
             && self.next_realm < NO_ID
             && self.next_window < NO_ID
+    }
+
+    // The numbers that a navigation and its realm get, where ids are left for them.
+    pub(crate) fn numbers(&self) -> Result<Numbers, ErrorCode>
+        ensures next { (past : List Act) → StandsFor self.now past → IfOk result (λ numbers. AreNext numbers past) }
+        ensures some { (past : List Act) → StandsFor self.now past → HasIds past → IsOk result }
+    {
+        if self.next_navigation < NO_ID && self.next_realm < NO_ID {
+            Ok(Numbers {
+                navigation: self.next_navigation,
+                realm: self.next_realm,
+            })
+        } else {
+            Err(ErrorCode::UnknownError)
+        }
     }
 }

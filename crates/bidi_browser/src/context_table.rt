@@ -1,16 +1,18 @@
 //! The table of live contexts. What else the crate knows of how they are kept, it asks of this table.
-ghost use Rattle.std.specs.Prelude.{◌≡◌, ◌≤◌, ◌==◌, ◌*◌, ◌++◌, ℕ, List, ◌∷◌, [], true, nat_eq, None, IfOk, OnOk, map, find, filter, not, length, bytes_eq, is_none, option_map};
-ghost use Rattle.std.specs.List.{list_any};
+ghost use Rattle.std.specs.Prelude.{◌≡◌, ◌≤◌, ◌<◌, ◌^◌, ◌==◌, ◌*◌, ◌++◌, ℕ, List, ◌∷◌, [], true, nat_eq, None, Some, IfOk, OnOk, map, find, filter, not, length, bytes_eq, is_none, option_map};
+ghost use Rattle.std.specs.List.{list_any, position};
 ghost use Rattle.std.specs.Option.{option_eq};
 ghost use Rattle.bidi_browser.specs.Ids.{id_of};
-ghost use Rattle.bidi_browser.specs.Acts.{Act, Removed, gives, next_number};
-ghost use Rattle.bidi_browser.specs.Contexts.{contexts, context_of, is_alive, parent_of, tops, subtree_of, tree_order};
+ghost use Rattle.bidi_browser.specs.Acts.{Act, Removed, Moved, gives, next_number};
+ghost use Rattle.bidi_browser.specs.Contexts.{contexts, context_of, is_alive, parent_of, tops, children_of, subtree_of, tree_order};
 ghost use Rattle.bidi_browser.specs.Info.{info_of, depth_below, children_tree};
-ghost use Rattle.bidi_browser.specs.ContextRows.{row_of, row_at, children_in, below, infos_below, info_in};
+ghost use Rattle.bidi_browser.specs.ContextRows.{row_of, row_at, rows, children_in, below, infos_below, info_in, moved_in, changed};
 ghost use Rattle.bidi_browser.specs.InfosInHand.{AreWithin, AreWithinIfTold, IsWithin, children_node};
 
 use crate::contexts::Context;
 use crate::id::Kind;
+use crate::plan::Navigation;
+use crate::session_history::Move;
 use bidi_params::Info;
 use bidi_shape::Shape;
 use std::alloc::{AllocError, Global};
@@ -28,7 +30,9 @@ pub(crate) struct Contexts {
 impl Contexts {
     ghost use Rattle.bidi_browser.specs.Stands.{IsTableOf};
     ghost use Rattle.bidi_browser.specs.Accepted.{AreAccepted};
-    ghost use Rattle.bidi_browser.specs.Plans.{HasRoomForOne};
+    ghost use Rattle.bidi_browser.specs.Plans.{HasRoomForOne, HasRoomIn, IsNavigation};
+    ghost use Rattle.bidi_browser.specs.Places.{entries_of};
+    ghost use Rattle.bidi_browser.specs.HistoryInHand.{move_of, Leads};
 
     /// The one context that stands at the start.
     pub(crate) fn new(alloc: Global) -> Result<Contexts, AllocError>
@@ -81,6 +85,13 @@ impl Contexts {
         Ok(all)
     }
 
+    /// The children of a context, in order of birth. Looks through all.
+    pub(crate) fn children_of(&self, context: &Context) -> Result<Vec<&Context>, AllocError>
+        ensures { (past : List Act) (c : ℕ) → IsTableOf self.now past → row_of context.now ≡ row_at past c → IfOk result (λ all. map (λ c. row_of c.now) all.items ≡ map (row_at past) (children_of past c)) }
+    {
+        children_of(self.alloc, &self.live, context.number)
+    }
+
     /// All of them in tree order.
     pub(crate) fn in_tree_order(&self) -> Result<Vec<&Context>, AllocError>
         ensures { (past : List Act) → IsTableOf self.now past → IfOk result (λ all. map (λ c. row_of c.now) all.items ≡ map (row_at past) (tree_order past)) }
@@ -114,6 +125,17 @@ impl Contexts {
         self.live.reserve(1)
     }
 
+    /// Makes room for what a navigation adds to the session history of its context.
+    pub(crate) fn reserve_in(&mut self, navigation: &Navigation) -> Result<(), AllocError>
+        ensures kept { (past : List Act) → IsTableOf self.old past → IsTableOf self.new past }
+        ensures room { OnOk result (HasRoomIn self.new navigation.now.context navigation.now.to) }
+    {
+        match place_of(&self.live, navigation.context) {
+            Some(place) => self.live[place].history.reserve(&navigation.to),
+            None => Ok(()),
+        }
+    }
+
     /// Adds the context that an act made. Takes no memory.
     pub(crate) fn add(&mut self, context: Context)
         requires { HasRoomForOne self.now }
@@ -128,6 +150,33 @@ impl Contexts {
         ensures { (past : List Act) (c : ℕ) → IsTableOf self.old past → AreAccepted (Removed c ∷ past) → numbers.now ≡ subtree_of past c → IsTableOf self.new (Removed c ∷ past) }
     {
         take_out(&mut self.live, numbers);
+    }
+
+    /// A context navigates, and all below it goes. Takes no memory.
+    pub(crate) fn navigate(&mut self, navigation: Navigation)
+        requires { HasRoomIn self.now navigation.context navigation.to }
+        ensures { (past : List Act) → (let act = Moved navigation.context (move_of navigation.to) in
+            IsTableOf self.old past → AreAccepted (act ∷ past) → IsNavigation navigation past → IsTableOf self.new (act ∷ past)) }
+    {
+        let Navigation {
+            context,
+            realm,
+            to,
+            gone,
+        } = navigation;
+        self.lead(context, realm, to);
+        take_out(&mut self.live, &gone);
+    }
+
+    // The context of that number moves in its session history, and has a new realm.
+    fn lead(&mut self, number: u64, realm: u64, to: Move)
+        requires realm { realm < 2 ^ 48 }
+        requires room { HasRoomIn self.now number to }
+        ensures { (past : List Act) → IsTableOf self.old past → Leads (entries_of past number) (move_of to) → map row_of self.new.live.items ≡ changed number (moved_in realm (move_of to)) (rows past) }
+    {
+        if let Some(place) = place_of(&self.live, number) {
+            self.live[place].navigate(realm, to);
+        }
     }
 }
 
@@ -152,6 +201,13 @@ fn has_number(contexts: &[Context], number: u64) -> bool
     contexts.iter().any(|context| context.number == number)
 }
 
+// The place of the context of that number.
+fn place_of(contexts: &[Context], number: u64) -> Option<usize>
+    ensures { result ≡ position (λ c. c.number == number) contexts.now }
+{
+    contexts.iter().position(|context| context.number == number)
+}
+
 // The context of that id.
 fn named<'a>(contexts: &'a [Context], id: &str) -> Option<&'a Context>
     ensures { option_map (λ c. c.now) result ≡ find (λ c. bytes_eq id.now (id_of Kind.Context c.number)) contexts.now }
@@ -164,6 +220,23 @@ fn oldest(contexts: &[Context]) -> Option<&Context>
     ensures { option_map (λ c. c.now) result ≡ find (λ c. option_eq nat_eq c.parent None) contexts.now }
 {
     contexts.iter().find(|context| context.parent.is_none())
+}
+
+// The contexts of that parent.
+fn children_of(
+    alloc: Global,
+    contexts: &[Context],
+    parent: u64,
+) -> Result<Vec<&Context>, AllocError>
+    ensures { IfOk result (λ all. map (λ c. row_of c.now) all.items ≡ children_in (map row_of contexts.now) (Some parent)) }
+{
+    let mut all = Vec::new(alloc);
+    for child in contexts {
+        if child.parent == Some(parent) {
+            all.push(child)?;
+        }
+    }
+    Ok(all)
 }
 
 // Adds all that stands below a context in tree order, and with none all that stand, as far as so many levels.

@@ -6,10 +6,12 @@ ghost use Rattle.bidi_browser.specs.View.{occurrence_of};
 
 use crate::id::{Kind, id_text, is_id};
 use crate::occurrence::Occurrence;
+use crate::session_history::{Move, SessionHistory};
 use crate::urls::{about_blank, origin_text};
 use bidi_messages::{EventData, EventName, Subject};
-use bidi_params::{Info, RealmDestroyedParameters, RealmInfo};
+use bidi_params::{Info, NavigationInfo, RealmDestroyedParameters, RealmInfo};
 use bidi_shape::{Ext, Shape};
+use bidi_tree::JsUint;
 use bidi_values::LogEntry;
 use std::alloc::{AllocError, Global};
 use url::Url;
@@ -26,7 +28,7 @@ pub(crate) struct Context {
     pub level: u64,
     pub window: u64,
     pub realm: u64,
-    url: Url,
+    pub history: SessionHistory,
     ghost number_fits: { number < 2 ^ 48 },
     ghost parent_fits: { IfSome parent (λ p. p < 2 ^ 48) } by { Prim.hlevel props },
     ghost window_fits: { window < 2 ^ 48 },
@@ -35,10 +37,12 @@ pub(crate) struct Context {
 
 impl Context {
     ghost use Rattle.bidi_browser.specs.Urls.{about_blank};
-    ghost use Rattle.bidi_browser.specs.ContextRows.{row_of, inner_info, root_info, shown_info, realm_info_in, created_in, realm_created_in, realm_destroyed_in, occurrence_in};
+    ghost use Rattle.bidi_browser.specs.HistoryInHand.{entries_in, move_of, HasRoomFor, Leads};
+    ghost use Rattle.bidi_browser.specs.Places.{begun_at};
+    ghost use Rattle.bidi_browser.specs.ContextRows.{row_of, inner_info, root_info, shown_info, created_in, realm_info_at, realm_began_in, realm_created_in, realm_destroyed_in, navigation_info_in, occurrence_in, moved_in};
     ghost use Rattle.bidi_browser.specs.Info.{parent_tree};
     ghost use Rattle.bidi_browser.specs.InfosInHand.{children_node, parent_node, AreWithinIfTold, IsWithin};
-    ghost use Rattle.bidi_messages.specs.declared.event.EventName.TheVariants.{ContextDestroyed, EntryAdded};
+    ghost use Rattle.bidi_messages.specs.declared.event.EventName.TheVariants.{ContextDestroyed, NavigationStarted, DomContentLoaded, Load, EntryAdded};
 
     /// A top-level context at `about:blank`.
     pub(crate) fn top_level(
@@ -50,7 +54,7 @@ impl Context {
         requires number { number < 2 ^ 48 }
         requires window { window < 2 ^ 48 }
         requires realm { realm < 2 ^ 48 }
-        ensures { IfOk result (λ c. row_of c ≡ record { number = number; parent = None; top = number; level = 1; window = window; realm = realm; url = about_blank }) }
+        ensures { IfOk result (λ c. row_of c ≡ record { number = number; parent = None; top = number; level = 1; window = window; realm = realm; entries = begun_at about_blank }) }
     {
         let url = about_blank(alloc)?;
         Ok(Context {
@@ -60,25 +64,42 @@ impl Context {
             level: 1,
             window,
             realm,
-            url,
+            history: SessionHistory::begun_at(alloc, url)?,
         })
     }
 
     /// A child of it, at a URL.
-    pub(crate) fn child(&self, number: u64, realm: u64, url: Url) -> Context
+    pub(crate) fn child(
+        &self,
+        alloc: Global,
+        number: u64,
+        realm: u64,
+        url: Url,
+    ) -> Result<Context, AllocError>
         requires number { number < 2 ^ 48 }
         requires realm { realm < 2 ^ 48 }
-        ensures { self.now.level < 16 → row_of result ≡ record { number = number; parent = Some self.now.number; top = self.now.top; level = self.now.level + 1; window = self.now.window; realm = realm; url = url } }
+        ensures { self.now.level < 16
+            → IfOk result (λ c. row_of c ≡ record { number = number; parent = Some self.now.number; top = self.now.top; level = self.now.level + 1; window = self.now.window; realm = realm; entries = begun_at url }) }
     {
-        Context {
+        Ok(Context {
             number,
             parent: Some(self.number),
             top: self.top,
             level: self.level.wrapping_add(1),
             window: self.window,
             realm,
-            url,
-        }
+            history: SessionHistory::begun_at(alloc, url)?,
+        })
+    }
+
+    /// It moves in its session history, and has a new realm. Takes no memory.
+    pub(crate) fn navigate(&mut self, realm: u64, to: Move)
+        requires realm { realm < 2 ^ 48 }
+        requires room { HasRoomFor self.now.history to }
+        ensures { Leads (entries_in self.old.history) (move_of to) → row_of self.new ≡ moved_in realm (move_of to) (row_of self.old) }
+    {
+        self.realm = realm;
+        self.history.go(to);
     }
 
     /// Whether a text is its id.
@@ -139,21 +160,22 @@ impl Context {
             client_window: id_text(alloc, Kind::Window, 0, self.window)?,
             context: id_text(alloc, Kind::Context, 0, self.number)?,
             original_opener: None,
-            url: String::from_str(alloc, self.url.as_str())?,
+            url: String::from_str(alloc, self.history.present().as_str())?,
             user_context: String::from_str(alloc, "default")?,
             parent,
             ext: Ext::empty(alloc),
         })
     }
 
-    /// What is told of its realm.
-    fn realm_info(&self, alloc: Global) -> Result<RealmInfo, AllocError>
-        ensures tree { IfOk result (λ r. ⟦<RealmInfo as Shape>⟧.shape.tree_of r ≡ realm_info_in (row_of self.now)) }
+    // What is told of a realm of it, where it is at a URL.
+    fn realm_info(&self, alloc: Global, realm: u64, url: &Url) -> Result<RealmInfo, AllocError>
+        requires { realm < 2 ^ 48 }
+        ensures tree { IfOk result (λ r. ⟦<RealmInfo as Shape>⟧.shape.tree_of r ≡ realm_info_at (row_of self.now) realm url.now) }
         ensures well { IfOk result ⟦<RealmInfo as Shape>⟧.shape.well }
     {
         Ok(RealmInfo {
-            realm: id_text(alloc, Kind::Realm, 0, self.realm)?,
-            origin: origin_text(alloc, &self.url)?,
+            realm: id_text(alloc, Kind::Realm, 0, realm)?,
+            origin: origin_text(alloc, url)?,
             context: id_text(alloc, Kind::Context, 0, self.number)?,
             ext: Ext::empty(alloc),
         })
@@ -181,7 +203,21 @@ impl Context {
         ensures told { IfOk result (λ o. occurrence_of ⟦<EventData as Subject<EventName>>⟧.subject o ≡ realm_created_in (row_of self.now)) }
         ensures well { IfOk result (λ o. ⟦<EventData as Subject<EventName>>⟧.subject.well o.event) }
     {
-        let info = self.realm_info(alloc)?;
+        self.realm_began(alloc, self.realm, self.history.present())
+    }
+
+    /// That a realm came, where it is at a URL.
+    pub(crate) fn realm_began(
+        &self,
+        alloc: Global,
+        realm: u64,
+        url: &Url,
+    ) -> Result<Occurrence, AllocError>
+        requires { realm < 2 ^ 48 }
+        ensures told { IfOk result (λ o. occurrence_of ⟦<EventData as Subject<EventName>>⟧.subject o ≡ realm_began_in (row_of self.now) realm url.now) }
+        ensures well { IfOk result (λ o. ⟦<EventData as Subject<EventName>>⟧.subject.well o.event) }
+    {
+        let info = self.realm_info(alloc, realm, url)?;
         Ok(self.occurrence(EventData::RealmCreated(info)))
     }
 
@@ -196,6 +232,51 @@ impl Context {
             ext: Ext::empty(alloc),
         };
         Ok(self.occurrence(EventData::RealmDestroyed(params)))
+    }
+
+    /// What is told of a navigation of it to a URL.
+    pub(crate) fn navigation_info(
+        &self,
+        alloc: Global,
+        moment: JsUint,
+        navigation: u64,
+        url: &Url,
+    ) -> Result<NavigationInfo, AllocError>
+        requires { navigation < 2 ^ 48 }
+        ensures tree { IfOk result (λ i. ⟦<NavigationInfo as Shape>⟧.shape.tree_of i ≡ navigation_info_in (row_of self.now) moment.value navigation url.now) }
+        ensures well { IfOk result ⟦<NavigationInfo as Shape>⟧.shape.well }
+    {
+        Ok(NavigationInfo {
+            context: id_text(alloc, Kind::Context, 0, self.number)?,
+            navigation: Some(id_text(alloc, Kind::Navigation, 0, navigation)?),
+            timestamp: moment,
+            url: String::from_str(alloc, url.as_str())?,
+            ext: Ext::empty(alloc),
+        })
+    }
+
+    /// That a navigation of it started. Takes no memory.
+    pub(crate) fn navigation_started(&self, info: NavigationInfo) -> Occurrence
+        ensures told { occurrence_of ⟦<EventData as Subject<EventName>>⟧.subject result ≡ occurrence_in (row_of self.now) NavigationStarted (⟦<NavigationInfo as Shape>⟧.shape.tree_of info) }
+        ensures well { ⟦<NavigationInfo as Shape>⟧.shape.well info → ⟦<EventData as Subject<EventName>>⟧.subject.well result.event }
+    {
+        self.occurrence(EventData::NavigationStarted(info))
+    }
+
+    /// That its document is there. Takes no memory.
+    pub(crate) fn dom_content_loaded(&self, info: NavigationInfo) -> Occurrence
+        ensures told { occurrence_of ⟦<EventData as Subject<EventName>>⟧.subject result ≡ occurrence_in (row_of self.now) DomContentLoaded (⟦<NavigationInfo as Shape>⟧.shape.tree_of info) }
+        ensures well { ⟦<NavigationInfo as Shape>⟧.shape.well info → ⟦<EventData as Subject<EventName>>⟧.subject.well result.event }
+    {
+        self.occurrence(EventData::DomContentLoaded(info))
+    }
+
+    /// That it is loaded. Takes no memory.
+    pub(crate) fn loaded(&self, info: NavigationInfo) -> Occurrence
+        ensures told { occurrence_of ⟦<EventData as Subject<EventName>>⟧.subject result ≡ occurrence_in (row_of self.now) Load (⟦<NavigationInfo as Shape>⟧.shape.tree_of info) }
+        ensures well { ⟦<NavigationInfo as Shape>⟧.shape.well info → ⟦<EventData as Subject<EventName>>⟧.subject.well result.event }
+    {
+        self.occurrence(EventData::Load(info))
     }
 
     /// That an entry was logged in it. Takes no memory.

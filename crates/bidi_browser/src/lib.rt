@@ -15,10 +15,12 @@ mod contexts;
 mod id;
 mod logging;
 mod looking;
+mod navigation;
 mod occurrence;
 mod plan;
 mod refusal;
 mod removals;
+mod session_history;
 mod telling;
 mod urls;
 

@@ -1,8 +1,9 @@
 //! What an action comes to, before anything is changed.
-ghost use Rattle.std.specs.Prelude.{◌≡◌};
+ghost use Rattle.std.specs.Prelude.{◌<◌, ◌^◌};
 
 use crate::contexts::Context;
 use crate::occurrence::Occurrence;
+use crate::session_history::Move;
 use bidi_messages::ResultData;
 
 /// What an accepted action brings about: what is told of it, and what it changes. It is used up by telling the one and
@@ -35,4 +36,25 @@ pub(crate) enum Edit {
     },
     /// The contexts of these numbers go: one of them with all below it.
     Remove(Vec<u64>),
+    /// A context navigates.
+    Navigate(Navigation),
+}
+
+/// A context moves in its session history: it has a new realm, and all below it goes, by their numbers.
+#[derive(Drop)]
+pub(crate) struct Navigation {
+    pub context: u64,
+    pub realm: u64,
+    pub to: Move,
+    pub gone: Vec<u64>,
+    ghost realm_fits: { realm < 2 ^ 48 },
+}
+
+/// The numbers that a navigation and its realm get.
+#[derive(Clone, Copy)]
+pub(crate) struct Numbers {
+    pub navigation: u64,
+    pub realm: u64,
+    ghost navigation_fits: { navigation < 2 ^ 48 },
+    ghost realm_fits: { realm < 2 ^ 48 },
 }

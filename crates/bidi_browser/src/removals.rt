@@ -1,5 +1,5 @@
 //! Plans of what removes contexts.
-ghost use Rattle.std.specs.Prelude.{◌≡◌, ℕ, List, map, IfOk};
+ghost use Rattle.std.specs.Prelude.{◌≡◌, ◌++◌, ℕ, List, map, flat_map, IfOk};
 ghost use Rattle.bidi_browser.specs.Acts.{Act, Removed};
 ghost use Rattle.bidi_browser.specs.Actions.{Close, Unframe};
 ghost use Rattle.bidi_browser.specs.ContextRows.{row_of, row_at};
@@ -71,35 +71,58 @@ fn removal(browser: &Browser, context: &Context) -> Result<(Vec<Occurrence>, Cha
         → IfOk result (λ r. (seen r.0.items ≡ removal past c) × Makes r.1 past (Removed c)) }
     ensures well { IfOk result (λ r. AreWell r.0.items) }
 {
-    let gone = browser.contexts.subtree(context)?;
-    let before = removal_events(browser, context, &gone)?;
-    let numbers = numbers_of(browser.alloc, &gone)?;
+    let mut events = Vec::new(browser.alloc);
+    let mut numbers = Vec::new(browser.alloc);
+    push_removal(browser, context, &mut events, &mut numbers)?;
     let change = Change {
         edit: Edit::Remove(numbers),
     };
-    Ok((before, change))
+    Ok((events, change))
 }
 
-// The events of a removal: the end of each realm in tree order, then of the context.
-fn removal_events(
+/// Adds what tells that some contexts go, each with all below it, and the numbers of all that go.
+pub(crate) fn push_removals(
+    browser: &Browser,
+    contexts: &[&Context],
+    events: &mut Vec<Occurrence>,
+    numbers: &mut Vec<u64>,
+) -> Result<(), AllocError>
+    ensures told { (past : List Act) (cs : List ℕ) → StandsFor browser.now past → map (λ c. row_of c.now) contexts.now ≡ map (row_at past) cs
+        → IfOk result (λ _. (seen events.new.items ≡ seen events.old.items ++ flat_map (removal past) cs) × (numbers.new.items ≡ numbers.old.items ++ flat_map (subtree_of past) cs)) }
+    ensures well { IfOk result (λ _. AreWell events.old.items → AreWell events.new.items) }
+{
+    for context in contexts {
+        push_removal(browser, context, events, numbers)?;
+    }
+    Ok(())
+}
+
+// Adds what tells that a context goes with all below it: the end of each realm in tree order, then of the context; and
+// the numbers of all that go.
+fn push_removal(
     browser: &Browser,
     context: &Context,
-    gone: &[&Context],
-) -> Result<Vec<Occurrence>, AllocError>
-    ensures told { (past : List Act) (c : ℕ) → StandsFor browser.now past → row_of context.now ≡ row_at past c → map (λ g. row_of g.now) gone.now ≡ map (row_at past) (subtree_of past c)
-        → IfOk result (λ all. seen all.items ≡ removal past c) }
-    ensures well { IfOk result (λ all. AreWell all.items) }
+    events: &mut Vec<Occurrence>,
+    numbers: &mut Vec<u64>,
+) -> Result<(), AllocError>
+    ensures told { (past : List Act) (c : ℕ) → StandsFor browser.now past → row_of context.now ≡ row_at past c
+        → IfOk result (λ _. (seen events.new.items ≡ seen events.old.items ++ removal past c) × (numbers.new.items ≡ numbers.old.items ++ subtree_of past c)) }
+    ensures well { IfOk result (λ _. AreWell events.old.items → AreWell events.new.items) }
 {
+    let gone = browser.contexts.subtree(context)?;
+    push_numbers(&gone, numbers)?;
+    push_realms_gone(browser.alloc, &gone, events)?;
     let info = browser.contexts.info(context, None)?;
-    let mut all = Vec::new(browser.alloc);
-    push_realms_gone(browser.alloc, gone, &mut all)?;
-    all.push(context.destroyed(info))?;
-    Ok(all)
+    events.push(context.destroyed(info))?;
+    Ok(())
 }
 
-// The numbers of some contexts.
-fn numbers_of(alloc: Global, contexts: &[&Context]) -> Result<Vec<u64>, AllocError>
-    ensures { IfOk result (λ all. all.items ≡ map (λ c. c.now.number) contexts.now) }
+// Adds the numbers of some contexts.
+fn push_numbers(contexts: &[&Context], numbers: &mut Vec<u64>) -> Result<(), AllocError>
+    ensures { IfOk result (λ _. numbers.new.items ≡ numbers.old.items ++ map (λ c. c.now.number) contexts.now) }
 {
-    contexts.iter().map(|context| context.number).collect(alloc)
+    for context in contexts {
+        numbers.push(context.number)?;
+    }
+    Ok(())
 }

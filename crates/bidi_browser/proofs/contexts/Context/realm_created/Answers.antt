@@ -1,12 +1,10 @@
-use Rattle.std.proofs.Common.{◌∙◌, ap}
-use Rattle.bidi_browser.specs.ContextRows.{row_of, occurrence_in}
-use Rattle.bidi_browser.proofs.TellingLemmas.{told-of, well-of}
+use Rattle.std.proofs.Common.{◌≡◌, IfOk, subst}
+use Rattle.bidi_messages.specs.contracts.event.EventDataSubjectEventName.TheImpl.{ghosts}
+use Rattle.bidi_browser.specs.ContextRows.{row_of, realm_began_in}
+use Rattle.bidi_browser.specs.View.{occurrence_of}
 use Rattle.bidi_browser.proofs.contexts.Context.realm_created.Goals as goal
 
 pub returns-clause-told : goal.returns-clause-told
 returns-clause-told c =
-    told-of c.occurrence.result _ _ _ c.occurrence.ensures.event c.occurrence.ensures.context c.occurrence.ensures.top
-    ∙ ap (occurrence_in (row_of c.args.self.now) _) c.in_ok-info.ensures.tree
-
-pub returns-clause-well : goal.returns-clause-well
-returns-clause-well c = well-of c.occurrence.result _ c.occurrence.ensures.event c.in_ok-info.ensures.well
+    let row = row_of c.args.self.now in
+    subst (λ url. IfOk c.realm_began.result (λ o. occurrence_of ghosts.subject o ≡ realm_began_in row row.realm url)) c.present.ensures c.realm_began.ensures.told

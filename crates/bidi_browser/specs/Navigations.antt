@@ -1,0 +1,39 @@
+-- What is told of a navigation in hand.
+use Rattle.std.specs.Prelude.{◌≡◌, ℕ, ◌-◌, ◌∷◌, [], ◌++◌, List, map, flat_map}
+use Rattle.bidi_messages.specs.declared.event.EventName.TheVariants.{NavigationStarted, DomContentLoaded, Load}
+use Rattle.bidi_browser.specs.declared.id.Kind.TheVariants.{Realm, Navigation}
+use Rattle.bidi_browser.specs.declared.navigation.Told.{Told}
+use Rattle.bidi_browser.specs.declared.plan.Numbers.{Numbers}
+use Rattle.bidi_browser.specs.Acts.{Act, Moved, Move, next_number}
+use Rattle.bidi_browser.specs.Actions.{Wait, Started, Interactive, Complete}
+use Rattle.bidi_browser.specs.Contexts.{children_of}
+use Rattle.bidi_browser.specs.Occurrences.{Occurrence, realm_created, realm_destroyed, removal, navigation_event}
+use Rattle.bidi_browser.specs.Occurs.{Item, Happens, led_to, navigating}
+use Rattle.bidi_browser.specs.View.{seen}
+
+-- the events of a navigation, one after another
+abbrev pub navigation_events : List Act → ℕ → ℕ → Move → List Occurrence
+navigation_events past moment c move =
+    let url = led_to past c move in
+    navigation_event past moment c url NavigationStarted
+    ∷ flat_map (removal past) (children_of past c)
+    ++ realm_destroyed past c
+    ∷ realm_created (Moved c move ∷ past) c
+    ∷ navigation_event past moment c url DomContentLoaded
+    ∷ navigation_event past moment c url Load
+    ∷ []
+
+-- how many of them stand before the reply
+abbrev pub before_reply : Wait → ℕ → ℕ
+before_reply Started n = 1
+before_reply Interactive n = n - 1
+before_reply Complete n = n
+
+-- the numbers in hand are those of the navigation and the realm that come next
+pub record AreNext (numbers : Numbers) (past : List Act) : Type 0 where
+  pub navigation : numbers.navigation ≡ next_number past Navigation
+  pub realm : numbers.realm ≡ next_number past Realm
+
+-- with any reply between them, the events in hand are those of the navigation
+abbrev pub IsTold : Told → List Act → ℕ → Wait → ℕ → Move → Type 0
+IsTold told past moment wait c move = (reply : Item) → map Happens (seen told.before.items) ++ reply ∷ map Happens (seen told.after.items) ≡ navigating past moment wait c move reply

@@ -1,0 +1,232 @@
+//! Plans of what navigates.
+ghost use Rattle.std.specs.Prelude.{◌≡◌, ◌≤◌, ◌<◌, ◌^◌, ◌++◌, ℕ, List, flat_map, Some, IfOk, vec_len};
+ghost use Rattle.bidi_tree.specs.Node.{no_members, text};
+ghost use Rattle.bidi_browser.specs.Acts.{Act, Move as Led};
+ghost use Rattle.bidi_browser.specs.Asked.{navigate_asked, reload_asked, traverse_asked, wait_of};
+ghost use Rattle.bidi_browser.specs.ContextRows.{row_of, row_at};
+ghost use Rattle.bidi_browser.specs.Contexts.{children_of, subtree_of};
+ghost use Rattle.bidi_browser.specs.Maps.{◌being◌and◌, mapped, id_tree};
+ghost use Rattle.bidi_browser.specs.Navigations.{AreNext, navigation_events, before_reply, IsTold};
+ghost use Rattle.bidi_browser.specs.Occurs.{led_to};
+ghost use Rattle.bidi_browser.specs.Plans.{AreWell, HasIds, Plans, IsWellPlanned};
+ghost use Rattle.bidi_browser.specs.Stands.{StandsFor};
+ghost use Rattle.bidi_browser.specs.Urls.{url_text};
+ghost use Rattle.bidi_browser.specs.View.{seen};
+
+use crate::browser::Browser;
+use crate::contexts::Context;
+use crate::id::{Kind, id_text};
+use crate::looking::{context_named, nothing, top_named};
+use crate::occurrence::Occurrence;
+use crate::plan::{Change, Edit, Navigation, Numbers, Plan};
+use crate::refusal::Refusal;
+use crate::removals::push_removals;
+use crate::session_history::Move;
+use crate::urls::parsed;
+use bidi_messages::{ErrorCode, ResultData};
+use bidi_params::{
+    NavigateParameters, NavigateResult, ReloadParameters, TraverseHistoryParameters, Wait,
+};
+use bidi_shape::{Ext, Shape};
+use bidi_tree::JsUint;
+use std::alloc::{AllocError, Global};
+use url::Url;
+
+/// What is told of a navigation, parted where its reply stands.
+struct Told {
+    before: Vec<Occurrence>,
+    after: Vec<Occurrence>,
+}
+
+/// Navigates a context to a URL.
+///
+/// # Errors
+/// The first that holds:
+/// - `no such frame`: the context is not live.
+/// - `invalid argument`: the text is no absolute URL.
+/// - No memory, where a growth was refused.
+pub(crate) fn plan_navigate(
+    browser: &Browser,
+    moment: JsUint,
+    params: &NavigateParameters,
+) -> Result<Plan, Refusal>
+    ensures plans { (past : List Act) → StandsFor browser.now past → HasIds past → Plans result past moment.value (navigate_asked params.now) }
+    ensures well { IsWellPlanned result }
+{
+    let context = context_named(&browser.contexts, &params.context)?;
+    let url = parsed(browser.alloc, &params.url)?;
+    let numbers = browser.numbers()?;
+    let result = navigated(browser.alloc, numbers.navigation, &url)?;
+    let (told, gone) = tell(browser, numbers, moment, context, &url, params.wait)?;
+    let navigation = Navigation {
+        context: context.number,
+        realm: numbers.realm,
+        to: Move::To(url),
+        gone,
+    };
+    Ok(planned(
+        told,
+        navigation,
+        ResultData::BrowsingContextNavigate(result),
+    ))
+}
+
+/// Navigates a context to its present entry again.
+///
+/// # Errors
+/// The first that holds:
+/// - `no such frame`: the context is not live.
+/// - No memory, where a growth was refused.
+pub(crate) fn plan_reload(
+    browser: &Browser,
+    moment: JsUint,
+    params: &ReloadParameters,
+) -> Result<Plan, Refusal>
+    ensures plans { (past : List Act) → StandsFor browser.now past → HasIds past → Plans result past moment.value (reload_asked params.now) }
+    ensures well { IsWellPlanned result }
+{
+    let context = context_named(&browser.contexts, &params.context)?;
+    let url = context.history.present();
+    let numbers = browser.numbers()?;
+    let result = navigated(browser.alloc, numbers.navigation, url)?;
+    let (told, gone) = tell(browser, numbers, moment, context, url, params.wait)?;
+    let navigation = Navigation {
+        context: context.number,
+        realm: numbers.realm,
+        to: Move::Again,
+        gone,
+    };
+    Ok(planned(
+        told,
+        navigation,
+        ResultData::BrowsingContextReload(result),
+    ))
+}
+
+/// Navigates a top-level context to another entry of its session history.
+///
+/// # Errors
+/// The first that holds:
+/// - `no such frame`: the context is not live.
+/// - `invalid argument`: it is a child of another.
+/// - `no such history entry`: none stands there.
+/// - No memory, where a growth was refused.
+pub(crate) fn plan_traverse_history(
+    browser: &Browser,
+    moment: JsUint,
+    params: &TraverseHistoryParameters,
+) -> Result<Plan, Refusal>
+    ensures plans { (past : List Act) → StandsFor browser.now past → HasIds past → Plans result past moment.value (traverse_asked params.now) }
+    ensures well { IsWellPlanned result }
+{
+    let context = top_named(&browser.contexts, &params.context)?;
+    let Some((place, url)) = context.history.across(params.delta) else {
+        return Err(Refusal::Code(ErrorCode::NoSuchHistoryEntry));
+    };
+    let numbers = browser.numbers()?;
+    let (told, gone) = tell(browser, numbers, moment, context, url, Some(Wait::Complete))?;
+    let result = nothing(browser.alloc);
+    let navigation = Navigation {
+        context: context.number,
+        realm: numbers.realm,
+        to: Move::Across(place),
+        gone,
+    };
+    Ok(planned(
+        told,
+        navigation,
+        ResultData::BrowsingContextTraverseHistory(result),
+    ))
+}
+
+// The plan of a navigation. Takes no memory.
+fn planned(told: Told, navigation: Navigation, outcome: ResultData) -> Plan
+    ensures before { result.before ≡ told.before }
+    ensures outcome { result.result ≡ Some outcome }
+    ensures after { result.after ≡ told.after }
+    ensures change { result.change.edit ≡ Edit.Navigate navigation }
+{
+    let Told { before, after } = told;
+    Plan {
+        before,
+        result: Some(outcome),
+        after,
+        change: Change {
+            edit: Edit::Navigate(navigation),
+        },
+    }
+}
+
+// What is told of a navigation of a context to a URL, and the numbers of the contexts that go with it.
+fn tell(
+    browser: &Browser,
+    numbers: Numbers,
+    moment: JsUint,
+    context: &Context,
+    url: &Url,
+    wait: Option<Wait>,
+) -> Result<(Told, Vec<u64>), AllocError>
+    ensures told { (past : List Act) (c : ℕ) (move : Led) → StandsFor browser.now past → AreNext numbers past → row_of context.now ≡ row_at past c → led_to past c move ≡ url.now
+        → IfOk result (λ r. IsTold r.0 past moment.value (wait_of wait) c move × (r.1.items ≡ flat_map (subtree_of past) (children_of past c))) }
+    ensures well { IfOk result (λ r. AreWell r.0.before.items × AreWell r.0.after.items) }
+{
+    let mut gone = Vec::new(browser.alloc);
+    let mut before = events(browser, numbers, moment, context, url, &mut gone)?;
+    let place = place_of_reply(wait, before.len());
+    let after = before.split_off(place)?;
+    Ok((Told { before, after }, gone))
+}
+
+// How many of the events of a navigation stand before its reply.
+fn place_of_reply(wait: Option<Wait>, events: usize) -> usize
+    requires { 1 ≤ events }
+    ensures place { result ≡ before_reply (wait_of wait) events }
+    ensures stands { result ≤ events }
+{
+    match wait {
+        None | Some(Wait::None) => 1,
+        Some(Wait::Interactive) => events - 1,
+        Some(Wait::Complete) => events,
+    }
+}
+
+// The events of a navigation; the numbers of the contexts that go are added.
+fn events(
+    browser: &Browser,
+    numbers: Numbers,
+    moment: JsUint,
+    context: &Context,
+    url: &Url,
+    gone: &mut Vec<u64>,
+) -> Result<Vec<Occurrence>, AllocError>
+    ensures told { (past : List Act) (c : ℕ) (move : Led) → StandsFor browser.now past → AreNext numbers past → row_of context.now ≡ row_at past c → led_to past c move ≡ url.now
+        → IfOk result (λ all. (seen all.items ≡ navigation_events past moment.value c move) × (gone.new.items ≡ gone.old.items ++ flat_map (subtree_of past) (children_of past c))) }
+    ensures some { IfOk result (λ all. 1 ≤ vec_len all) }
+    ensures well { IfOk result (λ all. AreWell all.items) }
+{
+    let mut all = Vec::new(browser.alloc);
+    let info = context.navigation_info(browser.alloc, moment, numbers.navigation, url)?;
+    all.push(context.navigation_started(info))?;
+    let children = browser.contexts.children_of(context)?;
+    push_removals(browser, &children, &mut all, gone)?;
+    all.push(context.realm_destroyed(browser.alloc)?)?;
+    all.push(context.realm_began(browser.alloc, numbers.realm, url)?)?;
+    let info = context.navigation_info(browser.alloc, moment, numbers.navigation, url)?;
+    all.push(context.dom_content_loaded(info))?;
+    let info = context.navigation_info(browser.alloc, moment, numbers.navigation, url)?;
+    all.push(context.loaded(info))?;
+    Ok(all)
+}
+
+// The result of navigate and reload.
+fn navigated(alloc: Global, navigation: u64, url: &Url) -> Result<NavigateResult, AllocError>
+    requires { navigation < 2 ^ 48 }
+    ensures tree { IfOk result (λ r. ⟦<NavigateResult as Shape>⟧.shape.tree_of r ≡ mapped ("navigation" being id_tree Kind.Navigation navigation and "url" being text (url_text url.now) and no_members)) }
+    ensures well { IfOk result ⟦<NavigateResult as Shape>⟧.shape.well }
+{
+    Ok(NavigateResult {
+        navigation: Some(id_text(alloc, Kind::Navigation, 0, navigation)?),
+        url: String::from_str(alloc, url.as_str())?,
+        ext: Ext::empty(alloc),
+    })
+}

@@ -1,0 +1,105 @@
+//! The session history of a context.
+ghost use Rattle.std.specs.Prelude.{◌≡◌, ◌≤◌, ◌<◌, MatchOption, None, Some, IfOk, OnOk};
+ghost use Rattle.std.specs.VecDeque.{deque_len};
+
+use bidi_tree::JsInt;
+use std::alloc::{AllocError, Global};
+use std::collections::VecDeque;
+use url::Url;
+
+/// How many entries a context keeps.
+const MOST_ENTRIES: usize = 50;
+
+/// Where a navigation leads.
+#[derive(Drop)]
+pub(crate) enum Move {
+    /// To a URL, by a new entry.
+    To(Url),
+    /// To the present entry again.
+    Again,
+    /// To the entry at a place.
+    Across(usize),
+}
+
+/// The entries of a context, the oldest first, and the place of the present one, counted from 0.
+///
+/// After WebDriver BiDi, "The browsingContext.traverseHistory Command"; that fifty are kept is this project's own.
+#[derive(Drop)]
+pub(crate) struct SessionHistory {
+    entries: VecDeque<Url>,
+    place: usize,
+    ghost few: { deque_len entries ≤ 50 },
+    ghost stands: { place < deque_len entries },
+}
+
+impl SessionHistory {
+    ghost use Rattle.bidi_browser.specs.Acts as leads;
+    ghost use Rattle.bidi_browser.specs.HistoryInHand.{entries_in, move_of, HasRoomFor, Leads};
+    ghost use Rattle.bidi_browser.specs.Places.{begun_at, present, moved, place_across};
+
+    /// The history of a context that is born at a URL.
+    pub(crate) fn begun_at(alloc: Global, url: Url) -> Result<SessionHistory, AllocError>
+        ensures { IfOk result (λ h. entries_in h ≡ begun_at url) }
+    {
+        let mut entries = VecDeque::with_capacity(alloc, 1)?;
+        entries.push_back_reserved(url);
+        Ok(SessionHistory { entries, place: 0 })
+    }
+
+    /// The URL of the present entry.
+    pub(crate) fn present(&self) -> &Url
+        ensures { result.now ≡ present (entries_in self.now) }
+    {
+        &self.entries[self.place]
+    }
+
+    /// The entry so many places away, if there is one: its place, and its URL.
+    pub(crate) fn across(&self, delta: JsInt) -> Option<(usize, &Url)>
+        ensures { MatchOption result (place_across (entries_in self.now) delta.value ≡ None)
+            (λ entry. (place_across (entries_in self.now) delta.value ≡ Some entry.0) × (entry.1.now ≡ present (moved (entries_in self.now) (leads.Across entry.0)))) }
+    {
+        let place = self.place.checked_add_signed(delta.value as isize)?;
+        let url = self.entries.get(place)?;
+        Some((place, url))
+    }
+
+    /// Makes room for what a move adds.
+    pub(crate) fn reserve(&mut self, to: &Move) -> Result<(), AllocError>
+        ensures kept { entries_in self.new ≡ entries_in self.old }
+        ensures room { OnOk result (HasRoomFor self.new to.now) }
+    {
+        match to {
+            Move::To(_) => self.entries.reserve(1),
+            _ => Ok(()),
+        }
+    }
+
+    /// Moves. A new entry drops those after the present one, and of more than fifty the oldest. Takes no memory.
+    pub(crate) fn go(&mut self, to: Move)
+        requires { HasRoomFor self.now to }
+        ensures { Leads (entries_in self.old) (move_of to) → entries_in self.new ≡ moved (entries_in self.old) (move_of to) }
+    {
+        match to {
+            Move::To(url) => self.enter(url),
+            Move::Again => {}
+            Move::Across(place) => {
+                if place < self.entries.len() {
+                    self.place = place;
+                }
+            }
+        }
+    }
+
+    // Adds an entry behind the present one.
+    fn enter(&mut self, url: Url)
+        requires { HasRoomFor self.now (Move.To url) }
+        ensures { entries_in self.new ≡ moved (entries_in self.old) (leads.To url) }
+    {
+        self.entries.truncate(self.place + 1);
+        if self.entries.len() >= MOST_ENTRIES {
+            self.entries.pop_front();
+        }
+        self.place = self.entries.len();
+        self.entries.push_back_reserved(url);
+    }
+}
