@@ -1,33 +1,41 @@
 -- What the tree of a `browsingContext` command in hand asks.
-use Rattle.std.proofs.Common.{◌≡◌, pos, [], ◌∷◌, Option, Some, None, option_map, option_and_then, codes, String, string_bytes, Global, refl}
+use Rattle.std.proofs.Common.{◌≡◌, pos, [], ◌∷◌, Option, Some, None, unwrap_or, option_map, option_and_then, codes, String, string_bytes, Global, refl}
 use Rattle.std.specs.Prelude.{if◌then◌else◌}
 use Rattle.bidi_tree.specs.Node as tree
 use Rattle.bidi_tree.specs.Node.{Node}
 use Rattle.bidi_tree.specs.Kind.{text_in, whole_in}
 use Rattle.bidi_tree.specs.declared.number.JsUint.{JsUint}
 use Rattle.bidi_tree.proofs.MemberLemmas.{get_member-put}
-use Rattle.bidi_shape.specs.Name.{close_parameters, create_parameters, get_tree_parameters}
+use Rattle.bidi_shape.specs.Name.{close_parameters, create_parameters, get_tree_parameters, navigate_parameters, reload_parameters, traverse_history_parameters}
 use Rattle.bidi_shape.specs.Term.{names_of}
 use Rattle.bidi_shape.specs.Profile.{term_of}
 use Rattle.bidi_shape.specs.MapLaws.{PartsAt-joined, unnamed}
 use Rattle.bidi_shape.specs.Table.{rows_in}
 use Rattle.bidi_shape.specs.ValueLaws.{others_of}
-use Rattle.bidi_params.specs.Words.{context_type_text}
+use Rattle.bidi_params.specs.Words.{context_type_text, wait_text}
 use Rattle.bidi_params.specs.contracts.session.capabilities.NewParametersShape.TheImpl as params
 use Rattle.bidi_params.specs.contracts.browsing_context.create.ActivateParametersShape.TheImpl as activate
 use Rattle.bidi_params.specs.contracts.browsing_context.create.CloseParametersShape.TheImpl as close
 use Rattle.bidi_params.specs.contracts.browsing_context.create.CreateParametersShape.TheImpl as create
 use Rattle.bidi_params.specs.contracts.browsing_context.get_tree.GetTreeParametersShape.TheImpl as get_tree
+use Rattle.bidi_params.specs.contracts.browsing_context.navigate.NavigateParametersShape.TheImpl as navigate
+use Rattle.bidi_params.specs.contracts.browsing_context.navigate.ReloadParametersShape.TheImpl as reload
+use Rattle.bidi_params.specs.contracts.browsing_context.navigate.TraverseHistoryParametersShape.TheImpl as traverse
+use Rattle.bidi_params.specs.declared.browsing_context.navigate.Wait as declared_wait
+use Rattle.bidi_params.specs.declared.browsing_context.navigate.Wait.TheVariants as wait
+use Rattle.bidi_params.specs.declared.browsing_context.navigate.NavigateParameters.{NavigateParameters}
+use Rattle.bidi_params.specs.declared.browsing_context.navigate.ReloadParameters.{ReloadParameters}
+use Rattle.bidi_params.specs.declared.browsing_context.navigate.TraverseHistoryParameters.{TraverseHistoryParameters}
 use Rattle.bidi_params.specs.declared.browsing_context.create.ContextType.{ContextType}
 use Rattle.bidi_params.specs.declared.browsing_context.create.ContextType.TheVariants as type
 use Rattle.bidi_params.specs.declared.browsing_context.create.ActivateParameters.{ActivateParameters}
 use Rattle.bidi_params.specs.declared.browsing_context.create.CloseParameters.{CloseParameters}
 use Rattle.bidi_params.specs.declared.browsing_context.create.CreateParameters.{CreateParameters}
 use Rattle.bidi_params.specs.declared.browsing_context.get_tree.GetTreeParameters.{GetTreeParameters}
-use Rattle.bidi_messages.specs.declared.command.CommandData.TheVariants.{BrowsingContextActivate, BrowsingContextClose, BrowsingContextCreate, BrowsingContextGetTree}
+use Rattle.bidi_messages.specs.declared.command.CommandData.TheVariants.{BrowsingContextActivate, BrowsingContextClose, BrowsingContextCreate, BrowsingContextGetTree, BrowsingContextNavigate, BrowsingContextReload, BrowsingContextTraverseHistory}
 use Rattle.bidi_browser.specs.Params.{natural}
-use Rattle.bidi_browser.specs.Actions.{OwnWindow, Tab, is_text}
-use Rattle.bidi_browser.specs.Asked.{create_type_of}
+use Rattle.bidi_browser.specs.Actions.{OwnWindow, Tab, Started, Interactive, Complete, is_text}
+use Rattle.bidi_browser.specs.Asked.{create_type_of, wait_of}
 use Rattle.bidi_remote.specs.Machine.Commands.{command_in}
 use Rattle.bidi_remote.specs.Tables.Asked.{asked_of}
 
@@ -56,7 +64,15 @@ type-read : (t : ContextType) → (if is_text "window" (Some (context_type_text 
 type-read type.Tab = refl
 type-read type.Window = refl
 
--- ---- the four commands
+-- so does the text of what a reply waits for, which may be absent
+wait-read : (o : Option declared_wait.Wait) → (let read = option_and_then text_in (option_map (λ w. tree.text (wait_text w)) o) in
+    if is_text "complete" read then Complete else if is_text "interactive" read then Interactive else Started) ≡ wait_of o
+wait-read None = refl
+wait-read (Some wait.None) = refl
+wait-read (Some wait.Interactive) = refl
+wait-read (Some wait.Complete) = refl
+
+-- ---- the commands
 
 -- a `browsingContext.activate` asks for its context
 pub activate-asks : (p : ActivateParameters) → activate.ghosts.shape.well p
@@ -90,3 +106,32 @@ get_tree-asks p w =
     let others = others_of p.ext in
     let at = PartsAt-joined rs (option_map number_tree p.max_depth ∷ option_map text_tree p.root ∷ []) others refl tt (unnamed (names_of rs) others w.1.no_known) in
     rw (at.0, at.1.0, number-optional p.max_depth, text-optional p.root) refl
+
+-- a `browsingContext.navigate` asks for its context, its URL and its wait
+pub navigate-asks : (p : NavigateParameters) → navigate.ghosts.shape.well p
+    → command_in (codes "browsingContext.navigate") (navigate.ghosts.shape.tree_of p) ≡ asked_of params.ghosts.shape (BrowsingContextNavigate p)
+navigate-asks p w =
+    let rs = rows_in (term_of navigate_parameters) in
+    let others = others_of p.ext in
+    let parts = Some (text_tree p.context) ∷ Some (text_tree p.url) ∷ option_map (λ w. tree.text (wait_text w)) p.wait ∷ [] in
+    let at = PartsAt-joined rs parts others refl tt (unnamed (names_of rs) others w.1.no_known) in
+    rw (at.0, at.1.0, at.1.1.0, wait-read p.wait) refl
+
+-- a `browsingContext.reload` asks for its context and its wait
+pub reload-asks : (p : ReloadParameters) → reload.ghosts.shape.well p
+    → command_in (codes "browsingContext.reload") (reload.ghosts.shape.tree_of p) ≡ asked_of params.ghosts.shape (BrowsingContextReload p)
+reload-asks p w =
+    let rs = rows_in (term_of reload_parameters) in
+    let others = others_of p.ext in
+    let parts = Some (text_tree p.context) ∷ option_map tree.boolean p.ignore_cache ∷ option_map (λ w. tree.text (wait_text w)) p.wait ∷ [] in
+    let at = PartsAt-joined rs parts others refl tt (unnamed (names_of rs) others w.1.no_known) in
+    rw (at.0, at.1.1.0, wait-read p.wait) refl
+
+-- a `browsingContext.traverseHistory` asks for its context and its delta
+pub traverse-asks : (p : TraverseHistoryParameters) → traverse.ghosts.shape.well p
+    → command_in (codes "browsingContext.traverseHistory") (traverse.ghosts.shape.tree_of p) ≡ asked_of params.ghosts.shape (BrowsingContextTraverseHistory p)
+traverse-asks p w =
+    let rs = rows_in (term_of traverse_history_parameters) in
+    let others = others_of p.ext in
+    let at = PartsAt-joined rs (Some (text_tree p.context) ∷ Some (tree.whole p.delta.value) ∷ []) others refl tt (unnamed (names_of rs) others w.1.no_known) in
+    rw (at.0, at.1.0) refl

@@ -101,6 +101,15 @@ fn decide_in(
         CommandData::BrowsingContextGetTree(params) => {
             decide_browsing(alloc, tables, asker, Action::GetTree(params))
         }
+        CommandData::BrowsingContextNavigate(params) => {
+            decide_browsing(alloc, tables, asker, Action::Navigate(params))
+        }
+        CommandData::BrowsingContextReload(params) => {
+            decide_browsing(alloc, tables, asker, Action::Reload(params))
+        }
+        CommandData::BrowsingContextTraverseHistory(params) => {
+            decide_browsing(alloc, tables, asker, Action::TraverseHistory(params))
+        }
         _ => Err(Refusal::Code(ErrorCode::UnsupportedOperation)),
     }
 }

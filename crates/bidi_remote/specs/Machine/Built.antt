@@ -18,7 +18,8 @@ use Rattle.bidi_remote.specs.Machine.Outcome.{deeds}
 abbrev pub built_methods : List String
 built_methods =
     "session.status" ∷ "session.new" ∷ "session.end" ∷ "session.subscribe" ∷ "session.unsubscribe"
-    ∷ "browsingContext.activate" ∷ "browsingContext.close" ∷ "browsingContext.create" ∷ "browsingContext.getTree" ∷ []
+    ∷ "browsingContext.activate" ∷ "browsingContext.close" ∷ "browsingContext.create" ∷ "browsingContext.getTree"
+    ∷ "browsingContext.navigate" ∷ "browsingContext.reload" ∷ "browsingContext.traverseHistory" ∷ []
 
 -- the command has one of them
 abbrev pub is_built : Node → Bool

@@ -49,3 +49,24 @@ returns-in-BrowsingContextGetTree-clause-ok c = λ h short a speaks.
     let s = c.args.session in
     subst (λ asked. Decides c.decide_browsing-in-BrowsingContextGetTree.result (deeds h) c.args.asker asked (outcome_so_far (deeds h) conn (SpeaksFor s) asked)) (sym (ap (asked_of ghosts.shape) c.in-BrowsingContextGetTree.is))
     (c.decide_browsing-in-BrowsingContextGetTree.ensures.ok (deeds h) a (has-ids h short) refl)
+
+pub returns-in-BrowsingContextNavigate-clause-ok : goal.returns-in-BrowsingContextNavigate-clause-ok
+returns-in-BrowsingContextNavigate-clause-ok c = λ h short a speaks.
+    let conn = c.args.asker.conn.value in
+    let s = c.args.session in
+    subst (λ asked. Decides c.decide_browsing-in-BrowsingContextNavigate.result (deeds h) c.args.asker asked (outcome_so_far (deeds h) conn (SpeaksFor s) asked)) (sym (ap (asked_of ghosts.shape) c.in-BrowsingContextNavigate.is))
+    (c.decide_browsing-in-BrowsingContextNavigate.ensures.ok (deeds h) a (has-ids h short) refl)
+
+pub returns-in-BrowsingContextReload-clause-ok : goal.returns-in-BrowsingContextReload-clause-ok
+returns-in-BrowsingContextReload-clause-ok c = λ h short a speaks.
+    let conn = c.args.asker.conn.value in
+    let s = c.args.session in
+    subst (λ asked. Decides c.decide_browsing-in-BrowsingContextReload.result (deeds h) c.args.asker asked (outcome_so_far (deeds h) conn (SpeaksFor s) asked)) (sym (ap (asked_of ghosts.shape) c.in-BrowsingContextReload.is))
+    (c.decide_browsing-in-BrowsingContextReload.ensures.ok (deeds h) a (has-ids h short) refl)
+
+pub returns-in-BrowsingContextTraverseHistory-clause-ok : goal.returns-in-BrowsingContextTraverseHistory-clause-ok
+returns-in-BrowsingContextTraverseHistory-clause-ok c = λ h short a speaks.
+    let conn = c.args.asker.conn.value in
+    let s = c.args.session in
+    subst (λ asked. Decides c.decide_browsing-in-BrowsingContextTraverseHistory.result (deeds h) c.args.asker asked (outcome_so_far (deeds h) conn (SpeaksFor s) asked)) (sym (ap (asked_of ghosts.shape) c.in-BrowsingContextTraverseHistory.is))
+    (c.decide_browsing-in-BrowsingContextTraverseHistory.ensures.ok (deeds h) a (has-ids h short) refl)
