@@ -5,6 +5,7 @@ mod examples;
 mod failures;
 mod listings;
 mod log;
+mod navigation;
 mod plays;
 mod sessions;
 pub(crate) mod stop_at;

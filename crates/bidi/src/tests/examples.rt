@@ -176,6 +176,64 @@ fn log(rt: HostRuntime) -> Result<(), Fail> {
     check_rows(&rt, &[Run::Play], LOG)
 }
 
+const NAVIGATION: &str = r#"a tab that is led away and back, and loads again
+open 1 /session
+  opened 1
+> 1 {"id":1,"method":"session.new","params":{"capabilities":{}}}
+  < 1 {"id":1,"result":{"capabilities":CAPABILITIES,"sessionId":"00000000-0001-8000-8000-000000000001"},"type":"success"}
+> 1 {"id":2,"method":"session.subscribe","params":{"events":["browsingContext","script"]}}
+  < 1 CONTEXT
+  < 1 REALM
+  < 1 {"id":2,"result":{"subscription":"00000001-0005-8000-8000-000000000001"},"type":"success"}
+frame 00000000-0002-8000-8000-000000000001 http://b.test/side
+  < 1 {"method":"browsingContext.contextCreated","params":{"children":null,"clientWindow":"00000000-0007-8000-8000-000000000001","context":"00000000-0002-8000-8000-000000000002","originalOpener":null,"parent":"00000000-0002-8000-8000-000000000001","url":"http://b.test/side","userContext":"default"},"type":"event"}
+  < 1 {"method":"script.realmCreated","params":{"context":"00000000-0002-8000-8000-000000000002","origin":"http://b.test","realm":"00000000-0003-8000-8000-000000000002","type":"window"},"type":"event"}
+at 5
+> 1 {"id":3,"method":"browsingContext.navigate","params":{"context":"00000000-0002-8000-8000-000000000001","url":"http://a.test","wait":"complete"}}
+  < 1 {"method":"browsingContext.navigationStarted","params":{"context":"00000000-0002-8000-8000-000000000001","navigation":"00000000-0004-8000-8000-000000000001","timestamp":5,"url":"http://a.test/"},"type":"event"}
+  < 1 {"method":"script.realmDestroyed","params":{"realm":"00000000-0003-8000-8000-000000000002"},"type":"event"}
+  < 1 {"method":"browsingContext.contextDestroyed","params":{"children":[],"clientWindow":"00000000-0007-8000-8000-000000000001","context":"00000000-0002-8000-8000-000000000002","originalOpener":null,"parent":"00000000-0002-8000-8000-000000000001","url":"http://b.test/side","userContext":"default"},"type":"event"}
+  < 1 {"method":"script.realmDestroyed","params":{"realm":"00000000-0003-8000-8000-000000000001"},"type":"event"}
+  < 1 {"method":"script.realmCreated","params":{"context":"00000000-0002-8000-8000-000000000001","origin":"http://a.test","realm":"00000000-0003-8000-8000-000000000003","type":"window"},"type":"event"}
+  < 1 {"method":"browsingContext.domContentLoaded","params":{"context":"00000000-0002-8000-8000-000000000001","navigation":"00000000-0004-8000-8000-000000000001","timestamp":5,"url":"http://a.test/"},"type":"event"}
+  < 1 {"method":"browsingContext.load","params":{"context":"00000000-0002-8000-8000-000000000001","navigation":"00000000-0004-8000-8000-000000000001","timestamp":5,"url":"http://a.test/"},"type":"event"}
+  < 1 {"id":3,"result":{"navigation":"00000000-0004-8000-8000-000000000001","url":"http://a.test/"},"type":"success"}
+at 9
+> 1 {"id":4,"method":"browsingContext.navigate","params":{"context":"00000000-0002-8000-8000-000000000001","url":"http://a.test/next?page=2"}}
+  < 1 {"method":"browsingContext.navigationStarted","params":{"context":"00000000-0002-8000-8000-000000000001","navigation":"00000000-0004-8000-8000-000000000002","timestamp":9,"url":"http://a.test/next?page=2"},"type":"event"}
+  < 1 {"id":4,"result":{"navigation":"00000000-0004-8000-8000-000000000002","url":"http://a.test/next?page=2"},"type":"success"}
+  < 1 {"method":"script.realmDestroyed","params":{"realm":"00000000-0003-8000-8000-000000000003"},"type":"event"}
+  < 1 {"method":"script.realmCreated","params":{"context":"00000000-0002-8000-8000-000000000001","origin":"http://a.test","realm":"00000000-0003-8000-8000-000000000004","type":"window"},"type":"event"}
+  < 1 {"method":"browsingContext.domContentLoaded","params":{"context":"00000000-0002-8000-8000-000000000001","navigation":"00000000-0004-8000-8000-000000000002","timestamp":9,"url":"http://a.test/next?page=2"},"type":"event"}
+  < 1 {"method":"browsingContext.load","params":{"context":"00000000-0002-8000-8000-000000000001","navigation":"00000000-0004-8000-8000-000000000002","timestamp":9,"url":"http://a.test/next?page=2"},"type":"event"}
+> 1 {"id":5,"method":"browsingContext.navigate","params":{"context":"00000000-0002-8000-8000-000000000001","url":"/next"}}
+  < 1 {"error":"invalid argument","id":5,"message":"invalid argument","type":"error"}
+at 12
+> 1 {"id":6,"method":"browsingContext.traverseHistory","params":{"context":"00000000-0002-8000-8000-000000000001","delta":-1}}
+  < 1 {"method":"browsingContext.navigationStarted","params":{"context":"00000000-0002-8000-8000-000000000001","navigation":"00000000-0004-8000-8000-000000000003","timestamp":12,"url":"http://a.test/"},"type":"event"}
+  < 1 {"method":"script.realmDestroyed","params":{"realm":"00000000-0003-8000-8000-000000000004"},"type":"event"}
+  < 1 {"method":"script.realmCreated","params":{"context":"00000000-0002-8000-8000-000000000001","origin":"http://a.test","realm":"00000000-0003-8000-8000-000000000005","type":"window"},"type":"event"}
+  < 1 {"method":"browsingContext.domContentLoaded","params":{"context":"00000000-0002-8000-8000-000000000001","navigation":"00000000-0004-8000-8000-000000000003","timestamp":12,"url":"http://a.test/"},"type":"event"}
+  < 1 {"method":"browsingContext.load","params":{"context":"00000000-0002-8000-8000-000000000001","navigation":"00000000-0004-8000-8000-000000000003","timestamp":12,"url":"http://a.test/"},"type":"event"}
+  < 1 {"id":6,"result":{},"type":"success"}
+> 1 {"id":7,"method":"browsingContext.traverseHistory","params":{"context":"00000000-0002-8000-8000-000000000001","delta":-2}}
+  < 1 {"error":"no such history entry","id":7,"message":"no such history entry","type":"error"}
+at 15
+> 1 {"id":8,"method":"browsingContext.reload","params":{"context":"00000000-0002-8000-8000-000000000001","wait":"interactive"}}
+  < 1 {"method":"browsingContext.navigationStarted","params":{"context":"00000000-0002-8000-8000-000000000001","navigation":"00000000-0004-8000-8000-000000000004","timestamp":15,"url":"http://a.test/"},"type":"event"}
+  < 1 {"method":"script.realmDestroyed","params":{"realm":"00000000-0003-8000-8000-000000000005"},"type":"event"}
+  < 1 {"method":"script.realmCreated","params":{"context":"00000000-0002-8000-8000-000000000001","origin":"http://a.test","realm":"00000000-0003-8000-8000-000000000006","type":"window"},"type":"event"}
+  < 1 {"method":"browsingContext.domContentLoaded","params":{"context":"00000000-0002-8000-8000-000000000001","navigation":"00000000-0004-8000-8000-000000000004","timestamp":15,"url":"http://a.test/"},"type":"event"}
+  < 1 {"id":8,"result":{"navigation":"00000000-0004-8000-8000-000000000004","url":"http://a.test/"},"type":"success"}
+  < 1 {"method":"browsingContext.load","params":{"context":"00000000-0002-8000-8000-000000000001","navigation":"00000000-0004-8000-8000-000000000004","timestamp":15,"url":"http://a.test/"},"type":"event"}
+> 1 {"id":9,"method":"browsingContext.getTree","params":{}}
+  < 1 {"id":9,"result":{"contexts":[{"children":[],"clientWindow":"00000000-0007-8000-8000-000000000001","context":"00000000-0002-8000-8000-000000000001","originalOpener":null,"parent":null,"url":"http://a.test/","userContext":"default"}]},"type":"success"}"#;
+
+#[test]
+fn navigation(rt: HostRuntime) -> Result<(), Fail> {
+    check_rows(&rt, &[Run::Play], NAVIGATION)
+}
+
 const BROWSERS: &str = r#"texts outside the profile, and one inside
 {"method":"log.entryAdded","params":{"args":[],"level":"info","method":"info","source":{"context":"c","realm":"r","userContext":"default"},"text":"hi","timestamp":7,"type":"console"},"type":"event"}
 {"method":"browsingContext.navigationCommitted","params":{"context":"c","navigation":"n","timestamp":5,"url":"about:blank"},"type":"event"}

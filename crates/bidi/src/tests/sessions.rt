@@ -151,9 +151,9 @@ open 1 /session
 > 1 {"id":0,"method":"session.new","params":{"capabilities":{}}}
   < 1 {"id":0,"result":{"capabilities":CAPABILITIES,"sessionId":"00000000-0001-8000-8000-000000000001"},"type":"success"}
 > 1 {"id":6,"method":"browsingContext.reload","params":{"context":"00000000-0002-8000-8000-000000000001"}}
-  < 1 {"error":"unsupported operation","id":6,"message":"unsupported operation","type":"error"}
+  < 1 {"id":6,"result":{"navigation":"00000000-0004-8000-8000-000000000001","url":"about:blank"},"type":"success"}
 > 1 {"id":7,"method":"browsingContext.navigate","params":{"context":"00000000-0002-8000-8000-000000000001","url":"about:blank"}}
-  < 1 {"error":"unsupported operation","id":7,"message":"unsupported operation","type":"error"}
+  < 1 {"id":7,"result":{"navigation":"00000000-0004-8000-8000-000000000002","url":"about:blank"},"type":"success"}
 > 1 {"id":8,"method":"script.getRealms","params":{}}
   < 1 {"error":"unsupported operation","id":8,"message":"unsupported operation","type":"error"}
 > 1 {"id":9,"method":"session.status","params":{}}
