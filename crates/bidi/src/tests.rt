@@ -7,6 +7,7 @@ mod listings;
 mod log;
 mod navigation;
 mod plays;
+mod scripts;
 mod sessions;
 pub(crate) mod stop_at;
 mod subscriptions;

@@ -1,5 +1,5 @@
 -- How the rows of the live contexts change where a context navigates.
-use Rattle.std.proofs.Common.{◌≡◌, ◌∙◌, ◌+◌, ◌<◌, ◌≤◌, ℕ, zero, suc, Bool, true, false, cond, List, [], ◌∷◌, ◌++◌, length, set, get_or, map, append-nil, Option, Some, None, refl, sym, ap, ap₂, arith}
+use Rattle.std.proofs.Common.{◌≡◌, ◌∙◌, ◌<◌, ◌≤◌, ℕ, zero, suc, Bool, true, false, cond, List, [], ◌∷◌, ◌++◌, length, set, get_or, map, append-nil, Option, Some, None, refl, sym, ap, ap₂, arith}
 use Rattle.std.specs.Prelude.{◌==◌, not, ◌&&◌, if◌then◌else◌, find, filter, flat_map, nat_lt}
 use Rattle.std.specs.List.{list_any, position, position_or_len}
 use Rattle.std.proofs.lemmas.List.Quantifiers.{position-Some}
@@ -9,7 +9,6 @@ use Rattle.bidi_browser.specs.Acts.{Act, Moved, Move, given, next_number}
 use Rattle.bidi_browser.specs.Accepted.{AreAccepted}
 use Rattle.bidi_browser.specs.Contexts.{is_under, is_born, is_gone, is_alive, up_to, contexts, children_of, subtree_of}
 use Rattle.bidi_browser.specs.ContextRows.{Row, row_at, rows, changed, moved_in}
-use Rattle.bidi_browser.proofs.AcceptedLemmas.{act-sound}
 use Rattle.bidi_browser.proofs.BirthLemmas.{row_if, rows-split}
 use Rattle.bidi_browser.proofs.RemovalLemmas.{any-filter, any-up-to, any-below, rows-filtered, stays}
 

@@ -1,26 +1,26 @@
 -- Why a navigation in hand is that of the definitions.
-use Rattle.std.proofs.Common.{◌≡◌, ◌∙◌, ◌≤◌, ◌<◌, ◌+◌, ◌-◌, ℕ, ℤ, zero, suc, Bool, true, false, List, [], ◌∷◌, ◌++◌, length, take, drop, take_all, map, Option, Some, None, Result, Ok, unwrap_or, refl, sym, ap, ap₂, subst, arith}
-use Rattle.std.specs.Prelude.{min, slice_get, nat_lt, if◌then◌else◌, flat_map, option_and_then, is_some}
+use Rattle.std.proofs.Common.{◌≡◌, ◌∙◌, ◌≤◌, ◌<◌, ◌+◌, ◌-◌, ℕ, ℤ, zero, suc, Bool, true, false, List, [], ◌∷◌, ◌++◌, length, take, drop, take_all, map, Option, Some, None, Ok, unwrap_or, refl, sym, ap, ap₂, subst, arith}
+use Rattle.std.specs.Prelude.{min, slice_get, nat_lt, if◌then◌else◌, flat_map, option_and_then}
 use Rattle.std.proofs.lemmas.List.{append_assoc, drop_all, length-append, length-take-le, length-drop, drop-append-le, length-map, take-map, drop-map, map-append}
 use Rattle.std.proofs.Math.Seq.{take-append_seam, drop-append_seam}
-use Rattle.std.proofs.lemmas.Bool.Decides.{nat_tests, Decides-ltb}
+use Rattle.std.proofs.lemmas.Bool.Decides.{Decides-ltb}
 use Rattle.url.specs.Parts.{Parts}
 use Rattle.bidi_tree.specs.Node.{Node}
 use Rattle.bidi_messages.specs.declared.event.EventName.{EventName}
 use Rattle.bidi_messages.specs.declared.event.EventName.TheVariants.{NavigationStarted, DomContentLoaded, Load}
 use Rattle.bidi_messages.specs.contracts.event.EventDataSubjectEventName.TheImpl.{ghosts}
 use Rattle.bidi_messages.specs.declared.result_data.ResultData.{ResultData}
-use Rattle.bidi_browser.specs.declared.id.Kind.TheVariants.{Context, Realm, Navigation}
+use Rattle.bidi_browser.specs.declared.id.Kind.TheVariants.{Realm, Navigation}
 use Rattle.bidi_browser.specs.declared.occurrence.Occurrence as in_hand
 use Rattle.bidi_browser.specs.declared.navigation.Told.{Told}
 use Rattle.bidi_browser.specs.declared.plan.Plan.{Plan}
 use Rattle.bidi_browser.specs.declared.plan.Navigation as planned
 use Rattle.bidi_browser.specs.declared.plan.Edit.TheVariants.{Navigate}
 use Rattle.bidi_browser.specs.Urls.{about_blank}
-use Rattle.bidi_browser.specs.Acts.{Act, Moved, Move, To, Again, Across, next_number}
+use Rattle.bidi_browser.specs.Acts.{Act, Moved, Move, next_number}
 use Rattle.bidi_browser.specs.Actions.{Wait, Started, Interactive, Complete, Action, is_asked}
 use Rattle.bidi_browser.specs.Contexts.{children_of, subtree_of}
-use Rattle.bidi_browser.specs.Places.{Entries, with_entry, present, moved, entries_of, place_across, shifted}
+use Rattle.bidi_browser.specs.Places.{Entries, with_entry, present, entries_of, place_across, shifted}
 use Rattle.bidi_browser.specs.HistoryInHand.{move_of, Leads}
 use Rattle.bidi_browser.specs.Occurrences.{Occurrence, realm_created, realm_destroyed, removal, navigation_event}
 use Rattle.bidi_browser.specs.Occurs.{Item, Happens, Replies, led_to, replying, unloading, navigating, navigated_result, wait_in}
@@ -172,10 +172,13 @@ navigation-plans plan told n r past moment c move action asked done is result at
   done,
   rw (before, reply, after) (is (Replies (result_tree r)) ∙ ap (λ t. navigating past moment (wait_in action) c move (Replies t)) result),
   rw (reply, asked) refl,
-  rw change (ap₂ (λ k m. Moved k m) (sym at) (sym to), record {
-    realm = realm;
-    leads = subst (λ k. Leads (entries_of past k) (move_of n.to)) (sym at) (subst (Leads (entries_of past c)) (sym to) leads);
-    gone = gone ∙ ap (λ k. flat_map (subtree_of past) (children_of past k)) (sym at);
-  }),
+  rw change (
+    ap₂ (λ k m. Moved k m) (sym at) (sym to),
+    record {
+      realm = realm;
+      leads = subst (λ k. Leads (entries_of past k) (move_of n.to)) (sym at) (subst (Leads (entries_of past c)) (sym to) leads);
+      gone = gone ∙ ap (λ k. flat_map (subtree_of past) (children_of past k)) (sym at);
+    },
+  ),
   λ unasked. let both = sym asked ∙ unasked in absurd (cc),
 )

@@ -1,16 +1,17 @@
 -- Why a plan in hand is that of the definitions.
 use Rattle.std.proofs.Common.{◌≡◌, ◌∙◌, ◌≤◌, ◌<◌, ◌+◌, ℕ, zero, suc, length, get_or, Bool, true, false, List, [], ◌∷◌, ◌++◌, map, Option, Some, None, Result, Ok, Err, unwrap_or, refl, sym, ap, ap₂, subst, arith}
-use Rattle.std.specs.Prelude.{not, find, nat_lt, is_none, is_some, Vec, option_map, option_to_list, IfSome}
+use Rattle.std.specs.Prelude.{not, find, nat_lt, if◌then◌else◌, is_none, is_some, Vec, option_map, option_to_list, IfSome}
 use Rattle.std.specs.Borrow.{Bor}
 use Rattle.std.specs.Result.{IsErrAnd}
 use Rattle.std.specs.declared.alloc.Global.{Global}
 use Rattle.std.proofs.lemmas.List.{append_assoc}
+use Rattle.std.proofs.lemmas.Simd.{map-map}
 use Rattle.url.specs.Parts.{Parts}
-use Rattle.bidi_tree.specs.Node.{Node, levels}
+use Rattle.bidi_tree.specs.Node.{Node, levels, items_levels}
+use Rattle.bidi_tree.specs.View.{items_of}
 use Rattle.bidi_messages.specs.declared.result_data.ResultData.{ResultData}
 use Rattle.bidi_messages.specs.declared.error_code.ErrorCode.TheVariants.{NoSuchFrame}
 use Rattle.bidi_messages.specs.contracts.result_data.ResultDataSubjectMethod.TheImpl as results
-use Rattle.bidi_params.specs.declared.browsing_context.info.Info.{Info}
 use Rattle.bidi_values.specs.declared.log_entry.Level.{Level}
 use Rattle.bidi_browser.specs.declared.refusal.Refusal.{Refusal}
 use Rattle.bidi_browser.specs.declared.refusal.Refusal.TheVariants.{Code, NoMemory}
@@ -23,16 +24,15 @@ use Rattle.bidi_browser.specs.Urls.{about_blank, parsed}
 use Rattle.bidi_browser.specs.Acts.{Act, Made, Framed, Logged, Looked, next_number}
 use Rattle.bidi_browser.specs.Places.{begun_at}
 use Rattle.bidi_browser.specs.Accepted.{AreAccepted}
-use Rattle.bidi_browser.specs.Actions.{Action, GetTree, Log, is_asked}
-use Rattle.bidi_browser.specs.Found.{AreRoots}
+use Rattle.bidi_browser.specs.Actions.{Action, Log, is_asked}
+use Rattle.bidi_browser.specs.Found.{AreTold}
 use Rattle.bidi_browser.specs.Maps.{nothing}
 use Rattle.bidi_browser.specs.Contexts.{parent_of, top_of, level_of, window_of, contexts, context_of, tops, subtree_of, tree_order}
 use Rattle.bidi_browser.specs.Checks.{found}
-use Rattle.bidi_browser.specs.Info.{info_of}
 use Rattle.bidi_browser.specs.Outcome.{outcome, context_named, looked, looked_at, has_room, frame_outcome, log_outcome, oldest_window}
-use Rattle.bidi_browser.specs.Occurrences.{Occurrence, realm_destroyed, context_destroyed, removal, tree_events}
-use Rattle.bidi_browser.specs.Occurs.{Happens, Replies, roots, birth, occurs}
-use Rattle.bidi_browser.specs.ContextRows.{Row, row_of, row_at, created_in, realm_created_in, realm_destroyed_in, entry_added_in}
+use Rattle.bidi_browser.specs.Occurrences.{Occurrence, realm_info, realm_destroyed, context_destroyed, removal, tree_events}
+use Rattle.bidi_browser.specs.Occurs.{Happens, Replies, roots, realm_holders, birth, occurs}
+use Rattle.bidi_browser.specs.ContextRows.{Row, row_of, row_at, realm_info_in, created_in, realm_created_in, realm_destroyed_in, entry_added_in}
 use Rattle.bidi_browser.specs.Plans.{Plans, AreWell, IsWellResult, IsWellTold, reply_in, leaves_tables}
 use Rattle.bidi_browser.specs.View.{seen, result_tree}
 use Rattle.bidi_browser.proofs.BirthLemmas.{row-made, row-framed}
@@ -53,18 +53,50 @@ root-found past id c root is named = rw is (ap looked named, ap option_to_list (
     of-found None c e = absurd (cc)
     of-found (Some d) c e = cc
 
--- its one Info
-pub one-info : {A : Type 0} (tree_of : A → Node) (past : List Act) (depth : Option ℕ) (c : ℕ) (none all : List A) (info : A) → all ≡ none ++ info ∷ [] → none ≡ [] → tree_of info ≡ info_of past depth c
-    → map tree_of all ≡ map (info_of past depth) (c ∷ [])
-one-info tree_of past depth c none all info pushed empty is = ap (map tree_of) (pushed ∙ ap (λ xs. xs ++ info ∷ []) empty) ∙ ap (λ t. t ∷ []) is
+-- the one whose realm is asked for
+pub holder-found : (past : List Act) (id : List ℕ) (c : ℕ) (context : Option (List ℕ)) → context ≡ Some id → context_named past id ≡ Ok c → (looked_at past context ≡ Ok Looked) × (realm_holders past context true ≡ c ∷ [])
+holder-found past id c context is named = root-found-holds (root-found past id c context is named)
+  where
+    holders-are : (o : Option (List ℕ)) → o ≡ Some id → realm_holders past o true ≡ roots past o
+    holders-are None e = absurd (cc)
+    holders-are (Some x) e = refl
 
--- the check of getTree fails
-pub refused-roots : (tree_of : Info → Node) (q : Result (Vec Info Global) Refusal) (r : Result Plan Refusal) (refusal : Refusal) (past : List Act) (moment : ℕ) (shown depth : Option ℕ) (root : Option (List ℕ)) → shown ≡ depth
-    → AreRoots tree_of q past shown root → q ≡ Err refusal → IsErrAnd r (λ e. e ≡ refusal) → Plans r past moment (GetTree depth root)
-refused-roots tree_of q (Err e) (Code code) past moment shown depth root same checked failed is =
-    subst (λ x. Plans (Err x) past moment (GetTree depth root)) (sym is) (subst (λ x. AreRoots tree_of x past shown root) failed checked)
-refused-roots tree_of q (Err e) NoMemory past moment shown depth root same checked failed is = subst (λ x. Plans (Err x) past moment (GetTree depth root)) (sym is) tt
-refused-roots tree_of q (Ok plan) refusal past moment shown depth root same checked failed is = absurd is
+    root-found-holds : (looked_at past context ≡ Ok Looked) × (roots past context ≡ c ∷ []) → (looked_at past context ≡ Ok Looked) × (realm_holders past context true ≡ c ∷ [])
+    root-found-holds found = (found.0, holders-are context is ∙ found.1)
+
+-- the one that is shown
+pub one-shown : {A B : Type 0} (see : A → B) (f : ℕ → B) (c : ℕ) (none all : List A) (x : A) → all ≡ none ++ x ∷ [] → none ≡ [] → see x ≡ f c → map see all ≡ map f (c ∷ [])
+one-shown see f c none all x pushed empty is = ap (map see) (pushed ∙ ap (λ xs. xs ++ x ∷ []) empty) ∙ ap (λ t. t ∷ []) is
+
+-- the realms of windows, where they are asked for
+pub windows-told : {X : Type 0} (see : X → Row) (past : List Act) (id : Option (List ℕ)) (b : Bool) (xs : List X) → map see xs ≡ map (row_at past) (realm_holders past id true)
+    → (if b then map (λ x. realm_info_in (see x)) xs else []) ≡ map (realm_info past) (realm_holders past id b)
+windows-told see past id false xs same = none-held id
+  where
+    none-held : (id : Option (List ℕ)) → (let none : List Node = [] in none ≡ map (realm_info past) (realm_holders past id false))
+    none-held None = refl
+    none-held (Some x) = refl
+windows-told see past id true xs same = sym (map-map realm_info_in see xs) ∙ (ap (map realm_info_in) same ∙ map-map realm_info_in (row_at past) (realm_holders past id true))
+
+-- the check of what looks fails
+pub refused-looks : {A B : Type 0} (see : A → B) (q : Result (Vec A Global) Refusal) (r : Result Plan Refusal) (refusal : Refusal) (past : List Act) (moment : ℕ) (action : Action) (shown : List B)
+    → AreTold see q (outcome past action) shown → q ≡ Err refusal → IsErrAnd r (λ e. e ≡ refusal) → Plans r past moment action
+refused-looks see q (Err e) (Code code) past moment action shown checked failed is = subst (λ x. Plans (Err x) past moment action) (sym is) (subst (λ x. AreTold see x (outcome past action) shown) failed checked)
+refused-looks see q (Err e) NoMemory past moment action shown checked failed is = subst (λ x. Plans (Err x) past moment action) (sym is) tt
+refused-looks see q (Ok plan) refusal past moment action shown checked failed is = absurd is
+
+-- what is told of a realm has texts alone
+realm-flat : (row : Row) → levels (realm_info_in row) ≡ 1
+realm-flat row = refl
+
+-- so the list of some has two levels
+pub windows-flat : {X : Type 0} (see : X → Row) (b : Bool) (xs : List X) → items_levels (items_of (if b then map (λ x. realm_info_in (see x)) xs else [])) ≤ 1
+windows-flat see false xs = omega arith
+windows-flat see true [] = omega arith
+windows-flat see true (x ∷ xs) =
+    let flat = realm-flat (see x) in
+    let rest = windows-flat see true xs in
+    omega (arith, flat, rest)
 
 -- a result of which a message can be made
 pub result-well : (r : ResultData) (t : Node) → results.ghosts.subject.well r → result_tree r ≡ t → levels t ≤ 61 → IsWellResult r

@@ -21,6 +21,13 @@ told-more tell f row items i x before now after a less at held added same =
     ∙ (append_assoc told (map f rows) (f (row x) ∷ [])
     ∙ ap (λ ys. told ++ ys) (sym next))))
 
+-- what is seen of the next one too
+pub seen-more : {A B X : Type 0} (see : A → B) (f : X → B) (items : List X) (i : ℕ) (x : X) (now after : List A) (a : A) → i < length items → x ≡ get_or items i x → map see now ≡ map f (take i items)
+    → after ≡ now ++ a ∷ [] → see a ≡ f x → map see after ≡ map f (take (i + 1) items)
+seen-more see f items i x now after a less at held added is =
+    ap (map see) added ∙ (map-append see now (a ∷ []) ∙ (ap₂ (λ xs y. xs ++ y ∷ []) held is
+    ∙ sym (ap (map f) (take_more items i x less ∙ ap (λ y. take i items ++ y ∷ []) (sym at)) ∙ map-append f (take i items) (x ∷ []))))
+
 -- what f gives of the next item too
 pub pushed-more : {X Y : Type 0} (f : X → Y) (items : List X) (i : ℕ) (x : X) (before now after : List Y) → i < length items → x ≡ get_or items i x → now ≡ before ++ map f (take i items)
     → after ≡ now ++ f x ∷ [] → after ≡ before ++ map f (take (i + 1) items)

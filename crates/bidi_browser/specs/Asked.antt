@@ -11,9 +11,11 @@ use Rattle.bidi_params.specs.declared.browsing_context.navigate.Wait.TheVariants
 use Rattle.bidi_params.specs.declared.browsing_context.navigate.NavigateParameters.{NavigateParameters}
 use Rattle.bidi_params.specs.declared.browsing_context.navigate.ReloadParameters.{ReloadParameters}
 use Rattle.bidi_params.specs.declared.browsing_context.navigate.TraverseHistoryParameters.{TraverseHistoryParameters}
+use Rattle.bidi_params.specs.Words.{realm_type_text}
+use Rattle.bidi_params.specs.declared.script.realms.GetRealmsParameters.{GetRealmsParameters}
 use Rattle.bidi_browser.specs.declared.action.Action as declared_action
 use Rattle.bidi_browser.specs.declared.action.Action.TheVariants as in_code
-use Rattle.bidi_browser.specs.Actions.{CreateType, Tab, OwnWindow, Wait, Started, Interactive, Complete, Action, Activate, Close, Create, GetTree, Navigate, Reload, TraverseHistory, Frame, Unframe, Log}
+use Rattle.bidi_browser.specs.Actions.{CreateType, Tab, OwnWindow, Wait, Started, Interactive, Complete, Action, Activate, Close, Create, GetTree, Navigate, Reload, TraverseHistory, GetRealms, Frame, Unframe, Log}
 
 -- as what a context is created
 abbrev pub create_type_of : ContextType → CreateType
@@ -49,6 +51,9 @@ reload_asked p = Reload (string_bytes p.context) (wait_of p.wait)
 abbrev pub traverse_asked : TraverseHistoryParameters → Action
 traverse_asked p = TraverseHistory (string_bytes p.context) p.delta.value
 
+abbrev pub get_realms_asked : GetRealmsParameters → Action
+get_realms_asked p = GetRealms (option_map string_bytes p.context) (option_map realm_type_text p.kind)
+
 -- what an action in hand asks
 abbrev pub action_of : declared_action.Action → Action
 action_of (in_code.Activate p) = activate_asked p.now
@@ -58,6 +63,7 @@ action_of (in_code.GetTree p) = get_tree_asked p.now
 action_of (in_code.Navigate p) = navigate_asked p.now
 action_of (in_code.Reload p) = reload_asked p.now
 action_of (in_code.TraverseHistory p) = traverse_asked p.now
+action_of (in_code.GetRealms p) = get_realms_asked p.now
 action_of (in_code.Frame context url) = Frame context.now url.now
 action_of (in_code.Unframe context) = Unframe context.now
 action_of (in_code.Log context level text) = Log context.now level text.now

@@ -115,6 +115,10 @@ created_in row = occurrence_in row ContextCreated (root_info row null)
 abbrev pub destroyed_in : List Row → Row → Occurrence
 destroyed_in rows row = occurrence_in row ContextDestroyed (info_in rows None row)
 
+-- what is told of its realm
+abbrev pub realm_info_in : Row → Node
+realm_info_in row = realm_info_at row row.realm (url_in row)
+
 -- a realm of it came, where it is at a URL
 abbrev pub realm_began_in : Row → ℕ → Parts → Occurrence
 realm_began_in row realm url = occurrence_in row RealmCreated (realm_info_at row realm url)

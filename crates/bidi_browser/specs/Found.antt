@@ -4,16 +4,11 @@ use Rattle.std.specs.Borrow.{Bor}
 use Rattle.bidi_messages.specs.declared.error_code.ErrorCode.{ErrorCode}
 use Rattle.bidi_messages.specs.declared.error_code.ErrorCode.TheVariants.{InvalidArgument}
 use Rattle.std.specs.declared.alloc.Global.{Global}
-use Rattle.bidi_tree.specs.Node.{Node}
-use Rattle.bidi_params.specs.declared.browsing_context.info.Info.{Info}
 use Rattle.url.specs.Parts.{Parts}
 use Rattle.bidi_browser.specs.declared.refusal.Refusal.{Refusal}
 use Rattle.bidi_browser.specs.declared.refusal.Refusal.TheVariants.{Code, NoMemory}
 use Rattle.bidi_browser.specs.declared.contexts.Context.{Context}
 use Rattle.bidi_browser.specs.Acts.{Act, Looked}
-use Rattle.bidi_browser.specs.Info.{info_of}
-use Rattle.bidi_browser.specs.Occurs.{roots}
-use Rattle.bidi_browser.specs.Outcome.{looked_at}
 use Rattle.bidi_browser.specs.ContextRows.{row_of, row_at}
 
 -- a context in hand, or a code, is what the past gives
@@ -32,11 +27,11 @@ abbrev pub IsChecked : {A B : Type 0} → (A → B) → Result A ErrorCode → R
 IsChecked view (Ok x) answer = answer ≡ Ok (view x)
 IsChecked view (Err code) answer = answer ≡ Err code
 
--- the Infos of the contexts that getTree shows, or the code of its check
-abbrev pub AreRoots : (Info → Node) → Result (Vec Info Global) Refusal → List Act → Option ℕ → Option (List ℕ) → Type 0
-AreRoots tree_of (Ok infos) past depth root = (looked_at past root ≡ Ok Looked) × (map tree_of infos.items ≡ map (info_of past depth) (roots past root))
-AreRoots tree_of (Err (Code code)) past depth root = looked_at past root ≡ Err code
-AreRoots tree_of (Err NoMemory) past depth root = ⊤
+-- what a command that looks is shown, by what is seen of each, where its check passes; or the code of its check
+abbrev pub AreTold : {A B : Type 0} → (A → B) → Result (Vec A Global) Refusal → Result Act ErrorCode → List B → Type 0
+AreTold seen (Ok xs) checked shown = (checked ≡ Ok Looked) × (map seen xs.items ≡ shown)
+AreTold seen (Err (Code code)) checked shown = checked ≡ Err code
+AreTold seen (Err NoMemory) checked shown = ⊤
 
 -- a URL in hand is that of a text, or the text is none
 abbrev pub IsUrlOf : Result Parts Refusal → Option Parts → Type 0

@@ -136,12 +136,7 @@ pub(crate) fn plan_frame(browser: &Browser, context: &str, url: &str) -> Result<
     if !browser.has_room() || parent.level >= LOWEST_LEVEL {
         return Err(Refusal::Code(ErrorCode::UnknownError));
     }
-    let context = parent.child(
-        browser.alloc,
-        browser.next_context,
-        browser.next_realm,
-        url,
-    )?;
+    let context = parent.child(browser.alloc, browser.next_context, browser.next_realm, url)?;
     let before = births(browser.alloc, &context)?;
     Ok(Plan {
         before,

@@ -14,7 +14,7 @@ use crate::action::Action;
 use crate::births::{plan_create, plan_frame};
 use crate::context_table::Contexts;
 use crate::logging::plan_log;
-use crate::looking::{plan_activate, plan_get_tree};
+use crate::looking::{plan_activate, plan_get_realms, plan_get_tree};
 use crate::navigation::{plan_navigate, plan_reload, plan_traverse_history};
 use crate::occurrence::Occurrence;
 use crate::plan::{Change, Edit, Numbers, Plan};
@@ -78,7 +78,7 @@ impl Browser {
     ///   effect, it says no more than that.
     /// - `NoMemory`: a growth was refused.
     ///
-    /// After WebDriver BiDi, "The browsingContext Module".
+    /// After WebDriver BiDi, "The browsingContext Module" and "The script.getRealms Command".
     pub fn plan(&self, action: Action, moment: JsUint) -> Result<Plan, Refusal>
         // Whatever past the browser stands for, short of 2^48 ids of a kind, the plan is that of the definitions.
         ensures plans { (past : List Act) → StandsFor self.now past → HasIds past → Plans result past moment.value (action_of action.entry) }
@@ -92,6 +92,7 @@ impl Browser {
             Action::Navigate(params) => plan_navigate(self, moment, params),
             Action::Reload(params) => plan_reload(self, moment, params),
             Action::TraverseHistory(params) => plan_traverse_history(self, moment, params),
+            Action::GetRealms(params) => plan_get_realms(self, params),
             Action::Frame(context, url) => plan_frame(self, context, url),
             Action::Unframe(context) => plan_unframe(self, context),
             Action::Log(context, level, text) => plan_log(self, moment, context, level, text),

@@ -39,7 +39,7 @@ impl Context {
     ghost use Rattle.bidi_browser.specs.Urls.{about_blank};
     ghost use Rattle.bidi_browser.specs.HistoryInHand.{entries_in, move_of, HasRoomFor, Leads};
     ghost use Rattle.bidi_browser.specs.Places.{begun_at};
-    ghost use Rattle.bidi_browser.specs.ContextRows.{row_of, inner_info, root_info, shown_info, created_in, realm_info_at, realm_began_in, realm_created_in, realm_destroyed_in, navigation_info_in, occurrence_in, moved_in};
+    ghost use Rattle.bidi_browser.specs.ContextRows.{row_of, inner_info, root_info, shown_info, created_in, realm_info_at, realm_info_in, realm_began_in, realm_created_in, realm_destroyed_in, navigation_info_in, occurrence_in, moved_in};
     ghost use Rattle.bidi_browser.specs.Info.{parent_tree};
     ghost use Rattle.bidi_browser.specs.InfosInHand.{children_node, parent_node, AreWithinIfTold, IsWithin};
     ghost use Rattle.bidi_messages.specs.declared.event.EventName.TheVariants.{ContextDestroyed, NavigationStarted, DomContentLoaded, Load, EntryAdded};
@@ -165,6 +165,14 @@ impl Context {
             parent,
             ext: Ext::empty(alloc),
         })
+    }
+
+    /// What is told of its realm.
+    pub(crate) fn own_realm(&self, alloc: Global) -> Result<RealmInfo, AllocError>
+        ensures tree { IfOk result (λ r. ⟦<RealmInfo as Shape>⟧.shape.tree_of r ≡ realm_info_in (row_of self.now)) }
+        ensures well { IfOk result ⟦<RealmInfo as Shape>⟧.shape.well }
+    {
+        self.realm_info(alloc, self.realm, self.history.present())
     }
 
     // What is told of a realm of it, where it is at a URL.

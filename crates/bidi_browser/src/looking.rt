@@ -1,12 +1,18 @@
 //! Look-ups that are checked, and plans of what only looks.
-ghost use Rattle.std.specs.Prelude.{◌≡◌, ℕ, List, [], Some, IfOk, option_map, string_bytes};
+ghost use Rattle.std.specs.Prelude.{◌≡◌, ℕ, List, [], Some, true, map, if◌then◌else◌, IfOk, option_map, string_bytes};
+ghost use Rattle.std.specs.List.{AllByRecursion};
+ghost use Rattle.bidi_params.specs.Words.{realm_type_text};
 ghost use Rattle.bidi_browser.specs.Acts.{Act};
 ghost use Rattle.bidi_browser.specs.Actions.{Activate};
-ghost use Rattle.bidi_browser.specs.Asked.{get_tree_asked};
-ghost use Rattle.bidi_browser.specs.Found.{AreRoots, IsFound, IsFoundIfNamed};
+ghost use Rattle.bidi_browser.specs.Asked.{get_realms_asked, get_tree_asked};
+ghost use Rattle.bidi_browser.specs.ContextRows.{row_of, row_at, realm_info_in};
+ghost use Rattle.bidi_browser.specs.Found.{AreTold, IsFound, IsFoundIfNamed};
 ghost use Rattle.bidi_browser.specs.InfosInHand.{AreWithin};
+ghost use Rattle.bidi_browser.specs.Info.{info_of};
 ghost use Rattle.bidi_browser.specs.Maps.{nothing};
-ghost use Rattle.bidi_browser.specs.Outcome.{context_named, top_named, top_if_named};
+ghost use Rattle.bidi_browser.specs.Occurrences.{realm_info};
+ghost use Rattle.bidi_browser.specs.Occurs.{realm_holders, roots, takes_windows};
+ghost use Rattle.bidi_browser.specs.Outcome.{context_named, looked_at, top_named, top_if_named};
 ghost use Rattle.bidi_browser.specs.Plans.{Plans, IsWellPlanned};
 ghost use Rattle.bidi_browser.specs.Stands.{IsTableOf, StandsFor};
 
@@ -16,7 +22,10 @@ use crate::contexts::Context;
 use crate::plan::{Change, Edit, Plan};
 use crate::refusal::Refusal;
 use bidi_messages::{ErrorCode, Method, ResultData, Subject};
-use bidi_params::{EmptyResult, GetTreeParameters, GetTreeResult, Info};
+use bidi_params::{
+    EmptyResult, GetRealmsParameters, GetRealmsResult, GetTreeParameters, GetTreeResult, Info,
+    RealmInfo, RealmType,
+};
 use bidi_shape::{Ext, Shape};
 use std::alloc::{AllocError, Global};
 
@@ -100,7 +109,7 @@ fn depth_in(params: &GetTreeParameters) -> Option<u64>
 
 // The Info of the context that is asked for, or of each top-level one.
 fn roots(browser: &Browser, depth: Option<u64>, root: &Option<String>) -> Result<Vec<Info>, Refusal>
-    ensures infos { (past : List Act) → StandsFor browser.now past → AreRoots ⟦<Info as Shape>⟧.shape.tree_of result past depth (option_map string_bytes root.now) }
+    ensures infos { (past : List Act) → StandsFor browser.now past → (let id = option_map string_bytes root.now in AreTold ⟦<Info as Shape>⟧.shape.tree_of result (looked_at past id) (map (info_of past depth) (roots past id))) }
     ensures well { IfOk result (λ all. AreWithin ⟦<Info as Shape>⟧.shape 34 all.items) }
 {
     match root {
@@ -113,6 +122,78 @@ fn roots(browser: &Browser, depth: Option<u64>, root: &Option<String>) -> Result
             Ok(all)
         }
     }
+}
+
+/// Lists the realms of all contexts, or that of one. All are those of windows.
+pub(crate) fn plan_get_realms(
+    browser: &Browser,
+    params: &GetRealmsParameters,
+) -> Result<Plan, Refusal>
+    ensures plans { (past : List Act) (moment : ℕ) → StandsFor browser.now past → Plans result past moment (get_realms_asked params.now) }
+    ensures well { IsWellPlanned result }
+{
+    let contexts = holders(browser, &params.context)?;
+    let realms = windows(browser.alloc, &contexts, params.kind)?;
+    let result = ResultData::ScriptGetRealms(GetRealmsResult {
+        realms,
+        ext: Ext::empty(browser.alloc),
+    });
+    Ok(looked(browser.alloc, result))
+}
+
+// Whether windows are asked for, as they are where no type is.
+fn takes_windows(kind: Option<RealmType>) -> bool
+    ensures { result ≡ takes_windows (option_map realm_type_text kind) }
+{
+    match kind {
+        None | Some(RealmType::Window) => true,
+        _ => false,
+    }
+}
+
+// The contexts whose realms are asked for: the one, or all in tree order.
+fn holders<'a>(browser: &'a Browser, id: &Option<String>) -> Result<Vec<&'a Context>, Refusal>
+    ensures { (past : List Act) → StandsFor browser.now past
+        → (let named = option_map string_bytes id.now in AreTold (λ c. row_of c.now) result (looked_at past named) (map (row_at past) (realm_holders past named true))) }
+{
+    match id {
+        None => Ok(browser.contexts.in_tree_order()?),
+        Some(id) => {
+            let context = context_named(&browser.contexts, id)?;
+            let mut all = Vec::new(browser.alloc);
+            all.push(context)?;
+            Ok(all)
+        }
+    }
+}
+
+// What is told of the realm of each context, where windows are asked for.
+fn windows(
+    alloc: Global,
+    contexts: &[&Context],
+    kind: Option<RealmType>,
+) -> Result<Vec<RealmInfo>, AllocError>
+    ensures tree { IfOk result (λ all. map ⟦<RealmInfo as Shape>⟧.shape.tree_of all.items
+        ≡ (if takes_windows (option_map realm_type_text kind) then map (λ c. realm_info_in (row_of c.now)) contexts.now else [])) }
+    ensures well { IfOk result (λ all. AllByRecursion (λ r. ⟦<RealmInfo as Shape>⟧.shape.well r) all.items) }
+{
+    if takes_windows(kind) {
+        realm_infos(alloc, contexts)
+    } else {
+        Ok(Vec::new(alloc))
+    }
+}
+
+// What is told of the realm of each context.
+fn realm_infos(alloc: Global, contexts: &[&Context]) -> Result<Vec<RealmInfo>, AllocError>
+    ensures tree { IfOk result (λ all. map ⟦<RealmInfo as Shape>⟧.shape.tree_of all.items ≡ map (λ c. realm_info_in (row_of c.now)) contexts.now) }
+    ensures well { IfOk result (λ all. AllByRecursion (λ r. ⟦<RealmInfo as Shape>⟧.shape.well r) all.items) }
+{
+    let mut all = Vec::new(alloc);
+    for context in contexts {
+        all.push(context.own_realm(alloc)?)?;
+    }
+    Ok(all)
 }
 
 // What only looks: its result, and no more.

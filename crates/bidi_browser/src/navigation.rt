@@ -96,11 +96,7 @@ pub(crate) fn plan_reload(
         to: Move::Again,
         gone,
     };
-    Ok(planned(
-        told,
-        navigation,
-        ResultData::BrowsingContextReload(result),
-    ))
+    Ok(planned(told, navigation, ResultData::BrowsingContextReload(result)))
 }
 
 /// Navigates a top-level context to another entry of its session history.

@@ -1,4 +1,4 @@
--- What the tree of a `browsingContext` command in hand asks.
+-- What the tree of a command of the browser in hand asks.
 use Rattle.std.proofs.Common.{◌≡◌, pos, [], ◌∷◌, Option, Some, None, unwrap_or, option_map, option_and_then, codes, String, string_bytes, Global, refl}
 use Rattle.std.specs.Prelude.{if◌then◌else◌}
 use Rattle.bidi_tree.specs.Node as tree
@@ -6,13 +6,13 @@ use Rattle.bidi_tree.specs.Node.{Node}
 use Rattle.bidi_tree.specs.Kind.{text_in, whole_in}
 use Rattle.bidi_tree.specs.declared.number.JsUint.{JsUint}
 use Rattle.bidi_tree.proofs.MemberLemmas.{get_member-put}
-use Rattle.bidi_shape.specs.Name.{close_parameters, create_parameters, get_tree_parameters, navigate_parameters, reload_parameters, traverse_history_parameters}
+use Rattle.bidi_shape.specs.Name.{close_parameters, create_parameters, get_tree_parameters, navigate_parameters, reload_parameters, traverse_history_parameters, get_realms_parameters}
 use Rattle.bidi_shape.specs.Term.{names_of}
 use Rattle.bidi_shape.specs.Profile.{term_of}
 use Rattle.bidi_shape.specs.MapLaws.{PartsAt-joined, unnamed}
 use Rattle.bidi_shape.specs.Table.{rows_in}
 use Rattle.bidi_shape.specs.ValueLaws.{others_of}
-use Rattle.bidi_params.specs.Words.{context_type_text, wait_text}
+use Rattle.bidi_params.specs.Words.{context_type_text, wait_text, realm_type_text}
 use Rattle.bidi_params.specs.contracts.session.capabilities.NewParametersShape.TheImpl as params
 use Rattle.bidi_params.specs.contracts.browsing_context.create.ActivateParametersShape.TheImpl as activate
 use Rattle.bidi_params.specs.contracts.browsing_context.create.CloseParametersShape.TheImpl as close
@@ -21,6 +21,9 @@ use Rattle.bidi_params.specs.contracts.browsing_context.get_tree.GetTreeParamete
 use Rattle.bidi_params.specs.contracts.browsing_context.navigate.NavigateParametersShape.TheImpl as navigate
 use Rattle.bidi_params.specs.contracts.browsing_context.navigate.ReloadParametersShape.TheImpl as reload
 use Rattle.bidi_params.specs.contracts.browsing_context.navigate.TraverseHistoryParametersShape.TheImpl as traverse
+use Rattle.bidi_params.specs.contracts.script.realms.GetRealmsParametersShape.TheImpl as get_realms
+use Rattle.bidi_params.specs.declared.script.realms.RealmType.{RealmType}
+use Rattle.bidi_params.specs.declared.script.realms.GetRealmsParameters.{GetRealmsParameters}
 use Rattle.bidi_params.specs.declared.browsing_context.navigate.Wait as declared_wait
 use Rattle.bidi_params.specs.declared.browsing_context.navigate.Wait.TheVariants as wait
 use Rattle.bidi_params.specs.declared.browsing_context.navigate.NavigateParameters.{NavigateParameters}
@@ -32,7 +35,7 @@ use Rattle.bidi_params.specs.declared.browsing_context.create.ActivateParameters
 use Rattle.bidi_params.specs.declared.browsing_context.create.CloseParameters.{CloseParameters}
 use Rattle.bidi_params.specs.declared.browsing_context.create.CreateParameters.{CreateParameters}
 use Rattle.bidi_params.specs.declared.browsing_context.get_tree.GetTreeParameters.{GetTreeParameters}
-use Rattle.bidi_messages.specs.declared.command.CommandData.TheVariants.{BrowsingContextActivate, BrowsingContextClose, BrowsingContextCreate, BrowsingContextGetTree, BrowsingContextNavigate, BrowsingContextReload, BrowsingContextTraverseHistory}
+use Rattle.bidi_messages.specs.declared.command.CommandData.TheVariants.{BrowsingContextActivate, BrowsingContextClose, BrowsingContextCreate, BrowsingContextGetTree, BrowsingContextNavigate, BrowsingContextReload, BrowsingContextTraverseHistory, ScriptGetRealms}
 use Rattle.bidi_browser.specs.Params.{natural}
 use Rattle.bidi_browser.specs.Actions.{OwnWindow, Tab, Started, Interactive, Complete, is_text}
 use Rattle.bidi_browser.specs.Asked.{create_type_of, wait_of}
@@ -58,6 +61,11 @@ text-optional (Some s) = refl
 number-optional : (o : Option JsUint) → option_map natural (option_and_then whole_in (option_map number_tree o)) ≡ option_map (λ n. n.value) o
 number-optional None = refl
 number-optional (Some n) = refl
+
+-- so does the text of a type of realm
+realm_type-optional : (o : Option RealmType) → option_and_then text_in (option_map (λ t. tree.text (realm_type_text t)) o) ≡ option_map realm_type_text o
+realm_type-optional None = refl
+realm_type-optional (Some t) = refl
 
 -- the text of a type of context reads as that type
 type-read : (t : ContextType) → (if is_text "window" (Some (context_type_text t)) then OwnWindow else Tab) ≡ create_type_of t
@@ -135,3 +143,12 @@ traverse-asks p w =
     let others = others_of p.ext in
     let at = PartsAt-joined rs (Some (text_tree p.context) ∷ Some (tree.whole p.delta.value) ∷ []) others refl tt (unnamed (names_of rs) others w.1.no_known) in
     rw (at.0, at.1.0) refl
+
+-- a `script.getRealms` asks for its context and its type
+pub get_realms-asks : (p : GetRealmsParameters) → get_realms.ghosts.shape.well p
+    → command_in (codes "script.getRealms") (get_realms.ghosts.shape.tree_of p) ≡ asked_of params.ghosts.shape (ScriptGetRealms p)
+get_realms-asks p w =
+    let rs = rows_in (term_of get_realms_parameters) in
+    let others = others_of p.ext in
+    let at = PartsAt-joined rs (option_map text_tree p.context ∷ option_map (λ t. tree.text (realm_type_text t)) p.kind ∷ []) others refl tt (unnamed (names_of rs) others w.1.no_known) in
+    rw (at.0, at.1.0, text-optional p.context, realm_type-optional p.kind) refl

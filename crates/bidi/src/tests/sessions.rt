@@ -155,7 +155,7 @@ open 1 /session
 > 1 {"id":7,"method":"browsingContext.navigate","params":{"context":"00000000-0002-8000-8000-000000000001","url":"about:blank"}}
   < 1 {"id":7,"result":{"navigation":"00000000-0004-8000-8000-000000000002","url":"about:blank"},"type":"success"}
 > 1 {"id":8,"method":"script.getRealms","params":{}}
-  < 1 {"error":"unsupported operation","id":8,"message":"unsupported operation","type":"error"}
+  < 1 {"id":8,"result":{"realms":[{"context":"00000000-0002-8000-8000-000000000001","origin":"null","realm":"00000000-0003-8000-8000-000000000003","type":"window"}]},"type":"success"}
 > 1 {"id":9,"method":"session.status","params":{}}
   < 1 {"id":9,"result":{"message":"ready","ready":true},"type":"success"}
 > 1 {"id":10,"method":"session.fly","params":{}}

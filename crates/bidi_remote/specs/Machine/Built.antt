@@ -19,7 +19,8 @@ abbrev pub built_methods : List String
 built_methods =
     "session.status" ∷ "session.new" ∷ "session.end" ∷ "session.subscribe" ∷ "session.unsubscribe"
     ∷ "browsingContext.activate" ∷ "browsingContext.close" ∷ "browsingContext.create" ∷ "browsingContext.getTree"
-    ∷ "browsingContext.navigate" ∷ "browsingContext.reload" ∷ "browsingContext.traverseHistory" ∷ []
+    ∷ "browsingContext.navigate" ∷ "browsingContext.reload" ∷ "browsingContext.traverseHistory"
+    ∷ "script.getRealms" ∷ []
 
 -- the command has one of them
 abbrev pub is_built : Node → Bool

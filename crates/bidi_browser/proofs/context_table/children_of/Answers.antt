@@ -1,4 +1,4 @@
-use Rattle.std.proofs.Common.{◌∙◌, map, ap, sym, take_all, Some, arith}
+use Rattle.std.proofs.Common.{◌∙◌, map, ap, take_all, Some, arith}
 use Rattle.bidi_browser.specs.ContextRows.{row_of, children_in}
 use Rattle.bidi_browser.proofs.context_table.children_of.Goals as goal
 

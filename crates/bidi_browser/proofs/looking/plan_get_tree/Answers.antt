@@ -5,16 +5,17 @@ use Rattle.bidi_shape.specs.ValueLaws.{others_of}
 use Rattle.bidi_params.specs.contracts.browsing_context.info.InfoShape.TheImpl.{ghosts}
 use Rattle.bidi_messages.specs.declared.result_data.ResultData.TheVariants.{BrowsingContextGetTree}
 use Rattle.bidi_browser.specs.Actions.{GetTree}
+use Rattle.bidi_browser.specs.Asked.{get_tree_asked}
 use Rattle.bidi_browser.specs.Info.{info_of}
 use Rattle.bidi_browser.specs.Maps.{◌being◌and◌, mapped, listed}
 use Rattle.bidi_browser.specs.Occurs.{Replies, roots}
 use Rattle.bidi_browser.proofs.InfoLemmas.{items-below, all-well, none-further}
-use Rattle.bidi_browser.proofs.PlanLemmas.{looked-plans, refused-roots, told-well, result-well}
+use Rattle.bidi_browser.proofs.PlanLemmas.{looked-plans, refused-looks, told-well, result-well}
 use Rattle.bidi_browser.proofs.looking.plan_get_tree.Goals as goal
 
 pub returns-in_err-infos-clause-plans : goal.returns-in_err-infos-clause-plans
 returns-in_err-infos-clause-plans c = λ past moment stands.
-    refused-roots ghosts.shape.tree_of c.roots.result c.from_residual.result c.in_err-infos.field-0.0 past moment c.depth_in.result _ _ c.depth_in.ensures (c.roots.ensures.infos past stands) c.in_err-infos.was c.from_residual.ensures.1
+    refused-looks ghosts.shape.tree_of c.roots.result c.from_residual.result c.in_err-infos.field-0.0 past moment (get_tree_asked c.args.params.now) _ (c.roots.ensures.infos past stands) c.in_err-infos.was c.from_residual.ensures.1
 
 pub returns-clause-plans : goal.returns-clause-plans
 returns-clause-plans c = λ past moment stands.

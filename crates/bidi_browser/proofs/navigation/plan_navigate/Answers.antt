@@ -1,4 +1,4 @@
-use Rattle.std.proofs.Common.{◌≡◌, ◌≤◌, ◌<◌, ◌∙◌, length, refl, sym, ap, ap₂, arith}
+use Rattle.std.proofs.Common.{◌≡◌, ◌∙◌, refl, sym, ap, ap₂, arith}
 use Rattle.bidi_tree.specs.Node.{text, no_members}
 use Rattle.bidi_messages.specs.declared.result_data.ResultData.TheVariants.{BrowsingContextNavigate}
 use Rattle.bidi_browser.specs.declared.id.Kind.TheVariants.{Navigation}

@@ -1,4 +1,4 @@
-use Rattle.std.proofs.Common.{◌∙◌, ◌++◌, ◌≤◌, take, take_all, length, get_or, map, ap, arith}
+use Rattle.std.proofs.Common.{◌∙◌, ◌++◌, take_all, length, get_or, ap, arith}
 use Rattle.std.specs.Prelude.{flat_map}
 use Rattle.std.proofs.lemmas.List.{length-map}
 use Rattle.bidi_browser.specs.ContextRows.{row_of, row_at}

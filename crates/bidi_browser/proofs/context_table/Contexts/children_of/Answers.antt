@@ -1,5 +1,5 @@
 use Rattle.std.proofs.Common.{◌∙◌, map, ap, ap₂, Some}
-use Rattle.bidi_browser.specs.ContextRows.{row_of, row_at, rows, children_in}
+use Rattle.bidi_browser.specs.ContextRows.{row_of, children_in}
 use Rattle.bidi_browser.proofs.RowLemmas.{children-stand}
 use Rattle.bidi_browser.proofs.TableLemmas.{ok-told}
 use Rattle.bidi_browser.proofs.context_table.Contexts.children_of.Goals as goal

@@ -1,8 +1,8 @@
-use Rattle.std.proofs.Common.{◌∙◌, map, Some, sym, ap, subst}
+use Rattle.std.proofs.Common.{◌∙◌, sym, ap}
 use Rattle.std.specs.List.{position}
 use Rattle.std.specs.Prelude.{◌==◌}
 use Rattle.bidi_browser.specs.declared.contexts.Context.{Context}
-use Rattle.bidi_browser.specs.ContextRows.{Row, row_of}
+use Rattle.bidi_browser.specs.ContextRows.{row_of}
 use Rattle.bidi_browser.proofs.MoveLemmas.{changed-at, changed-self}
 use Rattle.bidi_browser.proofs.context_table.Contexts.reserve_in.Goals as goal
 
