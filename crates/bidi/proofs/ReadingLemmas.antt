@@ -50,8 +50,7 @@ one_step (Text c text) (Text d other) a b e = let h = numbered c d text other a.
 one_step (Frame context url) (Frame id other) a b e = let h = named context id url other a.context b.context (ap (drop 6) e) in ap₂ Frame h.0 h.1
 one_step (Unframe context) (Unframe id) a b e = ap Unframe (ap (drop 8) e)
 one_step (Log context level text) (Log id grave other) a b e = let h = logged context id level grave text other a.context b.context (ap (drop 4) e) in let i = h.0 in let j = h.1 in let k = h.2 in cc
-one_step (TableRow text) t a b e = let built = a.built in cc
-one_step s (TableRow text) a b e = let built = b.built in cc
+one_step (TableRow text) (TableRow other) a b e = ap TableRow (ap (drop 6) e)
 one_step s t a b e = absurd (apart (first (line_of s)) (first (line_of t)) (ap first e) refl)
 
 -- the first line, and what is behind it

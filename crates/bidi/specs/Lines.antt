@@ -5,7 +5,6 @@ use Rattle.bidi_values.specs.Level.{level_text}
 use Rattle.bidi_remote.specs.Machine.Step.{Step, At, Open, Drop, Text, NotText, Frame, Unframe, Log, TableRow}
 use Rattle.bidi_remote.specs.Machine.Sent as sent
 use Rattle.bidi_remote.specs.Machine.Sent.{Sent}
-use Rattle.bidi_remote.specs.Machine.Built.{is_built_step}
 
 -- The one line of a step, without its line feed: a word and the fields of the step, each parted by one space; the last is the rest of the line.
 abbrev pub line_of : Step → List ℕ
@@ -46,9 +45,8 @@ IsContext context = (context ≢ []) × (list_any (λ b. b == 32) context ≡ fa
 abbrev pub has_feed : List ℕ → Bool
 has_feed bytes = list_any (λ b. b == 10) bytes
 
--- the parts of a step fit a line: its number is a js-uint, and its context has no space and is not empty. It is one that is built: the line of the table is no play line yet.
+-- the parts of a step fit a line: its number is a js-uint, and its context has no space and is not empty.
 pub record IsSayable (s : Step) : Type 0 where
-  pub built : is_built_step s ≡ true
   pub number : number_of s < 2 ^ 53
   pub context : IfSome (context_in s) IsContext
 

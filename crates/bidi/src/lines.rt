@@ -97,6 +97,8 @@ fn read_words(alloc: Global, line: &str) -> Result<Option<Step>, AllocError>
             None => Ok(None),
             Some((context, level, text)) => Ok(Some(Step::Log(context, level, text))),
         }
+    } else if is_text(word, "value") {
+        Ok(Some(Step::TableRow(String::from_str(alloc, rest)?)))
     } else {
         Ok(None)
     }

@@ -14,4 +14,6 @@ pub mod TableLemmas
 pub mod PlanLemmas
 pub mod NavigationLemmas
 pub mod WalkLemmas
+pub mod ScriptTableLemmas
+pub mod ValueLemmas
 pub mod RowLemmas

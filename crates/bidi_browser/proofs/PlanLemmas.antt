@@ -21,19 +21,20 @@ use Rattle.bidi_browser.specs.declared.plan.Plan.{Plan}
 use Rattle.bidi_browser.specs.declared.plan.Edit.TheVariants.{Keep}
 use Rattle.bidi_browser.specs.declared.id.Kind.TheVariants.{Context, Realm, Window}
 use Rattle.bidi_browser.specs.Urls.{about_blank, parsed}
-use Rattle.bidi_browser.specs.Acts.{Act, Made, Framed, Logged, Looked, next_number}
+use Rattle.bidi_browser.specs.Acts.{Act, Made, Framed, Tabled, Logged, Looked, next_number}
 use Rattle.bidi_browser.specs.Places.{begun_at}
 use Rattle.bidi_browser.specs.Accepted.{AreAccepted}
-use Rattle.bidi_browser.specs.Actions.{Action, Log, is_asked}
+use Rattle.bidi_browser.specs.Actions.{Action, Log, TableRow, is_asked}
 use Rattle.bidi_browser.specs.Found.{AreTold}
 use Rattle.bidi_browser.specs.Maps.{nothing}
 use Rattle.bidi_browser.specs.Contexts.{parent_of, top_of, level_of, window_of, contexts, context_of, tops, subtree_of, tree_order}
 use Rattle.bidi_browser.specs.Checks.{found}
-use Rattle.bidi_browser.specs.Outcome.{outcome, context_named, looked, looked_at, has_room, frame_outcome, log_outcome, oldest_window}
+use Rattle.bidi_browser.specs.Outcome.{outcome, context_named, looked, looked_at, has_room, frame_outcome, log_outcome, oldest_window, row_in, row_checked}
 use Rattle.bidi_browser.specs.Occurrences.{Occurrence, realm_info, realm_destroyed, context_destroyed, removal, tree_events}
 use Rattle.bidi_browser.specs.Occurs.{Happens, Replies, roots, realm_holders, birth, occurs}
 use Rattle.bidi_browser.specs.ContextRows.{Row, row_of, row_at, realm_info_in, created_in, realm_created_in, realm_destroyed_in, entry_added_in}
-use Rattle.bidi_browser.specs.Plans.{Plans, AreWell, IsWellResult, IsWellTold, reply_in, leaves_tables}
+use Rattle.bidi_browser.specs.Params.{text_at}
+use Rattle.bidi_browser.specs.Plans.{Plans, Makes, AreWell, IsWellResult, IsWellTold, reply_in, leaves_tables}
 use Rattle.bidi_browser.specs.View.{seen, result_tree}
 use Rattle.bidi_browser.proofs.BirthLemmas.{row-made, row-framed}
 use Rattle.bidi_browser.proofs.RowLemmas.{oldest-window, created-stand, realms-stand, realms_gone-stand}
@@ -234,4 +235,18 @@ logged-plans past moment c id level line row before after named is told none = (
   refl,
   refl,
   λ unasked. none,
+)
+
+-- ---- the table
+
+-- a row is set, of which nothing is told
+pub row-plans : (plan : Plan) (past : List Act) (moment : ℕ) (row : Option Node) (t : Node) → row ≡ Some t → row_checked past t ≡ Ok tt → plan.before.items ≡ [] → plan.result ≡ None → plan.after.items ≡ []
+    → Makes plan.change past (Tabled (text_at "text" t) (row_in t)) → Plans (Ok plan) past moment (TableRow row)
+row-plans plan past moment row t is checked before reply after makes = (
+  Tabled (text_at "text" t) (row_in t),
+  rw (is, checked) refl,
+  rw (before, reply, after) refl,
+  rw reply refl,
+  makes,
+  λ unasked. after,
 )

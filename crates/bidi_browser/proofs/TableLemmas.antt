@@ -1,5 +1,5 @@
 -- The table in hand by its rows, and by the past that they stand for.
-use Rattle.std.proofs.Common.{◌≡◌, ◌∙◌, ℕ, List, [], ◌∷◌, ◌++◌, map, Bool, true, false, cond, Option, Some, None, Result, Ok, Err, IfOk, refl, sym, ap, ap₂}
+use Rattle.std.proofs.Common.{◌≡◌, ◌∙◌, ℕ, List, [], ◌∷◌, ◌++◌, map, Bool, true, false, cond, Option, Some, None, Result, Ok, Err, IfOk, refl, sym, ap, ap₂, subst}
 use Rattle.std.specs.Prelude.{◌==◌, not, filter, option_map}
 use Rattle.std.specs.Borrow.{Bor}
 use Rattle.std.specs.List.{list_any}
@@ -9,8 +9,10 @@ use Rattle.bidi_browser.specs.Accepted.{AreAccepted}
 use Rattle.bidi_browser.specs.Actions.{Action}
 use Rattle.bidi_browser.specs.Outcome.{outcome}
 use Rattle.bidi_browser.specs.Plans.{leaves_tables}
+use Rattle.bidi_browser.specs.declared.script_table.ScriptTable.{ScriptTable}
+use Rattle.bidi_browser.specs.TableInHand.{AreTabled}
 use Rattle.bidi_browser.specs.Stands.{StandsFor}
-use Rattle.bidi_browser.specs.Acts.{Act, Removed, Logged, Looked}
+use Rattle.bidi_browser.specs.Acts.{Act, Removed, Tabled, Logged, Looked, Row as Said}
 use Rattle.bidi_browser.specs.Contexts.{tops, subtree_of, tree_order}
 use Rattle.bidi_browser.specs.Info.{info_of}
 use Rattle.bidi_browser.specs.ContextRows.{Row, row_of, row_at, rows, children_in, below, info_in}
@@ -73,7 +75,20 @@ removed-rows past a numbers all accepted table is =
 -- an act that leaves the tables as they are leaves what a browser stands for with it
 pub kept-stands : (b : Browser) (past : List Act) (action : Action) (act : Act) → leaves_tables act ≡ true → outcome past action ≡ Ok act → StandsFor b past → StandsFor b (act ∷ past)
 kept-stands b past action Looked leaves done s =
-    record { contexts = record { rows = s.contexts.rows; accepted = (action, done, s.contexts.accepted) }; next_context = s.next_context; next_realm = s.next_realm; next_navigation = s.next_navigation; next_window = s.next_window }
+    record { contexts = record { rows = s.contexts.rows; accepted = (action, done, s.contexts.accepted) }; next_context = s.next_context; next_realm = s.next_realm; next_navigation = s.next_navigation; table = record { rows = s.table.rows; count = s.table.count }; next_window = s.next_window }
 kept-stands b past action (Logged c level line) leaves done s =
-    record { contexts = record { rows = s.contexts.rows; accepted = (action, done, s.contexts.accepted) }; next_context = s.next_context; next_realm = s.next_realm; next_navigation = s.next_navigation; next_window = s.next_window }
+    record { contexts = record { rows = s.contexts.rows; accepted = (action, done, s.contexts.accepted) }; next_context = s.next_context; next_realm = s.next_realm; next_navigation = s.next_navigation; table = record { rows = s.table.rows; count = s.table.count }; next_window = s.next_window }
 kept-stands b past action act leaves done s = absurd (cc)
+
+-- so does a row that is set, with the table that has it
+pub row-stands : (b : Browser) (table : ScriptTable) (past : List Act) (action : Action) (act : Act) (script : List ℕ) (row : Said) → act ≡ Tabled script row → outcome past action ≡ Ok act → AreTabled table (Tabled script row ∷ past) → StandsFor b past
+    → StandsFor (record b { table = table }) (act ∷ past)
+row-stands b table past action act script row is done tabled s =
+    subst (λ a. StandsFor (record b { table = table }) (a ∷ past)) (sym is) (record {
+      contexts = record { rows = s.contexts.rows; accepted = (action, done ∙ ap Ok is, s.contexts.accepted) };
+      next_context = s.next_context;
+      next_realm = s.next_realm;
+      next_navigation = s.next_navigation;
+      table = tabled;
+      next_window = s.next_window;
+    })

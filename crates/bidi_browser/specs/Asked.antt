@@ -13,9 +13,11 @@ use Rattle.bidi_params.specs.declared.browsing_context.navigate.ReloadParameters
 use Rattle.bidi_params.specs.declared.browsing_context.navigate.TraverseHistoryParameters.{TraverseHistoryParameters}
 use Rattle.bidi_params.specs.Words.{realm_type_text}
 use Rattle.bidi_params.specs.declared.script.realms.GetRealmsParameters.{GetRealmsParameters}
+use Rattle.bidi_values.specs.declared.table_row.TableRow as declared_row
+use Rattle.bidi_values.specs.contracts.table_row.TableRowShape.TheImpl as rows
 use Rattle.bidi_browser.specs.declared.action.Action as declared_action
 use Rattle.bidi_browser.specs.declared.action.Action.TheVariants as in_code
-use Rattle.bidi_browser.specs.Actions.{CreateType, Tab, OwnWindow, Wait, Started, Interactive, Complete, Action, Activate, Close, Create, GetTree, Navigate, Reload, TraverseHistory, GetRealms, Frame, Unframe, Log}
+use Rattle.bidi_browser.specs.Actions.{CreateType, Tab, OwnWindow, Wait, Started, Interactive, Complete, Action, Activate, Close, Create, GetTree, Navigate, Reload, TraverseHistory, GetRealms, Frame, Unframe, Log, TableRow}
 
 -- as what a context is created
 abbrev pub create_type_of : ContextType → CreateType
@@ -54,6 +56,9 @@ traverse_asked p = TraverseHistory (string_bytes p.context) p.delta.value
 abbrev pub get_realms_asked : GetRealmsParameters → Action
 get_realms_asked p = GetRealms (option_map string_bytes p.context) (option_map realm_type_text p.kind)
 
+abbrev pub row_asked : Option declared_row.TableRow → Action
+row_asked row = TableRow (option_map rows.ghosts.shape.tree_of row)
+
 -- what an action in hand asks
 abbrev pub action_of : declared_action.Action → Action
 action_of (in_code.Activate p) = activate_asked p.now
@@ -67,3 +72,4 @@ action_of (in_code.GetRealms p) = get_realms_asked p.now
 action_of (in_code.Frame context url) = Frame context.now url.now
 action_of (in_code.Unframe context) = Unframe context.now
 action_of (in_code.Log context level text) = Log context.now level text.now
+action_of (in_code.TableRow row) = row_asked row

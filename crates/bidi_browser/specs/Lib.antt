@@ -19,6 +19,7 @@ pub mod HistoryInHand
 pub mod ContextRows
 pub mod InfosInHand
 pub mod Found
+pub mod TableInHand
 pub mod Asked
 pub mod Navigations
 pub mod Plans

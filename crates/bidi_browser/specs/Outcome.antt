@@ -202,11 +202,20 @@ may_say (EndsIn ending) = may_end_in ending
 may_say (GivesBack n) = true
 
 -- a text has one row, and 1,024 texts have one at most
+abbrev pub takes_row : List Act → List ℕ → Bool
+takes_row past script = is_some (row_of past script) || nat_lt (length (tabled_texts past)) 1024
+
+-- what the row says, then room for it
+abbrev pub row_checked : List Act → Node → Result (Unit {0}) ErrorCode
+row_checked past t = do
+  fit ← need (may_say (row_in t)) InvalidArgument
+  need (takes_row past (text_at "text" t)) UnknownError
+
+-- the row, where the text is one, and its checks
 abbrev pub row_outcome : List Act → Option Node → Result Act ErrorCode
 row_outcome past row = do
   t ← found row InvalidArgument
-  fit ← need (may_say (row_in t)) InvalidArgument
-  room ← need (is_some (row_of past (text_at "text" t)) || nat_lt (length (tabled_texts past)) 1024) UnknownError
+  checked ← row_checked past t
   Ok (Tabled (text_at "text" t) (row_in t))
 
 -- ---- every action

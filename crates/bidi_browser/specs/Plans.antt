@@ -1,5 +1,5 @@
 -- What a plan in hand is: what it tells, and what its change makes of the tables.
-use Rattle.std.specs.Prelude.{◌≡◌, ◌≤◌, ◌<◌, ◌^◌, ◌==◌, ℕ, Bool, true, false, List, [], ◌∷◌, ◌++◌, map, flat_map, get_or, Option, Some, None, Result, Ok, Err, is_some, IfSome, ⊤, vec_len, vec_capacity}
+use Rattle.std.specs.Prelude.{◌≡◌, ◌≤◌, ◌<◌, ◌^◌, ◌==◌, ℕ, Bool, true, false, List, [], ◌∷◌, ◌++◌, map, flat_map, get_or, Option, Some, None, Result, Ok, Err, is_some, IfSome, ⊤, string_bytes, vec_len, vec_capacity}
 use Rattle.std.specs.List.{AllByRecursion, position}
 use Rattle.bidi_tree.specs.Node.{levels}
 use Rattle.bidi_messages.specs.declared.result_data.ResultData.{ResultData}
@@ -16,10 +16,10 @@ use Rattle.bidi_browser.specs.declared.plan.Plan.{Plan}
 use Rattle.bidi_browser.specs.declared.plan.Navigation.{Navigation}
 use Rattle.bidi_browser.specs.declared.plan.Change.{Change}
 use Rattle.bidi_browser.specs.declared.plan.Edit.{Edit}
-use Rattle.bidi_browser.specs.declared.plan.Edit.TheVariants.{Keep, Add, Remove, Navigate}
+use Rattle.bidi_browser.specs.declared.plan.Edit.TheVariants.{Keep, Add, Remove, Navigate, SetRow}
 use Rattle.bidi_browser.specs.declared.refusal.Refusal.{Refusal}
 use Rattle.bidi_browser.specs.declared.refusal.Refusal.TheVariants.{Code, NoMemory}
-use Rattle.bidi_browser.specs.Acts.{Act, Removed, Moved, Logged, Looked, gives, next_number}
+use Rattle.bidi_browser.specs.Acts.{Act, Removed, Moved, Tabled, Logged, Looked, gives, next_number}
 use Rattle.bidi_browser.specs.Contexts.{children_of, subtree_of}
 use Rattle.bidi_browser.specs.Actions.{Action, is_asked}
 use Rattle.bidi_browser.specs.Outcome.{outcome}
@@ -27,6 +27,7 @@ use Rattle.bidi_browser.specs.Occurs.{Item, Happens, Replies, occurs}
 use Rattle.bidi_browser.specs.Places.{entries_of}
 use Rattle.bidi_browser.specs.ContextRows.{row_of, row_at}
 use Rattle.bidi_browser.specs.HistoryInHand.{move_of, Leads, HasRoomFor}
+use Rattle.bidi_browser.specs.TableInHand.{row_seen, HasRoomForRow}
 use Rattle.bidi_browser.specs.View.{seen, result_tree}
 
 -- ---- ids and room
@@ -47,6 +48,7 @@ HasRoomIn contexts number move = (i : ℕ) (d : declared_context.Context) → po
 abbrev pub EditHasRoom : Browser → Edit → Type 0
 EditHasRoom browser (Add context opens_window) = HasRoomForOne browser.contexts
 EditHasRoom browser (Navigate n) = HasRoomIn browser.contexts n.context n.to
+EditHasRoom browser (SetRow script row) = HasRoomForRow browser.table
 EditHasRoom browser edit = ⊤
 
 abbrev pub HasRoom : Browser → Change → Type 0
@@ -98,6 +100,7 @@ EditMakes (Add context opens_window) past act =
     (gives Context act ≡ true) × (row_of context ≡ row_at (act ∷ past) (next_number past Context)) × (opens_window ≡ gives Window act)
 EditMakes (Remove numbers) past act = (c : ℕ) × (act ≡ Removed c) × (numbers.items ≡ subtree_of past c)
 EditMakes (Navigate n) past act = (act ≡ Moved n.context (move_of n.to)) × IsNavigation n past
+EditMakes (SetRow script row) past act = act ≡ Tabled (string_bytes script) (row_seen row)
 
 abbrev pub Makes : Change → List Act → Act → Type 0
 Makes change past act = EditMakes change.edit past act

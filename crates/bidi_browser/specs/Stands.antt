@@ -6,6 +6,7 @@ use Rattle.bidi_browser.specs.declared.context_table.Contexts.{Contexts}
 use Rattle.bidi_browser.specs.Acts.{Act, next_number}
 use Rattle.bidi_browser.specs.Accepted.{AreAccepted}
 use Rattle.bidi_browser.specs.ContextRows.{row_of, rows}
+use Rattle.bidi_browser.specs.TableInHand.{AreTabled}
 
 -- the table has a row for each live context, as the past says, and the past is one that can be
 pub record IsTableOf (contexts : Contexts) (past : List Act) : Type 0 where
@@ -18,4 +19,5 @@ pub record StandsFor (browser : Browser) (past : List Act) : Type 0 where
   pub next_context : browser.next_context ≡ next_number past Context
   pub next_realm : browser.next_realm ≡ next_number past Realm
   pub next_navigation : browser.next_navigation ≡ next_number past Navigation
+  pub table : AreTabled browser.table past
   pub next_window : browser.next_window ≡ next_number past Window

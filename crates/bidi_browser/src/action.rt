@@ -3,10 +3,10 @@ use bidi_params::{
     ActivateParameters, CloseParameters, CreateParameters, GetRealmsParameters, GetTreeParameters,
     NavigateParameters, ReloadParameters, TraverseHistoryParameters,
 };
-use bidi_values::Level;
+use bidi_values::{Level, TableRow};
 
 /// A command of the browser, by its parameters, or a step of a page.
-#[derive(Clone, Copy)]
+#[derive(Drop)]
 pub enum Action<'a> {
     Activate(&'a ActivateParameters),
     Close(&'a CloseParameters),
@@ -22,4 +22,6 @@ pub enum Action<'a> {
     Unframe(&'a str),
     /// A text is logged in the context of that id, as grave as is said.
     Log(&'a str, Level, &'a str),
+    /// A row is set in the table, where the text of the step is one.
+    TableRow(Option<TableRow>),
 }

@@ -20,6 +20,8 @@ use crate::occurrence::Occurrence;
 use crate::plan::{Change, Edit, Numbers, Plan};
 use crate::refusal::Refusal;
 use crate::removals::{plan_close, plan_unframe};
+use crate::script_table::ScriptTable;
+use crate::tabling::plan_row;
 use crate::telling::{push_created, push_realms};
 use bidi_messages::{ErrorCode, EventData, EventName, Subject};
 use bidi_tree::JsUint;
@@ -31,7 +33,8 @@ const MOST_CONTEXTS: usize = 1024;
 /// The numbers that ids can show lie below it.
 const NO_ID: u64 = 1 << 48;
 
-/// A browser held in memory: its live contexts, each with its window, its realm and its session history.
+/// A browser held in memory: its live contexts, each with its window, its realm and its session history, and the table
+/// that stands for running scripts.
 ///
 /// What it is asked it first plans, and changes nothing; then a plan's change is given room, and put in place without
 /// a further growth. So whoever tells of a plan can do so between the two, and give up while all is as it was.
@@ -39,6 +42,7 @@ const NO_ID: u64 = 1 << 48;
 pub struct Browser {
     pub(crate) alloc: Global,
     pub(crate) contexts: Contexts,
+    pub(crate) table: ScriptTable,
     /// The numbers that the next context, realm, navigation and window get.
     pub(crate) next_context: u64,
     pub(crate) next_realm: u64,
@@ -61,6 +65,7 @@ impl Browser {
         Ok(Browser {
             alloc,
             contexts: Contexts::new(alloc)?,
+            table: ScriptTable::new(alloc),
             next_context: 2,
             next_realm: 2,
             next_navigation: 1,
@@ -96,6 +101,7 @@ impl Browser {
             Action::Frame(context, url) => plan_frame(self, context, url),
             Action::Unframe(context) => plan_unframe(self, context),
             Action::Log(context, level, text) => plan_log(self, moment, context, level, text),
+            Action::TableRow(row) => plan_row(self, row),
         }
     }
 
@@ -110,6 +116,7 @@ impl Browser {
         match &change.edit {
             Edit::Add { .. } => self.contexts.reserve(),
             Edit::Navigate(navigation) => self.contexts.reserve_in(navigation),
+            Edit::SetRow(..) => self.table.reserve(),
             _ => Ok(()),
         }
     }
@@ -140,6 +147,7 @@ impl Browser {
                 self.next_navigation = self.next_navigation.wrapping_add(1);
                 self.contexts.navigate(navigation);
             }
+            Edit::SetRow(text, row) => self.table.set(text, row),
         }
     }
 

@@ -20,9 +20,12 @@ mod occurrence;
 mod plan;
 mod refusal;
 mod removals;
+mod script_table;
 mod session_history;
+mod tabling;
 mod telling;
 mod urls;
+mod values;
 
 pub use action::Action;
 pub use browser::Browser;

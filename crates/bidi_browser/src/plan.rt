@@ -3,6 +3,7 @@ ghost use Rattle.std.specs.Prelude.{◌<◌, ◌^◌};
 
 use crate::contexts::Context;
 use crate::occurrence::Occurrence;
+use crate::script_table::ScriptRow;
 use crate::session_history::Move;
 use bidi_messages::ResultData;
 
@@ -38,6 +39,8 @@ pub(crate) enum Edit {
     Remove(Vec<u64>),
     /// A context navigates.
     Navigate(Navigation),
+    /// A text gets its row in the table.
+    SetRow(String, ScriptRow),
 }
 
 /// A context moves in its session history: it has a new realm, and all below it goes, by their numbers.

@@ -17,6 +17,7 @@ pub mod OpeningLemmas
 pub mod TurnLemmas
 pub mod ChangeLemmas
 pub mod TakeLemmas
+pub mod RowReadLemmas
 pub mod BrowseLemmas
 pub mod TellLemmas
 pub mod DecideLemmas

@@ -7,6 +7,7 @@ pub mod SubscriptionRows
 pub mod SessionView
 pub mod Messages
 pub mod Routes
+pub mod RowsRead
 pub mod Asked
 pub mod Checked
 pub mod Turns

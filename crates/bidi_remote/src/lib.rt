@@ -12,6 +12,7 @@ mod deciding;
 mod event_texts;
 mod log_buffer;
 mod remote_end;
+mod rows;
 mod session;
 mod sessions;
 mod step;

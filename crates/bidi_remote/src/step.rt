@@ -21,6 +21,8 @@ pub enum Step {
     Unframe(String),
     /// A text is logged in the context of that id, as grave as is said.
     Log(String, Level, String),
+    /// A row is set in the table of scripts, where the text is one.
+    TableRow(String),
 }
 
 /// What a remote end sends, or tells of a connection.

@@ -23,6 +23,7 @@ ghost use Rattle.bidi_remote.specs.Tables.View.{step_of, sent_of};
 use crate::connections::{Connections, Standing};
 use crate::deciding::decide;
 use crate::event_texts::event_texts;
+use crate::rows::read_row;
 use crate::sessions::Sessions;
 use crate::step::{Sent, Step};
 use crate::telling::{tell, tell_entry};
@@ -85,6 +86,10 @@ impl Tables {
             Step::Unframe(context) => self.page(alloc, Action::Unframe(context.as_str())),
             Step::Log(context, level, text) => {
                 self.log(alloc, context.as_str(), level, text.as_str())
+            }
+            Step::TableRow(text) => {
+                let row = read_row(alloc, text.as_str())?;
+                self.page(alloc, Action::TableRow(row))
             }
         }
     }

@@ -1,7 +1,8 @@
-//! Realms, as a script module lists them.
+//! Realms that are listed, and rows of the table that stands for running scripts.
 //!
 //! Ids stand as short words, as `with_ids` says.
 use super::check_plays;
+use std::alloc::{AllocError, Global};
 use std::test::Fail;
 
 /// What getRealms lists.
@@ -81,4 +82,91 @@ open 2 /session
 #[test]
 fn realms_are_listed(rt: HostRuntime) -> Result<(), Fail> {
     check_plays(&rt, REALMS)
+}
+
+/// Rows that are taken, which tell nothing, and others, which have no effect.
+const ROWS: &str = r#"a value that is returned or thrown, or an argument that is given back
+BEGUN
+value {"text":"o","returns":{"type":"object","value":[["a",{"type":"number","value":1}]]}}
+value {"throws":{"type":"error"},"text":"t"}
+value {"text":"a","argument":0}
+value {"argument":9007199254740991,"text":""}
+value  {"text":"o","returns":{"type":"undefined"}}
+
+no tree, and trees that are no row
+BEGUN
+value x
+  no effect
+value {"text":"o","argument":0
+  no effect
+value []
+  no effect
+value {}
+  no effect
+value {"text":"o"}
+  no effect
+value {"text":1,"argument":0}
+  no effect
+value {"text":"o","argument":-1}
+  no effect
+value {"text":"o","argument":9007199254740992}
+  no effect
+value {"text":"o","argument":1.5}
+  no effect
+value {"text":"o","argument":0,"x":1}
+  no effect
+value {"text":"o","returns":{"type":"undefined"},"throws":{"type":"undefined"}}
+  no effect
+value {"text":"o","returns":{"type":"node"}}
+  no effect
+value {"text":"o","returns":{"type":"undefined","x":1}}
+  no effect
+
+a handle or an internal id at any depth, which a text of that name is not
+BEGUN
+value {"text":"o","returns":{"type":"symbol","handle":"h"}}
+  no effect
+value {"text":"o","throws":{"type":"symbol","internalId":"i"}}
+  no effect
+value {"text":"o","returns":{"type":"array","value":[{"type":"set","value":[{"type":"date","value":"d","internalId":"i"}]}]}}
+  no effect
+value {"text":"o","returns":{"type":"map","value":[[{"type":"regexp","value":{"pattern":"p"},"handle":"h"},{"type":"null"}]]}}
+  no effect
+value {"text":"o","throws":{"type":"object","value":[["k",{"type":"map","value":[],"handle":"h"}]]}}
+  no effect
+value {"text":"handle","returns":{"type":"object","value":[["handle",{"type":"string","value":"internalId"}]]}}
+
+a thrown value has at most 59 levels, and a returned one 60
+BEGUN
+value {"text":"d","throws":{"type":"array","value":[{"type":"array","value":[{"type":"array","value":[{"type":"array","value":[{"type":"array","value":[{"type":"array","value":[{"type":"array","value":[{"type":"array","value":[{"type":"array","value":[{"type":"array","value":[{"type":"array","value":[{"type":"array","value":[{"type":"array","value":[{"type":"array","value":[{"type":"array","value":[{"type":"array","value":[{"type":"array","value":[{"type":"array","value":[{"type":"array","value":[{"type":"array","value":[{"type":"array","value":[{"type":"array","value":[{"type":"array","value":[{"type":"array","value":[{"type":"array","value":[{"type":"array","value":[{"type":"array","value":[{"type":"array","value":[{"type":"array","value":[{"type":"array","value":[]}]}]}]}]}]}]}]}]}]}]}]}]}]}]}]}]}]}]}]}]}]}]}]}]}]}]}]}]}]}}
+  no effect
+value {"text":"d","throws":{"type":"array","value":[{"type":"array","value":[{"type":"array","value":[{"type":"array","value":[{"type":"array","value":[{"type":"array","value":[{"type":"array","value":[{"type":"array","value":[{"type":"array","value":[{"type":"array","value":[{"type":"array","value":[{"type":"array","value":[{"type":"array","value":[{"type":"array","value":[{"type":"array","value":[{"type":"array","value":[{"type":"array","value":[{"type":"array","value":[{"type":"array","value":[{"type":"array","value":[{"type":"array","value":[{"type":"array","value":[{"type":"array","value":[{"type":"array","value":[{"type":"array","value":[{"type":"array","value":[{"type":"array","value":[{"type":"array","value":[{"type":"array","value":[{"type":"array"}]}]}]}]}]}]}]}]}]}]}]}]}]}]}]}]}]}]}]}]}]}]}]}]}]}]}]}]}]}}
+value {"text":"d","returns":{"type":"array","value":[{"type":"array","value":[{"type":"array","value":[{"type":"array","value":[{"type":"array","value":[{"type":"array","value":[{"type":"array","value":[{"type":"array","value":[{"type":"array","value":[{"type":"array","value":[{"type":"array","value":[{"type":"array","value":[{"type":"array","value":[{"type":"array","value":[{"type":"array","value":[{"type":"array","value":[{"type":"array","value":[{"type":"array","value":[{"type":"array","value":[{"type":"array","value":[{"type":"array","value":[{"type":"array","value":[{"type":"array","value":[{"type":"array","value":[{"type":"array","value":[{"type":"array","value":[{"type":"array","value":[{"type":"array","value":[{"type":"array","value":[{"type":"array","value":[]}]}]}]}]}]}]}]}]}]}]}]}]}]}]}]}]}]}]}]}]}]}]}]}]}]}]}]}]}]}}
+value {"text":"d","returns":{"type":"array","value":[{"type":"array","value":[{"type":"array","value":[{"type":"array","value":[{"type":"array","value":[{"type":"array","value":[{"type":"array","value":[{"type":"array","value":[{"type":"array","value":[{"type":"array","value":[{"type":"array","value":[{"type":"array","value":[{"type":"array","value":[{"type":"array","value":[{"type":"array","value":[{"type":"array","value":[{"type":"array","value":[{"type":"array","value":[{"type":"array","value":[{"type":"array","value":[{"type":"array","value":[{"type":"array","value":[{"type":"array","value":[{"type":"array","value":[{"type":"array","value":[{"type":"array","value":[{"type":"array","value":[{"type":"array","value":[{"type":"array","value":[{"type":"array","value":[{"type":"array","value":[]}]}]}]}]}]}]}]}]}]}]}]}]}]}]}]}]}]}]}]}]}]}]}]}]}]}]}]}]}]}]}}
+  no effect"#;
+
+/// Rows of 1,024 texts and more.
+const PAST_1024: &str = r#"1,024 texts have a row at most
+BEGUN
+FILLED
+value {"text":"1025","argument":0}
+  no effect
+value {"text":"7","throws":{"type":"error"}}
+value {"text":"","argument":0}
+  no effect
+value {"text":"1024","argument":1}"#;
+
+#[test]
+fn a_row_is_taken_or_has_no_effect(rt: HostRuntime) -> Result<(), Fail> {
+    check_plays(&rt, ROWS)?;
+    check_plays(&rt, filled(rt.alloc(), PAST_1024)?.as_str())
+}
+
+/// The table with the lines of 1,024 rows.
+fn filled(alloc: Global, table: &str) -> Result<String, AllocError> {
+    let mut lines = String::new(alloc);
+    for n in 1..=1024u16 {
+        writeln!(lines, r#"value {{"text":"{n}","argument":{n}}}"#)?;
+    }
+    table.replace(alloc, "FILLED\n", lines.as_str())
 }

@@ -1,13 +1,12 @@
--- What the remote end does so far. The definitions speak of every command and step; this file says which of them are not
--- built yet, and goes when all are.
+-- What the remote end does so far. The definitions speak of every command; this file says which of them are not built yet,
+-- and goes when all are.
 use Prim.Native.String.{String}
-use Rattle.std.specs.Prelude.{Bool, true, false, List, [], ◌∷◌, if◌then◌else◌, codes, bytes_eq, Some}
+use Rattle.std.specs.Prelude.{Bool, List, [], ◌∷◌, if◌then◌else◌, codes, bytes_eq, Some}
 use Rattle.std.specs.List.{list_any}
 use Rattle.bidi_tree.specs.Node.{Node}
 use Rattle.bidi_messages.specs.declared.error_code.ErrorCode.TheVariants.{UnsupportedOperation}
 use Rattle.bidi_messages.specs.Verdict.{Verdict, Accepted, Refused}
 use Rattle.bidi_browser.specs.Params.{text_at}
-use Rattle.bidi_remote.specs.Machine.Step.{Step, At, Open, Drop, Text, NotText, Frame, Unframe, Log, TableRow}
 use Rattle.bidi_remote.specs.Machine.Commands.{id_of_command}
 use Rattle.bidi_remote.specs.Machine.History as history
 use Rattle.bidi_remote.specs.Machine.History.{Input, Heard, InPage, Deed}
@@ -49,15 +48,3 @@ all_so_far_after h (i ∷ inputs) = let j = so_far (deeds h) i in j ∷ all_so_f
 
 abbrev pub all_so_far : List Input → List Input
 all_so_far inputs = all_so_far_after [] inputs
-
--- the steps that are built: the table is not
-abbrev pub is_built_step : Step → Bool
-is_built_step (At n) = true
-is_built_step (Open c resource) = true
-is_built_step (Drop c) = true
-is_built_step (Text c text) = true
-is_built_step (NotText c) = true
-is_built_step (Frame id url) = true
-is_built_step (Unframe id) = true
-is_built_step (Log id level text) = true
-is_built_step (TableRow text) = false

@@ -16,6 +16,7 @@ step_of (step_in_code.NotText c) = step.NotText c.value
 step_of (step_in_code.Frame context url) = step.Frame (string_bytes context) (string_bytes url)
 step_of (step_in_code.Unframe context) = step.Unframe (string_bytes context)
 step_of (step_in_code.Log context level text) = step.Log (string_bytes context) level (string_bytes text)
+step_of (step_in_code.TableRow text) = step.TableRow (string_bytes text)
 
 abbrev pub sent_of : declared_sent.Sent → sent.Sent
 sent_of (sent_in_code.Text c text) = sent.Text c.value (string_bytes text)

@@ -1,8 +1,11 @@
 use Rattle.std.proofs.Common.{refl, sym, subst, ap, ap₂, ◌∙◌, map, Ok}
 use Rattle.bidi_browser.specs.Actions.{Frame, Unframe, Log}
+use Rattle.std.specs.Prelude.{option_map}
+use Rattle.bidi_values.specs.contracts.table_row.TableRowShape.TheImpl.{ghosts}
+use Rattle.bidi_browser.specs.Asked.{row_asked}
 use Rattle.bidi_remote.specs.declared.step.Step.{Step}
 use Rattle.bidi_remote.specs.Machine.Step.{Text}
-use Rattle.bidi_remote.specs.Machine.History.{At, Open, Drop, NotText, InPage, Time, IsHeardAs}
+use Rattle.bidi_remote.specs.Machine.History.{At, Open, Drop, NotText, InPage, Time, IsHeardAs, IsRow}
 use Rattle.bidi_remote.specs.Machine.Outcome.{deeds}
 use Rattle.bidi_remote.specs.Tables.View.{step_of, sent_of}
 use Rattle.bidi_remote.proofs.ChangeLemmas.{agree-time}
@@ -55,3 +58,12 @@ returns-in-Log-clause-ok c =
     let action = Log c.as_str-in-Log.result.now c.in-Log.level c.as_str-in-Log-2.result.now in
     page_heard c.log.result (step_of c.args.step) c.args.self.now c.log.new.self action
     (subst (λ (s : Step). IsHeardAs (step_of s) (InPage action)) (sym c.in-Log.is) (ap₂ (λ id line. InPage (Log id c.in-Log.level line)) c.as_str-in-Log.ensures.value c.as_str-in-Log-2.ensures.value)) c.log.ensures.ok
+
+pub returns-in_ok-row-in-TableRow-clause-ok : goal.returns-in_ok-row-in-TableRow-clause-ok
+returns-in_ok-row-in-TableRow-clause-ok c =
+    let row = c.in_ok-row-in-TableRow.row in
+    let action = row_asked row in
+    page_heard c.page-in-TableRow.result (step_of c.args.step) c.args.self.now c.page-in-TableRow.new.self action
+    (subst (λ (s : Step). IsHeardAs (step_of s) (InPage action)) (sym c.in-TableRow.is)
+    (option_map ghosts.shape.tree_of row, subst (λ t. IsRow t (option_map ghosts.shape.tree_of row)) c.as_str-in-TableRow.ensures.value c.in_ok-row-in-TableRow.ensures, refl))
+    (λ h short a. c.page-in-TableRow.ensures.ok h short a refl refl)

@@ -1,0 +1,57 @@
+-- What contracts see of rows of the table in hand: what each says, and the past that the table stands for.
+use Rattle.std.specs.Prelude.{◌≡◌, ◌≤◌, Bool, true, false, List, length, option_map, Result, Ok, Err, ⊤, String, string_bytes}
+use Rattle.std.specs.String.{string_eq}
+use Rattle.std.specs.HashMap.{get, spare, hash_map_len}
+use Rattle.std.specs.declared.alloc.Global.{Global}
+use Rattle.bidi_tree.specs.Node.{Node}
+use Rattle.bidi_values.specs.View.{nested_tree}
+use Rattle.bidi_values.specs.declared.nested.Nested.{Nested}
+use Rattle.bidi_values.specs.declared.remote_value.RemotePlain.{RemotePlain}
+use Rattle.bidi_values.specs.declared.held.RemoteList.{RemoteList}
+use Rattle.bidi_values.specs.declared.held.RemotePairs.{RemotePairs}
+use Rattle.bidi_values.specs.declared.table_row.TableRow.{TableRow}
+use Rattle.bidi_values.specs.declared.table_row.TableRow.TheVariants as read
+use Rattle.bidi_values.specs.contracts.table_row.TableRowShape.TheImpl as rows
+use Rattle.bidi_values.specs.contracts.remote_value.RemotePlainNestsRemoteListRemotePairs.TheImpl as remote
+use Rattle.bidi_browser.specs.declared.refusal.Refusal.{Refusal}
+use Rattle.bidi_browser.specs.declared.refusal.Refusal.TheVariants.{Code, NoMemory}
+use Rattle.bidi_browser.specs.declared.script_table.ScriptRow as declared_row
+use Rattle.bidi_browser.specs.declared.script_table.ScriptRow.TheVariants as in_code
+use Rattle.bidi_browser.specs.declared.script_table.ScriptTable.{ScriptTable}
+use Rattle.bidi_browser.specs.Acts.{Act, Row, EndsIn, GivesBack, Returned, Threw}
+use Rattle.bidi_browser.specs.Outcome.{row_checked}
+use Rattle.bidi_browser.specs.Realms.{row_of, tabled_texts}
+
+-- the tree of a remote value in hand
+abbrev pub remote_tree : Nested RemotePlain RemoteList RemotePairs → Node
+remote_tree v = nested_tree remote.ghosts.nesting v
+
+-- the tree of a row that was read
+abbrev pub row_tree : TableRow → Node
+row_tree row = rows.ghosts.shape.tree_of row
+
+-- it throws a value
+abbrev pub throws : TableRow → Bool
+throws (read.Throws row) = true
+throws row = false
+
+-- what a row of the table says
+abbrev pub row_seen : declared_row.ScriptRow → Row
+row_seen (in_code.Returns value) = EndsIn (Returned (remote_tree value))
+row_seen (in_code.Throws value) = EndsIn (Threw (remote_tree value))
+row_seen (in_code.Argument n) = GivesBack n
+
+-- the table has the row of each text, and no other, as the past says
+pub record AreTabled (table : ScriptTable) (past : List Act) : Type 0 where
+  pub rows : (text : String Global) → option_map row_seen (get string_eq table.rows text) ≡ row_of past (string_bytes text)
+  pub count : hash_map_len table.rows ≡ length (tabled_texts past)
+
+-- there is room for one more row
+abbrev pub HasRoomForRow : ScriptTable → Type 0
+HasRoomForRow table = 1 ≤ spare table.rows
+
+-- the checks of a row in hand are those of the definition, or a growth was refused
+abbrev pub IsRowChecked : Result (Unit {0}) Refusal → List Act → Node → Type 0
+IsRowChecked (Ok u) past t = row_checked past t ≡ Ok tt
+IsRowChecked (Err (Code code)) past t = row_checked past t ≡ Err code
+IsRowChecked (Err NoMemory) past t = ⊤

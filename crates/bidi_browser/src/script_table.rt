@@ -1,0 +1,62 @@
+//! The table that stands for running scripts.
+ghost use Rattle.std.specs.Prelude.{◌≡◌, List, [], ◌∷◌, OnOk, string_bytes};
+
+use bidi_values::RemoteValue;
+use std::alloc::{AllocError, Global};
+use std::collections::HashMap;
+
+/// How many texts have a row.
+const MOST_ROWS: usize = 1024;
+
+/// What a script does.
+#[derive(Drop)]
+pub(crate) enum ScriptRow {
+    Returns(RemoteValue),
+    Throws(RemoteValue),
+    /// It gives back the argument of that number, counted from 0.
+    Argument(u64),
+}
+
+/// The rows of the table, each by the text of its scripts.
+#[derive(Drop)]
+pub(crate) struct ScriptTable {
+    rows: HashMap<String, ScriptRow>,
+}
+
+impl ScriptTable {
+    ghost use Rattle.bidi_browser.specs.Acts.{Act, Tabled};
+    ghost use Rattle.bidi_browser.specs.Outcome.{takes_row};
+    ghost use Rattle.bidi_browser.specs.TableInHand.{AreTabled, HasRoomForRow, row_seen};
+
+    /// No text has a row. Takes no memory.
+    pub(crate) fn new(alloc: Global) -> ScriptTable
+        ensures { AreTabled result [] }
+    {
+        ScriptTable {
+            rows: HashMap::new(alloc),
+        }
+    }
+
+    /// Whether a text may get a row: it has one already, or fewer than 1,024 texts have.
+    pub(crate) fn takes(&self, text: &String) -> bool
+        ensures { (past : List Act) → AreTabled self.now past → result ≡ takes_row past (string_bytes text.now) }
+    {
+        self.rows.contains_key(text) || self.rows.len() < MOST_ROWS
+    }
+
+    /// Makes room for one more row.
+    pub(crate) fn reserve(&mut self) -> Result<(), AllocError>
+        ensures kept { (past : List Act) → AreTabled self.old past → AreTabled self.new past }
+        ensures room { OnOk result (HasRoomForRow self.new) }
+    {
+        self.rows.reserve(1)
+    }
+
+    /// Gives a text its row, in place of the one that it has. Takes no memory.
+    pub(crate) fn set(&mut self, text: String, row: ScriptRow)
+        requires { HasRoomForRow self.now }
+        ensures { (past : List Act) → AreTabled self.old past → AreTabled self.new (Tabled (string_bytes text) (row_seen row) ∷ past) }
+    {
+        drop(self.rows.insert(text, row));
+    }
+}

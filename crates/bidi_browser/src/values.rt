@@ -1,0 +1,49 @@
+//! Values that come from a play.
+ghost use Rattle.std.specs.Prelude.{◌≡◌, ◌∷◌, [], string_bytes};
+ghost use Rattle.bidi_tree.specs.View.{node, items_node, members_node};
+ghost use Rattle.bidi_browser.specs.Values.{is_one_of, has_handle, items_have_handle, members_have_handle};
+
+use bidi_tree::{Members, Tree};
+
+/// Whether a member `handle` or `internalId` stands in a tree, at any depth.
+#[cycle(handles)]
+pub(crate) fn has_handle(tree: &Tree) -> bool
+    ensures { result ≡ has_handle (node tree.now) }
+{
+    match tree {
+        Tree::Null | Tree::Bool(_) | Tree::Int(_) | Tree::Odd | Tree::Text(_) => false,
+        Tree::List(items) => items_have_handle(items),
+        Tree::Map(members) => members_have_handle(members),
+    }
+}
+
+#[cycle(handles)]
+fn items_have_handle(items: &Vec<Tree>) -> bool
+    ensures { result ≡ items_have_handle (items_node items.now.items) }
+{
+    for item in items {
+        if has_handle(item) {
+            return true;
+        }
+    }
+    false
+}
+
+#[cycle(handles)]
+fn members_have_handle(members: &Members) -> bool
+    ensures { result ≡ members_have_handle (members_node members.now.entries) }
+{
+    for (name, member) in members.iter() {
+        if names_a_handle(name) || has_handle(member) {
+            return true;
+        }
+    }
+    false
+}
+
+// Whether it is the name of such a member.
+fn names_a_handle(name: &String) -> bool
+    ensures { result ≡ is_one_of ("handle" ∷ "internalId" ∷ []) (string_bytes name.now) }
+{
+    name.as_str() == "handle" || name.as_str() == "internalId"
+}
