@@ -190,7 +190,7 @@ under-self (Framed p url ∷ past) c = self-step (c == next_number past Context)
 under-self (act ∷ past) c = under-self past c
 
 -- two tests agree where each follows from the other
-agree : (x y : Bool) → (x ≡ true → y ≡ true) → (y ≡ true → x ≡ true) → x ≡ y
+pub agree : (x y : Bool) → (x ≡ true → y ≡ true) → (y ≡ true → x ≡ true) → x ≡ y
 agree true y there back = sym (there refl)
 agree false true there back = back refl
 agree false false there back = refl

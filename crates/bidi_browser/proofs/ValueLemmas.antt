@@ -2,12 +2,7 @@
 use Rattle.std.proofs.Common.{◌≡◌, ℕ, Bool, true, false, List, refl, sym}
 use Rattle.std.specs.Prelude.{◌||◌, bytes_eq}
 use Rattle.std.proofs.lemmas.Slice.Eq.{bytes_eq-Decides}
-
--- two tests that follow from each other
-agree : (x y : Bool) → (x ≡ true → y ≡ true) → (y ≡ true → x ≡ true) → x ≡ y
-agree true y there back = sym (there refl)
-agree false true there back = back refl
-agree false false there back = refl
+use Rattle.bidi_browser.proofs.RemovalLemmas.{agree}
 
 -- two texts are equal either way
 pub same-either : (xs ys : List ℕ) → bytes_eq xs ys ≡ bytes_eq ys xs
