@@ -76,7 +76,8 @@ impl Browser {
     /// What an action comes to at a moment. Nothing is changed.
     ///
     /// Looks through the live contexts. An Info looks through them once for each context in it; a removal makes an event
-    /// for each context that goes, and so does a navigation, which copies nothing of a session history.
+    /// for each context that goes, and so does a navigation, which copies nothing of a session history. A row of the table costs the writing of
+    /// its tree, and a look-up of its text.
     ///
     /// # Errors
     /// - `Code`: the first check that fails, in the order of each command; of a step of a page, which then has no
