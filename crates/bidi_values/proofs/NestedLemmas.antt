@@ -17,8 +17,8 @@ use Rattle.bidi_shape.specs.Fits.{Fits, AllFit, fits_pair}
 use Rattle.bidi_shape.specs.Value.{ShapeOf}
 use Rattle.bidi_shape.proofs.FitsLemmas.{list_inside, rule_inside}
 use Rattle.bidi_values.specs.BesideLaws.{BesideOf, and_value, around, holding, value_inside, value_levels}
-use Rattle.bidi_values.specs.Content.{content, pair_content, contents_of, pairs_of, content-Plain, content-List, content-Pairs}
-use Rattle.bidi_values.specs.NestedLaws.{NestingOf, SameBeside, Agrees, value_tree, values_tree, pairs_tree, pair_node, PartsAreWell, ValuesAreWell, PairsAreWell, same_items, same_pair, value_fits_inside}
+use Rattle.bidi_values.specs.Content.{content, list, pairs, pair_content, contents_of, pairs_of, content-Plain, content-List, content-Pairs}
+use Rattle.bidi_values.specs.NestedLaws.{NestingOf, SameBeside, Agrees, value_tree, values_tree, pairs_tree, pair_node, PartsAreWell, ValuesAreWell, PairsAreWell, IsWell, Same, value_one, same_items, same_pair, value_fits_inside}
 use Rattle.bidi_values.specs.View.{nested_tree, nested_pair_tree, NestedIsWell, NestedPairIsWell}
 use Rattle.bidi_values.specs.declared.nested.Nested.{Nested, Plain as PlainOf, List as ListOf, Pairs as PairsOf}
 use Rattle.bidi_values.specs.declared.nested.NestedPair.{NestedPair}
@@ -32,6 +32,15 @@ one_more g (y ∷ ys) (suc i) d h = ap (◌∷◌ (g y)) (one_more g ys i d (ome
 pub gathered : {A B C : Type 0} (f : A → C) (g : B → C) (done : List A) (x : A) (ys : List B) (i : ℕ) (d : B) → i < length ys → map f done ≡ map g (take i ys) → f x ≡ g (get_or ys i d)
     → map f (done ++ x ∷ []) ≡ map g (take (i + 1) ys)
 gathered f g done x ys i d h e same = map-append f done (x ∷ []) ∙ ap (λ l. l ++ f x ∷ []) e ∙ ap (λ y. map g (take i ys) ++ y ∷ []) same ∙ sym (one_more g ys i d h) ∙ ap (λ k. map g (take k ys)) (let next : suc i ≡ i + 1 = omega arith in next)
+
+each_and_one : {A : Type 0} (W : A → Type 0) (done : List A) (x : A) → AllByRecursion W done → W x → AllByRecursion W (done ++ x ∷ [])
+each_and_one W [] x all w = (w, tt)
+each_and_one W (y ∷ done) x all w = (all.0, each_and_one W done x all.1 w)
+
+-- the same of copies, each of which is well
+pub copies_gathered : {A C : Type 0} (f : A → C) (W : A → Type 0) (done after : List A) (x : A) (ys : List A) (i : ℕ) (d : A) → after ≡ done ++ x ∷ [] → i < length ys
+    → (map f done ≡ map f (take i ys)) × AllByRecursion W done → f x ≡ f (get_or ys i d) → W x → (map f after ≡ map f (take (i + 1) ys)) × AllByRecursion W after
+copies_gathered f W done after x ys i d is h e same w = (ap (map f) is ∙ gathered f f done x ys i d h e.0 same, subst (AllByRecursion W) (sym is) (each_and_one W done x e.1 w))
 
 -- ---- what stands beside, as the rule sees it
 
@@ -60,12 +69,38 @@ module _ {P L M : Type 0} (n : NestingOf P L M) where
   pairs_well-of [] w = tt
   pairs_well-of (p ∷ ps) w = (w.0, pairs_well-of ps w.1)
 
+  -- and of a list that is well each value is
+  values_well-each : (vs : List (Nested P L M)) → ValuesAreWell n (contents_of (map content vs)) → AllByRecursion (NestedIsWell n) vs
+  values_well-each [] w = tt
+  values_well-each (v ∷ vs) w = (w.0, values_well-each vs w.1)
+
+  pairs_well-each : (ps : List (NestedPair P L M)) → PairsAreWell n (pairs_of (map pair_content ps)) → AllByRecursion (NestedPairIsWell n) ps
+  pairs_well-each [] w = tt
+  pairs_well-each (p ∷ ps) w = (w.0, pairs_well-each ps w.1)
+
+  pub plain_well : (v : Nested P L M) (p : P) → v ≡ PlainOf p → NestedIsWell n v → n.plain.well p
+  plain_well v p is w = subst (PartsAreWell n) (ap content is ∙ content-Plain p) w
+
+  pub list_well : (v : Nested P L M) (h : L) (vs : Vec (Nested P L M) Global) → v ≡ ListOf h vs → NestedIsWell n v → n.list.well h × AllByRecursion (NestedIsWell n) vs.items
+  list_well v h vs is w = let parts : PartsAreWell n (list h (contents_of (map content vs.items))) = subst (PartsAreWell n) (ap content is ∙ content-List h vs) w in (parts.0, values_well-each vs.items parts.1)
+
+  pub pairs_well : (v : Nested P L M) (h : M) (ps : Vec (NestedPair P L M) Global) → v ≡ PairsOf h ps → NestedIsWell n v → n.pairs.well h × AllByRecursion (NestedPairIsWell n) ps.items
+  pairs_well v h ps is w = let parts : PartsAreWell n (pairs h (pairs_of (map pair_content ps.items))) = subst (PartsAreWell n) (ap content is ∙ content-Pairs h ps) w in (parts.0, pairs_well-each ps.items parts.1)
+
   -- the tree of a list of values is the map around theirs
   list_tree : (h : L) (vs : Vec (Nested P L M) Global) (ts : List Node) → map (nested_tree n) vs.items ≡ ts → nested_tree n (ListOf h vs) ≡ around n.list h (kind.list (items_of ts))
   list_tree h vs ts e = ap (value_tree n) (content-List h vs) ∙ ap (λ x. around n.list h (kind.list x)) (values_tree-of vs.items ∙ ap items_of e)
 
   pairs_list_tree : (h : M) (ps : Vec (NestedPair P L M) Global) (ts : List Node) → map (nested_pair_tree n) ps.items ≡ ts → nested_tree n (PairsOf h ps) ≡ around n.pairs h (kind.list (items_of ts))
   pairs_list_tree h ps ts e = ap (value_tree n) (content-Pairs h ps) ∙ ap (λ x. around n.pairs h (kind.list x)) (pairs_tree-of ps.items ∙ ap items_of e)
+
+  -- what is well and has the tree of a value within the cap is that value
+  pub same_if_well : (r : Result (Nested P L M) AllocError) (v : Nested P L M) → IsWell n (content v) → IfOk r (λ w. (nested_tree n w ≡ nested_tree n v) × NestedIsWell n w)
+      → IfOk r (λ w. IsWell n (content w)) × IfOk r (λ w. Same n (content w) (content v))
+  same_if_well (Ok w) v well p =
+      let cap = subst (λ t. levels t ≤ 60) (sym p.0) well.cap in
+      (record { parts = p.1; cap = cap }, value_one n (content w) (content v) p.1 well.parts cap well.cap p.0)
+  same_if_well (Err e) v well p = (tt, tt)
 
   module _ {s : ShapeOf P} {l : BesideOf L} {m : BesideOf M} (a : Agrees n s l m) where
     -- ---- writers
@@ -85,6 +120,29 @@ module _ {P L M : Type 0} (n : NestingOf P L M) where
     pairs_written (Ok t) v h ps trees is e p =
         p ∙ around_same a.pairs h (node (TreeList trees)) ∙ ap (around n.pairs h) (node-List trees) ∙ sym (pairs_list_tree h ps (map node trees.items) (sym e)) ∙ ap (nested_tree n) (sym is)
     pairs_written (Err x) v h ps trees is e p = tt
+
+    -- ---- copies
+
+    pub plain_copied : (v : Nested P L M) (p q : P) → v ≡ PlainOf p → n.plain.tree_of q ≡ n.plain.tree_of p → n.plain.well q → (nested_tree n (PlainOf q) ≡ nested_tree n v) × NestedIsWell n (PlainOf q)
+    plain_copied v p q is e w = (ap (value_tree n) (content-Plain q) ∙ e ∙ sym (ap (value_tree n) (content-Plain p)) ∙ ap (nested_tree n) (sym is), subst (PartsAreWell n) (sym (content-Plain q)) w)
+
+    pub list_copied : (v : Nested P L M) (h i : L) (vs ws : Vec (Nested P L M) Global) → v ≡ ListOf h vs → NestedIsWell n v → l.parts i ≡ l.parts h → (l.well h → l.well i)
+        → map (nested_tree n) ws.items ≡ map (nested_tree n) vs.items → AllByRecursion (NestedIsWell n) ws.items → (nested_tree n (ListOf i ws) ≡ nested_tree n v) × NestedIsWell n (ListOf i ws)
+    list_copied v h i vs ws is w same go e each = (
+      list_tree i ws (map (nested_tree n) vs.items) e
+          ∙ ap (λ ps. kind.map (joined n.list.rows ps (kind.member (codes "value") (kind.list (items_of (map (nested_tree n) vs.items))) kind.no_members))) (sym (a.list.parts i) ∙ same ∙ a.list.parts h)
+          ∙ sym (list_tree h vs (map (nested_tree n) vs.items) refl) ∙ ap (nested_tree n) (sym is),
+      subst (PartsAreWell n) (sym (content-List i ws)) (a.list.well i (go (a.list.well_there h (list_well v h vs is w).0)), values_well-of ws.items each),
+    )
+
+    pub pairs_copied : (v : Nested P L M) (h i : M) (ps qs : Vec (NestedPair P L M) Global) → v ≡ PairsOf h ps → NestedIsWell n v → m.parts i ≡ m.parts h → (m.well h → m.well i)
+        → map (nested_pair_tree n) qs.items ≡ map (nested_pair_tree n) ps.items → AllByRecursion (NestedPairIsWell n) qs.items → (nested_tree n (PairsOf i qs) ≡ nested_tree n v) × NestedIsWell n (PairsOf i qs)
+    pairs_copied v h i ps qs is w same go e each = (
+      pairs_list_tree i qs (map (nested_pair_tree n) ps.items) e
+          ∙ ap (λ rs. kind.map (joined n.pairs.rows rs (kind.member (codes "value") (kind.list (items_of (map (nested_pair_tree n) ps.items))) kind.no_members))) (sym (a.pairs.parts i) ∙ same ∙ a.pairs.parts h)
+          ∙ sym (pairs_list_tree h ps (map (nested_pair_tree n) ps.items) refl) ∙ ap (nested_tree n) (sym is),
+      subst (PartsAreWell n) (sym (content-Pairs i qs)) (a.pairs.well i (go (a.pairs.well_there h (pairs_well v h ps is w).0)), pairs_well-of qs.items each),
+    )
 
     -- ---- readers
 

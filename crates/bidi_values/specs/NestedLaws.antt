@@ -279,6 +279,7 @@ pub record SameBeside {H : Type 0} (a b : BesideOf H) : Type 0 where
   pub rows : a.rows ≡ b.rows
   pub parts : (h : H) → a.parts h ≡ b.parts h
   pub well : (h : H) → a.well h → b.well h
+  pub well_there : (h : H) → b.well h → a.well h
   pub same : (g h : H) → b.same g h → a.same g h
 
 pub record Agrees {P L M : Type 0} (n : NestingOf P L M) (s : ShapeOf P) (l : BesideOf L) (m : BesideOf M) : Type 0 where

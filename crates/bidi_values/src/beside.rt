@@ -35,6 +35,14 @@ pub trait Beside: Drop {
     /// No memory: some of them may be there.
     fn add_to(&self, alloc: Global, members: &mut Members) -> Result<(), AllocError>
         ensures { OnOk result (members_node members.new.entries ≡ joined beside.rows (beside.parts self.now) (members_node members.old.entries)) };
+
+    /// The same members, in room of their own.
+    ///
+    /// # Errors
+    /// No memory, where a growth was refused.
+    fn copy(&self, alloc: Global) -> Result<Self, AllocError>
+        ensures parts { IfOk result (λ h. beside.parts h ≡ beside.parts self.now) }
+        ensures well { beside.well self.now → IfOk result beside.well };
 }
 
 /// What stands beside the `value` of a closed map, and the list that this is.

@@ -1,5 +1,6 @@
 //! Values that a remote end holds, as it names them: by a handle, or by an id within one message.
 use crate::beside::Beside;
+use crate::copying::copy_text;
 use crate::kinds::{ListKind, PairsKind};
 use crate::opaque::Opaque;
 use crate::reg_exp::RegExpValue;
@@ -81,6 +82,14 @@ impl Beside for RemoteList {
         add_optional(alloc, members, "handle", &self.handle)?;
         add_member(alloc, members, "type", &self.kind)
     }
+
+    fn copy(&self, _alloc: Global) -> Result<RemoteList, AllocError> {
+        Ok(RemoteList {
+            kind: self.kind,
+            handle: copy_text(&self.handle)?,
+            internal_id: copy_text(&self.internal_id)?,
+        })
+    }
 }
 
 /// What stands beside the pairs of an object or a map, or alone where they are left out.
@@ -154,6 +163,14 @@ impl Beside for RemotePairs {
         add_optional(alloc, members, "handle", &self.handle)?;
         add_member(alloc, members, "type", &self.kind)
     }
+
+    fn copy(&self, _alloc: Global) -> Result<RemotePairs, AllocError> {
+        Ok(RemotePairs {
+            kind: self.kind,
+            handle: copy_text(&self.handle)?,
+            internal_id: copy_text(&self.internal_id)?,
+        })
+    }
 }
 
 /// A regular expression that a remote end holds.
@@ -166,6 +183,25 @@ pub struct RemoteRegExp {
     pub value: RegExpValue,
     pub handle: Option<String>,
     pub internal_id: Option<String>,
+}
+
+impl RemoteRegExp {
+    ghost use Rattle.std.specs.Prelude.{◌≡◌, IfOk};
+
+    /// The same value, in room of its own.
+    ///
+    /// # Errors
+    /// No memory, where a growth was refused.
+    pub(crate) fn copy(&self) -> Result<RemoteRegExp, AllocError>
+        ensures tree { IfOk result (λ v. ⟦<RemoteRegExp as Shape>⟧.shape.tree_of v ≡ ⟦<RemoteRegExp as Shape>⟧.shape.tree_of self.now) }
+        ensures well { ⟦<RemoteRegExp as Shape>⟧.shape.well self.now → IfOk result ⟦<RemoteRegExp as Shape>⟧.shape.well }
+    {
+        Ok(RemoteRegExp {
+            value: self.value.copy()?,
+            handle: copy_text(&self.handle)?,
+            internal_id: copy_text(&self.internal_id)?,
+        })
+    }
 }
 
 type RegExpParts = Literal<Required<RegExpValue, Optional<String, Optional<String, Closed>>>>;
@@ -219,6 +255,25 @@ pub struct RemoteDate {
     pub internal_id: Option<String>,
 }
 
+impl RemoteDate {
+    ghost use Rattle.std.specs.Prelude.{◌≡◌, IfOk};
+
+    /// The same value, in room of its own.
+    ///
+    /// # Errors
+    /// No memory, where a growth was refused.
+    pub(crate) fn copy(&self) -> Result<RemoteDate, AllocError>
+        ensures tree { IfOk result (λ v. ⟦<RemoteDate as Shape>⟧.shape.tree_of v ≡ ⟦<RemoteDate as Shape>⟧.shape.tree_of self.now) }
+        ensures well { ⟦<RemoteDate as Shape>⟧.shape.well self.now → IfOk result ⟦<RemoteDate as Shape>⟧.shape.well }
+    {
+        Ok(RemoteDate {
+            value: self.value.clone()?,
+            handle: copy_text(&self.handle)?,
+            internal_id: copy_text(&self.internal_id)?,
+        })
+    }
+}
+
 type DateParts = Literal<Required<String, Optional<String, Optional<String, Closed>>>>;
 
 impl Ruled for RemoteDate {
@@ -268,6 +323,25 @@ pub struct RemoteOpaque {
     pub kind: Opaque,
     pub handle: Option<String>,
     pub internal_id: Option<String>,
+}
+
+impl RemoteOpaque {
+    ghost use Rattle.std.specs.Prelude.{◌≡◌, IfOk};
+
+    /// The same value, in room of its own.
+    ///
+    /// # Errors
+    /// No memory, where a growth was refused.
+    pub(crate) fn copy(&self) -> Result<RemoteOpaque, AllocError>
+        ensures tree { IfOk result (λ v. ⟦<RemoteOpaque as Shape>⟧.shape.tree_of v ≡ ⟦<RemoteOpaque as Shape>⟧.shape.tree_of self.now) }
+        ensures well { ⟦<RemoteOpaque as Shape>⟧.shape.well self.now → IfOk result ⟦<RemoteOpaque as Shape>⟧.shape.well }
+    {
+        Ok(RemoteOpaque {
+            kind: self.kind,
+            handle: copy_text(&self.handle)?,
+            internal_id: copy_text(&self.internal_id)?,
+        })
+    }
 }
 
 type OpaqueParts = Required<Opaque, Optional<String, Optional<String, Closed>>>;

@@ -75,6 +75,10 @@ impl Beside for ListKind {
     fn add_to(&self, alloc: Global, members: &mut Members) -> Result<(), AllocError> {
         add_member(alloc, members, "type", self)
     }
+
+    fn copy(&self, _alloc: Global) -> Result<ListKind, AllocError> {
+        Ok(*self)
+    }
 }
 
 /// What holds a list of pairs.
@@ -145,5 +149,9 @@ impl Beside for PairsKind {
 
     fn add_to(&self, alloc: Global, members: &mut Members) -> Result<(), AllocError> {
         add_member(alloc, members, "type", self)
+    }
+
+    fn copy(&self, _alloc: Global) -> Result<PairsKind, AllocError> {
+        Ok(*self)
     }
 }

@@ -6,6 +6,7 @@
 #![tactic(auto)]
 
 mod beside;
+mod copying;
 mod evaluate_result;
 mod exception;
 mod held;

@@ -4,7 +4,9 @@ use crate::nested::{Nested, NestedKey, NestedPair, Nests};
 use crate::primitive::Primitive;
 use crate::reference::Reference;
 use crate::reg_exp::RegExpValue;
-use bidi_shape::{Either, Ruled, Shape, ShapeFault, Tag, Typed, read_choice, tree_of_typed};
+use bidi_shape::{
+    Either, Ruled, Shape, ShapeFault, Tag, Typed, copied, read_choice, tree_of_typed,
+};
 use bidi_tree::Tree;
 use std::alloc::{AllocError, Global};
 
@@ -111,13 +113,17 @@ impl Nests<ListKind, PairsKind> for LocalPlain {
         Nested::Plain(self)
     }
 
+    fn copy(&self, alloc: Global) -> Result<LocalPlain, AllocError> {
+        copied(alloc, self)
+    }
+
     ghost agrees = { record {
       rule = refl;
       tree = λ p. refl;
       well = λ p w. w;
       same = λ p q e. e;
-      list = record { rows = refl; parts = λ h. refl; well = λ h w. w; same = λ g h e. e };
-      pairs = record { rows = refl; parts = λ h. refl; well = λ h w. w; same = λ g h e. e };
+      list = record { rows = refl; parts = λ h. refl; well = λ h w. w; well_there = λ h w. w; same = λ g h e. e };
+      pairs = record { rows = refl; parts = λ h. refl; well = λ h w. w; well_there = λ h w. w; same = λ g h e. e };
     } };
 }
 

@@ -1,12 +1,13 @@
 //! Values that may hold others of their kind.
-ghost use Rattle.std.specs.Prelude.{◌≡◌};
+ghost use Rattle.std.specs.Prelude.{◌≡◌, IfOk};
 ghost use Rattle.bidi_values.specs.Content.{content, plain};
 ghost use Rattle.bidi_values.specs.NestedLaws.{NestingOf, Agrees};
 
 use crate::beside::Beside;
+use crate::copying::copy_value;
 use crate::reading::read_value;
 use crate::writing::write_value;
-use bidi_shape::{MakeFault, Shape, ShapeFault, copied};
+use bidi_shape::{MakeFault, Shape, ShapeFault};
 use bidi_tree::Tree;
 use std::alloc::{AllocError, Global};
 
@@ -46,6 +47,15 @@ pub trait Nests<L: Beside, M: Beside>: Shape {
     /// The value that is this plain one. Takes no memory.
     fn into_value(self) -> Nested<Self, L, M>
         ensures { content result ≡ plain self };
+
+    /// The same plain value, in room of its own.
+    ///
+    /// # Errors
+    /// No memory, where a growth was refused.
+    fn copy(&self, alloc: Global) -> Result<Self, AllocError>
+        requires { nesting.plain.well self.now }
+        ensures tree { IfOk result (λ p. nesting.plain.tree_of p ≡ nesting.plain.tree_of self.now) }
+        ensures well { IfOk result nesting.plain.well };
 
     // What the rule says of each of the three is what each says of itself.
     ghost agrees: { Agrees nesting Self.shape L.beside M.beside };
@@ -98,15 +108,16 @@ impl<P: Nests<L, M>, L: Beside, M: Beside> Nested<P, L, M> {
         }
     }
 
-    /// An equal value, in room of its own. Costs the making and the reading of its tree.
+    /// An equal value, in room of its own. Costs one walk through it.
     ///
     /// # Errors
     /// No memory, where a growth was refused.
     pub fn copy(&self, alloc: Global) -> Result<Nested<P, L, M>, AllocError>
         requires { IsWell P.nesting (content self.now) }
+        ensures tree { IfOk result (λ v. nested_tree P.nesting v ≡ nested_tree P.nesting self.now) }
         ensures well { IfOk result (λ v. IsWell P.nesting (content v)) }
         ensures same { IfOk result (λ v. Same P.nesting (content v) (content self.now)) }
     {
-        copied(alloc, self)
+        copy_value(alloc, self)
     }
 }

@@ -117,6 +117,28 @@ pub enum Primitive {
     BigInt(String),
 }
 
+impl Primitive {
+    ghost use Rattle.std.specs.Prelude.{◌≡◌, IfOk};
+
+    /// The same value, in room of its own.
+    ///
+    /// # Errors
+    /// No memory, where a growth was refused.
+    pub(crate) fn copy(&self) -> Result<Primitive, AllocError>
+        ensures tree { IfOk result (λ v. ⟦<Primitive as Shape>⟧.shape.tree_of v ≡ ⟦<Primitive as Shape>⟧.shape.tree_of self.now) }
+        ensures well { ⟦<Primitive as Shape>⟧.shape.well self.now → IfOk result ⟦<Primitive as Shape>⟧.shape.well }
+    {
+        match self {
+            Primitive::Undefined => Ok(Primitive::Undefined),
+            Primitive::Null => Ok(Primitive::Null),
+            Primitive::String(text) => Ok(Primitive::String(text.clone()?)),
+            Primitive::Number(number) => Ok(Primitive::Number(*number)),
+            Primitive::Boolean(boolean) => Ok(Primitive::Boolean(*boolean)),
+            Primitive::BigInt(digits) => Ok(Primitive::BigInt(digits.clone()?)),
+        }
+    }
+}
+
 type Alternatives = Either<
     Bare<UndefinedTag>,
     Either<

@@ -1,4 +1,5 @@
 //! Regular expressions.
+use crate::copying::copy_text;
 use bidi_shape::{
     Closed, Fields, Optional, Required, Ruled, Shape, ShapeFault, add_member, add_optional,
     read_fields,
@@ -15,6 +16,24 @@ use std::alloc::{AllocError, Global};
 pub struct RegExpValue {
     pub pattern: String,
     pub flags: Option<String>,
+}
+
+impl RegExpValue {
+    ghost use Rattle.std.specs.Prelude.{◌≡◌, IfOk};
+
+    /// The same value, in room of its own.
+    ///
+    /// # Errors
+    /// No memory, where a growth was refused.
+    pub(crate) fn copy(&self) -> Result<RegExpValue, AllocError>
+        ensures tree { IfOk result (λ v. ⟦<RegExpValue as Shape>⟧.shape.tree_of v ≡ ⟦<RegExpValue as Shape>⟧.shape.tree_of self.now) }
+        ensures well { ⟦<RegExpValue as Shape>⟧.shape.well self.now → IfOk result ⟦<RegExpValue as Shape>⟧.shape.well }
+    {
+        Ok(RegExpValue {
+            pattern: self.pattern.clone()?,
+            flags: copy_text(&self.flags)?,
+        })
+    }
 }
 
 type Parts = Required<String, Optional<String, Closed>>;

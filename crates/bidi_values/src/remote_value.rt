@@ -1,4 +1,5 @@
 //! Values that a script gives back.
+use crate::beside::Beside;
 use crate::held::{RemoteDate, RemoteList, RemoteOpaque, RemotePairs, RemoteRegExp};
 use crate::nested::{Nested, NestedKey, NestedPair, Nests};
 use crate::primitive::Primitive;
@@ -120,12 +121,23 @@ impl Nests<RemoteList, RemotePairs> for RemotePlain {
         Nested::Plain(self)
     }
 
+    fn copy(&self, alloc: Global) -> Result<RemotePlain, AllocError> {
+        match self {
+            RemotePlain::Primitive(primitive) => Ok(RemotePlain::Primitive(primitive.copy()?)),
+            RemotePlain::List(list) => Ok(RemotePlain::List(list.copy(alloc)?)),
+            RemotePlain::Pairs(pairs) => Ok(RemotePlain::Pairs(pairs.copy(alloc)?)),
+            RemotePlain::RegExp(reg_exp) => Ok(RemotePlain::RegExp(reg_exp.copy()?)),
+            RemotePlain::Date(date) => Ok(RemotePlain::Date(date.copy()?)),
+            RemotePlain::Opaque(opaque) => Ok(RemotePlain::Opaque(opaque.copy()?)),
+        }
+    }
+
     ghost agrees = { record {
       rule = refl;
       tree = λ p. refl;
       well = λ p w. w;
       same = λ p q e. e;
-      list = record { rows = refl; parts = λ h. refl; well = λ h w. w; same = λ g h e. e };
-      pairs = record { rows = refl; parts = λ h. refl; well = λ h w. w; same = λ g h e. e };
+      list = record { rows = refl; parts = λ h. refl; well = λ h w. w; well_there = λ h w. w; same = λ g h e. e };
+      pairs = record { rows = refl; parts = λ h. refl; well = λ h w. w; well_there = λ h w. w; same = λ g h e. e };
     } };
 }
