@@ -17,3 +17,4 @@ pub mod WalkLemmas
 pub mod ScriptTableLemmas
 pub mod ValueLemmas
 pub mod RowLemmas
+pub mod ScriptLemmas

@@ -41,10 +41,15 @@ use Rattle.bidi_browser.proofs.RowLemmas.{oldest-window, created-stand, realms-s
 
 -- ---- what only looks
 
--- its result, and nothing else
+-- its result, and nothing else; the tables stay
+pub kept-plans : (plan : Plan) (past : List Act) (moment : ℕ) (action : Action) (act : Act) (r : ResultData) → is_asked action ≡ true → leaves_tables act ≡ true → outcome past action ≡ Ok act
+    → Replies (result_tree r) ∷ [] ≡ occurs past moment action act → plan.before.items ≡ [] → plan.result ≡ Some r → plan.after.items ≡ [] → plan.change.edit ≡ Keep → Plans (Ok plan) past moment action
+kept-plans plan past moment action act r asked leaves checked told before reply after change = (act, checked, rw (before, reply, after) told, rw (reply, asked) refl, rw change leaves, λ unasked. after)
+
+-- what only looks has its result
 pub looked-plans : (plan : Plan) (past : List Act) (moment : ℕ) (action : Action) (r : ResultData) → is_asked action ≡ true → outcome past action ≡ Ok Looked → Replies (result_tree r) ∷ [] ≡ occurs past moment action Looked
     → plan.before.items ≡ [] → plan.result ≡ Some r → plan.after.items ≡ [] → plan.change.edit ≡ Keep → Plans (Ok plan) past moment action
-looked-plans plan past moment action r asked checked told before reply after change = (Looked, checked, rw (before, reply, after) told, rw (reply, asked) refl, rw change refl, λ unasked. after)
+looked-plans plan past moment action r asked = kept-plans plan past moment action Looked r asked refl
 
 -- the context that is asked for
 pub root-found : (past : List Act) (id : List ℕ) (c : ℕ) (root : Option (List ℕ)) → root ≡ Some id → context_named past id ≡ Ok c → (looked_at past root ≡ Ok Looked) × (roots past root ≡ c ∷ [])

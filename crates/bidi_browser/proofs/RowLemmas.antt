@@ -9,6 +9,7 @@ use Rattle.std.proofs.lemmas.Simd.{map-map}
 use Rattle.bidi_browser.specs.declared.contexts.Context.{Context}
 use Rattle.bidi_browser.specs.Acts.{Act}
 use Rattle.bidi_browser.specs.Contexts.{contexts, tops, children_of, subtree_within, subtree_of, tree_order, is_alive, parent_of, level_of, window_of}
+use Rattle.bidi_browser.specs.Realms.{realm_of, realms}
 use Rattle.bidi_browser.specs.Info.{children_tree, depth_below, info_within, info_of}
 use Rattle.bidi_browser.specs.Occurrences.{occurrence, context_created, context_destroyed, realm_created, realm_destroyed}
 use Rattle.bidi_messages.specs.declared.event.EventName.TheVariants.{ContextDestroyed}
@@ -98,6 +99,15 @@ find-row past items p same = find-map row_of p items ∙ (ap (find p) same ∙ s
 pub find-stands : (past : List Act) (items : List Context) (p : ℕ → Bool) → map row_of items ≡ rows past
     → option_map row_of (find (λ x. p x.number) items) ≡ option_map (row_at past) (find p (contexts past))
 find-stands past items p same = find-row past items (λ r. p r.number) same
+
+-- so does a look-up by realm
+pub realm-stands : (past : List Act) (items : List Context) (p : ℕ → Bool) → map row_of items ≡ rows past
+    → option_map row_of (find (λ x. p x.realm) items) ≡ option_map (row_at past) (find (λ c. p (realm_of past c)) (contexts past))
+realm-stands past items p same = find-row past items (λ r. p r.realm) same
+
+-- the realm that is found is that of the context that is found
+pub realm-found : (past : List Act) (p : ℕ → Bool) → find p (realms past) ≡ option_map (realm_of past) (find (λ c. p (realm_of past c)) (contexts past))
+realm-found past p = sym (find-map (realm_of past) p (contexts past))
 
 -- no parent
 parentless : (o : Option ℕ) → option_eq nat_eq o None ≡ is_none o

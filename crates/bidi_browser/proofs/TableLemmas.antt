@@ -78,6 +78,8 @@ kept-stands b past action Looked leaves done s =
     record { contexts = record { rows = s.contexts.rows; accepted = (action, done, s.contexts.accepted) }; next_context = s.next_context; next_realm = s.next_realm; next_navigation = s.next_navigation; table = record { rows = s.table.rows; count = s.table.count }; next_window = s.next_window }
 kept-stands b past action (Logged c level line) leaves done s =
     record { contexts = record { rows = s.contexts.rows; accepted = (action, done, s.contexts.accepted) }; next_context = s.next_context; next_realm = s.next_realm; next_navigation = s.next_navigation; table = record { rows = s.table.rows; count = s.table.count }; next_window = s.next_window }
+kept-stands b past action (Disowned r ids) leaves done s =
+    record { contexts = record { rows = s.contexts.rows; accepted = (action, done, s.contexts.accepted) }; next_context = s.next_context; next_realm = s.next_realm; next_navigation = s.next_navigation; table = record { rows = s.table.rows; count = s.table.count }; next_window = s.next_window }
 kept-stands b past action act leaves done s = absurd (cc)
 
 -- so does a row that is set, with the table that has it

@@ -1,5 +1,5 @@
 -- What an action in hand asks.
-use Rattle.std.specs.Prelude.{Option, Some, None, option_map, string_bytes}
+use Rattle.std.specs.Prelude.{[], map, Option, Some, None, option_map, unwrap_or, string_bytes}
 use Rattle.bidi_params.specs.declared.browsing_context.create.ContextType.{ContextType}
 use Rattle.bidi_params.specs.declared.browsing_context.create.ContextType.TheVariants as type
 use Rattle.bidi_params.specs.declared.browsing_context.create.ActivateParameters.{ActivateParameters}
@@ -12,12 +12,15 @@ use Rattle.bidi_params.specs.declared.browsing_context.navigate.NavigateParamete
 use Rattle.bidi_params.specs.declared.browsing_context.navigate.ReloadParameters.{ReloadParameters}
 use Rattle.bidi_params.specs.declared.browsing_context.navigate.TraverseHistoryParameters.{TraverseHistoryParameters}
 use Rattle.bidi_params.specs.Words.{realm_type_text}
+use Rattle.bidi_params.specs.declared.script.call_function.DisownParameters.{DisownParameters}
 use Rattle.bidi_params.specs.declared.script.realms.GetRealmsParameters.{GetRealmsParameters}
+use Rattle.bidi_values.specs.declared.target.Target as declared_target
+use Rattle.bidi_values.specs.declared.target.Target.TheVariants as target
 use Rattle.bidi_values.specs.declared.table_row.TableRow as declared_row
 use Rattle.bidi_values.specs.contracts.table_row.TableRowShape.TheImpl as rows
 use Rattle.bidi_browser.specs.declared.action.Action as declared_action
 use Rattle.bidi_browser.specs.declared.action.Action.TheVariants as in_code
-use Rattle.bidi_browser.specs.Actions.{CreateType, Tab, OwnWindow, Wait, Started, Interactive, Complete, Action, Activate, Close, Create, GetTree, Navigate, Reload, TraverseHistory, GetRealms, Frame, Unframe, Log, TableRow}
+use Rattle.bidi_browser.specs.Actions.{CreateType, Tab, OwnWindow, Wait, Started, Interactive, Complete, Action, Activate, Close, Create, GetTree, Navigate, Reload, TraverseHistory, Target, ContextTarget, RealmTarget, Disown, GetRealms, Frame, Unframe, Log, TableRow}
 
 -- as what a context is created
 abbrev pub create_type_of : ContextType → CreateType
@@ -53,6 +56,14 @@ reload_asked p = Reload (string_bytes p.context) (wait_of p.wait)
 abbrev pub traverse_asked : TraverseHistoryParameters → Action
 traverse_asked p = TraverseHistory (string_bytes p.context) p.delta.value
 
+-- where a script is to run
+abbrev pub target_of : declared_target.Target → Target
+target_of (target.Context t) = ContextTarget (string_bytes t.context) (unwrap_or (option_map string_bytes t.sandbox) [])
+target_of (target.Realm t) = RealmTarget (string_bytes t.realm)
+
+abbrev pub disown_asked : DisownParameters → Action
+disown_asked p = Disown (map string_bytes p.handles.items) (target_of p.target)
+
 abbrev pub get_realms_asked : GetRealmsParameters → Action
 get_realms_asked p = GetRealms (option_map string_bytes p.context) (option_map realm_type_text p.kind)
 
@@ -68,6 +79,7 @@ action_of (in_code.GetTree p) = get_tree_asked p.now
 action_of (in_code.Navigate p) = navigate_asked p.now
 action_of (in_code.Reload p) = reload_asked p.now
 action_of (in_code.TraverseHistory p) = traverse_asked p.now
+action_of (in_code.Disown p) = disown_asked p.now
 action_of (in_code.GetRealms p) = get_realms_asked p.now
 action_of (in_code.Frame context url) = Frame context.now url.now
 action_of (in_code.Unframe context) = Unframe context.now

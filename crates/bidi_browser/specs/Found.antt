@@ -9,12 +9,18 @@ use Rattle.bidi_browser.specs.declared.refusal.Refusal.{Refusal}
 use Rattle.bidi_browser.specs.declared.refusal.Refusal.TheVariants.{Code, NoMemory}
 use Rattle.bidi_browser.specs.declared.contexts.Context.{Context}
 use Rattle.bidi_browser.specs.Acts.{Act, Looked}
+use Rattle.bidi_browser.specs.Realms.{realm_of}
 use Rattle.bidi_browser.specs.ContextRows.{row_of, row_at}
 
 -- a context in hand, or a code, is what the past gives
 abbrev pub IsFound : Result (Bor Context) ErrorCode → List Act → Result ℕ ErrorCode → Type 0
 IsFound (Ok context) past answer = (c : ℕ) × (answer ≡ Ok c) × (row_of context.now ≡ row_at past c)
 IsFound (Err code) past answer = answer ≡ Err code
+
+-- a context in hand, or a code, is what the past gives for the realm of a target
+abbrev pub IsTargeted : Result (Bor Context) ErrorCode → List Act → Result ℕ ErrorCode → Type 0
+IsTargeted (Ok context) past answer = (c : ℕ) × (answer ≡ Ok (realm_of past c)) × (row_of context.now ≡ row_at past c)
+IsTargeted (Err code) past answer = answer ≡ Err code
 
 -- the same where none may be named
 abbrev pub IsFoundIfNamed : Result (Option (Bor Context)) ErrorCode → List Act → Result (Option ℕ) ErrorCode → Type 0

@@ -85,6 +85,7 @@ pub record IsWellTold (p : Plan) : Type 0 where
 abbrev pub leaves_tables : Act → Bool
 leaves_tables Looked = true
 leaves_tables (Logged c level text) = true
+leaves_tables (Disowned r ids) = true
 leaves_tables act = false
 
 -- a navigation in hand is that of the past: its realm is the next, an entry stands where it leads or comes with it, and all below its context goes

@@ -1,7 +1,7 @@
 //! What the browser is asked.
 use bidi_params::{
-    ActivateParameters, CloseParameters, CreateParameters, GetRealmsParameters, GetTreeParameters,
-    NavigateParameters, ReloadParameters, TraverseHistoryParameters,
+    ActivateParameters, CloseParameters, CreateParameters, DisownParameters, GetRealmsParameters,
+    GetTreeParameters, NavigateParameters, ReloadParameters, TraverseHistoryParameters,
 };
 use bidi_values::{Level, TableRow};
 
@@ -15,6 +15,7 @@ pub enum Action<'a> {
     Navigate(&'a NavigateParameters),
     Reload(&'a ReloadParameters),
     TraverseHistory(&'a TraverseHistoryParameters),
+    Disown(&'a DisownParameters),
     GetRealms(&'a GetRealmsParameters),
     /// A child of the context of that id comes, at a URL.
     Frame(&'a str, &'a str),

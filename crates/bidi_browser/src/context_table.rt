@@ -7,6 +7,7 @@ ghost use Rattle.bidi_browser.specs.Acts.{Act, Removed, Moved, gives, next_numbe
 ghost use Rattle.bidi_browser.specs.Contexts.{contexts, context_of, is_alive, parent_of, tops, children_of, subtree_of, tree_order};
 ghost use Rattle.bidi_browser.specs.Info.{info_of, depth_below, children_tree};
 ghost use Rattle.bidi_browser.specs.ContextRows.{row_of, row_at, rows, children_in, below, infos_below, info_in, moved_in, changed};
+ghost use Rattle.bidi_browser.specs.Realms.{realm_of};
 ghost use Rattle.bidi_browser.specs.InfosInHand.{AreWithin, AreWithinIfTold, IsWithin, children_node};
 
 use crate::contexts::Context;
@@ -63,6 +64,13 @@ impl Contexts {
         ensures { (past : List Act) → IsTableOf self.now past → option_map (λ c. row_of c.now) result ≡ option_map (row_at past) (context_of past id.now) }
     {
         named(&self.live, id)
+    }
+
+    /// The context of the realm of that id. Looks through them.
+    pub(crate) fn in_realm(&self, id: &str) -> Option<&Context>
+        ensures { (past : List Act) → IsTableOf self.now past → option_map (λ c. row_of c.now) result ≡ option_map (row_at past) (find (λ c. bytes_eq id.now (id_of Kind.Realm (realm_of past c))) (contexts past)) }
+    {
+        in_realm(&self.live, id)
     }
 
     /// The oldest top-level context.
@@ -213,6 +221,13 @@ fn named<'a>(contexts: &'a [Context], id: &str) -> Option<&'a Context>
     ensures { option_map (λ c. c.now) result ≡ find (λ c. bytes_eq id.now (id_of Kind.Context c.number)) contexts.now }
 {
     contexts.iter().find(|context| context.is_named(id))
+}
+
+// The context of the realm of that id.
+fn in_realm<'a>(contexts: &'a [Context], id: &str) -> Option<&'a Context>
+    ensures { option_map (λ c. c.now) result ≡ find (λ c. bytes_eq id.now (id_of Kind.Realm c.realm)) contexts.now }
+{
+    contexts.iter().find(|context| context.is_in_realm(id))
 }
 
 // The oldest top-level context.

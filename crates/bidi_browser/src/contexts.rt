@@ -109,6 +109,13 @@ impl Context {
         is_id(id, Kind::Context, 0, self.number)
     }
 
+    /// Whether a text is the id of its realm.
+    pub(crate) fn is_in_realm(&self, id: &str) -> bool
+        ensures { result ≡ bytes_eq id.now (id_of Kind.Realm self.now.realm) }
+    {
+        is_id(id, Kind::Realm, 0, self.realm)
+    }
+
     /// Its Info as it stands in the list of its parent's, with these children.
     pub(crate) fn info(
         &self,

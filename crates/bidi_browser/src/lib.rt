@@ -22,6 +22,7 @@ mod plan;
 mod refusal;
 mod removals;
 mod script_table;
+mod scripts;
 mod session_history;
 mod tabling;
 mod telling;

@@ -196,8 +196,8 @@ fn realm_infos(alloc: Global, contexts: &[&Context]) -> Result<Vec<RealmInfo>, A
     Ok(all)
 }
 
-// What only looks: its result, and no more.
-fn looked(alloc: Global, outcome: ResultData) -> Plan
+/// What only looks: its result, and no more.
+pub(crate) fn looked(alloc: Global, outcome: ResultData) -> Plan
     ensures before { result.before.items ≡ [] }
     ensures outcome { result.result ≡ Some outcome }
     ensures after { result.after.items ≡ [] }

@@ -22,5 +22,6 @@ pub mod BrowseLemmas
 pub mod TellLemmas
 pub mod DecideLemmas
 pub mod SubscribeAskLemmas
+pub mod TargetAskLemmas
 pub mod BrowserAskLemmas
 pub mod AskLemmas

@@ -33,7 +33,7 @@ use Rattle.bidi_remote.specs.Tables.Asked.{texts, asked_of}
 -- ---- lists of texts
 
 -- the tree of a text
-abbrev text_tree : String Global → Node
+abbrev pub text_tree : String Global → Node
 text_tree s = tree.text (string_bytes s)
 
 -- the tree of a list of at least one
@@ -41,7 +41,7 @@ abbrev texts_tree : OneOrMore (String Global) → Node
 texts_tree l = list_tree text_tree l.items.items
 
 -- the texts of a list's tree
-texts-list : (ss : List (String Global)) → texts_among (items_in (items_of (map text_tree ss))) ≡ texts ss
+pub texts-list : (ss : List (String Global)) → texts_among (items_in (items_of (map text_tree ss))) ≡ texts ss
 texts-list [] = refl
 texts-list (s ∷ ss) = ap (λ ts. string_bytes s ∷ ts) (texts-list ss)
 
@@ -68,7 +68,7 @@ has_texts-list [] h = absurd (omega arith)
 has_texts-list (s ∷ ss) h = rw (lt-ltb 0 (suc (length (items_in (items_of (map text_tree ss))))) (omega arith)) (all_texts ss)
 
 -- what is a text fits as one
-text-fits : (t : Node) → is_some (text_in t) ≡ true → Fits t text
+pub text-fits : (t : Node) → is_some (text_in t) ≡ true → Fits t text
 text-fits (tree.text s) e = fits_text s
 text-fits t e = absurd (true≢false (sym e))
 
@@ -97,12 +97,12 @@ without_one true k t ms ns fit more = more
 without_one false k t ms ns fit more = others_fit k t ns (others_inside k t ms fit).0 more
 
 -- and without those of some names
-others_fit-without : (ks : List (List ℕ)) (ms : Members) → OthersFit extensible ms → OthersFit extensible (without ks ms)
+pub others_fit-without : (ks : List (List ℕ)) (ms : Members) → OthersFit extensible ms → OthersFit extensible (without ks ms)
 others_fit-without ks no_members fit = fit
 others_fit-without ks (member k t ms) fit = without_one (list_any (bytes_eq k) ks) k t ms (without ks ms) fit (others_fit-without ks ms (others_inside k t ms fit).1)
 
 -- the members of a map that is whole within 61 levels may stand in an open map
-inside_whole : (ms : Members) → IsWhole (tree.map ms) 61 → OthersFit extensible ms
+pub inside_whole : (ms : Members) → IsWhole (tree.map ms) 61 → OthersFit extensible ms
 inside_whole ms w = let deep : suc (members_levels ms) ≤ 61 = w.1 in (w.0, omega arith)
 
 -- ---- the two commands

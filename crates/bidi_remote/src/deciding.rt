@@ -110,6 +110,9 @@ fn decide_in(
         CommandData::BrowsingContextTraverseHistory(params) => {
             decide_browsing(alloc, tables, asker, Action::TraverseHistory(params))
         }
+        CommandData::ScriptDisown(params) => {
+            decide_browsing(alloc, tables, asker, Action::Disown(params))
+        }
         CommandData::ScriptGetRealms(params) => {
             decide_browsing(alloc, tables, asker, Action::GetRealms(params))
         }

@@ -1,0 +1,84 @@
+-- What the tree of a target in hand asks, and of the commands that name one.
+use Rattle.std.proofs.Common.{◌≡◌, ℕ, List, [], ◌∷◌, Bool, true, ◌&&◌, ◌||◌, true≢false, Option, Some, None, is_none, is_some, option_map, option_and_then, unwrap_or, codes, String, string_bytes, Global, refl, sym, ap}
+use Rattle.std.proofs.lemmas.Bool.{and_parts, false_from_ne_true}
+use Rattle.std.specs.Prelude.{if◌then◌else◌}
+use Rattle.bidi_tree.specs.Node as tree
+use Rattle.bidi_tree.specs.Node.{Node, Members, get_member}
+use Rattle.bidi_tree.specs.Kind.{text_in}
+use Rattle.bidi_tree.proofs.MemberLemmas.{get_member-put}
+use Rattle.bidi_shape.specs.Name.{context_target, disown_parameters}
+use Rattle.bidi_shape.specs.Term.{required, optional, extensible, text, rule, row, no_more, names_of}
+use Rattle.bidi_shape.specs.Profile.{term_of}
+use Rattle.bidi_shape.specs.Fits.{Fits, fits_map, fits_rule, no_row, OthersFit}
+use Rattle.bidi_shape.specs.ListLaws.{list_tree}
+use Rattle.bidi_shape.specs.MapLaws.{PartsAt-joined, unnamed}
+use Rattle.bidi_shape.specs.Table.{rows_in}
+use Rattle.bidi_shape.specs.ValueLaws.{others_of}
+use Rattle.bidi_shape.proofs.FitsLemmas.{row_fits, RowFits}
+use Rattle.bidi_values.specs.declared.target.Target as declared_target
+use Rattle.bidi_values.specs.declared.target.Target.TheVariants as target
+use Rattle.bidi_values.specs.contracts.target.TargetShape.TheImpl as targets
+use Rattle.bidi_values.specs.contracts.target.RealmTargetShape.TheImpl as realm_targets
+use Rattle.bidi_params.specs.contracts.session.capabilities.NewParametersShape.TheImpl as params
+use Rattle.bidi_params.specs.contracts.script.call_function.DisownParametersShape.TheImpl as disown
+use Rattle.bidi_params.specs.declared.script.call_function.DisownParameters.{DisownParameters}
+use Rattle.bidi_messages.specs.declared.command.CommandData.TheVariants.{ScriptDisown}
+use Rattle.bidi_browser.specs.Params.{text_if_at}
+use Rattle.bidi_browser.specs.Actions.{Target, ContextTarget, RealmTarget, target_in, is_well_at}
+use Rattle.bidi_browser.specs.Asked.{target_of}
+use Rattle.bidi_remote.specs.Machine.Commands.{command_in}
+use Rattle.bidi_remote.specs.Tables.Asked.{asked_of}
+use Rattle.bidi_remote.proofs.SubscribeAskLemmas.{text_tree, texts-list, text-fits, others_fit-without, inside_whole}
+
+-- ---- targets
+
+-- a text that has to be there fits
+text-required : (o : Option Node) → is_some (option_and_then text_in o) ≡ true → RowFits required text o
+text-required None e = absurd (true≢false (sym e))
+text-required (Some t) e = text-fits t e
+
+-- and so does one that may be
+text-allowed : (o : Option Node) → (is_none o || is_some (option_and_then text_in o)) ≡ true → RowFits optional text o
+text-allowed None e = tt
+text-allowed (Some t) e = text-fits t e
+
+-- a map of such members, with a text under `context` and none but a text under `sandbox`, is a context target
+context-fits : (ms : Members) → OthersFit extensible ms → (is_some (text_if_at "context" (tree.map ms)) && is_well_at "sandbox" (tree.map ms)) ≡ true → Fits (tree.map ms) (rule context_target)
+context-fits ms fit has =
+    let k = codes "context" in
+    let l = codes "sandbox" in
+    let rows = row l optional text no_more in
+    let both = and_parts (is_some (text_if_at "context" (tree.map ms))) (is_well_at "sandbox" (tree.map ms)) has in
+    fits_rule (tree.map ms) context_target
+    (fits_map ms (row k required text rows) extensible
+    (row_fits ms k required text rows (text-required (get_member k ms) both.0) (row_fits ms l optional text no_more (text-allowed (get_member l ms) both.1) (no_row ms)))
+    (others_fit-without (k ∷ l ∷ []) ms fit))
+
+-- the text of a sandbox that may be there
+sandbox-read : (id realm : List ℕ) (o : Option (String Global)) → (let t = option_map text_tree o in
+    if is_none t || is_some (option_and_then text_in t) then ContextTarget id (unwrap_or (option_and_then text_in t) []) else RealmTarget realm) ≡ ContextTarget id (unwrap_or (option_map string_bytes o) [])
+sandbox-read id realm None = refl
+sandbox-read id realm (Some s) = refl
+
+-- a target in hand is read from its tree
+pub target-read : (t : declared_target.Target) → targets.ghosts.shape.well t → target_in (targets.ghosts.shape.tree_of t) ≡ target_of t
+target-read (target.Context t) w =
+    let rs = rows_in (term_of context_target) in
+    let others = others_of t.ext in
+    let at = PartsAt-joined rs (Some (text_tree t.context) ∷ option_map text_tree t.sandbox ∷ []) others refl tt (unnamed (names_of rs) others w.1.no_known) in
+    rw (at.0, at.1.0) (sandbox-read (string_bytes t.context) _ t.sandbox)
+target-read (target.Realm t) w =
+    let ms = tree.put (codes "realm") (text_tree t.realm) (others_of t.ext) in
+    let by_context = false_from_ne_true (is_some (text_if_at "context" (tree.map ms)) && is_well_at "sandbox" (tree.map ms)) (λ has. w.1 (context-fits ms (inside_whole ms (realm_targets.ghosts.shape.whole t w.0)) has)) in
+    rw (by_context, get_member-put (codes "realm") (text_tree t.realm) (others_of t.ext)) refl
+
+-- ---- the commands
+
+-- a `script.disown` asks for its handles in the realm of its target
+pub disown-asks : (p : DisownParameters) → disown.ghosts.shape.well p
+    → command_in (codes "script.disown") (disown.ghosts.shape.tree_of p) ≡ asked_of params.ghosts.shape (ScriptDisown p)
+disown-asks p w =
+    let rs = rows_in (term_of disown_parameters) in
+    let others = others_of p.ext in
+    let at = PartsAt-joined rs (Some (list_tree text_tree p.handles.items) ∷ Some (targets.ghosts.shape.tree_of p.target) ∷ []) others refl tt (unnamed (names_of rs) others w.1.no_known) in
+    rw (at.0, at.1.0, texts-list p.handles.items, target-read p.target w.0.1.0) refl
