@@ -9,39 +9,39 @@ use std::test::Fail;
 const REALMS: &str = r#"all realms in tree order, with their origins
 BEGUN
 > 1 {"id":1,"method":"script.getRealms","params":{}}
-  < 1 {"id":1,"result":{"realms":[{"context":"C1","origin":"null","realm":"R1","type":"window"}]},"type":"success"}
-frame C1 http://b.test:8080/x
-frame C1 wss://c.test/
-frame C2 https://u:p@D.test:443/y
+  < 1 {"id":1,"result":{"realms":[{"context":"@c1","origin":"null","realm":"@r1","type":"window"}]},"type":"success"}
+frame @c1 http://b.test:8080/x
+frame @c1 wss://c.test/
+frame @c2 https://u:p@D.test:443/y
 > 1 {"id":2,"method":"browsingContext.create","params":{"type":"tab"}}
-  < 1 {"id":2,"result":{"context":"C5"},"type":"success"}
+  < 1 {"id":2,"result":{"context":"@c5"},"type":"success"}
 > 1 {"id":3,"method":"script.getRealms","params":{}}
-  < 1 {"id":3,"result":{"realms":[{"context":"C1","origin":"null","realm":"R1","type":"window"},{"context":"C2","origin":"http://b.test:8080","realm":"R2","type":"window"},{"context":"C4","origin":"https://d.test","realm":"R4","type":"window"},{"context":"C3","origin":"null","realm":"R3","type":"window"},{"context":"C5","origin":"null","realm":"R5","type":"window"}]},"type":"success"}
+  < 1 {"id":3,"result":{"realms":[{"context":"@c1","origin":"null","realm":"@r1","type":"window"},{"context":"@c2","origin":"http://b.test:8080","realm":"@r2","type":"window"},{"context":"@c4","origin":"https://d.test","realm":"@r4","type":"window"},{"context":"@c3","origin":"null","realm":"@r3","type":"window"},{"context":"@c5","origin":"null","realm":"@r5","type":"window"}]},"type":"success"}
 > 1 {"id":4,"method":"script.getRealms","params":{"type":"window","x":[]}}
-  < 1 {"id":4,"result":{"realms":[{"context":"C1","origin":"null","realm":"R1","type":"window"},{"context":"C2","origin":"http://b.test:8080","realm":"R2","type":"window"},{"context":"C4","origin":"https://d.test","realm":"R4","type":"window"},{"context":"C3","origin":"null","realm":"R3","type":"window"},{"context":"C5","origin":"null","realm":"R5","type":"window"}]},"type":"success"}
+  < 1 {"id":4,"result":{"realms":[{"context":"@c1","origin":"null","realm":"@r1","type":"window"},{"context":"@c2","origin":"http://b.test:8080","realm":"@r2","type":"window"},{"context":"@c4","origin":"https://d.test","realm":"@r4","type":"window"},{"context":"@c3","origin":"null","realm":"@r3","type":"window"},{"context":"@c5","origin":"null","realm":"@r5","type":"window"}]},"type":"success"}
 
 a navigation makes a new one, and takes those below it
 BEGUN
-frame C1 about:blank
-> 1 {"id":1,"method":"browsingContext.navigate","params":{"context":"C1","url":"http://a.test"}}
-  < 1 {"id":1,"result":{"navigation":"N1","url":"http://a.test/"},"type":"success"}
+frame @c1 about:blank
+> 1 {"id":1,"method":"browsingContext.navigate","params":{"context":"@c1","url":"http://a.test"}}
+  < 1 {"id":1,"result":{"navigation":"@n1","url":"http://a.test/"},"type":"success"}
 > 1 {"id":2,"method":"script.getRealms","params":{}}
-  < 1 {"id":2,"result":{"realms":[{"context":"C1","origin":"http://a.test","realm":"R3","type":"window"}]},"type":"success"}
-> 1 {"id":3,"method":"browsingContext.close","params":{"context":"C1"}}
+  < 1 {"id":2,"result":{"realms":[{"context":"@c1","origin":"http://a.test","realm":"@r3","type":"window"}]},"type":"success"}
+> 1 {"id":3,"method":"browsingContext.close","params":{"context":"@c1"}}
   < 1 {"id":3,"result":{},"type":"success"}
 > 1 {"id":4,"method":"script.getRealms","params":{}}
   < 1 {"id":4,"result":{"realms":[]},"type":"success"}
 
 of a context its own alone
 BEGUN
-frame C1 http://b.test
-frame C2 http://c.test
-> 1 {"id":1,"method":"script.getRealms","params":{"context":"C2"}}
-  < 1 {"id":1,"result":{"realms":[{"context":"C2","origin":"http://b.test","realm":"R2","type":"window"}]},"type":"success"}
-> 1 {"id":2,"method":"script.getRealms","params":{"context":"C1","type":"window"}}
-  < 1 {"id":2,"result":{"realms":[{"context":"C1","origin":"null","realm":"R1","type":"window"}]},"type":"success"}
-unframe C2
-> 1 {"id":3,"method":"script.getRealms","params":{"context":"C2"}}
+frame @c1 http://b.test
+frame @c2 http://c.test
+> 1 {"id":1,"method":"script.getRealms","params":{"context":"@c2"}}
+  < 1 {"id":1,"result":{"realms":[{"context":"@c2","origin":"http://b.test","realm":"@r2","type":"window"}]},"type":"success"}
+> 1 {"id":2,"method":"script.getRealms","params":{"context":"@c1","type":"window"}}
+  < 1 {"id":2,"result":{"realms":[{"context":"@c1","origin":"null","realm":"@r1","type":"window"}]},"type":"success"}
+unframe @c2
+> 1 {"id":3,"method":"script.getRealms","params":{"context":"@c2"}}
   < 1 {"error":"no such frame","id":3,"message":"no such frame","type":"error"}
 
 of another type than windows there are none, but the context is looked at first
@@ -60,7 +60,7 @@ BEGUN
   < 1 {"id":6,"result":{"realms":[]},"type":"success"}
 > 1 {"id":7,"method":"script.getRealms","params":{"type":"worklet"}}
   < 1 {"id":7,"result":{"realms":[]},"type":"success"}
-> 1 {"id":8,"method":"script.getRealms","params":{"context":"C1","type":"worker"}}
+> 1 {"id":8,"method":"script.getRealms","params":{"context":"@c1","type":"worker"}}
   < 1 {"id":8,"result":{"realms":[]},"type":"success"}
 > 1 {"id":9,"method":"script.getRealms","params":{"context":"nowhere","type":"worker"}}
   < 1 {"error":"no such frame","id":9,"message":"no such frame","type":"error"}

@@ -28,22 +28,23 @@ const CONTEXT: &str =
 const REALM: &str =
     r#"{"method":"script.realmCreated","params":{"context":"00000000-0002-8000-8000-000000000001","origin":"null","realm":"00000000-0003-8000-8000-000000000001","type":"window"},"type":"event"}"#;
 
-/// The letter of each kind of id in a table, and how such an id begins.
-const KINDS: [(&str, &str); 7] = [
-    ("S", "00000000-0001"),
-    ("C", "00000000-0002"),
-    ("R", "00000000-0003"),
-    ("N", "00000000-0004"),
-    ("U", "00000001-0005"),
-    ("V", "00000002-0005"),
-    ("W", "00000000-0007"),
+/// The word of each kind of id in a table, and how such an id begins.
+const KINDS: [(&str, &str); 8] = [
+    ("@s", "00000000-0001"),
+    ("@c", "00000000-0002"),
+    ("@r", "00000000-0003"),
+    ("@n", "00000000-0004"),
+    ("@u", "00000001-0005"),
+    ("@v", "00000002-0005"),
+    ("@h", "00000000-0006"),
+    ("@w", "00000000-0007"),
 ];
 
 /// The table with the ids for which its words stand, the longer words first.
 ///
-/// `C1` stands for the id of the first context, and so `R1` for that of a realm, `N1` of a navigation, `W1` of a
-/// window, `S1` of a session, `U1` of a subscription of the first session and `V1` of one of the second. There are 18
-/// of each.
+/// `@c1` stands for the id of the first context, and so `@r1` for that of a realm, `@n1` of a navigation, `@h1` of a
+/// handle, `@w1` of a window, `@s1` of a session, `@u1` of a subscription of the first session and `@v1` of one of the
+/// second. There are 18 of each.
 pub(crate) fn with_ids(alloc: Global, table: &str) -> Result<String, AllocError> {
     let mut whole = String::from_str(alloc, table)?;
     for k in 1..=18u8 {
