@@ -12,7 +12,7 @@ use Rattle.bidi_browser.specs.Plans.{leaves_tables}
 use Rattle.bidi_browser.specs.declared.script_table.ScriptTable.{ScriptTable}
 use Rattle.bidi_browser.specs.TableInHand.{AreTabled}
 use Rattle.bidi_browser.specs.Stands.{StandsFor}
-use Rattle.bidi_browser.specs.Acts.{Act, Removed, Tabled, Logged, Looked, Row as Said}
+use Rattle.bidi_browser.specs.Acts.{Act, Removed, Tabled, Disowned, Logged, Looked, Row as Said}
 use Rattle.bidi_browser.specs.Contexts.{tops, subtree_of, tree_order}
 use Rattle.bidi_browser.specs.Info.{info_of}
 use Rattle.bidi_browser.specs.ContextRows.{Row, row_of, row_at, rows, children_in, below, info_in}

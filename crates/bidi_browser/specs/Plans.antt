@@ -19,7 +19,7 @@ use Rattle.bidi_browser.specs.declared.plan.Edit.{Edit}
 use Rattle.bidi_browser.specs.declared.plan.Edit.TheVariants.{Keep, Add, Remove, Navigate, SetRow}
 use Rattle.bidi_browser.specs.declared.refusal.Refusal.{Refusal}
 use Rattle.bidi_browser.specs.declared.refusal.Refusal.TheVariants.{Code, NoMemory}
-use Rattle.bidi_browser.specs.Acts.{Act, Removed, Moved, Tabled, Logged, Looked, gives, next_number}
+use Rattle.bidi_browser.specs.Acts.{Act, Removed, Moved, Tabled, Disowned, Logged, Looked, gives, next_number}
 use Rattle.bidi_browser.specs.Contexts.{children_of, subtree_of}
 use Rattle.bidi_browser.specs.Actions.{Action, is_asked}
 use Rattle.bidi_browser.specs.Outcome.{outcome}

@@ -170,3 +170,84 @@ fn filled(alloc: Global, table: &str) -> Result<String, AllocError> {
     }
     table.replace(alloc, "FILLED\n", lines.as_str())
 }
+
+/// Where the handles of a `script.disown` are asked for.
+const TARGETS: &str = r#"handles that no value has, in the realm of a context and in a realm
+BEGUN
+> 1 {"id":1,"method":"script.disown","params":{"handles":["@h9"],"target":{"context":"@c1"}}}
+  < 1 {"id":1,"result":{},"type":"success"}
+> 1 {"id":2,"method":"script.disown","params":{"handles":[],"target":{"realm":"@r1"}}}
+  < 1 {"id":2,"result":{},"type":"success"}
+> 1 {"id":3,"method":"script.disown","params":{"handles":["","@c1","@h1","@h1"],"target":{"realm":"@r1"},"more":[1]}}
+  < 1 {"id":3,"result":{},"type":"success"}
+
+a context and a realm that are not there, each by its own id alone
+BEGUN
+> 1 {"id":1,"method":"script.disown","params":{"handles":["@h1"],"target":{"context":"@c2"}}}
+  < 1 {"error":"no such frame","id":1,"message":"no such frame","type":"error"}
+> 1 {"id":2,"method":"script.disown","params":{"handles":["@h1"],"target":{"realm":"@r2"}}}
+  < 1 {"error":"no such frame","id":2,"message":"no such frame","type":"error"}
+> 1 {"id":3,"method":"script.disown","params":{"handles":[],"target":{"context":"@r1"}}}
+  < 1 {"error":"no such frame","id":3,"message":"no such frame","type":"error"}
+> 1 {"id":4,"method":"script.disown","params":{"handles":[],"target":{"realm":"@c1"}}}
+  < 1 {"error":"no such frame","id":4,"message":"no such frame","type":"error"}
+> 1 {"id":5,"method":"script.disown","params":{"handles":[],"target":{"realm":""}}}
+  < 1 {"error":"no such frame","id":5,"message":"no such frame","type":"error"}
+
+a sandbox is no place, and the empty name is none
+BEGUN
+> 1 {"id":1,"method":"script.disown","params":{"handles":[],"target":{"context":"@c1","sandbox":"x"}}}
+  < 1 {"error":"unsupported operation","id":1,"message":"unsupported operation","type":"error"}
+> 1 {"id":2,"method":"script.disown","params":{"handles":[],"target":{"context":"nowhere","sandbox":"x"}}}
+  < 1 {"error":"no such frame","id":2,"message":"no such frame","type":"error"}
+> 1 {"id":3,"method":"script.disown","params":{"handles":[],"target":{"context":"@c1","sandbox":""}}}
+  < 1 {"id":3,"result":{},"type":"success"}
+> 1 {"id":4,"method":"script.disown","params":{"handles":[],"target":{"realm":"@r1","sandbox":"x"}}}
+  < 1 {"id":4,"result":{},"type":"success"}
+
+a context target comes first, where it fits
+BEGUN
+> 1 {"id":1,"method":"script.disown","params":{"handles":[],"target":{"context":5,"realm":"r"}}}
+  < 1 {"error":"no such frame","id":1,"message":"no such frame","type":"error"}
+> 1 {"id":2,"method":"script.disown","params":{"handles":[],"target":{"context":5,"realm":"@r1"}}}
+  < 1 {"id":2,"result":{},"type":"success"}
+> 1 {"id":3,"method":"script.disown","params":{"handles":[],"target":{"context":"@c1","realm":"r"}}}
+  < 1 {"id":3,"result":{},"type":"success"}
+> 1 {"id":4,"method":"script.disown","params":{"handles":[],"target":{"context":"@c2","realm":"@r1"}}}
+  < 1 {"error":"no such frame","id":4,"message":"no such frame","type":"error"}
+> 1 {"id":5,"method":"script.disown","params":{"handles":[],"target":{"context":"@c2","realm":"@r1","sandbox":null}}}
+  < 1 {"id":5,"result":{},"type":"success"}
+
+a realm goes with a navigation, and with its context
+BEGUN
+frame @c1 about:blank
+> 1 {"id":1,"method":"script.disown","params":{"handles":[],"target":{"realm":"@r2"}}}
+  < 1 {"id":1,"result":{},"type":"success"}
+> 1 {"id":2,"method":"browsingContext.reload","params":{"context":"@c1"}}
+  < 1 {"id":2,"result":{"navigation":"@n1","url":"about:blank"},"type":"success"}
+> 1 {"id":3,"method":"script.disown","params":{"handles":[],"target":{"realm":"@r1"}}}
+  < 1 {"error":"no such frame","id":3,"message":"no such frame","type":"error"}
+> 1 {"id":4,"method":"script.disown","params":{"handles":[],"target":{"realm":"@r2"}}}
+  < 1 {"error":"no such frame","id":4,"message":"no such frame","type":"error"}
+> 1 {"id":5,"method":"script.disown","params":{"handles":[],"target":{"realm":"@r3"}}}
+  < 1 {"id":5,"result":{},"type":"success"}
+
+parameters that do not fit, and a connection without a session
+BEGUN
+open 2 /session
+  opened 2
+> 1 {"id":1,"method":"script.disown","params":{"target":{"context":"@c1"}}}
+  < 1 {"error":"invalid argument","id":1,"message":"invalid argument","type":"error"}
+> 1 {"id":2,"method":"script.disown","params":{"handles":["@h1"]}}
+  < 1 {"error":"invalid argument","id":2,"message":"invalid argument","type":"error"}
+> 1 {"id":3,"method":"script.disown","params":{"handles":["@h1",1],"target":{"context":"@c1"}}}
+  < 1 {"error":"invalid argument","id":3,"message":"invalid argument","type":"error"}
+> 1 {"id":4,"method":"script.disown","params":{"handles":[],"target":{}}}
+  < 1 {"error":"invalid argument","id":4,"message":"invalid argument","type":"error"}
+> 2 {"id":5,"method":"script.disown","params":{"handles":[],"target":{"context":"@c1"}}}
+  < 2 {"error":"invalid session id","id":5,"message":"invalid session id","type":"error"}"#;
+
+#[test]
+fn handles_are_given_back_in_the_realm_of_a_target(rt: HostRuntime) -> Result<(), Fail> {
+    check_plays(&rt, TARGETS)
+}

@@ -1,4 +1,5 @@
-use Rattle.std.proofs.Common.{◌∷◌, [], refl, ap, arith}
+use Rattle.std.proofs.Common.{◌∷◌, [], map, refl, ap, arith}
+use Rattle.std.specs.Prelude.{string_bytes}
 use Rattle.bidi_messages.specs.declared.result_data.ResultData.TheVariants.{ScriptDisown}
 use Rattle.bidi_browser.specs.Acts.{Disowned}
 use Rattle.bidi_browser.specs.Asked.{disown_asked}
@@ -10,7 +11,7 @@ use Rattle.bidi_browser.proofs.scripts.plan_disown.Goals as goal
 pub returns-clause-plans : goal.returns-clause-plans
 returns-clause-plans c = λ past moment stands.
     let found = c.in_ok-targeted.ensures past stands.contexts in
-    kept-plans c.looked.result past moment (disown_asked c.args.params.now) (Disowned (realm_of past found.0) _) (ScriptDisown c.nothing.result) refl refl (rw found.1 refl) (ap (λ t. Replies t ∷ []) c.nothing.ensures.tree)
+    kept-plans c.looked.result past moment (disown_asked c.args.params.now) (Disowned (realm_of past found.0) (map string_bytes c.args.params.now.handles.items)) (ScriptDisown c.nothing.result) refl refl (rw found.1 refl) (ap (λ t. Replies t ∷ []) c.nothing.ensures.tree)
     c.looked.ensures.before c.looked.ensures.outcome c.looked.ensures.after c.looked.ensures.change
 
 pub returns-clause-well : goal.returns-clause-well
