@@ -3,16 +3,19 @@ use Rattle.std.proofs.Common.{◌≡◌, ap, ◌≤◌, ◌<◌, ℕ, suc, Bool,
 use Rattle.std.specs.Prelude.{◌==◌, not, ◌&&◌, ◌||◌, nat_lt, if◌then◌else◌, bytes_eq, filter, find, Option, Some, None, is_none, Result, Ok, Err}
 use Rattle.std.proofs.lemmas.Bool.Decides.{nat_tests, Decides-eqb, Decides-ltb}
 use Rattle.bidi_messages.specs.declared.error_code.ErrorCode.{ErrorCode}
-use Rattle.bidi_messages.specs.declared.error_code.ErrorCode.TheVariants.{InvalidArgument, NoSuchFrame, UnknownError}
-use Rattle.bidi_browser.specs.declared.id.Kind.TheVariants.{Context}
+use Rattle.bidi_messages.specs.declared.error_code.ErrorCode.TheVariants.{InvalidArgument, NoSuchFrame, UnknownError, UnsupportedOperation}
+use Rattle.bidi_browser.specs.declared.id.Kind.TheVariants.{Context, Realm}
 use Rattle.bidi_browser.specs.Ids.{id_of}
 use Rattle.bidi_browser.specs.Urls.{parsed}
-use Rattle.bidi_browser.specs.Acts.{Act, Made, Framed, Removed, Moved, Looked, To, Again, Across, given, next_number, Ending}
+use Rattle.bidi_browser.specs.Acts.{Act, Made, Framed, Removed, Moved, Ran, Looked, To, Again, Across, given, next_number, Ending}
 use Rattle.bidi_browser.specs.Contexts.{parent_of, level_of, is_under, is_born, is_gone, is_alive, up_to}
 use Rattle.bidi_browser.specs.Actions.{Action, Activate, Close, Create, GetTree, Navigate, Reload, TraverseHistory, Evaluate, CallFunction, Disown, GetRealms, Frame, Unframe, Log, TableRow}
 use Rattle.bidi_browser.specs.Checks.{◌>>=◌, need, found}
-use Rattle.bidi_browser.specs.Outcome.{context_named, top_named, looked, looked_at, has_room, ending_outcome, outcome}
+use Rattle.bidi_browser.specs.Outcome.{context_named, top_named, looked, looked_at, has_room, realm_targeted, this_resolved, ending_of, ending_outcome, outcome}
 use Rattle.bidi_browser.specs.Accepted.{AreAccepted}
+use Rattle.bidi_browser.specs.Realms.{row_of, held_value}
+use Rattle.bidi_browser.specs.Values.{arguments}
+use Rattle.bidi_browser.proofs.RealmLemmas.{target-made}
 
 -- ---- checks in order
 
@@ -34,12 +37,12 @@ found-ok (Some y) code x e = cc
 -- ---- what acts are of
 
 -- what a look-up finds among those that pass a test passes it
-find-passes : (f p : ℕ → Bool) (xs : List ℕ) (c : ℕ) → find f (filter p xs) ≡ Some c → p c ≡ true
+pub find-passes : (f p : ℕ → Bool) (xs : List ℕ) (c : ℕ) → find f (filter p xs) ≡ Some c → p c ≡ true
 find-passes f p [] c e = absurd (cc)
 find-passes f p (x ∷ xs) c e = let ih = find-passes f p xs c in grind (arith, ih)
 
 -- a context that is named is alive
-named-alive : (past : List Act) (id : List ℕ) (c : ℕ) → context_named past id ≡ Ok c → is_alive past c ≡ true
+pub named-alive : (past : List Act) (id : List ℕ) (c : ℕ) → context_named past id ≡ Ok c → is_alive past c ≡ true
 named-alive past id c e = find-passes (λ d. bytes_eq id (id_of Context d)) (is_alive past) (up_to (given past Context)) c (found-ok _ NoSuchFrame c e)
 
 -- so it is of two contexts that are one
@@ -59,11 +62,12 @@ pub record IsChecked (past : List Act) (p : ℕ) : Type 0 where
   pub alive : is_alive past p ≡ true
   pub high : level_of past p < 16
 
--- what an accepted act is of is alive; a frame's parent stands above level 16
+-- what an accepted act is of is alive; a frame's parent stands above level 16, and a script ran in a realm that was made
 abbrev pub IsSound : List Act → Act → Type 0
 IsSound past (Framed p url) = IsChecked past p
 IsSound past (Removed a) = is_alive past a ≡ true
 IsSound past (Moved a move) = is_alive past a ≡ true
+IsSound past (Ran r ending held) = r < next_number past Realm
 IsSound past act = Unit {0}
 
 -- the act of an action is so, where there is one
@@ -96,8 +100,8 @@ sound-at past None = sound-ok past Looked tt
 sound-at past (Some id) = sound-looked past (context_named past id)
 
 -- a script does
-sound-ending : (past : List Act) (r : ℕ) (owned : Bool) (ending : Ending) → EndsSound past (ending_outcome past r owned ending)
-sound-ending past r owned ending = sound-then past _ _ (λ u e. sound-ok past _ tt)
+sound-ending : (past : List Act) (r : ℕ) (owned : Bool) (ending : Ending) → r < next_number past Realm → EndsSound past (ending_outcome past r owned ending)
+sound-ending past r owned ending made = sound-then past _ _ (λ u e. sound-ok past (Ran r ending _) made)
 
 -- what is alive and high is checked
 checked : (past : List Act) (c : ℕ) (u : Unit {0}) → is_alive past c ≡ true → need (nat_lt (level_of past c) 16) UnknownError ≡ Ok u → IsChecked past c
@@ -112,8 +116,11 @@ ends-sound past (GetTree depth root) = sound-at past root
 ends-sound past (Navigate id address wait) = sound-then past (context_named past id) _ (λ c e. sound-then past _ _ (λ url f. sound-ok past (Moved c (To url)) (named-alive past id c e)))
 ends-sound past (Reload id wait) = sound-then past (context_named past id) _ (λ c e. sound-ok past (Moved c Again) (named-alive past id c e))
 ends-sound past (TraverseHistory id delta) = sound-then past (top_named past id) _ (λ c e. sound-then past _ _ (λ place f. sound-ok past (Moved c (Across place)) (top-alive past id c e)))
-ends-sound past (Evaluate expression target owned) = search (sound-then, sound-ending)
-ends-sound past (CallFunction declaration target values this owned) = search (sound-then, sound-ending)
+ends-sound past (Evaluate expression target owned) =
+    sound-then past (realm_targeted past target) _ (λ r e. sound-then past (found (row_of past expression) UnsupportedOperation) _ (λ row f. sound-ending past r owned (ending_of row []) (target-made past target r e)))
+ends-sound past (CallFunction declaration target values this owned) =
+    sound-then past (realm_targeted past target) _ (λ r e. sound-then past (arguments (held_value past r) values) _ (λ resolved f. sound-then past (this_resolved past r this) _
+    (λ self g. sound-then past (found (row_of past declaration) UnsupportedOperation) _ (λ row h. sound-ending past r owned (ending_of row resolved) (target-made past target r e)))))
 ends-sound past (Disown ids target) = search (sound-then, sound-ok)
 ends-sound past (GetRealms context type) = sound-at past context
 ends-sound past (Frame id address) =

@@ -14,6 +14,7 @@ use Rattle.bidi_browser.specs.Places.{begun_at}
 use Rattle.bidi_browser.specs.Accepted.{AreAccepted}
 use Rattle.bidi_browser.specs.ContextRows.{Row, row_at, rows}
 use Rattle.bidi_browser.proofs.AcceptedLemmas.{act-sound, alive-below}
+use Rattle.bidi_browser.proofs.HandleLemmas.{handles-unmade}
 
 -- ---- what is not born yet
 
@@ -164,6 +165,7 @@ pub row-made : (past : List Act) (w : Option ℕ) → AreAccepted past → row_a
       window = unwrap_or w (next_number past Window);
       realm = next_number past Realm;
       entries = begun_at about_blank;
+      handles = [];
     }
 row-made past w acc =
     rw (
@@ -171,9 +173,10 @@ row-made past w acc =
       parent-unborn past (suc (given past Context)) (omega arith),
       top-unborn past (suc (given past Context)) (omega arith),
       level-unborn past (suc (given past Context)) (omega arith),
+      handles-unmade past (next_number past Realm) acc (omega arith),
     ) refl
 
 -- the new context of a frame
-pub row-framed : (past : List Act) (p : ℕ) (url : Parts) → row_at (Framed p url ∷ past) (next_number past Context)
-    ≡ record { number = next_number past Context; parent = Some p; top = top_of past p; level = suc (level_of past p); window = window_of past p; realm = next_number past Realm; entries = begun_at url }
-row-framed past p url = rw (same-number (next_number past Context)) refl
+pub row-framed : (past : List Act) (p : ℕ) (url : Parts) → AreAccepted past → row_at (Framed p url ∷ past) (next_number past Context)
+    ≡ record { number = next_number past Context; parent = Some p; top = top_of past p; level = suc (level_of past p); window = window_of past p; realm = next_number past Realm; entries = begun_at url; handles = [] }
+row-framed past p url acc = rw (same-number (next_number past Context), handles-unmade past (next_number past Realm) acc (omega arith)) refl

@@ -6,10 +6,13 @@ pub mod ArgumentFacts
 pub mod PushLemmas
 pub mod InfoLemmas
 pub mod TellingLemmas
+pub mod RealmLemmas
 pub mod AcceptedLemmas
+pub mod HandleLemmas
 pub mod BirthLemmas
 pub mod RemovalLemmas
 pub mod MoveLemmas
+pub mod HeldLemmas
 pub mod TableLemmas
 pub mod PlanLemmas
 pub mod NavigationLemmas

@@ -9,6 +9,7 @@ use Rattle.bidi_browser.specs.Acts.{Act, Moved, Move, given, next_number}
 use Rattle.bidi_browser.specs.Accepted.{AreAccepted}
 use Rattle.bidi_browser.specs.Contexts.{is_under, is_born, is_gone, is_alive, up_to, contexts, children_of, subtree_of}
 use Rattle.bidi_browser.specs.ContextRows.{Row, row_at, rows, changed, moved_in}
+use Rattle.bidi_browser.proofs.HandleLemmas.{handles-unmade}
 use Rattle.bidi_browser.proofs.BirthLemmas.{row_if, rows-split}
 use Rattle.bidi_browser.proofs.RemovalLemmas.{any-filter, any-up-to, any-below, rows-filtered, stays}
 
@@ -94,36 +95,36 @@ any-rows g c (x ∷ xs) same = let ih = any-rows g c xs same in let here = same 
 not-next : (p : ℕ → Bool) (c n : ℕ) → list_any (λ x. x == c) (filter p (up_to n)) ≡ true → (suc n == c) ≡ false
 not-next p c n some = let older = any-up-to c n in let passes = any-filter c p (up_to n) in grind (arith, nat_tests, older, passes, some)
 
-module _ (f : Row → Row) (a : ℕ) (g h : ℕ → Row) (p : ℕ → Bool) (number : (c : ℕ) → (g c).number ≡ c) (same : (c : ℕ) → h c ≡ (if c == a then f (g c) else g c)) where
+module _ (f : Row → Row) (a : ℕ) (g h : ℕ → Row) (p : ℕ → Bool) (number : (c : ℕ) → (g c).number ≡ c) (same : (c : ℕ) → p c ≡ true → h c ≡ (if c == a then f (g c) else g c)) where
   -- with the next number, where it passes or does not
-  changed-next : (n : ℕ) (b : Bool) (some : Bool) → list_any (λ r. r.number == a) (map g (filter p (up_to n))) ≡ some → changed a f (map g (filter p (up_to n))) ≡ map h (filter p (up_to n))
+  changed-next : (n : ℕ) (b : Bool) (some : Bool) → p (suc n) ≡ b → list_any (λ r. r.number == a) (map g (filter p (up_to n))) ≡ some → changed a f (map g (filter p (up_to n))) ≡ map h (filter p (up_to n))
       → changed a f (map g (filter p (up_to n)) ++ row_if g b (suc n)) ≡ map h (filter p (up_to n)) ++ row_if h b (suc n)
-  changed-next n false some any ih =
+  changed-next n false some passes any ih =
       ap (changed a f) (append-nil (map g (filter p (up_to n)))) ∙ (ih ∙ sym (append-nil (map h (filter p (up_to n)))))
-  changed-next n true true any ih =
+  changed-next n true true passes any ih =
       let other = not-next p a n (sym (any-rows g a (filter p (up_to n)) number) ∙ any) in
       last-stays f a (map g (filter p (up_to n))) (g (suc n)) any
-      ∙ ap₂ (λ rs r. rs ++ r ∷ []) ih (sym (same (suc n) ∙ ap (λ b. if b then f (g (suc n)) else g (suc n)) other))
-  changed-next n true false any ih =
+      ∙ ap₂ (λ rs r. rs ++ r ∷ []) ih (sym (same (suc n) passes ∙ ap (λ b. if b then f (g (suc n)) else g (suc n)) other))
+  changed-next n true false passes any ih =
       last-may f a (map g (filter p (up_to n))) (g (suc n)) any
-      ∙ ap₂ (λ rs r. rs ++ r ∷ []) (sym (none-changed f a (map g (filter p (up_to n))) any) ∙ ih) (ap (λ k. if k == a then f (g (suc n)) else g (suc n)) (number (suc n)) ∙ sym (same (suc n)))
+      ∙ ap₂ (λ rs r. rs ++ r ∷ []) (sym (none-changed f a (map g (filter p (up_to n))) any) ∙ ih) (ap (λ k. if k == a then f (g (suc n)) else g (suc n)) (number (suc n)) ∙ sym (same (suc n) passes))
 
   -- the row of that number changes, and no other
   pub changed-rows : (n : ℕ) → changed a f (map g (filter p (up_to n))) ≡ map h (filter p (up_to n))
   changed-rows zero = refl
   changed-rows (suc n) =
       ap (changed a f) (rows-split g p n)
-      ∙ (changed-next n (p (suc n)) (list_any (λ r. r.number == a) (map g (filter p (up_to n)))) refl (changed-rows n) ∙ sym (rows-split h p n))
+      ∙ (changed-next n (p (suc n)) (list_any (λ r. r.number == a) (map g (filter p (up_to n)))) refl refl (changed-rows n) ∙ sym (rows-split h p n))
 
 -- ---- a navigation
 
 -- the row of a context after it
-row-step : (past : List Act) (a : ℕ) (move : Move) (c : ℕ) (b : Bool) → (c == a) ≡ b → row_at (Moved a move ∷ past) c ≡ (if b then moved_in (next_number past Realm) move (row_at past c) else row_at past c)
-row-step past a move c true is = rw is refl
-row-step past a move c false is = rw is refl
+row-step : (past : List Act) (a : ℕ) (move : Move) (c : ℕ) (b : Bool) → AreAccepted past → (c == a) ≡ b → row_at (Moved a move ∷ past) c ≡ (if b then moved_in (next_number past Realm) move (row_at past c) else row_at past c)
+row-step past a move c true acc is = rw (is, handles-unmade past (next_number past Realm) acc (omega arith)) refl
+row-step past a move c false acc is = rw is refl
 
-row-moved : (past : List Act) (a : ℕ) (move : Move) (c : ℕ) → row_at (Moved a move ∷ past) c ≡ (if c == a then moved_in (next_number past Realm) move (row_at past c) else row_at past c)
-row-moved past a move c = row-step past a move c (c == a) refl
+row-moved : (past : List Act) (a : ℕ) (move : Move) → AreAccepted past → (c : ℕ) → row_at (Moved a move ∷ past) c ≡ (if c == a then moved_in (next_number past Realm) move (row_at past c) else row_at past c)
+row-moved past a move acc c = row-step past a move c (c == a) acc refl
 
 -- it changes the row of its context, and takes out those of all below it
 pub rows-moved : (past : List Act) (a : ℕ) (move : Move) → AreAccepted past → is_alive past a ≡ true
@@ -134,4 +135,4 @@ rows-moved past a move acc root =
     rows-filtered (act ∷ past) (is_alive (act ∷ past)) (is_alive past) (λ c. list_any (λ n. n == c) gone) (up_to (given past Context))
     (λ c. stays (is_born past c) (is_under past a c && not (a == c)) (is_gone past c) (list_any (λ n. n == c) gone) (any-below past a c acc root))
     ∙ ap (filter (λ r. not (list_any (λ n. n == r.number) gone)))
-    (sym (changed-rows (moved_in (next_number past Realm) move) a (row_at past) (row_at (act ∷ past)) (is_alive past) (λ c. refl) (row-moved past a move) (given past Context)))
+    (sym (changed-rows (moved_in (next_number past Realm) move) a (row_at past) (row_at (act ∷ past)) (is_alive past) (λ c. refl) (λ c alive. row-moved past a move acc c) (given past Context)))

@@ -1,6 +1,6 @@
 -- Why a plan in hand is that of the definitions.
 use Rattle.std.proofs.Common.{◌≡◌, ◌∙◌, ◌≤◌, ◌<◌, ◌+◌, ℕ, zero, suc, length, get_or, Bool, true, false, List, [], ◌∷◌, ◌++◌, map, Option, Some, None, Result, Ok, Err, unwrap_or, refl, sym, ap, ap₂, subst, arith}
-use Rattle.std.specs.Prelude.{not, find, nat_lt, if◌then◌else◌, is_none, is_some, Vec, option_map, option_to_list, IfSome}
+use Rattle.std.specs.Prelude.{not, find, nat_lt, if◌then◌else◌, is_none, is_some, Vec, option_map, option_to_list, IfSome, IfOk, IfErr}
 use Rattle.std.specs.Borrow.{Bor}
 use Rattle.std.specs.Result.{IsErrAnd}
 use Rattle.std.specs.declared.alloc.Global.{Global}
@@ -148,20 +148,20 @@ none-is (Some n) false e = refl
 
 -- the row of a new top-level context
 pub made-row : (past : List Act) (w : Option ℕ) (row : Row) (number window realm next : ℕ) → AreAccepted past → number ≡ next_number past Context → realm ≡ next_number past Realm → next ≡ next_number past Window → window ≡ unwrap_or w next
-    → row ≡ record { number = number; parent = None; top = number; level = 1; window = window; realm = realm; entries = begun_at about_blank } → row ≡ row_at (Made w ∷ past) (next_number past Context)
+    → row ≡ record { number = number; parent = None; top = number; level = 1; window = window; realm = realm; entries = begun_at about_blank; handles = [] } → row ≡ row_at (Made w ∷ past) (next_number past Context)
 made-row past w row number window realm next accepted n r v opened is =
-    is ∙ (ap₂ (λ k x. record { number = k; parent = None; top = k; level = 1; window = x; realm = realm; entries = begun_at about_blank }) n (opened ∙ ap (unwrap_or w) v)
-    ∙ (ap (λ x. record { number = next_number past Context; parent = None; top = next_number past Context; level = 1; window = unwrap_or w (next_number past Window); realm = x; entries = begun_at about_blank }) r
+    is ∙ (ap₂ (λ k x. record { number = k; parent = None; top = k; level = 1; window = x; realm = realm; entries = begun_at about_blank; handles = [] }) n (opened ∙ ap (unwrap_or w) v)
+    ∙ (ap (λ x. record { number = next_number past Context; parent = None; top = next_number past Context; level = 1; window = unwrap_or w (next_number past Window); realm = x; entries = begun_at about_blank; handles = [] }) r
     ∙ sym (row-made past w accepted)))
 
 -- the row of a new child
-pub framed-row : (past : List Act) (p : ℕ) (url : Parts) (parent row : Row) (number realm : ℕ) → number ≡ next_number past Context → realm ≡ next_number past Realm → parent ≡ row_at past p
-    → row ≡ record { number = number; parent = Some parent.number; top = parent.top; level = parent.level + 1; window = parent.window; realm = realm; entries = begun_at url } → row ≡ row_at (Framed p url ∷ past) (next_number past Context)
-framed-row past p url parent row number realm n r is made =
-    made ∙ (ap₂ (λ k x. record { number = k; parent = Some parent.number; top = parent.top; level = parent.level + 1; window = parent.window; realm = x; entries = begun_at url }) n r
-    ∙ (ap (λ (q : Row). record { number = next_number past Context; parent = Some q.number; top = q.top; level = q.level + 1; window = q.window; realm = next_number past Realm; entries = begun_at url }) is
-    ∙ (ap (λ k. record { number = next_number past Context; parent = Some p; top = top_of past p; level = k; window = window_of past p; realm = next_number past Realm; entries = begun_at url }) (one-more (level_of past p))
-    ∙ sym (row-framed past p url))))
+pub framed-row : (past : List Act) (p : ℕ) (url : Parts) (parent row : Row) (number realm : ℕ) → AreAccepted past → number ≡ next_number past Context → realm ≡ next_number past Realm → parent ≡ row_at past p
+    → row ≡ record { number = number; parent = Some parent.number; top = parent.top; level = parent.level + 1; window = parent.window; realm = realm; entries = begun_at url; handles = [] } → row ≡ row_at (Framed p url ∷ past) (next_number past Context)
+framed-row past p url parent row number realm accepted n r is made =
+    made ∙ (ap₂ (λ k x. record { number = k; parent = Some parent.number; top = parent.top; level = parent.level + 1; window = parent.window; realm = x; entries = begun_at url; handles = [] }) n r
+    ∙ (ap (λ (q : Row). record { number = next_number past Context; parent = Some q.number; top = q.top; level = q.level + 1; window = q.window; realm = next_number past Realm; entries = begun_at url; handles = [] }) is
+    ∙ (ap (λ k. record { number = next_number past Context; parent = Some p; top = top_of past p; level = k; window = window_of past p; realm = next_number past Realm; entries = begun_at url; handles = [] }) (one-more (level_of past p))
+    ∙ sym (row-framed past p url accepted))))
   where
     one-more : (n : ℕ) → n + 1 ≡ suc n
     one-more n = omega arith
@@ -255,3 +255,9 @@ row-plans plan past moment row t is checked before reply after makes = (
   makes,
   λ unasked. after,
 )
+
+-- so does what may find no memory for it
+pub tabled-plans : (r : Result Plan Refusal) (past : List Act) (moment : ℕ) (row : Option Node) (t : Node) → row ≡ Some t → row_checked past t ≡ Ok tt → IfOk r (λ p. (p.before.items ≡ []) × (p.result ≡ None) × (p.after.items ≡ []))
+    → IfOk r (λ p. Makes p.change past (Tabled (text_at "text" t) (row_in t))) → IfErr r (λ e. e ≡ NoMemory) → Plans r past moment (TableRow row)
+tabled-plans (Ok plan) past moment row t is checked told makes err = row-plans plan past moment row t is checked told.0 told.1 told.2 makes
+tabled-plans (Err e) past moment row t is checked told makes err = subst (λ e. Plans (Err e) past moment (TableRow row)) (sym err) tt

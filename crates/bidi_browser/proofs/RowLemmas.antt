@@ -32,7 +32,7 @@ find-same p q [] same = refl
 find-same p q (x ∷ xs) same = let ih = find-same p q xs same in let here = same x in grind (arith, ih, here)
 
 -- a filter by what f gives
-filter-map : {A B : Type 0} (f : A → B) (p : B → Bool) (xs : List A) → filter p (map f xs) ≡ map f (filter (λ x. p (f x)) xs)
+pub filter-map : {A B : Type 0} (f : A → B) (p : B → Bool) (xs : List A) → filter p (map f xs) ≡ map f (filter (λ x. p (f x)) xs)
 filter-map f p [] = refl
 filter-map f p (x ∷ xs) = let ih = filter-map f p xs in grind (arith, ih)
 

@@ -1,5 +1,5 @@
 -- The table in hand by its rows, and by the past that they stand for.
-use Rattle.std.proofs.Common.{◌≡◌, ◌∙◌, ℕ, List, [], ◌∷◌, ◌++◌, map, Bool, true, false, cond, Option, Some, None, Result, Ok, Err, IfOk, refl, sym, ap, ap₂, subst}
+use Rattle.std.proofs.Common.{◌≡◌, ◌∙◌, ℕ, suc, List, [], ◌∷◌, ◌++◌, map, Bool, true, false, cond, Option, Some, None, Result, Ok, Err, IfOk, refl, sym, ap, ap₂, subst}
 use Rattle.std.specs.Prelude.{◌==◌, not, filter, option_map}
 use Rattle.std.specs.Borrow.{Bor}
 use Rattle.std.specs.List.{list_any}
@@ -12,8 +12,14 @@ use Rattle.bidi_browser.specs.Plans.{leaves_tables}
 use Rattle.bidi_browser.specs.declared.script_table.ScriptTable.{ScriptTable}
 use Rattle.bidi_browser.specs.TableInHand.{AreTabled}
 use Rattle.bidi_browser.specs.Stands.{StandsFor}
-use Rattle.bidi_browser.specs.Acts.{Act, Removed, Tabled, Disowned, Logged, Looked, Row as Said}
-use Rattle.bidi_browser.specs.Contexts.{tops, subtree_of, tree_order}
+use Rattle.bidi_browser.specs.Acts.{Act, Removed, Tabled, Ran, Disowned, Logged, Looked, Ending, next_number, Row as Said}
+use Rattle.bidi_tree.specs.Node.{Node}
+use Rattle.bidi_browser.specs.declared.id.Kind.TheVariants.{Handle}
+use Rattle.bidi_browser.specs.declared.context_table.Contexts.{Contexts}
+use Rattle.bidi_browser.specs.Realms.{realm_of, value_of, has_id, handles_of}
+use Rattle.bidi_browser.specs.ContextRows.{changed, held_in, without_in}
+use Rattle.bidi_browser.proofs.HeldLemmas.{rows-ran, rows-disowned}
+use Rattle.bidi_browser.specs.Contexts.{is_alive, tops, subtree_of, tree_order}
 use Rattle.bidi_browser.specs.Info.{info_of}
 use Rattle.bidi_browser.specs.ContextRows.{Row, row_of, row_at, rows, children_in, below, info_in}
 use Rattle.bidi_browser.proofs.AcceptedLemmas.{act-sound}
@@ -75,11 +81,11 @@ removed-rows past a numbers all accepted table is =
 -- an act that leaves the tables as they are leaves what a browser stands for with it
 pub kept-stands : (b : Browser) (past : List Act) (action : Action) (act : Act) → leaves_tables act ≡ true → outcome past action ≡ Ok act → StandsFor b past → StandsFor b (act ∷ past)
 kept-stands b past action Looked leaves done s =
-    record { contexts = record { rows = s.contexts.rows; accepted = (action, done, s.contexts.accepted) }; next_context = s.next_context; next_realm = s.next_realm; next_navigation = s.next_navigation; table = record { rows = s.table.rows; count = s.table.count }; next_window = s.next_window }
+    record { contexts = record { rows = s.contexts.rows; accepted = (action, done, s.contexts.accepted) }; next_context = s.next_context; next_realm = s.next_realm; next_navigation = s.next_navigation; next_handle = s.next_handle; table = record { rows = s.table.rows; count = s.table.count }; next_window = s.next_window }
 kept-stands b past action (Logged c level line) leaves done s =
-    record { contexts = record { rows = s.contexts.rows; accepted = (action, done, s.contexts.accepted) }; next_context = s.next_context; next_realm = s.next_realm; next_navigation = s.next_navigation; table = record { rows = s.table.rows; count = s.table.count }; next_window = s.next_window }
-kept-stands b past action (Disowned r ids) leaves done s =
-    record { contexts = record { rows = s.contexts.rows; accepted = (action, done, s.contexts.accepted) }; next_context = s.next_context; next_realm = s.next_realm; next_navigation = s.next_navigation; table = record { rows = s.table.rows; count = s.table.count }; next_window = s.next_window }
+    record { contexts = record { rows = s.contexts.rows; accepted = (action, done, s.contexts.accepted) }; next_context = s.next_context; next_realm = s.next_realm; next_navigation = s.next_navigation; next_handle = s.next_handle; table = record { rows = s.table.rows; count = s.table.count }; next_window = s.next_window }
+kept-stands b past action (Ran r ending false) leaves done s =
+    record { contexts = record { rows = s.contexts.rows; accepted = (action, done, s.contexts.accepted) }; next_context = s.next_context; next_realm = s.next_realm; next_navigation = s.next_navigation; next_handle = s.next_handle; table = record { rows = s.table.rows; count = s.table.count }; next_window = s.next_window }
 kept-stands b past action act leaves done s = absurd (cc)
 
 -- so does a row that is set, with the table that has it
@@ -91,6 +97,42 @@ row-stands b table past action act script row is done tabled s =
       next_context = s.next_context;
       next_realm = s.next_realm;
       next_navigation = s.next_navigation;
+      next_handle = s.next_handle;
       table = tabled;
+      next_window = s.next_window;
+    })
+
+-- a browser whose contexts changed stands for the act that changed them
+pub held-stands : (b : Browser) (contexts : Contexts) (n : ℕ) (past : List Act) (action : Action) (a : ℕ) (ending : Ending) (act : Act) (held : ℕ × Node) → act ≡ Ran (realm_of past a) ending true → is_alive past a ≡ true
+    → held ≡ (next_number past Handle, value_of ending) → outcome past action ≡ Ok act → StandsFor b past → n ≡ suc (next_number past Handle) → map row_of contexts.live.items ≡ changed a (held_in held) (map row_of b.contexts.live.items)
+    → StandsFor (record b { contexts = contexts; next_handle = n }) (act ∷ past)
+held-stands b contexts n past action a ending act held is alive holds done s next rows =
+    subst (λ x. StandsFor (record b { contexts = contexts; next_handle = n }) (x ∷ past)) (sym is) (record {
+      contexts = record {
+        rows = rows ∙ (ap₂ (λ h rs. changed a (held_in h) rs) holds s.contexts.rows ∙ sym (rows-ran past a ending alive));
+        accepted = (action, done ∙ ap Ok is, s.contexts.accepted);
+      };
+      next_context = s.next_context;
+      next_realm = s.next_realm;
+      next_navigation = s.next_navigation;
+      next_handle = next;
+      table = record { rows = s.table.rows; count = s.table.count };
+      next_window = s.next_window;
+    })
+
+pub disowned-stands : (b : Browser) (contexts : Contexts) (past : List Act) (action : Action) (a : ℕ) (ids : List (List ℕ)) (act : Act) (numbers : List ℕ) → act ≡ Disowned (realm_of past a) ids → is_alive past a ≡ true
+    → numbers ≡ map (λ h. h.0) (filter (λ h. has_id ids h.0) (handles_of past (realm_of past a))) → outcome past action ≡ Ok act → StandsFor b past
+    → map row_of contexts.live.items ≡ changed a (without_in numbers) (map row_of b.contexts.live.items) → StandsFor (record b { contexts = contexts }) (act ∷ past)
+disowned-stands b contexts past action a ids act numbers is alive gone done s rows =
+    subst (λ x. StandsFor (record b { contexts = contexts }) (x ∷ past)) (sym is) (record {
+      contexts = record {
+        rows = rows ∙ (ap₂ (λ ns rs. changed a (without_in ns) rs) gone s.contexts.rows ∙ sym (rows-disowned past a ids alive));
+        accepted = (action, done ∙ ap Ok is, s.contexts.accepted);
+      };
+      next_context = s.next_context;
+      next_realm = s.next_realm;
+      next_navigation = s.next_navigation;
+      next_handle = s.next_handle;
+      table = record { rows = s.table.rows; count = s.table.count };
       next_window = s.next_window;
     })

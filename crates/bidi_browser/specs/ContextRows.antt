@@ -1,5 +1,6 @@
 -- The table of live contexts: of each its row, in order of birth; how rows lie below one another, and what is told of them.
-use Rattle.std.specs.Prelude.{ℕ, zero, suc, nat_eq, ◌==◌, if◌then◌else◌, List, [], ◌∷◌, filter, flat_map, map, Option, Some, None}
+use Rattle.std.specs.Prelude.{ℕ, zero, suc, nat_eq, ◌==◌, if◌then◌else◌, not, List, [], ◌∷◌, ◌++◌, filter, flat_map, map, Option, Some, None}
+use Rattle.std.specs.List.{list_any}
 use Rattle.std.specs.Option.{option_eq}
 use Rattle.url.specs.Parts.{Parts}
 use Rattle.bidi_tree.specs.Node.{Node, null, text, Members, no_members}
@@ -12,13 +13,14 @@ use Rattle.bidi_browser.specs.Urls.{url_text, origin_text}
 use Rattle.bidi_browser.specs.Acts.{Act, Move}
 use Rattle.bidi_browser.specs.Contexts.{contexts, parent_of, top_of, level_of, window_of}
 use Rattle.bidi_browser.specs.Places.{Entries, present, moved, entries_of}
-use Rattle.bidi_browser.specs.Realms.{realm_of}
+use Rattle.bidi_browser.specs.Realms.{realm_of, handles_of}
+use Rattle.bidi_browser.specs.ValuesInHand.{handle_seen}
 use Rattle.bidi_browser.specs.Maps.{◌being◌and◌, mapped, word, number, id_tree}
 use Rattle.bidi_browser.specs.Info.{parent_tree, children_tree, depth_below}
 use Rattle.bidi_browser.specs.HistoryInHand.{entries_in}
 use Rattle.bidi_browser.specs.Occurrences.{Occurrence, console_entry}
 
--- a live context: its number, its parent if it is a child, its top-level context, its level, its window, its realm and its entries
+-- a live context: its number, its parent if it is a child, its top-level context, its level, its window, its realm, its entries and the handles that are held in its realm
 pub record Row : Type 0 where
   pub number : ℕ
   pub parent : Option ℕ
@@ -27,6 +29,7 @@ pub record Row : Type 0 where
   pub window : ℕ
   pub realm : ℕ
   pub entries : Entries
+  pub handles : List (ℕ × Node)
 
 -- the URL of the present entry
 abbrev pub url_in : Row → Parts
@@ -34,11 +37,11 @@ url_in row = present row.entries
 
 -- the row of a context in hand
 abbrev pub row_of : Context → Row
-row_of c = record { number = c.number; parent = c.parent; top = c.top; level = c.level; window = c.window; realm = c.realm; entries = entries_in c.history }
+row_of c = record { number = c.number; parent = c.parent; top = c.top; level = c.level; window = c.window; realm = c.realm; entries = entries_in c.history; handles = map handle_seen c.handles.items }
 
 -- the row that a past makes of a context
 abbrev pub row_at : List Act → ℕ → Row
-row_at past c = record { number = c; parent = parent_of past c; top = top_of past c; level = level_of past c; window = window_of past c; realm = realm_of past c; entries = entries_of past c }
+row_at past c = record { number = c; parent = parent_of past c; top = top_of past c; level = level_of past c; window = window_of past c; realm = realm_of past c; entries = entries_of past c; handles = handles_of past (realm_of past c) }
 
 -- the rows of the live contexts, by creation
 abbrev pub rows : List Act → List Row
@@ -141,9 +144,17 @@ navigation_info_in row moment navigation url = mapped (
 
 -- ---- how it changes
 
--- it has a new realm, and moved in its session history
+-- it has a new realm in which nothing is held, and moved in its session history
 abbrev pub moved_in : ℕ → Move → Row → Row
-moved_in realm move row = record row { realm = realm; entries = moved row.entries move }
+moved_in realm move row = record row { realm = realm; entries = moved row.entries move; handles = [] }
+
+-- one more value is held in its realm
+abbrev pub held_in : ℕ × Node → Row → Row
+held_in held row = record row { handles = row.handles ++ held ∷ [] }
+
+-- the handles of these numbers are held no longer
+abbrev pub without_in : List ℕ → Row → Row
+without_in numbers row = record row { handles = filter (λ held. not (list_any (λ n. n == held.0) numbers)) row.handles }
 
 -- the first row of a context is changed, and no other
 abbrev pub changed : ℕ → (Row → Row) → List Row → List Row

@@ -1,5 +1,5 @@
 -- What a look-up or a check in code comes to, held against that of the definitions.
-use Rattle.std.specs.Prelude.{◌≡◌, ℕ, List, map, Vec, Option, Some, None, Result, Ok, Err, ⊤}
+use Rattle.std.specs.Prelude.{true, ◌≡◌, ℕ, List, map, Vec, Option, Some, None, Result, Ok, Err, ⊤}
 use Rattle.std.specs.Borrow.{Bor}
 use Rattle.bidi_messages.specs.declared.error_code.ErrorCode.{ErrorCode}
 use Rattle.bidi_messages.specs.declared.error_code.ErrorCode.TheVariants.{InvalidArgument}
@@ -9,6 +9,7 @@ use Rattle.bidi_browser.specs.declared.refusal.Refusal.{Refusal}
 use Rattle.bidi_browser.specs.declared.refusal.Refusal.TheVariants.{Code, NoMemory}
 use Rattle.bidi_browser.specs.declared.contexts.Context.{Context}
 use Rattle.bidi_browser.specs.Acts.{Act, Looked}
+use Rattle.bidi_browser.specs.Contexts.{is_alive}
 use Rattle.bidi_browser.specs.Realms.{realm_of}
 use Rattle.bidi_browser.specs.ContextRows.{row_of, row_at}
 
@@ -19,7 +20,7 @@ IsFound (Err code) past answer = answer ≡ Err code
 
 -- a context in hand, or a code, is what the past gives for the realm of a target
 abbrev pub IsTargeted : Result (Bor Context) ErrorCode → List Act → Result ℕ ErrorCode → Type 0
-IsTargeted (Ok context) past answer = (c : ℕ) × (answer ≡ Ok (realm_of past c)) × (row_of context.now ≡ row_at past c)
+IsTargeted (Ok context) past answer = (c : ℕ) × (is_alive past c ≡ true) × (answer ≡ Ok (realm_of past c)) × (row_of context.now ≡ row_at past c)
 IsTargeted (Err code) past answer = answer ≡ Err code
 
 -- the same where none may be named

@@ -16,6 +16,7 @@ pub mod Accepted
 pub mod Occurs
 pub mod View
 pub mod HistoryInHand
+pub mod ValuesInHand
 pub mod ContextRows
 pub mod InfosInHand
 pub mod Found

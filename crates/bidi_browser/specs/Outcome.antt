@@ -1,5 +1,5 @@
 -- What the browser does at an action: its checks in order, and the act where none fails. After WebDriver BiDi, the commands of "The browsingContext Module" and "The script Module".
-use Rattle.std.specs.Prelude.{ℕ, nat_lt, ℤ, Bool, true, not, ◌&&◌, ◌||◌, List, [], ◌∷◌, length, find, slice_get, codes, bytes_eq, Option, Some, None, is_none, is_some, unwrap_or, Result, Ok, Err}
+use Rattle.std.specs.Prelude.{ℕ, nat_lt, nat_le, ℤ, Bool, true, not, ◌&&◌, ◌||◌, List, [], ◌∷◌, length, find, slice_get, codes, bytes_eq, Option, Some, None, is_none, is_some, unwrap_or, Result, Ok, Err}
 use Rattle.bidi_tree.specs.Node.{Node, levels, no_members}
 use Rattle.bidi_messages.specs.declared.error_code.ErrorCode.{ErrorCode}
 use Rattle.bidi_messages.specs.declared.error_code.ErrorCode.TheVariants.{InvalidArgument, NoSuchFrame, NoSuchHistoryEntry, NoSuchUserContext, UnknownError, UnsupportedOperation}
@@ -191,9 +191,9 @@ row_said None None argument = GivesBack (unwrap_or argument 0)
 abbrev pub row_in : Node → Row
 row_in t = row_said (tree_if_at "returns" t) (tree_if_at "throws" t) (number_if_at "argument" t)
 
--- a value in the table has no handle and no internal id, and a thrown one, which its details wrap, at most 59 levels
+-- a value in the table has no handle, no internal id and at most 60 levels; a thrown one, which its details wrap, has at most 59
 abbrev pub may_end_in : Ending → Bool
-may_end_in (Returned value) = not (has_handle value)
+may_end_in (Returned value) = not (has_handle value) && nat_le (levels value) 60
 may_end_in (Threw value) = not (has_handle value) && nat_lt (levels value) 60
 
 -- a row may end in such a value, and give back any argument

@@ -1,12 +1,12 @@
 -- What a plan in hand is: what it tells, and what its change makes of the tables.
-use Rattle.std.specs.Prelude.{◌≡◌, ◌≤◌, ◌<◌, ◌^◌, ◌==◌, ℕ, Bool, true, false, List, [], ◌∷◌, ◌++◌, map, flat_map, get_or, Option, Some, None, Result, Ok, Err, is_some, IfSome, ⊤, string_bytes, vec_len, vec_capacity}
+use Rattle.std.specs.Prelude.{◌≡◌, ◌≤◌, ◌<◌, ◌^◌, ◌==◌, ℕ, Bool, true, false, not, List, [], ◌∷◌, ◌++◌, map, filter, flat_map, get_or, Option, Some, None, Result, Ok, Err, is_some, IfSome, ⊤, string_bytes, vec_len, vec_capacity}
 use Rattle.std.specs.List.{AllByRecursion, position}
 use Rattle.bidi_tree.specs.Node.{levels}
 use Rattle.bidi_messages.specs.declared.result_data.ResultData.{ResultData}
 use Rattle.bidi_messages.specs.contracts.event.EventDataSubjectEventName.TheImpl as events
 use Rattle.bidi_messages.specs.contracts.result_data.ResultDataSubjectMethod.TheImpl as results
 use Rattle.bidi_browser.specs.declared.id.Kind.{Kind}
-use Rattle.bidi_browser.specs.declared.id.Kind.TheVariants.{Context, Realm, Window}
+use Rattle.bidi_browser.specs.declared.id.Kind.TheVariants.{Context, Realm, Handle, Window}
 use Rattle.bidi_browser.specs.declared.browser.Browser.{Browser}
 use Rattle.bidi_browser.specs.declared.context_table.Contexts.{Contexts}
 use Rattle.bidi_browser.specs.declared.contexts.Context as declared_context
@@ -16,11 +16,13 @@ use Rattle.bidi_browser.specs.declared.plan.Plan.{Plan}
 use Rattle.bidi_browser.specs.declared.plan.Navigation.{Navigation}
 use Rattle.bidi_browser.specs.declared.plan.Change.{Change}
 use Rattle.bidi_browser.specs.declared.plan.Edit.{Edit}
-use Rattle.bidi_browser.specs.declared.plan.Edit.TheVariants.{Keep, Add, Remove, Navigate, SetRow}
+use Rattle.bidi_browser.specs.declared.plan.Edit.TheVariants.{Keep, Add, Remove, Navigate, SetRow, Hold, Disown}
 use Rattle.bidi_browser.specs.declared.refusal.Refusal.{Refusal}
 use Rattle.bidi_browser.specs.declared.refusal.Refusal.TheVariants.{Code, NoMemory}
-use Rattle.bidi_browser.specs.Acts.{Act, Removed, Moved, Tabled, Disowned, Logged, Looked, gives, next_number}
-use Rattle.bidi_browser.specs.Contexts.{children_of, subtree_of}
+use Rattle.bidi_browser.specs.Acts.{Act, Removed, Moved, Tabled, Ran, Disowned, Logged, Looked, Ending, gives, next_number}
+use Rattle.bidi_browser.specs.Realms.{realm_of, value_of, has_id, handles_of}
+use Rattle.bidi_browser.specs.ValuesInHand.{handle_seen}
+use Rattle.bidi_browser.specs.Contexts.{is_alive, children_of, subtree_of}
 use Rattle.bidi_browser.specs.Actions.{Action, is_asked}
 use Rattle.bidi_browser.specs.Outcome.{outcome}
 use Rattle.bidi_browser.specs.Occurs.{Item, Happens, Replies, occurs}
@@ -44,11 +46,16 @@ HasRoomForOne contexts = vec_len contexts.live < vec_capacity contexts.live
 abbrev pub HasRoomIn : Contexts → ℕ → Move → Type 0
 HasRoomIn contexts number move = (i : ℕ) (d : declared_context.Context) → position (λ c. c.number == number) contexts.live.items ≡ Some i → HasRoomFor (get_or contexts.live.items i d).history move
 
+-- there is room for one more handle in the realm of the context of that number, where it is there
+abbrev pub HasRoomForHandle : Contexts → ℕ → Type 0
+HasRoomForHandle contexts number = (i : ℕ) (d : declared_context.Context) → position (λ c. c.number == number) contexts.live.items ≡ Some i → (let handles = (get_or contexts.live.items i d).handles in vec_len handles < vec_capacity handles)
+
 -- and for what a change puts in
 abbrev pub EditHasRoom : Browser → Edit → Type 0
 EditHasRoom browser (Add context opens_window) = HasRoomForOne browser.contexts
 EditHasRoom browser (Navigate n) = HasRoomIn browser.contexts n.context n.to
 EditHasRoom browser (SetRow script row) = HasRoomForRow browser.table
+EditHasRoom browser (Hold number handle) = HasRoomForHandle browser.contexts number
 EditHasRoom browser edit = ⊤
 
 abbrev pub HasRoom : Browser → Change → Type 0
@@ -85,7 +92,7 @@ pub record IsWellTold (p : Plan) : Type 0 where
 abbrev pub leaves_tables : Act → Bool
 leaves_tables Looked = true
 leaves_tables (Logged c level text) = true
-leaves_tables (Disowned r ids) = true
+leaves_tables (Ran r ending held) = not held
 leaves_tables act = false
 
 -- a navigation in hand is that of the past: its realm is the next, an entry stands where it leads or comes with it, and all below its context goes
@@ -101,6 +108,11 @@ EditMakes (Add context opens_window) past act =
     (gives Context act ≡ true) × (row_of context ≡ row_at (act ∷ past) (next_number past Context)) × (opens_window ≡ gives Window act)
 EditMakes (Remove numbers) past act = (c : ℕ) × (act ≡ Removed c) × (numbers.items ≡ subtree_of past c)
 EditMakes (Navigate n) past act = (act ≡ Moved n.context (move_of n.to)) × IsNavigation n past
+EditMakes (Hold number handle) past act =
+    (ending : Ending) × (is_alive past number ≡ true) × (act ≡ Ran (realm_of past number) ending true) × (handle_seen handle ≡ (next_number past Handle, value_of ending))
+EditMakes (Disown number numbers) past act =
+    (ids : List (List ℕ)) × (is_alive past number ≡ true) × (act ≡ Disowned (realm_of past number) ids)
+    × (numbers.items ≡ map (λ held. held.0) (filter (λ held. has_id ids held.0) (handles_of past (realm_of past number))))
 EditMakes (SetRow script row) past act = act ≡ Tabled (string_bytes script) (row_seen row)
 
 abbrev pub Makes : Change → List Act → Act → Type 0

@@ -1,6 +1,6 @@
 -- The past that a browser stands for.
 use Rattle.std.specs.Prelude.{◌≡◌, List, map}
-use Rattle.bidi_browser.specs.declared.id.Kind.TheVariants.{Context, Realm, Navigation, Window}
+use Rattle.bidi_browser.specs.declared.id.Kind.TheVariants.{Context, Realm, Navigation, Handle, Window}
 use Rattle.bidi_browser.specs.declared.browser.Browser.{Browser}
 use Rattle.bidi_browser.specs.declared.context_table.Contexts.{Contexts}
 use Rattle.bidi_browser.specs.Acts.{Act, next_number}
@@ -19,5 +19,6 @@ pub record StandsFor (browser : Browser) (past : List Act) : Type 0 where
   pub next_context : browser.next_context ≡ next_number past Context
   pub next_realm : browser.next_realm ≡ next_number past Realm
   pub next_navigation : browser.next_navigation ≡ next_number past Navigation
+  pub next_handle : browser.next_handle ≡ next_number past Handle
   pub table : AreTabled browser.table past
   pub next_window : browser.next_window ≡ next_number past Window

@@ -3,28 +3,21 @@ use Rattle.std.specs.Prelude.{◌≡◌, ◌≤◌, Bool, true, false, List, len
 use Rattle.std.specs.String.{string_eq}
 use Rattle.std.specs.HashMap.{get, spare, hash_map_len}
 use Rattle.std.specs.declared.alloc.Global.{Global}
-use Rattle.bidi_tree.specs.Node.{Node}
-use Rattle.bidi_values.specs.View.{nested_tree}
-use Rattle.bidi_values.specs.declared.nested.Nested.{Nested}
-use Rattle.bidi_values.specs.declared.remote_value.RemotePlain.{RemotePlain}
-use Rattle.bidi_values.specs.declared.held.RemoteList.{RemoteList}
-use Rattle.bidi_values.specs.declared.held.RemotePairs.{RemotePairs}
+use Rattle.bidi_tree.specs.Node.{Node, levels}
 use Rattle.bidi_values.specs.declared.table_row.TableRow.{TableRow}
 use Rattle.bidi_values.specs.declared.table_row.TableRow.TheVariants as read
 use Rattle.bidi_values.specs.contracts.table_row.TableRowShape.TheImpl as rows
-use Rattle.bidi_values.specs.contracts.remote_value.RemotePlainNestsRemoteListRemotePairs.TheImpl as remote
 use Rattle.bidi_browser.specs.declared.refusal.Refusal.{Refusal}
 use Rattle.bidi_browser.specs.declared.refusal.Refusal.TheVariants.{Code, NoMemory}
+use Rattle.bidi_browser.specs.declared.handle.Ending as declared_ending
+use Rattle.bidi_browser.specs.declared.handle.Ending.TheVariants as ends
 use Rattle.bidi_browser.specs.declared.script_table.ScriptRow as declared_row
 use Rattle.bidi_browser.specs.declared.script_table.ScriptRow.TheVariants as in_code
 use Rattle.bidi_browser.specs.declared.script_table.ScriptTable.{ScriptTable}
-use Rattle.bidi_browser.specs.Acts.{Act, Row, EndsIn, GivesBack, Returned, Threw}
+use Rattle.bidi_browser.specs.Acts.{Act, Row, EndsIn, GivesBack, Ending, Returned, Threw}
 use Rattle.bidi_browser.specs.Outcome.{row_checked}
+use Rattle.bidi_browser.specs.ValuesInHand.{remote_tree, held_tree}
 use Rattle.bidi_browser.specs.Realms.{row_of, tabled_texts}
-
--- the tree of a remote value in hand
-abbrev pub remote_tree : Nested RemotePlain RemoteList RemotePairs → Node
-remote_tree v = nested_tree remote.ghosts.nesting v
 
 -- the tree of a row that was read
 abbrev pub row_tree : TableRow → Node
@@ -35,11 +28,21 @@ abbrev pub throws : TableRow → Bool
 throws (read.Throws row) = true
 throws row = false
 
+-- how a script ends
+abbrev pub ending_seen : declared_ending.Ending → Ending
+ending_seen (ends.Returned value) = Returned (held_tree value.value)
+ending_seen (ends.Threw thrown) = Threw (held_tree thrown.held.value)
+
 -- what a row of the table says
 abbrev pub row_seen : declared_row.ScriptRow → Row
-row_seen (in_code.Returns value) = EndsIn (Returned (remote_tree value))
-row_seen (in_code.Throws value) = EndsIn (Threw (remote_tree value))
-row_seen (in_code.Argument n) = GivesBack n
+row_seen (in_code.EndsIn ending) = EndsIn (ending_seen ending)
+row_seen (in_code.GivesBack n) = GivesBack n
+
+-- the value of a row that was read is one that can be told
+abbrev pub IsFew : TableRow → Type 0
+IsFew (read.Returns row) = levels (remote_tree row.value) ≤ 60
+IsFew (read.Throws row) = levels (remote_tree row.value) ≤ 59
+IsFew (read.Argument row) = ⊤
 
 -- the table has the row of each text, and no other, as the past says
 pub record AreTabled (table : ScriptTable) (past : List Act) : Type 0 where

@@ -44,10 +44,11 @@ pub struct Browser {
     pub(crate) alloc: Global,
     pub(crate) contexts: Contexts,
     pub(crate) table: ScriptTable,
-    /// The numbers that the next context, realm, navigation and window get.
+    /// The numbers that the next context, realm, navigation, handle and window get.
     pub(crate) next_context: u64,
     pub(crate) next_realm: u64,
     pub(crate) next_navigation: u64,
+    pub(crate) next_handle: u64,
     pub(crate) next_window: u64,
 }
 
@@ -70,6 +71,7 @@ impl Browser {
             next_context: 2,
             next_realm: 2,
             next_navigation: 1,
+            next_handle: 1,
             next_window: 2,
         })
     }
@@ -120,6 +122,7 @@ impl Browser {
             Edit::Add { .. } => self.contexts.reserve(),
             Edit::Navigate(navigation) => self.contexts.reserve_in(navigation),
             Edit::SetRow(..) => self.table.reserve(),
+            Edit::Hold(number, _) => self.contexts.reserve_handle(*number),
             _ => Ok(()),
         }
     }
@@ -151,6 +154,11 @@ impl Browser {
                 self.contexts.navigate(navigation);
             }
             Edit::SetRow(text, row) => self.table.set(text, row),
+            Edit::Hold(number, handle) => {
+                self.next_handle = self.next_handle.wrapping_add(1);
+                self.contexts.hold(number, handle);
+            }
+            Edit::Disown(number, handles) => self.contexts.disown(number, handles),
         }
     }
 

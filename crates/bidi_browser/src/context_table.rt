@@ -11,6 +11,7 @@ ghost use Rattle.bidi_browser.specs.Realms.{realm_of};
 ghost use Rattle.bidi_browser.specs.InfosInHand.{AreWithin, AreWithinIfTold, IsWithin, children_node};
 
 use crate::contexts::Context;
+use crate::handle::Handle;
 use crate::id::Kind;
 use crate::plan::Navigation;
 use crate::session_history::Move;
@@ -31,7 +32,9 @@ pub(crate) struct Contexts {
 impl Contexts {
     ghost use Rattle.bidi_browser.specs.Stands.{IsTableOf};
     ghost use Rattle.bidi_browser.specs.Accepted.{AreAccepted};
-    ghost use Rattle.bidi_browser.specs.Plans.{HasRoomForOne, HasRoomIn, IsNavigation};
+    ghost use Rattle.bidi_browser.specs.Plans.{HasRoomForOne, HasRoomForHandle, HasRoomIn, IsNavigation};
+    ghost use Rattle.bidi_browser.specs.ContextRows.{held_in, without_in};
+    ghost use Rattle.bidi_browser.specs.ValuesInHand.{handle_seen};
     ghost use Rattle.bidi_browser.specs.Places.{entries_of};
     ghost use Rattle.bidi_browser.specs.HistoryInHand.{move_of, Leads};
 
@@ -176,6 +179,36 @@ impl Contexts {
         take_out(&mut self.live, &gone);
     }
 
+    /// Makes room for one more handle in the realm of the context of that number.
+    pub(crate) fn reserve_handle(&mut self, number: u64) -> Result<(), AllocError>
+        ensures kept { (past : List Act) → IsTableOf self.old past → IsTableOf self.new past }
+        ensures room { OnOk result (HasRoomForHandle self.new number) }
+    {
+        match place_of(&self.live, number) {
+            Some(place) => self.live[place].handles.reserve(1),
+            None => Ok(()),
+        }
+    }
+
+    /// A value is held by a handle in the realm of the context of that number. Takes no memory.
+    pub(crate) fn hold(&mut self, number: u64, handle: Handle)
+        requires { HasRoomForHandle self.now number }
+        ensures { map row_of self.new.live.items ≡ changed number (held_in (handle_seen handle)) (map row_of self.old.live.items) }
+    {
+        if let Some(place) = place_of(&self.live, number) {
+            self.live[place].hold(handle);
+        }
+    }
+
+    /// In the realm of the context of that number the handles of these numbers are held no longer. Takes no memory.
+    pub(crate) fn disown(&mut self, number: u64, numbers: Vec<u64>)
+        ensures { map row_of self.new.live.items ≡ changed number (without_in numbers.items) (map row_of self.old.live.items) }
+    {
+        if let Some(place) = place_of(&self.live, number) {
+            self.live[place].disown(&numbers);
+        }
+    }
+
     // The context of that number moves in its session history, and has a new realm.
     fn lead(&mut self, number: u64, realm: u64, to: Move)
         requires realm { realm < 2 ^ 48 }
@@ -195,8 +228,8 @@ fn take_out(contexts: &mut Vec<Context>, numbers: &[u64])
     contexts.retain(|context| !is_listed(numbers, context.number));
 }
 
-// Whether a number is among these.
-fn is_listed(numbers: &[u64], number: u64) -> bool
+/// Whether a number is among these.
+pub(crate) fn is_listed(numbers: &[u64], number: u64) -> bool
     ensures { result ≡ list_any (λ n. n == number) numbers.now }
 {
     numbers.iter().any(|n| *n == number)

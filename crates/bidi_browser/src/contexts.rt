@@ -1,9 +1,13 @@
 //! A live context, and what is told of one.
-ghost use Rattle.std.specs.Prelude.{◌≡◌, ℕ, ◌≤◌, ◌<◌, ◌+◌, ◌^◌, None, Some, IfOk, IfSome, bytes_eq, option_map};
+ghost use Rattle.std.specs.Prelude.{◌≡◌, ℕ, ◌≤◌, ◌<◌, ◌+◌, ◌^◌, [], vec_len, vec_capacity, None, Some, IfOk, IfSome, bytes_eq, filter, map, not, string_bytes, ◌==◌, option_map};
+ghost use Rattle.std.specs.List.{list_any};
 ghost use Rattle.std.proofs.Props.{props};
 ghost use Rattle.bidi_browser.specs.Ids.{id_of};
+ghost use Rattle.bidi_browser.specs.Realms.{has_id};
 ghost use Rattle.bidi_browser.specs.View.{occurrence_of};
 
+use crate::context_table::is_listed;
+use crate::handle::Handle;
 use crate::id::{Kind, id_text, is_id};
 use crate::occurrence::Occurrence;
 use crate::session_history::{Move, SessionHistory};
@@ -29,6 +33,8 @@ pub(crate) struct Context {
     pub window: u64,
     pub realm: u64,
     pub history: SessionHistory,
+    /// The handles that are held in its realm, in order of number.
+    pub handles: Vec<Handle>,
     ghost number_fits: { number < 2 ^ 48 },
     ghost parent_fits: { IfSome parent (λ p. p < 2 ^ 48) } by { Prim.hlevel props },
     ghost window_fits: { window < 2 ^ 48 },
@@ -39,7 +45,8 @@ impl Context {
     ghost use Rattle.bidi_browser.specs.Urls.{about_blank};
     ghost use Rattle.bidi_browser.specs.HistoryInHand.{entries_in, move_of, HasRoomFor, Leads};
     ghost use Rattle.bidi_browser.specs.Places.{begun_at};
-    ghost use Rattle.bidi_browser.specs.ContextRows.{row_of, inner_info, root_info, shown_info, created_in, realm_info_at, realm_info_in, realm_began_in, realm_created_in, realm_destroyed_in, navigation_info_in, occurrence_in, moved_in};
+    ghost use Rattle.bidi_browser.specs.ContextRows.{row_of, inner_info, root_info, shown_info, created_in, realm_info_at, realm_info_in, realm_began_in, realm_created_in, realm_destroyed_in, navigation_info_in, occurrence_in, moved_in, held_in, without_in};
+    ghost use Rattle.bidi_browser.specs.ValuesInHand.{handle_seen};
     ghost use Rattle.bidi_browser.specs.Info.{parent_tree};
     ghost use Rattle.bidi_browser.specs.InfosInHand.{children_node, parent_node, AreWithinIfTold, IsWithin};
     ghost use Rattle.bidi_messages.specs.declared.event.EventName.TheVariants.{ContextDestroyed, NavigationStarted, DomContentLoaded, Load, EntryAdded};
@@ -54,7 +61,7 @@ impl Context {
         requires number { number < 2 ^ 48 }
         requires window { window < 2 ^ 48 }
         requires realm { realm < 2 ^ 48 }
-        ensures { IfOk result (λ c. row_of c ≡ record { number = number; parent = None; top = number; level = 1; window = window; realm = realm; entries = begun_at about_blank }) }
+        ensures { IfOk result (λ c. row_of c ≡ record { number = number; parent = None; top = number; level = 1; window = window; realm = realm; entries = begun_at about_blank; handles = [] }) }
     {
         let url = about_blank(alloc)?;
         Ok(Context {
@@ -65,6 +72,7 @@ impl Context {
             window,
             realm,
             history: SessionHistory::begun_at(alloc, url)?,
+            handles: Vec::new(alloc),
         })
     }
 
@@ -79,7 +87,7 @@ impl Context {
         requires number { number < 2 ^ 48 }
         requires realm { realm < 2 ^ 48 }
         ensures { self.now.level < 16
-            → IfOk result (λ c. row_of c ≡ record { number = number; parent = Some self.now.number; top = self.now.top; level = self.now.level + 1; window = self.now.window; realm = realm; entries = begun_at url }) }
+            → IfOk result (λ c. row_of c ≡ record { number = number; parent = Some self.now.number; top = self.now.top; level = self.now.level + 1; window = self.now.window; realm = realm; entries = begun_at url; handles = [] }) }
     {
         Ok(Context {
             number,
@@ -89,17 +97,34 @@ impl Context {
             window: self.window,
             realm,
             history: SessionHistory::begun_at(alloc, url)?,
+            handles: Vec::new(alloc),
         })
     }
 
-    /// It moves in its session history, and has a new realm. Takes no memory.
+    /// It moves in its session history, and has a new realm, in which nothing is held. Takes no memory.
     pub(crate) fn navigate(&mut self, realm: u64, to: Move)
         requires realm { realm < 2 ^ 48 }
         requires room { HasRoomFor self.now.history to }
         ensures { Leads (entries_in self.old.history) (move_of to) → row_of self.new ≡ moved_in realm (move_of to) (row_of self.old) }
     {
         self.realm = realm;
+        self.handles.clear();
         self.history.go(to);
+    }
+
+    /// A handle is held in its realm. Takes no memory.
+    pub(crate) fn hold(&mut self, handle: Handle)
+        requires { vec_len self.now.handles < vec_capacity self.now.handles }
+        ensures { row_of self.new ≡ held_in (handle_seen handle) (row_of self.old) }
+    {
+        self.handles.push_reserved(handle);
+    }
+
+    /// The handles of these numbers are held in its realm no longer. Takes no memory.
+    pub(crate) fn disown(&mut self, numbers: &[u64])
+        ensures { row_of self.new ≡ without_in numbers.now (row_of self.old) }
+    {
+        take_out(&mut self.handles, numbers);
     }
 
     /// Whether a text is its id.
@@ -114,6 +139,23 @@ impl Context {
         ensures { result ≡ bytes_eq id.now (id_of Kind.Realm self.now.realm) }
     {
         is_id(id, Kind::Realm, 0, self.realm)
+    }
+
+    /// The numbers of the handles that are held in its realm and have one of these ids.
+    pub(crate) fn numbers_of(
+        &self,
+        alloc: Global,
+        ids: &Vec<String>,
+    ) -> Result<Vec<u64>, AllocError>
+        ensures { IfOk result (λ numbers. numbers.items ≡ map (λ h. h.0) (filter (λ h. has_id (map string_bytes ids.now.items) h.0) (row_of self.now).handles)) }
+    {
+        let mut numbers = Vec::new(alloc);
+        for handle in &self.handles {
+            if has_id(ids, handle.number) {
+                numbers.push(handle.number)?;
+            }
+        }
+        Ok(numbers)
     }
 
     /// Its Info as it stands in the list of its parent's, with these children.
@@ -314,4 +356,26 @@ impl Context {
             top: self.top,
         }
     }
+}
+
+// Takes out the handles of these numbers.
+fn take_out(handles: &mut Vec<Handle>, numbers: &[u64])
+    ensures { handles.new.items ≡ filter (λ h. not (list_any (λ n. n == h.number) numbers.now)) handles.old.items }
+{
+    handles.retain(|handle| !is_listed(numbers, handle.number));
+}
+
+// Whether the id of the handle of that number is among these.
+fn has_id(ids: &[String], number: u64) -> bool
+    requires { number < 2 ^ 48 }
+    ensures { result ≡ has_id (map string_bytes ids.now) number }
+{
+    is_among(ids, number)
+}
+
+fn is_among(ids: &[String], number: u64) -> bool
+    requires { number < 2 ^ 48 }
+    ensures { result ≡ list_any (λ s. bytes_eq (string_bytes s) (id_of Kind.Handle number)) ids.now }
+{
+    ids.iter().any(|id| is_id(id, Kind::Handle, 0, number))
 }

@@ -13,6 +13,7 @@ mod births;
 mod browser;
 mod context_table;
 mod contexts;
+mod handle;
 mod id;
 mod logging;
 mod looking;

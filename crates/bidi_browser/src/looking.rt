@@ -203,11 +203,21 @@ pub(crate) fn looked(alloc: Global, outcome: ResultData) -> Plan
     ensures after { result.after.items ≡ [] }
     ensures change { result.change.edit ≡ Edit.Keep }
 {
+    answered(alloc, outcome, Edit::Keep)
+}
+
+/// What has a result and an edit, and tells of no event. Takes no memory.
+pub(crate) fn answered(alloc: Global, outcome: ResultData, edit: Edit) -> Plan
+    ensures before { result.before.items ≡ [] }
+    ensures outcome { result.result ≡ Some outcome }
+    ensures after { result.after.items ≡ [] }
+    ensures change { result.change.edit ≡ edit }
+{
     Plan {
         before: Vec::new(alloc),
         result: Some(outcome),
         after: Vec::new(alloc),
-        change: Change { edit: Edit::Keep },
+        change: Change { edit },
     }
 }
 

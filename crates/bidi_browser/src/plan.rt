@@ -2,6 +2,7 @@
 ghost use Rattle.std.specs.Prelude.{◌<◌, ◌^◌};
 
 use crate::contexts::Context;
+use crate::handle::Handle;
 use crate::occurrence::Occurrence;
 use crate::script_table::ScriptRow;
 use crate::session_history::Move;
@@ -41,6 +42,10 @@ pub(crate) enum Edit {
     Navigate(Navigation),
     /// A text gets its row in the table.
     SetRow(String, ScriptRow),
+    /// A value is held by a handle in the realm of the context of that number.
+    Hold(u64, Handle),
+    /// In the realm of the context of that number the handles of these numbers are held no longer.
+    Disown(u64, Vec<u64>),
 }
 
 /// A context moves in its session history: it has a new realm, and all below it goes, by their numbers.

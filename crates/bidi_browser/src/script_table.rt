@@ -1,7 +1,7 @@
 //! The table that stands for running scripts.
-ghost use Rattle.std.specs.Prelude.{◌≡◌, List, [], ◌∷◌, OnOk, string_bytes};
+ghost use Rattle.std.specs.Prelude.{◌≡◌, List, [], ◌∷◌, OnOk, option_map, string_bytes};
 
-use bidi_values::RemoteValue;
+use crate::handle::Ending;
 use std::alloc::{AllocError, Global};
 use std::collections::HashMap;
 
@@ -11,10 +11,9 @@ const MOST_ROWS: usize = 1024;
 /// What a script does.
 #[derive(Drop)]
 pub(crate) enum ScriptRow {
-    Returns(RemoteValue),
-    Throws(RemoteValue),
-    /// It gives back the argument of that number, counted from 0.
-    Argument(u64),
+    EndsIn(Ending),
+    /// It returns the argument of that number, counted from 0.
+    GivesBack(u64),
 }
 
 /// The rows of the table, each by the text of its scripts.
@@ -26,6 +25,7 @@ pub(crate) struct ScriptTable {
 impl ScriptTable {
     ghost use Rattle.bidi_browser.specs.Acts.{Act, Tabled};
     ghost use Rattle.bidi_browser.specs.Outcome.{takes_row};
+    ghost use Rattle.bidi_browser.specs.Realms.{row_of};
     ghost use Rattle.bidi_browser.specs.TableInHand.{AreTabled, HasRoomForRow, row_seen};
 
     /// No text has a row. Takes no memory.
@@ -42,6 +42,13 @@ impl ScriptTable {
         ensures { (past : List Act) → AreTabled self.now past → result ≡ takes_row past (string_bytes text.now) }
     {
         self.rows.contains_key(text) || self.rows.len() < MOST_ROWS
+    }
+
+    /// The row of a text.
+    pub(crate) fn get(&self, text: &String) -> Option<&ScriptRow>
+        ensures { (past : List Act) → AreTabled self.now past → option_map (λ row. row_seen row.now) result ≡ row_of past (string_bytes text.now) }
+    {
+        self.rows.get(text)
     }
 
     /// Makes room for one more row.

@@ -11,14 +11,16 @@ ghost use Rattle.bidi_browser.specs.Stands.{IsTableOf, StandsFor};
 use crate::browser::Browser;
 use crate::context_table::Contexts;
 use crate::contexts::Context;
-use crate::looking::{context_named, looked, nothing};
-use crate::plan::Plan;
+use crate::looking::{answered, context_named, nothing};
+use crate::plan::{Edit, Plan};
 use crate::refusal::Refusal;
 use bidi_messages::{ErrorCode, ResultData};
 use bidi_params::DisownParameters;
 use bidi_values::Target;
 
-/// Takes handles out of the realm of a target. As long as no script gives one, nothing changes.
+/// Takes handles out of the realm of a target. Those that hold no value there change nothing.
+///
+/// Costs a comparison of each handle of the realm with each that is given back.
 ///
 /// # Errors
 /// - What its target is refused for.
@@ -27,9 +29,11 @@ pub(crate) fn plan_disown(browser: &Browser, params: &DisownParameters) -> Resul
     ensures plans { (past : List Act) (moment : ℕ) → StandsFor browser.now past → Plans result past moment (disown_asked params.now) }
     ensures well { IsWellPlanned result }
 {
-    targeted(&browser.contexts, &params.target)?;
+    let context = targeted(&browser.contexts, &params.target)?;
+    let numbers = context.numbers_of(browser.alloc, &params.handles)?;
     let result = ResultData::ScriptDisown(nothing(browser.alloc));
-    Ok(looked(browser.alloc, result))
+    let edit = Edit::Disown(context.number, numbers);
+    Ok(answered(browser.alloc, result, edit))
 }
 
 /// The context in whose realm the scripts of a target run.

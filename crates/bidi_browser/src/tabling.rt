@@ -1,25 +1,30 @@
 //! The plan of what sets a row of the table.
-ghost use Rattle.std.specs.Prelude.{◌≡◌, ℕ, List, [], None, string_bytes};
+ghost use Rattle.std.specs.Prelude.{◌≡◌, ◌≤◌, ℕ, List, [], None, IfOk, IfErr, OnOk, if◌then◌else◌, string_bytes};
 ghost use Rattle.bidi_browser.specs.Acts.{Act, Tabled};
 ghost use Rattle.bidi_browser.specs.Asked.{row_asked};
 ghost use Rattle.bidi_browser.specs.Outcome.{row_in};
 ghost use Rattle.bidi_browser.specs.Params.{text_at};
 ghost use Rattle.bidi_browser.specs.Plans.{Makes, Plans, IsWellPlanned};
 ghost use Rattle.bidi_browser.specs.Stands.{StandsFor};
-ghost use Rattle.bidi_browser.specs.TableInHand.{IsRowChecked, row_tree, throws};
+ghost use Rattle.bidi_browser.specs.TableInHand.{IsFew, IsRowChecked, row_tree, throws};
+ghost use Rattle.bidi_browser.specs.ValuesInHand.{remote_tree};
+ghost use Rattle.bidi_browser.specs.declared.refusal.Refusal.TheVariants as Refusal;
+ghost use Rattle.bidi_tree.specs.Node.{levels};
 
 use crate::browser::Browser;
+use crate::handle::{Ending, HeldValue, ThrownValue};
 use crate::plan::{Change, Edit, Plan};
 use crate::refusal::Refusal;
 use crate::script_table::ScriptRow;
 use crate::values::has_handle;
 use bidi_messages::ErrorCode;
 use bidi_shape::Shape;
-use bidi_values::TableRow;
+use bidi_values::{RemoteValue, TableRow};
 use std::alloc::Global;
+use std::rc::Rc;
 
-/// The most levels of the tree of a row that throws: its details, which wrap the value, then have as many.
-const MOST_LEVELS: usize = 60;
+/// The most levels of the tree of a row, whose value has one fewer.
+const MOST_LEVELS: usize = 61;
 
 /// Gives a text its row in the table.
 ///
@@ -36,15 +41,16 @@ pub(crate) fn plan_row(browser: &Browser, row: Option<TableRow>) -> Result<Plan,
         return Err(Refusal::Code(ErrorCode::InvalidArgument));
     };
     check_row(browser, &row)?;
-    Ok(tabled(browser.alloc, row))
+    tabled(browser.alloc, row)
 }
 
 // Whether the row may stand in the table.
 fn check_row(browser: &Browser, row: &TableRow) -> Result<(), Refusal>
-    ensures { (past : List Act) → StandsFor browser.now past → IsRowChecked result past (row_tree row.now) }
+    ensures checked { (past : List Act) → StandsFor browser.now past → IsRowChecked result past (row_tree row.now) }
+    ensures few { OnOk result (IsFew row.now) }
 {
     let tree = row.to_tree(browser.alloc)?;
-    if has_handle(&tree) || (throws(row) && !tree.is_within(MOST_LEVELS)) {
+    if has_handle(&tree) || !tree.is_within(most_levels(row)) {
         return Err(Refusal::Code(ErrorCode::InvalidArgument));
     }
     if !browser.table.takes(text_of(row)) {
@@ -53,11 +59,14 @@ fn check_row(browser: &Browser, row: &TableRow) -> Result<(), Refusal>
     Ok(())
 }
 
-// Whether it throws a value.
-fn throws(row: &TableRow) -> bool
-    ensures { result ≡ throws row.now }
+// The most levels of its tree: the details that wrap a thrown value take one more.
+fn most_levels(row: &TableRow) -> usize
+    ensures { result ≡ (if throws row.now then 60 else 61) }
 {
-    matches!(row, TableRow::Throws(_))
+    match row {
+        TableRow::Throws(_) => MOST_LEVELS - 1,
+        _ => MOST_LEVELS,
+    }
 }
 
 // The text of its scripts.
@@ -71,22 +80,39 @@ fn text_of(row: &TableRow) -> &String
     }
 }
 
-// The plan that sets it. Takes no memory.
-fn tabled(alloc: Global, row: TableRow) -> Plan
-    ensures before { result.before.items ≡ [] }
-    ensures outcome { result.result ≡ None }
-    ensures after { result.after.items ≡ [] }
-    ensures change { (past : List Act) → Makes result.change past (Tabled (text_at "text" (row_tree row)) (row_in (row_tree row))) }
+// The plan that sets it.
+fn tabled(alloc: Global, row: TableRow) -> Result<Plan, Refusal>
+    requires { IsFew row }
+    ensures told { IfOk result (λ p. (p.before.items ≡ []) × (p.result ≡ None) × (p.after.items ≡ [])) }
+    ensures change { (past : List Act) → IfOk result (λ p. Makes p.change past (Tabled (text_at "text" (row_tree row)) (row_in (row_tree row)))) }
+    ensures err { IfErr result (λ e. e ≡ Refusal.NoMemory) }
 {
     let edit = match row {
-        TableRow::Returns(row) => Edit::SetRow(row.text, ScriptRow::Returns(row.value)),
-        TableRow::Throws(row) => Edit::SetRow(row.text, ScriptRow::Throws(row.value)),
-        TableRow::Argument(row) => Edit::SetRow(row.text, ScriptRow::Argument(row.index.value)),
+        TableRow::Returns(row) => {
+            let value = held(alloc, row.value)?;
+            Edit::SetRow(row.text, ScriptRow::EndsIn(Ending::Returned(value)))
+        }
+        TableRow::Throws(row) => {
+            let thrown = ThrownValue {
+                held: held(alloc, row.value)?,
+            };
+            Edit::SetRow(row.text, ScriptRow::EndsIn(Ending::Threw(thrown)))
+        }
+        TableRow::Argument(row) => Edit::SetRow(row.text, ScriptRow::GivesBack(row.index.value)),
     };
-    Plan {
+    Ok(Plan {
         before: Vec::new(alloc),
         result: None,
         after: Vec::new(alloc),
         change: Change { edit },
-    }
+    })
+}
+
+// The value, to be shared.
+pub(crate) fn held(alloc: Global, value: RemoteValue) -> Result<Rc<HeldValue>, Refusal>
+    requires { levels (remote_tree value) ≤ 60 }
+    ensures ok { IfOk result (λ held. held.value.value ≡ value) }
+    ensures err { IfErr result (λ e. e ≡ Refusal.NoMemory) }
+{
+    Ok(Rc::new(alloc, HeldValue { value })?)
 }

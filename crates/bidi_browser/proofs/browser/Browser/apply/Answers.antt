@@ -1,10 +1,14 @@
 use Rattle.std.proofs.Common.{◌∙◌, sym, ap₂, subst}
-use Rattle.std.specs.Prelude.{string_bytes}
+use Rattle.std.specs.Prelude.{ℕ, Vec, string_bytes}
+use Rattle.std.specs.declared.alloc.Global.{Global}
+use Rattle.std.proofs.Common.{rules, arith}
 use Rattle.bidi_browser.specs.Acts.{Tabled}
+use Rattle.bidi_browser.specs.declared.id.Kind.TheVariants.{Handle}
+use Rattle.bidi_browser.specs.ValuesInHand.{handle_seen}
 use Rattle.bidi_browser.specs.TableInHand.{row_seen}
 use Rattle.bidi_browser.specs.declared.plan.Navigation.{Navigation}
-use Rattle.bidi_browser.specs.Plans.{EditMakes, EditHasRoom, HasRoomIn}
-use Rattle.bidi_browser.proofs.TableLemmas.{kept-stands, row-stands}
+use Rattle.bidi_browser.specs.Plans.{EditMakes, EditHasRoom, HasRoomIn, HasRoomForHandle}
+use Rattle.bidi_browser.proofs.TableLemmas.{kept-stands, row-stands, held-stands, disowned-stands}
 use Rattle.bidi_browser.proofs.browser.Browser.apply.Goals as goal
 
 pub returns-in-Keep : goal.returns-in-Keep
@@ -18,3 +22,17 @@ pub returns-in-SetRow : goal.returns-in-SetRow
 returns-in-SetRow c = λ past action act stands ids accepted makes.
     let is = subst (λ e. EditMakes e past act) c.in-SetRow.is makes in
     row-stands c.args.self.now c.set.new.self past action act _ _ (is ∙ ap₂ (λ t r. Tabled (string_bytes t) (row_seen r)) (sym c.in-SetRow.text-is) (sym c.in-SetRow.row-is)) accepted (c.set.ensures past stands.table) stands
+
+pub hold-requires : goal.hold-requires
+hold-requires c = subst (λ number. HasRoomForHandle c.args.self.now.contexts number) (sym c.in-Hold.number-is) (subst (EditHasRoom c.args.self.now) c.in-Hold.is c.requires)
+
+pub returns-in-Hold : goal.returns-in-Hold
+returns-in-Hold c = λ past action act stands ids accepted makes.
+    let is = subst (λ e. EditMakes e past act) c.in-Hold.is makes in
+    held-stands c.args.self.now c.hold.new.self _ past action c.in-Hold.number is.0 act _ is.2 is.1 (search (rules, c.in-Hold.handle-is, c.in-Hold.is, is.3)) accepted stands
+    (let fits = ids Handle in let next = stands.next_handle in omega (arith, fits, next)) c.hold.ensures
+
+pub returns-in-Disown : goal.returns-in-Disown
+returns-in-Disown c = λ past action act stands ids accepted makes.
+    let is = subst (λ e. EditMakes e past act) c.in-Disown.is makes in
+    disowned-stands c.args.self.now c.disown.new.self past action c.in-Disown.number is.0 act _ is.2 is.1 (search (rules, c.in-Disown.handles-is, c.in-Disown.is, is.3)) accepted stands c.disown.ensures
