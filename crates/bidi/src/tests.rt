@@ -1,6 +1,7 @@
 //! Runs over memory, as the program makes them.
 mod command_lines;
 mod contexts;
+mod evaluations;
 mod examples;
 mod failures;
 mod listings;

@@ -20,4 +20,5 @@ pub mod WalkLemmas
 pub mod ScriptTableLemmas
 pub mod ValueLemmas
 pub mod RowLemmas
+pub mod WellLemmas
 pub mod ScriptLemmas

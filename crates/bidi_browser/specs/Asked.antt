@@ -1,5 +1,5 @@
 -- What an action in hand asks.
-use Rattle.std.specs.Prelude.{[], map, Option, Some, None, option_map, unwrap_or, string_bytes}
+use Rattle.std.specs.Prelude.{Bool, true, false, [], map, Option, Some, None, option_map, unwrap_or, string_bytes}
 use Rattle.bidi_params.specs.declared.browsing_context.create.ContextType.{ContextType}
 use Rattle.bidi_params.specs.declared.browsing_context.create.ContextType.TheVariants as type
 use Rattle.bidi_params.specs.declared.browsing_context.create.ActivateParameters.{ActivateParameters}
@@ -12,6 +12,9 @@ use Rattle.bidi_params.specs.declared.browsing_context.navigate.NavigateParamete
 use Rattle.bidi_params.specs.declared.browsing_context.navigate.ReloadParameters.{ReloadParameters}
 use Rattle.bidi_params.specs.declared.browsing_context.navigate.TraverseHistoryParameters.{TraverseHistoryParameters}
 use Rattle.bidi_params.specs.Words.{realm_type_text}
+use Rattle.bidi_params.specs.declared.script.evaluate.Ownership.{Ownership}
+use Rattle.bidi_params.specs.declared.script.evaluate.Ownership.TheVariants as ownership
+use Rattle.bidi_params.specs.declared.script.evaluate.EvaluateParameters.{EvaluateParameters}
 use Rattle.bidi_params.specs.declared.script.call_function.DisownParameters.{DisownParameters}
 use Rattle.bidi_params.specs.declared.script.realms.GetRealmsParameters.{GetRealmsParameters}
 use Rattle.bidi_values.specs.declared.target.Target as declared_target
@@ -20,7 +23,7 @@ use Rattle.bidi_values.specs.declared.table_row.TableRow as declared_row
 use Rattle.bidi_values.specs.contracts.table_row.TableRowShape.TheImpl as rows
 use Rattle.bidi_browser.specs.declared.action.Action as declared_action
 use Rattle.bidi_browser.specs.declared.action.Action.TheVariants as in_code
-use Rattle.bidi_browser.specs.Actions.{CreateType, Tab, OwnWindow, Wait, Started, Interactive, Complete, Action, Activate, Close, Create, GetTree, Navigate, Reload, TraverseHistory, Target, ContextTarget, RealmTarget, Disown, GetRealms, Frame, Unframe, Log, TableRow}
+use Rattle.bidi_browser.specs.Actions.{CreateType, Tab, OwnWindow, Wait, Started, Interactive, Complete, Action, Activate, Close, Create, GetTree, Navigate, Reload, TraverseHistory, Target, ContextTarget, RealmTarget, Evaluate, Disown, GetRealms, Frame, Unframe, Log, TableRow}
 
 -- as what a context is created
 abbrev pub create_type_of : ContextType → CreateType
@@ -61,6 +64,15 @@ abbrev pub target_of : declared_target.Target → Target
 target_of (target.Context t) = ContextTarget (string_bytes t.context) (unwrap_or (option_map string_bytes t.sandbox) [])
 target_of (target.Realm t) = RealmTarget (string_bytes t.realm)
 
+-- whether the value is to be owned; absent, it is not
+abbrev pub is_owned : Option Ownership → Bool
+is_owned (Some ownership.Root) = true
+is_owned (Some ownership.None) = false
+is_owned None = false
+
+abbrev pub evaluate_asked : EvaluateParameters → Action
+evaluate_asked p = Evaluate (string_bytes p.expression) (target_of p.target) (is_owned p.result_ownership)
+
 abbrev pub disown_asked : DisownParameters → Action
 disown_asked p = Disown (map string_bytes p.handles.items) (target_of p.target)
 
@@ -79,6 +91,7 @@ action_of (in_code.GetTree p) = get_tree_asked p.now
 action_of (in_code.Navigate p) = navigate_asked p.now
 action_of (in_code.Reload p) = reload_asked p.now
 action_of (in_code.TraverseHistory p) = traverse_asked p.now
+action_of (in_code.Evaluate p) = evaluate_asked p.now
 action_of (in_code.Disown p) = disown_asked p.now
 action_of (in_code.GetRealms p) = get_realms_asked p.now
 action_of (in_code.Frame context url) = Frame context.now url.now

@@ -13,7 +13,7 @@ use Rattle.bidi_browser.specs.Urls.{url_text, origin_text}
 use Rattle.bidi_browser.specs.Acts.{Act, Move}
 use Rattle.bidi_browser.specs.Contexts.{contexts, parent_of, top_of, level_of, window_of}
 use Rattle.bidi_browser.specs.Places.{Entries, present, moved, entries_of}
-use Rattle.bidi_browser.specs.Realms.{realm_of, handles_of}
+use Rattle.bidi_browser.specs.Realms.{realm_of, has_id, handles_of}
 use Rattle.bidi_browser.specs.ValuesInHand.{handle_seen}
 use Rattle.bidi_browser.specs.Maps.{◌being◌and◌, mapped, word, number, id_tree}
 use Rattle.bidi_browser.specs.Info.{parent_tree, children_tree, depth_below}
@@ -155,6 +155,10 @@ held_in held row = record row { handles = row.handles ++ held ∷ [] }
 -- the handles of these numbers are held no longer
 abbrev pub without_in : List ℕ → Row → Row
 without_in numbers row = record row { handles = filter (λ held. not (list_any (λ n. n == held.0) numbers)) row.handles }
+
+-- those of these ids
+abbrev pub disowned_in : List (List ℕ) → Row → Row
+disowned_in ids row = record row { handles = filter (λ held. not (has_id ids held.0)) row.handles }
 
 -- the first row of a context is changed, and no other
 abbrev pub changed : ℕ → (Row → Row) → List Row → List Row

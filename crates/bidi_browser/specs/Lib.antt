@@ -24,4 +24,5 @@ pub mod TableInHand
 pub mod Asked
 pub mod Navigations
 pub mod Plans
+pub mod Runs
 pub mod Stands

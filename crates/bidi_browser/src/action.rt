@@ -1,7 +1,8 @@
 //! What the browser is asked.
 use bidi_params::{
-    ActivateParameters, CloseParameters, CreateParameters, DisownParameters, GetRealmsParameters,
-    GetTreeParameters, NavigateParameters, ReloadParameters, TraverseHistoryParameters,
+    ActivateParameters, CloseParameters, CreateParameters, DisownParameters, EvaluateParameters,
+    GetRealmsParameters, GetTreeParameters, NavigateParameters, ReloadParameters,
+    TraverseHistoryParameters,
 };
 use bidi_values::{Level, TableRow};
 
@@ -15,6 +16,7 @@ pub enum Action<'a> {
     Navigate(&'a NavigateParameters),
     Reload(&'a ReloadParameters),
     TraverseHistory(&'a TraverseHistoryParameters),
+    Evaluate(&'a EvaluateParameters),
     Disown(&'a DisownParameters),
     GetRealms(&'a GetRealmsParameters),
     /// A child of the context of that id comes, at a URL.

@@ -21,7 +21,7 @@ use crate::plan::{Change, Edit, Numbers, Plan};
 use crate::refusal::Refusal;
 use crate::removals::{plan_close, plan_unframe};
 use crate::script_table::ScriptTable;
-use crate::scripts::plan_disown;
+use crate::scripts::{plan_disown, plan_evaluate};
 use crate::tabling::plan_row;
 use crate::telling::{push_created, push_realms};
 use bidi_messages::{ErrorCode, EventData, EventName, Subject};
@@ -32,7 +32,7 @@ use std::alloc::{AllocError, Global};
 const MOST_CONTEXTS: usize = 1024;
 
 /// The numbers that ids can show lie below it.
-const NO_ID: u64 = 1 << 48;
+pub(crate) const NO_ID: u64 = 1 << 48;
 
 /// A browser held in memory: its live contexts, each with its window, its realm and its session history, and the table
 /// that stands for running scripts.
@@ -87,7 +87,8 @@ impl Browser {
     ///   effect, it says no more than that.
     /// - `NoMemory`: a growth was refused.
     ///
-    /// After WebDriver BiDi, "The browsingContext Module", "The script.disown Command" and "The script.getRealms Command".
+    /// After WebDriver BiDi, "The browsingContext Module", "The script.evaluate Command", "The script.disown Command" and
+    /// "The script.getRealms Command".
     pub fn plan(&self, action: Action, moment: JsUint) -> Result<Plan, Refusal>
         // Whatever past the browser stands for, short of 2^48 ids of a kind, the plan is that of the definitions.
         ensures plans { (past : List Act) → StandsFor self.now past → HasIds past → Plans result past moment.value (action_of action.entry) }
@@ -101,6 +102,7 @@ impl Browser {
             Action::Navigate(params) => plan_navigate(self, moment, params),
             Action::Reload(params) => plan_reload(self, moment, params),
             Action::TraverseHistory(params) => plan_traverse_history(self, moment, params),
+            Action::Evaluate(params) => plan_evaluate(self, params),
             Action::Disown(params) => plan_disown(self, params),
             Action::GetRealms(params) => plan_get_realms(self, params),
             Action::Frame(context, url) => plan_frame(self, context, url),

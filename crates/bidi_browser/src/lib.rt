@@ -2,10 +2,10 @@
 //!
 //! A [`Browser`] plans what an [`Action`] comes to: a [`Plan`] has the events and the result, and the [`Change`] that
 //! [`Browser::apply`] puts in place, in room that [`Browser::reserve`] made for it; an action that is refused has a
-//! [`Refusal`]. So far the browser takes what makes, navigates, shows and removes contexts, lists realms, gives handles
-//! back, logs entries and sets rows of the table; it runs no scripts yet. It says which contexts are alive, and tells of
-//! all that stands by [`Occurrence`]s. Beside it the crate makes ids, and has definitions: what the browser's past is,
-//! what can be asked of it, and what each command and each step of a play does to it.
+//! [`Refusal`]. So far the browser takes what makes, navigates, shows and removes contexts, lists realms, evaluates
+//! scripts, gives handles back, logs entries and sets rows of the table; it calls no functions yet. It says which contexts
+//! are alive, and tells of all that stands by [`Occurrence`]s. Beside it the crate makes ids, and has definitions: what the browser's past is, what can be asked of
+//! it, and what each command and each step of a play does to it.
 #![tactic(auto)]
 
 mod action;
@@ -25,6 +25,7 @@ mod removals;
 mod script_table;
 mod scripts;
 mod session_history;
+mod showing;
 mod tabling;
 mod telling;
 mod urls;

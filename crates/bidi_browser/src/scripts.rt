@@ -1,22 +1,160 @@
-//! Where scripts run, and the plan of what gives handles back.
-ghost use Rattle.std.specs.Prelude.{◌≡◌, ℕ, List, [], bytes_eq, not, option_map, string_bytes, unwrap_or};
+//! Plans of what runs scripts, and of what gives handles back.
+ghost use Rattle.std.specs.Prelude.{◌≡◌, ◌≤◌, ◌<◌, ◌^◌, ℕ, List, [], true, IfOk, IfErr, bytes_eq, not, option_map, string_bytes, unwrap_or};
 ghost use Rattle.bidi_browser.specs.Acts.{Act};
 ghost use Rattle.bidi_browser.specs.Actions as asked;
-ghost use Rattle.bidi_browser.specs.Asked.{disown_asked, target_of};
+ghost use Rattle.bidi_browser.specs.Asked.{disown_asked, evaluate_asked, is_owned, target_of};
+ghost use Rattle.bidi_browser.specs.Contexts.{is_alive};
+ghost use Rattle.bidi_browser.specs.ContextRows.{row_of, row_at};
+ghost use Rattle.bidi_browser.specs.Realms.{realm_of, value_of};
+ghost use Rattle.bidi_browser.specs.Runs.{HasRun, IsEnding, IsNextHandle};
+ghost use Rattle.bidi_browser.specs.TableInHand.{ending_seen};
+ghost use Rattle.bidi_browser.specs.ValuesInHand.{held_tree};
+ghost use Rattle.bidi_browser.specs.declared.refusal.Refusal.TheVariants as refused;
+ghost use Rattle.bidi_tree.specs.Node.{levels};
 ghost use Rattle.bidi_browser.specs.Found.{IsTargeted};
-ghost use Rattle.bidi_browser.specs.Outcome.{realm_targeted};
-ghost use Rattle.bidi_browser.specs.Plans.{Plans, IsWellPlanned};
+ghost use Rattle.bidi_browser.specs.Outcome.{realm_targeted, undefined};
+ghost use Rattle.bidi_browser.specs.Plans.{HasIds, Plans, IsWellPlanned};
 ghost use Rattle.bidi_browser.specs.Stands.{IsTableOf, StandsFor};
 
-use crate::browser::Browser;
+use crate::browser::{Browser, NO_ID};
 use crate::context_table::Contexts;
 use crate::contexts::Context;
+use crate::handle::{Ending, Handle, HeldValue, ThrownValue};
 use crate::looking::{answered, context_named, nothing};
 use crate::plan::{Edit, Plan};
 use crate::refusal::Refusal;
+use crate::script_table::ScriptRow;
+use crate::showing::{takes_handle, told};
+use crate::tabling::held;
 use bidi_messages::{ErrorCode, ResultData};
-use bidi_params::DisownParameters;
-use bidi_values::Target;
+use bidi_params::{DisownParameters, EvaluateParameters, Ownership};
+use bidi_shape::Shape;
+use bidi_values::{EvaluateResult, Primitive, RemotePlain, RemoteValue, Target};
+use std::alloc::{AllocError, Global};
+use std::rc::Rc;
+
+/// How many values may be held in a realm.
+const MOST_HANDLES: usize = 1000;
+
+/// What a script came to: its result, and what it changes.
+pub(crate) struct Ran {
+    result: EvaluateResult,
+    edit: Edit,
+}
+
+/// Runs a script in the realm of a target, as the table says.
+///
+/// # Errors
+/// The first that holds:
+/// - What its target is refused for.
+/// - `unsupported operation`: the table has no row of its text.
+/// - `unknown error`: its value is to be owned, beside 1,000 in its realm.
+/// - No memory, where a growth was refused.
+pub(crate) fn plan_evaluate(browser: &Browser, params: &EvaluateParameters) -> Result<Plan, Refusal>
+    ensures plans { (past : List Act) (moment : ℕ) → StandsFor browser.now past → HasIds past → Plans result past moment (evaluate_asked params.now) }
+    ensures well { IsWellPlanned result }
+{
+    let context = targeted(&browser.contexts, &params.target)?;
+    let ending = ending_of(browser, &params.expression)?;
+    let Ran { result, edit } = run(browser, context, ending, is_owned(params.result_ownership))?;
+    Ok(answered(browser.alloc, ResultData::ScriptEvaluate(result), edit))
+}
+
+// Whether a value is to be owned.
+fn is_owned(ownership: Option<Ownership>) -> bool
+    ensures { result ≡ is_owned ownership }
+{
+    matches!(ownership, Some(Ownership::Root))
+}
+
+// How a script of that text ends, where it has no arguments.
+fn ending_of(browser: &Browser, script: &String) -> Result<Ending, Refusal>
+    ensures { (past : List Act) → StandsFor browser.now past → IsEnding result past (string_bytes script.now) }
+{
+    match browser.table.get(script) {
+        Some(ScriptRow::EndsIn(ending)) => Ok(share(ending)?),
+        Some(ScriptRow::GivesBack(_)) => Ok(Ending::Returned(undefined(browser.alloc)?)),
+        None => Err(Refusal::Code(ErrorCode::UnsupportedOperation)),
+    }
+}
+
+// The same ending, whose value is shared.
+fn share(ending: &Ending) -> Result<Ending, AllocError>
+    ensures { IfOk result (λ e. ending_seen e ≡ ending_seen ending.now) }
+{
+    match ending {
+        Ending::Returned(value) => Ok(Ending::Returned(value.clone()?)),
+        Ending::Threw(thrown) => Ok(Ending::Threw(ThrownValue {
+            held: thrown.held.clone()?,
+        })),
+    }
+}
+
+// `{"type":"undefined"}`
+fn undefined(alloc: Global) -> Result<Rc<HeldValue>, Refusal>
+    ensures ok { IfOk result (λ held. held_tree held.value ≡ undefined) }
+    ensures err { IfErr result (λ e. e ≡ refused.NoMemory) }
+{
+    held(
+        alloc,
+        RemoteValue::Plain(RemotePlain::Primitive(Primitive::Undefined)),
+    )
+}
+
+// What a script comes to that ended in the realm of a context.
+fn run(browser: &Browser, context: &Context, ending: Ending, owned: bool) -> Result<Ran, Refusal>
+    ensures ran { (past : List Act) (c : ℕ) → StandsFor browser.now past → HasIds past → is_alive past c ≡ true → row_of context.now ≡ row_at past c → HasRun result past c owned (ending_seen ending) }
+    ensures well { IfOk result (λ ran. ⟦<EvaluateResult as Shape>⟧.shape.well ran.result × (levels (⟦<EvaluateResult as Shape>⟧.shape.tree_of ran.result) ≤ 61)) }
+{
+    if !owned || !takes_handle(&value_of(&ending).value) {
+        let result = told(browser.alloc, context.realm, &ending, None)?;
+        return Ok(Ran {
+            result,
+            edit: Edit::Keep,
+        });
+    }
+    let number = next_handle(browser, context)?;
+    let result = told(browser.alloc, context.realm, &ending, Some(number))?;
+    let handle = Handle {
+        number,
+        value: into_value(ending),
+    };
+    Ok(Ran {
+        result,
+        edit: Edit::Hold(context.number, handle),
+    })
+}
+
+// The number that the next handle in the realm of a context gets.
+fn next_handle(browser: &Browser, context: &Context) -> Result<u64, ErrorCode>
+    ensures next { (past : List Act) (c : ℕ) → StandsFor browser.now past → HasIds past → row_of context.now ≡ row_at past c → IsNextHandle result past (realm_of past c) }
+    ensures fits { IfOk result (λ n. n < 2 ^ 48) }
+{
+    if context.handles.len() < MOST_HANDLES && browser.next_handle < NO_ID {
+        Ok(browser.next_handle)
+    } else {
+        Err(ErrorCode::UnknownError)
+    }
+}
+
+// The value in which a script ends.
+fn value_of(ending: &Ending) -> &HeldValue
+    ensures { held_tree result.now ≡ value_of (ending_seen ending.now) }
+{
+    match ending {
+        Ending::Returned(value) => value.as_ref(),
+        Ending::Threw(thrown) => thrown.held.as_ref(),
+    }
+}
+
+fn into_value(ending: Ending) -> Rc<HeldValue>
+    ensures { held_tree result.value ≡ value_of (ending_seen ending) }
+{
+    match ending {
+        Ending::Returned(value) => value,
+        Ending::Threw(thrown) => thrown.held,
+    }
+}
 
 /// Takes handles out of the realm of a target. Those that hold no value there change nothing.
 ///

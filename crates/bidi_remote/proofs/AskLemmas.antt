@@ -21,7 +21,7 @@ use Rattle.bidi_remote.specs.Machine.Built.{built_methods}
 use Rattle.bidi_remote.specs.Tables.Asked.{asked_of, IsWellAsked, AsksWhat, Asks}
 use Rattle.bidi_remote.proofs.SubscribeAskLemmas.{subscribe-asks, unsubscribe-asks}
 use Rattle.bidi_remote.proofs.BrowserAskLemmas.{activate-asks, close-asks, create-asks, get_tree-asks, navigate-asks, reload-asks, traverse-asks, get_realms-asks}
-use Rattle.bidi_remote.proofs.TargetAskLemmas.{disown-asks}
+use Rattle.bidi_remote.proofs.TargetAskLemmas.{evaluate-asks, disown-asks}
 
 -- the tree of a command
 abbrev pub tree_of : declared_command.Command → Node
@@ -46,7 +46,7 @@ what t (Of.BrowsingContextGetTree p) w m e = (e ∙ get_tree-asks p w, ap is_bui
 what t (Of.BrowsingContextNavigate p) w m e = (e ∙ navigate-asks p w, ap is_built_text m)
 what t (Of.BrowsingContextReload p) w m e = (e ∙ reload-asks p w, ap is_built_text m)
 what t (Of.BrowsingContextTraverseHistory p) w m e = (e ∙ traverse-asks p w, ap is_built_text m)
-what t (Of.ScriptEvaluate p) w m e = (_, e, ap is_built_text m, λ past c. refl)
+what t (Of.ScriptEvaluate p) w m e = (e ∙ evaluate-asks p w, ap is_built_text m)
 what t (Of.ScriptCallFunction p) w m e = (_, e, ap is_built_text m, λ past c. refl)
 what t (Of.ScriptDisown p) w m e = (e ∙ disown-asks p w, ap is_built_text m)
 what t (Of.ScriptGetRealms p) w m e = (e ∙ get_realms-asks p w, ap is_built_text m)

@@ -6,7 +6,7 @@ use Rattle.bidi_tree.specs.Node as tree
 use Rattle.bidi_tree.specs.Node.{Node, Members, get_member}
 use Rattle.bidi_tree.specs.Kind.{text_in}
 use Rattle.bidi_tree.proofs.MemberLemmas.{get_member-put}
-use Rattle.bidi_shape.specs.Name.{context_target, disown_parameters}
+use Rattle.bidi_shape.specs.Name.{context_target, disown_parameters, evaluate_parameters}
 use Rattle.bidi_shape.specs.Term.{required, optional, extensible, text, rule, row, no_more, names_of}
 use Rattle.bidi_shape.specs.Profile.{term_of}
 use Rattle.bidi_shape.specs.Fits.{Fits, fits_map, fits_rule, no_row, OthersFit}
@@ -21,11 +21,16 @@ use Rattle.bidi_values.specs.contracts.target.TargetShape.TheImpl as targets
 use Rattle.bidi_values.specs.contracts.target.RealmTargetShape.TheImpl as realm_targets
 use Rattle.bidi_params.specs.contracts.session.capabilities.NewParametersShape.TheImpl as params
 use Rattle.bidi_params.specs.contracts.script.call_function.DisownParametersShape.TheImpl as disown
+use Rattle.bidi_params.specs.Words.{ownership_text}
+use Rattle.bidi_params.specs.contracts.script.evaluate.EvaluateParametersShape.TheImpl as evaluate
+use Rattle.bidi_params.specs.declared.script.evaluate.EvaluateParameters.{EvaluateParameters}
+use Rattle.bidi_params.specs.declared.script.evaluate.Ownership.{Ownership}
+use Rattle.bidi_params.specs.declared.script.evaluate.Ownership.TheVariants as ownership
 use Rattle.bidi_params.specs.declared.script.call_function.DisownParameters.{DisownParameters}
-use Rattle.bidi_messages.specs.declared.command.CommandData.TheVariants.{ScriptDisown}
+use Rattle.bidi_messages.specs.declared.command.CommandData.TheVariants.{ScriptDisown, ScriptEvaluate}
 use Rattle.bidi_browser.specs.Params.{text_if_at}
-use Rattle.bidi_browser.specs.Actions.{Target, ContextTarget, RealmTarget, target_in, is_well_at}
-use Rattle.bidi_browser.specs.Asked.{target_of}
+use Rattle.bidi_browser.specs.Actions.{Target, ContextTarget, RealmTarget, target_in, is_text, is_well_at}
+use Rattle.bidi_browser.specs.Asked.{is_owned, target_of}
 use Rattle.bidi_remote.specs.Machine.Commands.{command_in}
 use Rattle.bidi_remote.specs.Tables.Asked.{asked_of}
 use Rattle.bidi_remote.proofs.SubscribeAskLemmas.{text_tree, texts-list, text-fits, others_fit-without, inside_whole}
@@ -72,7 +77,23 @@ target-read (target.Realm t) w =
     let by_context = false_from_ne_true (is_some (text_if_at "context" (tree.map ms)) && is_well_at "sandbox" (tree.map ms)) (λ has. w.1 (context-fits ms (inside_whole ms (realm_targets.ghosts.shape.whole t w.0)) has)) in
     rw (by_context, get_member-put (codes "realm") (text_tree t.realm) (others_of t.ext)) refl
 
+-- the text of an ownership, which may be absent, is read as whether the value is owned
+owned-read : (o : Option Ownership) → is_text "root" (option_and_then text_in (option_map (λ w. tree.text (ownership_text w)) o)) ≡ is_owned o
+owned-read None = refl
+owned-read (Some ownership.Root) = refl
+owned-read (Some ownership.None) = refl
+
 -- ---- the commands
+
+-- a `script.evaluate` asks for its expression in the realm of its target, and whether its value is to be owned
+pub evaluate-asks : (p : EvaluateParameters) → evaluate.ghosts.shape.well p
+    → command_in (codes "script.evaluate") (evaluate.ghosts.shape.tree_of p) ≡ asked_of params.ghosts.shape (ScriptEvaluate p)
+evaluate-asks p w =
+    let rs = rows_in (term_of evaluate_parameters) in
+    let others = others_of p.ext in
+    let parts = Some (text_tree p.expression) ∷ Some (targets.ghosts.shape.tree_of p.target) ∷ Some (tree.boolean p.await_promise) ∷ option_map (λ w. tree.text (ownership_text w)) p.result_ownership ∷ option_map tree.boolean p.user_activation ∷ [] in
+    let at = PartsAt-joined rs parts others refl tt (unnamed (names_of rs) others w.1.no_known) in
+    rw (at.0, at.1.0, at.1.1.1.0, target-read p.target w.0.1.0, owned-read p.result_ownership) refl
 
 -- a `script.disown` asks for its handles in the realm of its target
 pub disown-asks : (p : DisownParameters) → disown.ghosts.shape.well p

@@ -110,6 +110,9 @@ fn decide_in(
         CommandData::BrowsingContextTraverseHistory(params) => {
             decide_browsing(alloc, tables, asker, Action::TraverseHistory(params))
         }
+        CommandData::ScriptEvaluate(params) => {
+            decide_browsing(alloc, tables, asker, Action::Evaluate(params))
+        }
         CommandData::ScriptDisown(params) => {
             decide_browsing(alloc, tables, asker, Action::Disown(params))
         }

@@ -19,7 +19,7 @@ built_methods =
     "session.status" ∷ "session.new" ∷ "session.end" ∷ "session.subscribe" ∷ "session.unsubscribe"
     ∷ "browsingContext.activate" ∷ "browsingContext.close" ∷ "browsingContext.create" ∷ "browsingContext.getTree"
     ∷ "browsingContext.navigate" ∷ "browsingContext.reload" ∷ "browsingContext.traverseHistory"
-    ∷ "script.disown" ∷ "script.getRealms" ∷ []
+    ∷ "script.evaluate" ∷ "script.disown" ∷ "script.getRealms" ∷ []
 
 -- the command has one of them
 abbrev pub is_built : Node → Bool

@@ -11,7 +11,7 @@ use Rattle.bidi_messages.specs.declared.error_code.ErrorCode.{ErrorCode}
 use Rattle.bidi_messages.specs.declared.error_code.ErrorCode.TheVariants.{InvalidSessionId, UnsupportedOperation}
 use Rattle.bidi_messages.specs.declared.command.CommandData.{CommandData}
 use Rattle.bidi_messages.specs.declared.command.CommandData.TheVariants as Of
-use Rattle.bidi_browser.specs.Asked.{activate_asked, close_asked, create_asked, get_tree_asked, navigate_asked, reload_asked, traverse_asked, disown_asked, get_realms_asked}
+use Rattle.bidi_browser.specs.Asked.{activate_asked, close_asked, create_asked, get_tree_asked, navigate_asked, reload_asked, traverse_asked, evaluate_asked, disown_asked, get_realms_asked}
 use Rattle.bidi_remote.specs.Machine.Capabilities.{request_of}
 use Rattle.bidi_remote.specs.Machine.Commands.{Command, Status, New, End, Subscribe, UnsubscribeById, UnsubscribeByEvents, OfBrowser, command_of, id_of_command}
 use Rattle.bidi_remote.specs.Machine.History.{Deed}
@@ -45,6 +45,7 @@ asked_of shape (Of.BrowsingContextGetTree params) = Some (OfBrowser (get_tree_as
 asked_of shape (Of.BrowsingContextNavigate params) = Some (OfBrowser (navigate_asked params))
 asked_of shape (Of.BrowsingContextReload params) = Some (OfBrowser (reload_asked params))
 asked_of shape (Of.BrowsingContextTraverseHistory params) = Some (OfBrowser (traverse_asked params))
+asked_of shape (Of.ScriptEvaluate params) = Some (OfBrowser (evaluate_asked params))
 asked_of shape (Of.ScriptDisown params) = Some (OfBrowser (disown_asked params))
 asked_of shape (Of.ScriptGetRealms params) = Some (OfBrowser (get_realms_asked params))
 asked_of shape d = None

@@ -71,6 +71,13 @@ returns-in-BrowsingContextTraverseHistory-clause-ok c = λ h short a speaks.
     subst (λ asked. Decides c.decide_browsing-in-BrowsingContextTraverseHistory.result (deeds h) c.args.asker asked (outcome_so_far (deeds h) conn (SpeaksFor s) asked)) (sym (ap (asked_of ghosts.shape) c.in-BrowsingContextTraverseHistory.is))
     (c.decide_browsing-in-BrowsingContextTraverseHistory.ensures.ok (deeds h) a (has-ids h short) refl)
 
+pub returns-in-ScriptEvaluate-clause-ok : goal.returns-in-ScriptEvaluate-clause-ok
+returns-in-ScriptEvaluate-clause-ok c = λ h short a speaks.
+    let conn = c.args.asker.conn.value in
+    let s = c.args.session in
+    subst (λ asked. Decides c.decide_browsing-in-ScriptEvaluate.result (deeds h) c.args.asker asked (outcome_so_far (deeds h) conn (SpeaksFor s) asked)) (sym (ap (asked_of ghosts.shape) c.in-ScriptEvaluate.is))
+    (c.decide_browsing-in-ScriptEvaluate.ensures.ok (deeds h) a (has-ids h short) refl)
+
 pub returns-in-ScriptDisown-clause-ok : goal.returns-in-ScriptDisown-clause-ok
 returns-in-ScriptDisown-clause-ok c = λ h short a speaks.
     let conn = c.args.asker.conn.value in

@@ -1,0 +1,55 @@
+-- What running a script in hand comes to.
+use Rattle.std.specs.Prelude.{◌≡◌, ℕ, Bool, true, false, ◌&&◌, nat_lt, List, [], length, Option, Some, None, Result, Ok, Err, ⊤}
+use Rattle.bidi_tree.specs.Node.{Node, no_members}
+use Rattle.bidi_messages.specs.declared.error_code.ErrorCode.{ErrorCode}
+use Rattle.bidi_messages.specs.declared.error_code.ErrorCode.TheVariants.{UnsupportedOperation, UnknownError}
+use Rattle.bidi_values.specs.contracts.evaluate_result.EvaluateResultShape.TheImpl as results
+use Rattle.bidi_browser.specs.declared.handle.Ending as declared_ending
+use Rattle.bidi_browser.specs.declared.id.Kind.TheVariants.{Handle, Realm}
+use Rattle.bidi_browser.specs.declared.refusal.Refusal.{Refusal}
+use Rattle.bidi_browser.specs.declared.refusal.Refusal.TheVariants.{Code, NoMemory}
+use Rattle.bidi_browser.specs.declared.scripts.Ran.{Ran as RanInHand}
+use Rattle.bidi_browser.specs.Acts.{Act, Ran, Ending, Returned, Threw, Row, next_number}
+use Rattle.bidi_browser.specs.Maps.{◌being◌and◌, mapped, word, id_tree}
+use Rattle.bidi_browser.specs.Occurs.{exception_details, script_result}
+use Rattle.bidi_browser.specs.Outcome.{ending_of, ending_outcome}
+use Rattle.bidi_browser.specs.Plans.{EditMakes}
+use Rattle.bidi_browser.specs.Realms.{realm_of, row_of, value_of, handles_of}
+use Rattle.bidi_browser.specs.TableInHand.{ending_seen}
+use Rattle.bidi_browser.specs.Values.{takes_handle, with_member}
+
+-- how a script of that text ends, where it has no arguments; or the table has no row of it
+abbrev pub IsEnding : Result declared_ending.Ending Refusal → List Act → List ℕ → Type 0
+IsEnding (Ok ending) past script = (row : Row) × (row_of past script ≡ Some row) × (ending_seen ending ≡ ending_of row [])
+IsEnding (Err (Code code)) past script = (row_of past script ≡ None) × (code ≡ UnsupportedOperation)
+IsEnding (Err NoMemory) past script = ⊤
+
+-- the number that the next handle in a realm gets, or there is no room for it
+abbrev pub IsNextHandle : Result ℕ ErrorCode → List Act → ℕ → Type 0
+IsNextHandle (Ok n) past r = (nat_lt (length (handles_of past r)) 1000 ≡ true) × (n ≡ next_number past Handle)
+IsNextHandle (Err code) past r = (nat_lt (length (handles_of past r)) 1000 ≡ false) × (code ≡ UnknownError)
+
+-- the value with its handle, where it gets one
+abbrev pub shown_as : Option ℕ → Node → Node
+shown_as None value = value
+shown_as (Some n) value = with_member "handle" (id_tree Handle n) value
+
+-- what is told of an ending in a realm, with its value as it is shown
+abbrev pub result_told : ℕ → Ending → Node → Node
+result_told r (Returned value) shown = mapped (
+    "type" being word "success" and
+    "result" being shown and
+    "realm" being id_tree Realm r and no_members)
+result_told r (Threw value) shown = mapped (
+    "type" being word "exception" and
+    "exceptionDetails" being exception_details shown and
+    "realm" being id_tree Realm r and no_members)
+
+-- the script's act, its result, and the change that it makes; or the code of its check
+abbrev pub HasRun : Result RanInHand Refusal → List Act → ℕ → Bool → Ending → Type 0
+HasRun (Ok ran) past c owned ending =
+    let r = realm_of past c in
+    let held = owned && takes_handle (value_of ending) in
+    (ending_outcome past r owned ending ≡ Ok (Ran r ending held)) × (results.ghosts.shape.tree_of ran.result ≡ script_result past r ending held) × EditMakes ran.edit past (Ran r ending held)
+HasRun (Err (Code code)) past c owned ending = ending_outcome past (realm_of past c) owned ending ≡ Err code
+HasRun (Err NoMemory) past c owned ending = ⊤
