@@ -1,14 +1,14 @@
 -- How the rows of the live contexts change where a value is held, and where handles are held no longer.
-use Rattle.std.proofs.Common.{◌≡◌, ◌∙◌, ◌<◌, ℕ, suc, Bool, true, false, List, [], ◌∷◌, ◌++◌, map, refl, sym, ap, arith}
-use Rattle.std.specs.Prelude.{◌==◌, not, ◌&&◌, ◌||◌, nat_lt, if◌then◌else◌, filter}
+use Rattle.std.proofs.Common.{◌≡◌, ◌∙◌, ℕ, Bool, true, false, List, [], ◌∷◌, map, refl, sym, ap, arith}
+use Rattle.std.specs.Prelude.{◌==◌, not, ◌&&◌, ◌||◌, if◌then◌else◌, filter}
 use Rattle.std.specs.List.{list_any}
 use Rattle.std.proofs.lemmas.Bool.Decides.{nat_tests, Decides-eqb}
 use Rattle.bidi_tree.specs.Node.{Node}
 use Rattle.bidi_browser.specs.declared.id.Kind.TheVariants.{Context, Handle}
 use Rattle.bidi_browser.specs.Acts.{Act, Ran, Disowned, Ending, given, next_number}
-use Rattle.bidi_browser.specs.Contexts.{is_born, is_gone, is_alive}
+use Rattle.bidi_browser.specs.Contexts.{is_gone, is_alive}
 use Rattle.bidi_browser.specs.Realms.{realm_of, value_of, has_id, handles_of}
-use Rattle.bidi_browser.specs.ContextRows.{Row, row_at, rows, changed, held_in, without_in}
+use Rattle.bidi_browser.specs.ContextRows.{row_at, rows, changed, held_in, without_in}
 use Rattle.bidi_browser.proofs.AcceptedLemmas.{alive-above, alive-below}
 use Rattle.bidi_browser.proofs.RealmLemmas.{realm-one}
 use Rattle.bidi_browser.proofs.MoveLemmas.{changed-rows}

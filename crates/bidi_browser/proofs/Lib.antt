@@ -1,6 +1,7 @@
 pub mod OnLiterals
 pub mod Spelling
 pub mod IdFacts
+pub mod IdLemmas
 pub mod UrlFacts
 pub mod ArgumentFacts
 pub mod PushLemmas
@@ -19,6 +20,10 @@ pub mod NavigationLemmas
 pub mod WalkLemmas
 pub mod ScriptTableLemmas
 pub mod ValueLemmas
+pub mod SizeLemmas
+pub mod ResolveLemmas
 pub mod RowLemmas
+pub mod SearchLemmas
 pub mod WellLemmas
 pub mod ScriptLemmas
+pub mod CallLemmas

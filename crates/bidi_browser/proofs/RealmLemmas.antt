@@ -1,6 +1,6 @@
 -- Realms: no two contexts share one.
-use Rattle.std.proofs.Common.{◌≡◌, ◌∙◌, ◌<◌, ◌≤◌, ◌+◌, ℕ, zero, suc, Bool, true, false, List, [], ◌∷◌, ◌++◌, refl, sym, ap, arith}
-use Rattle.std.specs.Prelude.{◌==◌, if◌then◌else◌}
+use Rattle.std.proofs.Common.{◌≡◌, ◌<◌, ℕ, Bool, true, false, List, [], ◌∷◌, arith}
+use Rattle.std.specs.Prelude.{if◌then◌else◌}
 use Rattle.std.specs.Prelude.{find, map, bytes_eq, Option, Some, None, Result, Ok, Err}
 use Rattle.std.proofs.lemmas.Bool.Decides.{nat_tests}
 use Rattle.bidi_messages.specs.declared.error_code.ErrorCode.{ErrorCode}
@@ -11,7 +11,7 @@ use Rattle.bidi_browser.specs.Checks.{◌>>=◌, need, found}
 use Rattle.bidi_browser.specs.Contexts.{contexts}
 use Rattle.bidi_browser.specs.Outcome.{context_named, realm_targeted}
 use Rattle.bidi_browser.specs.declared.id.Kind.TheVariants.{Context, Realm}
-use Rattle.bidi_browser.specs.Acts.{Act, Made, Framed, Moved, Removed, Logged, Tabled, Ran, Disowned, Looked, given, next_number}
+use Rattle.bidi_browser.specs.Acts.{Act, Made, Framed, Moved, Removed, Logged, Tabled, Ran, Disowned, Looked, next_number}
 use Rattle.bidi_browser.specs.Realms.{realm_of, realms}
 
 -- each realm is one that was made

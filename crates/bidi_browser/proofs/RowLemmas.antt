@@ -22,12 +22,12 @@ use Rattle.bidi_browser.proofs.RemovalLemmas.{any-contexts}
 -- ---- lists
 
 -- what a look-up by what f gives finds
-find-map : {A B : Type 0} (f : A → B) (p : B → Bool) (xs : List A) → option_map f (find (λ x. p (f x)) xs) ≡ find p (map f xs)
+pub find-map : {A B : Type 0} (f : A → B) (p : B → Bool) (xs : List A) → option_map f (find (λ x. p (f x)) xs) ≡ find p (map f xs)
 find-map f p [] = refl
 find-map f p (x ∷ xs) = let ih = find-map f p xs in grind (arith, ih)
 
 -- two tests that agree find the same
-find-same : {A : Type 0} (p q : A → Bool) (xs : List A) → ((x : A) → p x ≡ q x) → find p xs ≡ find q xs
+pub find-same : {A : Type 0} (p q : A → Bool) (xs : List A) → ((x : A) → p x ≡ q x) → find p xs ≡ find q xs
 find-same p q [] same = refl
 find-same p q (x ∷ xs) same = let ih = find-same p q xs same in let here = same x in grind (arith, ih, here)
 

@@ -1,8 +1,7 @@
 -- Where a script in hand runs.
-use Rattle.std.proofs.Common.{◌≡◌, ◌∙◌, ℕ, Bool, true, false, List, [], Option, Some, None, Result, Ok, Err, refl, sym, ap}
+use Rattle.std.proofs.Common.{◌≡◌, ◌∙◌, ℕ, Bool, true, false, List, [], Option, Some, None, Ok, refl, sym, ap}
 use Rattle.std.specs.Prelude.{find, option_map}
 use Rattle.std.specs.Borrow.{Bor}
-use Rattle.bidi_messages.specs.declared.error_code.ErrorCode.{ErrorCode}
 use Rattle.bidi_messages.specs.declared.error_code.ErrorCode.TheVariants.{NoSuchFrame}
 use Rattle.bidi_browser.specs.declared.contexts.Context.{Context}
 use Rattle.bidi_browser.specs.Acts.{Act}
@@ -19,14 +18,12 @@ use Rattle.bidi_browser.specs.Actions.{Action, ContextTarget, is_asked}
 use Rattle.std.specs.Prelude.{◌&&◌, nat_lt, length}
 use Rattle.std.proofs.Common.{ap₂}
 use Rattle.bidi_tree.specs.Node.{Node}
-use Rattle.bidi_browser.specs.declared.plan.Edit.{Edit}
 use Rattle.bidi_browser.specs.declared.plan.Edit.TheVariants.{Keep}
-use Rattle.bidi_browser.specs.Acts.{Ran, Row, Ending, Returned, Threw, next_number}
-use Rattle.bidi_browser.specs.Actions.{Target, Evaluate}
+use Rattle.bidi_browser.specs.Acts.{Ran, Ending, Returned, Threw, next_number}
 use Rattle.bidi_browser.specs.Occurs.{script_result}
-use Rattle.bidi_browser.specs.Outcome.{ending_of, ending_outcome}
+use Rattle.bidi_browser.specs.Outcome.{ending_outcome}
 use Rattle.bidi_browser.specs.Plans.{EditMakes}
-use Rattle.bidi_browser.specs.Realms.{row_of, value_of}
+use Rattle.bidi_browser.specs.Realms.{value_of}
 use Rattle.bidi_browser.specs.Runs.{result_told, shown_as}
 use Rattle.bidi_browser.specs.Values.{takes_handle}
 use Rattle.bidi_browser.specs.Contexts.{contexts, is_alive, up_to}

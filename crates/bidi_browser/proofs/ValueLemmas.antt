@@ -1,7 +1,6 @@
 -- Tests on the names of members.
-use Rattle.std.proofs.Common.{◌≡◌, ℕ, Bool, true, false, List, [], ◌∷◌, map, String, Global, string_bytes, refl, sym, ap₂}
+use Rattle.std.proofs.Common.{◌≡◌, ℕ, Bool, true, false, List, refl, sym}
 use Rattle.std.specs.Prelude.{◌||◌, bytes_eq}
-use Rattle.std.specs.List.{list_any}
 use Rattle.std.proofs.lemmas.Slice.Eq.{bytes_eq-Decides}
 use Rattle.bidi_browser.proofs.RemovalLemmas.{agree}
 
@@ -9,11 +8,6 @@ use Rattle.bidi_browser.proofs.RemovalLemmas.{agree}
 pub same-either : (xs ys : List ℕ) → bytes_eq xs ys ≡ bytes_eq ys xs
 same-either xs ys =
     agree (bytes_eq xs ys) (bytes_eq ys xs) (λ e. (bytes_eq-Decides ys xs).1 (sym ((bytes_eq-Decides xs ys).0 e))) (λ e. (bytes_eq-Decides xs ys).1 (sym ((bytes_eq-Decides ys xs).0 e)))
-
--- an id is among some texts
-pub among-texts : (id : List ℕ) (ss : List (String Global)) → list_any (λ s. bytes_eq (string_bytes s) id) ss ≡ list_any (bytes_eq id) (map string_bytes ss)
-among-texts id [] = refl
-among-texts id (s ∷ ss) = ap₂ (λ b c. b || c) (same-either (string_bytes s) id) (among-texts id ss)
 
 -- the second of two words
 pub or-second : (a b : Bool) → a ≡ false → b ≡ (a || (b || false))

@@ -1,5 +1,5 @@
 -- A remote value is well where its tree has at most 60 levels: no tree of one is that of an earlier alternative.
-use Rattle.std.proofs.Common.{◌≡◌, ◌≤◌, ◌∙◌, Bool, true, false, Option, Some, None, String, Global, bytes_eq, string_bytes, ap, option_map, subst, rules, refl}
+use Rattle.std.proofs.Common.{◌≡◌, ◌≤◌, ◌∙◌, Bool, true, false, Option, Some, String, Global, bytes_eq, string_bytes, ap, option_map, subst, refl}
 use Rattle.std.proofs.lemmas.Bool.{and_parts}
 use Rattle.std.proofs.lemmas.Slice.Eq.{bytes_eq-Decides}
 use Rattle.std.specs.Prelude.{IfSome, ◌&&◌, ⊤}

@@ -1,5 +1,5 @@
 -- What an action in hand asks.
-use Rattle.std.specs.Prelude.{Bool, true, false, [], map, Option, Some, None, option_map, unwrap_or, string_bytes}
+use Rattle.std.specs.Prelude.{Bool, true, false, List, [], map, Option, Some, None, option_map, unwrap_or, string_bytes}
 use Rattle.bidi_params.specs.declared.browsing_context.create.ContextType.{ContextType}
 use Rattle.bidi_params.specs.declared.browsing_context.create.ContextType.TheVariants as type
 use Rattle.bidi_params.specs.declared.browsing_context.create.ActivateParameters.{ActivateParameters}
@@ -15,15 +15,18 @@ use Rattle.bidi_params.specs.Words.{realm_type_text}
 use Rattle.bidi_params.specs.declared.script.evaluate.Ownership.{Ownership}
 use Rattle.bidi_params.specs.declared.script.evaluate.Ownership.TheVariants as ownership
 use Rattle.bidi_params.specs.declared.script.evaluate.EvaluateParameters.{EvaluateParameters}
+use Rattle.bidi_params.specs.declared.script.call_function.CallFunctionParameters.{CallFunctionParameters}
 use Rattle.bidi_params.specs.declared.script.call_function.DisownParameters.{DisownParameters}
 use Rattle.bidi_params.specs.declared.script.realms.GetRealmsParameters.{GetRealmsParameters}
 use Rattle.bidi_values.specs.declared.target.Target as declared_target
 use Rattle.bidi_values.specs.declared.target.Target.TheVariants as target
 use Rattle.bidi_values.specs.declared.table_row.TableRow as declared_row
 use Rattle.bidi_values.specs.contracts.table_row.TableRowShape.TheImpl as rows
+use Rattle.bidi_tree.specs.Node.{Node}
+use Rattle.bidi_browser.specs.ValuesInHand.{local_tree}
 use Rattle.bidi_browser.specs.declared.action.Action as declared_action
 use Rattle.bidi_browser.specs.declared.action.Action.TheVariants as in_code
-use Rattle.bidi_browser.specs.Actions.{CreateType, Tab, OwnWindow, Wait, Started, Interactive, Complete, Action, Activate, Close, Create, GetTree, Navigate, Reload, TraverseHistory, Target, ContextTarget, RealmTarget, Evaluate, Disown, GetRealms, Frame, Unframe, Log, TableRow}
+use Rattle.bidi_browser.specs.Actions.{CreateType, Tab, OwnWindow, Wait, Started, Interactive, Complete, Action, Activate, Close, Create, GetTree, Navigate, Reload, TraverseHistory, Target, ContextTarget, RealmTarget, Evaluate, CallFunction, Disown, GetRealms, Frame, Unframe, Log, TableRow}
 
 -- as what a context is created
 abbrev pub create_type_of : ContextType → CreateType
@@ -73,6 +76,13 @@ is_owned None = false
 abbrev pub evaluate_asked : EvaluateParameters → Action
 evaluate_asked p = Evaluate (string_bytes p.expression) (target_of p.target) (is_owned p.result_ownership)
 
+-- the trees of the arguments; absent, there are none
+abbrev pub arguments_asked : CallFunctionParameters → List Node
+arguments_asked p = unwrap_or (option_map (λ vs. map local_tree vs.items) p.arguments) []
+
+abbrev pub call_function_asked : CallFunctionParameters → Action
+call_function_asked p = CallFunction (string_bytes p.function_declaration) (target_of p.target) (arguments_asked p) (option_map local_tree p.this) (is_owned p.result_ownership)
+
 abbrev pub disown_asked : DisownParameters → Action
 disown_asked p = Disown (map string_bytes p.handles.items) (target_of p.target)
 
@@ -92,6 +102,7 @@ action_of (in_code.Navigate p) = navigate_asked p.now
 action_of (in_code.Reload p) = reload_asked p.now
 action_of (in_code.TraverseHistory p) = traverse_asked p.now
 action_of (in_code.Evaluate p) = evaluate_asked p.now
+action_of (in_code.CallFunction p) = call_function_asked p.now
 action_of (in_code.Disown p) = disown_asked p.now
 action_of (in_code.GetRealms p) = get_realms_asked p.now
 action_of (in_code.Frame context url) = Frame context.now url.now

@@ -1,5 +1,5 @@
 -- The table of live contexts: of each its row, in order of birth; how rows lie below one another, and what is told of them.
-use Rattle.std.specs.Prelude.{ℕ, zero, suc, nat_eq, ◌==◌, if◌then◌else◌, not, List, [], ◌∷◌, ◌++◌, filter, flat_map, map, Option, Some, None}
+use Rattle.std.specs.Prelude.{ℕ, zero, suc, nat_eq, ◌==◌, if◌then◌else◌, not, List, [], ◌∷◌, ◌++◌, bytes_eq, filter, find, flat_map, map, Option, Some, None, option_map}
 use Rattle.std.specs.List.{list_any}
 use Rattle.std.specs.Option.{option_eq}
 use Rattle.url.specs.Parts.{Parts}
@@ -9,6 +9,7 @@ use Rattle.bidi_messages.specs.declared.event.EventName.{EventName}
 use Rattle.bidi_messages.specs.declared.event.EventName.TheVariants.{ContextCreated, ContextDestroyed, RealmCreated, RealmDestroyed, EntryAdded}
 use Rattle.bidi_browser.specs.declared.id.Kind.TheVariants as kind
 use Rattle.bidi_browser.specs.declared.contexts.Context.{Context}
+use Rattle.bidi_browser.specs.Ids.{id_of}
 use Rattle.bidi_browser.specs.Urls.{url_text, origin_text}
 use Rattle.bidi_browser.specs.Acts.{Act, Move}
 use Rattle.bidi_browser.specs.Contexts.{contexts, parent_of, top_of, level_of, window_of}
@@ -34,6 +35,10 @@ pub record Row : Type 0 where
 -- the URL of the present entry
 abbrev pub url_in : Row → Parts
 url_in row = present row.entries
+
+-- the value that the handle of an id holds in its realm
+abbrev pub held_in_row : Row → List ℕ → Option Node
+held_in_row row id = option_map (λ held. held.1) (find (λ held. bytes_eq id (id_of kind.Handle held.0)) row.handles)
 
 -- the row of a context in hand
 abbrev pub row_of : Context → Row

@@ -16,9 +16,12 @@ pub mod Accepted
 pub mod Occurs
 pub mod View
 pub mod HistoryInHand
+pub mod Sizes
 pub mod ValuesInHand
 pub mod ContextRows
 pub mod InfosInHand
+pub mod Measured
+pub mod Resolves
 pub mod Found
 pub mod TableInHand
 pub mod Asked

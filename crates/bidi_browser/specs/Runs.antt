@@ -1,5 +1,5 @@
 -- What running a script in hand comes to.
-use Rattle.std.specs.Prelude.{◌≡◌, ℕ, Bool, true, false, ◌&&◌, nat_lt, List, [], length, Option, Some, None, Result, Ok, Err, ⊤}
+use Rattle.std.specs.Prelude.{◌≡◌, ℕ, Bool, true, false, ◌&&◌, nat_lt, List, length, Option, Some, None, Result, Ok, Err, ⊤}
 use Rattle.bidi_tree.specs.Node.{Node, no_members}
 use Rattle.bidi_messages.specs.declared.error_code.ErrorCode.{ErrorCode}
 use Rattle.bidi_messages.specs.declared.error_code.ErrorCode.TheVariants.{UnsupportedOperation, UnknownError}
@@ -10,19 +10,34 @@ use Rattle.bidi_browser.specs.declared.refusal.Refusal.{Refusal}
 use Rattle.bidi_browser.specs.declared.refusal.Refusal.TheVariants.{Code, NoMemory}
 use Rattle.bidi_browser.specs.declared.scripts.Ran.{Ran as RanInHand}
 use Rattle.bidi_browser.specs.Acts.{Act, Ran, Ending, Returned, Threw, Row, next_number}
+use Rattle.bidi_browser.specs.Checks.{◌>>=◌, found}
 use Rattle.bidi_browser.specs.Maps.{◌being◌and◌, mapped, word, id_tree}
 use Rattle.bidi_browser.specs.Occurs.{exception_details, script_result}
-use Rattle.bidi_browser.specs.Outcome.{ending_of, ending_outcome}
+use Rattle.bidi_browser.specs.Outcome.{ending_of, ending_outcome, this_resolved}
 use Rattle.bidi_browser.specs.Plans.{EditMakes}
-use Rattle.bidi_browser.specs.Realms.{realm_of, row_of, value_of, handles_of}
+use Rattle.bidi_browser.specs.Realms.{realm_of, row_of, value_of, handles_of, held_value}
 use Rattle.bidi_browser.specs.TableInHand.{ending_seen}
-use Rattle.bidi_browser.specs.Values.{takes_handle, with_member}
+use Rattle.bidi_browser.specs.Values.{arguments, takes_handle, with_member}
 
--- how a script of that text ends, where it has no arguments; or the table has no row of it
-abbrev pub IsEnding : Result declared_ending.Ending Refusal → List Act → List ℕ → Type 0
-IsEnding (Ok ending) past script = (row : Row) × (row_of past script ≡ Some row) × (ending_seen ending ≡ ending_of row [])
-IsEnding (Err (Code code)) past script = (row_of past script ≡ None) × (code ≡ UnsupportedOperation)
-IsEnding (Err NoMemory) past script = ⊤
+-- how a script of that text ends with these arguments; or the table has no row of it
+abbrev pub IsEnding : Result declared_ending.Ending Refusal → List Act → List ℕ → List Node → Type 0
+IsEnding (Ok ending) past script values = (row : Row) × (row_of past script ≡ Some row) × (ending_seen ending ≡ ending_of row values)
+IsEnding (Err (Code code)) past script values = (row_of past script ≡ None) × (code ≡ UnsupportedOperation)
+IsEnding (Err NoMemory) past script values = ⊤
+
+-- how a function ends that is called in a realm: each argument, then `this`, then the row
+abbrev pub call_ending : List Act → ℕ → List ℕ → List Node → Option Node → Result Ending ErrorCode
+call_ending past r declaration values this = do
+  resolved ← arguments (held_value past r) values
+  self ← this_resolved past r this
+  row ← found (row_of past declaration) UnsupportedOperation
+  Ok (ending_of row resolved)
+
+-- a script returned a value, unless a growth was refused
+abbrev pub HasReturned : Result declared_ending.Ending Refusal → Node → Type 0
+HasReturned (Ok ending) value = ending_seen ending ≡ Returned value
+HasReturned (Err (Code code)) value = ⊥
+HasReturned (Err NoMemory) value = ⊤
 
 -- the number that the next handle in a realm gets, or there is no room for it
 abbrev pub IsNextHandle : Result ℕ ErrorCode → List Act → ℕ → Type 0

@@ -16,7 +16,7 @@ abbrev pub Held : Type 0
 Held = List ℕ → Option Node
 
 -- what a handle's tree gives
-abbrev handle_value : Held → Node → Result Node ErrorCode
+abbrev pub handle_value : Held → Node → Result Node ErrorCode
 handle_value held (text id) = found (held id) NoSuchHandle
 handle_value held t = Err NoSuchHandle
 
@@ -27,12 +27,12 @@ referred held None (Some id) other = handle_value held id
 referred held None None other = other
 
 -- the map of these members
-abbrev in_map : Result Members ErrorCode → Result Node ErrorCode
+abbrev pub in_map : Result Members ErrorCode → Result Node ErrorCode
 in_map (Ok ms) = Ok (map ms)
 in_map (Err code) = Err code
 
 -- the list of these items
-abbrev in_list : Result Items ErrorCode → Result Node ErrorCode
+abbrev pub in_list : Result Items ErrorCode → Result Node ErrorCode
 in_list (Ok ts) = Ok (list ts)
 in_list (Err code) = Err code
 

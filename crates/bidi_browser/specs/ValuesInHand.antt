@@ -1,8 +1,17 @@
 -- What contracts see of values in hand: the tree of one, and what a handle holds.
-use Rattle.std.specs.Prelude.{ℕ}
-use Rattle.bidi_tree.specs.Node.{Node}
-use Rattle.bidi_values.specs.View.{nested_tree}
+use Rattle.std.specs.Prelude.{ℕ, map, Vec}
+use Rattle.std.specs.declared.alloc.Global.{Global}
+use Rattle.std.specs.declared.rc.Rc.{Rc}
+use Rattle.bidi_tree.specs.Node.{Node, Items}
+use Rattle.bidi_tree.specs.View.{items_of}
+use Rattle.bidi_values.specs.View.{nested_tree, nested_pair_tree, nested_key_tree}
 use Rattle.bidi_values.specs.declared.nested.Nested.{Nested}
+use Rattle.bidi_values.specs.declared.nested.NestedPair.{NestedPair}
+use Rattle.bidi_values.specs.declared.nested.NestedKey.{NestedKey}
+use Rattle.bidi_values.specs.declared.kinds.ListKind.{ListKind}
+use Rattle.bidi_values.specs.declared.kinds.PairsKind.{PairsKind}
+use Rattle.bidi_values.specs.declared.local_value.LocalPlain.{LocalPlain}
+use Rattle.bidi_values.specs.contracts.local_value.LocalPlainNestsListKindPairsKind.TheImpl as local
 use Rattle.bidi_values.specs.declared.remote_value.RemotePlain.{RemotePlain}
 use Rattle.bidi_values.specs.declared.held.RemoteList.{RemoteList}
 use Rattle.bidi_values.specs.declared.held.RemotePairs.{RemotePairs}
@@ -14,9 +23,35 @@ use Rattle.bidi_browser.specs.declared.handle.HeldValue.{HeldValue}
 abbrev pub remote_tree : Nested RemotePlain RemoteList RemotePairs → Node
 remote_tree v = nested_tree remote.ghosts.nesting v
 
--- that of a value that may be held
+-- the tree of a local value in hand, of a pair of an object or a map, and of its key
+abbrev pub local_tree : Nested LocalPlain ListKind PairsKind → Node
+local_tree v = nested_tree local.ghosts.nesting v
+
+abbrev pub local_pair_tree : NestedPair LocalPlain ListKind PairsKind → Node
+local_pair_tree p = nested_pair_tree local.ghosts.nesting p
+
+abbrev pub local_key_tree : NestedKey LocalPlain ListKind PairsKind → Node
+local_key_tree k = nested_key_tree local.ghosts.nesting k
+
+abbrev pub remote_pair_tree : NestedPair RemotePlain RemoteList RemotePairs → Node
+remote_pair_tree p = nested_pair_tree remote.ghosts.nesting p
+
+abbrev pub remote_key_tree : NestedKey RemotePlain RemoteList RemotePairs → Node
+remote_key_tree k = nested_key_tree remote.ghosts.nesting k
+
+-- those of some values, and of some pairs
+abbrev pub remote_trees : Vec (Nested RemotePlain RemoteList RemotePairs) Global → Items
+remote_trees vs = items_of (map remote_tree vs.items)
+
+abbrev pub remote_pair_trees : Vec (NestedPair RemotePlain RemoteList RemotePairs) Global → Items
+remote_pair_trees ps = items_of (map remote_pair_tree ps.items)
+
+-- that of a value that may be held, also where it is shared
 abbrev pub held_tree : HeldValue → Node
 held_tree held = remote_tree held.value
+
+abbrev pub shared_tree : Rc HeldValue Global → Node
+shared_tree shared = held_tree shared.value
 
 -- a handle by its number, with the value that it holds
 abbrev pub handle_seen : Handle → ℕ × Node

@@ -1,8 +1,8 @@
 //! What the browser is asked.
 use bidi_params::{
-    ActivateParameters, CloseParameters, CreateParameters, DisownParameters, EvaluateParameters,
-    GetRealmsParameters, GetTreeParameters, NavigateParameters, ReloadParameters,
-    TraverseHistoryParameters,
+    ActivateParameters, CallFunctionParameters, CloseParameters, CreateParameters,
+    DisownParameters, EvaluateParameters, GetRealmsParameters, GetTreeParameters,
+    NavigateParameters, ReloadParameters, TraverseHistoryParameters,
 };
 use bidi_values::{Level, TableRow};
 
@@ -17,6 +17,7 @@ pub enum Action<'a> {
     Reload(&'a ReloadParameters),
     TraverseHistory(&'a TraverseHistoryParameters),
     Evaluate(&'a EvaluateParameters),
+    CallFunction(&'a CallFunctionParameters),
     Disown(&'a DisownParameters),
     GetRealms(&'a GetRealmsParameters),
     /// A child of the context of that id comes, at a URL.

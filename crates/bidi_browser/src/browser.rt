@@ -12,6 +12,7 @@ ghost use Rattle.bidi_browser.specs.View.{occurrence_of};
 
 use crate::action::Action;
 use crate::births::{plan_create, plan_frame};
+use crate::calling::plan_call_function;
 use crate::context_table::Contexts;
 use crate::logging::plan_log;
 use crate::looking::{plan_activate, plan_get_realms, plan_get_tree};
@@ -80,15 +81,14 @@ impl Browser {
     ///
     /// Looks through the live contexts. An Info looks through them once for each context in it; a removal makes an event
     /// for each context that goes, and so does a navigation, which copies nothing of a session history. A row of the table costs the writing of
-    /// its tree, and a look-up of its text.
+    /// its tree, and a look-up of its text; a script a copy of its value; a call a tree of each argument besides.
     ///
     /// # Errors
     /// - `Code`: the first check that fails, in the order of each command; of a step of a page, which then has no
     ///   effect, it says no more than that.
     /// - `NoMemory`: a growth was refused.
     ///
-    /// After WebDriver BiDi, "The browsingContext Module", "The script.evaluate Command", "The script.disown Command" and
-    /// "The script.getRealms Command".
+    /// After WebDriver BiDi, "The browsingContext Module" and "The script Module".
     pub fn plan(&self, action: Action, moment: JsUint) -> Result<Plan, Refusal>
         // Whatever past the browser stands for, short of 2^48 ids of a kind, the plan is that of the definitions.
         ensures plans { (past : List Act) → StandsFor self.now past → HasIds past → Plans result past moment.value (action_of action.entry) }
@@ -103,6 +103,7 @@ impl Browser {
             Action::Reload(params) => plan_reload(self, moment, params),
             Action::TraverseHistory(params) => plan_traverse_history(self, moment, params),
             Action::Evaluate(params) => plan_evaluate(self, params),
+            Action::CallFunction(params) => plan_call_function(self, params),
             Action::Disown(params) => plan_disown(self, params),
             Action::GetRealms(params) => plan_get_realms(self, params),
             Action::Frame(context, url) => plan_frame(self, context, url),

@@ -190,10 +190,11 @@ impl Contexts {
         }
     }
 
-    /// A value is held by a handle in the realm of the context of that number. Takes no memory.
+    /// A value is held by a handle, the next that is given, in the realm of the context of that number. Takes no memory.
     pub(crate) fn hold(&mut self, number: u64, handle: Handle)
         requires { HasRoomForHandle self.now number }
-        ensures { map row_of self.new.live.items ≡ changed number (held_in (handle_seen handle)) (map row_of self.old.live.items) }
+        ensures { (past : List Act) → IsTableOf self.old past → next_number past Kind.Handle ≤ handle.number
+            → map row_of self.new.live.items ≡ changed number (held_in (handle_seen handle)) (map row_of self.old.live.items) }
     {
         if let Some(place) = place_of(&self.live, number) {
             self.live[place].hold(handle);

@@ -1,14 +1,15 @@
 //! A live context, and what is told of one.
-ghost use Rattle.std.specs.Prelude.{◌≡◌, ℕ, ◌≤◌, ◌<◌, ◌+◌, ◌^◌, [], vec_len, vec_capacity, None, Some, IfOk, IfSome, bytes_eq, filter, map, not, string_bytes, ◌==◌, option_map};
-ghost use Rattle.std.specs.List.{list_any};
+ghost use Rattle.std.specs.Prelude.{◌≡◌, ℕ, ◌≤◌, ◌<◌, ◌+◌, ◌^◌, [], ◌∷◌, ◌++◌, true, vec_len, vec_capacity, None, Some, IfOk, IfSome, bytes_eq, filter, find, map, not, string_bytes, ◌==◌, option_map};
+ghost use Rattle.std.specs.List.{All, list_any};
+ghost use Rattle.std.specs.List.Sorted.{IsNonDecreasing, IsStrictlyIncreasing};
 ghost use Rattle.std.proofs.Props.{props};
 ghost use Rattle.bidi_browser.specs.Ids.{id_of};
 ghost use Rattle.bidi_browser.specs.Realms.{has_id};
 ghost use Rattle.bidi_browser.specs.View.{occurrence_of};
 
 use crate::context_table::is_listed;
-use crate::handle::Handle;
-use crate::id::{Kind, id_text, is_id};
+use crate::handle::{Handle, HeldValue};
+use crate::id::{Kind, handle_number, id_text, is_id};
 use crate::occurrence::Occurrence;
 use crate::session_history::{Move, SessionHistory};
 use crate::urls::{about_blank, origin_text};
@@ -18,6 +19,7 @@ use bidi_shape::{Ext, Shape};
 use bidi_tree::JsUint;
 use bidi_values::LogEntry;
 use std::alloc::{AllocError, Global};
+use std::rc::Rc;
 use url::Url;
 
 /// A live context.
@@ -39,14 +41,15 @@ pub(crate) struct Context {
     ghost parent_fits: { IfSome parent (λ p. p < 2 ^ 48) } by { Prim.hlevel props },
     ghost window_fits: { window < 2 ^ 48 },
     ghost realm_fits: { realm < 2 ^ 48 },
+    ghost handles_ascend: { IsStrictlyIncreasing (map (λ h. h.number) handles.items) } by { Prim.hlevel props },
 }
 
 impl Context {
     ghost use Rattle.bidi_browser.specs.Urls.{about_blank};
     ghost use Rattle.bidi_browser.specs.HistoryInHand.{entries_in, move_of, HasRoomFor, Leads};
     ghost use Rattle.bidi_browser.specs.Places.{begun_at};
-    ghost use Rattle.bidi_browser.specs.ContextRows.{row_of, inner_info, root_info, shown_info, created_in, realm_info_at, realm_info_in, realm_began_in, realm_created_in, realm_destroyed_in, navigation_info_in, occurrence_in, moved_in, held_in, without_in};
-    ghost use Rattle.bidi_browser.specs.ValuesInHand.{handle_seen};
+    ghost use Rattle.bidi_browser.specs.ContextRows.{row_of, inner_info, root_info, shown_info, created_in, realm_info_at, realm_info_in, realm_began_in, realm_created_in, realm_destroyed_in, navigation_info_in, occurrence_in, moved_in, held_in, held_in_row, without_in};
+    ghost use Rattle.bidi_browser.specs.ValuesInHand.{handle_seen, held_tree};
     ghost use Rattle.bidi_browser.specs.Info.{parent_tree};
     ghost use Rattle.bidi_browser.specs.InfosInHand.{children_node, parent_node, AreWithinIfTold, IsWithin};
     ghost use Rattle.bidi_messages.specs.declared.event.EventName.TheVariants.{ContextDestroyed, NavigationStarted, DomContentLoaded, Load, EntryAdded};
@@ -112,12 +115,14 @@ impl Context {
         self.history.go(to);
     }
 
-    /// A handle is held in its realm. Takes no memory.
+    /// A handle is held in its realm, where its number is above those of all that are held. Takes no memory.
     pub(crate) fn hold(&mut self, handle: Handle)
         requires { vec_len self.now.handles < vec_capacity self.now.handles }
-        ensures { row_of self.new ≡ held_in (handle_seen handle) (row_of self.old) }
+        ensures { All (λ held. held.0 < handle.number) (row_of self.old).handles → row_of self.new ≡ held_in (handle_seen handle) (row_of self.old) }
     {
-        self.handles.push_reserved(handle);
+        if may_come(&self.handles, handle.number) {
+            self.handles.push_reserved(handle);
+        }
     }
 
     /// The handles of these numbers are held in its realm no longer. Takes no memory.
@@ -141,6 +146,14 @@ impl Context {
         is_id(id, Kind::Realm, 0, self.realm)
     }
 
+    /// The value that the handle of that id holds in its realm. Looks for it by halves, and takes no memory.
+    pub(crate) fn held(&self, id: &str) -> Option<&Rc<HeldValue>>
+        ensures { option_map (λ h. held_tree h.now.value) result ≡ held_in_row (row_of self.now) id.now }
+    {
+        let handle = handle_of_id(&self.handles, id)?;
+        Some(&handle.value)
+    }
+
     /// The numbers of the handles that are held in its realm and have one of these ids.
     pub(crate) fn numbers_of(
         &self,
@@ -149,9 +162,10 @@ impl Context {
     ) -> Result<Vec<u64>, AllocError>
         ensures { IfOk result (λ numbers. numbers.items ≡ map (λ h. h.0) (filter (λ h. has_id (map string_bytes ids.now.items) h.0) (row_of self.now).handles)) }
     {
+        let named = handle_numbers(alloc, ids)?;
         let mut numbers = Vec::new(alloc);
         for handle in &self.handles {
-            if has_id(ids, handle.number) {
+            if is_among(&named, handle.number) {
                 numbers.push(handle.number)?;
             }
         }
@@ -358,6 +372,34 @@ impl Context {
     }
 }
 
+// The handle of that id, where the numbers ascend.
+fn handle_of_id<'a>(handles: &'a [Handle], id: &str) -> Option<&'a Handle>
+    ensures { IsStrictlyIncreasing (map (λ h. h.number) handles.now) → option_map (λ h. h.now) result ≡ find (λ h. bytes_eq id.now (id_of Kind.Handle h.number)) handles.now }
+{
+    handle_at(handles, handle_number(id)?)
+}
+
+// The handle of that number, where the numbers ascend.
+fn handle_at(handles: &[Handle], number: u64) -> Option<&Handle>
+    ensures { IsStrictlyIncreasing (map (λ h. h.number) handles.now) → option_map (λ h. h.now) result ≡ find (λ h. h.number == number) handles.now }
+{
+    match handles.binary_search_by_key(&number, |handle| handle.number) {
+        Ok(place) => Some(&handles[place]),
+        Err(_) => None,
+    }
+}
+
+// Whether a handle of that number may come behind these, whose numbers ascend.
+fn may_come(handles: &[Handle], number: u64) -> bool
+    ensures may { result ≡ true → IsStrictlyIncreasing (map (λ h. h.number) handles.now) → IsStrictlyIncreasing (map (λ h. h.number) handles.now ++ number ∷ []) }
+    ensures above { All (λ h. h.number < number) handles.now → result ≡ true }
+{
+    match handles.last() {
+        Some(last) => last.number < number,
+        None => true,
+    }
+}
+
 // Takes out the handles of these numbers.
 fn take_out(handles: &mut Vec<Handle>, numbers: &[u64])
     ensures { handles.new.items ≡ filter (λ h. not (list_any (λ n. n == h.number) numbers.now)) handles.old.items }
@@ -365,17 +407,24 @@ fn take_out(handles: &mut Vec<Handle>, numbers: &[u64])
     handles.retain(|handle| !is_listed(numbers, handle.number));
 }
 
-// Whether the id of the handle of that number is among these.
-fn has_id(ids: &[String], number: u64) -> bool
-    requires { number < 2 ^ 48 }
-    ensures { result ≡ has_id (map string_bytes ids.now) number }
+// The numbers of the handles that have one of these ids, in order.
+fn handle_numbers(alloc: Global, ids: &[String]) -> Result<Vec<u64>, AllocError>
+    ensures order { IfOk result (λ numbers. IsNonDecreasing numbers.items) }
+    ensures ids { (n : ℕ) → n < 2 ^ 48 → IfOk result (λ numbers. list_any (λ m. m == n) numbers.items ≡ has_id (map string_bytes ids.now) n) }
 {
-    is_among(ids, number)
+    let mut numbers = Vec::new(alloc);
+    for id in ids {
+        if let Some(number) = handle_number(id) {
+            numbers.push(number)?;
+        }
+    }
+    numbers.sort_unstable();
+    Ok(numbers)
 }
 
-fn is_among(ids: &[String], number: u64) -> bool
-    requires { number < 2 ^ 48 }
-    ensures { result ≡ list_any (λ s. bytes_eq (string_bytes s) (id_of Kind.Handle number)) ids.now }
+// Whether a number is among these, which ascend.
+fn is_among(numbers: &[u64], number: u64) -> bool
+    ensures { IsNonDecreasing numbers.now → result ≡ list_any (λ n. n == number) numbers.now }
 {
-    ids.iter().any(|id| is_id(id, Kind::Handle, 0, number))
+    numbers.binary_search(&number).is_ok()
 }

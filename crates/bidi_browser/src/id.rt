@@ -1,6 +1,6 @@
 //! Ids.
-ghost use Rattle.std.specs.Prelude.{◌≡◌, ◌<◌, ◌^◌, bytes_eq, string_bytes, IfOk};
-ghost use Rattle.bidi_browser.specs.Ids.{kind_number, session_in, id_bytes, id_text};
+ghost use Rattle.std.specs.Prelude.{◌≡◌, ◌<◌, ◌^◌, ℕ, true, bytes_eq, string_bytes, IfOk, IfSome, Some};
+ghost use Rattle.bidi_browser.specs.Ids.{kind_number, session_in, id_bytes, id_of, id_text};
 
 use std::alloc::{AllocError, Global};
 use uuid::Uuid;
@@ -48,6 +48,31 @@ pub fn is_id(text: &str, kind: Kind, session: u32, n: u64) -> bool
         .hyphenated()
         .encode_lower(&mut buffer);
     text == id
+}
+
+/// The number of the handle whose id a text is, in just these letters. Takes no memory.
+pub(crate) fn handle_number(id: &str) -> Option<u64>
+    ensures some { IfSome result (λ n. (n < 2 ^ 48) × (bytes_eq id.now (id_of Kind.Handle n) ≡ true)) }
+    ensures every { (n : ℕ) → n < 2 ^ 48 → bytes_eq id.now (id_of Kind.Handle n) ≡ true → result ≡ Some n }
+{
+    let number = match Uuid::try_parse(id) {
+        Ok(uuid) => number_in(uuid),
+        Err(_) => return None,
+    };
+    if is_id(id, Kind::Handle, 0, number) {
+        Some(number)
+    } else {
+        None
+    }
+}
+
+// The number in the last six bytes.
+fn number_in(uuid: Uuid) -> u64
+    ensures fits { result < 2 ^ 48 }
+    ensures back { (n : ℕ) → n < 2 ^ 48 → uuid ≡ id_bytes Kind.Handle 0 n → result ≡ n }
+{
+    let b = uuid.into_bytes();
+    u64::from_be_bytes([0, 0, b[10], b[11], b[12], b[13], b[14], b[15]])
 }
 
 fn id_of(kind: Kind, session: u32, n: u64) -> Uuid

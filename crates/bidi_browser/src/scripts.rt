@@ -1,16 +1,17 @@
 //! Plans of what runs scripts, and of what gives handles back.
-ghost use Rattle.std.specs.Prelude.{◌≡◌, ◌≤◌, ◌<◌, ◌^◌, ℕ, List, [], true, IfOk, IfErr, bytes_eq, not, option_map, string_bytes, unwrap_or};
+ghost use Rattle.std.specs.Prelude.{◌≡◌, ◌≤◌, ◌<◌, ◌^◌, ℕ, List, [], true, Ok, IfOk, IfErr, bytes_eq, map, not, option_map, slice_get, string_bytes, unwrap_or};
 ghost use Rattle.bidi_browser.specs.Acts.{Act};
 ghost use Rattle.bidi_browser.specs.Actions as asked;
 ghost use Rattle.bidi_browser.specs.Asked.{disown_asked, evaluate_asked, is_owned, target_of};
 ghost use Rattle.bidi_browser.specs.Contexts.{is_alive};
-ghost use Rattle.bidi_browser.specs.ContextRows.{row_of, row_at};
+ghost use Rattle.bidi_browser.specs.ContextRows.{row_of, row_at, held_in_row};
 ghost use Rattle.bidi_browser.specs.Realms.{realm_of, value_of};
-ghost use Rattle.bidi_browser.specs.Runs.{HasRun, IsEnding, IsNextHandle};
+ghost use Rattle.bidi_browser.specs.Runs.{HasReturned, HasRun, IsEnding, IsNextHandle};
 ghost use Rattle.bidi_browser.specs.TableInHand.{ending_seen};
-ghost use Rattle.bidi_browser.specs.ValuesInHand.{held_tree};
+ghost use Rattle.bidi_browser.specs.Values.{arguments};
+ghost use Rattle.bidi_browser.specs.ValuesInHand.{held_tree, local_tree};
 ghost use Rattle.bidi_browser.specs.declared.refusal.Refusal.TheVariants as refused;
-ghost use Rattle.bidi_tree.specs.Node.{levels};
+ghost use Rattle.bidi_tree.specs.Node.{Node, levels};
 ghost use Rattle.bidi_browser.specs.Found.{IsTargeted};
 ghost use Rattle.bidi_browser.specs.Outcome.{realm_targeted, undefined};
 ghost use Rattle.bidi_browser.specs.Plans.{HasIds, Plans, IsWellPlanned};
@@ -23,13 +24,14 @@ use crate::handle::{Ending, Handle, HeldValue, ThrownValue};
 use crate::looking::{answered, context_named, nothing};
 use crate::plan::{Edit, Plan};
 use crate::refusal::Refusal;
+use crate::resolving::given_back;
 use crate::script_table::ScriptRow;
 use crate::showing::{takes_handle, told};
 use crate::tabling::held;
 use bidi_messages::{ErrorCode, ResultData};
 use bidi_params::{DisownParameters, EvaluateParameters, Ownership};
 use bidi_shape::Shape;
-use bidi_values::{EvaluateResult, Primitive, RemotePlain, RemoteValue, Target};
+use bidi_values::{EvaluateResult, LocalValue, Primitive, RemotePlain, RemoteValue, Target};
 use std::alloc::{AllocError, Global};
 use std::rc::Rc;
 
@@ -38,8 +40,8 @@ const MOST_HANDLES: usize = 1000;
 
 /// What a script came to: its result, and what it changes.
 pub(crate) struct Ran {
-    result: EvaluateResult,
-    edit: Edit,
+    pub result: EvaluateResult,
+    pub edit: Edit,
 }
 
 /// Runs a script in the realm of a target, as the table says.
@@ -55,26 +57,68 @@ pub(crate) fn plan_evaluate(browser: &Browser, params: &EvaluateParameters) -> R
     ensures well { IsWellPlanned result }
 {
     let context = targeted(&browser.contexts, &params.target)?;
-    let ending = ending_of(browser, &params.expression)?;
+    let ending = evaluated(browser, context, &params.expression)?;
     let Ran { result, edit } = run(browser, context, ending, is_owned(params.result_ownership))?;
     Ok(answered(browser.alloc, ResultData::ScriptEvaluate(result), edit))
 }
 
-// Whether a value is to be owned.
-fn is_owned(ownership: Option<Ownership>) -> bool
+/// Whether a value is to be owned; absent, it is not.
+pub(crate) fn is_owned(ownership: Option<Ownership>) -> bool
     ensures { result ≡ is_owned ownership }
 {
     matches!(ownership, Some(Ownership::Root))
 }
 
-// How a script of that text ends, where it has no arguments.
-fn ending_of(browser: &Browser, script: &String) -> Result<Ending, Refusal>
-    ensures { (past : List Act) → StandsFor browser.now past → IsEnding result past (string_bytes script.now) }
+// How a script of that text ends, which has no arguments.
+fn evaluated(browser: &Browser, context: &Context, script: &String) -> Result<Ending, Refusal>
+    ensures { (past : List Act) → StandsFor browser.now past → IsEnding result past (string_bytes script.now) [] }
+{
+    ending_of(browser, context, script, &[])
+}
+
+/// How a script of that text ends, where it may have these arguments.
+///
+/// # Errors
+/// - `unsupported operation`: the table has no row of it.
+/// - No memory, where a growth was refused.
+pub(crate) fn ending_of(
+    browser: &Browser,
+    context: &Context,
+    script: &String,
+    values: &[LocalValue],
+) -> Result<Ending, Refusal>
+    ensures { (past : List Act) (vs : List Node) → StandsFor browser.now past
+        → arguments (held_in_row (row_of context.now)) (map local_tree values.now) ≡ Ok vs → IsEnding result past (string_bytes script.now) vs }
 {
     match browser.table.get(script) {
         Some(ScriptRow::EndsIn(ending)) => Ok(share(ending)?),
-        Some(ScriptRow::GivesBack(_)) => Ok(Ending::Returned(undefined(browser.alloc)?)),
+        Some(ScriptRow::GivesBack(place)) => returned(browser.alloc, context, values, *place),
         None => Err(Refusal::Code(ErrorCode::UnsupportedOperation)),
+    }
+}
+
+// The ending that gives an argument back; where there is none of that place, it is undefined.
+fn returned(
+    alloc: Global,
+    context: &Context,
+    values: &[LocalValue],
+    place: u64,
+) -> Result<Ending, Refusal>
+    ensures { (vs : List Node) → arguments (held_in_row (row_of context.now)) (map local_tree values.now) ≡ Ok vs → HasReturned result (unwrap_or (slice_get vs place) undefined) }
+{
+    match at(values, place) {
+        Some(value) => Ok(Ending::Returned(given_back(alloc, context, value)?)),
+        None => Ok(Ending::Returned(undefined(alloc)?)),
+    }
+}
+
+// The argument of that place, counted from 0.
+fn at(values: &[LocalValue], place: u64) -> Option<&LocalValue>
+    ensures { option_map (λ v. v.now) result ≡ slice_get values.now place }
+{
+    match usize::try_from(place) {
+        Ok(place) => values.get(place),
+        Err(_) => None,
     }
 }
 
@@ -101,8 +145,17 @@ fn undefined(alloc: Global) -> Result<Rc<HeldValue>, Refusal>
     )
 }
 
-// What a script comes to that ended in the realm of a context.
-fn run(browser: &Browser, context: &Context, ending: Ending, owned: bool) -> Result<Ran, Refusal>
+/// What a script comes to that ended in the realm of a context.
+///
+/// # Errors
+/// - `unknown error`: its value is to be owned, beside 1,000 in its realm.
+/// - No memory, where a growth was refused.
+pub(crate) fn run(
+    browser: &Browser,
+    context: &Context,
+    ending: Ending,
+    owned: bool,
+) -> Result<Ran, Refusal>
     ensures ran { (past : List Act) (c : ℕ) → StandsFor browser.now past → HasIds past → is_alive past c ≡ true → row_of context.now ≡ row_at past c → HasRun result past c owned (ending_seen ending) }
     ensures well { IfOk result (λ ran. ⟦<EvaluateResult as Shape>⟧.shape.well ran.result × (levels (⟦<EvaluateResult as Shape>⟧.shape.tree_of ran.result) ≤ 61)) }
 {
@@ -158,7 +211,7 @@ fn into_value(ending: Ending) -> Rc<HeldValue>
 
 /// Takes handles out of the realm of a target. Those that hold no value there change nothing.
 ///
-/// Costs a comparison of each handle of the realm with each that is given back.
+/// Sorts the numbers that are given back, and looks for that of each handle of the realm among them by halves.
 ///
 /// # Errors
 /// - What its target is refused for.
@@ -179,7 +232,10 @@ pub(crate) fn plan_disown(browser: &Browser, params: &DisownParameters) -> Resul
 /// # Errors
 /// - `no such frame`: no context, or no realm, has that id.
 /// - `unsupported operation`: the target is a sandbox, which is any but that of the empty name.
-fn targeted<'a>(contexts: &'a Contexts, target: &Target) -> Result<&'a Context, ErrorCode>
+pub(crate) fn targeted<'a>(
+    contexts: &'a Contexts,
+    target: &Target,
+) -> Result<&'a Context, ErrorCode>
     ensures { (past : List Act) → IsTableOf contexts.now past → IsTargeted result past (realm_targeted past (target_of target.now)) }
 {
     match target {

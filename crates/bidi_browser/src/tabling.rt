@@ -13,6 +13,7 @@ ghost use Rattle.bidi_tree.specs.Node.{levels};
 
 use crate::browser::Browser;
 use crate::handle::{Ending, HeldValue, ThrownValue};
+use crate::measuring::size_of;
 use crate::plan::{Change, Edit, Plan};
 use crate::refusal::Refusal;
 use crate::script_table::ScriptRow;
@@ -114,5 +115,6 @@ pub(crate) fn held(alloc: Global, value: RemoteValue) -> Result<Rc<HeldValue>, R
     ensures ok { IfOk result (λ held. held.value.value ≡ value) }
     ensures err { IfErr result (λ e. e ≡ Refusal.NoMemory) }
 {
-    Ok(Rc::new(alloc, HeldValue { value })?)
+    let size = size_of(&value.to_tree(alloc)?);
+    Ok(Rc::new(alloc, HeldValue { value, size })?)
 }

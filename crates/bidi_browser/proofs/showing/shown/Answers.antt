@@ -1,4 +1,4 @@
-use Rattle.std.proofs.Common.{◌≤◌, string_bytes, sym, ap, subst, arith}
+use Rattle.std.proofs.Common.{string_bytes, ap, arith}
 use Rattle.bidi_tree.specs.Node.{levels}
 use Rattle.bidi_browser.specs.ValuesInHand.{remote_tree}
 use Rattle.bidi_browser.proofs.WellLemmas.{remote-well, with_member-levels}

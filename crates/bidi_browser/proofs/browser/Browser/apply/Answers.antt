@@ -1,10 +1,9 @@
-use Rattle.std.proofs.Common.{◌∙◌, sym, ap₂, subst}
-use Rattle.std.specs.Prelude.{ℕ, Vec, string_bytes}
-use Rattle.std.specs.declared.alloc.Global.{Global}
+use Rattle.std.proofs.Common.{◌∙◌, sym, ap, ap₂, subst}
+use Rattle.std.specs.Prelude.{ℕ, string_bytes}
 use Rattle.std.proofs.Common.{rules, arith}
+use Rattle.bidi_tree.specs.Node.{Node}
 use Rattle.bidi_browser.specs.Acts.{Tabled}
 use Rattle.bidi_browser.specs.declared.id.Kind.TheVariants.{Handle}
-use Rattle.bidi_browser.specs.ValuesInHand.{handle_seen}
 use Rattle.bidi_browser.specs.TableInHand.{row_seen}
 use Rattle.bidi_browser.specs.declared.plan.Navigation.{Navigation}
 use Rattle.bidi_browser.specs.Plans.{EditMakes, EditHasRoom, HasRoomIn, HasRoomForHandle}
@@ -29,8 +28,9 @@ hold-requires c = subst (λ number. HasRoomForHandle c.args.self.now.contexts nu
 pub returns-in-Hold : goal.returns-in-Hold
 returns-in-Hold c = λ past action act stands ids accepted makes.
     let is = subst (λ e. EditMakes e past act) c.in-Hold.is makes in
+    let number = ap (λ (held : ℕ × Node). held.0) is.3 in
     held-stands c.args.self.now c.hold.new.self _ past action c.in-Hold.number is.0 act _ is.2 is.1 (search (rules, c.in-Hold.handle-is, c.in-Hold.is, is.3)) accepted stands
-    (let fits = ids Handle in let next = stands.next_handle in omega (arith, fits, next)) c.hold.ensures
+    (let fits = ids Handle in let next = stands.next_handle in omega (arith, fits, next)) (c.hold.ensures past stands.contexts (rw c.in-Hold.is (omega (arith, number))))
 
 pub returns-in-Disown : goal.returns-in-Disown
 returns-in-Disown c = λ past action act stands ids accepted makes.

@@ -1,0 +1,75 @@
+//! The plan of a call of a function.
+ghost use Rattle.std.specs.Prelude.{◌≡◌, ℕ, List, map, option_map, string_bytes};
+ghost use Rattle.bidi_browser.specs.Acts.{Act};
+ghost use Rattle.bidi_browser.specs.Asked.{arguments_asked, call_function_asked};
+ghost use Rattle.bidi_browser.specs.ContextRows.{row_of, row_at};
+ghost use Rattle.bidi_browser.specs.Plans.{HasIds, Plans, IsWellPlanned};
+ghost use Rattle.bidi_browser.specs.Realms.{realm_of};
+ghost use Rattle.bidi_browser.specs.Resolves.{Gives};
+ghost use Rattle.bidi_browser.specs.Runs.{call_ending};
+ghost use Rattle.bidi_browser.specs.Stands.{StandsFor};
+ghost use Rattle.bidi_browser.specs.TableInHand.{ending_seen};
+ghost use Rattle.bidi_browser.specs.ValuesInHand.{local_tree};
+
+use crate::browser::Browser;
+use crate::contexts::Context;
+use crate::handle::Ending;
+use crate::looking::answered;
+use crate::plan::Plan;
+use crate::refusal::Refusal;
+use crate::resolving::{check_arguments, check_this};
+use crate::scripts::{Ran, ending_of, is_owned, run, targeted};
+use bidi_messages::ResultData;
+use bidi_params::CallFunctionParameters;
+use bidi_values::LocalValue;
+
+/// Calls a function in the realm of a target, as the table says.
+///
+/// Costs a tree of each argument and of `this`; what a handle holds was measured when it came to be held. The one
+/// argument that is given back is built, with copies of what its handles hold.
+///
+/// # Errors
+/// The first that holds:
+/// - What its target is refused for.
+/// - What an argument is refused for, in their order, and then `this`.
+/// - `unsupported operation`: the table has no row of its text.
+/// - `unknown error`: its value is to be owned, beside 1,000 in its realm.
+/// - No memory, where a growth was refused.
+pub(crate) fn plan_call_function(
+    browser: &Browser,
+    params: &CallFunctionParameters,
+) -> Result<Plan, Refusal>
+    ensures plans { (past : List Act) (moment : ℕ) → StandsFor browser.now past → HasIds past → Plans result past moment (call_function_asked params.now) }
+    ensures well { IsWellPlanned result }
+{
+    let context = targeted(&browser.contexts, &params.target)?;
+    let ending = called(browser, context, params)?;
+    let Ran { result, edit } = run(browser, context, ending, is_owned(params.result_ownership))?;
+    let result = ResultData::ScriptCallFunction(result);
+    Ok(answered(browser.alloc, result, edit))
+}
+
+// How a function ends that is called in the realm of a context: its arguments and `this` are looked at before its row.
+fn called(
+    browser: &Browser,
+    context: &Context,
+    params: &CallFunctionParameters,
+) -> Result<Ending, Refusal>
+    ensures { (past : List Act) (c : ℕ) → StandsFor browser.now past → row_of context.now ≡ row_at past c
+        → Gives ending_seen result (call_ending past (realm_of past c) (string_bytes params.now.function_declaration) (arguments_asked params.now) (option_map local_tree params.now.this)) }
+{
+    let arguments = arguments_of(params);
+    check_arguments(browser.alloc, context, arguments)?;
+    check_this(browser.alloc, context, &params.this)?;
+    ending_of(browser, context, &params.function_declaration, arguments)
+}
+
+// The arguments; absent, there are none.
+fn arguments_of(params: &CallFunctionParameters) -> &[LocalValue]
+    ensures { map local_tree result.now ≡ arguments_asked params.now }
+{
+    match &params.arguments {
+        Some(values) => values.as_slice(),
+        None => &[],
+    }
+}

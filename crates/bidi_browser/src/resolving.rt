@@ -1,0 +1,273 @@
+//! Local values as remote ones, with what handles hold in place of references.
+//!
+//! A value is measured before anything is built of it, and built only where a script gives it back.
+ghost use Rattle.std.specs.Prelude.{◌≡◌, IfOk, map, option_map};
+ghost use Rattle.bidi_messages.specs.declared.error_code.ErrorCode.TheVariants.{NoSuchHandle};
+ghost use Rattle.bidi_tree.specs.View.{items_of};
+ghost use Rattle.bidi_browser.specs.Checks.{found};
+ghost use Rattle.bidi_browser.specs.ContextRows.{row_of, held_in_row};
+ghost use Rattle.bidi_browser.specs.Resolves.{Gives, IsSized, Passes, this_argument};
+ghost use Rattle.bidi_browser.specs.Values.{resolved, resolved_items, argument, arguments};
+ghost use Rattle.bidi_browser.specs.ValuesInHand.{local_tree, local_pair_tree, local_key_tree, remote_tree, remote_trees, remote_pair_tree, remote_pair_trees, remote_key_tree, shared_tree};
+
+use crate::contexts::Context;
+use crate::handle::HeldValue;
+use crate::measuring::measured;
+use crate::refusal::Refusal;
+use crate::size::Size;
+use bidi_messages::ErrorCode;
+use bidi_shape::Shape;
+use bidi_values::{
+    LocalKey, LocalPair, LocalPlain, LocalValue, Nested, NestedKey, NestedPair, Primitive,
+    Reference, RegExpValue, RemoteDate, RemoteKey, RemoteList, RemoteObjectReference, RemotePair,
+    RemotePairs, RemotePlain, RemoteRegExp, RemoteValue,
+};
+use std::alloc::{AllocError, Global};
+use std::rc::Rc;
+
+/// The most levels of an argument, with what its handles hold.
+const MOST_LEVELS: u64 = 60;
+
+/// The most bytes of its compact text.
+const MOST_BYTES: u64 = 1_048_576;
+
+/// Whether a script may have these arguments, in their order.
+///
+/// Builds nothing. Costs a tree of each, and a look-up of each reference.
+///
+/// # Errors
+/// That of the first argument that has one, which is the first of these that holds:
+/// - `no such node`, `no such handle`: a reference in it is by a shared id, or by a handle that is not of the realm;
+///   the first such reference, in the order of lists, and in a pair the key first.
+/// - `unknown error`: it has more than 60 levels, or its compact text more than 1,048,576 bytes.
+/// - No memory, where a growth was refused.
+pub(crate) fn check_arguments(
+    alloc: Global,
+    context: &Context,
+    values: &[LocalValue],
+) -> Result<(), Refusal>
+    ensures { Passes result (arguments (held_in_row (row_of context.now)) (map local_tree values.now)) }
+{
+    for value in values {
+        sized(alloc, context, value)?;
+    }
+    Ok(())
+}
+
+/// Whether it may have this value as its `this`, where one is given.
+pub(crate) fn check_this(
+    alloc: Global,
+    context: &Context,
+    this: &Option<LocalValue>,
+) -> Result<(), Refusal>
+    ensures { Passes result (this_argument (held_in_row (row_of context.now)) (option_map local_tree this.now)) }
+{
+    match this {
+        Some(value) => {
+            sized(alloc, context, value)?;
+            Ok(())
+        }
+        None => Ok(()),
+    }
+}
+
+/// The value that an argument stands for, to be shared.
+///
+/// # Errors
+/// As of [`check_arguments`].
+pub(crate) fn given_back(
+    alloc: Global,
+    context: &Context,
+    value: &LocalValue,
+) -> Result<Rc<HeldValue>, Refusal>
+    ensures { Gives shared_tree result (argument (held_in_row (row_of context.now)) (local_tree value.now)) }
+{
+    let size = sized(alloc, context, value)?;
+    let value = resolved(alloc, context, value)?;
+    Ok(Rc::new(alloc, HeldValue { value, size })?)
+}
+
+// The size of the value that an argument stands for, where it is within the limits.
+fn sized(alloc: Global, context: &Context, value: &LocalValue) -> Result<Size, Refusal>
+    ensures { IsSized result (argument (held_in_row (row_of context.now)) (local_tree value.now)) }
+{
+    let tree = value.to_tree(alloc)?;
+    let size = measured(Some(context), &tree)?;
+    if size.levels <= MOST_LEVELS && size.bytes <= MOST_BYTES {
+        Ok(size)
+    } else {
+        Err(Refusal::Code(ErrorCode::UnknownError))
+    }
+}
+
+// The remote value of the same type and content, with copies of what handles hold.
+#[cycle(resolve)]
+fn resolved(alloc: Global, context: &Context, value: &LocalValue) -> Result<RemoteValue, Refusal>
+    ensures { Gives remote_tree result (resolved (held_in_row (row_of context.now)) (local_tree value.now)) }
+{
+    match value {
+        Nested::Plain(plain) => resolved_plain(alloc, context, plain),
+        Nested::List(kind, values) => {
+            let values = resolved_values(alloc, context, values)?;
+            let beside = RemoteList {
+                kind: *kind,
+                handle: None,
+                internal_id: None,
+            };
+            Ok(Nested::List(beside, values))
+        }
+        Nested::Pairs(kind, pairs) => {
+            let pairs = resolved_pairs(alloc, context, pairs)?;
+            let beside = RemotePairs {
+                kind: *kind,
+                handle: None,
+                internal_id: None,
+            };
+            Ok(Nested::Pairs(beside, pairs))
+        }
+    }
+}
+
+#[cycle(resolve)]
+fn resolved_values(
+    alloc: Global,
+    context: &Context,
+    values: &Vec<LocalValue>,
+) -> Result<Vec<RemoteValue>, Refusal>
+    ensures { Gives remote_trees result (resolved_items (held_in_row (row_of context.now)) (items_of (map local_tree values.now.items))) }
+{
+    let mut all = Vec::with_capacity(alloc, values.len())?;
+    for value in values {
+        all.push(resolved(alloc, context, value)?)?;
+    }
+    Ok(all)
+}
+
+#[cycle(resolve)]
+fn resolved_pairs(
+    alloc: Global,
+    context: &Context,
+    pairs: &Vec<LocalPair>,
+) -> Result<Vec<RemotePair>, Refusal>
+    ensures { Gives remote_pair_trees result (resolved_items (held_in_row (row_of context.now)) (items_of (map local_pair_tree pairs.now.items))) }
+{
+    let mut all = Vec::with_capacity(alloc, pairs.len())?;
+    for pair in pairs {
+        all.push(resolved_pair(alloc, context, pair)?)?;
+    }
+    Ok(all)
+}
+
+#[cycle(resolve)]
+fn resolved_pair(alloc: Global, context: &Context, pair: &LocalPair) -> Result<RemotePair, Refusal>
+    ensures { Gives remote_pair_tree result (resolved (held_in_row (row_of context.now)) (local_pair_tree pair.now)) }
+{
+    let key = resolved_key(alloc, context, &pair.key)?;
+    let value = resolved(alloc, context, &pair.value)?;
+    Ok(NestedPair { key, value })
+}
+
+#[cycle(resolve)]
+fn resolved_key(alloc: Global, context: &Context, key: &LocalKey) -> Result<RemoteKey, Refusal>
+    ensures { Gives remote_key_tree result (resolved (held_in_row (row_of context.now)) (local_key_tree key.now)) }
+{
+    match key {
+        NestedKey::Value(value) => {
+            let value = resolved(alloc, context, value)?;
+            Ok(NestedKey::Value(value))
+        }
+        NestedKey::Text(text) => Ok(NestedKey::Text(text.clone()?)),
+    }
+}
+
+// The same of a value that holds no other.
+fn resolved_plain(
+    alloc: Global,
+    context: &Context,
+    plain: &LocalPlain,
+) -> Result<RemoteValue, Refusal>
+    ensures { Gives remote_tree result (resolved (held_in_row (row_of context.now)) (⟦<LocalPlain as Shape>⟧.shape.tree_of plain.now)) }
+{
+    match plain {
+        LocalPlain::Reference(reference) => referred(alloc, context, reference),
+        LocalPlain::Primitive(primitive) => {
+            let copy = copy_primitive(primitive)?;
+            Ok(Nested::Plain(RemotePlain::Primitive(copy)))
+        }
+        LocalPlain::Date(date) => {
+            let date = RemoteDate {
+                value: date.clone()?,
+                handle: None,
+                internal_id: None,
+            };
+            Ok(Nested::Plain(RemotePlain::Date(date)))
+        }
+        LocalPlain::RegExp(reg_exp) => {
+            let reg_exp = RemoteRegExp {
+                value: copy_reg_exp(reg_exp)?,
+                handle: None,
+                internal_id: None,
+            };
+            Ok(Nested::Plain(RemotePlain::RegExp(reg_exp)))
+        }
+    }
+}
+
+// What a reference stands for: by a shared id there is no node.
+fn referred(alloc: Global, context: &Context, reference: &Reference) -> Result<RemoteValue, Refusal>
+    ensures { Gives remote_tree result (resolved (held_in_row (row_of context.now)) (⟦<Reference as Shape>⟧.shape.tree_of reference.now)) }
+{
+    match reference {
+        Reference::Shared(_) => Err(Refusal::Code(ErrorCode::NoSuchNode)),
+        Reference::RemoteObject(object) => held_by(alloc, context, object),
+    }
+}
+
+// The value that is held by the handle of a reference, where it names no shared id, not even as a further member.
+fn held_by(
+    alloc: Global,
+    context: &Context,
+    object: &RemoteObjectReference,
+) -> Result<RemoteValue, Refusal>
+    ensures { Gives remote_tree result (resolved (held_in_row (row_of context.now)) (⟦<RemoteObjectReference as Shape>⟧.shape.tree_of object.now)) }
+{
+    if object.to_tree(alloc)?.get("sharedId").is_some() {
+        return Err(Refusal::Code(ErrorCode::NoSuchNode));
+    }
+    copy_held(alloc, context, &object.handle)
+}
+
+// A copy of the value that a handle holds.
+fn copy_held(alloc: Global, context: &Context, handle: &str) -> Result<RemoteValue, Refusal>
+    ensures { Gives remote_tree result (found (held_in_row (row_of context.now) handle.now) NoSuchHandle) }
+{
+    match context.held(handle) {
+        Some(held) => Ok(held.value.copy(alloc)?),
+        None => Err(Refusal::Code(ErrorCode::NoSuchHandle)),
+    }
+}
+
+fn copy_primitive(primitive: &Primitive) -> Result<Primitive, AllocError>
+    ensures { IfOk result (λ p. ⟦<Primitive as Shape>⟧.shape.tree_of p ≡ ⟦<Primitive as Shape>⟧.shape.tree_of primitive.now) }
+{
+    match primitive {
+        Primitive::Undefined => Ok(Primitive::Undefined),
+        Primitive::Null => Ok(Primitive::Null),
+        Primitive::String(text) => Ok(Primitive::String(text.clone()?)),
+        Primitive::Number(number) => Ok(Primitive::Number(*number)),
+        Primitive::Boolean(boolean) => Ok(Primitive::Boolean(*boolean)),
+        Primitive::BigInt(digits) => Ok(Primitive::BigInt(digits.clone()?)),
+    }
+}
+
+fn copy_reg_exp(reg_exp: &RegExpValue) -> Result<RegExpValue, AllocError>
+    ensures { IfOk result (λ r. ⟦<RegExpValue as Shape>⟧.shape.tree_of r ≡ ⟦<RegExpValue as Shape>⟧.shape.tree_of reg_exp.now) }
+{
+    Ok(RegExpValue {
+        pattern: reg_exp.pattern.clone()?,
+        flags: match &reg_exp.flags {
+            Some(flags) => Some(flags.clone()?),
+            None => None,
+        },
+    })
+}
