@@ -12,11 +12,10 @@ use Rattle.bidi_messages.proofs.VerdictLemmas.{one_verdict}
 use Rattle.bidi_remote.specs.Machine.Step as step
 use Rattle.bidi_remote.specs.Machine.Step.{Step}
 use Rattle.bidi_remote.specs.Machine.History.{Input, Heard, InPage, IsRow, is_row, is_not_json, is_no_row, IsHeardAs, AreHeardAs}
-use Rattle.bidi_remote.specs.Machine.Built.{all_so_far, all_so_far_after}
 use Rattle.bidi_remote.specs.Machine.Sent.{Sent, answers, answers_after}
 use Rattle.bidi.specs.Lines.{ended, sent_line, written}
 use Rattle.bidi.specs.Plays.{Plays, PlaysPart}
-use Rattle.bidi.proofs.AnswerLemmas.{answers_so_far}
+use Rattle.bidi.proofs.AnswerLemmas.{answers_append}
 use Rattle.bidi.proofs.ReadingLemmas.{front_steps, all_steps}
 
 -- a text has one verdict
@@ -73,7 +72,7 @@ pub one_text : OneVerdict → (bytes text other : List ℕ) → Plays bytes text
 one_text one bytes text other (steps, rest, p, none) (others, end, q, end_none) =
     let same = all_steps steps others rest end p.each q.each (sym p.lines ∙ q.lines) none end_none in
     let heard = subst (λ (ss : List Step). AreHeardAs ss q.inputs) (sym same) q.heard in
-    p.answer ∙ (ap (λ (is : List Input). written (answers (all_so_far is))) (one_inputs one steps p.inputs q.inputs p.heard heard) ∙ sym q.answer)
+    p.answer ∙ (ap (λ (is : List Input). written (answers is)) (one_inputs one steps p.inputs q.inputs p.heard heard) ∙ sym q.answer)
 
 -- what was written for some of its lines is a beginning of it
 pub begins_text : OneVerdict → (bytes wrote text : List ℕ) → PlaysPart bytes wrote → Plays bytes text → (more : List ℕ) × (text ≡ wrote ++ more)
@@ -81,12 +80,11 @@ begins_text one bytes wrote text (steps, rest, whole, more, p, e) (all, end, q, 
     let front = front_steps steps all rest end p.each q.each (sym p.lines ∙ q.lines) none in
     let heard = subst (λ (ss : List Step). AreHeardAs ss q.inputs) front.1 q.heard in
     let later = front_inputs one steps front.0 p.inputs q.inputs p.heard heard in
-    let built = all_so_far p.inputs in
-    let next = answers_after (reverse built) (all_so_far_after (reverse built) later.0) in
+    let next = answers_after (reverse p.inputs) later.0 in
     let behind = written next in (
       more ++ behind,
-      q.answer ∙ (ap (λ (is : List Input). written (answers (all_so_far is))) later.1
-          ∙ (ap written (answers_so_far p.inputs later.0) ∙ (flat_map-append (λ (z : Sent). ended (sent_line z)) (answers built) next
+      q.answer ∙ (ap (λ (is : List Input). written (answers is)) later.1
+          ∙ (ap written (answers_append p.inputs later.0) ∙ (flat_map-append (λ (z : Sent). ended (sent_line z)) (answers p.inputs) next
           ∙ (ap (λ (t : List ℕ). t ++ behind) (sym p.answer ∙ e) ∙ append_assoc wrote more behind)))),
     )
 

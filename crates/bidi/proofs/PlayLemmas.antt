@@ -5,7 +5,6 @@ use Rattle.std.specs.List.{AllByRecursion}
 use Rattle.std.proofs.lemmas.Grind.{flat_map-append}
 use Rattle.bidi_remote.specs.Machine.Step.{Step}
 use Rattle.bidi_remote.specs.Machine.History.{Input, IsHeardAs, AreHeardAs}
-use Rattle.bidi_remote.specs.Machine.Built.{all_so_far}
 use Rattle.bidi_remote.specs.Machine.Sent.{Sent, answers, out}
 use Rattle.bidi_remote.specs.Tables.Messages.{AllReadBack}
 use Rattle.bidi.specs.Lines.{line_of, ended, said, CanBeSaid, has_feed, written, sent_line}
@@ -13,7 +12,7 @@ use Rattle.bidi.specs.Plays.{Play, PlaysPart, HasNoPlayLine, StopsAt}
 use Rattle.bidi.specs.Faults.{play_fault_of}
 use Rattle.bidi_remote.specs.declared.remote_end.RemoteFault.{RemoteFault}
 use Rattle.bidi_remote.specs.declared.remote_end.RemoteFault.TheVariants as remote
-use Rattle.bidi.proofs.AnswerLemmas.{last_so_far, answers_more}
+use Rattle.bidi.proofs.AnswerLemmas.{answers_more}
 use Rattle.bidi.proofs.FeedLemmas.{one_front}
 
 pub all_more : (steps : List Step) (s : Step) → AllByRecursion CanBeSaid steps → CanBeSaid s → AllByRecursion CanBeSaid (steps ++ s ∷ [])
@@ -38,10 +37,10 @@ regroup front line more =
 
 -- a play that goes on by one line
 unfoldable pub play_more : (bytes rest line more : List ℕ) (steps : List Step) (text : List ℕ) (s : Step) (i : Input) (p : Play bytes steps rest text)
-    → rest ≡ line ++ 10 ∷ more → line ≡ line_of s → CanBeSaid s → IsHeardAs s i → AllReadBack (out (reverse (all_so_far p.inputs)) (last_so_far p.inputs i))
-    → Play bytes (steps ++ s ∷ []) more (text ++ written (out (reverse (all_so_far p.inputs)) (last_so_far p.inputs i)))
+    → rest ≡ line ++ 10 ∷ more → line ≡ line_of s → CanBeSaid s → IsHeardAs s i → AllReadBack (out (reverse p.inputs) i)
+    → Play bytes (steps ++ s ∷ []) more (text ++ written (out (reverse p.inputs) i))
 play_more bytes rest line more steps text s i p r l c h reads =
-    let next = out (reverse (all_so_far p.inputs)) (last_so_far p.inputs i) in
+    let next = out (reverse p.inputs) i in
     let say : Step → List ℕ = λ z. ended (line_of z) in
     record {
       lines = p.lines ∙ (ap (λ (z : List ℕ). said steps ++ z) (r ∙ ap (λ (z : List ℕ). z ++ 10 ∷ more) l)
@@ -50,8 +49,8 @@ play_more bytes rest line more steps text s i p r l c h reads =
       inputs = p.inputs ++ i ∷ [];
       heard = heard_more steps p.inputs s i p.heard h;
       answer = ap (λ (z : List ℕ). z ++ written next) p.answer
-          ∙ sym (ap written (answers_more p.inputs i) ∙ flat_map-append (λ (z : Sent). ended (sent_line z)) (answers (all_so_far p.inputs)) next);
-      reads_back = subst AllReadBack (sym (answers_more p.inputs i)) (read_more (answers (all_so_far p.inputs)) next p.reads_back reads);
+          ∙ sym (ap written (answers_more p.inputs i) ∙ flat_map-append (λ (z : Sent). ended (sent_line z)) (answers p.inputs) next);
+      reads_back = subst AllReadBack (sym (answers_more p.inputs i)) (read_more (answers p.inputs) next p.reads_back reads);
     }
 
 -- as many steps as inputs

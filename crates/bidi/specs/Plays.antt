@@ -6,20 +6,19 @@ use Rattle.bidi.specs.declared.playing.PlayFault.{PlayFault}
 use Rattle.bidi.specs.declared.playing.PlayFault.TheVariants.{Read, Write, BadLine, NoMemory, WornOut}
 use Rattle.bidi_remote.specs.Machine.Step.{Step}
 use Rattle.bidi_remote.specs.Machine.History.{Input, AreHeardAs}
-use Rattle.bidi_remote.specs.Machine.Built.{all_so_far}
 use Rattle.bidi_remote.specs.Machine.Sent.{answers}
 use Rattle.bidi_remote.specs.Tables.Messages.{AllReadBack}
 use Rattle.bidi.specs.Lines.{line_of, CanBeSaid, has_feed, ended, said, written}
 
--- The bytes begin with the lines of these steps, with this rest behind them, and the text is the lines of what the machine answers to the steps, as far as it is built.
+-- The bytes begin with the lines of these steps, with this rest behind them, and the text is the lines of what the machine answers to the steps.
 -- Each text that the machine sends is that of a message, and reads back as it.
 pub record Play (bytes : List ℕ) (steps : List Step) (rest : List ℕ) (text : List ℕ) : Type 0 where
   pub lines : bytes ≡ said steps ++ rest
   pub each : AllByRecursion CanBeSaid steps
   pub inputs : List Input
   pub heard : AreHeardAs steps inputs
-  pub answer : text ≡ written (answers (all_so_far inputs))
-  pub reads_back : AllReadBack (answers (all_so_far inputs))
+  pub answer : text ≡ written (answers inputs)
+  pub reads_back : AllReadBack (answers inputs)
 
 -- no play line stands at the front of the bytes
 abbrev pub HasNoPlayLine : List ℕ → Type 0

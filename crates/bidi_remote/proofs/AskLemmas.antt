@@ -1,7 +1,6 @@
 -- What the tree of a command in hand asks.
-use Rattle.std.proofs.Common.{◌≡◌, ◌∙◌, ℕ, pos, List, unwrap_or, option_map, option_and_then, refl, ap, ap₂}
-use Rattle.std.specs.Prelude.{Bool, codes, bytes_eq}
-use Rattle.std.specs.List.{list_any}
+use Rattle.std.proofs.Common.{◌≡◌, ◌∙◌, pos, Some, unwrap_or, option_map, option_and_then, refl, ap, ap₂}
+use Rattle.std.specs.Prelude.{codes}
 use Rattle.bidi_shape.specs.ValueLaws.{others_of}
 use Rattle.bidi_tree.specs.Node.{Node, whole, text, put}
 use Rattle.bidi_tree.specs.Kind.{whole_in}
@@ -15,41 +14,35 @@ use Rattle.bidi_messages.specs.declared.command.Command as declared_command
 use Rattle.bidi_messages.specs.declared.command.CommandData.{CommandData}
 use Rattle.bidi_messages.specs.declared.command.CommandData.TheVariants as Of
 use Rattle.bidi_messages.proofs.CommandLemmas.{method_in-tree, params_in-tree}
-use Rattle.bidi_browser.specs.Params.{natural, text_at}
-use Rattle.bidi_remote.specs.Machine.Commands.{command_in, command_of, id_of_command}
-use Rattle.bidi_remote.specs.Machine.Built.{built_methods}
-use Rattle.bidi_remote.specs.Tables.Asked.{asked_of, IsWellAsked, AsksWhat, Asks}
+use Rattle.bidi_browser.specs.Params.{natural}
+use Rattle.bidi_remote.specs.Machine.Commands.{command_in, id_of_command}
+use Rattle.bidi_remote.specs.Tables.Asked.{asked_of, IsWellAsked, Asks}
 use Rattle.bidi_remote.proofs.SubscribeAskLemmas.{subscribe-asks, unsubscribe-asks}
 use Rattle.bidi_remote.proofs.BrowserAskLemmas.{activate-asks, close-asks, create-asks, get_tree-asks, navigate-asks, reload-asks, traverse-asks, get_realms-asks}
-use Rattle.bidi_remote.proofs.TargetAskLemmas.{evaluate-asks, disown-asks}
+use Rattle.bidi_remote.proofs.TargetAskLemmas.{evaluate-asks, call-asks, disown-asks}
 
 -- the tree of a command
 abbrev pub tree_of : declared_command.Command → Node
 tree_of c = ghosts.shape.tree_of c
 
--- by the text of its method, whether it is built
-abbrev is_built_text : List ℕ → Bool
-is_built_text method = list_any (λ name. bytes_eq (codes name) method) built_methods
-
--- a tree of this method, with these params, asks what a command in hand asks
-what : (t : Node) (d : CommandData) → asks.ghosts.subject.well d → text_at "method" t ≡ method_text (method_of d) → command_of t ≡ command_in (method_text (method_of d)) (asks.ghosts.subject.tree_of d)
-    → AsksWhat t (asked_of params.ghosts.shape d)
-what t (Of.SessionStatus p) w m e = (e, ap is_built_text m)
-what t (Of.SessionNew p) w m e = (e, ap is_built_text m)
-what t (Of.SessionEnd p) w m e = (e, ap is_built_text m)
-what t (Of.SessionSubscribe p) w m e = (e ∙ subscribe-asks p w, ap is_built_text m)
-what t (Of.SessionUnsubscribe p) w m e = (e ∙ unsubscribe-asks p w, ap is_built_text m)
-what t (Of.BrowsingContextActivate p) w m e = (e ∙ activate-asks p w, ap is_built_text m)
-what t (Of.BrowsingContextClose p) w m e = (e ∙ close-asks p w, ap is_built_text m)
-what t (Of.BrowsingContextCreate p) w m e = (e ∙ create-asks p w, ap is_built_text m)
-what t (Of.BrowsingContextGetTree p) w m e = (e ∙ get_tree-asks p w, ap is_built_text m)
-what t (Of.BrowsingContextNavigate p) w m e = (e ∙ navigate-asks p w, ap is_built_text m)
-what t (Of.BrowsingContextReload p) w m e = (e ∙ reload-asks p w, ap is_built_text m)
-what t (Of.BrowsingContextTraverseHistory p) w m e = (e ∙ traverse-asks p w, ap is_built_text m)
-what t (Of.ScriptEvaluate p) w m e = (e ∙ evaluate-asks p w, ap is_built_text m)
-what t (Of.ScriptCallFunction p) w m e = (_, e, ap is_built_text m, λ past c. refl)
-what t (Of.ScriptDisown p) w m e = (e ∙ disown-asks p w, ap is_built_text m)
-what t (Of.ScriptGetRealms p) w m e = (e ∙ get_realms-asks p w, ap is_built_text m)
+-- a method and its params ask what a command in hand asks
+what : (d : CommandData) → asks.ghosts.subject.well d → command_in (method_text (method_of d)) (asks.ghosts.subject.tree_of d) ≡ Some (asked_of params.ghosts.shape d)
+what (Of.SessionStatus p) w = refl
+what (Of.SessionNew p) w = refl
+what (Of.SessionEnd p) w = refl
+what (Of.SessionSubscribe p) w = subscribe-asks p w
+what (Of.SessionUnsubscribe p) w = unsubscribe-asks p w
+what (Of.BrowsingContextActivate p) w = activate-asks p w
+what (Of.BrowsingContextClose p) w = close-asks p w
+what (Of.BrowsingContextCreate p) w = create-asks p w
+what (Of.BrowsingContextGetTree p) w = get_tree-asks p w
+what (Of.BrowsingContextNavigate p) w = navigate-asks p w
+what (Of.BrowsingContextReload p) w = reload-asks p w
+what (Of.BrowsingContextTraverseHistory p) w = traverse-asks p w
+what (Of.ScriptEvaluate p) w = evaluate-asks p w
+what (Of.ScriptCallFunction p) w = call-asks p w
+what (Of.ScriptDisown p) w = disown-asks p w
+what (Of.ScriptGetRealms p) w = get_realms-asks p w
 
 -- its id
 id_of_command-tree : (c : declared_command.Command) → id_of_command (tree_of c) ≡ c.id.value
@@ -58,7 +51,7 @@ id_of_command-tree c = ap (λ o. unwrap_or (option_map natural (option_and_then 
 
 -- the tree of a well command in hand asks what it asks
 pub asks-tree : (c : declared_command.Command) → ghosts.shape.well c → Asks (tree_of c) c.id.value (asked_of params.ghosts.shape c.«data»)
-asks-tree c w = record { same_id = id_of_command-tree c; what = what (tree_of c) c.«data» w.subject (method_in-tree c) (ap₂ command_in (method_in-tree c) (params_in-tree c)) }
+asks-tree c w = record { same_id = id_of_command-tree c; what = ap₂ command_in (method_in-tree c) (params_in-tree c) ∙ what c.«data» w.subject }
 
 well_asked : (d : CommandData) → asks.ghosts.subject.well d → IsWellAsked params.ghosts.shape d
 well_asked (Of.SessionNew p) w = w

@@ -129,7 +129,7 @@ module _ (turn : Turn) (plan : Plan) (past : List Deed) (action : Action) (to : 
 -- what a command of the browser comes to
 pub planned-decides : (turn : Turn) (plan : Plan) (past : List Deed) (action : Action) (asker : Asker) → is_asked action ≡ true → Plans (Ok plan) (acts past) (moment past) action
     → turn.change ≡ Browse plan.change → turn.telling.announced.items ≡ [] → turn.telling.before ≡ plan.before → turn.telling.reply ≡ option_map reply_of (option_zip (Some asker) plan.result) → turn.telling.after ≡ plan.after
-    → Decides (Ok turn) past asker (Some (OfBrowser action)) (did (browser.outcome (acts past) action))
+    → Decides (Ok turn) past asker (OfBrowser action) (did (browser.outcome (acts past) action))
 planned-decides turn plan past action asker asked p same announced before reply after = (
   p.0,
   ap did p.1 ∙ ap (λ x. Ok (deed_of x p.0)) (sym same),

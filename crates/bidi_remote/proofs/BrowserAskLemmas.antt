@@ -1,5 +1,5 @@
 -- What the tree of a command of the browser in hand asks.
-use Rattle.std.proofs.Common.{◌≡◌, pos, [], ◌∷◌, Option, Some, None, unwrap_or, option_map, option_and_then, codes, String, string_bytes, Global, refl}
+use Rattle.std.proofs.Common.{◌≡◌, pos, [], ◌∷◌, Option, Some, None, option_map, option_and_then, codes, String, string_bytes, Global, refl}
 use Rattle.std.specs.Prelude.{if◌then◌else◌}
 use Rattle.bidi_tree.specs.Node as tree
 use Rattle.bidi_tree.specs.Node.{Node}
@@ -84,12 +84,12 @@ wait-read (Some wait.Complete) = refl
 
 -- a `browsingContext.activate` asks for its context
 pub activate-asks : (p : ActivateParameters) → activate.ghosts.shape.well p
-    → command_in (codes "browsingContext.activate") (activate.ghosts.shape.tree_of p) ≡ asked_of params.ghosts.shape (BrowsingContextActivate p)
+    → command_in (codes "browsingContext.activate") (activate.ghosts.shape.tree_of p) ≡ Some (asked_of params.ghosts.shape (BrowsingContextActivate p))
 activate-asks p w = rw (get_member-put (codes "context") (text_tree p.context) (others_of p.ext)) refl
 
 -- a `browsingContext.close` asks for its context
 pub close-asks : (p : CloseParameters) → close.ghosts.shape.well p
-    → command_in (codes "browsingContext.close") (close.ghosts.shape.tree_of p) ≡ asked_of params.ghosts.shape (BrowsingContextClose p)
+    → command_in (codes "browsingContext.close") (close.ghosts.shape.tree_of p) ≡ Some (asked_of params.ghosts.shape (BrowsingContextClose p))
 close-asks p w =
     let rs = rows_in (term_of close_parameters) in
     let others = others_of p.ext in
@@ -98,7 +98,7 @@ close-asks p w =
 
 -- a `browsingContext.create` asks for its type, its reference context and its user context
 pub create-asks : (p : CreateParameters) → create.ghosts.shape.well p
-    → command_in (codes "browsingContext.create") (create.ghosts.shape.tree_of p) ≡ asked_of params.ghosts.shape (BrowsingContextCreate p)
+    → command_in (codes "browsingContext.create") (create.ghosts.shape.tree_of p) ≡ Some (asked_of params.ghosts.shape (BrowsingContextCreate p))
 create-asks p w =
     let rs = rows_in (term_of create_parameters) in
     let others = others_of p.ext in
@@ -108,7 +108,7 @@ create-asks p w =
 
 -- a `browsingContext.getTree` asks for its depth and its root
 pub get_tree-asks : (p : GetTreeParameters) → get_tree.ghosts.shape.well p
-    → command_in (codes "browsingContext.getTree") (get_tree.ghosts.shape.tree_of p) ≡ asked_of params.ghosts.shape (BrowsingContextGetTree p)
+    → command_in (codes "browsingContext.getTree") (get_tree.ghosts.shape.tree_of p) ≡ Some (asked_of params.ghosts.shape (BrowsingContextGetTree p))
 get_tree-asks p w =
     let rs = rows_in (term_of get_tree_parameters) in
     let others = others_of p.ext in
@@ -117,7 +117,7 @@ get_tree-asks p w =
 
 -- a `browsingContext.navigate` asks for its context, its URL and its wait
 pub navigate-asks : (p : NavigateParameters) → navigate.ghosts.shape.well p
-    → command_in (codes "browsingContext.navigate") (navigate.ghosts.shape.tree_of p) ≡ asked_of params.ghosts.shape (BrowsingContextNavigate p)
+    → command_in (codes "browsingContext.navigate") (navigate.ghosts.shape.tree_of p) ≡ Some (asked_of params.ghosts.shape (BrowsingContextNavigate p))
 navigate-asks p w =
     let rs = rows_in (term_of navigate_parameters) in
     let others = others_of p.ext in
@@ -127,7 +127,7 @@ navigate-asks p w =
 
 -- a `browsingContext.reload` asks for its context and its wait
 pub reload-asks : (p : ReloadParameters) → reload.ghosts.shape.well p
-    → command_in (codes "browsingContext.reload") (reload.ghosts.shape.tree_of p) ≡ asked_of params.ghosts.shape (BrowsingContextReload p)
+    → command_in (codes "browsingContext.reload") (reload.ghosts.shape.tree_of p) ≡ Some (asked_of params.ghosts.shape (BrowsingContextReload p))
 reload-asks p w =
     let rs = rows_in (term_of reload_parameters) in
     let others = others_of p.ext in
@@ -137,7 +137,7 @@ reload-asks p w =
 
 -- a `browsingContext.traverseHistory` asks for its context and its delta
 pub traverse-asks : (p : TraverseHistoryParameters) → traverse.ghosts.shape.well p
-    → command_in (codes "browsingContext.traverseHistory") (traverse.ghosts.shape.tree_of p) ≡ asked_of params.ghosts.shape (BrowsingContextTraverseHistory p)
+    → command_in (codes "browsingContext.traverseHistory") (traverse.ghosts.shape.tree_of p) ≡ Some (asked_of params.ghosts.shape (BrowsingContextTraverseHistory p))
 traverse-asks p w =
     let rs = rows_in (term_of traverse_history_parameters) in
     let others = others_of p.ext in
@@ -146,7 +146,7 @@ traverse-asks p w =
 
 -- a `script.getRealms` asks for its context and its type
 pub get_realms-asks : (p : GetRealmsParameters) → get_realms.ghosts.shape.well p
-    → command_in (codes "script.getRealms") (get_realms.ghosts.shape.tree_of p) ≡ asked_of params.ghosts.shape (ScriptGetRealms p)
+    → command_in (codes "script.getRealms") (get_realms.ghosts.shape.tree_of p) ≡ Some (asked_of params.ghosts.shape (ScriptGetRealms p))
 get_realms-asks p w =
     let rs = rows_in (term_of get_realms_parameters) in
     let others = others_of p.ext in

@@ -52,9 +52,9 @@ made-of_sessions (Subscribe s es scope) past act ours = tt
 made-of_sessions (Cancel s ns) past act ours = tt
 made-of_sessions (Dismiss s es) past act ours = tt
 
-module _ (turn : Turn) (past : List Deed) (asker : Asker) (asked : Option Command) (answer : Result Deed ErrorCode) (change : Change) (r : ResultData) (ours : IsOfSessions change)
+module _ (turn : Turn) (past : List Deed) (asker : Asker) (asked : Command) (answer : Result Deed ErrorCode) (change : Change) (r : ResultData) (ours : IsOfSessions change)
     (same : turn.change ≡ change) (before : turn.telling.before.items ≡ []) (reply : turn.telling.reply ≡ Some (record { to = asker; outcome = r })) (after : turn.telling.after.items ≡ [])
-    (is : answer ≡ Ok (deed_of change Looked)) (told : Replies (result_tree r) ∷ [] ≡ items past (action_in asked) (deed_of change Looked)) where
+    (is : answer ≡ Ok (deed_of change Looked)) (told : Replies (result_tree r) ∷ [] ≡ items past (action_in (Some asked)) (deed_of change Looked)) where
   -- a change that is announced, and then replied to
   pub announced-decides : written_in turn.telling.announced.items ≡ map written (announced_by past (deed_of change Looked)) → AreMessages (written_in turn.telling.announced.items) → Decides (Ok turn) past asker asked answer
   announced-decides announced messages = (
@@ -64,7 +64,7 @@ module _ (turn : Turn) (past : List Deed) (asker : Asker) (asked : Option Comman
     record {
       announced = announced ∙ ap (λ x. map written (announced_by past (deed_of x Looked))) (sym same);
       messages = messages;
-      items = rw (before, reply, after) (told ∙ ap (λ x. items past (action_in asked) (deed_of x Looked)) (sym same));
+      items = rw (before, reply, after) (told ∙ ap (λ x. items past (action_in (Some asked)) (deed_of x Looked)) (sym same));
     },
     rw reply refl,
   )

@@ -116,7 +116,7 @@ by_id-fits ms fit has =
     (fits_map ms rows extensible (row_fits ms k required (list_of 1 text) no_more (has_texts-fits (get_member k ms) has) (no_row ms)) (others_fit-without (k ∷ []) ms fit))
 
 -- a `session.subscribe` asks for its events, its contexts and its user contexts
-pub subscribe-asks : (p : SubscribeParameters) → subscribe.ghosts.shape.well p → command_in (codes "session.subscribe") (subscribe.ghosts.shape.tree_of p) ≡ asked_of params.ghosts.shape (SessionSubscribe p)
+pub subscribe-asks : (p : SubscribeParameters) → subscribe.ghosts.shape.well p → command_in (codes "session.subscribe") (subscribe.ghosts.shape.tree_of p) ≡ Some (asked_of params.ghosts.shape (SessionSubscribe p))
 subscribe-asks p w =
     let rs = rows_in (term_of subscribe_parameters) in
     let others = others_of p.ext in
@@ -124,7 +124,7 @@ subscribe-asks p w =
     rw (at.0, at.1.0, at.1.1.0, texts-list p.events.items.items, texts-optional p.contexts, texts-optional p.user_contexts)
 
 -- a `session.unsubscribe` asks by its ids, or else by its events
-pub unsubscribe-asks : (p : UnsubscribeParameters) → unsubscribe.ghosts.shape.well p → command_in (codes "session.unsubscribe") (unsubscribe.ghosts.shape.tree_of p) ≡ asked_of params.ghosts.shape (SessionUnsubscribe p)
+pub unsubscribe-asks : (p : UnsubscribeParameters) → unsubscribe.ghosts.shape.well p → command_in (codes "session.unsubscribe") (unsubscribe.ghosts.shape.tree_of p) ≡ Some (asked_of params.ghosts.shape (SessionUnsubscribe p))
 unsubscribe-asks (ById p) w =
     rw (get_member-put (codes "subscriptions") (texts_tree p.subscriptions) (others_of p.ext), has_texts-list p.subscriptions.items.items w.0.0.0, texts-list p.subscriptions.items.items)
 unsubscribe-asks (ByEvents p) w =

@@ -1,5 +1,5 @@
 -- A step that was taken: what was sent, and the tables after it.
-use Rattle.std.proofs.Common.{◌≡◌, ◌∙◌, ℕ, Bool, true, false, List, [], ◌∷◌, map, refl, sym, ap, subst, Result, Ok, Err, Vec, Global, IfOk, Option, Some, rules}
+use Rattle.std.proofs.Common.{◌≡◌, ◌∙◌, ℕ, Bool, true, false, List, [], ◌∷◌, map, refl, sym, ap, subst, Result, Ok, Err, Vec, Global, IfOk, Some, rules}
 use Rattle.std.specs.Prelude.{IsTrue, OnErr}
 use Rattle.bidi_tree.specs.Node.{Node}
 use Rattle.bidi_browser.specs.Acts.{Act}
@@ -13,20 +13,19 @@ use Rattle.bidi_remote.specs.declared.turn.Asker.{Asker}
 use Rattle.bidi_remote.specs.declared.turn.Turn.{Turn}
 use Rattle.bidi_remote.specs.Machine.Step.{Step, Text}
 use Rattle.bidi_remote.specs.Machine.History.{Input, Open, Heard, InPage, IsHeardAs, Deed, acts}
-use Rattle.bidi_remote.specs.Machine.Commands.{Command, command_of, id_of_command}
+use Rattle.bidi_remote.specs.Machine.Commands.{Command, id_of_command}
 use Rattle.bidi_remote.specs.Machine.Connections.{Standing, is_shut, is_open, standing_of}
-use Rattle.bidi_remote.specs.Machine.Outcome.{Refusal, Error, deeds, turn, with_turn, replied}
+use Rattle.bidi_remote.specs.Machine.Outcome.{Refusal, Error, deeds, turn, with_turn, replied, outcome}
 use Rattle.bidi_remote.specs.Machine.Sent as sent
 use Rattle.bidi_remote.specs.Machine.Sent.{Sent, action_in, items, told}
-use Rattle.bidi_remote.specs.Machine.Built.{so_far, judged_so_far}
 use Rattle.bidi_remote.specs.Tables.Messages.{ReadsBack, AllReadBack}
 use Rattle.bidi_remote.specs.Tables.Stands.{AgreeWith, IsShort, Takes}
-use Rattle.bidi_remote.specs.Tables.Asked.{Asks, outcome_so_far}
+use Rattle.bidi_remote.specs.Tables.Asked.{Asks}
 use Rattle.bidi_remote.specs.Tables.EventTexts.{written_in, AreMessages}
 use Rattle.bidi_remote.specs.Tables.Turns.{Decides, IsMade, deed_of, asker_in, items_in, sent_for}
 use Rattle.bidi_remote.specs.Tables.View.{sent_of}
 use Rattle.bidi_remote.proofs.ChangeLemmas.{opens-open}
-use Rattle.bidi_remote.proofs.TurnLemmas.{heard-open, answered-so-far, turn-built, told-for}
+use Rattle.bidi_remote.proofs.TurnLemmas.{heard-open, asked-is, told-for}
 
 pub takes : (t : Tables) (h : List Input) (i : Input) (r : Result Deed Refusal) (all : List Sent) → turn (deeds h) i ≡ r → all ≡ told (deeds h) i r → AllReadBack all → AgreeWith t (with_turn (deeds h) r) → Takes t all h i
 takes t h i r all is sends reads agree = record {
@@ -72,30 +71,29 @@ pub told-refused : (past : List Deed) (c : ℕ) (v : Verdict) (refusal : Refusal
 told-refused past c (Accepted t) refusal = refl
 told-refused past c (Refused id code) refusal = refl
 
-module _ {E : Type 0} (r : Result (Vec declared_sent.Sent Global) E) (t : Tables) (h : List Input) (asker : Asker) (tree : Node) (s : Standing) (o : Option Command)
-    (stands : standing_of (deeds h) asker.conn.value ≡ s) (opened : is_shut s ≡ false) (asks : Asks tree asker.id.value o) where
+module _ {E : Type 0} (r : Result (Vec declared_sent.Sent Global) E) (t : Tables) (h : List Input) (asker : Asker) (tree : Node) (s : Standing) (x : Command)
+    (stands : standing_of (deeds h) asker.conn.value ≡ s) (opened : is_shut s ≡ false) (asks : Asks tree asker.id.value x) where
   abbrev pub c : ℕ
   c = asker.conn.value
 
   -- what the command comes to is the turn of its text
-  turned : (answer : Result Deed ErrorCode) → outcome_so_far (deeds h) c s o ≡ answer → turn (deeds h) (Heard c (judged_so_far s (Accepted tree))) ≡ replied c (id_of_command tree) answer
-  turned answer is =
-      heard-open (deeds h) c (judged_so_far s (Accepted tree)) (ap is_shut stands ∙ opened) ∙ (answered-so-far (deeds h) c tree s o stands opened asks.what ∙ ap (replied c (id_of_command tree)) is)
+  turned : (answer : Result Deed ErrorCode) → outcome (deeds h) c s x ≡ answer → turn (deeds h) (Heard c (Accepted tree)) ≡ replied c (id_of_command tree) answer
+  turned answer is = heard-open (deeds h) c (Accepted tree) (ap is_shut stands ∙ opened) ∙ (asked-is (deeds h) c tree s x stands asks.what ∙ ap (replied c (id_of_command tree)) is)
 
   -- a code refused the command
-  pub code_takes : (code : ErrorCode) → outcome_so_far (deeds h) c s o ≡ Err code → AgreeWith t (deeds h) → IfOk r (λ all. map sent_of all.items ≡ sent.Text c (error_text (Some asker.id.value) code) ∷ [])
-      → IfOk r (λ all. AllReadBack (map sent_of all.items)) → IfOk r (λ all. Takes t (map sent_of all.items) h (Heard c (judged_so_far s (Accepted tree))))
+  pub code_takes : (code : ErrorCode) → outcome (deeds h) c s x ≡ Err code → AgreeWith t (deeds h) → IfOk r (λ all. map sent_of all.items ≡ sent.Text c (error_text (Some asker.id.value) code) ∷ [])
+      → IfOk r (λ all. AllReadBack (map sent_of all.items)) → IfOk r (λ all. Takes t (map sent_of all.items) h (Heard c (Accepted tree)))
   code_takes code is agree text reads =
-      refused_takes r t h (Heard c (judged_so_far s (Accepted tree))) (Err (Error c (Some (id_of_command tree)) code)) (sent.Text c (error_text (Some asker.id.value) code) ∷ []) text reads (turned (Err code) is)
-      (ap (λ n. sent.Text c (error_text (Some n) code) ∷ []) (sym asks.same_id) ∙ sym (told-refused (deeds h) c (judged_so_far s (Accepted tree)) (Error c (Some (id_of_command tree)) code))) agree
+      refused_takes r t h (Heard c (Accepted tree)) (Err (Error c (Some (id_of_command tree)) code)) (sent.Text c (error_text (Some asker.id.value) code) ∷ []) text reads (turned (Err code) is)
+      (ap (λ n. sent.Text c (error_text (Some n) code) ∷ []) (sym asks.same_id)) agree
 
   -- a turn was taken
-  pub turn_takes : (decided : Turn) → Decides (Ok decided) (deeds h) asker o (outcome_so_far (deeds h) c s o)
+  pub turn_takes : (decided : Turn) → Decides (Ok decided) (deeds h) asker x (outcome (deeds h) c s x)
       → ((i : Input) (act : Act) → turn (deeds h) i ≡ Ok (deed_of decided.change act) → IsMade decided.change (acts (deeds h)) act → AreMessages (written_in decided.telling.announced.items)
       → IfOk r (λ all. (map sent_of all.items ≡ sent_for (deeds h) (asker_in decided.telling.reply) (deed_of decided.change act) (written_in decided.telling.announced.items) (items_in decided.telling))
       × AllReadBack (map sent_of all.items) × AgreeWith t (deed_of decided.change act ∷ deeds h)))
-      → IfOk r (λ all. Takes t (map sent_of all.items) h (Heard c (judged_so_far s (Accepted tree))))
-  turn_takes decided is taken = subst (λ v. IfOk r (λ all. Takes t (map sent_of all.items) h (Heard c v))) (sym built.0) (all_taken t h i d _ r (taken i is.0 turn_is is.2 is.3.messages) turn_is sends)
+      → IfOk r (λ all. Takes t (map sent_of all.items) h (Heard c (Accepted tree)))
+  turn_takes decided is taken = all_taken t h i d _ r (taken i is.0 turn_is is.2 is.3.messages) turn_is sends
     where
       past : List Deed
       past = deeds h
@@ -106,16 +104,13 @@ module _ {E : Type 0} (r : Result (Vec declared_sent.Sent Global) E) (t : Tables
       i : Input
       i = Heard c (Accepted tree)
 
-      built : (judged_so_far s (Accepted tree) ≡ Accepted tree) × (action_in o ≡ action_in (command_of tree))
-      built = turn-built past c tree s o d opened asks.what is.1
-
       turn_is : turn past i ≡ Ok d
-      turn_is = ap (λ v. turn past (Heard c v)) (sym built.0) ∙ turned (Ok d) is.1
+      turn_is = turned (Ok d) is.1
 
       sends : sent_for past (asker_in decided.telling.reply) d (written_in decided.telling.announced.items) (items_in decided.telling) ≡ told past i (Ok d)
       sends =
           ap (λ who. sent_for past who d (written_in decided.telling.announced.items) (items_in decided.telling)) (is.4 ∙ ap (λ n. Some (c, n)) (sym asks.same_id))
-          ∙ told-for past c tree d (written_in decided.telling.announced.items) (items_in decided.telling) is.3.announced (is.3.items ∙ ap (λ a. items past a d) built.1)
+          ∙ told-for past c tree d (written_in decided.telling.announced.items) (items_in decided.telling) is.3.announced (is.3.items ∙ ap (λ o. items past (action_in o) d) (sym asks.what))
 
 -- what holds anyway holds after an error
 pub anyway : {S E : Type 0} (r : Result S E) {P : Type 0} → P → OnErr r P
@@ -138,18 +133,18 @@ closed_open past c shut is = let both : is_open past c ≡ false = rw shut refl 
 
 -- whatever history the tables stood for, this was sent at the input, and these are the tables after it
 abbrev pub TakesIt : Tables → Tables → List Sent → Input → Type 0
-TakesIt old after all i = (h : List Input) → IsShort h → AgreeWith old (deeds h) → Takes after all h (so_far (deeds h) i)
+TakesIt old after all i = (h : List Input) → IsShort h → AgreeWith old (deeds h) → Takes after all h i
 
 -- a text was judged
 pub text_judged : {E : Type 0} (r : Result (Vec declared_sent.Sent Global) E) (text : List ℕ) (old after : Tables) (c : ℕ) (v : Verdict) → IsVerdict text v
-    → ((h : List Input) → IsShort h → AgreeWith old (deeds h) → IfOk r (λ all. Takes after (map sent_of all.items) h (so_far (deeds h) (Heard c v))))
+    → ((h : List Input) → IsShort h → AgreeWith old (deeds h) → IfOk r (λ all. Takes after (map sent_of all.items) h (Heard c v)))
     → IfOk r (λ all. (w : Verdict) × IsVerdict text w × TakesIt old after (map sent_of all.items) (Heard c w))
 text_judged (Err e) text old after c v is f = tt
 text_judged (Ok all) text old after c v is f = (v, is, f)
 
 -- a step is heard as an input
 pub step_heard : {E : Type 0} (r : Result (Vec declared_sent.Sent Global) E) (x : Step) (old after : Tables) (i : Input) → IsHeardAs x i
-    → ((h : List Input) → AgreeWith old (deeds h) → IfOk r (λ all. Takes after (map sent_of all.items) h (so_far (deeds h) i)))
+    → ((h : List Input) → AgreeWith old (deeds h) → IfOk r (λ all. Takes after (map sent_of all.items) h i))
     → IfOk r (λ all. (j : Input) × IsHeardAs x j × TakesIt old after (map sent_of all.items) j)
 step_heard (Err e) x old after i is f = tt
 step_heard (Ok all) x old after i is f = (i, is, λ h short. f h)

@@ -1,12 +1,13 @@
 -- What the tree of a target in hand asks, and of the commands that name one.
-use Rattle.std.proofs.Common.{◌≡◌, ℕ, List, [], ◌∷◌, Bool, true, ◌&&◌, ◌||◌, true≢false, Option, Some, None, is_none, is_some, option_map, option_and_then, unwrap_or, codes, String, string_bytes, Global, refl, sym, ap}
+use Rattle.std.proofs.Common.{◌≡◌, ℕ, List, [], ◌∷◌, map, Vec, true, ◌&&◌, ◌||◌, true≢false, Option, Some, None, is_none, is_some, option_map, option_and_then, unwrap_or, codes, String, string_bytes, Global, refl, sym, ap}
 use Rattle.std.proofs.lemmas.Bool.{and_parts, false_from_ne_true}
 use Rattle.std.specs.Prelude.{if◌then◌else◌}
 use Rattle.bidi_tree.specs.Node as tree
 use Rattle.bidi_tree.specs.Node.{Node, Members, get_member}
-use Rattle.bidi_tree.specs.Kind.{text_in}
+use Rattle.bidi_tree.specs.Kind.{text_in, list_in}
+use Rattle.bidi_tree.specs.View.{items_of}
 use Rattle.bidi_tree.proofs.MemberLemmas.{get_member-put}
-use Rattle.bidi_shape.specs.Name.{context_target, disown_parameters, evaluate_parameters}
+use Rattle.bidi_shape.specs.Name.{context_target, disown_parameters, evaluate_parameters, call_function_parameters}
 use Rattle.bidi_shape.specs.Term.{required, optional, extensible, text, rule, row, no_more, names_of}
 use Rattle.bidi_shape.specs.Profile.{term_of}
 use Rattle.bidi_shape.specs.Fits.{Fits, fits_map, fits_rule, no_row, OthersFit}
@@ -19,18 +20,25 @@ use Rattle.bidi_values.specs.declared.target.Target as declared_target
 use Rattle.bidi_values.specs.declared.target.Target.TheVariants as target
 use Rattle.bidi_values.specs.contracts.target.TargetShape.TheImpl as targets
 use Rattle.bidi_values.specs.contracts.target.RealmTargetShape.TheImpl as realm_targets
+use Rattle.bidi_values.specs.declared.nested.Nested.{Nested}
+use Rattle.bidi_values.specs.declared.kinds.ListKind.{ListKind}
+use Rattle.bidi_values.specs.declared.kinds.PairsKind.{PairsKind}
+use Rattle.bidi_values.specs.declared.local_value.LocalPlain.{LocalPlain}
 use Rattle.bidi_params.specs.contracts.session.capabilities.NewParametersShape.TheImpl as params
+use Rattle.bidi_params.specs.contracts.script.call_function.CallFunctionParametersShape.TheImpl as call
 use Rattle.bidi_params.specs.contracts.script.call_function.DisownParametersShape.TheImpl as disown
 use Rattle.bidi_params.specs.Words.{ownership_text}
 use Rattle.bidi_params.specs.contracts.script.evaluate.EvaluateParametersShape.TheImpl as evaluate
 use Rattle.bidi_params.specs.declared.script.evaluate.EvaluateParameters.{EvaluateParameters}
 use Rattle.bidi_params.specs.declared.script.evaluate.Ownership.{Ownership}
 use Rattle.bidi_params.specs.declared.script.evaluate.Ownership.TheVariants as ownership
+use Rattle.bidi_params.specs.declared.script.call_function.CallFunctionParameters.{CallFunctionParameters}
 use Rattle.bidi_params.specs.declared.script.call_function.DisownParameters.{DisownParameters}
-use Rattle.bidi_messages.specs.declared.command.CommandData.TheVariants.{ScriptDisown, ScriptEvaluate}
-use Rattle.bidi_browser.specs.Params.{text_if_at}
-use Rattle.bidi_browser.specs.Actions.{Target, ContextTarget, RealmTarget, target_in, is_text, is_well_at}
+use Rattle.bidi_messages.specs.declared.command.CommandData.TheVariants.{ScriptCallFunction, ScriptDisown, ScriptEvaluate}
+use Rattle.bidi_browser.specs.Params.{items_in, text_if_at}
+use Rattle.bidi_browser.specs.Actions.{ContextTarget, RealmTarget, target_in, is_text, is_well_at}
 use Rattle.bidi_browser.specs.Asked.{is_owned, target_of}
+use Rattle.bidi_browser.specs.ValuesInHand.{local_tree}
 use Rattle.bidi_remote.specs.Machine.Commands.{command_in}
 use Rattle.bidi_remote.specs.Tables.Asked.{asked_of}
 use Rattle.bidi_remote.proofs.SubscribeAskLemmas.{text_tree, texts-list, text-fits, others_fit-without, inside_whole}
@@ -83,11 +91,24 @@ owned-read None = refl
 owned-read (Some ownership.Root) = refl
 owned-read (Some ownership.None) = refl
 
+-- ---- values
+
+-- the items of a list are those that it is of
+items-read : (ts : List Node) → items_in (items_of ts) ≡ ts
+items-read [] = refl
+items-read (t ∷ ts) = ap (λ us. t ∷ us) (items-read ts)
+
+-- so are the values of a list that may be there
+values-read : (o : Option (Vec (Nested LocalPlain ListKind PairsKind) Global))
+    → option_map items_in (option_and_then list_in (option_map (λ vs. list_tree local_tree vs.items) o)) ≡ option_map (λ vs. map local_tree vs.items) o
+values-read None = refl
+values-read (Some vs) = ap Some (items-read (map local_tree vs.items))
+
 -- ---- the commands
 
 -- a `script.evaluate` asks for its expression in the realm of its target, and whether its value is to be owned
 pub evaluate-asks : (p : EvaluateParameters) → evaluate.ghosts.shape.well p
-    → command_in (codes "script.evaluate") (evaluate.ghosts.shape.tree_of p) ≡ asked_of params.ghosts.shape (ScriptEvaluate p)
+    → command_in (codes "script.evaluate") (evaluate.ghosts.shape.tree_of p) ≡ Some (asked_of params.ghosts.shape (ScriptEvaluate p))
 evaluate-asks p w =
     let rs = rows_in (term_of evaluate_parameters) in
     let others = others_of p.ext in
@@ -95,9 +116,20 @@ evaluate-asks p w =
     let at = PartsAt-joined rs parts others refl tt (unnamed (names_of rs) others w.1.no_known) in
     rw (at.0, at.1.0, at.1.1.1.0, target-read p.target w.0.1.0, owned-read p.result_ownership) refl
 
+-- a `script.callFunction` asks for its function in the realm of its target, its arguments, its `this`, and whether its value is to be owned
+pub call-asks : (p : CallFunctionParameters) → call.ghosts.shape.well p
+    → command_in (codes "script.callFunction") (call.ghosts.shape.tree_of p) ≡ Some (asked_of params.ghosts.shape (ScriptCallFunction p))
+call-asks p w =
+    let rs = rows_in (term_of call_function_parameters) in
+    let others = others_of p.ext in
+    let parts = Some (text_tree p.function_declaration) ∷ Some (tree.boolean p.await_promise) ∷ Some (targets.ghosts.shape.tree_of p.target) ∷ option_map (λ vs. list_tree local_tree vs.items) p.arguments
+    ∷ option_map (λ w. tree.text (ownership_text w)) p.result_ownership ∷ option_map local_tree p.this ∷ option_map tree.boolean p.user_activation ∷ [] in
+    let at = PartsAt-joined rs parts others refl tt (unnamed (names_of rs) others w.1.no_known) in
+    rw (at.0, at.1.1.0, at.1.1.1.0, at.1.1.1.1.0, at.1.1.1.1.1.0, target-read p.target w.0.1.1.0, values-read p.arguments, owned-read p.result_ownership) refl
+
 -- a `script.disown` asks for its handles in the realm of its target
 pub disown-asks : (p : DisownParameters) → disown.ghosts.shape.well p
-    → command_in (codes "script.disown") (disown.ghosts.shape.tree_of p) ≡ asked_of params.ghosts.shape (ScriptDisown p)
+    → command_in (codes "script.disown") (disown.ghosts.shape.tree_of p) ≡ Some (asked_of params.ghosts.shape (ScriptDisown p))
 disown-asks p w =
     let rs = rows_in (term_of disown_parameters) in
     let others = others_of p.ext in

@@ -1,17 +1,14 @@
 -- What the machine does at each input, where it is known how the connection stands and what its command comes to.
-use Rattle.std.proofs.Common.{◌≡◌, ◌∙◌, ℕ, true, false, List, ◌++◌, map, flat_map, refl, sym, ap, ap₂, Ok, Err, Option, Some, None}
+use Rattle.std.proofs.Common.{◌≡◌, ◌∙◌, ℕ, false, List, ◌++◌, map, flat_map, refl, ap, ap₂, Ok, Err, Some, None}
 use Rattle.bidi_tree.specs.Node.{Node}
-use Rattle.bidi_messages.specs.declared.error_code.ErrorCode.{ErrorCode}
 use Rattle.bidi_messages.specs.declared.error_code.ErrorCode.TheVariants.{InvalidArgument}
-use Rattle.bidi_messages.specs.Verdict.{Verdict, Accepted, Refused}
+use Rattle.bidi_messages.specs.Verdict.{Verdict, Accepted}
 use Rattle.bidi_browser.specs.Occurs.{Item, Happens, Replies}
 use Rattle.bidi_remote.specs.Machine.Commands.{Command, command_of, id_of_command}
 use Rattle.bidi_remote.specs.Machine.History.{Drop, Heard, NotText, Deed, Dropped, Subscribed}
-use Rattle.bidi_remote.specs.Machine.Connections.{Standing, Shut, Alone, SpeaksFor, is_shut, standing_of, connections_of}
+use Rattle.bidi_remote.specs.Machine.Connections.{Standing, Shut, is_shut, standing_of, connections_of}
 use Rattle.bidi_remote.specs.Machine.Outcome.{Lost, Error, replied, answered, asked, outcome, turn}
 use Rattle.bidi_remote.specs.Machine.Sent.{Text, items, announced, closed, sent_to, action_in, told}
-use Rattle.bidi_remote.specs.Machine.Built.{is_built, judged_so_far}
-use Rattle.bidi_remote.specs.Tables.Asked.{AsksWhat, outcome_so_far}
 use Rattle.bidi_remote.specs.Tables.EventTexts.{Written, written}
 use Rattle.bidi_remote.specs.Tables.Turns.{announced_by, sent_of_item, sent_for, to_subscriber}
 use Rattle.bidi_remote.proofs.ListLemmas.{flat_map-map, flat_map-same}
@@ -36,37 +33,11 @@ drop-shut past c e = rw e refl
 pub drop-open : (past : List Deed) (c : ℕ) → is_shut (standing_of past c) ≡ false → turn past (Drop c) ≡ Ok (Dropped c)
 drop-open past c e = rw e refl
 
--- what is refused is so however it is built
-pub refused-so-far : (s : Standing) (id : Option ℕ) (code : ErrorCode) → judged_so_far s (Refused id code) ≡ Refused id code
-refused-so-far Shut id code = refl
-refused-so-far Alone id code = refl
-refused-so-far (SpeaksFor s) id code = refl
-
 -- ---- what a command comes to
 
--- a tree that asks what is built, or what is not, on a connection that stands so
-module _ (past : List Deed) (c : ℕ) (t : Node) where
-  built : (s : Standing) → is_built t ≡ true → judged_so_far s (Accepted t) ≡ Accepted t
-  built Shut is = refl
-  built Alone is = refl
-  built (SpeaksFor s) is = rw is refl
-
-  asked-is : (s : Standing) (x : Command) → standing_of past c ≡ s → command_of t ≡ Some x → answered past c (Accepted t) ≡ replied c (id_of_command t) (outcome past c s x)
-  asked-is s x stands asks = ap (asked past c (id_of_command t)) asks ∙ ap (λ u. replied c (id_of_command t) (outcome past c u x)) stands
-
-  -- its answer, as far as it is built
-  pub answered-so-far : (s : Standing) (o : Option Command) → standing_of past c ≡ s → is_shut s ≡ false → AsksWhat t o → answered past c (judged_so_far s (Accepted t)) ≡ replied c (id_of_command t) (outcome_so_far past c s o)
-  answered-so-far s (Some x) stands opened what = ap (answered past c) (built s what.1) ∙ asked-is s x stands what.0
-  answered-so-far Shut None stands opened what = cc
-  answered-so-far Alone None stands opened what = asked-is Alone what.0 stands what.1 ∙ ap (replied c (id_of_command t)) (what.3 past c)
-  answered-so-far (SpeaksFor s) None stands opened what = rw what.2 refl
-
-  -- where there is a turn, the command is built
-  pub turn-built : (s : Standing) (o : Option Command) (d : Deed) → is_shut s ≡ false → AsksWhat t o → outcome_so_far past c s o ≡ Ok d → (judged_so_far s (Accepted t) ≡ Accepted t) × (action_in o ≡ action_in (command_of t))
-  turn-built s (Some x) d opened what is = (built s what.1, ap action_in (sym what.0))
-  turn-built Shut None d opened what is = cc
-  turn-built Alone None d opened what is = cc
-  turn-built (SpeaksFor s) None d opened what is = cc
+-- a tree that asks this, on a connection that stands so
+pub asked-is : (past : List Deed) (c : ℕ) (t : Node) (s : Standing) (x : Command) → standing_of past c ≡ s → command_of t ≡ Some x → answered past c (Accepted t) ≡ replied c (id_of_command t) (outcome past c s x)
+asked-is past c t s x stands asks = ap (asked past c (id_of_command t)) asks ∙ ap (λ u. replied c (id_of_command t) (outcome past c u x)) stands
 
 -- ---- what is sent for a turn
 

@@ -10,4 +10,3 @@ pub mod Capabilities
 pub mod Outcome
 pub mod Sent
 pub mod Strike
-pub mod Built

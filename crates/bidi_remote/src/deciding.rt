@@ -1,14 +1,14 @@
 //! What a command comes to.
-ghost use Rattle.std.specs.Prelude.{◌≡◌, List, Some, true};
+ghost use Rattle.std.specs.Prelude.{◌≡◌, List, true};
 ghost use Rattle.bidi_browser.specs.Actions.{is_asked};
 ghost use Rattle.bidi_browser.specs.Asked.{action_of};
-ghost use Rattle.bidi_browser.specs.Outcome.{outcome};
+ghost use Rattle.bidi_browser.specs.Outcome as browser;
 ghost use Rattle.bidi_browser.specs.Plans.{HasIds};
 ghost use Rattle.bidi_remote.specs.Machine.Connections.{standing_of, Alone, SpeaksFor};
 ghost use Rattle.bidi_remote.specs.Machine.Commands.{OfBrowser};
 ghost use Rattle.bidi_remote.specs.Machine.History.{Input, Deed, acts};
-ghost use Rattle.bidi_remote.specs.Machine.Outcome.{deeds, did};
-ghost use Rattle.bidi_remote.specs.Tables.Asked.{IsWellAsked, asked_of, outcome_so_far};
+ghost use Rattle.bidi_remote.specs.Machine.Outcome.{deeds, did, outcome};
+ghost use Rattle.bidi_remote.specs.Tables.Asked.{IsWellAsked, asked_of};
 ghost use Rattle.bidi_remote.specs.Tables.ConnectionRows.{standing_in_hand};
 ghost use Rattle.bidi_remote.specs.Tables.Stands.{AgreeWith, IsShort};
 ghost use Rattle.bidi_remote.specs.Tables.Turns.{Decides, IsWellDecided};
@@ -38,7 +38,7 @@ pub(crate) fn decide(
 ) -> Result<Turn, Refusal>
     requires { IsWellAsked ⟦<NewParameters as Shape>⟧.shape asked.now }
     ensures ok { (h : List Input) → IsShort h → AgreeWith tables.now (deeds h) → standing_of (deeds h) asker.conn.value ≡ standing_in_hand standing
-        → (let what = asked_of ⟦<NewParameters as Shape>⟧.shape asked.now in Decides result (deeds h) asker what (outcome_so_far (deeds h) asker.conn.value (standing_in_hand standing) what)) }
+        → (let what = asked_of ⟦<NewParameters as Shape>⟧.shape asked.now in Decides result (deeds h) asker what (outcome (deeds h) asker.conn.value (standing_in_hand standing) what)) }
     ensures well { IsWellDecided result }
 {
     match standing {
@@ -57,7 +57,7 @@ fn decide_alone(
 ) -> Result<Turn, Refusal>
     requires { IsWellAsked ⟦<NewParameters as Shape>⟧.shape asked.now }
     ensures ok { (h : List Input) → IsShort h → AgreeWith tables.now (deeds h)
-        → (let what = asked_of ⟦<NewParameters as Shape>⟧.shape asked.now in Decides result (deeds h) asker what (outcome_so_far (deeds h) asker.conn.value Alone what)) }
+        → (let what = asked_of ⟦<NewParameters as Shape>⟧.shape asked.now in Decides result (deeds h) asker what (outcome (deeds h) asker.conn.value Alone what)) }
     ensures well { IsWellDecided result }
 {
     match asked {
@@ -76,7 +76,7 @@ fn decide_in(
     asked: &CommandData,
 ) -> Result<Turn, Refusal>
     ensures ok { (h : List Input) → IsShort h → AgreeWith tables.now (deeds h) → standing_of (deeds h) asker.conn.value ≡ SpeaksFor session
-        → (let what = asked_of ⟦<NewParameters as Shape>⟧.shape asked.now in Decides result (deeds h) asker what (outcome_so_far (deeds h) asker.conn.value (SpeaksFor session) what)) }
+        → (let what = asked_of ⟦<NewParameters as Shape>⟧.shape asked.now in Decides result (deeds h) asker what (outcome (deeds h) asker.conn.value (SpeaksFor session) what)) }
     ensures well { IsWellDecided result }
 {
     match asked {
@@ -113,13 +113,15 @@ fn decide_in(
         CommandData::ScriptEvaluate(params) => {
             decide_browsing(alloc, tables, asker, Action::Evaluate(params))
         }
+        CommandData::ScriptCallFunction(params) => {
+            decide_browsing(alloc, tables, asker, Action::CallFunction(params))
+        }
         CommandData::ScriptDisown(params) => {
             decide_browsing(alloc, tables, asker, Action::Disown(params))
         }
         CommandData::ScriptGetRealms(params) => {
             decide_browsing(alloc, tables, asker, Action::GetRealms(params))
         }
-        _ => Err(Refusal::Code(ErrorCode::UnsupportedOperation)),
     }
 }
 
@@ -131,7 +133,7 @@ fn decide_browsing(
     action: Action,
 ) -> Result<Turn, Refusal>
     ensures ok { (past : List Deed) → AgreeWith tables.now past → HasIds (acts past) → is_asked (action_of action.entry) ≡ true
-        → Decides result past asker (Some (OfBrowser (action_of action.entry))) (did (outcome (acts past) (action_of action.entry))) }
+        → Decides result past asker (OfBrowser (action_of action.entry)) (did (browser.outcome (acts past) (action_of action.entry))) }
     ensures well { IsWellDecided result }
 {
     let plan = tables.browser.plan(action, tables.moment)?;

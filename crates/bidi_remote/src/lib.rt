@@ -1,9 +1,9 @@
 //! The remote end: connections, sessions, subscriptions, and which texts go out on which connection.
 //!
-//! A [`RemoteEnd`] takes steps and answers each at once. So far it has connections, sessions and subscriptions, the
-//! commands and steps that make, navigate, show and remove contexts, list realms and set rows of the table, and the log;
-//! it routes events to those that hear them, and keeps the log entries that a session misses until it subscribes. The
-//! definitions already say what the whole protocol machine answers to each step.
+//! A [`RemoteEnd`] takes steps and answers each at once, as the machine of the definitions does: a function of the list
+//! of past steps. It has connections, sessions and subscriptions, and a browser, to which it hands the commands of
+//! contexts and scripts and the steps of pages; it routes events to those that hear them, and keeps the log entries that
+//! a session misses until it subscribes.
 #![tactic(auto)]
 
 mod announcing;

@@ -7,7 +7,6 @@ ghost use Rattle.bidi_remote.specs.Machine.History.{Input, IsHeardAs};
 ghost use Rattle.bidi_remote.specs.Machine.Connections.{is_open};
 ghost use Rattle.bidi_remote.specs.Machine.Outcome.{deeds};
 ghost use Rattle.bidi_remote.specs.Machine.Sent.{out};
-ghost use Rattle.bidi_remote.specs.Machine.Built.{so_far};
 ghost use Rattle.bidi_remote.specs.declared.remote_end.RemoteFault.TheVariants.{NoMemory};
 
 use crate::step::{Sent, Step};
@@ -80,7 +79,7 @@ impl RemoteEnd {
         // The step is heard as one input, and whatever history the end stands for, it answers as the machine does.
         ensures ok { IfOk result (λ sent. (i : Input) × IsHeardAs (step_of step) i
             × ((h : List Input) → StandsFor self.old h
-            → (map sent_of sent.items ≡ out h (so_far (deeds h) i)) × StandsFor self.new (so_far (deeds h) i ∷ h))) }
+            → (map sent_of sent.items ≡ out h i) × StandsFor self.new (i ∷ h))) }
         // Each text that is sent is that of a message, and reads back as it.
         ensures reads_back { (h : List Input) → StandsFor self.old h → IfOk result (λ sent. AllReadBack (map sent_of sent.items)) }
         ensures err { OnErr result ((h : List Input) → StandsFor self.old h → StandsFor self.new h) }

@@ -14,7 +14,6 @@ ghost use Rattle.bidi_remote.specs.Machine.Sent.{Text};
 ghost use Rattle.bidi_remote.specs.Machine.History.{Input, Open, Drop, Heard, NotText, InPage, IsHeardAs, acts, moment};
 ghost use Rattle.bidi_remote.specs.Machine.Connections.{is_open, standing_of, is_shut};
 ghost use Rattle.bidi_remote.specs.Machine.Outcome.{deeds, turn};
-ghost use Rattle.bidi_remote.specs.Machine.Built.{so_far, judged_so_far};
 ghost use Rattle.bidi_remote.specs.Tables.Asked.{Asks, IsWellAsked, asked_of};
 ghost use Rattle.bidi_remote.specs.Tables.ConnectionRows.{standing_in_hand, opening_by};
 ghost use Rattle.bidi_remote.specs.Tables.Messages.{AllReadBack};
@@ -65,7 +64,7 @@ impl Tables {
     /// Takes one step, and returns what is sent.
     pub(crate) fn take(&mut self, alloc: Global, step: Step) -> Result<Vec<Sent>, AllocError>
         ensures ok { IfOk result (λ sent. (i : Input) × IsHeardAs (step_of step) i
-            × ((h : List Input) → IsShort h → AgreeWith self.old (deeds h) → Takes self.new (map sent_of sent.items) h (so_far (deeds h) i))) }
+            × ((h : List Input) → IsShort h → AgreeWith self.old (deeds h) → Takes self.new (map sent_of sent.items) h i)) }
         ensures err { OnErr result (Keeps self.old self.new) }
         ensures at { (n : ℕ) → step_of step ≡ steps.At n → IsOk result }
         ensures drop { (h : List Input) (c : ℕ) → AgreeWith self.old (deeds h)
@@ -144,7 +143,7 @@ impl Tables {
     // Judges a text, and answers it where its connection is open.
     fn hear(&mut self, alloc: Global, conn: JsUint, text: &str) -> Result<Vec<Sent>, AllocError>
         ensures ok { IfOk result (λ sent. (v : judged.Verdict) × IsVerdict text.now v × ((h : List Input) → IsShort h → AgreeWith self.old (deeds h)
-            → Takes self.new (map sent_of sent.items) h (so_far (deeds h) (Heard conn.value v)))) }
+            → Takes self.new (map sent_of sent.items) h (Heard conn.value v))) }
         ensures err { OnErr result (Keeps self.old self.new) }
     {
         let verdict = judge(alloc, text)?;
@@ -160,7 +159,7 @@ impl Tables {
     ) -> Result<Vec<Sent>, AllocError>
         requires { IsWell ⟦<Command as Shape>⟧.shape verdict.now }
         ensures ok { (h : List Input) → IsShort h → AgreeWith self.old (deeds h) → IfOk result (λ sent. Takes self.new (map sent_of sent.items) h
-            (so_far (deeds h) (Heard conn.value (verdict_of ⟦<Command as Shape>⟧.shape verdict.now)))) }
+            (Heard conn.value (verdict_of ⟦<Command as Shape>⟧.shape verdict.now))) }
         ensures err { OnErr result (Keeps self.old self.new) }
     {
         let standing = self.connections.standing_of(conn);
@@ -202,7 +201,7 @@ impl Tables {
         ensures ok { (h : List Input) (t : Node) → IsShort h → AgreeWith self.old (deeds h)
             → standing_of (deeds h) asker.conn.value ≡ standing_in_hand standing → is_shut (standing_in_hand standing) ≡ false
             → Asks t asker.id.value (asked_of ⟦<NewParameters as Shape>⟧.shape asked.now)
-            → IfOk result (λ sent. Takes self.new (map sent_of sent.items) h (Heard asker.conn.value (judged_so_far (standing_in_hand standing) (Accepted t)))) }
+            → IfOk result (λ sent. Takes self.new (map sent_of sent.items) h (Heard asker.conn.value (Accepted t))) }
         ensures err { OnErr result (Keeps self.old self.new) }
     {
         match decide(alloc, self, asker, standing, asked) {

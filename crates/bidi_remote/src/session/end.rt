@@ -1,5 +1,5 @@
 //! `session.end`.
-ghost use Rattle.std.specs.Prelude.{◌≡◌, List, Ok, Some};
+ghost use Rattle.std.specs.Prelude.{◌≡◌, List, Ok};
 ghost use Rattle.bidi_browser.specs.Maps.{nothing};
 ghost use Rattle.bidi_remote.specs.Machine.Commands.{End};
 ghost use Rattle.bidi_remote.specs.Machine.History.{Deed, Ended};
@@ -15,7 +15,7 @@ use std::alloc::Global;
 
 /// Ends a session.
 pub(crate) fn decide_end(alloc: Global, asker: Asker, session: u32) -> Result<Turn, Refusal>
-    ensures ok { (past : List Deed) → Decides result past asker (Some End) (Ok (Ended session)) }
+    ensures ok { (past : List Deed) → Decides result past asker End (Ok (Ended session)) }
     ensures well { IsWellDecided result }
 {
     Ok(Turn::replied(alloc, Change::End(session), asker, end_result(alloc)))

@@ -1,5 +1,5 @@
 //! `session.new`.
-ghost use Rattle.std.specs.Prelude.{◌≡◌, ◌<◌, List, Some, IfOk};
+ghost use Rattle.std.specs.Prelude.{◌≡◌, ◌<◌, List, IfOk};
 ghost use Rattle.bidi_tree.specs.Node.{text, no_members};
 ghost use Rattle.bidi_browser.specs.declared.id.Kind.TheVariants.{Session};
 ghost use Rattle.bidi_browser.specs.Ids.{id_of};
@@ -40,7 +40,7 @@ pub(crate) fn decide_new(
 ) -> Result<Turn, Refusal>
     requires { ⟦<NewParameters as Shape>⟧.shape.well params.now }
     ensures ok { (past : List Deed) → AgreeWith tables.now past → sessions_made past < 4294967295
-        → (let request = request_of (⟦<NewParameters as Shape>⟧.shape.tree_of params.now) in Decides result past asker (Some (New request)) (new_outcome past asker.conn.value request)) }
+        → (let request = request_of (⟦<NewParameters as Shape>⟧.shape.tree_of params.now) in Decides result past asker (New request) (new_outcome past asker.conn.value request)) }
     ensures well { IsWellDecided result }
 {
     if let Err(code) = match_capabilities(params) {

@@ -1,5 +1,5 @@
 //! `session.status`.
-ghost use Rattle.std.specs.Prelude.{◌≡◌, ◌≤◌, List, Ok, Some, IfOk, if◌then◌else◌, true, false, codes};
+ghost use Rattle.std.specs.Prelude.{◌≡◌, ◌≤◌, List, Ok, IfOk, if◌then◌else◌, true, false, codes};
 ghost use Rattle.bidi_tree.specs.Node.{levels};
 ghost use Rattle.bidi_messages.specs.Message.{status_tree};
 ghost use Rattle.bidi_remote.specs.Machine.Commands.{Status};
@@ -21,7 +21,7 @@ use std::alloc::{AllocError, Global};
 /// # Errors
 /// No memory, where a growth was refused.
 pub(crate) fn decide_status(alloc: Global, tables: &Tables, asker: Asker) -> Result<Turn, Refusal>
-    ensures ok { (past : List Deed) → AgreeWith tables.now past → Decides result past asker (Some Status) (Ok Told) }
+    ensures ok { (past : List Deed) → AgreeWith tables.now past → Decides result past asker Status (Ok Told) }
     ensures well { IsWellDecided result }
 {
     let reply = status_result(alloc, tables.sessions.is_ready())?;

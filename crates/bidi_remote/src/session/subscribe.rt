@@ -1,5 +1,5 @@
 //! `session.subscribe`.
-ghost use Rattle.std.specs.Prelude.{◌≡◌, ◌<◌, List, map, filter, string_bytes, option_map, Some, IfOk, true};
+ghost use Rattle.std.specs.Prelude.{◌≡◌, ◌<◌, List, map, filter, string_bytes, option_map, IfOk, true};
 ghost use Rattle.bidi_browser.specs.Acts.{Act};
 ghost use Rattle.bidi_browser.specs.Occurrences.{tree_events};
 ghost use Rattle.bidi_browser.specs.Stands.{StandsFor};
@@ -53,7 +53,7 @@ pub(crate) fn decide_subscribe(
     params: &SubscribeParameters,
 ) -> Result<Turn, Refusal>
     ensures ok { (past : List Deed) → AgreeWith tables.now past → is_active past session ≡ true → subscriptions_made past session < 4294967295
-        → Decides result past asker (Some (subscribe_asked params.now)) (outcome_in past session (subscribe_asked params.now)) }
+        → Decides result past asker (subscribe_asked params.now) (outcome_in past session (subscribe_asked params.now)) }
     ensures well { IsWellDecided result }
 {
     let events = all_named(alloc, &params.events.items)?;

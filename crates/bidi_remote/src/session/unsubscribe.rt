@@ -1,5 +1,5 @@
 //! `session.unsubscribe`.
-ghost use Rattle.std.specs.Prelude.{◌≡◌, List, Some, true, IfOk};
+ghost use Rattle.std.specs.Prelude.{◌≡◌, List, true, IfOk};
 ghost use Rattle.bidi_browser.specs.Maps.{nothing};
 ghost use Rattle.bidi_remote.specs.Machine.History.{Deed};
 ghost use Rattle.bidi_remote.specs.Machine.Outcome.{outcome_in, unsubscribe_by_id_outcome, unsubscribe_by_events_outcome};
@@ -36,7 +36,7 @@ pub(crate) fn decide_unsubscribe(
     params: &UnsubscribeParameters,
 ) -> Result<Turn, Refusal>
     ensures ok { (past : List Deed) → AgreeWith tables.now past → is_active past session ≡ true
-        → Decides result past asker (Some (unsubscribe_asked params.now)) (outcome_in past session (unsubscribe_asked params.now)) }
+        → Decides result past asker (unsubscribe_asked params.now) (outcome_in past session (unsubscribe_asked params.now)) }
     ensures well { IsWellDecided result }
 {
     let change = match params {

@@ -2,14 +2,13 @@
 use Rattle.std.proofs.Common.{◌≡◌, ◌+◌, ◌≤◌, ℕ, List, length, reverse}
 use Rattle.std.specs.Io.KnownBytes.{Appends}
 use Rattle.bidi_remote.specs.Machine.Step.{Step}
-use Rattle.bidi_remote.specs.Machine.Built.{all_so_far}
 use Rattle.bidi_remote.specs.Tables.Stands.{StandsFor}
 use Rattle.bidi.specs.Plays.{Play}
 use Rattle.bidi.proofs.playing.play_lines.Given as goal
 
 abbrev pub invariant-lines : goal.invariant-lines
 invariant-lines g l = (steps : List Step) × (wrote : List ℕ) × (play : Play l.input steps l.rest wrote) × (record {
-  stands : StandsFor l.end (reverse (all_so_far play.inputs));
+  stands : StandsFor l.end (reverse play.inputs);
   writes : Appends (g.W.Sink.contents l.initial.sink) (g.W.Sink.contents l.sink) wrote;
   failures : g.W.Sink.failures l.sink ≡ g.W.Sink.failures l.initial.sink;
   lines : l.lines ≡ length steps;

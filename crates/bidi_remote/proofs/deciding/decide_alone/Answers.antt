@@ -1,8 +1,8 @@
 use Rattle.std.proofs.Common.{sym, ap, subst, arith}
 use Rattle.bidi_params.specs.contracts.session.capabilities.NewParametersShape.TheImpl.{ghosts}
 use Rattle.bidi_remote.specs.Machine.Connections.{Alone}
-use Rattle.bidi_remote.specs.Machine.Outcome.{deeds}
-use Rattle.bidi_remote.specs.Tables.Asked.{asked_of, outcome_so_far}
+use Rattle.bidi_remote.specs.Machine.Outcome.{deeds, outcome}
+use Rattle.bidi_remote.specs.Tables.Asked.{asked_of}
 use Rattle.bidi_remote.specs.Tables.Turns.{Decides}
 use Rattle.bidi_remote.proofs.SpeakingLemmas.{few-sessions}
 use Rattle.bidi_remote.proofs.deciding.decide_alone.Goals as goal
@@ -10,5 +10,5 @@ use Rattle.bidi_remote.proofs.deciding.decide_alone.Goals as goal
 pub returns-in-SessionNew-clause-ok : goal.returns-in-SessionNew-clause-ok
 returns-in-SessionNew-clause-ok c = λ h short a.
     let few = few-sessions h in
-    subst (λ asked. Decides c.decide_new.result (deeds h) c.args.asker asked (outcome_so_far (deeds h) c.args.asker.conn.value Alone asked)) (sym (ap (asked_of ghosts.shape) c.in-SessionNew.is))
+    subst (λ asked. Decides c.decide_new.result (deeds h) c.args.asker asked (outcome (deeds h) c.args.asker.conn.value Alone asked)) (sym (ap (asked_of ghosts.shape) c.in-SessionNew.is))
     (c.decide_new.ensures.ok (deeds h) a (omega (arith, few, short)))

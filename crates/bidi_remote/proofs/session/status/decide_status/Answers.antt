@@ -1,4 +1,4 @@
-use Rattle.std.proofs.Common.{◌∙◌, Some, [], ◌∷◌, true, false, codes, refl, ap}
+use Rattle.std.proofs.Common.{◌∙◌, [], ◌∷◌, true, false, codes, refl, ap}
 use Rattle.std.specs.Prelude.{if◌then◌else◌}
 use Rattle.bidi_messages.specs.Message.{status_tree}
 use Rattle.bidi_browser.specs.Occurs.{Replies}
@@ -9,7 +9,7 @@ use Rattle.bidi_remote.proofs.session.status.decide_status.Goals as goal
 
 pub returns-clause-ok : goal.returns-clause-ok
 returns-clause-ok c = λ past a.
-    replied-decides c.replied.result past c.args.asker (Some Status) _ change.Nothing c.in_ok-reply.reply tt
+    replied-decides c.replied.result past c.args.asker Status _ change.Nothing c.in_ok-reply.reply tt
     c.replied.ensures.change c.replied.ensures.before c.replied.ensures.reply c.replied.ensures.after refl
     (ap (λ t. Replies t ∷ []) (c.in_ok-reply.ensures.tree ∙ ap (λ b. if b then status_tree true (codes "ready") else status_tree false (codes "full")) (is_ready-rows c.args.tables.now past c.is_ready.result a c.is_ready.ensures)))
     c.replied.ensures.announced refl

@@ -1,4 +1,4 @@
-use Rattle.std.proofs.Common.{◌≡◌, ◌∙◌, true, false, nat_lt, [], ◌∷◌, map, length, option_map, Some, sym, ap, subst, arith}
+use Rattle.std.proofs.Common.{◌≡◌, ◌∙◌, true, false, nat_lt, [], ◌∷◌, map, length, option_map, sym, ap, subst, arith}
 use Rattle.std.proofs.lemmas.Bool.Decides.{nat_tests}
 use Rattle.bidi_browser.specs.Occurs.{Replies}
 use Rattle.bidi_remote.specs.declared.turn.Change.TheVariants as change
@@ -35,7 +35,7 @@ returns-clause-ok c = λ past a active few.
     let made = ap (λ r. r.made) row in
     let next : c.next_subscription.result ≡ next_subscription past s = let n = c.next_subscription.ensures (omega (arith, made, few)) in omega (arith, n, made) in
     let newly = c.in_ok-announced.ensures past a active in
-    announced-decides c.announced.result past c.args.asker (Some (subscribe_asked c.args.params.now)) _ (change.Subscribe s es scope) c.in_ok-reply.reply tt
+    announced-decides c.announced.result past c.args.asker (subscribe_asked c.args.params.now) _ (change.Subscribe s es scope) c.in_ok-reply.reply tt
     c.announced.ensures.change c.announced.ensures.before c.announced.ensures.reply c.announced.ensures.after
     (subscribe-checked past s (length held) (texts c.args.params.now.events.items.items) (option_map (λ l. texts l.items.items) c.args.params.now.contexts) (option_map (λ l. texts l.items.items) c.args.params.now.user_contexts) es.items (scope_of scope) true (ap (λ xs. all_named (texts xs)) (sym c.deref.ensures.value) ∙ c.in_ok-events.ensures) (c.in_ok-scope.ensures (acts past) a.browser) (held-length past s held rows) room)
     (ap (λ t. Replies t ∷ []) (c.in_ok-reply.ensures.tree ∙ ap (subscription_tree s) next))

@@ -1,7 +1,7 @@
 use Rattle.std.proofs.Common.{Err, subst}
 use Rattle.bidi_params.specs.contracts.session.capabilities.NewParametersShape.TheImpl.{ghosts}
-use Rattle.bidi_remote.specs.Machine.Outcome.{deeds}
-use Rattle.bidi_remote.specs.Tables.Asked.{asked_of, outcome_so_far}
+use Rattle.bidi_remote.specs.Machine.Outcome.{deeds, outcome}
+use Rattle.bidi_remote.specs.Tables.Asked.{asked_of}
 use Rattle.bidi_remote.specs.Tables.ConnectionRows.{standing_in_hand}
 use Rattle.bidi_remote.specs.Tables.Turns.{Decides}
 use Rattle.bidi_remote.proofs.TakeLemmas.{turn_takes, code_takes}
@@ -15,5 +15,5 @@ returns-in-Ok-clause-ok c = λ h t short a stands opened asks.
 pub returns-in-Err-Code-clause-ok : goal.returns-in-Err-Code-clause-ok
 returns-in-Err-Code-clause-ok c = λ h t short a stands opened asks.
     code_takes c.refuse.result c.args.self.now h c.args.asker t (standing_in_hand c.args.standing) (asked_of ghosts.shape c.args.asked.now) stands opened asks c.in-Err-Code.code
-    (subst (λ r. Decides (Err r) (deeds h) c.args.asker (asked_of ghosts.shape c.args.asked.now) (outcome_so_far (deeds h) c.args.asker.conn.value (standing_in_hand c.args.standing) (asked_of ghosts.shape c.args.asked.now))) c.in-Err-Code.field-0-is (c.in-Err-Code.ensures.ok h short a stands)) a
+    (subst (λ r. Decides (Err r) (deeds h) c.args.asker (asked_of ghosts.shape c.args.asked.now) (outcome (deeds h) c.args.asker.conn.value (standing_in_hand c.args.standing) (asked_of ghosts.shape c.args.asked.now))) c.in-Err-Code.field-0-is (c.in-Err-Code.ensures.ok h short a stands)) a
     c.refuse.ensures.sent c.refuse.ensures.reads_back

@@ -1,26 +1,25 @@
-use Rattle.std.proofs.Common.{◌∙◌, Err, option_map, refl, sym, subst, ap, ap₂, map, IfOk}
+use Rattle.std.proofs.Common.{◌∙◌, Err, option_map, refl, sym, subst, ap, map, IfOk}
 use Rattle.bidi_messages.specs.contracts.command.CommandShape.TheImpl.{ghosts}
 use Rattle.bidi_messages.specs.Verdict.{Refused}
 use Rattle.bidi_messages.specs.View.{verdict_of, IsWell}
 use Rattle.bidi_remote.specs.declared.step.Sent.TheVariants.{Lost}
 use Rattle.bidi_remote.specs.Machine.History.{Heard}
-use Rattle.bidi_remote.specs.Machine.Connections.{is_shut, standing_of}
+use Rattle.bidi_remote.specs.Machine.Connections.{is_shut}
 use Rattle.bidi_remote.specs.Machine.Outcome as outcome
 use Rattle.bidi_remote.specs.Machine.Outcome.{deeds}
-use Rattle.bidi_remote.specs.Machine.Built.{judged_so_far}
 use Rattle.bidi_remote.specs.Tables.ConnectionRows.{standing_in_hand}
 use Rattle.bidi_remote.specs.Tables.Stands.{Takes}
 use Rattle.bidi_remote.specs.Tables.View.{sent_of}
 use Rattle.bidi_remote.proofs.AskLemmas.{tree_of, asks-tree, well-asked}
 use Rattle.bidi_remote.proofs.ChangeLemmas.{stands, not_shut}
-use Rattle.bidi_remote.proofs.TurnLemmas.{heard-shut, heard-open, refused-so-far}
+use Rattle.bidi_remote.proofs.TurnLemmas.{heard-shut, heard-open}
 use Rattle.bidi_remote.proofs.TakeLemmas.{only_takes, refused_takes, told-refused, anyway}
 use Rattle.bidi_remote.proofs.tables.Tables.settle.Goals as goal
 
 pub returns-in-Shut-clause-ok : goal.returns-in-Shut-clause-ok
 returns-in-Shut-clause-ok c = λ h short a.
     let conn = c.args.conn.value in
-    let v = judged_so_far (standing_of (deeds h) conn) (verdict_of ghosts.shape c.args.verdict.now) in
+    let v = verdict_of ghosts.shape c.args.verdict.now in
     let shut = sym (stands c.args.self.now h conn (standing_in_hand c.standing_of-standing.result) a c.standing_of-standing.ensures) ∙ ap standing_in_hand c.in-Shut.is in
     only_takes c.only.result (Lost c.args.conn) c.args.self.now h (Heard conn v) (Err (outcome.Lost conn)) c.only.ensures (heard-shut (deeds h) conn v shut) (sym (told-refused (deeds h) conn v (outcome.Lost conn))) tt a
 
@@ -32,8 +31,7 @@ returns-in-Accepted c = record {
   ok = λ h short a.
       let conn = c.args.conn.value in
       let stand = stands c.args.self.now h conn (standing_in_hand c.standing_of-standing.result) a c.standing_of-standing.ensures in
-      subst (λ i. IfOk c.answer.result (λ all. Takes c.answer.new.self (map sent_of all.items) h i))
-      (ap₂ (λ s v. Heard conn (judged_so_far s v)) stand (sym (ap (verdict_of ghosts.shape) c.in-Accepted.is)))
+      subst (λ v. IfOk c.answer.result (λ all. Takes c.answer.new.self (map sent_of all.items) h (Heard conn v))) (sym (ap (verdict_of ghosts.shape) c.in-Accepted.is))
       (c.answer.ensures.ok h (tree_of c.in-Accepted.command) short a (sym stand) (not_shut c.standing_of-standing.result c.in_default.not-Shut)
       (asks-tree c.in-Accepted.command (subst (IsWell ghosts.shape) c.in-Accepted.is c.requires)));
   err = c.answer.ensures.err;
@@ -46,8 +44,7 @@ returns-in-Refused c = record {
       let stand = stands c.args.self.now h conn (standing_in_hand c.standing_of-standing.result) a c.standing_of-standing.ensures in
       let v = Refused (option_map (λ n. n.value) c.in-Refused.id) c.in-Refused.code in
       let opened = ap is_shut (sym stand) ∙ not_shut c.standing_of-standing.result c.in_default.not-Shut in
-      subst (λ v. IfOk c.refuse.result (λ all. Takes c.args.self.now (map sent_of all.items) h (Heard conn v)))
-      (sym (refused-so-far (standing_of (deeds h) conn) _ _) ∙ ap (judged_so_far (standing_of (deeds h) conn)) (sym (ap (verdict_of ghosts.shape) c.in-Refused.is)))
+      subst (λ v. IfOk c.refuse.result (λ all. Takes c.args.self.now (map sent_of all.items) h (Heard conn v))) (sym (ap (verdict_of ghosts.shape) c.in-Refused.is))
       (refused_takes c.refuse.result c.args.self.now h (Heard conn v) (Err (outcome.Error conn (option_map (λ n. n.value) c.in-Refused.id) c.in-Refused.code)) _ c.refuse.ensures.sent c.refuse.ensures.reads_back (heard-open (deeds h) conn v opened) refl a);
   err = anyway c.refuse.result (λ h a. a);
 }
