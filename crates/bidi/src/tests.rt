@@ -1,9 +1,11 @@
 //! Runs over memory, as the program makes them.
+mod calls;
 mod command_lines;
 mod contexts;
 mod evaluations;
 mod examples;
 mod failures;
+mod handles;
 mod listings;
 mod log;
 mod navigation;
@@ -13,6 +15,7 @@ mod sessions;
 pub(crate) mod stop_at;
 mod subscriptions;
 pub(crate) mod tables;
+mod value_limits;
 
 use super::arguments::Run;
 use super::device::Device;
@@ -20,15 +23,21 @@ use super::running::run;
 use std::alloc::Global;
 use std::process::Abort;
 use std::test::Fail;
-use tables::{check, input_of, outcome_text, spelled_out, wanted_of, with_ids};
+use tables::{check, input_of, outcome_text, repeated, spelled_out, wanted_of, with_ids};
 
 /// Runs all that is asked for over the input of each row, and compares what comes out with the row's outcome.
 fn check_rows<R: Abort + AllocGlobal>(rt: &R, asked: &[Run], table: &str) -> Result<(), Fail> {
     let table = spelled_out(rt.alloc(), table)?;
     for row in table.split("\n\n") {
-        let found = outcomes(rt.alloc(), asked, row)?;
-        check(rt, row, found, wanted_of(rt.alloc(), row)?);
+        check_row(rt, asked, row)?;
     }
+    Ok(())
+}
+
+/// Does so for one row.
+fn check_row<R: Abort + AllocGlobal>(rt: &R, asked: &[Run], row: &str) -> Result<(), Fail> {
+    let found = outcomes(rt.alloc(), asked, row)?;
+    check(rt, row, found, wanted_of(rt.alloc(), row)?);
     Ok(())
 }
 
@@ -36,6 +45,17 @@ fn check_rows<R: Abort + AllocGlobal>(rt: &R, asked: &[Run], table: &str) -> Res
 fn check_plays<R: Abort + AllocGlobal>(rt: &R, table: &str) -> Result<(), Fail> {
     let table = with_ids(rt.alloc(), table)?;
     check_rows(rt, &[Run::Play], table.as_str())
+}
+
+/// Runs the plays of a table in which ids stand as short words, and what comes many times stands once.
+fn check_long_plays<R: Abort + AllocGlobal>(rt: &R, table: &str) -> Result<(), Fail> {
+    let table = with_ids(rt.alloc(), table)?;
+    let table = spelled_out(rt.alloc(), table.as_str())?;
+    for row in table.split("\n\n") {
+        let row = repeated(rt.alloc(), row)?;
+        check_row(rt, &[Run::Play], row.as_str())?;
+    }
+    Ok(())
 }
 
 /// The outcomes of these runs over the input of a row.

@@ -234,6 +234,95 @@ fn navigation(rt: HostRuntime) -> Result<(), Fail> {
     check_rows(&rt, &[Run::Play], NAVIGATION)
 }
 
+const CONVERSATION: &str = r#"a visit to a shop, from the first question to the end of the session
+open 1 /session
+  opened 1
+> 1 {"id":1,"method":"session.status","params":{}}
+  < 1 {"id":1,"result":{"message":"ready","ready":true},"type":"success"}
+> 1 {"id":2,"method":"session.new","params":{"capabilities":{"alwaysMatch":{"browserName":"memory-browser"}}}}
+  < 1 {"id":2,"result":{"capabilities":CAPABILITIES,"sessionId":"00000000-0001-8000-8000-000000000001"},"type":"success"}
+> 1 {"id":3,"method":"session.subscribe","params":{"events":["browsingContext","script","log"]}}
+  < 1 CONTEXT
+  < 1 REALM
+  < 1 {"id":3,"result":{"subscription":"00000001-0005-8000-8000-000000000001"},"type":"success"}
+value {"text":"document.title","returns":{"type":"string","value":"A shop"}}
+value {"text":"cart()","returns":{"type":"object","value":[["items",{"type":"array","value":[{"type":"string","value":"pen"},{"type":"string","value":"ink"}]}],["total",{"type":"number","value":7}]]}}
+value {"text":"(cart, reason) => cart","argument":0}
+value {"text":"pay()","throws":{"type":"error"}}
+> 1 {"id":4,"method":"browsingContext.create","params":{"type":"tab"}}
+  < 1 {"method":"browsingContext.contextCreated","params":{"children":null,"clientWindow":"00000000-0007-8000-8000-000000000001","context":"00000000-0002-8000-8000-000000000002","originalOpener":null,"parent":null,"url":"about:blank","userContext":"default"},"type":"event"}
+  < 1 {"method":"script.realmCreated","params":{"context":"00000000-0002-8000-8000-000000000002","origin":"null","realm":"00000000-0003-8000-8000-000000000002","type":"window"},"type":"event"}
+  < 1 {"id":4,"result":{"context":"00000000-0002-8000-8000-000000000002"},"type":"success"}
+at 1000
+> 1 {"id":5,"method":"browsingContext.navigate","params":{"context":"00000000-0002-8000-8000-000000000002","url":"https://shop.test","wait":"complete"}}
+  < 1 {"method":"browsingContext.navigationStarted","params":{"context":"00000000-0002-8000-8000-000000000002","navigation":"00000000-0004-8000-8000-000000000001","timestamp":1000,"url":"https://shop.test/"},"type":"event"}
+  < 1 {"method":"script.realmDestroyed","params":{"realm":"00000000-0003-8000-8000-000000000002"},"type":"event"}
+  < 1 {"method":"script.realmCreated","params":{"context":"00000000-0002-8000-8000-000000000002","origin":"https://shop.test","realm":"00000000-0003-8000-8000-000000000003","type":"window"},"type":"event"}
+  < 1 {"method":"browsingContext.domContentLoaded","params":{"context":"00000000-0002-8000-8000-000000000002","navigation":"00000000-0004-8000-8000-000000000001","timestamp":1000,"url":"https://shop.test/"},"type":"event"}
+  < 1 {"method":"browsingContext.load","params":{"context":"00000000-0002-8000-8000-000000000002","navigation":"00000000-0004-8000-8000-000000000001","timestamp":1000,"url":"https://shop.test/"},"type":"event"}
+  < 1 {"id":5,"result":{"navigation":"00000000-0004-8000-8000-000000000001","url":"https://shop.test/"},"type":"success"}
+frame 00000000-0002-8000-8000-000000000002 https://ads.test/banner
+  < 1 {"method":"browsingContext.contextCreated","params":{"children":null,"clientWindow":"00000000-0007-8000-8000-000000000001","context":"00000000-0002-8000-8000-000000000003","originalOpener":null,"parent":"00000000-0002-8000-8000-000000000002","url":"https://ads.test/banner","userContext":"default"},"type":"event"}
+  < 1 {"method":"script.realmCreated","params":{"context":"00000000-0002-8000-8000-000000000003","origin":"https://ads.test","realm":"00000000-0003-8000-8000-000000000004","type":"window"},"type":"event"}
+> 1 {"id":6,"method":"browsingContext.getTree","params":{"root":"00000000-0002-8000-8000-000000000002"}}
+  < 1 {"id":6,"result":{"contexts":[{"children":[{"children":[],"clientWindow":"00000000-0007-8000-8000-000000000001","context":"00000000-0002-8000-8000-000000000003","originalOpener":null,"url":"https://ads.test/banner","userContext":"default"}],"clientWindow":"00000000-0007-8000-8000-000000000001","context":"00000000-0002-8000-8000-000000000002","originalOpener":null,"parent":null,"url":"https://shop.test/","userContext":"default"}]},"type":"success"}
+log 00000000-0002-8000-8000-000000000002 info the shop is open
+  < 1 {"method":"log.entryAdded","params":{"args":[{"type":"string","value":"the shop is open"}],"level":"info","method":"info","source":{"context":"00000000-0002-8000-8000-000000000002","realm":"00000000-0003-8000-8000-000000000003"},"text":"the shop is open","timestamp":1000,"type":"console"},"type":"event"}
+> 1 {"id":7,"method":"script.evaluate","params":{"awaitPromise":false,"expression":"document.title","target":{"context":"00000000-0002-8000-8000-000000000002"}}}
+  < 1 {"id":7,"result":{"realm":"00000000-0003-8000-8000-000000000003","result":{"type":"string","value":"A shop"},"type":"success"},"type":"success"}
+> 1 {"id":8,"method":"script.evaluate","params":{"awaitPromise":false,"expression":"cart()","resultOwnership":"root","target":{"context":"00000000-0002-8000-8000-000000000002"}}}
+  < 1 {"id":8,"result":{"realm":"00000000-0003-8000-8000-000000000003","result":{"handle":"00000000-0006-8000-8000-000000000001","type":"object","value":[["items",{"type":"array","value":[{"type":"string","value":"pen"},{"type":"string","value":"ink"}]}],["total",{"type":"number","value":7}]]},"type":"success"},"type":"success"}
+> 1 {"id":9,"method":"script.callFunction","params":{"arguments":[{"handle":"00000000-0006-8000-8000-000000000001"},{"type":"string","value":"to look again"}],"awaitPromise":false,"functionDeclaration":"(cart, reason) => cart","resultOwnership":"root","target":{"context":"00000000-0002-8000-8000-000000000002"},"this":{"type":"undefined"}}}
+  < 1 {"id":9,"result":{"realm":"00000000-0003-8000-8000-000000000003","result":{"handle":"00000000-0006-8000-8000-000000000002","type":"object","value":[["items",{"type":"array","value":[{"type":"string","value":"pen"},{"type":"string","value":"ink"}]}],["total",{"type":"number","value":7}]]},"type":"success"},"type":"success"}
+> 1 {"id":10,"method":"script.callFunction","params":{"arguments":[{"type":"map","value":[["cart",{"handle":"00000000-0006-8000-8000-000000000001"}],[{"type":"number","value":1},{"type":"date","value":"2026-11-24"}]]}],"awaitPromise":false,"functionDeclaration":"(cart, reason) => cart","target":{"realm":"00000000-0003-8000-8000-000000000003"}}}
+  < 1 {"id":10,"result":{"realm":"00000000-0003-8000-8000-000000000003","result":{"type":"map","value":[["cart",{"type":"object","value":[["items",{"type":"array","value":[{"type":"string","value":"pen"},{"type":"string","value":"ink"}]}],["total",{"type":"number","value":7}]]}],[{"type":"number","value":1},{"type":"date","value":"2026-11-24"}]]},"type":"success"},"type":"success"}
+> 1 {"id":11,"method":"script.callFunction","params":{"arguments":[{"handle":"00000000-0006-8000-8000-000000000001"}],"awaitPromise":false,"functionDeclaration":"(cart, reason) => cart","target":{"context":"00000000-0002-8000-8000-000000000003"}}}
+  < 1 {"error":"no such handle","id":11,"message":"no such handle","type":"error"}
+> 1 {"id":12,"method":"script.evaluate","params":{"awaitPromise":false,"expression":"pay()","target":{"context":"00000000-0002-8000-8000-000000000002"}}}
+  < 1 {"id":12,"result":{"exceptionDetails":{"columnNumber":0,"exception":{"type":"error"},"lineNumber":0,"stackTrace":{"callFrames":[]},"text":"thrown"},"realm":"00000000-0003-8000-8000-000000000003","type":"exception"},"type":"success"}
+log 00000000-0002-8000-8000-000000000002 error the payment failed
+  < 1 {"method":"log.entryAdded","params":{"args":[{"type":"string","value":"the payment failed"}],"level":"error","method":"error","source":{"context":"00000000-0002-8000-8000-000000000002","realm":"00000000-0003-8000-8000-000000000003"},"text":"the payment failed","timestamp":1000,"type":"console"},"type":"event"}
+> 1 {"id":13,"method":"script.disown","params":{"handles":["00000000-0006-8000-8000-000000000001"],"target":{"context":"00000000-0002-8000-8000-000000000002"}}}
+  < 1 {"id":13,"result":{},"type":"success"}
+> 1 {"id":14,"method":"script.callFunction","params":{"arguments":[{"handle":"00000000-0006-8000-8000-000000000001"}],"awaitPromise":false,"functionDeclaration":"(cart, reason) => cart","target":{"context":"00000000-0002-8000-8000-000000000002"}}}
+  < 1 {"error":"no such handle","id":14,"message":"no such handle","type":"error"}
+at 2500
+> 1 {"id":15,"method":"browsingContext.navigate","params":{"context":"00000000-0002-8000-8000-000000000002","url":"https://shop.test/cart?step=2","wait":"interactive"}}
+  < 1 {"method":"browsingContext.navigationStarted","params":{"context":"00000000-0002-8000-8000-000000000002","navigation":"00000000-0004-8000-8000-000000000002","timestamp":2500,"url":"https://shop.test/cart?step=2"},"type":"event"}
+  < 1 {"method":"script.realmDestroyed","params":{"realm":"00000000-0003-8000-8000-000000000004"},"type":"event"}
+  < 1 {"method":"browsingContext.contextDestroyed","params":{"children":[],"clientWindow":"00000000-0007-8000-8000-000000000001","context":"00000000-0002-8000-8000-000000000003","originalOpener":null,"parent":"00000000-0002-8000-8000-000000000002","url":"https://ads.test/banner","userContext":"default"},"type":"event"}
+  < 1 {"method":"script.realmDestroyed","params":{"realm":"00000000-0003-8000-8000-000000000003"},"type":"event"}
+  < 1 {"method":"script.realmCreated","params":{"context":"00000000-0002-8000-8000-000000000002","origin":"https://shop.test","realm":"00000000-0003-8000-8000-000000000005","type":"window"},"type":"event"}
+  < 1 {"method":"browsingContext.domContentLoaded","params":{"context":"00000000-0002-8000-8000-000000000002","navigation":"00000000-0004-8000-8000-000000000002","timestamp":2500,"url":"https://shop.test/cart?step=2"},"type":"event"}
+  < 1 {"id":15,"result":{"navigation":"00000000-0004-8000-8000-000000000002","url":"https://shop.test/cart?step=2"},"type":"success"}
+  < 1 {"method":"browsingContext.load","params":{"context":"00000000-0002-8000-8000-000000000002","navigation":"00000000-0004-8000-8000-000000000002","timestamp":2500,"url":"https://shop.test/cart?step=2"},"type":"event"}
+> 1 {"id":16,"method":"script.callFunction","params":{"arguments":[{"handle":"00000000-0006-8000-8000-000000000002"}],"awaitPromise":false,"functionDeclaration":"(cart, reason) => cart","target":{"context":"00000000-0002-8000-8000-000000000002"}}}
+  < 1 {"error":"no such handle","id":16,"message":"no such handle","type":"error"}
+> 1 {"id":17,"method":"session.unsubscribe","params":{"events":["script"]}}
+  < 1 {"id":17,"result":{},"type":"success"}
+> 1 {"id":18,"method":"browsingContext.traverseHistory","params":{"context":"00000000-0002-8000-8000-000000000002","delta":-1}}
+  < 1 {"method":"browsingContext.navigationStarted","params":{"context":"00000000-0002-8000-8000-000000000002","navigation":"00000000-0004-8000-8000-000000000003","timestamp":2500,"url":"https://shop.test/"},"type":"event"}
+  < 1 {"method":"browsingContext.domContentLoaded","params":{"context":"00000000-0002-8000-8000-000000000002","navigation":"00000000-0004-8000-8000-000000000003","timestamp":2500,"url":"https://shop.test/"},"type":"event"}
+  < 1 {"method":"browsingContext.load","params":{"context":"00000000-0002-8000-8000-000000000002","navigation":"00000000-0004-8000-8000-000000000003","timestamp":2500,"url":"https://shop.test/"},"type":"event"}
+  < 1 {"id":18,"result":{},"type":"success"}
+> 1 {"id":19,"method":"script.getRealms","params":{}}
+  < 1 {"id":19,"result":{"realms":[{"context":"00000000-0002-8000-8000-000000000001","origin":"null","realm":"00000000-0003-8000-8000-000000000001","type":"window"},{"context":"00000000-0002-8000-8000-000000000002","origin":"https://shop.test","realm":"00000000-0003-8000-8000-000000000006","type":"window"}]},"type":"success"}
+> 1 {"id":20,"method":"browsingContext.close","params":{"context":"00000000-0002-8000-8000-000000000002"}}
+  < 1 {"method":"browsingContext.contextDestroyed","params":{"children":[],"clientWindow":"00000000-0007-8000-8000-000000000001","context":"00000000-0002-8000-8000-000000000002","originalOpener":null,"parent":null,"url":"https://shop.test/","userContext":"default"},"type":"event"}
+  < 1 {"id":20,"result":{},"type":"success"}
+> 1 {"id":21,"method":"script.evaluate","params":{"awaitPromise":false,"expression":"cart()","target":{"context":"00000000-0002-8000-8000-000000000002"}}}
+  < 1 {"error":"no such frame","id":21,"message":"no such frame","type":"error"}
+> 1 {"id":22,"method":"session.end","params":{}}
+  < 1 {"id":22,"result":{},"type":"success"}
+  close 1
+> 1 {"id":23,"method":"session.status","params":{}}
+  lost 1"#;
+
+#[test]
+fn conversation(rt: HostRuntime) -> Result<(), Fail> {
+    check_rows(&rt, &[Run::Play], CONVERSATION)
+}
+
 const BROWSERS: &str = r#"texts outside the profile, and one inside
 {"method":"log.entryAdded","params":{"args":[],"level":"info","method":"info","source":{"context":"c","realm":"r","userContext":"default"},"text":"hi","timestamp":7,"type":"console"},"type":"event"}
 {"method":"browsingContext.navigationCommitted","params":{"context":"c","navigation":"n","timestamp":5,"url":"about:blank"},"type":"event"}

@@ -1,5 +1,5 @@
 //! Plays of few lines: what each line gives, which lines are none, and limits met and passed.
-use super::check_rows;
+use super::{check_long_plays, check_rows};
 use crate::arguments::Run;
 use std::alloc::{AllocError, Global};
 use std::test::Fail;
@@ -29,6 +29,16 @@ open 1 /session
 > 1 {"id":9007199254740992,"method":"session.status","params":{}}
   < 1 {"error":"invalid argument","id":null,"message":"invalid argument","type":"error"}
 
+ids that are none
+open 1 /session
+  opened 1
+> 1 {"id":1.5,"method":"session.status","params":{}}
+  < 1 {"error":"invalid argument","id":null,"message":"invalid argument","type":"error"}
+> 1 {"id":"1","method":"session.status","params":{}}
+  < 1 {"error":"invalid argument","id":null,"message":"invalid argument","type":"error"}
+> 1 {"id":-1,"method":"session.status","params":{}}
+  < 1 {"error":"invalid argument","id":null,"message":"invalid argument","type":"error"}
+
 fraction in params
 open 1 /session
   opened 1
@@ -47,6 +57,12 @@ open 1 /session
 binary 1
   < 1 {"error":"invalid argument","id":null,"message":"invalid argument","type":"error"}
 
+letter behind a text
+open 1 /session
+  opened 1
+> 1 {"id":1,"method":"session.status","params":{}}x
+  < 1 {"error":"invalid argument","id":null,"message":"invalid argument","type":"error"}
+
 carriage return behind a text
 open 1 /session
   opened 1
@@ -58,6 +74,32 @@ open 1 /session
   opened 1
 > 1  {"id":1,"method":"session.status","params":{}}
   < 1 {"id":1,"result":{"message":"ready","ready":true},"type":"success"}"#;
+
+/// The text of a command, of which every shorter front is no JSON.
+const STATUS: &str = r#"{"id":1,"method":"session.status","params":{}}"#;
+
+/// Texts that are as deep or as long as may be, or more. What comes many times stands once, as `repeated` says.
+const LIMITS: &str = r#"60 lists within each other in the parameters, and more
+open 1 /session
+  opened 1
+> 1 {"id":1,"method":"session.status","params":{"x":«60 [»«60 ]»}}
+  < 1 {"id":1,"result":{"message":"ready","ready":true},"type":"success"}
+> 1 {"id":2,"method":"session.status","params":{"x":«61 [»«61 ]»}}
+  < 1 {"error":"invalid argument","id":2,"message":"invalid argument","type":"error"}
+> 1 {"id":3,"method":"session.status","params":{"x":«125 [»«125 ]»}}
+  < 1 {"error":"invalid argument","id":3,"message":"invalid argument","type":"error"}
+> 1 {"id":4,"method":"session.status","params":{"x":«126 [»«126 ]»}}
+  < 1 {"error":"invalid argument","id":null,"message":"invalid argument","type":"error"}
+> 1 {"id":5,"method":"session.status","params":{"x":«200 [»«200 ]»}}
+  < 1 {"error":"invalid argument","id":null,"message":"invalid argument","type":"error"}
+
+1,048,576 bytes, and one more
+open 1 /session
+  opened 1
+> 1 {"id":1,"method":"session.status","params":{}}«1048530  »
+  < 1 {"id":1,"result":{"message":"ready","ready":true},"type":"success"}
+> 1 {"id":1,"method":"session.status","params":{}}«1048531  »
+  < 1 {"error":"invalid argument","id":null,"message":"invalid argument","type":"error"}"#;
 
 /// Connections that are opened, denied, dropped or lost.
 const CONNECTIONS: &str = r#"no line
@@ -263,6 +305,21 @@ open 1 MANYx\
 longest line and no line feed
 open 1 MANY\
 ! bidi: line 1 is no play line
+= 2
+
+longest line of a text
+open 1 /session
+  opened 1
+> 1 MANYxxx
+  < 1 {"error":"invalid argument","id":null,"message":"invalid argument","type":"error"}
+> 1 {"id":1,"method":"session.status","params":{}}
+  < 1 {"id":1,"result":{"message":"ready","ready":true},"type":"success"}
+
+one byte more of a text
+open 1 /session
+  opened 1
+> 1 MANYxxxx
+! bidi: line 2 is no play line
 = 2"#;
 
 /// What follows the opening of 64 connections.
@@ -282,6 +339,27 @@ fn each_line_is_answered_up_to_a_bad_one(rt: HostRuntime) -> Result<(), Fail> {
     check_rows(&rt, &play, past_64(rt.alloc())?.as_str())?;
     check_rows(&rt, &play, BAD_LINES)?;
     check_rows(&rt, &play, LONG_LINES)
+}
+
+#[test]
+fn a_text_is_read_up_to_its_limits(rt: HostRuntime) -> Result<(), Fail> {
+    check_long_plays(&rt, LIMITS)?;
+    check_rows(&rt, &[Run::Play], fronts(rt.alloc(), STATUS)?.as_str())
+}
+
+/// A row that sends every front of a text that is shorter than it, from the empty one on.
+fn fronts(alloc: Global, text: &str) -> Result<String, AllocError> {
+    let mut row = String::from_str(alloc, "every front\nopen 1 /session\n  opened 1")?;
+    for (n, _) in text.char_indices() {
+        let front = text.get(..n).unwrap_or("");
+        write!(
+            row,
+            r#"
+> 1 {front}
+  < 1 {{"error":"invalid argument","id":null,"message":"invalid argument","type":"error"}}"#
+        )?;
+    }
+    Ok(row)
 }
 
 /// A row that opens 64 connections and goes past them.

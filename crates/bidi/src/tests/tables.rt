@@ -66,6 +66,18 @@ pub(crate) fn spelled_out(alloc: Global, table: &str) -> Result<String, AllocErr
     table.replace(alloc, "REALM", REALM)
 }
 
+/// The table with each part as many times as it comes: `«3 [»` stands for `[[[`.
+pub(crate) fn repeated(alloc: Global, table: &str) -> Result<String, Fail> {
+    let mut whole = String::new(alloc);
+    for piece in table.split('«') {
+        let (many, after) = piece.split_once('»').unwrap_or(("0 ", piece));
+        let (count, part) = many.split_once(' ').ok_or("a number")?;
+        whole.push_str(part.repeat(alloc, count.parse::<usize>()?)?.as_str())?;
+        whole.push_str(after)?;
+    }
+    Ok(whole)
+}
+
 pub(crate) fn name_of(row: &str) -> &str {
     row.split('\n').next().unwrap_or("")
 }
