@@ -1,8 +1,10 @@
 -- What the browser is asked: its commands, and the steps of a play that it takes. After WebDriver BiDi, "The browsingContext Module" and "The script Module".
 use Prim.Native.String.{String}
-use Rattle.std.specs.Prelude.{ℕ, ℤ, Bool, true, false, List, [], ◌∷◌, codes, bytes_eq, Option, unwrap_or, option_map, is_some, is_none, ◌&&◌, ◌||◌, if◌then◌else◌}
+use Rattle.std.specs.Prelude.{ℕ, ℤ, Bool, true, false, List, [], ◌∷◌, codes, bytes_eq, Option, Some, None, unwrap_or, option_map, is_some, is_none, ◌&&◌, ◌||◌, if◌then◌else◌}
 use Rattle.bidi_tree.specs.Node.{Node, null}
 use Rattle.bidi_values.specs.declared.log_entry.Level.{Level}
+use Rattle.bidi_messages.specs.declared.method.Method.{Method}
+use Rattle.bidi_messages.specs.declared.method.Method.TheVariants.{BrowsingContextActivate, BrowsingContextClose, BrowsingContextCreate, BrowsingContextGetTree, BrowsingContextNavigate, BrowsingContextReload, BrowsingContextTraverseHistory, ScriptEvaluate, ScriptCallFunction, ScriptDisown, ScriptGetRealms}
 use Rattle.bidi_browser.specs.Params.{tree_if_at, text_if_at, number_if_at, trees_if_at, text_at, texts_at, whole_at, entry_at}
 
 -- a tab of a window, or a window of its own
@@ -49,6 +51,21 @@ is_asked (Unframe id) = false
 is_asked (Log id level text) = false
 is_asked (TableRow row) = false
 is_asked action = true
+
+-- the method of a command, and none of a step of a play
+abbrev pub method_of : Action → Option Method
+method_of (Activate id) = Some BrowsingContextActivate
+method_of (Close id) = Some BrowsingContextClose
+method_of (Create type reference user) = Some BrowsingContextCreate
+method_of (GetTree depth root) = Some BrowsingContextGetTree
+method_of (Navigate id url wait) = Some BrowsingContextNavigate
+method_of (Reload id wait) = Some BrowsingContextReload
+method_of (TraverseHistory id delta) = Some BrowsingContextTraverseHistory
+method_of (Evaluate expression target owned) = Some ScriptEvaluate
+method_of (CallFunction declaration target arguments this owned) = Some ScriptCallFunction
+method_of (Disown handles target) = Some ScriptDisown
+method_of (GetRealms context type) = Some ScriptGetRealms
+method_of action = None
 
 -- ---- an action, read from the params of its command
 

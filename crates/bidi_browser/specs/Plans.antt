@@ -2,6 +2,7 @@
 use Rattle.std.specs.Prelude.{◌≡◌, ◌≤◌, ◌<◌, ◌^◌, ◌==◌, ℕ, Bool, true, false, not, List, [], ◌∷◌, ◌++◌, map, filter, flat_map, get_or, Option, Some, None, Result, Ok, Err, is_some, IfSome, ⊤, string_bytes, vec_len, vec_capacity}
 use Rattle.std.specs.List.{AllByRecursion, position}
 use Rattle.bidi_tree.specs.Node.{levels}
+use Rattle.bidi_messages.specs.declared.method.Method.{Method}
 use Rattle.bidi_messages.specs.declared.result_data.ResultData.{ResultData}
 use Rattle.bidi_messages.specs.contracts.event.EventDataSubjectEventName.TheImpl as events
 use Rattle.bidi_messages.specs.contracts.result_data.ResultDataSubjectMethod.TheImpl as results
@@ -132,3 +133,8 @@ Plans (Err NoMemory) past moment action = ⊤
 abbrev pub IsWellPlanned : Result Plan Refusal → Type 0
 IsWellPlanned (Ok plan) = IsWellTold plan
 IsWellPlanned (Err refusal) = ⊤
+
+-- the result of a plan, where somebody asked, is of that method
+abbrev pub HasResultOf : Method → Result Plan Refusal → Type 0
+HasResultOf method (Ok plan) = IfSome plan.result (λ r. results.ghosts.subject.kind r ≡ method)
+HasResultOf method (Err refusal) = ⊤

@@ -9,7 +9,7 @@ ghost use Rattle.bidi_browser.specs.Contexts.{tops};
 ghost use Rattle.bidi_browser.specs.Found.{IsChecked};
 ghost use Rattle.bidi_browser.specs.Maps.{◌being◌and◌, mapped, id_tree};
 ghost use Rattle.bidi_browser.specs.Outcome.{create_outcome, is_user, oldest_window, window_for};
-ghost use Rattle.bidi_browser.specs.Plans.{AreWell, HasIds, Plans, IsWellPlanned, IsWellResult};
+ghost use Rattle.bidi_browser.specs.Plans.{AreWell, HasIds, Plans, HasResultOf, IsWellPlanned, IsWellResult};
 ghost use Rattle.bidi_browser.specs.Stands.{IsTableOf, StandsFor};
 ghost use Rattle.bidi_browser.specs.View.{result_tree, seen};
 
@@ -42,6 +42,7 @@ const LOWEST_LEVEL: u64 = 16;
 pub(crate) fn plan_create(browser: &Browser, params: &CreateParameters) -> Result<Plan, Refusal>
     ensures plans { (past : List Act) (moment : ℕ) → StandsFor browser.now past → HasIds past → Plans result past moment (create_asked params.now) }
     ensures well { IsWellPlanned result }
+    ensures of_method { HasResultOf Method.BrowsingContextCreate result }
 {
     let window = window_checked(browser, params)?;
     let opens_window = window.is_none();
@@ -167,6 +168,7 @@ fn created(alloc: Global, number: u64) -> Result<ResultData, AllocError>
     requires { number < 2 ^ 48 }
     ensures tree { IfOk result (λ r. result_tree r ≡ mapped ("context" being id_tree Kind.Context number and no_members)) }
     ensures well { IfOk result IsWellResult }
+    ensures of_method { IfOk result (λ r. ⟦<ResultData as Subject<Method>>⟧.subject.kind r ≡ Method.BrowsingContextCreate) }
 {
     let context = id_text(alloc, Kind::Context, 0, number)?;
     Ok(ResultData::BrowsingContextCreate(CreateResult {

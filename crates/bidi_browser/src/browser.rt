@@ -1,5 +1,5 @@
 //! The browser.
-ghost use Rattle.std.specs.Prelude.{◌≡◌, ℕ, ◌<◌, ◌^◌, nat_lt, length, List, [], ◌∷◌, Ok, IfOk, IsOk, IsTrue, OnOk, map, option_map};
+ghost use Rattle.std.specs.Prelude.{◌≡◌, ℕ, ◌<◌, ◌^◌, nat_lt, length, List, [], ◌∷◌, Some, Ok, IfOk, IsOk, IsTrue, OnOk, map, option_map};
 ghost use Rattle.std.specs.List.{AllByRecursion};
 ghost use Rattle.bidi_browser.specs.Accepted.{AreAccepted};
 ghost use Rattle.bidi_browser.specs.Acts.{Act};
@@ -25,7 +25,7 @@ use crate::script_table::ScriptTable;
 use crate::scripts::{plan_disown, plan_evaluate};
 use crate::tabling::plan_row;
 use crate::telling::{push_created, push_realms};
-use bidi_messages::{ErrorCode, EventData, EventName, Subject};
+use bidi_messages::{ErrorCode, EventData, EventName, Method, Subject};
 use bidi_tree::JsUint;
 use std::alloc::{AllocError, Global};
 
@@ -56,7 +56,7 @@ pub struct Browser {
 impl Browser {
     ghost use Rattle.bidi_browser.specs.Stands.{StandsFor};
     ghost use Rattle.bidi_browser.specs.Navigations.{AreNext};
-    ghost use Rattle.bidi_browser.specs.Plans.{HasIds, HasRoom, Plans, IsWellPlanned, Makes};
+    ghost use Rattle.bidi_browser.specs.Plans.{HasIds, HasResultOf, HasRoom, Plans, IsWellPlanned, Makes};
 
     /// A browser as it starts: one context at `about:blank`, in a window of its own.
     ///
@@ -93,6 +93,7 @@ impl Browser {
         // Whatever past the browser stands for, short of 2^48 ids of a kind, the plan is that of the definitions.
         ensures plans { (past : List Act) → StandsFor self.now past → HasIds past → Plans result past moment.value (action_of action.entry) }
         ensures well { IsWellPlanned result }
+        ensures of_method { (method : Method) → asked.method_of (action_of action.entry) ≡ Some method → HasResultOf method result }
     {
         match action {
             Action::Activate(params) => plan_activate(self, &params.context),

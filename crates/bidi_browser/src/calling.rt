@@ -3,7 +3,7 @@ ghost use Rattle.std.specs.Prelude.{◌≡◌, ℕ, List, map, option_map, strin
 ghost use Rattle.bidi_browser.specs.Acts.{Act};
 ghost use Rattle.bidi_browser.specs.Asked.{arguments_asked, call_function_asked};
 ghost use Rattle.bidi_browser.specs.ContextRows.{row_of, row_at};
-ghost use Rattle.bidi_browser.specs.Plans.{HasIds, Plans, IsWellPlanned};
+ghost use Rattle.bidi_browser.specs.Plans.{HasIds, Plans, HasResultOf, IsWellPlanned};
 ghost use Rattle.bidi_browser.specs.Realms.{realm_of};
 ghost use Rattle.bidi_browser.specs.Resolves.{Gives};
 ghost use Rattle.bidi_browser.specs.Runs.{call_ending};
@@ -19,7 +19,7 @@ use crate::plan::Plan;
 use crate::refusal::Refusal;
 use crate::resolving::{check_arguments, check_this};
 use crate::scripts::{Ran, ending_of, is_owned, run, targeted};
-use bidi_messages::ResultData;
+use bidi_messages::{Method, ResultData};
 use bidi_params::CallFunctionParameters;
 use bidi_values::LocalValue;
 
@@ -41,6 +41,7 @@ pub(crate) fn plan_call_function(
 ) -> Result<Plan, Refusal>
     ensures plans { (past : List Act) (moment : ℕ) → StandsFor browser.now past → HasIds past → Plans result past moment (call_function_asked params.now) }
     ensures well { IsWellPlanned result }
+    ensures of_method { HasResultOf Method.ScriptCallFunction result }
 {
     let context = targeted(&browser.contexts, &params.target)?;
     let ending = called(browser, context, params)?;

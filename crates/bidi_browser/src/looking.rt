@@ -13,7 +13,7 @@ ghost use Rattle.bidi_browser.specs.Maps.{nothing};
 ghost use Rattle.bidi_browser.specs.Occurrences.{realm_info};
 ghost use Rattle.bidi_browser.specs.Occurs.{realm_holders, roots, takes_windows};
 ghost use Rattle.bidi_browser.specs.Outcome.{context_named, looked_at, top_named, top_if_named};
-ghost use Rattle.bidi_browser.specs.Plans.{Plans, IsWellPlanned};
+ghost use Rattle.bidi_browser.specs.Plans.{Plans, HasResultOf, IsWellPlanned};
 ghost use Rattle.bidi_browser.specs.Stands.{IsTableOf, StandsFor};
 
 use crate::browser::Browser;
@@ -78,6 +78,7 @@ pub(crate) fn top_if_named<'a>(
 pub(crate) fn plan_activate(browser: &Browser, context: &str) -> Result<Plan, Refusal>
     ensures plans { (past : List Act) (moment : ℕ) → StandsFor browser.now past → Plans result past moment (Activate context.now) }
     ensures well { IsWellPlanned result }
+    ensures of_method { HasResultOf Method.BrowsingContextActivate result }
 {
     top_named(&browser.contexts, context)?;
     let result = ResultData::BrowsingContextActivate(nothing(browser.alloc));
@@ -88,6 +89,7 @@ pub(crate) fn plan_activate(browser: &Browser, context: &str) -> Result<Plan, Re
 pub(crate) fn plan_get_tree(browser: &Browser, params: &GetTreeParameters) -> Result<Plan, Refusal>
     ensures plans { (past : List Act) (moment : ℕ) → StandsFor browser.now past → Plans result past moment (get_tree_asked params.now) }
     ensures well { IsWellPlanned result }
+    ensures of_method { HasResultOf Method.BrowsingContextGetTree result }
 {
     let infos = roots(browser, depth_in(params), &params.root)?;
     let result = ResultData::BrowsingContextGetTree(GetTreeResult {
@@ -131,6 +133,7 @@ pub(crate) fn plan_get_realms(
 ) -> Result<Plan, Refusal>
     ensures plans { (past : List Act) (moment : ℕ) → StandsFor browser.now past → Plans result past moment (get_realms_asked params.now) }
     ensures well { IsWellPlanned result }
+    ensures of_method { HasResultOf Method.ScriptGetRealms result }
 {
     let contexts = holders(browser, &params.context)?;
     let realms = windows(browser.alloc, &contexts, params.kind)?;

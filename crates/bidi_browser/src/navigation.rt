@@ -8,7 +8,7 @@ ghost use Rattle.bidi_browser.specs.Contexts.{children_of, subtree_of};
 ghost use Rattle.bidi_browser.specs.Maps.{◌being◌and◌, mapped, id_tree};
 ghost use Rattle.bidi_browser.specs.Navigations.{AreNext, navigation_events, before_reply, IsTold};
 ghost use Rattle.bidi_browser.specs.Occurs.{led_to};
-ghost use Rattle.bidi_browser.specs.Plans.{AreWell, HasIds, Plans, IsWellPlanned};
+ghost use Rattle.bidi_browser.specs.Plans.{AreWell, HasIds, Plans, HasResultOf, IsWellPlanned};
 ghost use Rattle.bidi_browser.specs.Stands.{StandsFor};
 ghost use Rattle.bidi_browser.specs.Urls.{url_text};
 ghost use Rattle.bidi_browser.specs.View.{seen};
@@ -23,7 +23,7 @@ use crate::refusal::Refusal;
 use crate::removals::push_removals;
 use crate::session_history::Move;
 use crate::urls::parsed;
-use bidi_messages::{ErrorCode, ResultData};
+use bidi_messages::{ErrorCode, Method, ResultData};
 use bidi_params::{
     NavigateParameters, NavigateResult, ReloadParameters, TraverseHistoryParameters, Wait,
 };
@@ -52,6 +52,7 @@ pub(crate) fn plan_navigate(
 ) -> Result<Plan, Refusal>
     ensures plans { (past : List Act) → StandsFor browser.now past → HasIds past → Plans result past moment.value (navigate_asked params.now) }
     ensures well { IsWellPlanned result }
+    ensures of_method { HasResultOf Method.BrowsingContextNavigate result }
 {
     let context = context_named(&browser.contexts, &params.context)?;
     let url = parsed(browser.alloc, &params.url)?;
@@ -84,6 +85,7 @@ pub(crate) fn plan_reload(
 ) -> Result<Plan, Refusal>
     ensures plans { (past : List Act) → StandsFor browser.now past → HasIds past → Plans result past moment.value (reload_asked params.now) }
     ensures well { IsWellPlanned result }
+    ensures of_method { HasResultOf Method.BrowsingContextReload result }
 {
     let context = context_named(&browser.contexts, &params.context)?;
     let url = context.history.present();
@@ -114,6 +116,7 @@ pub(crate) fn plan_traverse_history(
 ) -> Result<Plan, Refusal>
     ensures plans { (past : List Act) → StandsFor browser.now past → HasIds past → Plans result past moment.value (traverse_asked params.now) }
     ensures well { IsWellPlanned result }
+    ensures of_method { HasResultOf Method.BrowsingContextTraverseHistory result }
 {
     let context = top_named(&browser.contexts, &params.context)?;
     let Some((place, url)) = context.history.across(params.delta) else {

@@ -5,7 +5,7 @@ ghost use Rattle.bidi_browser.specs.Actions.{Close, Unframe};
 ghost use Rattle.bidi_browser.specs.ContextRows.{row_of, row_at};
 ghost use Rattle.bidi_browser.specs.Contexts.{subtree_of};
 ghost use Rattle.bidi_browser.specs.Occurrences.{removal};
-ghost use Rattle.bidi_browser.specs.Plans.{AreWell, Makes, Plans, IsWellPlanned};
+ghost use Rattle.bidi_browser.specs.Plans.{AreWell, Makes, Plans, HasResultOf, IsWellPlanned};
 ghost use Rattle.bidi_browser.specs.Stands.{StandsFor};
 ghost use Rattle.bidi_browser.specs.View.{seen};
 
@@ -16,7 +16,7 @@ use crate::occurrence::Occurrence;
 use crate::plan::{Change, Edit, Plan};
 use crate::refusal::Refusal;
 use crate::telling::push_realms_gone;
-use bidi_messages::{ErrorCode, ResultData};
+use bidi_messages::{ErrorCode, Method, ResultData};
 use std::alloc::{AllocError, Global};
 
 /// Closes a top-level context, and all below it.
@@ -29,6 +29,7 @@ use std::alloc::{AllocError, Global};
 pub(crate) fn plan_close(browser: &Browser, context: &str) -> Result<Plan, Refusal>
     ensures plans { (past : List Act) (moment : ℕ) → StandsFor browser.now past → Plans result past moment (Close context.now) }
     ensures well { IsWellPlanned result }
+    ensures of_method { HasResultOf Method.BrowsingContextClose result }
 {
     let context = top_named(&browser.contexts, context)?;
     let (before, change) = removal(browser, context)?;

@@ -14,7 +14,7 @@ ghost use Rattle.bidi_browser.specs.declared.refusal.Refusal.TheVariants as refu
 ghost use Rattle.bidi_tree.specs.Node.{Node, levels};
 ghost use Rattle.bidi_browser.specs.Found.{IsTargeted};
 ghost use Rattle.bidi_browser.specs.Outcome.{realm_targeted, undefined};
-ghost use Rattle.bidi_browser.specs.Plans.{HasIds, Plans, IsWellPlanned};
+ghost use Rattle.bidi_browser.specs.Plans.{HasIds, Plans, HasResultOf, IsWellPlanned};
 ghost use Rattle.bidi_browser.specs.Stands.{IsTableOf, StandsFor};
 
 use crate::browser::{Browser, NO_ID};
@@ -28,7 +28,7 @@ use crate::resolving::given_back;
 use crate::script_table::ScriptRow;
 use crate::showing::{takes_handle, told};
 use crate::tabling::held;
-use bidi_messages::{ErrorCode, ResultData};
+use bidi_messages::{ErrorCode, Method, ResultData};
 use bidi_params::{DisownParameters, EvaluateParameters, Ownership};
 use bidi_shape::Shape;
 use bidi_values::{EvaluateResult, LocalValue, Primitive, RemotePlain, RemoteValue, Target};
@@ -55,6 +55,7 @@ pub(crate) struct Ran {
 pub(crate) fn plan_evaluate(browser: &Browser, params: &EvaluateParameters) -> Result<Plan, Refusal>
     ensures plans { (past : List Act) (moment : ℕ) → StandsFor browser.now past → HasIds past → Plans result past moment (evaluate_asked params.now) }
     ensures well { IsWellPlanned result }
+    ensures of_method { HasResultOf Method.ScriptEvaluate result }
 {
     let context = targeted(&browser.contexts, &params.target)?;
     let ending = evaluated(browser, context, &params.expression)?;
@@ -219,6 +220,7 @@ fn into_value(ending: Ending) -> Rc<HeldValue>
 pub(crate) fn plan_disown(browser: &Browser, params: &DisownParameters) -> Result<Plan, Refusal>
     ensures plans { (past : List Act) (moment : ℕ) → StandsFor browser.now past → Plans result past moment (disown_asked params.now) }
     ensures well { IsWellPlanned result }
+    ensures of_method { HasResultOf Method.ScriptDisown result }
 {
     let context = targeted(&browser.contexts, &params.target)?;
     let numbers = context.numbers_of(browser.alloc, &params.handles)?;

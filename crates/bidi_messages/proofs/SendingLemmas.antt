@@ -1,6 +1,7 @@
 -- What a remote end sends may be written, and is the text of a well message.
-use Rattle.std.proofs.Common.{◌≡◌, ◌∙◌, ◌≤◌, ◌⊎◌, inl, inr, ℕ, pos, nat_le, true, false, bytes_eq, List, [], codes, Option, Some, None, IsSome, Result, Ok, Err, IfOk, String, Global, string_bytes, refl, sym, ap, subst, zero-le, arith}
+use Rattle.std.proofs.Common.{◌≡◌, ◌∙◌, ◌≤◌, ◌⊎◌, inl, inr, ℕ, pos, nat_le, nat_eq, Bool, true, false, true≢false, bytes_eq, List, [], ◌∷◌, codes, Option, Some, None, option_map, IsSome, Result, Ok, Err, IfOk, String, Global, string_bytes, refl, sym, ap, subst, zero-le, arith}
 use Rattle.std.proofs.lemmas.Bool.{leb-true}
+use Rattle.json.specs.Print.{escape_byte}
 use Rattle.bidi_tree.specs.Node.{Node, Members, no_members, member, put, map, text, whole, levels, IsWhole, IsWritable, MembersAreWhole}
 use Rattle.bidi_tree.specs.Kind.{map_in}
 use Rattle.bidi_tree.specs.Text.{tree_of, compact_text}
@@ -22,7 +23,9 @@ use Rattle.bidi_messages.specs.Method.{result_of}
 use Rattle.bidi_messages.specs.ErrorCode.{error_code_text}
 use Rattle.bidi_messages.specs.EventData.{event_of}
 use Rattle.bidi_messages.specs.EventName.{event_text}
-use Rattle.bidi_messages.specs.Reading.{IsMessageText}
+use Rattle.bidi_messages.specs.Reading.{IsEvent, IsMessageText}
+use Rattle.bidi_messages.specs.Message.{response_tree, error_tree, event_text as told_text}
+use Rattle.bidi_messages.specs.declared.event.EventName.{EventName}
 use Rattle.bidi_messages.specs.declared.method.Method.{Method}
 use Rattle.bidi_messages.specs.declared.method.Method.TheVariants.{ScriptEvaluate, ScriptCallFunction}
 use Rattle.bidi_messages.specs.declared.error_code.ErrorCode.{ErrorCode}
@@ -34,9 +37,24 @@ use Rattle.bidi_messages.specs.contracts.message.MessageShape.TheImpl as message
 
 -- the text of a well message's tree is that of a well message
 pub is_text : {E : Type 0} (shape : ShapeOf Message) (m : Message) (t : Node) → shape.well m → t ≡ shape.tree_of m
-    → (r : Result (String Global) E) → IfOk r (λ s. string_bytes s ≡ compact_text t) → IfOk r (λ s. tree_of (string_bytes s) ≡ Some t) → IfOk r (λ s. IsMessageText shape (string_bytes s))
-is_text shape m t well is (Ok s) written back = (m, well, written ∙ ap compact_text is, back ∙ ap Some is)
-is_text shape m t well is (Err e) written back = tt
+    → ((e : EventName) (params : Node) → compact_text t ≡ told_text e params → IsEvent m) → (r : Result (String Global) E) → IfOk r (λ s. string_bytes s ≡ compact_text t) → IfOk r (λ s. tree_of (string_bytes s) ≡ Some t) → IfOk r (λ s. IsMessageText shape (string_bytes s))
+is_text shape m t well is event (Ok s) written back = (m, well, written ∙ ap compact_text is, back ∙ ap Some is, λ e params same. event e params (sym written ∙ same))
+is_text shape m t well is event (Err e) written back = tt
+
+-- the third letter of the text is that one
+has_third : ℕ → List ℕ → Bool
+has_third n (a ∷ b ∷ c ∷ s) = nat_eq n c
+has_third n s = false
+
+-- a response begins with its id, and an event with its method
+pub no_event-response : (id : ℕ) (result t : Node) → t ≡ response_tree id result → (e : EventName) (params : Node) → compact_text t ≡ told_text e params → ⊥
+unfolding has_third escape_byte
+no_event-response id result t is e params same = true≢false (ap (has_third 105) (sym (ap compact_text is) ∙ same))
+
+-- an error begins with its code
+pub no_event-error : (id : Option ℕ) (code : ErrorCode) (t : Node) → t ≡ error_tree id code → (e : EventName) (params : Node) → compact_text t ≡ told_text e params → ⊥
+unfolding has_third escape_byte
+no_event-error id code t is e params same = true≢false (ap (has_third 101) (sym (ap compact_text is) ∙ same))
 
 -- and the tree may be written
 pub writable : (shape : ShapeOf Message) → nat_le shape.deepest 100 ≡ true → (m : Message) (t : Node) → shape.well m → t ≡ shape.tree_of m → IsWritable t
@@ -91,6 +109,10 @@ without-none (member k t ms) = ap (member k t) (without-none ms)
 abbrev pub a_response : JsUint → Ext → Ext → Message
 a_response id contents e = AsResponse (record { id = id; «result» = contents; ext = e })
 
+-- its tree
+pub response-tree : (id : JsUint) (contents e : Ext) (r t : Node) → map (others_of contents) ≡ r → others_of e ≡ no_members → t ≡ message.ghosts.shape.tree_of (a_response id contents e) → t ≡ response_tree id.value r
+response-tree id contents e r t is none same = same ∙ rw (none, sym is) refl
+
 pub response_well : (id : JsUint) (contents e : Ext) (t : Node) (n : ℕ) → map (others_of contents) ≡ t → IsWhole t n → levels t ≤ 61 → others_of e ≡ no_members
     → message.ghosts.shape.well (a_response id contents e)
 response_well id contents e t n is w small none =
@@ -108,6 +130,12 @@ an_error id code said e = AsError (record { id = id; error = code; message = sai
 -- its members after its type
 abbrev after_error : Option JsUint → ErrorCode → String Global → Ext → Members
 after_error id code said e = put (codes "id") (nullable_tree (λ n. whole (pos n.value)) id) (put (codes "error") (text (error_code_text code)) (put (codes "message") (text (string_bytes said)) (others_of e)))
+
+-- its tree
+pub error-tree : (id : Option JsUint) (code : ErrorCode) (said : String Global) (e : Ext) → string_bytes said ≡ error_code_text code → others_of e ≡ no_members
+    → message.ghosts.shape.tree_of (an_error id code said e) ≡ error_tree (option_map (λ n. n.value) id) code
+error-tree None code said e same none = rw (same, none) refl
+error-tree (Some n) code said e same none = rw (same, none) refl
 
 pub error_well : (id : Option JsUint) (code : ErrorCode) (said : String Global) (e : Ext) → others_of e ≡ no_members → message.ghosts.shape.well (an_error id code said e)
 error_well id code said e none =

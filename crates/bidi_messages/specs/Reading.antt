@@ -1,5 +1,5 @@
 -- How a text of the remote end reads. After WebDriver BiDi, "Transport".
-use Rattle.std.specs.Prelude.{◌≡◌, ℕ, List, Some, None, Result, Ok, Err}
+use Rattle.std.specs.Prelude.{◌≡◌, ℕ, List, Some, None, Result, Ok, Err, ⊤}
 use Rattle.bidi_tree.specs.Node.{Node}
 use Rattle.bidi_tree.specs.Text.{tree_of_text, compact_text}
 use Rattle.bidi_shape.specs.Name.{message}
@@ -7,6 +7,9 @@ use Rattle.bidi_shape.specs.Term.{rule}
 use Rattle.bidi_shape.specs.Fits.{Fits}
 use Rattle.bidi_shape.specs.Value.{ShapeOf}
 use Rattle.bidi_messages.specs.declared.message.Message.{Message}
+use Rattle.bidi_messages.specs.declared.message.Message.TheVariants.{Event}
+use Rattle.bidi_messages.specs.declared.event.EventName.{EventName}
+use Rattle.bidi_messages.specs.Message.{event_text}
 use Rattle.bidi_messages.specs.declared.text.MessageFault.{MessageFault}
 use Rattle.bidi_messages.specs.declared.text.MessageFault.TheVariants.{NotJson, NoFit, NoMemory}
 
@@ -28,6 +31,13 @@ ReadsAs shape s m (Ok v) = shape.well m → tree_of_text None s ≡ Some (shape.
 ReadsAs shape s m (Err NoMemory) = Unit {0}
 ReadsAs shape s m (Err e) = shape.well m → tree_of_text None s ≡ Some (shape.tree_of m) → ⊥
 
--- the text is that of a well message, and reads back
+-- it is an event
+abbrev pub IsEvent : Message → Type 0
+IsEvent (Event e) = ⊤
+IsEvent m = ⊥
+
+-- the text is that of a well message, and reads back; what is written of an event is an event
 abbrev pub IsMessageText : ShapeOf Message → List ℕ → Type 0
-IsMessageText shape s = (m : Message) × shape.well m × (s ≡ compact_text (shape.tree_of m)) × (tree_of_text None s ≡ Some (shape.tree_of m))
+IsMessageText shape s =
+    (m : Message) × shape.well m × (s ≡ compact_text (shape.tree_of m)) × (tree_of_text None s ≡ Some (shape.tree_of m))
+    × ((e : EventName) (params : Node) → s ≡ event_text e params → IsEvent m)

@@ -1,10 +1,11 @@
 //! The texts that a remote end sends: no member stands beside those of the message's rule.
-ghost use Rattle.std.specs.Prelude.{◌≡◌, ◌≤◌, IfOk, IsSome, string_bytes, option_map};
+ghost use Rattle.std.specs.Prelude.{◌≡◌, ◌≤◌, Some, IfOk, IsSome, string_bytes, option_map};
 ghost use Rattle.bidi_tree.specs.Node.{levels, map};
 ghost use Rattle.bidi_tree.specs.Kind.{map_in};
+ghost use Rattle.bidi_tree.specs.Text.{tree_of};
 ghost use Rattle.bidi_tree.specs.View.{node};
 ghost use Rattle.bidi_shape.specs.ValueLaws.{others_of};
-ghost use Rattle.bidi_messages.specs.Message.{response_text, error_text, event_text};
+ghost use Rattle.bidi_messages.specs.Message.{response_tree, response_text, error_text, event_text};
 ghost use Rattle.bidi_messages.specs.Reading.{IsMessageText};
 
 use crate::error_code::ErrorCode;
@@ -34,6 +35,8 @@ pub fn response_text(
     requires small { levels (⟦<ResultData as Subject<Method>>⟧.subject.tree_of result_data) ≤ 61 }
     ensures text { IfOk result (λ s. string_bytes s
         ≡ response_text id.value (⟦<ResultData as Subject<Method>>⟧.subject.tree_of result_data)) }
+    ensures tree { IfOk result (λ s. tree_of (string_bytes s)
+        ≡ Some (response_tree id.value (⟦<ResultData as Subject<Method>>⟧.subject.tree_of result_data))) }
     ensures reads_back { IfOk result (λ s. IsMessageText ⟦<Message as Shape>⟧.shape (string_bytes s)) }
 {
     let members = contents(alloc, result_data)?;

@@ -25,3 +25,5 @@ pub mod SubscribeAskLemmas
 pub mod TargetAskLemmas
 pub mod BrowserAskLemmas
 pub mod AskLemmas
+pub mod RouteLemmas
+pub mod ReplyLemmas

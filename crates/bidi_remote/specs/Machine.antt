@@ -9,4 +9,5 @@ pub mod Commands
 pub mod Capabilities
 pub mod Outcome
 pub mod Sent
+pub mod Replies
 pub mod Strike

@@ -1,6 +1,6 @@
 //! What a command comes to.
-ghost use Rattle.std.specs.Prelude.{◌≡◌, List, true};
-ghost use Rattle.bidi_browser.specs.Actions.{is_asked};
+ghost use Rattle.std.specs.Prelude.{◌≡◌, List, true, Some};
+ghost use Rattle.bidi_browser.specs.Actions.{is_asked, method_of};
 ghost use Rattle.bidi_browser.specs.Asked.{action_of};
 ghost use Rattle.bidi_browser.specs.Outcome as browser;
 ghost use Rattle.bidi_browser.specs.Plans.{HasIds};
@@ -11,14 +11,14 @@ ghost use Rattle.bidi_remote.specs.Machine.Outcome.{deeds, did, outcome};
 ghost use Rattle.bidi_remote.specs.Tables.Asked.{IsWellAsked, asked_of};
 ghost use Rattle.bidi_remote.specs.Tables.ConnectionRows.{standing_in_hand};
 ghost use Rattle.bidi_remote.specs.Tables.Stands.{AgreeWith, IsShort};
-ghost use Rattle.bidi_remote.specs.Tables.Turns.{Decides, IsWellDecided};
+ghost use Rattle.bidi_remote.specs.Tables.Turns.{Decides, HasResultOf, IsWellDecided};
 
 use crate::connections::Standing;
 use crate::session::{decide_end, decide_new, decide_status, decide_subscribe, decide_unsubscribe};
 use crate::tables::Tables;
 use crate::turn::{Asker, Turn};
 use bidi_browser::{Action, Refusal};
-use bidi_messages::{CommandData, ErrorCode};
+use bidi_messages::{CommandData, ErrorCode, Method, Subject};
 use bidi_params::NewParameters;
 use bidi_shape::Shape;
 use std::alloc::Global;
@@ -40,6 +40,7 @@ pub(crate) fn decide(
     ensures ok { (h : List Input) → IsShort h → AgreeWith tables.now (deeds h) → standing_of (deeds h) asker.conn.value ≡ standing_in_hand standing
         → (let what = asked_of ⟦<NewParameters as Shape>⟧.shape asked.now in Decides result (deeds h) asker what (outcome (deeds h) asker.conn.value (standing_in_hand standing) what)) }
     ensures well { IsWellDecided result }
+    ensures of_method { HasResultOf (⟦<CommandData as Subject<Method>>⟧.subject.kind asked.now) result }
 {
     match standing {
         Standing::Shut => Err(Refusal::Code(ErrorCode::InvalidSessionId)),
@@ -59,6 +60,7 @@ fn decide_alone(
     ensures ok { (h : List Input) → IsShort h → AgreeWith tables.now (deeds h)
         → (let what = asked_of ⟦<NewParameters as Shape>⟧.shape asked.now in Decides result (deeds h) asker what (outcome (deeds h) asker.conn.value Alone what)) }
     ensures well { IsWellDecided result }
+    ensures of_method { HasResultOf (⟦<CommandData as Subject<Method>>⟧.subject.kind asked.now) result }
 {
     match asked {
         CommandData::SessionStatus(_) => decide_status(alloc, tables, asker),
@@ -78,6 +80,7 @@ fn decide_in(
     ensures ok { (h : List Input) → IsShort h → AgreeWith tables.now (deeds h) → standing_of (deeds h) asker.conn.value ≡ SpeaksFor session
         → (let what = asked_of ⟦<NewParameters as Shape>⟧.shape asked.now in Decides result (deeds h) asker what (outcome (deeds h) asker.conn.value (SpeaksFor session) what)) }
     ensures well { IsWellDecided result }
+    ensures of_method { HasResultOf (⟦<CommandData as Subject<Method>>⟧.subject.kind asked.now) result }
 {
     match asked {
         CommandData::SessionStatus(_) => decide_status(alloc, tables, asker),
@@ -135,6 +138,7 @@ fn decide_browsing(
     ensures ok { (past : List Deed) → AgreeWith tables.now past → HasIds (acts past) → is_asked (action_of action.entry) ≡ true
         → Decides result past asker (OfBrowser (action_of action.entry)) (did (browser.outcome (acts past) (action_of action.entry))) }
     ensures well { IsWellDecided result }
+    ensures of_method { (method : Method) → method_of (action_of action.entry) ≡ Some method → HasResultOf method result }
 {
     let plan = tables.browser.plan(action, tables.moment)?;
     Ok(Turn::planned(alloc, plan, Some(asker)))

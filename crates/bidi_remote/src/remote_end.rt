@@ -1,16 +1,18 @@
 //! The remote end.
-ghost use Rattle.std.specs.Prelude.{◌≡◌, ℕ, ◌<◌, ◌≤◌, ◌↔◌, List, [], ◌∷◌, map, IsTrue, IfOk, OnErr, IsOk, IsErrOf, length};
+ghost use Rattle.std.specs.Prelude.{◌≡◌, ℕ, ◌<◌, ◌≤◌, ◌↔◌, List, [], ◌∷◌, map, IsTrue, IfOk, OnOk, OnErr, IsOk, IsErrOf, length};
 ghost use Rattle.bidi_remote.specs.Machine.Step as steps;
 ghost use Rattle.bidi_remote.specs.Tables.Messages.{AllReadBack};
 ghost use Rattle.bidi_remote.specs.Tables.View.{step_of, sent_of};
 ghost use Rattle.bidi_remote.specs.Machine.History.{Input, IsHeardAs};
 ghost use Rattle.bidi_remote.specs.Machine.Connections.{is_open};
 ghost use Rattle.bidi_remote.specs.Machine.Outcome.{deeds};
+ghost use Rattle.bidi_remote.specs.Machine.Replies.{IsAnsweredOnce};
 ghost use Rattle.bidi_remote.specs.Machine.Sent.{out};
 ghost use Rattle.bidi_remote.specs.declared.remote_end.RemoteFault.TheVariants.{NoMemory};
 
 use crate::step::{Sent, Step};
 use crate::tables::Tables;
+use bidi_tree::JsUint;
 use std::alloc::{AllocError, Global};
 use thiserror::Error;
 
@@ -82,6 +84,8 @@ impl RemoteEnd {
             → (map sent_of sent.items ≡ out h i) × StandsFor self.new (i ∷ h))) }
         // Each text that is sent is that of a message, and reads back as it.
         ensures reads_back { (h : List Input) → StandsFor self.old h → IfOk result (λ sent. AllReadBack (map sent_of sent.items)) }
+        // A command that does something gets one reply, with a result that fits the rule of its method.
+        ensures answered { (h : List Input) (i : Input) → StandsFor self.old h → IsHeardAs (step_of step) i → OnOk result (IsAnsweredOnce (deeds h) i) }
         ensures err { OnErr result ((h : List Input) → StandsFor self.old h → StandsFor self.new h) }
         ensures worn_out { (h : List Input) → StandsFor self.old h → IsErrOf result RemoteFault.WornOut ↔ (1000000000 ≤ length h) }
         ensures at { (h : List Input) (n : ℕ) → StandsFor self.old h → length h < 1000000000
@@ -95,5 +99,14 @@ impl RemoteEnd {
         let sent = self.tables.take(self.alloc, step)?;
         self.count += 1;
         Ok(sent)
+    }
+
+    /// Whether a connection is open. Takes no memory.
+    ///
+    /// Looks through at most 64 connections.
+    pub fn is_open(&self, conn: JsUint) -> bool
+        ensures { (h : List Input) → StandsFor self.now h → result ≡ is_open (deeds h) conn.value }
+    {
+        self.tables.is_open(conn)
     }
 }

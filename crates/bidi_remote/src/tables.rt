@@ -1,7 +1,9 @@
 //! The tables of a remote end, and what each step does to them.
-ghost use Rattle.std.specs.Prelude.{◌≡◌, ℕ, List, [], ◌∷◌, map, Some, None, Ok, false, IsTrue, IfOk, OnOk, OnErr, IsOk, option_map};
+ghost use Rattle.std.specs.Prelude.{◌≡◌, ℕ, List, [], ◌∷◌, map, Some, None, Ok, false, IsTrue, IfOk, IfSome, OnOk, OnErr, IsOk, option_map};
 ghost use Rattle.bidi_tree.specs.Node.{Node};
+ghost use Rattle.bidi_messages.specs.Command.{method_in};
 ghost use Rattle.bidi_messages.specs.Message.{error_text};
+ghost use Rattle.bidi_messages.specs.Method.{method_text};
 ghost use Rattle.bidi_messages.specs.Verdict.{IsVerdict, Accepted};
 ghost use Rattle.bidi_messages.specs.Verdict as judged;
 ghost use Rattle.bidi_messages.specs.View.{verdict_of, IsWell};
@@ -9,7 +11,9 @@ ghost use Rattle.bidi_browser.specs.Actions.{is_asked, Log};
 ghost use Rattle.bidi_browser.specs.Acts.{Act};
 ghost use Rattle.bidi_browser.specs.Plans as planned;
 ghost use Rattle.bidi_browser.specs.Asked.{action_of};
+ghost use Rattle.bidi_browser.specs.View.{result_tree};
 ghost use Rattle.bidi_remote.specs.Machine.Step as steps;
+ghost use Rattle.bidi_remote.specs.Machine.Replies.{IsAnsweredOnce, ReadsAs};
 ghost use Rattle.bidi_remote.specs.Machine.Sent.{Text};
 ghost use Rattle.bidi_remote.specs.Machine.History.{Input, Open, Drop, Heard, NotText, InPage, IsHeardAs, acts, moment};
 ghost use Rattle.bidi_remote.specs.Machine.Connections.{is_open, standing_of, is_shut};
@@ -28,7 +32,7 @@ use crate::step::{Sent, Step};
 use crate::telling::{tell, tell_entry};
 use crate::turn::{Asker, Change, Turn};
 use bidi_browser::{Action, Browser, Change as BrowserChange, Occurrence, Plan, Refusal};
-use bidi_messages::{Command, CommandData, ErrorCode, Verdict, error_text, judge};
+use bidi_messages::{Command, CommandData, ErrorCode, Method, Subject, Verdict, error_text, judge};
 use bidi_params::NewParameters;
 use bidi_shape::Shape;
 use bidi_tree::JsUint;
@@ -66,6 +70,7 @@ impl Tables {
         ensures ok { IfOk result (λ sent. (i : Input) × IsHeardAs (step_of step) i
             × ((h : List Input) → IsShort h → AgreeWith self.old (deeds h) → Takes self.new (map sent_of sent.items) h i)) }
         ensures err { OnErr result (Keeps self.old self.new) }
+        ensures answered { (h : List Input) (i : Input) → IsShort h → AgreeWith self.old (deeds h) → IsHeardAs (step_of step) i → OnOk result (IsAnsweredOnce (deeds h) i) }
         ensures at { (n : ℕ) → step_of step ≡ steps.At n → IsOk result }
         ensures drop { (h : List Input) (c : ℕ) → AgreeWith self.old (deeds h)
             → step_of step ≡ steps.Drop c → IsTrue (is_open (deeds h) c) → IsOk result }
@@ -90,6 +95,16 @@ impl Tables {
                 let row = read_row(alloc, text.as_str())?;
                 self.page(alloc, Action::TableRow(row))
             }
+        }
+    }
+
+    /// Whether a connection is open.
+    pub(crate) fn is_open(&self, conn: JsUint) -> bool
+        ensures { (h : List Input) → AgreeWith self.now (deeds h) → result ≡ is_open (deeds h) conn.value }
+    {
+        match self.connections.standing_of(conn) {
+            Standing::Shut => false,
+            _ => true,
         }
     }
 
@@ -145,6 +160,7 @@ impl Tables {
         ensures ok { IfOk result (λ sent. (v : judged.Verdict) × IsVerdict text.now v × ((h : List Input) → IsShort h → AgreeWith self.old (deeds h)
             → Takes self.new (map sent_of sent.items) h (Heard conn.value v))) }
         ensures err { OnErr result (Keeps self.old self.new) }
+        ensures answered { (h : List Input) (v : judged.Verdict) → IsShort h → AgreeWith self.old (deeds h) → IsVerdict text.now v → OnOk result (IsAnsweredOnce (deeds h) (Heard conn.value v)) }
     {
         let verdict = judge(alloc, text)?;
         self.settle(alloc, conn, &verdict)
@@ -161,6 +177,8 @@ impl Tables {
         ensures ok { (h : List Input) → IsShort h → AgreeWith self.old (deeds h) → IfOk result (λ sent. Takes self.new (map sent_of sent.items) h
             (Heard conn.value (verdict_of ⟦<Command as Shape>⟧.shape verdict.now))) }
         ensures err { OnErr result (Keeps self.old self.new) }
+        ensures answered { (h : List Input) → IsShort h → AgreeWith self.old (deeds h) → OnOk result (IsAnsweredOnce (deeds h)
+            (Heard conn.value (verdict_of ⟦<Command as Shape>⟧.shape verdict.now))) }
     {
         let standing = self.connections.standing_of(conn);
         if let Standing::Shut = standing {
@@ -203,6 +221,10 @@ impl Tables {
             → Asks t asker.id.value (asked_of ⟦<NewParameters as Shape>⟧.shape asked.now)
             → IfOk result (λ sent. Takes self.new (map sent_of sent.items) h (Heard asker.conn.value (Accepted t))) }
         ensures err { OnErr result (Keeps self.old self.new) }
+        ensures answered { (h : List Input) (t : Node) → IsShort h → AgreeWith self.old (deeds h)
+            → standing_of (deeds h) asker.conn.value ≡ standing_in_hand standing → is_shut (standing_in_hand standing) ≡ false
+            → Asks t asker.id.value (asked_of ⟦<NewParameters as Shape>⟧.shape asked.now) → method_in t ≡ method_text (⟦<CommandData as Subject<Method>>⟧.subject.kind asked.now)
+            → OnOk result (IsAnsweredOnce (deeds h) (Heard asker.conn.value (Accepted t))) }
     {
         match decide(alloc, self, asker, standing, asked) {
             Ok(turn) => self.take_turn(alloc, turn),
@@ -273,6 +295,7 @@ impl Tables {
             → IfOk result (λ sent. (map sent_of sent.items ≡ sent_for (deeds h) (asker_in decided.telling.reply) (deed_of decided.change act) (written_in decided.telling.announced.items) (items_in decided.telling))
             × AllReadBack (map sent_of sent.items) × AgreeWith self.new (deed_of decided.change act ∷ deeds h)) }
         ensures err { OnErr result (Keeps self.old self.new) }
+        ensures reads { IfSome decided.telling.reply (λ r. OnOk result (ReadsAs r.to.id.value (result_tree r.outcome))) }
     {
         let Turn { change, telling } = decided;
         let sent = tell(alloc, self, &change, telling)?;

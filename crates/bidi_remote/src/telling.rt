@@ -1,5 +1,5 @@
 //! What is sent for a turn: its events to those that hear them, and the reply in its place.
-ghost use Rattle.std.specs.Prelude.{◌≡◌, ◌≤◌, ◌++◌, List, map, flat_map, filter, string_bytes, IfOk, IfSome};
+ghost use Rattle.std.specs.Prelude.{◌≡◌, ◌≤◌, ◌++◌, List, map, flat_map, filter, string_bytes, IfOk, IfSome, OnOk};
 ghost use Rattle.std.specs.List.{AllByRecursion, list_any};
 ghost use Rattle.bidi_tree.specs.Node.{levels};
 ghost use Rattle.bidi_browser.specs.Acts.{Act};
@@ -8,6 +8,7 @@ ghost use Rattle.bidi_remote.specs.Machine.History.{Deed};
 ghost use Rattle.bidi_browser.specs.Occurrences as heard;
 ghost use Rattle.bidi_messages.specs.declared.event.EventName.TheVariants.{EntryAdded};
 ghost use Rattle.bidi_messages.specs.Reading.{IsMessageText};
+ghost use Rattle.bidi_remote.specs.Machine.Replies.{ReadsAs};
 ghost use Rattle.bidi_remote.specs.Machine.Sent.{Text, to_hearers};
 ghost use Rattle.bidi_remote.specs.Tables.EventTexts.{written, written_of, written_in, AreMessages};
 ghost use Rattle.bidi_remote.specs.Tables.ConnectionRows.{rows_in, to_each};
@@ -47,6 +48,7 @@ pub(crate) fn tell(
     ensures told { (past : List Deed) (act : Act) → AgreeWith tables.now past → IfOk result (λ sent. map sent_of sent.items
         ≡ sent_for past (asker_in telling.reply) (deed_of change.now act) (written_in telling.announced.items) (items_in telling)) }
     ensures reads_back { AreMessages (written_in telling.announced.items) → IfOk result (λ sent. AllReadBack (map sent_of sent.items)) }
+    ensures reads { IfSome telling.reply (λ r. OnOk result (ReadsAs r.to.id.value (result_tree r.outcome))) }
 {
     let Telling {
         announced,
@@ -112,6 +114,7 @@ fn reply_sent(alloc: Global, reply: Option<Reply>) -> Result<Option<Sent>, Alloc
     requires { IfSome reply (λ r. ⟦<ResultData as Subject<Method>>⟧.subject.well r.outcome × (levels (result_tree r.outcome) ≤ 61)) }
     ensures reply { (past : List Deed) → IfOk result (λ sent. sent_if sent ≡ flat_map (sent_of_item past (asker_in reply)) (reply_in reply)) }
     ensures reads_back { IfOk result (λ sent. AllReadBack (sent_if sent)) }
+    ensures reads { IfSome reply (λ r. OnOk result (ReadsAs r.to.id.value (result_tree r.outcome))) }
 {
     match reply {
         Some(Reply { to, outcome }) => {

@@ -1,5 +1,5 @@
 -- What the remote end sends at each input. After WebDriver BiDi, "Transport"; the order of what is sent is this project's own.
-use Rattle.std.specs.Prelude.{ℕ, true, false, if◌then◌else◌, List, [], ◌∷◌, ◌++◌, map, filter, flat_map, codes, Option, Some, None, Result, Ok, Err}
+use Rattle.std.specs.Prelude.{ℕ, ◌==◌, true, false, if◌then◌else◌, List, [], ◌∷◌, ◌++◌, map, filter, flat_map, codes, Option, Some, None, Result, Ok, Err}
 use Rattle.bidi_tree.specs.Node.{Node, text, no_members}
 use Rattle.bidi_messages.specs.Message.{status_tree, response_text, error_text, event_text}
 use Rattle.bidi_browser.specs.declared.id.Kind.TheVariants.{Session, Subscription}
@@ -141,3 +141,14 @@ answers_after history (i ∷ inputs) = out history i ++ answers_after (i ∷ his
 -- what a new remote end sends at these inputs, in order
 abbrev pub answers : List Input → List Sent
 answers inputs = answers_after [] inputs
+
+-- ---- one connection
+
+-- the text, where it goes out on that connection
+abbrev pub text_on : ℕ → Sent → List (List ℕ)
+text_on c (Text d s) = if c == d then s ∷ [] else []
+text_on c x = []
+
+-- the texts that go out on one connection, in order
+abbrev pub texts_on : ℕ → List Sent → List (List ℕ)
+texts_on c sent = flat_map (text_on c) sent

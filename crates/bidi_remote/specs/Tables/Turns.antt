@@ -1,6 +1,8 @@
 -- What a turn in hand is: the deed that its change makes, and what is told of it.
 use Rattle.std.specs.Prelude.{◌≡◌, ℕ, Bool, true, false, List, [], ◌∷◌, ◌++◌, map, flat_map, Option, Some, None, Result, Ok, Err, IfSome, ⊤}
 use Rattle.bidi_messages.specs.declared.error_code.ErrorCode.{ErrorCode}
+use Rattle.bidi_messages.specs.declared.method.Method.{Method}
+use Rattle.bidi_messages.specs.contracts.result_data.ResultDataSubjectMethod.TheImpl as results
 use Rattle.bidi_messages.specs.Message.{response_text}
 use Rattle.bidi_browser.specs.Acts.{Act, Logged}
 use Rattle.bidi_browser.specs.View.{seen, result_tree}
@@ -116,6 +118,11 @@ Decides (Err NoMemory) past asker asked answer = ⊤
 abbrev pub IsWellDecided : Result Turn Refusal → Type 0
 IsWellDecided (Ok turn) = IsWellTold turn.telling
 IsWellDecided (Err refusal) = ⊤
+
+-- the reply of a turn, where there is one, has a result of that method
+abbrev pub HasResultOf : Method → Result Turn Refusal → Type 0
+HasResultOf method (Ok turn) = IfSome turn.telling.reply (λ r. results.ghosts.subject.kind r.outcome ≡ method)
+HasResultOf method (Err refusal) = ⊤
 
 -- ---- what is sent for a turn
 

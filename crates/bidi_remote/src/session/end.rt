@@ -4,7 +4,7 @@ ghost use Rattle.bidi_browser.specs.Maps.{nothing};
 ghost use Rattle.bidi_remote.specs.Machine.Commands.{End};
 ghost use Rattle.bidi_remote.specs.Machine.History.{Deed, Ended};
 ghost use Rattle.bidi_browser.specs.View.{result_tree};
-ghost use Rattle.bidi_remote.specs.Tables.Turns.{Decides, IsWellDecided};
+ghost use Rattle.bidi_remote.specs.Tables.Turns.{Decides, HasResultOf, IsWellDecided};
 
 use crate::turn::{Asker, Change, Turn};
 use bidi_browser::Refusal;
@@ -17,6 +17,7 @@ use std::alloc::Global;
 pub(crate) fn decide_end(alloc: Global, asker: Asker, session: u32) -> Result<Turn, Refusal>
     ensures ok { (past : List Deed) → Decides result past asker End (Ok (Ended session)) }
     ensures well { IsWellDecided result }
+    ensures of_method { HasResultOf Method.SessionEnd result }
 {
     Ok(Turn::replied(alloc, Change::End(session), asker, end_result(alloc)))
 }
@@ -25,6 +26,7 @@ pub(crate) fn decide_end(alloc: Global, asker: Asker, session: u32) -> Result<Tu
 fn end_result(alloc: Global) -> ResultData
     ensures tree { result_tree result ≡ nothing }
     ensures well { ⟦<ResultData as Subject<Method>>⟧.subject.well result }
+    ensures of_method { ⟦<ResultData as Subject<Method>>⟧.subject.kind result ≡ Method.SessionEnd }
 {
     ResultData::SessionEnd(EmptyResult {
         ext: Ext::empty(alloc),

@@ -11,7 +11,7 @@ ghost use Rattle.bidi_remote.specs.Machine.Outcome.{new_outcome};
 ghost use Rattle.bidi_remote.specs.Machine.Sessions.{sessions_made};
 ghost use Rattle.bidi_remote.specs.Tables.Stands.{AgreeWith};
 ghost use Rattle.bidi_browser.specs.View.{result_tree};
-ghost use Rattle.bidi_remote.specs.Tables.Turns.{Decides, IsWellDecided};
+ghost use Rattle.bidi_remote.specs.Tables.Turns.{Decides, HasResultOf, IsWellDecided};
 
 use crate::log_buffer::LogBuffer;
 use crate::session::capabilities::{
@@ -42,6 +42,7 @@ pub(crate) fn decide_new(
     ensures ok { (past : List Deed) → AgreeWith tables.now past → sessions_made past < 4294967295
         → (let request = request_of (⟦<NewParameters as Shape>⟧.shape.tree_of params.now) in Decides result past asker (New request) (new_outcome past asker.conn.value request)) }
     ensures well { IsWellDecided result }
+    ensures of_method { HasResultOf Method.SessionNew result }
 {
     if let Err(code) = match_capabilities(params) {
         return Err(Refusal::Code(code));
@@ -60,6 +61,7 @@ fn new_result(alloc: Global, session: u32) -> Result<ResultData, AllocError>
     ensures tree { IfOk result (λ r. result_tree r
         ≡ mapped ("capabilities" being capabilities and "sessionId" being text (id_of Session session) and no_members)) }
     ensures well { IfOk result ⟦<ResultData as Subject<Method>>⟧.subject.well }
+    ensures of_method { IfOk result (λ r. ⟦<ResultData as Subject<Method>>⟧.subject.kind r ≡ Method.SessionNew) }
 {
     let session_id = id_text(alloc, Kind::Session, 0, u64::from(session))?;
     let capabilities = capabilities(alloc)?;

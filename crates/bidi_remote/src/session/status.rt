@@ -6,7 +6,7 @@ ghost use Rattle.bidi_remote.specs.Machine.Commands.{Status};
 ghost use Rattle.bidi_remote.specs.Machine.History.{Deed, Told};
 ghost use Rattle.bidi_remote.specs.Tables.Stands.{AgreeWith};
 ghost use Rattle.bidi_browser.specs.View.{result_tree};
-ghost use Rattle.bidi_remote.specs.Tables.Turns.{Decides, IsWellDecided};
+ghost use Rattle.bidi_remote.specs.Tables.Turns.{Decides, HasResultOf, IsWellDecided};
 
 use crate::tables::Tables;
 use crate::turn::{Asker, Change, Turn};
@@ -23,6 +23,7 @@ use std::alloc::{AllocError, Global};
 pub(crate) fn decide_status(alloc: Global, tables: &Tables, asker: Asker) -> Result<Turn, Refusal>
     ensures ok { (past : List Deed) → AgreeWith tables.now past → Decides result past asker Status (Ok Told) }
     ensures well { IsWellDecided result }
+    ensures of_method { HasResultOf Method.SessionStatus result }
 {
     let reply = status_result(alloc, tables.sessions.is_ready())?;
     Ok(Turn::replied(alloc, Change::Nothing, asker, reply))
@@ -33,6 +34,7 @@ fn status_result(alloc: Global, is_ready: bool) -> Result<ResultData, AllocError
     ensures tree { IfOk result (λ r. result_tree r ≡ (if is_ready then status_tree true (codes "ready") else status_tree false (codes "full"))) }
     ensures well { IfOk result ⟦<ResultData as Subject<Method>>⟧.subject.well }
     ensures small { IfOk result (λ r. levels (result_tree r) ≤ 61) }
+    ensures of_method { IfOk result (λ r. ⟦<ResultData as Subject<Method>>⟧.subject.kind r ≡ Method.SessionStatus) }
 {
     let message = if is_ready { "ready" } else { "full" };
     Ok(ResultData::SessionStatus(StatusResult {

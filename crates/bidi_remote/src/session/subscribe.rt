@@ -15,7 +15,7 @@ ghost use Rattle.bidi_remote.specs.Tables.SessionView.{scope_of, row_of};
 ghost use Rattle.bidi_remote.specs.Tables.EventTexts.{written, written_in, AreMessages};
 ghost use Rattle.bidi_remote.specs.Tables.SubscriptionRows.{is_new};
 ghost use Rattle.bidi_remote.specs.Tables.Stands.{AgreeWith};
-ghost use Rattle.bidi_remote.specs.Tables.Turns.{Decides, IsWellDecided};
+ghost use Rattle.bidi_remote.specs.Tables.Turns.{Decides, HasResultOf, IsWellDecided};
 
 use crate::announcing::is_new;
 use crate::event_texts::{EventText, event_texts};
@@ -55,6 +55,7 @@ pub(crate) fn decide_subscribe(
     ensures ok { (past : List Deed) → AgreeWith tables.now past → is_active past session ≡ true → subscriptions_made past session < 4294967295
         → Decides result past asker (subscribe_asked params.now) (outcome_in past session (subscribe_asked params.now)) }
     ensures well { IsWellDecided result }
+    ensures of_method { HasResultOf Method.SessionSubscribe result }
 {
     let events = all_named(alloc, &params.events.items)?;
     let scope = scope_asked(alloc, &tables.browser, params)?;
@@ -153,6 +154,7 @@ fn tops_named(alloc: Global, browser: &Browser, ids: &[String]) -> Result<Vec<u6
 fn subscribe_result(alloc: Global, session: u32, number: u32) -> Result<ResultData, AllocError>
     ensures tree { IfOk result (λ r. result_tree r ≡ subscription_tree session number) }
     ensures well { IfOk result ⟦<ResultData as Subject<Method>>⟧.subject.well }
+    ensures of_method { IfOk result (λ r. ⟦<ResultData as Subject<Method>>⟧.subject.kind r ≡ Method.SessionSubscribe) }
 {
     let subscription = id_text(alloc, Kind::Subscription, session, u64::from(number))?;
     Ok(ResultData::SessionSubscribe(SubscribeResult {

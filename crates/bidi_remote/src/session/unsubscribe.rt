@@ -9,7 +9,7 @@ ghost use Rattle.bidi_remote.specs.Tables.Checked.{IfChecked};
 ghost use Rattle.bidi_remote.specs.Tables.Stands.{AgreeWith};
 ghost use Rattle.bidi_browser.specs.View.{result_tree};
 ghost use Rattle.bidi_browser.specs.Acts.{Looked};
-ghost use Rattle.bidi_remote.specs.Tables.Turns.{Decides, IsWellDecided, IsOfSessions, deed_of};
+ghost use Rattle.bidi_remote.specs.Tables.Turns.{Decides, HasResultOf, IsWellDecided, IsOfSessions, deed_of};
 
 use crate::session::event_names::all_named;
 use crate::subscriptions::{all_global, numbers_of};
@@ -38,6 +38,7 @@ pub(crate) fn decide_unsubscribe(
     ensures ok { (past : List Deed) → AgreeWith tables.now past → is_active past session ≡ true
         → Decides result past asker (unsubscribe_asked params.now) (outcome_in past session (unsubscribe_asked params.now)) }
     ensures well { IsWellDecided result }
+    ensures of_method { HasResultOf Method.SessionUnsubscribe result }
 {
     let change = match params {
         UnsubscribeParameters::ById(by_id) => {
@@ -88,6 +89,7 @@ fn end_by_events(
 fn unsubscribe_result(alloc: Global) -> ResultData
     ensures tree { result_tree result ≡ nothing }
     ensures well { ⟦<ResultData as Subject<Method>>⟧.subject.well result }
+    ensures of_method { ⟦<ResultData as Subject<Method>>⟧.subject.kind result ≡ Method.SessionUnsubscribe }
 {
     ResultData::SessionUnsubscribe(EmptyResult {
         ext: Ext::empty(alloc),

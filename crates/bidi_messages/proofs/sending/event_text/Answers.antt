@@ -9,4 +9,4 @@ write-requires c =
 
 pub returns-clause-reads_back : goal.returns-clause-reads_back
 returns-clause-reads_back c =
-    is_text message.ghosts.shape (an_event c.args.event.now c.empty-ext.result) _ (event_well c.args.event.now c.empty-ext.result c.requires c.empty-ext.ensures) c.in_ok-tree.ensures c.write.result c.write.ensures.text c.write.ensures.reads_back
+    is_text message.ghosts.shape (an_event c.args.event.now c.empty-ext.result) _ (event_well c.args.event.now c.empty-ext.result c.requires c.empty-ext.ensures) c.in_ok-tree.ensures (λ e params same. tt) c.write.result c.write.ensures.text c.write.ensures.reads_back

@@ -5,6 +5,7 @@ use Rattle.bidi_remote.specs.Machine.Outcome.{deeds, outcome}
 use Rattle.bidi_remote.specs.Tables.Asked.{asked_of}
 use Rattle.bidi_remote.specs.Tables.Turns.{Decides}
 use Rattle.bidi_remote.proofs.SpeakingLemmas.{few-sessions}
+use Rattle.bidi_remote.proofs.ReplyLemmas.{asked-of}
 use Rattle.bidi_remote.proofs.deciding.decide_alone.Goals as goal
 
 pub returns-in-SessionNew-clause-ok : goal.returns-in-SessionNew-clause-ok
@@ -12,3 +13,9 @@ returns-in-SessionNew-clause-ok c = λ h short a.
     let few = few-sessions h in
     subst (λ asked. Decides c.decide_new.result (deeds h) c.args.asker asked (outcome (deeds h) c.args.asker.conn.value Alone asked)) (sym (ap (asked_of ghosts.shape) c.in-SessionNew.is))
     (c.decide_new.ensures.ok (deeds h) a (omega (arith, few, short)))
+
+pub returns-in-SessionStatus-clause-of_method : goal.returns-in-SessionStatus-clause-of_method
+returns-in-SessionStatus-clause-of_method c = asked-of c.args.asked.now _ c.decide_status.result c.in-SessionStatus.is c.decide_status.ensures.of_method
+
+pub returns-in-SessionNew-clause-of_method : goal.returns-in-SessionNew-clause-of_method
+returns-in-SessionNew-clause-of_method c = asked-of c.args.asked.now _ c.decide_new.result c.in-SessionNew.is c.decide_new.ensures.of_method
