@@ -1,0 +1,4 @@
+pub mod MeaningLemmas
+pub mod OneMeaning
+pub mod PendingLemmas
+pub mod SendingLemmas

@@ -1,0 +1,4 @@
+pub mod Pending
+pub mod Received
+pub mod Receiving
+pub mod View

@@ -1,0 +1,38 @@
+-- What contracts see of a local end, and of what it received.
+use Rattle.std.specs.Prelude.{◌≡◌, ℕ, ⊤}
+use Rattle.bidi_messages.specs.contracts.event.EventDataSubjectEventName.TheImpl as told
+use Rattle.bidi_messages.specs.contracts.result_data.ResultDataSubjectMethod.TheImpl as results
+use Rattle.bidi_local.specs.declared.local_end.LocalEnd.{LocalEnd}
+use Rattle.bidi_local.specs.declared.received.Received.{Received}
+use Rattle.bidi_local.specs.declared.received.Received.TheVariants as in_hand
+use Rattle.bidi_local.specs.Pending.{Pending}
+use Rattle.bidi_local.specs.Received.{Meaning, Answer, BadResult, Refusal, Event, Stray, NotInProfile, NotJson}
+
+-- the commands that wait
+abbrev pub waiting_in : LocalEnd → Pending
+waiting_in end = end.pending.entries
+
+-- how many commands were sent; it is the last id
+abbrev pub sent_by : LocalEnd → ℕ
+sent_by end = end.sent
+
+-- after so many were sent, these wait
+pub record Stands (end : LocalEnd) (count : ℕ) (commands : Pending) : Type 0 where
+  pub sent : sent_by end ≡ count
+  pub waiting : waiting_in end ≡ commands
+
+-- what was received
+abbrev pub meaning_of : Received → Meaning
+meaning_of (in_hand.Answer id result) = Answer id.value (results.ghosts.subject.kind result) (results.ghosts.subject.tree_of result)
+meaning_of (in_hand.BadResult id) = BadResult id.value
+meaning_of (in_hand.Refusal id code) = Refusal id.value code
+meaning_of (in_hand.Event event) = Event (told.ghosts.subject.kind event) (told.ghosts.subject.tree_of event)
+meaning_of in_hand.Stray = Stray
+meaning_of in_hand.NotInProfile = NotInProfile
+meaning_of in_hand.NotJson = NotJson
+
+-- its result, or its event, is well
+abbrev pub IsWell : Received → Type 0
+IsWell (in_hand.Answer id result) = results.ghosts.subject.well result
+IsWell (in_hand.Event event) = told.ghosts.subject.well event
+IsWell received = ⊤

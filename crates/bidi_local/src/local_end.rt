@@ -1,0 +1,179 @@
+//! The local end.
+ghost use Rattle.std.specs.Prelude.{◌≡◌, ◌<◌, ◌≤◌, ◌^◌, suc, [], ◌∷◌, ◌++◌, map, IfOk, OnOk, OnErr, string_bytes};
+ghost use Rattle.std.proofs.Props.{props};
+ghost use Rattle.std.specs.List.{AllByRecursion};
+ghost use Rattle.bidi_messages.specs.Verdict.{IsVerdict, Accepted};
+ghost use Rattle.bidi_local.specs.Pending.{ids, command_tree, command_text, refusal_of, IsAnswered};
+ghost use Rattle.bidi_local.specs.Received.{Meaning, Means, settled};
+
+use crate::pending::ids_of;
+use crate::received::Received;
+use crate::receiving::receive;
+use crate::writing::written;
+use bidi_messages::{CommandData, MessageFault, Method, Subject, read_message};
+use bidi_tree::JsUint;
+use indexmap::IndexMap;
+use std::alloc::{AllocError, Global};
+use thiserror::Error;
+
+/// The greatest id.
+const LAST_ID: u64 = 9_007_199_254_740_991;
+
+/// How many commands may wait for an answer.
+const MOST_PENDING: usize = 1024;
+
+/// How many bytes a command's text may have.
+const MOST_BYTES: usize = 1_048_576;
+
+/// Why a command was not sent. Nothing has changed.
+#[derive(Clone, Copy, Debug, PartialEq, Eq, Error)]
+pub enum LocalFault {
+    /// A growth was refused.
+    #[error("out of memory")]
+    NoMemory,
+    /// The greatest js-uint, 9,007,199,254,740,991, was the id of a command: this local end sends no more.
+    #[error("no id is left")]
+    IdsUsedUp,
+    /// 1,024 commands wait for an answer: one has to be settled before the next is sent.
+    #[error("too many commands wait for an answer")]
+    TooManyPending,
+    /// The text would have more than 1,048,576 bytes.
+    #[error("the command is too long")]
+    TooLong,
+}
+
+impl From<AllocError> for LocalFault {
+    ghost use Rattle.bidi_local.specs.declared.local_end.LocalFault.TheVariants.{NoMemory};
+
+    ghost from_gives = { λ _ fault. fault ≡ NoMemory };
+
+    fn from(_error: AllocError) -> LocalFault {
+        LocalFault::NoMemory
+    }
+}
+
+/// The local end of one connection: how many commands were sent, and which of them wait for an answer.
+#[derive(Drop)]
+pub struct LocalEnd {
+    alloc: Global,
+    /// The method of each command that waits, by its id, in order of sending.
+    pending: IndexMap<u64, Method>,
+    /// How many commands were sent: the last id.
+    sent: u64,
+    ghost in_range: { sent < 2 ^ 53 },
+    ghost were_sent: { AllByRecursion (λ w. w.0 ≤ sent) pending.entries } by { Prim.hlevel props },
+}
+
+impl LocalEnd {
+    ghost use Rattle.bidi_local.specs.View.{Stands, meaning_of, IsWell, sent_by, waiting_in};
+
+    /// A local end that has sent nothing. Takes no memory.
+    pub fn new(alloc: Global) -> LocalEnd
+        ensures { Stands result 0 [] }
+    {
+        LocalEnd {
+            alloc,
+            pending: IndexMap::new(alloc),
+            sent: 0,
+        }
+    }
+
+    /// Sends a command: gives its id and its text, which is to be carried to the remote end. It waits from now on.
+    ///
+    /// The text is `{ id: js-uint, method: "M", params: P }`, its members in that order. Ids count from 1, in order of
+    /// sending; a command that is not sent takes none. The command is used up.
+    ///
+    /// Costs a tree of the command and its text, each once. A command past the first two limits is refused before that.
+    ///
+    /// # Errors
+    /// Nothing has changed. Of the last three the first that holds is answered, and `NoMemory` only where the first two of
+    /// them do not hold.
+    /// - `NoMemory`: a growth was refused.
+    /// - `IdsUsedUp`: 9,007,199,254,740,991 commands were sent.
+    /// - `TooManyPending`: 1,024 commands wait.
+    /// - `TooLong`: the text has more than 1,048,576 bytes.
+    ///
+    /// After WebDriver BiDi, "Transport"; the limits are this project's own.
+    pub fn send(&mut self, data: CommandData) -> Result<(JsUint, String), LocalFault>
+        requires { ⟦<CommandData as Subject<Method>>⟧.subject.well «data» }
+        ensures ok { IfOk result (λ sent. (sent.0.value ≡ suc (sent_by self.old)) × (string_bytes sent.1
+            ≡ command_text (sent_by self.old) (⟦<CommandData as Subject<Method>>⟧.subject.kind «data») (⟦<CommandData as Subject<Method>>⟧.subject.tree_of «data»))) }
+        // The remote end accepts the text as that command.
+        ensures accepted { IfOk result (λ sent. IsVerdict (string_bytes sent.1) (Accepted
+            (command_tree (suc (sent_by self.old)) (⟦<CommandData as Subject<Method>>⟧.subject.kind «data») (⟦<CommandData as Subject<Method>>⟧.subject.tree_of «data»)))) }
+        ensures waits { OnOk result (Stands self.new (suc (sent_by self.old))
+            (waiting_in self.old ++ (suc (sent_by self.old), ⟦<CommandData as Subject<Method>>⟧.subject.kind «data») ∷ [])) }
+        ensures refusal { IsAnswered result (refusal_of (sent_by self.old) (waiting_in self.old)
+            (command_text (sent_by self.old) (⟦<CommandData as Subject<Method>>⟧.subject.kind «data») (⟦<CommandData as Subject<Method>>⟧.subject.tree_of «data»))) }
+        ensures err { OnErr result (Stands self.new (sent_by self.old) (waiting_in self.old)) }
+    {
+        if self.sent >= LAST_ID {
+            return Err(LocalFault::IdsUsedUp);
+        }
+        if self.pending.len() >= MOST_PENDING {
+            return Err(LocalFault::TooManyPending);
+        }
+        let id = JsUint {
+            value: self.sent + 1,
+        };
+        let (method, text) = written(self.alloc, id, data)?;
+        if text.len() > MOST_BYTES {
+            return Err(LocalFault::TooLong);
+        }
+        match self.pending.insert(id.value, method) {
+            Ok(_) => {
+                self.sent = id.value;
+                Ok((id, text))
+            }
+            Err(_) => Err(LocalFault::NoMemory),
+        }
+    }
+
+    /// Takes a text of the remote end, which may have any length, and tells what it means: one of the seven cases of
+    /// [`Received`].
+    ///
+    /// An answer, a bad result and a refusal settle their command, whose id they give: it waits no longer. All else
+    /// changes nothing.
+    ///
+    /// The cost is that of reading the text; the result of an answer is copied once. A command is found by its id at once,
+    /// and one that is settled costs a move of those that were sent after it and wait, at most 1,023.
+    ///
+    /// # Errors
+    /// No memory, where a growth was refused. Nothing has changed, and the text may be taken again.
+    ///
+    /// After WebDriver BiDi, "Transport".
+    pub fn take(&mut self, text: &str) -> Result<Received, AllocError>
+        ensures means { IfOk result (λ r. Means (waiting_in self.old) text.now (meaning_of r)) }
+        ensures no_other { (m : Meaning) → Means (waiting_in self.old) text.now m → IfOk result (λ r. m ≡ meaning_of r) }
+        ensures settles { IfOk result (λ r. Stands self.new (sent_by self.old) (settled (waiting_in self.old) (meaning_of r))) }
+        ensures well { IfOk result IsWell }
+        ensures err { OnErr result (Stands self.new (sent_by self.old) (waiting_in self.old)) }
+    {
+        match read_message(self.alloc, text) {
+            Ok(message) => receive(self.alloc, &mut self.pending, message),
+            Err(MessageFault::NotJson) => Ok(Received::NotJson),
+            Err(MessageFault::NoFit) => Ok(Received::NotInProfile),
+            Err(MessageFault::NoMemory) => Err(AllocError),
+        }
+    }
+
+    /// Gives up all commands that wait, since the connection is gone: their ids, in order of sending. None waits after.
+    ///
+    /// What was sent before stays counted: a command that is sent later has a further id, and a late answer to one that
+    /// was given up is stray. Costs the list of the ids, at most 1,024.
+    ///
+    /// # Errors
+    /// No memory, where a growth was refused. Nothing has changed.
+    pub fn lose(&mut self) -> Result<Vec<JsUint>, AllocError>
+        ensures ok { IfOk result (λ lost. map (λ id. id.value) lost.items ≡ ids (waiting_in self.old)) }
+        ensures none_waits { OnOk result (Stands self.new (sent_by self.old) []) }
+        ensures err { OnErr result (Stands self.new (sent_by self.old) (waiting_in self.old)) }
+    {
+        let lost = ids_of(self.alloc, &self.pending)?;
+        self.pending.clear();
+        Ok(lost)
+    }
+}
+
+#[cfg(test)]
+mod tests;

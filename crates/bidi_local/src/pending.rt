@@ -1,0 +1,41 @@
+//! The commands that wait for an answer, by their ids, in order of sending.
+ghost use Rattle.std.specs.Prelude.{◌≡◌, ◌<◌, ◌^◌, map, IfOk};
+ghost use Rattle.std.specs.List.{AllByRecursion};
+ghost use Rattle.bidi_local.specs.Pending.{ids, method_of, without};
+
+use bidi_messages::Method;
+use bidi_tree::JsUint;
+use indexmap::IndexMap;
+use std::alloc::{AllocError, Global};
+
+/// The method of the command with that id, where it waits. Takes no memory.
+pub(crate) fn method_of(pending: &IndexMap<u64, Method>, id: u64) -> Option<Method>
+    ensures { result ≡ method_of pending.now.entries id }
+{
+    pending.get(&id).copied()
+}
+
+/// Takes out the command with that id; the others keep their order. Takes no memory.
+pub(crate) fn settle(pending: &mut IndexMap<u64, Method>, id: u64)
+    ensures { pending.new.entries ≡ without pending.old.entries id }
+{
+    pending.shift_remove(&id);
+}
+
+/// The ids, in order of sending.
+///
+/// # Errors
+/// No memory, where a growth was refused.
+pub(crate) fn ids_of(
+    alloc: Global,
+    pending: &IndexMap<u64, Method>,
+) -> Result<Vec<JsUint>, AllocError>
+    requires { AllByRecursion (λ w. w.0 < 2 ^ 53) pending.now.entries }
+    ensures { IfOk result (λ all. map (λ id. id.value) all.items ≡ ids pending.now.entries) }
+{
+    let mut all = Vec::new(alloc);
+    for id in pending.keys() {
+        all.push(JsUint { value: *id })?;
+    }
+    Ok(all)
+}

@@ -1,0 +1,115 @@
+//! What a message means to a local end.
+ghost use Rattle.std.specs.Prelude.{◌≡◌, IfOk, OnErr};
+ghost use Rattle.bidi_tree.specs.Node as kind;
+ghost use Rattle.bidi_shape.specs.ValueLaws.{others_of};
+ghost use Rattle.bidi_local.specs.Pending.{Pending};
+ghost use Rattle.bidi_local.specs.Received.{settled};
+ghost use Rattle.bidi_local.specs.Receiving.{IsMeaningOf, IsOutcome, IsRefusal};
+ghost use Rattle.bidi_local.specs.View.{meaning_of, IsWell};
+
+use crate::pending::{method_of, settle};
+use crate::received::Received;
+use bidi_messages::{ErrorCode, ErrorResponse, Event, Message, Method, Response, result_of};
+use bidi_shape::{Ext, Shape, ShapeFault};
+use bidi_tree::JsUint;
+use indexmap::IndexMap;
+use std::alloc::{AllocError, Global};
+
+/// Tells what a message means while these commands wait, and settles the one that it answers. It is used up.
+///
+/// # Errors
+/// No memory, where a growth was refused. All still wait.
+pub(crate) fn receive(
+    alloc: Global,
+    pending: &mut IndexMap<u64, Method>,
+    message: Message,
+) -> Result<Received, AllocError>
+    requires { ⟦<Message as Shape>⟧.shape.well message }
+    ensures means { IfOk result (λ r. IsMeaningOf pending.old.entries (⟦<Message as Shape>⟧.shape.tree_of message) (meaning_of r)) }
+    ensures settles { IfOk result (λ r. pending.new.entries ≡ settled pending.old.entries (meaning_of r)) }
+    ensures well { IfOk result IsWell }
+    ensures err { OnErr result (pending.new.entries ≡ pending.old.entries) }
+{
+    match message {
+        Message::Response(response) => receive_response(alloc, pending, response),
+        Message::Error(error) => Ok(receive_error(pending, error)),
+        Message::Event(event) => Ok(receive_event(event)),
+    }
+}
+
+fn receive_response(
+    alloc: Global,
+    pending: &mut IndexMap<u64, Method>,
+    response: Response,
+) -> Result<Received, AllocError>
+    requires { ⟦<Response as Shape>⟧.shape.well response }
+    ensures means { IfOk result (λ r. IsMeaningOf pending.old.entries (⟦<Response as Shape>⟧.shape.tree_of response) (meaning_of r)) }
+    ensures settles { IfOk result (λ r. pending.new.entries ≡ settled pending.old.entries (meaning_of r)) }
+    ensures well { IfOk result IsWell }
+    ensures err { OnErr result (pending.new.entries ≡ pending.old.entries) }
+{
+    match method_of(pending, response.id.value) {
+        Some(method) => {
+            let outcome = outcome_of(alloc, response.id, method, response.result)?;
+            settle(pending, response.id.value);
+            Ok(outcome)
+        }
+        None => Ok(Received::Stray),
+    }
+}
+
+/// What the result of a command with that id and method means.
+///
+/// # Errors
+/// No memory, where a growth was refused.
+fn outcome_of(
+    alloc: Global,
+    id: JsUint,
+    method: Method,
+    contents: Ext,
+) -> Result<Received, AllocError>
+    ensures outcome { IfOk result (λ r. IsOutcome id.value method (kind.map (others_of contents)) (meaning_of r)) }
+    ensures well { IfOk result IsWell }
+{
+    match result_of(alloc, method, &contents.members) {
+        Ok(result_data) => Ok(Received::Answer(id, result_data)),
+        Err(ShapeFault::NoFit) => Ok(Received::BadResult(id)),
+        Err(ShapeFault::NoMemory) => Err(AllocError),
+    }
+}
+
+fn receive_error(pending: &mut IndexMap<u64, Method>, error: ErrorResponse) -> Received
+    requires { ⟦<ErrorResponse as Shape>⟧.shape.well error }
+    ensures means { IsMeaningOf pending.old.entries (⟦<ErrorResponse as Shape>⟧.shape.tree_of error) (meaning_of result) }
+    ensures settles { pending.new.entries ≡ settled pending.old.entries (meaning_of result) }
+    ensures well { IsWell result }
+{
+    match error.id {
+        Some(id) => refusal_of(pending, id, error.error),
+        None => Received::Stray,
+    }
+}
+
+/// What an error with that id and code means.
+fn refusal_of(pending: &mut IndexMap<u64, Method>, id: JsUint, code: ErrorCode) -> Received
+    ensures refusal { IsRefusal pending.old.entries id.value code (meaning_of result) }
+    ensures settles { pending.new.entries ≡ settled pending.old.entries (meaning_of result) }
+    ensures well { IsWell result }
+{
+    match method_of(pending, id.value) {
+        Some(_) => {
+            settle(pending, id.value);
+            Received::Refusal(id, code)
+        }
+        None => Received::Stray,
+    }
+}
+
+fn receive_event(event: Event) -> Received
+    requires { ⟦<Event as Shape>⟧.shape.well event }
+    ensures means { (waiting : Pending) → IsMeaningOf waiting (⟦<Event as Shape>⟧.shape.tree_of event) (meaning_of result) }
+    ensures settles { (waiting : Pending) → settled waiting (meaning_of result) ≡ waiting }
+    ensures well { IsWell result }
+{
+    Received::Event(event.data)
+}

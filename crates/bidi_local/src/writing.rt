@@ -1,0 +1,39 @@
+//! The text of a command that is sent.
+ghost use Rattle.std.specs.Prelude.{◌≡◌, Some, IfOk, string_bytes};
+ghost use Rattle.bidi_tree.specs.Text.{tree_of, compact_text};
+ghost use Rattle.bidi_shape.specs.Name.{command};
+ghost use Rattle.bidi_shape.specs.Term.{rule};
+ghost use Rattle.bidi_shape.specs.Fits.{Fits};
+ghost use Rattle.bidi_local.specs.Pending.{command_tree};
+
+use bidi_messages::{Command, CommandData, Method, Subject, text_of};
+use bidi_shape::Ext;
+use bidi_tree::JsUint;
+use std::alloc::{AllocError, Global};
+
+/// The method of a command, and its text with that id. The command is used up.
+///
+/// # Errors
+/// No memory, where a growth was refused.
+pub(crate) fn written(
+    alloc: Global,
+    id: JsUint,
+    data: CommandData,
+) -> Result<(Method, String), AllocError>
+    requires { ⟦<CommandData as Subject<Method>>⟧.subject.well «data» }
+    ensures method { IfOk result (λ w. w.0 ≡ ⟦<CommandData as Subject<Method>>⟧.subject.kind «data») }
+    ensures text { IfOk result (λ w. string_bytes w.1
+        ≡ compact_text (command_tree id.value (⟦<CommandData as Subject<Method>>⟧.subject.kind «data») (⟦<CommandData as Subject<Method>>⟧.subject.tree_of «data»))) }
+    ensures fits { IfOk result (λ w. Fits (command_tree id.value (⟦<CommandData as Subject<Method>>⟧.subject.kind «data») (⟦<CommandData as Subject<Method>>⟧.subject.tree_of «data»)) (rule command)) }
+    ensures reads_back { IfOk result (λ w. tree_of (string_bytes w.1)
+        ≡ Some (command_tree id.value (⟦<CommandData as Subject<Method>>⟧.subject.kind «data») (⟦<CommandData as Subject<Method>>⟧.subject.tree_of «data»))) }
+{
+    let method = data.method();
+    let command = Command {
+        id,
+        data,
+        ext: Ext::empty(alloc),
+    };
+    let text = text_of(alloc, &command)?;
+    Ok((method, text))
+}
