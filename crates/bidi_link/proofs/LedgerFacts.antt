@@ -5,7 +5,8 @@ use Rattle.bidi_tree.specs.Node.{Node, null}
 use Rattle.bidi_tree.specs.Text.{tree_of}
 use Rattle.bidi_browser.proofs.Spelling.{said}
 use Rattle.bidi_remote.proofs.Facts.Rows.{machine_on_literals}
-use Rattle.bidi_link.specs.Ledger.{PairInput, Opens, Sends, Up, Down, Cuts, Fate, Answered, Refused, Lost, Waiting, Entry, Received, Page, ledger}
+use Rattle.bidi_link.specs.Link.{Fate, Answered, Refused, Lost, Waiting, Entry, Received, Page}
+use Rattle.bidi_link.specs.Ledger.{PairInput, Opens, Sends, Up, Down, Cuts, ledger}
 
 -- the tree of a JSON text
 abbrev pub tree : String → Node

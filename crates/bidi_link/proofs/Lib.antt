@@ -1,1 +1,14 @@
 pub mod LedgerFacts
+pub mod AnswerLemmas
+pub mod LinkLemmas
+pub mod LinkFateLemmas
+pub mod LinkReplyLemmas
+pub mod LinkSendLemmas
+pub mod LinkTakeLemmas
+pub mod PastLemmas
+pub mod SpokenLemmas
+pub mod TableLemmas
+pub mod SaneLemmas
+pub mod StandLemmas
+pub mod StepLemmas
+pub mod RowStepLemmas

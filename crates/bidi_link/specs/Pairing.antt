@@ -1,9 +1,8 @@
 -- Both ends in memory: the past of what was handed to the remote end, sent, and carried on each link. This project's own.
-use Rattle.std.specs.Prelude.{ℕ, suc, ◌==◌, Bool, false, ◌||◌, if◌then◌else◌, List, [], ◌∷◌, ◌++◌, reverse, take, flat_map}
+use Rattle.std.specs.Prelude.{ℕ, suc, ◌==◌, Bool, false, ◌||◌, if◌then◌else◌, List, [], ◌∷◌, ◌++◌, reverse}
 use Rattle.bidi_tree.specs.Node.{Node}
 use Rattle.bidi_remote.specs.Machine.History.{Input}
-use Rattle.bidi_remote.specs.Machine.Sent as sent
-use Rattle.bidi_remote.specs.Machine.Sent.{answers}
+use Rattle.bidi_remote.specs.Machine.Sent.{answers, texts_on}
 
 -- a command that a local end sends: its method and its params
 pub record Sending : Type 0 where
@@ -71,15 +70,6 @@ downs [] l = 0
 downs (TakenDown k ∷ past) l = if l == k then suc (downs past l) else downs past l
 downs (d ∷ past) l = downs past l
 
--- the texts among what is sent, on one connection
-abbrev pub text_on : ℕ → sent.Sent → List (List ℕ)
-text_on l (sent.Text c text) = if l == c then text ∷ [] else []
-text_on l x = []
-
 -- all texts for a link, in order
 abbrev pub texts : List Deed → ℕ → List (List ℕ)
-texts past l = flat_map (text_on l) (answers (reverse (history past)))
-
--- those that were taken down
-abbrev pub received : List Deed → ℕ → List (List ℕ)
-received past l = take (downs past l) (texts past l)
+texts past l = texts_on l (answers (reverse (history past)))

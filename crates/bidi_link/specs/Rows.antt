@@ -1,0 +1,90 @@
+-- What a link in hand stands for.
+use Rattle.std.specs.Prelude.{◌≡◌, ℕ, suc, ◌≤◌, nat_lt, Bool, true, false, not, ◌&&◌, if◌then◌else◌, List, [], ◌∷◌, ◌++◌, map, filter, drop, length, slice_get, Option, None, string_bytes, ⊤}
+use Rattle.bidi_tree.specs.Text.{compact_text}
+use Rattle.bidi_messages.specs.Verdict.{IsVerdict, Accepted}
+use Rattle.bidi_messages.specs.Method.{method_text}
+use Rattle.bidi_messages.specs.declared.method.Method.{Method}
+use Rattle.bidi_local.specs.Pending.{Pending}
+use Rattle.bidi_local.specs.View.{Stands}
+use Rattle.bidi_link.specs.declared.ledger.Entry as declared_entry
+use Rattle.bidi_link.specs.declared.link_end.LinkEnd.{LinkEnd}
+use Rattle.bidi_link.specs.Pairing.{Sending}
+use Rattle.bidi_link.specs.Link.{Link, is_waiting, tree_of_sending, may_send, entries_from, events, Page}
+use Rattle.bidi_link.specs.Steps.{fate_seen, entry_seen, event_seen}
+
+-- ---- what a step makes of a link
+
+-- a link that has carried nothing
+abbrev pub blank : Link
+blank = record { commands = []; ups = 0; texts = []; downs = 0; is_cut = false; not_sent = 0 }
+
+-- a command is sent, or counts as one that could not be
+abbrev pub with_sending : Link → Sending → Link
+with_sending v c = if may_send v c then record v { commands = v.commands ++ c ∷ [] } else record v { not_sent = suc v.not_sent }
+
+abbrev pub sent_on : Link → Sending → Link
+sent_on v c = if v.is_cut then v else with_sending v c
+
+-- the command that is taken up next
+abbrev pub next_up : Link → Option Sending
+next_up v = if v.is_cut then None else slice_get v.commands v.ups
+
+abbrev pub with_up : Link → Link
+with_up v = record v { ups = suc v.ups }
+
+-- texts are for it
+abbrev pub with_texts : Link → List (List ℕ) → Link
+with_texts v ts = record v { texts = v.texts ++ ts }
+
+-- the oldest text that was not taken down yet is taken down
+abbrev pub with_down : Link → Link
+with_down v = if not v.is_cut && nat_lt v.downs (length v.texts) then record v { downs = suc v.downs } else v
+
+abbrev pub with_cut : Link → Link
+with_cut v = record v { is_cut = true }
+
+-- ---- a link in hand
+
+-- the commands among some entries that wait
+abbrev pub waiting_among : List declared_entry.Entry → Pending
+waiting_among es = map (λ e. (e.id.value, e.method)) (filter (λ e. is_waiting (fate_seen e.fate)) es)
+
+-- the text of a command on its way up, which the remote end will accept as that command
+pub record IsUpward (id : ℕ) (c : Sending) (s : List ℕ) : Type 0 where
+  pub text : s ≡ compact_text (tree_of_sending id c)
+  pub accepted : IsVerdict s (Accepted (tree_of_sending id c))
+  pub method : Method
+  pub named : c.method ≡ method_text method
+
+-- the texts of these commands, whose ids count on from the first
+abbrev pub AreUpward : ℕ → List Sending → List (List ℕ) → Type 0
+AreUpward id [] [] = ⊤
+AreUpward id [] (s ∷ ss) = ⊥
+AreUpward id (c ∷ cs) [] = ⊥
+AreUpward id (c ∷ cs) (s ∷ ss) = IsUpward id c s × AreUpward (suc id) cs ss
+
+-- the local end has sent these commands, those that have no answer yet wait there, and the queues hold what lies between two places
+pub record Carries (end : LinkEnd) (v : Link) : Type 0 where
+  pub local : Stands end.local (length v.commands) (waiting_among end.commands.items)
+  pub up : AreUpward (suc v.ups) (drop v.ups v.commands) (map string_bytes end.up.items)
+  pub down : map string_bytes end.down.items ≡ drop v.downs v.texts
+
+-- a link that was cut carries nothing
+pub record IsEmpty (end : LinkEnd) : Type 0 where
+  pub up : end.up.items ≡ []
+  pub down : end.down.items ≡ []
+
+-- it stands for the link of that number
+pub record Agrees (end : LinkEnd) (l : ℕ) (v : Link) : Type 0 where
+  pub number : end.number.value ≡ l
+  pub entries : map entry_seen end.commands.items ≡ entries_from 1 v v.commands
+  pub events : map event_seen end.events.items ≡ events v
+  pub not_sent : end.unsent ≡ v.not_sent
+  pub is_cut : end.is_cut ≡ v.is_cut
+  pub within : v.downs ≤ length v.texts
+  pub carries : v.is_cut ≡ false → Carries end v
+  pub empty : v.is_cut ≡ true → IsEmpty end
+
+-- the page that it would leave
+abbrev pub page_in_hand : LinkEnd → Page
+page_in_hand end = record { link = end.number.value; entries = map entry_seen end.commands.items; events = map event_seen end.events.items; not_sent = end.unsent }

@@ -1,0 +1,44 @@
+-- The past that both ends in hand stand for.
+use Rattle.std.specs.Prelude.{◌≡◌, ℕ, suc, ◌<◌, ◌^◌, true, false, List, map, slice_get, Some}
+use Rattle.std.specs.List.{AllByRecursion}
+use Rattle.bidi_remote.specs.Tables.Stands as remote
+use Rattle.bidi_link.specs.declared.ends.Ends.{Ends}
+use Rattle.bidi_link.specs.declared.link_end.LinkEnd.{LinkEnd}
+use Rattle.bidi_link.specs.Pairing.{Sending, Deed, history, links, is_link, commands, ups, unsent}
+use Rattle.bidi_link.specs.Link.{Link, link}
+use Rattle.bidi_link.specs.Ledger.{is_connected, is_whole}
+use Rattle.bidi_link.specs.Spoken.{IsSound}
+use Rattle.bidi_link.specs.Rows.{Agrees, IsUpward, blank}
+
+-- the numbers of some links, in order of opening
+abbrev pub numbers : List (ℕ × LinkEnd) → List ℕ
+numbers rows = map (λ row. row.0) rows
+
+-- each link in hand stands for what is said of its number
+abbrev pub RowsAgree : List (ℕ × LinkEnd) → (ℕ → Link) → Type 0
+RowsAgree rows f = AllByRecursion (λ row. Agrees row.1 row.0 (f row.0)) rows
+
+-- the remote end has taken what was handed to it, and each link stands for what the past leaves of it
+pub record StandsFor (ends : Ends) (past : List Deed) : Type 0 where
+  pub remote : remote.StandsFor ends.remote (history past)
+  pub numbers : numbers ends.links.entries ≡ links past
+  pub rows : RowsAgree ends.links.entries (link past)
+
+-- What holds of each past that both ends make: all that a link gets is sound, and a number that is no link got nothing.
+pub record IsSane (past : List Deed) : Type 0 where
+  pub sound : (l : ℕ) → IsSound (link past l)
+  pub unknown : (l : ℕ) → is_link past l ≡ false → (link past l ≡ blank) × (is_connected past l ≡ false)
+
+-- both at once
+abbrev pub Both : Ends → List Deed → Type 0
+Both ends past = StandsFor ends past × IsSane past
+
+-- a link can count one more command that was not sent
+abbrev pub CanCount : List Deed → Type 0
+CanCount past = (l : ℕ) → unsent past l < 2 ^ 63
+
+-- this is the text of the command that a link takes up next
+pub record IsNextUp (past : List Deed) (l : ℕ) (c : Sending) (s : List ℕ) : Type 0 where
+  pub whole : is_whole past l ≡ true
+  pub next : slice_get (commands past l) (ups past l) ≡ Some c
+  pub upward : IsUpward (suc (ups past l)) c s

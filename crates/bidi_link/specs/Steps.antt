@@ -1,0 +1,82 @@
+-- What contracts see of a step of both ends, and of a ledger.
+use Rattle.std.specs.Prelude.{◌≡◌, ℕ, List, [], ◌∷◌, map, string_bytes, ⊤}
+use Rattle.std.specs.List.{AllByRecursion}
+use Rattle.bidi_messages.specs.declared.command.CommandData.{CommandData}
+use Rattle.bidi_messages.specs.declared.event.EventData.{EventData}
+use Rattle.bidi_messages.specs.contracts.command.CommandDataSubjectMethod.TheImpl as asks
+use Rattle.bidi_messages.specs.contracts.event.EventDataSubjectEventName.TheImpl as told
+use Rattle.bidi_messages.specs.contracts.result_data.ResultDataSubjectMethod.TheImpl as results
+use Rattle.bidi_messages.specs.ErrorCode.{error_code_text}
+use Rattle.bidi_messages.specs.EventName.{event_text}
+use Rattle.bidi_messages.specs.Method.{method_text}
+use Rattle.bidi_remote.specs.Machine.Step as step
+use Rattle.bidi_remote.specs.Machine.History as remote
+use Rattle.bidi_remote.specs.Machine.History.{Input}
+use Rattle.bidi_link.specs.declared.pairing.PairStep.{PairStep}
+use Rattle.bidi_link.specs.declared.pairing.PairStep.TheVariants as in_hand
+use Rattle.bidi_link.specs.declared.ledger.Ledger as declared_ledger
+use Rattle.bidi_link.specs.declared.ledger.Page as declared_page
+use Rattle.bidi_link.specs.declared.ledger.Entry as declared_entry
+use Rattle.bidi_link.specs.declared.ledger.Fate as declared_fate
+use Rattle.bidi_link.specs.declared.ledger.Fate.TheVariants as fate_in_hand
+use Rattle.bidi_link.specs.Pairing.{Sending}
+use Rattle.bidi_link.specs.Link.{Fate, Answered, Refused, Lost, Waiting, Entry, Received, Page}
+use Rattle.bidi_link.specs.Ledger.{PairInput, Opens, Sends, Up, Down, Cuts, Beside}
+
+-- ---- steps
+
+-- a command, by its method and its params
+abbrev pub sending_of : CommandData → Sending
+sending_of d = record { method = method_text (asks.ghosts.subject.kind d); params = asks.ghosts.subject.tree_of d }
+
+-- a step that the remote end takes by itself is heard as the remote end hears it
+abbrev pub IsBeside : step.Step → PairInput → Type 0
+IsBeside x p = (i : Input) × remote.IsHeardAs x i × (p ≡ Beside i)
+
+-- what a step is heard as
+abbrev pub IsHeardAs : PairStep → PairInput → Type 0
+IsHeardAs (in_hand.Open l resource) p = p ≡ Opens l.value (string_bytes resource)
+IsHeardAs (in_hand.Send l d) p = p ≡ Sends l.value (sending_of d)
+IsHeardAs (in_hand.Up l) p = p ≡ Up l.value
+IsHeardAs (in_hand.Down l) p = p ≡ Down l.value
+IsHeardAs (in_hand.Cut l) p = p ≡ Cuts l.value
+IsHeardAs (in_hand.At n) p = IsBeside (step.At n.value) p
+IsHeardAs (in_hand.Frame context url) p = IsBeside (step.Frame (string_bytes context) (string_bytes url)) p
+IsHeardAs (in_hand.Unframe context) p = IsBeside (step.Unframe (string_bytes context)) p
+IsHeardAs (in_hand.Log context level text) p = IsBeside (step.Log (string_bytes context) level (string_bytes text)) p
+IsHeardAs (in_hand.TableRow text) p = IsBeside (step.TableRow (string_bytes text)) p
+
+-- each step is heard as the input at its place
+abbrev pub AreHeardAs : List PairStep → List PairInput → Type 0
+AreHeardAs [] [] = ⊤
+AreHeardAs [] (p ∷ inputs) = ⊥
+AreHeardAs (x ∷ steps) [] = ⊥
+AreHeardAs (x ∷ steps) (p ∷ inputs) = IsHeardAs x p × AreHeardAs steps inputs
+
+-- a command that is to be sent is well
+abbrev pub IsWell : PairStep → Type 0
+IsWell (in_hand.Send l d) = asks.ghosts.subject.well d
+IsWell x = ⊤
+
+abbrev pub AreWell : List PairStep → Type 0
+AreWell steps = AllByRecursion IsWell steps
+
+-- ---- the ledger
+
+abbrev pub fate_seen : declared_fate.Fate → Fate
+fate_seen (fate_in_hand.Answered result) = Answered (results.ghosts.subject.tree_of result)
+fate_seen (fate_in_hand.Refused code) = Refused (error_code_text code)
+fate_seen fate_in_hand.Lost = Lost
+fate_seen fate_in_hand.Waiting = Waiting
+
+abbrev pub entry_seen : declared_entry.Entry → Entry
+entry_seen e = record { id = e.id.value; method = method_text e.method; fate = fate_seen e.fate }
+
+abbrev pub event_seen : EventData → Received
+event_seen d = record { method = event_text (told.ghosts.subject.kind d); params = told.ghosts.subject.tree_of d }
+
+abbrev pub page_seen : declared_page.Page → Page
+page_seen p = record { link = p.link.value; entries = map entry_seen p.commands.items; events = map event_seen p.events.items; not_sent = p.unsent }
+
+abbrev pub pages_of : declared_ledger.Ledger → List Page
+pages_of l = map page_seen l.pages.items
