@@ -1,6 +1,6 @@
 -- Both ends in hand, after each step, stand for the past with it.
 use Rattle.std.proofs.Common.{◌≡◌, ◌∙◌, ◌<◌, ◌≤◌, ◌+◌, ◌^◌, ℕ, suc, Bool, true, false, nat_eq, List, [], ◌∷◌, ◌++◌, map, length, Option, Some, None, Result, Ok, Err, refl, sym, ap, ap₂, subst, rules, arith}
-use Rattle.std.specs.Prelude.{◌==◌, ◌&&◌, not, slice_get, if◌then◌else◌, nat_lt, OnOk, IfOk, ⊤}
+use Rattle.std.specs.Prelude.{◌==◌, ◌&&◌, take, get_or, IsErrOf, not, slice_get, if◌then◌else◌, nat_lt, OnOk, IfOk, ⊤}
 use Rattle.bidi_messages.specs.Verdict.{Verdict, Accepted, IsVerdict}
 use Rattle.bidi_messages.specs.declared.method.Method.{Method}
 use Rattle.bidi_messages.specs.Method.{method_text}
@@ -16,6 +16,9 @@ use Rattle.bidi_remote.specs.Machine.Sent.{out}
 use Rattle.bidi_remote.specs.Tables.Messages.{AllReadBack}
 use Rattle.bidi_messages.proofs.VerdictLemmas.{one_verdict}
 use Rattle.bidi_remote.proofs.RouteLemmas.{IsUnheard, IsApart, events-unheard}
+use Rattle.std.specs.Result.{IsErrAnd}
+use Rattle.bidi_remote.specs.declared.remote_end.RemoteFault.{RemoteFault}
+use Rattle.bidi_remote.specs.declared.remote_end.RemoteFault.TheVariants.{WornOut}
 use Rattle.bidi_link.specs.declared.ends.Ends.{Ends}
 use Rattle.bidi_link.specs.Pairing.{Sending, Deed, Handed, Linked, Sent, Unsent, TakenUp, TakenDown, Cut, history, is_link, is_cut, commands, ups, downs, texts, unsent}
 use Rattle.bidi_link.specs.Link.{Link, link, may_send, tree_of_sending, page}
@@ -280,3 +283,25 @@ counts-after past (q ∷ inputs) l =
 -- fewer steps than a list can have: each link can count one more
 pub can-count : (xs : List PairStep) (inputs : List PairInput) → AreHeardAs xs inputs → length xs < 2 ^ 63 → CanCount (past_after [] inputs)
 can-count xs inputs heard few = λ l. (let n = counts-after [] inputs l in let m = heard-length xs inputs heard in omega (arith, n, m, few))
+
+-- the steps so far stand at the front, and so with one more
+pub front-more : {A : Type 0} (all xs : List A) (x : A) → take (length xs) all ≡ xs → length xs < length all → x ≡ get_or all (length xs) x → take (length (xs ++ x ∷ [])) all ≡ xs ++ x ∷ []
+front-more [] xs x front within is = absurd (omega (arith, within))
+front-more (y ∷ all) [] x front within is = ap (λ z. z ∷ []) (sym is)
+front-more (y ∷ all) (z ∷ xs) x front within is = ap₂ (λ w ws. w ∷ ws) (head front) (front-more all xs x (tail front) (omega (arith, within)) is)
+  where
+    head : y ∷ take (length xs) all ≡ z ∷ xs → y ≡ z
+    head e = cc e
+
+    tail : y ∷ take (length xs) all ≡ z ∷ xs → take (length xs) all ≡ xs
+    tail e = cc e
+
+-- a fault that is handed on is that fault
+fault-of : {A : Type 0} → RemoteFault → Result A RemoteFault → RemoteFault
+fault-of d (Ok x) = d
+fault-of d (Err e) = e
+
+pub worn-is : {A : Type 0} (r : Result A RemoteFault) (e : RemoteFault) → IsErrAnd r (λ f. f ≡ e) → IsErrOf r WornOut → (let q : Result (Unit {0}) RemoteFault = Err e in IsErrOf q WornOut)
+unfolding fault-of
+worn-is (Ok x) e is worn = absurd is
+worn-is (Err f) e is worn = ap (λ g. Err g) (sym is ∙ ap (fault-of e) worn)

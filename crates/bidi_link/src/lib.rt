@@ -1,8 +1,8 @@
 //! Both ends together: local ends over links, and one remote end.
 //!
-//! Links are opened, commands are sent, texts are carried up and down one at a time and in any order, links are cut, and
-//! pages take their steps: each is a [`PairStep`]. A [`Ledger`] tells what became of each command and which events each
-//! link received. The table of links and each step over it stand here; the call that plays a list of steps does not yet.
+//! [`pair`] plays a list of steps in memory: links are opened, commands are sent, texts are carried up and down one at a
+//! time and in any order, links are cut, and pages take their steps. Its [`Ledger`] tells what became of each command
+//! and which events each link received.
 #![tactic(auto)]
 
 mod ends;
@@ -12,4 +12,4 @@ mod links;
 mod pairing;
 
 pub use ledger::{Entry, Fate, Ledger, Page};
-pub use pairing::PairStep;
+pub use pairing::{PairStep, pair};

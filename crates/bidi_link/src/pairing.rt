@@ -1,7 +1,18 @@
-//! Steps of both ends.
+//! Both ends over a schedule.
+ghost use Rattle.std.specs.Prelude.{◌≡◌, ◌≤◌, ℕ, List, [], take, length, IfOk, IsErrOf};
+ghost use Rattle.bidi_link.specs.Ledger.{PairInput, past_after, ledger};
+ghost use Rattle.bidi_link.specs.Link.{link};
+ghost use Rattle.bidi_link.specs.Pairing.{history};
+ghost use Rattle.bidi_link.specs.Spoken.{IsSound};
+ghost use Rattle.bidi_link.specs.Steps.{AreHeardAs, AreWell, pages_of};
+
+use crate::ends::Ends;
+use crate::ledger::Ledger;
 use bidi_messages::CommandData;
+use bidi_remote::RemoteFault;
 use bidi_tree::JsUint;
 use bidi_values::Level;
+use std::alloc::Global;
 
 /// A step of both ends. A link is told by its number, which is that of its connection at the remote end. A step on a
 /// link that is not there, that was cut, or that has nothing to carry does nothing.
@@ -27,4 +38,28 @@ pub enum PairStep {
     Log(String, Level, String),
     /// A row is set in the table of scripts, where the text is one.
     TableRow(String),
+}
+
+/// Plays steps of both ends: several local ends, each over a link of its own, and one remote end.
+///
+/// A text is made once and moved from end to end. A link is found by its number at once, and so is a command by its id.
+///
+/// # Errors
+/// - `NoMemory`: a growth was refused.
+/// - `WornOut`: the remote end was handed 1,000,000,000 steps, and one more.
+pub fn pair(alloc: Global, steps: Vec<PairStep>) -> Result<Ledger, RemoteFault>
+    requires { AreWell steps.items }
+    // The ledger is that of the steps; and all that was carried down on a link, or is to be, are events and the replies to
+    // its commands, each once and in their order, with a result of its method's rule, in texts that read back.
+    ensures ok { IfOk result (λ l. (inputs : List PairInput) × AreHeardAs steps.items inputs × (pages_of l ≡ ledger inputs)
+        × ((n : ℕ) → IsSound (link (past_after [] inputs) n))) }
+    ensures worn_out { IsErrOf result RemoteFault.WornOut → (n : ℕ) × (inputs : List PairInput) × AreHeardAs (take n steps.items) inputs
+        × (1000000000 ≤ length (history (past_after [] inputs))) }
+{
+    let mut ends = Ends::new(alloc)?;
+    for step in steps {
+        ends.take(step)?;
+    }
+    let ledger = ends.into_ledger()?;
+    Ok(ledger)
 }
