@@ -8,6 +8,8 @@ mod browser;
 #[cfg(test)]
 mod faults;
 #[cfg(test)]
+mod link;
+#[cfg(test)]
 mod messages;
 #[cfg(test)]
 mod params;

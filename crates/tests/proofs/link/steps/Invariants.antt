@@ -1,0 +1,6 @@
+use Rattle.bidi_link.specs.Steps.{AreWell}
+use Rattle.tests.proofs.link.steps.Given as goal
+
+-- each step so far is well
+abbrev pub invariant-loop-link : goal.invariant-loop-link
+invariant-loop-link l = AreWell l.all.items
