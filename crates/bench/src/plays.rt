@@ -9,6 +9,12 @@ const SESSIONS: u32 = 8;
 /// How many connections each of them has.
 const CONNECTIONS: u32 = 8;
 
+/// How many links the pair has.
+const LINKS: u32 = 8;
+
+/// How many commands wait on each of them at once.
+const WAITING: u32 = 100;
+
 /// The id of the session or of the context with that number.
 #[derive(Clone, Copy)]
 enum Id {
@@ -74,6 +80,29 @@ pub fn log<R: Print>(rt: &R, count: u32) -> Result<()> {
         )?;
     }
     entries(rt, count)
+}
+
+/// Writes the lines of a pair over 8 links with at least so many commands, in rounds: on each link 100 commands are sent, then all are carried up, then all answers down.
+pub fn pair<R: Print>(rt: &R, count: u32) -> Result<()> {
+    for link in 1..=LINKS {
+        println!(rt; "open {link} /session")?;
+    }
+    for _ in 0..count.div_ceil(LINKS * WAITING) {
+        on_each(rt, "send", " session.status {}")?;
+        on_each(rt, "up", "")?;
+        on_each(rt, "down", "")?;
+    }
+    Ok(())
+}
+
+/// Writes a line 100 times for each link, by turns.
+fn on_each<R: Print>(rt: &R, word: &str, rest: &str) -> Result<()> {
+    for _ in 0..WAITING {
+        for link in 1..=LINKS {
+            println!(rt; "{word} {link}{rest}")?;
+        }
+    }
+    Ok(())
 }
 
 /// Writes lines that make the sessions, each on the first of its connections, and open the others for it.

@@ -16,14 +16,22 @@ help_of_play : faults_of (codes "play" ∷ codes "-h" ∷ []) ≡ DisplayHelp �
 unfolding clap_on_literals
 help_of_play = refl
 
+takes_pair : faults_of (codes "pair" ∷ []) ≡ []
+unfolding clap_on_literals
+takes_pair = refl
+
 no_word : faults_of [] ≡ MissingSubcommand ∷ []
 unfolding clap_on_literals
 no_word = refl
 
-another_name : faults_of (codes "pair" ∷ []) ≡ UnknownArgument ∷ InvalidSubcommand ∷ []
+another_name : faults_of (codes "over" ∷ []) ≡ UnknownArgument ∷ InvalidSubcommand ∷ []
 unfolding clap_on_literals
 another_name = refl
 
 word_after_play : faults_of (codes "play" ∷ codes "extra" ∷ []) ≡ UnknownArgument ∷ []
 unfolding clap_on_literals
 word_after_play = refl
+
+word_after_pair : faults_of (codes "pair" ∷ codes "play" ∷ []) ≡ UnknownArgument ∷ []
+unfolding clap_on_literals
+word_after_pair = refl

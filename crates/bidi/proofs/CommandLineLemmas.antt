@@ -12,10 +12,10 @@ use Rattle.clap.proofs.OnLiterals.{clap_on_literals}
 use Rattle.bidi.specs.declared.arguments.LineFault.{LineFault}
 use Rattle.bidi.specs.declared.arguments.LineFault.TheVariants.{Help, Usage, NoMemory}
 use Rattle.bidi.specs.declared.arguments.Run.{Run}
-use Rattle.bidi.specs.declared.arguments.Run.TheVariants.{Play, Show, Check}
+use Rattle.bidi.specs.declared.arguments.Run.TheVariants.{Play, Pair, Show, Check}
 use Rattle.bidi.specs.declared.message_lines.Side.TheVariants.{Local, Remote}
 use Rattle.bidi.specs.CommandLine.{AsksFor, Causes, IsReadAs, IsRefusedFor, IsRequest, IsSaidBy, bidi_app, faults_of, run_in}
-use Rattle.bidi.proofs.PlayLines.{play_lines}
+use Rattle.bidi.proofs.PlayLines.{play_lines, pair_lines}
 
 -- the command is one whose faults clap lists, and whose reading it states
 pub is_listed : is_simple_and_free bidi_app ≡ true
@@ -34,16 +34,27 @@ reads_mark : IsReadAs (codes "play" ∷ codes "--" ∷ []) Play
 unfolding clap_on_literals
 reads_mark = (refl, refl)
 
+reads_pair : IsReadAs (codes "pair" ∷ []) Pair
+unfolding clap_on_literals
+reads_pair = (refl, refl)
+
+reads_pair_mark : IsReadAs (codes "pair" ∷ codes "--" ∷ []) Pair
+unfolding clap_on_literals
+reads_pair_mark = (refl, refl)
+
 -- clap reads a line that asks for a run as that run
 pub asked_read : (line : List Text) (run : Run) → AsksFor line run → IsReadAs line run
 asked_read line Play (inl e) = subst (λ l. IsReadAs l Play) (sym e) reads_name
 asked_read line Play (inr e) = subst (λ l. IsReadAs l Play) (sym e) reads_mark
+asked_read line Pair (inl e) = subst (λ l. IsReadAs l Pair) (sym e) reads_pair
+asked_read line Pair (inr e) = subst (λ l. IsReadAs l Pair) (sym e) reads_pair_mark
 asked_read line (Show side) asks = asks
 asked_read line (Check side) asks = asks
 
 -- and a line that clap reads as a run asks for it
 pub read_asked : (line : List Text) (run : Run) → IsReadAs line run → AsksFor line run
 read_asked line Play read = play_lines line read.0 read.1
+read_asked line Pair read = pair_lines line read.0 read.1
 read_asked line (Show side) read = read
 read_asked line (Check side) read = read
 
@@ -125,6 +136,7 @@ check_remote_attached = (refl, refl)
 
 pub said_asks : (line : List Text) (run : Run) → IsSaidBy run line → AsksFor line run
 said_asks line Play e = inl e
+said_asks line Pair e = inl e
 said_asks line (Show Local) (inl e) = subst (λ l. IsReadAs l (Show Local)) (sym e) show_local
 said_asks line (Show Local) (inr e) = subst (λ l. IsReadAs l (Show Local)) (sym e) show_local_attached
 said_asks line (Show Remote) (inl e) = subst (λ l. IsReadAs l (Show Remote)) (sym e) show_remote

@@ -6,7 +6,8 @@ pub mod LevelLemmas
 pub mod DeviceLemmas
 pub mod InputLineLemmas
 pub mod ListingLemmas
-pub mod AnswerLemmas
+pub mod LedgerLemmas
+pub mod PairLemmas
 pub mod PlayLemmas
 pub mod ReadingLemmas
 pub mod OneTextLemmas

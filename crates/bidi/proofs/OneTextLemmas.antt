@@ -15,7 +15,7 @@ use Rattle.bidi_remote.specs.Machine.History.{Input, Heard, InPage, IsRow, is_ro
 use Rattle.bidi_remote.specs.Machine.Sent.{Sent, answers, answers_after}
 use Rattle.bidi.specs.Lines.{ended, sent_line, written}
 use Rattle.bidi.specs.Plays.{Plays, PlaysPart}
-use Rattle.bidi.proofs.AnswerLemmas.{answers_append}
+use Rattle.bidi_link.proofs.AnswerLemmas.{answers_append}
 use Rattle.bidi.proofs.ReadingLemmas.{front_steps, all_steps}
 
 -- a text has one verdict

@@ -12,7 +12,7 @@ use Rattle.bidi.specs.Plays.{Play, PlaysPart, HasNoPlayLine, StopsAt}
 use Rattle.bidi.specs.Faults.{play_fault_of}
 use Rattle.bidi_remote.specs.declared.remote_end.RemoteFault.{RemoteFault}
 use Rattle.bidi_remote.specs.declared.remote_end.RemoteFault.TheVariants as remote
-use Rattle.bidi.proofs.AnswerLemmas.{answers_more}
+use Rattle.bidi_link.proofs.AnswerLemmas.{answers_more}
 use Rattle.bidi.proofs.FeedLemmas.{one_front}
 
 pub all_more : (steps : List Step) (s : Step) → AllByRecursion CanBeSaid steps → CanBeSaid s → AllByRecursion CanBeSaid (steps ++ s ∷ [])

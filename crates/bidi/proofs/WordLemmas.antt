@@ -1,5 +1,5 @@
 -- The first word of a step's line.
-use Rattle.std.proofs.Common.{◌≡◌, ℕ, true, false, List, ◌∷◌, ◌++◌, refl}
+use Rattle.std.proofs.Common.{◌≡◌, ℕ, false, List, ◌∷◌, ◌++◌, refl}
 use Rattle.std.specs.Prelude.{◌==◌, decimal, codes}
 use Rattle.std.specs.List.{list_any}
 use Rattle.bidi_values.specs.Level.{level_text}

@@ -8,7 +8,7 @@ use Rattle.clap.specs.declared.error.kind.ErrorKind.TheVariants.{DisplayHelp, Di
 use Rattle.bidi.specs.declared.arguments.LineFault.{LineFault}
 use Rattle.bidi.specs.declared.arguments.LineFault.TheVariants.{Help, Usage, NoMemory}
 use Rattle.bidi.specs.declared.arguments.Run.{Run}
-use Rattle.bidi.specs.declared.arguments.Run.TheVariants.{Play, Show, Check}
+use Rattle.bidi.specs.declared.arguments.Run.TheVariants.{Play, Pair, Show, Check}
 use Rattle.bidi.specs.declared.message_lines.Side.{Side}
 use Rattle.bidi.specs.declared.message_lines.Side.TheVariants.{Local, Remote}
 
@@ -19,6 +19,10 @@ with_settings s = record s { no_binary_name = true; disable_help_subcommand = tr
 -- the subcommand `play`, with no argument
 abbrev pub play_shape : Shape
 play_shape = (new_app (codes "play")).top
+
+-- the subcommand `pair`, with no argument
+abbrev pub pair_shape : Shape
+pair_shape = (new_app (codes "pair")).top
 
 -- the option `--from`, which is required
 abbrev pub from_rule : Rule
@@ -34,7 +38,7 @@ bare_app = record { top = with_settings (new_app (codes "bidi")).top; subs = [] 
 
 -- the program's command, which wants one of its subcommands
 abbrev pub bidi_app : App
-bidi_app = with_subcommand (with_subcommand (with_subcommand bare_app play_shape) (from_shape (codes "show"))) (from_shape (codes "check"))
+bidi_app = with_subcommand (with_subcommand (with_subcommand (with_subcommand bare_app play_shape) pair_shape) (from_shape (codes "show"))) (from_shape (codes "check"))
 
 -- the words as texts
 abbrev pub line_of : List (Bor (List ℕ)) → List Text
@@ -56,8 +60,9 @@ side_in rows = option_and_then side_named (first_of (codes "from") rows)
 abbrev pub run_named : Text → Option Side → Option Run
 run_named name side =
     if bytes_eq name (codes "play") then Some Play
+    else (if bytes_eq name (codes "pair") then Some Pair
     else (if bytes_eq name (codes "show") then option_map Show side
-    else (if bytes_eq name (codes "check") then option_map Check side else None))
+    else (if bytes_eq name (codes "check") then option_map Check side else None)))
 
 -- the run of a subcommand, by its name and what was found for its option
 abbrev pub run_in : Option (Text × List Row) → Option Run
@@ -68,9 +73,10 @@ run_in (Some (name, rows)) = run_named name (side_in rows)
 abbrev pub IsReadAs : List Text → Run → Type 0
 IsReadAs line run = (faults_of line ≡ []) × (run_in (subcommand_of bidi_app line) ≡ Some run)
 
--- the line asks for the run: `play` is asked for by its name, with or without the mark that ends the options
+-- the line asks for the run: `play` and `pair` are asked for by their names, with or without the mark that ends the options
 abbrev pub AsksFor : List Text → Run → Type 0
 AsksFor line Play = (line ≡ codes "play" ∷ []) ⊎ (line ≡ codes "play" ∷ codes "--" ∷ [])
+AsksFor line Pair = (line ≡ codes "pair" ∷ []) ⊎ (line ≡ codes "pair" ∷ codes "--" ∷ [])
 AsksFor line (Show side) = IsReadAs line (Show side)
 AsksFor line (Check side) = IsReadAs line (Check side)
 
@@ -82,6 +88,7 @@ side_text Remote = codes "remote"
 -- the words that are given for a run
 abbrev pub IsSaidBy : Run → List Text → Type 0
 IsSaidBy Play line = line ≡ codes "play" ∷ []
+IsSaidBy Pair line = line ≡ codes "pair" ∷ []
 IsSaidBy (Show side) line = (line ≡ codes "show" ∷ codes "--from" ∷ side_text side ∷ []) ⊎ (line ≡ codes "show" ∷ (codes "--from=" ++ side_text side) ∷ [])
 IsSaidBy (Check side) line = (line ≡ codes "check" ∷ codes "--from" ∷ side_text side ∷ []) ⊎ (line ≡ codes "check" ∷ (codes "--from=" ++ side_text side) ∷ [])
 

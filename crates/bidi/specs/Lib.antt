@@ -5,5 +5,7 @@ pub mod Faults
 pub mod InputLines
 pub mod MessageLines
 pub mod Listings
+pub mod PairLines
+pub mod Pairs
 pub mod Runs
 pub mod CommandLine

@@ -1,5 +1,5 @@
 -- The lines of a play, which say its steps, and the lines that are written. Their forms are this project's own.
-use Rattle.std.specs.Prelude.{◌≡◌, ◌≢◌, IfSome, Option, Some, None, ℕ, ◌<◌, ◌≤◌, ◌^◌, ◌==◌, List, [], ◌∷◌, ◌++◌, length, codes, decimal, IsUtf8, Bool, true, false}
+use Rattle.std.specs.Prelude.{◌≡◌, ◌≢◌, IfSome, Option, Some, None, ℕ, ◌<◌, ◌≤◌, ◌^◌, ◌==◌, List, [], ◌∷◌, ◌++◌, length, codes, decimal, IsUtf8, Bool, false}
 use Rattle.std.specs.List.{flat_map, list_any}
 use Rattle.bidi_values.specs.Level.{level_text}
 use Rattle.bidi_remote.specs.Machine.Step.{Step, At, Open, Drop, Text, NotText, Frame, Unframe, Log, TableRow}

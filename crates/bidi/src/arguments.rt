@@ -4,7 +4,7 @@ ghost use Rattle.clap.specs.Words.{app_of, found_of, first_value, kind_of, new_a
 ghost use Rattle.clap.specs.declared.builder.command.Command.TheViews.{out-Command};
 ghost use Rattle.clap.specs.declared.error.kind.ErrorKind.TheVariants.{InvalidValue};
 ghost use Rattle.bidi.specs.declared.arguments.Run.{Run};
-ghost use Rattle.bidi.specs.CommandLine.{AsksFor, Causes, IsRefusedFor, IsSaidBy, bare_app, bidi_app, from_rule, from_shape, play_shape, line_of, run_in, run_named, side_named};
+ghost use Rattle.bidi.specs.CommandLine.{AsksFor, Causes, IsRefusedFor, IsSaidBy, bare_app, bidi_app, from_rule, from_shape, pair_shape, play_shape, line_of, run_in, run_named, side_named};
 
 use super::message_lines::Side;
 use clap::error::ErrorKind;
@@ -17,6 +17,8 @@ use thiserror::Error;
 pub enum Run {
     /// Plays the lines of the standard input.
     Play,
+    /// Plays the lines of the standard input over both ends.
+    Pair,
     /// Writes a line for each text of this end.
     Show(Side),
     /// Writes a line for each text of this end that is refused.
@@ -70,7 +72,7 @@ pub fn command_line(alloc: Global, words: &[&str]) -> Result<Run, LineFault>
 fn command<'a>(alloc: Global) -> Result<Command<'a>, AllocError>
     ensures { IfOk result (λ command. app_of command ≡ bidi_app) }
 {
-    let command = with_play(alloc)?;
+    let command = with_pair(alloc)?;
     let command = with_listing(
         alloc,
         command,
@@ -98,6 +100,16 @@ fn with_play<'a>(alloc: Global) -> Result<Command<'a>, AllocError>
         .subcommand(Command::new(alloc, "play").about(
             "Plays steps from the standard input and writes what is sent",
         ))
+}
+
+// The program's command with the subcommands `play` and `pair` alone.
+fn with_pair<'a>(alloc: Global) -> Result<Command<'a>, AllocError>
+    ensures { IfOk result (λ command. app_of command ≡ with_subcommand (with_subcommand bare_app play_shape) pair_shape) }
+{
+    let command = with_play(alloc)?;
+    command.subcommand(Command::new(alloc, "pair").about(
+        "Plays steps of both ends from the standard input and writes what became of each command",
+    ))
 }
 
 // The command with one more subcommand, of this name, with the option `--from`.
@@ -149,6 +161,7 @@ fn run_named(name: &str, side: Option<Side>) -> Option<Run>
 {
     match name {
         "play" => Some(Run::Play),
+        "pair" => Some(Run::Pair),
         "show" => Some(Run::Show(side?)),
         "check" => Some(Run::Check(side?)),
         _ => None,

@@ -50,7 +50,7 @@ pub fn read_step(alloc: Global, line: &[u8]) -> Result<Option<Step>, AllocError>
 }
 
 // The step whose words stand in a line.
-fn read_words(alloc: Global, line: &str) -> Result<Option<Step>, AllocError>
+pub(crate) fn read_words(alloc: Global, line: &str) -> Result<Option<Step>, AllocError>
     ensures some { IfOk result (λ found. IfSome found (λ step. IsSayable (step_of step) × (line.now ≡ line_of (step_of step)))) }
     ensures none { IfOk result (λ found. IfNone found ((s : play.Step) → IsSayable s → line.now ≡ line_of s → ⊥)) }
 {
@@ -177,7 +177,7 @@ fn has_space(text: &str) -> bool
 }
 
 // The js-uint whose decimal form the text is.
-fn read_number(alloc: Global, text: &str) -> Result<Option<JsUint>, AllocError>
+pub(crate) fn read_number(alloc: Global, text: &str) -> Result<Option<JsUint>, AllocError>
     ensures some { IfOk result (λ found. IfSome found (λ n. text.now ≡ decimal n.value)) }
     ensures none { IfOk result (λ found. IfNone found ((n : ℕ) → n < 2 ^ 53 → text.now ≡ decimal n → ⊥)) }
 {
@@ -193,7 +193,7 @@ fn read_number(alloc: Global, text: &str) -> Result<Option<JsUint>, AllocError>
 }
 
 // The parts round the first space.
-fn parts(text: &str) -> Option<(&str, &str)>
+pub(crate) fn parts(text: &str) -> Option<(&str, &str)>
     ensures some { IfSome result (λ x. text.now ≡ x.0.now ++ 32 ∷ x.1.now) }
     ensures first { (xs ys : List ℕ) → text.now ≡ xs ++ 32 ∷ ys → list_any (λ b. b == 32) xs ≡ false
         → IsSomeAnd result (λ x. (x.0.now ≡ xs) × (x.1.now ≡ ys)) }
@@ -201,7 +201,7 @@ fn parts(text: &str) -> Option<(&str, &str)>
     text.split_once(' ')
 }
 
-fn is_text(text: &str, other: &str) -> bool
+pub(crate) fn is_text(text: &str, other: &str) -> bool
     ensures { IsTrue result ↔ (text.now ≡ other.now) }
 {
     text == other

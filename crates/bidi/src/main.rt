@@ -1,14 +1,18 @@
 //! Programs over the two ends of WebDriver BiDi.
 //!
 //! `bidi play` reads a play from standard input, a step a line, and writes what the remote end sends.
+//! `bidi pair` reads steps of both ends, and writes what became of each command and which events each link received.
 //! `bidi show` writes a line for each text of a local or a remote end, and `bidi check` one for each that is refused.
 #![tactic(auto)]
 
 mod arguments;
 mod device;
+mod ledger_lines;
 mod line_reader;
 mod lines;
 mod message_lines;
+mod pair_lines;
+mod pairing;
 mod playing;
 mod running;
 mod showing;

@@ -3,10 +3,12 @@ ghost use Rattle.std.specs.Prelude.{◌≡◌, ℕ, ◌<◌, ◌≤◌, List, Is
 ghost use Rattle.bidi.specs.Plays.{Moves, Plays};
 ghost use Rattle.bidi.specs.Plays as plays;
 ghost use Rattle.bidi.specs.Listings as listings;
+ghost use Rattle.bidi.specs.Pairs as pairs;
 ghost use Rattle.bidi.specs.Runs.{Completes, Stops};
 
 use super::arguments::Run;
 use super::device::{Sink, Source, write_all};
+use super::pairing::{PairFault, play_pair};
 use super::playing::{PlayFault, play};
 use super::showing::{Listing, ShowFault, list};
 use std::alloc::Global;
@@ -39,6 +41,13 @@ pub fn run<R: Source, W: Sink, F: Sink>(
                 play_status(fault)
             }
         },
+        Run::Pair => match play_pair(alloc, source, sink) {
+            Ok(()) => 0,
+            Err(fault) => {
+                tell(alloc, &fault, faults);
+                pair_status(fault)
+            }
+        },
         Run::Show(side) => match list(alloc, Listing::All, *side, source, sink) {
             Ok(_) => 0,
             Err(fault) => {
@@ -62,6 +71,16 @@ fn play_status(fault: PlayFault) -> u8
 {
     match fault {
         PlayFault::BadLine(_) => 2,
+        _ => 3,
+    }
+}
+
+// The status of a run of both ends that ended with a fault.
+fn pair_status(fault: PairFault) -> u8
+    ensures { result ≡ pairs.status_of fault }
+{
+    match fault {
+        PairFault::BadLine(_) => 2,
         _ => 3,
     }
 }

@@ -9,6 +9,7 @@ mod handles;
 mod listings;
 mod log;
 mod navigation;
+mod pairs;
 mod plays;
 mod scripts;
 mod sessions;
@@ -49,11 +50,28 @@ fn check_plays<R: Abort + AllocGlobal>(rt: &R, table: &str) -> Result<(), Fail> 
 
 /// Runs the plays of a table in which ids stand as short words, and what comes many times stands once.
 fn check_long_plays<R: Abort + AllocGlobal>(rt: &R, table: &str) -> Result<(), Fail> {
+    check_long_rows(rt, &[Run::Play], table)
+}
+
+/// Runs both ends over the schedules of a table in which ids stand as short words.
+fn check_pairs<R: Abort + AllocGlobal>(rt: &R, table: &str) -> Result<(), Fail> {
+    let table = with_ids(rt.alloc(), table)?;
+    check_rows(rt, &[Run::Pair], table.as_str())
+}
+
+/// Runs both ends over the schedules of a table in which ids stand as short words, and what comes many times stands
+/// once.
+fn check_long_pairs<R: Abort + AllocGlobal>(rt: &R, table: &str) -> Result<(), Fail> {
+    check_long_rows(rt, &[Run::Pair], table)
+}
+
+/// Runs all that is asked for over a table in which ids stand as short words, and what comes many times stands once.
+fn check_long_rows<R: Abort + AllocGlobal>(rt: &R, asked: &[Run], table: &str) -> Result<(), Fail> {
     let table = with_ids(rt.alloc(), table)?;
     let table = spelled_out(rt.alloc(), table.as_str())?;
     for row in table.split("\n\n") {
         let row = repeated(rt.alloc(), row)?;
-        check_row(rt, &[Run::Play], row.as_str())?;
+        check_row(rt, asked, row.as_str())?;
     }
     Ok(())
 }

@@ -1,6 +1,6 @@
 -- What a link in hand stands for as its queues change: what is taken from them, and what is put there.
-use Rattle.std.proofs.Common.{◌≡◌, ◌∙◌, ◌≤◌, ℕ, suc, zero, Bool, true, false, List, [], ◌∷◌, ◌++◌, map, length, take, drop, filter, find, Option, Some, None, option_to_list, unwrap_or, refl, sym, ap, ap₂, subst, arith}
-use Rattle.std.specs.Prelude.{slice_get, if◌then◌else◌, IfNone, IfSome}
+use Rattle.std.proofs.Common.{◌≡◌, ◌∙◌, ◌≤◌, ℕ, suc, zero, Bool, true, false, List, [], ◌∷◌, ◌++◌, map, length, take, drop, filter, find, Option, Some, None, option_to_list, unwrap_or, Result, Ok, Err, refl, sym, ap, ap₂, subst, arith}
+use Rattle.std.specs.Prelude.{slice_get, if◌then◌else◌, IfNone, IfSome, OnOk}
 use Rattle.bidi_link.specs.Pairing.{Sending}
 use Rattle.std.proofs.lemmas.List.{take-append-le}
 use Rattle.bidi_tree.specs.Node.{null}
@@ -17,6 +17,14 @@ if_none (Some x) f = tt
 pub if_some : {A : Type 0} {P : A → Type 0} (r : Option A) → ((x : A) → r ≡ Some x → P x) → IfSome r P
 if_some None f = tt
 if_some (Some x) f = f x refl
+
+pub one_ok : {E : Type 0} {A C : Type 0} (r : Result (Unit {0}) E) → OnOk r A → (A → C) → OnOk r C
+one_ok (Ok x) a f = f a
+one_ok (Err e) a f = tt
+
+pub both_ok : {E : Type 0} {A B C : Type 0} (r : Result (Unit {0}) E) → OnOk r A → OnOk r B → (A → B → C) → OnOk r C
+both_ok (Ok x) a b f = f a b
+both_ok (Err e) a b f = tt
 
 -- no list is its own rest
 own_rest : {A : Type 0} (xs : List A) → xs ≡ drop 1 xs → xs ≡ []

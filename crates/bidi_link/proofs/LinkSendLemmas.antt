@@ -1,6 +1,6 @@
 -- A link in hand where a command is sent: how many wait, why it may not be sent, and that it waits.
-use Rattle.std.proofs.Common.{◌≡◌, ◌∙◌, ◌<◌, ◌+◌, ◌-◌, ◌^◌, ℕ, suc, zero, min, Bool, true, false, true≢false, not, cond, List, [], ◌∷◌, ◌++◌, map, length, drop, filter, Option, Some, None, Result, Ok, Err, refl, sym, ap, ap₂, subst, arith, rules, tests}
-use Rattle.std.specs.Prelude.{nat_lt, nat_le, ◌&&◌, if◌then◌else◌, OnOk, string_bytes}
+use Rattle.std.proofs.Common.{◌≡◌, ◌∙◌, ◌<◌, ◌+◌, ◌-◌, ◌^◌, ℕ, suc, zero, min, Bool, true, false, true≢false, not, cond, List, [], ◌∷◌, ◌++◌, map, length, drop, filter, Option, Some, None, Err, refl, sym, ap, ap₂, subst, arith, rules, tests}
+use Rattle.std.specs.Prelude.{nat_lt, nat_le, ◌&&◌, if◌then◌else◌, string_bytes}
 use Rattle.std.proofs.lemmas.List.{length-map, length-append, length-drop, map-append}
 use Rattle.bidi_local.specs.declared.local_end.LocalFault.{LocalFault}
 use Rattle.bidi_local.specs.declared.local_end.LocalFault.TheVariants.{NoMemory, IdsUsedUp, TooManyPending, TooLong}
@@ -20,7 +20,8 @@ use Rattle.bidi_link.specs.Pairing.{Sending}
 use Rattle.bidi_link.specs.Link as seen
 use Rattle.bidi_link.specs.Link.{Link, is_waiting, is_reply_to, messages, fate_with, fate_of, unsettled, entries_from, may_send}
 use Rattle.bidi_link.specs.Rows.{Agrees, waiting_among, IsUpward, AreUpward, with_sending, sent_on}
-use Rattle.bidi_link.specs.Steps.{fate_seen, entry_seen, event_seen, sending_of}
+use Rattle.bidi_link.specs.Steps.{fate_seen, entry_seen, event_seen, sending_of, FateIsWell, EntriesAreWell, EventsAreWell}
+use Rattle.bidi_remote.proofs.ListLemmas.{all-append}
 use Rattle.bidi_link.proofs.LinkFateLemmas.{row, waits, same_head, same_tail}
 use Rattle.bidi_link.proofs.LinkLemmas.{drop-append, entries-same}
 use Rattle.bidi_link.proofs.LinkReplyLemmas.{none_replies}
@@ -131,10 +132,6 @@ waiting-last (x ∷ es) e is = by_case (is_waiting (fate_seen x.fate)) refl (wai
 
 -- ---- the link in hand
 
-pub both_ok : {E : Type 0} {A B C : Type 0} (r : Result (Unit {0}) E) → OnOk r A → OnOk r B → (A → B → C) → OnOk r C
-both_ok (Ok x) a b f = f a b
-both_ok (Err e) a b f = tt
-
 -- the local end stands for that many commands, and may send this one where the link may
 same_may : (v : Link) (es : List Entry) (d : CommandData) (sent : ℕ) (waiting : Pending) → map entry_seen es ≡ entries_from 1 v v.commands → sent ≡ length v.commands → waiting ≡ waiting_among es
     → may sent (length waiting) (length (command_text sent (asks.ghosts.subject.kind d) (asks.ghosts.subject.tree_of d))) ≡ may_send v (sending_of d)
@@ -174,12 +171,12 @@ pub record IsRest (end new : LinkEnd) : Type 0 where
 
 pub sends : (end new : LinkEnd) (l : ℕ) (v : Link) (d : CommandData) (e : Entry) (s : List ℕ) → Agrees end l v → IsSound v → v.is_cut ≡ false → IsRest end new → new.unsent ≡ end.unsent
     → new.commands.items ≡ end.commands.items ++ e ∷ [] → map string_bytes new.up.items ≡ map string_bytes end.up.items ++ s ∷ []
-    → e.id.value ≡ suc (sent_by end.local) → e.method ≡ asks.ghosts.subject.kind d → fate_seen e.fate ≡ seen.Waiting
+    → e.id.value ≡ suc (sent_by end.local) → e.method ≡ asks.ghosts.subject.kind d → fate_seen e.fate ≡ seen.Waiting → FateIsWell e.fate
     → s ≡ command_text (sent_by end.local) (asks.ghosts.subject.kind d) (asks.ghosts.subject.tree_of d)
     → IsVerdict s (Accepted (command_tree (suc (sent_by end.local)) (asks.ghosts.subject.kind d) (asks.ghosts.subject.tree_of d)))
     → Stands new.local (suc (sent_by end.local)) (waiting_in end.local ++ (suc (sent_by end.local), asks.ghosts.subject.kind d) ∷ [])
     → Agrees new l (record v { commands = v.commands ++ sending_of d ∷ [] })
-sends end new l v d e s a sound whole rest unsent commands up has_id has_method waiting written accepted stands =
+sends end new l v d e s a sound whole rest unsent commands up has_id has_method waiting fate_well written accepted stands =
     let n = length v.commands in
     let c = sending_of d in
     let local = (a.carries whole).local in
@@ -192,6 +189,8 @@ sends end new l v d e s a sound whole rest unsent commands up has_id has_method 
       named = refl;
     } in
     record {
+      results_well = subst EntriesAreWell (sym commands) (all-append (λ e. FateIsWell e.fate) end.commands.items (e ∷ []) a.results_well (fate_well, tt));
+      events_well = subst (λ x. EventsAreWell x.items) (sym rest.events) a.events_well;
       number = ap (λ x. x.value) rest.number ∙ a.number;
       entries = ap (map entry_seen) commands ∙ (map-append entry_seen end.commands.items (e ∷ []) ∙ (ap₂ {B = seen.Entry} (λ ys y. ys ++ y ∷ []) a.entries entry
           ∙ (sym (entries_from-last 1 v v.commands c (suc n) (omega arith)) ∙ entries-same 1 v (record v { commands = v.commands ++ c ∷ [] }) (v.commands ++ c ∷ []) (λ k. refl))));
@@ -219,6 +218,8 @@ pub counts : (end new : LinkEnd) (l : ℕ) (v : Link) → Agrees end l v → v.i
 counts end new l v a whole rest commands up unsent stands =
     let local = (a.carries whole).local in
     record {
+      results_well = subst (λ x. EntriesAreWell x.items) (sym commands) a.results_well;
+      events_well = subst (λ x. EventsAreWell x.items) (sym rest.events) a.events_well;
       number = ap (λ x. x.value) rest.number ∙ a.number;
       entries = ap (λ x. map entry_seen x.items) commands ∙ (a.entries ∙ entries-same 1 v (record v { not_sent = suc v.not_sent }) v.commands (λ k. refl));
       events = ap (λ x. map event_seen x.items) rest.events ∙ a.events;
@@ -239,10 +240,6 @@ refused_for NoMemory o not_so is = absurd (not_so refl)
 refused_for IdsUsedUp o not_so is = is
 refused_for TooManyPending o not_so is = is
 refused_for TooLong o not_so is = is
-
-pub one_ok : {E : Type 0} {A C : Type 0} (r : Result (Unit {0}) E) → OnOk r A → (A → C) → OnOk r C
-one_ok (Ok x) a f = f a
-one_ok (Err e) a f = tt
 
 -- a count below the limit is exact
 pub counted_on : (n m x : ℕ) → n ≡ m → m < 2 ^ 63 → x ≡ min (n + 1) (2 ^ 64 - 1) → x ≡ suc n

@@ -1,5 +1,5 @@
 -- A link in hand where a text is taken down: what the local end makes of it, and what is noted.
-use Rattle.std.proofs.Common.{◌≡◌, ◌∙◌, ◌≤◌, ◌<◌, ◌^◌, ◌⊎◌, ℕ, suc, Bool, true, false, true≢false, not, cond, bytes_eq, List, [], ◌∷◌, ◌++◌, map, length, take, drop, filter, find, codes, Option, Some, None, option_and_then, unwrap_or, Result, Ok, Err, inl, inr, refl, sym, ap, ap₂, subst, arith, rules, tests, append-nil, lt-ltb}
+use Rattle.std.proofs.Common.{◌≡◌, ◌∙◌, ◌≤◌, ◌<◌, ◌^◌, ◌⊎◌, ℕ, suc, Bool, true, false, true≢false, not, cond, bytes_eq, List, [], ◌∷◌, ◌++◌, map, length, take, drop, filter, find, codes, Option, Some, None, option_and_then, unwrap_or, Result, inl, inr, refl, sym, ap, ap₂, subst, arith, rules, tests, append-nil, lt-ltb}
 use Rattle.std.specs.Prelude.{slice_get, slice_set, nat_lt, ◌&&◌, if◌then◌else◌, OnOk, string_bytes}
 use Rattle.std.specs.Option.{option_or}
 use Rattle.std.proofs.lemmas.List.{map-append}
@@ -49,8 +49,8 @@ use Rattle.bidi_link.specs.Pairing.{Sending}
 use Rattle.bidi_link.specs.Link as seen
 use Rattle.bidi_link.specs.Link.{Link, is_event, is_reply_to, is_waiting, messages, event_in, events, fate_by, fate_with, fate_of, entries_from}
 use Rattle.bidi_link.specs.Rows.{Agrees, waiting_among, AreUpward, with_down}
-use Rattle.bidi_link.specs.Steps.{fate_seen, entry_seen, event_seen}
-use Rattle.bidi_link.proofs.LinkLemmas.{entries-same, dropped, all_dropped}
+use Rattle.bidi_link.specs.Steps.{fate_seen, entry_seen, event_seen, EntriesAreWell, EventsAreWell}
+use Rattle.bidi_link.proofs.LinkLemmas.{both_ok, entries-same, dropped, all_dropped}
 use Rattle.bidi_link.proofs.LinkFateLemmas.{are_numbered, IsEntry, entry_at, entries-set, waiting-set, method_of-waiting}
 use Rattle.bidi_link.proofs.LinkReplyLemmas.{tree_in, ResultOf, CodeOf, result_or_code, Replies, replies_alone, replies_itself, reply_reads, ReadsAsEvent, event_reads, event_type_in, is_event_text, events_reply, IsNext, next_event, next_reply, next_text}
 
@@ -205,10 +205,7 @@ pub record IsNoted {E : Type 0} (end new : LinkEnd) (r : Received) (q : Result (
   pub refusal : (p : ℕ) (e : Entry) (id : JsUint) (code : ErrorCode) → r ≡ received.Refusal id code → id.value ≡ suc p → slice_get end.commands.items p ≡ Some e
       → OnOk q ((new.commands.items ≡ slice_set end.commands.items p (record e { fate = in_hand.Refused code })) × (new.events.items ≡ end.events.items))
   pub event : (d : EventData) → r ≡ received.Event d → OnOk q ((new.commands.items ≡ end.commands.items) × (new.events.items ≡ end.events.items ++ d ∷ []))
-
-ok_then : {E : Type 0} {A C : Type 0} (r : Result (Unit {0}) E) → OnOk r A → (A → C) → OnOk r C
-ok_then (Ok x) a f = f a
-ok_then (Err e) a f = tt
+  pub well : EntriesAreWell end.commands.items → EventsAreWell end.events.items → OnOk q (EntriesAreWell new.commands.items × EventsAreWell new.events.items)
 
 module _ {E : Type 0} (end new : LinkEnd) (l : ℕ) (v : Link) (s : List ℕ) (rest : List (List ℕ)) (r : Received) (q : Result (Unit {0}) E) (a : Agrees end l v) (sound : IsSound v) (whole : v.is_cut ≡ false)
     (kept : IsKept end new rest) (noted : IsNoted end new r q) (here : drop v.downs v.texts ≡ s ∷ rest)
@@ -220,10 +217,16 @@ module _ {E : Type 0} (end new : LinkEnd) (l : ℕ) (v : Link) (s : List ℕ) (r
   more : take (suc v.downs) v.texts ≡ take v.downs v.texts ++ s ∷ []
   more = (dropped v.downs v.texts s rest here).1
 
+  -- what was noted before, and is noted now, is well
+  is_well : OnOk q (EntriesAreWell new.commands.items × EventsAreWell new.events.items)
+  is_well = noted.well a.results_well a.events_well
+
   -- what agrees whatever was received
-  agrees : map entry_seen new.commands.items ≡ entries_from 1 w v.commands → map event_seen new.events.items ≡ events w → settled (waiting_in end.local) (meaning_of r) ≡ waiting_among new.commands.items
+  agrees : EntriesAreWell new.commands.items × EventsAreWell new.events.items → map entry_seen new.commands.items ≡ entries_from 1 w v.commands → map event_seen new.events.items ≡ events w → settled (waiting_in end.local) (meaning_of r) ≡ waiting_among new.commands.items
       → Agrees new l w
-  agrees entries events waits = record {
+  agrees well entries events waits = record {
+    results_well = well.0;
+    events_well = well.1;
     number = ap (λ x. x.value) kept.number ∙ a.number;
     entries = entries;
     events = events;
@@ -248,8 +251,8 @@ module _ {E : Type 0} (end new : LinkEnd) (l : ℕ) (v : Link) (s : List ℕ) (r
       let fit = fits_event t (fits_message s t read.reads reads) (event_type_in e) in
       let is_meant = no_other (Told n (params_in t)) (means_event t n read.reads fit (method_in-event e)) in
       let is_told = told_as r n (params_in t) is_meant in
-      ok_then q (noted.event is_told.0 is_told.1.is) (λ z.
-      agrees
+      both_ok q (noted.event is_told.0 is_told.1.is) is_well (λ z well.
+      agrees well
       (ap (map entry_seen) z.0 ∙ (a.entries ∙ entries-same 1 v w v.commands (λ id. fate-other v s more id (events_reply id (tree_in s) typed_so))))
       (ap (map event_seen) z.1 ∙ (map-append event_seen end.events.items (is_told.0 ∷ [])
       ∙ (ap₂ {B = seen.Received} (λ xs x. xs ++ x ∷ []) a.events (seen_in is_told.0 n t is_told.1.kind is_told.1.tree (method_in-event e) ∙ ap event_in (sym tree)) ∙ sym (events-next v s more true typed_so))))
@@ -260,8 +263,8 @@ module _ {E : Type 0} (end new : LinkEnd) (l : ℕ) (v : Link) (s : List ℕ) (r
       → fate_seen f ≡ fate_by (tree_in s) → is_waiting (fate_seen f) ≡ false → settled (waiting_in end.local) (meaning_of r) ≡ without (waiting_in end.local) (suc p)
       → OnOk q ((new.commands.items ≡ slice_set end.commands.items p (record e { fate = f })) × (new.events.items ≡ end.events.items)) → OnOk q (Agrees new l w)
   of_reply p e f at replies none decides settled_so gone note =
-      ok_then q note (λ z.
-      agrees
+      both_ok q note is_well (λ z well.
+      agrees well
       (ap (map entry_seen) z.0 ∙ entries-set p 1 (suc p) v w f e end.commands.items v.commands (omega arith) a.entries at
       (decides ∙ sym (fate-here v s more (suc p) none (replies_itself (suc p) (tree_in s) replies)))
       (λ id apart. fate-other v s more id (replies_alone (suc p) id (tree_in s) replies (λ same. apart (sym same)))))

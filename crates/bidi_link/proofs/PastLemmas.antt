@@ -1,12 +1,12 @@
 -- What one more deed makes of each question about the past of both ends.
-use Rattle.std.proofs.Common.{◌≡◌, ◌∙◌, ◌≤◌, ◌<◌, ◌+◌, ◌^◌, ℕ, suc, zero, Bool, true, false, true≢false, nat_eq, List, [], ◌∷◌, ◌++◌, map, length, Option, Some, None, refl, sym, ap, ap₂, subst, append-nil, append_assoc, arith, rules}
-use Rattle.std.specs.Prelude.{◌==◌, ◌||◌, ◌&&◌, not, reverse, slice_get, if◌then◌else◌, nat_lt}
-use Rattle.std.specs.List.{AllByRecursion, list_any}
+use Rattle.std.proofs.Common.{◌≡◌, ◌∙◌, ℕ, suc, Bool, true, false, true≢false, List, [], ◌∷◌, ◌++◌, refl, sym, ap, rules}
+use Rattle.std.specs.Prelude.{◌==◌, ◌||◌, reverse}
+use Rattle.std.specs.List.{list_any}
 use Rattle.std.proofs.lemmas.List.{reverse-append, reverse-reverse}
 use Rattle.bidi_remote.specs.Machine.History.{Input}
-use Rattle.bidi_remote.specs.Machine.Sent.{Sent, out, answers, texts_on}
+use Rattle.bidi_remote.specs.Machine.Sent.{out, answers, texts_on}
 use Rattle.bidi_remote.proofs.RouteLemmas.{texts_on-append}
-use Rattle.bidi_link.specs.Pairing.{Sending, Deed, Handed, Linked, Sent as SentOn, Unsent, TakenUp, TakenDown, Cut, history, links, is_link, is_cut, commands, unsent, ups, downs, texts}
+use Rattle.bidi_link.specs.Pairing.{Sending, Deed, Handed, Linked, Sent as SentOn, Unsent, TakenUp, TakenDown, Cut, history, links, is_link, commands, unsent, downs, texts}
 use Rattle.bidi_link.specs.Link.{Link, link}
 use Rattle.bidi_link.specs.Rows.{with_texts, with_up, with_cut}
 use Rattle.bidi_link.proofs.AnswerLemmas.{answers_more}

@@ -1,17 +1,17 @@
 -- One link in hand is written, and both ends stand for the past with the step.
-use Rattle.std.proofs.Common.{◌≡◌, ◌∙◌, ◌<◌, ◌^◌, ℕ, suc, Bool, true, false, nat_eq, List, [], ◌∷◌, ◌++◌, map, length, Option, Some, None, Result, Ok, Err, String, Global, string_bytes, refl, sym, ap, subst}
-use Rattle.std.specs.Prelude.{◌&&◌, not, slice_get, if◌then◌else◌, nat_lt, nat_le, OnOk, IfOk, IfSome, IfNone, IsErrOf}
+use Rattle.std.proofs.Common.{◌≡◌, ◌∙◌, ◌<◌, ◌^◌, ℕ, suc, Bool, true, false, nat_eq, List, [], ◌∷◌, ◌++◌, length, Option, Some, None, Result, Ok, Err, String, Global, string_bytes, refl, ap}
+use Rattle.std.specs.Prelude.{◌&&◌, not, if◌then◌else◌, nat_lt, nat_le, OnOk, IfSome, IfNone}
 use Rattle.std.specs.List.{IsDistinct}
 use Rattle.std.specs.Map.{lookup, set_value}
 use Rattle.std.proofs.lemmas.Bool.{ltb-true}
 use Rattle.bidi_tree.specs.Text.{compact_text}
 use Rattle.bidi_link.specs.declared.ends.Ends.{Ends}
 use Rattle.bidi_link.specs.declared.link_end.LinkEnd.{LinkEnd}
-use Rattle.bidi_link.specs.Pairing.{Sending, Deed, Sent, Unsent, TakenUp, TakenDown, Cut, is_link, is_cut, commands, ups, downs, texts}
+use Rattle.bidi_link.specs.Pairing.{Sending, Deed, Sent, Unsent, TakenUp, TakenDown, Cut, is_link, is_cut, commands, downs, texts}
 use Rattle.bidi_link.specs.Link.{Link, link, may_send, unsettled, tree_of_sending}
 use Rattle.bidi_link.specs.Ledger.{Sends, Up, Down, with_step, is_whole}
 use Rattle.bidi_link.specs.Spoken.{IsSound}
-use Rattle.bidi_link.specs.Rows.{Agrees, IsUpward, sent_on, with_sending, next_up, with_up, with_down, with_cut}
+use Rattle.bidi_link.specs.Rows.{Agrees, IsUpward, sent_on, next_up, with_up, with_down, with_cut}
 use Rattle.bidi_link.specs.Stands.{StandsFor, IsSane, Both, CanCount, IsNextUp, numbers}
 use Rattle.bidi_link.proofs.PastLemmas.{IsOf, sent-of, unsent-of, up-of, down-of, cut-of}
 use Rattle.bidi_link.proofs.SaneLemmas.{sane-of, sound-sent, sound-so}

@@ -1,6 +1,6 @@
 -- What holds of each past of both ends holds after each step.
-use Rattle.std.proofs.Common.{◌≡◌, ◌∙◌, ◌≤◌, ◌<◌, ◌+◌, ◌^◌, ℕ, suc, Bool, true, false, nat_eq, List, [], ◌∷◌, ◌++◌, length, Option, Some, None, refl, sym, ap, subst, append-nil, length-append, arith, rules}
-use Rattle.std.specs.Prelude.{◌==◌, ◌||◌, ◌&&◌, not, slice_get, if◌then◌else◌, nat_lt, ⊤}
+use Rattle.std.proofs.Common.{◌≡◌, ◌∙◌, ◌≤◌, ◌<◌, ◌^◌, ℕ, suc, Bool, true, false, List, [], ◌∷◌, ◌++◌, length, Some, refl, sym, ap, subst, length-append, arith, rules}
+use Rattle.std.specs.Prelude.{◌==◌, ◌||◌, slice_get}
 use Rattle.std.specs.List.{AllByRecursion}
 use Rattle.std.proofs.lemmas.Option.{slice_get_within}
 use Rattle.bidi_messages.specs.declared.method.Method.{Method}
@@ -16,14 +16,14 @@ use Rattle.bidi_remote.specs.Machine.Sent.{out, texts_on}
 use Rattle.bidi_remote.specs.Tables.Messages.{AllReadBack}
 use Rattle.bidi_remote.proofs.ListLemmas.{all-append}
 use Rattle.bidi_remote.proofs.RouteLemmas.{AreEvents, Answers, answers-heard, IsUnheard, events-unheard, IsApart, stays-shut}
-use Rattle.bidi_link.specs.Pairing.{Sending, Deed, Handed, Linked, Sent, Unsent, TakenUp, TakenDown, Cut, history, is_link, commands, ups, texts, unsent}
+use Rattle.bidi_link.specs.Pairing.{Sending, Deed, Handed, Linked, TakenUp, history, is_link, commands, ups, texts}
 use Rattle.bidi_link.specs.Link.{Link, link, tree_of_sending}
 use Rattle.bidi_link.specs.Ledger.{is_connected}
 use Rattle.bidi_link.specs.Spoken.{IsSound, AreSpoken}
 use Rattle.bidi_link.specs.Rows.{blank, with_texts}
 use Rattle.bidi_link.specs.Stands.{IsSane}
 use Rattle.bidi_link.proofs.PastLemmas.{link-handed, texts-handed, apart, same, up-of, IsOf}
-use Rattle.bidi_link.proofs.SpokenLemmas.{spoken-sent, spoken-up, spoken-events, spoken-append, spoken-answers, events-answers, read-on}
+use Rattle.bidi_link.proofs.SpokenLemmas.{spoken-sent, spoken-events, spoken-append, spoken-answers, events-answers, read-on}
 use Rattle.bidi_link.proofs.TableLemmas.{with_texts-none}
 
 -- a past in which nothing was done

@@ -1,12 +1,12 @@
 -- What is spoken on a link stays so, as more is sent, taken up and handed on.
-use Rattle.std.proofs.Common.{◌≡◌, ◌∙◌, ◌≤◌, ◌<◌, ℕ, suc, zero, Bool, true, false, List, [], ◌∷◌, ◌++◌, length, Option, Some, None, refl, sym, ap, subst, append-nil, append_assoc, arith}
+use Rattle.std.proofs.Common.{◌≡◌, ◌∙◌, ◌≤◌, ℕ, suc, zero, Bool, true, false, List, [], ◌∷◌, ◌++◌, Some, refl, sym, ap, subst, arith}
 use Rattle.std.specs.Prelude.{◌==◌, slice_get, if◌then◌else◌}
 use Rattle.std.specs.List.{AllByRecursion}
 use Rattle.bidi_messages.specs.declared.method.Method.{Method}
 use Rattle.bidi_messages.specs.Method.{method_text}
 use Rattle.bidi_messages.specs.Reading.{IsMessageText}
 use Rattle.bidi_messages.specs.contracts.message.MessageShape.TheImpl.{ghosts}
-use Rattle.bidi_remote.specs.Machine.Replies.{IsEventText, IsReply}
+use Rattle.bidi_remote.specs.Machine.Replies.{IsEventText}
 use Rattle.bidi_remote.specs.Machine.Sent.{Sent, Text, Close, Opened, Denied, Lost, NoEffect, texts_on, text_on}
 use Rattle.bidi_remote.specs.Tables.Messages.{AllReadBack, ReadsBack}
 use Rattle.bidi_remote.proofs.ListLemmas.{all-append}

@@ -1,14 +1,14 @@
 -- Both ends in hand stand for one deed more.
-use Rattle.std.proofs.Common.{◌≡◌, ◌∙◌, ℕ, suc, Bool, true, false, true≢false, nat_eq, List, [], ◌∷◌, ◌++◌, map, Option, Some, None, refl, sym, ap, subst, rules}
-use Rattle.std.specs.Prelude.{◌==◌, ◌&&◌, not, is_some, nat_lt, length, slice_get, if◌then◌else◌}
-use Rattle.std.specs.List.{AllByRecursion, IsDistinct, list_any}
+use Rattle.std.proofs.Common.{◌≡◌, ◌∙◌, ℕ, Bool, true, false, nat_eq, List, [], ◌∷◌, ◌++◌, Option, Some, None, refl, sym, ap, subst}
+use Rattle.std.specs.Prelude.{◌==◌, ◌&&◌, not, is_some, slice_get, if◌then◌else◌}
+use Rattle.std.specs.List.{IsDistinct, list_any}
 use Rattle.std.specs.Map.{lookup, set_value}
 use Rattle.bidi_remote.specs.Tables.Stands as remote
 use Rattle.bidi_remote.specs.Machine.History.{Input}
 use Rattle.bidi_remote.specs.Machine.Sent.{Sent, out, texts_on}
 use Rattle.bidi_link.specs.declared.ends.Ends.{Ends}
 use Rattle.bidi_link.specs.declared.link_end.LinkEnd.{LinkEnd}
-use Rattle.bidi_link.specs.Pairing.{Sending, Deed, Handed, Linked, TakenUp, Cut, history, links, is_link, is_cut, commands, ups}
+use Rattle.bidi_link.specs.Pairing.{Sending, Deed, Handed, Linked, history, is_link, is_cut, commands, ups}
 use Rattle.bidi_link.specs.Link.{Link, link}
 use Rattle.bidi_link.specs.Ledger.{is_whole, with_step, taken_up, Up}
 use Rattle.bidi_link.specs.Rows.{Agrees, blank, with_texts, next_up}

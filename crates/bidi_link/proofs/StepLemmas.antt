@@ -1,7 +1,7 @@
 -- Both ends in hand, after each step, stand for the past with it.
-use Rattle.std.proofs.Common.{◌≡◌, ◌∙◌, ◌<◌, ◌≤◌, ◌+◌, ◌^◌, ℕ, suc, Bool, true, false, nat_eq, List, [], ◌∷◌, ◌++◌, map, length, Option, Some, None, Result, Ok, Err, refl, sym, ap, ap₂, subst, rules, arith}
-use Rattle.std.specs.Prelude.{◌==◌, ◌&&◌, take, get_or, IsErrOf, not, slice_get, if◌then◌else◌, nat_lt, OnOk, IfOk, ⊤}
-use Rattle.bidi_messages.specs.Verdict.{Verdict, Accepted, IsVerdict}
+use Rattle.std.proofs.Common.{◌≡◌, ◌∙◌, ◌<◌, ◌≤◌, ◌+◌, ◌^◌, ℕ, suc, Bool, true, false, List, [], ◌∷◌, ◌++◌, map, length, Option, Some, None, Result, Ok, Err, refl, sym, ap, ap₂, subst, arith}
+use Rattle.std.specs.Prelude.{◌==◌, ◌&&◌, take, get_or, IsErrOf, not, slice_get, if◌then◌else◌, nat_lt, OnOk, IfOk}
+use Rattle.bidi_messages.specs.Verdict.{Verdict, Accepted}
 use Rattle.bidi_messages.specs.declared.method.Method.{Method}
 use Rattle.bidi_messages.specs.Method.{method_text}
 use Rattle.bidi_values.specs.declared.log_entry.Level.{Level}
@@ -22,15 +22,14 @@ use Rattle.bidi_remote.specs.declared.remote_end.RemoteFault.TheVariants.{WornOu
 use Rattle.bidi_link.specs.declared.ends.Ends.{Ends}
 use Rattle.bidi_link.specs.Pairing.{Sending, Deed, Handed, Linked, Sent, Unsent, TakenUp, TakenDown, Cut, history, is_link, is_cut, commands, ups, downs, texts, unsent}
 use Rattle.bidi_link.specs.Link.{Link, link, may_send, tree_of_sending, page}
-use Rattle.bidi_link.specs.Ledger.{PairInput, Opens, Sends, Up, Down, Cuts, Beside, with_step, past_after, is_whole, is_connected, opened, taken_up, cut, dropped}
+use Rattle.bidi_link.specs.Ledger.{PairInput, Opens, Sends, Up, Down, Cuts, Beside, with_step, past_after, is_whole, is_connected, taken_up, dropped}
 use Rattle.bidi_link.specs.declared.pairing.PairStep.{PairStep}
 use Rattle.bidi_link.specs.Steps.{IsBeside, IsHeardAs as IsHeardAsPair, AreHeardAs}
 use Rattle.bidi_link.specs.declared.link_end.LinkEnd.{LinkEnd}
-use Rattle.bidi_link.specs.Spoken.{IsSound}
 use Rattle.bidi_link.specs.Rows.{Agrees, page_in_hand, blank, with_cut}
 use Rattle.bidi_link.specs.Stands.{StandsFor, IsSane, Both, CanCount, IsNextUp, RowsAgree, numbers}
-use Rattle.bidi_link.proofs.PastLemmas.{cut-of, IsOf}
-use Rattle.bidi_link.proofs.SaneLemmas.{unknown-events, sane-denied, sane-linked, sane-unheard, sane-beside, sane-up, sane-of, sound-so}
+use Rattle.bidi_link.proofs.PastLemmas.{cut-of}
+use Rattle.bidi_link.proofs.SaneLemmas.{unknown-events, sane-denied, sane-linked, sane-beside, sane-up, sane-of, sound-so}
 
 -- ---- opening
 

@@ -5,3 +5,5 @@ pub mod Spoken
 pub mod Steps
 pub mod Rows
 pub mod Stands
+pub mod SocketTaking
+pub mod SocketSending

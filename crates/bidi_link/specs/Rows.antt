@@ -1,5 +1,5 @@
 -- What a link in hand stands for.
-use Rattle.std.specs.Prelude.{◌≡◌, ℕ, suc, ◌≤◌, nat_lt, Bool, true, false, not, ◌&&◌, if◌then◌else◌, List, [], ◌∷◌, ◌++◌, map, filter, drop, length, slice_get, Option, None, string_bytes, ⊤}
+use Rattle.std.specs.Prelude.{◌≡◌, ℕ, suc, ◌≤◌, nat_lt, true, false, not, ◌&&◌, if◌then◌else◌, List, [], ◌∷◌, ◌++◌, map, filter, drop, length, slice_get, Option, None, string_bytes, ⊤}
 use Rattle.bidi_tree.specs.Text.{compact_text}
 use Rattle.bidi_messages.specs.Verdict.{IsVerdict, Accepted}
 use Rattle.bidi_messages.specs.Method.{method_text}
@@ -10,7 +10,7 @@ use Rattle.bidi_link.specs.declared.ledger.Entry as declared_entry
 use Rattle.bidi_link.specs.declared.link_end.LinkEnd.{LinkEnd}
 use Rattle.bidi_link.specs.Pairing.{Sending}
 use Rattle.bidi_link.specs.Link.{Link, is_waiting, tree_of_sending, may_send, entries_from, events, Page}
-use Rattle.bidi_link.specs.Steps.{fate_seen, entry_seen, event_seen}
+use Rattle.bidi_link.specs.Steps.{fate_seen, entry_seen, event_seen, EntriesAreWell, EventsAreWell}
 
 -- ---- what a step makes of a link
 
@@ -84,6 +84,8 @@ pub record Agrees (end : LinkEnd) (l : ℕ) (v : Link) : Type 0 where
   pub within : v.downs ≤ length v.texts
   pub carries : v.is_cut ≡ false → Carries end v
   pub empty : v.is_cut ≡ true → IsEmpty end
+  pub results_well : EntriesAreWell end.commands.items
+  pub events_well : EventsAreWell end.events.items
 
 -- the page that it would leave
 abbrev pub page_in_hand : LinkEnd → Page

@@ -1,5 +1,5 @@
 -- What contracts see of a step of both ends, and of a ledger.
-use Rattle.std.specs.Prelude.{◌≡◌, ℕ, List, [], ◌∷◌, map, string_bytes, ⊤}
+use Rattle.std.specs.Prelude.{◌≡◌, List, [], ◌∷◌, map, string_bytes, ⊤}
 use Rattle.std.specs.List.{AllByRecursion}
 use Rattle.bidi_messages.specs.declared.command.CommandData.{CommandData}
 use Rattle.bidi_messages.specs.declared.event.EventData.{EventData}
@@ -80,3 +80,23 @@ page_seen p = record { link = p.link.value; entries = map entry_seen p.commands.
 
 abbrev pub pages_of : declared_ledger.Ledger → List Page
 pages_of l = map page_seen l.pages.items
+
+-- ---- what is in a ledger is well
+
+abbrev pub FateIsWell : declared_fate.Fate → Type 0
+FateIsWell (fate_in_hand.Answered result) = results.ghosts.subject.well result
+FateIsWell fate = ⊤
+
+-- each result
+abbrev pub EntriesAreWell : List declared_entry.Entry → Type 0
+EntriesAreWell entries = AllByRecursion (λ e. FateIsWell e.fate) entries
+
+-- each event
+abbrev pub EventsAreWell : List EventData → Type 0
+EventsAreWell events = AllByRecursion told.ghosts.subject.well events
+
+abbrev pub PageIsWell : declared_page.Page → Type 0
+PageIsWell p = EntriesAreWell p.commands.items × EventsAreWell p.events.items
+
+abbrev pub LedgerIsWell : declared_ledger.Ledger → Type 0
+LedgerIsWell l = AllByRecursion PageIsWell l.pages.items

@@ -11,7 +11,7 @@ ghost use Rattle.bidi_link.specs.Ledger.{PairInput, Opens, Sends, Up, Down, Cuts
 ghost use Rattle.bidi_link.specs.Link.{link, page};
 ghost use Rattle.bidi_link.specs.Pairing.{Sending, Deed, Handed, Linked, TakenUp, Cut, history, links, is_link};
 ghost use Rattle.bidi_link.specs.Rows.{blank};
-ghost use Rattle.bidi_link.specs.Steps.{IsHeardAs, IsWell, pages_of, sending_of};
+ghost use Rattle.bidi_link.specs.Steps.{IsHeardAs, IsWell, LedgerIsWell, pages_of, sending_of};
 
 use crate::ledger::Ledger;
 use crate::link_end::LinkEnd;
@@ -199,7 +199,8 @@ impl Ends {
 
     /// What became of all links.
     pub(crate) fn into_ledger(self) -> Result<Ledger, AllocError>
-        ensures { (past : List Deed) → StandsFor self past → IfOk result (λ ledger. pages_of ledger ≡ map (λ l. page l (link past l)) (links past)) }
+        ensures pages { (past : List Deed) → StandsFor self past → IfOk result (λ ledger. pages_of ledger ≡ map (λ l. page l (link past l)) (links past)) }
+        ensures well { (past : List Deed) → StandsFor self past → IfOk result LedgerIsWell }
     {
         let mut pages = Vec::new(self.alloc);
         for link in self.links.into_values() {

@@ -5,12 +5,13 @@ ghost use Rattle.bidi_messages.specs.declared.error_code.ErrorCode.{ErrorCode};
 ghost use Rattle.bidi_messages.specs.declared.event.EventData as declared_event;
 ghost use Rattle.bidi_messages.specs.declared.result_data.ResultData.{ResultData};
 ghost use Rattle.bidi_local.specs.Pending.{ids};
+ghost use Rattle.bidi_local.specs.View.{IsWell};
 ghost use Rattle.bidi_link.specs.declared.ledger.Entry as declared_entry;
 ghost use Rattle.bidi_link.specs.Link.{Link, entries_from};
 ghost use Rattle.bidi_link.specs.Pairing.{Sending};
 ghost use Rattle.bidi_link.specs.Spoken.{IsSound};
 ghost use Rattle.bidi_link.specs.Rows.{Agrees, page_in_hand, IsUpward, blank, sent_on, next_up, with_up, with_texts, with_down, with_cut, waiting_among};
-ghost use Rattle.bidi_link.specs.Steps.{sending_of, entry_seen, page_seen};
+ghost use Rattle.bidi_link.specs.Steps.{sending_of, entry_seen, page_seen, FateIsWell, EntriesAreWell, EventsAreWell, PageIsWell};
 
 use crate::ledger::{Entry, Fate, Page};
 use bidi_local::{LocalEnd, LocalFault, Received};
@@ -118,7 +119,8 @@ impl LinkEnd {
 
     /// What became of the link.
     pub(crate) fn into_page(self) -> Page
-        ensures { page_seen result ≡ page_in_hand self }
+        ensures page { page_seen result ≡ page_in_hand self }
+        ensures well { (l : ℕ) (v : Link) → Agrees self l v → PageIsWell result }
     {
         Page {
             link: self.number,
@@ -170,6 +172,7 @@ fn note(
     ensures refusal { (p : ℕ) (e : declared_entry.Entry) (id : declared_number.JsUint) (code : ErrorCode) → received ≡ Received.Refusal id code → id.value ≡ suc p → slice_get commands.old.items p ≡ Some e
         → OnOk result ((commands.new.items ≡ slice_set commands.old.items p (record e { fate = Fate.Refused code })) × (events.new.items ≡ events.old.items)) }
     ensures event { (d : declared_event.EventData) → received ≡ Received.Event d → OnOk result ((commands.new.items ≡ commands.old.items) × (events.new.items ≡ events.old.items ++ d ∷ [])) }
+    ensures well { IsWell received → EntriesAreWell commands.old.items → EventsAreWell events.old.items → OnOk result (EntriesAreWell commands.new.items × EventsAreWell events.new.items) }
 {
     match received {
         Received::Answer(id, result) => {
@@ -190,8 +193,9 @@ fn note(
 
 // Notes that these commands are lost.
 fn lose(commands: &mut Vec<Entry>, lost: Vec<JsUint>)
-    ensures { (v : Link) → v.is_cut ≡ false → map entry_seen commands.old.items ≡ entries_from 1 v v.commands → map (λ id. id.value) lost.items ≡ ids (waiting_among commands.old.items)
+    ensures entries { (v : Link) → v.is_cut ≡ false → map entry_seen commands.old.items ≡ entries_from 1 v v.commands → map (λ id. id.value) lost.items ≡ ids (waiting_among commands.old.items)
         → map entry_seen commands.new.items ≡ entries_from 1 (with_cut v) v.commands }
+    ensures well { EntriesAreWell commands.old.items → EntriesAreWell commands.new.items }
 {
     for id in lost {
         settle(commands, id, Fate::Lost);
@@ -200,7 +204,8 @@ fn lose(commands: &mut Vec<Entry>, lost: Vec<JsUint>)
 
 // Notes what became of a command.
 fn settle(commands: &mut Vec<Entry>, id: JsUint, fate: Fate)
-    ensures { (p : ℕ) (e : declared_entry.Entry) → id.value ≡ suc p → slice_get commands.old.items p ≡ Some e → commands.new.items ≡ slice_set commands.old.items p (record e { fate = fate }) }
+    ensures set { (p : ℕ) (e : declared_entry.Entry) → id.value ≡ suc p → slice_get commands.old.items p ≡ Some e → commands.new.items ≡ slice_set commands.old.items p (record e { fate = fate }) }
+    ensures well { FateIsWell fate → EntriesAreWell commands.old.items → EntriesAreWell commands.new.items }
 {
     let Some(place) = id.value.checked_sub(1) else {
         return;

@@ -4,7 +4,7 @@ ghost use Rattle.bidi_link.specs.Ledger.{PairInput, past_after, ledger};
 ghost use Rattle.bidi_link.specs.Link.{link};
 ghost use Rattle.bidi_link.specs.Pairing.{history};
 ghost use Rattle.bidi_link.specs.Spoken.{IsSound};
-ghost use Rattle.bidi_link.specs.Steps.{AreHeardAs, AreWell, pages_of};
+ghost use Rattle.bidi_link.specs.Steps.{AreHeardAs, AreWell, LedgerIsWell, pages_of};
 
 use crate::ends::Ends;
 use crate::ledger::Ledger;
@@ -53,6 +53,8 @@ pub fn pair(alloc: Global, steps: Vec<PairStep>) -> Result<Ledger, RemoteFault>
     // its commands, each once and in their order, with a result of its method's rule, in texts that read back.
     ensures ok { IfOk result (λ l. (inputs : List PairInput) × AreHeardAs steps.items inputs × (pages_of l ≡ ledger inputs)
         × ((n : ℕ) → IsSound (link (past_after [] inputs) n))) }
+    // Each result and each event in the ledger is well, so it has a tree that can be written.
+    ensures well { IfOk result LedgerIsWell }
     ensures worn_out { IsErrOf result RemoteFault.WornOut → (n : ℕ) × (inputs : List PairInput) × AreHeardAs (take n steps.items) inputs
         × (1000000000 ≤ length (history (past_after [] inputs))) }
 {

@@ -25,3 +25,5 @@ mod texts;
 mod tree;
 #[cfg(test)]
 mod values;
+#[cfg(test)]
+mod web_sockets;

@@ -8,18 +8,26 @@ use std::test::Fail;
 /// What a command line gives, and its words. `''` is an empty word.
 const LINES: &str = r#"play: play
 play: play --
+pair: pair
+pair: pair --
 help: --help
 help: -h
 help: play --help
+help: pair -h
 usage:
 usage: ''
-usage: pair
+usage: over
 usage: help
 usage: --version
 usage: -- play
 usage: play extra
 usage: play play
 usage: play --x
+usage: -- pair
+usage: pair extra
+usage: pair play
+usage: pair --x
+usage: pair --from local
 show local: show --from local
 show remote: show --from remote
 check local: check --from local
@@ -50,6 +58,7 @@ Usage: bidi <COMMAND>
 
 Commands:
   play   Plays steps from the standard input and writes what is sent
+  pair   Plays steps of both ends from the standard input and writes what became of each command
   show   Writes a line for each text of the standard input
   check  Writes a line for each text of the standard input that is refused
 
@@ -58,7 +67,7 @@ Options:
 ";
 
 const USAGE: &str = "usage
-error: unrecognized subcommand 'pair'
+error: unrecognized subcommand 'over'
 
 Usage: bidi <COMMAND>
 
@@ -73,7 +82,7 @@ fn each_line_gives_a_run_or_a_text(rt: HostRuntime) -> Result<(), Fail> {
         check_text(&rt, row, kind(alloc, words)?, wanted);
     }
     check_text(&rt, "help", answer(alloc, "--help")?, HELP);
-    check_text(&rt, "usage", answer(alloc, "pair")?, USAGE);
+    check_text(&rt, "usage", answer(alloc, "over")?, USAGE);
     Ok(())
 }
 
@@ -98,6 +107,7 @@ fn answer(alloc: Global, line: &str) -> Result<String, AllocError> {
 fn run_name(run: Run) -> &'static str {
     match run {
         Run::Play => "play",
+        Run::Pair => "pair",
         Run::Show(Side::Local) => "show local",
         Run::Show(Side::Remote) => "show remote",
         Run::Check(Side::Local) => "check local",

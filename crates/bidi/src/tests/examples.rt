@@ -337,3 +337,50 @@ const BROWSERS: &str = r#"texts outside the profile, and one inside
 fn browsers(rt: HostRuntime) -> Result<(), Fail> {
     check_rows(&rt, &[Run::Check(Side::Remote)], BROWSERS)
 }
+
+const BOTH_ENDS: &str = r#"two local ends of one session, of which one is cut
+open 1 /session
+send 1 session.new {"capabilities":{}}
+up 1
+down 1
+open 2 /session/00000000-0001-8000-8000-000000000001
+send 1 session.subscribe {"events":["browsingContext.contextCreated","log"]}
+up 1
+at 12
+log 00000000-0002-8000-8000-000000000001 info ready
+frame 00000000-0002-8000-8000-000000000001 http://a.test/side
+down 1
+down 1
+down 1
+down 2
+send 2 browsingContext.getTree {"maxDepth":0}
+send 2 session.status {}
+send 2 browsingContext.close {"context":"nowhere"}
+up 2
+down 2
+cut 2
+send 2 session.end {}
+send 1 browsingContext.close {"context":"nowhere"}
+up 1
+down 1
+down 1
+send 1 session.end {}
+open 3 /other
+send 3 session.status {}
+  1 1 session.new answered {"capabilities":CAPABILITIES,"sessionId":"00000000-0001-8000-8000-000000000001"}
+  1 2 session.subscribe answered {"subscription":"00000001-0005-8000-8000-000000000001"}
+  1 3 browsingContext.close refused no such frame
+  1 4 session.end waiting
+  1 event browsingContext.contextCreated {"children":null,"clientWindow":"00000000-0007-8000-8000-000000000001","context":"00000000-0002-8000-8000-000000000001","originalOpener":null,"parent":null,"url":"about:blank","userContext":"default"}
+  1 event log.entryAdded {"args":[{"type":"string","value":"ready"}],"level":"info","method":"info","source":{"context":"00000000-0002-8000-8000-000000000001","realm":"00000000-0003-8000-8000-000000000001"},"text":"ready","timestamp":12,"type":"console"}
+  1 event browsingContext.contextCreated {"children":null,"clientWindow":"00000000-0007-8000-8000-000000000001","context":"00000000-0002-8000-8000-000000000002","originalOpener":null,"parent":"00000000-0002-8000-8000-000000000001","url":"http://a.test/side","userContext":"default"}
+  2 1 browsingContext.getTree lost
+  2 2 session.status lost
+  2 3 browsingContext.close lost
+  2 event browsingContext.contextCreated {"children":null,"clientWindow":"00000000-0007-8000-8000-000000000001","context":"00000000-0002-8000-8000-000000000001","originalOpener":null,"parent":null,"url":"about:blank","userContext":"default"}
+  2 event log.entryAdded {"args":[{"type":"string","value":"ready"}],"level":"info","method":"info","source":{"context":"00000000-0002-8000-8000-000000000001","realm":"00000000-0003-8000-8000-000000000001"},"text":"ready","timestamp":12,"type":"console"}"#;
+
+#[test]
+fn both_ends(rt: HostRuntime) -> Result<(), Fail> {
+    check_rows(&rt, &[Run::Pair], BOTH_ENDS)
+}

@@ -61,6 +61,20 @@ const CHECKED: &str = "line 1: refused 1 unknown command\nline 2: refused 2 unkn
 /// How many bytes it has written, seven bytes a write: five for each line of 34 bytes.
 const CHECK_WRITES: &str = "0 7 14 21 28 34 41 48 55 62";
 
+/// A schedule of four lines, 53 bytes with their line feeds.
+const PAIR: &str = "open 1 /session\nsend 1 session.status {}\nup 1\ndown 1\n";
+
+/// The outcome of `pair` where the read of this number fails, a byte a read: nothing is written before the end is read.
+const PAIR_READS: &str = r#"1 to 54
+! bidi: input cannot be read
+= 3"#;
+
+/// What `pair` writes.
+const PAIRED: &str = "1 1 session.status answered {\"message\":\"ready\",\"ready\":true}\n";
+
+/// How many bytes it has written, seven bytes a write: nine for the line of 61 bytes.
+const PAIR_WRITES: &str = "0 7 14 21 28 35 42 49 56";
+
 #[test]
 fn a_failed_device_ends_the_run(rt: HostRuntime) -> Result<(), Fail> {
     let local = Side::Local;
@@ -68,6 +82,8 @@ fn a_failed_device_ends_the_run(rt: HostRuntime) -> Result<(), Fail> {
     check_reads(&rt, &Run::Show(local), TWO, SHOW_READS)?;
     check_writes(&rt, &Run::Play, PLAY, PLAYED, PLAY_WRITES)?;
     check_writes(&rt, &Run::Check(local), TWO, CHECKED, CHECK_WRITES)?;
+    check_reads(&rt, &Run::Pair, PAIR, PAIR_READS)?;
+    check_writes(&rt, &Run::Pair, PAIR, PAIRED, PAIR_WRITES)?;
     // A fault that cannot be told changes nothing.
     let found = outcome_of(rt.alloc(), &Run::Play, "at 01\n", 7, (0, 0, 1))?;
     check_text(&rt, "a fault that is not told", found, "= 2\n");

@@ -7,6 +7,12 @@ returns-in-Ok-clause-one_text g c = the_text
 pub returns-in-Err-clause-one_text : goal.returns-in-Err-clause-one_text
 returns-in-Err-clause-one_text g c = the_text
 
+pub returns-in-Ok-play_pair-clause-one_text : goal.returns-in-Ok-play_pair-clause-one_text
+returns-in-Ok-play_pair-clause-one_text g c = the_text
+
+pub returns-in-Err-play_pair-clause-one_text : goal.returns-in-Err-play_pair-clause-one_text
+returns-in-Err-play_pair-clause-one_text g c = the_text
+
 pub returns-in-Ok-list-clause-one_text : goal.returns-in-Ok-list-clause-one_text
 returns-in-Ok-list-clause-one_text g c = the_text
 

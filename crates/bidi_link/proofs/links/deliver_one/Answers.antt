@@ -1,7 +1,7 @@
-use Rattle.std.proofs.Common.{sym, ap}
+use Rattle.std.proofs.Common.{ap}
 use Rattle.std.specs.Prelude.{string_bytes}
 use Rattle.bidi_remote.specs.Tables.View.{sent_of}
-use Rattle.bidi_link.proofs.TableLemmas.{delivered-some, delivered-none, delivered-nothing}
+use Rattle.bidi_link.proofs.TableLemmas.{delivered-some, delivered-none}
 use Rattle.bidi_link.proofs.links.deliver_one.Goals as goal
 
 pub returns-in-Some-clause-rows : goal.returns-in-Some-clause-rows

@@ -10,6 +10,8 @@ returns-clause-none c = λ l v a. if_none c.pop_front.result (λ is.
       next_up-none v (map string_bytes c.args.self.now.up.items) (λ u. (a.carries u).up) (ap (map string_bytes) empty.0),
       record {
         number = a.number;
+        results_well = a.results_well;
+        events_well = a.events_well;
         entries = a.entries;
         events = a.events;
         not_sent = a.not_sent;
@@ -30,6 +32,8 @@ returns-clause-some c = λ l v a. if_some c.pop_front.result (λ s is.
       p.2,
       record {
         number = a.number;
+        results_well = a.results_well;
+        events_well = a.events_well;
         entries = a.entries ∙ entries-same 1 v (with_up v) v.commands (λ id. refl);
         events = a.events;
         not_sent = a.not_sent;

@@ -10,6 +10,8 @@ returns-in_ok-push_back c = λ l v a.
     let whole : v.is_cut ≡ false = sym a.is_cut ∙ c.if-not-self.true in
     record {
       number = a.number;
+      results_well = a.results_well;
+      events_well = a.events_well;
       not_sent = a.not_sent;
       is_cut = a.is_cut;
       entries = a.entries ∙ entries-same 1 v (with_texts v (s ∷ [])) v.commands (λ id. fate-texts v (s ∷ []) id a.within);
@@ -29,6 +31,8 @@ returns-else-not-self c = λ l v a.
     let is_cut : v.is_cut ≡ true = sym a.is_cut ∙ c.if-not-self.false in
     record {
       number = a.number;
+      results_well = a.results_well;
+      events_well = a.events_well;
       not_sent = a.not_sent;
       is_cut = a.is_cut;
       entries = a.entries ∙ entries-same 1 v (with_texts v (s ∷ [])) v.commands (λ id. fate-texts v (s ∷ []) id a.within);

@@ -3,7 +3,8 @@ use Rattle.std.proofs.lemmas.List.{map-append}
 use Rattle.bidi_link.specs.declared.ledger.Fate.TheVariants as in_hand
 use Rattle.bidi_link.specs.Rows.{Agrees}
 use Rattle.bidi_link.specs.Steps.{sending_of}
-use Rattle.bidi_link.proofs.LinkSendLemmas.{both_ok, one_ok, refused_for, may_send-none, may_send-fault, sent_on-true, sent_on-false, sends, counts, counted_on}
+use Rattle.bidi_link.proofs.LinkLemmas.{both_ok, one_ok}
+use Rattle.bidi_link.proofs.LinkSendLemmas.{refused_for, may_send-none, may_send-fault, sent_on-true, sent_on-false, sends, counts, counted_on}
 use Rattle.bidi_link.proofs.link_end.LinkEnd.send.Goals as goal
 
 pub returns-in-Ok : goal.returns-in-Ok
@@ -17,7 +18,7 @@ returns-in-Ok c = λ l v a sound short.
     subst (Agrees _ l) (sym (sent_on-true v (sending_of d) whole may))
     (sends end _ l v d (record { id = c.in-Ok.id; method = c.method-method.result; fate = in_hand.Waiting }) (string_bytes c.in-Ok.text) a sound whole
     (record { number = refl; down = refl; is_cut = refl; events = refl }) refl commands (ap (map string_bytes) up ∙ map-append string_bytes end.up.items (c.in-Ok.text ∷ []))
-    c.in-Ok.ensures.ok.0 c.method-method.ensures refl c.in-Ok.ensures.ok.1 c.in-Ok.ensures.accepted c.in-Ok.ensures.waits))
+    c.in-Ok.ensures.ok.0 c.method-method.ensures refl tt c.in-Ok.ensures.ok.1 c.in-Ok.ensures.accepted c.in-Ok.ensures.waits))
 
 pub returns-in-Err : goal.returns-in-Err
 returns-in-Err c = λ l v a sound short.

@@ -15,7 +15,7 @@ returns-in_ok-received-in-Some c = λ l v a sound.
     let whole = uncut v.is_cut c.in-Some.text left (λ u. sym old ∙ (a.empty u).down) in
     taken end _ l v s (map string_bytes left) c.in_ok-received-in-Some.received c.note.result a sound whole
     (record { number = refl; up = refl; down = refl; is_cut = refl; unsent = refl })
-    (record { answer = c.note.ensures.answer; refusal = c.note.ensures.refusal; event = c.note.ensures.event })
+    (record { answer = c.note.ensures.answer; refusal = c.note.ensures.refusal; event = c.note.ensures.event; well = c.note.ensures.well c.in_ok-received-in-Some.ensures.well })
     (sym (a.carries whole).down ∙ ap (map string_bytes) old)
     (λ m means. c.in_ok-received-in-Some.ensures.no_other m (subst (λ x. Means (waiting_in end.local) x m) (sym c.as_str.ensures.value) means))
     c.in_ok-received-in-Some.ensures.settles
@@ -28,6 +28,8 @@ returns-in-None c = λ l v a sound.
     subst (Agrees _ l) (sym (with_down-none v (λ u. sym (a.carries u).down ∙ ap (map string_bytes) empty.0)))
     (record {
       number = a.number;
+      results_well = a.results_well;
+      events_well = a.events_well;
       entries = a.entries;
       events = a.events;
       not_sent = a.not_sent;

@@ -1,0 +1,55 @@
+-- What a link over a WebSocket sends, one call at a time. A step is that of RFC 6455 which writes a text or a close frame.
+use Rattle.std.specs.Prelude.{◌≡◌, ℕ, Bool, true, false, List, [], Option, None, Result, Err, OnOk, IfErr}
+use Rattle.websocket.specs.declared.error.Error.{Error}
+use Rattle.tungstenite.specs.declared.error.Error.{Error as SocketError}
+use Rattle.tungstenite.specs.Connection.{Effect, write_step, can_write}
+use Rattle.tungstenite.specs.Content.{text, close}
+use Rattle.tungstenite.specs.Failure.{of_frame}
+use Rattle.tungstenite.specs.Socket.{Socket, Writes}
+use Rattle.bidi_link.specs.declared.link.Link.{Link}
+use Rattle.bidi_link.specs.declared.link.LinkFault.{LinkFault}
+use Rattle.bidi_link.specs.declared.link.LinkFault.TheVariants as fault
+use Rattle.bidi_link.specs.SocketTaking.{fault_of}
+
+-- the link is closed after it
+abbrev pub closes : LinkFault → Bool
+closes fault.Full = false
+closes fault.NoMemory = false
+closes f = true
+
+-- the answer of the socket is that fault
+abbrev pub IsFaultOf : {A : Type 0} → Result A SocketError → LinkFault → Type 0
+IsFaultOf answer f = (e : SocketError) × (answer ≡ Err e) × (fault_of e ≡ f)
+
+-- the protocol refuses the step by that fault
+abbrev pub Refuses : Result Effect Error → LinkFault → Type 0
+Refuses step f = (e : Error) × (step ≡ Err e) × (fault_of (of_frame e) ≡ f)
+
+module _ {S : Type 0} where
+  -- The step's frame was appended to what the stream holds, and nothing waits; a socket that sends no more stays as it is.
+  abbrev pub IsSent : Bool → (S → Option (List ℕ)) → Result Effect Error → Socket S → Socket S → Type 0
+  IsSent true contents step old new = Writes contents old new step × (new.output ≡ [])
+  IsSent false contents step old new = new ≡ old
+
+  -- why nothing was sent, and what is left
+  abbrev pub SendFails : (S → Option (List ℕ)) → Result Effect Error → Socket S → Socket S → LinkFault → Type 0
+  -- some of the frame may have gone to the stream
+  SendFails contents step old new fault.Stream = Writes contents old new step
+  SendFails contents step old new fault.Full = new ≡ old
+  SendFails contents step old new fault.NoMemory = new ≡ old
+  SendFails contents step old new f = Refuses step f
+
+module _ {S K : Type 0} where
+  -- One step of a link's socket: refused where the link is closed. A fault of the stream or of the protocol closes it.
+  pub record Steps (contents : S → Option (List ℕ)) (sends : Bool) (step : Result Effect Error) (old new : Link S K) (r : Result (Unit {0}) LinkFault) : Type 0 where
+    pub from_closed : old.is_closed ≡ true → (r ≡ Err fault.Closed) × (new ≡ old)
+    pub ok : OnOk r (IsSent sends contents step old.socket new.socket × (old.is_closed ≡ false) × (new.is_closed ≡ false))
+    pub err : old.is_closed ≡ false → IfErr r (λ f. SendFails contents step old.socket new.socket f × (new.is_closed ≡ closes f))
+
+  -- a text is sent, in one frame
+  abbrev pub SendsText : (S → Option (List ℕ)) → List ℕ → Link S K → Link S K → Result (Unit {0}) LinkFault → Type 0
+  SendsText contents s old new r = Steps contents true (write_step old.socket.conn (text s)) old new r
+
+  -- a close frame is sent, while the socket still sends
+  abbrev pub SendsClose : (S → Option (List ℕ)) → Link S K → Link S K → Result (Unit {0}) LinkFault → Type 0
+  SendsClose contents old new r = Steps contents (can_write old.socket.conn.state) (write_step old.socket.conn (close None)) old new r

@@ -1,0 +1,236 @@
+//! One end of a WebSocket connection.
+ghost use Rattle.std.specs.Prelude.{◌≡◌, ◌⊎◌, false, IfOk, IfErr, OnOk, IsOk, Ok, Err};
+ghost use Rattle.tungstenite.specs.Socket.{Flushed, IsFresh};
+ghost use Rattle.websocket.specs.declared.protocol.config.Role.TheVariants as role;
+ghost use Rattle.bidi_link.specs.SocketTaking.{IsTaken, Settles, seen, told, told_fault, fault_of, is_last, IsFaultOfTaking};
+ghost use Rattle.bidi_link.specs.SocketSending.{SendsText, SendsClose, IsFaultOf, closes};
+
+use std::alloc::{AllocError, Global};
+use std::io::{Read, Write};
+use thiserror::Error;
+use tungstenite::{Error as SocketError, MaskKeys, Message, NoMask, Role, WebSocket};
+
+/// What a link takes.
+#[derive(Drop)]
+pub enum Incoming {
+    /// A text, whole, whether it came in one frame or in several.
+    Text(String),
+    /// A message of bytes, which BiDi does not use.
+    NotText,
+    /// A ping, whose answer was sent as far as the stream took it, or a pong. It asks for nothing.
+    Control,
+    /// The connection is closed: nothing more is taken or sent.
+    Closed,
+}
+
+/// Why nothing was taken or sent.
+#[derive(Clone, Copy, Debug, PartialEq, Eq, Error)]
+pub enum LinkFault {
+    /// The stream failed. A take may be tried again; after a send or a close the link is closed.
+    #[error("the stream failed")]
+    Stream,
+    /// The peer broke RFC 6455, sent a text that is not UTF-8 or a message past the limits, or its stream ended without a
+    /// close frame. The link is closed.
+    #[error("the peer broke the protocol")]
+    Protocol,
+    /// Too much waits to be sent. Nothing has changed.
+    #[error("too much waits to be sent")]
+    Full,
+    /// An allocation failed. After a take the link is closed; after a send or a close nothing has changed.
+    #[error("out of memory")]
+    NoMemory,
+    /// The link is closed.
+    #[error("the link is closed")]
+    Closed,
+}
+
+/// One end of a WebSocket connection, over a stream whose handshake is done: a message at a time.
+#[derive(Drop)]
+pub struct Link<S, K> {
+    alloc: Global,
+    socket: WebSocket<S, K>,
+    is_closed: bool,
+}
+
+impl<S: Read + Write + Drop> Link<S, NoMask> {
+    /// The server's end, with the limits that `tungstenite` has by default: 64 MiB a message, 16 MiB a frame.
+    ///
+    /// # Errors
+    /// No memory. None is taken today, so it always succeeds.
+    pub fn server(alloc: Global, stream: S) -> Result<Link<S, NoMask>, AllocError>
+        ensures fresh { IfOk result (λ link. IsFresh link.socket stream role.Server × (link.is_closed ≡ false)) }
+    {
+        Ok(Link::over(
+            alloc,
+            WebSocket::from_raw_socket(alloc, stream, NoMask, Role::Server, None),
+        ))
+    }
+}
+
+impl<S: Read + Write + Drop, K: MaskKeys + Drop> Link<S, K> {
+    /// The client's end, which masks what it sends by these keys. Limits and errors are those of the server's end.
+    pub fn client(alloc: Global, stream: S, keys: K) -> Result<Link<S, K>, AllocError>
+        ensures fresh { IfOk result (λ link. IsFresh link.socket stream role.Client × (link.is_closed ≡ false)) }
+    {
+        Ok(Link::over(
+            alloc,
+            WebSocket::from_raw_socket(alloc, stream, keys, Role::Client, None),
+        ))
+    }
+
+    /// A link over a socket that a handshake handed out. Takes no memory.
+    pub fn over(alloc: Global, socket: WebSocket<S, K>) -> Link<S, K>
+        ensures socket { result.socket ≡ socket }
+        ensures open { result.is_closed ≡ false }
+    {
+        Link {
+            alloc,
+            socket,
+            is_closed: false,
+        }
+    }
+
+    /// Takes the next message of the peer. Reads the stream until one is whole, and leaves the bytes behind it for the
+    /// next call. A ping and a close frame are answered at once, as far as
+    /// the stream takes it; what stays goes out with the next call.
+    ///
+    /// # Errors
+    /// - `Stream`: a read or a write of the stream failed. What was read is kept, and the next take goes on.
+    /// - `Protocol`, `NoMemory`: the link is closed.
+    pub fn take(&mut self) -> Result<Incoming, LinkFault>
+        // The message that ends one run of frames, in the bytes that were left over and those of the stream.
+        ensures takes { IsTaken S.remaining S.contents self.old self.new (seen result) }
+        ensures faults { IfErr result IsFaultOfTaking }
+    {
+        if self.is_closed {
+            return Ok(Incoming::Closed);
+        }
+        match self.socket.read() {
+            Ok(message) => self.tell(message),
+            Err(error) => self.fail(error),
+        }
+    }
+
+    // Tells a message. What answers a ping or a close frame goes out at once.
+    fn tell(&mut self, message: Message) -> Result<Incoming, LinkFault>
+        ensures tells { (seen result ≡ Ok (told message)) ⊎ (seen result ≡ Err LinkFault.NoMemory) }
+        ensures ends { self.old.is_closed ≡ false → self.new.is_closed ≡ is_last (seen result) }
+        ensures settles { Settles S.contents (seen result) self.old.socket self.new.socket }
+        ensures faults { IfErr result IsFaultOfTaking }
+    {
+        match message {
+            Message::Text(text) => match String::from_str(self.alloc, text.as_str()) {
+                Ok(text) => Ok(Incoming::Text(text)),
+                Err(_) => {
+                    self.is_closed = true;
+                    Err(LinkFault::NoMemory)
+                }
+            },
+            Message::Binary(_) => Ok(Incoming::NotText),
+            Message::Ping(_) | Message::Pong(_) => {
+                self.flush();
+                Ok(Incoming::Control)
+            }
+            Message::Close(_) => {
+                self.flush();
+                self.is_closed = true;
+                Ok(Incoming::Closed)
+            }
+        }
+    }
+
+    // Tells why nothing was read.
+    fn fail(&mut self, error: SocketError) -> Result<Incoming, LinkFault>
+        ensures tells { seen result ≡ told_fault (fault_of error) }
+        ensures ends { self.old.is_closed ≡ false → self.new.is_closed ≡ is_last (seen result) }
+        ensures settles { Settles S.contents (seen result) self.old.socket self.new.socket }
+    {
+        match fault_of(error) {
+            LinkFault::Stream => Err(LinkFault::Stream),
+            LinkFault::Closed => {
+                self.flush();
+                self.is_closed = true;
+                Ok(Incoming::Closed)
+            }
+            fault => {
+                self.is_closed = true;
+                Err(fault)
+            }
+        }
+    }
+
+    // Sends what waits, as far as the stream takes it. What stays goes out with the next call.
+    fn flush(&mut self)
+        ensures sent { Flushed S.contents self.old.socket self.new.socket }
+        ensures same { self.new.is_closed ≡ self.old.is_closed }
+    {
+        let _ = self.socket.flush();
+    }
+
+    /// Sends a text in one frame. On success nothing waits to be sent any more.
+    ///
+    /// Costs a copy of the text, and a write of the stream.
+    ///
+    /// # Errors
+    /// - `Stream`, `Protocol`: the link is closed.
+    /// - `Full`, `NoMemory`: nothing has changed.
+    /// - `Closed`: the link was closed before.
+    pub fn send(&mut self, text: &str) -> Result<(), LinkFault>
+        ensures { SendsText S.contents text.now self.old self.new result }
+    {
+        if self.is_closed {
+            return Err(LinkFault::Closed);
+        }
+        let Ok(message) = Message::text(self.alloc, text) else {
+            return Err(LinkFault::NoMemory);
+        };
+        let answer = self.socket.send(message);
+        self.sent(answer)
+    }
+
+    /// Sends a close frame, and nothing where one was sent before. On success nothing waits to be sent any more; what the
+    /// peer sends before its own close frame can still be taken.
+    ///
+    /// # Errors
+    /// Those of `send`.
+    pub fn close(&mut self) -> Result<(), LinkFault>
+        ensures { SendsClose S.contents self.old self.new result }
+    {
+        if self.is_closed {
+            return Err(LinkFault::Closed);
+        }
+        if !self.socket.can_write() {
+            return Ok(());
+        }
+        let answer = self.socket.send(Message::Close(None));
+        self.sent(answer)
+    }
+
+    // Tells how a send ended.
+    fn sent(&mut self, answer: Result<(), SocketError>) -> Result<(), LinkFault>
+        ensures ok { OnOk result (IsOk answer × (self.new ≡ self.old)) }
+        ensures err { IfErr result (λ fault. IsFaultOf answer fault × (self.new.socket ≡ self.old.socket) × (self.new.is_closed ≡ closes fault)) }
+    {
+        match answer {
+            Ok(()) => Ok(()),
+            Err(error) => {
+                let fault = fault_of(error);
+                self.is_closed = !matches!(fault, LinkFault::Full | LinkFault::NoMemory);
+                Err(fault)
+            }
+        }
+    }
+}
+
+// What an error of the socket is told as.
+fn fault_of(error: SocketError) -> LinkFault
+    ensures { result ≡ fault_of error }
+{
+    match error {
+        SocketError::Io(_) => LinkFault::Stream,
+        SocketError::WriteBufferFull => LinkFault::Full,
+        SocketError::OutOfMemory => LinkFault::NoMemory,
+        SocketError::ConnectionClosed | SocketError::AlreadyClosed => LinkFault::Closed,
+        _ => LinkFault::Protocol,
+    }
+}
