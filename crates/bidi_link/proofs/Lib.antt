@@ -8,6 +8,7 @@ pub mod LinkTakeLemmas
 pub mod PastLemmas
 pub mod SpokenLemmas
 pub mod TableLemmas
+pub mod OutcomeLemmas
 pub mod WellLemmas
 pub mod SaneLemmas
 pub mod StandLemmas

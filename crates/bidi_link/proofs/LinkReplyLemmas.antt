@@ -1,9 +1,9 @@
 -- The texts on the way down, place by place: which command each replies to, and what it is read as.
-use Rattle.std.proofs.Common.{◌≡◌, ◌∙◌, ◌≤◌, ◌<◌, ◌^◌, ◌⊎◌, inl, inr, ℕ, suc, zero, true, false, not, cond, nat_eq, List, [], ◌∷◌, map, take, drop, Option, Some, None, option_and_then, unwrap_or, codes, find, refl, sym, ap, ap₂, subst, arith, rules}
+use Rattle.std.proofs.Common.{◌≡◌, ◌∙◌, ◌≤◌, ◌<◌, ◌^◌, ◌⊎◌, inl, inr, ℕ, suc, zero, true, false, true≢false, not, cond, nat_eq, List, [], ◌∷◌, map, length, get_or, take, drop, Option, Some, None, option_and_then, unwrap_or, codes, find, refl, sym, ap, ap₂, subst, arith, rules}
 use Rattle.std.specs.Prelude.{slice_get, ◌&&◌}
 use Rattle.std.specs.Option.{option_eq}
 use Rattle.std.specs.List.{AllByRecursion}
-use Rattle.std.proofs.lemmas.Bool.{ne_eqb}
+use Rattle.std.proofs.lemmas.Bool.{ne_eqb, eqb-true}
 use Rattle.bidi_tree.specs.Node.{Node, null, put, get_of, text}
 use Rattle.bidi_tree.specs.Kind.{text_in}
 use Rattle.bidi_tree.specs.Text.{tree_of}
@@ -76,6 +76,10 @@ replies_itself id t r = ap₂ {B = Option ℕ} (λ b o. not b && option_eq nat_e
     same : (n : ℕ) → nat_eq n n ≡ true
     same n = search rules
 
+-- what replies to a command replies to no other
+replies_one : (id k : ℕ) (t : Node) → Replies id t → is_reply_to k t ≡ true → id ≡ k
+replies_one id k t r is = eqb-true id k (sym (ap₂ {B = Option ℕ} (λ b o. not b && option_eq nat_eq o (Some k)) r.no_event r.to) ∙ is)
+
 -- the text of an event is that of an event in hand
 pub record ReadsAsEvent (s : List ℕ) (e : Event) : Type 0 where
   pub reads : tree_of s ≡ Some (event.ghosts.shape.tree_of e)
@@ -130,6 +134,21 @@ none_replies cs (suc d) k (a_reply n m p c method s ts after at named is rest) s
     passes k (tree_in s) (map tree_in (take d ts))
     (replies_alone (suc p) k (tree_in s) (reply_reads (suc p) method (omega (arith, bound, small)) is) (λ same. omega (arith, bound, above, same)))
     (none_replies cs d k rest small reads.1 above)
+
+-- a reply among the texts is to a command behind the first so many, and up to the last of so many
+pub reply_among : (cs : List Sending) (j k : ℕ) (s : List ℕ) {n m : ℕ} {ts : List (List ℕ)} → AreSpoken cs n m ts → m < 2 ^ 53 → AllByRecursion (IsMessageText ghosts.shape) ts → j < length ts → get_or ts j s ≡ s
+    → is_reply_to (suc k) (tree_in s) ≡ true → (n ≤ k) × (k < m)
+reply_among cs j k s (nothing n m within) small reads inside at reply = absurd (omega (arith, inside))
+reply_among cs zero k s (an_event n m u ts is rest) small reads inside at reply =
+    absurd (true≢false (sym reply ∙ (ap (λ x. is_reply_to (suc k) (tree_in x)) (sym at) ∙ events_reply (suc k) (tree_in u) (is_event_text u is reads.0))))
+reply_among cs zero k s (a_reply n m p c method u ts after found named is rest) small reads inside at reply =
+    let bound = spoken-bound cs rest in
+    let same = replies_one (suc p) (suc k) (tree_in u) (reply_reads (suc p) method (omega (arith, bound, small)) is) (ap (λ x. is_reply_to (suc k) (tree_in x)) at ∙ reply) in
+    (omega (arith, after, same), omega (arith, bound, same))
+reply_among cs (suc j) k s (an_event n m u ts is rest) small reads inside at reply = reply_among cs j k s rest small reads.1 (omega (arith, inside)) at reply
+reply_among cs (suc j) k s (a_reply n m p c method u ts after found named is rest) small reads inside at reply =
+    let later = reply_among cs j k s rest small reads.1 (omega (arith, inside)) at reply in
+    (omega (arith, after, later.0), later.1)
 
 -- the next text is that of an event, or it replies to a command to which no text before it did
 pub data IsNext (cs : List Sending) (n m : ℕ) (before : List Node) (s : List ℕ) : Type 0 where

@@ -1,5 +1,5 @@
 -- One link in hand is written, and both ends stand for the past with the step.
-use Rattle.std.proofs.Common.{◌≡◌, ◌∙◌, ◌<◌, ◌^◌, ℕ, suc, Bool, true, false, nat_eq, List, [], ◌∷◌, ◌++◌, length, Option, Some, None, Result, Ok, Err, String, Global, string_bytes, refl, ap}
+use Rattle.std.proofs.Common.{◌≡◌, ◌∙◌, ◌<◌, ◌^◌, ℕ, suc, Bool, true, false, nat_eq, List, [], ◌∷◌, ◌++◌, length, Option, Some, None, Result, Ok, Err, String, Global, string_bytes, append-nil, refl, sym, ap}
 use Rattle.std.specs.Prelude.{◌&&◌, not, if◌then◌else◌, nat_lt, nat_le, OnOk, IfSome, IfNone}
 use Rattle.std.specs.List.{IsDistinct}
 use Rattle.std.specs.Map.{lookup, set_value}
@@ -60,8 +60,8 @@ module _ (ends new : Ends) (past : List Deed) (l : ℕ) (x w : LinkEnd) (written
   sent : (c : Sending) → IsSane past → (b m : Bool) → may_send (link past l) c ≡ m → Agrees w l (if b then link past l else if m then record (link past l) { commands = commands past l ++ c ∷ [] } else record (link past l) { not_sent = suc (link past l).not_sent })
       → Both new (if not (is_link past l && not b) then past else if m then Sent l c ∷ past else Unsent l ∷ past)
   sent c sane true m may agree = rw there (still agree, sane)
-  sent c sane false true may agree = rw there (with-deed (Sent l c) _ (sent-of l c past) agree, sane-of l (Sent l c) past _ (sent-of l c past) sane there (sound-sent (link past l) c (sane.sound l) (fits c may)))
-  sent c sane false false may agree = rw there (with-deed (Unsent l) _ (unsent-of l past) agree, sane-of l (Unsent l) past _ (unsent-of l past) sane there (sound-so (link past l) _ refl refl refl (sane.sound l)))
+  sent c sane false true may agree = rw there (with-deed (Sent l c) _ (sent-of l c past) agree, sane-of l (Sent l c) past _ (c ∷ []) (sent-of l c past) refl sane there (sound-sent (link past l) c (sane.sound l) (fits c may)))
+  sent c sane false false may agree = rw there (with-deed (Unsent l) _ (unsent-of l past) agree, sane-of l (Unsent l) past _ [] (unsent-of l past) (sym (append-nil (commands past l))) sane there (sound-so (link past l) _ refl refl refl (sane.sound l)))
 
   pub send-row : {E : Type 0} (r : Result (Unit {0}) E) (c : Sending) → IsSane past → CanCount past → ((n : ℕ) (v : Link) → Agrees x n v → IsSound v → v.not_sent < 2 ^ 63 → OnOk r (Agrees w n (sent_on v c)))
       → OnOk r (Both new (with_step past (Sends l c)))
@@ -72,7 +72,7 @@ module _ (ends new : Ends) (past : List Deed) (l : ℕ) (x w : LinkEnd) (written
 
   downed : IsSane past → (b m : Bool) → Agrees w l (if not b && m then record (link past l) { downs = suc (downs past l) } else link past l) → Both new (if (is_link past l && not b) && m then TakenDown l ∷ past else past)
   downed sane true m agree = rw there (still agree, sane)
-  downed sane false true agree = rw there (with-deed (TakenDown l) _ (down-of l past) agree, sane-of l (TakenDown l) past _ (down-of l past) sane there (sound-so (link past l) _ refl refl refl (sane.sound l)))
+  downed sane false true agree = rw there (with-deed (TakenDown l) _ (down-of l past) agree, sane-of l (TakenDown l) past _ [] (down-of l past) (sym (append-nil (commands past l))) sane there (sound-so (link past l) _ refl refl refl (sane.sound l)))
   downed sane false false agree = rw there (still agree, sane)
 
   pub down-row : {E : Type 0} (r : Result (Unit {0}) E) → IsSane past → ((n : ℕ) (v : Link) → Agrees x n v → IsSound v → OnOk r (Agrees w n (with_down v))) → OnOk r (Both new (with_step past (Down l)))

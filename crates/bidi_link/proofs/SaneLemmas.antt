@@ -21,9 +21,10 @@ use Rattle.bidi_link.specs.Link.{Link, link, tree_of_sending}
 use Rattle.bidi_link.specs.Ledger.{is_connected}
 use Rattle.bidi_link.specs.Spoken.{IsSound, AreSpoken}
 use Rattle.bidi_link.specs.Rows.{blank, with_texts}
-use Rattle.bidi_link.specs.Stands.{IsSane}
+use Rattle.bidi_link.specs.Stands.{IsSane, AreFrom}
 use Rattle.bidi_link.proofs.PastLemmas.{link-handed, texts-handed, apart, same, up-of, IsOf}
 use Rattle.bidi_link.proofs.SpokenLemmas.{spoken-sent, spoken-events, spoken-append, spoken-answers, events-answers, read-on}
+use Rattle.bidi_link.proofs.OutcomeLemmas.{from-still, from-sent, from-events, from-up}
 use Rattle.bidi_link.proofs.TableLemmas.{with_texts-none}
 
 -- a past in which nothing was done
@@ -31,6 +32,7 @@ pub sane-nothing : IsSane []
 sane-nothing = record {
   sound = λ l. record { spoken = AreSpoken.nothing 0 0 (omega arith); read_back = tt; taken = omega arith; ids = omega arith };
   unknown = λ l none. (refl, refl);
+  replies = λ l p c s among at reply. (let none : among.0 < 0 = among.1 in absurd (omega (arith, none)));
 }
 
 -- ---- what is handed on
@@ -56,6 +58,7 @@ sane-unheard past i s quiet reads shut = record {
   unknown = λ k none.
       let before = s.unknown k none in
       (unknown-events past i k before.0 before.1 (events-unheard (history past) k i quiet), shut k none before.1);
+  replies = λ l. from-events past i l (s.replies l) (read-on l (out (history past) i) reads) (events-unheard (history past) l i quiet).each;
 }
 
 -- one of no connection
@@ -78,6 +81,9 @@ pub sane-linked : (past : List Deed) (l : ℕ) (resource : List ℕ) → IsSane 
 sane-linked past l resource s reads = record {
   sound = λ k. (let b = sound-events past (Open l resource) k (s.sound k) reads (events-unheard (history past) k (Open l resource) tt) in record { spoken = b.spoken; read_back = b.read_back; taken = b.taken; ids = b.ids });
   unknown = λ k none. at k (k == l) refl none;
+  replies = λ k.
+      from-still (Linked l) (Handed (Open l resource) ∷ past) k refl refl
+      (from-events past (Open l resource) k (s.replies k) (read-on k (out (history past) (Open l resource)) reads) (events-unheard (history past) k (Open l resource) tt).each);
 }
   where
     at : (k : ℕ) (b : Bool) → (k == l) ≡ b → (b || is_link past k) ≡ false → (link (Linked l ∷ Handed (Open l resource) ∷ past) k ≡ blank) × (is_connected (Linked l ∷ Handed (Open l resource) ∷ past) k ≡ false)
@@ -96,6 +102,7 @@ sane-up past l c method s there at named once reads = record {
       let before = s.unknown k none in
       let events = events-other k differ in
       (rw differ (unknown-events past i k before.0 before.1 events), stays-shut (history past) k i differ before.1);
+  replies = λ k. replies-at k (k == l) refl;
 }
   where
     u : ℕ
@@ -136,17 +143,24 @@ sane-up past l c method s there at named once reads = record {
     sound-at k true e = subst (λ n. IsSound (link (Handed i ∷ TakenUp l ∷ past) n)) (one k e) own
     sound-at k false e = sound-events (TakenUp l ∷ past) i k (subst IsSound (sym ((up-of l past).others k e)) (s.sound k)) reads (events-other k e)
 
+    replies-at : (k : ℕ) (b : Bool) → (k == l) ≡ b → AreFrom (Handed i ∷ TakenUp l ∷ past) k
+    replies-at k true e =
+        subst (AreFrom (Handed i ∷ TakenUp l ∷ past)) (one k e)
+        (from-up past l c (s.sound l) at (s.replies l) (spoken-answers (commands past l) (ups past l) c method l l (deeds (history past)) _ at named (said l)) (read-on l (out (history past) i) reads))
+    replies-at k false e = from-events (TakenUp l ∷ past) i k (from-still (TakenUp l) past k refl refl (s.replies k)) (read-on k (out (history past) i) reads) (events-other k e).each
+
 -- ---- deeds of one link
 
--- a deed of one link leaves what holds, where the link is sound after it
-pub sane-of : (l : ℕ) (d : Deed) (past : List Deed) (v : Link) → IsOf l d past v → IsSane past → is_link past l ≡ true → IsSound v → IsSane (d ∷ past)
-sane-of l d past v is s there sound = record {
+-- a deed of one link leaves what holds, where the link is sound after it, with its commands and perhaps more
+pub sane-of : (l : ℕ) (d : Deed) (past : List Deed) (v : Link) (more : List Sending) → IsOf l d past v → v.commands ≡ commands past l ++ more → IsSane past → is_link past l ≡ true → IsSound v → IsSane (d ∷ past)
+sane-of l d past v more is sent s there sound = record {
   sound = λ k. at k (k == l) refl;
   unknown = λ k none.
       let before = sym (is.is_link k) ∙ none in
       let differ = apart past l k there before in
       let known = s.unknown k before in
       (is.others k differ ∙ known.0, subst (λ h. is_open (deeds h) k ≡ false) (sym is.history) known.1);
+  replies = λ k. replies-at k (k == l) refl;
 }
   where
     one : (k : ℕ) → (k == l) ≡ true → l ≡ k
@@ -155,6 +169,10 @@ sane-of l d past v is s there sound = record {
     at : (k : ℕ) (b : Bool) → (k == l) ≡ b → IsSound (link (d ∷ past) k)
     at k true e = subst (λ n. IsSound (link (d ∷ past) n)) (one k e) (subst IsSound (sym is.own) sound)
     at k false e = subst IsSound (sym (is.others k e)) (s.sound k)
+
+    replies-at : (k : ℕ) (b : Bool) → (k == l) ≡ b → AreFrom (d ∷ past) k
+    replies-at k true e = subst (AreFrom (d ∷ past)) (one k e) (from-sent d past l more is.history (ap (λ (w : Link). w.commands) is.own ∙ sent) (s.sound l) (s.replies l))
+    replies-at k false e = from-still d past k (ap (λ (w : Link). w.texts) (is.others k e)) (ap (λ (w : Link). w.commands) (is.others k e)) (s.replies k)
 
 -- a command that is sent
 pub sound-sent : (v : Link) (c : Sending) → IsSound v → suc (length v.commands) < 2 ^ 53 → IsSound (record v { commands = v.commands ++ c ∷ [] })

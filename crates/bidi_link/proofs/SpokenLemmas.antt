@@ -1,5 +1,5 @@
 -- What is spoken on a link stays so, as more is sent, taken up and handed on.
-use Rattle.std.proofs.Common.{◌≡◌, ◌∙◌, ◌≤◌, ℕ, suc, zero, Bool, true, false, List, [], ◌∷◌, ◌++◌, Some, refl, sym, ap, subst, arith}
+use Rattle.std.proofs.Common.{◌≡◌, ◌∙◌, ◌≤◌, ◌<◌, ℕ, suc, zero, Bool, true, false, List, [], ◌∷◌, ◌++◌, length, Some, refl, sym, ap, subst, arith}
 use Rattle.std.specs.Prelude.{◌==◌, slice_get, if◌then◌else◌}
 use Rattle.std.specs.List.{AllByRecursion}
 use Rattle.bidi_messages.specs.declared.method.Method.{Method}
@@ -20,6 +20,12 @@ get-before : (cs ds : List Sending) (p : ℕ) (c : Sending) → slice_get cs p �
 get-before [] ds p c e = cc
 get-before (x ∷ cs) ds zero c e = e
 get-before (x ∷ cs) ds (suc p) c e = get-before cs ds p c e
+
+-- what stands at a place of the first ones
+pub get-first : (cs ds : List Sending) (p : ℕ) (c : Sending) → p < length cs → slice_get (cs ++ ds) p ≡ Some c → slice_get cs p ≡ Some c
+get-first [] ds p c within e = absurd (omega (arith, within))
+get-first (x ∷ cs) ds zero c within e = e
+get-first (x ∷ cs) ds (suc p) c within e = get-first cs ds p c (omega (arith, within)) e
 
 -- more commands
 pub spoken-sent : (cs ds : List Sending) {n m : ℕ} {ts : List (List ℕ)} → AreSpoken cs n m ts → AreSpoken (cs ++ ds) n m ts

@@ -1,5 +1,5 @@
 -- Both ends in hand, after each step, stand for the past with it.
-use Rattle.std.proofs.Common.{◌≡◌, ◌∙◌, ◌<◌, ◌≤◌, ◌+◌, ◌^◌, ℕ, suc, Bool, true, false, List, [], ◌∷◌, ◌++◌, map, length, Option, Some, None, Result, Ok, Err, refl, sym, ap, ap₂, subst, arith}
+use Rattle.std.proofs.Common.{◌≡◌, ◌∙◌, ◌<◌, ◌≤◌, ◌+◌, ◌^◌, ℕ, suc, Bool, true, false, List, [], ◌∷◌, ◌++◌, map, length, Option, Some, None, Result, Ok, Err, append-nil, refl, sym, ap, ap₂, subst, arith}
 use Rattle.std.specs.Prelude.{◌==◌, ◌&&◌, take, get_or, IsErrOf, not, slice_get, if◌then◌else◌, nat_lt, OnOk, IfOk}
 use Rattle.bidi_messages.specs.Verdict.{Verdict, Accepted}
 use Rattle.bidi_messages.specs.declared.method.Method.{Method}
@@ -151,7 +151,7 @@ cut-done (Ok u) ends new past l whole before row =
     let still = whole-dropped past l ∙ whole in
     rw whole (
       row p before.0 still,
-      sane-of l (Cut l) p (with_cut (link p l)) (cut-of l p) before.1 (link-there (is_link p l) (is_cut p l) still) (sound-so (link p l) (with_cut (link p l)) refl refl refl (before.1.sound l)),
+      sane-of l (Cut l) p (with_cut (link p l)) [] (cut-of l p) (sym (append-nil (commands p l))) before.1 (link-there (is_link p l) (is_cut p l) still) (sound-so (link p l) (with_cut (link p l)) refl refl refl (before.1.sound l)),
     )
 
 -- ---- steps that the remote end takes by itself

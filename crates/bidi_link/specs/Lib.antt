@@ -5,5 +5,6 @@ pub mod Spoken
 pub mod Steps
 pub mod Rows
 pub mod Stands
+pub mod Outcomes
 pub mod SocketTaking
 pub mod SocketSending

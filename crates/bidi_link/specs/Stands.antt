@@ -1,11 +1,16 @@
 -- The past that both ends in hand stand for.
-use Rattle.std.specs.Prelude.{◌≡◌, ℕ, suc, ◌<◌, ◌^◌, true, false, List, map, slice_get, Some}
+use Rattle.std.specs.Prelude.{◌≡◌, ℕ, suc, ◌<◌, ◌^◌, true, false, List, ◌∷◌, ◌++◌, map, slice_get, Contains, Some, unwrap_or}
 use Rattle.std.specs.List.{AllByRecursion}
+use Rattle.bidi_tree.specs.Node.{null}
+use Rattle.bidi_tree.specs.Text.{tree_of}
+use Rattle.bidi_messages.specs.Verdict.{Accepted}
+use Rattle.bidi_remote.specs.Machine.History.{Heard}
+use Rattle.bidi_remote.specs.Machine.Sent.{out, texts_on}
 use Rattle.bidi_remote.specs.Tables.Stands as remote
 use Rattle.bidi_link.specs.declared.ends.Ends.{Ends}
 use Rattle.bidi_link.specs.declared.link_end.LinkEnd.{LinkEnd}
-use Rattle.bidi_link.specs.Pairing.{Sending, Deed, history, links, is_link, commands, ups, unsent}
-use Rattle.bidi_link.specs.Link.{Link, link}
+use Rattle.bidi_link.specs.Pairing.{Sending, Deed, Handed, history, links, is_link, commands, ups, unsent, texts}
+use Rattle.bidi_link.specs.Link.{Link, link, tree_of_sending, is_reply_to}
 use Rattle.bidi_link.specs.Ledger.{is_connected, is_whole}
 use Rattle.bidi_link.specs.Spoken.{IsSound}
 use Rattle.bidi_link.specs.Rows.{Agrees, IsUpward, blank}
@@ -24,10 +29,23 @@ pub record StandsFor (ends : Ends) (past : List Deed) : Type 0 where
   pub numbers : numbers ends.links.entries ≡ links past
   pub rows : RowsAgree ends.links.entries (link past)
 
--- What holds of each past that both ends make: all that a link gets is sound, and a number that is no link got nothing.
+-- The text is one that the machine sends on a link at the command of that id, which was handed on at one place of the past.
+pub record IsFrom (past : List Deed) (l id : ℕ) (c : Sending) (s : List ℕ) : Type 0 where
+  pub newer : List Deed
+  pub older : List Deed
+  pub place : past ≡ newer ++ Handed (Heard l (Accepted (tree_of_sending id c))) ∷ older
+  pub sent : Contains (texts_on l (out (history older) (Heard l (Accepted (tree_of_sending id c))))) s
+
+-- each reply among the texts for a link is one that the machine sends at its command
+abbrev pub AreFrom : List Deed → ℕ → Type 0
+AreFrom past l = (p : ℕ) (c : Sending) (s : List ℕ) → Contains (texts past l) s → slice_get (commands past l) p ≡ Some c → is_reply_to (suc p) (unwrap_or (tree_of s) null) ≡ true → IsFrom past l (suc p) c s
+
+-- What holds of each past that both ends make: all that a link gets is sound, a number that is no link got nothing, and each
+-- reply is what the machine sends at its command.
 pub record IsSane (past : List Deed) : Type 0 where
   pub sound : (l : ℕ) → IsSound (link past l)
   pub unknown : (l : ℕ) → is_link past l ≡ false → (link past l ≡ blank) × (is_connected past l ≡ false)
+  pub replies : (l : ℕ) → AreFrom past l
 
 -- both at once
 abbrev pub Both : Ends → List Deed → Type 0

@@ -2,6 +2,7 @@
 ghost use Rattle.std.specs.Prelude.{◌≡◌, ◌≤◌, ℕ, List, [], take, length, IfOk, IsErrOf};
 ghost use Rattle.bidi_link.specs.Ledger.{PairInput, past_after, ledger};
 ghost use Rattle.bidi_link.specs.Link.{link};
+ghost use Rattle.bidi_link.specs.Outcomes.{AreOutcomes};
 ghost use Rattle.bidi_link.specs.Pairing.{history};
 ghost use Rattle.bidi_link.specs.Spoken.{IsSound};
 ghost use Rattle.bidi_link.specs.Steps.{AreHeardAs, AreWell, LedgerIsWell, pages_of};
@@ -50,9 +51,10 @@ pub enum PairStep {
 pub fn pair(alloc: Global, steps: Vec<PairStep>) -> Result<Ledger, RemoteFault>
     requires { AreWell steps.items }
     // The ledger is that of the steps; and all that was carried down on a link, or is to be, are events and the replies to
-    // its commands, each once and in their order, with a result of its method's rule, in texts that read back.
+    // its commands, each once and in their order, with a result of its method's rule, in texts that read back. Each answer and
+    // each refusal is what the machine gives that very command, after all inputs before the place where it was taken up.
     ensures ok { IfOk result (λ l. (inputs : List PairInput) × AreHeardAs steps.items inputs × (pages_of l ≡ ledger inputs)
-        × ((n : ℕ) → IsSound (link (past_after [] inputs) n))) }
+        × ((n : ℕ) → IsSound (link (past_after [] inputs) n)) × ((n : ℕ) → AreOutcomes (past_after [] inputs) n)) }
     // Each result and each event in the ledger is well, so it has a tree that can be written.
     ensures well { IfOk result LedgerIsWell }
     ensures worn_out { IsErrOf result RemoteFault.WornOut → (n : ℕ) × (inputs : List PairInput) × AreHeardAs (take n steps.items) inputs

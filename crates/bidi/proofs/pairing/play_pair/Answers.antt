@@ -14,7 +14,7 @@ returns-in_err-text-clause-err g c =
 pub returns-in_err-write_all-clause-err : goal.returns-in_err-write_all-clause-err
 returns-in_err-write_all-clause-err g c =
     let (read, consumes, schedule) = c.in_ok-steps.ensures.ok in
-    let (inputs, heard, pages, sound) = c.in_ok-ledger.ensures.ok in
+    let (inputs, heard, pages, sound, outcomes) = c.in_ok-ledger.ensures.ok in
     let text = c.as_bytes.result.now in
     let front = c.in_err-write_all.ensures.err in
     let same = c.as_bytes.ensures.value ∙ (c.in_ok-text.ensures ∙ ap ledger_text pages) in

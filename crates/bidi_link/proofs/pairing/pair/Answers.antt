@@ -1,9 +1,11 @@
 use Rattle.std.proofs.Common.{◌≡◌, ◌∙◌, ◌<◌, ◌^◌, ◌∷◌, [], ◌++◌, length, vec_len, refl, sym, subst, arith}
-use Rattle.std.proofs.lemmas.Iterator.Consumers.{YieldsList-turn}
+use Rattle.std.proofs.lemmas.List.{map-id}
+use Rattle.std.proofs.lemmas.Iterator.Consumers.{YieldsList-turn, YieldsList-end}
 use Rattle.std.proofs.lemmas.Iterator.Adapters.{YieldsList-from_vec}
 use Rattle.bidi_link.specs.Ledger.{past_after}
 use Rattle.bidi_link.specs.Stands.{StandsFor, IsSane}
 use Rattle.bidi_link.specs.Steps.{AreHeardAs}
+use Rattle.bidi_link.proofs.OutcomeLemmas.{outcomes}
 use Rattle.bidi_link.proofs.SaneLemmas.{sane-nothing}
 use Rattle.bidi_link.proofs.StepLemmas.{heard-more, past_after-more, can-count, front-more, worn-is}
 use Rattle.bidi_link.proofs.pairing.pair.Goals as goal
@@ -27,6 +29,20 @@ loop-step-preserved c =
       subst (StandsFor c.take.new.self) more done.0,
       subst IsSane more done.1,
       front-more c.args.steps.items c.loop-step.yielded c.in-Some.step inv.4 turn.0 turn.1,
+    )
+
+pub returns-clause-ok : goal.returns-clause-ok
+returns-clause-ok c =
+    let gives = c.into_iter-step-iterator.ensures.into_iter_gives in
+    let n : vec_len c.args.steps ≡ length c.args.steps.items = omega arith in
+    let end = YieldsList-end (YieldsList-from_vec c.args.steps.items gives.0 (gives.1 ∙ n)) c.loop-step.yielded c.loop-step.step-iterator c.loop-step.yielded_by c.next.result c.next.new.self c.in-None.is c.next.ensures.steps in
+    let inv = c.loop-step.invariant in
+    let past = past_after [] inv.0 in (
+      inv.0,
+      subst (λ xs. AreHeardAs xs inv.0) (sym (map-id c.loop-step.yielded) ∙ end.0) inv.1,
+      c.in_ok-ledger.ensures.pages past inv.2,
+      inv.3.sound,
+      λ m. outcomes past m (inv.3.replies m),
     )
 
 pub returns-in_err-take-clause-worn_out : goal.returns-in_err-take-clause-worn_out
