@@ -1,28 +1,14 @@
-//! Programs over the two ends of WebDriver BiDi.
+//! `bidi`: the programs over the two ends of WebDriver BiDi.
 //!
 //! `bidi play` reads a play from standard input, a step a line, and writes what the remote end sends.
 //! `bidi pair` reads steps of both ends, and writes what became of each command and which events each link received.
 //! `bidi show` writes a line for each text of a local or a remote end, and `bidi check` one for each that is refused.
+//! `bidi serve` serves WebSocket connections on 127.0.0.1.
 #![tactic(auto)]
 
-mod arguments;
-mod device;
-mod ledger_lines;
-mod line_reader;
-mod lines;
-mod message_lines;
-mod pair_lines;
-mod pairing;
-mod playing;
-mod running;
-mod showing;
-mod tally;
-#[cfg(test)]
-mod tests;
-
-use arguments::{LineFault, command_line};
-use device::{Device, write_all};
-use running::run;
+use bidi_console::{Device, LineFault, Run, Serving, command_line, write_all};
+use bidi_programs::{ServeFault, run, serve, serving_status};
+use std::net::{Ipv4Addr, SocketAddr, SocketAddrV4, TcpListener};
 use std::process::ExitCode;
 use std::{env, io};
 
@@ -41,6 +27,7 @@ fn status(rt: &HostRuntime) -> io::Result<u8> {
     let mut output = Device::new(io::writer(rt));
     let mut faults = Device::new(rt.stderr());
     match command_line(alloc, &words) {
+        Ok(Run::Serve(asked)) => Ok(serving_status(alloc, served(rt, asked), &mut faults)),
         Ok(asked) => {
             let mut input = Device::new(rt.reader());
             Ok(run(alloc, &asked, &mut input, &mut output, &mut faults))
@@ -58,4 +45,13 @@ fn status(rt: &HostRuntime) -> io::Result<u8> {
             Ok(3)
         }
     }
+}
+
+// Serves on 127.0.0.1.
+fn served(rt: &HostRuntime, asked: Serving) -> Result<(), ServeFault> {
+    let address = SocketAddr::V4(SocketAddrV4::new(Ipv4Addr::LOCALHOST, asked.port));
+    let Ok(listener) = TcpListener::bind(rt, address) else {
+        return Err(ServeFault::Listen);
+    };
+    serve(rt.alloc(), &listener, asked.connections, asked.messages)
 }

@@ -14,9 +14,13 @@ mod messages;
 #[cfg(test)]
 mod params;
 #[cfg(test)]
+mod programs;
+#[cfg(test)]
 mod remote;
 #[cfg(test)]
 mod rows;
+#[cfg(test)]
+mod serving;
 #[cfg(test)]
 mod shape;
 #[cfg(test)]

@@ -1,0 +1,197 @@
+//! Sources and sinks of bytes, which count how often they failed.
+ghost use Rattle.std.specs.Prelude.{◌≡◌, ℕ, ◌+◌, ◌≤◌, Bool, false, length, List, Option, None, IfOk, IfSome, ◌++◌, OnOk, OnErr, IsErrOf, IsTrue, vec_len};
+ghost use Rattle.std.specs.Io.KnownBytes.{Appends, IsAtEnd, ReadConsumes, WriteAppends};
+ghost use Rattle.bidi_console.specs.Devices.{AppendsBeginning, CountsFailure, ReadsOn, TellsEnd, WritesSome, failures_of, has_told_end, inner_of};
+
+use super::tally::Tally;
+use std::io::{Read, Write};
+use thiserror::Error;
+
+/// A read or a write failed.
+#[derive(Clone, Copy, Debug, PartialEq, Eq, Error)]
+#[error("a device failed")]
+pub struct DeviceFault;
+
+/// Where bytes come from.
+pub trait Source {
+    // The bytes that reads will give from here on, where they are known.
+    ghost left: { Self → Option (List ℕ) } = { λ _. None };
+    // How often a read failed.
+    ghost failures: { Self → ℕ };
+    // A read has told the end.
+    ghost has_ended: { Self → Bool };
+
+    /// Reads some bytes into the front of `buffer`, and returns how many.
+    ///
+    /// A read of 0 into a buffer that is not empty tells the end. Takes no memory.
+    ///
+    /// # Errors
+    ///
+    /// `DeviceFault` where the device failed. No byte is lost, and a later read may succeed.
+    fn read(&mut self, buffer: &mut [u8]) -> Result<usize, DeviceFault>
+        ensures bound { IfOk result (λ n. n ≤ length buffer.new) }
+        ensures bytes { ReadConsumes (left self.old) (left self.new) result buffer.new }
+        ensures counts { CountsFailure result (failures self.old) (failures self.new) }
+        ensures ends { TellsEnd result (length buffer.new) (has_ended self.old) (has_ended self.new) };
+}
+
+/// Where bytes go.
+pub trait Sink {
+    // The bytes that the sink holds, where they are known.
+    ghost contents: { Self → Option (List ℕ) } = { λ _. None };
+    // How often a write failed.
+    ghost failures: { Self → ℕ };
+
+    /// Writes some bytes of the front of `bytes`, at least one where there is one, and returns how many.
+    ///
+    /// Takes no memory.
+    ///
+    /// # Errors
+    ///
+    /// `DeviceFault` where the device failed. No byte is written, and a later write may succeed.
+    fn write(&mut self, bytes: &[u8]) -> Result<usize, DeviceFault>
+        ensures bound { IfOk result (λ n. WritesSome n (length bytes.now)) }
+        ensures bytes { WriteAppends (contents self.old) (contents self.new) result bytes.now }
+        ensures counts { CountsFailure result (failures self.old) (failures self.new) };
+}
+
+/// A reader or a writer of `std`, with the count of its failures.
+#[derive(Drop)]
+pub struct Device<T> {
+    inner: T,
+    has_ended: bool,
+    failures: Tally,
+}
+
+impl<T> Device<T> {
+    /// A device that has not failed and has not told its end.
+    pub fn new(inner: T) -> Device<T>
+        ensures inner { inner_of result ≡ inner }
+        ensures failures { failures_of result ≡ 0 }
+        ensures not_ended { has_told_end result ≡ false }
+    {
+        Device {
+            inner,
+            has_ended: false,
+            failures: Tally::new(),
+        }
+    }
+
+    // Counts one failure more.
+    fn fail(&mut self) -> DeviceFault
+        ensures failures { failures_of self.new ≡ failures_of self.old + 1 }
+        ensures inner { inner_of self.new ≡ inner_of self.old }
+        ensures ended { has_told_end self.new ≡ has_told_end self.old }
+    {
+        self.failures = Tally::then(&self.failures);
+        DeviceFault
+    }
+}
+
+impl<T: Read> Source for Device<T> {
+    ghost left = { λ d. T.remaining (inner_of d) };
+
+    ghost failures = { failures_of };
+
+    ghost has_ended = { has_told_end };
+
+    fn read(&mut self, buffer: &mut [u8]) -> Result<usize, DeviceFault> {
+        match self.inner.read(buffer) {
+            Ok(n) => {
+                if n == 0 && !buffer.is_empty() {
+                    self.has_ended = true;
+                }
+                Ok(n)
+            }
+            Err(_) => Err(self.fail()),
+        }
+    }
+}
+
+impl<T: Write> Sink for Device<T> {
+    ghost contents = { λ d. T.contents (inner_of d) };
+
+    ghost failures = { failures_of };
+
+    fn write(&mut self, bytes: &[u8]) -> Result<usize, DeviceFault> {
+        match self.inner.write(bytes) {
+            Ok(n) if n > 0 || bytes.is_empty() => Ok(n),
+            _ => Err(self.fail()),
+        }
+    }
+}
+
+/// Writes all of the bytes.
+///
+/// # Errors
+///
+/// `DeviceFault` where a write failed, after a beginning of the bytes.
+pub fn write_all<W: Sink>(sink: &mut W, bytes: &[u8]) -> Result<(), DeviceFault>
+    ensures ok { OnOk result (Appends (W.contents sink.old) (W.contents sink.new) bytes.now) }
+    ensures err { OnErr result (AppendsBeginning (W.contents sink.old) (W.contents sink.new) bytes.now) }
+    ensures counts { CountsFailure result (W.failures sink.old) (W.failures sink.new) }
+{
+    let mut rest = bytes;
+    'writes: while !rest.is_empty() {
+        let n = sink.write(rest)?;
+        rest = &rest[n..];
+    }
+    Ok(())
+}
+
+/// Why reading to the end stopped before it.
+#[derive(Clone, Copy, Debug, PartialEq, Eq, Error)]
+pub enum ReadToEndFault {
+    /// A read failed.
+    #[error("a device failed")]
+    Device,
+    /// There is no memory for more bytes.
+    #[error("out of memory")]
+    NoMemory,
+}
+
+// At most how many bytes one read asks for.
+const CHUNK: usize = 4096;
+
+// One read, whose bytes go to the end of `buffer`. Room is made first, so that no byte is lost.
+pub(crate) fn read_some<S: Source>(
+    source: &mut S,
+    buffer: &mut Vec<u8>,
+) -> Result<usize, ReadToEndFault>
+    ensures bytes { ReadsOn (S.left source.old) (S.left source.new) buffer.old.items buffer.new.items }
+    ensures count { IfOk result (λ n. vec_len buffer.new ≡ vec_len buffer.old + n) }
+    ensures end { IfOk result (λ n. n ≡ 0 → IsAtEnd (S.left source.new)) }
+    ensures told { TellsEnd result CHUNK (S.has_ended source.old) (S.has_ended source.new) }
+    ensures err { OnErr result (buffer.new.items ≡ buffer.old.items) }
+    ensures ok { OnOk result (S.failures source.new ≡ S.failures source.old) }
+    ensures device { IsErrOf result ReadToEndFault.Device → S.failures source.new ≡ S.failures source.old + 1 }
+    ensures no_memory { IsErrOf result ReadToEndFault.NoMemory → S.failures source.new ≡ S.failures source.old }
+{
+    let mut chunk = [0u8; CHUNK];
+    buffer.reserve(CHUNK).map_err(|_| ReadToEndFault::NoMemory)?;
+    let n = source.read(&mut chunk).map_err(|_| ReadToEndFault::Device)?;
+    buffer.extend_from_slice(&chunk[..n]).unwrap();
+    Ok(n)
+}
+
+/// Reads until the source tells its end, and appends the bytes to `buffer`, whatever the outcome.
+///
+/// # Errors
+///
+/// `Device` where a read failed; `NoMemory` where the buffer could not grow.
+pub fn read_to_end<S: Source>(source: &mut S, buffer: &mut Vec<u8>) -> Result<(), ReadToEndFault>
+    ensures bytes { ReadsOn (S.left source.old) (S.left source.new) buffer.old.items buffer.new.items }
+    ensures ended { OnOk result (IsTrue (S.has_ended source.new)) }
+    ensures end { OnOk result (IsAtEnd (S.left source.new)) }
+    ensures all { OnOk result (IfSome (S.left source.old) (λ bytes. buffer.new.items ≡ buffer.old.items ++ bytes)) }
+    ensures still { OnErr result (S.has_ended source.new ≡ S.has_ended source.old) }
+    ensures ok { OnOk result (S.failures source.new ≡ S.failures source.old) }
+    ensures device { IsErrOf result ReadToEndFault.Device → S.failures source.new ≡ S.failures source.old + 1 }
+    ensures no_memory { IsErrOf result ReadToEndFault.NoMemory → S.failures source.new ≡ S.failures source.old }
+{
+    'reads: loop {
+        if read_some(source, buffer)? == 0 {
+            return Ok(());
+        }
+    }
+}

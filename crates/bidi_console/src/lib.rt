@@ -1,0 +1,21 @@
+//! What the programs stand on: the command line, devices, the lines of an input, and what is shown of a text.
+//!
+//! [`command_line`] reads a command line as a [`Run`]. A [`Source`] is read and a [`Sink`] is written, and both say which
+//! bytes; a [`Device`] makes one of any reader or writer. A [`LineReader`] gives the lines of a source one by one. [`list`]
+//! writes what `show` and `check` tell of each line.
+#![tactic(auto)]
+
+mod arguments;
+mod device;
+mod feeds;
+mod line_reader;
+mod message_lines;
+mod showing;
+mod tally;
+
+pub use arguments::{LineFault, Run, Serving, command_line};
+pub use device::{Device, DeviceFault, ReadToEndFault, Sink, Source, read_to_end, write_all};
+pub use feeds::{LONGEST_LINE, next_line};
+pub use line_reader::{InputFault, LineReader};
+pub use message_lines::{Shown, Side, show_line};
+pub use showing::{Listing, ShowFault, list};

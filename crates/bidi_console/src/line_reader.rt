@@ -1,0 +1,179 @@
+//! Reads an input by lines, and holds little more of it than one line.
+ghost use Rattle.std.specs.Prelude.{◌≡◌, ◌≢◌, ℕ, ◌+◌, ◌≤◌, List, [], ◌∷◌, ◌++◌, false, true, length, take, drop, vec_len, IfOk, IfSome, IfNone, IfErr, IsTrue, MatchResult};
+ghost use Rattle.std.specs.Io.KnownBytes.{IsAtEnd};
+ghost use Rattle.bidi_console.specs.Devices.{ReadsOn};
+ghost use Rattle.bidi_console.specs.Feeds.{has_feed};
+ghost use Rattle.bidi_console.specs.declared.line_reader.InputFault.TheVariants.{BadLine};
+ghost use Rattle.bidi_console.specs.InputLines.{Says, failed_reads, given, input_fault_of};
+
+use super::device::{ReadToEndFault, Source, read_some};
+use super::feeds::{LONGEST_LINE, feed_at};
+use std::alloc::Global;
+use std::marker::Model;
+use thiserror::Error;
+
+/// Why no line was read, and the end of the input was not met.
+#[derive(Clone, Copy, Debug, PartialEq, Eq, Error)]
+pub enum InputFault {
+    /// A read failed.
+    #[error("input cannot be read")]
+    Read,
+    /// The line is too long, or the input ends without its line feed.
+    #[error("bad line")]
+    BadLine,
+    /// A growth was refused.
+    #[error("out of memory")]
+    NoMemory,
+}
+
+impl From<ReadToEndFault> for InputFault {
+    ghost from_gives = { λ error fault. fault ≡ input_fault_of error };
+
+    fn from(error: ReadToEndFault) -> InputFault {
+        match error {
+            ReadToEndFault::Device => InputFault::Read,
+            ReadToEndFault::NoMemory => InputFault::NoMemory,
+        }
+    }
+}
+
+/// A reader of lines, which contracts see as the bytes that it has read and not given.
+#[derive(Drop)]
+pub struct LineReader {
+    buffer: Vec<u8>,
+    // How many bytes at the front of the buffer were given.
+    start: usize,
+}
+
+impl Model for LineReader {
+    ghost Value = { List ℕ };
+
+    ghost view = { λ r. drop r.start r.buffer.items };
+
+    ghost invariant = { λ r. r.start ≤ vec_len r.buffer };
+}
+
+impl LineReader {
+    /// A reader that has read nothing. Takes no memory.
+    pub fn new(alloc: Global) -> LineReader
+        ensures { result ≡ [] }
+    {
+        LineReader {
+            buffer: Vec::new(alloc),
+            start: 0,
+        }
+    }
+
+    /// The next line without its line feed, or `None` at the end of the input.
+    ///
+    /// # Errors
+    /// The first of these in the order of the input:
+    /// 1. `Read`, where the source failed. The next call goes on with what was read.
+    /// 2. `BadLine`, as soon as 2,097,153 bytes have no line feed, or where the input ends with some that have none.
+    /// 3. `NoMemory`, where a growth was refused. No byte is lost.
+    pub fn next<S: Source>(
+        &mut self,
+        alloc: Global,
+        source: &mut S,
+    ) -> Result<Option<Vec<u8>>, InputFault>
+        // What was held, and what the source gave, is the line and what is held now.
+        ensures bytes { ReadsOn (S.left source.old) (S.left source.new) self.old (given result ++ self.new) }
+        ensures says { Says result (S.has_ended source.new) self.new }
+        ensures end { IfOk result (λ found. IfNone found (IsAtEnd (S.left source.new))) }
+        ensures failures { MatchResult result (λ _. S.failures source.new ≡ S.failures source.old) (λ fault. S.failures source.new ≡ S.failures source.old + failed_reads fault) }
+    {
+        let mut seen = 0;
+        'reads: loop {
+            let held = self.held();
+            if let Some(end) = feed_behind(held, seen) {
+                if end > LONGEST_LINE {
+                    return Err(InputFault::BadLine);
+                }
+                let Ok(line) = Vec::from_slice(alloc, &held[..end]) else {
+                    return Err(InputFault::NoMemory);
+                };
+                self.give(end + 1);
+                return Ok(Some(line));
+            }
+            seen = held.len();
+            if seen > LONGEST_LINE {
+                return Err(InputFault::BadLine);
+            }
+            if self.read_more(source)? == 0 {
+                return if seen == 0 {
+                    Ok(None)
+                } else {
+                    Err(InputFault::BadLine)
+                };
+            }
+        }
+    }
+
+    /// Whether the input goes on.
+    ///
+    /// # Errors
+    /// `Read`, where the source failed; `NoMemory`, where a growth was refused.
+    pub fn goes_on<S: Source>(&mut self, source: &mut S) -> Result<bool, InputFault>
+        ensures bytes { ReadsOn (S.left source.old) (S.left source.new) self.old self.new }
+        ensures more { IfOk result (λ more. IsTrue more → self.new ≢ []) }
+        ensures end { IfOk result (λ more. more ≡ false → (self.new ≡ []) × IsTrue (S.has_ended source.new) × IsAtEnd (S.left source.new)) }
+        ensures err { IfErr result (λ fault. (fault ≢ BadLine) × (self.new ≡ [])) }
+        ensures failures { MatchResult result (λ _. S.failures source.new ≡ S.failures source.old) (λ fault. S.failures source.new ≡ S.failures source.old + failed_reads fault) }
+    {
+        if !self.held().is_empty() {
+            return Ok(true);
+        }
+        Ok(self.read_more(source)? > 0)
+    }
+
+    // What was read and not given.
+    fn held(&self) -> &[u8]
+        ensures { result.now ≡ self.now }
+    {
+        &self.buffer[self.start..]
+    }
+
+    // Gives so many of the bytes that are held.
+    fn give(&mut self, n: usize)
+        requires { n ≤ length self.old }
+        ensures { self.new ≡ drop n self.old }
+    {
+        self.start += n;
+    }
+
+    // One read, whose bytes are held behind the others. What was given is let go first.
+    fn read_more<S: Source>(&mut self, source: &mut S) -> Result<usize, InputFault>
+        ensures bytes { ReadsOn (S.left source.old) (S.left source.new) self.old self.new }
+        ensures count { IfOk result (λ n. length self.new ≡ length self.old + n) }
+        ensures end { IfOk result (λ n. n ≡ 0 → IsTrue (S.has_ended source.new) × IsAtEnd (S.left source.new)) }
+        ensures failures { MatchResult result (λ _. S.failures source.new ≡ S.failures source.old) (λ fault. S.failures source.new ≡ S.failures source.old + failed_reads fault) }
+        ensures err { IfErr result (λ fault. (fault ≢ BadLine) × (self.new ≡ self.old)) }
+    {
+        drop_front(&mut self.buffer, self.start);
+        self.start = 0;
+        Ok(read_some(source, &mut self.buffer)?)
+    }
+}
+
+// Takes so many bytes from the front.
+fn drop_front(bytes: &mut Vec<u8>, n: usize)
+    requires { n ≤ vec_len bytes.old }
+    ensures { bytes.new.items ≡ drop n bytes.old.items }
+{
+    let rest = bytes.len() - n;
+    bytes.rotate_left(n);
+    bytes.truncate(rest);
+}
+
+// The place of the first line feed, where none stands among the first `seen` bytes.
+fn feed_behind(bytes: &[u8], seen: usize) -> Option<usize>
+    requires seen { seen ≤ length bytes.now }
+    requires none_seen { has_feed (take seen bytes.now) ≡ false }
+    ensures line { IfSome result (λ i. has_feed (take i bytes.now) ≡ false) }
+    ensures some { IfSome result (λ i. bytes.now ≡ take i bytes.now ++ 10 ∷ drop (i + 1) bytes.now) }
+    ensures within { IfSome result (λ i. i + 1 ≤ length bytes.now) }
+    ensures none { IfNone result (has_feed bytes.now ≡ false) }
+{
+    let i = feed_at(&bytes[seen..])?;
+    Some(seen + i)
+}

@@ -1,0 +1,190 @@
+//! The line that is shown for a text of a local or of a remote end.
+ghost use Rattle.std.specs.Prelude.{◌≡◌, ℕ, List, ◌∷◌, ◌++◌, IfOk, codes, decimal, option_map, string_bytes};
+ghost use Rattle.bidi_tree.specs.Text.{compact_text};
+ghost use Rattle.bidi_messages.specs.ErrorCode.{error_code_text};
+ghost use Rattle.bidi_messages.specs.Method.{method_text};
+ghost use Rattle.bidi_messages.specs.CommandData.{method_of};
+ghost use Rattle.bidi_messages.specs.EventName.{event_text};
+ghost use Rattle.bidi_messages.specs.EventData.{event_of};
+ghost use Rattle.bidi_messages.specs.View.{verdict_of, IsWell};
+ghost use Rattle.bidi_console.specs.MessageLines.{HasVerdict, IsMessageLine, Shows, ShowsMessage, id_text, shown_of, verdict_shown};
+
+use bidi_messages::{
+    Command, ErrorCode, ErrorResponse, Event, Message, MessageFault, Method, Named, Response, Sent,
+    Verdict, judge, read_message, text_of,
+};
+use bidi_shape::Shape;
+use bidi_tree::JsUint;
+use std::alloc::{AllocError, Global};
+
+/// Whose texts are read.
+#[derive(Clone, Copy, Debug, PartialEq, Eq)]
+pub enum Side {
+    /// Texts of a local end: commands.
+    Local,
+    /// Texts of a remote end: responses, errors and events.
+    Remote,
+}
+
+/// What is shown for a line, without a line feed.
+#[derive(Drop)]
+pub enum Shown {
+    /// The line is a message of its end.
+    Taken(String),
+    /// It is none.
+    Refused(String),
+}
+
+/// What is shown for a line. A line that is not UTF-8 counts as not JSON.
+///
+/// # Errors
+/// No memory, where a growth was refused.
+pub fn show_line(alloc: Global, side: Side, line: &[u8]) -> Result<Shown, AllocError>
+    ensures { IfOk result (λ shown. Shows side line.now (shown_of shown)) }
+{
+    match side {
+        Side::Local => {
+            let verdict = verdict(alloc, line)?;
+            show_verdict(alloc, verdict)
+        }
+        Side::Remote => show_message(alloc, line),
+    }
+}
+
+// ---- texts of a local end
+
+// The verdict of a line.
+fn verdict(alloc: Global, line: &[u8]) -> Result<Verdict, AllocError>
+    ensures verdict { IfOk result (λ v. HasVerdict line.now (verdict_of ⟦<Command as Shape>⟧.shape v)) }
+    ensures well { IfOk result (IsWell ⟦<Command as Shape>⟧.shape) }
+{
+    match std::str::from_utf8(line) {
+        Ok(text) => judge(alloc, text),
+        Err(_) => Ok(Verdict::Refused {
+            id: None,
+            code: ErrorCode::InvalidArgument,
+        }),
+    }
+}
+
+fn show_verdict(alloc: Global, verdict: Verdict) -> Result<Shown, AllocError>
+    requires { IsWell ⟦<Command as Shape>⟧.shape verdict }
+    ensures { IfOk result (λ shown. shown_of shown ≡ verdict_shown (verdict_of ⟦<Command as Shape>⟧.shape verdict)) }
+{
+    match verdict {
+        Verdict::Accepted(command) => Ok(Shown::Taken(accepted_line(alloc, command)?)),
+        Verdict::Refused { id, code } => Ok(Shown::Refused(refused_line(alloc, id, code)?)),
+    }
+}
+
+// `accepted ID METHOD TEXT`
+fn accepted_line(alloc: Global, command: Command) -> Result<String, AllocError>
+    requires { ⟦<Command as Shape>⟧.shape.well command }
+    ensures { IfOk result (λ line. string_bytes line ≡ codes "accepted " ++ decimal command.id.value
+        ++ 32 ∷ method_text (method_of command.«data») ++ 32 ∷ compact_text (⟦<Command as Shape>⟧.shape.tree_of command)) }
+{
+    let id = command.id;
+    let method = command.data.method();
+    let text = text_for(alloc, command)?;
+    let head = accepted_head(alloc, id, method)?;
+    format!(in alloc; "{head} {text}")
+}
+
+// `accepted ID METHOD`
+fn accepted_head(alloc: Global, id: JsUint, method: Method) -> Result<String, AllocError>
+    ensures { IfOk result (λ head. string_bytes head ≡ codes "accepted " ++ decimal id.value ++ 32 ∷ method_text method) }
+{
+    let name = method.name();
+    format!(in alloc; "accepted {} {name}", id.value)
+}
+
+// `refused ID CODE`
+fn refused_line(alloc: Global, id: Option<JsUint>, code: ErrorCode) -> Result<String, AllocError>
+    ensures { IfOk result (λ line. string_bytes line ≡ codes "refused " ++ id_text (option_map (λ n. n.value) id) ++ 32 ∷ error_code_text code) }
+{
+    let code = code.name();
+    match id {
+        None => format!(in alloc; "refused null {code}"),
+        Some(id) => format!(in alloc; "refused {} {code}", id.value),
+    }
+}
+
+// ---- texts of a remote end
+
+fn show_message(alloc: Global, line: &[u8]) -> Result<Shown, AllocError>
+    ensures { IfOk result (λ shown. ShowsMessage line.now (shown_of shown)) }
+{
+    match std::str::from_utf8(line) {
+        Ok(text) => show_text(alloc, text),
+        Err(_) => Ok(Shown::Refused(String::from_str(alloc, "not json")?)),
+    }
+}
+
+fn show_text(alloc: Global, text: &str) -> Result<Shown, AllocError>
+    ensures { IfOk result (λ shown. ShowsMessage text.now (shown_of shown)) }
+{
+    match read_message(alloc, text) {
+        Ok(message) => Ok(Shown::Taken(message_line(alloc, message)?)),
+        Err(MessageFault::NotJson) => Ok(Shown::Refused(String::from_str(alloc, "not json")?)),
+        Err(MessageFault::NoFit) => Ok(Shown::Refused(String::from_str(alloc, "no fit")?)),
+        Err(MessageFault::NoMemory) => Err(AllocError),
+    }
+}
+
+fn message_line(alloc: Global, message: Message) -> Result<String, AllocError>
+    requires { ⟦<Message as Shape>⟧.shape.well message }
+    ensures { IfOk result (λ line. IsMessageLine (⟦<Message as Shape>⟧.shape.tree_of message) (string_bytes line)) }
+{
+    match message {
+        Message::Response(response) => response_line(alloc, response),
+        Message::Error(error) => error_line(alloc, error),
+        Message::Event(event) => event_line(alloc, event),
+    }
+}
+
+// `response ID TEXT`
+fn response_line(alloc: Global, response: Response) -> Result<String, AllocError>
+    requires { ⟦<Response as Shape>⟧.shape.well response }
+    ensures { IfOk result (λ line. string_bytes line ≡ codes "response " ++ decimal response.id.value
+        ++ 32 ∷ compact_text (⟦<Response as Shape>⟧.shape.tree_of response)) }
+{
+    let id = response.id;
+    let text = text_for(alloc, response)?;
+    format!(in alloc; "response {} {text}", id.value)
+}
+
+// `error ID TEXT`
+fn error_line(alloc: Global, error: ErrorResponse) -> Result<String, AllocError>
+    requires { ⟦<ErrorResponse as Shape>⟧.shape.well error }
+    ensures { IfOk result (λ line. string_bytes line ≡ codes "error " ++ id_text (option_map (λ n. n.value) error.id)
+        ++ 32 ∷ compact_text (⟦<ErrorResponse as Shape>⟧.shape.tree_of error)) }
+{
+    let id = error.id;
+    let text = text_for(alloc, error)?;
+    match id {
+        None => format!(in alloc; "error null {text}"),
+        Some(id) => format!(in alloc; "error {} {text}", id.value),
+    }
+}
+
+// `event METHOD TEXT`
+fn event_line(alloc: Global, event: Event) -> Result<String, AllocError>
+    requires { ⟦<Event as Shape>⟧.shape.well event }
+    ensures { IfOk result (λ line. string_bytes line ≡ codes "event " ++ event_text (event_of event.«data»)
+        ++ 32 ∷ compact_text (⟦<Event as Shape>⟧.shape.tree_of event)) }
+{
+    let event_name = event.data.event();
+    let text = text_for(alloc, event)?;
+    let name = event_name.name();
+    format!(in alloc; "event {name} {text}")
+}
+
+// ---- of both
+
+// The text of a command or a message, which is used up.
+fn text_for<M: Sent>(alloc: Global, message: M) -> Result<String, AllocError>
+    requires { M.shape.well message }
+    ensures { IfOk result (λ s. string_bytes s ≡ compact_text (M.shape.tree_of message)) }
+{
+    text_of(alloc, &message)
+}

@@ -1,0 +1,82 @@
+-- One connection that is served over a WebSocket link: what is handed to the remote end, and what is sent. This project's own.
+use Rattle.std.specs.Prelude.{◌≡◌, ◌≤◌, ℕ, suc, Bool, true, false, not, ◌&&◌, ◌||◌, if◌then◌else◌, List, [], ◌∷◌, length, Option, Result, Ok, Err, ⊤}
+use Rattle.bidi_remote.specs.Machine.Step as step
+use Rattle.bidi_remote.specs.Machine.History.{Input, Open, Drop, NotText, IsHeardAs}
+use Rattle.bidi_remote.specs.Machine.Connections.{is_open}
+use Rattle.bidi_remote.specs.Machine.Outcome.{deeds}
+use Rattle.bidi_remote.specs.Machine.Sent.{out, texts_on}
+use Rattle.bidi_remote.specs.Tables.Stands.{StandsFor}
+use Rattle.bidi_remote.specs.declared.remote_end.RemoteEnd.{RemoteEnd}
+use Rattle.bidi_remote.specs.declared.remote_end.RemoteFault.{RemoteFault}
+use Rattle.bidi_remote.specs.declared.remote_end.RemoteFault.TheVariants.{WornOut}
+use Rattle.bidi_link.specs.declared.link.Link.{Link}
+use Rattle.bidi_link.specs.declared.link.LinkFault.{LinkFault}
+use Rattle.bidi_link.specs.SocketTaking as link
+use Rattle.bidi_link.specs.SocketTaking.{Taken, Control, Closed, IsTaken}
+use Rattle.bidi_link.specs.SocketSending.{SendsText, SendsClose}
+
+-- the connection is open after this history
+abbrev pub is_served : List Input → ℕ → Bool
+is_served h conn = is_open (deeds h) conn
+
+-- an opening that makes no connection: its number was open before, or the remote end denies it
+abbrev pub is_denied : List Input → ℕ → List ℕ → Bool
+is_denied h conn resource = is_served h conn || not (is_served (Open conn resource ∷ h) conn)
+
+-- a connection that is still open is dropped
+abbrev pub dropped : List Input → ℕ → List Input
+dropped h conn = if is_served h conn then Drop conn ∷ h else h
+
+-- a message is handed on: a text, or one that is none
+abbrev pub IsHandedOn : ℕ → Taken → Input → Type 0
+IsHandedOn conn (link.Text s) i = IsHeardAs (step.Text conn s) i
+IsHandedOn conn link.NotText i = i ≡ NotText conn
+IsHandedOn conn t i = ⊥
+
+-- nothing more is taken: the peer has closed the link, or taking failed
+abbrev pub IsEnd : Result Taken LinkFault → Type 0
+IsEnd (Ok Closed) = ⊤
+IsEnd (Ok t) = ⊥
+IsEnd (Err fault) = ⊤
+
+-- a step was refused after this history; where the end was worn out, it is one of 1,000,000,000 inputs
+abbrev pub IsRefused : RemoteEnd → RemoteFault → List Input → Type 0
+IsRefused end fault h = StandsFor end h × (fault ≡ WornOut → 1000000000 ≤ length h)
+
+-- Texts are sent on a link one after another, up to the first that cannot be. Whether all were is said last.
+pub data AreSent {S K : Type 0} (contents : S → Option (List ℕ)) : Link S K → List (List ℕ) → Link S K → Bool → Type 0 where
+  all : (l : Link S K) → AreSent contents l [] l true
+  next : (l m n : Link S K) (s : List ℕ) (ss : List (List ℕ)) (whole : Bool) → SendsText contents s l m (Ok tt) → AreSent contents m ss n whole → AreSent contents l (s ∷ ss) n whole
+  stop : (l m : Link S K) (s : List ℕ) (ss : List (List ℕ)) (fault : LinkFault) → SendsText contents s l m (Err fault) → AreSent contents l (s ∷ ss) m false
+
+module _ {S K : Type 0} (remaining contents : S → Option (List ℕ)) (conn : ℕ) where
+  -- One exchange, from a link and a history to those after it. Whether another may follow is said last.
+  pub data Exchange : Link S K → List Input → Link S K → List Input → Bool → Type 0 where
+    -- a ping or a pong asks for nothing
+    control : (l m : Link S K) (h : List Input) → IsTaken remaining contents l m (Ok Control) → Exchange l h m h true
+    -- a message is handed on, and the texts that the remote end sends on the connection are sent in their order
+    message : (l m n : Link S K) (h : List Input) (t : Taken) (i : Input) (whole : Bool) → IsTaken remaining contents l m (Ok t) → IsHandedOn conn t i → AreSent contents m (texts_on conn (out h i)) n whole
+        → Exchange l h n (i ∷ h) (whole && is_served (i ∷ h) conn)
+    end : (l m : Link S K) (h : List Input) (r : Result Taken LinkFault) → IsTaken remaining contents l m r → IsEnd r → Exchange l h m h false
+
+  -- exchanges one after another, so many at most, up to one that none may follow
+  pub data Exchanges : ℕ → Link S K → List Input → Link S K → List Input → Type 0 where
+    used_up : (l : Link S K) (h : List Input) → Exchanges 0 l h l h
+    more : (n : ℕ) (l m o : Link S K) (h k j : List Input) → Exchange l h m k true → Exchanges n m k o j → Exchanges (suc n) l h o j
+    last : (n : ℕ) (l m : Link S K) (h k : List Input) → Exchange l h m k false → Exchanges (suc n) l h m k
+
+  -- a link is closed, where it still is open
+  abbrev pub IsClosed : Link S K → Link S K → Type 0
+  IsClosed l m = (r : Result (Unit {0}) LinkFault) × SendsClose contents l m r
+
+  -- an open connection: so many messages at most are exchanged, and the link is closed
+  pub record Exchanged (messages : ℕ) (l : Link S K) (h : List Input) (o : Link S K) (k : List Input) : Type 0 where
+    pub link : Link S K
+    pub exchanges : Exchanges messages l h link k
+    pub closes : IsClosed link o
+
+  -- One connection, from a link and a history to those after it: it is opened, so many messages at most are exchanged, it is
+  -- dropped where it is still open, and the link is closed.
+  pub data Served (resource : List ℕ) (messages : ℕ) : Link S K → List Input → Link S K → List Input → Type 0 where
+    denied : (l m : Link S K) (h : List Input) → is_denied h conn resource ≡ true → IsClosed l m → Served resource messages l h m (Open conn resource ∷ h)
+    served : (l o : Link S K) (h k : List Input) → is_denied h conn resource ≡ false → Exchanged messages l (Open conn resource ∷ h) o k → Served resource messages l h o (dropped k conn)
