@@ -1,12 +1,11 @@
 //! Times of the project's crates, beside those of what they stand on.
 //!
-//! `bench tree [ROUNDS]` reads and writes trees, `bench shape` maps of ten members, `bench values` remote values, `bench messages` commands and an event. `bench events N` writes N lines of an event, to be checked, and `bench turns N` a play with N moments and N commands by turns. `bench contexts N` writes a play in which N tabs and 15 frames come, are shown 1,000 times and go. `bench log N` writes a play with N lines of the log that nobody hears, and then N that 64 connections hear. `bench pair N` writes a pair with N commands over 8 links. Counts go to standard output, times to standard error.
+//! `bench tree [ROUNDS]` reads and writes trees, `bench messages` commands and an event. `bench events N` writes N lines of an event, to be checked, and `bench turns N` a play with N moments and N commands by turns. `bench contexts N` writes a play in which N tabs and 15 frames come, are shown 1,000 times and go. `bench log N` writes a play with N lines of the log that nobody hears, and then N that 64 connections hear. `bench pair N` writes a pair with N commands over 8 links. Counts go to standard output, times to standard error.
 #![tactic(auto)]
 
 mod measure;
 mod messages;
 mod plays;
-mod shape;
 mod texts;
 mod tree;
 
@@ -20,7 +19,7 @@ fn main(rt: HostRuntime) -> Result<()> {
     let mut words = env::args(&rt)?;
     let _program = words.next();
     let Some(name) = words.next() else {
-        bail!("usage: bench tree|shape|values|messages|events|turns|contexts|log|pair [ROUNDS]");
+        bail!("usage: bench tree|messages|events|turns|contexts|log|pair [ROUNDS]");
     };
     let rounds = match words.next() {
         Some(text) => text.parse::<u32>().context("ROUNDS is a number")?,
@@ -28,8 +27,6 @@ fn main(rt: HostRuntime) -> Result<()> {
     };
     match name.as_str() {
         "tree" => tree::run(&rt, rounds),
-        "shape" => shape::run(&rt, rounds),
-        "values" => shape::run_values(&rt, rounds),
         "messages" => messages::run(&rt, rounds),
         "events" => messages::lines(&rt, rounds),
         "turns" => plays::turns(&rt, rounds),

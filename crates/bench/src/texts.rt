@@ -12,14 +12,6 @@ pub const MIDDLE: &str =
 pub const EVENT: &str =
     "{\"method\":\"log.entryAdded\",\"params\":{\"args\":[{\"type\":\"string\",\"value\":\"hi\"}],\"level\":\"info\",\"method\":\"info\",\"source\":{\"context\":\"00000000-0002-8000-8000-000000000001\",\"realm\":\"00000000-0003-8000-8000-000000000001\"},\"text\":\"hi\",\"timestamp\":7,\"type\":\"console\"},\"type\":\"event\"}";
 
-/// The capabilities of a session, with four members that their rule does not name.
-pub const TEN_MEMBERS: &str =
-    "{\"acceptInsecureCerts\":false,\"browserName\":\"memory\",\"browserVersion\":\"1.0\",\"platformName\":\"any\",\"setWindowRect\":false,\"userAgent\":\"memory/1.0\",\"x:a\":1,\"x:b\":true,\"x:c\":\"text\",\"x:d\":[]}";
-
-/// An object with a handle, two texts and a list.
-pub const VALUE: &str =
-    "{\"handle\":\"h-1\",\"type\":\"object\",\"value\":[[\"name\",{\"type\":\"string\",\"value\":\"word\"}],[\"list\",{\"type\":\"array\",\"value\":[{\"type\":\"number\",\"value\":4},{\"type\":\"null\"}]}]]}";
-
 /// How many items stand in the list, and how many names in the map.
 const ITEMS: u32 = 150_000;
 
@@ -57,31 +49,5 @@ pub fn one_text(alloc: Global) -> Result<String, AllocError> {
         text.push_str("the quick brown fox jumps over the lazy dog, once and again..\\n")?;
     }
     text.push_str("\"")?;
-    Ok(text)
-}
-
-/// Thirty arrays within each other, which have 60 levels.
-pub fn deep_value(alloc: Global) -> Result<String, AllocError> {
-    let mut text = String::new(alloc);
-    for _ in 0..30 {
-        text.push_str("{\"type\":\"array\",\"value\":[")?;
-    }
-    for _ in 0..30 {
-        text.push_str("]}")?;
-    }
-    Ok(text)
-}
-
-/// An array of numbers, of about 1 MB.
-pub fn wide_value(alloc: Global) -> Result<String, AllocError> {
-    let mut text = String::from_str(alloc, "{\"type\":\"array\",\"value\":[")?;
-    for i in 0..27_000 {
-        let number = 100_000 + i;
-        if i > 0 {
-            text.push_str(",")?;
-        }
-        write!(text, "{{\"type\":\"number\",\"value\":{number}}}")?;
-    }
-    text.push_str("]}")?;
     Ok(text)
 }

@@ -7,7 +7,8 @@
 #![tactic(auto)]
 
 use bidi_console::{Device, LineFault, Run, Serving, command_line, write_all};
-use bidi_programs::{ServeFault, run, serve, serving_status};
+use bidi_programs::{run, serving_status};
+use bidi_serve::{ServeFault, serve};
 use std::net::{Ipv4Addr, SocketAddr, SocketAddrV4, TcpListener};
 use std::process::ExitCode;
 use std::{env, io};
@@ -27,7 +28,7 @@ fn status(rt: &HostRuntime) -> io::Result<u8> {
     let mut output = Device::new(io::writer(rt));
     let mut faults = Device::new(rt.stderr());
     match command_line(alloc, &words) {
-        Ok(Run::Serve(asked)) => Ok(serving_status(alloc, served(rt, asked), &mut faults)),
+        Ok(Run::Serve(asked)) => Ok(serving_status(served(rt, asked), &mut faults)),
         Ok(asked) => {
             let mut input = Device::new(rt.reader());
             Ok(run(alloc, &asked, &mut input, &mut output, &mut faults))

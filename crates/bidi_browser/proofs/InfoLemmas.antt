@@ -10,7 +10,7 @@ use Rattle.bidi_shape.specs.Fits.{OthersFit}
 use Rattle.bidi_shape.specs.Table.{TableWell}
 use Rattle.bidi_shape.specs.ValueLaws.{others_of}
 use Rattle.bidi_shape.specs.declared.ext.Ext.{Ext}
-use Rattle.bidi_values.proofs.PartLemmas.{some_well}
+use Rattle.bidi_shape.proofs.PartLemmas.{some_well}
 use Rattle.bidi_params.proofs.PartLemmas.{text_or_null}
 use Rattle.bidi_params.specs.InfoContent.{told, contents_of}
 use Rattle.bidi_params.specs.InfoLaws.{info_tree, infos_tree, info_map, BesideIsWell}

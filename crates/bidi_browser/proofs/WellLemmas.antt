@@ -43,7 +43,7 @@ use Rattle.bidi_values.specs.contracts.primitive.PrimitiveShape.TheImpl as primi
 use Rattle.bidi_values.specs.contracts.primitive.NumberShape.TheImpl as numbers
 use Rattle.bidi_values.specs.contracts.reg_exp.RegExpValueShape.TheImpl as reg_exps
 use Rattle.bidi_values.specs.contracts.remote_value.RemotePlainNestsRemoteListRemotePairs.TheImpl as remote
-use Rattle.bidi_values.proofs.PartLemmas.{some_well}
+use Rattle.bidi_shape.proofs.PartLemmas.{some_well}
 use Rattle.bidi_browser.specs.ValuesInHand.{remote_tree}
 
 -- ---- values of any kind

@@ -12,11 +12,11 @@ use Rattle.bidi_params.specs.declared.browsing_context.navigate.NavigateParamete
 use Rattle.bidi_params.specs.declared.browsing_context.navigate.ReloadParameters.{ReloadParameters}
 use Rattle.bidi_params.specs.declared.browsing_context.navigate.TraverseHistoryParameters.{TraverseHistoryParameters}
 use Rattle.bidi_params.specs.Words.{realm_type_text}
-use Rattle.bidi_params.specs.declared.script.evaluate.Ownership.{Ownership}
-use Rattle.bidi_params.specs.declared.script.evaluate.Ownership.TheVariants as ownership
-use Rattle.bidi_params.specs.declared.script.evaluate.EvaluateParameters.{EvaluateParameters}
-use Rattle.bidi_params.specs.declared.script.call_function.CallFunctionParameters.{CallFunctionParameters}
-use Rattle.bidi_params.specs.declared.script.call_function.DisownParameters.{DisownParameters}
+use Rattle.bidi_values.specs.declared.evaluate.Ownership.{Ownership}
+use Rattle.bidi_values.specs.declared.evaluate.Ownership.TheVariants as ownership
+use Rattle.bidi_values.specs.declared.evaluate.EvaluateParameters.{EvaluateParameters}
+use Rattle.bidi_values.specs.declared.call_function.CallFunctionParameters.{CallFunctionParameters}
+use Rattle.bidi_values.specs.declared.call_function.DisownParameters.{DisownParameters}
 use Rattle.bidi_params.specs.declared.script.realms.GetRealmsParameters.{GetRealmsParameters}
 use Rattle.bidi_values.specs.declared.target.Target as declared_target
 use Rattle.bidi_values.specs.declared.target.Target.TheVariants as target

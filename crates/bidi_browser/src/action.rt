@@ -1,10 +1,9 @@
 //! What the browser is asked.
 use bidi_params::{
-    ActivateParameters, CallFunctionParameters, CloseParameters, CreateParameters,
-    DisownParameters, EvaluateParameters, GetRealmsParameters, GetTreeParameters,
+    ActivateParameters, CloseParameters, CreateParameters, GetRealmsParameters, GetTreeParameters,
     NavigateParameters, ReloadParameters, TraverseHistoryParameters,
 };
-use bidi_values::{Level, TableRow};
+use bidi_values::{CallFunctionParameters, DisownParameters, EvaluateParameters, Level, TableRow};
 
 /// A command of the browser, by its parameters, or a step of a page.
 #[derive(Drop)]

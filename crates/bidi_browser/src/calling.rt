@@ -20,8 +20,7 @@ use crate::refusal::Refusal;
 use crate::resolving::{check_arguments, check_this};
 use crate::scripts::{Ran, ending_of, is_owned, run, targeted};
 use bidi_messages::{Method, ResultData};
-use bidi_params::CallFunctionParameters;
-use bidi_values::LocalValue;
+use bidi_values::{CallFunctionParameters, LocalValue};
 
 /// Calls a function in the realm of a target, as the table says.
 ///

@@ -29,9 +29,11 @@ use crate::script_table::ScriptRow;
 use crate::showing::{takes_handle, told};
 use crate::tabling::held;
 use bidi_messages::{ErrorCode, Method, ResultData};
-use bidi_params::{DisownParameters, EvaluateParameters, Ownership};
 use bidi_shape::Shape;
-use bidi_values::{EvaluateResult, LocalValue, Primitive, RemotePlain, RemoteValue, Target};
+use bidi_values::{
+    DisownParameters, EvaluateParameters, EvaluateResult, LocalValue, Ownership, Primitive,
+    RemotePlain, RemoteValue, Target,
+};
 use std::alloc::{AllocError, Global};
 use std::rc::Rc;
 

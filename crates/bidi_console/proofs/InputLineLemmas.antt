@@ -30,10 +30,10 @@ pub no_more : (old new more : List ℕ) → new ≡ old ++ more → length new �
 no_more old new [] e same = e ∙ append-nil old
 no_more old new more e same = let l = ap length e in absurd (omega (arith, l, length-append old more))
 
--- a fault of a read says that no whole line is held
+-- a fault of a read says that what is held may be the beginning of a line
 pub says_fault : (r : Result (Option (Vec ℕ)) InputFault) (fault : InputFault) (at_end : Bool) (held : List ℕ) → IsErr r × IsErrAnd r (λ x. x ≡ fault)
-    → fault ≢ BadLine → has_feed held ≡ false → Says r at_end held
-says_fault (Ok x) fault at_end held e good none = absurd (no_truth e.0)
-says_fault (Err Read) fault at_end held e good none = none
-says_fault (Err BadLine) fault at_end held e good none = absurd (good (sym e.1))
-says_fault (Err NoMemory) fault at_end held e good none = tt
+    → fault ≢ BadLine → has_feed held ≡ false → length held ≤ 2097152 → Says r at_end held
+says_fault (Ok x) fault at_end held e good none short = absurd (no_truth e.0)
+says_fault (Err Read) fault at_end held e good none short = record { one_line = none; short = short }
+says_fault (Err BadLine) fault at_end held e good none short = absurd (good (sym e.1))
+says_fault (Err NoMemory) fault at_end held e good none short = tt

@@ -81,7 +81,7 @@ input_stop listing side f shown count at_end read rest wrote lines is counted l 
 -- the same behind the last line that is taken, where nothing is left of what was read
 stops_last : (listing : Listing) (side : Side) (f : InputFault) (n : ℕ) (at_end : Bool) (read wrote : List ℕ) (lines : List (List ℕ)) → Listed listing side read lines [] wrote
     → (f ≡ BadLine → ⊥) → StopsAt listing side (show_fault_of f n) at_end read wrote
-stops_last listing side Read n at_end read wrote lines l good = (lines, [], l, refl)
+stops_last listing side Read n at_end read wrote lines l good = (lines, [], l, record { one_line = refl; short = omega arith })
 stops_last listing side BadLine n at_end read wrote lines l good = absurd (good refl)
 stops_last listing side fault.NoMemory n at_end read wrote lines l good = (lines, [], l)
 

@@ -2,8 +2,6 @@
 use Rattle.std.specs.Prelude.{◌≡◌, ◌≢◌, ℕ, ◌<◌, ◌≤◌, ◌⊎◌, Bool, true, false, List, [], length, take, Option, Some, None, Result, Ok, Err, ⊤}
 use Rattle.std.specs.Global.{Vec}
 use Rattle.bidi_console.specs.Feeds.{has_feed, ended}
-use Rattle.bidi_console.specs.declared.device.ReadToEndFault.{ReadToEndFault}
-use Rattle.bidi_console.specs.declared.device.ReadToEndFault.TheVariants as device
 use Rattle.bidi_console.specs.declared.line_reader.InputFault.{InputFault}
 use Rattle.bidi_console.specs.declared.line_reader.InputFault.TheVariants.{Read, BadLine, NoMemory}
 
@@ -28,8 +26,8 @@ abbrev pub Says : Result (Option (Vec ℕ)) InputFault → Bool → List ℕ →
 Says (Ok (Some line)) at_end held = IsLine line.items
 -- the input is at its end, and all of it was given
 Says (Ok None) at_end held = (at_end ≡ true) × (held ≡ [])
--- no whole line is left of what was read
-Says (Err Read) at_end held = has_feed held ≡ false
+-- what is left of what was read may be the beginning of a line
+Says (Err Read) at_end held = IsLine held
 Says (Err BadLine) at_end held = BeginsBadly at_end held
 Says (Err NoMemory) at_end held = ⊤
 
@@ -37,8 +35,3 @@ Says (Err NoMemory) at_end held = ⊤
 abbrev pub failed_reads : InputFault → ℕ
 failed_reads Read = 1
 failed_reads fault = 0
-
--- the fault that a failed reading is
-abbrev pub input_fault_of : ReadToEndFault → InputFault
-input_fault_of device.Device = Read
-input_fault_of device.NoMemory = NoMemory

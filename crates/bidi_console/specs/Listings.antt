@@ -1,7 +1,7 @@
 -- What `show` and `check` write for the lines of an input, and why they may stop before its end.
-use Rattle.std.specs.Prelude.{◌≡◌, ◌≢◌, ℕ, ◌+◌, ◌≤◌, Bool, false, List, [], ◌∷◌, ◌++◌, length, codes, decimal}
+use Rattle.std.specs.Prelude.{◌≡◌, ◌≢◌, ℕ, ◌+◌, ◌≤◌, Bool, List, [], ◌∷◌, ◌++◌, length, codes, decimal}
 use Rattle.std.specs.List.{AllByRecursion, flat_map}
-use Rattle.bidi_console.specs.Feeds.{has_feed, ended}
+use Rattle.bidi_console.specs.Feeds.{ended}
 use Rattle.bidi_console.specs.InputLines.{IsLine, BeginsBadly}
 use Rattle.bidi_console.specs.MessageLines.{Shown, Taken, Refused, Shows, text_of}
 use Rattle.bidi_console.specs.declared.message_lines.Side.{Side}
@@ -45,8 +45,8 @@ ListsAll listing side bytes wrote = (lines : List (List ℕ)) × Listed listing 
 
 -- What a fault says of the bytes that were read, the last of them or not, and of what was written.
 abbrev pub StopsAt : Listing → Side → ShowFault → Bool → List ℕ → List ℕ → Type 0
--- each whole line that was read was listed
-StopsAt listing side Read at_end read wrote = (lines : List (List ℕ)) × (rest : List ℕ) × Listed listing side read lines rest wrote × (has_feed rest ≡ false)
+-- each whole line that was read was listed, and what is left may be the beginning of a line
+StopsAt listing side Read at_end read wrote = (lines : List (List ℕ)) × (rest : List ℕ) × Listed listing side read lines rest wrote × IsLine rest
 -- line n is bad, and all lines before it were listed
 StopsAt listing side (BadLine n) at_end read wrote =
     (lines : List (List ℕ)) × (rest : List ℕ) × Listed listing side read lines rest wrote × BeginsBadly at_end rest × (n ≡ length lines + 1)

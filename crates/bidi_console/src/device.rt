@@ -1,7 +1,7 @@
 //! Sources and sinks of bytes, which count how often they failed.
-ghost use Rattle.std.specs.Prelude.{◌≡◌, ℕ, ◌+◌, ◌≤◌, Bool, false, length, List, Option, None, IfOk, IfSome, ◌++◌, OnOk, OnErr, IsErrOf, IsTrue, vec_len};
-ghost use Rattle.std.specs.Io.KnownBytes.{Appends, IsAtEnd, ReadConsumes, WriteAppends};
-ghost use Rattle.bidi_console.specs.Devices.{AppendsBeginning, CountsFailure, ReadsOn, TellsEnd, WritesSome, failures_of, has_told_end, inner_of};
+ghost use Rattle.std.specs.Prelude.{◌≡◌, ℕ, ◌+◌, ◌≤◌, Bool, false, length, List, Option, None, IfOk, OnOk, OnErr};
+ghost use Rattle.std.specs.Io.KnownBytes.{Appends, ReadConsumes, WriteAppends};
+ghost use Rattle.bidi_console.specs.Devices.{AppendsBeginning, CountsFailure, TellsEnd, WritesSome, failures_of, has_told_end, inner_of};
 
 use super::tally::Tally;
 use std::io::{Read, Write};
@@ -137,61 +137,4 @@ pub fn write_all<W: Sink>(sink: &mut W, bytes: &[u8]) -> Result<(), DeviceFault>
         rest = &rest[n..];
     }
     Ok(())
-}
-
-/// Why reading to the end stopped before it.
-#[derive(Clone, Copy, Debug, PartialEq, Eq, Error)]
-pub enum ReadToEndFault {
-    /// A read failed.
-    #[error("a device failed")]
-    Device,
-    /// There is no memory for more bytes.
-    #[error("out of memory")]
-    NoMemory,
-}
-
-// At most how many bytes one read asks for.
-const CHUNK: usize = 4096;
-
-// One read, whose bytes go to the end of `buffer`. Room is made first, so that no byte is lost.
-pub(crate) fn read_some<S: Source>(
-    source: &mut S,
-    buffer: &mut Vec<u8>,
-) -> Result<usize, ReadToEndFault>
-    ensures bytes { ReadsOn (S.left source.old) (S.left source.new) buffer.old.items buffer.new.items }
-    ensures count { IfOk result (λ n. vec_len buffer.new ≡ vec_len buffer.old + n) }
-    ensures end { IfOk result (λ n. n ≡ 0 → IsAtEnd (S.left source.new)) }
-    ensures told { TellsEnd result CHUNK (S.has_ended source.old) (S.has_ended source.new) }
-    ensures err { OnErr result (buffer.new.items ≡ buffer.old.items) }
-    ensures ok { OnOk result (S.failures source.new ≡ S.failures source.old) }
-    ensures device { IsErrOf result ReadToEndFault.Device → S.failures source.new ≡ S.failures source.old + 1 }
-    ensures no_memory { IsErrOf result ReadToEndFault.NoMemory → S.failures source.new ≡ S.failures source.old }
-{
-    let mut chunk = [0u8; CHUNK];
-    buffer.reserve(CHUNK).map_err(|_| ReadToEndFault::NoMemory)?;
-    let n = source.read(&mut chunk).map_err(|_| ReadToEndFault::Device)?;
-    buffer.extend_from_slice(&chunk[..n]).unwrap();
-    Ok(n)
-}
-
-/// Reads until the source tells its end, and appends the bytes to `buffer`, whatever the outcome.
-///
-/// # Errors
-///
-/// `Device` where a read failed; `NoMemory` where the buffer could not grow.
-pub fn read_to_end<S: Source>(source: &mut S, buffer: &mut Vec<u8>) -> Result<(), ReadToEndFault>
-    ensures bytes { ReadsOn (S.left source.old) (S.left source.new) buffer.old.items buffer.new.items }
-    ensures ended { OnOk result (IsTrue (S.has_ended source.new)) }
-    ensures end { OnOk result (IsAtEnd (S.left source.new)) }
-    ensures all { OnOk result (IfSome (S.left source.old) (λ bytes. buffer.new.items ≡ buffer.old.items ++ bytes)) }
-    ensures still { OnErr result (S.has_ended source.new ≡ S.has_ended source.old) }
-    ensures ok { OnOk result (S.failures source.new ≡ S.failures source.old) }
-    ensures device { IsErrOf result ReadToEndFault.Device → S.failures source.new ≡ S.failures source.old + 1 }
-    ensures no_memory { IsErrOf result ReadToEndFault.NoMemory → S.failures source.new ≡ S.failures source.old }
-{
-    'reads: loop {
-        if read_some(source, buffer)? == 0 {
-            return Ok(());
-        }
-    }
 }

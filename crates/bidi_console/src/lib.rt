@@ -14,8 +14,8 @@ mod showing;
 mod tally;
 
 pub use arguments::{LineFault, Run, Serving, command_line};
-pub use device::{Device, DeviceFault, ReadToEndFault, Sink, Source, read_to_end, write_all};
-pub use feeds::{LONGEST_LINE, next_line};
+pub use device::{Device, DeviceFault, Sink, Source, write_all};
+pub use feeds::LONGEST_LINE;
 pub use line_reader::{InputFault, LineReader};
 pub use message_lines::{Shown, Side, show_line};
 pub use showing::{Listing, ShowFault, list};

@@ -1,12 +1,12 @@
 //! Reads an input by lines, and holds little more of it than one line.
 ghost use Rattle.std.specs.Prelude.{◌≡◌, ◌≢◌, ℕ, ◌+◌, ◌≤◌, List, [], ◌∷◌, ◌++◌, false, true, length, take, drop, vec_len, IfOk, IfSome, IfNone, IfErr, IsTrue, MatchResult};
 ghost use Rattle.std.specs.Io.KnownBytes.{IsAtEnd};
-ghost use Rattle.bidi_console.specs.Devices.{ReadsOn};
+ghost use Rattle.bidi_console.specs.Devices.{ReadsOn, TellsEnd};
 ghost use Rattle.bidi_console.specs.Feeds.{has_feed};
 ghost use Rattle.bidi_console.specs.declared.line_reader.InputFault.TheVariants.{BadLine};
-ghost use Rattle.bidi_console.specs.InputLines.{Says, failed_reads, given, input_fault_of};
+ghost use Rattle.bidi_console.specs.InputLines.{Says, failed_reads, given};
 
-use super::device::{ReadToEndFault, Source, read_some};
+use super::device::Source;
 use super::feeds::{LONGEST_LINE, feed_at};
 use std::alloc::Global;
 use std::marker::Model;
@@ -21,20 +21,9 @@ pub enum InputFault {
     /// The line is too long, or the input ends without its line feed.
     #[error("bad line")]
     BadLine,
-    /// A growth was refused.
+    /// An allocation failed.
     #[error("out of memory")]
     NoMemory,
-}
-
-impl From<ReadToEndFault> for InputFault {
-    ghost from_gives = { λ error fault. fault ≡ input_fault_of error };
-
-    fn from(error: ReadToEndFault) -> InputFault {
-        match error {
-            ReadToEndFault::Device => InputFault::Read,
-            ReadToEndFault::NoMemory => InputFault::NoMemory,
-        }
-    }
 }
 
 /// A reader of lines, which contracts see as the bytes that it has read and not given.
@@ -70,7 +59,7 @@ impl LineReader {
     /// The first of these in the order of the input:
     /// 1. `Read`, where the source failed. The next call goes on with what was read.
     /// 2. `BadLine`, as soon as 2,097,153 bytes have no line feed, or where the input ends with some that have none.
-    /// 3. `NoMemory`, where a growth was refused. No byte is lost.
+    /// 3. `NoMemory`, where an allocation failed. No byte is lost.
     pub fn next<S: Source>(
         &mut self,
         alloc: Global,
@@ -112,7 +101,7 @@ impl LineReader {
     /// Whether the input goes on.
     ///
     /// # Errors
-    /// `Read`, where the source failed; `NoMemory`, where a growth was refused.
+    /// `Read`, where the source failed; `NoMemory`, where an allocation failed.
     pub fn goes_on<S: Source>(&mut self, source: &mut S) -> Result<bool, InputFault>
         ensures bytes { ReadsOn (S.left source.old) (S.left source.new) self.old self.new }
         ensures more { IfOk result (λ more. IsTrue more → self.new ≢ []) }
@@ -151,8 +140,27 @@ impl LineReader {
     {
         drop_front(&mut self.buffer, self.start);
         self.start = 0;
-        Ok(read_some(source, &mut self.buffer)?)
+        read_some(source, &mut self.buffer)
     }
+}
+
+// At most how many bytes one read asks for.
+const CHUNK: usize = 4096;
+
+// One read, whose bytes go to the end of the buffer. Room is made first, so that no byte is lost.
+fn read_some<S: Source>(source: &mut S, buffer: &mut Vec<u8>) -> Result<usize, InputFault>
+    ensures bytes { ReadsOn (S.left source.old) (S.left source.new) buffer.old.items buffer.new.items }
+    ensures count { IfOk result (λ n. vec_len buffer.new ≡ vec_len buffer.old + n) }
+    ensures end { IfOk result (λ n. n ≡ 0 → IsAtEnd (S.left source.new)) }
+    ensures told { TellsEnd result CHUNK (S.has_ended source.old) (S.has_ended source.new) }
+    ensures err { IfErr result (λ fault. (fault ≢ BadLine) × (buffer.new.items ≡ buffer.old.items)) }
+    ensures failures { MatchResult result (λ _. S.failures source.new ≡ S.failures source.old) (λ fault. S.failures source.new ≡ S.failures source.old + failed_reads fault) }
+{
+    let mut chunk = [0u8; CHUNK];
+    buffer.reserve(CHUNK).map_err(|_| InputFault::NoMemory)?;
+    let n = source.read(&mut chunk).map_err(|_| InputFault::Read)?;
+    buffer.extend_from_slice(&chunk[..n]).unwrap();
+    Ok(n)
 }
 
 // Takes so many bytes from the front.

@@ -1,5 +1,4 @@
 pub mod LedgerFacts
-pub mod AnswerLemmas
 pub mod LinkLemmas
 pub mod LinkFateLemmas
 pub mod LinkReplyLemmas

@@ -9,7 +9,7 @@ use Rattle.bidi_remote.proofs.RouteLemmas.{texts_on-append}
 use Rattle.bidi_link.specs.Pairing.{Sending, Deed, Handed, Linked, Sent as SentOn, Unsent, TakenUp, TakenDown, Cut, history, links, is_link, commands, unsent, downs, texts}
 use Rattle.bidi_link.specs.Link.{Link, link}
 use Rattle.bidi_link.specs.Rows.{with_texts, with_up, with_cut}
-use Rattle.bidi_link.proofs.AnswerLemmas.{answers_more}
+use Rattle.bidi_remote.proofs.AnswerLemmas.{answers_more}
 
 -- ---- numbers
 

@@ -36,8 +36,6 @@ mod local_end;
 mod pending;
 mod received;
 mod receiving;
-#[cfg(test)]
-mod tests;
 mod writing;
 
 pub use local_end::{LocalEnd, LocalFault};

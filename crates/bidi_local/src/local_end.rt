@@ -174,6 +174,3 @@ impl LocalEnd {
         Ok(lost)
     }
 }
-
-#[cfg(test)]
-mod tests;

@@ -11,9 +11,9 @@ use Rattle.bidi_params.specs.declared.browsing_context.get_tree.GetTreeParameter
 use Rattle.bidi_params.specs.declared.browsing_context.navigate.NavigateParameters.{NavigateParameters}
 use Rattle.bidi_params.specs.declared.browsing_context.navigate.ReloadParameters.{ReloadParameters}
 use Rattle.bidi_params.specs.declared.browsing_context.navigate.TraverseHistoryParameters.{TraverseHistoryParameters}
-use Rattle.bidi_params.specs.declared.script.evaluate.EvaluateParameters.{EvaluateParameters}
-use Rattle.bidi_params.specs.declared.script.call_function.CallFunctionParameters.{CallFunctionParameters}
-use Rattle.bidi_params.specs.declared.script.call_function.DisownParameters.{DisownParameters}
+use Rattle.bidi_values.specs.declared.evaluate.EvaluateParameters.{EvaluateParameters}
+use Rattle.bidi_values.specs.declared.call_function.CallFunctionParameters.{CallFunctionParameters}
+use Rattle.bidi_values.specs.declared.call_function.DisownParameters.{DisownParameters}
 use Rattle.bidi_params.specs.declared.script.realms.GetRealmsParameters.{GetRealmsParameters}
 use Rattle.bidi_shape.specs.Value.{ShapeOf}
 use Rattle.bidi_shape.specs.Name as name

@@ -9,13 +9,13 @@ ghost use Rattle.bidi_messages.specs.Method.{params_of as params_rule};
 use crate::method::Method;
 use crate::subject::{Subject, read_about, write_about};
 use bidi_params::{
-    ActivateParameters, CallFunctionParameters, CloseParameters, CreateParameters,
-    DisownParameters, EmptyParams, EvaluateParameters, GetRealmsParameters, GetTreeParameters,
-    NavigateParameters, NewParameters, ReloadParameters, SubscribeParameters,
+    ActivateParameters, CloseParameters, CreateParameters, EmptyParams, GetRealmsParameters,
+    GetTreeParameters, NavigateParameters, NewParameters, ReloadParameters, SubscribeParameters,
     TraverseHistoryParameters, UnsubscribeParameters,
 };
 use bidi_shape::{Ext, Ruled, Shape, ShapeFault};
 use bidi_tree::{JsUint, Tree};
+use bidi_values::{CallFunctionParameters, DisownParameters, EvaluateParameters};
 use std::alloc::{AllocError, Global};
 
 /// A command of the local end.

@@ -14,7 +14,7 @@ use Rattle.bidi_shape.specs.Fits.{Fits, AllFit, RowsFit, OthersFit, without}
 use Rattle.bidi_shape.specs.Parts.{joined, PartFits}
 use Rattle.bidi_shape.specs.MapLaws.{map_inside}
 use Rattle.bidi_shape.proofs.FitsLemmas.{null_kind, list_inside, either_inside}
-use Rattle.bidi_values.specs.BesideLaws.{RowsFit-first, RowsFit-more}
+use Rattle.bidi_shape.specs.InnerLaws.{RowsFit-first, RowsFit-more}
 use Rattle.bidi_params.specs.InfoContent.{told, contents_of}
 use Rattle.bidi_params.specs.InfoLaws.{InfoOf, names, rows_with, info_map, children_node, info_tree, infos_tree, PartsAreWell, ChildrenAreWell, InfosAreWell, BesideIsWell, IsWell, info_inside, children_levels}
 use Rattle.bidi_params.specs.InfoView.{Beside, content, content-told, children_content, beside_of, tree_of_info, tree_of_children, InfoIsWell}

@@ -14,8 +14,7 @@ use Rattle.bidi_shape.specs.MapLaws.{map_fits, map_one, Aligned, Aligned-PartsFi
 use Rattle.bidi_shape.specs.WholeLaws.{no_odd-put, no_odd-joined, others_whole}
 use Rattle.bidi_shape.specs.Table.{Table, TableWell, same_head, same_tail, same_some}
 use Rattle.bidi_shape.proofs.FitsLemmas.{rule_inside, capped_inside}
-use Rattle.bidi_values.specs.BesideLaws.{member_levels}
-use Rattle.bidi_values.specs.NestedLaws.{same_items, first_item, other_items}
+use Rattle.bidi_shape.specs.InnerLaws.{member_levels, same_items, first_item, other_items}
 use Rattle.bidi_params.specs.InfoContent.{Content, told, Children, left_out, listed, Contents, no_more, next}
 
 -- the names of the members beside `children`

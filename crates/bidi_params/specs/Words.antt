@@ -1,5 +1,5 @@
 -- The types whose values are a few texts: each value's text, and the table of them.
--- After WebDriver BiDi, "The browsingContext.create Command", "The browsingContext.ReadinessState Type", "The script.ResultOwnership Type" and "The script.RealmType Type".
+-- After WebDriver BiDi, "The browsingContext.create Command", "The browsingContext.ReadinessState Type" and "The script.RealmType Type".
 use Rattle.std.specs.Prelude.{◌≡◌, ℕ, List, [], ◌∷◌, Some, codes, refl}
 use Rattle.bidi_shape.specs.Name as name
 use Rattle.bidi_shape.specs.Term.{Term, rule, ◌or◌, the}
@@ -8,8 +8,6 @@ use Rattle.bidi_params.specs.declared.browsing_context.create.ContextType.{Conte
 use Rattle.bidi_params.specs.declared.browsing_context.create.ContextType.TheVariants.{Tab, Window}
 use Rattle.bidi_params.specs.declared.browsing_context.navigate.Wait.{Wait}
 use Rattle.bidi_params.specs.declared.browsing_context.navigate.Wait.TheVariants.{None as Never, Interactive, Complete}
-use Rattle.bidi_params.specs.declared.script.evaluate.Ownership.{Ownership}
-use Rattle.bidi_params.specs.declared.script.evaluate.Ownership.TheVariants.{Root, None as Unowned}
 use Rattle.bidi_params.specs.declared.script.realms.RealmType.{RealmType}
 use Rattle.bidi_params.specs.declared.script.realms.RealmType.TheVariants.{Window as WindowRealm, DedicatedWorker, SharedWorker, ServiceWorker, Worker, PaintWorklet, AudioWorklet, Worklet}
 
@@ -63,29 +61,6 @@ wait_words = record {
   is_rule = refl;
   has_texts = (refl, (refl, refl));
   names_it = wait_named;
-}
-
--- ---- ownership
-
--- the text of an ownership
-abbrev pub ownership_text : Ownership → List ℕ
-ownership_text Root = codes "root"
-ownership_text Unowned = codes "none"
-
--- each value's text names it
-pub ownership_named : (v : Ownership) → value_named (word ownership_text Root) (word ownership_text Unowned ∷ []) (ownership_text v) ≡ Some v
-ownership_named Root = refl
-ownership_named Unowned = refl
-
-abbrev pub ownership_words : Words Ownership
-ownership_words = record {
-  rule = rule name.ownership;
-  first = word ownership_text Root;
-  rest = word ownership_text Unowned ∷ [];
-  text_of = ownership_text;
-  is_rule = refl;
-  has_texts = (refl, refl);
-  names_it = ownership_named;
 }
 
 -- ---- types of realms

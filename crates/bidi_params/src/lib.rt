@@ -1,6 +1,7 @@
 //! The parameters and results of the commands, and the parameters of the events.
 //!
-//! A folder for each module of the protocol. Each type is a [`Shape`](bidi_shape::Shape): its values are the trees that fit
+//! A folder for each module of the protocol. The commands whose parameters bear values of a script stand with those, in
+//! `bidi_values`. Each type is a [`Shape`](bidi_shape::Shape): its values are the trees that fit
 //! its rule. A type that takes further members has a constructor, which refuses the parts that are no value of it.
 #![tactic(auto)]
 
@@ -16,8 +17,7 @@ pub use browsing_context::{
     ReloadParameters, TraverseHistoryParameters, Wait,
 };
 pub use script::{
-    CallFunctionParameters, DisownParameters, EvaluateParameters, GetRealmsParameters,
-    GetRealmsResult, Ownership, RealmDestroyedParameters, RealmInfo, RealmType,
+    GetRealmsParameters, GetRealmsResult, RealmDestroyedParameters, RealmInfo, RealmType,
 };
 pub use session::{
     Capabilities, CapabilitiesRequest, CapabilityRequest, NewParameters, NewResult, StatusResult,

@@ -1,10 +1,6 @@
-//! The script module.
-mod call_function;
-mod evaluate;
+//! The script module, but for what bears values of a script, which `bidi_values` has.
 mod realms;
 
-pub use call_function::{CallFunctionParameters, DisownParameters};
-pub use evaluate::{EvaluateParameters, Ownership};
 pub use realms::{
     GetRealmsParameters, GetRealmsResult, RealmDestroyedParameters, RealmInfo, RealmType,
 };

@@ -1,10 +1,1 @@
-pub mod DigitLemmas
-pub mod WordLemmas
-pub mod LevelLemmas
-pub mod LedgerLemmas
-pub mod PairLemmas
-pub mod PlayLemmas
-pub mod ReadingLemmas
-pub mod OneTextLemmas
-pub mod SentLineLemmas
-pub mod ServingLemmas
+pub mod TellingLemmas

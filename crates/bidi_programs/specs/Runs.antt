@@ -1,31 +1,89 @@
--- What a run writes for the bytes that it reads, and the status that it ends with.
-use Rattle.std.specs.Prelude.{◌≡◌, ℕ, Bool, List, [], length, nat_lt, if◌then◌else◌}
-use Rattle.bidi_programs.specs.Plays as plays
-use Rattle.bidi_programs.specs.Plays.{PlaysAll}
-use Rattle.bidi_console.specs.Listings as listings
+-- What a run writes for the bytes that it reads, the status that it ends with, and what it tells of a fault.
+use Rattle.std.specs.Prelude.{◌≡◌, ℕ, ◌+◌, ◌⊎◌, List, [], ◌++◌, Option, Some, None, Bool, codes, decimal, length, nat_lt, if◌then◌else◌}
+use Rattle.std.specs.Io.KnownBytes.{Appends}
+use Rattle.bidi_console.specs.Devices.{AppendsBeginning}
+use Rattle.bidi_console.specs.Listings as lists
 use Rattle.bidi_console.specs.Listings.{ListsAll}
-use Rattle.bidi_programs.specs.Pairs as pairs
-use Rattle.bidi_programs.specs.Pairs.{PairsAll}
 use Rattle.bidi_console.specs.declared.arguments.Run.{Run}
-use Rattle.bidi_console.specs.declared.arguments.Run.TheVariants.{Play, Pair, Show, Check, Serve}
-use Rattle.bidi_programs.specs.declared.pairing.PairFault.{PairFault}
-use Rattle.bidi_programs.specs.declared.playing.PlayFault.{PlayFault}
+use Rattle.bidi_console.specs.declared.arguments.Run.TheVariants as asked
 use Rattle.bidi_console.specs.declared.showing.Listing.TheVariants.{All, RefusedAlone}
-use Rattle.bidi_console.specs.declared.showing.ShowFault.{ShowFault}
+use Rattle.bidi_console.specs.declared.showing.ShowFault.TheVariants as list
+use Rattle.bidi_play.specs.Plays as plays
+use Rattle.bidi_play.specs.Plays.{PlaysAll}
+use Rattle.bidi_play.specs.declared.playing.PlayFault.TheVariants as play
+use Rattle.bidi_pair.specs.Pairs as pairs
+use Rattle.bidi_pair.specs.Pairs.{PairsAll}
+use Rattle.bidi_pair.specs.declared.pairing.PairFault.TheVariants as pair
+use Rattle.bidi_serve.specs.declared.listening.ServeFault.TheVariants as serve
+use Rattle.bidi_programs.specs.declared.faults.RunFault.{RunFault}
+use Rattle.bidi_programs.specs.declared.faults.RunFault.TheVariants.{Play, Pair, Listing, Serve}
 
 -- A run that met no fault has worked on all bytes. Its status is 0, but 1 where a check found a line to refuse.
 abbrev pub Completes : Run → ℕ → List ℕ → List ℕ → Type 0
-Completes Play status read wrote = (status ≡ 0) × PlaysAll read wrote
-Completes Pair status read wrote = (status ≡ 0) × PairsAll read wrote
-Completes (Show side) status read wrote = (status ≡ 0) × ListsAll All side read wrote
-Completes (Check side) status read wrote = (status ≡ (if nat_lt 0 (length wrote) then 1 else 0)) × ListsAll RefusedAlone side read wrote
+Completes asked.Play status read wrote = (status ≡ 0) × PlaysAll read wrote
+Completes asked.Pair status read wrote = (status ≡ 0) × PairsAll read wrote
+Completes (asked.Show side) status read wrote = (status ≡ 0) × ListsAll All side read wrote
+Completes (asked.Check side) status read wrote = (status ≡ (if nat_lt 0 (length wrote) then 1 else 0)) × ListsAll RefusedAlone side read wrote
 -- nothing is served over streams alone
-Completes (Serve serving) status read wrote = ⊥
+Completes (asked.Serve serving) status read wrote = ⊥
 
--- A run that met a fault has its status, and the fault says what was read and written before it.
-abbrev pub Stops : Run → ℕ → Bool → List ℕ → List ℕ → Type 0
-Stops Play status at_end read wrote = (fault : PlayFault) × (status ≡ plays.status_of fault) × plays.StopsAt fault at_end read wrote
-Stops Pair status at_end read wrote = (fault : PairFault) × (status ≡ pairs.status_of fault) × pairs.StopsAt fault at_end read wrote
-Stops (Show side) status at_end read wrote = (fault : ShowFault) × (status ≡ listings.status_of fault) × listings.StopsAt All side fault at_end read wrote
-Stops (Check side) status at_end read wrote = (fault : ShowFault) × (status ≡ listings.status_of fault) × listings.StopsAt RefusedAlone side fault at_end read wrote
-Stops (Serve serving) status at_end read wrote = (status ≡ 3) × (read ≡ []) × (wrote ≡ [])
+-- A run that met a fault met one of its own, which says what was read and written before it.
+abbrev pub Stops : Run → RunFault → Bool → List ℕ → List ℕ → Type 0
+Stops asked.Play (Play fault) at_end read wrote = plays.StopsAt fault at_end read wrote
+Stops asked.Pair (Pair fault) at_end read wrote = pairs.StopsAt fault at_end read wrote
+Stops (asked.Show side) (Listing fault) at_end read wrote = lists.StopsAt All side fault at_end read wrote
+Stops (asked.Check side) (Listing fault) at_end read wrote = lists.StopsAt RefusedAlone side fault at_end read wrote
+Stops (asked.Serve serving) (Serve serve.Listen) at_end read wrote = (read ≡ []) × (wrote ≡ [])
+Stops run fault at_end read wrote = ⊥
+
+-- how many reads fail for the fault
+abbrev pub failed_reads : RunFault → ℕ
+failed_reads (Play fault) = plays.failed_reads fault
+failed_reads (Pair fault) = pairs.failed_reads fault
+failed_reads (Listing fault) = lists.failed_reads fault
+failed_reads (Serve fault) = 0
+
+-- how many writes fail for it
+abbrev pub failed_writes : RunFault → ℕ
+failed_writes (Play fault) = plays.failed_writes fault
+failed_writes (Pair fault) = pairs.failed_writes fault
+failed_writes (Listing fault) = lists.failed_writes fault
+failed_writes (Serve fault) = 0
+
+-- the status of a program that it ends: 2 at a bad line, else 3
+abbrev pub status_of : RunFault → ℕ
+status_of (Play fault) = plays.status_of fault
+status_of (Pair fault) = pairs.status_of fault
+status_of (Listing fault) = lists.status_of fault
+status_of (Serve fault) = 3
+
+-- the line that tells it, with its line feed
+abbrev pub line_of : RunFault → List ℕ
+line_of (Play play.Read) = codes "bidi: input cannot be read\n"
+line_of (Play play.Write) = codes "bidi: output cannot be written\n"
+line_of (Play (play.BadLine n)) = codes "bidi: line " ++ decimal n ++ codes " is no play line\n"
+line_of (Play play.NoMemory) = codes "bidi: out of memory\n"
+line_of (Play play.WornOut) = codes "bidi: too many steps\n"
+line_of (Pair pair.Read) = codes "bidi: input cannot be read\n"
+line_of (Pair pair.Write) = codes "bidi: output cannot be written\n"
+line_of (Pair (pair.BadLine n)) = codes "bidi: line " ++ decimal n ++ codes " is no pair line\n"
+line_of (Pair pair.NoMemory) = codes "bidi: out of memory\n"
+line_of (Pair pair.TooManyLines) = codes "bidi: too many steps\n"
+line_of (Pair pair.WornOut) = codes "bidi: too many steps\n"
+line_of (Listing list.Read) = codes "bidi: input cannot be read\n"
+line_of (Listing list.Write) = codes "bidi: output cannot be written\n"
+line_of (Listing (list.BadLine n)) = codes "bidi: line " ++ decimal n ++ codes " is no text line\n"
+line_of (Listing list.NoMemory) = codes "bidi: out of memory\n"
+line_of (Listing list.TooManyLines) = codes "bidi: too many steps\n"
+line_of (Serve serve.Listen) = codes "bidi: cannot listen\n"
+line_of (Serve serve.NoMemory) = codes "bidi: out of memory\n"
+line_of (Serve serve.WornOut) = codes "bidi: too many steps\n"
+
+-- a sink was told a line: the whole, or a beginning of it where the sink failed
+abbrev pub Tells : Option (List ℕ) → Option (List ℕ) → ℕ → ℕ → List ℕ → Type 0
+Tells held held' failed failed' line = ((failed' ≡ failed) × Appends held held' line) ⊎ ((failed' ≡ failed + 1) × AppendsBeginning held held' line)
+
+-- a line in two parts: where it tells of a line with a number, what stands behind that
+abbrev pub with_number : Option ℕ → List ℕ → List ℕ
+with_number None words = words
+with_number (Some n) words = codes "bidi: line " ++ decimal n ++ words

@@ -1,18 +1,17 @@
 //! Runs: what a command line asks for, over the devices of a program.
-ghost use Rattle.std.specs.Prelude.{◌≡◌, ℕ, ◌<◌, ◌≤◌, List, IsTrue, is_ok, if◌then◌else◌};
+ghost use Rattle.std.specs.Prelude.{◌≡◌, ℕ, ◌+◌, ◌<◌, ◌≤◌, List, IsTrue, IfOk, IfErr, MatchResult};
 ghost use Rattle.bidi_console.specs.Devices.{Moves};
-ghost use Rattle.bidi_programs.specs.Plays.{Plays};
-ghost use Rattle.bidi_programs.specs.Plays as plays;
-ghost use Rattle.bidi_console.specs.Listings as listings;
-ghost use Rattle.bidi_programs.specs.Pairs as pairs;
-ghost use Rattle.bidi_programs.specs.Runs.{Completes, Stops};
+ghost use Rattle.bidi_play.specs.Plays.{Plays};
+ghost use Rattle.bidi_programs.specs.declared.faults.RunFault.{RunFault as Fault};
+ghost use Rattle.bidi_programs.specs.declared.faults.RunFault.TheVariants as fault;
+ghost use Rattle.bidi_programs.specs.Runs.{Completes, Stops, Tells, failed_reads, failed_writes, line_of, status_of};
 
-use super::listening::ServeFault;
-use super::pairing::{PairFault, play_pair};
-use super::playing::{PlayFault, play};
-use bidi_console::{Listing, Run, ShowFault, Sink, Source, list, write_all};
+use super::faults::RunFault;
+use bidi_console::{Listing, Run, Sink, Source, list};
+use bidi_pair::play_pair;
+use bidi_play::play;
+use bidi_serve::ServeFault;
 use std::alloc::Global;
-use std::fmt::Display;
 
 /// Runs what was asked for, and returns the status of the program.
 ///
@@ -21,7 +20,7 @@ use std::fmt::Display;
 /// whether that can be written changes nothing.
 ///
 /// `serve` wants a listener, which streams alone do not give: it is told that this cannot listen, with status 3, and nothing
-/// is read or written. [`crate::serve`] serves.
+/// is read or written. The crate `bidi_serve` serves.
 pub fn run<R: Source, W: Sink, F: Sink>(
     alloc: Global,
     run: &Run,
@@ -29,96 +28,74 @@ pub fn run<R: Source, W: Sink, F: Sink>(
     sink: &mut W,
     faults: &mut F,
 ) -> u8
-    ensures done { result ≤ 1 → IsTrue (R.has_ended source.new)
+    // Where all was done no device has failed, and nothing is told.
+    ensures done { result ≤ 1 → IsTrue (R.has_ended source.new) × (R.failures source.new ≡ R.failures source.old) × (W.failures sink.new ≡ W.failures sink.old)
+        × (faults.new ≡ faults.old)
         × Moves (R.left source.old) (R.left source.new) (W.contents sink.old) (W.contents sink.new) (Completes run.now result) }
-    ensures stopped { 1 < result → Moves (R.left source.old) (R.left source.new) (W.contents sink.old) (W.contents sink.new)
-        (Stops run.now result (R.has_ended source.new)) }
+    // Else a fault ended the run. It says what was read and written and which device failed, and it is told.
+    ensures stopped { 1 < result → (fault : Fault) × (result ≡ status_of fault)
+        × (R.failures source.new ≡ R.failures source.old + failed_reads fault) × (W.failures sink.new ≡ W.failures sink.old + failed_writes fault)
+        × Tells (F.contents faults.old) (F.contents faults.new) (F.failures faults.old) (F.failures faults.new) (line_of fault)
+        × Moves (R.left source.old) (R.left source.new) (W.contents sink.old) (W.contents sink.new) (Stops run.now fault (R.has_ended source.new)) }
     // The text of a play is one: its bytes determine it.
     ensures one_text { (bytes text other : List ℕ) → Plays bytes text → Plays bytes other → text ≡ other }
 {
-    match run {
-        Run::Play => match play(alloc, source, sink) {
-            Ok(()) => 0,
-            Err(fault) => {
-                tell(alloc, &fault, faults);
-                play_status(fault)
-            }
-        },
-        Run::Pair => match play_pair(alloc, source, sink) {
-            Ok(()) => 0,
-            Err(fault) => {
-                tell(alloc, &fault, faults);
-                pair_status(fault)
-            }
-        },
-        Run::Show(side) => match list(alloc, Listing::All, *side, source, sink) {
-            Ok(_) => 0,
-            Err(fault) => {
-                tell(alloc, &fault, faults);
-                show_status(fault)
-            }
-        },
-        Run::Check(side) => match list(alloc, Listing::RefusedAlone, *side, source, sink) {
-            Ok(found) => { if found { 1 } else { 0 } }
-            Err(fault) => {
-                tell(alloc, &fault, faults);
-                show_status(fault)
-            }
-        },
-        Run::Serve(_) => {
-            tell(alloc, &ServeFault::Listen, faults);
-            3
+    match finish(alloc, run, source, sink) {
+        Ok(status) => status,
+        Err(fault) => {
+            fault.tell(faults);
+            fault.status()
         }
     }
 }
 
-// The status of a play that ended with a fault.
-fn play_status(fault: PlayFault) -> u8
-    ensures { result ≡ plays.status_of fault }
+// Runs what was asked for. Without a fault it gives the status of the program.
+fn finish<R: Source, W: Sink>(
+    alloc: Global,
+    run: &Run,
+    source: &mut R,
+    sink: &mut W,
+) -> Result<u8, RunFault>
+    ensures ok { IfOk result (λ status. (status ≤ 1) × IsTrue (R.has_ended source.new)
+        × Moves (R.left source.old) (R.left source.new) (W.contents sink.old) (W.contents sink.new) (Completes run.now status)) }
+    ensures err { IfErr result (λ fault. Moves (R.left source.old) (R.left source.new) (W.contents sink.old) (W.contents sink.new)
+        (Stops run.now fault (R.has_ended source.new))) }
+    ensures reads { MatchResult result (λ _. R.failures source.new ≡ R.failures source.old) (λ fault. R.failures source.new ≡ R.failures source.old + failed_reads fault) }
+    ensures writes { MatchResult result (λ _. W.failures sink.new ≡ W.failures sink.old) (λ fault. W.failures sink.new ≡ W.failures sink.old + failed_writes fault) }
 {
-    match fault {
-        PlayFault::BadLine(_) => 2,
-        _ => 3,
+    match run {
+        Run::Play => match play(alloc, source, sink) {
+            Ok(()) => Ok(0),
+            Err(fault) => Err(RunFault::Play(fault)),
+        },
+        Run::Pair => match play_pair(alloc, source, sink) {
+            Ok(()) => Ok(0),
+            Err(fault) => Err(RunFault::Pair(fault)),
+        },
+        Run::Show(side) => match list(alloc, Listing::All, *side, source, sink) {
+            Ok(_) => Ok(0),
+            Err(fault) => Err(RunFault::Listing(fault)),
+        },
+        Run::Check(side) => match list(alloc, Listing::RefusedAlone, *side, source, sink) {
+            Ok(found) => Ok(if found { 1 } else { 0 }),
+            Err(fault) => Err(RunFault::Listing(fault)),
+        },
+        Run::Serve(_) => Err(RunFault::Serve(ServeFault::Listen)),
     }
 }
 
-// The status of a run of both ends that ended with a fault.
-fn pair_status(fault: PairFault) -> u8
-    ensures { result ≡ pairs.status_of fault }
-{
-    match fault {
-        PairFault::BadLine(_) => 2,
-        _ => 3,
-    }
-}
-
-// The status of a listing that ended with a fault.
-fn show_status(fault: ShowFault) -> u8
-    ensures { result ≡ listings.status_of fault }
-{
-    match fault {
-        ShowFault::BadLine(_) => 2,
-        _ => 3,
-    }
-}
-
-/// The status of a program that served: 0 where all connections were served, else 3. A fault is told to `faults` in one line;
-/// whether that can be written changes nothing.
-pub fn serving_status<F: Sink>(alloc: Global, served: Result<(), ServeFault>, faults: &mut F) -> u8
-    ensures { result ≡ (if is_ok served then 0 else 3) }
+/// The status of a program that served: 0 where all connections were served, else that of the fault, which is told to `faults`
+/// in one line; whether that can be written changes nothing.
+pub fn serving_status<F: Sink>(served: Result<(), ServeFault>, faults: &mut F) -> u8
+    ensures { MatchResult served (λ _. (result ≡ 0) × (faults.new ≡ faults.old)) (λ f. (result ≡ status_of (fault.Serve f))
+        × Tells (F.contents faults.old) (F.contents faults.new) (F.failures faults.old) (F.failures faults.new) (line_of (fault.Serve f))) }
 {
     match served {
         Ok(()) => 0,
         Err(fault) => {
-            tell(alloc, &fault, faults);
-            3
+            let fault = RunFault::Serve(fault);
+            fault.tell(faults);
+            fault.status()
         }
-    }
-}
-
-// Tells a fault in one line, as far as that can be written.
-fn tell<E: Display, F: Sink>(alloc: Global, fault: &E, faults: &mut F) {
-    if let Ok(line) = format!(in alloc; "bidi: {fault}\n") {
-        let _ = write_all(faults, line.as_bytes());
     }
 }

@@ -27,3 +27,4 @@ pub mod BrowserAskLemmas
 pub mod AskLemmas
 pub mod RouteLemmas
 pub mod ReplyLemmas
+pub mod AnswerLemmas

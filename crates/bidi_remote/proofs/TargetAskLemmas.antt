@@ -25,15 +25,15 @@ use Rattle.bidi_values.specs.declared.kinds.ListKind.{ListKind}
 use Rattle.bidi_values.specs.declared.kinds.PairsKind.{PairsKind}
 use Rattle.bidi_values.specs.declared.local_value.LocalPlain.{LocalPlain}
 use Rattle.bidi_params.specs.contracts.session.capabilities.NewParametersShape.TheImpl as params
-use Rattle.bidi_params.specs.contracts.script.call_function.CallFunctionParametersShape.TheImpl as call
-use Rattle.bidi_params.specs.contracts.script.call_function.DisownParametersShape.TheImpl as disown
-use Rattle.bidi_params.specs.Words.{ownership_text}
-use Rattle.bidi_params.specs.contracts.script.evaluate.EvaluateParametersShape.TheImpl as evaluate
-use Rattle.bidi_params.specs.declared.script.evaluate.EvaluateParameters.{EvaluateParameters}
-use Rattle.bidi_params.specs.declared.script.evaluate.Ownership.{Ownership}
-use Rattle.bidi_params.specs.declared.script.evaluate.Ownership.TheVariants as ownership
-use Rattle.bidi_params.specs.declared.script.call_function.CallFunctionParameters.{CallFunctionParameters}
-use Rattle.bidi_params.specs.declared.script.call_function.DisownParameters.{DisownParameters}
+use Rattle.bidi_values.specs.contracts.call_function.CallFunctionParametersShape.TheImpl as call
+use Rattle.bidi_values.specs.contracts.call_function.DisownParametersShape.TheImpl as disown
+use Rattle.bidi_values.specs.Ownership.{ownership_text}
+use Rattle.bidi_values.specs.contracts.evaluate.EvaluateParametersShape.TheImpl as evaluate
+use Rattle.bidi_values.specs.declared.evaluate.EvaluateParameters.{EvaluateParameters}
+use Rattle.bidi_values.specs.declared.evaluate.Ownership.{Ownership}
+use Rattle.bidi_values.specs.declared.evaluate.Ownership.TheVariants as ownership
+use Rattle.bidi_values.specs.declared.call_function.CallFunctionParameters.{CallFunctionParameters}
+use Rattle.bidi_values.specs.declared.call_function.DisownParameters.{DisownParameters}
 use Rattle.bidi_messages.specs.declared.command.CommandData.TheVariants.{ScriptCallFunction, ScriptDisown, ScriptEvaluate}
 use Rattle.bidi_browser.specs.Params.{items_in, text_if_at}
 use Rattle.bidi_browser.specs.Actions.{ContextTarget, RealmTarget, target_in, is_text, is_well_at}

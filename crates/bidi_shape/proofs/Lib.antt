@@ -1,3 +1,4 @@
 pub mod FitsLemmas
 pub mod FitsTest
 pub mod ProfileFacts
+pub mod PartLemmas

@@ -19,3 +19,4 @@ pub mod TagLaws
 pub mod Made
 pub mod ScalarShapes
 pub mod FieldTables
+pub mod InnerLaws

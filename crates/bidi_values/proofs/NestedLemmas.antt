@@ -16,9 +16,10 @@ use Rattle.bidi_shape.specs.Parts.{joined}
 use Rattle.bidi_shape.specs.Fits.{Fits, AllFit, fits_pair}
 use Rattle.bidi_shape.specs.Value.{ShapeOf}
 use Rattle.bidi_shape.proofs.FitsLemmas.{list_inside, rule_inside}
+use Rattle.bidi_shape.specs.InnerLaws.{same_items}
 use Rattle.bidi_values.specs.BesideLaws.{BesideOf, and_value, around, holding, value_inside, value_levels}
 use Rattle.bidi_values.specs.Content.{content, list, pairs, pair_content, contents_of, pairs_of, content-Plain, content-List, content-Pairs}
-use Rattle.bidi_values.specs.NestedLaws.{NestingOf, SameBeside, Agrees, value_tree, values_tree, pairs_tree, pair_node, PartsAreWell, ValuesAreWell, PairsAreWell, IsWell, Same, value_one, same_items, same_pair, value_fits_inside}
+use Rattle.bidi_values.specs.NestedLaws.{NestingOf, SameBeside, Agrees, value_tree, values_tree, pairs_tree, pair_node, PartsAreWell, ValuesAreWell, PairsAreWell, IsWell, Same, value_one, same_pair, value_fits_inside}
 use Rattle.bidi_values.specs.View.{nested_tree, nested_pair_tree, NestedIsWell, NestedPairIsWell}
 use Rattle.bidi_values.specs.declared.nested.Nested.{Nested, Plain as PlainOf, List as ListOf, Pairs as PairsOf}
 use Rattle.bidi_values.specs.declared.nested.NestedPair.{NestedPair}
@@ -217,11 +218,6 @@ module _ {P L M : Type 0} (n : NestingOf P L M) where
 
 pub list_levels : {H : Type 0} (s : BesideOf H) (h : H) (items : Items) (t : Node) → around s h (kind.list items) ≡ t → items_levels items + 1 < levels t
 list_levels s h items t is = subst (λ x. items_levels items + 1 < levels x) is (let below = value_levels s h (kind.list items) in omega (arith, below))
-
-pub item_levels : (ts : List Tree) (i : ℕ) (d : Tree) → i < length ts → levels (node (get_or ts i d)) ≤ items_levels (items_node ts)
-item_levels [] i d h = absurd (omega arith)
-item_levels (t ∷ ts) zero d h = omega arith
-item_levels (t ∷ ts) (suc i) d h = let rest = item_levels ts i d (omega arith) in omega (arith, rest)
 
 pub pair_levels : (t u v : Node) → t ≡ pair_node u v → (levels u < levels t) × (levels v < levels t)
 pair_levels t u v is = subst (λ x. (levels u < levels x) × (levels v < levels x)) (sym is) (omega arith, omega arith)

@@ -11,6 +11,7 @@ use Rattle.bidi_shape.specs.Fits.{Fits, fits_map, RowsFit, no_row, there, absent
 use Rattle.bidi_shape.specs.Parts.{joined, distinct, PartsAt, PartsFit, PartFits}
 use Rattle.bidi_shape.specs.Table.{Table}
 use Rattle.bidi_shape.specs.WholeLaws.{PartsAreWhole, no_odd-joined}
+use Rattle.bidi_shape.specs.InnerLaws.{RowsFit-first, RowsFit-more, RowsFit-row, member_levels}
 use Rattle.bidi_shape.specs.MapLaws.{map_one, map_inside, PartsAt-joined, Aligned-PartsFit, RowsFit-PartsAt, unnamed, without_joined_among, at-joined_other}
 
 abbrev pub is_named : List (List ℕ) → List ℕ → Bool
@@ -52,20 +53,6 @@ RowsFit-and_value no_more τ ms t f e h = there ms (codes "value") required τ n
 RowsFit-and_value (row k need σ rs) τ ms t (there m l n ρ rest u e f more) is h = there m l n ρ (and_value rest τ) u e f (RowsFit-and_value rest τ m t more is h)
 RowsFit-and_value (row k need σ rs) τ ms t (absent m l ρ rest e more) is h = absent m l ρ (and_value rest τ) e (RowsFit-and_value rest τ m t more is h)
 
--- of rows that fit, the first does
-pub RowsFit-first : {k : List ℕ} {τ : Term} {rs : Rows} {ms : Members} → RowsFit ms (row k required τ rs) → PartFits required τ (get_member k ms)
-RowsFit-first (there m l n ρ rest u e f more) = subst (PartFits required ρ) (sym e) f
-
--- and so do the rows behind it
-pub RowsFit-more : {k : List ℕ} {need : Need} {σ : Term} {rs : Rows} {ms : Members} → RowsFit ms (row k need σ rs) → RowsFit ms rs
-RowsFit-more (there m l n ρ rest u e f more) = more
-RowsFit-more (absent m l ρ rest e more) = more
-
--- what follows of the rows behind a row follows of all
-pub RowsFit-row : {k : List ℕ} {need : Need} {σ : Term} {rs qs : Rows} {ms : Members} → (RowsFit ms qs → RowsFit ms rs) → RowsFit ms (row k need σ qs) → RowsFit ms (row k need σ rs)
-RowsFit-row {rs} go (there m l n ρ rest u e f more) = there m l n ρ rs u e f (go more)
-RowsFit-row {rs} go (absent m l ρ rest e more) = absent m l ρ rs e (go more)
-
 pub RowsFit-head : (rs : Rows) (τ : Term) (ms : Members) → RowsFit ms (and_value rs τ) → RowsFit ms rs
 RowsFit-head no_more τ ms f = no_row ms
 RowsFit-head (row k need σ rs) τ ms f = RowsFit-row (RowsFit-head rs τ ms) f
@@ -104,18 +91,6 @@ unnamed-and_value (row k need σ rs) τ q e f =
 pub names-and_value : (rs : Rows) (σ τ : Term) → names_of (and_value rs σ) ≡ names_of (and_value rs τ)
 names-and_value no_more σ τ = refl
 names-and_value (row k need ρ rs) σ τ = ap (◌∷◌ k) (names-and_value rs σ τ)
-
--- ---- levels
-
--- a member has fewer levels than the map
-pub member_levels : (k : List ℕ) (t : Node) (ms : Members) → get_member k ms ≡ Some t → levels t ≤ members_levels ms
-member_levels k t no_members e = cc
-member_levels k t (member l u ms) e = go (slice_cmp nat_cmp k l) (member_levels k t ms) e
-  where
-    go : (o : Ordering) → (get_member k ms ≡ Some t → levels t ≤ members_levels ms) → match_ordering o (get_member k ms) (Some u) (get_member k ms) ≡ Some t → levels t ≤ max (levels u) (members_levels ms)
-    go Less ih e = omega (arith, ih e)
-    go Equal ih e = let same : u ≡ t = cc in rw (← same) (omega arith)
-    go Greater ih e = omega (arith, ih e)
 
 -- ---- laws
 

@@ -1,6 +1,7 @@
 pub mod Number
 pub mod Opaque
 pub mod Level
+pub mod Ownership
 pub mod Maps
 pub mod BesideLaws
 pub mod Content

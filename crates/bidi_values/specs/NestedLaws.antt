@@ -9,6 +9,7 @@ use Rattle.bidi_shape.specs.Profile.{term_of}
 use Rattle.bidi_shape.specs.Fits.{Fits, AllFit, no_item, an_item, fits_text, fits_list, fits_pair, fits_first, fits_second, fits_rule, fits_capped}
 use Rattle.bidi_shape.specs.Value.{ShapeOf}
 use Rattle.bidi_shape.proofs.FitsLemmas.{map_kind, rule_inside, capped_inside}
+use Rattle.bidi_shape.specs.InnerLaws.{same_items, first_item, other_items}
 use Rattle.bidi_values.specs.BesideLaws.{BesideOf, around, holding, around_fits, around_one, around_no_odd, value_levels}
 use Rattle.bidi_values.specs.Content.{Content, plain, list, pairs, Contents, no_values, value, Pairs, no_pairs, pair, Key, value_key, text_key}
 
@@ -113,16 +114,6 @@ abbrev mutual
 
 text_no_map : {k : List ℕ} {rs : Rows} {o : Openness} → Fits (node.text k) (map_of rs o) → ⊥
 text_no_map f = let e = (map_kind f).1 in cc
-
--- equal lists have equal items, and these an equal first and equal others
-pub same_items : {xs ys : Items} → node.list xs ≡ node.list ys → xs ≡ ys
-same_items e = cc
-
-pub first_item : {x y : Node} {xs ys : Items} → item x xs ≡ item y ys → x ≡ y
-first_item e = cc
-
-pub other_items : {x y : Node} {xs ys : Items} → item x xs ≡ item y ys → xs ≡ ys
-other_items e = cc
 
 -- equal pairs have an equal key and an equal value
 pub same_pair : {x y u v : Node} → pair_node x u ≡ pair_node y v → (x ≡ y) × (u ≡ v)

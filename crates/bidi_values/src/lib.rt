@@ -1,12 +1,14 @@
-//! The values of a script as messages bear them: primitive values, references, targets, and what stands in an error
-//! or a log entry.
+//! The values of a script as messages bear them: primitive values, references, targets, what stands in an error or a log
+//! entry, and the parameters of the commands that bear such values.
 //!
 //! Each type is a [`Shape`](bidi_shape::Shape) of its rule. A type that takes further members has a constructor,
 //! which refuses the parts that are no value of it.
 #![tactic(auto)]
 
 mod beside;
+mod call_function;
 mod copying;
+mod evaluate;
 mod evaluate_result;
 mod exception;
 mod held;
@@ -26,6 +28,8 @@ mod target;
 mod writing;
 
 pub use beside::Beside;
+pub use call_function::{CallFunctionParameters, DisownParameters};
+pub use evaluate::{EvaluateParameters, Ownership};
 pub use evaluate_result::{EvaluateException, EvaluateResult, EvaluateSuccess};
 pub use exception::ExceptionDetails;
 pub use held::{RemoteDate, RemoteList, RemoteOpaque, RemotePairs, RemoteRegExp};

@@ -6,21 +6,21 @@
 #[cfg(test)]
 mod browser;
 #[cfg(test)]
+mod console;
+#[cfg(test)]
 mod faults;
 #[cfg(test)]
 mod link;
+#[cfg(test)]
+mod local;
 #[cfg(test)]
 mod messages;
 #[cfg(test)]
 mod params;
 #[cfg(test)]
-mod programs;
-#[cfg(test)]
 mod remote;
 #[cfg(test)]
 mod rows;
-#[cfg(test)]
-mod serving;
 #[cfg(test)]
 mod shape;
 #[cfg(test)]

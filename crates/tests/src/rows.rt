@@ -44,15 +44,13 @@ fn parts_of(row: &str) -> (&str, &str, &str) {
     (words, text, if wanted == "same" { text } else { wanted })
 }
 
-/// The row with each part as many times as it comes.
-fn spelled_out(alloc: Global, text: &str) -> Result<String, Fail> {
+/// A text with each part as many times as it comes.
+pub(crate) fn spelled_out(alloc: Global, text: &str) -> Result<String, Fail> {
     let mut whole = String::new(alloc);
     for piece in text.split('«') {
         let (repeated, after) = piece.split_once('»').unwrap_or(("0 ", piece));
         let (count, part) = repeated.split_once(' ').unwrap_or(("1", repeated));
-        for _ in 0..count.parse::<u32>()? {
-            whole.push_str(part)?;
-        }
+        whole.push_str(part.repeat(alloc, count.parse::<usize>()?)?.as_str())?;
         whole.push_str(after)?;
     }
     Ok(whole)

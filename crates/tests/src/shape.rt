@@ -2,10 +2,10 @@
 use crate::params::session::SessionMade;
 use crate::rows::{Asked, check_rows};
 use crate::texts::{again, members_of, owned, tree_of};
-use bidi_params::{CloseParameters, Ownership, RealmInfo, UnsubscribeParameters};
+use bidi_params::{CloseParameters, RealmInfo, UnsubscribeParameters};
 use bidi_shape::{Bare, Either, Ext, OneOrMore, Shape, ShapeFault, Tag, Typed};
 use bidi_tree::{JsInt, JsUint};
-use bidi_values::{Primitive, StackFrame};
+use bidi_values::{Ownership, Primitive, StackFrame};
 use std::alloc::Global;
 use std::test::Fail;
 

@@ -2,11 +2,12 @@
 use crate::rows::{Asked, check_rows};
 use crate::texts::{again, members_of, owned, told, value_of, variant_of, written};
 use bidi_params::{
-    CallFunctionParameters, DisownParameters, EvaluateParameters, GetRealmsParameters,
-    GetRealmsResult, Ownership, RealmDestroyedParameters, RealmInfo, RealmType,
+    GetRealmsParameters, GetRealmsResult, RealmDestroyedParameters, RealmInfo, RealmType,
 };
 use bidi_tree::{Members, Tree};
-use bidi_values::Target;
+use bidi_values::{
+    CallFunctionParameters, DisownParameters, EvaluateParameters, Ownership, Target,
+};
 use std::alloc::Global;
 use std::test::Fail;
 

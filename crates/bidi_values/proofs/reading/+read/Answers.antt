@@ -5,7 +5,8 @@ use Rattle.bidi_shape.specs.Term.{rule}
 use Rattle.bidi_shape.specs.Fits.{Fits}
 use Rattle.bidi_shape.specs.ListLaws.{AllFit-at}
 use Rattle.bidi_shape.specs.Outcome.{handed_on, known_misfit}
-use Rattle.bidi_values.proofs.NestedLemmas.{list_read, pairs_read, list_misfit, pairs_misfit, no_value, key_misfit, value_misfit, list_levels, item_levels}
+use Rattle.bidi_shape.proofs.PartLemmas.{item_levels}
+use Rattle.bidi_values.proofs.NestedLemmas.{list_read, pairs_read, list_misfit, pairs_misfit, no_value, key_misfit, value_misfit, list_levels}
 use Rattle.bidi_values.proofs.reading.+read.Goals as goal
 
 -- ---- a value

@@ -6,7 +6,7 @@ use Rattle.bidi_shape.specs.Term.{rule}
 use Rattle.bidi_shape.specs.Fits.{Fits}
 use Rattle.bidi_shape.specs.ListLaws.{AllFit-at}
 use Rattle.bidi_shape.specs.Outcome.{handed_on}
-use Rattle.bidi_values.proofs.NestedLemmas.{item_levels}
+use Rattle.bidi_shape.proofs.PartLemmas.{item_levels}
 use Rattle.bidi_params.specs.InfoParts.{info_parts}
 use Rattle.bidi_params.proofs.InfoLemmas.{found, info_with_children, infos_misfit, no_info, list_levels}
 use Rattle.bidi_params.proofs.browsing_context.info.+read.Goals as goal

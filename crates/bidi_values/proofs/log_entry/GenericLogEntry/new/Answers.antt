@@ -1,6 +1,6 @@
 use Rattle.std.specs.Prelude.{refl}
 use Rattle.std.proofs.Common.{rules}
-use Rattle.bidi_values.proofs.PartLemmas.{each_well, some_well, text_or_null_well}
+use Rattle.bidi_shape.proofs.PartLemmas.{each_well, some_well, text_or_null_well}
 use Rattle.bidi_values.proofs.log_entry.GenericLogEntry.new.Goals as goal
 
 -- each part is well, whatever it is

@@ -1,6 +1,6 @@
 use Rattle.std.proofs.Common.{◌≤◌, rules, subst}
 use Rattle.bidi_tree.specs.Node.{levels}
-use Rattle.bidi_values.proofs.PartLemmas.{some_well}
+use Rattle.bidi_shape.proofs.PartLemmas.{some_well}
 use Rattle.bidi_params.specs.InfoParts.{info_parts}
 use Rattle.bidi_params.specs.InfoView.{Beside}
 use Rattle.bidi_params.specs.declared.browsing_context.info.Info.{the_lemmas}

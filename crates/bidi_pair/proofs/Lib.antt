@@ -1,0 +1,2 @@
+pub mod LedgerLemmas
+pub mod PairLemmas

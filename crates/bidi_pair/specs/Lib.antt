@@ -1,0 +1,2 @@
+pub mod PairLines
+pub mod Pairs

@@ -1,0 +1,168 @@
+//! The lines of a ledger: what became of each command, and the events that each link received.
+ghost use Rattle.std.specs.Prelude.{◌≡◌, [], ◌∷◌, ◌++◌, map, IfOk, codes, decimal, string_bytes};
+ghost use Rattle.std.specs.List.{AllByRecursion};
+ghost use Rattle.bidi_tree.specs.Node.{IsWritable};
+ghost use Rattle.bidi_tree.specs.Text.{compact_text};
+ghost use Rattle.bidi_tree.specs.View.{node};
+ghost use Rattle.bidi_link.specs.Steps.{FateIsWell, LedgerIsWell, PageIsWell, entry_seen, event_seen, fate_seen, page_seen, pages_of};
+ghost use Rattle.bidi_console.specs.Feeds.{ended};
+ghost use Rattle.bidi_pair.specs.PairLines.{entries_text, entry_line, event_line, events_text, fate_text, ledger_text, page_text, unsent_text};
+
+use bidi_link::{Entry, Fate, Ledger, Page};
+use bidi_messages::{EventData, EventName, Method, Named, ResultData, Subject};
+use bidi_tree::{JsUint, Tree, write};
+use std::alloc::{AllocError, Global};
+
+/// The lines of a ledger, each with its line feed: link by link, first its commands, then its events, and last how many
+/// commands were not sent, where there are any.
+///
+/// # Errors
+/// No memory, where a growth was refused.
+pub fn ledger_lines(alloc: Global, ledger: Ledger) -> Result<String, AllocError>
+    requires { LedgerIsWell ledger }
+    ensures { IfOk result (λ lines. string_bytes lines ≡ ledger_text (pages_of ledger)) }
+{
+    let mut lines = String::new(alloc);
+    'pages: for page in ledger.pages {
+        let text = page_lines(alloc, page)?;
+        lines.push_str(text.as_str())?;
+    }
+    Ok(lines)
+}
+
+// The lines of one link.
+fn page_lines(alloc: Global, page: Page) -> Result<String, AllocError>
+    requires { PageIsWell page }
+    ensures { IfOk result (λ lines. string_bytes lines ≡ page_text (page_seen page)) }
+{
+    let mut lines = entry_lines(alloc, page.link, page.commands)?;
+    let events = event_lines(alloc, page.link, page.events)?;
+    lines.push_str(events.as_str())?;
+    let unsent = unsent_line(alloc, page.link, page.unsent)?;
+    lines.push_str(unsent.as_str())?;
+    Ok(lines)
+}
+
+// The lines of the commands of a link.
+fn entry_lines(alloc: Global, link: JsUint, commands: Vec<Entry>) -> Result<String, AllocError>
+    requires { AllByRecursion (λ e. FateIsWell e.fate) commands.items }
+    ensures { IfOk result (λ lines. string_bytes lines ≡ entries_text link.value (map entry_seen commands.items)) }
+{
+    let mut lines = String::new(alloc);
+    'entries: for entry in commands {
+        let line = entry_line(alloc, link, entry)?;
+        lines.push_str(line.as_str())?;
+    }
+    Ok(lines)
+}
+
+// `L ID METHOD FATE`
+fn entry_line(alloc: Global, link: JsUint, entry: Entry) -> Result<String, AllocError>
+    requires { FateIsWell entry.fate }
+    ensures { IfOk result (λ line. string_bytes line ≡ ended (entry_line link.value (entry_seen entry))) }
+{
+    let fate = fate_text(alloc, entry.fate)?;
+    let method = entry.method.name();
+    four_fields(alloc, link, entry.id, method, fate.as_str())
+}
+
+fn four_fields(
+    alloc: Global,
+    link: JsUint,
+    id: JsUint,
+    method: &str,
+    fate: &str,
+) -> Result<String, AllocError>
+    ensures { IfOk result (λ line. string_bytes line ≡ decimal link.value ++ 32 ∷ (decimal id.value ++ 32 ∷ (method.now ++ 32 ∷ (fate.now ++ 10 ∷ [])))) }
+{
+    format!(in alloc; "{} {} {method} {fate}\n", link.value, id.value)
+}
+
+// What became of a command.
+fn fate_text(alloc: Global, fate: Fate) -> Result<String, AllocError>
+    requires { FateIsWell fate }
+    ensures { IfOk result (λ text. string_bytes text ≡ fate_text (fate_seen fate)) }
+{
+    match fate {
+        Fate::Answered(result) => answered_text(alloc, result),
+        Fate::Refused(code) => {
+            let name = code.name();
+            format!(in alloc; "refused {name}")
+        }
+        Fate::Lost => String::from_str(alloc, "lost"),
+        Fate::Waiting => String::from_str(alloc, "waiting"),
+    }
+}
+
+// `answered RESULT`
+fn answered_text(alloc: Global, result_data: ResultData) -> Result<String, AllocError>
+    requires { ⟦<ResultData as Subject<Method>>⟧.subject.well result_data }
+    ensures { IfOk result (λ text. string_bytes text ≡ codes "answered " ++ compact_text (⟦<ResultData as Subject<Method>>⟧.subject.tree_of result_data)) }
+{
+    let tree = result_data.tree_of(alloc)?;
+    let text = compact(alloc, tree)?;
+    format!(in alloc; "answered {text}")
+}
+
+// The lines of the events that a link received.
+fn event_lines(alloc: Global, link: JsUint, events: Vec<EventData>) -> Result<String, AllocError>
+    requires { AllByRecursion (λ d. ⟦<EventData as Subject<EventName>>⟧.subject.well d) events.items }
+    ensures { IfOk result (λ lines. string_bytes lines ≡ events_text link.value (map event_seen events.items)) }
+{
+    let mut lines = String::new(alloc);
+    'events: for event in events {
+        let line = event_line(alloc, link, event)?;
+        lines.push_str(line.as_str())?;
+    }
+    Ok(lines)
+}
+
+// `L event METHOD PARAMS`
+fn event_line(alloc: Global, link: JsUint, event: EventData) -> Result<String, AllocError>
+    requires { ⟦<EventData as Subject<EventName>>⟧.subject.well event }
+    ensures { IfOk result (λ line. string_bytes line ≡ ended (event_line link.value (event_seen event))) }
+{
+    let event_name = event.event();
+    let text = params_text(alloc, event)?;
+    told_event(alloc, link, event_name.name(), text.as_str())
+}
+
+// The compact text of an event's params.
+fn params_text(alloc: Global, event: EventData) -> Result<String, AllocError>
+    requires { ⟦<EventData as Subject<EventName>>⟧.subject.well event }
+    ensures { IfOk result (λ text. string_bytes text ≡ compact_text (⟦<EventData as Subject<EventName>>⟧.subject.tree_of event)) }
+{
+    let tree = event.tree_of(alloc)?;
+    compact(alloc, tree)
+}
+
+fn told_event(alloc: Global, link: JsUint, name: &str, text: &str) -> Result<String, AllocError>
+    ensures { IfOk result (λ line. string_bytes line ≡ decimal link.value ++ 32 ∷ (codes "event " ++ (name.now ++ 32 ∷ (text.now ++ 10 ∷ [])))) }
+{
+    format!(in alloc; "{} event {name} {text}\n", link.value)
+}
+
+// The compact text of a tree, which is used up.
+fn compact(alloc: Global, tree: Tree) -> Result<String, AllocError>
+    requires { IsWritable (node tree) }
+    ensures { IfOk result (λ text. string_bytes text ≡ compact_text (node tree)) }
+{
+    write(alloc, &tree)
+}
+
+// `L unsent N`, and nothing where all commands were sent.
+fn unsent_line(alloc: Global, link: JsUint, unsent: u64) -> Result<String, AllocError>
+    ensures { IfOk result (λ line. string_bytes line ≡ unsent_text link.value unsent) }
+{
+    if unsent == 0 {
+        Ok(String::new(alloc))
+    } else {
+        told_unsent(alloc, link, unsent)
+    }
+}
+
+fn told_unsent(alloc: Global, link: JsUint, unsent: u64) -> Result<String, AllocError>
+    ensures { IfOk result (λ line. string_bytes line ≡ decimal link.value ++ 32 ∷ (codes "unsent " ++ (decimal unsent ++ 10 ∷ []))) }
+{
+    format!(in alloc; "{} unsent {unsent}\n", link.value)
+}

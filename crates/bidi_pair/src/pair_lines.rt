@@ -1,0 +1,134 @@
+//! Pair lines: the step of both ends that one says.
+ghost use Rattle.std.specs.Prelude.{◌≡◌, ℕ, List, ◌∷◌, ◌++◌, Some, None, codes, IfOk, IfSome};
+ghost use Rattle.bidi_tree.specs.Text.{tree_of_text};
+ghost use Rattle.bidi_tree.specs.View.{node};
+ghost use Rattle.bidi_messages.specs.Method.{method_text};
+ghost use Rattle.bidi_remote.specs.Tables.View.{step_of};
+ghost use Rattle.bidi_link.specs.Steps.{IsWell};
+ghost use Rattle.bidi_pair.specs.PairLines.{IsPlayLine, Says, sending_line};
+
+use bidi_link::PairStep;
+use bidi_messages::{Method, Named, data_of};
+use bidi_play::{is_text, parts, read_number, read_words};
+use bidi_remote::Step;
+use bidi_shape::ShapeFault;
+use bidi_tree::{JsUint, ReadFault, Tree, read};
+use std::alloc::{AllocError, Global};
+
+/// The step of both ends that a line says, where it is a pair line.
+///
+/// # Errors
+/// No memory, where a growth was refused.
+pub fn read_pair_step(alloc: Global, line: &[u8]) -> Result<Option<PairStep>, AllocError>
+    ensures some { IfOk result (λ found. IfSome found (λ x. Says line.now x × IsWell x)) }
+{
+    match std::str::from_utf8(line) {
+        Err(_) => Ok(None),
+        Ok(text) => read_pair_words(alloc, text),
+    }
+}
+
+// The step whose words stand in a line. A step of a page, and an opening, has the line that it has in a play.
+fn read_pair_words(alloc: Global, line: &str) -> Result<Option<PairStep>, AllocError>
+    ensures some { IfOk result (λ found. IfSome found (λ x. Says line.now x × IsWell x)) }
+{
+    let Some((word, rest)) = parts(line) else {
+        return Ok(None);
+    };
+    if is_text(word, "send") {
+        read_sending(alloc, rest)
+    } else if is_text(word, "up") {
+        match read_number(alloc, rest)? {
+            None => Ok(None),
+            Some(link) => Ok(Some(PairStep::Up(link))),
+        }
+    } else if is_text(word, "down") {
+        match read_number(alloc, rest)? {
+            None => Ok(None),
+            Some(link) => Ok(Some(PairStep::Down(link))),
+        }
+    } else if is_text(word, "cut") {
+        match read_number(alloc, rest)? {
+            None => Ok(None),
+            Some(link) => Ok(Some(PairStep::Cut(link))),
+        }
+    } else {
+        match read_words(alloc, line)? {
+            None => Ok(None),
+            Some(step) => Ok(pair_step(step)),
+        }
+    }
+}
+
+// The step of both ends that is a step of a play, where there is one.
+fn pair_step(step: Step) -> Option<PairStep>
+    ensures some { IfSome result (λ x. (line : List ℕ) → IsPlayLine line (step_of step) → Says line x × IsWell x) }
+{
+    match step {
+        Step::At(moment) => Some(PairStep::At(moment)),
+        Step::Open(link, resource) => Some(PairStep::Open(link, resource)),
+        Step::Frame(context, url) => Some(PairStep::Frame(context, url)),
+        Step::Unframe(context) => Some(PairStep::Unframe(context)),
+        Step::Log(context, level, text) => Some(PairStep::Log(context, level, text)),
+        Step::TableRow(text) => Some(PairStep::TableRow(text)),
+        _ => None,
+    }
+}
+
+// The link, the method behind the first space, and the params behind the next.
+fn read_sending(alloc: Global, rest: &str) -> Result<Option<PairStep>, AllocError>
+    ensures some { IfOk result (λ found. IfSome found (λ x. Says (codes "send " ++ rest.now) x × IsWell x)) }
+{
+    let Some((number, command)) = parts(rest) else {
+        return Ok(None);
+    };
+    let Some((method, params)) = method_and_params(command) else {
+        return Ok(None);
+    };
+    match read_number(alloc, number)? {
+        None => Ok(None),
+        Some(link) => read_command(alloc, link, method, params),
+    }
+}
+
+// The method, and the text behind the first space.
+fn method_and_params(command: &str) -> Option<(Method, &str)>
+    ensures some { IfSome result (λ x. command.now ≡ method_text x.0 ++ 32 ∷ x.1.now) }
+{
+    let (name, params) = parts(command)?;
+    let method = Method::named(name)?;
+    Some((method, params))
+}
+
+// The sending of a method's command, where the text fits the rule of its params.
+fn read_command(
+    alloc: Global,
+    link: JsUint,
+    method: Method,
+    params: &str,
+) -> Result<Option<PairStep>, AllocError>
+    ensures some { IfOk result (λ found. IfSome found (λ x. Says (sending_line link.value (method_text method) params.now) x × IsWell x)) }
+{
+    match read(alloc, params, None) {
+        Ok(tree) => sending(alloc, link, method, &tree),
+        Err(ReadFault::NoMemory) => Err(AllocError),
+        Err(_) => Ok(None),
+    }
+}
+
+// The same, by the tree of the text.
+fn sending(
+    alloc: Global,
+    link: JsUint,
+    method: Method,
+    params: &Tree,
+) -> Result<Option<PairStep>, AllocError>
+    ensures some { (text : List ℕ) → tree_of_text None text ≡ Some (node params.now)
+        → IfOk result (λ found. IfSome found (λ x. Says (sending_line link.value (method_text method) text) x × IsWell x)) }
+{
+    match data_of(alloc, method, params) {
+        Ok(data) => Ok(Some(PairStep::Send(link, data))),
+        Err(ShapeFault::NoFit) => Ok(None),
+        Err(ShapeFault::NoMemory) => Err(AllocError),
+    }
+}

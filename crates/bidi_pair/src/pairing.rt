@@ -1,0 +1,157 @@
+//! Pairs: lines of steps of both ends in, and what became of each command out.
+ghost use Rattle.std.specs.Prelude.{◌≡◌, ◌+◌, [], ◌∷◌, ◌++◌, IfOk, IfErr, OnOk, IsTrue, MatchResult};
+ghost use Rattle.std.specs.Io.KnownBytes.{IsAtEnd};
+ghost use Rattle.bidi_link.specs.Steps.{AreWell};
+ghost use Rattle.bidi_console.specs.Devices.{Moves};
+ghost use Rattle.bidi_pair.specs.Pairs.{PairsAll, Reads, Schedule, StopsAt, failed_reads, failed_writes, pair_fault_of, remote_fault_of};
+ghost use Rattle.bidi_pair.specs.declared.pairing.PairFault.TheVariants.{Write, NoMemory};
+
+use super::ledger_lines::ledger_lines;
+use super::pair_lines::read_pair_step;
+use bidi_console::{DeviceFault, InputFault, LineReader, Sink, Source, write_all};
+use bidi_link::{PairStep, pair};
+use bidi_remote::RemoteFault;
+use std::alloc::{AllocError, Global};
+use thiserror::Error;
+
+/// How many lines an input may have.
+const MOST_LINES: u64 = 1_000_000_000;
+
+/// Why a run of both ends stopped before its end.
+#[derive(Clone, Copy, Debug, PartialEq, Eq, Error)]
+pub enum PairFault {
+    /// A read failed.
+    #[error("input cannot be read")]
+    Read,
+    /// A write failed.
+    #[error("output cannot be written")]
+    Write,
+    /// The line of this number, counted from 1, is no pair line.
+    #[error("line {0} is no pair line")]
+    BadLine(u64),
+    /// An allocation failed.
+    #[error("out of memory")]
+    NoMemory,
+    /// The input goes on after 1,000,000,000 lines.
+    #[error("too many steps")]
+    TooManyLines,
+    /// The remote end takes no more steps.
+    #[error("too many steps")]
+    WornOut,
+}
+
+impl From<AllocError> for PairFault {
+    ghost from_gives = { λ _ fault. fault ≡ NoMemory };
+
+    fn from(_error: AllocError) -> PairFault {
+        PairFault::NoMemory
+    }
+}
+
+impl From<DeviceFault> for PairFault {
+    ghost from_gives = { λ _ fault. fault ≡ Write };
+
+    fn from(_error: DeviceFault) -> PairFault {
+        PairFault::Write
+    }
+}
+
+impl From<RemoteFault> for PairFault {
+    ghost from_gives = { λ error fault. fault ≡ remote_fault_of error };
+
+    fn from(error: RemoteFault) -> PairFault {
+        match error {
+            RemoteFault::NoMemory => PairFault::NoMemory,
+            RemoteFault::WornOut => PairFault::WornOut,
+        }
+    }
+}
+
+/// Plays the pair lines of the source, and writes what became of each command and which events each link received.
+///
+/// All lines are read before the first step runs, and all steps have run before the first byte is written.
+///
+/// # Errors
+/// The first of these in the order of the input ends the run, and nothing is written:
+/// 1. `Read`, where the source failed.
+/// 2. `BadLine`, where a line is no pair line.
+/// 3. `NoMemory`, where an allocation failed, here or in any later step.
+/// 4. `TooManyLines`, where the input goes on after 1,000,000,000 lines.
+///
+/// Then these:
+/// 1. `WornOut`, after 1,000,000,000 steps of the remote end: nothing is written.
+/// 2. `Write`, where the sink failed, after a beginning of the text.
+pub fn play_pair<R: Source, W: Sink>(
+    alloc: Global,
+    source: &mut R,
+    sink: &mut W,
+) -> Result<(), PairFault>
+    // All that the source had was pair lines, and the text of their ledger was written.
+    ensures ok { OnOk result (Moves (R.left source.old) (R.left source.new) (W.contents sink.old) (W.contents sink.new) PairsAll) }
+    ensures end { OnOk result (IsTrue (R.has_ended source.new) × IsAtEnd (R.left source.new)) }
+
+    // A fault says what was read and written before it.
+    ensures err { IfErr result (λ fault. Moves (R.left source.old) (R.left source.new) (W.contents sink.old) (W.contents sink.new)
+        (StopsAt fault (R.has_ended source.new))) }
+
+    // A device is blamed where it failed, and no run succeeds after a failure.
+    ensures reads { MatchResult result (λ _. R.failures source.new ≡ R.failures source.old) (λ fault. R.failures source.new ≡ R.failures source.old + failed_reads fault) }
+    ensures writes { MatchResult result (λ _. W.failures sink.new ≡ W.failures sink.old) (λ fault. W.failures sink.new ≡ W.failures sink.old + failed_writes fault) }
+{
+    let steps = read_steps(alloc, source)?;
+    let ledger = pair(alloc, steps)?;
+    let text = ledger_lines(alloc, ledger)?;
+    write_all(sink, text.as_bytes())?;
+    Ok(())
+}
+
+// The steps that the lines of the source say.
+fn read_steps<R: Source>(alloc: Global, source: &mut R) -> Result<Vec<PairStep>, PairFault>
+    ensures ok { IfOk result (λ steps. Reads (R.left source.old) (R.left source.new) (λ read. Schedule read steps.items [])) }
+    ensures well { IfOk result (λ steps. AreWell steps.items) }
+    ensures end { OnOk result (IsTrue (R.has_ended source.new) × IsAtEnd (R.left source.new)) }
+    ensures err { IfErr result (λ fault. Reads (R.left source.old) (R.left source.new) (λ read. StopsAt fault (R.has_ended source.new) read [])) }
+    ensures reads { MatchResult result (λ _. R.failures source.new ≡ R.failures source.old) (λ fault. R.failures source.new ≡ R.failures source.old + failed_reads fault) }
+    ensures no_write { IfErr result (λ fault. failed_writes fault ≡ 0) }
+{
+    let mut reader = LineReader::new(alloc);
+    let mut steps = Vec::new(alloc);
+    let mut count: u64 = 0;
+    'lines: while count < MOST_LINES {
+        match reader.next(alloc, source) {
+            Err(fault) => return Err(pair_fault(fault, count + 1)),
+            Ok(None) => return Ok(steps),
+            Ok(Some(line)) => {
+                count += 1;
+                let Some(step) = read_pair_step(alloc, &line)? else {
+                    return Err(PairFault::BadLine(count));
+                };
+                add_step(&mut steps, step)?;
+            }
+        }
+    }
+    match reader.goes_on(source) {
+        Err(fault) => Err(pair_fault(fault, count)),
+        Ok(true) => Err(PairFault::TooManyLines),
+        Ok(false) => Ok(steps),
+    }
+}
+
+// Adds a step at the end.
+fn add_step(steps: &mut Vec<PairStep>, step: PairStep) -> Result<(), AllocError>
+    ensures { OnOk result (steps.new.items ≡ steps.old.items ++ step ∷ []) }
+{
+    steps.push(step)?;
+    Ok(())
+}
+
+// The fault of a run that a fault of its input is, at the line of this number.
+fn pair_fault(fault: InputFault, number: u64) -> PairFault
+    ensures { result ≡ pair_fault_of fault number }
+{
+    match fault {
+        InputFault::Read => PairFault::Read,
+        InputFault::BadLine => PairFault::BadLine(number),
+        InputFault::NoMemory => PairFault::NoMemory,
+    }
+}

@@ -1,0 +1,94 @@
+-- The play of some bytes writes one text, since a text has one verdict.
+use Rattle.std.proofs.Common.{◌≡◌, ℕ, Option, List, [], ◌∷◌, ◌++◌, reverse, append_assoc, refl, sym, ◌∙◌, ap, subst}
+use Rattle.std.proofs.lemmas.Grind.{flat_map-append}
+use Rattle.bidi_tree.specs.Node.{Node}
+use Rattle.bidi_shape.specs.Name.{table_row}
+use Rattle.bidi_shape.specs.Term.{rule}
+use Rattle.bidi_shape.specs.Fits.{Fits}
+use Rattle.bidi_shape.specs.Table.{same_some}
+use Rattle.bidi_browser.specs.Actions.{TableRow}
+use Rattle.bidi_messages.specs.Verdict.{Verdict, IsVerdict}
+use Rattle.bidi_messages.proofs.VerdictLemmas.{one_verdict}
+use Rattle.bidi_remote.specs.Machine.Step as step
+use Rattle.bidi_remote.specs.Machine.Step.{Step}
+use Rattle.bidi_remote.specs.Machine.History.{Input, Heard, InPage, IsRow, is_row, is_not_json, is_no_row, IsHeardAs, AreHeardAs}
+use Rattle.bidi_remote.specs.Machine.Sent.{Sent, answers, answers_after}
+use Rattle.bidi_console.specs.Feeds.{ended}
+use Rattle.bidi_play.specs.Lines.{sent_line, written}
+use Rattle.bidi_play.specs.Plays.{Plays, PlaysPart}
+use Rattle.bidi_remote.proofs.AnswerLemmas.{answers_append}
+use Rattle.bidi_play.proofs.ReadingLemmas.{front_steps, all_steps}
+
+-- a text has one verdict
+abbrev pub OneVerdict : Type 0
+OneVerdict = (text : List ℕ) (v w : Verdict) → IsVerdict text v → IsVerdict text w → v ≡ w
+
+-- and is one row of the table, or none
+one_row : {s : List ℕ} {r q : Option Node} → IsRow s r → IsRow s q → r ≡ q
+one_row (is_row t e f) (is_row u h g) = sym e ∙ h
+one_row (is_row t e f) (is_not_json h) = sym e ∙ h
+one_row (is_row t e f) (is_no_row u h misfit) = absurd (misfit (subst (λ x. Fits x (rule table_row)) (same_some (sym e ∙ h)) f))
+one_row (is_not_json h) (is_row t e f) = sym h ∙ e
+one_row (is_not_json h) (is_not_json e) = refl
+one_row (is_not_json h) (is_no_row t e misfit) = refl
+one_row (is_no_row t h misfit) (is_row u e f) = absurd (misfit (subst (λ x. Fits x (rule table_row)) (same_some (sym e ∙ h)) f))
+one_row (is_no_row t h misfit) (is_not_json e) = refl
+one_row (is_no_row t h misfit) (is_no_row u e also) = refl
+
+-- so a step is heard as one input
+pub one_input : OneVerdict → (s : Step) (i j : Input) → IsHeardAs s i → IsHeardAs s j → i ≡ j
+one_input one (step.At n) i j a b = a ∙ sym b
+one_input one (step.Open c resource) i j a b = a ∙ sym b
+one_input one (step.Drop c) i j a b = a ∙ sym b
+one_input one (step.Text c text) i j a b = a.2 ∙ (ap (λ v. Heard c v) (one text a.0 b.0 a.1 b.1) ∙ sym b.2)
+one_input one (step.NotText c) i j a b = a ∙ sym b
+one_input one (step.Frame context url) i j a b = a ∙ sym b
+one_input one (step.Unframe context) i j a b = a ∙ sym b
+one_input one (step.Log context level text) i j a b = a ∙ sym b
+one_input one (step.TableRow text) i j a b = a.2 ∙ (ap (λ r. InPage (TableRow r)) (one_row a.1 b.1) ∙ sym b.2)
+
+-- and some steps as one list of inputs
+one_inputs : OneVerdict → (steps : List Step) (inputs others : List Input) → AreHeardAs steps inputs → AreHeardAs steps others → inputs ≡ others
+one_inputs one [] [] [] a b = refl
+one_inputs one [] [] (j ∷ others) a b = absurd b
+one_inputs one [] (i ∷ inputs) others a b = absurd a
+one_inputs one (s ∷ ss) [] others a b = absurd a
+one_inputs one (s ∷ ss) (i ∷ inputs) [] a b = absurd b
+one_inputs one (s ∷ ss) (i ∷ inputs) (j ∷ others) a b =
+    ap (λ k. k ∷ inputs) (one_input one s i j a.0 b.0) ∙ ap (λ k. j ∷ k) (one_inputs one ss inputs others a.1 b.1)
+
+-- the first steps are heard as the first inputs
+front_inputs : OneVerdict → (steps more : List Step) (inputs all : List Input) → AreHeardAs steps inputs → AreHeardAs (steps ++ more) all
+    → (later : List Input) × (all ≡ inputs ++ later)
+front_inputs one [] more [] all a b = (all, refl)
+front_inputs one [] more (i ∷ inputs) all a b = absurd a
+front_inputs one (s ∷ ss) more [] all a b = absurd a
+front_inputs one (s ∷ ss) more (i ∷ inputs) [] a b = absurd b
+front_inputs one (s ∷ ss) more (i ∷ inputs) (j ∷ all) a b =
+    let r = front_inputs one ss more inputs all a.1 b.1 in
+    (r.0, ap (λ k. k ∷ all) (one_input one s j i b.0 a.0) ∙ ap (λ k. i ∷ k) r.1)
+
+-- the play of some bytes writes one text
+pub one_text : OneVerdict → (bytes text other : List ℕ) → Plays bytes text → Plays bytes other → text ≡ other
+one_text one bytes text other (steps, rest, p, none) (others, end, q, end_none) =
+    let same = all_steps steps others rest end p.each q.each (sym p.lines ∙ q.lines) none end_none in
+    let heard = subst (λ (ss : List Step). AreHeardAs ss q.inputs) (sym same) q.heard in
+    p.answer ∙ (ap (λ (is : List Input). written (answers is)) (one_inputs one steps p.inputs q.inputs p.heard heard) ∙ sym q.answer)
+
+-- what was written for some of its lines is a beginning of it
+pub begins_text : OneVerdict → (bytes wrote text : List ℕ) → PlaysPart bytes wrote → Plays bytes text → (more : List ℕ) × (text ≡ wrote ++ more)
+begins_text one bytes wrote text (steps, rest, whole, more, p, e) (all, end, q, none) =
+    let front = front_steps steps all rest end p.each q.each (sym p.lines ∙ q.lines) none in
+    let heard = subst (λ (ss : List Step). AreHeardAs ss q.inputs) front.1 q.heard in
+    let later = front_inputs one steps front.0 p.inputs q.inputs p.heard heard in
+    let next = answers_after (reverse p.inputs) later.0 in
+    let behind = written next in (
+      more ++ behind,
+      q.answer ∙ (ap (λ (is : List Input). written (answers is)) later.1
+          ∙ (ap written (answers_append p.inputs later.0) ∙ (flat_map-append (λ (z : Sent). ended (sent_line z)) (answers p.inputs) next
+          ∙ (ap (λ (t : List ℕ). t ++ behind) (sym p.answer ∙ e) ∙ append_assoc wrote more behind)))),
+    )
+
+-- the text of a play is one
+pub the_text : (bytes text other : List ℕ) → Plays bytes text → Plays bytes other → text ≡ other
+the_text = one_text (λ s v w a b. one_verdict a b)

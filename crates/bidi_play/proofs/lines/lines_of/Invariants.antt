@@ -1,0 +1,7 @@
+use Rattle.std.proofs.Common.{◌≡◌, map}
+use Rattle.bidi_remote.specs.Tables.View.{sent_of}
+use Rattle.bidi_play.specs.Lines.{written}
+use Rattle.bidi_play.proofs.lines.lines_of.Given as goal
+
+abbrev pub invariant-loop-sent : goal.invariant-loop-sent
+invariant-loop-sent l = l.lines.items ≡ written (map sent_of l.yielded)

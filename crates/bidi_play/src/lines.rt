@@ -1,0 +1,227 @@
+//! Lines: the step that one says, and those of what is sent.
+ghost use Rattle.std.specs.Prelude.{◌≡◌, ℕ, ◌<◌, ◌≤◌, ◌^◌, ◌==◌, ◌↔◌, List, [], ◌∷◌, ◌++◌, true, false, map, length, decimal, string_bytes, IsTrue, IfOk, IfSome, IfNone, IsSomeAnd, position};
+ghost use Rattle.std.specs.List.{list_any};
+ghost use Rattle.bidi_values.specs.Level.{level_text};
+ghost use Rattle.bidi_remote.specs.Machine.Step as play;
+ghost use Rattle.bidi_remote.specs.Tables.View.{step_of, sent_of};
+ghost use Rattle.bidi_console.specs.Feeds.{has_feed, ended};
+ghost use Rattle.bidi_play.specs.Lines.{line_of, IsContext, IsSayable, CanBeSaid, sent_line, written};
+
+use bidi_console::LONGEST_LINE;
+use bidi_remote::{Sent, Step};
+use bidi_shape::Named;
+use bidi_tree::JsUint;
+use bidi_values::Level;
+use std::alloc::{AllocError, Global};
+
+/// The step that a line says, where it is a play line.
+///
+/// # Errors
+/// No memory, where a growth was refused.
+pub fn read_step(alloc: Global, line: &[u8]) -> Result<Option<Step>, AllocError>
+    requires { has_feed line.now ≡ false }
+    ensures some { IfOk result (λ found. IfSome found (λ step. CanBeSaid (step_of step) × (line.now ≡ line_of (step_of step)))) }
+    ensures none { IfOk result (λ found. IfNone found ((s : play.Step) → CanBeSaid s → line.now ≡ line_of s → ⊥)) }
+{
+    if line.len() > LONGEST_LINE {
+        return Ok(None);
+    }
+    match std::str::from_utf8(line) {
+        Err(_) => Ok(None),
+        Ok(text) => read_words(alloc, text),
+    }
+}
+
+// The step whose words stand in a line.
+pub fn read_words(alloc: Global, line: &str) -> Result<Option<Step>, AllocError>
+    ensures some { IfOk result (λ found. IfSome found (λ step. IsSayable (step_of step) × (line.now ≡ line_of (step_of step)))) }
+    ensures none { IfOk result (λ found. IfNone found ((s : play.Step) → IsSayable s → line.now ≡ line_of s → ⊥)) }
+{
+    let Some((word, rest)) = parts(line) else {
+        return Ok(None);
+    };
+    if is_text(word, "at") {
+        match read_number(alloc, rest)? {
+            None => Ok(None),
+            Some(moment) => Ok(Some(Step::At(moment))),
+        }
+    } else if is_text(word, "drop") {
+        match read_number(alloc, rest)? {
+            None => Ok(None),
+            Some(conn) => Ok(Some(Step::Drop(conn))),
+        }
+    } else if is_text(word, "binary") {
+        match read_number(alloc, rest)? {
+            None => Ok(None),
+            Some(conn) => Ok(Some(Step::NotText(conn))),
+        }
+    } else if is_text(word, "open") {
+        match read_number_and_text(alloc, rest)? {
+            None => Ok(None),
+            Some((conn, resource)) => Ok(Some(Step::Open(conn, resource))),
+        }
+    } else if is_text(word, ">") {
+        match read_number_and_text(alloc, rest)? {
+            None => Ok(None),
+            Some((conn, text)) => Ok(Some(Step::Text(conn, text))),
+        }
+    } else if is_text(word, "frame") {
+        match read_context_and_text(alloc, rest)? {
+            None => Ok(None),
+            Some((context, url)) => Ok(Some(Step::Frame(context, url))),
+        }
+    } else if is_text(word, "unframe") {
+        match read_context(alloc, rest)? {
+            None => Ok(None),
+            Some(context) => Ok(Some(Step::Unframe(context))),
+        }
+    } else if is_text(word, "log") {
+        match read_entry(alloc, rest)? {
+            None => Ok(None),
+            Some((context, level, text)) => Ok(Some(Step::Log(context, level, text))),
+        }
+    } else if is_text(word, "value") {
+        Ok(Some(Step::TableRow(String::from_str(alloc, rest)?)))
+    } else {
+        Ok(None)
+    }
+}
+
+// The number, and the text behind the first space.
+fn read_number_and_text(alloc: Global, rest: &str) -> Result<Option<(JsUint, String)>, AllocError>
+    ensures some { IfOk result (λ found. IfSome found (λ x. rest.now ≡ decimal x.0.value ++ 32 ∷ string_bytes x.1)) }
+    ensures none { IfOk result (λ found. IfNone found ((n : ℕ) (text : List ℕ) → n < 2 ^ 53 → rest.now ≡ decimal n ++ 32 ∷ text → ⊥)) }
+{
+    let Some((number, text)) = parts(rest) else {
+        return Ok(None);
+    };
+    match read_number(alloc, number)? {
+        None => Ok(None),
+        Some(n) => Ok(Some((n, String::from_str(alloc, text)?))),
+    }
+}
+
+// The context, and the text behind the first space.
+fn read_context_and_text(alloc: Global, rest: &str) -> Result<Option<(String, String)>, AllocError>
+    ensures some { IfOk result (λ found. IfSome found (λ x. IsContext (string_bytes x.0) × (rest.now ≡ string_bytes x.0 ++ 32 ∷ string_bytes x.1))) }
+    ensures none { IfOk result (λ found. IfNone found ((context text : List ℕ) → IsContext context → rest.now ≡ context ++ 32 ∷ text → ⊥)) }
+{
+    let Some((context, text)) = parts(rest) else {
+        return Ok(None);
+    };
+    match read_context(alloc, context)? {
+        None => Ok(None),
+        Some(context) => Ok(Some((context, String::from_str(alloc, text)?))),
+    }
+}
+
+// The context, the level behind the first space, and the text behind the next.
+fn read_entry(alloc: Global, rest: &str) -> Result<Option<(String, Level, String)>, AllocError>
+    ensures some { IfOk result (λ found. IfSome found (λ x. IsContext (string_bytes x.0) × (rest.now ≡ string_bytes x.0 ++ 32 ∷ level_text x.1 ++ 32 ∷ string_bytes x.2))) }
+    ensures none { IfOk result (λ found. IfNone found ((context text : List ℕ) (level : Level) → IsContext context → rest.now ≡ context ++ 32 ∷ level_text level ++ 32 ∷ text → ⊥)) }
+{
+    let Some((context, entry)) = parts(rest) else {
+        return Ok(None);
+    };
+    let Some((level, text)) = level_and_text(entry) else {
+        return Ok(None);
+    };
+    match read_context(alloc, context)? {
+        None => Ok(None),
+        Some(context) => Ok(Some((context, level, String::from_str(alloc, text)?))),
+    }
+}
+
+// The level, and the text behind the first space.
+fn level_and_text(rest: &str) -> Option<(Level, &str)>
+    ensures some { IfSome result (λ x. rest.now ≡ level_text x.0 ++ 32 ∷ x.1.now) }
+    ensures none { IfNone result ((level : Level) (text : List ℕ) → rest.now ≡ level_text level ++ 32 ∷ text → ⊥) }
+{
+    let (word, text) = parts(rest)?;
+    let level = Level::named(word)?;
+    Some((level, text))
+}
+
+// The context that the text is.
+fn read_context(alloc: Global, text: &str) -> Result<Option<String>, AllocError>
+    ensures some { IfOk result (λ found. IfSome found (λ context. IsContext (string_bytes context) × (text.now ≡ string_bytes context))) }
+    ensures none { IfOk result (λ found. IfNone found (IsContext text.now → ⊥)) }
+{
+    if is_text(text, "") || has_space(text) {
+        return Ok(None);
+    }
+    Ok(Some(String::from_str(alloc, text)?))
+}
+
+fn has_space(text: &str) -> bool
+    ensures { result ≡ list_any (λ b. b == 32) text.now }
+{
+    text.as_bytes().iter().any(|b| *b == b' ')
+}
+
+// The js-uint whose decimal form the text is.
+pub fn read_number(alloc: Global, text: &str) -> Result<Option<JsUint>, AllocError>
+    ensures some { IfOk result (λ found. IfSome found (λ n. text.now ≡ decimal n.value)) }
+    ensures none { IfOk result (λ found. IfNone found ((n : ℕ) → n < 2 ^ 53 → text.now ≡ decimal n → ⊥)) }
+{
+    let Ok(n) = text.parse::<u64>() else {
+        return Ok(None);
+    };
+    let shown = n.to_string(alloc)?;
+    if is_text(shown.as_str(), text) {
+        Ok(JsUint::new(n))
+    } else {
+        Ok(None)
+    }
+}
+
+// The parts round the first space.
+pub fn parts(text: &str) -> Option<(&str, &str)>
+    ensures some { IfSome result (λ x. text.now ≡ x.0.now ++ 32 ∷ x.1.now) }
+    ensures first { (xs ys : List ℕ) → text.now ≡ xs ++ 32 ∷ ys → list_any (λ b. b == 32) xs ≡ false
+        → IsSomeAnd result (λ x. (x.0.now ≡ xs) × (x.1.now ≡ ys)) }
+{
+    text.split_once(' ')
+}
+
+pub fn is_text(text: &str, other: &str) -> bool
+    ensures { IsTrue result ↔ (text.now ≡ other.now) }
+{
+    text == other
+}
+
+/// The lines of what is sent, each with its line feed.
+///
+/// # Errors
+/// No memory, where a growth was refused.
+pub fn lines_of(alloc: Global, all: Vec<Sent>) -> Result<Vec<u8>, AllocError>
+    ensures { IfOk result (λ lines. lines.items ≡ written (map sent_of all.items)) }
+{
+    let mut lines = Vec::new(alloc);
+    for sent in all {
+        let line = line_of_sent(alloc, sent)?;
+        lines.extend_from_slice(line.as_bytes())?;
+    }
+    Ok(lines)
+}
+
+// The line of what is sent, with its line feed.
+#[tactic(auto, using(crate::proofs::SentLineLemmas::text_grouped))]
+fn line_of_sent(alloc: Global, sent: Sent) -> Result<String, AllocError>
+    ensures { IfOk result (λ line. string_bytes line ≡ ended (sent_line (sent_of sent))) }
+{
+    match sent {
+        Sent::Text(conn, text) => text_line(alloc, conn.value, text.as_str()),
+        Sent::Close(conn) => format!(in alloc; "close {}\n", conn.value),
+        Sent::Opened(conn) => format!(in alloc; "opened {}\n", conn.value),
+        Sent::Denied(conn) => format!(in alloc; "denied {}\n", conn.value),
+        Sent::Lost(conn) => format!(in alloc; "lost {}\n", conn.value),
+        Sent::NoEffect => String::from_str(alloc, "no effect\n"),
+    }
+}
+
+fn text_line(alloc: Global, conn: u64, text: &str) -> Result<String, AllocError>
+    ensures { IfOk result (λ line. string_bytes line ≡ 60 ∷ 32 ∷ (decimal conn ++ 32 ∷ (text.now ++ 10 ∷ []))) }
+{
+    format!(in alloc; "< {conn} {text}\n")
+}

@@ -1,7 +1,0 @@
-use Rattle.std.proofs.Common.{◌≡◌, map}
-use Rattle.bidi_remote.specs.Tables.View.{sent_of}
-use Rattle.bidi_programs.specs.Lines.{written}
-use Rattle.bidi_programs.proofs.lines.lines_of.Given as goal
-
-abbrev pub invariant-loop-sent : goal.invariant-loop-sent
-invariant-loop-sent l = l.lines.items ≡ written (map sent_of l.yielded)

@@ -1,0 +1,86 @@
+//! The faults that end a run: the status of each, and the line that tells it.
+ghost use Rattle.std.specs.Prelude.{◌≡◌, ◌++◌, codes, decimal, OnOk, OnErr};
+ghost use Rattle.std.specs.Io.KnownBytes.{Appends};
+ghost use Rattle.bidi_console.specs.Devices.{AppendsBeginning, CountsFailure};
+ghost use Rattle.bidi_programs.specs.Runs.{Tells, line_of, status_of, with_number};
+
+use bidi_console::{DeviceFault, ShowFault, Sink, write_all};
+use bidi_pair::PairFault;
+use bidi_play::PlayFault;
+use bidi_serve::ServeFault;
+use itoa::Buffer;
+
+/// Why a run ended before all was done.
+#[derive(Clone, Copy, Debug, PartialEq, Eq)]
+pub enum RunFault {
+    /// A play stopped.
+    Play(PlayFault),
+    /// A run of both ends stopped.
+    Pair(PairFault),
+    /// A `show` or a `check` stopped.
+    Listing(ShowFault),
+    /// Serving stopped.
+    Serve(ServeFault),
+}
+
+impl RunFault {
+    /// The status of a program that it ends: 2 at a bad line, else 3.
+    pub fn status(self) -> u8
+        ensures { result ≡ status_of self }
+    {
+        match self {
+            RunFault::Play(PlayFault::BadLine(_)) => 2,
+            RunFault::Pair(PairFault::BadLine(_)) => 2,
+            RunFault::Listing(ShowFault::BadLine(_)) => 2,
+            _ => 3,
+        }
+    }
+
+    /// Tells it in one line, as far as that can be written. Takes no memory.
+    pub fn tell<F: Sink>(self, faults: &mut F)
+        ensures { Tells (F.contents faults.old) (F.contents faults.new) (F.failures faults.old) (F.failures faults.new) (line_of self) }
+    {
+        let _ = match self.words() {
+            (None, line) => write_all(faults, line.as_bytes()),
+            (Some(number), rest) => write_numbered(faults, number, rest),
+        };
+    }
+
+    // The number of a bad line, and the words behind it; or the whole line.
+    fn words(self) -> (Option<u64>, &'static str)
+        ensures { line_of self ≡ with_number result.0 result.1.now }
+    {
+        match self {
+            RunFault::Play(PlayFault::BadLine(number)) => (Some(number), " is no play line\n"),
+            RunFault::Pair(PairFault::BadLine(number)) => (Some(number), " is no pair line\n"),
+            RunFault::Listing(ShowFault::BadLine(number)) => (Some(number), " is no text line\n"),
+            RunFault::Play(PlayFault::Read)
+            | RunFault::Pair(PairFault::Read)
+            | RunFault::Listing(ShowFault::Read) => (None, "bidi: input cannot be read\n"),
+            RunFault::Play(PlayFault::Write)
+            | RunFault::Pair(PairFault::Write)
+            | RunFault::Listing(ShowFault::Write) => (None, "bidi: output cannot be written\n"),
+            RunFault::Play(PlayFault::NoMemory)
+            | RunFault::Pair(PairFault::NoMemory)
+            | RunFault::Listing(ShowFault::NoMemory)
+            | RunFault::Serve(ServeFault::NoMemory) => (None, "bidi: out of memory\n"),
+            RunFault::Play(PlayFault::WornOut)
+            | RunFault::Pair(PairFault::TooManyLines)
+            | RunFault::Pair(PairFault::WornOut)
+            | RunFault::Listing(ShowFault::TooManyLines)
+            | RunFault::Serve(ServeFault::WornOut) => (None, "bidi: too many steps\n"),
+            RunFault::Serve(ServeFault::Listen) => (None, "bidi: cannot listen\n"),
+        }
+    }
+}
+
+// Writes what is told of the line with a number.
+fn write_numbered<F: Sink>(faults: &mut F, number: u64, rest: &str) -> Result<(), DeviceFault>
+    ensures ok { OnOk result (Appends (F.contents faults.old) (F.contents faults.new) (codes "bidi: line " ++ decimal number ++ rest.now)) }
+    ensures err { OnErr result (AppendsBeginning (F.contents faults.old) (F.contents faults.new) (codes "bidi: line " ++ decimal number ++ rest.now)) }
+    ensures counts { CountsFailure result (F.failures faults.old) (F.failures faults.new) }
+{
+    write_all(faults, b"bidi: line ")?;
+    write_all(faults, Buffer::new().format(number).as_bytes())?;
+    write_all(faults, rest.as_bytes())
+}

@@ -1,0 +1,191 @@
+//! Serving one connection: the remote end behind a WebSocket link.
+ghost use Rattle.std.specs.Prelude.{◌≡◌, not, ◌&&◌, Bool, List, [], ◌∷◌, map, IfOk, IfErr, OnOk};
+ghost use Rattle.bidi_remote.specs.Machine.History.{Input, Open, IsHeardAs};
+ghost use Rattle.bidi_remote.specs.Machine.Sent.{Text, out, text_on, texts_on};
+ghost use Rattle.bidi_remote.specs.Tables.Stands.{StandsFor};
+ghost use Rattle.bidi_remote.specs.Tables.View.{step_of, sent_of};
+ghost use Rattle.bidi_serve.specs.Serving.{AreSent, Exchange, Exchanged, Exchanges, IsRefused, Served, dropped, is_denied, is_served};
+
+use bidi_link::{Incoming, Link};
+use bidi_remote::{RemoteEnd, RemoteFault, Sent, Step};
+use bidi_tree::JsUint;
+use std::alloc::{AllocError, Global};
+use std::io::{Read, Write};
+use tungstenite::MaskKeys;
+
+/// Serves one connection over a link: opens it for the resource, takes at most so many messages, control ones counted,
+/// hands each to the remote end and sends what that answers on this connection, in order. Then the connection is dropped
+/// where it is still open, and the link is closed.
+///
+/// It ends where the remote end denies or closes the connection, where the peer closes the link, where the link fails, or
+/// after so many messages. What the remote end sends on other connections goes nowhere.
+///
+/// # Errors
+/// Those of `RemoteEnd::step`. The end has taken the steps before.
+pub fn serve_link<S: Read + Write + Drop, K: MaskKeys + Drop>(
+    alloc: Global,
+    end: &mut RemoteEnd,
+    link: &mut Link<S, K>,
+    conn: JsUint,
+    resource: &str,
+    messages: u32,
+) -> Result<(), RemoteFault>
+    ensures ok { (h : List Input) → StandsFor end.old h → OnOk result ((k : List Input) × StandsFor end.new k
+        × Served S.remaining S.contents conn.value resource.now messages link.old h link.new k) }
+    ensures err { (h : List Input) → StandsFor end.old h → IfErr result (λ fault. (k : List Input) × IsRefused end.new fault k) }
+{
+    let made = open(alloc, end, conn, resource)?;
+    if made {
+        serve_open(end, link, conn, messages)
+    } else {
+        let _ = link.close();
+        Ok(())
+    }
+}
+
+// Serves a connection that is open, closes the link, and drops the connection where it still is open.
+fn serve_open<S: Read + Write + Drop, K: MaskKeys + Drop>(
+    end: &mut RemoteEnd,
+    link: &mut Link<S, K>,
+    conn: JsUint,
+    messages: u32,
+) -> Result<(), RemoteFault>
+    ensures ok { (h : List Input) → StandsFor end.old h → OnOk result ((k : List Input) × StandsFor end.new (dropped k conn.value)
+        × Exchanged S.remaining S.contents conn.value messages link.old h link.new k) }
+    ensures err { (h : List Input) → StandsFor end.old h → IfErr result (λ fault. (k : List Input) × IsRefused end.new fault k) }
+{
+    let exchanged = exchange_all(end, link, conn, messages);
+    let _ = link.close();
+    exchanged?;
+    drop_connection(end, conn)
+}
+
+// Opens the connection, and tells whether it is made.
+fn open(
+    alloc: Global,
+    end: &mut RemoteEnd,
+    conn: JsUint,
+    resource: &str,
+) -> Result<bool, RemoteFault>
+    ensures ok { (h : List Input) → StandsFor end.old h → IfOk result (λ made. (not made ≡ is_denied h conn.value resource.now)
+        × StandsFor end.new (Open conn.value resource.now ∷ h)) }
+    ensures err { (h : List Input) → StandsFor end.old h → IfErr result (λ fault. IsRefused end.new fault h) }
+{
+    let was_open = end.is_open(conn);
+    let resource = String::from_str(alloc, resource)?;
+    end.step(Step::Open(conn, resource))?;
+    Ok(!was_open && end.is_open(conn))
+}
+
+// Drops the connection, where it is still open.
+fn drop_connection(end: &mut RemoteEnd, conn: JsUint) -> Result<(), RemoteFault>
+    ensures ok { (h : List Input) → StandsFor end.old h → OnOk result (StandsFor end.new (dropped h conn.value)) }
+    ensures err { (h : List Input) → StandsFor end.old h → IfErr result (λ fault. IsRefused end.new fault h) }
+{
+    if end.is_open(conn) {
+        end.step(Step::Drop(conn))?;
+    }
+    Ok(())
+}
+
+// Exchanges so many messages at most.
+fn exchange_all<S: Read + Write + Drop, K: MaskKeys + Drop>(
+    end: &mut RemoteEnd,
+    link: &mut Link<S, K>,
+    conn: JsUint,
+    messages: u32,
+) -> Result<(), RemoteFault>
+    ensures ok { (h : List Input) → StandsFor end.old h → OnOk result ((k : List Input) × StandsFor end.new k
+        × Exchanges S.remaining S.contents conn.value messages link.old h link.new k) }
+    ensures err { (h : List Input) → StandsFor end.old h → IfErr result (λ fault. (k : List Input) × IsRefused end.new fault k) }
+{
+    let mut left = messages;
+    'exchanges: while left > 0 {
+        left -= 1;
+        if !exchange(end, link, conn)? {
+            return Ok(());
+        }
+    }
+    Ok(())
+}
+
+// Takes one message, hands it on, and sends what is answered. Tells whether another may follow.
+fn exchange<S: Read + Write + Drop, K: MaskKeys + Drop>(
+    end: &mut RemoteEnd,
+    link: &mut Link<S, K>,
+    conn: JsUint,
+) -> Result<bool, RemoteFault>
+    ensures ok { (h : List Input) → StandsFor end.old h → IfOk result (λ goes_on. (k : List Input) × StandsFor end.new k
+        × Exchange S.remaining S.contents conn.value link.old h link.new k goes_on) }
+    ensures err { (h : List Input) → StandsFor end.old h → IfErr result (λ fault. IsRefused end.new fault h) }
+{
+    match link.take() {
+        Ok(Incoming::Text(text)) => hand_on(end, link, conn, Step::Text(conn, text)),
+        Ok(Incoming::NotText) => hand_on(end, link, conn, Step::NotText(conn)),
+        Ok(Incoming::Control) => Ok(true),
+        Ok(Incoming::Closed) => Ok(false),
+        Err(_) => Ok(false),
+    }
+}
+
+// Hands a message on, and sends what is answered. Tells whether another may follow.
+fn hand_on<S: Read + Write + Drop, K: MaskKeys + Drop>(
+    end: &mut RemoteEnd,
+    link: &mut Link<S, K>,
+    conn: JsUint,
+    step: Step,
+) -> Result<bool, RemoteFault>
+    ensures ok { (h : List Input) → StandsFor end.old h → IfOk result (λ goes_on. (i : Input) × (whole : Bool) × IsHeardAs (step_of step) i × StandsFor end.new (i ∷ h)
+        × AreSent S.contents link.old (texts_on conn.value (out h i)) link.new whole × (goes_on ≡ whole && is_served (i ∷ h) conn.value)) }
+    ensures err { (h : List Input) → StandsFor end.old h → IfErr result (λ fault. IsRefused end.new fault h) }
+{
+    let sent = end.step(step)?;
+    let whole = send_all(link, conn, sent);
+    Ok(whole && end.is_open(conn))
+}
+
+// Sends the texts for the connection in order, up to the first that cannot be sent. Tells whether all were.
+fn send_all<S: Read + Write + Drop, K: MaskKeys + Drop>(
+    link: &mut Link<S, K>,
+    conn: JsUint,
+    sent: Vec<Sent>,
+) -> bool
+    ensures { AreSent S.contents link.old (texts_on conn.value (map sent_of sent.items)) link.new result }
+{
+    'texts: for one in sent {
+        if !send_one(link, conn, one) {
+            return false;
+        }
+    }
+    true
+}
+
+// Sends what is a text for the connection. Tells whether it was.
+fn send_one<S: Read + Write + Drop, K: MaskKeys + Drop>(
+    link: &mut Link<S, K>,
+    conn: JsUint,
+    one: Sent,
+) -> bool
+    ensures { AreSent S.contents link.old (text_on conn.value (sent_of one)) link.new result }
+{
+    match one {
+        Sent::Text(to, text) => send_text(link, conn, to, text.as_str()),
+        _ => true,
+    }
+}
+
+// Sends a text that is for the connection, and no other. Tells whether it was sent.
+fn send_text<S: Read + Write + Drop, K: MaskKeys + Drop>(
+    link: &mut Link<S, K>,
+    conn: JsUint,
+    to: JsUint,
+    text: &str,
+) -> bool
+    ensures { AreSent S.contents link.old (text_on conn.value (Text to.value text.now)) link.new result }
+{
+    if conn.value == to.value {
+        link.send(text).is_ok()
+    } else {
+        true
+    }
+}

@@ -1,0 +1,261 @@
+//! Calling a function, and letting go of its results.
+ghost use Rattle.std.specs.Prelude.{◌≡◌, IfOk, refl, true, [], IfSome};
+ghost use Rattle.bidi_tree.specs.Node.{MembersAreWhole};
+ghost use Rattle.bidi_tree.specs.View.{members_node};
+ghost use Rattle.bidi_shape.specs.Term.{rule as named};
+ghost use Rattle.bidi_shape.specs.Parts.{has_named};
+ghost use Rattle.bidi_shape.specs.Table.{map_shape, names_in};
+ghost use Rattle.bidi_shape.specs.Made.{Makes};
+ghost use Rattle.bidi_shape.specs.ValueLaws.{others_of};
+
+use crate::evaluate::Ownership;
+use crate::local_value::LocalValue;
+use crate::target::Target;
+use bidi_shape::{
+    Ext, Fields, MakeFault, Optional, Required, Ruled, Shape, ShapeFault, add_member, add_optional,
+    read_fields,
+};
+use bidi_tree::{Members, Tree};
+use std::alloc::{AllocError, Global};
+
+/// Parameters of `script.callFunction`.
+///
+/// `{ functionDeclaration: text, awaitPromise: bool, target: Target, ? arguments: [*LocalValue],
+/// ? resultOwnership: Ownership, ? this: LocalValue, ? userActivation: bool, Extensible }`
+///
+/// `awaitPromise` and `userActivation` have no effect here. Absent, `arguments` is empty, and `resultOwnership` is
+/// `none`.
+///
+/// After WebDriver BiDi, "The script.callFunction Command".
+#[derive(Drop)]
+pub struct CallFunctionParameters {
+    pub function_declaration: String,
+    pub await_promise: bool,
+    pub target: Target,
+    pub arguments: Option<Vec<LocalValue>>,
+    pub result_ownership: Option<Ownership>,
+    pub this: Option<LocalValue>,
+    pub user_activation: Option<bool>,
+    pub ext: Ext,
+}
+
+impl CallFunctionParameters {
+    ghost use Rattle.bidi_shape.specs.Name.{call_function_parameters};
+
+    /// The parameters, with further members. Takes no memory.
+    ///
+    /// # Errors
+    /// - `Clash`: a further member is called `functionDeclaration`, `awaitPromise`, `target`, `arguments`,
+    ///   `resultOwnership`, `this` or `userActivation`.
+    /// - `TooDeep`: a further member has an `Odd` in it, or more than 60 levels.
+    pub fn new(
+        function_declaration: String,
+        await_promise: bool,
+        target: Target,
+        arguments: Option<Vec<LocalValue>>,
+        result_ownership: Option<Ownership>,
+        this: Option<LocalValue>,
+        user_activation: Option<bool>,
+        ext: Members,
+    ) -> Result<CallFunctionParameters, MakeFault>
+        requires target { ⟦<Target as Shape>⟧.shape.well target }
+        requires arguments { IfSome arguments (λ vs. ⟦<Vec<LocalValue> as Shape>⟧.shape.well vs) }
+        requires this { IfSome this (λ v. ⟦<LocalValue as Shape>⟧.shape.well v) }
+        ensures made { Makes result
+            (has_named (names_in (named call_function_parameters)) (members_node ext.entries) ≡ true)
+            ⊥
+            (¬ MembersAreWhole (members_node ext.entries) 60)
+            (λ v. (v.function_declaration ≡ function_declaration) × (v.await_promise ≡ await_promise) × (v.target ≡ target) × (v.arguments ≡ arguments) × (v.result_ownership ≡ result_ownership) × (v.this ≡ this) × (v.user_activation ≡ user_activation) × (others_of v.ext ≡ members_node ext.entries)) }
+        ensures well { IfOk result (λ v. ⟦<CallFunctionParameters as Shape>⟧.shape.well v) }
+    {
+        let ext = Ext::new(
+            ext,
+            &[
+                "functionDeclaration",
+                "awaitPromise",
+                "target",
+                "arguments",
+                "resultOwnership",
+                "this",
+                "userActivation",
+            ],
+        )?;
+        if !ext.is_whole() {
+            return Err(MakeFault::TooDeep);
+        }
+        Ok(CallFunctionParameters {
+            function_declaration,
+            await_promise,
+            target,
+            arguments,
+            result_ownership,
+            this,
+            user_activation,
+            ext,
+        })
+    }
+}
+
+type CallParts = Required<
+    String,
+    Required<
+        bool,
+        Required<
+            Target,
+            Optional<
+                Vec<LocalValue>,
+                Optional<Ownership, Optional<LocalValue, Optional<bool, Ext>>>,
+            >,
+        >,
+    >,
+>;
+
+impl Ruled for CallFunctionParameters {
+    ghost use Rattle.bidi_shape.specs.Name.{call_function_parameters};
+
+    ghost rule = { named call_function_parameters };
+}
+
+impl Shape for CallFunctionParameters {
+    ghost shape = { map_shape ⟦<CallFunctionParameters as Ruled>⟧.rule ⟦<CallParts as Fields>⟧.table [] (λ v. (v.function_declaration, (v.await_promise, (v.target, (v.arguments, (v.result_ownership, (v.this, (v.user_activation, v.ext)))))))) refl refl };
+
+    fn from_tree(alloc: Global, tree: &Tree) -> Result<CallFunctionParameters, ShapeFault> {
+        let Required(
+            function_declaration,
+            Required(
+                await_promise,
+                Required(
+                    target,
+                    Optional(
+                        arguments,
+                        Optional(result_ownership, Optional(this, Optional(user_activation, ext))),
+                    ),
+                ),
+            ),
+        ) = read_fields::<CallFunctionParameters, CallParts>(
+            alloc,
+            tree,
+            &[
+                "functionDeclaration",
+                "awaitPromise",
+                "target",
+                "arguments",
+                "resultOwnership",
+                "this",
+                "userActivation",
+            ],
+            &[],
+        )?;
+        Ok(CallFunctionParameters {
+            function_declaration,
+            await_promise,
+            target,
+            arguments,
+            result_ownership,
+            this,
+            user_activation,
+            ext,
+        })
+    }
+
+    fn to_tree(&self, alloc: Global) -> Result<Tree, AllocError> {
+        let mut members = self.ext.copy_members()?;
+        add_optional(alloc, &mut members, "userActivation", &self.user_activation)?;
+        add_optional(alloc, &mut members, "this", &self.this)?;
+        add_optional(
+            alloc,
+            &mut members,
+            "resultOwnership",
+            &self.result_ownership,
+        )?;
+        add_optional(alloc, &mut members, "arguments", &self.arguments)?;
+        add_member(alloc, &mut members, "target", &self.target)?;
+        add_member(alloc, &mut members, "awaitPromise", &self.await_promise)?;
+        add_member(
+            alloc,
+            &mut members,
+            "functionDeclaration",
+            &self.function_declaration,
+        )?;
+        Ok(Tree::Map(members))
+    }
+}
+
+/// Parameters of `script.disown`.
+///
+/// `{ handles: [*text], target: Target, Extensible }`
+///
+/// After WebDriver BiDi, "The script.disown Command".
+#[derive(Drop)]
+pub struct DisownParameters {
+    pub handles: Vec<String>,
+    pub target: Target,
+    pub ext: Ext,
+}
+
+impl DisownParameters {
+    ghost use Rattle.bidi_shape.specs.Name.{disown_parameters};
+
+    /// The parameters, with further members. Takes no memory.
+    ///
+    /// # Errors
+    /// - `Clash`: a further member is called `handles` or `target`.
+    /// - `TooDeep`: a further member has an `Odd` in it, or more than 60 levels.
+    #[tactic(auto, using(crate::proofs::PartLemmas::texts_are_well))]
+    pub fn new(
+        handles: Vec<String>,
+        target: Target,
+        ext: Members,
+    ) -> Result<DisownParameters, MakeFault>
+        requires target { ⟦<Target as Shape>⟧.shape.well target }
+        ensures made { Makes result
+            (has_named (names_in (named disown_parameters)) (members_node ext.entries) ≡ true)
+            ⊥
+            (¬ MembersAreWhole (members_node ext.entries) 60)
+            (λ v. (v.handles ≡ handles) × (v.target ≡ target) × (others_of v.ext ≡ members_node ext.entries)) }
+        ensures well { IfOk result (λ v. ⟦<DisownParameters as Shape>⟧.shape.well v) }
+    {
+        let ext = Ext::new(ext, &["handles", "target"])?;
+        if !ext.is_whole() {
+            return Err(MakeFault::TooDeep);
+        }
+        Ok(DisownParameters {
+            handles,
+            target,
+            ext,
+        })
+    }
+}
+
+type DisownParts = Required<Vec<String>, Required<Target, Ext>>;
+
+impl Ruled for DisownParameters {
+    ghost use Rattle.bidi_shape.specs.Name.{disown_parameters};
+
+    ghost rule = { named disown_parameters };
+}
+
+impl Shape for DisownParameters {
+    ghost shape = { map_shape ⟦<DisownParameters as Ruled>⟧.rule ⟦<DisownParts as Fields>⟧.table [] (λ v. (v.handles, (v.target, v.ext))) refl refl };
+
+    fn from_tree(alloc: Global, tree: &Tree) -> Result<DisownParameters, ShapeFault> {
+        let Required(handles, Required(target, ext)) = read_fields::<DisownParameters, DisownParts>(
+            alloc,
+            tree,
+            &["handles", "target"],
+            &[],
+        )?;
+        Ok(DisownParameters {
+            handles,
+            target,
+            ext,
+        })
+    }
+
+    fn to_tree(&self, alloc: Global) -> Result<Tree, AllocError> {
+        let mut members = self.ext.copy_members()?;
+        add_member(alloc, &mut members, "target", &self.target)?;
+        add_member(alloc, &mut members, "handles", &self.handles)?;
+        Ok(Tree::Map(members))
+    }
+}

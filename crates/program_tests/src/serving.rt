@@ -1,0 +1,274 @@
+//! Serving over loopback, in one process: what the clients write, the server, and what the clients read.
+//!
+//! A value that is large in the prover's eyes (a remote end, a link) is held by a function without another way out.
+use bidi_link::Link;
+use bidi_remote::RemoteEnd;
+use bidi_serve::{ServeFault, serve, serve_link};
+use bidi_tree::JsUint;
+use std::alloc::{AllocError, Global};
+use std::io;
+use std::io::{Read, Write};
+use std::net::{Shutdown, SocketAddr, TcpListener, TcpStream};
+use std::test::Fail;
+use tungstenite::{NoCallback, NoMask, accept_hdr};
+
+/// The head of a request that asks for an upgrade, after its first line.
+const FIELDS: &str =
+    "Host: 127.0.0.1\r\nUpgrade: websocket\r\nConnection: Upgrade\r\nSec-WebSocket-Key: dGhlIHNhbXBsZSBub25jZQ==\r\nSec-WebSocket-Version: 13\r\n\r\n";
+
+#[test]
+fn a_handshake_is_answered(rt: HostRuntime) -> Result<(), Fail> {
+    let all = served_alone(&rt)?;
+    assert!(rt; all.starts_with(b"HTTP/1.1 101"));
+    Ok(())
+}
+
+/// What a client reads that writes a head alone.
+fn served_alone(rt: &HostRuntime) -> Result<Vec<u8>, Fail> {
+    let listener = TcpListener::bind(rt, "127.0.0.1:0")?;
+    let client = written(rt, listener.local_addr()?, &head_bytes(rt.alloc())?)?;
+    serve(rt.alloc(), &listener, 1, 1)?;
+    Ok(rest_of(rt.alloc(), client)?)
+}
+
+/// Heads that ask for no connection: what they are, and their bytes. The first line may lack its end.
+const HEADS: &str = r"nothing |
+another method | POST /session HTTP/1.1\r\n
+an old version of HTTP | GET /session HTTP/1.0\r\n
+a head that never ends | GET /session HTTP/1.1\r\nHost: x
+a denied resource | GET /x HTTP/1.1\r\n
+a resource with a query | GET /session?a=b HTTP/1.1\r\n";
+
+#[test]
+fn each_handshake_fails_alone(rt: HostRuntime) -> Result<(), Fail> {
+    for row in HEADS.lines() {
+        let found = is_next_served(&rt, &bad_head(rt.alloc(), row)?)?;
+        assert!(rt; found, "behind {row}");
+    }
+    let found = is_next_served(&rt, &long_head(rt.alloc())?)?;
+    assert!(rt; found, "behind a head of 70,000 bytes");
+    Ok(())
+}
+
+/// Whether the next connection is served behind one whose client writes these bytes and no more.
+fn is_next_served(rt: &HostRuntime, bytes: &[u8]) -> Result<bool, Fail> {
+    let all = next_reads(rt, bytes)?;
+    Ok(all.starts_with(b"HTTP/1.1 101"))
+}
+
+/// What the client of the next connection reads.
+fn next_reads(rt: &HostRuntime, bytes: &[u8]) -> Result<Vec<u8>, Fail> {
+    let listener = TcpListener::bind(rt, "127.0.0.1:0")?;
+    let at = listener.local_addr()?;
+    let _first = written(rt, at, bytes)?;
+    let second = written(rt, at, &head_bytes(rt.alloc())?)?;
+    serve(rt.alloc(), &listener, 2, 100)?;
+    Ok(rest_of(rt.alloc(), second)?)
+}
+
+/// A command in one frame of a client, 46 bytes behind a key of zeros.
+const STATUS: &[u8] =
+    b"\x81\xae\x00\x00\x00\x00{\"id\":1,\"method\":\"session.status\",\"params\":{}}";
+
+/// The reply to it in one frame of a server, 67 bytes.
+const READY: &[u8] =
+    b"\x81\x43{\"id\":1,\"result\":{\"message\":\"ready\",\"ready\":true},\"type\":\"success\"}";
+
+/// The answer to a message that is no text, 82 bytes.
+const REFUSED: &[u8] =
+    b"\x81\x52{\"error\":\"invalid argument\",\"id\":null,\"message\":\"invalid argument\",\"type\":\"error\"}";
+
+/// What a client writes behind the head of its handshake, and all that it reads behind the server's: three words stand for the
+/// bytes above, the rest are bytes. A link that fails is closed without a frame; a close is answered, one with a code that may
+/// not be sent by 1002, with a text.
+const LINKS: &str = "a command | STATUS | READY
+two commands | STATUS STATUS | READY READY
+no frame | |
+bytes, a ping and a pong | 82 80 00 00 00 00 89 80 00 00 00 00 8a 80 00 00 00 00 | REFUSED 8a 00
+a close | 88 80 00 00 00 00 | 88 00
+a command behind a close | 88 80 00 00 00 00 STATUS | 88 00
+a close with a bad code | 88 82 00 00 00 00 03 ed | 88 14 03 ea ..
+no mask | 81 02 7b 7d |
+reserved bits | f1 80 00 00 00 00 |
+an unknown opcode | 83 80 00 00 00 00 |
+a length past the limits | 81 ff 7f ff ff ff ff ff ff ff 00 00 00 00 |
+a text within a text in parts | 01 81 00 00 00 00 7b 81 81 00 00 00 00 7d |
+no UTF-8 | 81 81 00 00 00 00 ff |
+the end in the middle | 81 85 00 00 00 00 7b |
+a command, and then no mask | STATUS 81 02 7b 7d | READY";
+
+#[test]
+fn each_link_is_served_and_fails_alone(rt: HostRuntime) -> Result<(), Fail> {
+    for row in LINKS.lines() {
+        let (name, row) = row.split_once(" | ").ok_or("a row")?;
+        let (frames, wanted) = row.split_once("|").ok_or("two columns")?;
+        let (first, second) = talks(&rt, &bytes_of(rt.alloc(), frames)?)?;
+        let is_first = is_read(rt.alloc(), &first, wanted)?;
+        assert!(rt; is_first, "{name}: {}", first.escape_ascii());
+        // the last of its messages, so that the server closes the link
+        let is_second = is_read(rt.alloc(), &second, "READY 88 00")?;
+        assert!(rt; is_second, "behind {name}: {}", second.escape_ascii());
+    }
+    Ok(())
+}
+
+/// Whether these bytes were read; `..` stands for any that follow.
+fn is_read(alloc: Global, read: &[u8], wanted: &str) -> Result<bool, Fail> {
+    match wanted.split_once("..") {
+        Some((first, _)) => Ok(read.starts_with(&bytes_of(alloc, first)?)),
+        None => Ok(read == bytes_of(alloc, wanted)?.as_slice()),
+    }
+}
+
+/// What two clients read, one after another over one remote end: the first writes these frames, the second a command.
+fn talks(rt: &HostRuntime, frames: &[u8]) -> Result<(Vec<u8>, Vec<u8>), Fail> {
+    let mut end = RemoteEnd::new(rt.alloc())?;
+    let first = talk(rt, &mut end, 1, frames, 10);
+    let second = talk(rt, &mut end, 2, STATUS, 1);
+    drop(end);
+    let (Some(first), Some(second)) = (first, second) else {
+        return Err(Fail::from("a stream fails, or a connection is not dropped"));
+    };
+    Ok((first, second))
+}
+
+/// What a client reads behind the head, where it reads that, and then writes these frames and no more. A server takes at most
+/// so many messages. Nothing where a stream fails, or the connection is not dropped at the end.
+fn talk(
+    rt: &HostRuntime,
+    end: &mut RemoteEnd,
+    conn: u32,
+    frames: &[u8],
+    messages: u32,
+) -> Option<Vec<u8>> {
+    let listener = TcpListener::bind(rt, "127.0.0.1:0").ok()?;
+    let mut client = TcpStream::connect(rt, listener.local_addr().ok()?).ok()?;
+    client.write_all(&head_bytes(rt.alloc()).ok()?).ok()?;
+    let (stream, _) = listener.accept().ok()?;
+    match accept_hdr(rt.alloc(), stream, NoCallback) {
+        Ok(socket) => {
+            let link = Link::over(rt.alloc(), socket);
+            talk_over(rt.alloc(), end, conn, link, client, frames, messages)
+        }
+        Err(_) => None,
+    }
+}
+
+/// What the client reads behind the head, where a server serves this link to it.
+fn talk_over(
+    alloc: Global,
+    end: &mut RemoteEnd,
+    conn: u32,
+    link: Link<TcpStream, NoMask>,
+    client: TcpStream,
+    frames: &[u8],
+    messages: u32,
+) -> Option<Vec<u8>> {
+    let client = frames_written(alloc, client, frames);
+    let is_dropped = serve_one(alloc, end, conn, link, messages);
+    if is_dropped {
+        rest_of(alloc, client.ok()?).ok()
+    } else {
+        None
+    }
+}
+
+/// Serves a link, and tells whether its connection was dropped.
+fn serve_one(
+    alloc: Global,
+    end: &mut RemoteEnd,
+    conn: u32,
+    link: Link<TcpStream, NoMask>,
+    messages: u32,
+) -> bool {
+    let mut link = link;
+    let value = u64::from(conn);
+    let conn = JsUint { value };
+    let served = serve_link(alloc, end, &mut link, conn, "/session", messages);
+    served.is_ok() && !end.is_open(conn)
+}
+
+/// A client that has read a head, has written these frames, and writes no more.
+fn frames_written(alloc: Global, client: TcpStream, frames: &[u8]) -> io::Result<TcpStream> {
+    let mut client = client;
+    let mut head = Vec::new(alloc);
+    for _ in 0..4096u32 {
+        if head.ends_with(b"\r\n\r\n") {
+            break;
+        }
+        let mut byte = [0; 1];
+        client.read_exact(&mut byte)?;
+        head.extend_from_slice(&byte)?;
+    }
+    client.write_all(frames)?;
+    client.shutdown(Shutdown::Write)?;
+    Ok(client)
+}
+
+/// The bytes of a column.
+fn bytes_of(alloc: Global, words: &str) -> Result<Vec<u8>, Fail> {
+    let mut bytes = Vec::new(alloc);
+    for word in words.split_whitespace() {
+        match word {
+            "STATUS" => bytes.extend_from_slice(STATUS)?,
+            "READY" => bytes.extend_from_slice(READY)?,
+            "REFUSED" => bytes.extend_from_slice(REFUSED)?,
+            _ => bytes.push(u8::from_str_radix(word, 16)?)?,
+        }
+    }
+    Ok(bytes)
+}
+
+#[test]
+fn faults_tell_their_cause(rt: HostRuntime) -> Result<(), Fail> {
+    let listen = format!(in rt.alloc(); "{}", ServeFault::Listen)?;
+    assert!(rt; listen.as_str() == "cannot listen");
+    Ok(())
+}
+
+/// A client that has connected, written these bytes, and writes no more.
+fn written(rt: &HostRuntime, at: SocketAddr, bytes: &[u8]) -> io::Result<TcpStream> {
+    let mut client = TcpStream::connect(rt, at)?;
+    client.write_all(bytes)?;
+    client.shutdown(Shutdown::Write)?;
+    Ok(client)
+}
+
+/// All that comes until the server has closed.
+fn rest_of(alloc: Global, client: TcpStream) -> io::Result<Vec<u8>> {
+    let mut client = client;
+    let mut all = Vec::new(alloc);
+    client.read_to_end(&mut all)?;
+    Ok(all)
+}
+
+/// A head for `/session`.
+fn head_bytes(alloc: Global) -> Result<Vec<u8>, AllocError> {
+    let mut bytes = Vec::new(alloc);
+    bytes.extend_from_slice(b"GET /session HTTP/1.1\r\n")?;
+    bytes.extend_from_slice(FIELDS.as_bytes())?;
+    Ok(bytes)
+}
+
+/// The head of a row, with its fields where the first line is whole.
+fn bad_head(alloc: Global, row: &str) -> Result<Vec<u8>, Fail> {
+    let (_, head) = row.split_once(" |").ok_or("a row")?;
+    let head = head.trim_start().replace(alloc, "\\r\\n", "\r\n")?;
+    let mut bytes = Vec::new(alloc);
+    bytes.extend_from_slice(head.as_bytes())?;
+    if head.ends_with("\r\n") {
+        bytes.extend_from_slice(FIELDS.as_bytes())?;
+    }
+    Ok(bytes)
+}
+
+/// A head with a field of 70,000 bytes.
+fn long_head(alloc: Global) -> Result<Vec<u8>, AllocError> {
+    let long = "x".repeat(alloc, 70_000)?;
+    let mut bytes = Vec::new(alloc);
+    bytes.extend_from_slice(b"GET /session HTTP/1.1\r\nA: ")?;
+    bytes.extend_from_slice(long.as_bytes())?;
+    bytes.extend_from_slice(b"\r\n")?;
+    bytes.extend_from_slice(FIELDS.as_bytes())?;
+    Ok(bytes)
+}
