@@ -15,8 +15,7 @@ use Rattle.bidi_values.specs.Content.{content, pair_content, contents_of, pairs_
 use Rattle.bidi_values.specs.Kinds.{list_text, pairs_text}
 use Rattle.bidi_values.specs.NestedLaws.{NestingOf, value_tree, values_tree, pairs_tree}
 use Rattle.bidi_values.specs.View.{nested_tree, nested_pair_tree}
-use Rattle.bidi_values.specs.declared.held.RemoteList.{RemoteList}
-use Rattle.bidi_values.specs.declared.held.RemotePairs.{RemotePairs}
+use Rattle.bidi_values.specs.declared.held.Held.{Held as HeldBy}
 use Rattle.bidi_values.specs.declared.kinds.ListKind.{ListKind}
 use Rattle.bidi_values.specs.declared.kinds.ListKind.TheVariants as array
 use Rattle.bidi_values.specs.declared.kinds.PairsKind.{PairsKind}
@@ -185,13 +184,13 @@ local-pairs : (v : Nested LocalPlain ListKind PairsKind) (k : PairsKind) (ps : V
 local-pairs v k ps is = ap local_tree is ∙ (of_pairs_tree local.ghosts.nesting k ps ∙ around-pairs k _)
 
 -- and what they come to
-pub list-given : (held : Held) (v : Nested LocalPlain ListKind PairsKind) (k : ListKind) (vs : Vec (Nested LocalPlain ListKind PairsKind) Global) (us : Vec (Nested RemotePlain RemoteList RemotePairs) Global) → v ≡ ListOf k vs
+pub list-given : (held : Held) (v : Nested LocalPlain ListKind PairsKind) (k : ListKind) (vs : Vec (Nested LocalPlain ListKind PairsKind) Global) (us : Vec (Nested RemotePlain (HeldBy ListKind) (HeldBy PairsKind)) Global) → v ≡ ListOf k vs
     → resolved_items held (items_of (map local_tree vs.items)) ≡ Ok (remote_trees us) → resolved held (local_tree v) ≡ Ok (remote_tree (ListOf (record { kind = k; handle = None; internal_id = None }) us))
 list-given held v k vs us is given =
     ap (resolved held) (local-list v k vs is) ∙ (typed-passes held (list_text k) (items_of (map local_tree vs.items)) (remote_trees us) given
     ∙ ap Ok (sym (list_tree remote.ghosts.nesting (record { kind = k; handle = None; internal_id = None }) us ∙ held-list k _)))
 
-pub pairs-given : (held : Held) (v : Nested LocalPlain ListKind PairsKind) (k : PairsKind) (ps : Vec (NestedPair LocalPlain ListKind PairsKind) Global) (qs : Vec (NestedPair RemotePlain RemoteList RemotePairs) Global) → v ≡ PairsOf k ps
+pub pairs-given : (held : Held) (v : Nested LocalPlain ListKind PairsKind) (k : PairsKind) (ps : Vec (NestedPair LocalPlain ListKind PairsKind) Global) (qs : Vec (NestedPair RemotePlain (HeldBy ListKind) (HeldBy PairsKind)) Global) → v ≡ PairsOf k ps
     → resolved_items held (items_of (map local_pair_tree ps.items)) ≡ Ok (remote_pair_trees qs) → resolved held (local_tree v) ≡ Ok (remote_tree (PairsOf (record { kind = k; handle = None; internal_id = None }) qs))
 pairs-given held v k ps qs is given =
     ap (resolved held) (local-pairs v k ps is) ∙ (typed-passes held (pairs_text k) (items_of (map local_pair_tree ps.items)) (remote_pair_trees qs) given

@@ -120,6 +120,12 @@ held-stands b contexts n past action a ending act held is alive holds done s nex
       next_window = s.next_window;
     })
 
+-- the same, where what is held is another by an equation
+pub handle-stands : (b : Browser) (contexts : Contexts) (n : ℕ) (past : List Act) (action : Action) (a : ℕ) (ending : Ending) (act : Act) (held seen : ℕ × Node) → map row_of contexts.live.items ≡ changed a (held_in held) (map row_of b.contexts.live.items)
+    → held ≡ seen → seen ≡ (next_number past Handle, value_of ending) → act ≡ Ran (realm_of past a) ending true → is_alive past a ≡ true → outcome past action ≡ Ok act → StandsFor b past → n ≡ suc (next_number past Handle)
+    → StandsFor (record b { contexts = contexts; next_handle = n }) (act ∷ past)
+handle-stands b contexts n past action a ending act held seen rows same holds is alive done s next = held-stands b contexts n past action a ending act held is alive (same ∙ holds) done s next rows
+
 pub disowned-stands : (b : Browser) (contexts : Contexts) (past : List Act) (action : Action) (a : ℕ) (ids : List (List ℕ)) (act : Act) (numbers : List ℕ) → act ≡ Disowned (realm_of past a) ids → is_alive past a ≡ true
     → numbers ≡ map (λ h. h.0) (filter (λ h. has_id ids h.0) (handles_of past (realm_of past a))) → outcome past action ≡ Ok act → StandsFor b past
     → map row_of contexts.live.items ≡ changed a (without_in numbers) (map row_of b.contexts.live.items) → StandsFor (record b { contexts = contexts }) (act ∷ past)

@@ -37,8 +37,7 @@ use Rattle.bidi_values.specs.declared.primitive.Primitive.{Primitive}
 use Rattle.bidi_values.specs.declared.primitive.Primitive.TheVariants as primitive
 use Rattle.bidi_values.specs.declared.primitive.Number.{Number}
 use Rattle.bidi_values.specs.declared.primitive.Number.TheVariants as number
-use Rattle.bidi_values.specs.declared.held.RemoteList.{RemoteList}
-use Rattle.bidi_values.specs.declared.held.RemotePairs.{RemotePairs}
+use Rattle.bidi_values.specs.declared.held.Held.{Held as HeldBy}
 use Rattle.bidi_values.specs.contracts.primitive.PrimitiveShape.TheImpl as primitives
 use Rattle.bidi_values.specs.contracts.primitive.NumberShape.TheImpl as numbers
 use Rattle.bidi_values.specs.contracts.reg_exp.RegExpValueShape.TheImpl as reg_exps
@@ -68,10 +67,10 @@ mutual
 
 -- ---- remote values
 
-list-well : (h : RemoteList) → remote.ghosts.nesting.list.well h
+list-well : (h : (HeldBy ListKind)) → remote.ghosts.nesting.list.well h
 list-well h = (tt, (some_well (λ s. tt) h.handle, (some_well (λ s. tt) h.internal_id, tt)))
 
-held-pairs-well : (h : RemotePairs) → remote.ghosts.nesting.pairs.well h
+held-pairs-well : (h : (HeldBy PairsKind)) → remote.ghosts.nesting.pairs.well h
 held-pairs-well h = (tt, (some_well (λ s. tt) h.handle, (some_well (λ s. tt) h.internal_id, tt)))
 
 -- ---- plain values
@@ -186,7 +185,7 @@ plain-well (of.Opaque o) =
     )
 
 -- a value of so many levels is well
-pub remote-well : (v : Nested RemotePlain RemoteList RemotePairs) → levels (remote_tree v) ≤ 60 → IsWell remote.ghosts.nesting (content v)
+pub remote-well : (v : Nested RemotePlain (HeldBy ListKind) (HeldBy PairsKind)) → levels (remote_tree v) ≤ 60 → IsWell remote.ghosts.nesting (content v)
 remote-well v few = record { parts = parts-well remote.ghosts.nesting plain-well list-well held-pairs-well (content v); cap = few }
 
 -- a text among the members of a map makes it no deeper

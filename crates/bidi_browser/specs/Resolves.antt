@@ -9,7 +9,7 @@ use Rattle.bidi_browser.specs.Checks.{◌>>=◌}
 use Rattle.bidi_browser.specs.Sizes.{size_of}
 use Rattle.bidi_browser.specs.Values.{Held, argument}
 
--- what was made is what the definition gives, or its code, unless a growth was refused
+-- what was made is what the definition gives, or its code, unless an allocation failed
 abbrev pub Gives : {A B : Type 0} → (A → B) → Result A Refusal → Result B ErrorCode → Type 0
 Gives view (Ok x) answer = answer ≡ Ok (view x)
 Gives view (Err (Code code)) answer = answer ≡ Err code

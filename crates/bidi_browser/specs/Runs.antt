@@ -33,7 +33,7 @@ call_ending past r declaration values this = do
   row ← found (row_of past declaration) UnsupportedOperation
   Ok (ending_of row resolved)
 
--- a script returned a value, unless a growth was refused
+-- a script returned a value, unless an allocation failed
 abbrev pub HasReturned : Result declared_ending.Ending Refusal → Node → Type 0
 HasReturned (Ok ending) value = ending_seen ending ≡ Returned value
 HasReturned (Err (Code code)) value = ⊥

@@ -53,7 +53,7 @@ pub record AreTabled (table : ScriptTable) (past : List Act) : Type 0 where
 abbrev pub HasRoomForRow : ScriptTable → Type 0
 HasRoomForRow table = 1 ≤ spare table.rows
 
--- the checks of a row in hand are those of the definition, or a growth was refused
+-- the checks of a row in hand are those of the definition, or an allocation failed
 abbrev pub IsRowChecked : Result (Unit {0}) Refusal → List Act → Node → Type 0
 IsRowChecked (Ok u) past t = row_checked past t ≡ Ok tt
 IsRowChecked (Err (Code code)) past t = row_checked past t ≡ Err code

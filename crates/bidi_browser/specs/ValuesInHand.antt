@@ -13,14 +13,13 @@ use Rattle.bidi_values.specs.declared.kinds.PairsKind.{PairsKind}
 use Rattle.bidi_values.specs.declared.local_value.LocalPlain.{LocalPlain}
 use Rattle.bidi_values.specs.contracts.local_value.LocalPlainNestsListKindPairsKind.TheImpl as local
 use Rattle.bidi_values.specs.declared.remote_value.RemotePlain.{RemotePlain}
-use Rattle.bidi_values.specs.declared.held.RemoteList.{RemoteList}
-use Rattle.bidi_values.specs.declared.held.RemotePairs.{RemotePairs}
+use Rattle.bidi_values.specs.declared.held.Held.{Held as HeldBy}
 use Rattle.bidi_values.specs.contracts.remote_value.RemotePlainNestsRemoteListRemotePairs.TheImpl as remote
 use Rattle.bidi_browser.specs.declared.handle.Handle.{Handle}
 use Rattle.bidi_browser.specs.declared.handle.HeldValue.{HeldValue}
 
 -- the tree of a remote value in hand
-abbrev pub remote_tree : Nested RemotePlain RemoteList RemotePairs → Node
+abbrev pub remote_tree : Nested RemotePlain (HeldBy ListKind) (HeldBy PairsKind) → Node
 remote_tree v = nested_tree remote.ghosts.nesting v
 
 -- the tree of a local value in hand, of a pair of an object or a map, and of its key
@@ -33,17 +32,17 @@ local_pair_tree p = nested_pair_tree local.ghosts.nesting p
 abbrev pub local_key_tree : NestedKey LocalPlain ListKind PairsKind → Node
 local_key_tree k = nested_key_tree local.ghosts.nesting k
 
-abbrev pub remote_pair_tree : NestedPair RemotePlain RemoteList RemotePairs → Node
+abbrev pub remote_pair_tree : NestedPair RemotePlain (HeldBy ListKind) (HeldBy PairsKind) → Node
 remote_pair_tree p = nested_pair_tree remote.ghosts.nesting p
 
-abbrev pub remote_key_tree : NestedKey RemotePlain RemoteList RemotePairs → Node
+abbrev pub remote_key_tree : NestedKey RemotePlain (HeldBy ListKind) (HeldBy PairsKind) → Node
 remote_key_tree k = nested_key_tree remote.ghosts.nesting k
 
 -- those of some values, and of some pairs
-abbrev pub remote_trees : Vec (Nested RemotePlain RemoteList RemotePairs) Global → Items
+abbrev pub remote_trees : Vec (Nested RemotePlain (HeldBy ListKind) (HeldBy PairsKind)) Global → Items
 remote_trees vs = items_of (map remote_tree vs.items)
 
-abbrev pub remote_pair_trees : Vec (NestedPair RemotePlain RemoteList RemotePairs) Global → Items
+abbrev pub remote_pair_trees : Vec (NestedPair RemotePlain (HeldBy ListKind) (HeldBy PairsKind)) Global → Items
 remote_pair_trees ps = items_of (map remote_pair_tree ps.items)
 
 -- that of a value that may be held, also where it is shared

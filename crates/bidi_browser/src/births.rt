@@ -38,7 +38,7 @@ const LOWEST_LEVEL: u64 = 16;
 /// - `invalid argument`: it is a child of another context.
 /// - `no such user context`: another than the default one is asked for.
 /// - `unknown error`: 1,024 contexts live.
-/// - No memory, where a growth was refused.
+/// - No memory: an allocation failed.
 pub(crate) fn plan_create(browser: &Browser, params: &CreateParameters) -> Result<Plan, Refusal>
     ensures plans { (past : List Act) (moment : ℕ) → StandsFor browser.now past → HasIds past → Plans result past moment (create_asked params.now) }
     ensures well { IsWellPlanned result }
@@ -127,7 +127,7 @@ fn oldest_window(contexts: &Contexts) -> Option<u64>
 /// - `no such frame`: the context is not live.
 /// - `invalid argument`: the text is no absolute URL.
 /// - `unknown error`: 1,024 contexts live, or the context stands at level 16.
-/// - No memory, where a growth was refused.
+/// - No memory: an allocation failed.
 pub(crate) fn plan_frame(browser: &Browser, context: &str, url: &str) -> Result<Plan, Refusal>
     ensures plans { (past : List Act) (moment : ℕ) → StandsFor browser.now past → HasIds past → Plans result past moment (Frame context.now url.now) }
     ensures well { IsWellPlanned result }

@@ -39,7 +39,7 @@ pub(crate) const NO_ID: u64 = 1 << 48;
 /// that stands for running scripts.
 ///
 /// What it is asked it first plans, and changes nothing; then a plan's change is given room, and put in place without
-/// a further growth. So whoever tells of a plan can do so between the two, and give up while all is as it was.
+/// a further allocation. So whoever tells of a plan can do so between the two, and give up while all is as it was.
 #[derive(Drop)]
 pub struct Browser {
     pub(crate) alloc: Global,
@@ -61,7 +61,7 @@ impl Browser {
     /// A browser as it starts: one context at `about:blank`, in a window of its own.
     ///
     /// # Errors
-    /// No memory, where a growth was refused.
+    /// No memory: an allocation failed.
     pub fn new(alloc: Global) -> Result<Browser, AllocError>
         ensures { IfOk result (λ b. StandsFor b []) }
     {
@@ -86,7 +86,7 @@ impl Browser {
     /// # Errors
     /// - `Code`: the first check that fails, in the order of each command; of a step of a page, which then has no
     ///   effect, it says no more than that.
-    /// - `NoMemory`: a growth was refused.
+    /// - `NoMemory`: an allocation failed.
     ///
     /// After WebDriver BiDi, "The browsingContext Module" and "The script Module".
     pub fn plan(&self, action: Action, moment: JsUint) -> Result<Plan, Refusal>
@@ -117,7 +117,7 @@ impl Browser {
     /// Makes room for what a change puts in. What the browser stands for stays, whatever comes of it.
     ///
     /// # Errors
-    /// No memory, where a growth was refused.
+    /// No memory: an allocation failed.
     pub fn reserve(&mut self, change: &Change) -> Result<(), AllocError>
         ensures kept { (past : List Act) → StandsFor self.old past → StandsFor self.new past }
         ensures room { OnOk result (HasRoom self.new change.now) }
@@ -192,7 +192,7 @@ impl Browser {
     /// Makes two events for each live context. Looks through all of them once, and once more for each.
     ///
     /// # Errors
-    /// No memory, where a growth was refused.
+    /// No memory: an allocation failed.
     ///
     /// After WebDriver BiDi, "The browsingContext.contextCreated Event" and "The script.realmCreated Event".
     pub fn tree_events(&self) -> Result<Vec<Occurrence>, AllocError>

@@ -33,7 +33,7 @@ use bidi_values::{CallFunctionParameters, LocalValue};
 /// - What an argument is refused for, in their order, and then `this`.
 /// - `unsupported operation`: the table has no row of its text.
 /// - `unknown error`: its value is to be owned, beside 1,000 in its realm.
-/// - No memory, where a growth was refused.
+/// - No memory: an allocation failed.
 pub(crate) fn plan_call_function(
     browser: &Browser,
     params: &CallFunctionParameters,

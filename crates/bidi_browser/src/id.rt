@@ -24,7 +24,7 @@ pub enum Kind {
 /// `ssssssss-kkkk-8000-8000-nnnnnnnnnnnn`, the session, the kind and the number in lower-case hexadecimal.
 ///
 /// # Errors
-/// No memory, where a growth was refused.
+/// No memory: an allocation failed.
 ///
 /// After RFC 9562, 4 and 5.8; what stands in the bytes is this project's own.
 pub fn id_text(alloc: Global, kind: Kind, session: u32, n: u64) -> Result<String, AllocError>

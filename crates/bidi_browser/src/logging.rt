@@ -29,7 +29,7 @@ use std::alloc::{AllocError, Global};
 /// # Errors
 /// The first that holds:
 /// - `no such frame`: the context is not live.
-/// - No memory, where a growth was refused.
+/// - No memory: an allocation failed.
 pub(crate) fn plan_log(
     browser: &Browser,
     moment: JsUint,

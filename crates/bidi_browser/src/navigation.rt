@@ -44,7 +44,7 @@ struct Told {
 /// The first that holds:
 /// - `no such frame`: the context is not live.
 /// - `invalid argument`: the text is no absolute URL.
-/// - No memory, where a growth was refused.
+/// - No memory: an allocation failed.
 pub(crate) fn plan_navigate(
     browser: &Browser,
     moment: JsUint,
@@ -77,7 +77,7 @@ pub(crate) fn plan_navigate(
 /// # Errors
 /// The first that holds:
 /// - `no such frame`: the context is not live.
-/// - No memory, where a growth was refused.
+/// - No memory: an allocation failed.
 pub(crate) fn plan_reload(
     browser: &Browser,
     moment: JsUint,
@@ -108,7 +108,7 @@ pub(crate) fn plan_reload(
 /// - `no such frame`: the context is not live.
 /// - `invalid argument`: it is a child of another.
 /// - `no such history entry`: none stands there.
-/// - No memory, where a growth was refused.
+/// - No memory: an allocation failed.
 pub(crate) fn plan_traverse_history(
     browser: &Browser,
     moment: JsUint,

@@ -9,7 +9,7 @@ use std::alloc::{AllocError, AllocFailed};
 pub enum Refusal {
     /// A check failed. A step of a page then has no effect.
     Code(ErrorCode),
-    /// A growth was refused.
+    /// An allocation failed.
     NoMemory,
 }
 

@@ -25,7 +25,7 @@ use std::alloc::{AllocError, Global};
 /// The first that holds:
 /// - `no such frame`: the context is not live.
 /// - `invalid argument`: it is a child of another.
-/// - No memory, where a growth was refused.
+/// - No memory: an allocation failed.
 pub(crate) fn plan_close(browser: &Browser, context: &str) -> Result<Plan, Refusal>
     ensures plans { (past : List Act) (moment : ℕ) → StandsFor browser.now past → Plans result past moment (Close context.now) }
     ensures well { IsWellPlanned result }
@@ -48,7 +48,7 @@ pub(crate) fn plan_close(browser: &Browser, context: &str) -> Result<Plan, Refus
 /// The first that holds:
 /// - `no such frame`: the context is not live.
 /// - `invalid argument`: it is a top-level one.
-/// - No memory, where a growth was refused.
+/// - No memory: an allocation failed.
 pub(crate) fn plan_unframe(browser: &Browser, context: &str) -> Result<Plan, Refusal>
     ensures plans { (past : List Act) (moment : ℕ) → StandsFor browser.now past → Plans result past moment (Unframe context.now) }
     ensures well { IsWellPlanned result }

@@ -40,7 +40,7 @@ const MOST_BYTES: u64 = 1_048_576;
 /// - `no such node`, `no such handle`: a reference in it is by a shared id, or by a handle that is not of the realm;
 ///   the first such reference, in the order of lists, and in a pair the key first.
 /// - `unknown error`: it has more than 60 levels, or its compact text more than 1,048,576 bytes.
-/// - No memory, where a growth was refused.
+/// - No memory: an allocation failed.
 pub(crate) fn check_arguments(
     alloc: Global,
     context: &Context,

@@ -53,7 +53,7 @@ pub(crate) struct Ran {
 /// - What its target is refused for.
 /// - `unsupported operation`: the table has no row of its text.
 /// - `unknown error`: its value is to be owned, beside 1,000 in its realm.
-/// - No memory, where a growth was refused.
+/// - No memory: an allocation failed.
 pub(crate) fn plan_evaluate(browser: &Browser, params: &EvaluateParameters) -> Result<Plan, Refusal>
     ensures plans { (past : List Act) (moment : ℕ) → StandsFor browser.now past → HasIds past → Plans result past moment (evaluate_asked params.now) }
     ensures well { IsWellPlanned result }
@@ -83,7 +83,7 @@ fn evaluated(browser: &Browser, context: &Context, script: &String) -> Result<En
 ///
 /// # Errors
 /// - `unsupported operation`: the table has no row of it.
-/// - No memory, where a growth was refused.
+/// - No memory: an allocation failed.
 pub(crate) fn ending_of(
     browser: &Browser,
     context: &Context,
@@ -152,7 +152,7 @@ fn undefined(alloc: Global) -> Result<Rc<HeldValue>, Refusal>
 ///
 /// # Errors
 /// - `unknown error`: its value is to be owned, beside 1,000 in its realm.
-/// - No memory, where a growth was refused.
+/// - No memory: an allocation failed.
 pub(crate) fn run(
     browser: &Browser,
     context: &Context,
@@ -218,7 +218,7 @@ fn into_value(ending: Ending) -> Rc<HeldValue>
 ///
 /// # Errors
 /// - What its target is refused for.
-/// - No memory, where a growth was refused.
+/// - No memory: an allocation failed.
 pub(crate) fn plan_disown(browser: &Browser, params: &DisownParameters) -> Result<Plan, Refusal>
     ensures plans { (past : List Act) (moment : ℕ) → StandsFor browser.now past → Plans result past moment (disown_asked params.now) }
     ensures well { IsWellPlanned result }

@@ -33,7 +33,7 @@ const MOST_LEVELS: usize = 61;
 /// The first that holds:
 /// - `invalid argument`: there is no row, a value in it has a handle or an internal id, or a thrown one has 60 levels.
 /// - `unknown error`: it is a new text beside 1,024.
-/// - No memory, where a growth was refused.
+/// - No memory: an allocation failed.
 pub(crate) fn plan_row(browser: &Browser, row: Option<TableRow>) -> Result<Plan, Refusal>
     ensures plans { (past : List Act) (moment : ℕ) → StandsFor browser.now past → Plans result past moment (row_asked row) }
     ensures well { IsWellPlanned result }

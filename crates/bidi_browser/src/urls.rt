@@ -23,7 +23,7 @@ pub(crate) fn about_blank(alloc: Global) -> Result<Url, AllocError>
 ///
 /// # Errors
 /// - `invalid argument`: it is none.
-/// - No memory, where a growth was refused.
+/// - No memory: an allocation failed.
 pub(crate) fn parsed(alloc: Global, text: &str) -> Result<Url, Refusal>
     ensures { IsUrlOf result (parsed text.now) }
 {

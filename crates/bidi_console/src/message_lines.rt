@@ -38,7 +38,7 @@ pub enum Shown {
 /// What is shown for a line. A line that is not UTF-8 counts as not JSON.
 ///
 /// # Errors
-/// No memory, where a growth was refused.
+/// No memory: an allocation failed.
 pub fn show_line(alloc: Global, side: Side, line: &[u8]) -> Result<Shown, AllocError>
     ensures { IfOk result (λ shown. Shows side line.now (shown_of shown)) }
 {

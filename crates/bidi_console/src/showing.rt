@@ -38,7 +38,7 @@ pub enum ShowFault {
     /// The line of this number, counted from 1, is too long or has no line feed.
     #[error("line {0} is no text line")]
     BadLine(u64),
-    /// A growth was refused.
+    /// An allocation failed.
     #[error("out of memory")]
     NoMemory,
     /// The input goes on after 1,000,000,000 lines.
@@ -71,7 +71,7 @@ impl From<DeviceFault> for ShowFault {
 /// 1. `Read`, where the source failed.
 /// 2. `Write`, where the sink failed.
 /// 3. `BadLine`, where a line is too long, or the input ends without its line feed.
-/// 4. `NoMemory`, where a growth was refused.
+/// 4. `NoMemory`: an allocation failed.
 /// 5. `TooManyLines`, where the input goes on after 1,000,000,000 lines.
 pub fn list<R: Source, W: Sink>(
     alloc: Global,

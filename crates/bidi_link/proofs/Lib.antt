@@ -1,4 +1,3 @@
-pub mod LedgerFacts
 pub mod LinkLemmas
 pub mod LinkFateLemmas
 pub mod LinkReplyLemmas

@@ -9,10 +9,12 @@ use Rattle.bidi_tree.specs.Node.{Node, null, get_of}
 use Rattle.bidi_tree.specs.Kind.{text_in}
 use Rattle.bidi_tree.specs.Text.{tree_of}
 use Rattle.bidi_tree.specs.declared.number.JsUint.{JsUint}
+use Rattle.bidi_shape.specs.WordLaws.{word_shape}
 use Rattle.bidi_shape.specs.Name.{command_response, error_response, event as event_name, message as message_name}
 use Rattle.bidi_shape.specs.Term.{Rows, Openness, required, exactly, map_of, row, rule}
 use Rattle.bidi_shape.specs.Fits.{Fits}
 use Rattle.bidi_shape.proofs.FitsLemmas.{exactly_kind, map_kind, map_inside, RowFits, row_inside, rule_inside, either_inside}
+use Rattle.bidi_messages.specs.Event.{event_type_words}
 use Rattle.bidi_messages.specs.About.{about_inside}
 use Rattle.bidi_messages.specs.EventName.{event_words, event_text}
 use Rattle.bidi_messages.specs.EventData.{event_of}
@@ -24,7 +26,6 @@ use Rattle.bidi_messages.specs.declared.result_data.ResultData.{ResultData}
 use Rattle.bidi_messages.specs.declared.method.Method.{Method}
 use Rattle.bidi_messages.specs.contracts.message.MessageShape.TheImpl.{ghosts}
 use Rattle.bidi_messages.specs.contracts.event.EventShape.TheImpl as event
-use Rattle.bidi_messages.specs.contracts.event.EventTypeShape.TheImpl as event_type
 use Rattle.bidi_messages.specs.contracts.event.EventDataSubjectEventName.TheImpl as told
 use Rattle.bidi_messages.specs.contracts.result_data.ResultDataSubjectMethod.TheImpl as results
 use Rattle.bidi_messages.specs.Method.{result_of}
@@ -76,7 +77,7 @@ error_type : (t : Node) → Fits t (rule error_response) → type_in t ≡ codes
 error_type t fit = typed_map (rule_inside fit)
 
 event_is_typed : (t : Node) → Fits t (rule event_name) → type_in t ≡ codes "event"
-event_is_typed t fit = typed_map (about_inside (codes "type") event_type.ghosts.shape event_words told.ghosts.subject (rule event_name) refl t fit).1
+event_is_typed t fit = typed_map (about_inside (codes "type") (word_shape event_type_words) event_words told.ghosts.subject (rule event_name) refl t fit).1
 
 cases : {A B : Type 0} (P : Type 0) → A ⊎ B → (A → P) → (B → P) → P
 cases P (inl a) f g = f a

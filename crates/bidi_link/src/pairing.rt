@@ -46,7 +46,7 @@ pub enum PairStep {
 /// A text is made once and moved from end to end. A link is found by its number at once, and so is a command by its id.
 ///
 /// # Errors
-/// - `NoMemory`: a growth was refused.
+/// - `NoMemory`: an allocation failed.
 /// - `WornOut`: the remote end was handed 1,000,000,000 steps, and one more.
 pub fn pair(alloc: Global, steps: Vec<PairStep>) -> Result<Ledger, RemoteFault>
     requires { AreWell steps.items }

@@ -7,8 +7,9 @@ use Rattle.bidi_shape.specs.Name.{message, command_response, error_response, eve
 use Rattle.bidi_shape.specs.Term.{Rows, Openness, required, exactly, map_of, row, rule}
 use Rattle.bidi_shape.specs.Fits.{Fits, fits_rule, fits_first, fits_second}
 use Rattle.bidi_shape.specs.Table.{same_some}
-use Rattle.bidi_shape.specs.WordLaws.{value_named}
+use Rattle.bidi_shape.specs.WordLaws.{word_shape, value_named}
 use Rattle.bidi_shape.proofs.FitsLemmas.{exactly_kind, map_kind, map_inside, RowFits, row_inside, rule_inside}
+use Rattle.bidi_messages.specs.Event.{event_type_words}
 use Rattle.bidi_messages.specs.About.{about_inside}
 use Rattle.bidi_messages.specs.declared.method.Method.{Method}
 use Rattle.bidi_messages.specs.declared.error_code.ErrorCode.{ErrorCode}
@@ -17,7 +18,6 @@ use Rattle.bidi_messages.specs.Method.{result_of}
 use Rattle.bidi_messages.specs.ErrorCode.{error_code_words}
 use Rattle.bidi_messages.specs.EventName.{event_words}
 use Rattle.bidi_messages.specs.Command.{id_in, method_in, params_in}
-use Rattle.bidi_messages.specs.contracts.event.EventTypeShape.TheImpl as event_type
 use Rattle.bidi_messages.specs.contracts.event.EventDataSubjectEventName.TheImpl as told
 use Rattle.bidi_messages.proofs.CommandLemmas.{apart}
 use Rattle.bidi_local.specs.Pending.{Pending}
@@ -48,7 +48,7 @@ error_type : (t : Node) → Fits t (rule error_response) → type_in t ≡ codes
 error_type t fit = typed_map (rule_inside fit)
 
 event_is_typed : (t : Node) → Fits t (rule event) → type_in t ≡ codes "event"
-event_is_typed t fit = typed_map (about_inside (codes "type") event_type.ghosts.shape event_words told.ghosts.subject (rule event) refl t fit).1
+event_is_typed t fit = typed_map (about_inside (codes "type") (word_shape event_type_words) event_words told.ghosts.subject (rule event) refl t fit).1
 
 -- ---- what decides
 

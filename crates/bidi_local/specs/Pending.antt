@@ -45,7 +45,7 @@ refusal_of sent waiting written =
     else if nat_lt 1048576 (length written) then Some TooLong
     else None
 
--- That is the answer. A refused growth stands only in place of the last of them, or of success.
+-- That is the answer. A failed allocation stands only in place of the last of them, or of success.
 abbrev pub IsAnswered : {A : Type 0} → Result A LocalFault → Option LocalFault → Type 0
 IsAnswered (Ok sent) refusal = refusal ≡ None
 IsAnswered (Err NoMemory) refusal = (refusal ≡ Some TooLong) ⊎ (refusal ≡ None)

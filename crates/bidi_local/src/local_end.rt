@@ -28,7 +28,7 @@ const MOST_BYTES: usize = 1_048_576;
 /// Why a command was not sent. Nothing has changed.
 #[derive(Clone, Copy, Debug, PartialEq, Eq, Error)]
 pub enum LocalFault {
-    /// A growth was refused.
+    /// An allocation failed.
     #[error("out of memory")]
     NoMemory,
     /// The greatest js-uint, 9,007,199,254,740,991, was the id of a command: this local end sends no more.
@@ -88,7 +88,7 @@ impl LocalEnd {
     /// # Errors
     /// Nothing has changed. Of the last three the first that holds is answered, and `NoMemory` only where the first two of
     /// them do not hold.
-    /// - `NoMemory`: a growth was refused.
+    /// - `NoMemory`: an allocation failed.
     /// - `IdsUsedUp`: 9,007,199,254,740,991 commands were sent.
     /// - `TooManyPending`: 1,024 commands wait.
     /// - `TooLong`: the text has more than 1,048,576 bytes.
@@ -139,7 +139,7 @@ impl LocalEnd {
     /// and one that is settled costs a move of those that were sent after it and wait, at most 1,023.
     ///
     /// # Errors
-    /// No memory, where a growth was refused. Nothing has changed, and the text may be taken again.
+    /// No memory: an allocation failed. Nothing has changed, and the text may be taken again.
     ///
     /// After WebDriver BiDi, "Transport".
     pub fn take(&mut self, text: &str) -> Result<Received, AllocError>
@@ -163,7 +163,7 @@ impl LocalEnd {
     /// was given up is stray. Costs the list of the ids, at most 1,024.
     ///
     /// # Errors
-    /// No memory, where a growth was refused. Nothing has changed.
+    /// No memory: an allocation failed. Nothing has changed.
     pub fn lose(&mut self) -> Result<Vec<JsUint>, AllocError>
         ensures ok { IfOk result (λ lost. map (λ id. id.value) lost.items ≡ ids (waiting_in self.old)) }
         ensures none_waits { OnOk result (Stands self.new (sent_by self.old) []) }

@@ -25,7 +25,7 @@ pub(crate) fn settle(pending: &mut IndexMap<u64, Method>, id: u64)
 /// The ids, in order of sending.
 ///
 /// # Errors
-/// No memory, where a growth was refused.
+/// No memory: an allocation failed.
 pub(crate) fn ids_of(
     alloc: Global,
     pending: &IndexMap<u64, Method>,

@@ -18,7 +18,7 @@ use std::alloc::{AllocError, Global};
 /// Tells what a message means while these commands wait, and settles the one that it answers. It is used up.
 ///
 /// # Errors
-/// No memory, where a growth was refused. All still wait.
+/// No memory: an allocation failed. All still wait.
 pub(crate) fn receive(
     alloc: Global,
     pending: &mut IndexMap<u64, Method>,
@@ -61,7 +61,7 @@ fn receive_response(
 /// What the result of a command with that id and method means.
 ///
 /// # Errors
-/// No memory, where a growth was refused.
+/// No memory: an allocation failed.
 fn outcome_of(
     alloc: Global,
     id: JsUint,

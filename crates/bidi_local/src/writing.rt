@@ -14,7 +14,7 @@ use std::alloc::{AllocError, Global};
 /// The method of a command, and its text with that id. The command is used up.
 ///
 /// # Errors
-/// No memory, where a growth was refused.
+/// No memory: an allocation failed.
 pub(crate) fn written(
     alloc: Global,
     id: JsUint,

@@ -169,7 +169,7 @@ impl CommandData {
 ///
 /// # Errors
 /// - `NoFit`: the tree does not fit the rule of the method's params.
-/// - `NoMemory`: a growth was refused.
+/// - `NoMemory`: an allocation failed.
 pub fn data_of(alloc: Global, method: Method, tree: &Tree) -> Result<CommandData, ShapeFault>
     ensures ok { IfOk result (λ v. (⟦<CommandData as Subject<Method>>⟧.subject.kind v ≡ method)
         × (⟦<CommandData as Subject<Method>>⟧.subject.tree_of v ≡ node tree.now)

@@ -1,7 +1,5 @@
 //! Error codes.
-use bidi_shape::{Named, Shape, ShapeFault, read_word, write_word};
-use bidi_tree::Tree;
-use std::alloc::{AllocError, Global};
+use bidi_shape::Named;
 
 /// Why a command was refused, or a text that is none.
 ///
@@ -118,19 +116,5 @@ impl Named for ErrorCode {
             ErrorCode::UnknownError => "unknown error",
             ErrorCode::UnsupportedOperation => "unsupported operation",
         }
-    }
-}
-
-impl Shape for ErrorCode {
-    ghost use Rattle.bidi_shape.specs.WordLaws.{word_shape};
-
-    ghost shape = { word_shape ⟦<ErrorCode as Named>⟧.words };
-
-    fn from_tree(alloc: Global, tree: &Tree) -> Result<ErrorCode, ShapeFault> {
-        read_word(tree)
-    }
-
-    fn to_tree(&self, alloc: Global) -> Result<Tree, AllocError> {
-        write_word(alloc, self)
     }
 }

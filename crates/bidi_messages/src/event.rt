@@ -4,7 +4,7 @@ ghost use Rattle.bidi_tree.specs.View.{node};
 
 use crate::subject::{Subject, read_about, write_about};
 use bidi_params::{Info, NavigationInfo, RealmDestroyedParameters, RealmInfo};
-use bidi_shape::{Ext, Named, Ruled, Shape, ShapeFault, read_word, write_word};
+use bidi_shape::{Ext, Named, Ruled, Shape, ShapeFault};
 use bidi_tree::Tree;
 use bidi_values::LogEntry;
 use std::alloc::{AllocError, Global};
@@ -79,20 +79,6 @@ impl Named for EventType {
         match self {
             EventType::Event => "event",
         }
-    }
-}
-
-impl Shape for EventType {
-    ghost use Rattle.bidi_shape.specs.WordLaws.{word_shape};
-
-    ghost shape = { word_shape ⟦<EventType as Named>⟧.words };
-
-    fn from_tree(alloc: Global, tree: &Tree) -> Result<EventType, ShapeFault> {
-        read_word(tree)
-    }
-
-    fn to_tree(&self, alloc: Global) -> Result<Tree, AllocError> {
-        write_word(alloc, self)
     }
 }
 
@@ -191,7 +177,7 @@ impl EventData {
     /// Makes the tree of the params.
     ///
     /// # Errors
-    /// No memory, where a growth was refused.
+    /// No memory: an allocation failed.
     pub fn tree_of(&self, alloc: Global) -> Result<Tree, AllocError>
         ensures { IfOk result (λ t. node t ≡ ⟦<EventData as Subject<EventName>>⟧.subject.tree_of self.now) }
     {

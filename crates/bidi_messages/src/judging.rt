@@ -30,7 +30,7 @@ pub enum Verdict {
 /// unknown command where its `method` is a text that names none, else as an invalid argument.
 ///
 /// # Errors
-/// No memory, where a growth was refused.
+/// No memory: an allocation failed.
 ///
 /// After WebDriver BiDi, "Transport".
 pub fn judge(alloc: Global, text: &str) -> Result<Verdict, AllocError>

@@ -1,7 +1,5 @@
 //! The methods of commands.
-use bidi_shape::{Named, Shape, ShapeFault, read_word, write_word};
-use bidi_tree::Tree;
-use std::alloc::{AllocError, Global};
+use bidi_shape::Named;
 
 /// The method of a command.
 ///

@@ -150,7 +150,7 @@ impl ResultData {
     /// Makes the tree of the result.
     ///
     /// # Errors
-    /// No memory, where a growth was refused.
+    /// No memory: an allocation failed.
     pub fn tree_of(&self, alloc: Global) -> Result<Tree, AllocError>
         ensures { IfOk result (λ t. node t ≡ ⟦<ResultData as Subject<Method>>⟧.subject.tree_of self.now) }
     {
@@ -162,7 +162,7 @@ impl ResultData {
 ///
 /// # Errors
 /// - `NoFit`: the map does not fit the rule of the method's result.
-/// - `NoMemory`: a growth was refused.
+/// - `NoMemory`: an allocation failed.
 pub fn result_of(alloc: Global, method: Method, members: &Members) -> Result<ResultData, ShapeFault>
     ensures ok { IfOk result (λ v. (⟦<ResultData as Subject<Method>>⟧.subject.kind v ≡ method)
         × (⟦<ResultData as Subject<Method>>⟧.subject.tree_of v ≡ kind.map (members_node members.now.entries))

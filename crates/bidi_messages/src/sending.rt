@@ -23,7 +23,7 @@ use std::alloc::{AllocError, Global};
 /// The result is used up.
 ///
 /// # Errors
-/// No memory, where a growth was refused.
+/// No memory: an allocation failed.
 pub fn response_text(
     alloc: Global,
     id: JsUint,
@@ -80,7 +80,7 @@ fn response_tree(alloc: Global, response: Response) -> Result<Tree, AllocError>
 /// The text of an event.
 ///
 /// # Errors
-/// No memory, where a growth was refused.
+/// No memory: an allocation failed.
 pub fn event_text(alloc: Global, event: &EventData) -> Result<String, AllocError>
     requires { ⟦<EventData as Subject<EventName>>⟧.subject.well event.now }
     ensures text { IfOk result (λ s. string_bytes s
@@ -95,7 +95,7 @@ pub fn event_text(alloc: Global, event: &EventData) -> Result<String, AllocError
 /// The text of an error, whose message is the code's text.
 ///
 /// # Errors
-/// No memory, where a growth was refused.
+/// No memory: an allocation failed.
 pub fn error_text(alloc: Global, id: Option<JsUint>, code: ErrorCode) -> Result<String, AllocError>
     ensures text { IfOk result (λ s. string_bytes s ≡ error_text (option_map (λ n. n.value) id) code) }
     ensures reads_back { IfOk result (λ s. IsMessageText ⟦<Message as Shape>⟧.shape (string_bytes s)) }

@@ -31,7 +31,7 @@ pub trait Subject<K: Drop>: Drop {
     ///
     /// # Errors
     /// - `NoFit`: the tree does not fit the kind's rule.
-    /// - `NoMemory`: a growth was refused.
+    /// - `NoMemory`: an allocation failed.
     fn read(alloc: Global, kind: K, tree: &Tree) -> Result<Self, ShapeFault>
         ensures ok { IfOk result (λ v. (subject.kind v ≡ kind) × (subject.tree_of v ≡ node tree.now) × subject.well v) }
         ensures no_fit { IfNoFit result (Fits (node tree.now) (subject.rule kind) → ⊥) };
@@ -39,7 +39,7 @@ pub trait Subject<K: Drop>: Drop {
     /// Makes the tree of the value.
     ///
     /// # Errors
-    /// No memory, where a growth was refused.
+    /// No memory: an allocation failed.
     fn content(&self, alloc: Global) -> Result<Tree, AllocError>
         ensures { IfOk result (λ t. node t ≡ subject.tree_of self.now) };
 }
@@ -56,7 +56,7 @@ pub(crate) struct About<X: Drop, D: Drop> {
 ///
 /// # Errors
 /// - `NoFit`: the tree does not fit the rule.
-/// - `NoMemory`: a growth was refused.
+/// - `NoMemory`: an allocation failed.
 pub(crate) fn read_about<V: Ruled, X: Shape, K: Named, D: Subject<K>>(
     alloc: Global,
     tree: &Tree,
@@ -111,7 +111,7 @@ fn content_at<K: Drop, D: Subject<K>>(
 /// Makes the map of a first member, a subject and other members.
 ///
 /// # Errors
-/// No memory, where a growth was refused.
+/// No memory: an allocation failed.
 pub(crate) fn write_about<X: Shape, K: Named, D: Subject<K>>(
     alloc: Global,
     name: &str,

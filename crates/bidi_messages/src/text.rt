@@ -55,7 +55,7 @@ impl Sent for Message {
 /// It reads back: the tree of the text is that of the value, which is the one well value that has it.
 ///
 /// # Errors
-/// No memory, where a growth was refused.
+/// No memory: an allocation failed.
 pub fn text_of<M: Sent>(alloc: Global, value: &M) -> Result<String, AllocError>
     requires { M.shape.well value.now }
     ensures text { IfOk result (λ s. string_bytes s ≡ compact_text (M.shape.tree_of value.now)) }
@@ -74,7 +74,7 @@ pub enum MessageFault {
     /// Its tree fits no message of the profile.
     #[error("no message of the profile")]
     NoFit,
-    /// A growth was refused.
+    /// An allocation failed.
     #[error("out of memory")]
     NoMemory,
 }
@@ -84,7 +84,7 @@ pub enum MessageFault {
 /// # Errors
 /// 1. `NotJson`: the text is not JSON.
 /// 2. `NoFit`: its tree fits no message.
-/// 3. `NoMemory`: a growth was refused.
+/// 3. `NoMemory`: an allocation failed.
 ///
 /// After WebDriver BiDi, "Transport".
 pub fn read_message(alloc: Global, text: &str) -> Result<Message, MessageFault>

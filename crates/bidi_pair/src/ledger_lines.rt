@@ -17,7 +17,7 @@ use std::alloc::{AllocError, Global};
 /// commands were not sent, where there are any.
 ///
 /// # Errors
-/// No memory, where a growth was refused.
+/// No memory: an allocation failed.
 pub fn ledger_lines(alloc: Global, ledger: Ledger) -> Result<String, AllocError>
     requires { LedgerIsWell ledger }
     ensures { IfOk result (λ lines. string_bytes lines ≡ ledger_text (pages_of ledger)) }

@@ -18,7 +18,7 @@ use std::alloc::{AllocError, Global};
 /// The step of both ends that a line says, where it is a pair line.
 ///
 /// # Errors
-/// No memory, where a growth was refused.
+/// No memory: an allocation failed.
 pub fn read_pair_step(alloc: Global, line: &[u8]) -> Result<Option<PairStep>, AllocError>
     ensures some { IfOk result (λ found. IfSome found (λ x. Says line.now x × IsWell x)) }
 {

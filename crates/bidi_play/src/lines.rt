@@ -17,7 +17,7 @@ use std::alloc::{AllocError, Global};
 /// The step that a line says, where it is a play line.
 ///
 /// # Errors
-/// No memory, where a growth was refused.
+/// No memory: an allocation failed.
 pub fn read_step(alloc: Global, line: &[u8]) -> Result<Option<Step>, AllocError>
     requires { has_feed line.now ≡ false }
     ensures some { IfOk result (λ found. IfSome found (λ step. CanBeSaid (step_of step) × (line.now ≡ line_of (step_of step)))) }
@@ -193,7 +193,7 @@ pub fn is_text(text: &str, other: &str) -> bool
 /// The lines of what is sent, each with its line feed.
 ///
 /// # Errors
-/// No memory, where a growth was refused.
+/// No memory: an allocation failed.
 pub fn lines_of(alloc: Global, all: Vec<Sent>) -> Result<Vec<u8>, AllocError>
     ensures { IfOk result (λ lines. lines.items ≡ written (map sent_of all.items)) }
 {

@@ -1,4 +1,3 @@
-pub mod Facts
 pub mod CommandLemmas
 pub mod CapabilityLemmas
 pub mod FindLemmas

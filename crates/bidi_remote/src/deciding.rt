@@ -28,7 +28,7 @@ use std::alloc::Global;
 /// # Errors
 /// - `invalid session id`: the connection has no session, and the command is neither `session.status` nor `session.new`.
 /// - What its command is refused for.
-/// - No memory, where a growth was refused.
+/// - No memory: an allocation failed.
 pub(crate) fn decide(
     alloc: Global,
     tables: &Tables,

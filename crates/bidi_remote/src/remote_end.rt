@@ -22,7 +22,7 @@ const MOST_STEPS: u64 = 1_000_000_000;
 /// Why a step was refused.
 #[derive(Clone, Copy, Debug, PartialEq, Eq, Error)]
 pub enum RemoteFault {
-    /// A growth was refused.
+    /// An allocation failed.
     #[error("out of memory")]
     NoMemory,
     /// The remote end has accepted 1,000,000,000 steps.
@@ -53,7 +53,7 @@ impl RemoteEnd {
     /// A remote end that has taken no step.
     ///
     /// # Errors
-    /// No memory, where a growth was refused.
+    /// No memory: an allocation failed.
     pub fn new(alloc: Global) -> Result<RemoteEnd, AllocError>
         ensures { IfOk result (λ end. StandsFor end []) }
     {
@@ -73,7 +73,7 @@ impl RemoteEnd {
     ///
     /// # Errors
     /// After either the remote end is as it was.
-    /// 1. `NoMemory`, where a growth was refused.
+    /// 1. `NoMemory`: an allocation failed.
     /// 2. `WornOut`, after 1,000,000,000 steps.
     ///
     /// After WebDriver BiDi, "Transport".

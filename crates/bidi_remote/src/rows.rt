@@ -15,7 +15,7 @@ const MOST_BYTES: usize = 1_048_576;
 /// The row that a text is, if it is one.
 ///
 /// # Errors
-/// No memory, where a growth was refused.
+/// No memory: an allocation failed.
 pub(crate) fn read_row(alloc: Global, text: &str) -> Result<Option<TableRow>, AllocError>
     ensures { IfOk result (λ row. IsRow text.now (option_map ⟦<TableRow as Shape>⟧.shape.tree_of row)) }
 {

@@ -102,7 +102,7 @@ fn any_global(subscriptions: &[Subscription], event: EventName) -> bool
 ///
 /// # Errors
 /// - `invalid argument`: no subscription has the id.
-/// - No memory, where a growth was refused.
+/// - No memory: an allocation failed.
 pub(crate) fn numbers_of(
     alloc: Global,
     subscriptions: &[Subscription],

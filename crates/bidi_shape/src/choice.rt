@@ -46,7 +46,7 @@ impl<A: Shape, B: Shape> Shape for Either<A, B> {
 ///
 /// # Errors
 /// - `NoFit`: the tree does not fit the rule.
-/// - `NoMemory`: a growth was refused.
+/// - `NoMemory`: an allocation failed.
 pub fn read_choice<V: Ruled, E: Shape>(alloc: Global, tree: &Tree) -> Result<E, ShapeFault>
     requires says { unfolded V.rule ≡ E.shape.rule }
     ensures ok { IfOk result (λ e. (E.shape.tree_of e ≡ node tree.now) × E.shape.well e) }

@@ -8,7 +8,7 @@ use std::alloc::{AllocError, Global};
 /// An equal value, in room of its own. Costs the making and the reading of its tree.
 ///
 /// # Errors
-/// No memory, where a growth was refused.
+/// No memory: an allocation failed.
 pub fn copied<X: Shape>(alloc: Global, value: &X) -> Result<X, AllocError>
     requires { X.shape.well value.now }
     ensures tree { IfOk result (λ v. X.shape.tree_of v ≡ X.shape.tree_of value.now) }

@@ -67,7 +67,7 @@ impl Ext {
     /// The members once more, in a map of their own.
     ///
     /// # Errors
-    /// No memory, where a growth was refused.
+    /// No memory: an allocation failed.
     pub fn copy_members(&self) -> Result<Members, AllocError>
         ensures { IfOk result (λ ms. members_node ms.entries ≡ others_of self.now) }
     {

@@ -34,7 +34,7 @@ pub trait Fields: Drop {
 }
 
 /// The first text of a list, and the texts after it.
-fn next_text<'a>(texts: &'a [&'a str]) -> (&'a str, &'a [&'a str])
+pub(crate) fn next_text<'a>(texts: &'a [&'a str]) -> (&'a str, &'a [&'a str])
     ensures first { result.0.now ≡ head (texts_in texts.now) }
     ensures rest { texts_in result.1.now ≡ tail (texts_in texts.now) }
 {

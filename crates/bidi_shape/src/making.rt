@@ -1,11 +1,16 @@
 //! Why a value is not made of its parts.
-ghost use Rattle.std.specs.Prelude.{◌≡◌};
-ghost use Rattle.bidi_shape.specs.Fits.{Fits};
+ghost use Rattle.std.specs.Prelude.{◌≡◌, IfOk, true};
+ghost use Rattle.bidi_tree.specs.Node.{MembersAreWhole};
+ghost use Rattle.bidi_tree.specs.View.{members_node};
+ghost use Rattle.bidi_shape.specs.Fits.{Fits, without};
 ghost use Rattle.bidi_shape.specs.Made.{Makes};
+ghost use Rattle.bidi_shape.specs.Parts.{has_named, texts_in};
+ghost use Rattle.bidi_shape.specs.ValueLaws.{others_of};
 
-use crate::ext::Clash;
+use crate::ext::{Clash, Ext};
 use crate::fault::ShapeFault;
 use crate::shape::Shape;
+use bidi_tree::Members;
 use std::alloc::{AllocError, Global};
 use thiserror::Error;
 
@@ -42,11 +47,32 @@ impl From<Clash> for MakeFault {
     }
 }
 
+/// The further members of a map whose rule names these. Takes no memory.
+///
+/// # Errors
+/// - `Clash`: a member has one of the names.
+/// - `TooDeep`: a member has an `Odd` in it, or more than 60 levels.
+pub fn further(members: Members, names: &[&str]) -> Result<Ext, MakeFault>
+    ensures made { Makes result
+        (has_named (texts_in names.now) (members_node members.entries) ≡ true)
+        ⊥
+        (¬ MembersAreWhole (members_node members.entries) 60)
+        (λ e. others_of e ≡ members_node members.entries) }
+    ensures unnamed { IfOk result (λ e. without (texts_in names.now) (others_of e) ≡ others_of e) }
+    ensures whole { IfOk result (λ e. MembersAreWhole (others_of e) 60) }
+{
+    let ext = Ext::new(members, names)?;
+    if !ext.is_whole() {
+        return Err(MakeFault::TooDeep);
+    }
+    Ok(ext)
+}
+
 /// That an earlier alternative does not take the value: its reader is tried on the value's tree.
 ///
 /// # Errors
 /// - `Shadowed`: it takes the value.
-/// - `NoMemory`: a growth was refused.
+/// - `NoMemory`: an allocation failed.
 pub fn not_shadowed<Earlier: Shape, V: Shape>(alloc: Global, value: &V) -> Result<(), MakeFault>
     ensures { Makes result ⊥ (Fits (V.shape.tree_of value.now) Earlier.shape.rule) ⊥ (λ _. Unit {0}) }
 {

@@ -20,7 +20,7 @@ pub trait Shape: Drop {
     ///
     /// # Errors
     /// - `NoFit`: the tree does not fit the rule.
-    /// - `NoMemory`: a growth was refused.
+    /// - `NoMemory`: an allocation failed.
     fn from_tree(alloc: Global, tree: &Tree) -> Result<Self, ShapeFault>
         ensures ok { IfOk result (λ v. (shape.tree_of v ≡ node tree.now) × shape.well v) }
         ensures no_fit { IfNoFit result (Fits (node tree.now) shape.rule → ⊥) };
@@ -28,7 +28,7 @@ pub trait Shape: Drop {
     /// Makes the tree of the value.
     ///
     /// # Errors
-    /// No memory, where a growth was refused.
+    /// No memory: an allocation failed.
     fn to_tree(&self, alloc: Global) -> Result<Tree, AllocError>
         ensures { IfOk result (λ t. node t ≡ shape.tree_of self.now) };
 }

@@ -25,7 +25,7 @@ pub trait Ruled {
 ///
 /// # Errors
 /// - `NoFit`: the tree does not fit the rule.
-/// - `NoMemory`: a growth was refused.
+/// - `NoMemory`: an allocation failed.
 pub fn read_fields<'a, V: Ruled, F: Fields>(
     alloc: Global,
     tree: &Tree,

@@ -94,7 +94,7 @@ impl<T: Tag, X: Shape> Shape for Typed<T, X> {
 /// Makes the tree of a map with its type alone.
 ///
 /// # Errors
-/// No memory, where a growth was refused.
+/// No memory: an allocation failed.
 pub fn tree_of_type(alloc: Global, tag: &str) -> Result<Tree, AllocError>
     ensures { IfOk result (λ t. node t ≡ bare_tree tag.now) }
 {
@@ -106,7 +106,7 @@ pub fn tree_of_type(alloc: Global, tag: &str) -> Result<Tree, AllocError>
 /// Makes the tree of a map with its type and a value.
 ///
 /// # Errors
-/// No memory, where a growth was refused.
+/// No memory: an allocation failed.
 pub fn tree_of_typed<X: Shape>(alloc: Global, tag: &str, value: &X) -> Result<Tree, AllocError>
     ensures { IfOk result (λ t. node t ≡ typed_tree tag.now (X.shape.tree_of value.now)) }
 {

@@ -7,6 +7,7 @@ ghost use Rattle.bidi_shape.specs.Outcome.{IfNoFit};
 ghost use Rattle.bidi_shape.specs.WordLaws.{Words, value_named};
 
 use crate::fault::ShapeFault;
+use crate::shape::Shape;
 use bidi_tree::Tree;
 use std::alloc::{AllocError, Global};
 
@@ -22,6 +23,21 @@ pub trait Named: Drop {
     /// Its text. Takes no memory.
     fn name(&self) -> &'static str
         ensures { result.now ≡ words.text_of self.now };
+}
+
+/// A value is the text that it has.
+impl<W: Named> Shape for W {
+    ghost use Rattle.bidi_shape.specs.WordLaws.{word_shape};
+
+    ghost shape = { word_shape W.words };
+
+    fn from_tree(alloc: Global, tree: &Tree) -> Result<W, ShapeFault> {
+        read_word(tree)
+    }
+
+    fn to_tree(&self, alloc: Global) -> Result<Tree, AllocError> {
+        write_word(alloc, self)
+    }
 }
 
 /// Reads the value whose text the tree is.
@@ -44,7 +60,7 @@ pub fn read_word<W: Named>(tree: &Tree) -> Result<W, ShapeFault>
 /// Makes the tree of the value's text.
 ///
 /// # Errors
-/// No memory, where a growth was refused.
+/// No memory: an allocation failed.
 pub fn write_word<W: Named>(alloc: Global, word: &W) -> Result<Tree, AllocError>
     ensures { IfOk result (λ t. node t ≡ kind.text (W.words.text_of word.now)) }
 {

@@ -45,7 +45,7 @@ impl From<AllocError> for ReadFault {
 /// - `TooLong`: a limit is given, and the text is longer.
 /// - `NotJson`: the text is within the limit and has no tree: it is not JSON, nests past 127 levels, or has a
 ///   number too large for a float.
-/// - `NoMemory`: a growth was refused.
+/// - `NoMemory`: an allocation failed.
 ///
 /// After RFC 8259.
 pub fn read(alloc: Global, text: &str, limit: Option<usize>) -> Result<Tree, ReadFault>

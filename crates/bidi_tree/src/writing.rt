@@ -17,7 +17,7 @@ const ROOM: usize = 256;
 /// What is written reads back as the tree. One walk of the tree; no part of it is copied but into the text.
 ///
 /// # Errors
-/// No memory, where a growth of the text was refused.
+/// No memory: an allocation failed.
 ///
 /// After RFC 8259.
 pub fn write(alloc: Global, tree: &Tree) -> Result<String, AllocError>

@@ -15,12 +15,16 @@ use Rattle.bidi_values.specs.declared.kinds.ListKind.TheVariants.{Array, Set}
 use Rattle.bidi_values.specs.declared.kinds.PairsKind.{PairsKind}
 use Rattle.bidi_values.specs.declared.kinds.PairsKind.TheVariants.{Map, Object}
 
+-- what a remote end holds, by the term of its kind
+abbrev pub held_by : Term → Term
+held_by kind = closed_map ("type" is kind and held no_more)
+
 -- the members of what holds others, and of what would hold them
 abbrev pub bare_list : Term
-bare_list = closed_map ("type" is list_kind and held no_more)
+bare_list = held_by list_kind
 
 abbrev pub bare_pairs : Term
-bare_pairs = closed_map ("type" is pairs_kind and held no_more)
+bare_pairs = held_by pairs_kind
 
 abbrev pub remote_reg_exp : Term
 remote_reg_exp = closed_map (
@@ -33,7 +37,7 @@ remote_date = closed_map (
     "value" is text and held no_more)
 
 abbrev pub remote_opaque : Term
-remote_opaque = closed_map ("type" is rule opaque and held no_more)
+remote_opaque = held_by (rule opaque)
 
 -- the plain alternatives of the rule, and lists whose values are left out
 abbrev pub remote_plain : Term

@@ -22,7 +22,7 @@ pub trait Beside: Drop {
     ///
     /// # Errors
     /// - `NoFit`: one of them does not fit, or there is another member.
-    /// - `NoMemory`: a growth was refused.
+    /// - `NoMemory`: an allocation failed.
     fn read(alloc: Global, members: &Members) -> Result<Self, ShapeFault>
         ensures sorted { OnOk result (AreAscending (members_node members.now.entries)) }
         ensures ok { IfOk result (λ h. PartsAt beside.rows (beside.parts h) (members_node members.now.entries) × beside.well h) }
@@ -39,7 +39,7 @@ pub trait Beside: Drop {
     /// The same members, in room of their own.
     ///
     /// # Errors
-    /// No memory, where a growth was refused.
+    /// No memory: an allocation failed.
     fn copy(&self, alloc: Global) -> Result<Self, AllocError>
         ensures parts { IfOk result (λ h. beside.parts h ≡ beside.parts self.now) }
         ensures well { beside.well self.now → IfOk result beside.well };

@@ -12,8 +12,8 @@ use crate::evaluate::Ownership;
 use crate::local_value::LocalValue;
 use crate::target::Target;
 use bidi_shape::{
-    Ext, Fields, MakeFault, Optional, Required, Ruled, Shape, ShapeFault, add_member, add_optional,
-    read_fields,
+    Ext, Fields, MakeFault, Maybe, One, Optional, Required, Rest, Ruled, Shape, ShapeFault,
+    further, read_fields, write_fields,
 };
 use bidi_tree::{Members, Tree};
 use std::alloc::{AllocError, Global};
@@ -42,6 +42,17 @@ pub struct CallFunctionParameters {
 impl CallFunctionParameters {
     ghost use Rattle.bidi_shape.specs.Name.{call_function_parameters};
 
+    // In the order of the rule.
+    const NAMES: &'static [&'static str] = &[
+        "functionDeclaration",
+        "awaitPromise",
+        "target",
+        "arguments",
+        "resultOwnership",
+        "this",
+        "userActivation",
+    ];
+
     /// The parameters, with further members. Takes no memory.
     ///
     /// # Errors
@@ -68,21 +79,7 @@ impl CallFunctionParameters {
             (λ v. (v.function_declaration ≡ function_declaration) × (v.await_promise ≡ await_promise) × (v.target ≡ target) × (v.arguments ≡ arguments) × (v.result_ownership ≡ result_ownership) × (v.this ≡ this) × (v.user_activation ≡ user_activation) × (others_of v.ext ≡ members_node ext.entries)) }
         ensures well { IfOk result (λ v. ⟦<CallFunctionParameters as Shape>⟧.shape.well v) }
     {
-        let ext = Ext::new(
-            ext,
-            &[
-                "functionDeclaration",
-                "awaitPromise",
-                "target",
-                "arguments",
-                "resultOwnership",
-                "this",
-                "userActivation",
-            ],
-        )?;
-        if !ext.is_whole() {
-            return Err(MakeFault::TooDeep);
-        }
+        let ext = further(ext, Self::NAMES)?;
         Ok(CallFunctionParameters {
             function_declaration,
             await_promise,
@@ -132,20 +129,7 @@ impl Shape for CallFunctionParameters {
                     ),
                 ),
             ),
-        ) = read_fields::<CallFunctionParameters, CallParts>(
-            alloc,
-            tree,
-            &[
-                "functionDeclaration",
-                "awaitPromise",
-                "target",
-                "arguments",
-                "resultOwnership",
-                "this",
-                "userActivation",
-            ],
-            &[],
-        )?;
+        ) = read_fields::<CallFunctionParameters, CallParts>(alloc, tree, Self::NAMES, &[])?;
         Ok(CallFunctionParameters {
             function_declaration,
             await_promise,
@@ -159,25 +143,23 @@ impl Shape for CallFunctionParameters {
     }
 
     fn to_tree(&self, alloc: Global) -> Result<Tree, AllocError> {
-        let mut members = self.ext.copy_members()?;
-        add_optional(alloc, &mut members, "userActivation", &self.user_activation)?;
-        add_optional(alloc, &mut members, "this", &self.this)?;
-        add_optional(
-            alloc,
-            &mut members,
-            "resultOwnership",
-            &self.result_ownership,
-        )?;
-        add_optional(alloc, &mut members, "arguments", &self.arguments)?;
-        add_member(alloc, &mut members, "target", &self.target)?;
-        add_member(alloc, &mut members, "awaitPromise", &self.await_promise)?;
-        add_member(
-            alloc,
-            &mut members,
-            "functionDeclaration",
+        let members = One(
             &self.function_declaration,
-        )?;
-        Ok(Tree::Map(members))
+            One(
+                &self.await_promise,
+                One(
+                    &self.target,
+                    Maybe(
+                        &self.arguments,
+                        Maybe(
+                            &self.result_ownership,
+                            Maybe(&self.this, Maybe(&self.user_activation, Rest(&self.ext))),
+                        ),
+                    ),
+                ),
+            ),
+        );
+        write_fields(alloc, &members, Self::NAMES, &[])
     }
 }
 
@@ -195,6 +177,9 @@ pub struct DisownParameters {
 
 impl DisownParameters {
     ghost use Rattle.bidi_shape.specs.Name.{disown_parameters};
+
+    // In the order of the rule.
+    const NAMES: &'static [&'static str] = &["handles", "target"];
 
     /// The parameters, with further members. Takes no memory.
     ///
@@ -215,10 +200,7 @@ impl DisownParameters {
             (λ v. (v.handles ≡ handles) × (v.target ≡ target) × (others_of v.ext ≡ members_node ext.entries)) }
         ensures well { IfOk result (λ v. ⟦<DisownParameters as Shape>⟧.shape.well v) }
     {
-        let ext = Ext::new(ext, &["handles", "target"])?;
-        if !ext.is_whole() {
-            return Err(MakeFault::TooDeep);
-        }
+        let ext = further(ext, Self::NAMES)?;
         Ok(DisownParameters {
             handles,
             target,
@@ -242,7 +224,7 @@ impl Shape for DisownParameters {
         let Required(handles, Required(target, ext)) = read_fields::<DisownParameters, DisownParts>(
             alloc,
             tree,
-            &["handles", "target"],
+            Self::NAMES,
             &[],
         )?;
         Ok(DisownParameters {
@@ -253,9 +235,7 @@ impl Shape for DisownParameters {
     }
 
     fn to_tree(&self, alloc: Global) -> Result<Tree, AllocError> {
-        let mut members = self.ext.copy_members()?;
-        add_member(alloc, &mut members, "target", &self.target)?;
-        add_member(alloc, &mut members, "handles", &self.handles)?;
-        Ok(Tree::Map(members))
+        let members = One(&self.handles, One(&self.target, Rest(&self.ext)));
+        write_fields(alloc, &members, Self::NAMES, &[])
     }
 }

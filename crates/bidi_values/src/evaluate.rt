@@ -10,8 +10,8 @@ ghost use Rattle.bidi_shape.specs.ValueLaws.{others_of};
 
 use crate::target::Target;
 use bidi_shape::{
-    Ext, Fields, MakeFault, Named, Optional, Required, Ruled, Shape, ShapeFault, add_member,
-    add_optional, read_fields, read_word, write_word,
+    Ext, Fields, MakeFault, Maybe, Named, One, Optional, Required, Rest, Ruled, Shape, ShapeFault,
+    further, read_fields, write_fields,
 };
 use bidi_tree::{Members, Tree};
 use std::alloc::{AllocError, Global};
@@ -48,20 +48,6 @@ impl Named for Ownership {
     }
 }
 
-impl Shape for Ownership {
-    ghost use Rattle.bidi_shape.specs.WordLaws.{word_shape};
-
-    ghost shape = { word_shape ⟦<Ownership as Named>⟧.words };
-
-    fn from_tree(alloc: Global, tree: &Tree) -> Result<Ownership, ShapeFault> {
-        read_word(tree)
-    }
-
-    fn to_tree(&self, alloc: Global) -> Result<Tree, AllocError> {
-        write_word(alloc, self)
-    }
-}
-
 /// Parameters of `script.evaluate`.
 ///
 /// `{ expression: text, target: Target, awaitPromise: bool, ? resultOwnership: Ownership, ? userActivation: bool,
@@ -82,6 +68,15 @@ pub struct EvaluateParameters {
 
 impl EvaluateParameters {
     ghost use Rattle.bidi_shape.specs.Name.{evaluate_parameters};
+
+    // In the order of the rule.
+    const NAMES: &'static [&'static str] = &[
+        "expression",
+        "target",
+        "awaitPromise",
+        "resultOwnership",
+        "userActivation",
+    ];
 
     /// The parameters, with further members. Takes no memory.
     ///
@@ -105,19 +100,7 @@ impl EvaluateParameters {
             (λ v. (v.expression ≡ expression) × (v.target ≡ target) × (v.await_promise ≡ await_promise) × (v.result_ownership ≡ result_ownership) × (v.user_activation ≡ user_activation) × (others_of v.ext ≡ members_node ext.entries)) }
         ensures well { IfOk result (λ v. ⟦<EvaluateParameters as Shape>⟧.shape.well v) }
     {
-        let ext = Ext::new(
-            ext,
-            &[
-                "expression",
-                "target",
-                "awaitPromise",
-                "resultOwnership",
-                "userActivation",
-            ],
-        )?;
-        if !ext.is_whole() {
-            return Err(MakeFault::TooDeep);
-        }
+        let ext = further(ext, Self::NAMES)?;
         Ok(EvaluateParameters {
             expression,
             target,
@@ -150,18 +133,7 @@ impl Shape for EvaluateParameters {
                 target,
                 Required(await_promise, Optional(result_ownership, Optional(user_activation, ext))),
             ),
-        ) = read_fields::<EvaluateParameters, EvaluateParts>(
-            alloc,
-            tree,
-            &[
-                "expression",
-                "target",
-                "awaitPromise",
-                "resultOwnership",
-                "userActivation",
-            ],
-            &[],
-        )?;
+        ) = read_fields::<EvaluateParameters, EvaluateParts>(alloc, tree, Self::NAMES, &[])?;
         Ok(EvaluateParameters {
             expression,
             target,
@@ -173,17 +145,19 @@ impl Shape for EvaluateParameters {
     }
 
     fn to_tree(&self, alloc: Global) -> Result<Tree, AllocError> {
-        let mut members = self.ext.copy_members()?;
-        add_optional(alloc, &mut members, "userActivation", &self.user_activation)?;
-        add_optional(
-            alloc,
-            &mut members,
-            "resultOwnership",
-            &self.result_ownership,
-        )?;
-        add_member(alloc, &mut members, "awaitPromise", &self.await_promise)?;
-        add_member(alloc, &mut members, "target", &self.target)?;
-        add_member(alloc, &mut members, "expression", &self.expression)?;
-        Ok(Tree::Map(members))
+        let members = One(
+            &self.expression,
+            One(
+                &self.target,
+                One(
+                    &self.await_promise,
+                    Maybe(
+                        &self.result_ownership,
+                        Maybe(&self.user_activation, Rest(&self.ext)),
+                    ),
+                ),
+            ),
+        );
+        write_fields(alloc, &members, Self::NAMES, &[])
     }
 }

@@ -2,8 +2,8 @@
 use crate::exception::ExceptionDetails;
 use crate::remote_value::RemoteValue;
 use bidi_shape::{
-    Closed, Either, Fields, Literal, Required, Ruled, Shape, ShapeFault, add_literal, add_member,
-    read_choice, read_fields,
+    Closed, Either, End, Exact, Fields, Literal, One, Required, Ruled, Shape, ShapeFault,
+    read_choice, read_fields, write_fields,
 };
 use bidi_tree::{Members, Tree};
 use std::alloc::{AllocError, Global};
@@ -17,6 +17,11 @@ use std::alloc::{AllocError, Global};
 pub struct EvaluateSuccess {
     pub result: RemoteValue,
     pub realm: String,
+}
+
+impl EvaluateSuccess {
+    // In the order of the rule.
+    const NAMES: &'static [&'static str] = &["type", "result", "realm"];
 }
 
 type SuccessParts = Literal<Required<RemoteValue, Required<String, Closed>>>;
@@ -37,16 +42,13 @@ impl Shape for EvaluateSuccess {
         let Literal(Required(result, Required(realm, Closed))) = read_fields::<
             EvaluateSuccess,
             SuccessParts,
-        >(alloc, tree, &["type", "result", "realm"], &["success"])?;
+        >(alloc, tree, Self::NAMES, &["success"])?;
         Ok(EvaluateSuccess { result, realm })
     }
 
     fn to_tree(&self, alloc: Global) -> Result<Tree, AllocError> {
-        let mut members = Members::new(alloc);
-        add_member(alloc, &mut members, "realm", &self.realm)?;
-        add_member(alloc, &mut members, "result", &self.result)?;
-        add_literal(alloc, &mut members, "type", "success")?;
-        Ok(Tree::Map(members))
+        let members = Exact(One(&self.result, One(&self.realm, End)));
+        write_fields(alloc, &members, Self::NAMES, &["success"])
     }
 }
 
@@ -59,6 +61,11 @@ impl Shape for EvaluateSuccess {
 pub struct EvaluateException {
     pub exception_details: ExceptionDetails,
     pub realm: String,
+}
+
+impl EvaluateException {
+    // In the order of the rule.
+    const NAMES: &'static [&'static str] = &["type", "exceptionDetails", "realm"];
 }
 
 type ExceptionParts = Literal<Required<ExceptionDetails, Required<String, Closed>>>;
@@ -79,12 +86,7 @@ impl Shape for EvaluateException {
         let Literal(Required(exception_details, Required(realm, Closed))) = read_fields::<
             EvaluateException,
             ExceptionParts,
-        >(
-            alloc,
-            tree,
-            &["type", "exceptionDetails", "realm"],
-            &["exception"],
-        )?;
+        >(alloc, tree, Self::NAMES, &["exception"])?;
         Ok(EvaluateException {
             exception_details,
             realm,
@@ -92,16 +94,8 @@ impl Shape for EvaluateException {
     }
 
     fn to_tree(&self, alloc: Global) -> Result<Tree, AllocError> {
-        let mut members = Members::new(alloc);
-        add_member(alloc, &mut members, "realm", &self.realm)?;
-        add_member(
-            alloc,
-            &mut members,
-            "exceptionDetails",
-            &self.exception_details,
-        )?;
-        add_literal(alloc, &mut members, "type", "exception")?;
-        Ok(Tree::Map(members))
+        let members = Exact(One(&self.exception_details, One(&self.realm, End)));
+        write_fields(alloc, &members, Self::NAMES, &["exception"])
     }
 }
 

@@ -1,7 +1,9 @@
 //! What an error of a script has.
 use crate::remote_value::RemoteValue;
 use crate::stack_trace::StackTrace;
-use bidi_shape::{Closed, Fields, Required, Ruled, Shape, ShapeFault, add_member, read_fields};
+use bidi_shape::{
+    Closed, End, Fields, One, Required, Ruled, Shape, ShapeFault, read_fields, write_fields,
+};
 use bidi_tree::{JsUint, Members, Tree};
 use std::alloc::{AllocError, Global};
 
@@ -17,6 +19,17 @@ pub struct ExceptionDetails {
     pub line_number: JsUint,
     pub stack_trace: StackTrace,
     pub text: String,
+}
+
+impl ExceptionDetails {
+    // In the order of the rule.
+    const NAMES: &'static [&'static str] = &[
+        "columnNumber",
+        "exception",
+        "lineNumber",
+        "stackTrace",
+        "text",
+    ];
 }
 
 type Parts = Required<
@@ -44,18 +57,7 @@ impl Shape for ExceptionDetails {
                 exception,
                 Required(line_number, Required(stack_trace, Required(text, Closed))),
             ),
-        ) = read_fields::<ExceptionDetails, Parts>(
-            alloc,
-            tree,
-            &[
-                "columnNumber",
-                "exception",
-                "lineNumber",
-                "stackTrace",
-                "text",
-            ],
-            &[],
-        )?;
+        ) = read_fields::<ExceptionDetails, Parts>(alloc, tree, Self::NAMES, &[])?;
         Ok(ExceptionDetails {
             column_number,
             exception,
@@ -66,12 +68,16 @@ impl Shape for ExceptionDetails {
     }
 
     fn to_tree(&self, alloc: Global) -> Result<Tree, AllocError> {
-        let mut members = Members::new(alloc);
-        add_member(alloc, &mut members, "text", &self.text)?;
-        add_member(alloc, &mut members, "stackTrace", &self.stack_trace)?;
-        add_member(alloc, &mut members, "lineNumber", &self.line_number)?;
-        add_member(alloc, &mut members, "exception", &self.exception)?;
-        add_member(alloc, &mut members, "columnNumber", &self.column_number)?;
-        Ok(Tree::Map(members))
+        let members = One(
+            &self.column_number,
+            One(
+                &self.exception,
+                One(
+                    &self.line_number,
+                    One(&self.stack_trace, One(&self.text, End)),
+                ),
+            ),
+        );
+        write_fields(alloc, &members, Self::NAMES, &[])
     }
 }

@@ -5,125 +5,59 @@ use crate::kinds::{ListKind, PairsKind};
 use crate::opaque::Opaque;
 use crate::reg_exp::RegExpValue;
 use bidi_shape::{
-    Closed, Fields, Literal, Optional, Required, Ruled, Shape, ShapeFault, add_literal, add_member,
-    add_optional, read_fields,
+    Closed, End, Exact, Fields, Literal, Maybe, One, Optional, Required, Ruled, Shape, ShapeFault,
+    add_member, add_optional, read_fields, write_fields,
 };
 use bidi_tree::{Members, Tree};
 use std::alloc::{AllocError, Global};
 
-/// What stands beside the values of an array or a set, or alone where they are left out.
+/// What a remote end holds: its kind, and what it is named by.
 ///
-/// `{ type: "array" / "set", ? handle: text, ? internalId: text }`
+/// `( type: K, ? handle: text, ? internalId: text )`
 ///
 /// After WebDriver BiDi, "The script.RemoteValue Type".
 #[derive(Drop)]
-pub struct RemoteList {
-    pub kind: ListKind,
+pub struct Held<K: Drop> {
+    pub kind: K,
+    /// The handle that keeps the value for later commands.
     pub handle: Option<String>,
+    /// The id of a value that stands more than once in one message.
     pub internal_id: Option<String>,
 }
 
-type ListParts = Required<ListKind, Optional<String, Optional<String, Closed>>>;
-
-impl Ruled for RemoteList {
-    ghost use Rattle.bidi_values.specs.RemoteValue.{bare_list};
-
-    ghost rule = { bare_list };
-}
-
-impl Shape for RemoteList {
-    ghost use Rattle.std.specs.Prelude.{refl, []};
-    ghost use Rattle.bidi_shape.specs.Table.{map_shape};
-
-    ghost shape = { map_shape ⟦<RemoteList as Ruled>⟧.rule ⟦<ListParts as Fields>⟧.table [] (λ v. (v.kind, (v.handle, (v.internal_id, record {})))) refl refl };
-
-    fn from_tree(alloc: Global, tree: &Tree) -> Result<RemoteList, ShapeFault> {
-        let Required(kind, Optional(handle, Optional(internal_id, Closed))) = read_fields::<
-            RemoteList,
-            ListParts,
-        >(alloc, tree, &["type", "handle", "internalId"], &[])?;
-        Ok(RemoteList {
-            kind,
-            handle,
-            internal_id,
-        })
-    }
-
-    fn to_tree(&self, alloc: Global) -> Result<Tree, AllocError> {
-        let mut members = Members::new(alloc);
-        self.add_to(alloc, &mut members)?;
-        Ok(Tree::Map(members))
-    }
-}
-
-impl Beside for RemoteList {
-    ghost use Rattle.std.specs.Prelude.{refl, [], ◌∷◌, codes};
-    ghost use Rattle.bidi_values.specs.BesideLaws.{beside_by};
-
-    ghost beside = { beside_by ⟦<ListParts as Fields>⟧.table (codes "type" ∷ codes "handle" ∷ codes "internalId" ∷ []) (λ v. (v.kind, (v.handle, (v.internal_id, record {})))) (λ f g. refl) refl refl };
-
-    fn read(alloc: Global, members: &Members) -> Result<RemoteList, ShapeFault> {
-        let Required(kind, Optional(handle, Optional(internal_id, Closed))) = ListParts::read(
-            alloc,
-            members,
-            &["type", "handle", "internalId"],
-            &[],
-            &["type", "handle", "internalId", "value"],
-        )?;
-        Ok(RemoteList {
-            kind,
-            handle,
-            internal_id,
-        })
-    }
-
-    fn add_to(&self, alloc: Global, members: &mut Members) -> Result<(), AllocError> {
-        add_optional(alloc, members, "internalId", &self.internal_id)?;
-        add_optional(alloc, members, "handle", &self.handle)?;
-        add_member(alloc, members, "type", &self.kind)
-    }
-
-    fn copy(&self, _alloc: Global) -> Result<RemoteList, AllocError> {
-        Ok(RemoteList {
-            kind: self.kind,
-            handle: copy_text(&self.handle)?,
-            internal_id: copy_text(&self.internal_id)?,
-        })
-    }
-}
+/// What stands beside the values of an array or a set, or alone where they are left out.
+pub type RemoteList = Held<ListKind>;
 
 /// What stands beside the pairs of an object or a map, or alone where they are left out.
-///
-/// `{ type: "object" / "map", ? handle: text, ? internalId: text }`
-///
-/// After WebDriver BiDi, "The script.RemoteValue Type".
-#[derive(Drop)]
-pub struct RemotePairs {
-    pub kind: PairsKind,
-    pub handle: Option<String>,
-    pub internal_id: Option<String>,
+pub type RemotePairs = Held<PairsKind>;
+
+/// A value that a remote end holds, of which a message tells no content.
+pub type RemoteOpaque = Held<Opaque>;
+
+type HeldParts<K> = Required<K, Optional<String, Optional<String, Closed>>>;
+
+/// In the order of the rule.
+const NAMES: &[&str] = &["type", "handle", "internalId"];
+
+impl<K: Shape> Ruled for Held<K> {
+    ghost use Rattle.bidi_values.specs.RemoteValue.{held_by};
+
+    ghost rule = { held_by K.shape.rule };
 }
 
-type PairsParts = Required<PairsKind, Optional<String, Optional<String, Closed>>>;
-
-impl Ruled for RemotePairs {
-    ghost use Rattle.bidi_values.specs.RemoteValue.{bare_pairs};
-
-    ghost rule = { bare_pairs };
-}
-
-impl Shape for RemotePairs {
+impl<K: Shape> Shape for Held<K> {
     ghost use Rattle.std.specs.Prelude.{refl, []};
     ghost use Rattle.bidi_shape.specs.Table.{map_shape};
+    ghost use Rattle.bidi_values.specs.RemoteValue.{held_by};
 
-    ghost shape = { map_shape ⟦<RemotePairs as Ruled>⟧.rule ⟦<PairsParts as Fields>⟧.table [] (λ v. (v.kind, (v.handle, (v.internal_id, record {})))) refl refl };
+    ghost shape = { map_shape (held_by K.shape.rule) ⟦<HeldParts<K> as Fields>⟧.table [] (λ v. (v.kind, (v.handle, (v.internal_id, record {})))) refl refl };
 
-    fn from_tree(alloc: Global, tree: &Tree) -> Result<RemotePairs, ShapeFault> {
+    fn from_tree(alloc: Global, tree: &Tree) -> Result<Held<K>, ShapeFault> {
         let Required(kind, Optional(handle, Optional(internal_id, Closed))) = read_fields::<
-            RemotePairs,
-            PairsParts,
-        >(alloc, tree, &["type", "handle", "internalId"], &[])?;
-        Ok(RemotePairs {
+            Held<K>,
+            HeldParts<K>,
+        >(alloc, tree, NAMES, &[])?;
+        Ok(Held {
             kind,
             handle,
             internal_id,
@@ -131,27 +65,29 @@ impl Shape for RemotePairs {
     }
 
     fn to_tree(&self, alloc: Global) -> Result<Tree, AllocError> {
-        let mut members = Members::new(alloc);
-        self.add_to(alloc, &mut members)?;
-        Ok(Tree::Map(members))
+        let members = One(
+            &self.kind,
+            Maybe(&self.handle, Maybe(&self.internal_id, End)),
+        );
+        write_fields(alloc, &members, NAMES, &[])
     }
 }
 
-impl Beside for RemotePairs {
+impl<K: Shape + Copy> Beside for Held<K> {
     ghost use Rattle.std.specs.Prelude.{refl, [], ◌∷◌, codes};
     ghost use Rattle.bidi_values.specs.BesideLaws.{beside_by};
 
-    ghost beside = { beside_by ⟦<PairsParts as Fields>⟧.table (codes "type" ∷ codes "handle" ∷ codes "internalId" ∷ []) (λ v. (v.kind, (v.handle, (v.internal_id, record {})))) (λ f g. refl) refl refl };
+    ghost beside = { beside_by ⟦<HeldParts<K> as Fields>⟧.table (codes "type" ∷ codes "handle" ∷ codes "internalId" ∷ []) (λ v. (v.kind, (v.handle, (v.internal_id, record {})))) (λ f g. refl) refl refl };
 
-    fn read(alloc: Global, members: &Members) -> Result<RemotePairs, ShapeFault> {
-        let Required(kind, Optional(handle, Optional(internal_id, Closed))) = PairsParts::read(
+    fn read(alloc: Global, members: &Members) -> Result<Held<K>, ShapeFault> {
+        let Required(kind, Optional(handle, Optional(internal_id, Closed))) = HeldParts::<K>::read(
             alloc,
             members,
-            &["type", "handle", "internalId"],
+            NAMES,
             &[],
             &["type", "handle", "internalId", "value"],
         )?;
-        Ok(RemotePairs {
+        Ok(Held {
             kind,
             handle,
             internal_id,
@@ -164,8 +100,8 @@ impl Beside for RemotePairs {
         add_member(alloc, members, "type", &self.kind)
     }
 
-    fn copy(&self, _alloc: Global) -> Result<RemotePairs, AllocError> {
-        Ok(RemotePairs {
+    fn copy(&self, _alloc: Global) -> Result<Held<K>, AllocError> {
+        Ok(Held {
             kind: self.kind,
             handle: copy_text(&self.handle)?,
             internal_id: copy_text(&self.internal_id)?,
@@ -191,7 +127,7 @@ impl RemoteRegExp {
     /// The same value, in room of its own.
     ///
     /// # Errors
-    /// No memory, where a growth was refused.
+    /// No memory: an allocation failed.
     pub(crate) fn copy(&self) -> Result<RemoteRegExp, AllocError>
         ensures tree { IfOk result (λ v. ⟦<RemoteRegExp as Shape>⟧.shape.tree_of v ≡ ⟦<RemoteRegExp as Shape>⟧.shape.tree_of self.now) }
         ensures well { ⟦<RemoteRegExp as Shape>⟧.shape.well self.now → IfOk result ⟦<RemoteRegExp as Shape>⟧.shape.well }
@@ -202,6 +138,11 @@ impl RemoteRegExp {
             internal_id: copy_text(&self.internal_id)?,
         })
     }
+}
+
+impl RemoteRegExp {
+    // In the order of the rule.
+    const NAMES: &'static [&'static str] = &["type", "value", "handle", "internalId"];
 }
 
 type RegExpParts = Literal<Required<RegExpValue, Optional<String, Optional<String, Closed>>>>;
@@ -220,12 +161,7 @@ impl Shape for RemoteRegExp {
 
     fn from_tree(alloc: Global, tree: &Tree) -> Result<RemoteRegExp, ShapeFault> {
         let Literal(Required(value, Optional(handle, Optional(internal_id, Closed)))) =
-            read_fields::<RemoteRegExp, RegExpParts>(
-                alloc,
-                tree,
-                &["type", "value", "handle", "internalId"],
-                &["regexp"],
-            )?;
+            read_fields::<RemoteRegExp, RegExpParts>(alloc, tree, Self::NAMES, &["regexp"])?;
         Ok(RemoteRegExp {
             value,
             handle,
@@ -234,12 +170,11 @@ impl Shape for RemoteRegExp {
     }
 
     fn to_tree(&self, alloc: Global) -> Result<Tree, AllocError> {
-        let mut members = Members::new(alloc);
-        add_optional(alloc, &mut members, "internalId", &self.internal_id)?;
-        add_optional(alloc, &mut members, "handle", &self.handle)?;
-        add_member(alloc, &mut members, "value", &self.value)?;
-        add_literal(alloc, &mut members, "type", "regexp")?;
-        Ok(Tree::Map(members))
+        let members = Exact(One(
+            &self.value,
+            Maybe(&self.handle, Maybe(&self.internal_id, End)),
+        ));
+        write_fields(alloc, &members, Self::NAMES, &["regexp"])
     }
 }
 
@@ -261,7 +196,7 @@ impl RemoteDate {
     /// The same value, in room of its own.
     ///
     /// # Errors
-    /// No memory, where a growth was refused.
+    /// No memory: an allocation failed.
     pub(crate) fn copy(&self) -> Result<RemoteDate, AllocError>
         ensures tree { IfOk result (λ v. ⟦<RemoteDate as Shape>⟧.shape.tree_of v ≡ ⟦<RemoteDate as Shape>⟧.shape.tree_of self.now) }
         ensures well { ⟦<RemoteDate as Shape>⟧.shape.well self.now → IfOk result ⟦<RemoteDate as Shape>⟧.shape.well }
@@ -272,6 +207,11 @@ impl RemoteDate {
             internal_id: copy_text(&self.internal_id)?,
         })
     }
+}
+
+impl RemoteDate {
+    // In the order of the rule.
+    const NAMES: &'static [&'static str] = &["type", "value", "handle", "internalId"];
 }
 
 type DateParts = Literal<Required<String, Optional<String, Optional<String, Closed>>>>;
@@ -290,12 +230,7 @@ impl Shape for RemoteDate {
 
     fn from_tree(alloc: Global, tree: &Tree) -> Result<RemoteDate, ShapeFault> {
         let Literal(Required(value, Optional(handle, Optional(internal_id, Closed)))) =
-            read_fields::<RemoteDate, DateParts>(
-                alloc,
-                tree,
-                &["type", "value", "handle", "internalId"],
-                &["date"],
-            )?;
+            read_fields::<RemoteDate, DateParts>(alloc, tree, Self::NAMES, &["date"])?;
         Ok(RemoteDate {
             value,
             handle,
@@ -304,77 +239,10 @@ impl Shape for RemoteDate {
     }
 
     fn to_tree(&self, alloc: Global) -> Result<Tree, AllocError> {
-        let mut members = Members::new(alloc);
-        add_optional(alloc, &mut members, "internalId", &self.internal_id)?;
-        add_optional(alloc, &mut members, "handle", &self.handle)?;
-        add_member(alloc, &mut members, "value", &self.value)?;
-        add_literal(alloc, &mut members, "type", "date")?;
-        Ok(Tree::Map(members))
-    }
-}
-
-/// A value that a remote end holds, of which a message tells no content.
-///
-/// `{ type: Opaque, ? handle: text, ? internalId: text }`
-///
-/// After WebDriver BiDi, "The script.RemoteValue Type".
-#[derive(Drop)]
-pub struct RemoteOpaque {
-    pub kind: Opaque,
-    pub handle: Option<String>,
-    pub internal_id: Option<String>,
-}
-
-impl RemoteOpaque {
-    ghost use Rattle.std.specs.Prelude.{◌≡◌, IfOk};
-
-    /// The same value, in room of its own.
-    ///
-    /// # Errors
-    /// No memory, where a growth was refused.
-    pub(crate) fn copy(&self) -> Result<RemoteOpaque, AllocError>
-        ensures tree { IfOk result (λ v. ⟦<RemoteOpaque as Shape>⟧.shape.tree_of v ≡ ⟦<RemoteOpaque as Shape>⟧.shape.tree_of self.now) }
-        ensures well { ⟦<RemoteOpaque as Shape>⟧.shape.well self.now → IfOk result ⟦<RemoteOpaque as Shape>⟧.shape.well }
-    {
-        Ok(RemoteOpaque {
-            kind: self.kind,
-            handle: copy_text(&self.handle)?,
-            internal_id: copy_text(&self.internal_id)?,
-        })
-    }
-}
-
-type OpaqueParts = Required<Opaque, Optional<String, Optional<String, Closed>>>;
-
-impl Ruled for RemoteOpaque {
-    ghost use Rattle.bidi_values.specs.RemoteValue.{remote_opaque};
-
-    ghost rule = { remote_opaque };
-}
-
-impl Shape for RemoteOpaque {
-    ghost use Rattle.std.specs.Prelude.{refl, []};
-    ghost use Rattle.bidi_shape.specs.Table.{map_shape};
-
-    ghost shape = { map_shape ⟦<RemoteOpaque as Ruled>⟧.rule ⟦<OpaqueParts as Fields>⟧.table [] (λ v. (v.kind, (v.handle, (v.internal_id, record {})))) refl refl };
-
-    fn from_tree(alloc: Global, tree: &Tree) -> Result<RemoteOpaque, ShapeFault> {
-        let Required(kind, Optional(handle, Optional(internal_id, Closed))) = read_fields::<
-            RemoteOpaque,
-            OpaqueParts,
-        >(alloc, tree, &["type", "handle", "internalId"], &[])?;
-        Ok(RemoteOpaque {
-            kind,
-            handle,
-            internal_id,
-        })
-    }
-
-    fn to_tree(&self, alloc: Global) -> Result<Tree, AllocError> {
-        let mut members = Members::new(alloc);
-        add_optional(alloc, &mut members, "internalId", &self.internal_id)?;
-        add_optional(alloc, &mut members, "handle", &self.handle)?;
-        add_member(alloc, &mut members, "type", &self.kind)?;
-        Ok(Tree::Map(members))
+        let members = Exact(One(
+            &self.value,
+            Maybe(&self.handle, Maybe(&self.internal_id, End)),
+        ));
+        write_fields(alloc, &members, Self::NAMES, &["date"])
     }
 }

@@ -1,8 +1,6 @@
 //! What holds a list of values, and what holds a list of pairs.
 use crate::beside::Beside;
-use bidi_shape::{
-    Closed, Fields, Named, Required, Shape, ShapeFault, add_member, read_word, write_word,
-};
+use bidi_shape::{Closed, Fields, Named, Required, ShapeFault, add_member};
 use bidi_tree::{Members, Tree};
 use std::alloc::{AllocError, Global};
 
@@ -38,49 +36,6 @@ impl Named for ListKind {
     }
 }
 
-impl Shape for ListKind {
-    ghost use Rattle.bidi_shape.specs.WordLaws.{word_shape};
-
-    ghost shape = { word_shape ⟦<ListKind as Named>⟧.words };
-
-    fn from_tree(alloc: Global, tree: &Tree) -> Result<ListKind, ShapeFault> {
-        read_word(tree)
-    }
-
-    fn to_tree(&self, alloc: Global) -> Result<Tree, AllocError> {
-        write_word(alloc, self)
-    }
-}
-
-type ListParts = Required<ListKind, Closed>;
-
-/// Beside a local value's list stands its type alone.
-impl Beside for ListKind {
-    ghost use Rattle.std.specs.Prelude.{refl, [], ◌∷◌, codes};
-    ghost use Rattle.bidi_values.specs.BesideLaws.{beside_by};
-
-    ghost beside = { beside_by ⟦<ListParts as Fields>⟧.table (codes "type" ∷ []) (λ k. (k, record {})) (λ f g. refl) refl refl };
-
-    fn read(alloc: Global, members: &Members) -> Result<ListKind, ShapeFault> {
-        let Required(kind, Closed) = ListParts::read(
-            alloc,
-            members,
-            &["type"],
-            &[],
-            &["type", "value"],
-        )?;
-        Ok(kind)
-    }
-
-    fn add_to(&self, alloc: Global, members: &mut Members) -> Result<(), AllocError> {
-        add_member(alloc, members, "type", self)
-    }
-
-    fn copy(&self, _alloc: Global) -> Result<ListKind, AllocError> {
-        Ok(*self)
-    }
-}
-
 /// What holds a list of pairs.
 ///
 /// `"object" / "map"`
@@ -113,31 +68,17 @@ impl Named for PairsKind {
     }
 }
 
-impl Shape for PairsKind {
-    ghost use Rattle.bidi_shape.specs.WordLaws.{word_shape};
+type KindParts<K> = Required<K, Closed>;
 
-    ghost shape = { word_shape ⟦<PairsKind as Named>⟧.words };
-
-    fn from_tree(alloc: Global, tree: &Tree) -> Result<PairsKind, ShapeFault> {
-        read_word(tree)
-    }
-
-    fn to_tree(&self, alloc: Global) -> Result<Tree, AllocError> {
-        write_word(alloc, self)
-    }
-}
-
-type PairsParts = Required<PairsKind, Closed>;
-
-/// Beside a local value's pairs stands its type alone.
-impl Beside for PairsKind {
+/// Beside the values or pairs of a local value stands its type alone.
+impl<K: Named + Copy> Beside for K {
     ghost use Rattle.std.specs.Prelude.{refl, [], ◌∷◌, codes};
     ghost use Rattle.bidi_values.specs.BesideLaws.{beside_by};
 
-    ghost beside = { beside_by ⟦<PairsParts as Fields>⟧.table (codes "type" ∷ []) (λ k. (k, record {})) (λ f g. refl) refl refl };
+    ghost beside = { beside_by ⟦<KindParts<K> as Fields>⟧.table (codes "type" ∷ []) (λ k. (k, record {})) (λ f g. refl) refl refl };
 
-    fn read(alloc: Global, members: &Members) -> Result<PairsKind, ShapeFault> {
-        let Required(kind, Closed) = PairsParts::read(
+    fn read(alloc: Global, members: &Members) -> Result<K, ShapeFault> {
+        let Required(kind, Closed) = KindParts::<K>::read(
             alloc,
             members,
             &["type"],
@@ -151,7 +92,7 @@ impl Beside for PairsKind {
         add_member(alloc, members, "type", self)
     }
 
-    fn copy(&self, _alloc: Global) -> Result<PairsKind, AllocError> {
+    fn copy(&self, _alloc: Global) -> Result<K, AllocError> {
         Ok(*self)
     }
 }

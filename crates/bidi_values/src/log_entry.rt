@@ -6,9 +6,9 @@ ghost use Rattle.bidi_values.specs.LogEntry.{and_base};
 use crate::remote_value::RemoteValue;
 use crate::stack_trace::StackTrace;
 use bidi_shape::{
-    Closed, Either, Ext, Fields, Literal, MakeFault, Named, Optional, Required, Ruled, Shape,
-    ShapeFault, add_literal, add_member, add_optional, not_shadowed, read_choice, read_fields,
-    read_word, write_word,
+    Closed, Either, End, Ext, Fields, Literal, MakeFault, Maybe, Named, One, Optional, Required,
+    Ruled, Shape, ShapeFault, add_literal, add_member, add_optional, not_shadowed, read_choice,
+    read_fields, write_fields,
 };
 use bidi_tree::{JsUint, Members, Tree};
 use std::alloc::{AllocError, Global};
@@ -51,20 +51,6 @@ impl Named for Level {
     }
 }
 
-impl Shape for Level {
-    ghost use Rattle.bidi_shape.specs.WordLaws.{word_shape};
-
-    ghost shape = { word_shape ⟦<Level as Named>⟧.words };
-
-    fn from_tree(alloc: Global, tree: &Tree) -> Result<Level, ShapeFault> {
-        read_word(tree)
-    }
-
-    fn to_tree(&self, alloc: Global) -> Result<Tree, AllocError> {
-        write_word(alloc, self)
-    }
-}
-
 /// The realm that a log entry comes from, with its browsing context.
 ///
 /// `{ realm: text, ? context: text }`
@@ -74,6 +60,11 @@ impl Shape for Level {
 pub struct Source {
     pub realm: String,
     pub context: Option<String>,
+}
+
+impl Source {
+    // In the order of the rule.
+    const NAMES: &'static [&'static str] = &["realm", "context"];
 }
 
 type SourceParts = Required<String, Optional<String, Closed>>;
@@ -95,17 +86,15 @@ impl Shape for Source {
         let Required(realm, Optional(context, Closed)) = read_fields::<Source, SourceParts>(
             alloc,
             tree,
-            &["realm", "context"],
+            Self::NAMES,
             &[],
         )?;
         Ok(Source { realm, context })
     }
 
     fn to_tree(&self, alloc: Global) -> Result<Tree, AllocError> {
-        let mut members = Members::new(alloc);
-        add_optional(alloc, &mut members, "context", &self.context)?;
-        add_member(alloc, &mut members, "realm", &self.realm)?;
-        Ok(Tree::Map(members))
+        let members = One(&self.realm, Maybe(&self.context, End));
+        write_fields(alloc, &members, Self::NAMES, &[])
     }
 }
 
@@ -183,6 +172,20 @@ pub struct ConsoleEntry {
     pub args: Vec<RemoteValue>,
 }
 
+impl ConsoleEntry {
+    // In the order of the rule.
+    const NAMES: &'static [&'static str] = &[
+        "level",
+        "source",
+        "text",
+        "timestamp",
+        "stackTrace",
+        "type",
+        "method",
+        "args",
+    ];
+}
+
 type ConsoleParts = WithBase<Literal<Required<String, Required<Vec<RemoteValue>, Closed>>>>;
 
 impl Ruled for ConsoleEntry {
@@ -202,21 +205,7 @@ impl Shape for ConsoleEntry {
         let WithBase(base, Literal(Required(method, Required(args, Closed)))) = read_fields::<
             ConsoleEntry,
             ConsoleParts,
-        >(
-            alloc,
-            tree,
-            &[
-                "level",
-                "source",
-                "text",
-                "timestamp",
-                "stackTrace",
-                "type",
-                "method",
-                "args",
-            ],
-            &["console"],
-        )?;
+        >(alloc, tree, Self::NAMES, &["console"])?;
         Ok(ConsoleEntry { base, method, args })
     }
 
@@ -240,6 +229,18 @@ pub struct JavascriptEntry {
     pub base: BaseLogEntry,
 }
 
+impl JavascriptEntry {
+    // In the order of the rule.
+    const NAMES: &'static [&'static str] = &[
+        "level",
+        "source",
+        "text",
+        "timestamp",
+        "stackTrace",
+        "type",
+    ];
+}
+
 type JavascriptParts = WithBase<Literal<Closed>>;
 
 impl Ruled for JavascriptEntry {
@@ -259,7 +260,7 @@ impl Shape for JavascriptEntry {
         let WithBase(base, Literal(Closed)) = read_fields::<JavascriptEntry, JavascriptParts>(
             alloc,
             tree,
-            &["level", "source", "text", "timestamp", "stackTrace", "type"],
+            Self::NAMES,
             &["javascript"],
         )?;
         Ok(JavascriptEntry { base })
@@ -298,13 +299,23 @@ impl GenericLogEntry {
     ghost use Rattle.bidi_shape.specs.ValueLaws.{others_of};
     ghost use Rattle.bidi_values.specs.LogEntry.{generic_map};
 
+    // In the order of the rule.
+    const NAMES: &'static [&'static str] = &[
+        "level",
+        "source",
+        "text",
+        "timestamp",
+        "stackTrace",
+        "type",
+    ];
+
     /// The entry, with further members.
     ///
     /// # Errors
     /// - `Clash`: a further member is called `level`, `source`, `text`, `timestamp`, `stackTrace` or `type`.
     /// - `Shadowed`: the map is a [`ConsoleEntry`] or a [`JavascriptEntry`].
     /// - `TooDeep`: a further member has an `Odd` in it, or more than 60 levels.
-    /// - `NoMemory`: a growth was refused.
+    /// - `NoMemory`: an allocation failed.
     pub fn new(
         alloc: Global,
         base: BaseLogEntry,
@@ -318,10 +329,7 @@ impl GenericLogEntry {
             (λ v. (v.base ≡ base) × (v.kind ≡ kind) × (others_of v.ext ≡ members_node ext.entries)) }
         ensures well { IfOk result (λ v. ⟦<GenericLogEntry as Shape>⟧.shape.well v) }
     {
-        let ext = Ext::new(
-            ext,
-            &["level", "source", "text", "timestamp", "stackTrace", "type"],
-        )?;
+        let ext = Ext::new(ext, Self::NAMES)?;
         let made = GenericLogEntry { base, kind, ext };
         not_shadowed::<Either<ConsoleEntry, JavascriptEntry>, GenericLogEntry>(alloc, &made)?;
         if !made.ext.is_whole() {
@@ -350,7 +358,7 @@ impl Shape for GenericLogEntry {
         let WithBase(base, Required(kind, ext)) = read_fields::<GenericLogEntry, GenericParts>(
             alloc,
             tree,
-            &["level", "source", "text", "timestamp", "stackTrace", "type"],
+            Self::NAMES,
             &[],
         )?;
         Ok(GenericLogEntry { base, kind, ext })

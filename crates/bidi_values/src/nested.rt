@@ -51,7 +51,7 @@ pub trait Nests<L: Beside, M: Beside>: Shape {
     /// The same plain value, in room of its own.
     ///
     /// # Errors
-    /// No memory, where a growth was refused.
+    /// No memory: an allocation failed.
     fn copy(&self, alloc: Global) -> Result<Self, AllocError>
         requires { nesting.plain.well self.now }
         ensures tree { IfOk result (λ p. nesting.plain.tree_of p ≡ nesting.plain.tree_of self.now) }
@@ -94,7 +94,7 @@ impl<P: Nests<L, M>, L: Beside, M: Beside> Nested<P, L, M> {
     ///
     /// # Errors
     /// - `TooDeep`: it has more.
-    /// - `NoMemory`: a growth was refused.
+    /// - `NoMemory`: an allocation failed.
     pub fn checked(self, alloc: Global) -> Result<Nested<P, L, M>, MakeFault>
         requires { NestedIsWell P.nesting self }
         ensures made { Makes result ⊥ ⊥ (¬ (levels (nested_tree P.nesting self) ≤ 60)) (λ v. v ≡ self) }
@@ -111,7 +111,7 @@ impl<P: Nests<L, M>, L: Beside, M: Beside> Nested<P, L, M> {
     /// An equal value, in room of its own. Costs one walk through it.
     ///
     /// # Errors
-    /// No memory, where a growth was refused.
+    /// No memory: an allocation failed.
     pub fn copy(&self, alloc: Global) -> Result<Nested<P, L, M>, AllocError>
         requires { IsWell P.nesting (content self.now) }
         ensures tree { IfOk result (λ v. nested_tree P.nesting v ≡ nested_tree P.nesting self.now) }

@@ -1,7 +1,5 @@
 //! Values of which no content is told.
-use bidi_shape::{Named, Shape, ShapeFault, read_word, write_word};
-use bidi_tree::Tree;
-use std::alloc::{AllocError, Global};
+use bidi_shape::Named;
 
 /// The type of a value of which a message tells no content.
 ///
@@ -57,19 +55,5 @@ impl Named for Opaque {
             Opaque::TypedArray => "typedarray",
             Opaque::ArrayBuffer => "arraybuffer",
         }
-    }
-}
-
-impl Shape for Opaque {
-    ghost use Rattle.bidi_shape.specs.WordLaws.{word_shape};
-
-    ghost shape = { word_shape ⟦<Opaque as Named>⟧.words };
-
-    fn from_tree(alloc: Global, tree: &Tree) -> Result<Opaque, ShapeFault> {
-        read_word(tree)
-    }
-
-    fn to_tree(&self, alloc: Global) -> Result<Tree, AllocError> {
-        write_word(alloc, self)
     }
 }

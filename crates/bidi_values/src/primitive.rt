@@ -1,7 +1,7 @@
 //! Primitive values.
 use bidi_shape::{
-    Bare, Either, Named, Ruled, Shape, ShapeFault, Tag, Typed, read_choice, read_word,
-    tree_of_type, tree_of_typed, write_word,
+    Bare, Either, Named, Ruled, Shape, ShapeFault, Tag, Typed, read_choice, tree_of_type,
+    tree_of_typed,
 };
 use bidi_tree::{JsInt, Tree};
 use std::alloc::{AllocError, Global};
@@ -41,20 +41,6 @@ impl Named for SpecialNumber {
             SpecialNumber::Infinity => "Infinity",
             SpecialNumber::NegativeInfinity => "-Infinity",
         }
-    }
-}
-
-impl Shape for SpecialNumber {
-    ghost use Rattle.bidi_shape.specs.WordLaws.{word_shape};
-
-    ghost shape = { word_shape ⟦<SpecialNumber as Named>⟧.words };
-
-    fn from_tree(alloc: Global, tree: &Tree) -> Result<SpecialNumber, ShapeFault> {
-        read_word(tree)
-    }
-
-    fn to_tree(&self, alloc: Global) -> Result<Tree, AllocError> {
-        write_word(alloc, self)
     }
 }
 
@@ -123,7 +109,7 @@ impl Primitive {
     /// The same value, in room of its own.
     ///
     /// # Errors
-    /// No memory, where a growth was refused.
+    /// No memory: an allocation failed.
     pub(crate) fn copy(&self) -> Result<Primitive, AllocError>
         ensures tree { IfOk result (λ v. ⟦<Primitive as Shape>⟧.shape.tree_of v ≡ ⟦<Primitive as Shape>⟧.shape.tree_of self.now) }
         ensures well { ⟦<Primitive as Shape>⟧.shape.well self.now → IfOk result ⟦<Primitive as Shape>⟧.shape.well }

@@ -1,7 +1,7 @@
 //! References to values that a remote end holds.
 use bidi_shape::{
-    Either, Ext, Fields, MakeFault, Optional, Required, Ruled, Shape, ShapeFault, add_member,
-    add_optional, not_shadowed, read_choice, read_fields,
+    Either, Ext, Fields, MakeFault, Maybe, One, Optional, Required, Rest, Ruled, Shape, ShapeFault,
+    further, not_shadowed, read_choice, read_fields, write_fields,
 };
 use bidi_tree::{Members, Tree};
 use std::alloc::{AllocError, Global};
@@ -29,6 +29,9 @@ impl SharedReference {
     ghost use Rattle.bidi_shape.specs.Made.{Makes};
     ghost use Rattle.bidi_shape.specs.ValueLaws.{others_of};
 
+    // In the order of the rule.
+    const NAMES: &'static [&'static str] = &["sharedId", "handle"];
+
     /// The reference, with further members. Takes no memory.
     ///
     /// # Errors
@@ -46,10 +49,7 @@ impl SharedReference {
             (λ v. (v.shared_id ≡ shared_id) × (v.handle ≡ handle) × (others_of v.ext ≡ members_node ext.entries)) }
         ensures well { IfOk result (λ v. ⟦<SharedReference as Shape>⟧.shape.well v) }
     {
-        let ext = Ext::new(ext, &["sharedId", "handle"])?;
-        if !ext.is_whole() {
-            return Err(MakeFault::TooDeep);
-        }
+        let ext = further(ext, Self::NAMES)?;
         Ok(SharedReference {
             shared_id,
             handle,
@@ -77,7 +77,7 @@ impl Shape for SharedReference {
         let Required(shared_id, Optional(handle, ext)) = read_fields::<
             SharedReference,
             SharedParts,
-        >(alloc, tree, &["sharedId", "handle"], &[])?;
+        >(alloc, tree, Self::NAMES, &[])?;
         Ok(SharedReference {
             shared_id,
             handle,
@@ -86,10 +86,8 @@ impl Shape for SharedReference {
     }
 
     fn to_tree(&self, alloc: Global) -> Result<Tree, AllocError> {
-        let mut members = self.ext.copy_members()?;
-        add_optional(alloc, &mut members, "handle", &self.handle)?;
-        add_member(alloc, &mut members, "sharedId", &self.shared_id)?;
-        Ok(Tree::Map(members))
+        let members = One(&self.shared_id, Maybe(&self.handle, Rest(&self.ext)));
+        write_fields(alloc, &members, Self::NAMES, &[])
     }
 }
 
@@ -118,6 +116,9 @@ impl RemoteObjectReference {
     ghost use Rattle.bidi_shape.specs.ValueLaws.{others_of};
     ghost use Rattle.bidi_values.specs.Maps.{remote_object_map};
 
+    // In the order of the rule.
+    const NAMES: &'static [&'static str] = &["handle", "sharedId"];
+
     /// The reference, with further members. With a `shared_id` and further members that are whole it is always
     /// `Shadowed`, since such a map is a [`SharedReference`].
     ///
@@ -125,7 +126,7 @@ impl RemoteObjectReference {
     /// - `Clash`: a further member is called `handle` or `sharedId`.
     /// - `Shadowed`: the map is a `SharedReference`.
     /// - `TooDeep`: a further member has an `Odd` in it, or more than 60 levels.
-    /// - `NoMemory`: a growth was refused.
+    /// - `NoMemory`: an allocation failed.
     pub fn new(
         alloc: Global,
         handle: String,
@@ -139,7 +140,7 @@ impl RemoteObjectReference {
             (λ v. (v.handle ≡ handle) × (v.shared_id ≡ shared_id) × (others_of v.ext ≡ members_node ext.entries)) }
         ensures well { IfOk result (λ v. ⟦<RemoteObjectReference as Shape>⟧.shape.well v) }
     {
-        let ext = Ext::new(ext, &["handle", "sharedId"])?;
+        let ext = Ext::new(ext, Self::NAMES)?;
         let made = RemoteObjectReference {
             handle,
             shared_id,
@@ -172,7 +173,7 @@ impl Shape for RemoteObjectReference {
         let Required(handle, Optional(shared_id, ext)) = read_fields::<
             RemoteObjectReference,
             RemoteObjectParts,
-        >(alloc, tree, &["handle", "sharedId"], &[])?;
+        >(alloc, tree, Self::NAMES, &[])?;
         Ok(RemoteObjectReference {
             handle,
             shared_id,
@@ -181,10 +182,8 @@ impl Shape for RemoteObjectReference {
     }
 
     fn to_tree(&self, alloc: Global) -> Result<Tree, AllocError> {
-        let mut members = self.ext.copy_members()?;
-        add_optional(alloc, &mut members, "sharedId", &self.shared_id)?;
-        add_member(alloc, &mut members, "handle", &self.handle)?;
-        Ok(Tree::Map(members))
+        let members = One(&self.handle, Maybe(&self.shared_id, Rest(&self.ext)));
+        write_fields(alloc, &members, Self::NAMES, &[])
     }
 }
 

@@ -1,8 +1,8 @@
 //! Regular expressions.
 use crate::copying::copy_text;
 use bidi_shape::{
-    Closed, Fields, Optional, Required, Ruled, Shape, ShapeFault, add_member, add_optional,
-    read_fields,
+    Closed, End, Fields, Maybe, One, Optional, Required, Ruled, Shape, ShapeFault, read_fields,
+    write_fields,
 };
 use bidi_tree::{Members, Tree};
 use std::alloc::{AllocError, Global};
@@ -24,7 +24,7 @@ impl RegExpValue {
     /// The same value, in room of its own.
     ///
     /// # Errors
-    /// No memory, where a growth was refused.
+    /// No memory: an allocation failed.
     pub(crate) fn copy(&self) -> Result<RegExpValue, AllocError>
         ensures tree { IfOk result (λ v. ⟦<RegExpValue as Shape>⟧.shape.tree_of v ≡ ⟦<RegExpValue as Shape>⟧.shape.tree_of self.now) }
         ensures well { ⟦<RegExpValue as Shape>⟧.shape.well self.now → IfOk result ⟦<RegExpValue as Shape>⟧.shape.well }
@@ -34,6 +34,11 @@ impl RegExpValue {
             flags: copy_text(&self.flags)?,
         })
     }
+}
+
+impl RegExpValue {
+    // In the order of the rule.
+    const NAMES: &'static [&'static str] = &["pattern", "flags"];
 }
 
 type Parts = Required<String, Optional<String, Closed>>;
@@ -55,16 +60,14 @@ impl Shape for RegExpValue {
         let Required(pattern, Optional(flags, Closed)) = read_fields::<RegExpValue, Parts>(
             alloc,
             tree,
-            &["pattern", "flags"],
+            Self::NAMES,
             &[],
         )?;
         Ok(RegExpValue { pattern, flags })
     }
 
     fn to_tree(&self, alloc: Global) -> Result<Tree, AllocError> {
-        let mut members = Members::new(alloc);
-        add_optional(alloc, &mut members, "flags", &self.flags)?;
-        add_member(alloc, &mut members, "pattern", &self.pattern)?;
-        Ok(Tree::Map(members))
+        let members = One(&self.pattern, Maybe(&self.flags, End));
+        write_fields(alloc, &members, Self::NAMES, &[])
     }
 }

@@ -128,7 +128,7 @@ impl Nests<RemoteList, RemotePairs> for RemotePlain {
             RemotePlain::Pairs(pairs) => Ok(RemotePlain::Pairs(pairs.copy(alloc)?)),
             RemotePlain::RegExp(reg_exp) => Ok(RemotePlain::RegExp(reg_exp.copy()?)),
             RemotePlain::Date(date) => Ok(RemotePlain::Date(date.copy()?)),
-            RemotePlain::Opaque(opaque) => Ok(RemotePlain::Opaque(opaque.copy()?)),
+            RemotePlain::Opaque(opaque) => Ok(RemotePlain::Opaque(opaque.copy(alloc)?)),
         }
     }
 

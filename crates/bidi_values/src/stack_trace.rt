@@ -1,5 +1,7 @@
 //! Stack traces.
-use bidi_shape::{Closed, Fields, Required, Ruled, Shape, ShapeFault, add_member, read_fields};
+use bidi_shape::{
+    Closed, End, Fields, One, Required, Ruled, Shape, ShapeFault, read_fields, write_fields,
+};
 use bidi_tree::{JsUint, Members, Tree};
 use std::alloc::{AllocError, Global};
 
@@ -14,6 +16,11 @@ pub struct StackFrame {
     pub function_name: String,
     pub line_number: JsUint,
     pub url: String,
+}
+
+impl StackFrame {
+    // In the order of the rule.
+    const NAMES: &'static [&'static str] = &["columnNumber", "functionName", "lineNumber", "url"];
 }
 
 type FrameParts = Required<JsUint, Required<String, Required<JsUint, Required<String, Closed>>>>;
@@ -35,12 +42,7 @@ impl Shape for StackFrame {
         let Required(
             column_number,
             Required(function_name, Required(line_number, Required(url, Closed))),
-        ) = read_fields::<StackFrame, FrameParts>(
-            alloc,
-            tree,
-            &["columnNumber", "functionName", "lineNumber", "url"],
-            &[],
-        )?;
+        ) = read_fields::<StackFrame, FrameParts>(alloc, tree, Self::NAMES, &[])?;
         Ok(StackFrame {
             column_number,
             function_name,
@@ -50,12 +52,14 @@ impl Shape for StackFrame {
     }
 
     fn to_tree(&self, alloc: Global) -> Result<Tree, AllocError> {
-        let mut members = Members::new(alloc);
-        add_member(alloc, &mut members, "url", &self.url)?;
-        add_member(alloc, &mut members, "lineNumber", &self.line_number)?;
-        add_member(alloc, &mut members, "functionName", &self.function_name)?;
-        add_member(alloc, &mut members, "columnNumber", &self.column_number)?;
-        Ok(Tree::Map(members))
+        let members = One(
+            &self.column_number,
+            One(
+                &self.function_name,
+                One(&self.line_number, One(&self.url, End)),
+            ),
+        );
+        write_fields(alloc, &members, Self::NAMES, &[])
     }
 }
 
@@ -67,6 +71,11 @@ impl Shape for StackFrame {
 #[derive(Drop)]
 pub struct StackTrace {
     pub call_frames: Vec<StackFrame>,
+}
+
+impl StackTrace {
+    // In the order of the rule.
+    const NAMES: &'static [&'static str] = &["callFrames"];
 }
 
 type TraceParts = Required<Vec<StackFrame>, Closed>;
@@ -88,15 +97,14 @@ impl Shape for StackTrace {
         let Required(call_frames, Closed) = read_fields::<StackTrace, TraceParts>(
             alloc,
             tree,
-            &["callFrames"],
+            Self::NAMES,
             &[],
         )?;
         Ok(StackTrace { call_frames })
     }
 
     fn to_tree(&self, alloc: Global) -> Result<Tree, AllocError> {
-        let mut members = Members::new(alloc);
-        add_member(alloc, &mut members, "callFrames", &self.call_frames)?;
-        Ok(Tree::Map(members))
+        let members = One(&self.call_frames, End);
+        write_fields(alloc, &members, Self::NAMES, &[])
     }
 }

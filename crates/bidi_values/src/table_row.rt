@@ -1,8 +1,8 @@
 //! The table of a play: what each script does.
 use crate::remote_value::RemoteValue;
 use bidi_shape::{
-    Closed, Either, Fields, Required, Ruled, Shape, ShapeFault, add_member, read_choice,
-    read_fields,
+    Closed, Either, End, Fields, One, Required, Ruled, Shape, ShapeFault, read_choice, read_fields,
+    write_fields,
 };
 use bidi_tree::{JsUint, Members, Tree};
 use std::alloc::{AllocError, Global};
@@ -16,6 +16,11 @@ use std::alloc::{AllocError, Global};
 pub struct ReturnsRow {
     pub text: String,
     pub value: RemoteValue,
+}
+
+impl ReturnsRow {
+    // In the order of the rule.
+    const NAMES: &'static [&'static str] = &["text", "returns"];
 }
 
 type ReturnsParts = Required<String, Required<RemoteValue, Closed>>;
@@ -36,17 +41,15 @@ impl Shape for ReturnsRow {
         let Required(text, Required(value, Closed)) = read_fields::<ReturnsRow, ReturnsParts>(
             alloc,
             tree,
-            &["text", "returns"],
+            Self::NAMES,
             &[],
         )?;
         Ok(ReturnsRow { text, value })
     }
 
     fn to_tree(&self, alloc: Global) -> Result<Tree, AllocError> {
-        let mut members = Members::new(alloc);
-        add_member(alloc, &mut members, "returns", &self.value)?;
-        add_member(alloc, &mut members, "text", &self.text)?;
-        Ok(Tree::Map(members))
+        let members = One(&self.text, One(&self.value, End));
+        write_fields(alloc, &members, Self::NAMES, &[])
     }
 }
 
@@ -59,6 +62,11 @@ impl Shape for ReturnsRow {
 pub struct ThrowsRow {
     pub text: String,
     pub value: RemoteValue,
+}
+
+impl ThrowsRow {
+    // In the order of the rule.
+    const NAMES: &'static [&'static str] = &["text", "throws"];
 }
 
 type ThrowsParts = Required<String, Required<RemoteValue, Closed>>;
@@ -79,17 +87,15 @@ impl Shape for ThrowsRow {
         let Required(text, Required(value, Closed)) = read_fields::<ThrowsRow, ThrowsParts>(
             alloc,
             tree,
-            &["text", "throws"],
+            Self::NAMES,
             &[],
         )?;
         Ok(ThrowsRow { text, value })
     }
 
     fn to_tree(&self, alloc: Global) -> Result<Tree, AllocError> {
-        let mut members = Members::new(alloc);
-        add_member(alloc, &mut members, "throws", &self.value)?;
-        add_member(alloc, &mut members, "text", &self.text)?;
-        Ok(Tree::Map(members))
+        let members = One(&self.text, One(&self.value, End));
+        write_fields(alloc, &members, Self::NAMES, &[])
     }
 }
 
@@ -102,6 +108,11 @@ impl Shape for ThrowsRow {
 pub struct ArgumentRow {
     pub text: String,
     pub index: JsUint,
+}
+
+impl ArgumentRow {
+    // In the order of the rule.
+    const NAMES: &'static [&'static str] = &["text", "argument"];
 }
 
 type ArgumentParts = Required<String, Required<JsUint, Closed>>;
@@ -122,17 +133,15 @@ impl Shape for ArgumentRow {
         let Required(text, Required(index, Closed)) = read_fields::<ArgumentRow, ArgumentParts>(
             alloc,
             tree,
-            &["text", "argument"],
+            Self::NAMES,
             &[],
         )?;
         Ok(ArgumentRow { text, index })
     }
 
     fn to_tree(&self, alloc: Global) -> Result<Tree, AllocError> {
-        let mut members = Members::new(alloc);
-        add_member(alloc, &mut members, "argument", &self.index)?;
-        add_member(alloc, &mut members, "text", &self.text)?;
-        Ok(Tree::Map(members))
+        let members = One(&self.text, One(&self.index, End));
+        write_fields(alloc, &members, Self::NAMES, &[])
     }
 }
 

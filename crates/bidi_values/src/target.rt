@@ -1,7 +1,7 @@
 //! Where a script is run.
 use bidi_shape::{
-    Either, Ext, Fields, MakeFault, Optional, Required, Ruled, Shape, ShapeFault, add_member,
-    add_optional, not_shadowed, read_choice, read_fields,
+    Either, Ext, Fields, MakeFault, Maybe, One, Optional, Required, Rest, Ruled, Shape, ShapeFault,
+    further, not_shadowed, read_choice, read_fields, write_fields,
 };
 use bidi_tree::{Members, Tree};
 use std::alloc::{AllocError, Global};
@@ -29,6 +29,9 @@ impl ContextTarget {
     ghost use Rattle.bidi_shape.specs.Made.{Makes};
     ghost use Rattle.bidi_shape.specs.ValueLaws.{others_of};
 
+    // In the order of the rule.
+    const NAMES: &'static [&'static str] = &["context", "sandbox"];
+
     /// The target, with further members. Takes no memory.
     ///
     /// # Errors
@@ -46,10 +49,7 @@ impl ContextTarget {
             (λ v. (v.context ≡ context) × (v.sandbox ≡ sandbox) × (others_of v.ext ≡ members_node ext.entries)) }
         ensures well { IfOk result (λ v. ⟦<ContextTarget as Shape>⟧.shape.well v) }
     {
-        let ext = Ext::new(ext, &["context", "sandbox"])?;
-        if !ext.is_whole() {
-            return Err(MakeFault::TooDeep);
-        }
+        let ext = further(ext, Self::NAMES)?;
         Ok(ContextTarget {
             context,
             sandbox,
@@ -77,7 +77,7 @@ impl Shape for ContextTarget {
         let Required(context, Optional(sandbox, ext)) = read_fields::<ContextTarget, ContextParts>(
             alloc,
             tree,
-            &["context", "sandbox"],
+            Self::NAMES,
             &[],
         )?;
         Ok(ContextTarget {
@@ -88,10 +88,8 @@ impl Shape for ContextTarget {
     }
 
     fn to_tree(&self, alloc: Global) -> Result<Tree, AllocError> {
-        let mut members = self.ext.copy_members()?;
-        add_optional(alloc, &mut members, "sandbox", &self.sandbox)?;
-        add_member(alloc, &mut members, "context", &self.context)?;
-        Ok(Tree::Map(members))
+        let members = One(&self.context, Maybe(&self.sandbox, Rest(&self.ext)));
+        write_fields(alloc, &members, Self::NAMES, &[])
     }
 }
 
@@ -119,13 +117,16 @@ impl RealmTarget {
     ghost use Rattle.bidi_shape.specs.ValueLaws.{others_of};
     ghost use Rattle.bidi_values.specs.Maps.{realm_map};
 
+    // In the order of the rule.
+    const NAMES: &'static [&'static str] = &["realm"];
+
     /// The target, with further members.
     ///
     /// # Errors
     /// - `Clash`: a further member is called `realm`.
     /// - `Shadowed`: the map is a [`ContextTarget`].
     /// - `TooDeep`: a further member has an `Odd` in it, or more than 60 levels.
-    /// - `NoMemory`: a growth was refused.
+    /// - `NoMemory`: an allocation failed.
     pub fn new(alloc: Global, realm: String, ext: Members) -> Result<RealmTarget, MakeFault>
         ensures made { Makes result
             (has_named (names_in (named realm_target)) (members_node ext.entries) ≡ true)
@@ -134,7 +135,7 @@ impl RealmTarget {
             (λ v. (v.realm ≡ realm) × (others_of v.ext ≡ members_node ext.entries)) }
         ensures well { IfOk result (λ v. ⟦<RealmTarget as Shape>⟧.shape.well v) }
     {
-        let ext = Ext::new(ext, &["realm"])?;
+        let ext = Ext::new(ext, Self::NAMES)?;
         let made = RealmTarget { realm, ext };
         not_shadowed::<ContextTarget, RealmTarget>(alloc, &made)?;
         if !made.ext.is_whole() {
@@ -163,16 +164,15 @@ impl Shape for RealmTarget {
         let Required(realm, ext) = read_fields::<RealmTarget, RealmParts>(
             alloc,
             tree,
-            &["realm"],
+            Self::NAMES,
             &[],
         )?;
         Ok(RealmTarget { realm, ext })
     }
 
     fn to_tree(&self, alloc: Global) -> Result<Tree, AllocError> {
-        let mut members = self.ext.copy_members()?;
-        add_member(alloc, &mut members, "realm", &self.realm)?;
-        Ok(Tree::Map(members))
+        let members = One(&self.realm, Rest(&self.ext));
+        write_fields(alloc, &members, Self::NAMES, &[])
     }
 }
 

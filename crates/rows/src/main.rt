@@ -6,7 +6,6 @@
 
 mod checking;
 mod ids;
-mod repeats;
 mod table;
 
 use anyhow::{Context, Result};

@@ -9,12 +9,12 @@
 //! of a line takes its line feed away.
 //!
 //! In a row `BEGUN`, `CAPABILITIES`, `CONTEXT` and `REALM` stand for what the constants below say. Ids stand as short words
-//! (`ids`), and what comes many times stands once (`repeats`).
+//! (`ids`), and what comes many times stands once (`testing::repeats`).
 use super::ids::with_ids;
-use super::repeats::repeated;
 use anyhow::{Context, Result, bail};
 use std::alloc::{AllocError, Global};
 use std::str::from_utf8;
+use testing::repeats::repeated;
 
 /// Connection 1 makes the first session.
 const BEGUN: &str = r#"open 1 /session

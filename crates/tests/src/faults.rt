@@ -1,12 +1,11 @@
 //! The texts of faults.
-use crate::rows::{Asked, check_rows};
 use bidi_messages::MessageFault;
-use bidi_remote::RemoteFault;
 use bidi_shape::{Clash, MakeFault, ShapeFault};
 use bidi_tree::ReadFault;
 use std::alloc::Global;
 use std::fmt::Display;
 use std::test::Fail;
+use testing::rows::{Asked, check_rows};
 
 struct Faults;
 
@@ -24,8 +23,6 @@ impl Asked for Faults {
             "MakeFault::TooDeep" => shown(alloc, MakeFault::TooDeep),
             "MakeFault::NoMemory" => shown(alloc, MakeFault::NoMemory),
             "MessageFault::NoMemory" => shown(alloc, MessageFault::NoMemory),
-            "RemoteFault::NoMemory" => shown(alloc, RemoteFault::NoMemory),
-            "RemoteFault::WornOut" => shown(alloc, RemoteFault::WornOut),
             _ => Err(Fail::from("no such fault")),
         }
     }
@@ -43,13 +40,11 @@ fault MakeFault::Shadowed -> an earlier alternative takes the value
 fault MakeFault::TooDeep -> a further member has too many levels, or a number that is not kept
 fault MakeFault::NoMemory -> out of memory
 fault MessageFault::NoMemory -> out of memory
-fault RemoteFault::NoMemory -> out of memory
-fault RemoteFault::WornOut -> too many steps
 ";
 
 #[test]
 fn faults_have_texts(rt: HostRuntime) -> Result<(), Fail> {
-    check_rows::<Faults>(&rt, rt.alloc(), TEXTS)
+    check_rows::<Faults>(rt.alloc(), TEXTS)
 }
 
 fn shown(alloc: Global, fault: impl Display + Copy) -> Result<String, Fail> {

@@ -4,14 +4,14 @@
 //! stands once: `«3 [»` is `[[[`.
 ghost use Rattle.std.specs.Prelude.{IfOk};
 
-use crate::rows::spelled_out;
-use crate::texts::{tree_of, written};
 use bidi_local::{LocalEnd, LocalFault, Received};
 use bidi_messages::{CommandData, EventData, Method, Named, ResultData, Subject, data_of};
 use bidi_tree::JsUint;
 use std::alloc::Global;
 use std::process::Abort;
 use std::test::Fail;
+use testing::repeats::repeated;
+use testing::texts::{tree_of, written};
 
 // ---- what texts mean
 
@@ -130,7 +130,7 @@ fn check_play(rt: &impl Abort, alloc: Global, play: &str) -> Result<(), Fail> {
 /// What comes of a row.
 fn found(alloc: Global, end: &mut LocalEnd, asked: &str) -> Result<String, Fail> {
     let (word, rest) = asked.split_once(' ').unwrap_or((asked, ""));
-    let spelled = spelled_out(alloc, rest)?;
+    let spelled = repeated(alloc, rest)?;
     match word {
         "send" => sent(alloc, end, spelled.as_str()),
         "send-long" => sent_long(alloc, end, spelled.as_str()),

@@ -2,8 +2,6 @@
 ghost use Rattle.std.specs.Prelude.{IfOk};
 
 use crate::params::session::alternative_text;
-use crate::rows::{Asked, check_rows};
-use crate::texts::{members_of, owned, tree_of, written};
 use bidi_messages::{
     CommandData, ErrorCode, EventData, EventName, Message, Method, Named, ResultData, Sent,
     Subject, Verdict, data_of, error_text, event_text, judge, read_message, response_text,
@@ -12,6 +10,8 @@ use bidi_messages::{
 use bidi_tree::{JsUint, Tree, are_whole};
 use std::alloc::{AllocError, Global};
 use std::test::Fail;
+use testing::rows::{Asked, check_rows};
+use testing::texts::{members_of, owned, tree_of, written};
 
 struct Messages;
 
@@ -119,9 +119,9 @@ unsubscribe {"events":[]} -> NoFit
 
 #[test]
 fn commands_are_judged(rt: HostRuntime) -> Result<(), Fail> {
-    check_rows::<Messages>(&rt, rt.alloc(), COMMANDS)?;
-    check_rows::<Messages>(&rt, rt.alloc(), VERDICTS)?;
-    check_rows::<Messages>(&rt, rt.alloc(), UNSUBSCRIBES)
+    check_rows::<Messages>(rt.alloc(), COMMANDS)?;
+    check_rows::<Messages>(rt.alloc(), VERDICTS)?;
+    check_rows::<Messages>(rt.alloc(), UNSUBSCRIBES)
 }
 
 fn command(alloc: Global, text: &str) -> Result<String, Fail> {
@@ -220,7 +220,7 @@ result script.disown {"x":1.5} -> NoFit
 
 #[test]
 fn each_method_has_its_result(rt: HostRuntime) -> Result<(), Fail> {
-    check_rows::<Messages>(&rt, rt.alloc(), RESULTS)
+    check_rows::<Messages>(rt.alloc(), RESULTS)
 }
 
 fn result(alloc: Global, text: &str) -> Result<String, Fail> {
@@ -288,8 +288,8 @@ further {"type":"event","method":"script.realmDestroyed","params":{"realm":"r","
 
 #[test]
 fn messages_read_back(rt: HostRuntime) -> Result<(), Fail> {
-    check_rows::<Messages>(&rt, rt.alloc(), MESSAGES)?;
-    check_rows::<Messages>(&rt, rt.alloc(), EVENTS)
+    check_rows::<Messages>(rt.alloc(), MESSAGES)?;
+    check_rows::<Messages>(rt.alloc(), EVENTS)
 }
 
 fn message(alloc: Global, text: &str) -> Result<String, Fail> {
@@ -392,8 +392,8 @@ code timeout -> none
 
 #[test]
 fn sent_texts_and_names(rt: HostRuntime) -> Result<(), Fail> {
-    check_rows::<Messages>(&rt, rt.alloc(), SENT)?;
-    check_rows::<Messages>(&rt, rt.alloc(), NAMES)?;
+    check_rows::<Messages>(rt.alloc(), SENT)?;
+    check_rows::<Messages>(rt.alloc(), NAMES)?;
     assert_eq!(rt; ErrorCode::NoSuchFrame.name(), "no such frame");
     assert_eq!(rt; Method::ScriptDisown.name(), "script.disown");
     assert_eq!(rt; EventName::Load.name(), "browsingContext.load");

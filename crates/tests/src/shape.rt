@@ -1,13 +1,13 @@
 //! The forms of the grammar, each at a type that has it: `docs/FORMATS.md`.
 use crate::params::session::SessionMade;
-use crate::rows::{Asked, check_rows};
-use crate::texts::{again, members_of, owned, tree_of};
 use bidi_params::{CloseParameters, RealmInfo, UnsubscribeParameters};
 use bidi_shape::{Bare, Either, Ext, OneOrMore, Shape, ShapeFault, Tag, Typed};
 use bidi_tree::{JsInt, JsUint};
 use bidi_values::{Ownership, Primitive, StackFrame};
 use std::alloc::Global;
 use std::test::Fail;
+use testing::rows::{Asked, check_rows};
+use testing::texts::{again, members_of, owned, tree_of};
 
 /// What a text reads as, by the name of a type.
 struct Shapes;
@@ -181,11 +181,11 @@ Primitive {"type":"undefined","value":false} -> NoFit
 
 #[test]
 fn each_form_takes_what_fits(rt: HostRuntime) -> Result<(), Fail> {
-    check_rows::<Shapes>(&rt, rt.alloc(), SCALARS)?;
-    check_rows::<Shapes>(&rt, rt.alloc(), MAPS)?;
-    check_rows::<Shapes>(&rt, rt.alloc(), LISTS)?;
-    check_rows::<Shapes>(&rt, rt.alloc(), CHOICES)?;
-    check_rows::<Shapes>(&rt, rt.alloc(), TAGGED)
+    check_rows::<Shapes>(rt.alloc(), SCALARS)?;
+    check_rows::<Shapes>(rt.alloc(), MAPS)?;
+    check_rows::<Shapes>(rt.alloc(), LISTS)?;
+    check_rows::<Shapes>(rt.alloc(), CHOICES)?;
+    check_rows::<Shapes>(rt.alloc(), TAGGED)
 }
 
 /// The events `["e"]` with further members: the second of two alternatives, of which the first has subscriptions.
@@ -205,5 +205,5 @@ UnsubscribeByEvents {"x":«61 [»«61 ]»} -> TooDeep
 
 #[test]
 fn a_constructor_refuses_with_the_first_cause(rt: HostRuntime) -> Result<(), Fail> {
-    check_rows::<SessionMade>(&rt, rt.alloc(), MADE)
+    check_rows::<SessionMade>(rt.alloc(), MADE)
 }

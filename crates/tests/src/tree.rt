@@ -1,11 +1,11 @@
 //! Numbers, trees and JSON text: RFC 8259, and `docs/FORMATS.md` on what is read.
-use crate::rows::{Asked, check_rows};
-use crate::texts::{members_of, tree_of, written};
 use bidi_tree::{
     JsInt, JsUint, Members, ReadFault, Tree, are_whole, find_member, put_member, read, write,
 };
 use std::alloc::Global;
 use std::test::Fail;
+use testing::rows::{Asked, check_rows};
+use testing::texts::{members_of, tree_of, written};
 
 struct Trees;
 
@@ -68,7 +68,7 @@ no digit | number - -> Err(NotJson)
 
 #[test]
 fn numbers_are_whole_up_to_2_to_the_53(rt: HostRuntime) -> Result<(), Fail> {
-    check_rows::<Trees>(&rt, rt.alloc(), NUMBERS)
+    check_rows::<Trees>(rt.alloc(), NUMBERS)
 }
 
 fn integer(alloc: Global, text: &str) -> Result<String, Fail> {
@@ -112,7 +112,7 @@ another case | member ID {"id":-5,"ok":true,"list":[null,"x"]} -> None
 
 #[test]
 fn each_kind_answers_for_itself_and_its_parts(rt: HostRuntime) -> Result<(), Fail> {
-    check_rows::<Trees>(&rt, rt.alloc(), PARTS)
+    check_rows::<Trees>(rt.alloc(), PARTS)
 }
 
 fn kind(alloc: Global, text: &str) -> Result<String, Fail> {
@@ -203,9 +203,9 @@ a long text with no limit | text [«1100001  »] -> []
 
 #[test]
 fn texts_are_read_within_limits_and_written_compactly(rt: HostRuntime) -> Result<(), Fail> {
-    check_rows::<Trees>(&rt, rt.alloc(), TEXTS)?;
-    check_rows::<Trees>(&rt, rt.alloc(), UNSEEN)?;
-    check_rows::<Trees>(&rt, rt.alloc(), LIMITS)
+    check_rows::<Trees>(rt.alloc(), TEXTS)?;
+    check_rows::<Trees>(rt.alloc(), UNSEEN)?;
+    check_rows::<Trees>(rt.alloc(), LIMITS)
 }
 
 fn again(alloc: Global, text: &str) -> Result<String, Fail> {
@@ -264,7 +264,7 @@ another order | copies [1,2] [2,1] -> false
 
 #[test]
 fn members_are_put_in_order_and_copies_are_equal(rt: HostRuntime) -> Result<(), Fail> {
-    check_rows::<Trees>(&rt, rt.alloc(), MAPS)
+    check_rows::<Trees>(rt.alloc(), MAPS)
 }
 
 fn put(alloc: Global, asked: &str) -> Result<String, Fail> {
@@ -289,14 +289,14 @@ fn copies(alloc: Global, asked: &str) -> Result<String, Fail> {
     Ok((copy == tree_of(alloc, second)?).to_string(alloc)?)
 }
 
-// ---- refused growths
+// ---- allocations that fail
 
 const LONG: &str =
     r#"{"a":[1,"two\n",{"b":null,"c":[]}],"d":{"e":"a text that outgrows the room that it is given at first, since it has more than a hundred bytes by itself"}}"#;
 
-/// However many growths are refused, the answer is the memory fault or the right one.
+/// However many allocations fail, the answer is the memory fault or the right one.
 #[test]
-fn reads_and_writes_under_refused_growths(rt: HostRuntime) {
+fn reads_and_writes_where_allocations_fail(rt: HostRuntime) {
     let is_right = match read(rt.alloc(), LONG, Some(200)) {
         Ok(tree) => is_kept(rt.alloc(), tree),
         Err(fault) => fault == ReadFault::NoMemory,

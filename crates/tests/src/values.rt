@@ -1,6 +1,4 @@
 //! Values of scripts, references, targets, results, log entries and rows of a play's table: `docs/FORMATS.md`.
-use crate::rows::{Asked, check_rows};
-use crate::texts::{again, members_of, text_of, told, tree_of, value_of, written};
 use bidi_shape::Shape;
 use bidi_tree::Tree;
 use bidi_values::{
@@ -12,6 +10,8 @@ use bidi_values::{
 };
 use std::alloc::Global;
 use std::test::Fail;
+use testing::rows::{Asked, check_rows};
+use testing::texts::{again, members_of, text_of, told, tree_of, value_of, written};
 
 /// What a text reads as, by the name of a type: the compact text of the value, for a choice behind the name of the
 /// alternative, or the fault.
@@ -256,9 +256,9 @@ LocalValue,RemoteValue «31 {"type":"array","value":[»«31 ]}» -> NoFit
 
 #[test]
 fn values_and_references(rt: HostRuntime) -> Result<(), Fail> {
-    check_rows::<Values>(&rt, rt.alloc(), PLAIN)?;
-    check_rows::<Values>(&rt, rt.alloc(), CHOICES)?;
-    check_rows::<Values>(&rt, rt.alloc(), NESTED)
+    check_rows::<Values>(rt.alloc(), PLAIN)?;
+    check_rows::<Values>(rt.alloc(), CHOICES)?;
+    check_rows::<Values>(rt.alloc(), NESTED)
 }
 
 const RESULTS: &str = r#"
@@ -368,9 +368,9 @@ LogEntry {"level":"","source":{"realm":"r"},"text":"t","timestamp":1,"type":"jav
 
 #[test]
 fn results_and_log_entries(rt: HostRuntime) -> Result<(), Fail> {
-    check_rows::<Values>(&rt, rt.alloc(), RESULTS)?;
-    check_rows::<Values>(&rt, rt.alloc(), TABLE_ROWS)?;
-    check_rows::<Values>(&rt, rt.alloc(), LOG_ENTRIES)
+    check_rows::<Values>(rt.alloc(), RESULTS)?;
+    check_rows::<Values>(rt.alloc(), TABLE_ROWS)?;
+    check_rows::<Values>(rt.alloc(), LOG_ENTRIES)
 }
 
 // ---- what is made of values
@@ -471,10 +471,10 @@ GenericLogEntry {"level":"info","source":{"realm":"r"},"text":"t","timestamp":1,
 
 #[test]
 fn made_of_parts(rt: HostRuntime) -> Result<(), Fail> {
-    check_rows::<Made>(&rt, rt.alloc(), NESTED_AGAIN)?;
-    check_rows::<Made>(&rt, rt.alloc(), FURTHER)?;
-    check_rows::<Made>(&rt, rt.alloc(), MADE)?;
-    check_rows::<Made>(&rt, rt.alloc(), MADE_ENTRIES)
+    check_rows::<Made>(rt.alloc(), NESTED_AGAIN)?;
+    check_rows::<Made>(rt.alloc(), FURTHER)?;
+    check_rows::<Made>(rt.alloc(), MADE)?;
+    check_rows::<Made>(rt.alloc(), MADE_ENTRIES)
 }
 
 fn checked<P: Nests<L, M>, L: Beside, M: Beside>(

@@ -9,8 +9,8 @@ ghost use Rattle.bidi_shape.specs.Made.{Makes};
 ghost use Rattle.bidi_shape.specs.ValueLaws.{others_of};
 
 use bidi_shape::{
-    Ext, Fields, MakeFault, Named, Optional, Required, Ruled, Shape, ShapeFault, add_member,
-    add_optional, read_fields, read_word, write_word,
+    Ext, Fields, MakeFault, Maybe, Named, One, Optional, Required, Rest, Ruled, Shape, ShapeFault,
+    further, read_fields, write_fields,
 };
 use bidi_tree::{Members, Tree};
 use std::alloc::{AllocError, Global};
@@ -47,20 +47,6 @@ impl Named for ContextType {
     }
 }
 
-impl Shape for ContextType {
-    ghost use Rattle.bidi_shape.specs.WordLaws.{word_shape};
-
-    ghost shape = { word_shape ⟦<ContextType as Named>⟧.words };
-
-    fn from_tree(alloc: Global, tree: &Tree) -> Result<ContextType, ShapeFault> {
-        read_word(tree)
-    }
-
-    fn to_tree(&self, alloc: Global) -> Result<Tree, AllocError> {
-        write_word(alloc, self)
-    }
-}
-
 /// Parameters of `browsingContext.create`.
 ///
 /// `{ type: "tab" / "window", ? referenceContext: text, ? background: bool, ? userContext: text, Extensible }`
@@ -79,6 +65,14 @@ pub struct CreateParameters {
 
 impl CreateParameters {
     ghost use Rattle.bidi_shape.specs.Name.{create_parameters};
+
+    // In the order of the rule.
+    const NAMES: &'static [&'static str] = &[
+        "type",
+        "referenceContext",
+        "background",
+        "userContext",
+    ];
 
     /// The parameters, with further members. Takes no memory.
     ///
@@ -99,13 +93,7 @@ impl CreateParameters {
             (λ v. (v.kind ≡ kind) × (v.reference_context ≡ reference_context) × (v.background ≡ background) × (v.user_context ≡ user_context) × (others_of v.ext ≡ members_node ext.entries)) }
         ensures well { IfOk result (λ v. ⟦<CreateParameters as Shape>⟧.shape.well v) }
     {
-        let ext = Ext::new(
-            ext,
-            &["type", "referenceContext", "background", "userContext"],
-        )?;
-        if !ext.is_whole() {
-            return Err(MakeFault::TooDeep);
-        }
+        let ext = further(ext, Self::NAMES)?;
         Ok(CreateParameters {
             kind,
             reference_context,
@@ -131,12 +119,7 @@ impl Shape for CreateParameters {
         let Required(
             kind,
             Optional(reference_context, Optional(background, Optional(user_context, ext))),
-        ) = read_fields::<CreateParameters, CreateParts>(
-            alloc,
-            tree,
-            &["type", "referenceContext", "background", "userContext"],
-            &[],
-        )?;
+        ) = read_fields::<CreateParameters, CreateParts>(alloc, tree, Self::NAMES, &[])?;
         Ok(CreateParameters {
             kind,
             reference_context,
@@ -147,17 +130,14 @@ impl Shape for CreateParameters {
     }
 
     fn to_tree(&self, alloc: Global) -> Result<Tree, AllocError> {
-        let mut members = self.ext.copy_members()?;
-        add_optional(alloc, &mut members, "userContext", &self.user_context)?;
-        add_optional(alloc, &mut members, "background", &self.background)?;
-        add_optional(
-            alloc,
-            &mut members,
-            "referenceContext",
-            &self.reference_context,
-        )?;
-        add_member(alloc, &mut members, "type", &self.kind)?;
-        Ok(Tree::Map(members))
+        let members = One(
+            &self.kind,
+            Maybe(
+                &self.reference_context,
+                Maybe(&self.background, Maybe(&self.user_context, Rest(&self.ext))),
+            ),
+        );
+        write_fields(alloc, &members, Self::NAMES, &[])
     }
 }
 
@@ -175,6 +155,9 @@ pub struct CreateResult {
 impl CreateResult {
     ghost use Rattle.bidi_shape.specs.Name.{create_result};
 
+    // In the order of the rule.
+    const NAMES: &'static [&'static str] = &["context"];
+
     /// The result, with further members. Takes no memory.
     ///
     /// # Errors
@@ -188,10 +171,7 @@ impl CreateResult {
             (λ v. (v.context ≡ context) × (others_of v.ext ≡ members_node ext.entries)) }
         ensures well { IfOk result (λ v. ⟦<CreateResult as Shape>⟧.shape.well v) }
     {
-        let ext = Ext::new(ext, &["context"])?;
-        if !ext.is_whole() {
-            return Err(MakeFault::TooDeep);
-        }
+        let ext = further(ext, Self::NAMES)?;
         Ok(CreateResult { context, ext })
     }
 }
@@ -211,16 +191,15 @@ impl Shape for CreateResult {
         let Required(context, ext) = read_fields::<CreateResult, CreatedParts>(
             alloc,
             tree,
-            &["context"],
+            Self::NAMES,
             &[],
         )?;
         Ok(CreateResult { context, ext })
     }
 
     fn to_tree(&self, alloc: Global) -> Result<Tree, AllocError> {
-        let mut members = self.ext.copy_members()?;
-        add_member(alloc, &mut members, "context", &self.context)?;
-        Ok(Tree::Map(members))
+        let members = One(&self.context, Rest(&self.ext));
+        write_fields(alloc, &members, Self::NAMES, &[])
     }
 }
 
@@ -238,6 +217,9 @@ pub struct ActivateParameters {
 impl ActivateParameters {
     ghost use Rattle.bidi_shape.specs.Name.{activate_parameters};
 
+    // In the order of the rule.
+    const NAMES: &'static [&'static str] = &["context"];
+
     /// The parameters, with further members. Takes no memory.
     ///
     /// # Errors
@@ -251,10 +233,7 @@ impl ActivateParameters {
             (λ v. (v.context ≡ context) × (others_of v.ext ≡ members_node ext.entries)) }
         ensures well { IfOk result (λ v. ⟦<ActivateParameters as Shape>⟧.shape.well v) }
     {
-        let ext = Ext::new(ext, &["context"])?;
-        if !ext.is_whole() {
-            return Err(MakeFault::TooDeep);
-        }
+        let ext = further(ext, Self::NAMES)?;
         Ok(ActivateParameters { context, ext })
     }
 }
@@ -274,16 +253,15 @@ impl Shape for ActivateParameters {
         let Required(context, ext) = read_fields::<ActivateParameters, ActivateParts>(
             alloc,
             tree,
-            &["context"],
+            Self::NAMES,
             &[],
         )?;
         Ok(ActivateParameters { context, ext })
     }
 
     fn to_tree(&self, alloc: Global) -> Result<Tree, AllocError> {
-        let mut members = self.ext.copy_members()?;
-        add_member(alloc, &mut members, "context", &self.context)?;
-        Ok(Tree::Map(members))
+        let members = One(&self.context, Rest(&self.ext));
+        write_fields(alloc, &members, Self::NAMES, &[])
     }
 }
 
@@ -304,6 +282,9 @@ pub struct CloseParameters {
 impl CloseParameters {
     ghost use Rattle.bidi_shape.specs.Name.{close_parameters};
 
+    // In the order of the rule.
+    const NAMES: &'static [&'static str] = &["context", "promptUnload"];
+
     /// The parameters, with further members. Takes no memory.
     ///
     /// # Errors
@@ -321,10 +302,7 @@ impl CloseParameters {
             (λ v. (v.context ≡ context) × (v.prompt_unload ≡ prompt_unload) × (others_of v.ext ≡ members_node ext.entries)) }
         ensures well { IfOk result (λ v. ⟦<CloseParameters as Shape>⟧.shape.well v) }
     {
-        let ext = Ext::new(ext, &["context", "promptUnload"])?;
-        if !ext.is_whole() {
-            return Err(MakeFault::TooDeep);
-        }
+        let ext = further(ext, Self::NAMES)?;
         Ok(CloseParameters {
             context,
             prompt_unload,
@@ -348,7 +326,7 @@ impl Shape for CloseParameters {
         let Required(context, Optional(prompt_unload, ext)) = read_fields::<
             CloseParameters,
             CloseParts,
-        >(alloc, tree, &["context", "promptUnload"], &[])?;
+        >(alloc, tree, Self::NAMES, &[])?;
         Ok(CloseParameters {
             context,
             prompt_unload,
@@ -357,9 +335,7 @@ impl Shape for CloseParameters {
     }
 
     fn to_tree(&self, alloc: Global) -> Result<Tree, AllocError> {
-        let mut members = self.ext.copy_members()?;
-        add_optional(alloc, &mut members, "promptUnload", &self.prompt_unload)?;
-        add_member(alloc, &mut members, "context", &self.context)?;
-        Ok(Tree::Map(members))
+        let members = One(&self.context, Maybe(&self.prompt_unload, Rest(&self.ext)));
+        write_fields(alloc, &members, Self::NAMES, &[])
     }
 }

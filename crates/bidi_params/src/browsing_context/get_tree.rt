@@ -10,8 +10,8 @@ ghost use Rattle.bidi_shape.specs.ValueLaws.{others_of};
 
 use crate::browsing_context::info::Info;
 use bidi_shape::{
-    Ext, Fields, MakeFault, Optional, Required, Ruled, Shape, ShapeFault, add_member, add_optional,
-    read_fields,
+    Ext, Fields, MakeFault, Maybe, One, Optional, Required, Rest, Ruled, Shape, ShapeFault,
+    further, read_fields, write_fields,
 };
 use bidi_tree::{JsUint, Members, Tree};
 use std::alloc::{AllocError, Global};
@@ -33,6 +33,9 @@ pub struct GetTreeParameters {
 impl GetTreeParameters {
     ghost use Rattle.bidi_shape.specs.Name.{get_tree_parameters};
 
+    // In the order of the rule.
+    const NAMES: &'static [&'static str] = &["maxDepth", "root"];
+
     /// The parameters, with further members. Takes no memory.
     ///
     /// # Errors
@@ -50,10 +53,7 @@ impl GetTreeParameters {
             (λ v. (v.max_depth ≡ max_depth) × (v.root ≡ root) × (others_of v.ext ≡ members_node ext.entries)) }
         ensures well { IfOk result (λ v. ⟦<GetTreeParameters as Shape>⟧.shape.well v) }
     {
-        let ext = Ext::new(ext, &["maxDepth", "root"])?;
-        if !ext.is_whole() {
-            return Err(MakeFault::TooDeep);
-        }
+        let ext = further(ext, Self::NAMES)?;
         Ok(GetTreeParameters {
             max_depth,
             root,
@@ -77,7 +77,7 @@ impl Shape for GetTreeParameters {
         let Optional(max_depth, Optional(root, ext)) = read_fields::<
             GetTreeParameters,
             GetTreeParts,
-        >(alloc, tree, &["maxDepth", "root"], &[])?;
+        >(alloc, tree, Self::NAMES, &[])?;
         Ok(GetTreeParameters {
             max_depth,
             root,
@@ -86,10 +86,8 @@ impl Shape for GetTreeParameters {
     }
 
     fn to_tree(&self, alloc: Global) -> Result<Tree, AllocError> {
-        let mut members = self.ext.copy_members()?;
-        add_optional(alloc, &mut members, "root", &self.root)?;
-        add_optional(alloc, &mut members, "maxDepth", &self.max_depth)?;
-        Ok(Tree::Map(members))
+        let members = Maybe(&self.max_depth, Maybe(&self.root, Rest(&self.ext)));
+        write_fields(alloc, &members, Self::NAMES, &[])
     }
 }
 
@@ -107,6 +105,9 @@ pub struct GetTreeResult {
 impl GetTreeResult {
     ghost use Rattle.bidi_shape.specs.Name.{get_tree_result};
 
+    // In the order of the rule.
+    const NAMES: &'static [&'static str] = &["contexts"];
+
     /// The result, with further members. Takes no memory.
     ///
     /// # Errors
@@ -121,10 +122,7 @@ impl GetTreeResult {
             (λ v. (v.contexts ≡ contexts) × (others_of v.ext ≡ members_node ext.entries)) }
         ensures well { IfOk result (λ v. ⟦<GetTreeResult as Shape>⟧.shape.well v) }
     {
-        let ext = Ext::new(ext, &["contexts"])?;
-        if !ext.is_whole() {
-            return Err(MakeFault::TooDeep);
-        }
+        let ext = further(ext, Self::NAMES)?;
         Ok(GetTreeResult { contexts, ext })
     }
 }
@@ -144,15 +142,14 @@ impl Shape for GetTreeResult {
         let Required(contexts, ext) = read_fields::<GetTreeResult, ResultParts>(
             alloc,
             tree,
-            &["contexts"],
+            Self::NAMES,
             &[],
         )?;
         Ok(GetTreeResult { contexts, ext })
     }
 
     fn to_tree(&self, alloc: Global) -> Result<Tree, AllocError> {
-        let mut members = self.ext.copy_members()?;
-        add_member(alloc, &mut members, "contexts", &self.contexts)?;
-        Ok(Tree::Map(members))
+        let members = One(&self.contexts, Rest(&self.ext));
+        write_fields(alloc, &members, Self::NAMES, &[])
     }
 }

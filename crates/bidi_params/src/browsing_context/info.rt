@@ -58,7 +58,7 @@ impl Info {
     /// - `Clash`: a further member is called `children`, `clientWindow`, `context`, `originalOpener`, `url`,
     ///   `userContext` or `parent`.
     /// - `TooDeep`: a further member has an `Odd` in it, or more than 60 levels; or the Info has more than 60.
-    /// - `NoMemory`: a growth was refused.
+    /// - `NoMemory`: an allocation failed.
     pub fn new(
         alloc: Global,
         children: Option<Vec<Info>>,

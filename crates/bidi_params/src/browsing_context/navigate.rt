@@ -9,8 +9,8 @@ ghost use Rattle.bidi_shape.specs.Made.{Makes};
 ghost use Rattle.bidi_shape.specs.ValueLaws.{others_of};
 
 use bidi_shape::{
-    Ext, Fields, MakeFault, Named, Optional, Required, Ruled, Shape, ShapeFault, add_member,
-    add_optional, read_fields, read_word, write_word,
+    Ext, Fields, MakeFault, Maybe, Named, One, Optional, Required, Rest, Ruled, Shape, ShapeFault,
+    further, read_fields, write_fields,
 };
 use bidi_tree::{JsInt, JsUint, Members, Tree};
 use std::alloc::{AllocError, Global};
@@ -50,20 +50,6 @@ impl Named for Wait {
     }
 }
 
-impl Shape for Wait {
-    ghost use Rattle.bidi_shape.specs.WordLaws.{word_shape};
-
-    ghost shape = { word_shape ⟦<Wait as Named>⟧.words };
-
-    fn from_tree(alloc: Global, tree: &Tree) -> Result<Wait, ShapeFault> {
-        read_word(tree)
-    }
-
-    fn to_tree(&self, alloc: Global) -> Result<Tree, AllocError> {
-        write_word(alloc, self)
-    }
-}
-
 /// Parameters of `browsingContext.navigate`.
 ///
 /// `{ context: text, url: text, ? wait: Wait, Extensible }`
@@ -81,6 +67,9 @@ pub struct NavigateParameters {
 
 impl NavigateParameters {
     ghost use Rattle.bidi_shape.specs.Name.{navigate_parameters};
+
+    // In the order of the rule.
+    const NAMES: &'static [&'static str] = &["context", "url", "wait"];
 
     /// The parameters, with further members. Takes no memory.
     ///
@@ -100,10 +89,7 @@ impl NavigateParameters {
             (λ v. (v.context ≡ context) × (v.url ≡ url) × (v.wait ≡ wait) × (others_of v.ext ≡ members_node ext.entries)) }
         ensures well { IfOk result (λ v. ⟦<NavigateParameters as Shape>⟧.shape.well v) }
     {
-        let ext = Ext::new(ext, &["context", "url", "wait"])?;
-        if !ext.is_whole() {
-            return Err(MakeFault::TooDeep);
-        }
+        let ext = further(ext, Self::NAMES)?;
         Ok(NavigateParameters {
             context,
             url,
@@ -128,7 +114,7 @@ impl Shape for NavigateParameters {
         let Required(context, Required(url, Optional(wait, ext))) = read_fields::<
             NavigateParameters,
             NavigateParts,
-        >(alloc, tree, &["context", "url", "wait"], &[])?;
+        >(alloc, tree, Self::NAMES, &[])?;
         Ok(NavigateParameters {
             context,
             url,
@@ -138,11 +124,11 @@ impl Shape for NavigateParameters {
     }
 
     fn to_tree(&self, alloc: Global) -> Result<Tree, AllocError> {
-        let mut members = self.ext.copy_members()?;
-        add_optional(alloc, &mut members, "wait", &self.wait)?;
-        add_member(alloc, &mut members, "url", &self.url)?;
-        add_member(alloc, &mut members, "context", &self.context)?;
-        Ok(Tree::Map(members))
+        let members = One(
+            &self.context,
+            One(&self.url, Maybe(&self.wait, Rest(&self.ext))),
+        );
+        write_fields(alloc, &members, Self::NAMES, &[])
     }
 }
 
@@ -164,6 +150,9 @@ pub struct ReloadParameters {
 impl ReloadParameters {
     ghost use Rattle.bidi_shape.specs.Name.{reload_parameters};
 
+    // In the order of the rule.
+    const NAMES: &'static [&'static str] = &["context", "ignoreCache", "wait"];
+
     /// The parameters, with further members. Takes no memory.
     ///
     /// # Errors
@@ -182,10 +171,7 @@ impl ReloadParameters {
             (λ v. (v.context ≡ context) × (v.ignore_cache ≡ ignore_cache) × (v.wait ≡ wait) × (others_of v.ext ≡ members_node ext.entries)) }
         ensures well { IfOk result (λ v. ⟦<ReloadParameters as Shape>⟧.shape.well v) }
     {
-        let ext = Ext::new(ext, &["context", "ignoreCache", "wait"])?;
-        if !ext.is_whole() {
-            return Err(MakeFault::TooDeep);
-        }
+        let ext = further(ext, Self::NAMES)?;
         Ok(ReloadParameters {
             context,
             ignore_cache,
@@ -210,7 +196,7 @@ impl Shape for ReloadParameters {
         let Required(context, Optional(ignore_cache, Optional(wait, ext))) = read_fields::<
             ReloadParameters,
             ReloadParts,
-        >(alloc, tree, &["context", "ignoreCache", "wait"], &[])?;
+        >(alloc, tree, Self::NAMES, &[])?;
         Ok(ReloadParameters {
             context,
             ignore_cache,
@@ -220,11 +206,11 @@ impl Shape for ReloadParameters {
     }
 
     fn to_tree(&self, alloc: Global) -> Result<Tree, AllocError> {
-        let mut members = self.ext.copy_members()?;
-        add_optional(alloc, &mut members, "wait", &self.wait)?;
-        add_optional(alloc, &mut members, "ignoreCache", &self.ignore_cache)?;
-        add_member(alloc, &mut members, "context", &self.context)?;
-        Ok(Tree::Map(members))
+        let members = One(
+            &self.context,
+            Maybe(&self.ignore_cache, Maybe(&self.wait, Rest(&self.ext))),
+        );
+        write_fields(alloc, &members, Self::NAMES, &[])
     }
 }
 
@@ -242,6 +228,9 @@ pub struct NavigateResult {
 
 impl NavigateResult {
     ghost use Rattle.bidi_shape.specs.Name.{navigate_result};
+
+    // In the order of the rule.
+    const NAMES: &'static [&'static str] = &["navigation", "url"];
 
     /// The result, with further members. Takes no memory.
     ///
@@ -261,10 +250,7 @@ impl NavigateResult {
             (λ v. (v.navigation ≡ navigation) × (v.url ≡ url) × (others_of v.ext ≡ members_node ext.entries)) }
         ensures well { IfOk result (λ v. ⟦<NavigateResult as Shape>⟧.shape.well v) }
     {
-        let ext = Ext::new(ext, &["navigation", "url"])?;
-        if !ext.is_whole() {
-            return Err(MakeFault::TooDeep);
-        }
+        let ext = further(ext, Self::NAMES)?;
         Ok(NavigateResult {
             navigation,
             url,
@@ -288,7 +274,7 @@ impl Shape for NavigateResult {
         let Required(navigation, Required(url, ext)) = read_fields::<
             NavigateResult,
             NavigatedParts,
-        >(alloc, tree, &["navigation", "url"], &[])?;
+        >(alloc, tree, Self::NAMES, &[])?;
         Ok(NavigateResult {
             navigation,
             url,
@@ -297,10 +283,8 @@ impl Shape for NavigateResult {
     }
 
     fn to_tree(&self, alloc: Global) -> Result<Tree, AllocError> {
-        let mut members = self.ext.copy_members()?;
-        add_member(alloc, &mut members, "url", &self.url)?;
-        add_member(alloc, &mut members, "navigation", &self.navigation)?;
-        Ok(Tree::Map(members))
+        let members = One(&self.navigation, One(&self.url, Rest(&self.ext)));
+        write_fields(alloc, &members, Self::NAMES, &[])
     }
 }
 
@@ -321,6 +305,9 @@ pub struct TraverseHistoryParameters {
 impl TraverseHistoryParameters {
     ghost use Rattle.bidi_shape.specs.Name.{traverse_history_parameters};
 
+    // In the order of the rule.
+    const NAMES: &'static [&'static str] = &["context", "delta"];
+
     /// The parameters, with further members. Takes no memory.
     ///
     /// # Errors
@@ -338,10 +325,7 @@ impl TraverseHistoryParameters {
             (λ v. (v.context ≡ context) × (v.delta ≡ delta) × (others_of v.ext ≡ members_node ext.entries)) }
         ensures well { IfOk result (λ v. ⟦<TraverseHistoryParameters as Shape>⟧.shape.well v) }
     {
-        let ext = Ext::new(ext, &["context", "delta"])?;
-        if !ext.is_whole() {
-            return Err(MakeFault::TooDeep);
-        }
+        let ext = further(ext, Self::NAMES)?;
         Ok(TraverseHistoryParameters {
             context,
             delta,
@@ -365,7 +349,7 @@ impl Shape for TraverseHistoryParameters {
         let Required(context, Required(delta, ext)) = read_fields::<
             TraverseHistoryParameters,
             TraverseParts,
-        >(alloc, tree, &["context", "delta"], &[])?;
+        >(alloc, tree, Self::NAMES, &[])?;
         Ok(TraverseHistoryParameters {
             context,
             delta,
@@ -374,10 +358,8 @@ impl Shape for TraverseHistoryParameters {
     }
 
     fn to_tree(&self, alloc: Global) -> Result<Tree, AllocError> {
-        let mut members = self.ext.copy_members()?;
-        add_member(alloc, &mut members, "delta", &self.delta)?;
-        add_member(alloc, &mut members, "context", &self.context)?;
-        Ok(Tree::Map(members))
+        let members = One(&self.context, One(&self.delta, Rest(&self.ext)));
+        write_fields(alloc, &members, Self::NAMES, &[])
     }
 }
 
@@ -397,6 +379,9 @@ pub struct NavigationInfo {
 
 impl NavigationInfo {
     ghost use Rattle.bidi_shape.specs.Name.{navigation_info};
+
+    // In the order of the rule.
+    const NAMES: &'static [&'static str] = &["context", "navigation", "timestamp", "url"];
 
     /// The information, with further members. Takes no memory.
     ///
@@ -418,10 +403,7 @@ impl NavigationInfo {
             (λ v. (v.context ≡ context) × (v.navigation ≡ navigation) × (v.timestamp ≡ timestamp) × (v.url ≡ url) × (others_of v.ext ≡ members_node ext.entries)) }
         ensures well { IfOk result (λ v. ⟦<NavigationInfo as Shape>⟧.shape.well v) }
     {
-        let ext = Ext::new(ext, &["context", "navigation", "timestamp", "url"])?;
-        if !ext.is_whole() {
-            return Err(MakeFault::TooDeep);
-        }
+        let ext = further(ext, Self::NAMES)?;
         Ok(NavigationInfo {
             context,
             navigation,
@@ -448,12 +430,7 @@ impl Shape for NavigationInfo {
 
     fn from_tree(alloc: Global, tree: &Tree) -> Result<NavigationInfo, ShapeFault> {
         let Required(context, Required(navigation, Required(timestamp, Required(url, ext)))) =
-            read_fields::<NavigationInfo, InfoParts>(
-                alloc,
-                tree,
-                &["context", "navigation", "timestamp", "url"],
-                &[],
-            )?;
+            read_fields::<NavigationInfo, InfoParts>(alloc, tree, Self::NAMES, &[])?;
         Ok(NavigationInfo {
             context,
             navigation,
@@ -464,11 +441,13 @@ impl Shape for NavigationInfo {
     }
 
     fn to_tree(&self, alloc: Global) -> Result<Tree, AllocError> {
-        let mut members = self.ext.copy_members()?;
-        add_member(alloc, &mut members, "url", &self.url)?;
-        add_member(alloc, &mut members, "timestamp", &self.timestamp)?;
-        add_member(alloc, &mut members, "navigation", &self.navigation)?;
-        add_member(alloc, &mut members, "context", &self.context)?;
-        Ok(Tree::Map(members))
+        let members = One(
+            &self.context,
+            One(
+                &self.navigation,
+                One(&self.timestamp, One(&self.url, Rest(&self.ext))),
+            ),
+        );
+        write_fields(alloc, &members, Self::NAMES, &[])
     }
 }

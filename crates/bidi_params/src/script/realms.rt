@@ -9,8 +9,8 @@ ghost use Rattle.bidi_shape.specs.Made.{Makes};
 ghost use Rattle.bidi_shape.specs.ValueLaws.{others_of};
 
 use bidi_shape::{
-    Ext, Fields, Literal, MakeFault, Named, Optional, Required, Ruled, Shape, ShapeFault,
-    add_literal, add_member, add_optional, read_fields, read_word, write_word,
+    Exact, Ext, Fields, Literal, MakeFault, Maybe, Named, One, Optional, Required, Rest, Ruled,
+    Shape, ShapeFault, further, read_fields, write_fields,
 };
 use bidi_tree::{Members, Tree};
 use std::alloc::{AllocError, Global};
@@ -66,20 +66,6 @@ impl Named for RealmType {
     }
 }
 
-impl Shape for RealmType {
-    ghost use Rattle.bidi_shape.specs.WordLaws.{word_shape};
-
-    ghost shape = { word_shape ⟦<RealmType as Named>⟧.words };
-
-    fn from_tree(alloc: Global, tree: &Tree) -> Result<RealmType, ShapeFault> {
-        read_word(tree)
-    }
-
-    fn to_tree(&self, alloc: Global) -> Result<Tree, AllocError> {
-        write_word(alloc, self)
-    }
-}
-
 /// Parameters of `script.getRealms`.
 ///
 /// `{ ? context: text, ? type: RealmType, Extensible }`
@@ -96,6 +82,9 @@ pub struct GetRealmsParameters {
 
 impl GetRealmsParameters {
     ghost use Rattle.bidi_shape.specs.Name.{get_realms_parameters};
+
+    // In the order of the rule.
+    const NAMES: &'static [&'static str] = &["context", "type"];
 
     /// The parameters, with further members. Takes no memory.
     ///
@@ -114,10 +103,7 @@ impl GetRealmsParameters {
             (λ v. (v.context ≡ context) × (v.kind ≡ kind) × (others_of v.ext ≡ members_node ext.entries)) }
         ensures well { IfOk result (λ v. ⟦<GetRealmsParameters as Shape>⟧.shape.well v) }
     {
-        let ext = Ext::new(ext, &["context", "type"])?;
-        if !ext.is_whole() {
-            return Err(MakeFault::TooDeep);
-        }
+        let ext = further(ext, Self::NAMES)?;
         Ok(GetRealmsParameters { context, kind, ext })
     }
 }
@@ -137,15 +123,13 @@ impl Shape for GetRealmsParameters {
         let Optional(context, Optional(kind, ext)) = read_fields::<
             GetRealmsParameters,
             GetRealmsParts,
-        >(alloc, tree, &["context", "type"], &[])?;
+        >(alloc, tree, Self::NAMES, &[])?;
         Ok(GetRealmsParameters { context, kind, ext })
     }
 
     fn to_tree(&self, alloc: Global) -> Result<Tree, AllocError> {
-        let mut members = self.ext.copy_members()?;
-        add_optional(alloc, &mut members, "type", &self.kind)?;
-        add_optional(alloc, &mut members, "context", &self.context)?;
-        Ok(Tree::Map(members))
+        let members = Maybe(&self.context, Maybe(&self.kind, Rest(&self.ext)));
+        write_fields(alloc, &members, Self::NAMES, &[])
     }
 }
 
@@ -165,6 +149,9 @@ pub struct RealmInfo {
 impl RealmInfo {
     ghost use Rattle.bidi_shape.specs.Name.{realm_info};
 
+    // In the order of the rule.
+    const NAMES: &'static [&'static str] = &["realm", "origin", "type", "context"];
+
     /// The information, with further members. Takes no memory.
     ///
     /// # Errors
@@ -183,10 +170,7 @@ impl RealmInfo {
             (λ v. (v.realm ≡ realm) × (v.origin ≡ origin) × (v.context ≡ context) × (others_of v.ext ≡ members_node ext.entries)) }
         ensures well { IfOk result (λ v. ⟦<RealmInfo as Shape>⟧.shape.well v) }
     {
-        let ext = Ext::new(ext, &["realm", "origin", "type", "context"])?;
-        if !ext.is_whole() {
-            return Err(MakeFault::TooDeep);
-        }
+        let ext = further(ext, Self::NAMES)?;
         Ok(RealmInfo {
             realm,
             origin,
@@ -211,12 +195,7 @@ impl Shape for RealmInfo {
         let Required(realm, Required(origin, Literal(Required(context, ext)))) = read_fields::<
             RealmInfo,
             InfoParts,
-        >(
-            alloc,
-            tree,
-            &["realm", "origin", "type", "context"],
-            &["window"],
-        )?;
+        >(alloc, tree, Self::NAMES, &["window"])?;
         Ok(RealmInfo {
             realm,
             origin,
@@ -226,12 +205,11 @@ impl Shape for RealmInfo {
     }
 
     fn to_tree(&self, alloc: Global) -> Result<Tree, AllocError> {
-        let mut members = self.ext.copy_members()?;
-        add_member(alloc, &mut members, "context", &self.context)?;
-        add_literal(alloc, &mut members, "type", "window")?;
-        add_member(alloc, &mut members, "origin", &self.origin)?;
-        add_member(alloc, &mut members, "realm", &self.realm)?;
-        Ok(Tree::Map(members))
+        let members = One(
+            &self.realm,
+            One(&self.origin, Exact(One(&self.context, Rest(&self.ext)))),
+        );
+        write_fields(alloc, &members, Self::NAMES, &["window"])
     }
 }
 
@@ -249,6 +227,9 @@ pub struct GetRealmsResult {
 impl GetRealmsResult {
     ghost use Rattle.bidi_shape.specs.Name.{get_realms_result};
 
+    // In the order of the rule.
+    const NAMES: &'static [&'static str] = &["realms"];
+
     /// The result, with further members. Takes no memory.
     ///
     /// # Errors
@@ -263,10 +244,7 @@ impl GetRealmsResult {
             (λ v. (v.realms ≡ realms) × (others_of v.ext ≡ members_node ext.entries)) }
         ensures well { IfOk result (λ v. ⟦<GetRealmsResult as Shape>⟧.shape.well v) }
     {
-        let ext = Ext::new(ext, &["realms"])?;
-        if !ext.is_whole() {
-            return Err(MakeFault::TooDeep);
-        }
+        let ext = further(ext, Self::NAMES)?;
         Ok(GetRealmsResult { realms, ext })
     }
 }
@@ -286,16 +264,15 @@ impl Shape for GetRealmsResult {
         let Required(realms, ext) = read_fields::<GetRealmsResult, RealmsParts>(
             alloc,
             tree,
-            &["realms"],
+            Self::NAMES,
             &[],
         )?;
         Ok(GetRealmsResult { realms, ext })
     }
 
     fn to_tree(&self, alloc: Global) -> Result<Tree, AllocError> {
-        let mut members = self.ext.copy_members()?;
-        add_member(alloc, &mut members, "realms", &self.realms)?;
-        Ok(Tree::Map(members))
+        let members = One(&self.realms, Rest(&self.ext));
+        write_fields(alloc, &members, Self::NAMES, &[])
     }
 }
 
@@ -313,6 +290,9 @@ pub struct RealmDestroyedParameters {
 impl RealmDestroyedParameters {
     ghost use Rattle.bidi_shape.specs.Name.{realm_destroyed_parameters};
 
+    // In the order of the rule.
+    const NAMES: &'static [&'static str] = &["realm"];
+
     /// The parameters, with further members. Takes no memory.
     ///
     /// # Errors
@@ -326,10 +306,7 @@ impl RealmDestroyedParameters {
             (λ v. (v.realm ≡ realm) × (others_of v.ext ≡ members_node ext.entries)) }
         ensures well { IfOk result (λ v. ⟦<RealmDestroyedParameters as Shape>⟧.shape.well v) }
     {
-        let ext = Ext::new(ext, &["realm"])?;
-        if !ext.is_whole() {
-            return Err(MakeFault::TooDeep);
-        }
+        let ext = further(ext, Self::NAMES)?;
         Ok(RealmDestroyedParameters { realm, ext })
     }
 }
@@ -349,15 +326,14 @@ impl Shape for RealmDestroyedParameters {
         let Required(realm, ext) = read_fields::<RealmDestroyedParameters, DestroyedParts>(
             alloc,
             tree,
-            &["realm"],
+            Self::NAMES,
             &[],
         )?;
         Ok(RealmDestroyedParameters { realm, ext })
     }
 
     fn to_tree(&self, alloc: Global) -> Result<Tree, AllocError> {
-        let mut members = self.ext.copy_members()?;
-        add_member(alloc, &mut members, "realm", &self.realm)?;
-        Ok(Tree::Map(members))
+        let members = One(&self.realm, Rest(&self.ext));
+        write_fields(alloc, &members, Self::NAMES, &[])
     }
 }

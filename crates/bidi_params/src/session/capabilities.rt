@@ -1,7 +1,7 @@
 //! What a session can do.
 use bidi_shape::{
-    Ext, Fields, MakeFault, Optional, Required, Ruled, Shape, ShapeFault, add_member, add_optional,
-    read_fields,
+    Ext, Fields, MakeFault, Maybe, One, Optional, Required, Rest, Ruled, Shape, ShapeFault,
+    further, read_fields, write_fields,
 };
 use bidi_tree::{Members, Tree};
 use std::alloc::{AllocError, Global};
@@ -28,6 +28,9 @@ impl NewParameters {
     ghost use Rattle.bidi_shape.specs.Made.{Makes};
     ghost use Rattle.bidi_shape.specs.ValueLaws.{others_of};
 
+    // In the order of the rule.
+    const NAMES: &'static [&'static str] = &["capabilities"];
+
     /// The params, with further members. Takes no memory.
     ///
     /// # Errors
@@ -42,10 +45,7 @@ impl NewParameters {
             (λ v. (v.capabilities ≡ capabilities) × (others_of v.ext ≡ members_node ext.entries)) }
         ensures well { IfOk result (λ v. ⟦<NewParameters as Shape>⟧.shape.well v) }
     {
-        let ext = Ext::new(ext, &["capabilities"])?;
-        if !ext.is_whole() {
-            return Err(MakeFault::TooDeep);
-        }
+        let ext = further(ext, Self::NAMES)?;
         Ok(NewParameters { capabilities, ext })
     }
 }
@@ -69,16 +69,15 @@ impl Shape for NewParameters {
         let Required(capabilities, ext) = read_fields::<NewParameters, NewParts>(
             alloc,
             tree,
-            &["capabilities"],
+            Self::NAMES,
             &[],
         )?;
         Ok(NewParameters { capabilities, ext })
     }
 
     fn to_tree(&self, alloc: Global) -> Result<Tree, AllocError> {
-        let mut members = self.ext.copy_members()?;
-        add_member(alloc, &mut members, "capabilities", &self.capabilities)?;
-        Ok(Tree::Map(members))
+        let members = One(&self.capabilities, Rest(&self.ext));
+        write_fields(alloc, &members, Self::NAMES, &[])
     }
 }
 
@@ -105,6 +104,9 @@ impl CapabilitiesRequest {
     ghost use Rattle.bidi_shape.specs.Made.{Makes};
     ghost use Rattle.bidi_shape.specs.ValueLaws.{others_of};
 
+    // In the order of the rule.
+    const NAMES: &'static [&'static str] = &["alwaysMatch", "firstMatch"];
+
     /// The request, with further members. Takes no memory.
     ///
     /// # Errors
@@ -124,10 +126,7 @@ impl CapabilitiesRequest {
             (λ v. (v.always_match ≡ always_match) × (v.first_match ≡ first_match) × (others_of v.ext ≡ members_node ext.entries)) }
         ensures well { IfOk result (λ v. ⟦<CapabilitiesRequest as Shape>⟧.shape.well v) }
     {
-        let ext = Ext::new(ext, &["alwaysMatch", "firstMatch"])?;
-        if !ext.is_whole() {
-            return Err(MakeFault::TooDeep);
-        }
+        let ext = further(ext, Self::NAMES)?;
         Ok(CapabilitiesRequest {
             always_match,
             first_match,
@@ -155,7 +154,7 @@ impl Shape for CapabilitiesRequest {
         let Optional(always_match, Optional(first_match, ext)) = read_fields::<
             CapabilitiesRequest,
             RequestParts,
-        >(alloc, tree, &["alwaysMatch", "firstMatch"], &[])?;
+        >(alloc, tree, Self::NAMES, &[])?;
         Ok(CapabilitiesRequest {
             always_match,
             first_match,
@@ -164,10 +163,11 @@ impl Shape for CapabilitiesRequest {
     }
 
     fn to_tree(&self, alloc: Global) -> Result<Tree, AllocError> {
-        let mut members = self.ext.copy_members()?;
-        add_optional(alloc, &mut members, "firstMatch", &self.first_match)?;
-        add_optional(alloc, &mut members, "alwaysMatch", &self.always_match)?;
-        Ok(Tree::Map(members))
+        let members = Maybe(
+            &self.always_match,
+            Maybe(&self.first_match, Rest(&self.ext)),
+        );
+        write_fields(alloc, &members, Self::NAMES, &[])
     }
 }
 
@@ -196,6 +196,14 @@ impl CapabilityRequest {
     ghost use Rattle.bidi_shape.specs.Made.{Makes};
     ghost use Rattle.bidi_shape.specs.ValueLaws.{others_of};
 
+    // In the order of the rule.
+    const NAMES: &'static [&'static str] = &[
+        "acceptInsecureCerts",
+        "browserName",
+        "browserVersion",
+        "platformName",
+    ];
+
     /// The request, with further members. Takes no memory.
     ///
     /// # Errors
@@ -216,18 +224,7 @@ impl CapabilityRequest {
             (λ v. (v.accept_insecure_certs ≡ accept_insecure_certs) × (v.browser_name ≡ browser_name) × (v.browser_version ≡ browser_version) × (v.platform_name ≡ platform_name) × (others_of v.ext ≡ members_node ext.entries)) }
         ensures well { IfOk result (λ v. ⟦<CapabilityRequest as Shape>⟧.shape.well v) }
     {
-        let ext = Ext::new(
-            ext,
-            &[
-                "acceptInsecureCerts",
-                "browserName",
-                "browserVersion",
-                "platformName",
-            ],
-        )?;
-        if !ext.is_whole() {
-            return Err(MakeFault::TooDeep);
-        }
+        let ext = further(ext, Self::NAMES)?;
         Ok(CapabilityRequest {
             accept_insecure_certs,
             browser_name,
@@ -257,17 +254,7 @@ impl Shape for CapabilityRequest {
         let Optional(
             accept_insecure_certs,
             Optional(browser_name, Optional(browser_version, Optional(platform_name, ext))),
-        ) = read_fields::<CapabilityRequest, CapabilityParts>(
-            alloc,
-            tree,
-            &[
-                "acceptInsecureCerts",
-                "browserName",
-                "browserVersion",
-                "platformName",
-            ],
-            &[],
-        )?;
+        ) = read_fields::<CapabilityRequest, CapabilityParts>(alloc, tree, Self::NAMES, &[])?;
         Ok(CapabilityRequest {
             accept_insecure_certs,
             browser_name,
@@ -278,17 +265,17 @@ impl Shape for CapabilityRequest {
     }
 
     fn to_tree(&self, alloc: Global) -> Result<Tree, AllocError> {
-        let mut members = self.ext.copy_members()?;
-        add_optional(alloc, &mut members, "platformName", &self.platform_name)?;
-        add_optional(alloc, &mut members, "browserVersion", &self.browser_version)?;
-        add_optional(alloc, &mut members, "browserName", &self.browser_name)?;
-        add_optional(
-            alloc,
-            &mut members,
-            "acceptInsecureCerts",
+        let members = Maybe(
             &self.accept_insecure_certs,
-        )?;
-        Ok(Tree::Map(members))
+            Maybe(
+                &self.browser_name,
+                Maybe(
+                    &self.browser_version,
+                    Maybe(&self.platform_name, Rest(&self.ext)),
+                ),
+            ),
+        );
+        write_fields(alloc, &members, Self::NAMES, &[])
     }
 }
 
@@ -315,6 +302,9 @@ impl NewResult {
     ghost use Rattle.bidi_shape.specs.Made.{Makes};
     ghost use Rattle.bidi_shape.specs.ValueLaws.{others_of};
 
+    // In the order of the rule.
+    const NAMES: &'static [&'static str] = &["sessionId", "capabilities"];
+
     /// The result, with further members. Takes no memory.
     ///
     /// # Errors
@@ -333,10 +323,7 @@ impl NewResult {
             (λ v. (v.session_id ≡ session_id) × (v.capabilities ≡ capabilities) × (others_of v.ext ≡ members_node ext.entries)) }
         ensures well { IfOk result (λ v. ⟦<NewResult as Shape>⟧.shape.well v) }
     {
-        let ext = Ext::new(ext, &["sessionId", "capabilities"])?;
-        if !ext.is_whole() {
-            return Err(MakeFault::TooDeep);
-        }
+        let ext = further(ext, Self::NAMES)?;
         Ok(NewResult {
             session_id,
             capabilities,
@@ -364,7 +351,7 @@ impl Shape for NewResult {
         let Required(session_id, Required(capabilities, ext)) = read_fields::<
             NewResult,
             ResultParts,
-        >(alloc, tree, &["sessionId", "capabilities"], &[])?;
+        >(alloc, tree, Self::NAMES, &[])?;
         Ok(NewResult {
             session_id,
             capabilities,
@@ -373,10 +360,8 @@ impl Shape for NewResult {
     }
 
     fn to_tree(&self, alloc: Global) -> Result<Tree, AllocError> {
-        let mut members = self.ext.copy_members()?;
-        add_member(alloc, &mut members, "capabilities", &self.capabilities)?;
-        add_member(alloc, &mut members, "sessionId", &self.session_id)?;
-        Ok(Tree::Map(members))
+        let members = One(&self.session_id, One(&self.capabilities, Rest(&self.ext)));
+        write_fields(alloc, &members, Self::NAMES, &[])
     }
 }
 
@@ -408,6 +393,16 @@ impl Capabilities {
     ghost use Rattle.bidi_shape.specs.Made.{Makes};
     ghost use Rattle.bidi_shape.specs.ValueLaws.{others_of};
 
+    // In the order of the rule.
+    const NAMES: &'static [&'static str] = &[
+        "acceptInsecureCerts",
+        "browserName",
+        "browserVersion",
+        "platformName",
+        "setWindowRect",
+        "userAgent",
+    ];
+
     /// The capabilities, with further members. Takes no memory.
     ///
     /// # Errors
@@ -430,20 +425,7 @@ impl Capabilities {
             (λ v. (v.accept_insecure_certs ≡ accept_insecure_certs) × (v.browser_name ≡ browser_name) × (v.browser_version ≡ browser_version) × (v.platform_name ≡ platform_name) × (v.set_window_rect ≡ set_window_rect) × (v.user_agent ≡ user_agent) × (others_of v.ext ≡ members_node ext.entries)) }
         ensures well { IfOk result (λ v. ⟦<Capabilities as Shape>⟧.shape.well v) }
     {
-        let ext = Ext::new(
-            ext,
-            &[
-                "acceptInsecureCerts",
-                "browserName",
-                "browserVersion",
-                "platformName",
-                "setWindowRect",
-                "userAgent",
-            ],
-        )?;
-        if !ext.is_whole() {
-            return Err(MakeFault::TooDeep);
-        }
+        let ext = further(ext, Self::NAMES)?;
         Ok(Capabilities {
             accept_insecure_certs,
             browser_name,
@@ -484,19 +466,7 @@ impl Shape for Capabilities {
                     Required(platform_name, Required(set_window_rect, Required(user_agent, ext))),
                 ),
             ),
-        ) = read_fields::<Capabilities, CapabilitiesParts>(
-            alloc,
-            tree,
-            &[
-                "acceptInsecureCerts",
-                "browserName",
-                "browserVersion",
-                "platformName",
-                "setWindowRect",
-                "userAgent",
-            ],
-            &[],
-        )?;
+        ) = read_fields::<Capabilities, CapabilitiesParts>(alloc, tree, Self::NAMES, &[])?;
         Ok(Capabilities {
             accept_insecure_certs,
             browser_name,
@@ -509,18 +479,22 @@ impl Shape for Capabilities {
     }
 
     fn to_tree(&self, alloc: Global) -> Result<Tree, AllocError> {
-        let mut members = self.ext.copy_members()?;
-        add_member(alloc, &mut members, "userAgent", &self.user_agent)?;
-        add_member(alloc, &mut members, "setWindowRect", &self.set_window_rect)?;
-        add_member(alloc, &mut members, "platformName", &self.platform_name)?;
-        add_member(alloc, &mut members, "browserVersion", &self.browser_version)?;
-        add_member(alloc, &mut members, "browserName", &self.browser_name)?;
-        add_member(
-            alloc,
-            &mut members,
-            "acceptInsecureCerts",
+        let members = One(
             &self.accept_insecure_certs,
-        )?;
-        Ok(Tree::Map(members))
+            One(
+                &self.browser_name,
+                One(
+                    &self.browser_version,
+                    One(
+                        &self.platform_name,
+                        One(
+                            &self.set_window_rect,
+                            One(&self.user_agent, Rest(&self.ext)),
+                        ),
+                    ),
+                ),
+            ),
+        );
+        write_fields(alloc, &members, Self::NAMES, &[])
     }
 }

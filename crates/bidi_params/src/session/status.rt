@@ -1,6 +1,7 @@
 //! Whether a remote end is ready.
 use bidi_shape::{
-    Ext, Fields, MakeFault, Required, Ruled, Shape, ShapeFault, add_member, read_fields,
+    Ext, Fields, MakeFault, One, Required, Rest, Ruled, Shape, ShapeFault, further, read_fields,
+    write_fields,
 };
 use bidi_tree::{Members, Tree};
 use std::alloc::{AllocError, Global};
@@ -28,6 +29,9 @@ impl StatusResult {
     ghost use Rattle.bidi_shape.specs.Made.{Makes};
     ghost use Rattle.bidi_shape.specs.ValueLaws.{others_of};
 
+    // In the order of the rule.
+    const NAMES: &'static [&'static str] = &["ready", "message"];
+
     /// The result, with further members. Takes no memory.
     ///
     /// # Errors
@@ -41,10 +45,7 @@ impl StatusResult {
             (λ v. (v.ready ≡ ready) × (v.message ≡ message) × (others_of v.ext ≡ members_node ext.entries)) }
         ensures well { IfOk result (λ v. ⟦<StatusResult as Shape>⟧.shape.well v) }
     {
-        let ext = Ext::new(ext, &["ready", "message"])?;
-        if !ext.is_whole() {
-            return Err(MakeFault::TooDeep);
-        }
+        let ext = further(ext, Self::NAMES)?;
         Ok(StatusResult {
             ready,
             message,
@@ -72,7 +73,7 @@ impl Shape for StatusResult {
         let Required(ready, Required(message, ext)) = read_fields::<StatusResult, Parts>(
             alloc,
             tree,
-            &["ready", "message"],
+            Self::NAMES,
             &[],
         )?;
         Ok(StatusResult {
@@ -83,9 +84,7 @@ impl Shape for StatusResult {
     }
 
     fn to_tree(&self, alloc: Global) -> Result<Tree, AllocError> {
-        let mut members = self.ext.copy_members()?;
-        add_member(alloc, &mut members, "message", &self.message)?;
-        add_member(alloc, &mut members, "ready", &self.ready)?;
-        Ok(Tree::Map(members))
+        let members = One(&self.ready, One(&self.message, Rest(&self.ext)));
+        write_fields(alloc, &members, Self::NAMES, &[])
     }
 }

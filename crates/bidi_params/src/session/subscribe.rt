@@ -1,7 +1,7 @@
 //! Subscriptions to events.
 use bidi_shape::{
-    Either, Ext, Fields, MakeFault, OneOrMore, Optional, Required, Ruled, Shape, ShapeFault,
-    add_member, add_optional, not_shadowed, read_choice, read_fields,
+    Either, Ext, Fields, MakeFault, Maybe, One, OneOrMore, Optional, Required, Rest, Ruled, Shape,
+    ShapeFault, further, not_shadowed, read_choice, read_fields, write_fields,
 };
 use bidi_tree::{Members, Tree};
 use std::alloc::{AllocError, Global};
@@ -30,6 +30,9 @@ impl SubscribeParameters {
     ghost use Rattle.bidi_shape.specs.Made.{Makes};
     ghost use Rattle.bidi_shape.specs.ValueLaws.{others_of};
 
+    // In the order of the rule.
+    const NAMES: &'static [&'static str] = &["events", "contexts", "userContexts"];
+
     /// The params, with further members. Takes no memory.
     ///
     /// # Errors
@@ -51,10 +54,7 @@ impl SubscribeParameters {
             (λ v. (v.events ≡ events) × (v.contexts ≡ contexts) × (v.user_contexts ≡ user_contexts) × (others_of v.ext ≡ members_node ext.entries)) }
         ensures well { IfOk result (λ v. ⟦<SubscribeParameters as Shape>⟧.shape.well v) }
     {
-        let ext = Ext::new(ext, &["events", "contexts", "userContexts"])?;
-        if !ext.is_whole() {
-            return Err(MakeFault::TooDeep);
-        }
+        let ext = further(ext, Self::NAMES)?;
         Ok(SubscribeParameters {
             events,
             contexts,
@@ -86,7 +86,7 @@ impl Shape for SubscribeParameters {
         let Required(events, Optional(contexts, Optional(user_contexts, ext))) = read_fields::<
             SubscribeParameters,
             SubscribeParts,
-        >(alloc, tree, &["events", "contexts", "userContexts"], &[])?;
+        >(alloc, tree, Self::NAMES, &[])?;
         Ok(SubscribeParameters {
             events,
             contexts,
@@ -96,11 +96,11 @@ impl Shape for SubscribeParameters {
     }
 
     fn to_tree(&self, alloc: Global) -> Result<Tree, AllocError> {
-        let mut members = self.ext.copy_members()?;
-        add_optional(alloc, &mut members, "userContexts", &self.user_contexts)?;
-        add_optional(alloc, &mut members, "contexts", &self.contexts)?;
-        add_member(alloc, &mut members, "events", &self.events)?;
-        Ok(Tree::Map(members))
+        let members = One(
+            &self.events,
+            Maybe(&self.contexts, Maybe(&self.user_contexts, Rest(&self.ext))),
+        );
+        write_fields(alloc, &members, Self::NAMES, &[])
     }
 }
 
@@ -126,6 +126,9 @@ impl SubscribeResult {
     ghost use Rattle.bidi_shape.specs.Made.{Makes};
     ghost use Rattle.bidi_shape.specs.ValueLaws.{others_of};
 
+    // In the order of the rule.
+    const NAMES: &'static [&'static str] = &["subscription"];
+
     /// The result, with further members. Takes no memory.
     ///
     /// # Errors
@@ -139,10 +142,7 @@ impl SubscribeResult {
             (λ v. (v.subscription ≡ subscription) × (others_of v.ext ≡ members_node ext.entries)) }
         ensures well { IfOk result (λ v. ⟦<SubscribeResult as Shape>⟧.shape.well v) }
     {
-        let ext = Ext::new(ext, &["subscription"])?;
-        if !ext.is_whole() {
-            return Err(MakeFault::TooDeep);
-        }
+        let ext = further(ext, Self::NAMES)?;
         Ok(SubscribeResult { subscription, ext })
     }
 }
@@ -166,16 +166,15 @@ impl Shape for SubscribeResult {
         let Required(subscription, ext) = read_fields::<SubscribeResult, SubscriptionParts>(
             alloc,
             tree,
-            &["subscription"],
+            Self::NAMES,
             &[],
         )?;
         Ok(SubscribeResult { subscription, ext })
     }
 
     fn to_tree(&self, alloc: Global) -> Result<Tree, AllocError> {
-        let mut members = self.ext.copy_members()?;
-        add_member(alloc, &mut members, "subscription", &self.subscription)?;
-        Ok(Tree::Map(members))
+        let members = One(&self.subscription, Rest(&self.ext));
+        write_fields(alloc, &members, Self::NAMES, &[])
     }
 }
 
@@ -201,6 +200,9 @@ impl UnsubscribeById {
     ghost use Rattle.bidi_shape.specs.Made.{Makes};
     ghost use Rattle.bidi_shape.specs.ValueLaws.{others_of};
 
+    // In the order of the rule.
+    const NAMES: &'static [&'static str] = &["subscriptions"];
+
     /// The params, with further members. Takes no memory.
     ///
     /// # Errors
@@ -215,10 +217,7 @@ impl UnsubscribeById {
             (λ v. (v.subscriptions ≡ subscriptions) × (others_of v.ext ≡ members_node ext.entries)) }
         ensures well { IfOk result (λ v. ⟦<UnsubscribeById as Shape>⟧.shape.well v) }
     {
-        let ext = Ext::new(ext, &["subscriptions"])?;
-        if !ext.is_whole() {
-            return Err(MakeFault::TooDeep);
-        }
+        let ext = further(ext, Self::NAMES)?;
         Ok(UnsubscribeById { subscriptions, ext })
     }
 }
@@ -242,16 +241,15 @@ impl Shape for UnsubscribeById {
         let Required(subscriptions, ext) = read_fields::<UnsubscribeById, ByIdParts>(
             alloc,
             tree,
-            &["subscriptions"],
+            Self::NAMES,
             &[],
         )?;
         Ok(UnsubscribeById { subscriptions, ext })
     }
 
     fn to_tree(&self, alloc: Global) -> Result<Tree, AllocError> {
-        let mut members = self.ext.copy_members()?;
-        add_member(alloc, &mut members, "subscriptions", &self.subscriptions)?;
-        Ok(Tree::Map(members))
+        let members = One(&self.subscriptions, Rest(&self.ext));
+        write_fields(alloc, &members, Self::NAMES, &[])
     }
 }
 
@@ -279,13 +277,16 @@ impl UnsubscribeByEvents {
     ghost use Rattle.bidi_shape.specs.ValueLaws.{others_of};
     ghost use Rattle.bidi_params.specs.Session.{by_events_map};
 
+    // In the order of the rule.
+    const NAMES: &'static [&'static str] = &["events"];
+
     /// The params, with further members.
     ///
     /// # Errors
     /// - `Clash`: a further member is called `events`.
     /// - `Shadowed`: the map is an [`UnsubscribeById`].
     /// - `TooDeep`: a further member has an `Odd` in it, or more than 60 levels.
-    /// - `NoMemory`: a growth was refused.
+    /// - `NoMemory`: an allocation failed.
     pub fn new(
         alloc: Global,
         events: OneOrMore<String>,
@@ -299,7 +300,7 @@ impl UnsubscribeByEvents {
             (λ v. (v.events ≡ events) × (others_of v.ext ≡ members_node ext.entries)) }
         ensures well { IfOk result (λ v. ⟦<UnsubscribeByEvents as Shape>⟧.shape.well v) }
     {
-        let ext = Ext::new(ext, &["events"])?;
+        let ext = Ext::new(ext, Self::NAMES)?;
         let made = UnsubscribeByEvents { events, ext };
         not_shadowed::<UnsubscribeById, UnsubscribeByEvents>(alloc, &made)?;
         if !made.ext.is_whole() {
@@ -328,16 +329,15 @@ impl Shape for UnsubscribeByEvents {
         let Required(events, ext) = read_fields::<UnsubscribeByEvents, ByEventsParts>(
             alloc,
             tree,
-            &["events"],
+            Self::NAMES,
             &[],
         )?;
         Ok(UnsubscribeByEvents { events, ext })
     }
 
     fn to_tree(&self, alloc: Global) -> Result<Tree, AllocError> {
-        let mut members = self.ext.copy_members()?;
-        add_member(alloc, &mut members, "events", &self.events)?;
-        Ok(Tree::Map(members))
+        let members = One(&self.events, Rest(&self.ext));
+        write_fields(alloc, &members, Self::NAMES, &[])
     }
 }
 

@@ -5,7 +5,7 @@ use Rattle.bidi_browser.specs.Checks.{◌>>=◌}
 use Rattle.bidi_browser.specs.declared.refusal.Refusal.{Refusal}
 use Rattle.bidi_browser.specs.declared.refusal.Refusal.TheVariants.{Code, NoMemory}
 
--- they give what the definition gives, or its code, unless a growth was refused
+-- they give what the definition gives, or its code, unless an allocation failed
 abbrev pub IfChecked : {A B : Type 0} → Result A Refusal → (A → B) → Result B ErrorCode → Type 0
 IfChecked (Ok x) view answer = answer ≡ Ok (view x)
 IfChecked (Err (Code code)) view answer = answer ≡ Err code

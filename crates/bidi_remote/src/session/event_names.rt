@@ -12,7 +12,7 @@ use std::alloc::Global;
 ///
 /// # Errors
 /// - `invalid argument`: a name is neither an event's nor a module's.
-/// - No memory, where a growth was refused.
+/// - No memory: an allocation failed.
 pub(crate) fn all_named(alloc: Global, names: &[String]) -> Result<Vec<EventName>, Refusal>
     ensures { IfChecked result (λ events. events.items) (all_named (map string_bytes names.now)) }
 {

@@ -31,7 +31,7 @@ use std::alloc::{AllocError, Global};
 /// The first that holds:
 /// - `invalid argument` or `session not created`, as the capabilities are matched.
 /// - `session not created`: eight sessions are active.
-/// - No memory, where a growth was refused.
+/// - No memory: an allocation failed.
 pub(crate) fn decide_new(
     alloc: Global,
     tables: &Tables,

@@ -19,7 +19,7 @@ use std::alloc::{AllocError, Global};
 /// Tells whether there is room for a session.
 ///
 /// # Errors
-/// No memory, where a growth was refused.
+/// No memory: an allocation failed.
 pub(crate) fn decide_status(alloc: Global, tables: &Tables, asker: Asker) -> Result<Turn, Refusal>
     ensures ok { (past : List Deed) → AgreeWith tables.now past → Decides result past asker Status (Ok Told) }
     ensures well { IsWellDecided result }

@@ -44,7 +44,7 @@ const MOST_SUBSCRIPTIONS: usize = 256;
 /// - `unsupported operation`: user contexts are given.
 /// - `no such frame`: a context is not live.
 /// - `unknown error`: 256 subscriptions live.
-/// - No memory, where a growth was refused.
+/// - No memory: an allocation failed.
 pub(crate) fn decide_subscribe(
     alloc: Global,
     tables: &Tables,

@@ -27,7 +27,7 @@ use std::alloc::Global;
 /// The first that holds:
 /// - `invalid argument`: no live subscription has an id; or a name is neither an event's nor a module's, or no global
 ///   subscription holds for an event.
-/// - No memory, where a growth was refused.
+/// - No memory: an allocation failed.
 pub(crate) fn decide_unsubscribe(
     alloc: Global,
     tables: &Tables,

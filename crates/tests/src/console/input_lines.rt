@@ -1,10 +1,10 @@
 //! Lines over memory, in short reads and in whole ones, with a reader that fails once.
 use super::check_text;
 use super::stop_at::StopAt;
-use crate::rows::{Asked, check_rows};
 use bidi_console::{Device, InputFault, LineReader};
 use std::alloc::{AllocError, Global};
 use std::test::Fail;
+use testing::rows::{Asked, check_rows};
 
 /// An input, in which `\n` and `\r` stand for one byte; found are its lines, each with a `;` behind it, and how it ends. Of a
 /// long line its length is told. `by-4096` reads so many bytes at most at once; behind `-stop-` is the number of the read that
@@ -46,12 +46,12 @@ behind a line that is too long | by-4096-stop-514 «2097153 x»\n -> bad line
 
 #[test]
 fn gives_each_line(rt: HostRuntime) -> Result<(), Fail> {
-    check_rows::<Lines>(&rt, rt.alloc(), LINES)
+    check_rows::<Lines>(rt.alloc(), LINES)
 }
 
 #[test]
 fn goes_on_after_a_failure_at_any_byte(rt: HostRuntime) -> Result<(), Fail> {
-    check_rows::<Lines>(&rt, rt.alloc(), FAILED_READS)
+    check_rows::<Lines>(rt.alloc(), FAILED_READS)
 }
 
 /// Whether an input of two lines goes on, before each line and at the end, and what follows.

@@ -1,6 +1,4 @@
 //! Browsing contexts: texts that fit and texts that do not, and what the constructors answer.
-use crate::rows::{Asked, check_rows};
-use crate::texts::{again, members_of, owned, told, variant_of};
 use bidi_params::{
     ActivateParameters, CloseParameters, ContextType, CreateParameters, CreateResult,
     GetTreeParameters, NavigateParameters, NavigateResult, NavigationInfo, ReloadParameters,
@@ -9,6 +7,8 @@ use bidi_params::{
 use bidi_tree::{JsInt, JsUint};
 use std::alloc::Global;
 use std::test::Fail;
+use testing::rows::{Asked, check_rows};
+use testing::texts::{again, members_of, owned, told, variant_of};
 
 /// What a text reads as, by the name of a type.
 struct Browsing;
@@ -130,8 +130,8 @@ GetTreeParameters {"x":«61 [»«61 ]»} -> NoFit
 
 #[test]
 fn texts_fit_or_not(rt: HostRuntime) -> Result<(), Fail> {
-    check_rows::<Browsing>(&rt, rt.alloc(), TEXTS)?;
-    check_rows::<Browsing>(&rt, rt.alloc(), OTHERS)
+    check_rows::<Browsing>(rt.alloc(), TEXTS)?;
+    check_rows::<Browsing>(rt.alloc(), OTHERS)
 }
 
 /// What becomes of the same parts with further members, by the name of a type.
@@ -229,5 +229,5 @@ NavigationInfo {"x":«61 [»«61 ]»} -> TooDeep
 
 #[test]
 fn made_with_further_members(rt: HostRuntime) -> Result<(), Fail> {
-    check_rows::<BrowsingMade>(&rt, rt.alloc(), MADE)
+    check_rows::<BrowsingMade>(rt.alloc(), MADE)
 }

@@ -1,10 +1,10 @@
 //! Infos and maps that name no member: texts that fit and texts that do not, and what the constructors answer.
-use crate::rows::{Asked, check_rows};
-use crate::texts::{again, members_of, owned, told, value_of};
 use bidi_params::{EmptyParams, EmptyResult, GetTreeResult, Info};
 use bidi_tree::Members;
 use std::alloc::Global;
 use std::test::Fail;
+use testing::rows::{Asked, check_rows};
+use testing::texts::{again, members_of, owned, told, value_of};
 
 /// What a text reads as, by the name of a type.
 struct Infos;
@@ -56,7 +56,7 @@ EmptyResult [] -> NoFit
 
 #[test]
 fn texts_fit_or_not(rt: HostRuntime) -> Result<(), Fail> {
-    check_rows::<Infos>(&rt, rt.alloc(), TEXTS)
+    check_rows::<Infos>(rt.alloc(), TEXTS)
 }
 
 /// What becomes of the same parts with further members, by the name of a type; what becomes of children.
@@ -104,7 +104,7 @@ children «30 [{"children":»null«30 ,"clientWindow":"w","context":"c","origina
 
 #[test]
 fn made_with_further_members(rt: HostRuntime) -> Result<(), Fail> {
-    check_rows::<InfosMade>(&rt, rt.alloc(), MADE)
+    check_rows::<InfosMade>(rt.alloc(), MADE)
 }
 
 fn made_with(alloc: Global, word: &str, ext: Members) -> Result<String, Fail> {

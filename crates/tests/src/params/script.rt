@@ -1,6 +1,4 @@
 //! Scripts: texts that fit and texts that do not, and what the constructors answer.
-use crate::rows::{Asked, check_rows};
-use crate::texts::{again, members_of, owned, told, value_of, variant_of, written};
 use bidi_params::{
     GetRealmsParameters, GetRealmsResult, RealmDestroyedParameters, RealmInfo, RealmType,
 };
@@ -10,6 +8,8 @@ use bidi_values::{
 };
 use std::alloc::Global;
 use std::test::Fail;
+use testing::rows::{Asked, check_rows};
+use testing::texts::{again, members_of, owned, told, value_of, variant_of, written};
 
 /// What a text reads as, by the name of a type.
 struct Script;
@@ -127,8 +127,8 @@ CallFunctionParameters {"arguments":[«31 {"type":"array","value":[»«31 ]}»],
 
 #[test]
 fn texts_fit_or_not(rt: HostRuntime) -> Result<(), Fail> {
-    check_rows::<Script>(&rt, rt.alloc(), TEXTS)?;
-    check_rows::<Script>(&rt, rt.alloc(), OTHERS)
+    check_rows::<Script>(rt.alloc(), TEXTS)?;
+    check_rows::<Script>(rt.alloc(), OTHERS)
 }
 
 /// Whether the target of an evaluate is one of a context.
@@ -215,7 +215,7 @@ RealmDestroyedParameters {"x":«61 [»«61 ]»} -> TooDeep
 
 #[test]
 fn made_with_further_members(rt: HostRuntime) -> Result<(), Fail> {
-    check_rows::<ScriptMade>(&rt, rt.alloc(), MADE)
+    check_rows::<ScriptMade>(rt.alloc(), MADE)
 }
 
 const TARGET: &str = r#"{"realm":"r1"}"#;

@@ -1,6 +1,4 @@
 //! Sessions and subscriptions: texts that fit and texts that do not, and what the constructors answer.
-use crate::rows::{Asked, check_rows};
-use crate::texts::{again, members_of, owned, told, value_of, written};
 use bidi_params::{
     Capabilities, CapabilitiesRequest, CapabilityRequest, NewParameters, NewResult, StatusResult,
     SubscribeParameters, SubscribeResult, UnsubscribeByEvents, UnsubscribeById,
@@ -10,6 +8,8 @@ use bidi_shape::Ext;
 use bidi_tree::{Members, Tree};
 use std::alloc::Global;
 use std::test::Fail;
+use testing::rows::{Asked, check_rows};
+use testing::texts::{again, members_of, owned, told, value_of, written};
 
 /// What a text reads as, by the name of a type.
 struct Session;
@@ -104,7 +104,7 @@ alternative {"subscriptions":[],"events":["b"]} -> by events {"subscriptions":[]
 
 #[test]
 fn texts_fit_or_not(rt: HostRuntime) -> Result<(), Fail> {
-    check_rows::<Session>(&rt, rt.alloc(), TEXTS)
+    check_rows::<Session>(rt.alloc(), TEXTS)
 }
 
 fn alternative(alloc: Global, text: &str) -> Result<String, Fail> {
@@ -216,7 +216,7 @@ UnsubscribeByEvents {"x":«61 [»«61 ]»} -> TooDeep
 
 #[test]
 fn made_with_further_members(rt: HostRuntime) -> Result<(), Fail> {
-    check_rows::<SessionMade>(&rt, rt.alloc(), MADE)
+    check_rows::<SessionMade>(rt.alloc(), MADE)
 }
 
 fn requests_with(alloc: Global, ext: Members) -> Result<String, Fail> {

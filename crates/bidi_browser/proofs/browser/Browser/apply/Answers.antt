@@ -1,13 +1,14 @@
-use Rattle.std.proofs.Common.{◌∙◌, sym, ap, ap₂, subst}
+use Rattle.std.proofs.Common.{◌∙◌, refl, sym, ap, ap₂, subst}
 use Rattle.std.specs.Prelude.{ℕ, string_bytes}
 use Rattle.std.proofs.Common.{rules, arith}
 use Rattle.bidi_tree.specs.Node.{Node}
 use Rattle.bidi_browser.specs.Acts.{Tabled}
 use Rattle.bidi_browser.specs.declared.id.Kind.TheVariants.{Handle}
 use Rattle.bidi_browser.specs.TableInHand.{row_seen}
+use Rattle.bidi_browser.specs.ValuesInHand.{handle_seen}
 use Rattle.bidi_browser.specs.declared.plan.Navigation.{Navigation}
 use Rattle.bidi_browser.specs.Plans.{EditMakes, EditHasRoom, HasRoomIn, HasRoomForHandle}
-use Rattle.bidi_browser.proofs.TableLemmas.{kept-stands, row-stands, held-stands, disowned-stands}
+use Rattle.bidi_browser.proofs.TableLemmas.{kept-stands, row-stands, handle-stands, disowned-stands}
 use Rattle.bidi_browser.proofs.browser.Browser.apply.Goals as goal
 
 pub returns-in-Keep : goal.returns-in-Keep
@@ -29,8 +30,8 @@ pub returns-in-Hold : goal.returns-in-Hold
 returns-in-Hold c = λ past action act stands ids accepted makes.
     let is = subst (λ e. EditMakes e past act) c.in-Hold.is makes in
     let number = ap (λ (held : ℕ × Node). held.0) is.3 in
-    held-stands c.args.self.now c.hold.new.self _ past action c.in-Hold.number is.0 act _ is.2 is.1 (search (rules, c.in-Hold.handle-is, c.in-Hold.is, is.3)) accepted stands
-    (let fits = ids Handle in let next = stands.next_handle in omega (arith, fits, next)) (c.hold.ensures past stands.contexts (rw c.in-Hold.is (omega (arith, number))))
+    handle-stands c.args.self.now c.hold.new.self _ past action c.in-Hold.number is.0 act _ (handle_seen c.in-Hold.handle) (c.hold.ensures past stands.contexts (rw c.in-Hold.is (omega (arith, number)))) (rw c.in-Hold.is refl) is.3 is.2 is.1 accepted stands
+    (let fits = ids Handle in let next = stands.next_handle in omega (arith, fits, next))
 
 pub returns-in-Disown : goal.returns-in-Disown
 returns-in-Disown c = λ past action act stands ids accepted makes.

@@ -2,13 +2,13 @@
 ghost use Rattle.std.specs.Prelude.{IfOk, OnOk};
 ghost use Rattle.bidi_link.specs.Steps.{AreWell, IsWell};
 
-use crate::texts::tree_of;
 use bidi_link::{Fate, Ledger, PairStep, pair};
 use bidi_messages::{ErrorCode, Method, Named, ResultData, data_of};
 use bidi_tree::JsUint;
 use std::alloc::{AllocError, Global};
 use std::process::Abort;
 use std::test::Fail;
+use testing::texts::tree_of;
 
 /// What a schedule does to one of its links.
 #[derive(Clone, Copy, Debug, PartialEq, Eq)]

@@ -4,7 +4,7 @@ use Prim.Native.String.{String}
 use Rattle.bidi_browser.proofs.Spelling.{said}
 use Rattle.bidi_remote.specs.Machine.Step.{Step, Text, TableRow}
 use Rattle.bidi_remote.specs.Machine.Sent as sent
-use Rattle.bidi_remote.proofs.Facts.Rows.{after, ask, begun, frame, machine_on_literals, refusal, success, value}
+use Rattle.machine_facts.proofs.Rows.{after, ask, begun, frame, machine_on_literals, refusal, success, value}
 
 -- ---- targets
 

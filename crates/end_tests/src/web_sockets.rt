@@ -1,13 +1,13 @@
 //! Links over streams of given bytes: what each call answers, and what is written.
 ghost use Rattle.std.specs.Prelude.{◌<◌};
 
-use crate::rows::{Asked, check_rows};
 use bidi_link::{Incoming, Link, LinkFault};
 use std::alloc::Global;
 use std::cell::RefCell;
 use std::io;
 use std::io::{ErrorKind, Read, Write};
 use std::test::Fail;
+use testing::rows::{Asked, check_rows};
 use tungstenite::{MaskKeys, NoMask, Role, WebSocket, WebSocketConfig};
 
 /// The bytes that a stream gives and the calls of a link over it, with `/` between; found are the answers and the bytes
@@ -39,7 +39,7 @@ more than may wait | narrow 81 82 00 00 00 00 7b 7d / send take send -> Err(Full
 
 #[test]
 fn texts_are_taken_and_sent_in_order(rt: HostRuntime) -> Result<(), Fail> {
-    check_rows::<Links>(&rt, rt.alloc(), TEXTS)
+    check_rows::<Links>(rt.alloc(), TEXTS)
 }
 
 /// A text in two frames, and pings between the frames of a peer.
@@ -54,7 +54,7 @@ server,over,by-1 8a 82 00 00 00 00 68 69 81 82 00 00 00 00 7b 7d / take take -> 
 
 #[test]
 fn a_text_is_whole_and_a_ping_is_answered(rt: HostRuntime) -> Result<(), Fail> {
-    check_rows::<Links>(&rt, rt.alloc(), FRAMES)
+    check_rows::<Links>(rt.alloc(), FRAMES)
 }
 
 // ---- streams that fail
@@ -69,7 +69,7 @@ ends-8,ends-9,ends-10,ends-11,ends-12,ends-13,ends-14,ends-15 81 82 00 00 00 00 
 
 #[test]
 fn a_stream_that_fails_loses_no_text_and_makes_none(rt: HostRuntime) -> Result<(), Fail> {
-    check_rows::<Links>(&rt, rt.alloc(), CUTS)
+    check_rows::<Links>(rt.alloc(), CUTS)
 }
 
 /// The first write fails. Of a link that is closed by it nothing is written; an answer to a ping is written later.
@@ -81,7 +81,7 @@ refuses-1 89 82 00 00 00 00 68 69 81 82 00 00 00 00 7b 7d / take take -> Control
 
 #[test]
 fn a_write_that_fails_closes_the_link_of_a_sender(rt: HostRuntime) -> Result<(), Fail> {
-    check_rows::<Links>(&rt, rt.alloc(), REFUSALS)
+    check_rows::<Links>(rt.alloc(), REFUSALS)
 }
 
 // ---- frames that break the protocol
@@ -104,7 +104,7 @@ a text within a text | server,by-1 01 81 00 00 00 00 7b 81 81 00 00 00 00 7d / t
 
 #[test]
 fn a_bad_frame_closes_the_link(rt: HostRuntime) -> Result<(), Fail> {
-    check_rows::<Links>(&rt, rt.alloc(), BAD_FRAMES)
+    check_rows::<Links>(rt.alloc(), BAD_FRAMES)
 }
 
 // ---- closes
@@ -117,7 +117,7 @@ server,by-1 81 82 00 00 00 00 7b 7d 88 80 00 00 00 00 / close take take take sen
 
 #[test]
 fn a_link_closes_once(rt: HostRuntime) -> Result<(), Fail> {
-    check_rows::<Links>(&rt, rt.alloc(), CLOSES)
+    check_rows::<Links>(rt.alloc(), CLOSES)
 }
 
 const CLOSES_OF_THE_PEER: &str = "
@@ -130,7 +130,7 @@ to-client / send close -> {} Closed / 88 80 12 34 56 78
 
 #[test]
 fn a_close_of_the_peer_is_answered(rt: HostRuntime) -> Result<(), Fail> {
-    check_rows::<Links>(&rt, rt.alloc(), CLOSES_OF_THE_PEER)
+    check_rows::<Links>(rt.alloc(), CLOSES_OF_THE_PEER)
 }
 
 /// The codes of a peer's close, with that of the answer: 1002 where a code may not be sent.
@@ -144,7 +144,7 @@ const CODES: &str = "
 
 #[test]
 fn a_code_that_may_not_be_sent_is_answered_by_another(rt: HostRuntime) -> Result<(), Fail> {
-    check_rows::<Codes>(&rt, rt.alloc(), CODES)
+    check_rows::<Codes>(rt.alloc(), CODES)
 }
 
 // ---- memory
@@ -159,7 +159,7 @@ take -> Err(NoMemory) Closed /
 #[test]
 fn what_is_sent_without_memory_can_be_sent_again(rt: HostRuntime) -> Result<(), Fail> {
     if is_memory_used_up(rt.alloc())? {
-        check_rows::<Starved>(&rt, rt.alloc(), NO_MEMORY)?;
+        check_rows::<Starved>(rt.alloc(), NO_MEMORY)?;
     }
     Ok(())
 }

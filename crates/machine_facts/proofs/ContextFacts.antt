@@ -5,7 +5,7 @@ use Rattle.bidi_browser.specs.declared.id.Kind.TheVariants.{Context}
 use Rattle.bidi_browser.specs.Ids.{id_of}
 use Rattle.bidi_remote.specs.Machine.Step.{Step, Frame}
 use Rattle.bidi_remote.specs.Machine.Sent as sent
-use Rattle.bidi_remote.proofs.Facts.Rows.{after, ask, begun, event, frame, machine_on_literals, refusal, success, unframe}
+use Rattle.machine_facts.proofs.Rows.{after, ask, begun, event, frame, machine_on_literals, refusal, success, unframe}
 
 -- ---- the tree
 

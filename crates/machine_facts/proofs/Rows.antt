@@ -8,7 +8,7 @@ use Rattle.bidi_values.specs.declared.log_entry.Level.{Level}
 use Rattle.bidi_remote.specs.Machine.Step.{Step, Open, Text, Frame, Unframe, Log, TableRow}
 use Rattle.bidi_remote.specs.Machine.Sent as sent
 use Rattle.bidi_remote.specs.Machine.Sent.{Sent, out}
-use Rattle.bidi_remote.proofs.Facts.Hearing.{heard}
+use Rattle.machine_facts.proofs.Hearing.{heard}
 
 -- what a fact unfolds to compute the machine on literals
 unfoldable pub machine_on_literals : ⊤

@@ -8,12 +8,12 @@ use std::fmt::Debug;
 use std::test::Fail;
 
 /// The tree of a text.
-pub(crate) fn tree_of(alloc: Global, text: &str) -> Result<Tree, Fail> {
+pub fn tree_of(alloc: Global, text: &str) -> Result<Tree, Fail> {
     Ok(read(alloc, text, None)?)
 }
 
 /// The members of the map that a text is.
-pub(crate) fn members_of(alloc: Global, text: &str) -> Result<Members, Fail> {
+pub fn members_of(alloc: Global, text: &str) -> Result<Members, Fail> {
     match tree_of(alloc, text)? {
         Tree::Map(members) => Ok(members),
         _ => Err(Fail::from("no map")),
@@ -21,7 +21,7 @@ pub(crate) fn members_of(alloc: Global, text: &str) -> Result<Members, Fail> {
 }
 
 /// The compact text of a tree.
-pub(crate) fn written(alloc: Global, tree: Tree) -> Result<String, Fail> {
+pub fn written(alloc: Global, tree: Tree) -> Result<String, Fail> {
     if tree.is_writable() {
         Ok(write(alloc, &tree)?)
     } else {
@@ -30,19 +30,19 @@ pub(crate) fn written(alloc: Global, tree: Tree) -> Result<String, Fail> {
 }
 
 /// The value that a text reads as.
-pub(crate) fn value_of<X: Shape>(alloc: Global, text: &str) -> Result<X, Fail>
+pub fn value_of<X: Shape>(alloc: Global, text: &str) -> Result<X, Fail>
     ensures well { IfOk result (λ v. X.shape.well v) }
 {
     Ok(X::from_tree(alloc, &tree_of(alloc, text)?)?)
 }
 
 /// The compact text of a value.
-pub(crate) fn text_of<X: Shape>(alloc: Global, value: X) -> Result<String, Fail> {
+pub fn text_of<X: Shape>(alloc: Global, value: X) -> Result<String, Fail> {
     written(alloc, value.to_tree(alloc)?)
 }
 
 /// The compact text of the value that a text reads as, or the fault.
-pub(crate) fn again<X: Shape>(alloc: Global, text: &str) -> Result<String, Fail> {
+pub fn again<X: Shape>(alloc: Global, text: &str) -> Result<String, Fail> {
     match X::from_tree(alloc, &tree_of(alloc, text)?) {
         Ok(value) => text_of(alloc, value),
         Err(fault) => Ok(format!(in alloc; "{fault:?}")?),
@@ -50,7 +50,7 @@ pub(crate) fn again<X: Shape>(alloc: Global, text: &str) -> Result<String, Fail>
 }
 
 /// The compact text of a value that was made, or the fault.
-pub(crate) fn told<X: Shape>(alloc: Global, made: Result<X, MakeFault>) -> Result<String, Fail> {
+pub fn told<X: Shape>(alloc: Global, made: Result<X, MakeFault>) -> Result<String, Fail> {
     match made {
         Ok(value) => text_of(alloc, value),
         Err(fault) => Ok(format!(in alloc; "{fault:?}")?),
@@ -58,12 +58,12 @@ pub(crate) fn told<X: Shape>(alloc: Global, made: Result<X, MakeFault>) -> Resul
 }
 
 /// The name of the variant that a text reads as.
-pub(crate) fn variant_of<X: Shape + Debug>(alloc: Global, text: &str) -> Result<String, Fail> {
+pub fn variant_of<X: Shape + Debug>(alloc: Global, text: &str) -> Result<String, Fail> {
     let value = value_of::<X>(alloc, text)?;
     Ok(format!(in alloc; "{value:?}")?)
 }
 
 /// A text of one's own.
-pub(crate) fn owned(alloc: Global, text: &str) -> Result<String, Fail> {
+pub fn owned(alloc: Global, text: &str) -> Result<String, Fail> {
     Ok(String::from_str(alloc, text)?)
 }

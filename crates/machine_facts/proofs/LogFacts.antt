@@ -8,7 +8,7 @@ use Rattle.bidi_remote.specs.Machine.Sent.{Sent}
 use Rattle.bidi_browser.proofs.Spelling.{said}
 use Rattle.bidi_remote.specs.Machine.Step.{Step, At, Open, Drop, Log}
 use Rattle.bidi_remote.specs.Machine.Sent as sent
-use Rattle.bidi_remote.proofs.Facts.Rows.{after, ask, ask_on, begun, event, frame, log, machine_on_literals, success, unframe}
+use Rattle.machine_facts.proofs.Rows.{after, ask, ask_on, begun, event, frame, log, machine_on_literals, success, unframe}
 
 -- ---- one entry
 

@@ -1,5 +1,5 @@
 //! Steps, and what is sent at each.
-use bidi_remote::{RemoteEnd, Sent, Step};
+use bidi_remote::{RemoteEnd, RemoteFault, Sent, Step};
 use bidi_tree::JsUint;
 use std::alloc::Global;
 use std::process::Abort;
@@ -169,5 +169,14 @@ fn push_sent(told: &mut String, sent: &[Sent]) -> Result<(), Fail> {
             Sent::NoEffect => told.push_str("  no effect\n")?,
         }
     }
+    Ok(())
+}
+
+#[test]
+fn faults_have_texts(rt: HostRuntime) -> Result<(), Fail> {
+    let no_memory = format!(in rt.alloc(); "{}", RemoteFault::NoMemory)?;
+    assert_eq!(rt; no_memory.as_str(), "out of memory");
+    let worn_out = format!(in rt.alloc(); "{}", RemoteFault::WornOut)?;
+    assert_eq!(rt; worn_out.as_str(), "too many steps");
     Ok(())
 }

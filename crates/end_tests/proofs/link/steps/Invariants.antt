@@ -1,5 +1,5 @@
 use Rattle.bidi_link.specs.Steps.{AreWell}
-use Rattle.tests.proofs.link.steps.Given as goal
+use Rattle.end_tests.proofs.link.steps.Given as goal
 
 -- each step so far is well
 abbrev pub invariant-loop-link : goal.invariant-loop-link

@@ -4,7 +4,7 @@ use Rattle.std.specs.Prelude.{◌≡◌, refl, ℕ, List, [], ◌∷◌, codes, 
 use Rattle.bidi_tree.specs.Node.{Node, null}
 use Rattle.bidi_tree.specs.Text.{tree_of}
 use Rattle.bidi_browser.proofs.Spelling.{said}
-use Rattle.bidi_remote.proofs.Facts.Rows.{machine_on_literals}
+use Rattle.machine_facts.proofs.Rows.{machine_on_literals}
 use Rattle.bidi_link.specs.Link.{Fate, Answered, Refused, Lost, Waiting, Entry, Received, Page}
 use Rattle.bidi_link.specs.Ledger.{PairInput, Opens, Sends, Up, Down, Cuts, ledger}
 

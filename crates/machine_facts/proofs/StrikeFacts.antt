@@ -2,11 +2,11 @@
 use Rattle.std.specs.Prelude.{◌≡◌, ℕ, List, [], ◌∷◌, ◌++◌, map, codes, refl}
 use Rattle.bidi_remote.specs.Machine.Strike.{strike_steps, strike, sees}
 use Rattle.bidi_remote.specs.Machine.Sent.{Sent}
-use Rattle.bidi_remote.proofs.Facts.Hearing.{heard}
+use Rattle.machine_facts.proofs.Hearing.{heard}
 use Rattle.bidi_browser.proofs.Spelling.{said}
 use Rattle.bidi_remote.specs.Machine.Step.{Step, Open, NotText}
 use Rattle.bidi_remote.specs.Machine.Sent as sent
-use Rattle.bidi_remote.proofs.Facts.Rows.{ask, ask_on, begun, machine_on_literals, open_session, success}
+use Rattle.machine_facts.proofs.Rows.{ask, ask_on, begun, machine_on_literals, open_session, success}
 
 -- two sessions: what the second asks for itself, what is refused, and a connection without a session
 abbrev pub two_sessions : List Step

@@ -11,10 +11,10 @@ use Rattle.bidi_messages.specs.declared.event.EventName.TheVariants.{EntryAdded}
 use Rattle.bidi_remote.specs.Machine.History.{Deed, Began, Opened, Subscribed, Cancelled, Did, All}
 use Rattle.bidi_remote.specs.Machine.Outcome.{turn}
 use Rattle.bidi_remote.specs.Machine.Sent.{Sent, told}
-use Rattle.bidi_remote.proofs.Facts.Hearing.{heard}
+use Rattle.machine_facts.proofs.Hearing.{heard}
 use Rattle.bidi_remote.specs.Machine.Step.{Step}
 use Rattle.bidi_remote.specs.Machine.Sent as sent
-use Rattle.bidi_remote.proofs.Facts.Rows.{ask, ask_on, frame, machine_on_literals, refusal, success, value}
+use Rattle.machine_facts.proofs.Rows.{ask, ask_on, frame, machine_on_literals, refusal, success, value}
 
 -- what is sent at a step after these deeds of session 1, the newest first
 abbrev pub after_deeds : List Deed → Step → List Sent

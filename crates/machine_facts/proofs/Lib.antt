@@ -1,4 +1,3 @@
--- The machine computed: what it sends for given steps, row by row.
 pub mod Hearing
 pub mod Rows
 pub mod SessionFacts
@@ -10,3 +9,4 @@ pub mod ScriptFacts
 pub mod TableFacts
 pub mod StrikeFacts
 pub mod LimitFacts
+pub mod LedgerFacts

@@ -1,7 +1,7 @@
 use Rattle.std.proofs.Common.{List, [], ◌∷◌, ◌++◌, sym, subst}
 use Rattle.std.specs.List.{AllByRecursion}
 use Rattle.bidi_link.specs.Steps.{AreWell, IsWell}
-use Rattle.tests.proofs.link.add.Goals as goal
+use Rattle.end_tests.proofs.link.add.Goals as goal
 
 -- what holds of all, and of one more
 all_more : {X : Type 0} (P : X → Type 0) (xs : List X) (x : X) → AllByRecursion P xs → P x → AllByRecursion P (xs ++ x ∷ [])

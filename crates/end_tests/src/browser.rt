@@ -1,9 +1,9 @@
 //! Ids and their texts, and what a browser says and tells as it starts.
-use crate::rows::{Asked, check_rows};
 use bidi_browser::{Browser, Kind, Occurrence, id_text, is_id};
 use bidi_messages::{EventData, EventName, Subject, event_text};
 use std::alloc::{AllocError, Global};
 use std::test::Fail;
+use testing::rows::{Asked, check_rows};
 
 struct Browsers;
 
@@ -46,7 +46,7 @@ is-handle-1001  -> false
 
 #[test]
 fn each_kind_has_ids_of_its_own_and_an_id_is_its_exact_text(rt: HostRuntime) -> Result<(), Fail> {
-    check_rows::<Browsers>(&rt, rt.alloc(), IDS)
+    check_rows::<Browsers>(rt.alloc(), IDS)
 }
 
 fn kind_of(word: &str) -> Option<Kind> {
@@ -94,7 +94,7 @@ the context before its realm | events  -> [1 1 {"method":"browsingContext.contex
 
 #[test]
 fn one_context_is_alive_and_told_with_its_realm(rt: HostRuntime) -> Result<(), Fail> {
-    check_rows::<Browsers>(&rt, rt.alloc(), START)
+    check_rows::<Browsers>(rt.alloc(), START)
 }
 
 fn live(alloc: Global, text: &str) -> Result<String, Fail> {

@@ -4,7 +4,7 @@ use Rattle.bidi_browser.specs.Contexts.{up_to}
 use Rattle.bidi_browser.proofs.Spelling.{said}
 use Rattle.bidi_remote.specs.Machine.Step.{Step, At, Text}
 use Rattle.bidi_remote.specs.Machine.Sent as sent
-use Rattle.bidi_remote.proofs.Facts.Rows.{after, ask, begun, event, frame, machine_on_literals, refusal, success}
+use Rattle.machine_facts.proofs.Rows.{after, ask, begun, event, frame, machine_on_literals, refusal, success}
 
 -- ---- the events of a navigation
 

@@ -4,7 +4,7 @@ use Rattle.bidi_browser.proofs.Spelling.{said}
 use Rattle.bidi_values.specs.declared.log_entry.Level.TheVariants.{Info, Warn}
 use Rattle.bidi_remote.specs.Machine.Step.{Open, Drop}
 use Rattle.bidi_remote.specs.Machine.Sent as sent
-use Rattle.bidi_remote.proofs.Facts.Rows.{after, ask, ask_on, begun, event, frame, log, machine_on_literals, new_session, open_session, refusal, success}
+use Rattle.machine_facts.proofs.Rows.{after, ask, ask_on, begun, event, frame, log, machine_on_literals, new_session, open_session, refusal, success}
 
 -- ---- what a subscription is told at once
 

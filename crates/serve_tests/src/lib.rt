@@ -1,0 +1,5 @@
+//! The tests of serving, over loopback.
+#![tactic(auto)]
+
+#[cfg(test)]
+mod serving;
