@@ -1,5 +1,6 @@
 //! Times of reading and writing a text, beside those of `serde_json` alone.
 use anyhow::Result;
+use json::Scratch;
 use serde_json::Value;
 use std::alloc::Global;
 use std::rt::Clock;
@@ -10,11 +11,11 @@ const PARTS: u32 = 10;
 
 /// What a text is read as.
 pub trait Subject {
-    /// Reads the text.
-    fn read(alloc: Global, text: &str) -> Result<()>;
+    /// Reads the text, in a scratch that is kept.
+    fn read(alloc: Global, text: &str, scratch: &mut Scratch) -> Result<()>;
 
     /// Reads the text and writes it again, and gives the bytes written.
-    fn read_and_write(alloc: Global, text: &str) -> Result<usize>;
+    fn read_and_write(alloc: Global, text: &str, scratch: &mut Scratch) -> Result<usize>;
 }
 
 /// What is done with a text.
@@ -35,14 +36,14 @@ struct Measure {
 }
 
 /// Does the task once, and gives the bytes written, or 1 where nothing is written.
-fn once<S: Subject>(alloc: Global, task: Task, text: &str) -> Result<usize> {
+fn once<S: Subject>(alloc: Global, task: Task, text: &str, scratch: &mut Scratch) -> Result<usize> {
     match task {
         Task::Parse => {
             let _value = Value::from_str(alloc, text)?;
             Ok(1)
         }
         Task::Read => {
-            S::read(alloc, text)?;
+            S::read(alloc, text, scratch)?;
             Ok(1)
         }
         Task::ParseAndPrint => {
@@ -50,7 +51,7 @@ fn once<S: Subject>(alloc: Global, task: Task, text: &str) -> Result<usize> {
             let printed = value.to_string(alloc)?;
             Ok(printed.len())
         }
-        Task::ReadAndWrite => S::read_and_write(alloc, text),
+        Task::ReadAndWrite => S::read_and_write(alloc, text, scratch),
     }
 }
 
@@ -68,11 +69,12 @@ impl Measure {
         &mut self,
         rt: &R,
         text: &str,
+        scratch: &mut Scratch,
         rounds: u32,
     ) -> Result<()> {
         let start = Instant::now(rt)?;
         for _ in 0..rounds {
-            let count = once::<S>(rt.alloc(), self.task, text)?;
+            let count = once::<S>(rt.alloc(), self.task, text, scratch)?;
             self.sum = self.sum.saturating_add(count as u64);
         }
         self.shortest = self.shortest.min(start.elapsed(rt)?);
@@ -102,16 +104,17 @@ pub fn measure_text<S: Subject, R: Clock + Print + Eprint + AllocGlobal>(
     let mut reading = Measure::new(Task::Read);
     let mut print = Measure::new(Task::ParseAndPrint);
     let mut writing = Measure::new(Task::ReadAndWrite);
+    let mut scratch = Scratch::new(rt.alloc());
     let mut done = 0u32;
     for _ in 0..PARTS {
         if done >= rounds {
             break;
         }
         done = done.saturating_add(part);
-        parse.part::<S, R>(rt, text, part)?;
-        reading.part::<S, R>(rt, text, part)?;
-        print.part::<S, R>(rt, text, part)?;
-        writing.part::<S, R>(rt, text, part)?;
+        parse.part::<S, R>(rt, text, &mut scratch, part)?;
+        reading.part::<S, R>(rt, text, &mut scratch, part)?;
+        print.part::<S, R>(rt, text, &mut scratch, part)?;
+        writing.part::<S, R>(rt, text, &mut scratch, part)?;
     }
     let bytes = text.len();
     let (parsed, read, printed, written) = (parse.sum, reading.sum, print.sum, writing.sum);

@@ -2,7 +2,8 @@
 use crate::measure::{Subject, measure_text};
 use crate::texts;
 use anyhow::{Result, bail};
-use bidi_messages::{Sent, Verdict, judge, read_message, text_of};
+use bidi_messages::{Sent, Verdict, judge_with, read_message_with, text_of};
+use json::Scratch;
 use std::alloc::Global;
 use std::rt::Clock;
 
@@ -10,13 +11,13 @@ use std::rt::Clock;
 struct Commands;
 
 impl Subject for Commands {
-    fn read(alloc: Global, text: &str) -> Result<()> {
-        let _verdict = judge(alloc, text)?;
+    fn read(alloc: Global, text: &str, scratch: &mut Scratch) -> Result<()> {
+        let _verdict = judge_with(alloc, text, scratch)?;
         Ok(())
     }
 
-    fn read_and_write(alloc: Global, text: &str) -> Result<usize> {
-        match judge(alloc, text)? {
+    fn read_and_write(alloc: Global, text: &str, scratch: &mut Scratch) -> Result<usize> {
+        match judge_with(alloc, text, scratch)? {
             Verdict::Accepted(command) => length(alloc, command),
             Verdict::Refused { .. } => bail!("the text is no command"),
         }
@@ -27,13 +28,13 @@ impl Subject for Commands {
 struct Messages;
 
 impl Subject for Messages {
-    fn read(alloc: Global, text: &str) -> Result<()> {
-        let _message = read_message(alloc, text)?;
+    fn read(alloc: Global, text: &str, scratch: &mut Scratch) -> Result<()> {
+        let _message = read_message_with(alloc, text, scratch)?;
         Ok(())
     }
 
-    fn read_and_write(alloc: Global, text: &str) -> Result<usize> {
-        let message = read_message(alloc, text)?;
+    fn read_and_write(alloc: Global, text: &str, scratch: &mut Scratch) -> Result<usize> {
+        let message = read_message_with(alloc, text, scratch)?;
         length(alloc, message)
     }
 }

@@ -3,6 +3,7 @@ use crate::measure::{Subject, measure_text};
 use crate::texts;
 use anyhow::{Result, bail};
 use bidi_tree::{read, write};
+use json::Scratch;
 use std::alloc::Global;
 use std::rt::Clock;
 
@@ -12,12 +13,12 @@ const LONG: u32 = 10_000;
 struct Trees;
 
 impl Subject for Trees {
-    fn read(alloc: Global, text: &str) -> Result<()> {
+    fn read(alloc: Global, text: &str, _scratch: &mut Scratch) -> Result<()> {
         let _tree = read(alloc, text, None)?;
         Ok(())
     }
 
-    fn read_and_write(alloc: Global, text: &str) -> Result<usize> {
+    fn read_and_write(alloc: Global, text: &str, _scratch: &mut Scratch) -> Result<usize> {
         let tree = read(alloc, text, None)?;
         if !tree.is_writable() {
             bail!("the text has an odd number");

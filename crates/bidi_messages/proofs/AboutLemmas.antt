@@ -1,5 +1,5 @@
 -- What a reader of maps that say what they are about has found, and what it has not.
-use Rattle.std.proofs.Common.{◌≡◌, ◌∙◌, ℕ, List, [], ◌∷◌, codes, true, Option, Some, None, refl, sym, ap, subst}
+use Rattle.std.proofs.Common.{◌≡◌, ℕ, List, codes, true, Option, Some, None, refl, sym, ap, subst}
 use Rattle.bidi_tree.specs.Node as tree
 use Rattle.bidi_tree.specs.Node.{Node, Members, get_member, AreAscending}
 use Rattle.bidi_shape.specs.Term.{Term, required, Openness, extensible, exactly, map_of, Rows, no_more, row}

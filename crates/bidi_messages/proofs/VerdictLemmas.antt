@@ -1,5 +1,5 @@
 -- A text has one verdict, and the text of a well command is accepted as that command.
-use Rattle.std.proofs.Common.{◌≡◌, ◌∙◌, ℕ, List, Option, Some, None, option_map, refl, sym, ap, subst}
+use Rattle.std.proofs.Common.{◌≡◌, ◌∙◌, ℕ, List, Some, None, refl, sym, ap, subst}
 use Rattle.bidi_tree.specs.Node.{Node}
 use Rattle.bidi_shape.specs.Name.{command}
 use Rattle.bidi_shape.specs.Term.{rule}

@@ -1,12 +1,11 @@
 -- Maps that say what they are about, as commands and events: `{ NAME: X, method: "M", params: P, Extensible }`,
 -- one alternative for each of some rows (M, P).
-use Rattle.std.proofs.Common.{◌≡◌, ◌≤◌, ℕ, suc, max, List, [], ◌∷◌, codes, Bool, true, false, Option, Some, None, if◌then◌else◌, refl, zero-le, sym, ap, ◌∙◌, subst, bytes_eq, arith}
+use Rattle.std.proofs.Common.{◌≡◌, ℕ, suc, max, List, [], ◌∷◌, codes, Bool, true, false, Option, Some, None, if◌then◌else◌, refl, zero-le, sym, subst, bytes_eq, arith}
 use Rattle.bidi_tree.specs.Node as tree
 use Rattle.bidi_tree.specs.Node.{Node, Members, put, IsWhole}
-use Rattle.bidi_shape.specs.Term.{Term, required, extensible, exactly, map_of, either, Rows, no_more, row, names_of}
+use Rattle.bidi_shape.specs.Term.{Term, required, extensible, exactly, map_of, either, Rows, no_more, row}
 use Rattle.bidi_shape.specs.Fits.{Fits, fits_exactly, fits_first, fits_second}
 use Rattle.bidi_shape.specs.Parts.{distinct}
-use Rattle.bidi_shape.specs.KindLaws.{text_one}
 use Rattle.bidi_shape.specs.Value.{ShapeOf}
 use Rattle.bidi_shape.specs.ValueLaws.{others_of}
 use Rattle.bidi_shape.specs.WholeLaws.{whole_within, map_whole}

@@ -1,5 +1,5 @@
 -- What a message is about: a value of one of several kinds, each with a rule of its own.
-use Rattle.std.proofs.Common.{◌≡◌, ◌≤◌, ℕ, nat_le, true, subst, arith}
+use Rattle.std.proofs.Common.{◌≡◌, ℕ, nat_le, true, subst}
 use Rattle.std.proofs.lemmas.Bool.{leb-true}
 use Rattle.bidi_tree.specs.Node.{Node, IsWhole}
 use Rattle.bidi_shape.specs.Name.{Name}

@@ -13,7 +13,7 @@ use bidi_params::{
     GetTreeParameters, NavigateParameters, NewParameters, ReloadParameters, SubscribeParameters,
     TraverseHistoryParameters, UnsubscribeParameters,
 };
-use bidi_shape::{Ext, Ruled, Shape, ShapeFault};
+use bidi_shape::{Ext, Parsed, Ruled, Shape, ShapeFault};
 use bidi_tree::{JsUint, Tree};
 use bidi_values::{CallFunctionParameters, DisownParameters, EvaluateParameters};
 use std::alloc::{AllocError, Global};
@@ -81,7 +81,7 @@ impl Subject<Method> for CommandData {
         }
     }
 
-    fn read(alloc: Global, kind: Method, tree: &Tree) -> Result<CommandData, ShapeFault> {
+    fn read<S: Parsed>(alloc: Global, kind: Method, tree: &S) -> Result<CommandData, ShapeFault> {
         match kind {
             Method::SessionStatus => Ok(CommandData::SessionStatus(EmptyParams::from_tree(
                 alloc, tree,
@@ -192,8 +192,8 @@ impl Shape for Command {
 
     ghost shape = { about_shape (codes "id") ⟦<JsUint as Shape>⟧.shape ⟦<Method as bidi_shape::Named>⟧.words ⟦<CommandData as Subject<Method>>⟧.subject ⟦<Command as Ruled>⟧.rule (λ c. (c.id, (c.«data», c.ext))) refl refl };
 
-    fn from_tree(alloc: Global, tree: &Tree) -> Result<Command, ShapeFault> {
-        let about = read_about::<Command, JsUint, Method, CommandData>(alloc, tree, "id")?;
+    fn from_tree<S: Parsed>(alloc: Global, tree: &S) -> Result<Command, ShapeFault> {
+        let about = read_about::<Command, JsUint, Method, CommandData, S>(alloc, tree, "id")?;
         Ok(Command {
             id: about.head,
             data: about.subject,

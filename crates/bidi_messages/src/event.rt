@@ -4,7 +4,7 @@ ghost use Rattle.bidi_tree.specs.View.{node};
 
 use crate::subject::{Subject, read_about, write_about};
 use bidi_params::{Info, NavigationInfo, RealmDestroyedParameters, RealmInfo};
-use bidi_shape::{Ext, Named, Ruled, Shape, ShapeFault};
+use bidi_shape::{Ext, Named, Parsed, Ruled, Shape, ShapeFault};
 use bidi_tree::Tree;
 use bidi_values::LogEntry;
 use std::alloc::{AllocError, Global};
@@ -127,7 +127,7 @@ impl Subject<EventName> for EventData {
         }
     }
 
-    fn read(alloc: Global, kind: EventName, tree: &Tree) -> Result<EventData, ShapeFault> {
+    fn read<S: Parsed>(alloc: Global, kind: EventName, tree: &S) -> Result<EventData, ShapeFault> {
         match kind {
             EventName::ContextCreated => Ok(EventData::ContextCreated(Info::from_tree(
                 alloc, tree,
@@ -199,8 +199,8 @@ impl Shape for Event {
 
     ghost shape = { about_shape (codes "type") ⟦<EventType as Shape>⟧.shape ⟦<EventName as Named>⟧.words ⟦<EventData as Subject<EventName>>⟧.subject ⟦<Event as Ruled>⟧.rule (λ e. (event_type, (e.«data», e.ext))) refl refl };
 
-    fn from_tree(alloc: Global, tree: &Tree) -> Result<Event, ShapeFault> {
-        let about = read_about::<Event, EventType, EventName, EventData>(alloc, tree, "type")?;
+    fn from_tree<S: Parsed>(alloc: Global, tree: &S) -> Result<Event, ShapeFault> {
+        let about = read_about::<Event, EventType, EventName, EventData, S>(alloc, tree, "type")?;
         Ok(Event {
             data: about.subject,
             ext: about.ext,

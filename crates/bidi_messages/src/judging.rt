@@ -1,7 +1,7 @@
 //! How a text is judged.
 ghost use Rattle.std.specs.Prelude.{◌≡◌, IfOk, option_map};
 ghost use Rattle.bidi_tree.specs.Kind.{text_in};
-ghost use Rattle.bidi_tree.specs.View.{node};
+ghost use Rattle.bidi_tree.specs.Json.{parsed};
 ghost use Rattle.bidi_messages.specs.Verdict as judged;
 ghost use Rattle.bidi_messages.specs.View.{verdict_of, IsWell, AcceptsAs};
 ghost use Rattle.bidi_messages.specs.declared.command.Command.{Command};
@@ -9,8 +9,9 @@ ghost use Rattle.bidi_messages.specs.declared.command.Command.{Command};
 use crate::command::Command;
 use crate::error_code::ErrorCode;
 use crate::method::Method;
-use bidi_shape::{Named, Shape, ShapeFault};
-use bidi_tree::{JsUint, ReadFault, Tree, read};
+use bidi_shape::{Named, Parsed, Shape, ShapeFault};
+use bidi_tree::{JsUint, ReadFault, parse};
+use json::{Scratch, Value};
 use std::alloc::{AllocError, Global};
 
 /// The most bytes of a command text.
@@ -40,7 +41,28 @@ pub fn judge(alloc: Global, text: &str) -> Result<Verdict, AllocError>
     // The text of a well command is accepted as that command.
     ensures again { (c : Command) → IfOk result (AcceptsAs ⟦<Command as Shape>⟧.shape text.now c) }
 {
-    let Some(tree) = command_tree(alloc, text)? else {
+    let mut scratch = Scratch::new(alloc);
+    judge_with(alloc, text, &mut scratch)
+}
+
+/// Judges a text as [`judge`] does, in a scratch that the caller keeps from text to text.
+///
+/// The text is read in one walk, and the command of what was read, with no tree between.
+///
+/// # Errors
+/// No memory: an allocation failed.
+pub fn judge_with<'a>(
+    alloc: Global,
+    text: &'a str,
+    scratch: &'a mut Scratch,
+) -> Result<Verdict, AllocError>
+    ensures verdict { IfOk result (λ v. judged.IsVerdict text.now (verdict_of ⟦<Command as Shape>⟧.shape v)) }
+    ensures no_other { IfOk result (λ v. (w : judged.Verdict) → judged.IsVerdict text.now w → w ≡ verdict_of ⟦<Command as Shape>⟧.shape v) }
+    ensures well { IfOk result (IsWell ⟦<Command as Shape>⟧.shape) }
+    // The text of a well command is accepted as that command.
+    ensures again { (c : Command) → IfOk result (AcceptsAs ⟦<Command as Shape>⟧.shape text.now c) }
+{
+    let Some(tree) = command_tree(alloc, text, scratch)? else {
         return Ok(Verdict::Refused {
             id: None,
             code: ErrorCode::InvalidArgument,
@@ -56,12 +78,16 @@ pub fn judge(alloc: Global, text: &str) -> Result<Verdict, AllocError>
     }
 }
 
-/// The tree of a command text, if it has one.
-fn command_tree(alloc: Global, text: &str) -> Result<Option<Tree>, AllocError>
-    ensures { IfOk result (λ o. option_map node o ≡ judged.command_tree text.now) }
+/// What a command text is read as, if it has a tree.
+fn command_tree<'a>(
+    alloc: Global,
+    text: &'a str,
+    scratch: &'a mut Scratch,
+) -> Result<Option<Value<'a>>, AllocError>
+    ensures { IfOk result (λ o. option_map parsed o ≡ judged.command_tree text.now) }
 {
-    match read(alloc, text, Some(MAX_COMMAND_BYTES)) {
-        Ok(tree) => Ok(Some(tree)),
+    match parse(alloc, text, Some(MAX_COMMAND_BYTES), scratch) {
+        Ok(value) => Ok(Some(value)),
         Err(ReadFault::NotJson) => Ok(None),
         Err(ReadFault::TooLong) => Ok(None),
         Err(ReadFault::NoMemory) => Err(AllocError),
@@ -69,17 +95,17 @@ fn command_tree(alloc: Global, text: &str) -> Result<Option<Tree>, AllocError>
 }
 
 /// The id that the refusal of a tree echoes.
-fn echoed_id(tree: &Tree) -> Option<JsUint>
-    ensures { option_map (λ n. n.value) result ≡ judged.echoed_id (node tree.now) }
+fn echoed_id<S: Parsed>(tree: &S) -> Option<JsUint>
+    ensures { option_map (λ n. n.value) result ≡ judged.echoed_id (S.tree tree.now) }
 {
-    match tree.get("id") {
+    match tree.member("id") {
         Some(id) => js_uint_in(id),
         None => None,
     }
 }
 
-fn js_uint_in(tree: &Tree) -> Option<JsUint>
-    ensures { option_map (λ n. n.value) result ≡ judged.js_uint_in (node tree.now) }
+fn js_uint_in<S: Parsed>(tree: &S) -> Option<JsUint>
+    ensures { option_map (λ n. n.value) result ≡ judged.js_uint_in (S.tree tree.now) }
 {
     match tree.as_int() {
         Some(n) if n.value >= 0 => JsUint::new(n.value as u64),
@@ -88,20 +114,20 @@ fn js_uint_in(tree: &Tree) -> Option<JsUint>
 }
 
 /// The code of a tree that fits no command.
-fn refusal_code(tree: &Tree) -> ErrorCode
-    ensures { result ≡ judged.refusal_code (node tree.now) }
+fn refusal_code<S: Parsed>(tree: &S) -> ErrorCode
+    ensures { result ≡ judged.refusal_code (S.tree tree.now) }
 {
-    match tree.get("method") {
+    match tree.member("method") {
         Some(method) => code_for_method(method),
         None => ErrorCode::InvalidArgument,
     }
 }
 
-fn code_for_method(method: &Tree) -> ErrorCode
-    ensures { result ≡ judged.code_for_method (text_in (node method.now)) }
+fn code_for_method<S: Parsed>(method: &S) -> ErrorCode
+    ensures { result ≡ judged.code_for_method (text_in (S.tree method.now)) }
 {
-    match method.as_text() {
-        Some(name) if Method::named(name.as_str()).is_none() => ErrorCode::UnknownCommand,
+    match method.as_str() {
+        Some(name) if Method::named(name).is_none() => ErrorCode::UnknownCommand,
         _ => ErrorCode::InvalidArgument,
     }
 }

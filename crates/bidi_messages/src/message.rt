@@ -2,8 +2,8 @@
 use crate::error_code::ErrorCode;
 use crate::event::Event;
 use bidi_shape::{
-    Either, Ext, Fields, Literal, Optional, Required, Ruled, Shape, ShapeFault, add_literal,
-    add_member, add_optional, read_choice, read_fields,
+    Either, Ext, Fields, Literal, Optional, Parsed, Required, Ruled, Shape, ShapeFault,
+    add_literal, add_member, add_optional, read_choice, read_fields,
 };
 use bidi_tree::{JsUint, Tree};
 use std::alloc::{AllocError, Global};
@@ -37,13 +37,12 @@ impl Shape for Response {
 
     ghost shape = { map_shape ⟦<Response as Ruled>⟧.rule ⟦<ResponseParts as Fields>⟧.table (codes "success" ∷ []) (λ v. record { 0 = (v.id, (v.«result», v.ext)) }) refl refl };
 
-    fn from_tree(alloc: Global, tree: &Tree) -> Result<Response, ShapeFault> {
-        let Literal(Required(id, Required(result, ext))) = read_fields::<Response, ResponseParts>(
-            alloc,
-            tree,
-            &["type", "id", "result"],
-            &["success"],
-        )?;
+    fn from_tree<S: Parsed>(alloc: Global, tree: &S) -> Result<Response, ShapeFault> {
+        let Literal(Required(id, Required(result, ext))) = read_fields::<
+            Response,
+            ResponseParts,
+            S,
+        >(alloc, tree, &["type", "id", "result"], &["success"])?;
         Ok(Response { id, result, ext })
     }
 
@@ -87,9 +86,9 @@ impl Shape for ErrorResponse {
 
     ghost shape = { map_shape ⟦<ErrorResponse as Ruled>⟧.rule ⟦<ErrorParts as Fields>⟧.table (codes "error" ∷ []) (λ v. record { 0 = (v.id, (v.error, (v.message, (v.stacktrace, v.ext)))) }) refl refl };
 
-    fn from_tree(alloc: Global, tree: &Tree) -> Result<ErrorResponse, ShapeFault> {
+    fn from_tree<S: Parsed>(alloc: Global, tree: &S) -> Result<ErrorResponse, ShapeFault> {
         let Literal(Required(id, Required(error, Required(message, Optional(stacktrace, ext))))) =
-            read_fields::<ErrorResponse, ErrorParts>(
+            read_fields::<ErrorResponse, ErrorParts, S>(
                 alloc,
                 tree,
                 &["type", "id", "error", "message", "stacktrace"],
@@ -145,10 +144,10 @@ impl Shape for Message {
     ghost shape = { shape_through ⟦<Message as Ruled>⟧.rule ⟦<Alternatives as Shape>⟧.shape
         (λ v. elim v [ Response r ↦ First r | Error e ↦ Second (First e) | Event e ↦ Second (Second e) ]) refl };
 
-    fn from_tree(alloc: Global, tree: &Tree) -> Result<Message, ShapeFault> {
+    fn from_tree<S: Parsed>(alloc: Global, tree: &S) -> Result<Message, ShapeFault> {
         use Either::{First, Second};
 
-        match read_choice::<Message, Alternatives>(alloc, tree)? {
+        match read_choice::<Message, Alternatives, S>(alloc, tree)? {
             First(response) => Ok(Message::Response(response)),
             Second(First(error)) => Ok(Message::Error(error)),
             Second(Second(event)) => Ok(Message::Event(event)),

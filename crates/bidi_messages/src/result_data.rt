@@ -13,7 +13,7 @@ use bidi_params::{
     CreateResult, EmptyResult, GetRealmsResult, GetTreeResult, NavigateResult, NewResult,
     StatusResult, SubscribeResult,
 };
-use bidi_shape::{Shape, ShapeFault};
+use bidi_shape::{Parsed, Shape, ShapeFault};
 use bidi_tree::{Members, Tree, copy_members};
 use bidi_values::EvaluateResult;
 use std::alloc::{AllocError, Global};
@@ -68,7 +68,7 @@ impl Subject<Method> for ResultData {
         }
     }
 
-    fn read(alloc: Global, kind: Method, tree: &Tree) -> Result<ResultData, ShapeFault> {
+    fn read<S: Parsed>(alloc: Global, kind: Method, tree: &S) -> Result<ResultData, ShapeFault> {
         match kind {
             Method::SessionStatus => Ok(ResultData::SessionStatus(StatusResult::from_tree(
                 alloc, tree,

@@ -2,7 +2,8 @@
 ghost use Rattle.std.specs.Prelude.{◌≡◌, IfOk, OnOk, Some, codes, true};
 ghost use Rattle.bidi_tree.specs.Node as kind;
 ghost use Rattle.bidi_tree.specs.Node.{put, get_member};
-ghost use Rattle.bidi_tree.specs.View.{node, members_node};
+ghost use Rattle.bidi_tree.specs.Kind.{members_in};
+ghost use Rattle.bidi_tree.specs.View.{node};
 ghost use Rattle.bidi_shape.specs.Term.{required};
 ghost use Rattle.bidi_shape.specs.Fits.{Fits};
 ghost use Rattle.bidi_shape.specs.Parts.{PartFits, distinct};
@@ -12,10 +13,10 @@ ghost use Rattle.bidi_messages.specs.Subject.{SubjectOf};
 ghost use Rattle.bidi_messages.specs.About.{about_term, about_tree, AboutIsWell, names_about};
 
 use bidi_shape::{
-    Ext, Fields, Named, Required, Ruled, Shape, ShapeFault, add_literal, add_member, map_inside,
+    Ext, Fields, Named, Parsed, Required, Ruled, Shape, ShapeFault, add_literal, add_member,
     read_word,
 };
-use bidi_tree::{Members, Tree, find_member, put_member};
+use bidi_tree::{Tree, put_member};
 use std::alloc::{AllocError, Global};
 
 /// A value of one of several kinds, each with a rule of its own.
@@ -32,9 +33,9 @@ pub trait Subject<K: Drop>: Drop {
     /// # Errors
     /// - `NoFit`: the tree does not fit the kind's rule.
     /// - `NoMemory`: an allocation failed.
-    fn read(alloc: Global, kind: K, tree: &Tree) -> Result<Self, ShapeFault>
-        ensures ok { IfOk result (λ v. (subject.kind v ≡ kind) × (subject.tree_of v ≡ node tree.now) × subject.well v) }
-        ensures no_fit { IfNoFit result (Fits (node tree.now) (subject.rule kind) → ⊥) };
+    fn read<S: Parsed>(alloc: Global, kind: K, tree: &S) -> Result<Self, ShapeFault>
+        ensures ok { IfOk result (λ v. (subject.kind v ≡ kind) × (subject.tree_of v ≡ S.tree tree.now) × subject.well v) }
+        ensures no_fit { IfNoFit result (Fits (S.tree tree.now) (subject.rule kind) → ⊥) };
 
     /// Makes the tree of the value.
     ///
@@ -57,53 +58,53 @@ pub(crate) struct About<X: Drop, D: Drop> {
 /// # Errors
 /// - `NoFit`: the tree does not fit the rule.
 /// - `NoMemory`: an allocation failed.
-pub(crate) fn read_about<V: Ruled, X: Shape, K: Named, D: Subject<K>>(
+pub(crate) fn read_about<V: Ruled, X: Shape, K: Named, D: Subject<K>, S: Parsed>(
     alloc: Global,
-    tree: &Tree,
+    tree: &S,
     name: &str,
 ) -> Result<About<X, D>, ShapeFault>
     requires says { unfolded V.rule ≡ about_term name.now X.shape K.words D.subject }
     requires once { distinct (names_about name.now) ≡ true }
-    ensures ok { IfOk result (λ a. (about_tree name.now X.shape K.words D.subject a.head a.subject a.ext ≡ node tree.now)
+    ensures ok { IfOk result (λ a. (about_tree name.now X.shape K.words D.subject a.head a.subject a.ext ≡ S.tree tree.now)
         × AboutIsWell name.now X.shape K.words D.subject a.head a.subject a.ext) }
-    ensures no_fit { IfNoFit result (Fits (node tree.now) V.rule → ⊥) }
+    ensures no_fit { IfNoFit result (Fits (S.tree tree.now) V.rule → ⊥) }
 {
-    let members = map_inside(tree)?;
+    tree.check_map()?;
     let Required(head, ext) = Required::<X, Ext>::read(
         alloc,
-        members,
+        tree,
         &[name],
         &[],
         &[name, "method", "params"],
     )?;
-    let kind = word_at(members, "method")?;
-    let subject = content_at::<K, D>(alloc, members, "params", kind)?;
+    let kind = word_at(tree, "method")?;
+    let subject = content_at::<K, D, S>(alloc, tree, "params", kind)?;
     Ok(About { head, subject, ext })
 }
 
 /// The value whose text a member is.
-fn word_at<K: Named>(members: &Members, name: &str) -> Result<K, ShapeFault>
-    ensures ok { IfOk result (λ k. get_member name.now (members_node members.now.entries) ≡ Some (kind.text (K.words.text_of k))) }
-    ensures no_fit { IfNoFit result (PartFits required K.words.rule (get_member name.now (members_node members.now.entries)) → ⊥) }
+fn word_at<K: Named, S: Parsed>(map: &S, name: &str) -> Result<K, ShapeFault>
+    ensures ok { IfOk result (λ k. get_member name.now (members_in (S.tree map.now)) ≡ Some (kind.text (K.words.text_of k))) }
+    ensures no_fit { IfNoFit result (PartFits required K.words.rule (get_member name.now (members_in (S.tree map.now))) → ⊥) }
 {
-    match find_member(members, name) {
-        Some(tree) => read_word(tree),
+    match map.member(name) {
+        Some(value) => read_word(value),
         None => Err(ShapeFault::NoFit),
     }
 }
 
 /// The value of a kind that a member is.
-fn content_at<K: Drop, D: Subject<K>>(
+fn content_at<K: Drop, D: Subject<K>, S: Parsed>(
     alloc: Global,
-    members: &Members,
+    map: &S,
     name: &str,
     kind: K,
 ) -> Result<D, ShapeFault>
-    ensures ok { IfOk result (λ v. (D.subject.kind v ≡ kind) × (get_member name.now (members_node members.now.entries) ≡ Some (D.subject.tree_of v)) × D.subject.well v) }
-    ensures no_fit { IfNoFit result (PartFits required (D.subject.rule kind) (get_member name.now (members_node members.now.entries)) → ⊥) }
+    ensures ok { IfOk result (λ v. (D.subject.kind v ≡ kind) × (get_member name.now (members_in (S.tree map.now)) ≡ Some (D.subject.tree_of v)) × D.subject.well v) }
+    ensures no_fit { IfNoFit result (PartFits required (D.subject.rule kind) (get_member name.now (members_in (S.tree map.now))) → ⊥) }
 {
-    match find_member(members, name) {
-        Some(tree) => D::read(alloc, kind, tree),
+    match map.member(name) {
+        Some(value) => D::read(alloc, kind, value),
         None => Err(ShapeFault::NoFit),
     }
 }

@@ -1,14 +1,14 @@
 //! The texts of commands and messages, and the message of a text.
 ghost use Rattle.std.specs.Prelude.{◌≡◌, ℕ, Some, None, IfOk, IfErr, string_bytes};
-ghost use Rattle.bidi_tree.specs.View.{node};
 ghost use Rattle.bidi_tree.specs.Text.{tree_of, tree_of_text, compact_text};
 ghost use Rattle.bidi_messages.specs.Reading.{IsCause, IsMisfit, ReadsAs};
 
 use crate::command::Command;
 use crate::event::Event;
 use crate::message::{ErrorResponse, Message, Response};
-use bidi_shape::{Shape, ShapeFault};
-use bidi_tree::{ReadFault, Tree, read, write};
+use bidi_shape::{Parsed, Shape, ShapeFault};
+use bidi_tree::{ReadFault, parse, write};
+use json::Scratch;
 use std::alloc::{AllocError, Global};
 use thiserror::Error;
 
@@ -93,18 +93,38 @@ pub fn read_message(alloc: Global, text: &str) -> Result<Message, MessageFault>
     // The text of a well message reads as that message.
     ensures again { (m : Message) → ReadsAs ⟦<Message as Shape>⟧.shape text.now m result }
 {
-    match read(alloc, text, None) {
-        Ok(tree) => message_of(alloc, &tree),
+    let mut scratch = Scratch::new(alloc);
+    read_message_with(alloc, text, &mut scratch)
+}
+
+/// Reads a message as [`read_message`] does, in a scratch that the caller keeps from text to text.
+///
+/// The text is read in one walk, and the message of what was read, with no tree between.
+///
+/// # Errors
+/// As [`read_message`].
+pub fn read_message_with<'a>(
+    alloc: Global,
+    text: &'a str,
+    scratch: &'a mut Scratch,
+) -> Result<Message, MessageFault>
+    ensures ok { IfOk result (λ m. (tree_of_text None text.now ≡ Some (⟦<Message as Shape>⟧.shape.tree_of m)) × ⟦<Message as Shape>⟧.shape.well m) }
+    ensures err { IfErr result (λ e. IsCause e text.now) }
+    // The text of a well message reads as that message.
+    ensures again { (m : Message) → ReadsAs ⟦<Message as Shape>⟧.shape text.now m result }
+{
+    match parse(alloc, text, None, scratch) {
+        Ok(value) => message_of(alloc, &value),
         Err(ReadFault::NotJson) => Err(MessageFault::NotJson),
         Err(ReadFault::TooLong) => unreachable!(),
         Err(ReadFault::NoMemory) => Err(MessageFault::NoMemory),
     }
 }
 
-/// The message whose tree this is.
-fn message_of(alloc: Global, tree: &Tree) -> Result<Message, MessageFault>
-    ensures ok { IfOk result (λ m. (⟦<Message as Shape>⟧.shape.tree_of m ≡ node tree.now) × ⟦<Message as Shape>⟧.shape.well m) }
-    ensures err { IfErr result (λ e. IsMisfit e (node tree.now)) }
+/// The message of this tree.
+fn message_of<S: Parsed>(alloc: Global, tree: &S) -> Result<Message, MessageFault>
+    ensures ok { IfOk result (λ m. (⟦<Message as Shape>⟧.shape.tree_of m ≡ S.tree tree.now) × ⟦<Message as Shape>⟧.shape.well m) }
+    ensures err { IfErr result (λ e. IsMisfit e (S.tree tree.now)) }
 {
     match Message::from_tree(alloc, tree) {
         Ok(message) => Ok(message),

@@ -4,7 +4,7 @@ use Rattle.std.specs.List.{AllByRecursion}
 use Rattle.std.specs.declared.alloc.AllocError.{AllocError}
 use Rattle.bidi_tree.specs.Node as kind
 use Rattle.bidi_tree.specs.Node.{Node, Items, item, Members, get_member, put, levels, items_levels}
-use Rattle.bidi_tree.specs.View.{node, items_of, items_node}
+use Rattle.bidi_tree.specs.View.{node, items_of}
 use Rattle.bidi_tree.specs.declared.tree.Tree.{Tree, List as TreeList}
 use Rattle.bidi_tree.proofs.TreeLemmas.{node-List}
 use Rattle.bidi_tree.proofs.MemberLemmas.{get_member-put}
@@ -71,17 +71,17 @@ module _ (n : InfoOf Beside) where
   -- ---- readers
 
   -- the children that were found
-  pub found : (f : Beside) (t : Node) (p : Option (Bor (List Tree))) (items : Bor (List Tree)) → p ≡ Some items → info_map n.table f (children_node (option_map (λ x. items_node x.now) p)) ≡ t
-      → info_map n.table f (children_node (Some (items_node items.now))) ≡ t
-  found f t p items is e = ap (λ x. info_map n.table f (children_node (option_map (λ y. items_node y.now) x))) (sym is) ∙ e
+  pub found : {X : Type 0} (tree : X → Node) (f : Beside) (t : Node) (p : Option (Bor (List X))) (items : Bor (List X)) → p ≡ Some items → info_map n.table f (children_node (option_map (λ x. items_of (map tree x.now)) p)) ≡ t
+      → info_map n.table f (children_node (Some (items_of (map tree items.now)))) ≡ t
+  found tree f t p items is e = ap (λ x. info_map n.table f (children_node (option_map (λ y. items_of (map tree y.now)) x))) (sym is) ∙ e
 
   pub info_read : (i : Info) (f : Beside) (t : Node) → content i ≡ told f (children_content None) → info_map n.table f (children_node None) ≡ t → BesideIsWell n f
       → (tree_of_info n i ≡ t) × InfoIsWell n i
   info_read i f t made is w = (ap (info_tree n) made ∙ is, subst (PartsAreWell n) (sym made) (w, tt))
 
-  pub info_with_children : (i : Info) (f : Beside) (v : Vec Info Global) (items : List Tree) (t : Node) → content i ≡ told f (children_content (Some v)) → info_map n.table f (children_node (Some (items_node items))) ≡ t → BesideIsWell n f
-      → map (tree_of_info n) v.items ≡ map node items → AllByRecursion (InfoIsWell n) v.items → (tree_of_info n i ≡ t) × InfoIsWell n i
-  info_with_children i f v items t made is w e ws = (
+  pub info_with_children : {X : Type 0} (tree : X → Node) (i : Info) (f : Beside) (v : Vec Info Global) (items : List X) (t : Node) → content i ≡ told f (children_content (Some v)) → info_map n.table f (children_node (Some (items_of (map tree items)))) ≡ t → BesideIsWell n f
+      → map (tree_of_info n) v.items ≡ map tree items → AllByRecursion (InfoIsWell n) v.items → (tree_of_info n i ≡ t) × InfoIsWell n i
+  info_with_children tree i f v items t made is w e ws = (
     ap (info_tree n) made ∙ ap (λ x. info_map n.table f (kind.list x)) (infos_tree-of v.items ∙ ap items_of e) ∙ is,
     subst (PartsAreWell n) (sym made) (w, infos_well-of v.items ws),
   )

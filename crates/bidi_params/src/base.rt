@@ -1,5 +1,5 @@
 //! Maps with no member that has a meaning.
-use bidi_shape::{Ext, Fields, MakeFault, Ruled, Shape, ShapeFault, read_fields};
+use bidi_shape::{Ext, Fields, MakeFault, Parsed, Ruled, Shape, ShapeFault, read_fields};
 use bidi_tree::{Members, Tree};
 use std::alloc::{AllocError, Global};
 
@@ -57,8 +57,8 @@ impl Shape for EmptyParams {
 
     ghost shape = { map_shape ⟦<EmptyParams as Ruled>⟧.rule ⟦<Ext as Fields>⟧.table [] (λ v. v.ext) refl refl };
 
-    fn from_tree(alloc: Global, tree: &Tree) -> Result<EmptyParams, ShapeFault> {
-        let ext = read_fields::<EmptyParams, Ext>(alloc, tree, &[], &[])?;
+    fn from_tree<S: Parsed>(alloc: Global, tree: &S) -> Result<EmptyParams, ShapeFault> {
+        let ext = read_fields::<EmptyParams, Ext, S>(alloc, tree, &[], &[])?;
         Ok(EmptyParams { ext })
     }
 
@@ -121,8 +121,8 @@ impl Shape for EmptyResult {
 
     ghost shape = { map_shape ⟦<EmptyResult as Ruled>⟧.rule ⟦<Ext as Fields>⟧.table [] (λ v. v.ext) refl refl };
 
-    fn from_tree(alloc: Global, tree: &Tree) -> Result<EmptyResult, ShapeFault> {
-        let ext = read_fields::<EmptyResult, Ext>(alloc, tree, &[], &[])?;
+    fn from_tree<S: Parsed>(alloc: Global, tree: &S) -> Result<EmptyResult, ShapeFault> {
+        let ext = read_fields::<EmptyResult, Ext, S>(alloc, tree, &[], &[])?;
         Ok(EmptyResult { ext })
     }
 

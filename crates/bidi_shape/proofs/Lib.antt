@@ -2,3 +2,4 @@ pub mod FitsLemmas
 pub mod FitsTest
 pub mod ProfileFacts
 pub mod PartLemmas
+pub mod GatherLemmas

@@ -1,5 +1,5 @@
 -- Values or null, and values of one of two types: their trees, when they are well and the same, and their laws.
-use Rattle.std.proofs.Common.{◌≡◌, ◌≤◌, ℕ, max, Option, Some, None, refl, zero-le, sym, subst, arith}
+use Rattle.std.proofs.Common.{◌≡◌, max, Option, Some, None, refl, zero-le, sym, subst, arith}
 use Rattle.bidi_tree.specs.Node as tree
 use Rattle.bidi_tree.specs.Node.{Node, IsWhole}
 use Rattle.bidi_shape.specs.Term.{Term, null, either}

@@ -1,5 +1,5 @@
 -- What follows of a map or a list for what stands in it.
-use Rattle.std.proofs.Common.{◌≡◌, ◌≤◌, max, arith, Ordering, Less, Equal, Greater, nat_cmp, ℕ, List, Option, Some, refl, sym, ap, ◌∙◌, subst}
+use Rattle.std.proofs.Common.{◌≡◌, ◌≤◌, max, arith, Ordering, Less, Equal, Greater, nat_cmp, ℕ, List, Some, sym, subst}
 use Rattle.std.specs.Cmp.Lexicographic.{slice_cmp}
 use Rattle.std.specs.Ordering.{match_ordering}
 use Rattle.bidi_tree.specs.Node as node

@@ -5,8 +5,7 @@ use Rattle.std.specs.List.{AllByRecursion}
 use Rattle.bidi_tree.specs.Node as tree
 use Rattle.bidi_tree.specs.Node.{Node, Items, no_items, item}
 use Rattle.bidi_tree.specs.Kind.{list_in}
-use Rattle.bidi_tree.specs.View.{node, items_of, items_node}
-use Rattle.bidi_tree.specs.declared.tree.Tree.{Tree}
+use Rattle.bidi_tree.specs.View.{items_of}
 use Rattle.bidi_shape.specs.Term.{Term, list_of, pair_of}
 use Rattle.bidi_shape.specs.Fits.{Fits, AllFit, no_item, an_item, fits_list, fits_pair, count}
 
@@ -68,16 +67,26 @@ second_same t u x y e = cc
 -- ---- for readers
 
 -- a tree that fits a pair is a list of two
-pub pair_fitting : {t : Node} {σ τ : Term} → Fits t (pair_of σ τ) → (u : Node) × (v : Node) × (list_in t ≡ Some (item u (item v no_items)))
-pair_fitting (fits_pair t u σ τ f g) = (t, u, refl)
+pub pair_fitting : {t : Node} {σ τ : Term} → Fits t (pair_of σ τ) → (u : Node) × (v : Node) × (list_in t ≡ Some (item u (item v no_items))) × Fits u σ × Fits v τ
+pair_fitting (fits_pair t u σ τ f g) = (t, u, refl, f, g)
 
-pub two_items : (ts : List Tree) (u v : Node) → items_node ts ≡ item u (item v no_items) → length ts ≡ 2
-two_items [] u v e = cc
-two_items (a ∷ []) u v e = cc
-two_items (a ∷ b ∷ []) u v e = refl
-two_items (a ∷ b ∷ c ∷ ts) u v e = cc
+pub two_items : {X : Type 0} (tree_of : X → Node) (xs : List X) (u v : Node) → items_of (map tree_of xs) ≡ item u (item v no_items) → length xs ≡ 2
+two_items tree_of [] u v e = cc
+two_items tree_of (a ∷ []) u v e = cc
+two_items tree_of (a ∷ b ∷ []) u v e = refl
+two_items tree_of (a ∷ b ∷ c ∷ xs) u v e = cc
 
-pub AllFit-at : (τ : Term) (ts : List Tree) (i : ℕ) (d : Tree) → i < length ts → AllFit (items_node ts) τ → Fits (node (get_or ts i d)) τ
-AllFit-at τ [] i d h a = absurd (omega arith)
-AllFit-at τ (t ∷ ts) zero d h (an_item n m σ f a) = f
-AllFit-at τ (t ∷ ts) (suc i) d h (an_item n m σ f a) = AllFit-at τ ts i d (omega arith) a
+-- a pair's items are the first and the second
+pub pair_at : {X : Type 0} (tree_of : X → Node) (xs : List X) (u v : Node) (d : X) → items_of (map tree_of xs) ≡ item u (item v no_items) → (tree_of (get_or xs 0 d) ≡ u) × (tree_of (get_or xs 1 d) ≡ v)
+pair_at tree_of [] u v d e = cc
+pair_at tree_of (a ∷ []) u v d e = cc
+pair_at tree_of (a ∷ b ∷ []) u v d e =
+    let first : tree_of a ≡ u = cc in
+    let second : tree_of b ≡ v = cc in
+    (first, second)
+pair_at tree_of (a ∷ b ∷ c ∷ xs) u v d e = cc
+
+pub AllFit-at : {X : Type 0} (tree_of : X → Node) (τ : Term) (xs : List X) (i : ℕ) (d : X) → i < length xs → AllFit (items_of (map tree_of xs)) τ → Fits (tree_of (get_or xs i d)) τ
+AllFit-at tree_of τ [] i d h a = absurd (omega arith)
+AllFit-at tree_of τ (x ∷ xs) zero d h (an_item n m σ f a) = f
+AllFit-at tree_of τ (x ∷ xs) (suc i) d h (an_item n m σ f a) = AllFit-at tree_of τ xs i d (omega arith) a

@@ -6,6 +6,7 @@ ghost use Rattle.bidi_shape.specs.Outcome.{IfNoFit};
 ghost use Rattle.bidi_shape.specs.Table.{unfolded};
 
 use crate::fault::ShapeFault;
+use crate::parsed::Parsed;
 use crate::shape::Shape;
 use crate::table::Ruled;
 use bidi_tree::Tree;
@@ -23,7 +24,7 @@ impl<A: Shape, B: Shape> Shape for Either<A, B> {
 
     ghost shape = { either_shape A.shape B.shape };
 
-    fn from_tree(alloc: Global, tree: &Tree) -> Result<Either<A, B>, ShapeFault> {
+    fn from_tree<S: Parsed>(alloc: Global, tree: &S) -> Result<Either<A, B>, ShapeFault> {
         match A::from_tree(alloc, tree) {
             Ok(value) => Ok(Either::First(value)),
             Err(ShapeFault::NoMemory) => Err(ShapeFault::NoMemory),
@@ -47,10 +48,10 @@ impl<A: Shape, B: Shape> Shape for Either<A, B> {
 /// # Errors
 /// - `NoFit`: the tree does not fit the rule.
 /// - `NoMemory`: an allocation failed.
-pub fn read_choice<V: Ruled, E: Shape>(alloc: Global, tree: &Tree) -> Result<E, ShapeFault>
+pub fn read_choice<V: Ruled, E: Shape, S: Parsed>(alloc: Global, tree: &S) -> Result<E, ShapeFault>
     requires says { unfolded V.rule ≡ E.shape.rule }
-    ensures ok { IfOk result (λ e. (E.shape.tree_of e ≡ node tree.now) × E.shape.well e) }
-    ensures no_fit { IfNoFit result (Fits (node tree.now) V.rule → ⊥) }
+    ensures ok { IfOk result (λ e. (E.shape.tree_of e ≡ S.tree tree.now) × E.shape.well e) }
+    ensures no_fit { IfNoFit result (Fits (S.tree tree.now) V.rule → ⊥) }
 {
     E::from_tree(alloc, tree)
 }
@@ -61,7 +62,7 @@ impl<X: Shape> Shape for Option<X> {
 
     ghost shape = { nullable_shape X.shape };
 
-    fn from_tree(alloc: Global, tree: &Tree) -> Result<Option<X>, ShapeFault> {
+    fn from_tree<S: Parsed>(alloc: Global, tree: &S) -> Result<Option<X>, ShapeFault> {
         match X::from_tree(alloc, tree) {
             Ok(value) => Ok(Some(value)),
             Err(ShapeFault::NoMemory) => Err(ShapeFault::NoMemory),

@@ -1,7 +1,7 @@
 //! The members of a map, as a list of types.
 ghost use Rattle.std.specs.Prelude.{◌≡◌, IfOk, OnOk};
 ghost use Rattle.bidi_tree.specs.Node.{AreAscending};
-ghost use Rattle.bidi_tree.specs.View.{members_node};
+ghost use Rattle.bidi_tree.specs.Kind.{members_in};
 ghost use Rattle.bidi_shape.specs.Fits.{RowsFit, OthersFit, without};
 ghost use Rattle.bidi_shape.specs.Parts.{PartsAt, texts_in};
 ghost use Rattle.bidi_shape.specs.Outcome.{IfNoFit};
@@ -9,9 +9,9 @@ ghost use Rattle.bidi_shape.specs.Table.{head, tail, Table};
 
 use crate::ext::Ext;
 use crate::fault::ShapeFault;
-use crate::members::{literal, no_others, optional, others, required};
+use crate::members::{literal, optional, required};
+use crate::parsed::Parsed;
 use crate::shape::Shape;
-use bidi_tree::Members;
 use std::alloc::Global;
 
 /// The members of a map, one after the other.
@@ -20,17 +20,17 @@ pub trait Fields: Drop {
     ghost table: { Table Self };
 
     /// Reads each member, and the others.
-    fn read<'a>(
+    fn read<'a, S: Parsed>(
         alloc: Global,
-        members: &Members,
+        map: &S,
         names: &'a [&'a str],
         texts: &'a [&'a str],
         known: &'a [&'a str],
     ) -> Result<Self, ShapeFault>
-        ensures sorted { OnOk result (AreAscending (members_node members.now.entries)) }
-        ensures ok { IfOk result (λ f. PartsAt (table.rows (texts_in names.now) (texts_in texts.now)) (table.parts (texts_in texts.now) f) (members_node members.now.entries) × table.well f) }
-        ensures rest { IfOk result (λ f. (table.others f ≡ without (texts_in known.now) (members_node members.now.entries)) × OthersFit table.openness (table.others f)) }
-        ensures no_fit { IfNoFit result (RowsFit (members_node members.now.entries) (table.rows (texts_in names.now) (texts_in texts.now)) → OthersFit table.openness (without (texts_in known.now) (members_node members.now.entries)) → ⊥) };
+        ensures sorted { OnOk result (AreAscending (members_in (S.tree map.now))) }
+        ensures ok { IfOk result (λ f. PartsAt (table.rows (texts_in names.now) (texts_in texts.now)) (table.parts (texts_in texts.now) f) (members_in (S.tree map.now)) × table.well f) }
+        ensures rest { IfOk result (λ f. (table.others f ≡ without (texts_in known.now) (members_in (S.tree map.now))) × OthersFit table.openness (table.others f)) }
+        ensures no_fit { IfNoFit result (RowsFit (members_in (S.tree map.now)) (table.rows (texts_in names.now) (texts_in texts.now)) → OthersFit table.openness (without (texts_in known.now) (members_in (S.tree map.now))) → ⊥) };
 }
 
 /// The first text of a list, and the texts after it.
@@ -53,16 +53,16 @@ impl<X: Shape, F: Fields> Fields for Required<X, F> {
 
     ghost table = { required_table X.shape F.table };
 
-    fn read<'a>(
+    fn read<'a, S: Parsed>(
         alloc: Global,
-        members: &Members,
+        map: &S,
         names: &'a [&'a str],
         texts: &'a [&'a str],
         known: &'a [&'a str],
     ) -> Result<Required<X, F>, ShapeFault> {
         let (name, names) = next_text(names);
-        let value = required(alloc, members, name)?;
-        let rest = F::read(alloc, members, names, texts, known)?;
+        let value = required(alloc, map, name)?;
+        let rest = F::read(alloc, map, names, texts, known)?;
         Ok(Required(value, rest))
     }
 }
@@ -76,16 +76,16 @@ impl<X: Shape, F: Fields> Fields for Optional<X, F> {
 
     ghost table = { optional_table X.shape F.table };
 
-    fn read<'a>(
+    fn read<'a, S: Parsed>(
         alloc: Global,
-        members: &Members,
+        map: &S,
         names: &'a [&'a str],
         texts: &'a [&'a str],
         known: &'a [&'a str],
     ) -> Result<Optional<X, F>, ShapeFault> {
         let (name, names) = next_text(names);
-        let value = optional(alloc, members, name)?;
-        let rest = F::read(alloc, members, names, texts, known)?;
+        let value = optional(alloc, map, name)?;
+        let rest = F::read(alloc, map, names, texts, known)?;
         Ok(Optional(value, rest))
     }
 }
@@ -99,17 +99,17 @@ impl<F: Fields> Fields for Literal<F> {
 
     ghost table = { literal_table F.table };
 
-    fn read<'a>(
+    fn read<'a, S: Parsed>(
         alloc: Global,
-        members: &Members,
+        map: &S,
         names: &'a [&'a str],
         texts: &'a [&'a str],
         known: &'a [&'a str],
     ) -> Result<Literal<F>, ShapeFault> {
         let (name, names) = next_text(names);
         let (text, texts) = next_text(texts);
-        literal(members, name, text)?;
-        let rest = F::read(alloc, members, names, texts, known)?;
+        literal(map, name, text)?;
+        let rest = F::read(alloc, map, names, texts, known)?;
         Ok(Literal(rest))
     }
 }
@@ -120,14 +120,14 @@ impl Fields for Ext {
 
     ghost table = { ext_table };
 
-    fn read<'a>(
+    fn read<'a, S: Parsed>(
         alloc: Global,
-        members: &Members,
+        map: &S,
         names: &'a [&'a str],
         texts: &'a [&'a str],
         known: &'a [&'a str],
     ) -> Result<Ext, ShapeFault> {
-        others(members, known)
+        map.others(alloc, known)
     }
 }
 
@@ -140,14 +140,14 @@ impl Fields for Closed {
 
     ghost table = { closed_table };
 
-    fn read<'a>(
+    fn read<'a, S: Parsed>(
         alloc: Global,
-        members: &Members,
+        map: &S,
         names: &'a [&'a str],
         texts: &'a [&'a str],
         known: &'a [&'a str],
     ) -> Result<Closed, ShapeFault> {
-        no_others(members, known)?;
+        map.no_others(known)?;
         Ok(Closed)
     }
 }

@@ -1,7 +1,8 @@
 //! The grammar of the messages: which trees fit which rule, and values that read and write such trees.
 //!
 //! `specs/Profile.antt` is the table of rules, `specs/Fits.antt` says which trees fit a term. A [`Shape`] is a
-//! type whose values are the trees that fit a rule: it reads exactly these, and writes them again. A map type
+//! type whose values are the trees that fit a rule: it reads exactly these, of a [`Tree`](bidi_tree::Tree)
+//! or of a JSON value that borrows its text ([`Parsed`]), and writes them again. A map type
 //! is a list of its members, as `Required<JsUint, Literal<Required<EmptyParams, Ext>>>`, from which
 //! [`read_fields`] reads the whole map.
 #![tactic(auto)]
@@ -15,6 +16,7 @@ mod lent;
 mod lists;
 mod making;
 mod members;
+mod parsed;
 mod scalars;
 mod shape;
 mod table;
@@ -29,7 +31,8 @@ pub use fields::{Closed, Fields, Literal, Optional, Required};
 pub use lent::{End, Exact, Lent, Maybe, One, Rest, write_fields};
 pub use lists::OneOrMore;
 pub use making::{MakeFault, further, not_shadowed};
-pub use members::{add_literal, add_member, add_optional, map_inside};
+pub use members::{add_literal, add_member, add_optional};
+pub use parsed::Parsed;
 pub use shape::Shape;
 pub use table::{Ruled, read_fields};
 pub use tagged::{Bare, Tag, Typed, tree_of_type, tree_of_typed};

@@ -2,7 +2,7 @@
 ghost use Rattle.std.proofs.Common.{zero-le};
 ghost use Rattle.std.specs.Prelude.{◌≡◌, ◌≤◌, IfOk, length, map, suc, max};
 ghost use Rattle.std.specs.List.{AllByRecursion};
-ghost use Rattle.bidi_tree.specs.View.{node, items_node};
+ghost use Rattle.bidi_tree.specs.View.{node, items_of};
 ghost use Rattle.bidi_shape.specs.Term.{list_of, pair_of};
 ghost use Rattle.bidi_shape.specs.Fits.{AllFit};
 ghost use Rattle.bidi_shape.specs.ListLaws.{list_tree, SameEach, list_fits, list_one, pair_tree, pair_fits, first_same, second_same};
@@ -10,14 +10,15 @@ ghost use Rattle.bidi_shape.specs.WholeLaws.{list_whole, pair_whole};
 ghost use Rattle.bidi_shape.specs.Outcome.{IfNoFit};
 
 use crate::fault::ShapeFault;
+use crate::parsed::Parsed;
 use crate::shape::Shape;
 use bidi_tree::Tree;
 use std::alloc::{AllocError, Global};
 
 /// The values of the items.
-fn read_items<X: Shape>(alloc: Global, items: &[Tree]) -> Result<Vec<X>, ShapeFault>
-    ensures ok { IfOk result (λ v. (map X.shape.tree_of v.items ≡ map node items.now) × AllByRecursion X.shape.well v.items) }
-    ensures no_fit { IfNoFit result (AllFit (items_node items.now) X.shape.rule → ⊥) }
+fn read_items<X: Shape, S: Parsed>(alloc: Global, items: &[S]) -> Result<Vec<X>, ShapeFault>
+    ensures ok { IfOk result (λ v. (map X.shape.tree_of v.items ≡ map S.tree items.now) × AllByRecursion X.shape.well v.items) }
+    ensures no_fit { IfNoFit result (AllFit (items_of (map S.tree items.now)) X.shape.rule → ⊥) }
 {
     let mut values = Vec::with_capacity(alloc, items.len())?;
     for item in items {
@@ -50,8 +51,8 @@ impl<X: Shape> Shape for Vec<X> {
       whole = λ v w. list_whole X.shape.tree_of X.shape.well X.shape.deepest X.shape.whole v.items w;
     } };
 
-    fn from_tree(alloc: Global, tree: &Tree) -> Result<Vec<X>, ShapeFault> {
-        match tree.as_list() {
+    fn from_tree<S: Parsed>(alloc: Global, tree: &S) -> Result<Vec<X>, ShapeFault> {
+        match tree.as_items() {
             Some(items) => read_items(alloc, items),
             None => Err(ShapeFault::NoFit),
         }
@@ -80,8 +81,8 @@ impl<X: Shape> Shape for OneOrMore<X> {
       whole = λ v w. list_whole X.shape.tree_of X.shape.well X.shape.deepest X.shape.whole v.items.items w.1;
     } };
 
-    fn from_tree(alloc: Global, tree: &Tree) -> Result<OneOrMore<X>, ShapeFault> {
-        match tree.as_list() {
+    fn from_tree<S: Parsed>(alloc: Global, tree: &S) -> Result<OneOrMore<X>, ShapeFault> {
+        match tree.as_items() {
             Some(items) if items.len() > 0 => {
                 let items = read_items(alloc, items)?;
                 Ok(OneOrMore { items })
@@ -108,8 +109,8 @@ impl<X: Shape, Y: Shape> Shape for (X, Y) {
       whole = λ v w. pair_whole (X.shape.tree_of v.0) (Y.shape.tree_of v.1) X.shape.deepest Y.shape.deepest (X.shape.whole v.0 w.0) (Y.shape.whole v.1 w.1);
     } };
 
-    fn from_tree(alloc: Global, tree: &Tree) -> Result<(X, Y), ShapeFault> {
-        match tree.as_list() {
+    fn from_tree<S: Parsed>(alloc: Global, tree: &S) -> Result<(X, Y), ShapeFault> {
+        match tree.as_items() {
             Some(items) if items.len() == 2 => {
                 let first = X::from_tree(alloc, &items[0])?;
                 let second = Y::from_tree(alloc, &items[1])?;

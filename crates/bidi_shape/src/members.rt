@@ -1,6 +1,7 @@
 //! The members of a map, one by one.
 ghost use Rattle.std.specs.Prelude.{◌≡◌, IfOk, OnOk, OnErr, IsTrue, ◌↔◌, option_map, Some, IfSome};
 ghost use Rattle.bidi_tree.specs.Node.{put, get_member, IsWhole, MembersAreWhole, AreAscending, no_members};
+ghost use Rattle.bidi_tree.specs.Kind.{members_in};
 ghost use Rattle.bidi_tree.specs.View.{node, members_node};
 ghost use Rattle.bidi_shape.specs.Term.{required, optional};
 ghost use Rattle.bidi_shape.specs.Fits.{without};
@@ -9,13 +10,14 @@ ghost use Rattle.bidi_shape.specs.Outcome.{IfNoFit};
 ghost use Rattle.std.specs.List.{list_any};
 ghost use Rattle.std.specs.Str.{bytes_eq};
 ghost use Rattle.bidi_tree.specs.Node as kind;
-ghost use Rattle.bidi_shape.specs.Term.{Rows, Openness, map_of, exactly};
+ghost use Rattle.bidi_shape.specs.Term.{exactly};
 ghost use Rattle.bidi_shape.specs.Fits.{Fits};
 
 use crate::ext::Ext;
 use crate::fault::ShapeFault;
+use crate::parsed::Parsed;
 use crate::shape::Shape;
-use bidi_tree::{Members, Tree, find_member, put_member};
+use bidi_tree::{Members, Tree, put_member};
 use std::alloc::{AllocError, Global};
 use std::default::Emptied;
 
@@ -23,31 +25,31 @@ use std::default::Emptied;
 pub(crate) const MAX_LEVELS: usize = 60;
 
 /// The value of a required member.
-pub(crate) fn required<X: Shape>(
+pub(crate) fn required<X: Shape, S: Parsed>(
     alloc: Global,
-    members: &Members,
+    map: &S,
     name: &str,
 ) -> Result<X, ShapeFault>
-    ensures ok { IfOk result (λ v. (get_member name.now (members_node members.now.entries) ≡ Some (X.shape.tree_of v)) × X.shape.well v) }
-    ensures no_fit { IfNoFit result (PartFits required X.shape.rule (get_member name.now (members_node members.now.entries)) → ⊥) }
+    ensures ok { IfOk result (λ v. (get_member name.now (members_in (S.tree map.now)) ≡ Some (X.shape.tree_of v)) × X.shape.well v) }
+    ensures no_fit { IfNoFit result (PartFits required X.shape.rule (get_member name.now (members_in (S.tree map.now))) → ⊥) }
 {
-    match find_member(members, name) {
-        Some(tree) => X::from_tree(alloc, tree),
+    match map.member(name) {
+        Some(value) => X::from_tree(alloc, value),
         None => Err(ShapeFault::NoFit),
     }
 }
 
 /// The value of an optional member, if it is there.
-pub(crate) fn optional<X: Shape>(
+pub(crate) fn optional<X: Shape, S: Parsed>(
     alloc: Global,
-    members: &Members,
+    map: &S,
     name: &str,
 ) -> Result<Option<X>, ShapeFault>
-    ensures ok { IfOk result (λ o. (get_member name.now (members_node members.now.entries) ≡ option_map X.shape.tree_of o) × IfSome o X.shape.well) }
-    ensures no_fit { IfNoFit result (PartFits optional X.shape.rule (get_member name.now (members_node members.now.entries)) → ⊥) }
+    ensures ok { IfOk result (λ o. (get_member name.now (members_in (S.tree map.now)) ≡ option_map X.shape.tree_of o) × IfSome o X.shape.well) }
+    ensures no_fit { IfNoFit result (PartFits optional X.shape.rule (get_member name.now (members_in (S.tree map.now))) → ⊥) }
 {
-    match find_member(members, name) {
-        Some(tree) => Ok(Some(X::from_tree(alloc, tree)?)),
+    match map.member(name) {
+        Some(value) => Ok(Some(X::from_tree(alloc, value)?)),
         None => Ok(None),
     }
 }
@@ -90,7 +92,7 @@ pub fn add_optional<X: Shape>(
     }
 }
 
-fn is_listed(names: &[&str], name: &str) -> bool
+pub(crate) fn is_listed(names: &[&str], name: &str) -> bool
     ensures { result ≡ list_any (bytes_eq name.now) (texts_in names.now) }
 {
     for known in names {
@@ -156,36 +158,25 @@ pub(crate) fn no_others(members: &Members, names: &[&str]) -> Result<(), ShapeFa
     Ok(())
 }
 
-/// The members of a map. Takes no memory.
-///
-/// # Errors
-/// `NoFit`: the tree is no map.
-pub fn map_inside(tree: &Tree) -> Result<&Members, ShapeFault>
-    ensures ok { IfOk result (λ m. kind.map (members_node m.now.entries) ≡ node tree.now) }
-    ensures no_fit { IfNoFit result ((rs : Rows) (o : Openness) → Fits (node tree.now) (map_of rs o) → ⊥) }
-{
-    tree.as_map().ok_or(ShapeFault::NoFit)
-}
-
 /// That a member is a given text.
-pub(crate) fn literal(members: &Members, name: &str, text: &str) -> Result<(), ShapeFault>
-    ensures ok { OnOk result (get_member name.now (members_node members.now.entries) ≡ Some (kind.text text.now)) }
-    ensures no_fit { IfNoFit result (PartFits required (exactly text.now) (get_member name.now (members_node members.now.entries)) → ⊥) }
+pub(crate) fn literal<S: Parsed>(map: &S, name: &str, text: &str) -> Result<(), ShapeFault>
+    ensures ok { OnOk result (get_member name.now (members_in (S.tree map.now)) ≡ Some (kind.text text.now)) }
+    ensures no_fit { IfNoFit result (PartFits required (exactly text.now) (get_member name.now (members_in (S.tree map.now))) → ⊥) }
 {
-    match find_member(members, name) {
-        Some(tree) => is_literal(tree, text),
+    match map.member(name) {
+        Some(value) => is_literal(value, text),
         None => Err(ShapeFault::NoFit),
     }
 }
 
 /// That a tree is a given text.
-fn is_literal(tree: &Tree, text: &str) -> Result<(), ShapeFault>
-    ensures ok { OnOk result (node tree.now ≡ kind.text text.now) }
-    ensures no_fit { IfNoFit result (Fits (node tree.now) (exactly text.now) → ⊥) }
+fn is_literal<S: Parsed>(value: &S, text: &str) -> Result<(), ShapeFault>
+    ensures ok { OnOk result (S.tree value.now ≡ kind.text text.now) }
+    ensures no_fit { IfNoFit result (Fits (S.tree value.now) (exactly text.now) → ⊥) }
 {
-    match tree.as_text() {
+    match value.as_str() {
         Some(found) => {
-            if found.as_str() == text {
+            if found == text {
                 Ok(())
             } else {
                 Err(ShapeFault::NoFit)

@@ -1,5 +1,6 @@
 //! Numbers, texts and truth values as shapes.
 use crate::fault::ShapeFault;
+use crate::parsed::Parsed;
 use crate::shape::Shape;
 use bidi_tree::{JsInt, JsUint, Tree};
 use std::alloc::{AllocError, Global};
@@ -9,10 +10,10 @@ impl Shape for String {
 
     ghost shape = { string_shape };
 
-    fn from_tree(alloc: Global, tree: &Tree) -> Result<String, ShapeFault> {
-        match tree {
-            Tree::Text(text) => Ok(text.clone()?),
-            _ => Err(ShapeFault::NoFit),
+    fn from_tree<S: Parsed>(alloc: Global, tree: &S) -> Result<String, ShapeFault> {
+        match tree.as_str() {
+            Some(text) => Ok(String::from_str(alloc, text)?),
+            None => Err(ShapeFault::NoFit),
         }
     }
 
@@ -26,7 +27,7 @@ impl Shape for bool {
 
     ghost shape = { bool_shape };
 
-    fn from_tree(alloc: Global, tree: &Tree) -> Result<bool, ShapeFault> {
+    fn from_tree<S: Parsed>(alloc: Global, tree: &S) -> Result<bool, ShapeFault> {
         tree.as_bool().ok_or(ShapeFault::NoFit)
     }
 
@@ -40,7 +41,7 @@ impl Shape for JsUint {
 
     ghost shape = { js_uint_shape };
 
-    fn from_tree(alloc: Global, tree: &Tree) -> Result<JsUint, ShapeFault> {
+    fn from_tree<S: Parsed>(alloc: Global, tree: &S) -> Result<JsUint, ShapeFault> {
         match tree.as_int() {
             Some(n) if n.value >= 0 => JsUint::new(n.value as u64).ok_or(ShapeFault::NoFit),
             _ => Err(ShapeFault::NoFit),
@@ -57,7 +58,7 @@ impl Shape for JsInt {
 
     ghost shape = { js_int_shape };
 
-    fn from_tree(alloc: Global, tree: &Tree) -> Result<JsInt, ShapeFault> {
+    fn from_tree<S: Parsed>(alloc: Global, tree: &S) -> Result<JsInt, ShapeFault> {
         tree.as_int().ok_or(ShapeFault::NoFit)
     }
 

@@ -6,6 +6,7 @@ ghost use Rattle.bidi_shape.specs.Fits.{Fits};
 ghost use Rattle.bidi_shape.specs.Outcome.{IfNoFit};
 
 use crate::fault::ShapeFault;
+use crate::parsed::Parsed;
 use bidi_tree::Tree;
 use std::alloc::{AllocError, Global};
 
@@ -16,14 +17,14 @@ pub trait Shape: Drop {
     // The rule, the tree of a value, when a value is well, and the laws.
     ghost shape: { ShapeOf Self };
 
-    /// Reads the value whose tree this is.
+    /// Reads the value of its tree, or of what stands for it.
     ///
     /// # Errors
     /// - `NoFit`: the tree does not fit the rule.
     /// - `NoMemory`: an allocation failed.
-    fn from_tree(alloc: Global, tree: &Tree) -> Result<Self, ShapeFault>
-        ensures ok { IfOk result (λ v. (shape.tree_of v ≡ node tree.now) × shape.well v) }
-        ensures no_fit { IfNoFit result (Fits (node tree.now) shape.rule → ⊥) };
+    fn from_tree<S: Parsed>(alloc: Global, tree: &S) -> Result<Self, ShapeFault>
+        ensures ok { IfOk result (λ v. (shape.tree_of v ≡ S.tree tree.now) × shape.well v) }
+        ensures no_fit { IfNoFit result (Fits (S.tree tree.now) shape.rule → ⊥) };
 
     /// Makes the tree of the value.
     ///

@@ -11,7 +11,7 @@ ghost use Rattle.bidi_shape.specs.Parts.{texts_in};
 use crate::ext::Ext;
 use crate::fault::ShapeFault;
 use crate::fields::Fields;
-use crate::members::map_inside;
+use crate::parsed::Parsed;
 use crate::shape::Shape;
 use bidi_tree::Tree;
 use std::alloc::{AllocError, Global};
@@ -26,20 +26,20 @@ pub trait Ruled {
 /// # Errors
 /// - `NoFit`: the tree does not fit the rule.
 /// - `NoMemory`: an allocation failed.
-pub fn read_fields<'a, V: Ruled, F: Fields>(
+pub fn read_fields<'a, V: Ruled, F: Fields, S: Parsed>(
     alloc: Global,
-    tree: &Tree,
+    tree: &S,
     names: &'a [&'a str],
     texts: &'a [&'a str],
 ) -> Result<F, ShapeFault>
     requires says { unfolded V.rule ≡ map_of (F.table.rows (texts_in names.now) (texts_in texts.now)) F.table.openness }
     requires table { IsTable (texts_in names.now) (F.table.rows (texts_in names.now) (texts_in texts.now)) }
-    ensures ok { IfOk result (λ f. (tree_by F.table (texts_in names.now) (texts_in texts.now) f ≡ node tree.now)
+    ensures ok { IfOk result (λ f. (tree_by F.table (texts_in names.now) (texts_in texts.now) f ≡ S.tree tree.now)
         × good_by F.table (texts_in names.now) (texts_in texts.now) f) }
-    ensures no_fit { IfNoFit result (Fits (node tree.now) V.rule → ⊥) }
+    ensures no_fit { IfNoFit result (Fits (S.tree tree.now) V.rule → ⊥) }
 {
-    let members = map_inside(tree)?;
-    let fields = F::read(alloc, members, names, texts, names)?;
+    tree.check_map()?;
+    let fields = F::read(alloc, tree, names, texts, names)?;
     Ok(fields)
 }
 
@@ -56,8 +56,8 @@ impl Shape for Ext {
 
     ghost shape = { map_shape ⟦<Ext as Ruled>⟧.rule ⟦<Ext as Fields>⟧.table [] (λ e. e) refl refl };
 
-    fn from_tree(alloc: Global, tree: &Tree) -> Result<Ext, ShapeFault> {
-        read_fields::<Ext, Ext>(alloc, tree, &[], &[])
+    fn from_tree<S: Parsed>(alloc: Global, tree: &S) -> Result<Ext, ShapeFault> {
+        read_fields::<Ext, Ext, S>(alloc, tree, &[], &[])
     }
 
     fn to_tree(&self, alloc: Global) -> Result<Tree, AllocError> {

@@ -6,6 +6,7 @@ ghost use Rattle.bidi_shape.specs.TagLaws.{bare_tree, typed_tree};
 use crate::fault::ShapeFault;
 use crate::fields::{Closed, Literal, Required};
 use crate::members::{add_literal, add_member};
+use crate::parsed::Parsed;
 use crate::shape::Shape;
 use crate::table::{Ruled, read_fields};
 use bidi_tree::{Members, Tree};
@@ -53,8 +54,8 @@ impl<T: Tag> Shape for Bare<T> {
 
     ghost shape = { map_shape (bare_term T.tag) ⟦<Literal<Closed> as crate::Fields>⟧.table (T.tag ∷ []) (λ v. record { 0 = record {} }) refl refl };
 
-    fn from_tree(alloc: Global, tree: &Tree) -> Result<Bare<T>, ShapeFault> {
-        let Literal(Closed) = read_fields::<Bare<T>, Literal<Closed>>(
+    fn from_tree<S: Parsed>(alloc: Global, tree: &S) -> Result<Bare<T>, ShapeFault> {
+        let Literal(Closed) = read_fields::<Bare<T>, Literal<Closed>, S>(
             alloc,
             tree,
             &["type"],
@@ -75,10 +76,11 @@ impl<T: Tag, X: Shape> Shape for Typed<T, X> {
 
     ghost shape = { map_shape (typed_term T.tag X.shape.rule) ⟦<Literal<Required<X, Closed>> as crate::Fields>⟧.table (T.tag ∷ []) (λ v. record { 0 = (v.value, record {}) }) refl refl };
 
-    fn from_tree(alloc: Global, tree: &Tree) -> Result<Typed<T, X>, ShapeFault> {
+    fn from_tree<S: Parsed>(alloc: Global, tree: &S) -> Result<Typed<T, X>, ShapeFault> {
         let Literal(Required(value, Closed)) = read_fields::<
             Typed<T, X>,
             Literal<Required<X, Closed>>,
+            S,
         >(alloc, tree, &["type", "value"], &[T::tag()])?;
         Ok(Typed {
             value,

@@ -7,6 +7,7 @@ ghost use Rattle.bidi_shape.specs.Outcome.{IfNoFit};
 ghost use Rattle.bidi_shape.specs.WordLaws.{Words, value_named};
 
 use crate::fault::ShapeFault;
+use crate::parsed::Parsed;
 use crate::shape::Shape;
 use bidi_tree::Tree;
 use std::alloc::{AllocError, Global};
@@ -31,7 +32,7 @@ impl<W: Named> Shape for W {
 
     ghost shape = { word_shape W.words };
 
-    fn from_tree(alloc: Global, tree: &Tree) -> Result<W, ShapeFault> {
+    fn from_tree<S: Parsed>(alloc: Global, tree: &S) -> Result<W, ShapeFault> {
         read_word(tree)
     }
 
@@ -44,12 +45,12 @@ impl<W: Named> Shape for W {
 ///
 /// # Errors
 /// `NoFit`: the tree is no text of the type.
-pub fn read_word<W: Named>(tree: &Tree) -> Result<W, ShapeFault>
-    ensures ok { IfOk result (λ w. kind.text (W.words.text_of w) ≡ node tree.now) }
-    ensures no_fit { IfNoFit result (Fits (node tree.now) W.words.rule → ⊥) }
+pub fn read_word<W: Named, S: Parsed>(tree: &S) -> Result<W, ShapeFault>
+    ensures ok { IfOk result (λ w. kind.text (W.words.text_of w) ≡ S.tree tree.now) }
+    ensures no_fit { IfNoFit result (Fits (S.tree tree.now) W.words.rule → ⊥) }
 {
-    match tree.as_text() {
-        Some(text) => match W::named(text.as_str()) {
+    match tree.as_str() {
+        Some(text) => match W::named(text) {
             Some(word) => Ok(word),
             None => Err(ShapeFault::NoFit),
         },

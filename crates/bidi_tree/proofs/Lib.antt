@@ -3,4 +3,5 @@ pub mod CompactLemmas
 pub mod RoundTrip
 pub mod SoundLemmas
 pub mod MemberLemmas
+pub mod JsonLemmas
 pub mod TextFacts

@@ -5,7 +5,8 @@ use Rattle.std.proofs.lemmas.Map.Text.{is_eq-slice_cmp}
 use Rattle.std.proofs.lemmas.Slice.Eq.{bytes_eq-Decides}
 use Rattle.std.specs.Cmp.Lexicographic.{slice_cmp}
 use Rattle.std.specs.Ordering.{match_ordering, ordering_reverse, nat_cmp}
-use Rattle.bidi_tree.specs.Node.{Node, Members, no_members, member, put, get_member, IsBelow, AreAscending, IsSound, MembersAreSound}
+use Rattle.bidi_tree.specs.Kind.{members_in}
+use Rattle.bidi_tree.specs.Node.{Node, null, boolean, whole, odd, text, list, map, Members, no_members, member, put, get_member, get_of, IsBelow, AreAscending, IsSound, MembersAreSound}
 use Rattle.bidi_tree.proofs.SoundLemmas.{IsBelow-below}
 
 pub same_text : (xs : List ℕ) → slice_cmp nat_cmp xs xs ≡ Equal
@@ -104,3 +105,13 @@ found_sound Greater rest n m s later e = later e
 pub IsSound-get_member : (k : List ℕ) (ms : Members) (m : Node) → MembersAreSound ms → get_member k ms ≡ Some m → IsSound m
 IsSound-get_member k no_members m s e = absurd (cc)
 IsSound-get_member k (member l n ms) m s e = found_sound _ _ n m s.0 (IsSound-get_member k ms m s.1) e
+
+-- a tree's member is one of its members
+pub get_of-members_in : (k : List ℕ) (n : Node) → get_of k n ≡ get_member k (members_in n)
+get_of-members_in k null = refl
+get_of-members_in k (boolean b) = refl
+get_of-members_in k (whole z) = refl
+get_of-members_in k odd = refl
+get_of-members_in k (text s) = refl
+get_of-members_in k (list ns) = refl
+get_of-members_in k (map ms) = refl

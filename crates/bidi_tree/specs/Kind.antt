@@ -1,6 +1,6 @@
 -- What a tree holds, asked by its kind.
 use Rattle.std.specs.Prelude.{ℕ, ℤ, List, Bool, true, false, Option, Some, None}
-use Rattle.bidi_tree.specs.Node.{Node, null, boolean, whole, odd, text, list, map, Items, Members}
+use Rattle.bidi_tree.specs.Node.{Node, null, boolean, whole, odd, text, list, map, Items, Members, no_members}
 
 abbrev pub is_null : Node → Bool
 is_null null = true
@@ -55,3 +55,13 @@ map_in odd = None
 map_in (text s) = None
 map_in (list ns) = None
 map_in (map ms) = Some ms
+
+-- the members of a map; of any other tree, none
+abbrev pub members_in : Node → Members
+members_in null = no_members
+members_in (boolean b) = no_members
+members_in (whole z) = no_members
+members_in odd = no_members
+members_in (text s) = no_members
+members_in (list ns) = no_members
+members_in (map ms) = ms

@@ -4,3 +4,4 @@ pub mod View
 pub mod Text
 pub mod Data
 pub mod Kind
+pub mod Json

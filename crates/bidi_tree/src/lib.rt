@@ -11,6 +11,9 @@
 mod copying;
 mod levels;
 mod number;
+mod number_text;
+mod owning;
+mod readable;
 mod reading;
 mod tree;
 mod whole;
@@ -18,7 +21,9 @@ mod writing;
 
 pub use copying::copy_members;
 pub use number::{JsInt, JsUint};
-pub use reading::{ReadFault, read};
+pub use number_text::whole_number;
+pub use owning::{is_parsed_within, own};
+pub use reading::{ReadFault, parse, read};
 pub use tree::{Members, Tree, find_member, put_member};
 pub use whole::are_whole;
 pub use writing::write;

@@ -8,7 +8,7 @@ use Rattle.bidi_tree.specs.Node as kind
 use Rattle.bidi_tree.specs.Node.{Node, Items, no_items, item, levels, items_levels}
 use Rattle.bidi_tree.specs.Kind.{list_in}
 use Rattle.bidi_shape.specs.ListLaws.{two_items as length_of_two}
-use Rattle.bidi_tree.specs.View.{node, items_of, items_node}
+use Rattle.bidi_tree.specs.View.{node, items_of}
 use Rattle.bidi_tree.specs.declared.tree.Tree.{Tree, List as TreeList}
 use Rattle.bidi_tree.proofs.TreeLemmas.{node-List}
 use Rattle.bidi_shape.specs.Term.{Term, map_of, closed, rule, list_of, pair_of, either, text}
@@ -150,17 +150,17 @@ module _ {P L M : Type 0} (n : NestingOf P L M) where
     pub plain_read : (p : P) (t : Node) → s.tree_of p ≡ t → s.well p → (nested_tree n (PlainOf p) ≡ t) × NestedIsWell n (PlainOf p)
     plain_read p t e w = (ap (value_tree n) (content-Plain p) ∙ sym (a.tree p) ∙ e, subst (PartsAreWell n) (sym (content-Plain p)) (a.well p w))
 
-    pub list_read : (h : L) (vs : Vec (Nested P L M) Global) (items : List Tree) (t : Node) → around l h (kind.list (items_node items)) ≡ t → l.well h
-        → map (nested_tree n) vs.items ≡ map node items → AllByRecursion (NestedIsWell n) vs.items → (nested_tree n (ListOf h vs) ≡ t) × NestedIsWell n (ListOf h vs)
-    list_read h vs items t is w e ws = (
-      list_tree h vs (map node items) e ∙ sym (around_same a.list h (kind.list (items_node items))) ∙ is,
+    pub list_read : {X : Type 0} (tree : X → Node) (h : L) (vs : Vec (Nested P L M) Global) (items : List X) (t : Node) → around l h (kind.list (items_of (map tree items))) ≡ t → l.well h
+        → map (nested_tree n) vs.items ≡ map tree items → AllByRecursion (NestedIsWell n) vs.items → (nested_tree n (ListOf h vs) ≡ t) × NestedIsWell n (ListOf h vs)
+    list_read tree h vs items t is w e ws = (
+      list_tree h vs (map tree items) e ∙ sym (around_same a.list h (kind.list (items_of (map tree items)))) ∙ is,
       subst (PartsAreWell n) (sym (content-List h vs)) (a.list.well h w, values_well-of vs.items ws),
     )
 
-    pub pairs_read : (h : M) (ps : Vec (NestedPair P L M) Global) (items : List Tree) (t : Node) → around m h (kind.list (items_node items)) ≡ t → m.well h
-        → map (nested_pair_tree n) ps.items ≡ map node items → AllByRecursion (NestedPairIsWell n) ps.items → (nested_tree n (PairsOf h ps) ≡ t) × NestedIsWell n (PairsOf h ps)
-    pairs_read h ps items t is w e ws = (
-      pairs_list_tree h ps (map node items) e ∙ sym (around_same a.pairs h (kind.list (items_node items))) ∙ is,
+    pub pairs_read : {X : Type 0} (tree : X → Node) (h : M) (ps : Vec (NestedPair P L M) Global) (items : List X) (t : Node) → around m h (kind.list (items_of (map tree items))) ≡ t → m.well h
+        → map (nested_pair_tree n) ps.items ≡ map tree items → AllByRecursion (NestedPairIsWell n) ps.items → (nested_tree n (PairsOf h ps) ≡ t) × NestedIsWell n (PairsOf h ps)
+    pairs_read tree h ps items t is w e ws = (
+      pairs_list_tree h ps (map tree items) e ∙ sym (around_same a.pairs h (kind.list (items_of (map tree items)))) ∙ is,
       subst (PartsAreWell n) (sym (content-Pairs h ps)) (a.pairs.well h w, pairs_well-of ps.items ws),
     )
 
@@ -234,7 +234,7 @@ list_again (kind.list us) ts e = cc
 list_again (kind.map ms) ts e = cc
 
 -- the items of a list, where they are two
-pub two_read : (r : Option (Bor Tree × Bor Tree)) (t : Node) (items : List Tree) → Some (items_node items) ≡ list_in t → MatchOption r (length items ≡ 2 → ⊥) (λ p. items ≡ p.0.now ∷ p.1.now ∷ [])
-    → MatchOption r ((u v : Node) → t ≡ pair_node u v → ⊥) (λ p. t ≡ pair_node (node p.0.now) (node p.1.now))
-two_read None t items is no_two = λ u v e. no_two (length_of_two items u v (same_items (sym (list_again t (items_node items) is) ∙ e)))
-two_read (Some p) t items is two = list_again t (items_node items) is ∙ ap (λ x. kind.list (items_node x)) two
+pub two_read : {X : Type 0} (tree : X → Node) (r : Option (Bor X × Bor X)) (t : Node) (items : List X) → Some (items_of (map tree items)) ≡ list_in t → MatchOption r (length items ≡ 2 → ⊥) (λ p. items ≡ p.0.now ∷ p.1.now ∷ [])
+    → MatchOption r ((u v : Node) → t ≡ pair_node u v → ⊥) (λ p. t ≡ pair_node (tree p.0.now) (tree p.1.now))
+two_read tree None t items is no_two = λ u v e. no_two (length_of_two tree items u v (same_items (sym (list_again t (items_of (map tree items)) is) ∙ e)))
+two_read tree (Some p) t items is two = list_again t (items_of (map tree items)) is ∙ ap (λ x. kind.list (items_of (map tree x))) two

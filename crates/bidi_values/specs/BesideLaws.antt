@@ -1,12 +1,10 @@
 -- The members that stand beside the `value` of a closed map, and the laws of such maps.
-use Rattle.std.proofs.Common.{◌≡◌, ◌≤◌, ◌<◌, max, arith, Ordering, Less, Equal, Greater, nat_cmp, ℕ, List, [], ◌∷◌, codes, Bool, true, false, ◌||◌, Option, Some, bytes_eq, true≢false, refl, sym, ap, ◌∙◌, subst}
+use Rattle.std.proofs.Common.{◌≡◌, ◌<◌, arith, ℕ, List, [], ◌∷◌, codes, Bool, true, false, ◌||◌, Option, Some, bytes_eq, true≢false, refl, sym, ap, ◌∙◌, subst}
 use Rattle.std.proofs.lemmas.Bool.{or_parts, or_from}
-use Rattle.std.specs.Cmp.Lexicographic.{slice_cmp}
-use Rattle.std.specs.Ordering.{match_ordering}
 use Rattle.std.specs.List.{list_any}
 use Rattle.bidi_tree.specs.Node as node
 use Rattle.bidi_tree.specs.Node.{Node, Members, no_members, member, get_member, levels, members_levels, has_odd, AreAscending}
-use Rattle.bidi_shape.specs.Term.{Need, required, Term, closed, map_of, Rows, no_more, row, names_of}
+use Rattle.bidi_shape.specs.Term.{required, Term, closed, map_of, Rows, no_more, row, names_of}
 use Rattle.bidi_shape.specs.Fits.{Fits, fits_map, RowsFit, no_row, there, absent, without}
 use Rattle.bidi_shape.specs.Parts.{joined, distinct, PartsAt, PartsFit, PartFits}
 use Rattle.bidi_shape.specs.Table.{Table}

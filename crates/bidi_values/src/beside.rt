@@ -1,16 +1,17 @@
 //! The members that stand beside the `value` of a closed map.
-ghost use Rattle.std.specs.Prelude.{◌≡◌, IfOk, OnOk, Some, codes};
+ghost use Rattle.std.specs.Prelude.{◌≡◌, IfOk, OnOk, Some, codes, map as list_map};
 ghost use Rattle.bidi_tree.specs.Node as kind;
 ghost use Rattle.bidi_tree.specs.Node.{no_members, get_member, AreAscending};
-ghost use Rattle.bidi_tree.specs.View.{node, items_node, members_node};
+ghost use Rattle.bidi_tree.specs.Kind.{members_in};
+ghost use Rattle.bidi_tree.specs.View.{node, items_of, members_node};
 ghost use Rattle.bidi_shape.specs.Term.{Term, null, required, list_of, names_of};
 ghost use Rattle.bidi_shape.specs.Fits.{Fits, RowsFit, without};
 ghost use Rattle.bidi_shape.specs.Parts.{joined, PartsAt, PartFits};
 ghost use Rattle.bidi_shape.specs.Outcome.{IfNoFit};
 ghost use Rattle.bidi_values.specs.BesideLaws.{BesideOf, and_value, around, holding};
 
-use bidi_shape::{ShapeFault, map_inside};
-use bidi_tree::{Members, Tree, find_member, put_member};
+use bidi_shape::{Parsed, ShapeFault};
+use bidi_tree::{Members, Tree, put_member};
 use std::alloc::{AllocError, Global};
 
 /// What stands in a closed map beside its member `value`.
@@ -23,11 +24,11 @@ pub trait Beside: Drop {
     /// # Errors
     /// - `NoFit`: one of them does not fit, or there is another member.
     /// - `NoMemory`: an allocation failed.
-    fn read(alloc: Global, members: &Members) -> Result<Self, ShapeFault>
-        ensures sorted { OnOk result (AreAscending (members_node members.now.entries)) }
-        ensures ok { IfOk result (λ h. PartsAt beside.rows (beside.parts h) (members_node members.now.entries) × beside.well h) }
-        ensures rest { OnOk result (without (names_of (and_value beside.rows null)) (members_node members.now.entries) ≡ no_members) }
-        ensures no_fit { IfNoFit result (RowsFit (members_node members.now.entries) beside.rows → without (names_of (and_value beside.rows null)) (members_node members.now.entries) ≡ no_members → ⊥) };
+    fn read<S: Parsed>(alloc: Global, map: &S) -> Result<Self, ShapeFault>
+        ensures sorted { OnOk result (AreAscending (members_in (S.tree map.now))) }
+        ensures ok { IfOk result (λ h. PartsAt beside.rows (beside.parts h) (members_in (S.tree map.now)) × beside.well h) }
+        ensures rest { OnOk result (without (names_of (and_value beside.rows null)) (members_in (S.tree map.now)) ≡ no_members) }
+        ensures no_fit { IfNoFit result (RowsFit (members_in (S.tree map.now)) beside.rows → without (names_of (and_value beside.rows null)) (members_in (S.tree map.now)) ≡ no_members → ⊥) };
 
     /// Puts them into a map.
     ///
@@ -46,29 +47,26 @@ pub trait Beside: Drop {
 }
 
 /// What stands beside the `value` of a closed map, and the list that this is.
-pub(crate) fn read_around<'a, H: Beside>(
+pub(crate) fn read_around<'a, H: Beside, S: Parsed>(
     alloc: Global,
-    tree: &'a Tree,
-) -> Result<(H, &'a [Tree]), ShapeFault>
-    ensures ok { IfOk result (λ p. (around H.beside p.0 (kind.list (items_node p.1.now)) ≡ node tree.now) × H.beside.well p.0) }
-    ensures no_fit { IfNoFit result ((τ : Term) → Fits (node tree.now) (holding H.beside (list_of 0 τ)) → ⊥) }
+    tree: &'a S,
+) -> Result<(H, &'a [S]), ShapeFault>
+    ensures ok { IfOk result (λ p. (around H.beside p.0 (kind.list (items_of (list_map S.tree p.1.now))) ≡ S.tree tree.now) × H.beside.well p.0) }
+    ensures no_fit { IfNoFit result ((τ : Term) → Fits (S.tree tree.now) (holding H.beside (list_of 0 τ)) → ⊥) }
 {
-    let members = map_inside(tree)?;
-    let beside = H::read(alloc, members)?;
-    let items = list_at_value(members)?;
+    tree.check_map()?;
+    let beside = H::read(alloc, tree)?;
+    let items = list_at_value(tree)?;
     Ok((beside, items))
 }
 
 /// The items of the list under `value`.
-fn list_at_value(members: &Members) -> Result<&[Tree], ShapeFault>
-    ensures ok { IfOk result (λ v. get_member (codes "value") (members_node members.now.entries) ≡ Some (kind.list (items_node v.now))) }
-    ensures no_fit { IfNoFit result ((τ : Term) → PartFits required (list_of 0 τ) (get_member (codes "value") (members_node members.now.entries)) → ⊥) }
+fn list_at_value<S: Parsed>(map: &S) -> Result<&[S], ShapeFault>
+    ensures ok { IfOk result (λ v. get_member (codes "value") (members_in (S.tree map.now)) ≡ Some (kind.list (items_of (list_map S.tree v.now)))) }
+    ensures no_fit { IfNoFit result ((τ : Term) → PartFits required (list_of 0 τ) (get_member (codes "value") (members_in (S.tree map.now))) → ⊥) }
 {
-    match find_member(members, "value") {
-        Some(value) => match value.as_list() {
-            Some(items) => Ok(items.as_slice()),
-            None => Err(ShapeFault::NoFit),
-        },
+    match map.member("value") {
+        Some(value) => value.as_items().ok_or(ShapeFault::NoFit),
         None => Err(ShapeFault::NoFit),
     }
 }

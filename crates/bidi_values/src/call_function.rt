@@ -12,7 +12,7 @@ use crate::evaluate::Ownership;
 use crate::local_value::LocalValue;
 use crate::target::Target;
 use bidi_shape::{
-    Ext, Fields, MakeFault, Maybe, One, Optional, Required, Rest, Ruled, Shape, ShapeFault,
+    Ext, Fields, MakeFault, Maybe, One, Optional, Parsed, Required, Rest, Ruled, Shape, ShapeFault,
     further, read_fields, write_fields,
 };
 use bidi_tree::{Members, Tree};
@@ -116,7 +116,7 @@ impl Ruled for CallFunctionParameters {
 impl Shape for CallFunctionParameters {
     ghost shape = { map_shape ⟦<CallFunctionParameters as Ruled>⟧.rule ⟦<CallParts as Fields>⟧.table [] (λ v. (v.function_declaration, (v.await_promise, (v.target, (v.arguments, (v.result_ownership, (v.this, (v.user_activation, v.ext)))))))) refl refl };
 
-    fn from_tree(alloc: Global, tree: &Tree) -> Result<CallFunctionParameters, ShapeFault> {
+    fn from_tree<S: Parsed>(alloc: Global, tree: &S) -> Result<CallFunctionParameters, ShapeFault> {
         let Required(
             function_declaration,
             Required(
@@ -129,7 +129,7 @@ impl Shape for CallFunctionParameters {
                     ),
                 ),
             ),
-        ) = read_fields::<CallFunctionParameters, CallParts>(alloc, tree, Self::NAMES, &[])?;
+        ) = read_fields::<CallFunctionParameters, CallParts, S>(alloc, tree, Self::NAMES, &[])?;
         Ok(CallFunctionParameters {
             function_declaration,
             await_promise,
@@ -220,13 +220,12 @@ impl Ruled for DisownParameters {
 impl Shape for DisownParameters {
     ghost shape = { map_shape ⟦<DisownParameters as Ruled>⟧.rule ⟦<DisownParts as Fields>⟧.table [] (λ v. (v.handles, (v.target, v.ext))) refl refl };
 
-    fn from_tree(alloc: Global, tree: &Tree) -> Result<DisownParameters, ShapeFault> {
-        let Required(handles, Required(target, ext)) = read_fields::<DisownParameters, DisownParts>(
-            alloc,
-            tree,
-            Self::NAMES,
-            &[],
-        )?;
+    fn from_tree<S: Parsed>(alloc: Global, tree: &S) -> Result<DisownParameters, ShapeFault> {
+        let Required(handles, Required(target, ext)) = read_fields::<
+            DisownParameters,
+            DisownParts,
+            S,
+        >(alloc, tree, Self::NAMES, &[])?;
         Ok(DisownParameters {
             handles,
             target,

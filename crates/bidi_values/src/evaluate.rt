@@ -10,8 +10,8 @@ ghost use Rattle.bidi_shape.specs.ValueLaws.{others_of};
 
 use crate::target::Target;
 use bidi_shape::{
-    Ext, Fields, MakeFault, Maybe, Named, One, Optional, Required, Rest, Ruled, Shape, ShapeFault,
-    further, read_fields, write_fields,
+    Ext, Fields, MakeFault, Maybe, Named, One, Optional, Parsed, Required, Rest, Ruled, Shape,
+    ShapeFault, further, read_fields, write_fields,
 };
 use bidi_tree::{Members, Tree};
 use std::alloc::{AllocError, Global};
@@ -126,14 +126,14 @@ impl Ruled for EvaluateParameters {
 impl Shape for EvaluateParameters {
     ghost shape = { map_shape ⟦<EvaluateParameters as Ruled>⟧.rule ⟦<EvaluateParts as Fields>⟧.table [] (λ v. (v.expression, (v.target, (v.await_promise, (v.result_ownership, (v.user_activation, v.ext)))))) refl refl };
 
-    fn from_tree(alloc: Global, tree: &Tree) -> Result<EvaluateParameters, ShapeFault> {
+    fn from_tree<S: Parsed>(alloc: Global, tree: &S) -> Result<EvaluateParameters, ShapeFault> {
         let Required(
             expression,
             Required(
                 target,
                 Required(await_promise, Optional(result_ownership, Optional(user_activation, ext))),
             ),
-        ) = read_fields::<EvaluateParameters, EvaluateParts>(alloc, tree, Self::NAMES, &[])?;
+        ) = read_fields::<EvaluateParameters, EvaluateParts, S>(alloc, tree, Self::NAMES, &[])?;
         Ok(EvaluateParameters {
             expression,
             target,

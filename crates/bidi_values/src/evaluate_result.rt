@@ -2,7 +2,7 @@
 use crate::exception::ExceptionDetails;
 use crate::remote_value::RemoteValue;
 use bidi_shape::{
-    Closed, Either, End, Exact, Fields, Literal, One, Required, Ruled, Shape, ShapeFault,
+    Closed, Either, End, Exact, Fields, Literal, One, Parsed, Required, Ruled, Shape, ShapeFault,
     read_choice, read_fields, write_fields,
 };
 use bidi_tree::{Members, Tree};
@@ -38,10 +38,11 @@ impl Shape for EvaluateSuccess {
 
     ghost shape = { map_shape ⟦<EvaluateSuccess as Ruled>⟧.rule ⟦<SuccessParts as Fields>⟧.table (codes "success" ∷ []) (λ v. record { 0 = (v.result, (v.realm, record {})) }) refl refl };
 
-    fn from_tree(alloc: Global, tree: &Tree) -> Result<EvaluateSuccess, ShapeFault> {
+    fn from_tree<S: Parsed>(alloc: Global, tree: &S) -> Result<EvaluateSuccess, ShapeFault> {
         let Literal(Required(result, Required(realm, Closed))) = read_fields::<
             EvaluateSuccess,
             SuccessParts,
+            S,
         >(alloc, tree, Self::NAMES, &["success"])?;
         Ok(EvaluateSuccess { result, realm })
     }
@@ -82,10 +83,11 @@ impl Shape for EvaluateException {
 
     ghost shape = { map_shape ⟦<EvaluateException as Ruled>⟧.rule ⟦<ExceptionParts as Fields>⟧.table (codes "exception" ∷ []) (λ v. record { 0 = (v.exception_details, (v.realm, record {})) }) refl refl };
 
-    fn from_tree(alloc: Global, tree: &Tree) -> Result<EvaluateException, ShapeFault> {
+    fn from_tree<S: Parsed>(alloc: Global, tree: &S) -> Result<EvaluateException, ShapeFault> {
         let Literal(Required(exception_details, Required(realm, Closed))) = read_fields::<
             EvaluateException,
             ExceptionParts,
+            S,
         >(alloc, tree, Self::NAMES, &["exception"])?;
         Ok(EvaluateException {
             exception_details,
@@ -128,8 +130,8 @@ impl Shape for EvaluateResult {
     ghost shape = { shape_through ⟦<EvaluateResult as Ruled>⟧.rule ⟦<Alternatives as Shape>⟧.shape
         (λ v. elim v [ Success s ↦ First s | Exception e ↦ Second e ]) refl };
 
-    fn from_tree(alloc: Global, tree: &Tree) -> Result<EvaluateResult, ShapeFault> {
-        match read_choice::<EvaluateResult, Alternatives>(alloc, tree)? {
+    fn from_tree<S: Parsed>(alloc: Global, tree: &S) -> Result<EvaluateResult, ShapeFault> {
+        match read_choice::<EvaluateResult, Alternatives, S>(alloc, tree)? {
             Either::First(success) => Ok(EvaluateResult::Success(success)),
             Either::Second(exception) => Ok(EvaluateResult::Exception(exception)),
         }

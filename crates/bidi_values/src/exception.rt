@@ -2,7 +2,7 @@
 use crate::remote_value::RemoteValue;
 use crate::stack_trace::StackTrace;
 use bidi_shape::{
-    Closed, End, Fields, One, Required, Ruled, Shape, ShapeFault, read_fields, write_fields,
+    Closed, End, Fields, One, Parsed, Required, Ruled, Shape, ShapeFault, read_fields, write_fields,
 };
 use bidi_tree::{JsUint, Members, Tree};
 use std::alloc::{AllocError, Global};
@@ -50,14 +50,14 @@ impl Shape for ExceptionDetails {
 
     ghost shape = { map_shape ⟦<ExceptionDetails as Ruled>⟧.rule ⟦<Parts as Fields>⟧.table [] (λ v. (v.column_number, (v.exception, (v.line_number, (v.stack_trace, (v.text, record {})))))) refl refl };
 
-    fn from_tree(alloc: Global, tree: &Tree) -> Result<ExceptionDetails, ShapeFault> {
+    fn from_tree<S: Parsed>(alloc: Global, tree: &S) -> Result<ExceptionDetails, ShapeFault> {
         let Required(
             column_number,
             Required(
                 exception,
                 Required(line_number, Required(stack_trace, Required(text, Closed))),
             ),
-        ) = read_fields::<ExceptionDetails, Parts>(alloc, tree, Self::NAMES, &[])?;
+        ) = read_fields::<ExceptionDetails, Parts, S>(alloc, tree, Self::NAMES, &[])?;
         Ok(ExceptionDetails {
             column_number,
             exception,

@@ -5,8 +5,8 @@ use crate::kinds::{ListKind, PairsKind};
 use crate::opaque::Opaque;
 use crate::reg_exp::RegExpValue;
 use bidi_shape::{
-    Closed, End, Exact, Fields, Literal, Maybe, One, Optional, Required, Ruled, Shape, ShapeFault,
-    add_member, add_optional, read_fields, write_fields,
+    Closed, End, Exact, Fields, Literal, Maybe, One, Optional, Parsed, Required, Ruled, Shape,
+    ShapeFault, add_member, add_optional, read_fields, write_fields,
 };
 use bidi_tree::{Members, Tree};
 use std::alloc::{AllocError, Global};
@@ -52,10 +52,11 @@ impl<K: Shape> Shape for Held<K> {
 
     ghost shape = { map_shape (held_by K.shape.rule) ⟦<HeldParts<K> as Fields>⟧.table [] (λ v. (v.kind, (v.handle, (v.internal_id, record {})))) refl refl };
 
-    fn from_tree(alloc: Global, tree: &Tree) -> Result<Held<K>, ShapeFault> {
+    fn from_tree<S: Parsed>(alloc: Global, tree: &S) -> Result<Held<K>, ShapeFault> {
         let Required(kind, Optional(handle, Optional(internal_id, Closed))) = read_fields::<
             Held<K>,
             HeldParts<K>,
+            S,
         >(alloc, tree, NAMES, &[])?;
         Ok(Held {
             kind,
@@ -79,10 +80,10 @@ impl<K: Shape + Copy> Beside for Held<K> {
 
     ghost beside = { beside_by ⟦<HeldParts<K> as Fields>⟧.table (codes "type" ∷ codes "handle" ∷ codes "internalId" ∷ []) (λ v. (v.kind, (v.handle, (v.internal_id, record {})))) (λ f g. refl) refl refl };
 
-    fn read(alloc: Global, members: &Members) -> Result<Held<K>, ShapeFault> {
+    fn read<S: Parsed>(alloc: Global, map: &S) -> Result<Held<K>, ShapeFault> {
         let Required(kind, Optional(handle, Optional(internal_id, Closed))) = HeldParts::<K>::read(
             alloc,
-            members,
+            map,
             NAMES,
             &[],
             &["type", "handle", "internalId", "value"],
@@ -159,9 +160,9 @@ impl Shape for RemoteRegExp {
 
     ghost shape = { map_shape ⟦<RemoteRegExp as Ruled>⟧.rule ⟦<RegExpParts as Fields>⟧.table (codes "regexp" ∷ []) (λ v. record { 0 = (v.value, (v.handle, (v.internal_id, record {}))) }) refl refl };
 
-    fn from_tree(alloc: Global, tree: &Tree) -> Result<RemoteRegExp, ShapeFault> {
+    fn from_tree<S: Parsed>(alloc: Global, tree: &S) -> Result<RemoteRegExp, ShapeFault> {
         let Literal(Required(value, Optional(handle, Optional(internal_id, Closed)))) =
-            read_fields::<RemoteRegExp, RegExpParts>(alloc, tree, Self::NAMES, &["regexp"])?;
+            read_fields::<RemoteRegExp, RegExpParts, S>(alloc, tree, Self::NAMES, &["regexp"])?;
         Ok(RemoteRegExp {
             value,
             handle,
@@ -228,9 +229,9 @@ impl Shape for RemoteDate {
 
     ghost shape = { map_shape ⟦<RemoteDate as Ruled>⟧.rule ⟦<DateParts as Fields>⟧.table (codes "date" ∷ []) (λ v. record { 0 = (v.value, (v.handle, (v.internal_id, record {}))) }) refl refl };
 
-    fn from_tree(alloc: Global, tree: &Tree) -> Result<RemoteDate, ShapeFault> {
+    fn from_tree<S: Parsed>(alloc: Global, tree: &S) -> Result<RemoteDate, ShapeFault> {
         let Literal(Required(value, Optional(handle, Optional(internal_id, Closed)))) =
-            read_fields::<RemoteDate, DateParts>(alloc, tree, Self::NAMES, &["date"])?;
+            read_fields::<RemoteDate, DateParts, S>(alloc, tree, Self::NAMES, &["date"])?;
         Ok(RemoteDate {
             value,
             handle,

@@ -1,6 +1,6 @@
 //! What holds a list of values, and what holds a list of pairs.
 use crate::beside::Beside;
-use bidi_shape::{Closed, Fields, Named, Required, ShapeFault, add_member};
+use bidi_shape::{Closed, Fields, Named, Parsed, Required, ShapeFault, add_member};
 use bidi_tree::{Members, Tree};
 use std::alloc::{AllocError, Global};
 
@@ -77,10 +77,10 @@ impl<K: Named + Copy> Beside for K {
 
     ghost beside = { beside_by ⟦<KindParts<K> as Fields>⟧.table (codes "type" ∷ []) (λ k. (k, record {})) (λ f g. refl) refl refl };
 
-    fn read(alloc: Global, members: &Members) -> Result<K, ShapeFault> {
+    fn read<S: Parsed>(alloc: Global, map: &S) -> Result<K, ShapeFault> {
         let Required(kind, Closed) = KindParts::<K>::read(
             alloc,
-            members,
+            map,
             &["type"],
             &[],
             &["type", "value"],

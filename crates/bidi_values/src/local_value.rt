@@ -5,7 +5,7 @@ use crate::primitive::Primitive;
 use crate::reference::Reference;
 use crate::reg_exp::RegExpValue;
 use bidi_shape::{
-    Either, Ruled, Shape, ShapeFault, Tag, Typed, copied, read_choice, tree_of_typed,
+    Either, Parsed, Ruled, Shape, ShapeFault, Tag, Typed, copied, read_choice, tree_of_typed,
 };
 use bidi_tree::Tree;
 use std::alloc::{AllocError, Global};
@@ -63,10 +63,10 @@ impl Shape for LocalPlain {
           | RegExp r ↦ Second (Second (Second (typed r)))
         ]) refl };
 
-    fn from_tree(alloc: Global, tree: &Tree) -> Result<LocalPlain, ShapeFault> {
+    fn from_tree<S: Parsed>(alloc: Global, tree: &S) -> Result<LocalPlain, ShapeFault> {
         use Either::{First, Second};
 
-        match read_choice::<LocalPlain, Alternatives>(alloc, tree)? {
+        match read_choice::<LocalPlain, Alternatives, S>(alloc, tree)? {
             First(reference) => Ok(LocalPlain::Reference(reference)),
             Second(First(primitive)) => Ok(LocalPlain::Primitive(primitive)),
             Second(Second(First(date))) => Ok(LocalPlain::Date(date.value)),

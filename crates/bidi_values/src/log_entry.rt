@@ -6,9 +6,9 @@ ghost use Rattle.bidi_values.specs.LogEntry.{and_base};
 use crate::remote_value::RemoteValue;
 use crate::stack_trace::StackTrace;
 use bidi_shape::{
-    Closed, Either, End, Ext, Fields, Literal, MakeFault, Maybe, Named, One, Optional, Required,
-    Ruled, Shape, ShapeFault, add_literal, add_member, add_optional, not_shadowed, read_choice,
-    read_fields, write_fields,
+    Closed, Either, End, Ext, Fields, Literal, MakeFault, Maybe, Named, One, Optional, Parsed,
+    Required, Ruled, Shape, ShapeFault, add_literal, add_member, add_optional, not_shadowed,
+    read_choice, read_fields, write_fields,
 };
 use bidi_tree::{JsUint, Members, Tree};
 use std::alloc::{AllocError, Global};
@@ -82,8 +82,8 @@ impl Shape for Source {
 
     ghost shape = { map_shape ⟦<Source as Ruled>⟧.rule ⟦<SourceParts as Fields>⟧.table [] (λ v. (v.realm, (v.context, record {}))) refl refl };
 
-    fn from_tree(alloc: Global, tree: &Tree) -> Result<Source, ShapeFault> {
-        let Required(realm, Optional(context, Closed)) = read_fields::<Source, SourceParts>(
+    fn from_tree<S: Parsed>(alloc: Global, tree: &S) -> Result<Source, ShapeFault> {
+        let Required(realm, Optional(context, Closed)) = read_fields::<Source, SourceParts, S>(
             alloc,
             tree,
             Self::NAMES,
@@ -127,9 +127,9 @@ impl<F: Fields> Fields for WithBase<F> {
 
     ghost table = { table_through ⟦<BaseParts<F> as Fields>⟧.table (λ w. (w.0.level, (w.0.source, (w.0.text, (w.0.timestamp, (w.0.stack_trace, w.1)))))) };
 
-    fn read<'a>(
+    fn read<'a, S: Parsed>(
         alloc: Global,
-        members: &Members,
+        map: &S,
         names: &'a [&'a str],
         texts: &'a [&'a str],
         known: &'a [&'a str],
@@ -137,7 +137,7 @@ impl<F: Fields> Fields for WithBase<F> {
         let Required(
             level,
             Required(source, Required(text, Required(timestamp, Optional(stack_trace, rest)))),
-        ) = BaseParts::<F>::read(alloc, members, names, texts, known)?;
+        ) = BaseParts::<F>::read(alloc, map, names, texts, known)?;
         let base = BaseLogEntry {
             level,
             source,
@@ -201,10 +201,11 @@ impl Shape for ConsoleEntry {
 
     ghost shape = { map_shape ⟦<ConsoleEntry as Ruled>⟧.rule ⟦<ConsoleParts as Fields>⟧.table (codes "console" ∷ []) (λ v. (v.base, record { 0 = (v.method, (v.args, record {})) })) refl refl };
 
-    fn from_tree(alloc: Global, tree: &Tree) -> Result<ConsoleEntry, ShapeFault> {
+    fn from_tree<S: Parsed>(alloc: Global, tree: &S) -> Result<ConsoleEntry, ShapeFault> {
         let WithBase(base, Literal(Required(method, Required(args, Closed)))) = read_fields::<
             ConsoleEntry,
             ConsoleParts,
+            S,
         >(alloc, tree, Self::NAMES, &["console"])?;
         Ok(ConsoleEntry { base, method, args })
     }
@@ -256,8 +257,8 @@ impl Shape for JavascriptEntry {
 
     ghost shape = { map_shape ⟦<JavascriptEntry as Ruled>⟧.rule ⟦<JavascriptParts as Fields>⟧.table (codes "javascript" ∷ []) (λ v. (v.base, record { 0 = record {} })) refl refl };
 
-    fn from_tree(alloc: Global, tree: &Tree) -> Result<JavascriptEntry, ShapeFault> {
-        let WithBase(base, Literal(Closed)) = read_fields::<JavascriptEntry, JavascriptParts>(
+    fn from_tree<S: Parsed>(alloc: Global, tree: &S) -> Result<JavascriptEntry, ShapeFault> {
+        let WithBase(base, Literal(Closed)) = read_fields::<JavascriptEntry, JavascriptParts, S>(
             alloc,
             tree,
             Self::NAMES,
@@ -354,8 +355,8 @@ impl Shape for GenericLogEntry {
 
     ghost shape = { map_shape ⟦<GenericLogEntry as Ruled>⟧.rule ⟦<GenericParts as Fields>⟧.table [] (λ v. (v.base, (v.kind, v.ext))) refl refl };
 
-    fn from_tree(alloc: Global, tree: &Tree) -> Result<GenericLogEntry, ShapeFault> {
-        let WithBase(base, Required(kind, ext)) = read_fields::<GenericLogEntry, GenericParts>(
+    fn from_tree<S: Parsed>(alloc: Global, tree: &S) -> Result<GenericLogEntry, ShapeFault> {
+        let WithBase(base, Required(kind, ext)) = read_fields::<GenericLogEntry, GenericParts, S>(
             alloc,
             tree,
             Self::NAMES,
@@ -402,10 +403,10 @@ impl Shape for LogEntry {
     ghost shape = { shape_through ⟦<LogEntry as Ruled>⟧.rule ⟦<Alternatives as Shape>⟧.shape
         (λ v. elim v [ Console c ↦ First c | Javascript j ↦ Second (First j) | Generic g ↦ Second (Second g) ]) refl };
 
-    fn from_tree(alloc: Global, tree: &Tree) -> Result<LogEntry, ShapeFault> {
+    fn from_tree<S: Parsed>(alloc: Global, tree: &S) -> Result<LogEntry, ShapeFault> {
         use Either::{First, Second};
 
-        match read_choice::<LogEntry, Alternatives>(alloc, tree)? {
+        match read_choice::<LogEntry, Alternatives, S>(alloc, tree)? {
             First(console) => Ok(LogEntry::Console(console)),
             Second(First(javascript)) => Ok(LogEntry::Javascript(javascript)),
             Second(Second(generic)) => Ok(LogEntry::Generic(generic)),

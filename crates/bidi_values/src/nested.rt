@@ -7,7 +7,7 @@ use crate::beside::Beside;
 use crate::copying::copy_value;
 use crate::reading::read_value;
 use crate::writing::write_value;
-use bidi_shape::{MakeFault, Shape, ShapeFault};
+use bidi_shape::{MakeFault, Parsed, Shape, ShapeFault};
 use bidi_tree::Tree;
 use std::alloc::{AllocError, Global};
 
@@ -69,8 +69,8 @@ impl<P: Nests<L, M>, L: Beside, M: Beside> Shape for Nested<P, L, M> {
 
     ghost shape = { nested_shape P.nesting content };
 
-    fn from_tree(alloc: Global, tree: &Tree) -> Result<Nested<P, L, M>, ShapeFault> {
-        if tree.is_within(MAX_LEVELS) {
+    fn from_tree<S: Parsed>(alloc: Global, tree: &S) -> Result<Nested<P, L, M>, ShapeFault> {
+        if tree.is_within(alloc, MAX_LEVELS)? {
             read_value(alloc, tree)
         } else {
             Err(ShapeFault::NoFit)

@@ -1,6 +1,6 @@
 //! Primitive values.
 use bidi_shape::{
-    Bare, Either, Named, Ruled, Shape, ShapeFault, Tag, Typed, read_choice, tree_of_type,
+    Bare, Either, Named, Parsed, Ruled, Shape, ShapeFault, Tag, Typed, read_choice, tree_of_type,
     tree_of_typed,
 };
 use bidi_tree::{JsInt, Tree};
@@ -70,8 +70,8 @@ impl Shape for Number {
     ghost shape = { shape_through ⟦<Number as Ruled>⟧.rule ⟦<Either<JsInt, SpecialNumber> as Shape>⟧.shape
         (λ v. elim v [ Whole n ↦ First n | Special s ↦ Second s ]) refl };
 
-    fn from_tree(alloc: Global, tree: &Tree) -> Result<Number, ShapeFault> {
-        match read_choice::<Number, Either<JsInt, SpecialNumber>>(alloc, tree)? {
+    fn from_tree<S: Parsed>(alloc: Global, tree: &S) -> Result<Number, ShapeFault> {
+        match read_choice::<Number, Either<JsInt, SpecialNumber>, S>(alloc, tree)? {
             Either::First(whole) => Ok(Number::Whole(whole)),
             Either::Second(special) => Ok(Number::Special(special)),
         }
@@ -163,10 +163,10 @@ impl Shape for Primitive {
           | BigInt s ↦ Second (Second (Second (Second (Second (typed s)))))
         ]) refl };
 
-    fn from_tree(alloc: Global, tree: &Tree) -> Result<Primitive, ShapeFault> {
+    fn from_tree<S: Parsed>(alloc: Global, tree: &S) -> Result<Primitive, ShapeFault> {
         use Either::{First, Second};
 
-        match read_choice::<Primitive, Alternatives>(alloc, tree)? {
+        match read_choice::<Primitive, Alternatives, S>(alloc, tree)? {
             First(_) => Ok(Primitive::Undefined),
             Second(First(_)) => Ok(Primitive::Null),
             Second(Second(First(text))) => Ok(Primitive::String(text.value)),

@@ -2,7 +2,7 @@
 ghost use Rattle.std.specs.Prelude.{◌≡◌, IfOk, MatchOption, map, length, [], ◌∷◌};
 ghost use Rattle.std.specs.List.{AllByRecursion};
 ghost use Rattle.bidi_tree.specs.Node.{Node};
-ghost use Rattle.bidi_tree.specs.View.{node, items_node};
+ghost use Rattle.bidi_tree.specs.View.{items_of};
 ghost use Rattle.bidi_shape.specs.Term.{either, rule, text};
 ghost use Rattle.bidi_shape.specs.Fits.{Fits, AllFit};
 ghost use Rattle.bidi_shape.specs.Outcome.{IfNoFit};
@@ -11,21 +11,20 @@ ghost use Rattle.bidi_values.specs.View.{nested_tree, nested_pair_tree, nested_k
 
 use crate::beside::{Beside, read_around};
 use crate::nested::{Nested, NestedKey, NestedPair, Nests};
-use bidi_shape::ShapeFault;
-use bidi_tree::Tree;
+use bidi_shape::{Parsed, ShapeFault};
 use std::alloc::Global;
 
 /// The value of a tree.
 #[cycle(read)]
-pub(crate) fn read_value<P: Nests<L, M>, L: Beside, M: Beside>(
+pub(crate) fn read_value<P: Nests<L, M>, L: Beside, M: Beside, S: Parsed>(
     alloc: Global,
-    tree: &Tree,
+    tree: &S,
 ) -> Result<Nested<P, L, M>, ShapeFault>
-    ensures ok { IfOk result (λ v. (nested_tree P.nesting v ≡ node tree.now)
+    ensures ok { IfOk result (λ v. (nested_tree P.nesting v ≡ S.tree tree.now)
         × NestedIsWell P.nesting v) }
-    ensures no_fit { IfNoFit result (Fits (node tree.now) (rule P.nesting.values) → ⊥) }
+    ensures no_fit { IfNoFit result (Fits (S.tree tree.now) (rule P.nesting.values) → ⊥) }
 {
-    match read_around::<L>(alloc, tree) {
+    match read_around::<L, S>(alloc, tree) {
         Ok((beside, items)) => {
             let values = read_values(alloc, items)?;
             return Ok(Nested::List(beside, values));
@@ -33,7 +32,7 @@ pub(crate) fn read_value<P: Nests<L, M>, L: Beside, M: Beside>(
         Err(ShapeFault::NoMemory) => return Err(ShapeFault::NoMemory),
         Err(ShapeFault::NoFit) => {}
     }
-    match read_around::<M>(alloc, tree) {
+    match read_around::<M, S>(alloc, tree) {
         Ok((beside, items)) => {
             let pairs = read_pairs(alloc, items)?;
             Ok(Nested::Pairs(beside, pairs))
@@ -47,13 +46,13 @@ pub(crate) fn read_value<P: Nests<L, M>, L: Beside, M: Beside>(
 }
 
 #[cycle(read)]
-fn read_values<P: Nests<L, M>, L: Beside, M: Beside>(
+fn read_values<P: Nests<L, M>, L: Beside, M: Beside, S: Parsed>(
     alloc: Global,
-    items: &[Tree],
+    items: &[S],
 ) -> Result<Vec<Nested<P, L, M>>, ShapeFault>
-    ensures ok { IfOk result (λ v. (map (nested_tree P.nesting) v.items ≡ map node items.now)
+    ensures ok { IfOk result (λ v. (map (nested_tree P.nesting) v.items ≡ map S.tree items.now)
         × AllByRecursion (NestedIsWell P.nesting) v.items) }
-    ensures no_fit { IfNoFit result (AllFit (items_node items.now) (rule P.nesting.values) → ⊥) }
+    ensures no_fit { IfNoFit result (AllFit (items_of (map S.tree items.now)) (rule P.nesting.values) → ⊥) }
 {
     let mut values = Vec::with_capacity(alloc, items.len())?;
     for item in items {
@@ -63,13 +62,13 @@ fn read_values<P: Nests<L, M>, L: Beside, M: Beside>(
 }
 
 #[cycle(read)]
-fn read_pairs<P: Nests<L, M>, L: Beside, M: Beside>(
+fn read_pairs<P: Nests<L, M>, L: Beside, M: Beside, S: Parsed>(
     alloc: Global,
-    items: &[Tree],
+    items: &[S],
 ) -> Result<Vec<NestedPair<P, L, M>>, ShapeFault>
-    ensures ok { IfOk result (λ v. (map (nested_pair_tree P.nesting) v.items ≡ map node items.now)
+    ensures ok { IfOk result (λ v. (map (nested_pair_tree P.nesting) v.items ≡ map S.tree items.now)
         × AllByRecursion (NestedPairIsWell P.nesting) v.items) }
-    ensures no_fit { IfNoFit result (AllFit (items_node items.now) (rule P.nesting.pair_rule) → ⊥) }
+    ensures no_fit { IfNoFit result (AllFit (items_of (map S.tree items.now)) (rule P.nesting.pair_rule) → ⊥) }
 {
     let mut pairs = Vec::with_capacity(alloc, items.len())?;
     for item in items {
@@ -79,13 +78,13 @@ fn read_pairs<P: Nests<L, M>, L: Beside, M: Beside>(
 }
 
 #[cycle(read)]
-fn read_pair<P: Nests<L, M>, L: Beside, M: Beside>(
+fn read_pair<P: Nests<L, M>, L: Beside, M: Beside, S: Parsed>(
     alloc: Global,
-    tree: &Tree,
+    tree: &S,
 ) -> Result<NestedPair<P, L, M>, ShapeFault>
-    ensures ok { IfOk result (λ p. (nested_pair_tree P.nesting p ≡ node tree.now)
+    ensures ok { IfOk result (λ p. (nested_pair_tree P.nesting p ≡ S.tree tree.now)
         × NestedPairIsWell P.nesting p) }
-    ensures no_fit { IfNoFit result (Fits (node tree.now) (rule P.nesting.pair_rule) → ⊥) }
+    ensures no_fit { IfNoFit result (Fits (S.tree tree.now) (rule P.nesting.pair_rule) → ⊥) }
 {
     match two_items(tree) {
         Some((key, value)) => {
@@ -98,16 +97,16 @@ fn read_pair<P: Nests<L, M>, L: Beside, M: Beside>(
 }
 
 #[cycle(read)]
-fn read_key<P: Nests<L, M>, L: Beside, M: Beside>(
+fn read_key<P: Nests<L, M>, L: Beside, M: Beside, S: Parsed>(
     alloc: Global,
-    tree: &Tree,
+    tree: &S,
 ) -> Result<NestedKey<P, L, M>, ShapeFault>
-    ensures ok { IfOk result (λ k. (nested_key_tree P.nesting k ≡ node tree.now)
+    ensures ok { IfOk result (λ k. (nested_key_tree P.nesting k ≡ S.tree tree.now)
         × NestedKeyIsWell P.nesting k) }
-    ensures no_fit { IfNoFit result (Fits (node tree.now) (either (rule P.nesting.values) text) → ⊥) }
+    ensures no_fit { IfNoFit result (Fits (S.tree tree.now) (either (rule P.nesting.values) text) → ⊥) }
 {
-    match tree.as_text() {
-        Some(text) => Ok(NestedKey::Text(text.clone()?)),
+    match tree.as_str() {
+        Some(text) => Ok(NestedKey::Text(String::from_str(alloc, text)?)),
         None => {
             let value = read_value(alloc, tree)?;
             Ok(NestedKey::Value(value))
@@ -116,17 +115,17 @@ fn read_key<P: Nests<L, M>, L: Beside, M: Beside>(
 }
 
 /// The two items of a list of two.
-fn two_items(tree: &Tree) -> Option<(&Tree, &Tree)>
-    ensures { MatchOption result ((u v : Node) → node tree.now ≡ pair_node u v → ⊥) (λ p. node tree.now ≡ pair_node (node p.0.now) (node p.1.now)) }
+fn two_items<S: Parsed>(tree: &S) -> Option<(&S, &S)>
+    ensures { MatchOption result ((u v : Node) → S.tree tree.now ≡ pair_node u v → ⊥) (λ p. S.tree tree.now ≡ pair_node (S.tree p.0.now) (S.tree p.1.now)) }
 {
-    match tree.as_list() {
+    match tree.as_items() {
         Some(items) => exactly_two(items),
         None => None,
     }
 }
 
 /// The items, where they are two.
-fn exactly_two(items: &[Tree]) -> Option<(&Tree, &Tree)>
+fn exactly_two<S: Parsed>(items: &[S]) -> Option<(&S, &S)>
     ensures { MatchOption result (length items.now ≡ 2 → ⊥) (λ p. items.now ≡ p.0.now ∷ p.1.now ∷ []) }
 {
     if items.len() == 2 {

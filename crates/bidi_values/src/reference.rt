@@ -1,7 +1,7 @@
 //! References to values that a remote end holds.
 use bidi_shape::{
-    Either, Ext, Fields, MakeFault, Maybe, One, Optional, Required, Rest, Ruled, Shape, ShapeFault,
-    further, not_shadowed, read_choice, read_fields, write_fields,
+    Either, Ext, Fields, MakeFault, Maybe, One, Optional, Parsed, Required, Rest, Ruled, Shape,
+    ShapeFault, further, not_shadowed, read_choice, read_fields, write_fields,
 };
 use bidi_tree::{Members, Tree};
 use std::alloc::{AllocError, Global};
@@ -73,10 +73,11 @@ impl Shape for SharedReference {
 
     ghost shape = { map_shape ⟦<SharedReference as Ruled>⟧.rule ⟦<SharedParts as Fields>⟧.table [] (λ v. (v.shared_id, (v.handle, v.ext))) refl refl };
 
-    fn from_tree(alloc: Global, tree: &Tree) -> Result<SharedReference, ShapeFault> {
+    fn from_tree<S: Parsed>(alloc: Global, tree: &S) -> Result<SharedReference, ShapeFault> {
         let Required(shared_id, Optional(handle, ext)) = read_fields::<
             SharedReference,
             SharedParts,
+            S,
         >(alloc, tree, Self::NAMES, &[])?;
         Ok(SharedReference {
             shared_id,
@@ -169,10 +170,11 @@ impl Shape for RemoteObjectReference {
 
     ghost shape = { map_shape ⟦<RemoteObjectReference as Ruled>⟧.rule ⟦<RemoteObjectParts as Fields>⟧.table [] (λ v. (v.handle, (v.shared_id, v.ext))) refl refl };
 
-    fn from_tree(alloc: Global, tree: &Tree) -> Result<RemoteObjectReference, ShapeFault> {
+    fn from_tree<S: Parsed>(alloc: Global, tree: &S) -> Result<RemoteObjectReference, ShapeFault> {
         let Required(handle, Optional(shared_id, ext)) = read_fields::<
             RemoteObjectReference,
             RemoteObjectParts,
+            S,
         >(alloc, tree, Self::NAMES, &[])?;
         Ok(RemoteObjectReference {
             handle,
@@ -216,8 +218,8 @@ impl Shape for Reference {
     ghost shape = { shape_through ⟦<Reference as Ruled>⟧.rule ⟦<Alternatives as Shape>⟧.shape
         (λ v. elim v [ Shared s ↦ First s | RemoteObject r ↦ Second r ]) refl };
 
-    fn from_tree(alloc: Global, tree: &Tree) -> Result<Reference, ShapeFault> {
-        match read_choice::<Reference, Alternatives>(alloc, tree)? {
+    fn from_tree<S: Parsed>(alloc: Global, tree: &S) -> Result<Reference, ShapeFault> {
+        match read_choice::<Reference, Alternatives, S>(alloc, tree)? {
             Either::First(shared) => Ok(Reference::Shared(shared)),
             Either::Second(object) => Ok(Reference::RemoteObject(object)),
         }

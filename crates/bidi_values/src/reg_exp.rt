@@ -1,8 +1,8 @@
 //! Regular expressions.
 use crate::copying::copy_text;
 use bidi_shape::{
-    Closed, End, Fields, Maybe, One, Optional, Required, Ruled, Shape, ShapeFault, read_fields,
-    write_fields,
+    Closed, End, Fields, Maybe, One, Optional, Parsed, Required, Ruled, Shape, ShapeFault,
+    read_fields, write_fields,
 };
 use bidi_tree::{Members, Tree};
 use std::alloc::{AllocError, Global};
@@ -56,8 +56,8 @@ impl Shape for RegExpValue {
 
     ghost shape = { map_shape ⟦<RegExpValue as Ruled>⟧.rule ⟦<Parts as Fields>⟧.table [] (λ v. (v.pattern, (v.flags, record {}))) refl refl };
 
-    fn from_tree(alloc: Global, tree: &Tree) -> Result<RegExpValue, ShapeFault> {
-        let Required(pattern, Optional(flags, Closed)) = read_fields::<RegExpValue, Parts>(
+    fn from_tree<S: Parsed>(alloc: Global, tree: &S) -> Result<RegExpValue, ShapeFault> {
+        let Required(pattern, Optional(flags, Closed)) = read_fields::<RegExpValue, Parts, S>(
             alloc,
             tree,
             Self::NAMES,

@@ -3,7 +3,7 @@ use crate::beside::Beside;
 use crate::held::{RemoteDate, RemoteList, RemoteOpaque, RemotePairs, RemoteRegExp};
 use crate::nested::{Nested, NestedKey, NestedPair, Nests};
 use crate::primitive::Primitive;
-use bidi_shape::{Either, Ruled, Shape, ShapeFault, read_choice};
+use bidi_shape::{Either, Parsed, Ruled, Shape, ShapeFault, read_choice};
 use bidi_tree::Tree;
 use std::alloc::{AllocError, Global};
 
@@ -67,10 +67,10 @@ impl Shape for RemotePlain {
           | Opaque o ↦ Second (Second (Second (Second (Second o))))
         ]) refl };
 
-    fn from_tree(alloc: Global, tree: &Tree) -> Result<RemotePlain, ShapeFault> {
+    fn from_tree<S: Parsed>(alloc: Global, tree: &S) -> Result<RemotePlain, ShapeFault> {
         use Either::{First, Second};
 
-        match read_choice::<RemotePlain, Alternatives>(alloc, tree)? {
+        match read_choice::<RemotePlain, Alternatives, S>(alloc, tree)? {
             First(primitive) => Ok(RemotePlain::Primitive(primitive)),
             Second(First(list)) => Ok(RemotePlain::List(list)),
             Second(Second(First(pairs))) => Ok(RemotePlain::Pairs(pairs)),

@@ -1,6 +1,6 @@
 //! Stack traces.
 use bidi_shape::{
-    Closed, End, Fields, One, Required, Ruled, Shape, ShapeFault, read_fields, write_fields,
+    Closed, End, Fields, One, Parsed, Required, Ruled, Shape, ShapeFault, read_fields, write_fields,
 };
 use bidi_tree::{JsUint, Members, Tree};
 use std::alloc::{AllocError, Global};
@@ -38,11 +38,11 @@ impl Shape for StackFrame {
 
     ghost shape = { map_shape ⟦<StackFrame as Ruled>⟧.rule ⟦<FrameParts as Fields>⟧.table [] (λ v. (v.column_number, (v.function_name, (v.line_number, (v.url, record {}))))) refl refl };
 
-    fn from_tree(alloc: Global, tree: &Tree) -> Result<StackFrame, ShapeFault> {
+    fn from_tree<S: Parsed>(alloc: Global, tree: &S) -> Result<StackFrame, ShapeFault> {
         let Required(
             column_number,
             Required(function_name, Required(line_number, Required(url, Closed))),
-        ) = read_fields::<StackFrame, FrameParts>(alloc, tree, Self::NAMES, &[])?;
+        ) = read_fields::<StackFrame, FrameParts, S>(alloc, tree, Self::NAMES, &[])?;
         Ok(StackFrame {
             column_number,
             function_name,
@@ -93,8 +93,8 @@ impl Shape for StackTrace {
 
     ghost shape = { map_shape ⟦<StackTrace as Ruled>⟧.rule ⟦<TraceParts as Fields>⟧.table [] (λ v. (v.call_frames, record {})) refl refl };
 
-    fn from_tree(alloc: Global, tree: &Tree) -> Result<StackTrace, ShapeFault> {
-        let Required(call_frames, Closed) = read_fields::<StackTrace, TraceParts>(
+    fn from_tree<S: Parsed>(alloc: Global, tree: &S) -> Result<StackTrace, ShapeFault> {
+        let Required(call_frames, Closed) = read_fields::<StackTrace, TraceParts, S>(
             alloc,
             tree,
             Self::NAMES,

@@ -1,8 +1,8 @@
 //! The table of a play: what each script does.
 use crate::remote_value::RemoteValue;
 use bidi_shape::{
-    Closed, Either, End, Fields, One, Required, Ruled, Shape, ShapeFault, read_choice, read_fields,
-    write_fields,
+    Closed, Either, End, Fields, One, Parsed, Required, Ruled, Shape, ShapeFault, read_choice,
+    read_fields, write_fields,
 };
 use bidi_tree::{JsUint, Members, Tree};
 use std::alloc::{AllocError, Global};
@@ -37,8 +37,8 @@ impl Shape for ReturnsRow {
 
     ghost shape = { map_shape ⟦<ReturnsRow as Ruled>⟧.rule ⟦<ReturnsParts as Fields>⟧.table [] (λ v. (v.text, (v.value, record {}))) refl refl };
 
-    fn from_tree(alloc: Global, tree: &Tree) -> Result<ReturnsRow, ShapeFault> {
-        let Required(text, Required(value, Closed)) = read_fields::<ReturnsRow, ReturnsParts>(
+    fn from_tree<S: Parsed>(alloc: Global, tree: &S) -> Result<ReturnsRow, ShapeFault> {
+        let Required(text, Required(value, Closed)) = read_fields::<ReturnsRow, ReturnsParts, S>(
             alloc,
             tree,
             Self::NAMES,
@@ -83,8 +83,8 @@ impl Shape for ThrowsRow {
 
     ghost shape = { map_shape ⟦<ThrowsRow as Ruled>⟧.rule ⟦<ThrowsParts as Fields>⟧.table [] (λ v. (v.text, (v.value, record {}))) refl refl };
 
-    fn from_tree(alloc: Global, tree: &Tree) -> Result<ThrowsRow, ShapeFault> {
-        let Required(text, Required(value, Closed)) = read_fields::<ThrowsRow, ThrowsParts>(
+    fn from_tree<S: Parsed>(alloc: Global, tree: &S) -> Result<ThrowsRow, ShapeFault> {
+        let Required(text, Required(value, Closed)) = read_fields::<ThrowsRow, ThrowsParts, S>(
             alloc,
             tree,
             Self::NAMES,
@@ -129,8 +129,8 @@ impl Shape for ArgumentRow {
 
     ghost shape = { map_shape ⟦<ArgumentRow as Ruled>⟧.rule ⟦<ArgumentParts as Fields>⟧.table [] (λ v. (v.text, (v.index, record {}))) refl refl };
 
-    fn from_tree(alloc: Global, tree: &Tree) -> Result<ArgumentRow, ShapeFault> {
-        let Required(text, Required(index, Closed)) = read_fields::<ArgumentRow, ArgumentParts>(
+    fn from_tree<S: Parsed>(alloc: Global, tree: &S) -> Result<ArgumentRow, ShapeFault> {
+        let Required(text, Required(index, Closed)) = read_fields::<ArgumentRow, ArgumentParts, S>(
             alloc,
             tree,
             Self::NAMES,
@@ -175,10 +175,10 @@ impl Shape for TableRow {
     ghost shape = { shape_through ⟦<TableRow as Ruled>⟧.rule ⟦<Alternatives as Shape>⟧.shape
         (λ v. elim v [ Returns r ↦ First r | Throws t ↦ Second (First t) | Argument a ↦ Second (Second a) ]) refl };
 
-    fn from_tree(alloc: Global, tree: &Tree) -> Result<TableRow, ShapeFault> {
+    fn from_tree<S: Parsed>(alloc: Global, tree: &S) -> Result<TableRow, ShapeFault> {
         use Either::{First, Second};
 
-        match read_choice::<TableRow, Alternatives>(alloc, tree)? {
+        match read_choice::<TableRow, Alternatives, S>(alloc, tree)? {
             First(returns) => Ok(TableRow::Returns(returns)),
             Second(First(throws)) => Ok(TableRow::Throws(throws)),
             Second(Second(argument)) => Ok(TableRow::Argument(argument)),

@@ -1,7 +1,7 @@
 //! Where a script is run.
 use bidi_shape::{
-    Either, Ext, Fields, MakeFault, Maybe, One, Optional, Required, Rest, Ruled, Shape, ShapeFault,
-    further, not_shadowed, read_choice, read_fields, write_fields,
+    Either, Ext, Fields, MakeFault, Maybe, One, Optional, Parsed, Required, Rest, Ruled, Shape,
+    ShapeFault, further, not_shadowed, read_choice, read_fields, write_fields,
 };
 use bidi_tree::{Members, Tree};
 use std::alloc::{AllocError, Global};
@@ -73,13 +73,12 @@ impl Shape for ContextTarget {
 
     ghost shape = { map_shape ⟦<ContextTarget as Ruled>⟧.rule ⟦<ContextParts as Fields>⟧.table [] (λ v. (v.context, (v.sandbox, v.ext))) refl refl };
 
-    fn from_tree(alloc: Global, tree: &Tree) -> Result<ContextTarget, ShapeFault> {
-        let Required(context, Optional(sandbox, ext)) = read_fields::<ContextTarget, ContextParts>(
-            alloc,
-            tree,
-            Self::NAMES,
-            &[],
-        )?;
+    fn from_tree<S: Parsed>(alloc: Global, tree: &S) -> Result<ContextTarget, ShapeFault> {
+        let Required(context, Optional(sandbox, ext)) = read_fields::<
+            ContextTarget,
+            ContextParts,
+            S,
+        >(alloc, tree, Self::NAMES, &[])?;
         Ok(ContextTarget {
             context,
             sandbox,
@@ -160,8 +159,8 @@ impl Shape for RealmTarget {
 
     ghost shape = { map_shape ⟦<RealmTarget as Ruled>⟧.rule ⟦<RealmParts as Fields>⟧.table [] (λ v. (v.realm, v.ext)) refl refl };
 
-    fn from_tree(alloc: Global, tree: &Tree) -> Result<RealmTarget, ShapeFault> {
-        let Required(realm, ext) = read_fields::<RealmTarget, RealmParts>(
+    fn from_tree<S: Parsed>(alloc: Global, tree: &S) -> Result<RealmTarget, ShapeFault> {
+        let Required(realm, ext) = read_fields::<RealmTarget, RealmParts, S>(
             alloc,
             tree,
             Self::NAMES,
@@ -205,8 +204,8 @@ impl Shape for Target {
     ghost shape = { shape_through ⟦<Target as Ruled>⟧.rule ⟦<Alternatives as Shape>⟧.shape
         (λ v. elim v [ Context c ↦ First c | Realm r ↦ Second r ]) refl };
 
-    fn from_tree(alloc: Global, tree: &Tree) -> Result<Target, ShapeFault> {
-        match read_choice::<Target, Alternatives>(alloc, tree)? {
+    fn from_tree<S: Parsed>(alloc: Global, tree: &S) -> Result<Target, ShapeFault> {
+        match read_choice::<Target, Alternatives, S>(alloc, tree)? {
             Either::First(context) => Ok(Target::Context(context)),
             Either::Second(realm) => Ok(Target::Realm(realm)),
         }

@@ -1,8 +1,9 @@
 //! Trees and values of texts, and texts of trees and values.
 ghost use Rattle.std.specs.Prelude.{IfOk};
 
-use bidi_shape::{MakeFault, Shape};
-use bidi_tree::{Members, Tree, read, write};
+use bidi_shape::{MakeFault, Parsed, Shape};
+use bidi_tree::{Members, Tree, parse, read, write};
+use json::{Scratch, Value};
 use std::alloc::Global;
 use std::fmt::Debug;
 use std::test::Fail;
@@ -41,9 +42,21 @@ pub fn text_of<X: Shape>(alloc: Global, value: X) -> Result<String, Fail> {
     written(alloc, value.to_tree(alloc)?)
 }
 
-/// The compact text of the value that a text reads as, or the fault.
+/// The compact text of the value that a text reads as, or the fault: by its tree and with no tree between, which agree.
 pub fn again<X: Shape>(alloc: Global, text: &str) -> Result<String, Fail> {
-    match X::from_tree(alloc, &tree_of(alloc, text)?) {
+    let mut scratch = Scratch::new(alloc);
+    let value = parse(alloc, text, None, &mut scratch)?;
+    let straight = read_again::<X, Value>(alloc, &value)?;
+    let by_tree = read_again::<X, Tree>(alloc, &tree_of(alloc, text)?)?;
+    if by_tree == straight {
+        Ok(by_tree)
+    } else {
+        Err(Fail::from("a text reads in two ways"))
+    }
+}
+
+fn read_again<X: Shape, S: Parsed>(alloc: Global, tree: &S) -> Result<String, Fail> {
+    match X::from_tree(alloc, tree) {
         Ok(value) => text_of(alloc, value),
         Err(fault) => Ok(format!(in alloc; "{fault:?}")?),
     }

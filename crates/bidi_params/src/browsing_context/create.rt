@@ -9,8 +9,8 @@ ghost use Rattle.bidi_shape.specs.Made.{Makes};
 ghost use Rattle.bidi_shape.specs.ValueLaws.{others_of};
 
 use bidi_shape::{
-    Ext, Fields, MakeFault, Maybe, Named, One, Optional, Required, Rest, Ruled, Shape, ShapeFault,
-    further, read_fields, write_fields,
+    Ext, Fields, MakeFault, Maybe, Named, One, Optional, Parsed, Required, Rest, Ruled, Shape,
+    ShapeFault, further, read_fields, write_fields,
 };
 use bidi_tree::{Members, Tree};
 use std::alloc::{AllocError, Global};
@@ -115,11 +115,11 @@ impl Ruled for CreateParameters {
 impl Shape for CreateParameters {
     ghost shape = { map_shape ⟦<CreateParameters as Ruled>⟧.rule ⟦<CreateParts as Fields>⟧.table [] (λ v. (v.kind, (v.reference_context, (v.background, (v.user_context, v.ext))))) refl refl };
 
-    fn from_tree(alloc: Global, tree: &Tree) -> Result<CreateParameters, ShapeFault> {
+    fn from_tree<S: Parsed>(alloc: Global, tree: &S) -> Result<CreateParameters, ShapeFault> {
         let Required(
             kind,
             Optional(reference_context, Optional(background, Optional(user_context, ext))),
-        ) = read_fields::<CreateParameters, CreateParts>(alloc, tree, Self::NAMES, &[])?;
+        ) = read_fields::<CreateParameters, CreateParts, S>(alloc, tree, Self::NAMES, &[])?;
         Ok(CreateParameters {
             kind,
             reference_context,
@@ -187,8 +187,8 @@ impl Ruled for CreateResult {
 impl Shape for CreateResult {
     ghost shape = { map_shape ⟦<CreateResult as Ruled>⟧.rule ⟦<CreatedParts as Fields>⟧.table [] (λ v. (v.context, v.ext)) refl refl };
 
-    fn from_tree(alloc: Global, tree: &Tree) -> Result<CreateResult, ShapeFault> {
-        let Required(context, ext) = read_fields::<CreateResult, CreatedParts>(
+    fn from_tree<S: Parsed>(alloc: Global, tree: &S) -> Result<CreateResult, ShapeFault> {
+        let Required(context, ext) = read_fields::<CreateResult, CreatedParts, S>(
             alloc,
             tree,
             Self::NAMES,
@@ -249,8 +249,8 @@ impl Ruled for ActivateParameters {
 impl Shape for ActivateParameters {
     ghost shape = { map_shape ⟦<ActivateParameters as Ruled>⟧.rule ⟦<ActivateParts as Fields>⟧.table [] (λ v. (v.context, v.ext)) refl refl };
 
-    fn from_tree(alloc: Global, tree: &Tree) -> Result<ActivateParameters, ShapeFault> {
-        let Required(context, ext) = read_fields::<ActivateParameters, ActivateParts>(
+    fn from_tree<S: Parsed>(alloc: Global, tree: &S) -> Result<ActivateParameters, ShapeFault> {
+        let Required(context, ext) = read_fields::<ActivateParameters, ActivateParts, S>(
             alloc,
             tree,
             Self::NAMES,
@@ -322,10 +322,11 @@ impl Ruled for CloseParameters {
 impl Shape for CloseParameters {
     ghost shape = { map_shape ⟦<CloseParameters as Ruled>⟧.rule ⟦<CloseParts as Fields>⟧.table [] (λ v. (v.context, (v.prompt_unload, v.ext))) refl refl };
 
-    fn from_tree(alloc: Global, tree: &Tree) -> Result<CloseParameters, ShapeFault> {
+    fn from_tree<S: Parsed>(alloc: Global, tree: &S) -> Result<CloseParameters, ShapeFault> {
         let Required(context, Optional(prompt_unload, ext)) = read_fields::<
             CloseParameters,
             CloseParts,
+            S,
         >(alloc, tree, Self::NAMES, &[])?;
         Ok(CloseParameters {
             context,

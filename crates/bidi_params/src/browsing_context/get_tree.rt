@@ -10,7 +10,7 @@ ghost use Rattle.bidi_shape.specs.ValueLaws.{others_of};
 
 use crate::browsing_context::info::Info;
 use bidi_shape::{
-    Ext, Fields, MakeFault, Maybe, One, Optional, Required, Rest, Ruled, Shape, ShapeFault,
+    Ext, Fields, MakeFault, Maybe, One, Optional, Parsed, Required, Rest, Ruled, Shape, ShapeFault,
     further, read_fields, write_fields,
 };
 use bidi_tree::{JsUint, Members, Tree};
@@ -73,10 +73,11 @@ impl Ruled for GetTreeParameters {
 impl Shape for GetTreeParameters {
     ghost shape = { map_shape ⟦<GetTreeParameters as Ruled>⟧.rule ⟦<GetTreeParts as Fields>⟧.table [] (λ v. (v.max_depth, (v.root, v.ext))) refl refl };
 
-    fn from_tree(alloc: Global, tree: &Tree) -> Result<GetTreeParameters, ShapeFault> {
+    fn from_tree<S: Parsed>(alloc: Global, tree: &S) -> Result<GetTreeParameters, ShapeFault> {
         let Optional(max_depth, Optional(root, ext)) = read_fields::<
             GetTreeParameters,
             GetTreeParts,
+            S,
         >(alloc, tree, Self::NAMES, &[])?;
         Ok(GetTreeParameters {
             max_depth,
@@ -138,8 +139,8 @@ impl Ruled for GetTreeResult {
 impl Shape for GetTreeResult {
     ghost shape = { map_shape ⟦<GetTreeResult as Ruled>⟧.rule ⟦<ResultParts as Fields>⟧.table [] (λ v. (v.contexts, v.ext)) refl refl };
 
-    fn from_tree(alloc: Global, tree: &Tree) -> Result<GetTreeResult, ShapeFault> {
-        let Required(contexts, ext) = read_fields::<GetTreeResult, ResultParts>(
+    fn from_tree<S: Parsed>(alloc: Global, tree: &S) -> Result<GetTreeResult, ShapeFault> {
+        let Required(contexts, ext) = read_fields::<GetTreeResult, ResultParts, S>(
             alloc,
             tree,
             Self::NAMES,

@@ -2,7 +2,8 @@
 ghost use Rattle.std.specs.Prelude.{◌≡◌, IfOk, Some, codes, map, option_map};
 ghost use Rattle.std.specs.List.{AllByRecursion};
 ghost use Rattle.bidi_tree.specs.Node.{get_member};
-ghost use Rattle.bidi_tree.specs.View.{node, items_node, members_node};
+ghost use Rattle.bidi_tree.specs.Kind.{members_in};
+ghost use Rattle.bidi_tree.specs.View.{node, items_of};
 ghost use Rattle.bidi_shape.specs.Name.{info};
 ghost use Rattle.bidi_shape.specs.Term.{Term, required, either, list_of, map_of, null, rule as named};
 ghost use Rattle.bidi_shape.specs.Fits.{Fits, AllFit};
@@ -15,10 +16,9 @@ ghost use Rattle.bidi_params.specs.declared.browsing_context.info.Info.{out-Info
 ghost use Rattle.bidi_params.specs.InfoView.{beside_of, content, children_content, tree_of_info, InfoIsWell};
 
 use bidi_shape::{
-    Ext, Fields, MakeFault, Optional, Required, Shape, ShapeFault, add_member, add_optional,
-    map_inside,
+    Ext, Fields, MakeFault, Optional, Parsed, Required, Shape, ShapeFault, add_member, add_optional,
 };
-use bidi_tree::{Members, Tree, find_member, put_member};
+use bidi_tree::{Members, Tree, put_member};
 use std::alloc::{AllocError, Global};
 
 /// A browsing context, and those below it, of at most 60 levels.
@@ -129,8 +129,8 @@ const MAX_LEVELS: usize = 60;
 impl Shape for Info {
     ghost shape = { info_shape info_parts content };
 
-    fn from_tree(alloc: Global, tree: &Tree) -> Result<Info, ShapeFault> {
-        if tree.is_within(MAX_LEVELS) {
+    fn from_tree<S: Parsed>(alloc: Global, tree: &S) -> Result<Info, ShapeFault> {
+        if tree.is_within(alloc, MAX_LEVELS)? {
             read_info(alloc, tree)
         } else {
             Err(ShapeFault::NoFit)
@@ -145,9 +145,9 @@ impl Shape for Info {
 // ---- reading
 
 #[cycle(read)]
-fn read_info(alloc: Global, tree: &Tree) -> Result<Info, ShapeFault>
-    ensures ok { IfOk result (λ i. (tree_of_info info_parts i ≡ node tree.now) × InfoIsWell info_parts i) }
-    ensures no_fit { IfNoFit result (Fits (node tree.now) (named info) → ⊥) }
+fn read_info<S: Parsed>(alloc: Global, tree: &S) -> Result<Info, ShapeFault>
+    ensures ok { IfOk result (λ i. (tree_of_info info_parts i ≡ S.tree tree.now) × InfoIsWell info_parts i) }
+    ensures no_fit { IfNoFit result (Fits (S.tree tree.now) (named info) → ⊥) }
 {
     let (beside, children) = read_beside(alloc, tree)?;
     match children {
@@ -160,9 +160,9 @@ fn read_info(alloc: Global, tree: &Tree) -> Result<Info, ShapeFault>
 }
 
 #[cycle(read)]
-fn read_infos(alloc: Global, items: &[Tree]) -> Result<Vec<Info>, ShapeFault>
-    ensures ok { IfOk result (λ v. (map (tree_of_info info_parts) v.items ≡ map node items.now) × AllByRecursion (InfoIsWell info_parts) v.items) }
-    ensures no_fit { IfNoFit result (AllFit (items_node items.now) (named info) → ⊥) }
+fn read_infos<S: Parsed>(alloc: Global, items: &[S]) -> Result<Vec<Info>, ShapeFault>
+    ensures ok { IfOk result (λ v. (map (tree_of_info info_parts) v.items ≡ map S.tree items.now) × AllByRecursion (InfoIsWell info_parts) v.items) }
+    ensures no_fit { IfNoFit result (AllFit (items_of (map S.tree items.now)) (named info) → ⊥) }
 {
     let mut infos = Vec::with_capacity(alloc, items.len())?;
     for item in items {
@@ -172,18 +172,18 @@ fn read_infos(alloc: Global, items: &[Tree]) -> Result<Vec<Info>, ShapeFault>
 }
 
 /// What stands beside the children, and the items of these where they are told.
-fn read_beside<'a>(
+fn read_beside<'a, S: Parsed>(
     alloc: Global,
-    tree: &'a Tree,
-) -> Result<(Beside, Option<&'a [Tree]>), ShapeFault>
-    ensures ok { IfOk result (λ p. (info_map info_parts.table p.0 (children_node (option_map (λ x. items_node x.now) p.1)) ≡ node tree.now)
+    tree: &'a S,
+) -> Result<(Beside, Option<&'a [S]>), ShapeFault>
+    ensures ok { IfOk result (λ p. (info_map info_parts.table p.0 (children_node (option_map (λ x. items_of (map S.tree x.now)) p.1)) ≡ S.tree tree.now)
         × BesideIsWell info_parts p.0) }
-    ensures no_fit { IfNoFit result ((τ : Term) → Fits (node tree.now) (map_of (rows_with info_parts.table τ) info_parts.table.openness) → ⊥) }
+    ensures no_fit { IfNoFit result ((τ : Term) → Fits (S.tree tree.now) (map_of (rows_with info_parts.table τ) info_parts.table.openness) → ⊥) }
 {
-    let members = map_inside(tree)?;
+    tree.check_map()?;
     let beside = Beside::read(
         alloc,
-        members,
+        tree,
         &[
             "clientWindow",
             "context",
@@ -203,19 +203,35 @@ fn read_beside<'a>(
             "parent",
         ],
     )?;
-    let children = children_in(members)?;
+    let children = children_in(tree)?;
     Ok((beside, children))
 }
 
 /// The items of the children, or none where null stands in their place.
-fn children_in(members: &Members) -> Result<Option<&[Tree]>, ShapeFault>
-    ensures ok { IfOk result (λ c. get_member (codes "children") (members_node members.now.entries) ≡ Some (children_node (option_map (λ x. items_node x.now) c))) }
-    ensures no_fit { IfNoFit result ((τ : Term) → PartFits required (either (list_of 0 τ) null) (get_member (codes "children") (members_node members.now.entries)) → ⊥) }
+fn children_in<S: Parsed>(tree: &S) -> Result<Option<&[S]>, ShapeFault>
+    ensures ok { IfOk result (λ c. get_member (codes "children") (members_in (S.tree tree.now)) ≡ Some (children_node (option_map (λ x. items_of (map S.tree x.now)) c))) }
+    ensures no_fit { IfNoFit result ((τ : Term) → PartFits required (either (list_of 0 τ) null) (get_member (codes "children") (members_in (S.tree tree.now))) → ⊥) }
 {
-    match find_member(members, "children") {
-        Some(Tree::List(items)) => Ok(Some(items.as_slice())),
-        Some(Tree::Null) => Ok(None),
-        _ => Err(ShapeFault::NoFit),
+    match tree.member("children") {
+        Some(children) => items_or_null(children),
+        None => Err(ShapeFault::NoFit),
+    }
+}
+
+/// The items of a list, or none of null.
+fn items_or_null<S: Parsed>(children: &S) -> Result<Option<&[S]>, ShapeFault>
+    ensures ok { IfOk result (λ c. S.tree children.now ≡ children_node (option_map (λ x. items_of (map S.tree x.now)) c)) }
+    ensures no_fit { IfNoFit result ((τ : Term) → Fits (S.tree children.now) (either (list_of 0 τ) null) → ⊥) }
+{
+    match children.as_items() {
+        Some(items) => Ok(Some(items)),
+        None => {
+            if children.is_null() {
+                Ok(None)
+            } else {
+                Err(ShapeFault::NoFit)
+            }
+        }
     }
 }
 

@@ -9,8 +9,8 @@ ghost use Rattle.bidi_shape.specs.Made.{Makes};
 ghost use Rattle.bidi_shape.specs.ValueLaws.{others_of};
 
 use bidi_shape::{
-    Ext, Fields, MakeFault, Maybe, Named, One, Optional, Required, Rest, Ruled, Shape, ShapeFault,
-    further, read_fields, write_fields,
+    Ext, Fields, MakeFault, Maybe, Named, One, Optional, Parsed, Required, Rest, Ruled, Shape,
+    ShapeFault, further, read_fields, write_fields,
 };
 use bidi_tree::{JsInt, JsUint, Members, Tree};
 use std::alloc::{AllocError, Global};
@@ -110,10 +110,11 @@ impl Ruled for NavigateParameters {
 impl Shape for NavigateParameters {
     ghost shape = { map_shape ⟦<NavigateParameters as Ruled>⟧.rule ⟦<NavigateParts as Fields>⟧.table [] (λ v. (v.context, (v.url, (v.wait, v.ext)))) refl refl };
 
-    fn from_tree(alloc: Global, tree: &Tree) -> Result<NavigateParameters, ShapeFault> {
+    fn from_tree<S: Parsed>(alloc: Global, tree: &S) -> Result<NavigateParameters, ShapeFault> {
         let Required(context, Required(url, Optional(wait, ext))) = read_fields::<
             NavigateParameters,
             NavigateParts,
+            S,
         >(alloc, tree, Self::NAMES, &[])?;
         Ok(NavigateParameters {
             context,
@@ -192,10 +193,11 @@ impl Ruled for ReloadParameters {
 impl Shape for ReloadParameters {
     ghost shape = { map_shape ⟦<ReloadParameters as Ruled>⟧.rule ⟦<ReloadParts as Fields>⟧.table [] (λ v. (v.context, (v.ignore_cache, (v.wait, v.ext)))) refl refl };
 
-    fn from_tree(alloc: Global, tree: &Tree) -> Result<ReloadParameters, ShapeFault> {
+    fn from_tree<S: Parsed>(alloc: Global, tree: &S) -> Result<ReloadParameters, ShapeFault> {
         let Required(context, Optional(ignore_cache, Optional(wait, ext))) = read_fields::<
             ReloadParameters,
             ReloadParts,
+            S,
         >(alloc, tree, Self::NAMES, &[])?;
         Ok(ReloadParameters {
             context,
@@ -270,10 +272,11 @@ impl Ruled for NavigateResult {
 impl Shape for NavigateResult {
     ghost shape = { map_shape ⟦<NavigateResult as Ruled>⟧.rule ⟦<NavigatedParts as Fields>⟧.table [] (λ v. (v.navigation, (v.url, v.ext))) refl refl };
 
-    fn from_tree(alloc: Global, tree: &Tree) -> Result<NavigateResult, ShapeFault> {
+    fn from_tree<S: Parsed>(alloc: Global, tree: &S) -> Result<NavigateResult, ShapeFault> {
         let Required(navigation, Required(url, ext)) = read_fields::<
             NavigateResult,
             NavigatedParts,
+            S,
         >(alloc, tree, Self::NAMES, &[])?;
         Ok(NavigateResult {
             navigation,
@@ -345,10 +348,14 @@ impl Ruled for TraverseHistoryParameters {
 impl Shape for TraverseHistoryParameters {
     ghost shape = { map_shape ⟦<TraverseHistoryParameters as Ruled>⟧.rule ⟦<TraverseParts as Fields>⟧.table [] (λ v. (v.context, (v.delta, v.ext))) refl refl };
 
-    fn from_tree(alloc: Global, tree: &Tree) -> Result<TraverseHistoryParameters, ShapeFault> {
+    fn from_tree<S: Parsed>(
+        alloc: Global,
+        tree: &S,
+    ) -> Result<TraverseHistoryParameters, ShapeFault> {
         let Required(context, Required(delta, ext)) = read_fields::<
             TraverseHistoryParameters,
             TraverseParts,
+            S,
         >(alloc, tree, Self::NAMES, &[])?;
         Ok(TraverseHistoryParameters {
             context,
@@ -428,9 +435,9 @@ impl Ruled for NavigationInfo {
 impl Shape for NavigationInfo {
     ghost shape = { map_shape ⟦<NavigationInfo as Ruled>⟧.rule ⟦<InfoParts as Fields>⟧.table [] (λ v. (v.context, (v.navigation, (v.timestamp, (v.url, v.ext))))) refl refl };
 
-    fn from_tree(alloc: Global, tree: &Tree) -> Result<NavigationInfo, ShapeFault> {
+    fn from_tree<S: Parsed>(alloc: Global, tree: &S) -> Result<NavigationInfo, ShapeFault> {
         let Required(context, Required(navigation, Required(timestamp, Required(url, ext)))) =
-            read_fields::<NavigationInfo, InfoParts>(alloc, tree, Self::NAMES, &[])?;
+            read_fields::<NavigationInfo, InfoParts, S>(alloc, tree, Self::NAMES, &[])?;
         Ok(NavigationInfo {
             context,
             navigation,

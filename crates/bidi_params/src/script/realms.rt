@@ -9,8 +9,8 @@ ghost use Rattle.bidi_shape.specs.Made.{Makes};
 ghost use Rattle.bidi_shape.specs.ValueLaws.{others_of};
 
 use bidi_shape::{
-    Exact, Ext, Fields, Literal, MakeFault, Maybe, Named, One, Optional, Required, Rest, Ruled,
-    Shape, ShapeFault, further, read_fields, write_fields,
+    Exact, Ext, Fields, Literal, MakeFault, Maybe, Named, One, Optional, Parsed, Required, Rest,
+    Ruled, Shape, ShapeFault, further, read_fields, write_fields,
 };
 use bidi_tree::{Members, Tree};
 use std::alloc::{AllocError, Global};
@@ -119,10 +119,11 @@ impl Ruled for GetRealmsParameters {
 impl Shape for GetRealmsParameters {
     ghost shape = { map_shape ⟦<GetRealmsParameters as Ruled>⟧.rule ⟦<GetRealmsParts as Fields>⟧.table [] (λ v. (v.context, (v.kind, v.ext))) refl refl };
 
-    fn from_tree(alloc: Global, tree: &Tree) -> Result<GetRealmsParameters, ShapeFault> {
+    fn from_tree<S: Parsed>(alloc: Global, tree: &S) -> Result<GetRealmsParameters, ShapeFault> {
         let Optional(context, Optional(kind, ext)) = read_fields::<
             GetRealmsParameters,
             GetRealmsParts,
+            S,
         >(alloc, tree, Self::NAMES, &[])?;
         Ok(GetRealmsParameters { context, kind, ext })
     }
@@ -191,10 +192,11 @@ impl Ruled for RealmInfo {
 impl Shape for RealmInfo {
     ghost shape = { map_shape ⟦<RealmInfo as Ruled>⟧.rule ⟦<InfoParts as Fields>⟧.table (codes "window" ∷ []) (λ v. (v.realm, (v.origin, record { 0 = (v.context, v.ext) }))) refl refl };
 
-    fn from_tree(alloc: Global, tree: &Tree) -> Result<RealmInfo, ShapeFault> {
+    fn from_tree<S: Parsed>(alloc: Global, tree: &S) -> Result<RealmInfo, ShapeFault> {
         let Required(realm, Required(origin, Literal(Required(context, ext)))) = read_fields::<
             RealmInfo,
             InfoParts,
+            S,
         >(alloc, tree, Self::NAMES, &["window"])?;
         Ok(RealmInfo {
             realm,
@@ -260,8 +262,8 @@ impl Ruled for GetRealmsResult {
 impl Shape for GetRealmsResult {
     ghost shape = { map_shape ⟦<GetRealmsResult as Ruled>⟧.rule ⟦<RealmsParts as Fields>⟧.table [] (λ v. (v.realms, v.ext)) refl refl };
 
-    fn from_tree(alloc: Global, tree: &Tree) -> Result<GetRealmsResult, ShapeFault> {
-        let Required(realms, ext) = read_fields::<GetRealmsResult, RealmsParts>(
+    fn from_tree<S: Parsed>(alloc: Global, tree: &S) -> Result<GetRealmsResult, ShapeFault> {
+        let Required(realms, ext) = read_fields::<GetRealmsResult, RealmsParts, S>(
             alloc,
             tree,
             Self::NAMES,
@@ -322,8 +324,11 @@ impl Ruled for RealmDestroyedParameters {
 impl Shape for RealmDestroyedParameters {
     ghost shape = { map_shape ⟦<RealmDestroyedParameters as Ruled>⟧.rule ⟦<DestroyedParts as Fields>⟧.table [] (λ v. (v.realm, v.ext)) refl refl };
 
-    fn from_tree(alloc: Global, tree: &Tree) -> Result<RealmDestroyedParameters, ShapeFault> {
-        let Required(realm, ext) = read_fields::<RealmDestroyedParameters, DestroyedParts>(
+    fn from_tree<S: Parsed>(
+        alloc: Global,
+        tree: &S,
+    ) -> Result<RealmDestroyedParameters, ShapeFault> {
+        let Required(realm, ext) = read_fields::<RealmDestroyedParameters, DestroyedParts, S>(
             alloc,
             tree,
             Self::NAMES,

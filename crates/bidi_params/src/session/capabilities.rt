@@ -1,6 +1,6 @@
 //! What a session can do.
 use bidi_shape::{
-    Ext, Fields, MakeFault, Maybe, One, Optional, Required, Rest, Ruled, Shape, ShapeFault,
+    Ext, Fields, MakeFault, Maybe, One, Optional, Parsed, Required, Rest, Ruled, Shape, ShapeFault,
     further, read_fields, write_fields,
 };
 use bidi_tree::{Members, Tree};
@@ -65,8 +65,8 @@ impl Shape for NewParameters {
 
     ghost shape = { map_shape ⟦<NewParameters as Ruled>⟧.rule ⟦<NewParts as Fields>⟧.table [] (λ v. (v.capabilities, v.ext)) refl refl };
 
-    fn from_tree(alloc: Global, tree: &Tree) -> Result<NewParameters, ShapeFault> {
-        let Required(capabilities, ext) = read_fields::<NewParameters, NewParts>(
+    fn from_tree<S: Parsed>(alloc: Global, tree: &S) -> Result<NewParameters, ShapeFault> {
+        let Required(capabilities, ext) = read_fields::<NewParameters, NewParts, S>(
             alloc,
             tree,
             Self::NAMES,
@@ -150,10 +150,11 @@ impl Shape for CapabilitiesRequest {
 
     ghost shape = { map_shape ⟦<CapabilitiesRequest as Ruled>⟧.rule ⟦<RequestParts as Fields>⟧.table [] (λ v. (v.always_match, (v.first_match, v.ext))) refl refl };
 
-    fn from_tree(alloc: Global, tree: &Tree) -> Result<CapabilitiesRequest, ShapeFault> {
+    fn from_tree<S: Parsed>(alloc: Global, tree: &S) -> Result<CapabilitiesRequest, ShapeFault> {
         let Optional(always_match, Optional(first_match, ext)) = read_fields::<
             CapabilitiesRequest,
             RequestParts,
+            S,
         >(alloc, tree, Self::NAMES, &[])?;
         Ok(CapabilitiesRequest {
             always_match,
@@ -250,11 +251,11 @@ impl Shape for CapabilityRequest {
 
     ghost shape = { map_shape ⟦<CapabilityRequest as Ruled>⟧.rule ⟦<CapabilityParts as Fields>⟧.table [] (λ v. (v.accept_insecure_certs, (v.browser_name, (v.browser_version, (v.platform_name, v.ext))))) refl refl };
 
-    fn from_tree(alloc: Global, tree: &Tree) -> Result<CapabilityRequest, ShapeFault> {
+    fn from_tree<S: Parsed>(alloc: Global, tree: &S) -> Result<CapabilityRequest, ShapeFault> {
         let Optional(
             accept_insecure_certs,
             Optional(browser_name, Optional(browser_version, Optional(platform_name, ext))),
-        ) = read_fields::<CapabilityRequest, CapabilityParts>(alloc, tree, Self::NAMES, &[])?;
+        ) = read_fields::<CapabilityRequest, CapabilityParts, S>(alloc, tree, Self::NAMES, &[])?;
         Ok(CapabilityRequest {
             accept_insecure_certs,
             browser_name,
@@ -347,10 +348,11 @@ impl Shape for NewResult {
 
     ghost shape = { map_shape ⟦<NewResult as Ruled>⟧.rule ⟦<ResultParts as Fields>⟧.table [] (λ v. (v.session_id, (v.capabilities, v.ext))) refl refl };
 
-    fn from_tree(alloc: Global, tree: &Tree) -> Result<NewResult, ShapeFault> {
+    fn from_tree<S: Parsed>(alloc: Global, tree: &S) -> Result<NewResult, ShapeFault> {
         let Required(session_id, Required(capabilities, ext)) = read_fields::<
             NewResult,
             ResultParts,
+            S,
         >(alloc, tree, Self::NAMES, &[])?;
         Ok(NewResult {
             session_id,
@@ -456,7 +458,7 @@ impl Shape for Capabilities {
 
     ghost shape = { map_shape ⟦<Capabilities as Ruled>⟧.rule ⟦<CapabilitiesParts as Fields>⟧.table [] (λ v. (v.accept_insecure_certs, (v.browser_name, (v.browser_version, (v.platform_name, (v.set_window_rect, (v.user_agent, v.ext))))))) refl refl };
 
-    fn from_tree(alloc: Global, tree: &Tree) -> Result<Capabilities, ShapeFault> {
+    fn from_tree<S: Parsed>(alloc: Global, tree: &S) -> Result<Capabilities, ShapeFault> {
         let Required(
             accept_insecure_certs,
             Required(
@@ -466,7 +468,7 @@ impl Shape for Capabilities {
                     Required(platform_name, Required(set_window_rect, Required(user_agent, ext))),
                 ),
             ),
-        ) = read_fields::<Capabilities, CapabilitiesParts>(alloc, tree, Self::NAMES, &[])?;
+        ) = read_fields::<Capabilities, CapabilitiesParts, S>(alloc, tree, Self::NAMES, &[])?;
         Ok(Capabilities {
             accept_insecure_certs,
             browser_name,

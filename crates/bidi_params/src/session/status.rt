@@ -1,7 +1,7 @@
 //! Whether a remote end is ready.
 use bidi_shape::{
-    Ext, Fields, MakeFault, One, Required, Rest, Ruled, Shape, ShapeFault, further, read_fields,
-    write_fields,
+    Ext, Fields, MakeFault, One, Parsed, Required, Rest, Ruled, Shape, ShapeFault, further,
+    read_fields, write_fields,
 };
 use bidi_tree::{Members, Tree};
 use std::alloc::{AllocError, Global};
@@ -69,8 +69,8 @@ impl Shape for StatusResult {
 
     ghost shape = { map_shape ⟦<StatusResult as Ruled>⟧.rule ⟦<Parts as Fields>⟧.table [] (λ v. (v.ready, (v.message, v.ext))) refl refl };
 
-    fn from_tree(alloc: Global, tree: &Tree) -> Result<StatusResult, ShapeFault> {
-        let Required(ready, Required(message, ext)) = read_fields::<StatusResult, Parts>(
+    fn from_tree<S: Parsed>(alloc: Global, tree: &S) -> Result<StatusResult, ShapeFault> {
+        let Required(ready, Required(message, ext)) = read_fields::<StatusResult, Parts, S>(
             alloc,
             tree,
             Self::NAMES,

@@ -1,7 +1,7 @@
 //! Subscriptions to events.
 use bidi_shape::{
-    Either, Ext, Fields, MakeFault, Maybe, One, OneOrMore, Optional, Required, Rest, Ruled, Shape,
-    ShapeFault, further, not_shadowed, read_choice, read_fields, write_fields,
+    Either, Ext, Fields, MakeFault, Maybe, One, OneOrMore, Optional, Parsed, Required, Rest, Ruled,
+    Shape, ShapeFault, further, not_shadowed, read_choice, read_fields, write_fields,
 };
 use bidi_tree::{Members, Tree};
 use std::alloc::{AllocError, Global};
@@ -82,10 +82,11 @@ impl Shape for SubscribeParameters {
 
     ghost shape = { map_shape ⟦<SubscribeParameters as Ruled>⟧.rule ⟦<SubscribeParts as Fields>⟧.table [] (λ v. (v.events, (v.contexts, (v.user_contexts, v.ext)))) refl refl };
 
-    fn from_tree(alloc: Global, tree: &Tree) -> Result<SubscribeParameters, ShapeFault> {
+    fn from_tree<S: Parsed>(alloc: Global, tree: &S) -> Result<SubscribeParameters, ShapeFault> {
         let Required(events, Optional(contexts, Optional(user_contexts, ext))) = read_fields::<
             SubscribeParameters,
             SubscribeParts,
+            S,
         >(alloc, tree, Self::NAMES, &[])?;
         Ok(SubscribeParameters {
             events,
@@ -162,8 +163,8 @@ impl Shape for SubscribeResult {
 
     ghost shape = { map_shape ⟦<SubscribeResult as Ruled>⟧.rule ⟦<SubscriptionParts as Fields>⟧.table [] (λ v. (v.subscription, v.ext)) refl refl };
 
-    fn from_tree(alloc: Global, tree: &Tree) -> Result<SubscribeResult, ShapeFault> {
-        let Required(subscription, ext) = read_fields::<SubscribeResult, SubscriptionParts>(
+    fn from_tree<S: Parsed>(alloc: Global, tree: &S) -> Result<SubscribeResult, ShapeFault> {
+        let Required(subscription, ext) = read_fields::<SubscribeResult, SubscriptionParts, S>(
             alloc,
             tree,
             Self::NAMES,
@@ -237,8 +238,8 @@ impl Shape for UnsubscribeById {
 
     ghost shape = { map_shape ⟦<UnsubscribeById as Ruled>⟧.rule ⟦<ByIdParts as Fields>⟧.table [] (λ v. (v.subscriptions, v.ext)) refl refl };
 
-    fn from_tree(alloc: Global, tree: &Tree) -> Result<UnsubscribeById, ShapeFault> {
-        let Required(subscriptions, ext) = read_fields::<UnsubscribeById, ByIdParts>(
+    fn from_tree<S: Parsed>(alloc: Global, tree: &S) -> Result<UnsubscribeById, ShapeFault> {
+        let Required(subscriptions, ext) = read_fields::<UnsubscribeById, ByIdParts, S>(
             alloc,
             tree,
             Self::NAMES,
@@ -325,8 +326,8 @@ impl Shape for UnsubscribeByEvents {
 
     ghost shape = { map_shape ⟦<UnsubscribeByEvents as Ruled>⟧.rule ⟦<ByEventsParts as Fields>⟧.table [] (λ v. (v.events, v.ext)) refl refl };
 
-    fn from_tree(alloc: Global, tree: &Tree) -> Result<UnsubscribeByEvents, ShapeFault> {
-        let Required(events, ext) = read_fields::<UnsubscribeByEvents, ByEventsParts>(
+    fn from_tree<S: Parsed>(alloc: Global, tree: &S) -> Result<UnsubscribeByEvents, ShapeFault> {
+        let Required(events, ext) = read_fields::<UnsubscribeByEvents, ByEventsParts, S>(
             alloc,
             tree,
             Self::NAMES,
@@ -370,8 +371,8 @@ impl Shape for UnsubscribeParameters {
     ghost shape = { shape_through ⟦<UnsubscribeParameters as Ruled>⟧.rule ⟦<Alternatives as Shape>⟧.shape
         (λ v. elim v [ ById i ↦ First i | ByEvents e ↦ Second e ]) refl };
 
-    fn from_tree(alloc: Global, tree: &Tree) -> Result<UnsubscribeParameters, ShapeFault> {
-        match read_choice::<UnsubscribeParameters, Alternatives>(alloc, tree)? {
+    fn from_tree<S: Parsed>(alloc: Global, tree: &S) -> Result<UnsubscribeParameters, ShapeFault> {
+        match read_choice::<UnsubscribeParameters, Alternatives, S>(alloc, tree)? {
             Either::First(by_id) => Ok(UnsubscribeParameters::ById(by_id)),
             Either::Second(by_events) => Ok(UnsubscribeParameters::ByEvents(by_events)),
         }

@@ -1,5 +1,7 @@
 use Rattle.bidi_tree.specs.Node as kind
-use Rattle.bidi_tree.specs.View.{node, items_node, members_node}
+use Rattle.std.proofs.Common.{map}
+use Rattle.bidi_tree.specs.Kind.{members_in}
+use Rattle.bidi_tree.specs.View.{items_of}
 use Rattle.bidi_shape.specs.Outcome.{handed_on}
 use Rattle.bidi_values.proofs.BesideLemmas.{beside_misfit, value_misfit, around_again}
 use Rattle.bidi_values.proofs.beside.read_around.Goals as goal
@@ -7,16 +9,16 @@ use Rattle.bidi_values.proofs.beside.read_around.Goals as goal
 pub returns-in_err-beside-clause-no_fit : goal.returns-in_err-beside-clause-no_fit
 returns-in_err-beside-clause-no_fit g c =
     handed_on _ _ c.from_residual-in_err-beside.ensures.1 c.in_err-beside.ensures.no_fit
-    (beside_misfit g.H.Beside.beside (node c.args.tree.now) (members_node c.in_ok-members.members.now.entries) c.in_ok-members.ensures.ok)
+    (beside_misfit g.H.Beside.beside (g.S.Parsed.tree c.args.tree.now) (members_in (g.S.Parsed.tree c.args.tree.now)) c.in_ok-check_map.ensures.ok)
 
 pub returns-in_err-items-clause-no_fit : goal.returns-in_err-items-clause-no_fit
 returns-in_err-items-clause-no_fit g c =
     handed_on _ _ c.from_residual-in_err-items.ensures.1 c.in_err-items.ensures.no_fit
-    (value_misfit g.H.Beside.beside (node c.args.tree.now) (members_node c.in_ok-members.members.now.entries) c.in_ok-members.ensures.ok)
+    (value_misfit g.H.Beside.beside (g.S.Parsed.tree c.args.tree.now) (members_in (g.S.Parsed.tree c.args.tree.now)) c.in_ok-check_map.ensures.ok)
 
 pub returns-clause-ok : goal.returns-clause-ok
 returns-clause-ok g c = (
-  around_again g.H.Beside.beside (node c.args.tree.now) (members_node c.in_ok-members.members.now.entries) c.in_ok-beside.beside (kind.list (items_node c.in_ok-items.items.now))
-      c.in_ok-members.ensures.ok c.in_ok-beside.ensures.sorted c.in_ok-beside.ensures.ok.0 c.in_ok-beside.ensures.rest c.in_ok-items.ensures.ok,
+  around_again g.H.Beside.beside (g.S.Parsed.tree c.args.tree.now) (members_in (g.S.Parsed.tree c.args.tree.now)) c.in_ok-beside.beside (kind.list (items_of (map g.S.Parsed.tree c.in_ok-items.items.now)))
+      c.in_ok-check_map.ensures.ok c.in_ok-beside.ensures.sorted c.in_ok-beside.ensures.ok.0 c.in_ok-beside.ensures.rest c.in_ok-items.ensures.ok,
   c.in_ok-beside.ensures.ok.1,
 )

@@ -1,0 +1,269 @@
+//! What a typed value is read of: a tree, or a JSON value that borrows its text.
+ghost use Rattle.std.specs.Prelude.{◌≡◌, ◌≤◌, ◌↔◌, IfOk, OnOk, IsTrue, map, option_map};
+ghost use Rattle.bidi_tree.specs.Node as kind;
+ghost use Rattle.bidi_tree.specs.Node.{Node, AreAscending, MembersAreWhole, get_member, levels, no_members};
+ghost use Rattle.bidi_tree.specs.Kind.{is_null, bool_in, whole_in, text_in, list_in, members_in};
+ghost use Rattle.bidi_tree.specs.Json.{parsed, put_all};
+ghost use Rattle.bidi_tree.specs.View.{node, items_of, members_node};
+ghost use Rattle.json.specs.Value.{members_view};
+ghost use Rattle.bidi_shape.specs.Term.{Rows, Openness, map_of};
+ghost use Rattle.bidi_shape.specs.Fits.{Fits, without};
+ghost use Rattle.bidi_shape.specs.Parts.{texts_in};
+ghost use Rattle.bidi_shape.specs.Outcome.{IfNoFit};
+
+use crate::ext::Ext;
+use crate::fault::ShapeFault;
+use crate::members::{MAX_LEVELS, is_listed, no_others, others};
+use bidi_tree::{
+    JsInt, Members, Tree, are_whole, find_member, is_parsed_within, own, put_member, whole_number,
+};
+use json::Value;
+use std::alloc::{AllocError, Global};
+
+/// What stands for a tree of JSON, and can be asked for its parts.
+pub trait Parsed: Drop {
+    /// The tree that it stands for.
+    ghost tree: { Self → Node };
+
+    /// Whether it is null.
+    fn is_null(&self) -> bool
+        ensures { result ≡ is_null (tree self.now) };
+
+    /// The truth value, where it is one.
+    fn as_bool(&self) -> Option<bool>
+        ensures { result ≡ bool_in (tree self.now) };
+
+    /// The whole number, where it is one in range.
+    fn as_int(&self) -> Option<JsInt>
+        ensures { option_map (λ n. n.value) result ≡ whole_in (tree self.now) };
+
+    /// The text, where it is one.
+    fn as_str(&self) -> Option<&str>
+        ensures { option_map (λ s. s.now) result ≡ text_in (tree self.now) };
+
+    /// The items, where it is a list.
+    fn as_items(&self) -> Option<&[Self]>
+        ensures { option_map (λ v. items_of (map tree v.now)) result ≡ list_in (tree self.now) };
+
+    /// That it is a map. Takes no memory.
+    ///
+    /// # Errors
+    /// `NoFit`: it is none.
+    fn check_map(&self) -> Result<(), ShapeFault>
+        ensures ok { OnOk result (kind.map (members_in (tree self.now)) ≡ tree self.now) }
+        ensures no_fit { IfNoFit result ((rs : Rows) (o : Openness) → Fits (tree self.now) (map_of rs o) → ⊥) };
+
+    /// The member of that name, where it is a map that has one. Takes no memory.
+    fn member(&self, name: &str) -> Option<&Self>
+        ensures { option_map (λ v. tree v.now) result ≡ get_member name.now (members_in (tree self.now)) };
+
+    /// The members that are not listed.
+    ///
+    /// # Errors
+    /// - `NoFit`: one of them does not fit `any`: an `Odd` stands in it, or it has more than 60 levels.
+    /// - `NoMemory`: an allocation failed.
+    fn others(&self, alloc: Global, names: &[&str]) -> Result<Ext, ShapeFault>
+        ensures sorted { OnOk result (AreAscending (members_in (tree self.now))) }
+        ensures rest { IfOk result (λ e. members_node e.members.entries ≡ without (texts_in names.now) (members_in (tree self.now))) }
+        ensures whole { IfOk result (λ e. MembersAreWhole (members_node e.members.entries) 60) }
+        ensures no_fit { IfNoFit result (MembersAreWhole (without (texts_in names.now) (members_in (tree self.now))) 60 → ⊥) };
+
+    /// That all members are listed. Takes no memory.
+    ///
+    /// # Errors
+    /// `NoFit`: one is not.
+    fn no_others(&self, names: &[&str]) -> Result<(), ShapeFault>
+        ensures sorted { OnOk result (AreAscending (members_in (tree self.now))) }
+        ensures rest { OnOk result (without (texts_in names.now) (members_in (tree self.now)) ≡ no_members) }
+        ensures no_fit { IfNoFit result (without (texts_in names.now) (members_in (tree self.now)) ≡ no_members → ⊥) };
+
+    /// Whether it has at most so many levels.
+    ///
+    /// # Errors
+    /// No memory: an allocation failed.
+    fn is_within(&self, alloc: Global, limit: usize) -> Result<bool, AllocError>
+        ensures { IfOk result (λ b. IsTrue b ↔ (levels (tree self.now) ≤ limit)) };
+}
+
+impl Parsed for Tree {
+    ghost tree = { node };
+
+    fn is_null(&self) -> bool {
+        matches!(self, Tree::Null)
+    }
+
+    fn as_bool(&self) -> Option<bool> {
+        if let Tree::Bool(b) = self {
+            Some(*b)
+        } else {
+            None
+        }
+    }
+
+    fn as_int(&self) -> Option<JsInt> {
+        if let Tree::Int(n) = self {
+            Some(*n)
+        } else {
+            None
+        }
+    }
+
+    fn as_str(&self) -> Option<&str> {
+        if let Tree::Text(text) = self {
+            Some(text.as_str())
+        } else {
+            None
+        }
+    }
+
+    fn as_items(&self) -> Option<&[Tree]> {
+        if let Tree::List(items) = self {
+            Some(items)
+        } else {
+            None
+        }
+    }
+
+    fn check_map(&self) -> Result<(), ShapeFault> {
+        match self {
+            Tree::Map(_) => Ok(()),
+            _ => Err(ShapeFault::NoFit),
+        }
+    }
+
+    fn member(&self, name: &str) -> Option<&Tree> {
+        match self {
+            Tree::Map(members) => find_member(members, name),
+            _ => None,
+        }
+    }
+
+    fn others(&self, alloc: Global, names: &[&str]) -> Result<Ext, ShapeFault> {
+        match self {
+            Tree::Map(members) => others(members, names),
+            _ => Ok(Ext::empty(alloc)),
+        }
+    }
+
+    fn no_others(&self, names: &[&str]) -> Result<(), ShapeFault> {
+        match self {
+            Tree::Map(members) => no_others(members, names),
+            _ => Ok(()),
+        }
+    }
+
+    fn is_within(&self, _alloc: Global, limit: usize) -> Result<bool, AllocError> {
+        Ok(Tree::is_within(self, limit))
+    }
+}
+
+/// A text is borrowed, and a number is read at each call. Of two members of one name the last counts.
+impl<'a> Parsed for Value<'a> {
+    ghost tree = { parsed };
+
+    fn is_null(&self) -> bool {
+        matches!(self, Value::Null)
+    }
+
+    fn as_bool(&self) -> Option<bool> {
+        if let Value::Bool(b) = self {
+            Some(*b)
+        } else {
+            None
+        }
+    }
+
+    fn as_int(&self) -> Option<JsInt> {
+        if let Value::Number(text) = self {
+            whole_number(text)
+        } else {
+            None
+        }
+    }
+
+    fn as_str(&self) -> Option<&str> {
+        if let Value::String(text) = self {
+            Some(*text)
+        } else {
+            None
+        }
+    }
+
+    fn as_items(&self) -> Option<&[Value<'a>]> {
+        if let Value::Array(items) = self {
+            Some(items)
+        } else {
+            None
+        }
+    }
+
+    fn check_map(&self) -> Result<(), ShapeFault> {
+        match self {
+            Value::Object(_) => Ok(()),
+            _ => Err(ShapeFault::NoFit),
+        }
+    }
+
+    fn member(&self, name: &str) -> Option<&Value<'a>> {
+        self.get(name)
+    }
+
+    fn others(&self, alloc: Global, names: &[&str]) -> Result<Ext, ShapeFault> {
+        match self {
+            Value::Object(members) => unlisted(alloc, members, names),
+            _ => Ok(Ext::empty(alloc)),
+        }
+    }
+
+    fn no_others(&self, names: &[&str]) -> Result<(), ShapeFault> {
+        match self {
+            Value::Object(members) => all_listed(members, names),
+            _ => Ok(()),
+        }
+    }
+
+    fn is_within(&self, alloc: Global, limit: usize) -> Result<bool, AllocError> {
+        is_parsed_within(alloc, self, limit)
+    }
+}
+
+/// The members that are not listed, each of which fits any. Takes memory where there are some.
+fn unlisted(
+    alloc: Global,
+    members: &Vec<(&str, Value<'_>)>,
+    names: &[&str],
+) -> Result<Ext, ShapeFault>
+    ensures sorted { OnOk result (AreAscending (put_all (members_view members.now.items) no_members)) }
+    ensures rest { IfOk result (λ e. members_node e.members.entries ≡ without (texts_in names.now) (put_all (members_view members.now.items) no_members)) }
+    ensures whole { IfOk result (λ e. MembersAreWhole (members_node e.members.entries) 60) }
+    ensures no_fit { IfNoFit result (MembersAreWhole (without (texts_in names.now) (put_all (members_view members.now.items) no_members)) 60 → ⊥) }
+{
+    let mut rest = Members::new(alloc);
+    for member in members {
+        if is_listed(names, member.0) {
+            continue;
+        }
+        let tree = own(alloc, &member.1)?;
+        put_member(&mut rest, String::from_str(alloc, member.0)?, tree)?;
+    }
+    if !are_whole(&rest, MAX_LEVELS) {
+        return Err(ShapeFault::NoFit);
+    }
+    // The contract of `len` has the order of the names, which an `Ext` keeps.
+    let _ = rest.len();
+    Ok(Ext { members: rest })
+}
+
+/// That all members are listed.
+fn all_listed(members: &Vec<(&str, Value<'_>)>, names: &[&str]) -> Result<(), ShapeFault>
+    ensures sorted { OnOk result (AreAscending (put_all (members_view members.now.items) no_members)) }
+    ensures rest { OnOk result (without (texts_in names.now) (put_all (members_view members.now.items) no_members) ≡ no_members) }
+    ensures no_fit { IfNoFit result (without (texts_in names.now) (put_all (members_view members.now.items) no_members) ≡ no_members → ⊥) }
+{
+    for member in members {
+        if !is_listed(names, member.0) {
+            return Err(ShapeFault::NoFit);
+        }
+    }
+    Ok(())
+}

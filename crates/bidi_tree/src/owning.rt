@@ -1,0 +1,70 @@
+//! From a JSON value that borrows its text to a tree that owns its texts.
+ghost use Rattle.std.specs.Prelude.{◌≡◌, ◌↔◌, ◌≤◌, IfOk, IsTrue};
+ghost use Rattle.json.specs.Value.{members_view};
+ghost use Rattle.bidi_tree.specs.Node.{levels, no_members};
+ghost use Rattle.bidi_tree.specs.Json.{parsed, json_items, put_all};
+ghost use Rattle.json.specs.Value.{items_view};
+ghost use Rattle.bidi_tree.specs.View.{node, items_node, members_node};
+
+use crate::number_text::number_tree;
+use crate::readable::is_shallow;
+use crate::tree::{Members, Tree, put_member};
+use json::Value;
+use std::alloc::{AllocError, Global};
+
+/// Makes the tree of a value. Each text is copied; a member is looked up among those before it.
+///
+/// # Errors
+/// No memory: an allocation failed.
+#[cycle(own)]
+pub fn own(alloc: Global, value: &Value<'_>) -> Result<Tree, AllocError>
+    ensures { IfOk result (λ t. node t ≡ parsed value.now) }
+{
+    match value {
+        Value::Null => Ok(Tree::Null),
+        Value::Bool(b) => Ok(Tree::Bool(*b)),
+        Value::Number(text) => Ok(number_tree(text).unwrap_or(Tree::Odd)),
+        Value::String(text) => Ok(Tree::Text(String::from_str(alloc, text)?)),
+        Value::Array(items) => Ok(Tree::List(own_items(alloc, items)?)),
+        Value::Object(members) => Ok(Tree::Map(own_members(alloc, members)?)),
+    }
+}
+
+#[cycle(own)]
+fn own_items(alloc: Global, items: &Vec<Value<'_>>) -> Result<Vec<Tree>, AllocError>
+    ensures { IfOk result (λ v. items_node v.items ≡ json_items (items_view items.now.items)) }
+{
+    let mut trees = Vec::with_capacity(alloc, items.len())?;
+    for item in items {
+        trees.push(own(alloc, item)?)?;
+    }
+    Ok(trees)
+}
+
+#[cycle(own)]
+fn own_members(alloc: Global, members: &Vec<(&str, Value<'_>)>) -> Result<Members, AllocError>
+    ensures { IfOk result (λ m. members_node m.entries ≡ put_all (members_view members.now.items) no_members) }
+{
+    let mut owned = Members::new(alloc);
+    for member in members {
+        let tree = own(alloc, &member.1)?;
+        put_member(&mut owned, String::from_str(alloc, member.0)?, tree)?;
+    }
+    Ok(owned)
+}
+
+/// Whether the value's tree has at most so many levels.
+///
+/// Takes no memory but where a value nests deeper: it may stand at a name that comes again, and is then no part of the tree.
+///
+/// # Errors
+/// No memory: an allocation failed.
+pub fn is_parsed_within(alloc: Global, value: &Value<'_>, limit: usize) -> Result<bool, AllocError>
+    ensures { IfOk result (λ b. IsTrue b ↔ (levels (parsed value.now) ≤ limit)) }
+{
+    if is_shallow(value, limit) {
+        return Ok(true);
+    }
+    let tree = own(alloc, value)?;
+    Ok(tree.is_within(limit))
+}
