@@ -1,6 +1,7 @@
 -- The line of a message is that of its tree.
-use Rattle.std.proofs.Common.{◌≡◌, ◌∙◌, ℕ, List, ◌∷◌, ◌++◌, codes, decimal, String, Global, string_bytes, Result, Ok, Err, IfOk, option_map, unwrap_or, sym, ap, ap₂, subst}
-use Rattle.bidi_tree.specs.Text.{compact_text}
+use Rattle.std.proofs.Common.{◌≡◌, ◌∙◌, ℕ, List, ◌∷◌, ◌++◌, codes, decimal, String, Global, string_bytes, Result, Ok, Err, IfOk, MatchResult, Bor, Option, option_map, unwrap_or, Some, None, refl, sym, ap, ap₂, subst}
+use Rattle.std.specs.Result.{result_err}
+use Rattle.bidi_tree.specs.Text.{tree_of_text, compact_text}
 use Rattle.bidi_messages.specs.Method.{method_text}
 use Rattle.bidi_messages.specs.CommandData.{method_of}
 use Rattle.bidi_messages.specs.EventName.{event_text}
@@ -19,7 +20,9 @@ use Rattle.bidi_messages.specs.declared.message.ErrorResponse.{ErrorResponse}
 use Rattle.bidi_messages.specs.declared.event.Event.{Event}
 use Rattle.bidi_messages.proofs.CommandLemmas.{id_in-tree, method_in-tree}
 use Rattle.bidi_messages.proofs.MessageLemmas.{echoed_id-response, echoed_id-error, method_in-event}
-use Rattle.bidi_console.specs.MessageLines.{Taken, verdict_shown, id_text, IsMessageLine, of_response, of_error, of_event}
+use Rattle.bidi_console.specs.MessageLines.{Taken, Refused, HasVerdict, Refuses, ShowsMessage, refused, verdict_shown, id_text, IsMessageLine, of_response, of_error, of_event, is_message}
+use Rattle.bidi_console.specs.declared.message_lines.Side.TheVariants.{Local, Remote}
+use Rattle.bidi_console.specs.declared.message_lines.Side.{Side}
 
 pub accepted_shown : (c : Command) (line : List ℕ)
     → line ≡ codes "accepted " ++ decimal c.id.value ++ 32 ∷ method_text (method_of c.«data») ++ 32 ∷ compact_text (command.ghosts.shape.tree_of c)
@@ -66,3 +69,38 @@ module _ {E : Type 0} (r : Result (String Global) E) (m : Message) (well : messa
   pub event_told : (v : Event) → m ≡ AsEvent v → IfOk r (λ s. string_bytes s ≡ codes "event " ++ event_text (event_of v.«data») ++ 32 ∷ compact_text (event.ghosts.shape.tree_of v))
       → IfOk r (λ s. IsMessageLine (message.ghosts.shape.tree_of m) (string_bytes s))
   event_told v is h = told r (λ s. event_shown v (string_bytes s) (subst message.ghosts.shape.well is well).0.0) is h
+
+-- ---- a well message has a line
+
+has_line : (m : Message) → message.ghosts.shape.well m → (text : List ℕ) × IsMessageLine (message.ghosts.shape.tree_of m) text
+has_line (AsResponse v) well = (_, of_response (response.ghosts.shape.fits v well))
+has_line (AsError v) well = (_, of_error (error.ghosts.shape.fits v well.0))
+has_line (AsEvent v) well = (_, of_event (event.ghosts.shape.fits v well.0.0))
+
+-- so nothing is refused of the text that has its tree
+pub nothing_refused : (line : List ℕ) (m : Message) → tree_of_text None line ≡ Some (message.ghosts.shape.tree_of m) → message.ghosts.shape.well m → Refuses Remote line None
+nothing_refused line m read well =
+    let p = has_line m well in
+    (Taken p.0, is_message (message.ghosts.shape.tree_of m) p.0 read p.1, refl)
+
+-- what is refused of a line that was looked for a message
+pub reason_refused : (line : List ℕ) (found : Result Message (Bor (List ℕ)))
+    → MatchResult found (λ m. (tree_of_text None line ≡ Some (message.ghosts.shape.tree_of m)) × message.ghosts.shape.well m) (λ reason. ShowsMessage line (Refused reason.now))
+    → Refuses Remote line (option_map (λ s. s.now) (result_err found))
+reason_refused line (Ok m) h = nothing_refused line m h.0 h.1
+reason_refused line (Err s) h = (Refused s.now, h, refl)
+
+-- a message that was found is shown by its line
+pub message_shown : (line : List ℕ) (found : Result Message (Bor (List ℕ))) (m : Message) (text : List ℕ)
+    → MatchResult found (λ m. (tree_of_text None line ≡ Some (message.ghosts.shape.tree_of m)) × message.ghosts.shape.well m) (λ reason. ShowsMessage line (Refused reason.now))
+    → found ≡ Ok m → IsMessageLine (message.ghosts.shape.tree_of m) text → ShowsMessage line (Taken text)
+message_shown line (Ok n) m text h is told =
+    let same : m ≡ n = cc in
+    is_message (message.ghosts.shape.tree_of n) text h.0 (subst (λ x. IsMessageLine (message.ghosts.shape.tree_of x) text) same told)
+message_shown line (Err s) m text h is told = absurd cc
+
+-- what is refused of a verdict is refused of the line that has it
+pub verdict_refused : {E : Type 0} (side : Side) (line : List ℕ) (v : judged.Verdict) (r : Result (Option (String Global)) E) → side ≡ Local → HasVerdict line v
+    → IfOk r (λ o. option_map string_bytes o ≡ refused (verdict_shown v)) → IfOk r (λ o. Refuses side line (option_map string_bytes o))
+verdict_refused side line v (Ok o) is h e = subst (λ s. Refuses s line (option_map string_bytes o)) (sym is) (verdict_shown v, (v, h, refl), e)
+verdict_refused side line v (Err x) is h e = tt

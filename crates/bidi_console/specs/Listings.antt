@@ -1,9 +1,9 @@
 -- What `show` and `check` write for the lines of an input, and why they may stop before its end.
-use Rattle.std.specs.Prelude.{◌≡◌, ◌≢◌, ℕ, ◌+◌, ◌≤◌, Bool, List, [], ◌∷◌, ◌++◌, length, codes, decimal}
+use Rattle.std.specs.Prelude.{◌≡◌, ◌≢◌, ℕ, ◌+◌, ◌≤◌, Bool, List, [], ◌∷◌, ◌++◌, length, Option, Some, None, codes, decimal}
 use Rattle.std.specs.List.{AllByRecursion, flat_map}
 use Rattle.bidi_console.specs.Feeds.{ended}
 use Rattle.bidi_console.specs.InputLines.{IsLine, BeginsBadly}
-use Rattle.bidi_console.specs.MessageLines.{Shown, Taken, Refused, Shows, text_of}
+use Rattle.bidi_console.specs.MessageLines.{Shown, Shows, refused, text_of}
 use Rattle.bidi_console.specs.declared.message_lines.Side.{Side}
 use Rattle.bidi_console.specs.declared.showing.Listing.{Listing}
 use Rattle.bidi_console.specs.declared.showing.Listing.TheVariants.{All, RefusedAlone}
@@ -12,11 +12,15 @@ use Rattle.bidi_console.specs.declared.showing.ShowFault.TheVariants.{Read, Writ
 use Rattle.bidi_console.specs.declared.line_reader.InputFault.{InputFault}
 use Rattle.bidi_console.specs.declared.line_reader.InputFault.TheVariants as input
 
+-- a line that names the number of a line that is refused; nothing for one that is not
+abbrev pub numbered : ℕ → Option (List ℕ) → List ℕ
+numbered n None = []
+numbered n (Some text) = ended (codes "line " ++ decimal n ++ codes ": " ++ text)
+
 -- what is written for the line of this number: its own line, or, where refused lines alone are listed, one that names the number
 abbrev pub listed : Listing → ℕ → Shown → List ℕ
 listed All n shown = ended (text_of shown)
-listed RefusedAlone n (Taken text) = []
-listed RefusedAlone n (Refused text) = ended (codes "line " ++ decimal n ++ codes ": " ++ text)
+listed RefusedAlone n shown = numbered n (refused shown)
 
 -- this is written for the line of this number
 abbrev pub Lists : Listing → Side → ℕ → List ℕ → List ℕ → Type 0

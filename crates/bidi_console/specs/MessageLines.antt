@@ -28,6 +28,11 @@ abbrev pub text_of : Shown → List ℕ
 text_of (Taken text) = text
 text_of (Refused text) = text
 
+-- the text of what is refused, if it is
+abbrev pub refused : Shown → Option (List ℕ)
+refused (Taken text) = None
+refused (Refused text) = Some text
+
 -- a line has the verdict of its text; one that is not UTF-8 counts as not JSON
 pub record HasVerdict (line : List ℕ) (v : judged.Verdict) : Type 0 where
   pub text : IsUtf8 line → judged.IsVerdict line v
@@ -60,3 +65,7 @@ pub data ShowsMessage (line : List ℕ) : Shown → Type 0 where
 abbrev pub Shows : Side → List ℕ → Shown → Type 0
 Shows Local line shown = (v : judged.Verdict) × HasVerdict line v × (shown ≡ verdict_shown v)
 Shows Remote line shown = ShowsMessage line shown
+
+-- what is refused of a line of the end
+abbrev pub Refuses : Side → List ℕ → Option (List ℕ) → Type 0
+Refuses side line o = (shown : Shown) × Shows side line shown × (o ≡ refused shown)

@@ -7,12 +7,12 @@ use super::tally::Tally;
 use std::io::{Read, Write};
 use thiserror::Error;
 
-/// A read or a write failed.
+/// A read or a write of a device failed. The same call may be made again, unless it says otherwise.
 #[derive(Clone, Copy, Debug, PartialEq, Eq, Error)]
 #[error("a device failed")]
 pub struct DeviceFault;
 
-/// Where bytes come from.
+/// Where bytes come from: as `Read` of `std`, but contracts can name the bytes and count the failures.
 pub trait Source {
     // The bytes that reads will give from here on, where they are known.
     ghost left: { Self → Option (List ℕ) } = { λ _. None };
@@ -23,11 +23,10 @@ pub trait Source {
 
     /// Reads some bytes into the front of `buffer`, and returns how many.
     ///
-    /// A read of 0 into a buffer that is not empty tells the end. Takes no memory.
+    /// Where `buffer` is not empty, 0 bytes mean the end. Takes no memory.
     ///
     /// # Errors
-    ///
-    /// `DeviceFault` where the device failed. No byte is lost, and a later read may succeed.
+    /// `DeviceFault`: the device failed. No byte is lost, and a later read may succeed.
     fn read(&mut self, buffer: &mut [u8]) -> Result<usize, DeviceFault>
         ensures bound { IfOk result (λ n. n ≤ length buffer.new) }
         ensures bytes { ReadConsumes (left self.old) (left self.new) result buffer.new }
@@ -35,7 +34,7 @@ pub trait Source {
         ensures ends { TellsEnd result (length buffer.new) (has_ended self.old) (has_ended self.new) };
 }
 
-/// Where bytes go.
+/// Where bytes go: as `Write` of `std`, but contracts can name the bytes and count the failures.
 pub trait Sink {
     // The bytes that the sink holds, where they are known.
     ghost contents: { Self → Option (List ℕ) } = { λ _. None };
@@ -47,15 +46,14 @@ pub trait Sink {
     /// Takes no memory.
     ///
     /// # Errors
-    ///
-    /// `DeviceFault` where the device failed. No byte is written, and a later write may succeed.
+    /// `DeviceFault`: the device failed. No byte is written, and a later write may succeed.
     fn write(&mut self, bytes: &[u8]) -> Result<usize, DeviceFault>
         ensures bound { IfOk result (λ n. WritesSome n (length bytes.now)) }
         ensures bytes { WriteAppends (contents self.old) (contents self.new) result bytes.now }
         ensures counts { CountsFailure result (failures self.old) (failures self.new) };
 }
 
-/// A reader or a writer of `std`, with the count of its failures.
+/// A source over a reader of `std`, or a sink over a writer. Contracts see how often it failed.
 #[derive(Drop)]
 pub struct Device<T> {
     inner: T,
@@ -64,7 +62,7 @@ pub struct Device<T> {
 }
 
 impl<T> Device<T> {
-    /// A device that has not failed and has not told its end.
+    /// A device over a reader or a writer, which has not failed and has not met its end.
     pub fn new(inner: T) -> Device<T>
         ensures inner { inner_of result ≡ inner }
         ensures failures { failures_of result ≡ 0 }
@@ -77,7 +75,7 @@ impl<T> Device<T> {
         }
     }
 
-    // Counts one failure more.
+    // Counts one more failure.
     fn fail(&mut self) -> DeviceFault
         ensures failures { failures_of self.new ≡ failures_of self.old + 1 }
         ensures inner { inner_of self.new ≡ inner_of self.old }
@@ -121,11 +119,11 @@ impl<T: Write> Sink for Device<T> {
     }
 }
 
-/// Writes all of the bytes.
+/// Writes all of the bytes, in as many writes as that takes.
 ///
 /// # Errors
-///
-/// `DeviceFault` where a write failed, after a beginning of the bytes.
+/// `DeviceFault`: a write failed. It may have written a beginning of the bytes, so a second call would write
+/// that twice.
 pub fn write_all<W: Sink>(sink: &mut W, bytes: &[u8]) -> Result<(), DeviceFault>
     ensures ok { OnOk result (Appends (W.contents sink.old) (W.contents sink.new) bytes.now) }
     ensures err { OnErr result (AppendsBeginning (W.contents sink.old) (W.contents sink.new) bytes.now) }

@@ -1,10 +1,10 @@
 //! Line feeds, which end the lines of an input.
 ghost use Rattle.std.specs.Prelude.{◌≡◌, ◌==◌, position};
 
-/// How many bytes a line may have, without its line feed.
+/// How many bytes a line can have, without its line feed.
 pub const LONGEST_LINE: usize = 2_097_152;
 
-/// The place of the first line feed.
+/// The place of the first line feed, if there is one.
 pub fn feed_at(bytes: &[u8]) -> Option<usize>
     ensures { result ≡ position (λ b. b == 10) bytes.now }
 {

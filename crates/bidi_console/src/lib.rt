@@ -1,8 +1,8 @@
 //! What the programs stand on: the command line, devices, the lines of an input, and what is shown of a text.
 //!
-//! [`command_line`] reads a command line as a [`Run`]. A [`Source`] is read and a [`Sink`] is written, and both say which
-//! bytes; a [`Device`] makes one of any reader or writer. A [`LineReader`] gives the lines of a source one by one. [`list`]
-//! writes what `show` and `check` tell of each line.
+//! [`command_line`] reads a command line as a [`Run`]. Programs read a [`Source`] and write a [`Sink`], whose
+//! bytes contracts can name; a [`Device`] is either of them over any reader or writer. A [`LineReader`] gives
+//! the lines of a source one by one. [`list`] writes what `show` and `check` write for each line.
 #![tactic(auto)]
 
 mod arguments;

@@ -1,4 +1,4 @@
-//! Reads an input by lines, and holds little more of it than one line.
+//! A reader of lines, which holds little more of an input than one line.
 ghost use Rattle.std.specs.Prelude.{◌≡◌, ◌≢◌, ℕ, ◌+◌, ◌≤◌, List, [], ◌∷◌, ◌++◌, false, true, length, take, drop, vec_len, IfOk, IfSome, IfNone, IfErr, IsTrue, MatchResult};
 ghost use Rattle.std.specs.Io.KnownBytes.{IsAtEnd};
 ghost use Rattle.bidi_console.specs.Devices.{ReadsOn, TellsEnd};
@@ -12,25 +12,25 @@ use std::alloc::Global;
 use std::marker::Model;
 use thiserror::Error;
 
-/// Why no line was read, and the end of the input was not met.
+/// Why a line could not be read. The end of the input is no fault.
 #[derive(Clone, Copy, Debug, PartialEq, Eq, Error)]
 pub enum InputFault {
-    /// A read failed.
+    /// A read of the source failed. No byte is lost, and the next call goes on from there.
     #[error("input cannot be read")]
     Read,
-    /// The line is too long, or the input ends without its line feed.
+    /// The line has more than 2,097,152 bytes, or the input ends without its line feed. Give up the input.
     #[error("bad line")]
     BadLine,
-    /// An allocation failed.
+    /// An allocation failed. No byte is lost, and the next call goes on from there.
     #[error("out of memory")]
     NoMemory,
 }
 
-/// A reader of lines, which contracts see as the bytes that it has read and not given.
+/// Reads the lines of a source one by one. Contracts see it as the bytes that it has read and not given yet.
 #[derive(Drop)]
 pub struct LineReader {
     buffer: Vec<u8>,
-    // How many bytes at the front of the buffer were given.
+    // How many bytes at the front of the buffer were given already.
     start: usize,
 }
 
@@ -57,15 +57,15 @@ impl LineReader {
     ///
     /// # Errors
     /// The first of these in the order of the input:
-    /// 1. `Read`, where the source failed. The next call goes on with what was read.
-    /// 2. `BadLine`, as soon as 2,097,153 bytes have no line feed, or where the input ends with some that have none.
-    /// 3. `NoMemory`, where an allocation failed. No byte is lost.
+    /// 1. `Read`: a read of the source failed. The next call goes on with what was read.
+    /// 2. `BadLine`: the next 2,097,153 bytes have no line feed, or the input ends with bytes that have none.
+    /// 3. `NoMemory`: an allocation failed. No byte is lost.
     pub fn next<S: Source>(
         &mut self,
         alloc: Global,
         source: &mut S,
     ) -> Result<Option<Vec<u8>>, InputFault>
-        // What was held, and what the source gave, is the line and what is held now.
+        // The bytes that were held, and those that the source gave, are the line and what is held now.
         ensures bytes { ReadsOn (S.left source.old) (S.left source.new) self.old (given result ++ self.new) }
         ensures says { Says result (S.has_ended source.new) self.new }
         ensures end { IfOk result (λ found. IfNone found (IsAtEnd (S.left source.new))) }
@@ -98,10 +98,11 @@ impl LineReader {
         }
     }
 
-    /// Whether the input goes on.
+    /// Whether the input has more bytes. Reads some where none is held.
     ///
     /// # Errors
-    /// `Read`, where the source failed; `NoMemory`, where an allocation failed.
+    /// - `Read`: a read of the source failed.
+    /// - `NoMemory`: an allocation failed.
     pub fn goes_on<S: Source>(&mut self, source: &mut S) -> Result<bool, InputFault>
         ensures bytes { ReadsOn (S.left source.old) (S.left source.new) self.old self.new }
         ensures more { IfOk result (λ more. IsTrue more → self.new ≢ []) }
@@ -115,14 +116,14 @@ impl LineReader {
         Ok(self.read_more(source)? > 0)
     }
 
-    // What was read and not given.
+    // The bytes that were read and not given yet.
     fn held(&self) -> &[u8]
         ensures { result.now ≡ self.now }
     {
         &self.buffer[self.start..]
     }
 
-    // Gives so many of the bytes that are held.
+    // Counts so many of the bytes that are held as given.
     fn give(&mut self, n: usize)
         requires { n ≤ length self.old }
         ensures { self.new ≡ drop n self.old }
@@ -130,7 +131,7 @@ impl LineReader {
         self.start += n;
     }
 
-    // One read, whose bytes are held behind the others. What was given is let go first.
+    // Reads once, and holds the bytes behind the others. Bytes that were given are dropped first.
     fn read_more<S: Source>(&mut self, source: &mut S) -> Result<usize, InputFault>
         ensures bytes { ReadsOn (S.left source.old) (S.left source.new) self.old self.new }
         ensures count { IfOk result (λ n. length self.new ≡ length self.old + n) }
@@ -144,10 +145,10 @@ impl LineReader {
     }
 }
 
-// At most how many bytes one read asks for.
+// How many bytes one read asks for at most.
 const CHUNK: usize = 4096;
 
-// One read, whose bytes go to the end of the buffer. Room is made first, so that no byte is lost.
+// Reads once, and adds the bytes at the end of the buffer. Room is made first, so that no byte is lost.
 fn read_some<S: Source>(source: &mut S, buffer: &mut Vec<u8>) -> Result<usize, InputFault>
     ensures bytes { ReadsOn (S.left source.old) (S.left source.new) buffer.old.items buffer.new.items }
     ensures count { IfOk result (λ n. vec_len buffer.new ≡ vec_len buffer.old + n) }
@@ -163,7 +164,7 @@ fn read_some<S: Source>(source: &mut S, buffer: &mut Vec<u8>) -> Result<usize, I
     Ok(n)
 }
 
-// Takes so many bytes from the front.
+// Removes so many bytes from the front.
 fn drop_front(bytes: &mut Vec<u8>, n: usize)
     requires { n ≤ vec_len bytes.old }
     ensures { bytes.new.items ≡ drop n bytes.old.items }

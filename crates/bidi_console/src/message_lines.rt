@@ -1,23 +1,25 @@
 //! The line that is shown for a text of a local or of a remote end.
-ghost use Rattle.std.specs.Prelude.{◌≡◌, ℕ, List, ◌∷◌, ◌++◌, IfOk, codes, decimal, option_map, string_bytes};
-ghost use Rattle.bidi_tree.specs.Text.{compact_text};
+ghost use Rattle.std.specs.Prelude.{◌≡◌, ℕ, List, ◌∷◌, ◌++◌, Some, None, IfOk, MatchResult, codes, decimal, option_map, string_bytes};
+ghost use Rattle.bidi_tree.specs.Text.{tree_of_text, compact_text};
 ghost use Rattle.bidi_messages.specs.ErrorCode.{error_code_text};
 ghost use Rattle.bidi_messages.specs.Method.{method_text};
 ghost use Rattle.bidi_messages.specs.CommandData.{method_of};
 ghost use Rattle.bidi_messages.specs.EventName.{event_text};
 ghost use Rattle.bidi_messages.specs.EventData.{event_of};
 ghost use Rattle.bidi_messages.specs.View.{verdict_of, IsWell};
-ghost use Rattle.bidi_console.specs.MessageLines.{HasVerdict, IsMessageLine, Shows, ShowsMessage, id_text, shown_of, verdict_shown};
+ghost use Rattle.bidi_console.specs.MessageLines.{HasVerdict, IsMessageLine, Refused, Refuses, Shows, ShowsMessage, id_text, refused, shown_of, verdict_shown};
+ghost use Rattle.bidi_console.specs.declared.message_lines.Side.TheVariants.{Remote};
 
 use bidi_messages::{
     Command, ErrorCode, ErrorResponse, Event, Message, MessageFault, Method, Named, Response, Sent,
-    Verdict, judge, read_message, text_of,
+    Verdict, judge_with, read_message_with, text_of,
 };
 use bidi_shape::Shape;
 use bidi_tree::JsUint;
+use json::Scratch;
 use std::alloc::{AllocError, Global};
 
-/// Whose texts are read.
+/// The end that sends the texts.
 #[derive(Clone, Copy, Debug, PartialEq, Eq)]
 pub enum Side {
     /// Texts of a local end: commands.
@@ -26,40 +28,70 @@ pub enum Side {
     Remote,
 }
 
-/// What is shown for a line, without a line feed.
+/// What is shown for a line, without a line feed. `show` writes both, `check` what is refused.
 #[derive(Drop)]
 pub enum Shown {
-    /// The line is a message of its end.
+    /// The line is a message of its end: the kind, the id or the method, and the message as compact JSON.
     Taken(String),
-    /// It is none.
+    /// The line is no message of its end: why not, or the id and code of the error that answers a command.
     Refused(String),
 }
 
-/// What is shown for a line. A line that is not UTF-8 counts as not JSON.
+/// What is shown for a line. A line that is not UTF-8 counts as a text that is not JSON.
+///
+/// It is read in a scratch that the caller keeps from line to line.
 ///
 /// # Errors
 /// No memory: an allocation failed.
-pub fn show_line(alloc: Global, side: Side, line: &[u8]) -> Result<Shown, AllocError>
+pub fn show_line(
+    alloc: Global,
+    side: Side,
+    line: &[u8],
+    scratch: &mut Scratch,
+) -> Result<Shown, AllocError>
     ensures { IfOk result (λ shown. Shows side line.now (shown_of shown)) }
 {
     match side {
         Side::Local => {
-            let verdict = verdict(alloc, line)?;
+            let verdict = verdict(alloc, line, scratch)?;
             show_verdict(alloc, verdict)
         }
-        Side::Remote => show_message(alloc, line),
+        Side::Remote => show_message(alloc, line, scratch),
+    }
+}
+
+/// Why a line is no message of its end, as [`show_line`] shows it; `None` for a line that is one.
+///
+/// The line is read and judged, and a message that it holds is not written.
+///
+/// # Errors
+/// No memory: an allocation failed.
+pub fn refusal(
+    alloc: Global,
+    side: Side,
+    line: &[u8],
+    scratch: &mut Scratch,
+) -> Result<Option<String>, AllocError>
+    ensures { IfOk result (λ text. Refuses side line.now (option_map string_bytes text)) }
+{
+    match side {
+        Side::Local => {
+            let verdict = verdict(alloc, line, scratch)?;
+            verdict_refusal(alloc, verdict)
+        }
+        Side::Remote => message_refusal(alloc, line, scratch),
     }
 }
 
 // ---- texts of a local end
 
-// The verdict of a line.
-fn verdict(alloc: Global, line: &[u8]) -> Result<Verdict, AllocError>
+// The verdict on a line.
+fn verdict(alloc: Global, line: &[u8], scratch: &mut Scratch) -> Result<Verdict, AllocError>
     ensures verdict { IfOk result (λ v. HasVerdict line.now (verdict_of ⟦<Command as Shape>⟧.shape v)) }
     ensures well { IfOk result (IsWell ⟦<Command as Shape>⟧.shape) }
 {
     match std::str::from_utf8(line) {
-        Ok(text) => judge(alloc, text),
+        Ok(text) => judge_with(alloc, text, scratch),
         Err(_) => Ok(Verdict::Refused {
             id: None,
             code: ErrorCode::InvalidArgument,
@@ -67,6 +99,7 @@ fn verdict(alloc: Global, line: &[u8]) -> Result<Verdict, AllocError>
     }
 }
 
+// What is shown for a verdict.
 fn show_verdict(alloc: Global, verdict: Verdict) -> Result<Shown, AllocError>
     requires { IsWell ⟦<Command as Shape>⟧.shape verdict }
     ensures { IfOk result (λ shown. shown_of shown ≡ verdict_shown (verdict_of ⟦<Command as Shape>⟧.shape verdict)) }
@@ -74,6 +107,16 @@ fn show_verdict(alloc: Global, verdict: Verdict) -> Result<Shown, AllocError>
     match verdict {
         Verdict::Accepted(command) => Ok(Shown::Taken(accepted_line(alloc, command)?)),
         Verdict::Refused { id, code } => Ok(Shown::Refused(refused_line(alloc, id, code)?)),
+    }
+}
+
+// What is refused of a verdict.
+fn verdict_refusal(alloc: Global, verdict: Verdict) -> Result<Option<String>, AllocError>
+    ensures { IfOk result (λ text. option_map string_bytes text ≡ refused (verdict_shown (verdict_of ⟦<Command as Shape>⟧.shape verdict))) }
+{
+    match verdict {
+        Verdict::Accepted(_) => Ok(None),
+        Verdict::Refused { id, code } => Ok(Some(refused_line(alloc, id, code)?)),
     }
 }
 
@@ -111,26 +154,52 @@ fn refused_line(alloc: Global, id: Option<JsUint>, code: ErrorCode) -> Result<St
 
 // ---- texts of a remote end
 
-fn show_message(alloc: Global, line: &[u8]) -> Result<Shown, AllocError>
+// What is shown for a line of a remote end.
+fn show_message(alloc: Global, line: &[u8], scratch: &mut Scratch) -> Result<Shown, AllocError>
     ensures { IfOk result (λ shown. ShowsMessage line.now (shown_of shown)) }
 {
-    match std::str::from_utf8(line) {
-        Ok(text) => show_text(alloc, text),
-        Err(_) => Ok(Shown::Refused(String::from_str(alloc, "not json")?)),
+    match message_in(alloc, line, scratch)? {
+        Ok(message) => Ok(Shown::Taken(message_line(alloc, message)?)),
+        Err(reason) => Ok(Shown::Refused(String::from_str(alloc, reason)?)),
     }
 }
 
-fn show_text(alloc: Global, text: &str) -> Result<Shown, AllocError>
-    ensures { IfOk result (λ shown. ShowsMessage text.now (shown_of shown)) }
+// What is refused of a line of a remote end.
+fn message_refusal(
+    alloc: Global,
+    line: &[u8],
+    scratch: &mut Scratch,
+) -> Result<Option<String>, AllocError>
+    ensures { IfOk result (λ text. Refuses Remote line.now (option_map string_bytes text)) }
 {
-    match read_message(alloc, text) {
-        Ok(message) => Ok(Shown::Taken(message_line(alloc, message)?)),
-        Err(MessageFault::NotJson) => Ok(Shown::Refused(String::from_str(alloc, "not json")?)),
-        Err(MessageFault::NoFit) => Ok(Shown::Refused(String::from_str(alloc, "no fit")?)),
+    match message_in(alloc, line, scratch)?.err() {
+        None => Ok(None),
+        Some(reason) => Ok(Some(String::from_str(alloc, reason)?)),
+    }
+}
+
+// The message that a line is, or why it is none.
+fn message_in(
+    alloc: Global,
+    line: &[u8],
+    scratch: &mut Scratch,
+) -> Result<Result<Message, &'static str>, AllocError>
+    ensures { IfOk result (λ found. MatchResult found
+        (λ m. (tree_of_text None line.now ≡ Some (⟦<Message as Shape>⟧.shape.tree_of m)) × ⟦<Message as Shape>⟧.shape.well m)
+        (λ reason. ShowsMessage line.now (Refused reason.now))) }
+{
+    let Ok(text) = std::str::from_utf8(line) else {
+        return Ok(Err("not json"));
+    };
+    match read_message_with(alloc, text, scratch) {
+        Ok(message) => Ok(Ok(message)),
+        Err(MessageFault::NotJson) => Ok(Err("not json")),
+        Err(MessageFault::NoFit) => Ok(Err("no fit")),
         Err(MessageFault::NoMemory) => Err(AllocError),
     }
 }
 
+// What is shown for a message.
 fn message_line(alloc: Global, message: Message) -> Result<String, AllocError>
     requires { ⟦<Message as Shape>⟧.shape.well message }
     ensures { IfOk result (λ line. IsMessageLine (⟦<Message as Shape>⟧.shape.tree_of message) (string_bytes line)) }

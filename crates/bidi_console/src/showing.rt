@@ -1,16 +1,16 @@
 //! Listings of an input: a line for each text, or one for each text that is refused.
-ghost use Rattle.std.specs.Prelude.{◌≡◌, ◌+◌, ◌==◌, ◌||◌, not, [], ◌∷◌, ◌++◌, length, nat_lt, decimal, string_bytes, IfOk, IfErr, OnOk, IsTrue, MatchResult};
+ghost use Rattle.std.specs.Prelude.{◌≡◌, ◌+◌, ◌==◌, ◌||◌, not, [], ◌∷◌, ◌++◌, length, nat_lt, decimal, option_map, string_bytes, IfOk, IfErr, OnOk, IsTrue, MatchResult};
 ghost use Rattle.std.specs.Io.KnownBytes.{IsAtEnd};
 ghost use Rattle.bidi_console.specs.Devices.{Moves};
 ghost use Rattle.bidi_console.specs.Feeds.{ended};
 ghost use Rattle.bidi_console.specs.MessageLines.{shown_of, text_of};
-ghost use Rattle.bidi_console.specs.Listings.{Lists, ListsAll, StopsAt, failed_reads, failed_writes, listed, show_fault_of};
-ghost use Rattle.bidi_console.specs.declared.showing.Listing.TheVariants.{RefusedAlone};
+ghost use Rattle.bidi_console.specs.Listings.{Lists, ListsAll, StopsAt, failed_reads, failed_writes, numbered, show_fault_of};
 ghost use Rattle.bidi_console.specs.declared.showing.ShowFault.TheVariants.{Write, NoMemory};
 
 use super::device::{DeviceFault, Sink, Source, write_all};
 use super::line_reader::{InputFault, LineReader};
-use super::message_lines::{Shown, Side, show_line};
+use super::message_lines::{Shown, Side, refusal, show_line};
+use json::Scratch;
 use std::alloc::{AllocError, Global};
 use thiserror::Error;
 
@@ -22,26 +22,26 @@ const MOST_LINES: u64 = 1_000_000_000;
 pub enum Listing {
     /// All lines.
     All,
-    /// The refused ones, each with its number.
+    /// Only the refused lines, each with its number.
     RefusedAlone,
 }
 
-/// Why a listing stopped before the end of its input.
+/// Why a listing stopped before the end of its input. What was written for the lines before stays written.
 #[derive(Clone, Copy, Debug, PartialEq, Eq, Error)]
 pub enum ShowFault {
-    /// A read failed.
+    /// A read of the source failed. The beginning of a line may be lost with it, so list the input anew.
     #[error("input cannot be read")]
     Read,
-    /// A write failed.
+    /// A write of the sink failed. The line of the listing may be written in part.
     #[error("output cannot be written")]
     Write,
-    /// The line of this number, counted from 1, is too long or has no line feed.
+    /// This line, counted from 1, has more than 2,097,152 bytes or no line feed. Mend it, and list again.
     #[error("line {0} is no text line")]
     BadLine(u64),
-    /// An allocation failed.
+    /// An allocation failed. Nothing is written for the line at hand.
     #[error("out of memory")]
     NoMemory,
-    /// The input goes on after 1,000,000,000 lines.
+    /// The input goes on after 1,000,000,000 lines, which are listed. List the rest as an input of its own.
     #[error("too many steps")]
     TooManyLines,
 }
@@ -62,17 +62,17 @@ impl From<DeviceFault> for ShowFault {
     }
 }
 
-/// Writes a line for each line of the source, or one for each that is refused, and returns whether it wrote any.
+/// Writes a line for each line of the source, or for each that is refused. Returns whether it wrote any.
 ///
-/// Each line is written as soon as it is read.
+/// What is written for a line is written before the next line is read.
 ///
 /// # Errors
 /// The first of these in the order of the input ends the listing:
-/// 1. `Read`, where the source failed.
-/// 2. `Write`, where the sink failed.
-/// 3. `BadLine`, where a line is too long, or the input ends without its line feed.
+/// 1. `Read`: a read of the source failed.
+/// 2. `Write`: a write of the sink failed.
+/// 3. `BadLine`: a line is too long, or the input ends without its line feed.
 /// 4. `NoMemory`: an allocation failed.
-/// 5. `TooManyLines`, where the input goes on after 1,000,000,000 lines.
+/// 5. `TooManyLines`: the input goes on after 1,000,000,000 lines.
 pub fn list<R: Source, W: Sink>(
     alloc: Global,
     listing: Listing,
@@ -94,6 +94,7 @@ pub fn list<R: Source, W: Sink>(
     ensures writes { MatchResult result (λ _. W.failures sink.new ≡ W.failures sink.old) (λ fault. W.failures sink.new ≡ W.failures sink.old + failed_writes fault) }
 {
     let mut reader = LineReader::new(alloc);
+    let mut scratch = Scratch::new(alloc);
     let mut count: u64 = 0;
     let mut some = false;
     'lines: while count < MOST_LINES {
@@ -102,7 +103,7 @@ pub fn list<R: Source, W: Sink>(
             Ok(None) => return Ok(some),
             Ok(Some(line)) => {
                 count += 1;
-                let text = text_for(alloc, listing, side, count, &line)?;
+                let text = text_for(alloc, listing, side, count, &line, &mut scratch)?;
                 let bytes = text.as_bytes();
                 write_all(sink, bytes)?;
                 some = or_some(some, bytes);
@@ -116,7 +117,7 @@ pub fn list<R: Source, W: Sink>(
     }
 }
 
-// Whether something was written before, or these bytes are something.
+// Whether something was written before, or these bytes are not empty.
 fn or_some(some: bool, bytes: &[u8]) -> bool
     ensures { result ≡ (some || not (length bytes.now == 0)) }
 {
@@ -130,13 +131,13 @@ fn text_for(
     side: Side,
     number: u64,
     line: &[u8],
+    scratch: &mut Scratch,
 ) -> Result<String, AllocError>
     ensures { IfOk result (λ text. Lists listing side number line.now (string_bytes text)) }
 {
-    let shown = show_line(alloc, side, line)?;
     match listing {
-        Listing::All => with_feed(shown),
-        Listing::RefusedAlone => numbered(alloc, number, shown),
+        Listing::All => with_feed(show_line(alloc, side, line, scratch)?),
+        Listing::RefusedAlone => numbered(alloc, number, refusal(alloc, side, line, scratch)?),
     }
 }
 
@@ -152,24 +153,25 @@ fn with_feed(shown: Shown) -> Result<String, AllocError>
     Ok(text)
 }
 
-// A refused line with its number, and nothing for another.
+// The line of what is refused, with its number; nothing for a text that is taken.
 #[tactic(auto, using(crate::proofs::ListingLemmas::numbered_grouped))]
-fn numbered(alloc: Global, number: u64, shown: Shown) -> Result<String, AllocError>
-    ensures { IfOk result (λ text. string_bytes text ≡ listed RefusedAlone number (shown_of shown)) }
+fn numbered(alloc: Global, number: u64, refused: Option<String>) -> Result<String, AllocError>
+    ensures { IfOk result (λ text. string_bytes text ≡ numbered number (option_map string_bytes refused)) }
 {
-    match shown {
-        Shown::Taken(_) => Ok(String::new(alloc)),
-        Shown::Refused(text) => numbered_line(alloc, number, text.as_str()),
+    match refused {
+        None => Ok(String::new(alloc)),
+        Some(text) => numbered_line(alloc, number, text.as_str()),
     }
 }
 
+// `line N: TEXT`
 fn numbered_line(alloc: Global, number: u64, text: &str) -> Result<String, AllocError>
     ensures { IfOk result (λ line. string_bytes line ≡ 108 ∷ 105 ∷ 110 ∷ 101 ∷ 32 ∷ (decimal number ++ 58 ∷ 32 ∷ (text.now ++ 10 ∷ []))) }
 {
     format!(in alloc; "line {number}: {text}\n")
 }
 
-// The fault of a listing that a fault of its input is, at the line of this number.
+// The fault of a listing for a fault of its input, at the line of this number.
 fn show_fault(fault: InputFault, number: u64) -> ShowFault
     ensures { result ≡ show_fault_of fault number }
 {

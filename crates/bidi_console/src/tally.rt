@@ -22,7 +22,7 @@ impl Tally {
         Tally {}
     }
 
-    /// The tally after one more.
+    /// The tally with one more.
     pub(crate) fn then(_before: &Tally) -> Tally
         ensures { result.count ≡ _before.now.count + 1 }
     {

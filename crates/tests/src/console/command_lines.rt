@@ -82,6 +82,8 @@ Commands:
 
 Options:
   -h, --help  Print help
+
+`bidi SUBCOMMAND --help` has the lines and statuses of each, and `bidi --version` the version.
 ";
 
 const USAGE: &str = "usage

@@ -1,7 +1,6 @@
-use Rattle.std.proofs.Common.{sym, subst}
-use Rattle.bidi_console.specs.MessageLines.{Refused, ShowsMessage, is_no_text}
+use Rattle.bidi_console.proofs.MessageLineLemmas.{message_shown}
 use Rattle.bidi_console.proofs.message_lines.show_message.Goals as goal
 
-pub returns-in_ok-from_str-in-Err : goal.returns-in_ok-from_str-in-Err
-returns-in_ok-from_str-in-Err c =
-    subst (λ s. ShowsMessage c.args.line.now (Refused s)) (sym c.in_ok-from_str-in-Err.ensures.ok) (is_no_text c.in-Err.ensures.cases.0)
+pub returns-in_ok-message_line-in-Ok : goal.returns-in_ok-message_line-in-Ok
+returns-in_ok-message_line-in-Ok c =
+    message_shown c.args.line.now c.in_ok-message.field-0 c.in-Ok.message _ c.in_ok-message.ensures c.in-Ok.is c.in_ok-message_line-in-Ok.ensures
