@@ -6,7 +6,7 @@
 //! `bidi serve` serves WebSocket connections on 127.0.0.1.
 #![tactic(auto)]
 
-use bidi_console::{Device, LineFault, Run, Serving, command_line, write_all};
+use bidi_console::{Device, LineFault, Run, Serving, Sink, command_line, write_all};
 use bidi_programs::{run, serving_status};
 use bidi_serve::{ServeFault, serve};
 use std::net::{Ipv4Addr, SocketAddr, SocketAddrV4, TcpListener};
@@ -14,10 +14,37 @@ use std::process::ExitCode;
 use std::{env, io};
 
 fn main(rt: HostRuntime) -> ExitCode {
-    ExitCode::from(status(&rt).unwrap_or(3))
+    ExitCode::from(match status(&rt) {
+        Ok(status) => status,
+        Err(error) if error.kind() == io::ErrorKind::InvalidData => {
+            told(&rt, b"error: a word of the command line is not UTF-8\n", 2)
+        }
+        Err(_) => told(&rt, OUT_OF_MEMORY, 3),
+    })
 }
 
-// Runs what the command line asks for over the standard streams, and returns the status.
+/// The line of a program that has no memory for its command line.
+const OUT_OF_MEMORY: &[u8] = b"bidi: out of memory\n";
+
+/// What `--version` tells.
+const VERSION: &[u8] = b"bidi 0.1.0\n";
+
+// Writes what was asked for, help or the version, and returns the status.
+fn answered<W: Sink>(rt: &HostRuntime, output: &mut W, text: &[u8]) -> u8 {
+    match write_all(output, text) {
+        Ok(()) => 0,
+        Err(_) => told(rt, b"bidi: output cannot be written\n", 3),
+    }
+}
+
+// Tells a fault on the standard error, and returns its status.
+fn told(rt: &HostRuntime, line: &[u8], status: u8) -> u8 {
+    let _ = write_all(&mut Device::new(rt.stderr()), line);
+    status
+}
+
+// Runs what the command line asks for over the standard streams, and returns the status. A word that is not
+// UTF-8 is `InvalidData`.
 fn status(rt: &HostRuntime) -> io::Result<u8> {
     let alloc = rt.alloc();
     let words = env::args(rt)?.skip(1).collect::<Vec<String>>(alloc)?;
@@ -27,24 +54,21 @@ fn status(rt: &HostRuntime) -> io::Result<u8> {
         .collect::<Vec<&str>>(alloc)?;
     let mut output = Device::new(io::writer(rt));
     let mut faults = Device::new(rt.stderr());
+    if words.len() == 1 && words[0] == "--version" {
+        return Ok(answered(rt, &mut output, VERSION));
+    }
     match command_line(alloc, &words) {
         Ok(Run::Serve(asked)) => Ok(serving_status(served(rt, asked), &mut faults)),
         Ok(asked) => {
             let mut input = Device::new(rt.reader());
             Ok(run(alloc, &asked, &mut input, &mut output, &mut faults))
         }
-        Err(LineFault::Help(text)) => {
-            let shown = write_all(&mut output, text.as_bytes());
-            Ok(if shown.is_ok() { 0 } else { 3 })
-        }
+        Err(LineFault::Help(text)) => { Ok(answered(rt, &mut output, text.as_bytes())) }
         Err(LineFault::Usage(text)) => {
             let _ = write_all(&mut faults, text.as_bytes());
             Ok(2)
         }
-        Err(LineFault::NoMemory) => {
-            let _ = write_all(&mut faults, b"bidi: out of memory\n");
-            Ok(3)
-        }
+        Err(LineFault::NoMemory) => Ok(told(rt, OUT_OF_MEMORY, 3)),
     }
 }
 

@@ -1,4 +1,4 @@
-//! Plans of what makes a context.
+//! Plans of the actions that add a context: `browsingContext.create`, and a frame that a page adds.
 ghost use Rattle.std.specs.Prelude.{◌≡◌, ◌≤◌, ◌<◌, ◌^◌, ℕ, List, Option, [], ◌∷◌, IfOk, IfSome, option_map, string_bytes};
 ghost use Rattle.bidi_tree.specs.Node.{no_members};
 ghost use Rattle.bidi_browser.specs.Acts.{Act, Made};
@@ -27,17 +27,17 @@ use bidi_params::{ContextType, CreateParameters, CreateResult};
 use bidi_shape::Ext;
 use std::alloc::{AllocError, Global};
 
-/// No context stands below this level.
+/// The deepest level of a context. A top-level context is at level 1.
 const LOWEST_LEVEL: u64 = 16;
 
-/// Makes a top-level context at `about:blank`.
+/// Plans a new top-level context at `about:blank`.
 ///
 /// # Errors
 /// The first that holds:
-/// - `no such frame`: the reference is not live.
-/// - `invalid argument`: it is a child of another context.
-/// - `no such user context`: another than the default one is asked for.
-/// - `unknown error`: 1,024 contexts live.
+/// - `no such frame`: the reference context is not live.
+/// - `invalid argument`: the reference context is a child of another.
+/// - `no such user context`: a user context other than the default one is asked for.
+/// - `unknown error`: 1,024 contexts are live, or no id is left.
 /// - No memory: an allocation failed.
 pub(crate) fn plan_create(browser: &Browser, params: &CreateParameters) -> Result<Plan, Refusal>
     ensures plans { (past : List Act) (moment : ℕ) → StandsFor browser.now past → HasIds past → Plans result past moment (create_asked params.now) }
@@ -67,7 +67,7 @@ pub(crate) fn plan_create(browser: &Browser, params: &CreateParameters) -> Resul
     })
 }
 
-// The window of a new top-level context where all checks pass, or none where a new one is opened.
+// Makes the checks of a create. Gives the window that the new context joins, or `None` where it opens one.
 fn window_checked(browser: &Browser, params: &CreateParameters) -> Result<Option<u64>, ErrorCode>
     ensures checked { (past : List Act) → StandsFor browser.now past → HasIds past
         → IsChecked Made result (create_outcome past (create_type_of params.now.kind) (option_map string_bytes params.now.reference_context) (option_map string_bytes params.now.user_context)) }
@@ -94,7 +94,8 @@ fn is_user(user: &Option<String>) -> bool
     }
 }
 
-// A tab takes the window of its reference, or else that of the oldest top-level context.
+// The window that a new context joins: a tab that of its reference, or else that of the oldest top-level
+// context. `None` where a new window is opened.
 fn window_for(contexts: &Contexts, kind: ContextType, reference: Option<&Context>) -> Option<u64>
     ensures window { (past : List Act) (c : Option ℕ) → IsTableOf contexts.now past → option_map (λ r. row_of r.now) reference.entry ≡ option_map (row_at past) c
         → result ≡ window_for past (create_type_of kind) c }
@@ -109,7 +110,7 @@ fn window_for(contexts: &Contexts, kind: ContextType, reference: Option<&Context
     }
 }
 
-// The window of the oldest top-level context.
+// The window of the oldest top-level context, if any is live.
 fn oldest_window(contexts: &Contexts) -> Option<u64>
     ensures window { (past : List Act) → IsTableOf contexts.now past → result ≡ oldest_window past (tops past) }
     ensures fits { IfSome result (λ n. n < 2 ^ 48) }
@@ -120,13 +121,13 @@ fn oldest_window(contexts: &Contexts) -> Option<u64>
     }
 }
 
-/// Makes a child of a context, at a URL.
+/// Plans a child context at a URL, for a frame that a page adds.
 ///
 /// # Errors
 /// The first that holds:
 /// - `no such frame`: the context is not live.
 /// - `invalid argument`: the text is no absolute URL.
-/// - `unknown error`: 1,024 contexts live, or the context stands at level 16.
+/// - `unknown error`: 1,024 contexts are live, no id is left, or the parent stands at level 16.
 /// - No memory: an allocation failed.
 pub(crate) fn plan_frame(browser: &Browser, context: &str, url: &str) -> Result<Plan, Refusal>
     ensures plans { (past : List Act) (moment : ℕ) → StandsFor browser.now past → HasIds past → Plans result past moment (Frame context.now url.now) }
@@ -152,7 +153,7 @@ pub(crate) fn plan_frame(browser: &Browser, context: &str, url: &str) -> Result<
     })
 }
 
-// The events of a birth.
+// The events of a new context: contextCreated, then realmCreated.
 fn births(alloc: Global, context: &Context) -> Result<Vec<Occurrence>, AllocError>
     ensures told { IfOk result (λ all. seen all.items ≡ created_in (row_of context.now) ∷ realm_created_in (row_of context.now) ∷ []) }
     ensures well { IfOk result (λ all. AreWell all.items) }
@@ -163,7 +164,7 @@ fn births(alloc: Global, context: &Context) -> Result<Vec<Occurrence>, AllocErro
     Ok(all)
 }
 
-// The result of a create.
+// The result of `browsingContext.create`: the id of the new context.
 fn created(alloc: Global, number: u64) -> Result<ResultData, AllocError>
     requires { number < 2 ^ 48 }
     ensures tree { IfOk result (λ r. result_tree r ≡ mapped ("context" being id_tree Kind.Context number and no_members)) }

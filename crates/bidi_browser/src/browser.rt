@@ -1,4 +1,4 @@
-//! The browser.
+//! The browser: its state, and the public calls that plan and apply changes to it.
 ghost use Rattle.std.specs.Prelude.{◌≡◌, ℕ, ◌<◌, ◌^◌, nat_lt, length, List, [], ◌∷◌, Some, Ok, IfOk, IsOk, IsTrue, OnOk, map, option_map};
 ghost use Rattle.std.specs.List.{AllByRecursion};
 ghost use Rattle.bidi_browser.specs.Accepted.{AreAccepted};
@@ -29,27 +29,35 @@ use bidi_messages::{ErrorCode, EventData, EventName, Method, Subject};
 use bidi_tree::JsUint;
 use std::alloc::{AllocError, Global};
 
-/// How many contexts may live.
+/// How many contexts can be live at once.
 const MOST_CONTEXTS: usize = 1024;
 
-/// The numbers that ids can show lie below it.
+/// The numbers in ids are below this one.
 pub(crate) const NO_ID: u64 = 1 << 48;
 
-/// A browser held in memory: its live contexts, each with its window, its realm and its session history, and the table
-/// that stands for running scripts.
+/// A browser held in memory: its live contexts, each with its window, realm and session history, and the
+/// script table, which has the outcomes of scripts.
 ///
-/// What it is asked it first plans, and changes nothing; then a plan's change is given room, and put in place without
-/// a further allocation. So whoever tells of a plan can do so between the two, and give up while all is as it was.
+/// An action takes three calls: [`Browser::plan`] changes nothing and gives the events, the result and the
+/// change; [`Browser::reserve`] makes room for the change; [`Browser::apply`] puts it in place without
+/// allocating. Before the last call a caller can still give up, and leave the browser as it was.
 #[derive(Drop)]
 pub struct Browser {
+    /// The allocator that the browser was made with.
     pub(crate) alloc: Global,
+    /// The live contexts.
     pub(crate) contexts: Contexts,
+    /// The script table: the outcomes of scripts, by their texts.
     pub(crate) table: ScriptTable,
-    /// The numbers that the next context, realm, navigation, handle and window get.
+    /// The number of the next context.
     pub(crate) next_context: u64,
+    /// The number of the next realm.
     pub(crate) next_realm: u64,
+    /// The number of the next navigation.
     pub(crate) next_navigation: u64,
+    /// The number of the next handle.
     pub(crate) next_handle: u64,
+    /// The number of the next client window.
     pub(crate) next_window: u64,
 }
 
@@ -58,7 +66,7 @@ impl Browser {
     ghost use Rattle.bidi_browser.specs.Navigations.{AreNext};
     ghost use Rattle.bidi_browser.specs.Plans.{HasIds, HasResultOf, HasRoom, Plans, IsWellPlanned, Makes};
 
-    /// A browser as it starts: one context at `about:blank`, in a window of its own.
+    /// A new browser: one context at `about:blank`, in a window of its own.
     ///
     /// # Errors
     /// No memory: an allocation failed.
@@ -77,20 +85,22 @@ impl Browser {
         })
     }
 
-    /// What an action comes to at a moment. Nothing is changed.
+    /// Works out what an action does at a moment, the timestamp of its events. Changes nothing.
     ///
-    /// Looks through the live contexts. An Info looks through them once for each context in it; a removal makes an event
-    /// for each context that goes, and so does a navigation, which copies nothing of a session history. A row of the table costs the writing of
-    /// its tree, and a look-up of its text; a script a copy of its value; a call a tree of each argument besides.
+    /// Takes a pass over the live contexts, and for an Info one more for each context in it. A removal and a
+    /// navigation make an event for each context that they remove; a navigation copies no session history. A
+    /// row of the table costs building its tree and looking up its text, a script a copy of its value, and a
+    /// call also a tree of each argument.
     ///
     /// # Errors
-    /// - `Code`: the first check that fails, in the order of each command; of a step of a page, which then has no
-    ///   effect, it says no more than that.
+    /// - `Code`: a check failed. For a command it is the code of the first check that fails, to reply with.
+    ///   For a step of a page any code means only that the step has no effect.
     /// - `NoMemory`: an allocation failed.
     ///
     /// After WebDriver BiDi, "The browsingContext Module" and "The script Module".
     pub fn plan(&self, action: Action, moment: JsUint) -> Result<Plan, Refusal>
-        // Whatever past the browser stands for, short of 2^48 ids of a kind, the plan is that of the definitions.
+        // For every past that the browser stands for, with fewer than 2^48 ids of each kind given out, the
+        // plan is that of the definitions.
         ensures plans { (past : List Act) → StandsFor self.now past → HasIds past → Plans result past moment.value (action_of action.entry) }
         ensures well { IsWellPlanned result }
         ensures of_method { (method : Method) → asked.method_of (action_of action.entry) ≡ Some method → HasResultOf method result }
@@ -114,7 +124,9 @@ impl Browser {
         }
     }
 
-    /// Makes room for what a change puts in. What the browser stands for stays, whatever comes of it.
+    /// Makes room for what a change adds, so that [`Browser::apply`] can put it in without allocating.
+    ///
+    /// No context, handle or row is changed, whether it succeeds or not.
     ///
     /// # Errors
     /// No memory: an allocation failed.
@@ -131,10 +143,10 @@ impl Browser {
         }
     }
 
-    /// Puts a change in place, for which room was made. Takes no memory.
+    /// Puts a planned change in place, for which [`Browser::reserve`] made room. Takes no memory.
     pub fn apply(&mut self, change: Change)
         requires { HasRoom self.now change }
-        // Whatever past it was planned in, the browser stands for that past with the act.
+        // Whatever past the change was planned in, the browser then stands for that past with the act added.
         ensures { (past : List Act) (action : asked.Action) (act : Act) → StandsFor self.old past → HasIds past
             → outcome past action ≡ Ok act → Makes change past act → StandsFor self.new (act ∷ past) }
     {
@@ -166,9 +178,10 @@ impl Browser {
         }
     }
 
-    /// The number of the top-level context of a live context, by its id, in just the letters of the id.
+    /// The number of the top-level context above the live context of this id, which may be that context
+    /// itself. `None` where no live context has exactly this id.
     ///
-    /// Looks through the live contexts. Takes no memory.
+    /// Passes over the live contexts. Takes no memory.
     ///
     /// After WebDriver BiDi, "The browsingContext Module".
     pub fn top_of(&self, context: &str) -> Option<u64>
@@ -177,19 +190,19 @@ impl Browser {
         self.contexts.named(context).map(|context| context.top)
     }
 
-    /// Whether the context of that number is alive.
+    /// Whether the context of this number is live.
     ///
-    /// Looks through the live contexts. Takes no memory.
+    /// Passes over the live contexts. Takes no memory.
     pub fn is_live(&self, context: u64) -> bool
         ensures { (past : List Act) → StandsFor self.now past → result ≡ is_alive past context }
     {
         self.contexts.has(context)
     }
 
-    /// What tells of all that stands: contextCreated of every live context, then realmCreated of every realm,
-    /// both in tree order.
+    /// The events that tell a new subscription what exists: contextCreated of every live context, then
+    /// realmCreated of every realm, both in tree order.
     ///
-    /// Makes two events for each live context. Looks through all of them once, and once more for each.
+    /// Makes two events for each live context. Passes over the contexts once, and once more for each.
     ///
     /// # Errors
     /// No memory: an allocation failed.
@@ -207,7 +220,7 @@ impl Browser {
         Ok(all)
     }
 
-    // Whether one more context may live, and ids are left for it, its realm and its window.
+    /// Whether one more context can be live, and ids are left for it, its realm and its window.
     pub(crate) fn has_room(&self) -> bool
         ensures ids { IsTrue result → (self.now.next_context < 2 ^ 48) × (self.now.next_realm < 2 ^ 48) × (self.now.next_window < 2 ^ 48) }
         ensures room { (past : List Act) → StandsFor self.now past → HasIds past → result ≡ has_room past }
@@ -218,7 +231,7 @@ impl Browser {
             && self.next_window < NO_ID
     }
 
-    // The numbers that a navigation and its realm get, where ids are left for them.
+    /// The numbers of the next navigation and its realm; `unknown error` where no id is left for one of them.
     pub(crate) fn numbers(&self) -> Result<Numbers, ErrorCode>
         ensures next { (past : List Act) → StandsFor self.now past → IfOk result (λ numbers. AreNext numbers past) }
         ensures some { (past : List Act) → StandsFor self.now past → HasIds past → IsOk result }

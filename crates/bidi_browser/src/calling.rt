@@ -1,4 +1,4 @@
-//! The plan of a call of a function.
+//! The plan of `script.callFunction`.
 ghost use Rattle.std.specs.Prelude.{◌≡◌, ℕ, List, map, option_map, string_bytes};
 ghost use Rattle.bidi_browser.specs.Acts.{Act};
 ghost use Rattle.bidi_browser.specs.Asked.{arguments_asked, call_function_asked};
@@ -22,17 +22,17 @@ use crate::scripts::{Ran, ending_of, is_owned, run, targeted};
 use bidi_messages::{Method, ResultData};
 use bidi_values::{CallFunctionParameters, LocalValue};
 
-/// Calls a function in the realm of a target, as the table says.
+/// Plans the call of a function in the realm of a target. The script table has its outcome.
 ///
-/// Costs a tree of each argument and of `this`; what a handle holds was measured when it came to be held. The one
-/// argument that is given back is built, with copies of what its handles hold.
+/// Costs a tree of each argument and of `this`; a value that a handle holds is not measured again. Only an
+/// argument that the function returns is built, with copies of the values of its handles.
 ///
 /// # Errors
 /// The first that holds:
-/// - What its target is refused for.
-/// - What an argument is refused for, in their order, and then `this`.
-/// - `unsupported operation`: the table has no row of its text.
-/// - `unknown error`: its value is to be owned, beside 1,000 in its realm.
+/// - Those of the target, as in `targeted`.
+/// - Those of the arguments in their order, then of `this`, as in [`check_arguments`].
+/// - `unsupported operation`: the table has no row for the function's text.
+/// - `unknown error`: the value needs a handle, and its realm has 1,000 already, or no id is left.
 /// - No memory: an allocation failed.
 pub(crate) fn plan_call_function(
     browser: &Browser,
@@ -49,7 +49,7 @@ pub(crate) fn plan_call_function(
     Ok(answered(browser.alloc, result, edit))
 }
 
-// How a function ends that is called in the realm of a context: its arguments and `this` are looked at before its row.
+// How the function ends. Its arguments and `this` are checked before its row is looked up.
 fn called(
     browser: &Browser,
     context: &Context,
@@ -64,7 +64,7 @@ fn called(
     ending_of(browser, context, &params.function_declaration, arguments)
 }
 
-// The arguments; absent, there are none.
+// The arguments; none where the member is absent.
 fn arguments_of(params: &CallFunctionParameters) -> &[LocalValue]
     ensures { map local_tree result.now ≡ arguments_asked params.now }
 {

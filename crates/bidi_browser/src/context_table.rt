@@ -1,4 +1,4 @@
-//! The table of live contexts. What else the crate knows of how they are kept, it asks of this table.
+//! The table of live contexts. Only this file knows how they are kept; the rest of the crate asks it.
 ghost use Rattle.std.specs.Prelude.{◌≡◌, ◌≤◌, ◌<◌, ◌^◌, ◌==◌, ◌*◌, ◌++◌, ℕ, List, ◌∷◌, [], true, nat_eq, None, Some, IfOk, OnOk, map, find, filter, not, length, bytes_eq, is_none, option_map};
 ghost use Rattle.std.specs.List.{list_any, position};
 ghost use Rattle.std.specs.Option.{option_eq};
@@ -19,10 +19,10 @@ use bidi_params::Info;
 use bidi_shape::Shape;
 use std::alloc::{AllocError, Global};
 
-/// How many levels of contexts stand below one another at most.
+/// The most levels of nested contexts.
 const MOST_LEVELS: u64 = 16;
 
-/// The live contexts, in order of birth.
+/// The live contexts, in order of creation.
 #[derive(Drop)]
 pub(crate) struct Contexts {
     alloc: Global,
@@ -38,7 +38,7 @@ impl Contexts {
     ghost use Rattle.bidi_browser.specs.Places.{entries_of};
     ghost use Rattle.bidi_browser.specs.HistoryInHand.{move_of, Leads};
 
-    /// The one context that stands at the start.
+    /// The table of a new browser: one top-level context.
     pub(crate) fn new(alloc: Global) -> Result<Contexts, AllocError>
         ensures { IfOk result (λ contexts. IsTableOf contexts []) }
     {
@@ -48,42 +48,42 @@ impl Contexts {
         Ok(Contexts { alloc, live })
     }
 
-    /// How many there are.
+    /// How many contexts are live.
     pub(crate) fn len(&self) -> usize
         ensures { (past : List Act) → IsTableOf self.now past → result ≡ length (contexts past) }
     {
         self.live.len()
     }
 
-    /// Whether the context of that number is alive. Looks through them.
+    /// Whether the context of this number is live. Passes over the contexts.
     pub(crate) fn has(&self, number: u64) -> bool
         ensures { (past : List Act) → IsTableOf self.now past → result ≡ is_alive past number }
     {
         has_number(&self.live, number)
     }
 
-    /// The context of that id. Looks through them.
+    /// The live context of this id. Passes over the contexts.
     pub(crate) fn named(&self, id: &str) -> Option<&Context>
         ensures { (past : List Act) → IsTableOf self.now past → option_map (λ c. row_of c.now) result ≡ option_map (row_at past) (context_of past id.now) }
     {
         named(&self.live, id)
     }
 
-    /// The context of the realm of that id. Looks through them.
+    /// The live context whose realm has this id. Passes over the contexts.
     pub(crate) fn in_realm(&self, id: &str) -> Option<&Context>
         ensures { (past : List Act) → IsTableOf self.now past → option_map (λ c. row_of c.now) result ≡ option_map (row_at past) (find (λ c. bytes_eq id.now (id_of Kind.Realm (realm_of past c))) (contexts past)) }
     {
         in_realm(&self.live, id)
     }
 
-    /// The oldest top-level context.
+    /// The top-level context that was created first, if any is live.
     pub(crate) fn oldest(&self) -> Option<&Context>
         ensures { (past : List Act) → IsTableOf self.now past → option_map (λ c. row_of c.now) result ≡ option_map (row_at past) (find (λ c. is_none (parent_of past c)) (contexts past)) }
     {
         oldest(&self.live)
     }
 
-    /// A context and all below it, in tree order.
+    /// A context and all its descendants in tree order: a parent before its children, each subtree whole.
     pub(crate) fn subtree<'a>(
         &'a self,
         context: &'a Context,
@@ -96,14 +96,14 @@ impl Contexts {
         Ok(all)
     }
 
-    /// The children of a context, in order of birth. Looks through all.
+    /// The children of a context, in order of creation. Passes over the contexts.
     pub(crate) fn children_of(&self, context: &Context) -> Result<Vec<&Context>, AllocError>
         ensures { (past : List Act) (c : ℕ) → IsTableOf self.now past → row_of context.now ≡ row_at past c → IfOk result (λ all. map (λ c. row_of c.now) all.items ≡ map (row_at past) (children_of past c)) }
     {
         children_of(self.alloc, &self.live, context.number)
     }
 
-    /// All of them in tree order.
+    /// All live contexts in tree order.
     pub(crate) fn in_tree_order(&self) -> Result<Vec<&Context>, AllocError>
         ensures { (past : List Act) → IsTableOf self.now past → IfOk result (λ all. map (λ c. row_of c.now) all.items ≡ map (row_at past) (tree_order past)) }
     {
@@ -112,7 +112,7 @@ impl Contexts {
         Ok(all)
     }
 
-    /// The whole Info of a context, as deep as is asked.
+    /// The Info of a context with its parent, to this depth. `None` is the whole depth.
     pub(crate) fn info(&self, context: &Context, depth: Option<u64>) -> Result<Info, AllocError>
         ensures tree { (past : List Act) (c : ℕ) → IsTableOf self.now past → row_of context.now ≡ row_at past c → IfOk result (λ i. ⟦<Info as Shape>⟧.shape.tree_of i ≡ info_of past depth c) }
         ensures well { IfOk result (IsWithin ⟦<Info as Shape>⟧.shape 34) }
@@ -120,7 +120,7 @@ impl Contexts {
         whole_info(self.alloc, &self.live, context, depth)
     }
 
-    /// The Info of each top-level context, as deep as is asked.
+    /// The Info of each top-level context, to this depth. `None` is the whole depth.
     pub(crate) fn top_infos(&self, depth: Option<u64>) -> Result<Vec<Info>, AllocError>
         ensures tree { (past : List Act) → IsTableOf self.now past → IfOk result (λ all. map ⟦<Info as Shape>⟧.shape.tree_of all.items ≡ map (info_of past depth) (tops past)) }
         ensures well { IfOk result (λ all. AreWithin ⟦<Info as Shape>⟧.shape 34 all.items) }
@@ -128,7 +128,7 @@ impl Contexts {
         top_infos(self.alloc, &self.live, depth)
     }
 
-    /// Makes room for one more.
+    /// Makes room for one more context.
     pub(crate) fn reserve(&mut self) -> Result<(), AllocError>
         ensures kept { (past : List Act) → IsTableOf self.old past → IsTableOf self.new past }
         ensures room { OnOk result (HasRoomForOne self.new) }
@@ -147,7 +147,7 @@ impl Contexts {
         }
     }
 
-    /// Adds the context that an act made. Takes no memory.
+    /// Adds a new context, for which room was made. Takes no memory.
     pub(crate) fn add(&mut self, context: Context)
         requires { HasRoomForOne self.now }
         ensures { (past : List Act) (act : Act) → IsTableOf self.old past → AreAccepted (act ∷ past) → gives Kind.Context act ≡ true
@@ -156,14 +156,15 @@ impl Contexts {
         self.live.push_reserved(context);
     }
 
-    /// Takes out a context and all below it, by their numbers.
+    /// Removes the contexts of these numbers, which are a context and all its descendants.
     pub(crate) fn remove(&mut self, numbers: &[u64])
         ensures { (past : List Act) (c : ℕ) → IsTableOf self.old past → AreAccepted (Removed c ∷ past) → numbers.now ≡ subtree_of past c → IsTableOf self.new (Removed c ∷ past) }
     {
         take_out(&mut self.live, numbers);
     }
 
-    /// A context navigates, and all below it goes. Takes no memory.
+    /// Carries out a navigation: its context moves in the session history and gets a new realm, and all
+    /// descendants of the context are removed. Takes no memory.
     pub(crate) fn navigate(&mut self, navigation: Navigation)
         requires { HasRoomIn self.now navigation.context navigation.to }
         ensures { (past : List Act) → (let act = Moved navigation.context (move_of navigation.to) in
@@ -179,7 +180,7 @@ impl Contexts {
         take_out(&mut self.live, &gone);
     }
 
-    /// Makes room for one more handle in the realm of the context of that number.
+    /// Makes room for one more handle in the realm of the context of this number.
     pub(crate) fn reserve_handle(&mut self, number: u64) -> Result<(), AllocError>
         ensures kept { (past : List Act) → IsTableOf self.old past → IsTableOf self.new past }
         ensures room { OnOk result (HasRoomForHandle self.new number) }
@@ -190,7 +191,7 @@ impl Contexts {
         }
     }
 
-    /// A value is held by a handle, the next that is given, in the realm of the context of that number. Takes no memory.
+    /// Adds a handle, newer than all others, to the realm of the context of this number. Takes no memory.
     pub(crate) fn hold(&mut self, number: u64, handle: Handle)
         requires { HasRoomForHandle self.now number }
         ensures { (past : List Act) → IsTableOf self.old past → next_number past Kind.Handle ≤ handle.number
@@ -201,7 +202,7 @@ impl Contexts {
         }
     }
 
-    /// In the realm of the context of that number the handles of these numbers are held no longer. Takes no memory.
+    /// Releases the handles of these numbers in the realm of the context of this number. Takes no memory.
     pub(crate) fn disown(&mut self, number: u64, numbers: Vec<u64>)
         ensures { map row_of self.new.live.items ≡ changed number (without_in numbers.items) (map row_of self.old.live.items) }
     {
@@ -210,7 +211,7 @@ impl Contexts {
         }
     }
 
-    // The context of that number moves in its session history, and has a new realm.
+    // Moves the context of this number in its session history, and gives it this new realm.
     fn lead(&mut self, number: u64, realm: u64, to: Move)
         requires realm { realm < 2 ^ 48 }
         requires room { HasRoomIn self.now number to }
@@ -222,7 +223,7 @@ impl Contexts {
     }
 }
 
-// Takes out the contexts of these numbers.
+// Removes the contexts of these numbers.
 fn take_out(contexts: &mut Vec<Context>, numbers: &[u64])
     ensures { contexts.new.items ≡ filter (λ c. not (list_any (λ n. n == c.number) numbers.now)) contexts.old.items }
 {
@@ -236,28 +237,28 @@ pub(crate) fn is_listed(numbers: &[u64], number: u64) -> bool
     numbers.iter().any(|n| *n == number)
 }
 
-// Whether a context has that number.
+// Whether one of the contexts has this number.
 fn has_number(contexts: &[Context], number: u64) -> bool
     ensures { result ≡ list_any (λ c. c.number == number) contexts.now }
 {
     contexts.iter().any(|context| context.number == number)
 }
 
-// The place of the context of that number.
+// The place of the context of this number.
 fn place_of(contexts: &[Context], number: u64) -> Option<usize>
     ensures { result ≡ position (λ c. c.number == number) contexts.now }
 {
     contexts.iter().position(|context| context.number == number)
 }
 
-// The context of that id.
+// The context of this id.
 fn named<'a>(contexts: &'a [Context], id: &str) -> Option<&'a Context>
     ensures { option_map (λ c. c.now) result ≡ find (λ c. bytes_eq id.now (id_of Kind.Context c.number)) contexts.now }
 {
     contexts.iter().find(|context| context.is_named(id))
 }
 
-// The context of the realm of that id.
+// The context whose realm has this id.
 fn in_realm<'a>(contexts: &'a [Context], id: &str) -> Option<&'a Context>
     ensures { option_map (λ c. c.now) result ≡ find (λ c. bytes_eq id.now (id_of Kind.Realm c.realm)) contexts.now }
 {
@@ -271,7 +272,7 @@ fn oldest(contexts: &[Context]) -> Option<&Context>
     contexts.iter().find(|context| context.parent.is_none())
 }
 
-// The contexts of that parent.
+// The contexts that have this parent, in order of creation.
 fn children_of(
     alloc: Global,
     contexts: &[Context],
@@ -288,7 +289,7 @@ fn children_of(
     Ok(all)
 }
 
-// Adds all that stands below a context in tree order, and with none all that stand, as far as so many levels.
+// Adds the descendants of a parent in tree order, down to so many levels; without a parent, all contexts.
 fn push_below<'a>(
     contexts: &'a [Context],
     parent: Option<u64>,
@@ -327,7 +328,7 @@ fn top_infos(
     Ok(all)
 }
 
-// The whole Info of a context.
+// The Info of a context with its parent, to this depth.
 fn whole_info(
     alloc: Global,
     contexts: &[Context],
@@ -341,7 +342,7 @@ fn whole_info(
     context.root_info(alloc, children)
 }
 
-// The Infos of a context's children, as far as so many levels, where they are asked for.
+// The Infos of a context's children, down to so many levels. `None` at depth 0, which asks for no children.
 #[cycle(infos)]
 fn children(
     alloc: Global,
@@ -360,7 +361,7 @@ fn children(
     }
 }
 
-// The Infos of a context's children, as far as so many levels.
+// The Infos of a context's children, down to so many levels.
 #[cycle(infos)]
 fn infos(
     alloc: Global,

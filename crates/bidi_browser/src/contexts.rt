@@ -1,4 +1,4 @@
-//! A live context, and what is told of one.
+//! A live context, with the Infos and events that describe it.
 ghost use Rattle.std.specs.Prelude.{◌≡◌, ℕ, ◌≤◌, ◌<◌, ◌+◌, ◌^◌, [], ◌∷◌, ◌++◌, true, vec_len, vec_capacity, None, Some, IfOk, IfSome, bytes_eq, filter, find, map, not, string_bytes, ◌==◌, option_map};
 ghost use Rattle.std.specs.List.{All, list_any};
 ghost use Rattle.std.specs.List.Sorted.{IsNonDecreasing, IsStrictlyIncreasing};
@@ -25,17 +25,21 @@ use url::Url;
 /// A live context.
 #[derive(Drop)]
 pub(crate) struct Context {
+    /// The number of the context, from which its id is made.
     pub number: u64,
-    /// The context of which it is a child; a top-level one has none.
+    /// The number of its parent; a top-level context has none.
     pub parent: Option<u64>,
-    /// Its top-level context.
+    /// The number of its top-level context, which may be itself.
     pub top: u64,
-    /// How many contexts stand from its top-level one down to it.
+    /// Its level in the tree, 1 for a top-level context.
     pub level: u64,
+    /// The number of its client window.
     pub window: u64,
+    /// The number of its realm.
     pub realm: u64,
+    /// Its session history, which has its URL.
     pub history: SessionHistory,
-    /// The handles that are held in its realm, in order of number.
+    /// The handles of its realm, in order of number.
     pub handles: Vec<Handle>,
     ghost number_fits: { number < 2 ^ 48 },
     ghost parent_fits: { IfSome parent (λ p. p < 2 ^ 48) } by { Prim.hlevel props },
@@ -54,7 +58,7 @@ impl Context {
     ghost use Rattle.bidi_browser.specs.InfosInHand.{children_node, parent_node, AreWithinIfTold, IsWithin};
     ghost use Rattle.bidi_messages.specs.declared.event.EventName.TheVariants.{ContextDestroyed, NavigationStarted, DomContentLoaded, Load, EntryAdded};
 
-    /// A top-level context at `about:blank`.
+    /// A new top-level context at `about:blank`.
     pub(crate) fn top_level(
         alloc: Global,
         number: u64,
@@ -79,7 +83,7 @@ impl Context {
         })
     }
 
-    /// A child of it, at a URL.
+    /// A new child of this context, at a URL.
     pub(crate) fn child(
         &self,
         alloc: Global,
@@ -104,7 +108,7 @@ impl Context {
         })
     }
 
-    /// It moves in its session history, and has a new realm, in which nothing is held. Takes no memory.
+    /// Moves it in its session history and gives it this new realm, which has no handles. Takes no memory.
     pub(crate) fn navigate(&mut self, realm: u64, to: Move)
         requires realm { realm < 2 ^ 48 }
         requires room { HasRoomFor self.now.history to }
@@ -115,7 +119,7 @@ impl Context {
         self.history.go(to);
     }
 
-    /// A handle is held in its realm, where its number is above those of all that are held. Takes no memory.
+    /// Adds a handle to its realm, if the number is above those of all handles there. Takes no memory.
     pub(crate) fn hold(&mut self, handle: Handle)
         requires { vec_len self.now.handles < vec_capacity self.now.handles }
         ensures { All (λ held. held.0 < handle.number) (row_of self.old).handles → row_of self.new ≡ held_in (handle_seen handle) (row_of self.old) }
@@ -125,7 +129,7 @@ impl Context {
         }
     }
 
-    /// The handles of these numbers are held in its realm no longer. Takes no memory.
+    /// Releases the handles of these numbers in its realm. Takes no memory.
     pub(crate) fn disown(&mut self, numbers: &[u64])
         ensures { row_of self.new ≡ without_in numbers.now (row_of self.old) }
     {
@@ -146,7 +150,7 @@ impl Context {
         is_id(id, Kind::Realm, 0, self.realm)
     }
 
-    /// The value that the handle of that id holds in its realm. Looks for it by halves, and takes no memory.
+    /// The value of the handle of this id in its realm. Does a binary search, and takes no memory.
     pub(crate) fn held(&self, id: &str) -> Option<&Rc<HeldValue>>
         ensures { option_map (λ h. held_tree h.now.value) result ≡ held_in_row (row_of self.now) id.now }
     {
@@ -154,7 +158,7 @@ impl Context {
         Some(&handle.value)
     }
 
-    /// The numbers of the handles that are held in its realm and have one of these ids.
+    /// The numbers of the handles of its realm that have one of these ids.
     pub(crate) fn numbers_of(
         &self,
         alloc: Global,
@@ -172,7 +176,7 @@ impl Context {
         Ok(numbers)
     }
 
-    /// Its Info as it stands in the list of its parent's, with these children.
+    /// Its Info as one of its parent's children: these children, and no member `parent`.
     pub(crate) fn info(
         &self,
         alloc: Global,
@@ -184,7 +188,7 @@ impl Context {
         self.shown(alloc, None, children)
     }
 
-    /// Its Info at the root of a tree, with its parent and these children.
+    /// Its Info as the root of a tree: these children, and a member `parent`, null for a top-level context.
     pub(crate) fn root_info(
         &self,
         alloc: Global,
@@ -197,7 +201,7 @@ impl Context {
         self.shown(alloc, Some(parent), children)
     }
 
-    // The id of its parent.
+    // The id of its parent; `None` for a top-level context.
     fn parent_id(&self, alloc: Global) -> Result<Option<String>, AllocError>
         ensures { IfOk result (λ id. parent_node id ≡ parent_tree self.now.parent) }
     {
@@ -207,7 +211,7 @@ impl Context {
         }
     }
 
-    // Its Info, with its parent where it is to be shown, and these children.
+    // Its Info with these children; it has a member `parent` only where one is given.
     fn shown(
         &self,
         alloc: Global,
@@ -230,7 +234,7 @@ impl Context {
         })
     }
 
-    /// What is told of its realm.
+    /// The RealmInfo of its realm.
     pub(crate) fn own_realm(&self, alloc: Global) -> Result<RealmInfo, AllocError>
         ensures tree { IfOk result (λ r. ⟦<RealmInfo as Shape>⟧.shape.tree_of r ≡ realm_info_in (row_of self.now)) }
         ensures well { IfOk result ⟦<RealmInfo as Shape>⟧.shape.well }
@@ -238,7 +242,7 @@ impl Context {
         self.realm_info(alloc, self.realm, self.history.present())
     }
 
-    // What is told of a realm of it, where it is at a URL.
+    // The RealmInfo of a realm of this context whose document is at this URL.
     fn realm_info(&self, alloc: Global, realm: u64, url: &Url) -> Result<RealmInfo, AllocError>
         requires { realm < 2 ^ 48 }
         ensures tree { IfOk result (λ r. ⟦<RealmInfo as Shape>⟧.shape.tree_of r ≡ realm_info_at (row_of self.now) realm url.now) }
@@ -252,7 +256,7 @@ impl Context {
         })
     }
 
-    /// That it came.
+    /// The contextCreated event of this context.
     pub(crate) fn created(&self, alloc: Global) -> Result<Occurrence, AllocError>
         ensures told { IfOk result (λ o. occurrence_of ⟦<EventData as Subject<EventName>>⟧.subject o ≡ created_in (row_of self.now)) }
         ensures well { IfOk result (λ o. ⟦<EventData as Subject<EventName>>⟧.subject.well o.event) }
@@ -261,7 +265,7 @@ impl Context {
         Ok(self.occurrence(EventData::ContextCreated(info)))
     }
 
-    /// That it goes, with its whole Info. Takes no memory.
+    /// The contextDestroyed event of this context, with its Info to the whole depth. Takes no memory.
     pub(crate) fn destroyed(&self, info: Info) -> Occurrence
         ensures told { occurrence_of ⟦<EventData as Subject<EventName>>⟧.subject result ≡ occurrence_in (row_of self.now) ContextDestroyed (⟦<Info as Shape>⟧.shape.tree_of info) }
         ensures well { ⟦<Info as Shape>⟧.shape.well info → ⟦<EventData as Subject<EventName>>⟧.subject.well result.event }
@@ -269,7 +273,7 @@ impl Context {
         self.occurrence(EventData::ContextDestroyed(info))
     }
 
-    /// That its realm came.
+    /// The realmCreated event of its realm.
     pub(crate) fn realm_created(&self, alloc: Global) -> Result<Occurrence, AllocError>
         ensures told { IfOk result (λ o. occurrence_of ⟦<EventData as Subject<EventName>>⟧.subject o ≡ realm_created_in (row_of self.now)) }
         ensures well { IfOk result (λ o. ⟦<EventData as Subject<EventName>>⟧.subject.well o.event) }
@@ -277,7 +281,7 @@ impl Context {
         self.realm_began(alloc, self.realm, self.history.present())
     }
 
-    /// That a realm came, where it is at a URL.
+    /// The realmCreated event of a realm that this context gets at a URL.
     pub(crate) fn realm_began(
         &self,
         alloc: Global,
@@ -292,7 +296,7 @@ impl Context {
         Ok(self.occurrence(EventData::RealmCreated(info)))
     }
 
-    /// That its realm goes.
+    /// The realmDestroyed event of its realm.
     pub(crate) fn realm_destroyed(&self, alloc: Global) -> Result<Occurrence, AllocError>
         ensures told { IfOk result (λ o. occurrence_of ⟦<EventData as Subject<EventName>>⟧.subject o ≡ realm_destroyed_in (row_of self.now)) }
         ensures well { IfOk result (λ o. ⟦<EventData as Subject<EventName>>⟧.subject.well o.event) }
@@ -305,7 +309,7 @@ impl Context {
         Ok(self.occurrence(EventData::RealmDestroyed(params)))
     }
 
-    /// What is told of a navigation of it to a URL.
+    /// The params of the events of a navigation of this context to a URL.
     pub(crate) fn navigation_info(
         &self,
         alloc: Global,
@@ -326,7 +330,7 @@ impl Context {
         })
     }
 
-    /// That a navigation of it started. Takes no memory.
+    /// The navigationStarted event of this context. Takes no memory.
     pub(crate) fn navigation_started(&self, info: NavigationInfo) -> Occurrence
         ensures told { occurrence_of ⟦<EventData as Subject<EventName>>⟧.subject result ≡ occurrence_in (row_of self.now) NavigationStarted (⟦<NavigationInfo as Shape>⟧.shape.tree_of info) }
         ensures well { ⟦<NavigationInfo as Shape>⟧.shape.well info → ⟦<EventData as Subject<EventName>>⟧.subject.well result.event }
@@ -334,7 +338,7 @@ impl Context {
         self.occurrence(EventData::NavigationStarted(info))
     }
 
-    /// That its document is there. Takes no memory.
+    /// The domContentLoaded event of this context. Takes no memory.
     pub(crate) fn dom_content_loaded(&self, info: NavigationInfo) -> Occurrence
         ensures told { occurrence_of ⟦<EventData as Subject<EventName>>⟧.subject result ≡ occurrence_in (row_of self.now) DomContentLoaded (⟦<NavigationInfo as Shape>⟧.shape.tree_of info) }
         ensures well { ⟦<NavigationInfo as Shape>⟧.shape.well info → ⟦<EventData as Subject<EventName>>⟧.subject.well result.event }
@@ -342,7 +346,7 @@ impl Context {
         self.occurrence(EventData::DomContentLoaded(info))
     }
 
-    /// That it is loaded. Takes no memory.
+    /// The load event of this context. Takes no memory.
     pub(crate) fn loaded(&self, info: NavigationInfo) -> Occurrence
         ensures told { occurrence_of ⟦<EventData as Subject<EventName>>⟧.subject result ≡ occurrence_in (row_of self.now) Load (⟦<NavigationInfo as Shape>⟧.shape.tree_of info) }
         ensures well { ⟦<NavigationInfo as Shape>⟧.shape.well info → ⟦<EventData as Subject<EventName>>⟧.subject.well result.event }
@@ -350,7 +354,7 @@ impl Context {
         self.occurrence(EventData::Load(info))
     }
 
-    /// That an entry was logged in it. Takes no memory.
+    /// The log.entryAdded event of an entry that was logged in this context. Takes no memory.
     pub(crate) fn logged(&self, entry: LogEntry) -> Occurrence
         ensures told { occurrence_of ⟦<EventData as Subject<EventName>>⟧.subject result ≡ occurrence_in (row_of self.now) EntryAdded (⟦<LogEntry as Shape>⟧.shape.tree_of entry) }
         ensures well { ⟦<LogEntry as Shape>⟧.shape.well entry → ⟦<EventData as Subject<EventName>>⟧.subject.well result.event }
@@ -358,7 +362,7 @@ impl Context {
         self.occurrence(EventData::EntryAdded(entry))
     }
 
-    // An event of it.
+    // An event that occurred in this context.
     fn occurrence(&self, event: EventData) -> Occurrence
         ensures event { result.event ≡ event }
         ensures context { result.context ≡ self.now.number }
@@ -372,14 +376,14 @@ impl Context {
     }
 }
 
-// The handle of that id, where the numbers ascend.
+// The handle of this id, among handles in ascending order of number.
 fn handle_of_id<'a>(handles: &'a [Handle], id: &str) -> Option<&'a Handle>
     ensures { IsStrictlyIncreasing (map (λ h. h.number) handles.now) → option_map (λ h. h.now) result ≡ find (λ h. bytes_eq id.now (id_of Kind.Handle h.number)) handles.now }
 {
     handle_at(handles, handle_number(id)?)
 }
 
-// The handle of that number, where the numbers ascend.
+// The handle of this number, among handles in ascending order of number.
 fn handle_at(handles: &[Handle], number: u64) -> Option<&Handle>
     ensures { IsStrictlyIncreasing (map (λ h. h.number) handles.now) → option_map (λ h. h.now) result ≡ find (λ h. h.number == number) handles.now }
 {
@@ -389,7 +393,7 @@ fn handle_at(handles: &[Handle], number: u64) -> Option<&Handle>
     }
 }
 
-// Whether a handle of that number may come behind these, whose numbers ascend.
+// Whether a handle of this number keeps the ascending order where it is added last.
 fn may_come(handles: &[Handle], number: u64) -> bool
     ensures may { result ≡ true → IsStrictlyIncreasing (map (λ h. h.number) handles.now) → IsStrictlyIncreasing (map (λ h. h.number) handles.now ++ number ∷ []) }
     ensures above { All (λ h. h.number < number) handles.now → result ≡ true }
@@ -400,14 +404,14 @@ fn may_come(handles: &[Handle], number: u64) -> bool
     }
 }
 
-// Takes out the handles of these numbers.
+// Removes the handles of these numbers.
 fn take_out(handles: &mut Vec<Handle>, numbers: &[u64])
     ensures { handles.new.items ≡ filter (λ h. not (list_any (λ n. n == h.number) numbers.now)) handles.old.items }
 {
     handles.retain(|handle| !is_listed(numbers, handle.number));
 }
 
-// The numbers of the handles that have one of these ids, in order.
+// The numbers of the handles that these ids can stand for, in ascending order.
 fn handle_numbers(alloc: Global, ids: &[String]) -> Result<Vec<u64>, AllocError>
     ensures order { IfOk result (λ numbers. IsNonDecreasing numbers.items) }
     ensures ids { (n : ℕ) → n < 2 ^ 48 → IfOk result (λ numbers. list_any (λ m. m == n) numbers.items ≡ has_id (map string_bytes ids.now) n) }
@@ -422,7 +426,7 @@ fn handle_numbers(alloc: Global, ids: &[String]) -> Result<Vec<u64>, AllocError>
     Ok(numbers)
 }
 
-// Whether a number is among these, which ascend.
+// Whether a number is among these, which are in ascending order.
 fn is_among(numbers: &[u64], number: u64) -> bool
     ensures { IsNonDecreasing numbers.now → result ≡ list_any (λ n. n == number) numbers.now }
 {

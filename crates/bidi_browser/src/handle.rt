@@ -1,4 +1,4 @@
-//! Values that are held, how scripts end in them, and the handles that hold them.
+//! Values that handles and rows of the script table hold, and the two ways in which a script ends.
 ghost use Rattle.std.specs.Prelude.{◌≡◌, ◌≤◌, ◌<◌, ◌^◌};
 ghost use Rattle.bidi_tree.specs.Node.{levels};
 ghost use Rattle.bidi_values.specs.View.{nested_tree};
@@ -8,20 +8,22 @@ use crate::size::Size;
 use bidi_values::{Nests, RemoteList, RemotePairs, RemotePlain, RemoteValue};
 use std::rc::Rc;
 
-/// A value that rows of the table and handles share.
+/// A value that rows of the script table and handles share.
 #[derive(Drop)]
 pub(crate) struct HeldValue {
+    /// The value itself.
     pub value: RemoteValue,
-    /// The size of its tree.
+    /// The levels and bytes of its tree, counted once.
     pub size: Size,
     ghost few: { levels (nested_tree ⟦<RemotePlain as Nests<RemoteList, RemotePairs>>⟧.nesting value) ≤ 60 },
     ghost levels: { size.levels ≡ (size_of (nested_tree ⟦<RemotePlain as Nests<RemoteList, RemotePairs>>⟧.nesting value)).levels },
     ghost bytes: { size.bytes ≡ (size_of (nested_tree ⟦<RemotePlain as Nests<RemoteList, RemotePairs>>⟧.nesting value)).bytes },
 }
 
-/// A value that is thrown: the details that wrap it have one level more.
+/// A value that a script throws. It has one level fewer than others, since the exception details wrap it.
 #[derive(Drop)]
 pub(crate) struct ThrownValue {
+    /// The value itself.
     pub held: Rc<HeldValue>,
     ghost few: { levels (nested_tree ⟦<RemotePlain as Nests<RemoteList, RemotePairs>>⟧.nesting held.value.value) ≤ 59 },
 }
@@ -29,14 +31,18 @@ pub(crate) struct ThrownValue {
 /// How a script ends.
 #[derive(Drop)]
 pub(crate) enum Ending {
+    /// The script returns this value.
     Returned(Rc<HeldValue>),
+    /// The script throws this value.
     Threw(ThrownValue),
 }
 
-/// A handle, by its number, and the value that it holds.
+/// A handle of a realm.
 #[derive(Drop)]
 pub(crate) struct Handle {
+    /// The number of the handle, from which its id is made.
     pub number: u64,
+    /// The value that it holds.
     pub value: Rc<HeldValue>,
     ghost number_fits: { number < 2 ^ 48 },
 }

@@ -1,27 +1,33 @@
-//! Ids.
+//! Ids: the text of one, and the comparison of a text with one.
 ghost use Rattle.std.specs.Prelude.{◌≡◌, ◌<◌, ◌^◌, ℕ, true, bytes_eq, string_bytes, IfOk, IfSome, Some};
 ghost use Rattle.bidi_browser.specs.Ids.{kind_number, session_in, id_bytes, id_of, id_text};
 
 use std::alloc::{AllocError, Global};
 use uuid::Uuid;
 
-/// What has an id.
+/// The kinds of things that have ids.
 #[derive(Clone, Copy, Debug, PartialEq, Eq)]
 pub enum Kind {
+    /// A session.
     Session,
+    /// A browsing context.
     Context,
+    /// A realm.
     Realm,
+    /// A navigation.
     Navigation,
+    /// A subscription, numbered within its session.
     Subscription,
+    /// A handle of a remote value.
     Handle,
     /// A client window.
     Window,
 }
 
-/// The id of the `n`-th thing of a kind, for a subscription of its session. Any other kind has session 0 in its ids,
-/// whatever session is given.
+/// The id of the `n`-th thing of a kind, counted from 1. Only the id of a subscription has `session` in it;
+/// that of any other kind has 0 in its place.
 ///
-/// `ssssssss-kkkk-8000-8000-nnnnnnnnnnnn`, the session, the kind and the number in lower-case hexadecimal.
+/// `ssssssss-kkkk-8000-8000-nnnnnnnnnnnn`: the session, the kind and the number, in lower-case hexadecimal.
 ///
 /// # Errors
 /// No memory: an allocation failed.
@@ -38,7 +44,7 @@ pub fn id_text(alloc: Global, kind: Kind, session: u32, n: u64) -> Result<String
     String::from_str(alloc, text)
 }
 
-/// Whether a text is the id of that thing, in just these letters. Takes no memory.
+/// Whether a text is exactly the id that [`id_text`] gives; upper-case letters differ. Takes no memory.
 pub fn is_id(text: &str, kind: Kind, session: u32, n: u64) -> bool
     requires { n < 2 ^ 48 }
     ensures { result ≡ bytes_eq text.now (id_text kind session n) }
@@ -50,7 +56,7 @@ pub fn is_id(text: &str, kind: Kind, session: u32, n: u64) -> bool
     text == id
 }
 
-/// The number of the handle whose id a text is, in just these letters. Takes no memory.
+/// The number of the handle that has exactly this id, if the text is the id of a handle. Takes no memory.
 pub(crate) fn handle_number(id: &str) -> Option<u64>
     ensures some { IfSome result (λ n. (n < 2 ^ 48) × (bytes_eq id.now (id_of Kind.Handle n) ≡ true)) }
     ensures every { (n : ℕ) → n < 2 ^ 48 → bytes_eq id.now (id_of Kind.Handle n) ≡ true → result ≡ Some n }
@@ -66,7 +72,7 @@ pub(crate) fn handle_number(id: &str) -> Option<u64>
     }
 }
 
-// The number in the last six bytes.
+// The number in the last six bytes of an id.
 fn number_in(uuid: Uuid) -> u64
     ensures fits { result < 2 ^ 48 }
     ensures back { (n : ℕ) → n < 2 ^ 48 → uuid ≡ id_bytes Kind.Handle 0 n → result ≡ n }
@@ -75,6 +81,7 @@ fn number_in(uuid: Uuid) -> u64
     u64::from_be_bytes([0, 0, b[10], b[11], b[12], b[13], b[14], b[15]])
 }
 
+// The sixteen bytes of an id.
 fn id_of(kind: Kind, session: u32, n: u64) -> Uuid
     requires { n < 2 ^ 48 }
     ensures { result ≡ id_bytes kind session n }
@@ -87,7 +94,7 @@ fn id_of(kind: Kind, session: u32, n: u64) -> Uuid
     ])
 }
 
-/// The session in the ids of a kind.
+/// The session that stands in an id of this kind: 0 but for a subscription.
 fn session_in(kind: Kind, session: u32) -> u32
     ensures { result ≡ session_in kind session }
 {
@@ -97,7 +104,7 @@ fn session_in(kind: Kind, session: u32) -> u32
     }
 }
 
-/// The number of a kind in its ids.
+/// The number that stands for a kind in its ids.
 fn number_of(kind: Kind) -> u16
     ensures { result ≡ kind_number kind }
 {

@@ -1,11 +1,17 @@
-//! A browser held in memory: contexts, session history, realms and a table that stands for running scripts.
+//! A browser held in memory: browsing contexts, session history, realms, and a table of script outcomes.
 //!
-//! A [`Browser`] plans what an [`Action`] comes to: a [`Plan`] has the events and the result, and the [`Change`] that
-//! [`Browser::apply`] puts in place, in room that [`Browser::reserve`] made for it; an action that is refused has a
-//! [`Refusal`]. The browser takes what makes, navigates, shows and removes contexts, lists realms, evaluates scripts,
-//! calls functions, gives handles back, logs entries and sets rows of the table. It says which contexts are alive, and
-//! tells of all that stands by [`Occurrence`]s. Beside it the crate makes ids, and has definitions: what the browser's
-//! past is, what can be asked of it, and what each command and each step of a play does to it.
+//! [`Browser::plan`] works out what an [`Action`] does, and changes nothing. It answers with a [`Plan`],
+//! which has the events, the result of the command and a [`Change`], or with a [`Refusal`].
+//! [`Browser::reserve`] then makes room for the change, and [`Browser::apply`] puts it in place without
+//! allocating.
+//!
+//! Actions create, navigate, list and close contexts, list realms, evaluate scripts, call functions, release
+//! handles, log entries and set rows of the script table. No script is run: the table says what a script of a
+//! given text returns or throws.
+//!
+//! [`Browser::tree_events`] gives the events that tell a new subscription of the contexts and realms that
+//! exist already. [`id_text`] makes ids, and [`is_id`] compares a text with one. The specifications define
+//! the browser by the list of actions that it has accepted, its past.
 #![tactic(auto)]
 
 mod action;

@@ -1,4 +1,4 @@
-//! The plan of what logs an entry.
+//! The plan of a step that logs a text.
 ghost use Rattle.std.specs.Prelude.{◌≡◌, ℕ, List, [], ◌∷◌, IfOk};
 ghost use Rattle.bidi_tree.specs.Node.{no_members, text};
 ghost use Rattle.bidi_browser.specs.Acts.{Act};
@@ -24,7 +24,7 @@ use bidi_values::{
 };
 use std::alloc::{AllocError, Global};
 
-/// Logs a text in a context, as an entry of the console. The browser tells it, and keeps nothing of it.
+/// Plans a console log entry in a context. The browser makes its event, and keeps nothing of it.
 ///
 /// # Errors
 /// The first that holds:
@@ -50,7 +50,7 @@ pub(crate) fn plan_log(
     })
 }
 
-// The event of an entry.
+// The log.entryAdded event of the text.
 fn logged(
     alloc: Global,
     moment: JsUint,
@@ -105,7 +105,7 @@ fn source(alloc: Global, context: &Context) -> Result<Source, AllocError>
     })
 }
 
-// A text as a value.
+// A text as a remote value of type `string`.
 fn text_value(alloc: Global, line: &str) -> Result<RemoteValue, AllocError>
     ensures tree { IfOk result (λ v. ⟦<RemoteValue as Shape>⟧.shape.tree_of v ≡ mapped ("type" being word "string" and "value" being text line.now and no_members)) }
     ensures well { IfOk result ⟦<RemoteValue as Shape>⟧.shape.well }

@@ -1,4 +1,4 @@
-//! Look-ups that are checked, and plans of what only looks.
+//! Look-ups of contexts that refuse with an error code, and plans of the commands that change nothing.
 ghost use Rattle.std.specs.Prelude.{◌≡◌, ℕ, List, [], Some, true, map, if◌then◌else◌, IfOk, option_map, string_bytes};
 ghost use Rattle.std.specs.List.{AllByRecursion};
 ghost use Rattle.bidi_params.specs.Words.{realm_type_text};
@@ -34,7 +34,7 @@ use std::alloc::{AllocError, Global};
 /// The live context of an id.
 ///
 /// # Errors
-/// `no such frame`: there is none.
+/// `no such frame`: no live context has this id.
 pub(crate) fn context_named<'a>(contexts: &'a Contexts, id: &str) -> Result<&'a Context, ErrorCode>
     ensures { (past : List Act) → IsTableOf contexts.now past → IsFound result past (context_named past id.now) }
 {
@@ -47,8 +47,8 @@ pub(crate) fn context_named<'a>(contexts: &'a Contexts, id: &str) -> Result<&'a 
 /// The live top-level context of an id.
 ///
 /// # Errors
-/// - `no such frame`: there is no context.
-/// - `invalid argument`: it is a child of another.
+/// - `no such frame`: no live context has this id.
+/// - `invalid argument`: the context is a child of another.
 pub(crate) fn top_named<'a>(contexts: &'a Contexts, id: &str) -> Result<&'a Context, ErrorCode>
     ensures { (past : List Act) → IsTableOf contexts.now past → IsFound result past (top_named past id.now) }
 {
@@ -59,7 +59,7 @@ pub(crate) fn top_named<'a>(contexts: &'a Contexts, id: &str) -> Result<&'a Cont
     Ok(context)
 }
 
-/// The same of an id that may be left out.
+/// As [`top_named`] for an id that is given; `None` where it is absent.
 pub(crate) fn top_if_named<'a>(
     contexts: &'a Contexts,
     id: &Option<String>,
@@ -74,7 +74,7 @@ pub(crate) fn top_if_named<'a>(
 
 // ---- plans
 
-/// Activates a top-level context, which changes nothing.
+/// Plans `browsingContext.activate`, which checks that the context is a top-level one and changes nothing.
 pub(crate) fn plan_activate(browser: &Browser, context: &str) -> Result<Plan, Refusal>
     ensures plans { (past : List Act) (moment : ℕ) → StandsFor browser.now past → Plans result past moment (Activate context.now) }
     ensures well { IsWellPlanned result }
@@ -85,7 +85,7 @@ pub(crate) fn plan_activate(browser: &Browser, context: &str) -> Result<Plan, Re
     Ok(looked(browser.alloc, result))
 }
 
-/// Shows the tree below a context, or below each top-level one, as deep as is asked.
+/// Plans `browsingContext.getTree`: the tree of one context or of each top-level one, to a depth.
 pub(crate) fn plan_get_tree(browser: &Browser, params: &GetTreeParameters) -> Result<Plan, Refusal>
     ensures plans { (past : List Act) (moment : ℕ) → StandsFor browser.now past → Plans result past moment (get_tree_asked params.now) }
     ensures well { IsWellPlanned result }
@@ -99,7 +99,7 @@ pub(crate) fn plan_get_tree(browser: &Browser, params: &GetTreeParameters) -> Re
     Ok(looked(browser.alloc, result))
 }
 
-// How deep the trees are to be, where it is said.
+// The depth that is asked for. Absent, it is the whole depth.
 fn depth_in(params: &GetTreeParameters) -> Option<u64>
     ensures { result ≡ option_map (λ n. n.value) params.now.max_depth }
 {
@@ -126,7 +126,7 @@ fn roots(browser: &Browser, depth: Option<u64>, root: &Option<String>) -> Result
     }
 }
 
-/// Lists the realms of all contexts, or that of one. All are those of windows.
+/// Plans `script.getRealms`: the realms of all contexts, or that of one. Each realm is of type `window`.
 pub(crate) fn plan_get_realms(
     browser: &Browser,
     params: &GetRealmsParameters,
@@ -144,7 +144,7 @@ pub(crate) fn plan_get_realms(
     Ok(looked(browser.alloc, result))
 }
 
-// Whether windows are asked for, as they are where no type is.
+// Whether realms of type `window` are asked for, as they are where no type is given.
 fn takes_windows(kind: Option<RealmType>) -> bool
     ensures { result ≡ takes_windows (option_map realm_type_text kind) }
 {
@@ -154,7 +154,7 @@ fn takes_windows(kind: Option<RealmType>) -> bool
     }
 }
 
-// The contexts whose realms are asked for: the one, or all in tree order.
+// The contexts whose realms are asked for: one, or all in tree order.
 fn holders<'a>(browser: &'a Browser, id: &Option<String>) -> Result<Vec<&'a Context>, Refusal>
     ensures { (past : List Act) → StandsFor browser.now past
         → (let named = option_map string_bytes id.now in AreTold (λ c. row_of c.now) result (looked_at past named) (map (row_at past) (realm_holders past named true))) }
@@ -170,7 +170,7 @@ fn holders<'a>(browser: &'a Browser, id: &Option<String>) -> Result<Vec<&'a Cont
     }
 }
 
-// What is told of the realm of each context, where windows are asked for.
+// The RealmInfo of each context, or nothing where realms of another type are asked for.
 fn windows(
     alloc: Global,
     contexts: &[&Context],
@@ -187,7 +187,7 @@ fn windows(
     }
 }
 
-// What is told of the realm of each context.
+// The RealmInfo of each context.
 fn realm_infos(alloc: Global, contexts: &[&Context]) -> Result<Vec<RealmInfo>, AllocError>
     ensures tree { IfOk result (λ all. map ⟦<RealmInfo as Shape>⟧.shape.tree_of all.items ≡ map (λ c. realm_info_in (row_of c.now)) contexts.now) }
     ensures well { IfOk result (λ all. AllByRecursion (λ r. ⟦<RealmInfo as Shape>⟧.shape.well r) all.items) }
@@ -199,7 +199,7 @@ fn realm_infos(alloc: Global, contexts: &[&Context]) -> Result<Vec<RealmInfo>, A
     Ok(all)
 }
 
-/// What only looks: its result, and no more.
+/// The plan of a command that changes nothing: its result alone.
 pub(crate) fn looked(alloc: Global, outcome: ResultData) -> Plan
     ensures before { result.before.items ≡ [] }
     ensures outcome { result.result ≡ Some outcome }
@@ -209,7 +209,7 @@ pub(crate) fn looked(alloc: Global, outcome: ResultData) -> Plan
     answered(alloc, outcome, Edit::Keep)
 }
 
-/// What has a result and an edit, and tells of no event. Takes no memory.
+/// The plan of a command that has a result and a change, and no events. Takes no memory.
 pub(crate) fn answered(alloc: Global, outcome: ResultData, edit: Edit) -> Plan
     ensures before { result.before.items ≡ [] }
     ensures outcome { result.result ≡ Some outcome }
@@ -224,7 +224,7 @@ pub(crate) fn answered(alloc: Global, outcome: ResultData, edit: Edit) -> Plan
     }
 }
 
-/// `{}`. Takes no memory.
+/// The empty result, `{}`. Takes no memory.
 pub(crate) fn nothing(alloc: Global) -> EmptyResult
     ensures tree { ⟦<EmptyResult as Shape>⟧.shape.tree_of result ≡ nothing }
     ensures well { ⟦<EmptyResult as Shape>⟧.shape.well result }

@@ -1,4 +1,4 @@
-//! How large what a tree stands for is, before it is built.
+//! The size of the value that a tree stands for, found without building the value.
 ghost use Rattle.std.specs.Prelude.{◌≡◌, Some, option_map};
 ghost use Rattle.bidi_tree.specs.Node.{map};
 ghost use Rattle.bidi_tree.specs.View.{node, items_node, members_node};
@@ -14,7 +14,7 @@ use crate::size::{Size, decimal_bytes, quoted_bytes};
 use bidi_messages::ErrorCode;
 use bidi_tree::{Members, Tree, find_member};
 
-/// The size of a tree.
+/// The size of a tree as it is.
 pub(crate) fn size_of(tree: &Tree) -> Size
     ensures { result ≡ size_of (node tree.now) }
 {
@@ -24,7 +24,13 @@ pub(crate) fn size_of(tree: &Tree) -> Size
     }
 }
 
-/// The size of a tree, with the values that handles hold in a realm in place of references, where there is one.
+/// The size of the value that a tree stands for: in the realm of a context, a reference counts as the value
+/// that its handle holds. Without a context it is the size of the tree as it is.
+///
+/// # Errors
+/// Of the first reference that fails, and only in the realm of a context:
+/// - `no such node`: it has a shared id.
+/// - `no such handle`: the realm has no such handle.
 #[cycle(measure)]
 pub(crate) fn measured(realm: Option<&Context>, tree: &Tree) -> Result<Size, ErrorCode>
     ensures { result ≡ sized (seen (in_realm realm.entry) (node tree.now)) }
@@ -44,7 +50,7 @@ pub(crate) fn measured(realm: Option<&Context>, tree: &Tree) -> Result<Size, Err
     }
 }
 
-// The same of a map, which may be a reference.
+// The size of a map in a realm. With a member `sharedId` or `handle` it is a reference.
 #[cycle(measure)]
 fn measured_map(context: &Context, members: &Members) -> Result<Size, ErrorCode>
     ensures { result ≡ sized (seen (Some (held_in_row (row_of context.now))) (map (members_node members.now.entries))) }
@@ -58,7 +64,7 @@ fn measured_map(context: &Context, members: &Members) -> Result<Size, ErrorCode>
     }
 }
 
-// The size of the value that a handle holds.
+// The size of the value that a handle holds; the tree is that of its id.
 fn size_held(context: &Context, handle: &Tree) -> Result<Size, ErrorCode>
     ensures { result ≡ sized (handle_value (held_in_row (row_of context.now)) (node handle.now)) }
 {
@@ -68,7 +74,7 @@ fn size_held(context: &Context, handle: &Tree) -> Result<Size, ErrorCode>
     }
 }
 
-// The size of the value that the handle of an id holds.
+// The size of the value that the handle of this id holds.
 fn size_named(context: &Context, id: &str) -> Result<Size, ErrorCode>
     ensures { result ≡ sized (found (held_in_row (row_of context.now) id.now) NoSuchHandle) }
 {
@@ -78,7 +84,7 @@ fn size_named(context: &Context, id: &str) -> Result<Size, ErrorCode>
     }
 }
 
-// The size of the list of these.
+// The size of a list of these items.
 #[cycle(measure)]
 fn measured_items(realm: Option<&Context>, items: &Vec<Tree>) -> Result<Size, ErrorCode>
     ensures { result ≡ items_sized (seen_items (in_realm realm.entry) (items_node items.now.items)) }
@@ -92,7 +98,7 @@ fn measured_items(realm: Option<&Context>, items: &Vec<Tree>) -> Result<Size, Er
     Ok(size.in_brackets())
 }
 
-// The size of the map of these.
+// The size of a map of these members.
 #[cycle(measure)]
 fn measured_members(realm: Option<&Context>, members: &Members) -> Result<Size, ErrorCode>
     ensures { result ≡ members_sized (seen_members (in_realm realm.entry) (members_node members.now.entries)) }

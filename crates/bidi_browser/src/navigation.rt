@@ -1,4 +1,4 @@
-//! Plans of what navigates.
+//! Plans of the commands that navigate: `navigate`, `reload` and `traverseHistory`.
 ghost use Rattle.std.specs.Prelude.{◌≡◌, ◌≤◌, ◌<◌, ◌^◌, ◌++◌, ℕ, List, flat_map, Some, IfOk, vec_len};
 ghost use Rattle.bidi_tree.specs.Node.{no_members, text};
 ghost use Rattle.bidi_browser.specs.Acts.{Act, Move as Led};
@@ -32,18 +32,19 @@ use bidi_tree::JsUint;
 use std::alloc::{AllocError, Global};
 use url::Url;
 
-/// What is told of a navigation, parted where its reply stands.
+/// The events of a navigation, parted where its reply stands.
 struct Told {
     before: Vec<Occurrence>,
     after: Vec<Occurrence>,
 }
 
-/// Navigates a context to a URL.
+/// Plans the navigation of a context to a URL.
 ///
 /// # Errors
 /// The first that holds:
 /// - `no such frame`: the context is not live.
 /// - `invalid argument`: the text is no absolute URL.
+/// - `unknown error`: no id is left.
 /// - No memory: an allocation failed.
 pub(crate) fn plan_navigate(
     browser: &Browser,
@@ -72,11 +73,12 @@ pub(crate) fn plan_navigate(
     ))
 }
 
-/// Navigates a context to its present entry again.
+/// Plans the reload of a context: a navigation to its present entry.
 ///
 /// # Errors
 /// The first that holds:
 /// - `no such frame`: the context is not live.
+/// - `unknown error`: no id is left.
 /// - No memory: an allocation failed.
 pub(crate) fn plan_reload(
     browser: &Browser,
@@ -101,13 +103,14 @@ pub(crate) fn plan_reload(
     Ok(planned(told, navigation, ResultData::BrowsingContextReload(result)))
 }
 
-/// Navigates a top-level context to another entry of its session history.
+/// Plans the navigation of a top-level context to another entry of its session history.
 ///
 /// # Errors
 /// The first that holds:
 /// - `no such frame`: the context is not live.
-/// - `invalid argument`: it is a child of another.
-/// - `no such history entry`: none stands there.
+/// - `invalid argument`: the context is a child of another.
+/// - `no such history entry`: no entry stands `delta` places from the present one.
+/// - `unknown error`: no id is left.
 /// - No memory: an allocation failed.
 pub(crate) fn plan_traverse_history(
     browser: &Browser,
@@ -156,7 +159,7 @@ fn planned(told: Told, navigation: Navigation, outcome: ResultData) -> Plan
     }
 }
 
-// What is told of a navigation of a context to a URL, and the numbers of the contexts that go with it.
+// The events of a navigation, parted where its reply stands, and the numbers of the contexts that it removes.
 fn tell(
     browser: &Browser,
     numbers: Numbers,
@@ -176,7 +179,7 @@ fn tell(
     Ok((Told { before, after }, gone))
 }
 
-// How many of the events of a navigation stand before its reply.
+// How many events of a navigation stand before its reply, by the command's `wait`.
 fn place_of_reply(wait: Option<Wait>, events: usize) -> usize
     requires { 1 ≤ events }
     ensures place { result ≡ before_reply (wait_of wait) events }
@@ -189,7 +192,7 @@ fn place_of_reply(wait: Option<Wait>, events: usize) -> usize
     }
 }
 
-// The events of a navigation; the numbers of the contexts that go are added.
+// The events of a navigation in order. Adds the numbers of the contexts that it removes to `gone`.
 fn events(
     browser: &Browser,
     numbers: Numbers,
@@ -217,7 +220,7 @@ fn events(
     Ok(all)
 }
 
-// The result of navigate and reload.
+// The result of `navigate` and `reload`.
 fn navigated(alloc: Global, navigation: u64, url: &Url) -> Result<NavigateResult, AllocError>
     requires { navigation < 2 ^ 48 }
     ensures tree { IfOk result (λ r. ⟦<NavigateResult as Shape>⟧.shape.tree_of r ≡ mapped ("navigation" being id_tree Kind.Navigation navigation and "url" being text (url_text url.now) and no_members)) }

@@ -1,10 +1,13 @@
-//! Occurrences.
+//! Events with the contexts in which they occurred.
 use bidi_messages::EventData;
 
-/// Something that occurred: an event, of a context and its top-level context, which are told by their numbers.
+/// An event that occurred in a context.
 #[derive(Drop)]
 pub struct Occurrence {
+    /// The event, with its params.
     pub event: EventData,
+    /// The number of the context.
     pub context: u64,
+    /// The number of the context's top-level context, which decides the subscriptions that cover the event.
     pub top: u64,
 }

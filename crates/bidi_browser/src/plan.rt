@@ -1,4 +1,4 @@
-//! What an action comes to, before anything is changed.
+//! What an action does, worked out before anything is changed.
 ghost use Rattle.std.specs.Prelude.{◌<◌, ◌^◌};
 
 use crate::contexts::Context;
@@ -8,60 +8,70 @@ use crate::script_table::ScriptRow;
 use crate::session_history::Move;
 use bidi_messages::ResultData;
 
-/// What an accepted action brings about: what is told of it, and what it changes. It is used up by telling the one and
-/// applying the other.
+/// What an accepted action does: its events, its result and its change. Nothing has changed until the change
+/// is given to `Browser::apply`; a plan that is dropped has no effect.
 pub struct Plan {
-    /// The events before the reply.
+    /// The events to send before the reply.
     pub before: Vec<Occurrence>,
-    /// The result, for a command; nobody asked for a step of a page.
+    /// The result to reply with; `None` for a step of a page, which has no reply.
     pub result: Option<ResultData>,
-    /// The events behind the reply. Where nobody asked there are none.
+    /// The events to send after the reply. Without a reply there are none.
     pub after: Vec<Occurrence>,
+    /// The change, for `Browser::reserve` and then `Browser::apply`.
     pub change: Change,
 }
 
-/// What an action changes, with all that it puts in already made.
+/// A change of the browser, with all that it adds already made.
 #[derive(Drop)]
 pub struct Change {
+    /// What it does.
     pub(crate) edit: Edit,
 }
 
-/// What is done to the tables.
+/// What a change does to the tables of the browser.
 #[derive(Drop)]
 pub(crate) enum Edit {
-    /// Nothing: the action looks, or logs an entry, which the browser tells and does not keep.
+    /// Nothing changes: the action only looks, or logs an entry, which the browser does not keep.
     Keep,
-    /// A context comes, in a window that stands or in a new one.
+    /// A context is added, in a window that exists or in a new one.
     Add {
+        /// The new context.
         context: Context,
+        /// Whether its window is new, too.
         opens_window: bool,
     },
-    /// The contexts of these numbers go: one of them with all below it.
+    /// The contexts of these numbers are removed: one context with all its descendants.
     Remove(Vec<u64>),
     /// A context navigates.
     Navigate(Navigation),
-    /// A text gets its row in the table.
+    /// The row of this text is set in the script table.
     SetRow(String, ScriptRow),
-    /// A value is held by a handle in the realm of the context of that number.
+    /// The handle is added to the realm of the context of this number.
     Hold(u64, Handle),
-    /// In the realm of the context of that number the handles of these numbers are held no longer.
+    /// In the realm of the context of this number, the handles of these numbers are released.
     Disown(u64, Vec<u64>),
 }
 
-/// A context moves in its session history: it has a new realm, and all below it goes, by their numbers.
+/// A navigation: a context moves in its session history and gets a new realm, and loses its descendants.
 #[derive(Drop)]
 pub(crate) struct Navigation {
+    /// The number of the context.
     pub context: u64,
+    /// The number of its new realm.
     pub realm: u64,
+    /// Where it leads in the session history.
     pub to: Move,
+    /// The numbers of the descendants, which are removed.
     pub gone: Vec<u64>,
     ghost realm_fits: { realm < 2 ^ 48 },
 }
 
-/// The numbers that a navigation and its realm get.
+/// The numbers that a navigation uses.
 #[derive(Clone, Copy)]
 pub(crate) struct Numbers {
+    /// The number of the navigation.
     pub navigation: u64,
+    /// The number of the realm that it begins.
     pub realm: u64,
     ghost navigation_fits: { navigation < 2 ^ 48 },
     ghost realm_fits: { realm < 2 ^ 48 },

@@ -4,12 +4,12 @@ ghost use Rattle.std.specs.Prelude.{◌≡◌};
 use bidi_messages::ErrorCode;
 use std::alloc::{AllocError, AllocFailed};
 
-/// Why an action, or a command, is refused.
+/// Why an action or a command is refused. Nothing has changed.
 #[derive(Clone, Copy)]
 pub enum Refusal {
-    /// A check failed. A step of a page then has no effect.
+    /// A check failed, with this error code to reply with. A step of a page has no reply, and no effect.
     Code(ErrorCode),
-    /// An allocation failed.
+    /// An allocation failed. The action may be tried again.
     NoMemory,
 }
 

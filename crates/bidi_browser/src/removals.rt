@@ -1,4 +1,4 @@
-//! Plans of what removes contexts.
+//! Plans of the actions that remove contexts: `browsingContext.close`, and a frame that a page removes.
 ghost use Rattle.std.specs.Prelude.{◌≡◌, ◌++◌, ℕ, List, map, flat_map, IfOk};
 ghost use Rattle.bidi_browser.specs.Acts.{Act, Removed};
 ghost use Rattle.bidi_browser.specs.Actions.{Close, Unframe};
@@ -19,12 +19,12 @@ use crate::telling::push_realms_gone;
 use bidi_messages::{ErrorCode, Method, ResultData};
 use std::alloc::{AllocError, Global};
 
-/// Closes a top-level context, and all below it.
+/// Plans the close of a top-level context with all its descendants.
 ///
 /// # Errors
 /// The first that holds:
 /// - `no such frame`: the context is not live.
-/// - `invalid argument`: it is a child of another.
+/// - `invalid argument`: the context is a child of another.
 /// - No memory: an allocation failed.
 pub(crate) fn plan_close(browser: &Browser, context: &str) -> Result<Plan, Refusal>
     ensures plans { (past : List Act) (moment : ℕ) → StandsFor browser.now past → Plans result past moment (Close context.now) }
@@ -42,12 +42,12 @@ pub(crate) fn plan_close(browser: &Browser, context: &str) -> Result<Plan, Refus
     })
 }
 
-/// Takes out a child, and all below it.
+/// Plans the removal of a child context with all its descendants.
 ///
 /// # Errors
 /// The first that holds:
 /// - `no such frame`: the context is not live.
-/// - `invalid argument`: it is a top-level one.
+/// - `invalid argument`: the context is a top-level one.
 /// - No memory: an allocation failed.
 pub(crate) fn plan_unframe(browser: &Browser, context: &str) -> Result<Plan, Refusal>
     ensures plans { (past : List Act) (moment : ℕ) → StandsFor browser.now past → Plans result past moment (Unframe context.now) }
@@ -66,7 +66,7 @@ pub(crate) fn plan_unframe(browser: &Browser, context: &str) -> Result<Plan, Ref
     })
 }
 
-// A context and all below it go: the events, and the change.
+// The events of removing a context with all its descendants, and the change.
 fn removal(browser: &Browser, context: &Context) -> Result<(Vec<Occurrence>, Change), AllocError>
     ensures told { (past : List Act) (c : ℕ) → StandsFor browser.now past → row_of context.now ≡ row_at past c
         → IfOk result (λ r. (seen r.0.items ≡ removal past c) × Makes r.1 past (Removed c)) }
@@ -81,7 +81,7 @@ fn removal(browser: &Browser, context: &Context) -> Result<(Vec<Occurrence>, Cha
     Ok((events, change))
 }
 
-/// Adds what tells that some contexts go, each with all below it, and the numbers of all that go.
+/// Adds the events of removing some contexts with all their descendants, and the numbers of all of these.
 pub(crate) fn push_removals(
     browser: &Browser,
     contexts: &[&Context],
@@ -98,8 +98,8 @@ pub(crate) fn push_removals(
     Ok(())
 }
 
-// Adds what tells that a context goes with all below it: the end of each realm in tree order, then of the context; and
-// the numbers of all that go.
+// Adds the events of removing a context with all its descendants, and the numbers of all that are removed.
+// The events are realmDestroyed of each in tree order, then contextDestroyed of the context itself.
 fn push_removal(
     browser: &Browser,
     context: &Context,

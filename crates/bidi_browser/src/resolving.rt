@@ -1,6 +1,6 @@
-//! Local values as remote ones, with what handles hold in place of references.
+//! Local values resolved to remote ones, with the values of their handles in place of references.
 //!
-//! A value is measured before anything is built of it, and built only where a script gives it back.
+//! A value is measured before anything of it is built, and is built only where a script returns it.
 ghost use Rattle.std.specs.Prelude.{◌≡◌, IfOk, map, option_map};
 ghost use Rattle.bidi_messages.specs.declared.error_code.ErrorCode.TheVariants.{NoSuchHandle};
 ghost use Rattle.bidi_tree.specs.View.{items_of};
@@ -25,20 +25,20 @@ use bidi_values::{
 use std::alloc::{AllocError, Global};
 use std::rc::Rc;
 
-/// The most levels of an argument, with what its handles hold.
+/// The most levels that an argument may have with the values of its handles in place.
 const MOST_LEVELS: u64 = 60;
 
-/// The most bytes of its compact text.
+/// The most bytes that its compact text may have.
 const MOST_BYTES: u64 = 1_048_576;
 
-/// Whether a script may have these arguments, in their order.
+/// Checks the arguments of a call, in their order.
 ///
-/// Builds nothing. Costs a tree of each, and a look-up of each reference.
+/// Builds no value. Costs a tree of each argument, and a look-up of each reference.
 ///
 /// # Errors
-/// That of the first argument that has one, which is the first of these that holds:
-/// - `no such node`, `no such handle`: a reference in it is by a shared id, or by a handle that is not of the realm;
-///   the first such reference, in the order of lists, and in a pair the key first.
+/// That of the first argument that fails; of it, the first of these that holds:
+/// - `no such node`, `no such handle`: a reference in it has a shared id, or a handle that is not of the
+///   realm. The first such reference counts, in the order of lists; in a pair the key comes first.
 /// - `unknown error`: it has more than 60 levels, or its compact text more than 1,048,576 bytes.
 /// - No memory: an allocation failed.
 pub(crate) fn check_arguments(
@@ -54,7 +54,7 @@ pub(crate) fn check_arguments(
     Ok(())
 }
 
-/// Whether it may have this value as its `this`, where one is given.
+/// Checks the `this` of a call, where one is given. Errors are those of [`check_arguments`].
 pub(crate) fn check_this(
     alloc: Global,
     context: &Context,
@@ -71,10 +71,10 @@ pub(crate) fn check_this(
     }
 }
 
-/// The value that an argument stands for, to be shared.
+/// Builds the value that an argument stands for, made to be shared.
 ///
 /// # Errors
-/// As of [`check_arguments`].
+/// Those of [`check_arguments`].
 pub(crate) fn given_back(
     alloc: Global,
     context: &Context,
@@ -87,7 +87,7 @@ pub(crate) fn given_back(
     Ok(Rc::new(alloc, HeldValue { value, size })?)
 }
 
-// The size of the value that an argument stands for, where it is within the limits.
+// The size of the value that an argument stands for, or the error of an argument that fails.
 fn sized(alloc: Global, context: &Context, value: &LocalValue) -> Result<Size, Refusal>
     ensures { IsSized result (argument (held_in_row (row_of context.now)) (local_tree value.now)) }
 {
@@ -128,6 +128,7 @@ fn resolved(alloc: Global, context: &Context, value: &LocalValue) -> Result<Remo
     }
 }
 
+// The remote values of a list.
 #[cycle(resolve)]
 fn resolved_values(
     alloc: Global,
@@ -143,6 +144,7 @@ fn resolved_values(
     Ok(all)
 }
 
+// The remote pairs of an object or a map.
 #[cycle(resolve)]
 fn resolved_pairs(
     alloc: Global,
@@ -158,6 +160,7 @@ fn resolved_pairs(
     Ok(all)
 }
 
+// The remote pair of a local one: the key is resolved before the value.
 #[cycle(resolve)]
 fn resolved_pair(alloc: Global, context: &Context, pair: &LocalPair) -> Result<RemotePair, Refusal>
     ensures { Gives remote_pair_tree result (resolved (held_in_row (row_of context.now)) (local_pair_tree pair.now)) }
@@ -167,6 +170,7 @@ fn resolved_pair(alloc: Global, context: &Context, pair: &LocalPair) -> Result<R
     Ok(NestedPair { key, value })
 }
 
+// The remote key of a local one.
 #[cycle(resolve)]
 fn resolved_key(alloc: Global, context: &Context, key: &LocalKey) -> Result<RemoteKey, Refusal>
     ensures { Gives remote_key_tree result (resolved (held_in_row (row_of context.now)) (local_key_tree key.now)) }
@@ -180,7 +184,7 @@ fn resolved_key(alloc: Global, context: &Context, key: &LocalKey) -> Result<Remo
     }
 }
 
-// The same of a value that holds no other.
+// The remote value of a local value that holds no others.
 fn resolved_plain(
     alloc: Global,
     context: &Context,
@@ -213,7 +217,7 @@ fn resolved_plain(
     }
 }
 
-// What a reference stands for: by a shared id there is no node.
+// The value that a reference stands for. There are no nodes, so a shared id is `no such node`.
 fn referred(alloc: Global, context: &Context, reference: &Reference) -> Result<RemoteValue, Refusal>
     ensures { Gives remote_tree result (resolved (held_in_row (row_of context.now)) (⟦<Reference as Shape>⟧.shape.tree_of reference.now)) }
 {
@@ -223,7 +227,7 @@ fn referred(alloc: Global, context: &Context, reference: &Reference) -> Result<R
     }
 }
 
-// The value that is held by the handle of a reference, where it names no shared id, not even as a further member.
+// The value that the handle of a reference holds. One that also has a member `sharedId` is `no such node`.
 fn held_by(
     alloc: Global,
     context: &Context,

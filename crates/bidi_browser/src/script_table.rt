@@ -1,22 +1,23 @@
-//! The table that stands for running scripts.
+//! The script table, which has the outcomes of scripts, since no script is run.
 ghost use Rattle.std.specs.Prelude.{◌≡◌, List, [], ◌∷◌, OnOk, option_map, string_bytes};
 
 use crate::handle::Ending;
 use std::alloc::{AllocError, Global};
 use std::collections::HashMap;
 
-/// How many texts have a row.
+/// How many texts can have a row.
 const MOST_ROWS: usize = 1024;
 
-/// What a script does.
+/// What the table says of a script.
 #[derive(Drop)]
 pub(crate) enum ScriptRow {
+    /// It always ends in this way.
     EndsIn(Ending),
-    /// It returns the argument of that number, counted from 0.
+    /// It returns its argument of this place, counted from 0, or undefined where it has none there.
     GivesBack(u64),
 }
 
-/// The rows of the table, each by the text of its scripts.
+/// The rows of the table, by the texts of the scripts.
 #[derive(Drop)]
 pub(crate) struct ScriptTable {
     rows: HashMap<String, ScriptRow>,
@@ -28,7 +29,7 @@ impl ScriptTable {
     ghost use Rattle.bidi_browser.specs.Realms.{row_of};
     ghost use Rattle.bidi_browser.specs.TableInHand.{AreTabled, HasRoomForRow, row_seen};
 
-    /// No text has a row. Takes no memory.
+    /// A table without rows. Takes no memory.
     pub(crate) fn new(alloc: Global) -> ScriptTable
         ensures { AreTabled result [] }
     {
@@ -37,14 +38,14 @@ impl ScriptTable {
         }
     }
 
-    /// Whether a text may get a row: it has one already, or fewer than 1,024 texts have.
+    /// Whether the row of a text can be set: the text has one already, or fewer than 1,024 texts have.
     pub(crate) fn takes(&self, text: &String) -> bool
         ensures { (past : List Act) → AreTabled self.now past → result ≡ takes_row past (string_bytes text.now) }
     {
         self.rows.contains_key(text) || self.rows.len() < MOST_ROWS
     }
 
-    /// The row of a text.
+    /// The row of a text, if it has one.
     pub(crate) fn get(&self, text: &String) -> Option<&ScriptRow>
         ensures { (past : List Act) → AreTabled self.now past → option_map (λ row. row_seen row.now) result ≡ row_of past (string_bytes text.now) }
     {
@@ -59,7 +60,7 @@ impl ScriptTable {
         self.rows.reserve(1)
     }
 
-    /// Gives a text its row, in place of the one that it has. Takes no memory.
+    /// Sets the row of a text, in place of any that it has. Room was made before. Takes no memory.
     pub(crate) fn set(&mut self, text: String, row: ScriptRow)
         requires { HasRoomForRow self.now }
         ensures { (past : List Act) → AreTabled self.old past → AreTabled self.new (Tabled (string_bytes text) (row_seen row) ∷ past) }

@@ -1,4 +1,4 @@
-//! Plans of what runs scripts, and of what gives handles back.
+//! Plans of `script.evaluate` and `script.disown`, and what an evaluation and a call have in common.
 ghost use Rattle.std.specs.Prelude.{◌≡◌, ◌≤◌, ◌<◌, ◌^◌, ℕ, List, [], true, Ok, IfOk, IfErr, bytes_eq, map, not, option_map, slice_get, string_bytes, unwrap_or};
 ghost use Rattle.bidi_browser.specs.Acts.{Act};
 ghost use Rattle.bidi_browser.specs.Actions as asked;
@@ -37,22 +37,24 @@ use bidi_values::{
 use std::alloc::{AllocError, Global};
 use std::rc::Rc;
 
-/// How many values may be held in a realm.
+/// How many handles a realm can have at once.
 const MOST_HANDLES: usize = 1000;
 
-/// What a script came to: its result, and what it changes.
+/// What running a script gives.
 pub(crate) struct Ran {
+    /// The result of the command.
     pub result: EvaluateResult,
+    /// The change: a new handle, or nothing.
     pub edit: Edit,
 }
 
-/// Runs a script in the realm of a target, as the table says.
+/// Plans the evaluation of an expression in the realm of a target. The script table has its outcome.
 ///
 /// # Errors
 /// The first that holds:
-/// - What its target is refused for.
-/// - `unsupported operation`: the table has no row of its text.
-/// - `unknown error`: its value is to be owned, beside 1,000 in its realm.
+/// - Those of the target, as in [`targeted`].
+/// - `unsupported operation`: the table has no row for the expression.
+/// - `unknown error`: the value needs a handle, and its realm has 1,000 already, or no id is left.
 /// - No memory: an allocation failed.
 pub(crate) fn plan_evaluate(browser: &Browser, params: &EvaluateParameters) -> Result<Plan, Refusal>
     ensures plans { (past : List Act) (moment : ℕ) → StandsFor browser.now past → HasIds past → Plans result past moment (evaluate_asked params.now) }
@@ -65,24 +67,24 @@ pub(crate) fn plan_evaluate(browser: &Browser, params: &EvaluateParameters) -> R
     Ok(answered(browser.alloc, ResultData::ScriptEvaluate(result), edit))
 }
 
-/// Whether a value is to be owned; absent, it is not.
+/// Whether the result is to get a handle: where `resultOwnership` is `root`. Absent, it is `none`.
 pub(crate) fn is_owned(ownership: Option<Ownership>) -> bool
     ensures { result ≡ is_owned ownership }
 {
     matches!(ownership, Some(Ownership::Root))
 }
 
-// How a script of that text ends, which has no arguments.
+// How a script of this text ends without arguments.
 fn evaluated(browser: &Browser, context: &Context, script: &String) -> Result<Ending, Refusal>
     ensures { (past : List Act) → StandsFor browser.now past → IsEnding result past (string_bytes script.now) [] }
 {
     ending_of(browser, context, script, &[])
 }
 
-/// How a script of that text ends, where it may have these arguments.
+/// How a script of this text ends with these arguments, which passed their checks.
 ///
 /// # Errors
-/// - `unsupported operation`: the table has no row of it.
+/// - `unsupported operation`: the table has no row for the text.
 /// - No memory: an allocation failed.
 pub(crate) fn ending_of(
     browser: &Browser,
@@ -100,7 +102,7 @@ pub(crate) fn ending_of(
     }
 }
 
-// The ending that gives an argument back; where there is none of that place, it is undefined.
+// The ending that returns the argument at this place, or undefined where there is none.
 fn returned(
     alloc: Global,
     context: &Context,
@@ -115,7 +117,7 @@ fn returned(
     }
 }
 
-// The argument of that place, counted from 0.
+// The argument at this place, counted from 0.
 fn at(values: &[LocalValue], place: u64) -> Option<&LocalValue>
     ensures { option_map (λ v. v.now) result ≡ slice_get values.now place }
 {
@@ -125,7 +127,7 @@ fn at(values: &[LocalValue], place: u64) -> Option<&LocalValue>
     }
 }
 
-// The same ending, whose value is shared.
+// The same ending, which shares the value.
 fn share(ending: &Ending) -> Result<Ending, AllocError>
     ensures { IfOk result (λ e. ending_seen e ≡ ending_seen ending.now) }
 {
@@ -137,7 +139,7 @@ fn share(ending: &Ending) -> Result<Ending, AllocError>
     }
 }
 
-// `{"type":"undefined"}`
+// The value undefined, `{"type":"undefined"}`.
 fn undefined(alloc: Global) -> Result<Rc<HeldValue>, Refusal>
     ensures ok { IfOk result (λ held. held_tree held.value ≡ undefined) }
     ensures err { IfErr result (λ e. e ≡ refused.NoMemory) }
@@ -148,10 +150,11 @@ fn undefined(alloc: Global) -> Result<Rc<HeldValue>, Refusal>
     )
 }
 
-/// What a script comes to that ended in the realm of a context.
+/// What a script gives that ended so in a context's realm. If `owned`, a value that can have a handle gets
+/// one.
 ///
 /// # Errors
-/// - `unknown error`: its value is to be owned, beside 1,000 in its realm.
+/// - `unknown error`: the value needs a handle, and the realm has 1,000 already, or no id is left.
 /// - No memory: an allocation failed.
 pub(crate) fn run(
     browser: &Browser,
@@ -181,7 +184,7 @@ pub(crate) fn run(
     })
 }
 
-// The number that the next handle in the realm of a context gets.
+// The number of the next handle in the realm of a context; an error where the realm can have no more.
 fn next_handle(browser: &Browser, context: &Context) -> Result<u64, ErrorCode>
     ensures next { (past : List Act) (c : ℕ) → StandsFor browser.now past → HasIds past → row_of context.now ≡ row_at past c → IsNextHandle result past (realm_of past c) }
     ensures fits { IfOk result (λ n. n < 2 ^ 48) }
@@ -193,7 +196,7 @@ fn next_handle(browser: &Browser, context: &Context) -> Result<u64, ErrorCode>
     }
 }
 
-// The value in which a script ends.
+// The value that a script returned or threw.
 fn value_of(ending: &Ending) -> &HeldValue
     ensures { held_tree result.now ≡ value_of (ending_seen ending.now) }
 {
@@ -203,6 +206,7 @@ fn value_of(ending: &Ending) -> &HeldValue
     }
 }
 
+// The value that a script returned or threw; the ending is used up.
 fn into_value(ending: Ending) -> Rc<HeldValue>
     ensures { held_tree result.value ≡ value_of (ending_seen ending) }
 {
@@ -212,12 +216,12 @@ fn into_value(ending: Ending) -> Rc<HeldValue>
     }
 }
 
-/// Takes handles out of the realm of a target. Those that hold no value there change nothing.
+/// Plans the release of handles in the realm of a target. A handle that the realm does not have is ignored.
 ///
-/// Sorts the numbers that are given back, and looks for that of each handle of the realm among them by halves.
+/// Sorts the numbers to release, and does a binary search among them for each handle of the realm.
 ///
 /// # Errors
-/// - What its target is refused for.
+/// - Those of the target, as in [`targeted`].
 /// - No memory: an allocation failed.
 pub(crate) fn plan_disown(browser: &Browser, params: &DisownParameters) -> Result<Plan, Refusal>
     ensures plans { (past : List Act) (moment : ℕ) → StandsFor browser.now past → Plans result past moment (disown_asked params.now) }
@@ -234,8 +238,8 @@ pub(crate) fn plan_disown(browser: &Browser, params: &DisownParameters) -> Resul
 /// The context in whose realm the scripts of a target run.
 ///
 /// # Errors
-/// - `no such frame`: no context, or no realm, has that id.
-/// - `unsupported operation`: the target is a sandbox, which is any but that of the empty name.
+/// - `no such frame`: no live context, or no realm, has this id.
+/// - `unsupported operation`: the target names a sandbox. An empty name counts as none.
 pub(crate) fn targeted<'a>(
     contexts: &'a Contexts,
     target: &Target,
@@ -248,7 +252,7 @@ pub(crate) fn targeted<'a>(
     }
 }
 
-// The context of an id, where no sandbox of it is meant.
+// The context of this id; an error where a sandbox is named.
 fn outside_sandboxes<'a>(
     contexts: &'a Contexts,
     id: &str,
@@ -264,7 +268,7 @@ fn outside_sandboxes<'a>(
     Ok(context)
 }
 
-// Whether a sandbox is named.
+// Whether a sandbox is named; an empty name counts as none.
 fn is_named(sandbox: &Option<String>) -> bool
     ensures { result ≡ not (bytes_eq (unwrap_or (option_map string_bytes sandbox.now) []) []) }
 {
@@ -274,7 +278,7 @@ fn is_named(sandbox: &Option<String>) -> bool
     }
 }
 
-// The context of the realm of an id.
+// The context whose realm has this id.
 fn in_realm<'a>(contexts: &'a Contexts, id: &str) -> Result<&'a Context, ErrorCode>
     ensures { (past : List Act) → IsTableOf contexts.now past → IsTargeted result past (realm_targeted past (asked.RealmTarget id.now)) }
 {

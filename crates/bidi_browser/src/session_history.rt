@@ -10,20 +10,21 @@ use url::Url;
 /// How many entries a context keeps.
 const MOST_ENTRIES: usize = 50;
 
-/// Where a navigation leads.
+/// Where a navigation leads in a session history.
 #[derive(Drop)]
 pub(crate) enum Move {
-    /// To a URL, by a new entry.
+    /// To a new entry, at this URL.
     To(Url),
     /// To the present entry again.
     Again,
-    /// To the entry at a place.
+    /// To the entry at this place, counted from 0.
     Across(usize),
 }
 
-/// The entries of a context, the oldest first, and the place of the present one, counted from 0.
+/// The entries of a context, the oldest first, and the place of the present entry, counted from 0.
 ///
-/// After WebDriver BiDi, "The browsingContext.traverseHistory Command"; that fifty are kept is this project's own.
+/// After WebDriver BiDi, "The browsingContext.traverseHistory Command"; that fifty are kept is this project's
+/// own.
 #[derive(Drop)]
 pub(crate) struct SessionHistory {
     entries: VecDeque<Url>,
@@ -37,7 +38,7 @@ impl SessionHistory {
     ghost use Rattle.bidi_browser.specs.HistoryInHand.{entries_in, move_of, HasRoomFor, Leads};
     ghost use Rattle.bidi_browser.specs.Places.{begun_at, present, moved, place_across};
 
-    /// The history of a context that is born at a URL.
+    /// The history of a new context at a URL: this one entry.
     pub(crate) fn begun_at(alloc: Global, url: Url) -> Result<SessionHistory, AllocError>
         ensures { IfOk result (λ h. entries_in h ≡ begun_at url) }
     {
@@ -53,7 +54,7 @@ impl SessionHistory {
         &self.entries[self.place]
     }
 
-    /// The entry so many places away, if there is one: its place, and its URL.
+    /// The entry `delta` places from the present one, if there is one: its place and its URL.
     pub(crate) fn across(&self, delta: JsInt) -> Option<(usize, &Url)>
         ensures { MatchOption result (place_across (entries_in self.now) delta.value ≡ None)
             (λ entry. (place_across (entries_in self.now) delta.value ≡ Some entry.0) × (entry.1.now ≡ present (moved (entries_in self.now) (leads.Across entry.0)))) }
@@ -63,7 +64,7 @@ impl SessionHistory {
         Some((place, url))
     }
 
-    /// Makes room for what a move adds.
+    /// Makes room for the entry that a move adds, if it adds one.
     pub(crate) fn reserve(&mut self, to: &Move) -> Result<(), AllocError>
         ensures kept { entries_in self.new ≡ entries_in self.old }
         ensures room { OnOk result (HasRoomFor self.new to.now) }
@@ -74,7 +75,8 @@ impl SessionHistory {
         }
     }
 
-    /// Moves. A new entry drops those after the present one, and of more than fifty the oldest. Takes no memory.
+    /// Makes a move. A new entry removes all after the present one, and the oldest where there would be more
+    /// than fifty. Takes no memory.
     pub(crate) fn go(&mut self, to: Move)
         requires { HasRoomFor self.now to }
         ensures { Leads (entries_in self.old) (move_of to) → entries_in self.new ≡ moved (entries_in self.old) (move_of to) }
@@ -90,7 +92,7 @@ impl SessionHistory {
         }
     }
 
-    // Adds an entry behind the present one.
+    // Adds an entry after the present one, and makes it the present one.
     fn enter(&mut self, url: Url)
         requires { HasRoomFor self.now (Move.To url) }
         ensures { entries_in self.new ≡ moved (entries_in self.old) (leads.To url) }

@@ -1,4 +1,4 @@
-//! What is told of a script that ended.
+//! The result that `script.evaluate` and `script.callFunction` give of a script that ended.
 ghost use Rattle.std.specs.Prelude.{◌≡◌, ◌≤◌, ◌<◌, ◌^◌, true, IfOk, IfSome, string_bytes};
 ghost use Rattle.bidi_tree.specs.Node.{levels, text, no_members};
 ghost use Rattle.bidi_values.specs.Content.{content};
@@ -21,14 +21,14 @@ use bidi_values::{
 };
 use std::alloc::{AllocError, Global};
 
-/// Whether a value takes a handle: each does that is no primitive one.
+/// Whether a value can have a handle: all but primitive values can.
 pub(crate) fn takes_handle(value: &RemoteValue) -> bool
     ensures { result ≡ takes_handle (remote_tree value.now) }
 {
     !matches!(value, Nested::Plain(RemotePlain::Primitive(_)))
 }
 
-/// What is told of a script that ended in a realm, with the handle that its value got, if it got one.
+/// The result of a script that ended in a realm. Its value shows this handle, if it got one.
 ///
 /// Copies the value.
 pub(crate) fn told(
@@ -59,7 +59,7 @@ pub(crate) fn told(
     }
 }
 
-// What is told of a thrown value. Lines are counted from 0.
+// The exception details of a thrown value. They name line 0 and column 0, the first, and no call frames.
 fn details(alloc: Global, exception: RemoteValue) -> Result<ExceptionDetails, AllocError>
     ensures tree { IfOk result (λ d. ⟦<ExceptionDetails as Shape>⟧.shape.tree_of d ≡ exception_details (remote_tree exception)) }
     ensures well { IsWell ⟦<RemotePlain as Nests<RemoteList, RemotePairs>>⟧.nesting (content exception) → IfOk result (λ d. ⟦<ExceptionDetails as Shape>⟧.shape.well d) }
@@ -85,7 +85,7 @@ fn zero() -> JsUint
     }
 }
 
-// A copy of a value, with its handle.
+// A copy of a value, with this handle if there is one.
 fn shown(alloc: Global, held: &HeldValue, handle: Option<u64>) -> Result<RemoteValue, AllocError>
     requires handle { IfSome handle (λ n. n < 2 ^ 48) }
     requires takes { IfSome handle (λ n. takes_handle (held_tree held.now) ≡ true) }
@@ -103,7 +103,7 @@ fn shown(alloc: Global, held: &HeldValue, handle: Option<u64>) -> Result<RemoteV
     }
 }
 
-// The value with a handle in place of the one that it has. Takes no memory.
+// The value with this handle, in place of any that it has. Takes no memory.
 fn with_handle(value: RemoteValue, handle: String) -> RemoteValue
     requires { takes_handle (remote_tree value) ≡ true }
     ensures { remote_tree result ≡ with_member "handle" (text (string_bytes handle)) (remote_tree value) }
@@ -121,7 +121,7 @@ fn with_handle(value: RemoteValue, handle: String) -> RemoteValue
     }
 }
 
-// The same of a value that holds no other.
+// The same for a value that holds no others.
 fn plain_with_handle(plain: RemotePlain, handle: String) -> RemotePlain
     requires { takes_handle (⟦<RemotePlain as Shape>⟧.shape.tree_of plain) ≡ true }
     ensures { ⟦<RemotePlain as Shape>⟧.shape.tree_of result ≡ with_member "handle" (text (string_bytes handle)) (⟦<RemotePlain as Shape>⟧.shape.tree_of plain) }

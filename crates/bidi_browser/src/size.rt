@@ -6,15 +6,17 @@ ghost use Rattle.bidi_browser.specs.Sizes.{counted};
 
 use itoa::Buffer;
 
-/// The levels and the bytes of a tree, as far as 64 bits count.
+/// The size of a tree. A count that passes 64 bits stops at the greatest `u64`.
 #[derive(Clone, Copy)]
 pub(crate) struct Size {
+    /// How deep lists and maps nest.
     pub levels: u64,
+    /// The bytes of the compact text.
     pub bytes: u64,
 }
 
 impl Size {
-    /// That of a tree which holds no other.
+    /// The size of a tree of so many bytes that is no list and no map.
     pub(crate) fn flat(bytes: u64) -> Size
         ensures levels { result.levels ≡ 0 }
         ensures bytes { result.bytes ≡ bytes }
@@ -22,7 +24,7 @@ impl Size {
         Size { levels: 0, bytes }
     }
 
-    /// With one more beside what stands there, behind so many bytes.
+    /// The size with one more item behind the items so far; `before` counts the bytes that separate them.
     pub(crate) fn and(self, before: u64, item: Size) -> Size
         ensures levels { result.levels ≡ max self.levels item.levels }
         ensures bytes { result.bytes ≡ counted (counted (self.bytes + before) + item.bytes) }
@@ -37,7 +39,7 @@ impl Size {
         }
     }
 
-    /// All that stands there within a pair of brackets.
+    /// The size of a list or a map of these items: one more level, and two brackets.
     pub(crate) fn in_brackets(self) -> Size
         ensures levels { result.levels ≡ counted (self.levels + 1) }
         ensures bytes { result.bytes ≡ counted (self.bytes + 2) }
@@ -49,7 +51,7 @@ impl Size {
     }
 }
 
-/// The bytes of a text within its quotation marks, as it is written.
+/// The bytes of a text in JSON, with its quotation marks and escapes.
 pub(crate) fn quoted_bytes(text: &str) -> u64
     ensures { result ≡ counted (length (quoted text.now)) }
 {
@@ -60,7 +62,7 @@ pub(crate) fn quoted_bytes(text: &str) -> u64
     bytes
 }
 
-// The bytes that stand for one byte of a text.
+// The bytes that stand for one byte of a text in JSON.
 fn escaped_bytes(byte: u8) -> u64
     ensures { result ≡ length (escape_byte byte) }
 {
@@ -73,14 +75,14 @@ fn escaped_bytes(byte: u8) -> u64
     }
 }
 
-// Whether the escape of a byte is a letter.
+// Whether a byte is escaped by a backslash and one character.
 fn has_letter(byte: u8) -> bool
     ensures { result ≡ nat_lt 0 (escape_letter byte) }
 {
     byte == 34 || byte == 92 || byte == 8 || byte == 12 || byte == 10 || byte == 13 || byte == 9
 }
 
-/// The bytes of a whole number, as it is written.
+/// The bytes of a whole number in decimal, with its sign.
 pub(crate) fn decimal_bytes(value: i64) -> u64
     ensures { result ≡ length (signed_decimal value) }
 {

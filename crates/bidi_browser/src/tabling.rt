@@ -1,4 +1,4 @@
-//! The plan of what sets a row of the table.
+//! The plan of a step that sets a row of the script table.
 ghost use Rattle.std.specs.Prelude.{◌≡◌, ◌≤◌, ℕ, List, [], None, IfOk, IfErr, OnOk, if◌then◌else◌, string_bytes};
 ghost use Rattle.bidi_browser.specs.Acts.{Act, Tabled};
 ghost use Rattle.bidi_browser.specs.Asked.{row_asked};
@@ -24,15 +24,16 @@ use bidi_values::{RemoteValue, TableRow};
 use std::alloc::Global;
 use std::rc::Rc;
 
-/// The most levels of the tree of a row, whose value has one fewer.
+/// The most levels of the tree of a row; its value has one fewer.
 const MOST_LEVELS: usize = 61;
 
-/// Gives a text its row in the table.
+/// Plans a row of the script table. `None` stands for a text that is no row.
 ///
 /// # Errors
 /// The first that holds:
-/// - `invalid argument`: there is no row, a value in it has a handle or an internal id, or a thrown one has 60 levels.
-/// - `unknown error`: it is a new text beside 1,024.
+/// - `invalid argument`: there is no row, its value has a handle or an internal id at some depth, or a thrown
+///   value has more than 59 levels.
+/// - `unknown error`: the row's text is new, and 1,024 texts have rows.
 /// - No memory: an allocation failed.
 pub(crate) fn plan_row(browser: &Browser, row: Option<TableRow>) -> Result<Plan, Refusal>
     ensures plans { (past : List Act) (moment : ℕ) → StandsFor browser.now past → Plans result past moment (row_asked row) }
@@ -45,7 +46,7 @@ pub(crate) fn plan_row(browser: &Browser, row: Option<TableRow>) -> Result<Plan,
     tabled(browser.alloc, row)
 }
 
-// Whether the row may stand in the table.
+// Checks that the row may stand in the table.
 fn check_row(browser: &Browser, row: &TableRow) -> Result<(), Refusal>
     ensures checked { (past : List Act) → StandsFor browser.now past → IsRowChecked result past (row_tree row.now) }
     ensures few { OnOk result (IsFew row.now) }
@@ -60,7 +61,7 @@ fn check_row(browser: &Browser, row: &TableRow) -> Result<(), Refusal>
     Ok(())
 }
 
-// The most levels of its tree: the details that wrap a thrown value take one more.
+// The most levels of a row's tree: one fewer where it throws, since the exception details add one.
 fn most_levels(row: &TableRow) -> usize
     ensures { result ≡ (if throws row.now then 60 else 61) }
 {
@@ -70,7 +71,7 @@ fn most_levels(row: &TableRow) -> usize
     }
 }
 
-// The text of its scripts.
+// The text of the scripts that the row is for.
 fn text_of(row: &TableRow) -> &String
     ensures { string_bytes result.now ≡ text_at "text" (row_tree row.now) }
 {
@@ -81,7 +82,7 @@ fn text_of(row: &TableRow) -> &String
     }
 }
 
-// The plan that sets it.
+// The plan that sets the row.
 fn tabled(alloc: Global, row: TableRow) -> Result<Plan, Refusal>
     requires { IsFew row }
     ensures told { IfOk result (λ p. (p.before.items ≡ []) × (p.result ≡ None) × (p.after.items ≡ [])) }
@@ -109,7 +110,7 @@ fn tabled(alloc: Global, row: TableRow) -> Result<Plan, Refusal>
     })
 }
 
-// The value, to be shared.
+/// A value with its size, made to be shared.
 pub(crate) fn held(alloc: Global, value: RemoteValue) -> Result<Rc<HeldValue>, Refusal>
     requires { levels (remote_tree value) ≤ 60 }
     ensures ok { IfOk result (λ held. held.value.value ≡ value) }

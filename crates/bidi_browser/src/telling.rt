@@ -8,7 +8,7 @@ use crate::contexts::Context;
 use crate::occurrence::Occurrence;
 use std::alloc::{AllocError, Global};
 
-/// Adds that each context came.
+/// Adds the contextCreated event of each context.
 pub(crate) fn push_created(
     alloc: Global,
     contexts: &[&Context],
@@ -23,7 +23,7 @@ pub(crate) fn push_created(
     Ok(())
 }
 
-/// Adds that the realm of each context came.
+/// Adds the realmCreated event of each context's realm.
 pub(crate) fn push_realms(
     alloc: Global,
     contexts: &[&Context],
@@ -38,7 +38,7 @@ pub(crate) fn push_realms(
     Ok(())
 }
 
-/// Adds that the realm of each context goes.
+/// Adds the realmDestroyed event of each context's realm.
 pub(crate) fn push_realms_gone(
     alloc: Global,
     contexts: &[&Context],

@@ -9,7 +9,7 @@ use bidi_messages::ErrorCode;
 use std::alloc::{AllocError, Global};
 use url::{ParseError, Url};
 
-/// `about:blank`, where each new top-level context is.
+/// `about:blank`, the URL of a new top-level context.
 pub(crate) fn about_blank(alloc: Global) -> Result<Url, AllocError>
     ensures { IfOk result (λ url. url ≡ about_blank) }
 {
@@ -19,10 +19,10 @@ pub(crate) fn about_blank(alloc: Global) -> Result<Url, AllocError>
     }
 }
 
-/// The absolute URL that a text is.
+/// Parses an absolute URL.
 ///
 /// # Errors
-/// - `invalid argument`: it is none.
+/// - `invalid argument`: the text is no absolute URL.
 /// - No memory: an allocation failed.
 pub(crate) fn parsed(alloc: Global, text: &str) -> Result<Url, Refusal>
     ensures { IsUrlOf result (parsed text.now) }

@@ -1,11 +1,11 @@
-//! Values that come from a play.
+//! The search for handles in a value that a play sets.
 ghost use Rattle.std.specs.Prelude.{◌≡◌, ◌∷◌, [], string_bytes};
 ghost use Rattle.bidi_tree.specs.View.{node, items_node, members_node};
 ghost use Rattle.bidi_browser.specs.Values.{is_one_of, has_handle, items_have_handle, members_have_handle};
 
 use bidi_tree::{Members, Tree};
 
-/// Whether a member `handle` or `internalId` stands in a tree, at any depth.
+/// Whether a tree has a member `handle` or `internalId`, at any depth.
 #[cycle(handles)]
 pub(crate) fn has_handle(tree: &Tree) -> bool
     ensures { result ≡ has_handle (node tree.now) }
@@ -17,6 +17,7 @@ pub(crate) fn has_handle(tree: &Tree) -> bool
     }
 }
 
+// Whether one of the items has such a member.
 #[cycle(handles)]
 fn items_have_handle(items: &Vec<Tree>) -> bool
     ensures { result ≡ items_have_handle (items_node items.now.items) }
@@ -29,6 +30,7 @@ fn items_have_handle(items: &Vec<Tree>) -> bool
     false
 }
 
+// Whether one of the members is such a member, or has one.
 #[cycle(handles)]
 fn members_have_handle(members: &Members) -> bool
     ensures { result ≡ members_have_handle (members_node members.now.entries) }
@@ -41,7 +43,7 @@ fn members_have_handle(members: &Members) -> bool
     false
 }
 
-// Whether it is the name of such a member.
+// Whether this is the name of such a member.
 fn names_a_handle(name: &String) -> bool
     ensures { result ≡ is_one_of ("handle" ∷ "internalId" ∷ []) (string_bytes name.now) }
 {

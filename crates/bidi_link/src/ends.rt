@@ -34,7 +34,7 @@ pub(crate) struct Ends {
 impl Ends {
     ghost use Rattle.bidi_link.specs.Stands.{StandsFor, IsSane, Both, CanCount, IsNextUp};
 
-    /// No link was opened, and the remote end has taken no step.
+    /// The state before the first step: no link, and a new remote end.
     pub(crate) fn new(alloc: Global) -> Result<Ends, AllocError>
         ensures { IfOk result (λ ends. StandsFor ends []) }
     {
@@ -77,7 +77,7 @@ impl Ends {
         Ok(())
     }
 
-    // Opens a link, where its number made none before and the remote end opens its connection.
+    // Opens a link, if no link has had this number and the remote end opens its connection.
     fn open(&mut self, number: JsUint, resource: String) -> Result<(), RemoteFault>
         ensures ok { (past : List Deed) → StandsFor self.old past → IsSane past
             → OnOk result (Both self.new (with_step past (Opens number.value (string_bytes resource)))) }
@@ -131,7 +131,7 @@ impl Ends {
         }
     }
 
-    // The oldest text of a link on its way up, which is taken up.
+    // Removes and returns the oldest text of a link on its way to the remote end.
     fn next_up(&mut self, number: JsUint) -> Option<String>
         ensures none { (past : List Deed) → StandsFor self.old past → IfNone result ((with_step past (Up number.value) ≡ past) × StandsFor self.new past) }
         ensures some { (past : List Deed) → StandsFor self.old past → IfSome result (λ s. (c : Sending) × IsNextUp past number.value c (string_bytes s) × StandsFor self.new (TakenUp number.value ∷ past)) }
@@ -152,7 +152,7 @@ impl Ends {
         }
     }
 
-    // Cuts a link. Its connection is dropped, where it is open.
+    // Cuts a link that was not cut yet. Its connection is dropped, if it is open.
     fn cut(&mut self, number: JsUint) -> Result<(), RemoteFault>
         ensures ok { (past : List Deed) → StandsFor self.old past → IsSane past → OnOk result (Both self.new (with_step past (Cuts number.value))) }
         ensures worn_out { (past : List Deed) → StandsFor self.old past → IsErrOf result RemoteFault.WornOut → 1000000000 ≤ length (history past) }
@@ -165,7 +165,7 @@ impl Ends {
         Ok(())
     }
 
-    // Drops the connection of a link, where it is open.
+    // Drops the connection of a link, if it is open.
     fn drop_connection(&mut self, number: JsUint) -> Result<(), RemoteFault>
         ensures ok { (past : List Deed) → StandsFor self.old past → IsSane past → OnOk result (Both self.new (dropped past number.value)) }
         ensures worn_out { (past : List Deed) → StandsFor self.old past → IsErrOf result RemoteFault.WornOut → 1000000000 ≤ length (history past) }
@@ -177,7 +177,7 @@ impl Ends {
         }
     }
 
-    // Whether there is a link of that number that was not cut.
+    // Whether there is a link of this number that was not cut.
     fn is_whole(&self, number: JsUint) -> bool
         ensures { (past : List Deed) → StandsFor self.now past → result ≡ is_whole past number.value }
     {
@@ -187,7 +187,7 @@ impl Ends {
         }
     }
 
-    // Ends what a link carries.
+    // Cuts the local side of a link.
     fn end_link(&mut self, number: JsUint) -> Result<(), AllocError>
         ensures { (past : List Deed) → StandsFor self.old past → is_whole past number.value ≡ true → OnOk result (StandsFor self.new (Cut number.value ∷ past)) }
     {
@@ -197,7 +197,7 @@ impl Ends {
         }
     }
 
-    /// What became of all links.
+    /// The ledger of all links.
     pub(crate) fn into_ledger(self) -> Result<Ledger, AllocError>
         ensures pages { (past : List Deed) → StandsFor self past → IfOk result (λ ledger. pages_of ledger ≡ map (λ l. page l (link past l)) (links past)) }
         ensures well { (past : List Deed) → StandsFor self past → IfOk result LedgerIsWell }

@@ -2,18 +2,19 @@
 use bidi_messages::{ErrorCode, EventData, Method, ResultData};
 use bidi_tree::JsUint;
 
-/// What became of everything that was sent: a page for each link, in order of opening.
+/// What became of all links: a page for each, in order of opening.
 #[derive(Drop)]
 pub struct Ledger {
+    /// The pages, in order of opening of their links.
     pub pages: Vec<Page>,
 }
 
-/// What became of one link.
+/// What became of the commands of one link, and what it received.
 #[derive(Drop)]
 pub struct Page {
-    /// Its number.
+    /// The number of the link.
     pub link: JsUint,
-    /// The commands that were sent on it, in order; their ids count from 1.
+    /// The commands that its local end sent, in order; their ids count from 1.
     pub commands: Vec<Entry>,
     /// The events that it received, in order.
     pub events: Vec<EventData>,
@@ -21,23 +22,26 @@ pub struct Page {
     pub unsent: u64,
 }
 
-/// A command that was sent.
+/// A command that was sent, and what became of it.
 #[derive(Drop)]
 pub struct Entry {
+    /// The id of the command.
     pub id: JsUint,
+    /// The method of the command.
     pub method: Method,
+    /// What became of it.
     pub fate: Fate,
 }
 
 /// What became of a command.
 #[derive(Drop)]
 pub enum Fate {
-    /// It was carried out. The result is of its method.
+    /// It succeeded, with this result of its method.
     Answered(ResultData),
-    /// It failed.
+    /// It failed, with this error code.
     Refused(ErrorCode),
-    /// Its link was cut before an answer came down.
+    /// Its link was cut before its answer was carried down.
     Lost,
-    /// No answer came down yet.
+    /// Its answer was not carried down yet, and its link was not cut.
     Waiting,
 }

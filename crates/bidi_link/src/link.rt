@@ -10,41 +10,45 @@ use std::io::{Read, Write};
 use thiserror::Error;
 use tungstenite::{Error as SocketError, MaskKeys, Message, NoMask, Role, WebSocket};
 
-/// What a link takes.
+/// What [`Link::take`] gives: a message of the peer, or the end of the connection.
 #[derive(Drop)]
 pub enum Incoming {
     /// A text, whole, whether it came in one frame or in several.
     Text(String),
-    /// A message of bytes, which BiDi does not use.
+    /// A binary message, which BiDi does not use.
     NotText,
-    /// A ping, whose answer was sent as far as the stream took it, or a pong. It asks for nothing.
+    /// A ping, whose answer was sent as far as the stream took it, or a pong. The caller has nothing to do.
     Control,
     /// The connection is closed: nothing more is taken or sent.
     Closed,
 }
 
-/// Why nothing was taken or sent.
+/// Why a call took or sent nothing.
 #[derive(Clone, Copy, Debug, PartialEq, Eq, Error)]
 pub enum LinkFault {
-    /// The stream failed. A take may be tried again; after a send or a close the link is closed.
+    /// A read or a write of the stream failed. A take may be tried again; after a send or a close the link is
+    /// closed.
     #[error("the stream failed")]
     Stream,
-    /// The peer broke RFC 6455, sent a text that is not UTF-8 or a message past the limits, or its stream ended without a
-    /// close frame. The link is closed.
+    /// The peer broke RFC 6455, sent a text that is not UTF-8 or a message past the limits, or its stream
+    /// ended without a close frame. The link is closed; open a new connection.
     #[error("the peer broke the protocol")]
     Protocol,
-    /// Too much waits to be sent. Nothing has changed.
+    /// Too many bytes wait for the stream to take them. Nothing has changed; the call may be made again
+    /// later.
     #[error("too much waits to be sent")]
     Full,
-    /// An allocation failed. After a take the link is closed; after a send or a close nothing has changed.
+    /// An allocation failed. After a take the link is closed; after a send or a close nothing has changed,
+    /// and the call may be made again.
     #[error("out of memory")]
     NoMemory,
-    /// The link is closed.
+    /// The connection was closed, so nothing can be sent on it any more. Open a new one.
     #[error("the link is closed")]
     Closed,
 }
 
-/// One end of a WebSocket connection, over a stream whose handshake is done: a message at a time.
+/// One end of a WebSocket connection over a stream whose handshake is done. It takes and sends whole
+/// messages.
 #[derive(Drop)]
 pub struct Link<S, K> {
     alloc: Global,
@@ -56,7 +60,7 @@ impl<S: Read + Write + Drop> Link<S, NoMask> {
     /// The server's end, with the limits that `tungstenite` has by default: 64 MiB a message, 16 MiB a frame.
     ///
     /// # Errors
-    /// No memory. None is taken today, so it always succeeds.
+    /// No memory: an allocation failed. Today nothing is allocated, so it always succeeds.
     pub fn server(alloc: Global, stream: S) -> Result<Link<S, NoMask>, AllocError>
         ensures fresh { IfOk result (λ link. IsFresh link.socket stream role.Server × (link.is_closed ≡ false)) }
     {
@@ -68,7 +72,8 @@ impl<S: Read + Write + Drop> Link<S, NoMask> {
 }
 
 impl<S: Read + Write + Drop, K: MaskKeys + Drop> Link<S, K> {
-    /// The client's end, which masks what it sends by these keys. Limits and errors are those of the server's end.
+    /// The client's end, which masks what it sends by these keys. Limits and errors are those of
+    /// [`Link::server`].
     pub fn client(alloc: Global, stream: S, keys: K) -> Result<Link<S, K>, AllocError>
         ensures fresh { IfOk result (λ link. IsFresh link.socket stream role.Client × (link.is_closed ≡ false)) }
     {
@@ -78,7 +83,7 @@ impl<S: Read + Write + Drop, K: MaskKeys + Drop> Link<S, K> {
         ))
     }
 
-    /// A link over a socket that a handshake handed out. Takes no memory.
+    /// A link over the socket that a handshake of `tungstenite` gave. Takes no memory.
     pub fn over(alloc: Global, socket: WebSocket<S, K>) -> Link<S, K>
         ensures socket { result.socket ≡ socket }
         ensures open { result.is_closed ≡ false }
@@ -90,15 +95,15 @@ impl<S: Read + Write + Drop, K: MaskKeys + Drop> Link<S, K> {
         }
     }
 
-    /// Takes the next message of the peer. Reads the stream until one is whole, and leaves the bytes behind it for the
-    /// next call. A ping and a close frame are answered at once, as far as
-    /// the stream takes it; what stays goes out with the next call.
+    /// Takes the next message of the peer. It reads the stream until a message is whole, and keeps the bytes
+    /// behind it for the next call. A ping and a close frame are answered at once, as far as the stream takes
+    /// the bytes; the rest is sent by the next call.
     ///
     /// # Errors
     /// - `Stream`: a read or a write of the stream failed. What was read is kept, and the next take goes on.
     /// - `Protocol`, `NoMemory`: the link is closed.
     pub fn take(&mut self) -> Result<Incoming, LinkFault>
-        // The message that ends one run of frames, in the bytes that were left over and those of the stream.
+        // It is the message that ends one run of frames, in the bytes left over and those of the stream.
         ensures takes { IsTaken S.remaining S.contents self.old self.new (seen result) }
         ensures faults { IfErr result IsFaultOfTaking }
     {
@@ -159,7 +164,7 @@ impl<S: Read + Write + Drop, K: MaskKeys + Drop> Link<S, K> {
         }
     }
 
-    // Sends what waits, as far as the stream takes it. What stays goes out with the next call.
+    // Sends what waits, as far as the stream takes the bytes. The rest is sent by the next call.
     fn flush(&mut self)
         ensures sent { Flushed S.contents self.old.socket self.new.socket }
         ensures same { self.new.is_closed ≡ self.old.is_closed }
@@ -167,14 +172,14 @@ impl<S: Read + Write + Drop, K: MaskKeys + Drop> Link<S, K> {
         let _ = self.socket.flush();
     }
 
-    /// Sends a text in one frame. On success nothing waits to be sent any more.
+    /// Sends a text in one frame. On success no byte waits to be sent any more.
     ///
     /// Costs a copy of the text, and a write of the stream.
     ///
     /// # Errors
     /// - `Stream`, `Protocol`: the link is closed.
     /// - `Full`, `NoMemory`: nothing has changed.
-    /// - `Closed`: the link was closed before.
+    /// - `Closed`: the connection was closed before.
     pub fn send(&mut self, text: &str) -> Result<(), LinkFault>
         ensures { SendsText S.contents text.now self.old self.new result }
     {
@@ -188,11 +193,11 @@ impl<S: Read + Write + Drop, K: MaskKeys + Drop> Link<S, K> {
         self.sent(answer)
     }
 
-    /// Sends a close frame, and nothing where one was sent before. On success nothing waits to be sent any more; what the
-    /// peer sends before its own close frame can still be taken.
+    /// Sends a close frame, or nothing where one was sent before. On success no byte waits to be sent any
+    /// more. What the peer sends before its own close frame can still be taken.
     ///
     /// # Errors
-    /// Those of `send`.
+    /// Those of [`Link::send`].
     pub fn close(&mut self) -> Result<(), LinkFault>
         ensures { SendsClose S.contents self.old self.new result }
     {
@@ -222,7 +227,7 @@ impl<S: Read + Write + Drop, K: MaskKeys + Drop> Link<S, K> {
     }
 }
 
-// What an error of the socket is told as.
+// The fault for an error of the socket.
 fn fault_of(error: SocketError) -> LinkFault
     ensures { result ≡ fault_of error }
 {

@@ -20,23 +20,24 @@ use bidi_tree::JsUint;
 use std::alloc::{AllocError, Global};
 use std::collections::VecDeque;
 
-/// A link: its local end, what it carries, and what became of its commands so far.
+/// A link: its local end, the texts that it carries, and what became of its commands so far.
 #[derive(Drop)]
 pub(crate) struct LinkEnd {
     number: JsUint,
     local: LocalEnd,
-    /// The texts on their way to the remote end, and to the local end, the oldest first.
+    /// The texts on their way to the remote end, the oldest first.
     up: VecDeque<String>,
+    /// The texts on their way to the local end, the oldest first.
     down: VecDeque<String>,
     is_cut: bool,
-    /// The commands that were sent: that of id n at place n - 1.
+    /// The commands that were sent: the one of id n at place n - 1.
     commands: Vec<Entry>,
     events: Vec<EventData>,
     unsent: u64,
 }
 
 impl LinkEnd {
-    /// A link that has carried nothing.
+    /// A new link, which has carried nothing. Takes no memory.
     pub(crate) fn new(alloc: Global, number: JsUint) -> LinkEnd
         ensures { Agrees result number.value blank }
     {
@@ -59,7 +60,7 @@ impl LinkEnd {
         self.is_cut
     }
 
-    /// Sends a command, or counts one that is refused.
+    /// Sends a command, or counts one that the local end refuses. On a link that was cut it does nothing.
     pub(crate) fn send(&mut self, data: CommandData) -> Result<(), AllocError>
         requires { ⟦<CommandData as Subject<Method>>⟧.subject.well «data» }
         ensures { (l : ℕ) (v : Link) → Agrees self.old l v → IsSound v → v.not_sent < 2 ^ 63 → OnOk result (Agrees self.new l (sent_on v (sending_of «data»))) }
@@ -74,7 +75,7 @@ impl LinkEnd {
         }
     }
 
-    /// The oldest text on its way to the remote end, which is taken up.
+    /// Removes and returns the oldest text on its way to the remote end.
     pub(crate) fn next_up(&mut self) -> Option<String>
         ensures none { (l : ℕ) (v : Link) → Agrees self.old l v → IfNone result ((next_up v ≡ None) × Agrees self.new l v) }
         ensures some { (l : ℕ) (v : Link) → Agrees self.old l v → IfSome result (λ s. (c : Sending) × (next_up v ≡ Some c) × IsUpward (suc v.ups) c (string_bytes s) × Agrees self.new l (with_up v)) }
@@ -82,7 +83,7 @@ impl LinkEnd {
         self.up.pop_front()
     }
 
-    /// Puts a text on its way to the local end.
+    /// Puts a text on its way to the local end, unless the link was cut.
     pub(crate) fn push_down(&mut self, text: String) -> Result<(), AllocError>
         ensures { (l : ℕ) (v : Link) → Agrees self.old l v → OnOk result (Agrees self.new l (with_texts v (string_bytes text ∷ []))) }
     {
@@ -92,7 +93,7 @@ impl LinkEnd {
         Ok(())
     }
 
-    /// The local end takes the oldest text on its way there.
+    /// Hands the local end the oldest text on its way there, if there is one.
     pub(crate) fn take_down(&mut self) -> Result<(), AllocError>
         ensures { (l : ℕ) (v : Link) → Agrees self.old l v → IsSound v → OnOk result (Agrees self.new l (with_down v)) }
     {
@@ -105,7 +106,7 @@ impl LinkEnd {
         }
     }
 
-    /// Cuts the link: nothing is carried any more, and the commands that wait are lost.
+    /// Cuts the link: the texts on their way are gone, and the commands that wait are lost.
     pub(crate) fn cut(&mut self) -> Result<(), AllocError>
         ensures { (l : ℕ) (v : Link) → Agrees self.old l v → v.is_cut ≡ false → OnOk result (Agrees self.new l (with_cut v)) }
     {
@@ -117,7 +118,7 @@ impl LinkEnd {
         Ok(())
     }
 
-    /// What became of the link.
+    /// The page of the link in the ledger.
     pub(crate) fn into_page(self) -> Page
         ensures page { page_seen result ≡ page_in_hand self }
         ensures well { (l : ℕ) (v : Link) → Agrees self l v → PageIsWell result }
@@ -148,7 +149,7 @@ fn push_up(
     Ok(())
 }
 
-// Counts a command that is refused.
+// Counts a command that was refused, unless an allocation failed.
 fn count(unsent: &mut u64, fault: LocalFault) -> Result<(), AllocError>
     ensures { OnOk result ((fault ≡ LocalFault.NoMemory → ⊥) × (unsent.new ≡ min (unsent.old + 1) (2 ^ 64 - 1))) }
 {
@@ -161,7 +162,7 @@ fn count(unsent: &mut u64, fault: LocalFault) -> Result<(), AllocError>
     }
 }
 
-// Notes what was received. Of a remote end nothing else comes down than answers, refusals and events.
+// Notes what was received. A remote end sends answers, refusals and events, so no other case comes.
 fn note(
     commands: &mut Vec<Entry>,
     events: &mut Vec<EventData>,

@@ -1,4 +1,4 @@
-//! The local end.
+//! The local end, with its public calls.
 ghost use Rattle.std.specs.Prelude.{◌≡◌, ◌<◌, ◌≤◌, ◌^◌, suc, [], ◌∷◌, ◌++◌, map, IfOk, OnOk, OnErr, string_bytes};
 ghost use Rattle.std.proofs.Props.{props};
 ghost use Rattle.std.specs.List.{AllByRecursion};
@@ -25,19 +25,19 @@ const MOST_PENDING: usize = 1024;
 /// How many bytes a command's text may have.
 const MOST_BYTES: usize = 1_048_576;
 
-/// Why a command was not sent. Nothing has changed.
+/// Why a command was not sent. Nothing has changed, but the command is used up.
 #[derive(Clone, Copy, Debug, PartialEq, Eq, Error)]
 pub enum LocalFault {
-    /// An allocation failed.
+    /// An allocation failed. No id is taken, so the same command may be sent again.
     #[error("out of memory")]
     NoMemory,
-    /// The greatest js-uint, 9,007,199,254,740,991, was the id of a command: this local end sends no more.
+    /// The last id, 9,007,199,254,740,991, is taken: this local end sends no more. Open a new connection.
     #[error("no id is left")]
     IdsUsedUp,
-    /// 1,024 commands wait for an answer: one has to be settled before the next is sent.
+    /// 1,024 commands wait for an answer. Take texts of the remote end until one is settled, and send again.
     #[error("too many commands wait for an answer")]
     TooManyPending,
-    /// The text would have more than 1,048,576 bytes.
+    /// The text would have more than 1,048,576 bytes, the limit of a command's text. Send a smaller command.
     #[error("the command is too long")]
     TooLong,
 }
@@ -56,9 +56,9 @@ impl From<AllocError> for LocalFault {
 #[derive(Drop)]
 pub struct LocalEnd {
     alloc: Global,
-    /// The method of each command that waits, by its id, in order of sending.
+    /// The methods of the commands that wait, by id, in order of sending.
     pending: IndexMap<u64, Method>,
-    /// How many commands were sent: the last id.
+    /// How many commands were sent, which is the last id.
     sent: u64,
     ghost in_range: { sent < 2 ^ 53 },
     ghost were_sent: { AllByRecursion (λ w. w.0 ≤ sent) pending.entries } by { Prim.hlevel props },
@@ -78,16 +78,17 @@ impl LocalEnd {
         }
     }
 
-    /// Sends a command: gives its id and its text, which is to be carried to the remote end. It waits from now on.
+    /// Sends a command: gives its id and its text, to be carried to the remote end. It waits from now on.
     ///
-    /// The text is `{ id: js-uint, method: "M", params: P }`, its members in that order. Ids count from 1, in order of
-    /// sending; a command that is not sent takes none. The command is used up.
+    /// The text is `{ id: js-uint, method: "M", params: P }`, its members in that order. Ids count from 1, in
+    /// order of sending; a command that is not sent takes none. The command is used up.
     ///
-    /// Costs a tree of the command and its text, each once. A command past the first two limits is refused before that.
+    /// Costs a tree of the command and its text, each once. A command past the first two limits is refused
+    /// before that.
     ///
     /// # Errors
-    /// Nothing has changed. Of the last three the first that holds is answered, and `NoMemory` only where the first two of
-    /// them do not hold.
+    /// Nothing has changed. Of `IdsUsedUp`, `TooManyPending` and `TooLong` the first that holds is answered;
+    /// `NoMemory` comes only where neither of the first two holds.
     /// - `NoMemory`: an allocation failed.
     /// - `IdsUsedUp`: 9,007,199,254,740,991 commands were sent.
     /// - `TooManyPending`: 1,024 commands wait.
@@ -129,17 +130,17 @@ impl LocalEnd {
         }
     }
 
-    /// Takes a text of the remote end, which may have any length, and tells what it means: one of the seven cases of
+    /// Takes a text of the remote end, of any length, and tells what it means: one of the seven cases of
     /// [`Received`].
     ///
-    /// An answer, a bad result and a refusal settle their command, whose id they give: it waits no longer. All else
-    /// changes nothing.
+    /// An answer, a bad result and a refusal settle the command whose id they give: it waits no longer. The
+    /// other cases change nothing.
     ///
-    /// The cost is that of reading the text; the result of an answer is copied once. A command is found by its id at once,
-    /// and one that is settled costs a move of those that were sent after it and wait, at most 1,023.
+    /// Costs the reading of the text, and one copy of an answer's result. The command is found by its id in
+    /// constant time; to settle it moves the waiting commands that were sent after it, at most 1,023.
     ///
     /// # Errors
-    /// No memory: an allocation failed. Nothing has changed, and the text may be taken again.
+    /// No memory: an allocation failed. Nothing has changed, and the same text may be taken again.
     ///
     /// After WebDriver BiDi, "Transport".
     pub fn take(&mut self, text: &str) -> Result<Received, AllocError>
@@ -157,10 +158,11 @@ impl LocalEnd {
         }
     }
 
-    /// Gives up all commands that wait, since the connection is gone: their ids, in order of sending. None waits after.
+    /// Gives up all commands that wait, since the connection is gone. Gives their ids in order of sending;
+    /// then none waits.
     ///
-    /// What was sent before stays counted: a command that is sent later has a further id, and a late answer to one that
-    /// was given up is stray. Costs the list of the ids, at most 1,024.
+    /// Ids go on from those sent before, and a late answer to a command that was given up is
+    /// [`Received::Stray`]. Costs the list of the ids, at most 1,024.
     ///
     /// # Errors
     /// No memory: an allocation failed. Nothing has changed.

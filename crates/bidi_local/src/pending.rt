@@ -8,21 +8,21 @@ use bidi_tree::JsUint;
 use indexmap::IndexMap;
 use std::alloc::{AllocError, Global};
 
-/// The method of the command with that id, where it waits. Takes no memory.
+/// The method of the command of this id, if it waits. Takes no memory.
 pub(crate) fn method_of(pending: &IndexMap<u64, Method>, id: u64) -> Option<Method>
     ensures { result ≡ method_of pending.now.entries id }
 {
     pending.get(&id).copied()
 }
 
-/// Takes out the command with that id; the others keep their order. Takes no memory.
+/// Removes the command of this id; the others keep their order. Takes no memory.
 pub(crate) fn settle(pending: &mut IndexMap<u64, Method>, id: u64)
     ensures { pending.new.entries ≡ without pending.old.entries id }
 {
     pending.shift_remove(&id);
 }
 
-/// The ids, in order of sending.
+/// The ids of the commands that wait, in order of sending.
 ///
 /// # Errors
 /// No memory: an allocation failed.

@@ -15,10 +15,10 @@ use bidi_tree::JsUint;
 use indexmap::IndexMap;
 use std::alloc::{AllocError, Global};
 
-/// Tells what a message means while these commands wait, and settles the one that it answers. It is used up.
+/// Tells what a message means while these commands wait, and settles the one that it answers.
 ///
 /// # Errors
-/// No memory: an allocation failed. All still wait.
+/// No memory: an allocation failed. Each command still waits.
 pub(crate) fn receive(
     alloc: Global,
     pending: &mut IndexMap<u64, Method>,
@@ -37,6 +37,7 @@ pub(crate) fn receive(
     }
 }
 
+// What a response means; it settles the command that it answers.
 fn receive_response(
     alloc: Global,
     pending: &mut IndexMap<u64, Method>,
@@ -58,7 +59,7 @@ fn receive_response(
     }
 }
 
-/// What the result of a command with that id and method means.
+/// What the result of the command of this id and method means.
 ///
 /// # Errors
 /// No memory: an allocation failed.
@@ -78,6 +79,7 @@ fn outcome_of(
     }
 }
 
+// What an error means; it settles the command that it answers.
 fn receive_error(pending: &mut IndexMap<u64, Method>, error: ErrorResponse) -> Received
     requires { ⟦<ErrorResponse as Shape>⟧.shape.well error }
     ensures means { IsMeaningOf pending.old.entries (⟦<ErrorResponse as Shape>⟧.shape.tree_of error) (meaning_of result) }
@@ -90,7 +92,7 @@ fn receive_error(pending: &mut IndexMap<u64, Method>, error: ErrorResponse) -> R
     }
 }
 
-/// What an error with that id and code means.
+/// What an error of this id and code means; it settles the command that it answers.
 fn refusal_of(pending: &mut IndexMap<u64, Method>, id: JsUint, code: ErrorCode) -> Received
     ensures refusal { IsRefusal pending.old.entries id.value code (meaning_of result) }
     ensures settles { pending.new.entries ≡ settled pending.old.entries (meaning_of result) }
@@ -105,6 +107,7 @@ fn refusal_of(pending: &mut IndexMap<u64, Method>, id: JsUint, code: ErrorCode) 
     }
 }
 
+// What an event means; it settles no command.
 fn receive_event(event: Event) -> Received
     requires { ⟦<Event as Shape>⟧.shape.well event }
     ensures means { (waiting : Pending) → IsMeaningOf waiting (⟦<Event as Shape>⟧.shape.tree_of event) (meaning_of result) }

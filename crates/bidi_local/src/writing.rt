@@ -11,7 +11,7 @@ use bidi_shape::Ext;
 use bidi_tree::JsUint;
 use std::alloc::{AllocError, Global};
 
-/// The method of a command, and its text with that id. The command is used up.
+/// The method of a command, and the command's text with this id. The command is used up.
 ///
 /// # Errors
 /// No memory: an allocation failed.

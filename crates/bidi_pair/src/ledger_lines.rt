@@ -13,8 +13,8 @@ use bidi_messages::{EventData, EventName, Method, Named, ResultData, Subject};
 use bidi_tree::{JsUint, Tree, write};
 use std::alloc::{AllocError, Global};
 
-/// The lines of a ledger, each with its line feed: link by link, first its commands, then its events, and last how many
-/// commands were not sent, where there are any.
+/// The lines of a ledger, each with its line feed. They come link by link: first its commands, then its
+/// events, and last how many commands were not sent, if there are any.
 ///
 /// # Errors
 /// No memory: an allocation failed.
@@ -66,6 +66,7 @@ fn entry_line(alloc: Global, link: JsUint, entry: Entry) -> Result<String, Alloc
     four_fields(alloc, link, entry.id, method, fate.as_str())
 }
 
+// A line of four fields.
 fn four_fields(
     alloc: Global,
     link: JsUint,
@@ -78,7 +79,7 @@ fn four_fields(
     format!(in alloc; "{} {} {method} {fate}\n", link.value, id.value)
 }
 
-// What became of a command.
+// What the line of a command says of its fate.
 fn fate_text(alloc: Global, fate: Fate) -> Result<String, AllocError>
     requires { FateIsWell fate }
     ensures { IfOk result (λ text. string_bytes text ≡ fate_text (fate_seen fate)) }
@@ -136,6 +137,7 @@ fn params_text(alloc: Global, event: EventData) -> Result<String, AllocError>
     compact(alloc, tree)
 }
 
+// The line of an event.
 fn told_event(alloc: Global, link: JsUint, name: &str, text: &str) -> Result<String, AllocError>
     ensures { IfOk result (λ line. string_bytes line ≡ decimal link.value ++ 32 ∷ (codes "event " ++ (name.now ++ 32 ∷ (text.now ++ 10 ∷ [])))) }
 {
@@ -161,6 +163,7 @@ fn unsent_line(alloc: Global, link: JsUint, unsent: u64) -> Result<String, Alloc
     }
 }
 
+// The line of how many commands were not sent.
 fn told_unsent(alloc: Global, link: JsUint, unsent: u64) -> Result<String, AllocError>
     ensures { IfOk result (λ line. string_bytes line ≡ decimal link.value ++ 32 ∷ (codes "unsent " ++ (decimal unsent ++ 10 ∷ []))) }
 {

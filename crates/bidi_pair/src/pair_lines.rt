@@ -1,4 +1,4 @@
-//! Pair lines: the step of both ends that one says.
+//! Pair lines: reading one as a step of both ends.
 ghost use Rattle.std.specs.Prelude.{◌≡◌, ℕ, List, ◌∷◌, ◌++◌, Some, None, codes, IfOk, IfSome};
 ghost use Rattle.bidi_tree.specs.Text.{tree_of_text};
 ghost use Rattle.bidi_tree.specs.View.{node};
@@ -15,7 +15,7 @@ use bidi_shape::ShapeFault;
 use bidi_tree::{JsUint, ReadFault, Tree, read};
 use std::alloc::{AllocError, Global};
 
-/// The step of both ends that a line says, where it is a pair line.
+/// Reads a line as a step of both ends; `None` where it is no pair line.
 ///
 /// # Errors
 /// No memory: an allocation failed.
@@ -28,7 +28,7 @@ pub fn read_pair_step(alloc: Global, line: &[u8]) -> Result<Option<PairStep>, Al
     }
 }
 
-// The step whose words stand in a line. A step of a page, and an opening, has the line that it has in a play.
+// Reads a text as a step of both ends. A step of a page, an opening and a moment have the lines of a play.
 fn read_pair_words(alloc: Global, line: &str) -> Result<Option<PairStep>, AllocError>
     ensures some { IfOk result (λ found. IfSome found (λ x. Says line.now x × IsWell x)) }
 {
@@ -60,7 +60,7 @@ fn read_pair_words(alloc: Global, line: &str) -> Result<Option<PairStep>, AllocE
     }
 }
 
-// The step of both ends that is a step of a play, where there is one.
+// A step of a play as a step of both ends; `None` for a drop and for a message on a connection.
 fn pair_step(step: Step) -> Option<PairStep>
     ensures some { IfSome result (λ x. (line : List ℕ) → IsPlayLine line (step_of step) → Says line x × IsWell x) }
 {
@@ -75,7 +75,7 @@ fn pair_step(step: Step) -> Option<PairStep>
     }
 }
 
-// The link, the method behind the first space, and the params behind the next.
+// Reads a link, the method behind the first space, and the params behind the next.
 fn read_sending(alloc: Global, rest: &str) -> Result<Option<PairStep>, AllocError>
     ensures some { IfOk result (λ found. IfSome found (λ x. Says (codes "send " ++ rest.now) x × IsWell x)) }
 {
@@ -91,7 +91,7 @@ fn read_sending(alloc: Global, rest: &str) -> Result<Option<PairStep>, AllocErro
     }
 }
 
-// The method, and the text behind the first space.
+// Reads a method, and the text behind the first space.
 fn method_and_params(command: &str) -> Option<(Method, &str)>
     ensures some { IfSome result (λ x. command.now ≡ method_text x.0 ++ 32 ∷ x.1.now) }
 {
@@ -100,7 +100,7 @@ fn method_and_params(command: &str) -> Option<(Method, &str)>
     Some((method, params))
 }
 
-// The sending of a method's command, where the text fits the rule of its params.
+// The step that sends a command; `None` where the text does not fit the rule of the method's params.
 fn read_command(
     alloc: Global,
     link: JsUint,
@@ -116,7 +116,7 @@ fn read_command(
     }
 }
 
-// The same, by the tree of the text.
+// The same, by the tree of the params.
 fn sending(
     alloc: Global,
     link: JsUint,

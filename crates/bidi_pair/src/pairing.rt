@@ -1,4 +1,4 @@
-//! Pairs: lines of steps of both ends in, and what became of each command out.
+//! Playing pair lines: lines of steps of both ends in, and what became of each command out.
 ghost use Rattle.std.specs.Prelude.{◌≡◌, ◌+◌, [], ◌∷◌, ◌++◌, IfOk, IfErr, OnOk, IsTrue, MatchResult};
 ghost use Rattle.std.specs.Io.KnownBytes.{IsAtEnd};
 ghost use Rattle.bidi_link.specs.Steps.{AreWell};
@@ -14,28 +14,28 @@ use bidi_remote::RemoteFault;
 use std::alloc::{AllocError, Global};
 use thiserror::Error;
 
-/// How many lines an input may have.
+/// How many lines an input can have.
 const MOST_LINES: u64 = 1_000_000_000;
 
-/// Why a run of both ends stopped before its end.
+/// Why a run of both ends stopped before its end. Nothing is written, but for a `Write`.
 #[derive(Clone, Copy, Debug, PartialEq, Eq, Error)]
 pub enum PairFault {
-    /// A read failed.
+    /// A read of the source failed. No step has run.
     #[error("input cannot be read")]
     Read,
-    /// A write failed.
+    /// A write of the sink failed. A beginning of the text may be written.
     #[error("output cannot be written")]
     Write,
-    /// The line of this number, counted from 1, is no pair line.
+    /// This line, counted from 1, is no pair line. No step has run; mend the line, and run again.
     #[error("line {0} is no pair line")]
     BadLine(u64),
-    /// An allocation failed.
+    /// An allocation failed, while lines were read or in a step. Split the input.
     #[error("out of memory")]
     NoMemory,
-    /// The input goes on after 1,000,000,000 lines.
+    /// The input goes on after 1,000,000,000 lines. No step has run; split the input.
     #[error("too many steps")]
     TooManyLines,
-    /// The remote end takes no more steps.
+    /// The remote end has taken 1,000,000,000 steps, and takes no more. Split the input.
     #[error("too many steps")]
     WornOut,
 }
@@ -67,20 +67,20 @@ impl From<RemoteFault> for PairFault {
     }
 }
 
-/// Plays the pair lines of the source, and writes what became of each command and which events each link received.
+/// Plays the pair lines of the source, and writes the fate of each command and the events of each link.
 ///
 /// All lines are read before the first step runs, and all steps have run before the first byte is written.
 ///
 /// # Errors
 /// The first of these in the order of the input ends the run, and nothing is written:
-/// 1. `Read`, where the source failed.
-/// 2. `BadLine`, where a line is no pair line.
-/// 3. `NoMemory`, where an allocation failed, here or in any later step.
-/// 4. `TooManyLines`, where the input goes on after 1,000,000,000 lines.
+/// 1. `Read`: a read of the source failed.
+/// 2. `BadLine`: a line is no pair line.
+/// 3. `NoMemory`: an allocation failed, here or in any later step.
+/// 4. `TooManyLines`: the input goes on after 1,000,000,000 lines.
 ///
 /// Then these:
-/// 1. `WornOut`, after 1,000,000,000 steps of the remote end: nothing is written.
-/// 2. `Write`, where the sink failed, after a beginning of the text.
+/// 1. `WornOut`: the remote end has taken 1,000,000,000 steps. Nothing is written.
+/// 2. `Write`: a write of the sink failed, after a beginning of the text.
 pub fn play_pair<R: Source, W: Sink>(
     alloc: Global,
     source: &mut R,
@@ -105,7 +105,7 @@ pub fn play_pair<R: Source, W: Sink>(
     Ok(())
 }
 
-// The steps that the lines of the source say.
+// Reads the lines of the source as steps.
 fn read_steps<R: Source>(alloc: Global, source: &mut R) -> Result<Vec<PairStep>, PairFault>
     ensures ok { IfOk result (λ steps. Reads (R.left source.old) (R.left source.new) (λ read. Schedule read steps.items [])) }
     ensures well { IfOk result (λ steps. AreWell steps.items) }
@@ -145,7 +145,7 @@ fn add_step(steps: &mut Vec<PairStep>, step: PairStep) -> Result<(), AllocError>
     Ok(())
 }
 
-// The fault of a run that a fault of its input is, at the line of this number.
+// The fault of a run for a fault of its input, at the line of this number.
 fn pair_fault(fault: InputFault, number: u64) -> PairFault
     ensures { result ≡ pair_fault_of fault number }
 {

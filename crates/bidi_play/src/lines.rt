@@ -1,4 +1,4 @@
-//! Lines: the step that one says, and those of what is sent.
+//! Lines: reading one as a step, and writing those of what is sent.
 ghost use Rattle.std.specs.Prelude.{◌≡◌, ℕ, ◌<◌, ◌≤◌, ◌^◌, ◌==◌, ◌↔◌, List, [], ◌∷◌, ◌++◌, true, false, map, length, decimal, string_bytes, IsTrue, IfOk, IfSome, IfNone, IsSomeAnd, position};
 ghost use Rattle.std.specs.List.{list_any};
 ghost use Rattle.bidi_values.specs.Level.{level_text};
@@ -14,7 +14,7 @@ use bidi_tree::JsUint;
 use bidi_values::Level;
 use std::alloc::{AllocError, Global};
 
-/// The step that a line says, where it is a play line.
+/// Reads a line as a step; `None` where it is no play line.
 ///
 /// # Errors
 /// No memory: an allocation failed.
@@ -32,7 +32,10 @@ pub fn read_step(alloc: Global, line: &[u8]) -> Result<Option<Step>, AllocError>
     }
 }
 
-// The step whose words stand in a line.
+/// Reads the text of a play line as a step; `None` where it is none. The text may have any length.
+///
+/// # Errors
+/// No memory: an allocation failed.
 pub fn read_words(alloc: Global, line: &str) -> Result<Option<Step>, AllocError>
     ensures some { IfOk result (λ found. IfSome found (λ step. IsSayable (step_of step) × (line.now ≡ line_of (step_of step)))) }
     ensures none { IfOk result (λ found. IfNone found ((s : play.Step) → IsSayable s → line.now ≡ line_of s → ⊥)) }
@@ -87,7 +90,7 @@ pub fn read_words(alloc: Global, line: &str) -> Result<Option<Step>, AllocError>
     }
 }
 
-// The number, and the text behind the first space.
+// Reads a number, and the text behind the first space.
 fn read_number_and_text(alloc: Global, rest: &str) -> Result<Option<(JsUint, String)>, AllocError>
     ensures some { IfOk result (λ found. IfSome found (λ x. rest.now ≡ decimal x.0.value ++ 32 ∷ string_bytes x.1)) }
     ensures none { IfOk result (λ found. IfNone found ((n : ℕ) (text : List ℕ) → n < 2 ^ 53 → rest.now ≡ decimal n ++ 32 ∷ text → ⊥)) }
@@ -101,7 +104,7 @@ fn read_number_and_text(alloc: Global, rest: &str) -> Result<Option<(JsUint, Str
     }
 }
 
-// The context, and the text behind the first space.
+// Reads a context's id, and the text behind the first space.
 fn read_context_and_text(alloc: Global, rest: &str) -> Result<Option<(String, String)>, AllocError>
     ensures some { IfOk result (λ found. IfSome found (λ x. IsContext (string_bytes x.0) × (rest.now ≡ string_bytes x.0 ++ 32 ∷ string_bytes x.1))) }
     ensures none { IfOk result (λ found. IfNone found ((context text : List ℕ) → IsContext context → rest.now ≡ context ++ 32 ∷ text → ⊥)) }
@@ -115,7 +118,7 @@ fn read_context_and_text(alloc: Global, rest: &str) -> Result<Option<(String, St
     }
 }
 
-// The context, the level behind the first space, and the text behind the next.
+// Reads a context's id, a level behind the first space, and the text behind the next.
 fn read_entry(alloc: Global, rest: &str) -> Result<Option<(String, Level, String)>, AllocError>
     ensures some { IfOk result (λ found. IfSome found (λ x. IsContext (string_bytes x.0) × (rest.now ≡ string_bytes x.0 ++ 32 ∷ level_text x.1 ++ 32 ∷ string_bytes x.2))) }
     ensures none { IfOk result (λ found. IfNone found ((context text : List ℕ) (level : Level) → IsContext context → rest.now ≡ context ++ 32 ∷ level_text level ++ 32 ∷ text → ⊥)) }
@@ -132,7 +135,7 @@ fn read_entry(alloc: Global, rest: &str) -> Result<Option<(String, Level, String
     }
 }
 
-// The level, and the text behind the first space.
+// Reads a level, and the text behind the first space.
 fn level_and_text(rest: &str) -> Option<(Level, &str)>
     ensures some { IfSome result (λ x. rest.now ≡ level_text x.0 ++ 32 ∷ x.1.now) }
     ensures none { IfNone result ((level : Level) (text : List ℕ) → rest.now ≡ level_text level ++ 32 ∷ text → ⊥) }
@@ -142,7 +145,7 @@ fn level_and_text(rest: &str) -> Option<(Level, &str)>
     Some((level, text))
 }
 
-// The context that the text is.
+// Reads a context's id: one byte or more, and no space.
 fn read_context(alloc: Global, text: &str) -> Result<Option<String>, AllocError>
     ensures some { IfOk result (λ found. IfSome found (λ context. IsContext (string_bytes context) × (text.now ≡ string_bytes context))) }
     ensures none { IfOk result (λ found. IfNone found (IsContext text.now → ⊥)) }
@@ -153,13 +156,17 @@ fn read_context(alloc: Global, text: &str) -> Result<Option<String>, AllocError>
     Ok(Some(String::from_str(alloc, text)?))
 }
 
+// Whether a space stands in a text.
 fn has_space(text: &str) -> bool
     ensures { result ≡ list_any (λ b. b == 32) text.now }
 {
     text.as_bytes().iter().any(|b| *b == b' ')
 }
 
-// The js-uint whose decimal form the text is.
+/// Reads a js-uint in decimal, without sign or leading zeros; `None` for any other text.
+///
+/// # Errors
+/// No memory: an allocation failed.
 pub fn read_number(alloc: Global, text: &str) -> Result<Option<JsUint>, AllocError>
     ensures some { IfOk result (λ found. IfSome found (λ n. text.now ≡ decimal n.value)) }
     ensures none { IfOk result (λ found. IfNone found ((n : ℕ) → n < 2 ^ 53 → text.now ≡ decimal n → ⊥)) }
@@ -175,7 +182,7 @@ pub fn read_number(alloc: Global, text: &str) -> Result<Option<JsUint>, AllocErr
     }
 }
 
-// The parts round the first space.
+/// The text before the first space, and the text behind it; `None` where there is no space.
 pub fn parts(text: &str) -> Option<(&str, &str)>
     ensures some { IfSome result (λ x. text.now ≡ x.0.now ++ 32 ∷ x.1.now) }
     ensures first { (xs ys : List ℕ) → text.now ≡ xs ++ 32 ∷ ys → list_any (λ b. b == 32) xs ≡ false
@@ -184,13 +191,14 @@ pub fn parts(text: &str) -> Option<(&str, &str)>
     text.split_once(' ')
 }
 
+/// Whether two texts are equal.
 pub fn is_text(text: &str, other: &str) -> bool
     ensures { IsTrue result ↔ (text.now ≡ other.now) }
 {
     text == other
 }
 
-/// The lines of what is sent, each with its line feed.
+/// The lines that a play writes for what is sent, each with its line feed.
 ///
 /// # Errors
 /// No memory: an allocation failed.
@@ -205,7 +213,7 @@ pub fn lines_of(alloc: Global, all: Vec<Sent>) -> Result<Vec<u8>, AllocError>
     Ok(lines)
 }
 
-// The line of what is sent, with its line feed.
+// The line that a play writes for one thing that is sent, with its line feed.
 #[tactic(auto, using(crate::proofs::SentLineLemmas::text_grouped))]
 fn line_of_sent(alloc: Global, sent: Sent) -> Result<String, AllocError>
     ensures { IfOk result (λ line. string_bytes line ≡ ended (sent_line (sent_of sent))) }
@@ -220,6 +228,7 @@ fn line_of_sent(alloc: Global, sent: Sent) -> Result<String, AllocError>
     }
 }
 
+// `< C TEXT`
 fn text_line(alloc: Global, conn: u64, text: &str) -> Result<String, AllocError>
     ensures { IfOk result (λ line. string_bytes line ≡ 60 ∷ 32 ∷ (decimal conn ++ 32 ∷ (text.now ++ 10 ∷ []))) }
 {

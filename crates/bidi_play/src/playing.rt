@@ -11,22 +11,23 @@ use bidi_remote::{RemoteEnd, RemoteFault};
 use std::alloc::{AllocError, Global};
 use thiserror::Error;
 
-/// Why a play stopped before its end.
+/// Why a play stopped before its end. What was written is a beginning of the text of the lines before. The
+/// remote end is gone, so a play can only be started anew.
 #[derive(Clone, Copy, Debug, PartialEq, Eq, Error)]
 pub enum PlayFault {
-    /// A read failed.
+    /// A read of the source failed. All whole lines that were read are played.
     #[error("input cannot be read")]
     Read,
-    /// A write failed.
+    /// A write of the sink failed. The output of the line that was played last may be written in part.
     #[error("output cannot be written")]
     Write,
-    /// The line of this number, counted from 1, is no play line.
+    /// The line of this number, counted from 1, is no play line. Mend it, and play again.
     #[error("line {0} is no play line")]
     BadLine(u64),
-    /// An allocation failed.
+    /// An allocation failed. Nothing is written for the line at hand.
     #[error("out of memory")]
     NoMemory,
-    /// The remote end takes no more steps.
+    /// The play has more than 1,000,000,000 lines, and the remote end takes no more steps. Split the play.
     #[error("too many steps")]
     WornOut,
 }
@@ -60,16 +61,17 @@ impl From<RemoteFault> for PlayFault {
 
 /// Plays the lines of the source, and writes what is sent for each line, in order, to the sink.
 ///
-/// What a step sends is written before the next line is taken, so a client can talk to a play. It holds one line and the texts
-/// of one step, and its time grows with the bytes that it reads and writes.
+/// What a step sends is written before the next line is taken, so a client can talk to a play. Memory holds
+/// one line and the texts of one step, beside the remote end; time grows with the bytes that are read and
+/// written.
 ///
 /// # Errors
 /// The first of these in the order of the input ends the play:
-/// 1. `Read`, where the source failed, after the whole lines before.
-/// 2. `Write`, where the sink failed.
-/// 3. `BadLine`, where a line is no play line.
-/// 4. `NoMemory`, where an allocation failed.
-/// 5. `WornOut`, where a play line stands behind 1,000,000,000 others.
+/// 1. `Read`: a read of the source failed, after the whole lines before.
+/// 2. `Write`: a write of the sink failed.
+/// 3. `BadLine`: a line is no play line.
+/// 4. `NoMemory`: an allocation failed.
+/// 5. `WornOut`: a play line stands behind 1,000,000,000 others.
 pub fn play<R: Source, W: Sink>(
     alloc: Global,
     source: &mut R,
@@ -107,7 +109,7 @@ pub fn play<R: Source, W: Sink>(
     }
 }
 
-// The fault of a play that a fault of its input is, at the line of this number.
+// The fault of a play for a fault of its input, at the line of this number.
 fn play_fault(fault: InputFault, number: u64) -> PlayFault
     ensures { result ≡ play_fault_of fault number }
 {

@@ -10,21 +10,21 @@ use bidi_play::PlayFault;
 use bidi_serve::ServeFault;
 use itoa::Buffer;
 
-/// Why a run ended before all was done.
+/// Why a run ended before all was done. `status` and `tell` are what a program does about it.
 #[derive(Clone, Copy, Debug, PartialEq, Eq)]
 pub enum RunFault {
-    /// A play stopped.
+    /// `play` stopped, for this cause.
     Play(PlayFault),
-    /// A run of both ends stopped.
+    /// `pair` stopped, for this cause.
     Pair(PairFault),
-    /// A `show` or a `check` stopped.
+    /// `show` or `check` stopped, for this cause.
     Listing(ShowFault),
-    /// Serving stopped.
+    /// `serve` stopped, for this cause.
     Serve(ServeFault),
 }
 
 impl RunFault {
-    /// The status of a program that it ends: 2 at a bad line, else 3.
+    /// The status of a program that this fault ends: 2 at a bad line, else 3.
     pub fn status(self) -> u8
         ensures { result ≡ status_of self }
     {
@@ -36,7 +36,7 @@ impl RunFault {
         }
     }
 
-    /// Tells it in one line, as far as that can be written. Takes no memory.
+    /// Writes the fault as one line, or a beginning of it where a write fails. Takes no memory.
     pub fn tell<F: Sink>(self, faults: &mut F)
         ensures { Tells (F.contents faults.old) (F.contents faults.new) (F.failures faults.old) (F.failures faults.new) (line_of self) }
     {
@@ -74,7 +74,7 @@ impl RunFault {
     }
 }
 
-// Writes what is told of the line with a number.
+// Writes the line of a fault that names the number of a line.
 fn write_numbered<F: Sink>(faults: &mut F, number: u64, rest: &str) -> Result<(), DeviceFault>
     ensures ok { OnOk result (Appends (F.contents faults.old) (F.contents faults.new) (codes "bidi: line " ++ decimal number ++ rest.now)) }
     ensures err { OnErr result (AppendsBeginning (F.contents faults.old) (F.contents faults.new) (codes "bidi: line " ++ decimal number ++ rest.now)) }

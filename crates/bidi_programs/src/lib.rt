@@ -1,8 +1,8 @@
 //! The programs over the two ends of WebDriver BiDi, as one call over readers and writers.
 //!
-//! [`run`] does what a command line asks for: it reads a source, writes a sink, and tells a fault to another. The programs are
-//! `bidi_play`, `bidi_pair`, `bidi_console`, which has `show` and `check`, and `bidi_serve`; the crate `bidi` runs them over the
-//! standard streams.
+//! [`run`] does what a command line asks for: it reads a source and writes a sink, and writes a fault to
+//! another sink. The programs stand in `bidi_play`, `bidi_pair` and `bidi_serve`, and `show` and `check` in
+//! `bidi_console`; the crate `bidi` runs them over the standard streams.
 #![tactic(auto)]
 
 mod faults;

@@ -15,12 +15,12 @@ use std::alloc::Global;
 
 /// Runs what was asked for, and returns the status of the program.
 ///
-/// The status is 0 where all was done, 1 where a check found a line that is refused, 2 at a bad line, and 3 where
-/// input, output or memory failed or the steps or lines are used up. A fault is told to `faults` in one line;
-/// whether that can be written changes nothing.
+/// The status is 0 where all was done, 1 where a check found a line that is refused, 2 at a bad line, and 3
+/// where input, output or memory failed or the steps or lines are used up. A fault is written to `faults` as
+/// one line; whether that write succeeds does not change the status.
 ///
-/// `serve` wants a listener, which streams alone do not give: it is told that this cannot listen, with status 3, and nothing
-/// is read or written. The crate `bidi_serve` serves.
+/// `serve` needs a listener, which streams alone do not give. So for it the fault is that the program cannot
+/// listen, with status 3, and nothing is read or written. The crate `bidi_serve` serves.
 pub fn run<R: Source, W: Sink, F: Sink>(
     alloc: Global,
     run: &Run,
@@ -28,11 +28,11 @@ pub fn run<R: Source, W: Sink, F: Sink>(
     sink: &mut W,
     faults: &mut F,
 ) -> u8
-    // Where all was done no device has failed, and nothing is told.
+    // Where all was done, no device has failed and no fault is written.
     ensures done { result ≤ 1 → IsTrue (R.has_ended source.new) × (R.failures source.new ≡ R.failures source.old) × (W.failures sink.new ≡ W.failures sink.old)
         × (faults.new ≡ faults.old)
         × Moves (R.left source.old) (R.left source.new) (W.contents sink.old) (W.contents sink.new) (Completes run.now result) }
-    // Else a fault ended the run. It says what was read and written and which device failed, and it is told.
+    // Else a fault ended the run. It says what was read and written and which device failed, and is written.
     ensures stopped { 1 < result → (fault : Fault) × (result ≡ status_of fault)
         × (R.failures source.new ≡ R.failures source.old + failed_reads fault) × (W.failures sink.new ≡ W.failures sink.old + failed_writes fault)
         × Tells (F.contents faults.old) (F.contents faults.new) (F.failures faults.old) (F.failures faults.new) (line_of fault)
@@ -84,8 +84,8 @@ fn finish<R: Source, W: Sink>(
     }
 }
 
-/// The status of a program that served: 0 where all connections were served, else that of the fault, which is told to `faults`
-/// in one line; whether that can be written changes nothing.
+/// The status of a program that served: 0 where all connections were served, else that of the fault. The
+/// fault is written to `faults` as one line; whether that write succeeds does not change the status.
 pub fn serving_status<F: Sink>(served: Result<(), ServeFault>, faults: &mut F) -> u8
     ensures { MatchResult served (λ _. (result ≡ 0) × (faults.new ≡ faults.old)) (λ f. (result ≡ status_of (fault.Serve f))
         × Tells (F.contents faults.old) (F.contents faults.new) (F.failures faults.old) (F.failures faults.new) (line_of (fault.Serve f))) }

@@ -1,4 +1,4 @@
-//! What a subscription newly enables, and announces.
+//! What a new subscription enables that was not enabled before.
 ghost use Rattle.std.specs.Prelude.{◌≡◌, List, map};
 ghost use Rattle.std.specs.VecDeque.{deque_len, deque_capacity};
 ghost use Rattle.bidi_browser.specs.Acts.{Act};
@@ -16,10 +16,10 @@ use bidi_messages::EventName;
 use std::collections::VecDeque;
 use std::rc::Rc;
 
-/// Whether the top-level context is alive, and these events in this scope enable the event there, which no subscription
-/// that is held does.
+/// Whether a subscription to these events in this scope newly enables the event for a top-level context: the
+/// context is live, the subscription covers the event there, and none of those held does.
 ///
-/// Looks through the live contexts and what is held. Takes no memory.
+/// Passes over the live contexts and the subscriptions held. Takes no memory.
 pub(crate) fn is_new(
     browser: &Browser,
     held: &[Subscription],
@@ -33,7 +33,8 @@ pub(crate) fn is_new(
     browser.is_live(top) && !any_covers(held, event, top) && covers(events, scope, event, top)
 }
 
-/// Takes the entries out of their places that these events in this scope newly enable.
+/// Empties the places of the log entries that a subscription to these events in this scope newly enables.
+/// They are sent when it is made, and wait no longer.
 pub(crate) fn announce(
     places: &mut VecDeque<Option<Rc<EventText>>>,
     browser: &Browser,

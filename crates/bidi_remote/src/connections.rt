@@ -1,4 +1,4 @@
-//! Open connections, and the session that each speaks for.
+//! Open connections, with the session of each.
 ghost use Rattle.std.specs.Prelude.{◌≡◌, ◌==◌, not, [], ◌∷◌, ◌++◌, find, filter, map, length, nat_lt, IfOk, OnOk, OnErr};
 ghost use Rattle.bidi_remote.specs.Machine.Connections.{is_for};
 ghost use Rattle.bidi_remote.specs.Machine.Sent.{Text, Close};
@@ -9,30 +9,31 @@ use crate::step::Sent;
 use bidi_tree::JsUint;
 use std::alloc::{AllocError, Global};
 
-/// How many connections may be open.
+/// How many connections can be open at once.
 const MOST_CONNECTIONS: usize = 64;
 
-/// How a connection stands.
+/// The state of a connection number.
 #[derive(Clone, Copy)]
 pub(crate) enum Standing {
-    /// It is not open.
+    /// No connection of this number is open.
     Shut,
-    /// It is open, without a session.
+    /// The connection is open, without a session.
     Alone,
-    /// It speaks for the session of that number.
+    /// The connection is open and speaks for the session of this number.
     SpeaksFor(u32),
 }
 
 /// An open connection.
 #[derive(Clone, Copy)]
 pub(crate) struct Connection {
+    /// The number that the caller gave it.
     pub number: JsUint,
-    /// The number of the session that it speaks for.
+    /// The number of the session that it speaks for, if any.
     pub session: Option<u32>,
 }
 
 impl Connection {
-    // Whether it speaks for the session.
+    // Whether it speaks for this session.
     fn is_for(&self, session: u32) -> bool
         ensures { result ≡ is_for session (row_of self.now).1 }
     {
@@ -52,7 +53,7 @@ pub(crate) struct Connections {
 impl Connections {
     ghost use Rattle.bidi_remote.specs.Tables.ConnectionRows.{rows_in, standing_in_hand, standing_in};
 
-    /// None is open. Takes no memory.
+    /// A table without connections. Takes no memory.
     pub(crate) fn new(alloc: Global) -> Connections
         ensures { rows_in result ≡ [] }
     {
@@ -61,7 +62,7 @@ impl Connections {
         }
     }
 
-    /// How the connection of that number stands.
+    /// The state of this connection number.
     pub(crate) fn standing_of(&self, number: JsUint) -> Standing
         ensures { standing_in_hand result ≡ standing_in (find (λ row. row.0 == number.value) (rows_in self.now)) }
     {
@@ -74,14 +75,14 @@ impl Connections {
         }
     }
 
-    /// Whether there is room for one more.
+    /// Whether one more connection can be opened.
     pub(crate) fn has_room(&self) -> bool
         ensures { result ≡ nat_lt (length (rows_in self.now)) 64 }
     {
         self.open.len() < MOST_CONNECTIONS
     }
 
-    /// Opens a connection, for a session or for none.
+    /// Adds an open connection, which speaks for this session or for none.
     pub(crate) fn open(&mut self, number: JsUint, session: Option<u32>) -> Result<(), AllocError>
         ensures ok { OnOk result (rows_in self.new ≡ rows_in self.old ++ row_of (record { number = number; session = session }) ∷ []) }
         ensures err { OnErr result (rows_in self.new ≡ rows_in self.old) }
@@ -89,14 +90,14 @@ impl Connections {
         Ok(self.open.push(Connection { number, session })?)
     }
 
-    /// Takes out the connection of that number.
+    /// Removes the connection of this number.
     pub(crate) fn close(&mut self, number: JsUint)
         ensures { rows_in self.new ≡ filter (λ row. not (row.0 == number.value)) (rows_in self.old) }
     {
         self.open.retain(|c| c.number.value != number.value);
     }
 
-    /// Takes out the connections of a session.
+    /// Removes the connections of a session.
     pub(crate) fn close_all(&mut self, session: u32)
         ensures { rows_in self.new ≡ filter (λ row. not (is_for session row.1)) (rows_in self.old) }
     {
@@ -123,7 +124,7 @@ impl Connections {
         push_text(alloc, &self.open, session, text, sent)
     }
 
-    /// Adds that each connection of a session is closed, in order of opening.
+    /// Adds a close of each connection of a session, in order of opening.
     pub(crate) fn push_closes(&self, session: u32, sent: &mut Vec<Sent>) -> Result<(), AllocError>
         ensures { IfOk result (λ _. map sent_of sent.new.items ≡ map sent_of sent.old.items ++ to_each Close session (rows_in self.now)) }
     {
@@ -131,7 +132,7 @@ impl Connections {
     }
 }
 
-// The open connection of that number.
+// The open connection of this number.
 fn find(connections: &[Connection], number: JsUint) -> Option<Connection>
     ensures { result ≡ find (λ c. c.number.value == number.value) connections.now }
 {
@@ -173,7 +174,7 @@ fn push_text(
     Ok(())
 }
 
-// Adds that each connection of a session is closed.
+// Adds a close of each connection of a session.
 fn push_closes(
     connections: &[Connection],
     session: u32,

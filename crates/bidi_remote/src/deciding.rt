@@ -1,4 +1,4 @@
-//! What a command comes to.
+//! How a command is decided, by the state of its connection.
 ghost use Rattle.std.specs.Prelude.{◌≡◌, List, true, Some};
 ghost use Rattle.bidi_browser.specs.Actions.{is_asked, method_of};
 ghost use Rattle.bidi_browser.specs.Asked.{action_of};
@@ -23,11 +23,13 @@ use bidi_params::NewParameters;
 use bidi_shape::Shape;
 use std::alloc::Global;
 
-/// What a command comes to on a connection that stands so: a turn, or why there is none. Nothing is changed.
+/// Decides a command on a connection in this state: a turn or a refusal. Changes nothing.
 ///
 /// # Errors
-/// - `invalid session id`: the connection has no session, and the command is neither `session.status` nor `session.new`.
-/// - What its command is refused for.
+/// - `invalid session id`: the connection has no session, and the command is neither `session.status` nor
+///   `session.new`.
+/// - `session not created`: the command is `session.new`, and the connection has a session.
+/// - Those of the command itself.
 /// - No memory: an allocation failed.
 pub(crate) fn decide(
     alloc: Global,
@@ -49,7 +51,7 @@ pub(crate) fn decide(
     }
 }
 
-// What it comes to on a connection without a session.
+// Decides a command on a connection without a session.
 fn decide_alone(
     alloc: Global,
     tables: &Tables,
@@ -69,7 +71,7 @@ fn decide_alone(
     }
 }
 
-// What it comes to on a connection that speaks for a session.
+// Decides a command on a connection that speaks for a session.
 fn decide_in(
     alloc: Global,
     tables: &Tables,
@@ -128,7 +130,7 @@ fn decide_in(
     }
 }
 
-// What a command of the browser comes to.
+// Decides a command of the module browsingContext or script: the browser plans it.
 fn decide_browsing(
     alloc: Global,
     tables: &Tables,

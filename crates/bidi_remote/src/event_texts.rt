@@ -1,4 +1,4 @@
-//! Events as they are sent.
+//! The texts of events.
 ghost use Rattle.std.specs.Prelude.{◌≡◌, ◌∷◌, ◌++◌, [], map, string_bytes, IfOk};
 ghost use Rattle.std.specs.List.{AllByRecursion};
 ghost use Rattle.bidi_browser.specs.View.{occurrence_of, seen};
@@ -11,14 +11,16 @@ use bidi_shape::Shape;
 use std::alloc::{AllocError, Global};
 use std::rc::Rc;
 
-/// The text of an event, with the number of its top-level context. It is made once, and shared by all that keep it.
+/// The text of an event. It is made once and shared.
 #[derive(Drop)]
 pub(crate) struct EventText {
+    /// The number of the top-level context in whose tree the event occurred.
     pub top: u64,
+    /// The event as it is sent.
     pub text: String,
 }
 
-/// The text of an occurrence.
+/// Makes the text of an event.
 pub(crate) fn event_text_of(
     alloc: Global,
     occurrence: &Occurrence,
@@ -32,7 +34,7 @@ pub(crate) fn event_text_of(
     Ok(Rc::new(alloc, EventText { top, text })?)
 }
 
-/// The texts of some.
+/// Makes the texts of some events, in order.
 pub(crate) fn event_texts(
     alloc: Global,
     occurrences: &[Occurrence],

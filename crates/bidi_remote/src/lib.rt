@@ -1,9 +1,12 @@
-//! The remote end: connections, sessions, subscriptions, and which texts go out on which connection.
+//! The remote end: connections, sessions, subscriptions, and which texts are sent on which connection.
 //!
-//! A [`RemoteEnd`] takes steps and answers each at once, as the machine of the definitions does: a function of the list
-//! of past steps. It has connections, sessions and subscriptions, and a browser, to which it hands the commands of
-//! contexts and scripts and the steps of pages; it routes events to those that hear them, and keeps the log entries that
-//! a session misses until it subscribes.
+//! A [`RemoteEnd`] takes one [`Step`] at a time and returns what it sends for it, as a list of [`Sent`]. It
+//! does no input or output. What it sends depends on the steps that it has taken, and on nothing else; the
+//! specifications define it as a function of their list.
+//!
+//! It keeps connections, sessions and subscriptions. Commands of the modules browsingContext and script, and
+//! the steps of pages, go to a browser in memory. Each event is sent to the sessions that are subscribed to
+//! it. The log entries that a session misses are kept until it subscribes to them.
 #![tactic(auto)]
 
 mod announcing;

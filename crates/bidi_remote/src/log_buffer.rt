@@ -1,4 +1,4 @@
-//! Log entries that wait for a session to subscribe.
+//! Log entries that wait until a session subscribes to them.
 ghost use Rattle.std.specs.Prelude.{◌≡◌, ◌≤◌, List, [], map, IfOk};
 ghost use Rattle.std.specs.VecDeque.{deque_len, deque_capacity};
 
@@ -11,11 +11,11 @@ use std::alloc::{AllocError, Global};
 use std::collections::VecDeque;
 use std::rc::Rc;
 
-/// How many missed entries a session keeps.
+/// How many missed log entries a session keeps.
 const MOST_MISSED: usize = 100;
 
-/// The last hundred log entries that a session did not hear, the oldest first. One that was announced leaves its place
-/// empty.
+/// The last hundred log entries that a session missed, the oldest first. An entry that was sent since leaves
+/// its place empty, and still counts among the hundred.
 #[derive(Drop)]
 pub(crate) struct LogBuffer {
     places: VecDeque<Option<Rc<EventText>>>,
@@ -32,7 +32,7 @@ impl LogBuffer {
     ghost use Rattle.bidi_remote.specs.Tables.SubscriptionRows.{is_new};
     ghost use Rattle.bidi_remote.specs.Tables.SessionView.{places_in, scope_of, row_of};
 
-    /// Nothing was missed. There is room for all that will be kept.
+    /// An empty buffer. Room for a hundred entries is made here, so that none is needed later.
     pub(crate) fn new(alloc: Global) -> Result<LogBuffer, AllocError>
         ensures { IfOk result (λ b. places_in b ≡ []) }
     {
@@ -41,7 +41,8 @@ impl LogBuffer {
         })
     }
 
-    /// One more entry was missed; of more than a hundred the oldest goes. Takes no memory.
+    /// Adds an entry that the session missed. Where there would be more than a hundred, the oldest is
+    /// dropped. Takes no memory.
     pub(crate) fn add(&mut self, entry: Rc<EventText>)
         ensures { places_in self.new ≡ with_missed (written_of entry.value) (places_in self.old) }
     {
@@ -64,8 +65,8 @@ impl LogBuffer {
         Ok(all)
     }
 
-    /// Takes out the entries that these events in this scope newly enable, beside the subscriptions that are held. Takes
-    /// no memory.
+    /// Empties the places of the entries that a subscription to these events in this scope enables and those
+    /// held do not. They are sent when it is made, and wait no longer. Takes no memory.
     pub(crate) fn announce(
         &mut self,
         browser: &Browser,

@@ -1,4 +1,4 @@
-//! The remote end.
+//! The remote end, with its public calls.
 ghost use Rattle.std.specs.Prelude.{◌≡◌, ℕ, ◌<◌, ◌≤◌, ◌↔◌, List, [], ◌∷◌, map, IsTrue, IfOk, OnOk, OnErr, IsOk, IsErrOf, length};
 ghost use Rattle.bidi_remote.specs.Machine.Step as steps;
 ghost use Rattle.bidi_remote.specs.Tables.Messages.{AllReadBack};
@@ -13,19 +13,20 @@ ghost use Rattle.bidi_remote.specs.declared.remote_end.RemoteFault.TheVariants.{
 use crate::step::{Sent, Step};
 use crate::tables::Tables;
 use bidi_tree::JsUint;
+use json::Scratch;
 use std::alloc::{AllocError, Global};
 use thiserror::Error;
 
 /// How many steps a remote end accepts.
 const MOST_STEPS: u64 = 1_000_000_000;
 
-/// Why a step was refused.
+/// Why a step was refused. The remote end is as it was before the step.
 #[derive(Clone, Copy, Debug, PartialEq, Eq, Error)]
 pub enum RemoteFault {
-    /// An allocation failed.
+    /// An allocation failed. The step is used up, but the same one may be made and taken again.
     #[error("out of memory")]
     NoMemory,
-    /// The remote end has accepted 1,000,000,000 steps.
+    /// 1,000,000,000 steps were accepted, and no more will be. Go on with a new remote end.
     #[error("too many steps")]
     WornOut,
 }
@@ -38,19 +39,22 @@ impl From<AllocError> for RemoteFault {
     }
 }
 
-/// The remote end of the protocol, which takes steps and answers each at once.
+/// The remote end of WebDriver BiDi, over a browser in memory. Each step is answered by the call that takes
+/// it.
 #[derive(Drop)]
 pub struct RemoteEnd {
     alloc: Global,
     tables: Tables,
     /// How many steps were accepted.
     count: u64,
+    /// What the texts are read in.
+    scratch: Scratch,
 }
 
 impl RemoteEnd {
     ghost use Rattle.bidi_remote.specs.Tables.Stands.{StandsFor};
 
-    /// A remote end that has taken no step.
+    /// A remote end that has taken no step: no connection, no session, and a browser with one context.
     ///
     /// # Errors
     /// No memory: an allocation failed.
@@ -61,28 +65,31 @@ impl RemoteEnd {
             alloc,
             tables: Tables::new(alloc)?,
             count: 0,
+            scratch: Scratch::new(alloc),
         })
     }
 
     /// Takes one step, and returns what is sent, in order.
     ///
-    /// `At`, and `Drop` of an open connection, take no memory. A step looks through at most 64 connections,
-    /// 8 sessions and the 256 subscriptions of each, and what the browser looks through, which `Browser::plan` says; a text
-    /// costs what its reading costs. A log entry's text is made once: each connection that hears it gets a copy, and all
-    /// sessions that miss it share it. A subscribe looks through the hundred that its session missed last.
+    /// `At`, and `Drop` of an open connection, take no memory. A step passes over at most 64 connections, 8
+    /// sessions with at most 256 subscriptions each, and what `Browser::plan` passes over; a text also costs
+    /// its reading. The text of a log entry is made once: each connection that gets it is sent a copy, and
+    /// all sessions that miss it share it. A subscribe passes over the last hundred entries that its session
+    /// missed.
     ///
     /// # Errors
-    /// After either the remote end is as it was.
+    /// The remote end is then as it was.
     /// 1. `NoMemory`: an allocation failed.
-    /// 2. `WornOut`, after 1,000,000,000 steps.
+    /// 2. `WornOut`: 1,000,000,000 steps were accepted.
     ///
     /// After WebDriver BiDi, "Transport".
     pub fn step(&mut self, step: Step) -> Result<Vec<Sent>, RemoteFault>
-        // The step is heard as one input, and whatever history the end stands for, it answers as the machine does.
+        // A step is one input. Whatever history the end stands for, it answers that input as the machine
+        // does.
         ensures ok { IfOk result (λ sent. (i : Input) × IsHeardAs (step_of step) i
             × ((h : List Input) → StandsFor self.old h
             → (map sent_of sent.items ≡ out h i) × StandsFor self.new (i ∷ h))) }
-        // Each text that is sent is that of a message, and reads back as it.
+        // Each text that is sent is the text of a message, and reads back as that message.
         ensures reads_back { (h : List Input) → StandsFor self.old h → IfOk result (λ sent. AllReadBack (map sent_of sent.items)) }
         // A command that does something gets one reply, with a result that fits the rule of its method.
         ensures answered { (h : List Input) (i : Input) → StandsFor self.old h → IsHeardAs (step_of step) i → OnOk result (IsAnsweredOnce (deeds h) i) }
@@ -96,14 +103,14 @@ impl RemoteEnd {
         if self.count >= MOST_STEPS {
             return Err(RemoteFault::WornOut);
         }
-        let sent = self.tables.take(self.alloc, step)?;
+        let sent = self.tables.take(self.alloc, step, &mut self.scratch)?;
         self.count += 1;
         Ok(sent)
     }
 
-    /// Whether a connection is open. Takes no memory.
+    /// Whether the connection of this number is open. Takes no memory.
     ///
-    /// Looks through at most 64 connections.
+    /// Passes over at most 64 connections.
     pub fn is_open(&self, conn: JsUint) -> bool
         ensures { (h : List Input) → StandsFor self.now h → result ≡ is_open (deeds h) conn.value }
     {

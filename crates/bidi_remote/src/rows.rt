@@ -1,4 +1,4 @@
-//! Rows of the table, as a play gives them.
+//! Rows of the script table, read from the texts that a play gives.
 ghost use Rattle.std.specs.Prelude.{◌≡◌, Some, option_map, IfOk};
 ghost use Rattle.bidi_tree.specs.View.{node};
 ghost use Rattle.bidi_remote.specs.Machine.History.{IsRow, row_tree};
@@ -9,10 +9,10 @@ use bidi_tree::{ReadFault, Tree, read};
 use bidi_values::TableRow;
 use std::alloc::{AllocError, Global};
 
-/// How many bytes the text of a row may have.
+/// How many bytes the text of a row can have.
 const MOST_BYTES: usize = 1_048_576;
 
-/// The row that a text is, if it is one.
+/// Reads a row of the script table; `None` where the text is no row.
 ///
 /// # Errors
 /// No memory: an allocation failed.
@@ -25,7 +25,7 @@ pub(crate) fn read_row(alloc: Global, text: &str) -> Result<Option<TableRow>, Al
     }
 }
 
-// The tree of the text of a row, if it has one.
+// Reads the text of a row as a tree; `None` where it is not JSON, or too long.
 fn row_tree(alloc: Global, text: &str) -> Result<Option<Tree>, AllocError>
     ensures { IfOk result (λ o. option_map node o ≡ row_tree text.now) }
 {
@@ -36,7 +36,7 @@ fn row_tree(alloc: Global, text: &str) -> Result<Option<Tree>, AllocError>
     }
 }
 
-// The row that a tree is, if it fits the rule.
+// Reads a tree as a row; `None` where it does not fit the rule.
 fn row_in(alloc: Global, tree: &Tree) -> Result<Option<TableRow>, AllocError>
     ensures { IfOk result (λ row. IsRowOf ⟦<TableRow as Shape>⟧.shape (node tree.now) row) }
 {

@@ -1,4 +1,4 @@
-//! The commands of the session module, a file each: what one comes to, and what tells of it.
+//! The commands of the session module, a file each: how one is decided, and its result.
 mod capabilities;
 mod end;
 mod event_names;

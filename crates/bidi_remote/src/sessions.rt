@@ -18,25 +18,26 @@ use bidi_messages::EventName;
 use std::alloc::{AllocError, Global};
 use std::rc::Rc;
 
-/// How many sessions may be active.
+/// How many sessions can be active at once.
 const MOST_SESSIONS: usize = 8;
 
 /// An active session.
 #[derive(Drop)]
 pub(crate) struct Session {
+    /// The number of the session, from which its id is made.
     pub number: u32,
-    /// How many subscriptions it has made.
+    /// How many subscriptions it has made, with those that are gone.
     pub made: u32,
-    /// The live ones, by number.
+    /// Its live subscriptions, in order of number.
     pub subscriptions: Vec<Subscription>,
-    /// The log entries that it did not hear.
+    /// The log entries that it missed.
     pub missed: LogBuffer,
 }
 
 impl Session {
     ghost use Rattle.bidi_remote.specs.Tables.SessionView.{HasRoom};
 
-    /// Whether the event is enabled for it, in contexts below the top-level one.
+    /// Whether the event is enabled for it in the tree of this top-level context.
     pub(crate) fn hears(&self, event: EventName, top: u64) -> bool
         ensures { result ≡ any_covers (session_row_of self.now).subscriptions event top }
     {
@@ -51,7 +52,7 @@ impl Session {
         self.subscriptions.reserve(1)
     }
 
-    // Adds a subscription, with the next number; the entries that it newly enables are announced.
+    // Adds a subscription with the next number. The log entries that it newly enables wait no longer.
     fn subscribe(&mut self, browser: &Browser, events: Vec<EventName>, scope: Scope)
         requires { HasRoom self.now }
         ensures { (past : List Act) → StandsFor browser.now past → self.old.made < 4294967295 → session_row_of self.new ≡ subscribed past events.items (scope_of scope) (session_row_of self.old) }
@@ -67,7 +68,7 @@ impl Session {
         self.made = number;
     }
 
-    // Misses an entry, unless it hears it.
+    // Keeps a log entry, unless it is enabled for the session.
     fn log(&mut self, entry: Rc<EventText>)
         ensures { session_row_of self.new ≡ logged (written_of entry.value) (session_row_of self.old) }
     {
@@ -76,14 +77,14 @@ impl Session {
         }
     }
 
-    // Takes out the subscriptions with these numbers.
+    // Removes the subscriptions of these numbers.
     fn cancel(&mut self, numbers: &[u32])
         ensures { session_row_of self.new ≡ cancelled numbers.now (session_row_of self.old) }
     {
         cancel(&mut self.subscriptions, numbers);
     }
 
-    // Takes these events from the global subscriptions.
+    // Removes these events from the global subscriptions.
     fn dismiss(&mut self, events: &[EventName])
         ensures { session_row_of self.new ≡ lost events.now (session_row_of self.old) }
     {
@@ -91,11 +92,11 @@ impl Session {
     }
 }
 
-/// The active sessions, in order of making.
+/// The active sessions, in order of creation.
 #[derive(Drop)]
 pub(crate) struct Sessions {
     alloc: Global,
-    /// How many were made.
+    /// How many sessions were ever made.
     made: u32,
     active: Vec<Session>,
 }
@@ -103,7 +104,7 @@ pub(crate) struct Sessions {
 impl Sessions {
     ghost use Rattle.bidi_remote.specs.Tables.SessionView.{rows_in, HasRoomForOne, HasRoomIn};
 
-    /// None was made. Takes no memory.
+    /// A table without sessions. Takes no memory.
     pub(crate) fn new(alloc: Global) -> Sessions
         ensures rows { rows_in result ≡ [] }
         ensures made { result.made ≡ 0 }
@@ -115,28 +116,28 @@ impl Sessions {
         }
     }
 
-    /// All of them.
+    /// All active sessions, in order of creation.
     pub(crate) fn all(&self) -> &[Session]
         ensures { map session_row_of result.now ≡ rows_in self.now }
     {
         &self.active
     }
 
-    /// Whether there is room for one more.
+    /// Whether one more session can be made.
     pub(crate) fn is_ready(&self) -> bool
         ensures { result ≡ nat_lt (length (rows_in self.now)) 8 }
     {
         self.active.len() < MOST_SESSIONS
     }
 
-    /// The number of the next one. No more are made than there are steps, so it never wraps.
+    /// The number of the next session. A step makes one at most, so it never wraps.
     pub(crate) fn next(&self) -> u32
         ensures { self.now.made < 4294967295 → result ≡ self.now.made + 1 }
     {
         self.made.wrapping_add(1)
     }
 
-    /// The number of the next subscription of a session: 1 where it has made none. It never wraps either.
+    /// The number of the next subscription of a session: 1 where it has made none. It never wraps, either.
     pub(crate) fn next_subscription(&self, number: u32) -> u32
         ensures { (row_in number (rows_in self.now)).made < 4294967295 → result ≡ (row_in number (rows_in self.now)).made + 1 }
     {
@@ -156,7 +157,7 @@ impl Sessions {
         }
     }
 
-    /// The entries that wait for a session, the oldest first. For one that is not active none does.
+    /// The log entries that wait for a session, the oldest first. One that is not active has none.
     pub(crate) fn waiting_for(&self, number: u32) -> Result<Vec<Rc<EventText>>, AllocError>
         ensures { IfOk result (λ all. written_in all.items ≡ waiting (row_in number (rows_in self.now)).missed) }
     {
@@ -166,7 +167,8 @@ impl Sessions {
         }
     }
 
-    /// What a resource names: `/session` a connection without a session, `/session/ID` an active session.
+    /// What a resource stands for: no session for `/session`, and the number of an active session for
+    /// `/session/ID`. `None` for any other text.
     pub(crate) fn named(&self, resource: &str) -> Option<Option<u32>>
         ensures { result ≡ (if bytes_eq resource.now (codes "/session") then Some None
             else option_map (λ r. Some r.number) (find (λ r. bytes_eq resource.now (codes "/session/" ++ id_of OfSession r.number)) (rows_in self.now))) }
@@ -174,7 +176,7 @@ impl Sessions {
         named(&self.active, resource)
     }
 
-    /// Makes room for one more.
+    /// Makes room for one more session.
     pub(crate) fn reserve(&mut self) -> Result<(), AllocError>
         ensures rows { rows_in self.new ≡ rows_in self.old }
         ensures made { self.new.made ≡ self.old.made }
@@ -195,7 +197,7 @@ impl Sessions {
         }
     }
 
-    /// Begins the next session, which has missed nothing, and returns its number.
+    /// Adds the next session, which has missed no log entry, and returns its number. Room was made before.
     pub(crate) fn begin(&mut self, missed: LogBuffer) -> u32
         requires { HasRoomForOne self.now }
         ensures number { self.old.made < 4294967295 → result ≡ self.old.made + 1 }
@@ -213,7 +215,7 @@ impl Sessions {
         number
     }
 
-    /// Takes out a session.
+    /// Removes a session.
     pub(crate) fn end(&mut self, number: u32)
         ensures rows { rows_in self.new ≡ filter (λ r. not (r.number == number)) (rows_in self.old) }
         ensures made { self.new.made ≡ self.old.made }
@@ -221,7 +223,8 @@ impl Sessions {
         self.active.retain(|s| s.number != number);
     }
 
-    /// Adds a subscription to a session, with its next number; the entries that it newly enables are announced.
+    /// Adds a subscription to a session, with its next number. Log entries that it newly enables wait no
+    /// longer.
     pub(crate) fn subscribe(
         &mut self,
         number: u32,
@@ -239,7 +242,7 @@ impl Sessions {
         }
     }
 
-    /// Takes the subscriptions with these numbers from a session.
+    /// Removes the subscriptions of these numbers from a session.
     pub(crate) fn cancel(&mut self, number: u32, numbers: &[u32])
         ensures rows { rows_in self.new ≡ changed number (cancelled numbers.now) (rows_in self.old) }
         ensures made { self.new.made ≡ self.old.made }
@@ -249,7 +252,7 @@ impl Sessions {
         }
     }
 
-    /// Takes these events from the global subscriptions of a session.
+    /// Removes these events from the global subscriptions of a session.
     pub(crate) fn dismiss(&mut self, number: u32, events: &[EventName])
         ensures rows { rows_in self.new ≡ changed number (lost events.now) (rows_in self.old) }
         ensures made { self.new.made ≡ self.old.made }
@@ -259,14 +262,15 @@ impl Sessions {
         }
     }
 
-    /// A copy of an entry for each session. They share its text.
+    /// A reference to a log entry for each session; all share its text.
     pub(crate) fn copies_of(&self, entry: &Rc<EventText>) -> Result<Vec<Rc<EventText>>, AllocError>
         ensures { IfOk result (λ all. written_in all.items ≡ replicate (length (rows_in self.now)) (written_of entry.now.value)) }
     {
         Vec::from_elem(self.alloc, entry.clone()?, self.active.len())
     }
 
-    /// An entry was logged, of which these are copies: each session hears it, or misses it. Takes no memory.
+    /// Hands a log entry to the sessions, of which each gets one of these references and keeps it, unless the
+    /// entry is enabled for the session. Takes no memory.
     pub(crate) fn log(&mut self, copies: Vec<Rc<EventText>>)
         ensures rows { (w : Written) → written_in copies.items ≡ replicate (length (rows_in self.old)) w → rows_in self.new ≡ map (logged w) (rows_in self.old) }
         ensures made { self.new.made ≡ self.old.made }
@@ -275,7 +279,7 @@ impl Sessions {
     }
 }
 
-// Each session hears an entry, or misses it.
+// Hands a log entry to the sessions.
 fn log(sessions: &mut [Session], copies: Vec<Rc<EventText>>)
     ensures { (w : Written) → written_in copies.items ≡ replicate (length sessions.old) w → map session_row_of sessions.new ≡ map (logged w) (map session_row_of sessions.old) }
 {
@@ -294,14 +298,14 @@ fn find(sessions: &[Session], number: u32) -> Option<&Session>
     sessions.iter().find(|s| s.number == number)
 }
 
-// Its place.
+// The place of the session of this number.
 fn place_of(sessions: &[Session], number: u32) -> Option<usize>
     ensures { result ≡ position (λ s. s.number == number) sessions.now }
 {
     sessions.iter().position(|s| s.number == number)
 }
 
-// What a resource names.
+// What a resource stands for.
 fn named(sessions: &[Session], resource: &str) -> Option<Option<u32>>
     ensures { result ≡ (if bytes_eq resource.now (codes "/session") then Some None
         else option_map (λ s. Some s.number) (find (λ s. bytes_eq resource.now (codes "/session/" ++ id_of OfSession s.number)) sessions.now)) }
@@ -313,7 +317,7 @@ fn named(sessions: &[Session], resource: &str) -> Option<Option<u32>>
     session_named(sessions, id).map(Some)
 }
 
-// The active session of an id.
+// The number of the active session of this id.
 fn session_named(sessions: &[Session], id: &str) -> Option<u32>
     ensures { result ≡ option_map (λ s. s.number) (find (λ s. bytes_eq id.now (id_of OfSession s.number)) sessions.now) }
 {

@@ -1,43 +1,44 @@
-//! Steps of a remote end, and what it sends.
+//! The steps that a remote end takes, and what it sends.
 use bidi_tree::JsUint;
 use bidi_values::Level;
 
-/// A step of a remote end. A connection is told by its number.
+/// What happens to a remote end. A connection is named by a number that the caller chooses.
 #[derive(Drop)]
 pub enum Step {
-    /// The moment is now this one.
+    /// The clock is set to this moment, which is the timestamp of later events. It starts at 0.
     At(JsUint),
-    /// A connection is to be opened for a resource.
+    /// A connection is asked for, with its resource: `/session`, or `/session/ID` for an active session.
     Open(JsUint, String),
-    /// A connection was closed by its peer.
+    /// The peer closed the connection of this number.
     Drop(JsUint),
-    /// A text came in.
+    /// A text message came in on the connection.
     Text(JsUint, String),
-    /// A message came in that is no text.
+    /// A binary message came in on the connection. It is answered as a text that is not JSON.
     NotText(JsUint),
-    /// A child of the context of that id comes, at a URL.
+    /// A page adds a child to the context of this id, at this URL.
     Frame(String, String),
-    /// The child of that id goes.
+    /// A page removes the child context of this id, with all its descendants.
     Unframe(String),
-    /// A text is logged in the context of that id, as grave as is said.
+    /// A page logs this text at this level, in the context of this id.
     Log(String, Level, String),
-    /// A row is set in the table of scripts, where the text is one.
+    /// A row of the script table is set. The text is the row in JSON; a text that is no row has no effect.
     TableRow(String),
 }
 
-/// What a remote end sends, or tells of a connection.
+/// What a remote end sends for a step, or tells of it. A connection is named by its number.
 #[derive(Drop)]
 pub enum Sent {
-    /// A text to a connection.
+    /// This text is to be sent on the connection.
     Text(JsUint, String),
-    /// The remote end closed the connection.
+    /// The remote end closed the connection, since its session ended. The caller closes its transport.
     Close(JsUint),
-    /// The connection is open.
+    /// The connection is open now.
     Opened(JsUint),
-    /// The connection was not opened.
+    /// The connection was not opened, and nothing has changed: its resource is neither of the two, its number
+    /// is open already, or 64 connections are open.
     Denied(JsUint),
-    /// The connection is not open, so the step is lost.
+    /// The connection is not open, so what came in on it, or its drop, was ignored.
     Lost(JsUint),
-    /// The step of a page has no effect.
+    /// The step of a page, or the row of the script table, was refused. Nothing has changed.
     NoEffect,
 }

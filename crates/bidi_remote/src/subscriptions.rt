@@ -17,11 +17,12 @@ use std::alloc::Global;
 pub(crate) enum Scope {
     /// All contexts.
     All,
-    /// Those below some top-level contexts, which are told by their numbers.
+    /// The contexts in the trees of some top-level ones, which are named by their numbers.
     Below(Vec<u64>),
 }
 
 impl Scope {
+    // Whether it is all contexts.
     fn is_global(&self) -> bool
         ensures { result ≡ is_global (scope_of self.now) }
     {
@@ -31,6 +32,7 @@ impl Scope {
         }
     }
 
+    // Whether it has the contexts in the tree of this top-level one.
     fn covers(&self, top: u64) -> bool
         ensures { result ≡ covers (scope_of self.now) top }
     {
@@ -44,21 +46,23 @@ impl Scope {
 /// A live subscription.
 #[derive(Drop)]
 pub(crate) struct Subscription {
+    /// The number of the subscription within its session, from which its id is made.
     pub number: u32,
-    /// The events that it still holds for.
+    /// The events that it still has; some may have been removed by an unsubscribe.
     pub events: Vec<EventName>,
+    /// The contexts that it covers.
     pub scope: Scope,
 }
 
 impl Subscription {
-    // Whether it holds for the event, in contexts below the top-level one.
+    // Whether it covers the event in the tree of this top-level context.
     fn covers(&self, event: EventName, top: u64) -> bool
         ensures { result ≡ row_covers event top (row_of self.now) }
     {
         covers(&self.events, &self.scope, event, top)
     }
 
-    // Whether it is global, and loses its last events with these.
+    // Whether it is global, and would lose its last events with these.
     fn loses_all(&self, events: &[EventName]) -> bool
         ensures { result ≡ loses_all events.now (row_of self.now) }
     {
@@ -66,14 +70,14 @@ impl Subscription {
     }
 }
 
-/// Whether these events in this scope have the event, in contexts below the top-level one.
+/// Whether these events in this scope cover the event in the tree of this top-level context.
 pub(crate) fn covers(events: &[EventName], scope: &Scope, event: EventName, top: u64) -> bool
     ensures { result ≡ (is_among events.now event && covers (scope_of scope.now) top) }
 {
     is_among(events, event) && scope.covers(top)
 }
 
-/// Whether a subscription holds for the event, in contexts below the top-level one.
+/// Whether one of the subscriptions covers the event in the tree of this top-level context.
 pub(crate) fn any_covers(subscriptions: &[Subscription], event: EventName, top: u64) -> bool
     ensures { result ≡ list_any (λ s. row_covers event top (row_of s)) subscriptions.now }
 {
@@ -82,14 +86,14 @@ pub(crate) fn any_covers(subscriptions: &[Subscription], event: EventName, top: 
         .any(|subscription| subscription.covers(event, top))
 }
 
-/// Whether a global subscription holds for each of these events.
+/// Whether each of these events is in a global subscription.
 pub(crate) fn all_global(subscriptions: &[Subscription], events: &[EventName]) -> bool
     ensures { result ≡ list_all (λ e. list_any (λ s. row_holds e (row_of s)) subscriptions.now) events.now }
 {
     events.iter().all(|event| any_global(subscriptions, *event))
 }
 
-// Whether a global subscription holds for the event.
+// Whether the event is in a global subscription.
 fn any_global(subscriptions: &[Subscription], event: EventName) -> bool
     ensures { result ≡ list_any (λ s. row_holds event (row_of s)) subscriptions.now }
 {
@@ -101,7 +105,7 @@ fn any_global(subscriptions: &[Subscription], event: EventName) -> bool
 /// The numbers of the subscriptions of a session that have these ids.
 ///
 /// # Errors
-/// - `invalid argument`: no subscription has the id.
+/// - `invalid argument`: an id is that of no subscription.
 /// - No memory: an allocation failed.
 pub(crate) fn numbers_of(
     alloc: Global,
@@ -131,7 +135,7 @@ fn number_of(subscriptions: &[Subscription], session: u32, id: &str) -> Option<u
         .map(|s| s.number)
 }
 
-/// Takes out the subscriptions with these numbers.
+/// Removes the subscriptions of these numbers.
 pub(crate) fn cancel(subscriptions: &mut Vec<Subscription>, numbers: &[u32])
     ensures { subscriptions.new.items ≡ filter (λ s. not (is_listed numbers.now s.number)) subscriptions.old.items }
 {
@@ -145,7 +149,7 @@ fn is_listed(numbers: &[u32], number: u32) -> bool
     numbers.contains(&number)
 }
 
-/// Takes these events from each global subscription, and takes out those that so lose their last.
+/// Removes these events from each global subscription, and with its last event the subscription itself.
 pub(crate) fn dismiss(subscriptions: &mut Vec<Subscription>, events: &[EventName])
     ensures { map row_of subscriptions.new.items ≡ dismissed events.now (map row_of subscriptions.old.items) }
 {
@@ -153,7 +157,7 @@ pub(crate) fn dismiss(subscriptions: &mut Vec<Subscription>, events: &[EventName
     strip(subscriptions, events);
 }
 
-// Takes these events from each global subscription.
+// Removes these events from each global subscription.
 fn strip(subscriptions: &mut [Subscription], events: &[EventName])
     ensures { map row_of subscriptions.new ≡ map (stripped events.now) (map row_of subscriptions.old) }
 {
@@ -164,7 +168,7 @@ fn strip(subscriptions: &mut [Subscription], events: &[EventName])
     }
 }
 
-// Whether each of these events is one of those.
+// Whether each of `these` is one of `those`.
 fn are_among(those: &[EventName], these: &[EventName]) -> bool
     ensures { result ≡ list_all (is_among those.now) these.now }
 {

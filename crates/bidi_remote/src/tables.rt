@@ -32,19 +32,26 @@ use crate::step::{Sent, Step};
 use crate::telling::{tell, tell_entry};
 use crate::turn::{Asker, Change, Turn};
 use bidi_browser::{Action, Browser, Change as BrowserChange, Occurrence, Plan, Refusal};
-use bidi_messages::{Command, CommandData, ErrorCode, Method, Subject, Verdict, error_text, judge};
+use bidi_messages::{
+    Command, CommandData, ErrorCode, Method, Subject, Verdict, error_text, judge_with,
+};
 use bidi_params::NewParameters;
 use bidi_shape::Shape;
 use bidi_tree::JsUint;
 use bidi_values::Level;
+use json::Scratch;
 use std::alloc::{AllocError, Global};
 
-/// What a remote end knows of the steps that it has taken.
+/// The state of a remote end.
 #[derive(Drop)]
 pub(crate) struct Tables {
+    /// The moment that the clock shows.
     pub moment: JsUint,
+    /// The open connections.
     pub connections: Connections,
+    /// The active sessions.
     pub sessions: Sessions,
+    /// The browser in memory.
     pub browser: Browser,
 }
 
@@ -53,7 +60,7 @@ impl Tables {
     ghost use Rattle.bidi_remote.specs.Tables.Turns.{HasRoom, IsMade, IsWellTold, is_log, deed_of, asker_in, items_in, sent_for};
     ghost use Rattle.bidi_remote.specs.Tables.EventTexts.{written_in, AreMessages};
 
-    /// No step was taken.
+    /// The state before the first step.
     pub(crate) fn new(alloc: Global) -> Result<Tables, AllocError>
         ensures { IfOk result (λ tables. AgreeWith tables []) }
     {
@@ -66,7 +73,12 @@ impl Tables {
     }
 
     /// Takes one step, and returns what is sent.
-    pub(crate) fn take(&mut self, alloc: Global, step: Step) -> Result<Vec<Sent>, AllocError>
+    pub(crate) fn take(
+        &mut self,
+        alloc: Global,
+        step: Step,
+        scratch: &mut Scratch,
+    ) -> Result<Vec<Sent>, AllocError>
         ensures ok { IfOk result (λ sent. (i : Input) × IsHeardAs (step_of step) i
             × ((h : List Input) → IsShort h → AgreeWith self.old (deeds h) → Takes self.new (map sent_of sent.items) h i)) }
         ensures err { OnErr result (Keeps self.old self.new) }
@@ -82,7 +94,7 @@ impl Tables {
             }
             Step::Open(conn, resource) => self.open(alloc, conn, resource.as_str()),
             Step::Drop(conn) => self.drop_connection(alloc, conn),
-            Step::Text(conn, text) => self.hear(alloc, conn, text.as_str()),
+            Step::Text(conn, text) => self.hear(alloc, conn, text.as_str(), scratch),
             Step::NotText(conn) => self.hear_no_text(alloc, conn),
             Step::Frame(context, url) => {
                 self.page(alloc, Action::Frame(context.as_str(), url.as_str()))
@@ -98,7 +110,7 @@ impl Tables {
         }
     }
 
-    /// Whether a connection is open.
+    /// Whether the connection of this number is open.
     pub(crate) fn is_open(&self, conn: JsUint) -> bool
         ensures { (h : List Input) → AgreeWith self.now (deeds h) → result ≡ is_open (deeds h) conn.value }
     {
@@ -124,7 +136,7 @@ impl Tables {
         }
     }
 
-    // The session that a connection may be opened for, or none; nothing where it may not be opened.
+    // What a new connection speaks for, a session or none. `None` where it may not be opened.
     fn session_for(&self, conn: JsUint, resource: &str) -> Option<Option<u32>>
         ensures { (h : List Input) → AgreeWith self.now (deeds h) → opening_by conn.value result ≡ turn (deeds h) (Open conn.value resource.now) }
     {
@@ -139,7 +151,7 @@ impl Tables {
         }
     }
 
-    // Drops a connection, where it is open.
+    // Removes a connection that its peer closed, if it is open.
     fn drop_connection(&mut self, alloc: Global, conn: JsUint) -> Result<Vec<Sent>, AllocError>
         ensures ok { (h : List Input) → AgreeWith self.old (deeds h)
             → IfOk result (λ sent. Takes self.new (map sent_of sent.items) h (Drop conn.value)) }
@@ -155,18 +167,24 @@ impl Tables {
         }
     }
 
-    // Judges a text, and answers it where its connection is open.
-    fn hear(&mut self, alloc: Global, conn: JsUint, text: &str) -> Result<Vec<Sent>, AllocError>
+    // Reads a text as a command and answers it, if its connection is open.
+    fn hear(
+        &mut self,
+        alloc: Global,
+        conn: JsUint,
+        text: &str,
+        scratch: &mut Scratch,
+    ) -> Result<Vec<Sent>, AllocError>
         ensures ok { IfOk result (λ sent. (v : judged.Verdict) × IsVerdict text.now v × ((h : List Input) → IsShort h → AgreeWith self.old (deeds h)
             → Takes self.new (map sent_of sent.items) h (Heard conn.value v))) }
         ensures err { OnErr result (Keeps self.old self.new) }
         ensures answered { (h : List Input) (v : judged.Verdict) → IsShort h → AgreeWith self.old (deeds h) → IsVerdict text.now v → OnOk result (IsAnsweredOnce (deeds h) (Heard conn.value v)) }
     {
-        let verdict = judge(alloc, text)?;
+        let verdict = judge_with(alloc, text, scratch)?;
         self.settle(alloc, conn, &verdict)
     }
 
-    // Answers what was judged, where its connection is open.
+    // Answers a text that was judged, if its connection is open.
     fn settle(
         &mut self,
         alloc: Global,
@@ -196,7 +214,7 @@ impl Tables {
         }
     }
 
-    // Refuses a message that is no text, where its connection is open.
+    // Refuses a binary message, if its connection is open.
     fn hear_no_text(&self, alloc: Global, conn: JsUint) -> Result<Vec<Sent>, AllocError>
         ensures { (h : List Input) → AgreeWith self.now (deeds h)
             → IfOk result (λ sent. Takes self.now (map sent_of sent.items) h (NotText conn.value)) }
@@ -246,7 +264,7 @@ impl Tables {
         }
     }
 
-    // Logs an entry, which each session hears or misses. It has no effect where the browser refuses it.
+    // Logs an entry. It has no effect where the browser refuses it.
     fn log(
         &mut self,
         alloc: Global,
@@ -267,7 +285,7 @@ impl Tables {
         }
     }
 
-    // Takes an entry that was planned: tells it to those that hear it, and keeps it for those that miss it.
+    // Takes a planned log entry: it is sent to the sessions that are subscribed, and kept for the others.
     fn take_entry(&mut self, alloc: Global, plan: Plan) -> Result<Vec<Sent>, AllocError>
         requires { planned.IsWellTold plan }
         ensures ok { (h : List Input) (context text : List ℕ) (level : Level) → IsShort h → AgreeWith self.old (deeds h)
@@ -287,7 +305,7 @@ impl Tables {
         Ok(sent)
     }
 
-    // Takes a turn that was decided: tells it, makes room for it, and puts it in.
+    // Takes a turn that was decided: makes the texts, makes room for the change, and puts it in place.
     fn take_turn(&mut self, alloc: Global, decided: Turn) -> Result<Vec<Sent>, AllocError>
         requires { IsWellTold decided.telling }
         ensures ok { (h : List Input) (i : Input) (act : Act) → IsShort h → AgreeWith self.old (deeds h) → turn (deeds h) i ≡ Ok (deed_of decided.change act) → IsMade decided.change (acts (deeds h)) act
@@ -304,7 +322,7 @@ impl Tables {
         Ok(sent)
     }
 
-    // Makes room for what a change puts in.
+    // Makes room for what a change adds.
     fn make_room(&mut self, change: &Change) -> Result<(), AllocError>
         ensures kept { Keeps self.old self.new }
         ensures room { OnOk result (HasRoom self.new change.now) }
@@ -317,7 +335,7 @@ impl Tables {
         }
     }
 
-    // Puts a change in. Takes no memory.
+    // Puts a change in place. Takes no memory.
     fn apply(&mut self, change: Change)
         requires { HasRoom self.now change }
         ensures { (h : List Input) (i : Input) (act : Act) → IsShort h → AgreeWith self.old (deeds h) → turn (deeds h) i ≡ Ok (deed_of change act) → IsMade change (acts (deeds h)) act
@@ -344,7 +362,7 @@ impl Tables {
     }
 }
 
-// What a plan tells before a reply, and what it changes.
+// The events of a plan that stand before its reply, and its change.
 fn told_by(plan: Plan) -> (Vec<Occurrence>, BrowserChange)
     ensures told { result.0 ≡ plan.before }
     ensures change { result.1 ≡ plan.change }
@@ -360,7 +378,7 @@ fn told_by(plan: Plan) -> (Vec<Occurrence>, BrowserChange)
     (before, change)
 }
 
-// One thing alone is sent.
+// A list of this one thing.
 fn only(alloc: Global, sent: Sent) -> Result<Vec<Sent>, AllocError>
     ensures { IfOk result (λ all. all.items ≡ sent ∷ []) }
 {
@@ -369,7 +387,7 @@ fn only(alloc: Global, sent: Sent) -> Result<Vec<Sent>, AllocError>
     Ok(all)
 }
 
-// Refuses a text.
+// Answers a text with an error of this code.
 fn refuse(
     alloc: Global,
     conn: JsUint,

@@ -1,4 +1,4 @@
-//! What is sent for a turn: its events to those that hear them, and the reply in its place.
+//! What is sent for a turn: each event to the sessions that are subscribed to it, and the reply in its place.
 ghost use Rattle.std.specs.Prelude.{◌≡◌, ◌≤◌, ◌++◌, List, map, flat_map, filter, string_bytes, IfOk, IfSome, OnOk};
 ghost use Rattle.std.specs.List.{AllByRecursion, list_any};
 ghost use Rattle.bidi_tree.specs.Node.{levels};
@@ -35,9 +35,11 @@ use bidi_shape::Shape;
 use std::alloc::{AllocError, Global};
 use std::rc::Rc;
 
-/// All that is sent for a change: what it announces, then its events with the reply in its place, then the closes.
+/// All that is sent for a change: the events for a new subscription, then the other events with the reply in
+/// its place, then the closes of connections.
 ///
-/// Each event's text is made once; sessions come in order of making, and the connections of each in order of opening.
+/// The text of each event is made once. Sessions come in order of creation, and the connections of each in
+/// order of opening.
 pub(crate) fn tell(
     alloc: Global,
     tables: &Tables,
@@ -60,7 +62,7 @@ pub(crate) fn tell(
     all_sent(alloc, tables, change, &announced, &before, reply, &after)
 }
 
-/// The text of a log entry, for each connection of the sessions that hear it.
+/// A log entry's text for each connection of the sessions that are subscribed to it.
 pub(crate) fn tell_entry(
     alloc: Global,
     tables: &Tables,
@@ -109,7 +111,7 @@ fn all_sent(
     Ok(sent)
 }
 
-// The reply, where somebody asked.
+// The reply with its text, if there is one.
 fn reply_sent(alloc: Global, reply: Option<Reply>) -> Result<Option<Sent>, AllocError>
     requires { IfSome reply (λ r. ⟦<ResultData as Subject<Method>>⟧.subject.well r.outcome × (levels (result_tree r.outcome) ≤ 61)) }
     ensures reply { (past : List Deed) → IfOk result (λ sent. sent_if sent ≡ flat_map (sent_of_item past (asker_in reply)) (reply_in reply)) }
@@ -135,7 +137,7 @@ fn push_if(reply: Option<Sent>, sent: &mut Vec<Sent>) -> Result<(), AllocError>
     Ok(())
 }
 
-// Adds what is announced, to each connection of the session that subscribed.
+// Adds the events for a new subscription, for each connection of its session.
 fn push_announced(
     alloc: Global,
     connections: &Connections,
@@ -153,7 +155,7 @@ fn push_announced(
     }
 }
 
-// Adds texts for each connection of a session.
+// Adds some texts for each connection of a session.
 fn push_to_session(
     alloc: Global,
     connections: &Connections,
@@ -169,7 +171,7 @@ fn push_to_session(
     Ok(())
 }
 
-// Adds events for all that hear them.
+// Adds events for the sessions that are subscribed to them.
 fn push_events(
     alloc: Global,
     tables: &Tables,
@@ -193,7 +195,7 @@ fn push_events(
     Ok(())
 }
 
-// Adds an event for all that hear it. Its text is made where somebody does.
+// Adds an event for the sessions that are subscribed to it. Its text is made only where there are any.
 fn push_event(
     alloc: Global,
     sessions: &[Session],
@@ -222,14 +224,14 @@ fn push_event(
     )
 }
 
-// Whether the event is enabled for some session, in contexts below the top-level one.
+// Whether the event is enabled for some session in the tree of this top-level context.
 fn is_heard(sessions: &[Session], event: EventName, top: u64) -> bool
     ensures { result ≡ list_any (λ s. any_covers (session_row_of s).subscriptions event top) sessions.now }
 {
     sessions.iter().any(|session| session.hears(event, top))
 }
 
-// Adds the text of an event for each session for which it is enabled.
+// Adds the text of an event for each connection of the sessions for which it is enabled.
 fn push_heard(
     alloc: Global,
     sessions: &[Session],

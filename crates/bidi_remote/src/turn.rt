@@ -1,4 +1,4 @@
-//! What a command, or a step of a page, brings about.
+//! What a command or a step of a page changes, and what is sent for it.
 ghost use Rattle.std.specs.Option.{option_zip};
 ghost use Rattle.std.specs.Prelude.{◌≡◌, Some, [], option_map};
 
@@ -11,58 +11,65 @@ use bidi_tree::JsUint;
 use std::alloc::Global;
 use std::rc::Rc;
 
-/// What will change, with all that is put in already made. A session is told by its number.
+/// A change of the remote end, with all that it adds already made. A session is named by its number.
 #[derive(Drop)]
 pub(crate) enum Change {
-    /// Nothing.
+    /// Nothing changes.
     Nothing,
-    /// A session begins, for the connection of that number, and has missed nothing.
+    /// A session begins, for which the connection of this number then speaks. The buffer keeps the log
+    /// entries that it will miss.
     Begin(JsUint, LogBuffer),
     /// A session ends, and its connections are closed.
     End(u32),
-    /// A session subscribes to these events, in this scope.
+    /// A session gets a subscription to these events, in this scope.
     Subscribe(u32, Vec<EventName>, Scope),
     /// A session loses the subscriptions of these numbers.
     Cancel(u32, Vec<u32>),
     /// A session loses these events from its global subscriptions.
     Dismiss(u32, Vec<EventName>),
-    /// The browser changes.
+    /// The browser changes in this way.
     Browse(BrowserChange),
 }
 
-/// Who asked: a connection, with the id of its command.
+/// A command that waits for its reply.
 #[derive(Clone, Copy)]
 pub(crate) struct Asker {
+    /// The number of its connection.
     pub conn: JsUint,
+    /// Its id.
     pub id: JsUint,
 }
 
-/// The result of a command, for who asked.
+/// The reply to a command that succeeded.
 pub(crate) struct Reply {
+    /// The command that it answers.
     pub to: Asker,
+    /// The result.
     pub outcome: ResultData,
 }
 
-/// What is told of a change, in this order.
+/// What is sent for a change, in this order.
 pub(crate) struct Telling {
-    /// Texts of events for the session that subscribed, and for no other.
+    /// Events for the session that subscribed, and for no other.
     pub announced: Vec<Rc<EventText>>,
-    /// Events for all that hear them, before the reply.
+    /// Events for the sessions that are subscribed to them, before the reply.
     pub before: Vec<Occurrence>,
-    /// The reply, where somebody asked.
+    /// The reply; `None` for a step of a page.
     pub reply: Option<Reply>,
-    /// Events for all that hear them, behind the reply.
+    /// Events for the sessions that are subscribed to them, after the reply.
     pub after: Vec<Occurrence>,
 }
 
-/// A change, and what is told of it.
+/// A change, and what is sent for it. Nothing has changed yet.
 pub(crate) struct Turn {
+    /// The change.
     pub change: Change,
+    /// What is sent.
     pub telling: Telling,
 }
 
 impl Turn {
-    /// A change of which only a reply tells.
+    /// A change for which a reply alone is sent.
     pub(crate) fn replied(alloc: Global, change: Change, to: Asker, outcome: ResultData) -> Turn
         ensures change { result.change ≡ change }
         ensures announced { result.telling.announced.items ≡ [] }
@@ -73,7 +80,7 @@ impl Turn {
         Turn::announced(alloc, change, Vec::new(alloc), to, outcome)
     }
 
-    /// A change that is announced, and then replied to.
+    /// A change for which events are sent to the session that subscribed, and then a reply.
     pub(crate) fn announced(
         alloc: Global,
         change: Change,
@@ -98,7 +105,7 @@ impl Turn {
         }
     }
 
-    /// What the browser planned, with its result for who asked, if somebody did.
+    /// The turn of what the browser planned. Its result goes to the command, if there is one.
     pub(crate) fn planned(alloc: Global, plan: Plan, to: Option<Asker>) -> Turn
         ensures change { result.change ≡ Change.Browse plan.change }
         ensures announced { result.telling.announced.items ≡ [] }

@@ -1,7 +1,7 @@
 //! The remote end behind WebSocket links.
 //!
-//! [`serve`] serves the connections of a listener, and [`serve_link`] one connection over a link: so a client of today can talk
-//! to the remote end, in a test's own process too.
+//! [`serve`] serves the connections of a listener, and [`serve_link`] one connection over a link. So a client
+//! library can talk to the remote end, also in the process of a test.
 #![tactic(auto)]
 
 mod listening;

@@ -11,16 +11,16 @@ use thiserror::Error;
 use tungstenite::handshake::server::ErrorResponse;
 use tungstenite::{Callback, NoMask, accept_hdr};
 
-/// Why serving ended before its last connection.
+/// Why serving ended before its last connection. The remote end is gone, with its sessions.
 #[derive(Clone, Copy, Debug, PartialEq, Eq, Error)]
 pub enum ServeFault {
-    /// There is no listener, or it accepts nothing.
+    /// The program has no listener, or the listener accepts no connection. Try another port.
     #[error("cannot listen")]
     Listen,
-    /// An allocation failed.
+    /// An allocation failed. The connection at hand is cut off, and later ones are not accepted.
     #[error("out of memory")]
     NoMemory,
-    /// The remote end has taken 1,000,000,000 steps.
+    /// The remote end has taken 1,000,000,000 steps, and takes no more. Serve again, over a new one.
     #[error("too many steps")]
     WornOut,
 }
@@ -40,16 +40,17 @@ impl From<RemoteFault> for ServeFault {
     }
 }
 
-/// Serves so many connections of a listener, one after another and numbered from 1, over one remote end at moment 0. At most
-/// so many messages are taken of each, control ones counted.
+/// Serves so many connections of a listener, one after another and numbered from 1, over one remote end at
+/// moment 0. At most so many messages are taken of each, pings and pongs counted.
 ///
-/// A connection's resource is the target of its request, as it was written. A handshake or a link that fails ends its own
-/// connection alone; a handshake that fails makes no step, and counts as a connection. It waits for each connection, and for
-/// each message of its peer.
+/// A connection's resource is the target of its request, as it was written. A handshake or a link that fails
+/// ends its own connection alone; a handshake that fails makes no step, and counts as a connection. It waits
+/// for each connection, and for each message of its peer.
 ///
 /// # Errors
 /// - `Listen`: a connection could not be accepted.
-/// - `NoMemory`, `WornOut`: those of [`serve_link`], and `NoMemory` where there is none for a resource.
+/// - `NoMemory`, `WornOut`: those of [`serve_link`]; `NoMemory` also where an allocation for a resource
+///   failed.
 pub fn serve(
     alloc: Global,
     listener: &TcpListener,
@@ -67,7 +68,7 @@ pub fn serve(
     Ok(())
 }
 
-// Serves the connection of a stream that was accepted. Frames leave without waiting for one another.
+// Serves the connection of a stream that was accepted. Each frame is sent without waiting for a further one.
 fn serve_stream(
     alloc: Global,
     end: &mut RemoteEnd,
@@ -79,7 +80,7 @@ fn serve_stream(
     serve_handshake(alloc, end, stream, conn, messages)
 }
 
-// Serves a connection whose handshake is still to come.
+// Serves a connection whose handshake is not done yet.
 fn serve_handshake<S: Read + Write + Drop>(
     alloc: Global,
     end: &mut RemoteEnd,
@@ -94,7 +95,7 @@ fn serve_handshake<S: Read + Write + Drop>(
     }
 }
 
-// Serves a connection for the target that its handshake has shown.
+// Serves a connection whose handshake has shown its target.
 fn serve_target<S: Read + Write + Drop>(
     alloc: Global,
     end: &mut RemoteEnd,
@@ -109,7 +110,7 @@ fn serve_target<S: Read + Write + Drop>(
     Ok(())
 }
 
-// The link of a handshake that succeeds. The target of its request is kept.
+// The link of a handshake, if it succeeds. The target of its request is stored in `target`.
 fn handshake<S: Read + Write + Drop>(
     alloc: Global,
     stream: S,
@@ -119,11 +120,12 @@ fn handshake<S: Read + Write + Drop>(
     Some(Link::over(alloc, socket))
 }
 
+// The callback that stores the target of a request there.
 fn keeper<'a>(alloc: Global, target: &'a mut Result<String, AllocError>) -> TargetKeeper<'a> {
     TargetKeeper { alloc, target }
 }
 
-/// Keeps the target of the request that a handshake shows.
+/// Stores the target of the request that a handshake shows.
 struct TargetKeeper<'a> {
     alloc: Global,
     target: &'a mut Result<String, AllocError>,

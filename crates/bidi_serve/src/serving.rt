@@ -13,15 +13,18 @@ use std::alloc::{AllocError, Global};
 use std::io::{Read, Write};
 use tungstenite::MaskKeys;
 
-/// Serves one connection over a link: opens it for the resource, takes at most so many messages, control ones counted,
-/// hands each to the remote end and sends what that answers on this connection, in order. Then the connection is dropped
-/// where it is still open, and the link is closed.
+/// Serves one connection over a link, for the resource that its peer asked for.
 ///
-/// It ends where the remote end denies or closes the connection, where the peer closes the link, where the link fails, or
-/// after so many messages. What the remote end sends on other connections goes nowhere.
+/// It opens the connection, takes at most so many messages, pings and pongs counted, hands each to the remote
+/// end, and sends what that answers on this connection, in order. Then it drops the connection, if it is
+/// still open, and closes the link.
+///
+/// It ends where the remote end denies or closes the connection, where the peer closes the link, where the
+/// link fails, or after so many messages. What the remote end sends on other connections is dropped.
 ///
 /// # Errors
-/// Those of `RemoteEnd::step`. The end has taken the steps before.
+/// Those of `RemoteEnd::step`. The remote end has taken the steps before, and the connection may still be
+/// open there.
 pub fn serve_link<S: Read + Write + Drop, K: MaskKeys + Drop>(
     alloc: Global,
     end: &mut RemoteEnd,
@@ -43,7 +46,7 @@ pub fn serve_link<S: Read + Write + Drop, K: MaskKeys + Drop>(
     }
 }
 
-// Serves a connection that is open, closes the link, and drops the connection where it still is open.
+// Serves a connection that is open, closes the link, and drops the connection if it is still open.
 fn serve_open<S: Read + Write + Drop, K: MaskKeys + Drop>(
     end: &mut RemoteEnd,
     link: &mut Link<S, K>,
@@ -60,7 +63,7 @@ fn serve_open<S: Read + Write + Drop, K: MaskKeys + Drop>(
     drop_connection(end, conn)
 }
 
-// Opens the connection, and tells whether it is made.
+// Opens the connection, and tells whether this call opened it.
 fn open(
     alloc: Global,
     end: &mut RemoteEnd,
@@ -77,7 +80,7 @@ fn open(
     Ok(!was_open && end.is_open(conn))
 }
 
-// Drops the connection, where it is still open.
+// Drops the connection, if it is still open.
 fn drop_connection(end: &mut RemoteEnd, conn: JsUint) -> Result<(), RemoteFault>
     ensures ok { (h : List Input) → StandsFor end.old h → OnOk result (StandsFor end.new (dropped h conn.value)) }
     ensures err { (h : List Input) → StandsFor end.old h → IfErr result (λ fault. IsRefused end.new fault h) }
@@ -88,7 +91,7 @@ fn drop_connection(end: &mut RemoteEnd, conn: JsUint) -> Result<(), RemoteFault>
     Ok(())
 }
 
-// Exchanges so many messages at most.
+// Exchanges at most so many messages.
 fn exchange_all<S: Read + Write + Drop, K: MaskKeys + Drop>(
     end: &mut RemoteEnd,
     link: &mut Link<S, K>,
@@ -109,7 +112,7 @@ fn exchange_all<S: Read + Write + Drop, K: MaskKeys + Drop>(
     Ok(())
 }
 
-// Takes one message, hands it on, and sends what is answered. Tells whether another may follow.
+// Takes one message, hands it to the remote end, and sends its answer. Tells whether another may follow.
 fn exchange<S: Read + Write + Drop, K: MaskKeys + Drop>(
     end: &mut RemoteEnd,
     link: &mut Link<S, K>,
@@ -128,7 +131,7 @@ fn exchange<S: Read + Write + Drop, K: MaskKeys + Drop>(
     }
 }
 
-// Hands a message on, and sends what is answered. Tells whether another may follow.
+// Hands a step to the remote end, and sends what that answers. Tells whether another message may follow.
 fn hand_on<S: Read + Write + Drop, K: MaskKeys + Drop>(
     end: &mut RemoteEnd,
     link: &mut Link<S, K>,
@@ -160,7 +163,7 @@ fn send_all<S: Read + Write + Drop, K: MaskKeys + Drop>(
     true
 }
 
-// Sends what is a text for the connection. Tells whether it was.
+// Sends one thing, if it is a text for the connection. Tells whether the next may follow.
 fn send_one<S: Read + Write + Drop, K: MaskKeys + Drop>(
     link: &mut Link<S, K>,
     conn: JsUint,
@@ -174,7 +177,7 @@ fn send_one<S: Read + Write + Drop, K: MaskKeys + Drop>(
     }
 }
 
-// Sends a text that is for the connection, and no other. Tells whether it was sent.
+// Sends a text, if it is for the connection. Tells whether the next may follow.
 fn send_text<S: Read + Write + Drop, K: MaskKeys + Drop>(
     link: &mut Link<S, K>,
     conn: JsUint,

@@ -1,4 +1,4 @@
-//! Which requested capabilities the browser has.
+//! The matching of requested capabilities with those of the browser.
 ghost use Rattle.std.specs.Prelude.{◌≡◌, true, not, ◌&&◌, [], ◌∷◌, map, IfSome, is_some, unwrap_or, option_map, bytes_eq, string_bytes};
 ghost use Rattle.std.specs.List.{list_all, list_any, AllByRecursion};
 ghost use Rattle.bidi_tree.specs.Node as tree;
@@ -14,15 +14,16 @@ pub(crate) const BROWSER_NAME: &str = "memory-browser";
 /// The browser's version.
 pub(crate) const BROWSER_VERSION: &str = "1.0";
 
-/// The name of the platform that it runs on.
+/// The name of the platform that the browser runs on.
 pub(crate) const PLATFORM_NAME: &str = "none";
 
-/// Whether a session can be as it is asked to be: the checks in order, and the code of the first that fails.
+/// Checks whether a session can be made with the capabilities that are requested.
 ///
 /// # Errors
-/// 1. `InvalidArgument`, where the list of choices is empty; then where a name is asked for that is none of the four
-///    and has no colon; then where a name is asked for both always and in a choice.
-/// 2. `SessionNotCreated`, where the browser is as none of the choices asks.
+/// The first that holds:
+/// 1. `InvalidArgument`: `firstMatch` is empty; or a capability is none of the four known ones and has no
+///    colon in its name; or a known one is requested both in `alwaysMatch` and in an entry of `firstMatch`.
+/// 2. `SessionNotCreated`: the browser differs from `alwaysMatch`, or from each entry of `firstMatch`.
 ///
 /// After WebDriver BiDi, "The session.CapabilitiesRequest Type".
 pub(crate) fn match_capabilities(params: &NewParameters) -> Result<(), ErrorCode>
@@ -36,7 +37,7 @@ pub(crate) fn match_capabilities(params: &NewParameters) -> Result<(), ErrorCode
     }
 }
 
-/// The checks where there is no list of choices, which counts as one empty choice.
+/// The checks where `firstMatch` is absent, which counts as one empty entry.
 #[tactic(auto, using(crate::proofs::CapabilityLemmas::one_empty))]
 fn match_always(always: &Option<CapabilityRequest>) -> Result<(), ErrorCode>
     requires { IfSome always.now ⟦<CapabilityRequest as Shape>⟧.shape.well }
@@ -52,7 +53,7 @@ fn match_always(always: &Option<CapabilityRequest>) -> Result<(), ErrorCode>
     Ok(())
 }
 
-/// The checks where there is a list of choices. All are looked at before one is chosen.
+/// The checks where `firstMatch` is given. All its entries are checked before one is matched.
 fn match_choices(
     always: &Option<CapabilityRequest>,
     choices: &[CapabilityRequest],
@@ -77,7 +78,7 @@ fn match_choices(
     Ok(())
 }
 
-/// Whether a request asks for known names alone, and for names with a colon.
+/// Whether each requested capability is one of the four known ones, or has a colon in its name.
 #[tactic(auto, using(crate::proofs::CapabilityLemmas::known_asked))]
 fn is_known(request: &CapabilityRequest) -> bool
     requires { ⟦<CapabilityRequest as Shape>⟧.shape.well request.now }
@@ -86,7 +87,7 @@ fn is_known(request: &CapabilityRequest) -> bool
     have_colons(&request.ext)
 }
 
-/// Whether each further member's name has a colon.
+/// Whether each further member has a colon in its name.
 fn have_colons(ext: &Ext) -> bool
     ensures { result ≡ list_all (λ e. has_colon (string_bytes e.0)) ext.now.members.entries }
 {
@@ -98,7 +99,7 @@ fn have_colons(ext: &Ext) -> bool
     true
 }
 
-/// The same of a request that may not be there.
+/// The same of a request that may be absent: then there is nothing to check.
 fn is_none_or_known(request: &Option<CapabilityRequest>) -> bool
     requires { IfSome request.now ⟦<CapabilityRequest as Shape>⟧.shape.well }
     ensures { let asked = requested_in (unwrap_or (option_map ⟦<CapabilityRequest as Shape>⟧.shape.tree_of request.now) tree.null) in
@@ -110,7 +111,7 @@ fn is_none_or_known(request: &Option<CapabilityRequest>) -> bool
     }
 }
 
-/// The same of each choice.
+/// The same of each entry of `firstMatch`.
 fn are_known(choices: &[CapabilityRequest]) -> bool
     requires { AllByRecursion ⟦<CapabilityRequest as Shape>⟧.shape.well choices.now }
     ensures { result ≡ list_all (list_all is_known) (map (λ c. requested_in (⟦<CapabilityRequest as Shape>⟧.shape.tree_of c)) choices.now) }
@@ -123,7 +124,7 @@ fn are_known(choices: &[CapabilityRequest]) -> bool
     true
 }
 
-/// Whether no name is asked for both always and in the choice. Names with a colon count for nothing.
+/// Whether no capability is requested in both `alwaysMatch` and the entry. Names with a colon are ignored.
 fn are_apart(always: &CapabilityRequest, choice: &CapabilityRequest) -> bool
     requires always { ⟦<CapabilityRequest as Shape>⟧.shape.well always.now }
     requires choice { ⟦<CapabilityRequest as Shape>⟧.shape.well choice.now }
@@ -137,13 +138,14 @@ fn are_apart(always: &CapabilityRequest, choice: &CapabilityRequest) -> bool
         && is_one_absent(&always.platform_name, &choice.platform_name)
 }
 
+// Whether one of the two is absent.
 fn is_one_absent<X: Drop>(always: &Option<X>, choice: &Option<X>) -> bool
     ensures { result ≡ not (is_some always.now && is_some choice.now) }
 {
     always.is_none() || choice.is_none()
 }
 
-/// The same where it may be that nothing is asked for always.
+/// The same where `alwaysMatch` may be absent.
 fn is_none_or_apart(always: &Option<CapabilityRequest>, choice: &CapabilityRequest) -> bool
     requires always { IfSome always.now ⟦<CapabilityRequest as Shape>⟧.shape.well }
     requires choice { ⟦<CapabilityRequest as Shape>⟧.shape.well choice.now }
@@ -158,7 +160,7 @@ fn is_none_or_apart(always: &Option<CapabilityRequest>, choice: &CapabilityReque
     }
 }
 
-/// The same of each choice.
+/// The same of each entry of `firstMatch`.
 fn are_all_apart(always: &Option<CapabilityRequest>, choices: &[CapabilityRequest]) -> bool
     requires always { IfSome always.now ⟦<CapabilityRequest as Shape>⟧.shape.well }
     requires choices { AllByRecursion ⟦<CapabilityRequest as Shape>⟧.shape.well choices.now }
@@ -175,7 +177,7 @@ fn are_all_apart(always: &Option<CapabilityRequest>, choices: &[CapabilityReques
     true
 }
 
-/// Whether the browser is as a request asks. Names with a colon count for nothing.
+/// Whether the browser has the capabilities of a request. Names with a colon are ignored.
 #[tactic(auto, using(crate::proofs::CapabilityLemmas::met_asked))]
 fn is_met(request: &CapabilityRequest) -> bool
     requires well { ⟦<CapabilityRequest as Shape>⟧.shape.well request.now }
@@ -188,6 +190,7 @@ fn is_met(request: &CapabilityRequest) -> bool
         && is_none_or_equal(&request.platform_name, PLATFORM_NAME)
 }
 
+// Whether `true` is not requested.
 fn is_none_or_false(asked: &Option<bool>) -> bool
     ensures { result ≡ unwrap_or (option_map not asked.now) true }
 {
@@ -197,6 +200,7 @@ fn is_none_or_false(asked: &Option<bool>) -> bool
     }
 }
 
+// Whether no other text than this one is requested.
 fn is_none_or_equal(asked: &Option<String>, text: &str) -> bool
     ensures { result ≡ unwrap_or (option_map (λ s. bytes_eq (string_bytes s) text.now) asked.now) true }
 {
@@ -206,7 +210,7 @@ fn is_none_or_equal(asked: &Option<String>, text: &str) -> bool
     }
 }
 
-/// The same of a request that may not be there.
+/// The same of a request that may be absent: then there is nothing to match.
 fn is_none_or_met(request: &Option<CapabilityRequest>) -> bool
     requires well { IfSome request.now ⟦<CapabilityRequest as Shape>⟧.shape.well }
     requires known { list_all is_known (requested_in (unwrap_or (option_map ⟦<CapabilityRequest as Shape>⟧.shape.tree_of request.now) tree.null)) ≡ true }
@@ -219,7 +223,7 @@ fn is_none_or_met(request: &Option<CapabilityRequest>) -> bool
     }
 }
 
-/// Whether the browser is as is asked always, and as one of the choices asks.
+/// Whether the browser has the capabilities of `alwaysMatch`, and those of an entry of `firstMatch`.
 fn is_any_match(always: &Option<CapabilityRequest>, choices: &[CapabilityRequest]) -> bool
     requires always { IfSome always.now ⟦<CapabilityRequest as Shape>⟧.shape.well }
     requires choices { AllByRecursion ⟦<CapabilityRequest as Shape>⟧.shape.well choices.now }

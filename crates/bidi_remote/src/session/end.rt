@@ -13,7 +13,7 @@ use bidi_params::EmptyResult;
 use bidi_shape::Ext;
 use std::alloc::Global;
 
-/// Ends a session.
+/// Decides `session.end`: the session ends, and all its connections are closed.
 pub(crate) fn decide_end(alloc: Global, asker: Asker, session: u32) -> Result<Turn, Refusal>
     ensures ok { (past : List Deed) → Decides result past asker End (Ok (Ended session)) }
     ensures well { IsWellDecided result }
@@ -22,7 +22,7 @@ pub(crate) fn decide_end(alloc: Global, asker: Asker, session: u32) -> Result<Tu
     Ok(Turn::replied(alloc, Change::End(session), asker, end_result(alloc)))
 }
 
-// The result.
+// The empty result.
 fn end_result(alloc: Global) -> ResultData
     ensures tree { result_tree result ≡ nothing }
     ensures well { ⟦<ResultData as Subject<Method>>⟧.subject.well result }

@@ -1,4 +1,4 @@
-//! Names of events, and of the modules that stand for theirs.
+//! Names of events. The name of a module stands for all its events.
 ghost use Rattle.std.specs.Prelude.{◌≡◌, map, string_bytes, option_map};
 ghost use Rattle.bidi_remote.specs.Tables.Checked.{IfChecked, behind};
 ghost use Rattle.bidi_remote.specs.Machine.Outcome.{events_of_module, events_named, all_named};
@@ -8,7 +8,7 @@ use bidi_messages::{ErrorCode, EventName};
 use bidi_shape::Named;
 use std::alloc::Global;
 
-/// The events of some names, in order.
+/// The events that some names stand for, in order.
 ///
 /// # Errors
 /// - `invalid argument`: a name is neither an event's nor a module's.
@@ -23,7 +23,7 @@ pub(crate) fn all_named(alloc: Global, names: &[String]) -> Result<Vec<EventName
     Ok(events)
 }
 
-// Adds the events of a name.
+// Adds the events that a name stands for.
 fn push_named(name: &str, events: &mut Vec<EventName>) -> Result<(), Refusal>
     ensures { IfChecked result (λ _. events.new.items) (behind events.old.items (events_named name.now)) }
 {
@@ -37,7 +37,7 @@ fn push_named(name: &str, events: &mut Vec<EventName>) -> Result<(), Refusal>
     }
 }
 
-// The events of a module.
+// The events of the module of this name, if there is one.
 fn events_of_module(name: &str) -> Option<&'static [EventName]>
     ensures { option_map (λ events. events.now) result ≡ events_of_module name.now }
 {

@@ -25,11 +25,11 @@ use bidi_params::{Capabilities, NewParameters, NewResult};
 use bidi_shape::{Ext, Shape};
 use std::alloc::{AllocError, Global};
 
-/// Makes a session for a connection that has none.
+/// Decides `session.new`: makes a session, for which the connection then speaks.
 ///
 /// # Errors
 /// The first that holds:
-/// - `invalid argument` or `session not created`, as the capabilities are matched.
+/// - `invalid argument` or `session not created`: those of [`match_capabilities`].
 /// - `session not created`: eight sessions are active.
 /// - No memory: an allocation failed.
 pub(crate) fn decide_new(
@@ -56,7 +56,7 @@ pub(crate) fn decide_new(
     Ok(Turn::replied(alloc, change, asker, reply))
 }
 
-// The result: the id of the session of that number, and what the browser can do.
+// The result: the id of the session of this number, and the capabilities of the browser.
 fn new_result(alloc: Global, session: u32) -> Result<ResultData, AllocError>
     ensures tree { IfOk result (λ r. result_tree r
         ≡ mapped ("capabilities" being capabilities and "sessionId" being text (id_of Session session) and no_members)) }
@@ -72,7 +72,7 @@ fn new_result(alloc: Global, session: u32) -> Result<ResultData, AllocError>
     }))
 }
 
-// What the browser can do.
+// The capabilities of the browser.
 fn capabilities(alloc: Global) -> Result<Capabilities, AllocError>
     ensures tree { IfOk result (λ c. ⟦<Capabilities as Shape>⟧.shape.tree_of c ≡ capabilities) }
     ensures well { IfOk result ⟦<Capabilities as Shape>⟧.shape.well }

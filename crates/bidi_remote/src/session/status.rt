@@ -16,7 +16,7 @@ use bidi_params::StatusResult;
 use bidi_shape::Ext;
 use std::alloc::{AllocError, Global};
 
-/// Tells whether there is room for a session.
+/// Decides `session.status`, which tells whether one more session can be made.
 ///
 /// # Errors
 /// No memory: an allocation failed.
@@ -29,7 +29,7 @@ pub(crate) fn decide_status(alloc: Global, tables: &Tables, asker: Asker) -> Res
     Ok(Turn::replied(alloc, Change::Nothing, asker, reply))
 }
 
-// The result.
+// The result, by whether a session can be made.
 fn status_result(alloc: Global, is_ready: bool) -> Result<ResultData, AllocError>
     ensures tree { IfOk result (λ r. result_tree r ≡ (if is_ready then status_tree true (codes "ready") else status_tree false (codes "full"))) }
     ensures well { IfOk result ⟦<ResultData as Subject<Method>>⟧.subject.well }

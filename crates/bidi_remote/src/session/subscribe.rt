@@ -30,20 +30,23 @@ use bidi_shape::Ext;
 use std::alloc::{AllocError, Global};
 use std::rc::Rc;
 
-/// How many subscriptions of a session may live.
+/// How many live subscriptions a session can have.
 const MOST_SUBSCRIPTIONS: usize = 256;
 
-/// Subscribes a session to events, in all contexts or below some. What tells of all that stands is announced to it at
-/// once, where the subscription newly enables it.
+/// Decides `session.subscribe`, for all contexts or for some.
 ///
-/// Makes two events for each live context, and looks through the log entries that wait.
+/// The events that tell what exists, and then the log entries that wait, are sent to the session before the
+/// reply, where this subscription enables them and no earlier one did.
+///
+/// Makes two events for each live context, and passes over the log entries that wait.
 ///
 /// # Errors
 /// The first that holds:
-/// - `invalid argument`: a name is neither an event's nor a module's, or both contexts and user contexts are given.
-/// - `unsupported operation`: user contexts are given.
+/// - `invalid argument`: a name is no event's and no module's, or `contexts` and `userContexts` are both
+///   given.
+/// - `unsupported operation`: `userContexts` is given.
 /// - `no such frame`: a context is not live.
-/// - `unknown error`: 256 subscriptions live.
+/// - `unknown error`: the session has 256 live subscriptions.
 /// - No memory: an allocation failed.
 pub(crate) fn decide_subscribe(
     alloc: Global,
@@ -74,7 +77,7 @@ pub(crate) fn decide_subscribe(
     ))
 }
 
-// What these events in this scope newly enable: what tells of all that stands, then the entries that wait.
+// The texts of what the subscription newly enables: events of what exists, then log entries that wait.
 fn newly_enabled(
     alloc: Global,
     tables: &Tables,
@@ -102,7 +105,7 @@ fn newly_enabled(
     Ok(all)
 }
 
-// What tells of all that stands, where these events in this scope newly enable it.
+// The texts of the events that tell what exists, where the subscription newly enables them.
 fn standing(
     alloc: Global,
     browser: &Browser,
@@ -119,7 +122,7 @@ fn standing(
     event_texts(alloc, &all)
 }
 
-// The scope that is asked for.
+// The scope that the command asks for.
 fn scope_asked(
     alloc: Global,
     browser: &Browser,
@@ -136,7 +139,7 @@ fn scope_asked(
     }
 }
 
-// The top-level contexts of the contexts with these ids.
+// The numbers of the top-level contexts above the contexts of these ids.
 fn tops_named(alloc: Global, browser: &Browser, ids: &[String]) -> Result<Vec<u64>, Refusal>
     ensures { (past : List Act) → StandsFor browser.now past → IfChecked result (λ tops. tops.items) (tops_named past (map string_bytes ids.now)) }
 {
@@ -150,7 +153,7 @@ fn tops_named(alloc: Global, browser: &Browser, ids: &[String]) -> Result<Vec<u6
     Ok(tops)
 }
 
-// The result: the id of the subscription of that number.
+// The result: the id of the subscription of this number.
 fn subscribe_result(alloc: Global, session: u32, number: u32) -> Result<ResultData, AllocError>
     ensures tree { IfOk result (λ r. result_tree r ≡ subscription_tree session number) }
     ensures well { IfOk result ⟦<ResultData as Subject<Method>>⟧.subject.well }

@@ -21,12 +21,12 @@ use bidi_params::{EmptyResult, UnsubscribeParameters};
 use bidi_shape::Ext;
 use std::alloc::Global;
 
-/// Ends subscriptions of a session by their ids, or takes events from its global ones.
+/// Decides `session.unsubscribe`: ends subscriptions by their ids, or removes events from the global ones.
 ///
 /// # Errors
 /// The first that holds:
-/// - `invalid argument`: no live subscription has an id; or a name is neither an event's nor a module's, or no global
-///   subscription holds for an event.
+/// - `invalid argument`: an id is that of no live subscription; or a name is neither an event's nor a
+///   module's; or an event is in no global subscription.
 /// - No memory: an allocation failed.
 pub(crate) fn decide_unsubscribe(
     alloc: Global,
@@ -51,7 +51,7 @@ pub(crate) fn decide_unsubscribe(
     Ok(Turn::replied(alloc, change, asker, unsubscribe_result(alloc)))
 }
 
-// Ends the subscriptions that have these ids.
+// The change that ends the subscriptions of these ids.
 fn end_by_ids(
     alloc: Global,
     tables: &Tables,
@@ -67,7 +67,7 @@ fn end_by_ids(
     Ok(Change::Cancel(session, numbers))
 }
 
-// Takes the events of these names from the global subscriptions.
+// The change that removes the events of these names from the global subscriptions.
 fn end_by_events(
     alloc: Global,
     tables: &Tables,
@@ -85,7 +85,7 @@ fn end_by_events(
     Ok(Change::Dismiss(session, events))
 }
 
-// The result.
+// The empty result.
 fn unsubscribe_result(alloc: Global) -> ResultData
     ensures tree { result_tree result ≡ nothing }
     ensures well { ⟦<ResultData as Subject<Method>>⟧.subject.well result }
