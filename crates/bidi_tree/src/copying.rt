@@ -43,6 +43,10 @@ fn copy_trees(trees: &Vec<Tree>) -> Result<Vec<Tree>, AllocError>
     Ok(copies)
 }
 
+/// The same members, in a map of their own.
+///
+/// # Errors
+/// No memory: an allocation failed.
 #[cycle(copy)]
 pub fn copy_members(members: &Members) -> Result<Members, AllocError>
     ensures same { IfOk result (λ m. members_node m.entries ≡ members_node members.now.entries) }

@@ -15,13 +15,18 @@ use thiserror::Error;
 /// The most levels that are read.
 const MAX_LEVELS: usize = 127;
 
-/// Why a text has no tree.
+/// Why a text was not read.
 #[derive(Clone, Copy, Debug, Drop, PartialEq, Eq, Error)]
 pub enum ReadFault {
+    /// The text breaks the grammar of JSON, nests past 127 levels, or has a number too large for a float, as `1e400`.
+    /// It will never be read.
     #[error("the text is not JSON")]
     NotJson,
+    /// The text has more bytes than the limit allows, blanks around it counted. Nothing of it was read: raise the limit,
+    /// or refuse the text.
     #[error("the text is longer than its limit")]
     TooLong,
+    /// An allocation failed. The same text may be read again.
     #[error("out of memory")]
     NoMemory,
 }

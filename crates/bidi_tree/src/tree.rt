@@ -15,14 +15,19 @@ pub type Members = BTreeMap<String, Tree>;
 /// What a JSON text stands for.
 #[derive(Drop, PartialEq, Debug)]
 pub enum Tree {
+    /// `null`.
     Null,
+    /// `true` or `false`.
     Bool(bool),
     /// A whole number from -(2^53 - 1) to 2^53 - 1.
     Int(JsInt),
     /// Any other number: with a fraction or an exponent, `-0`, or past the range. It is not written.
     Odd,
+    /// A string of JSON, its escapes resolved.
     Text(String),
+    /// An array of JSON, its items in their order.
     List(Vec<Tree>),
+    /// An object of JSON. The order that its members had in the text is not kept.
     Map(Members),
 }
 
