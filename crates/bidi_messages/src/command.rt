@@ -25,8 +25,10 @@ use std::alloc::{AllocError, Global};
 /// After WebDriver BiDi, "Protocol".
 #[derive(Drop)]
 pub struct Command {
+    /// The number that the local end gave the command. Its response or error echoes it.
     pub id: JsUint,
     pub data: CommandData,
+    /// The members beside `id`, `method` and `params`. They have no effect.
     pub ext: Ext,
 }
 
@@ -35,21 +37,37 @@ pub struct Command {
 /// After WebDriver BiDi, "Protocol".
 #[derive(Drop)]
 pub enum CommandData {
+    /// `session.status`, which asks without parameters.
     SessionStatus(EmptyParams),
+    /// `session.new`, with the capabilities that the session is asked to have.
     SessionNew(NewParameters),
+    /// `session.end`, of the session that the connection belongs to.
     SessionEnd(EmptyParams),
+    /// `session.subscribe`, with events, and the contexts that they are wanted of.
     SessionSubscribe(SubscribeParameters),
+    /// `session.unsubscribe`, with ids of subscriptions, or with events.
     SessionUnsubscribe(UnsubscribeParameters),
+    /// `browsingContext.activate`, with a top-level context.
     BrowsingContextActivate(ActivateParameters),
+    /// `browsingContext.close`, with a top-level context.
     BrowsingContextClose(CloseParameters),
+    /// `browsingContext.create`, with what is opened, a tab or a window, and beside which context.
     BrowsingContextCreate(CreateParameters),
+    /// `browsingContext.getTree`, with the context at the root, and the depth.
     BrowsingContextGetTree(GetTreeParameters),
+    /// `browsingContext.navigate`, with a context, a URL, and how long the reply waits.
     BrowsingContextNavigate(NavigateParameters),
+    /// `browsingContext.reload`, with a context, and how long the reply waits.
     BrowsingContextReload(ReloadParameters),
+    /// `browsingContext.traverseHistory`, with a top-level context, and how many entries it goes.
     BrowsingContextTraverseHistory(TraverseHistoryParameters),
+    /// `script.evaluate`, with an expression, and where it is evaluated.
     ScriptEvaluate(EvaluateParameters),
+    /// `script.callFunction`, with a function, its arguments, and where it is called.
     ScriptCallFunction(CallFunctionParameters),
+    /// `script.disown`, with handles, and whose they are.
     ScriptDisown(DisownParameters),
+    /// `script.getRealms`, with a context and a type, where only such realms are asked for.
     ScriptGetRealms(GetRealmsParameters),
 }
 

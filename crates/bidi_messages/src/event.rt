@@ -14,13 +14,21 @@ use std::alloc::{AllocError, Global};
 /// After WebDriver BiDi, "Protocol".
 #[derive(Clone, Copy, Debug, PartialEq, Eq)]
 pub enum EventName {
+    /// `browsingContext.contextCreated`: a context was made, or was there when the event was enabled.
     ContextCreated,
+    /// `browsingContext.contextDestroyed`: a context is gone, with all below it.
     ContextDestroyed,
+    /// `browsingContext.navigationStarted`: a context began to go to a URL, perhaps its own once more.
     NavigationStarted,
+    /// `browsingContext.domContentLoaded`: the new document is parsed.
     DomContentLoaded,
+    /// `browsingContext.load`: the new document is loaded, with all that it needs.
     Load,
+    /// `script.realmCreated`: a realm was made, or was there when the event was enabled.
     RealmCreated,
+    /// `script.realmDestroyed`: a realm is gone, with its handles.
     RealmDestroyed,
+    /// `log.entryAdded`: an entry was added to the log, or waited there when the event was enabled.
     EntryAdded,
 }
 
@@ -90,6 +98,7 @@ impl Named for EventType {
 #[derive(Drop)]
 pub struct Event {
     pub data: EventData,
+    /// The members beside `type`, `method` and `params`. They have no effect.
     pub ext: Ext,
 }
 
@@ -98,13 +107,21 @@ pub struct Event {
 /// After WebDriver BiDi, "Protocol".
 #[derive(Drop)]
 pub enum EventData {
+    /// `browsingContext.contextCreated`, with the context, and the id of the one above it.
     ContextCreated(Info),
+    /// `browsingContext.contextDestroyed`, with the context and all that were below it.
     ContextDestroyed(Info),
+    /// `browsingContext.navigationStarted`, with the navigation and where it leads.
     NavigationStarted(NavigationInfo),
+    /// `browsingContext.domContentLoaded`, with the navigation that brought the document.
     DomContentLoaded(NavigationInfo),
+    /// `browsingContext.load`, with the navigation that brought the document.
     Load(NavigationInfo),
+    /// `script.realmCreated`, with the realm, its origin and its context.
     RealmCreated(RealmInfo),
+    /// `script.realmDestroyed`, with the id of the realm.
     RealmDestroyed(RealmDestroyedParameters),
+    /// `log.entryAdded`, with the entry.
     EntryAdded(LogEntry),
 }
 

@@ -20,7 +20,9 @@ const MAX_COMMAND_BYTES: usize = 1_048_576;
 /// What a text is judged to be: a command, or refused with the id and the code of its error.
 #[derive(Drop)]
 pub enum Verdict {
+    /// The text is this command, which is to be carried out.
     Accepted(Command),
+    /// The text is no command. An error with this code answers it, with this id or, where there is none, null.
     Refused { id: Option<JsUint>, code: ErrorCode },
 }
 

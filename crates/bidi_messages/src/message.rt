@@ -16,9 +16,11 @@ use std::alloc::{AllocError, Global};
 /// After WebDriver BiDi, "Protocol".
 #[derive(Drop)]
 pub struct Response {
+    /// The id of the command that it answers.
     pub id: JsUint,
     /// The members of the result.
     pub result: Ext,
+    /// The members beside `type`, `id` and `result`. They have no effect.
     pub ext: Ext,
 }
 
@@ -62,10 +64,15 @@ impl Shape for Response {
 /// After WebDriver BiDi, "Protocol" and "Errors".
 #[derive(Drop)]
 pub struct ErrorResponse {
+    /// The id of the command that failed, or null where a text bore no id that could be read.
     pub id: Option<JsUint>,
+    /// Why it failed, by the code to act on.
     pub error: ErrorCode,
+    /// Why it failed, in words for a reader. The remote end of this project sends the text of the code.
     pub message: String,
+    /// Where the remote end failed, for a reader. That of this project sends none.
     pub stacktrace: Option<String>,
+    /// The members that the rule does not name. They have no effect.
     pub ext: Ext,
 }
 
@@ -121,8 +128,11 @@ impl Shape for ErrorResponse {
 /// After WebDriver BiDi, "Protocol".
 #[derive(Drop)]
 pub enum Message {
+    /// A command was carried out.
     Response(Response),
+    /// A command failed, or a text was none.
     Error(ErrorResponse),
+    /// Something happened that the session subscribed to.
     Event(Event),
 }
 

@@ -23,21 +23,37 @@ use std::alloc::{AllocError, Global};
 /// After WebDriver BiDi, "Protocol".
 #[derive(Drop)]
 pub enum ResultData {
+    /// Of `session.status`: whether a session can be made.
     SessionStatus(StatusResult),
+    /// Of `session.new`: the id and the capabilities of the session.
     SessionNew(NewResult),
+    /// Of `session.end`: nothing. Each connection of the session is closed then.
     SessionEnd(EmptyResult),
+    /// Of `session.subscribe`: the id of the subscription, by which it can be ended.
     SessionSubscribe(SubscribeResult),
+    /// Of `session.unsubscribe`: nothing.
     SessionUnsubscribe(EmptyResult),
+    /// Of `browsingContext.activate`: nothing.
     BrowsingContextActivate(EmptyResult),
+    /// Of `browsingContext.close`: nothing.
     BrowsingContextClose(EmptyResult),
+    /// Of `browsingContext.create`: the id of the new context.
     BrowsingContextCreate(CreateResult),
+    /// Of `browsingContext.getTree`: an [`Info`](bidi_params::Info) for each root.
     BrowsingContextGetTree(GetTreeResult),
+    /// Of `browsingContext.navigate`: the id of the navigation, and the URL as it is serialised.
     BrowsingContextNavigate(NavigateResult),
+    /// Of `browsingContext.reload`: the id of the navigation, and the URL that is shown again.
     BrowsingContextReload(NavigateResult),
+    /// Of `browsingContext.traverseHistory`: nothing.
     BrowsingContextTraverseHistory(EmptyResult),
+    /// Of `script.evaluate`: the value of the expression, or what it threw.
     ScriptEvaluate(EvaluateResult),
+    /// Of `script.callFunction`: the value that the function returned, or what it threw.
     ScriptCallFunction(EvaluateResult),
+    /// Of `script.disown`: nothing.
     ScriptDisown(EmptyResult),
+    /// Of `script.getRealms`: the realms.
     ScriptGetRealms(GetRealmsResult),
 }
 

@@ -68,13 +68,14 @@ pub fn text_of<M: Sent>(alloc: Global, value: &M) -> Result<String, AllocError>
 /// Why a text is no message of the remote end.
 #[derive(Clone, Copy, Debug, PartialEq, Eq, Error)]
 pub enum MessageFault {
-    /// The text is not JSON.
+    /// The text is not JSON, or nests past 127 levels. It settles no command, and may be passed over.
     #[error("not JSON")]
     NotJson,
-    /// Its tree fits no message of the profile.
+    /// Its tree fits no message of the profile, as that of an event beyond the eight. It settles no
+    /// command, and may be passed over.
     #[error("no message of the profile")]
     NoFit,
-    /// An allocation failed.
+    /// An allocation failed. The same text may be read again.
     #[error("out of memory")]
     NoMemory,
 }
