@@ -15,7 +15,9 @@ use std::alloc::{AllocError, Global};
 /// A value of the first type, where the tree fits its rule, or else of the second: `A / B`.
 #[derive(Drop)]
 pub enum Either<A: Drop, B: Drop> {
+    /// The tree fits the first rule; it may fit the second, too.
     First(A),
+    /// The tree fits the second rule alone.
     Second(B),
 }
 

@@ -8,7 +8,7 @@ use bidi_tree::Members;
 use std::alloc::{AllocError, Global};
 use thiserror::Error;
 
-/// A member has a known name.
+/// A member has a known name. Leave it out, or give it as the part that has this name.
 #[derive(Clone, Copy, Debug, PartialEq, Eq, Error)]
 #[error("a member has a known name")]
 pub struct Clash;
@@ -16,6 +16,7 @@ pub struct Clash;
 /// The members of an extensible map that its rule does not name, in byte order of their names.
 #[derive(Drop)]
 pub struct Ext {
+    /// In a well map none has a name of the rule, and each fits `any`: it has no `Odd` and at most 60 levels.
     pub members: Members,
     pub ghost ordered: { IsOrdered string_cmp members } by { IsStrictlySortedBy-prop string_cmp _ },
 }

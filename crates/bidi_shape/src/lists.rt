@@ -66,6 +66,7 @@ impl<X: Shape> Shape for Vec<X> {
 /// A list with at least one item: `[+X]`.
 #[derive(Drop)]
 pub struct OneOrMore<X: Drop> {
+    /// At least one; a value without any is not well, and fits no rule.
     pub items: Vec<X>,
 }
 

@@ -14,15 +14,21 @@ use bidi_tree::Members;
 use std::alloc::{AllocError, Global};
 use thiserror::Error;
 
-/// Why a value was not made of its parts. Of several that apply, a constructor tells the first.
+/// Why a value was not made of its parts, which are used up. Of several that apply, a constructor tells the first.
 #[derive(Clone, Copy, Debug, PartialEq, Eq, Drop, Error)]
 pub enum MakeFault {
+    /// A further member has a name of the rule. Leave it out, or give it as the part that has this name.
     #[error("a further member has a known name")]
     Clash,
+    /// The map would be read as a value of an earlier alternative of the choice that it stands in. Make that value, or
+    /// leave out the member that makes it one.
     #[error("an earlier alternative takes the value")]
     Shadowed,
+    /// A further member has more than 60 levels, or an `Odd` in it: a number that is no whole number within js-int, as
+    /// 1.5. Or the value that was made has more than 60 levels itself. Send fewer levels, and such a number as a text.
     #[error("a further member has too many levels, or a number that is not kept")]
     TooDeep,
+    /// An allocation failed. The same parts may be made and given again.
     #[error("out of memory")]
     NoMemory,
 }
