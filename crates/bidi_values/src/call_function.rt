@@ -23,8 +23,8 @@ use std::alloc::{AllocError, Global};
 /// `{ functionDeclaration: text, awaitPromise: bool, target: Target, ? arguments: [*LocalValue],
 /// ? resultOwnership: Ownership, ? this: LocalValue, ? userActivation: bool, Extensible }`
 ///
-/// `awaitPromise` and `userActivation` have no effect here. Absent, `arguments` is empty, and `resultOwnership` is
-/// `none`.
+/// `functionDeclaration` is looked up in the table of a play, and not run. `awaitPromise` and `userActivation` have no
+/// effect here, and `this` is checked alone. Absent, `arguments` is empty, and `resultOwnership` is `none`.
 ///
 /// After WebDriver BiDi, "The script.callFunction Command".
 #[derive(Drop)]
@@ -166,6 +166,8 @@ impl Shape for CallFunctionParameters {
 /// Parameters of `script.disown`.
 ///
 /// `{ handles: [*text], target: Target, Extensible }`
+///
+/// A handle that the realm has not is passed over.
 ///
 /// After WebDriver BiDi, "The script.disown Command".
 #[derive(Drop)]

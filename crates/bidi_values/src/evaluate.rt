@@ -23,7 +23,10 @@ use std::alloc::{AllocError, Global};
 /// After WebDriver BiDi, "The script.ResultOwnership Type".
 #[derive(Clone, Copy, Debug, PartialEq, Eq)]
 pub enum Ownership {
+    /// An outermost value that is no primitive gets a handle. Its realm keeps the value until the handle is disowned
+    /// or the realm ends.
     Root,
+    /// No value gets a handle.
     None,
 }
 
@@ -53,7 +56,8 @@ impl Named for Ownership {
 /// `{ expression: text, target: Target, awaitPromise: bool, ? resultOwnership: Ownership, ? userActivation: bool,
 /// Extensible }`
 ///
-/// `awaitPromise` and `userActivation` have no effect here. Absent, `resultOwnership` is `none`.
+/// `expression` is looked up in the table of a play, and not run. `awaitPromise` and `userActivation` have no effect
+/// here. Absent, `resultOwnership` is `none`.
 ///
 /// After WebDriver BiDi, "The script.evaluate Command".
 #[derive(Drop)]

@@ -8,7 +8,7 @@ use bidi_shape::{
 use bidi_tree::{Members, Tree};
 use std::alloc::{AllocError, Global};
 
-/// The value of a script that ran to its end.
+/// The value of a script that ran to its end, and the realm that it ran in.
 ///
 /// `{ type: "success", result: RemoteValue, realm: text }`
 ///
@@ -53,7 +53,7 @@ impl Shape for EvaluateSuccess {
     }
 }
 
-/// The error of a script that threw.
+/// The error of a script that threw, and the realm that it ran in.
 ///
 /// `{ type: "exception", exceptionDetails: ExceptionDetails, realm: text }`
 ///
@@ -108,7 +108,9 @@ impl Shape for EvaluateException {
 /// After WebDriver BiDi, "The script.EvaluateResult Type".
 #[derive(Drop)]
 pub enum EvaluateResult {
+    /// The script ran to its end.
     Success(EvaluateSuccess),
+    /// The script threw. The command was carried out none the less.
     Exception(EvaluateException),
 }
 

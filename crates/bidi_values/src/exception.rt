@@ -7,7 +7,7 @@ use bidi_shape::{
 use bidi_tree::{JsUint, Members, Tree};
 use std::alloc::{AllocError, Global};
 
-/// The value that a script threw, and where. Lines and columns are counted from 0.
+/// The value that a script threw, and where, with an account in words. Lines and columns are counted from 0.
 ///
 /// `{ columnNumber: js-uint, exception: RemoteValue, lineNumber: js-uint, stackTrace: StackTrace, text: text }`
 ///

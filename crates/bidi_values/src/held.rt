@@ -11,7 +11,7 @@ use bidi_shape::{
 use bidi_tree::{Members, Tree};
 use std::alloc::{AllocError, Global};
 
-/// What a remote end holds: its kind, and what it is named by.
+/// What a remote end holds: its kind, which is the member `type`, and what it is named by.
 ///
 /// `( type: K, ? handle: text, ? internalId: text )`
 ///
@@ -110,7 +110,7 @@ impl<K: Shape + Copy> Beside for Held<K> {
     }
 }
 
-/// A regular expression that a remote end holds.
+/// A regular expression that a remote end holds, named as a [`RemoteOpaque`] is.
 ///
 /// `{ type: "regexp", value: RegExpValue, ? handle: text, ? internalId: text }`
 ///
@@ -179,7 +179,7 @@ impl Shape for RemoteRegExp {
     }
 }
 
-/// A date that a remote end holds.
+/// A date that a remote end holds, named as a [`RemoteOpaque`] is. Its text is not read as a date.
 ///
 /// `{ type: "date", value: text, ? handle: text, ? internalId: text }`
 ///

@@ -11,7 +11,9 @@ use std::alloc::{AllocError, Global};
 /// After WebDriver BiDi, "The script.LocalValue Type".
 #[derive(Clone, Copy, Debug, PartialEq, Eq)]
 pub enum ListKind {
+    /// `array`: its items, in order.
     Array,
+    /// `set`: its members, in the order in which they were put in.
     Set,
 }
 
@@ -43,7 +45,9 @@ impl Named for ListKind {
 /// After WebDriver BiDi, "The script.LocalValue Type".
 #[derive(Clone, Copy, Debug, PartialEq, Eq)]
 pub enum PairsKind {
+    /// `object`: the names and the values of its properties.
     Object,
+    /// `map`: its keys, which may be values of any kind, and their values.
     Map,
 }
 

@@ -30,10 +30,13 @@ pub type LocalKey = NestedKey<LocalPlain, ListKind, PairsKind>;
 /// After WebDriver BiDi, "The script.LocalValue Type".
 #[derive(Drop)]
 pub enum LocalPlain {
+    /// A value that the remote end holds already.
     Reference(Reference),
+    /// `undefined`, `null`, a text, a number, a truth value or a big integer.
     Primitive(Primitive),
-    /// A date, as a text.
+    /// A date, as a text, which is not read as one.
     Date(String),
+    /// A regular expression, with its pattern and its flags.
     RegExp(RegExpValue),
 }
 

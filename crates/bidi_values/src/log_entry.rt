@@ -20,9 +20,13 @@ use std::alloc::{AllocError, Global};
 /// After WebDriver BiDi, "The log.LogEntry Type".
 #[derive(Clone, Copy, Debug, PartialEq, Eq)]
 pub enum Level {
+    /// Of `console.debug` and `console.trace`.
     Debug,
+    /// Of `console.log`, and of each call of the console that has no other level.
     Info,
+    /// Of `console.warn`.
     Warn,
+    /// Of `console.error`, of `console.assert`, and of an error that a script did not catch.
     Error,
 }
 
@@ -103,6 +107,8 @@ impl Shape for Source {
 /// `( level: "debug" / "info" / "warn" / "error", source: Source, text: text / null, timestamp: js-uint,
 /// ? stackTrace: StackTrace )`
 ///
+/// `timestamp` is the moment of the entry; `text` tells it in words, where there are some.
+///
 /// After WebDriver BiDi, "The log.LogEntry Type".
 #[derive(Drop)]
 pub struct BaseLogEntry {
@@ -160,7 +166,7 @@ fn add_base(alloc: Global, members: &mut Members, base: &BaseLogEntry) -> Result
     add_member(alloc, members, "level", &base.level)
 }
 
-/// An entry that a call of the console made.
+/// An entry that a call of the console made, with the method that was called, as `warn`, and what it was given.
 ///
 /// `{ Base, type: "console", method: text, args: [*RemoteValue] }`
 ///
@@ -380,8 +386,11 @@ impl Shape for GenericLogEntry {
 /// After WebDriver BiDi, "The log.LogEntry Type".
 #[derive(Drop)]
 pub enum LogEntry {
+    /// A call of the console: its `type` is `console`, and no member is too many or of the wrong kind.
     Console(ConsoleEntry),
+    /// An error of a script: its `type` is `javascript`, and no member is too many.
     Javascript(JavascriptEntry),
+    /// Any other entry: of another `type`, or of one of these two with other members.
     Generic(GenericLogEntry),
 }
 

@@ -35,7 +35,9 @@ pub struct NestedPair<P: Drop, L: Drop, M: Drop> {
 #[derive(Drop)]
 #[cycle(nested)]
 pub enum NestedKey<P: Drop, L: Drop, M: Drop> {
+    /// A key that is written as a value; a text may be, too.
     Value(Nested<P, L, M>),
+    /// A key that is written as a text alone.
     Text(String),
 }
 

@@ -9,15 +9,25 @@ use bidi_shape::Named;
 /// After WebDriver BiDi, "The script.RemoteValue Type".
 #[derive(Clone, Copy, Debug, PartialEq, Eq)]
 pub enum Opaque {
+    /// `symbol`: a value like no other, which may name a property.
     Symbol,
+    /// `function`: a function, whatever its form.
     Function,
+    /// `weakmap`: a `WeakMap`, which does not keep its keys alive.
     WeakMap,
+    /// `weakset`: a `WeakSet`, which does not keep its members alive.
     WeakSet,
+    /// `generator`: what a call of a generator function gives.
     Generator,
+    /// `error`: an error, as a script throws one.
     Error,
+    /// `proxy`: a `Proxy`, whatever stands behind it.
     Proxy,
+    /// `promise`: a promise, settled or not.
     Promise,
+    /// `typedarray`: a view of bytes as numbers, as a `Uint8Array`.
     TypedArray,
+    /// `arraybuffer`: bytes without a view.
     ArrayBuffer,
 }
 

@@ -13,9 +13,13 @@ use std::alloc::{AllocError, Global};
 /// After WebDriver BiDi, "The script.PrimitiveProtocolValue Type".
 #[derive(Clone, Copy, Debug, PartialEq, Eq)]
 pub enum SpecialNumber {
+    /// What is no number, as 0 / 0.
     NaN,
+    /// The zero below 0. As a number of JSON, `-0` fits no rule.
     NegativeZero,
+    /// Above every number, as 1 / 0.
     Infinity,
+    /// Below every number, as -1 / 0.
     NegativeInfinity,
 }
 
@@ -51,7 +55,9 @@ impl Named for SpecialNumber {
 /// After WebDriver BiDi, "The script.PrimitiveProtocolValue Type"; that it has no fractions is the profile's.
 #[derive(Clone, Copy, Debug, PartialEq, Eq)]
 pub enum Number {
+    /// A whole number from -(2^53 - 1) to 2^53 - 1, as a number of JSON.
     Whole(JsInt),
+    /// One of the four that are written as texts.
     Special(SpecialNumber),
 }
 
@@ -94,12 +100,17 @@ impl Shape for Number {
 /// After WebDriver BiDi, "The script.PrimitiveProtocolValue Type".
 #[derive(Drop)]
 pub enum Primitive {
+    /// What a script without a value gives.
     Undefined,
+    /// `{ type: "null" }`, which is not the `null` of JSON.
     Null,
-    String(String),
-    Number(Number),
-    Boolean(bool),
     /// A text, of any characters.
+    String(String),
+    /// A whole number, or one of four special ones; no fraction fits.
+    Number(Number),
+    /// `true` or `false`.
+    Boolean(bool),
+    /// A whole number of any size, as a text. Its characters are not checked.
     BigInt(String),
 }
 

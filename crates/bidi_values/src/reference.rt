@@ -6,7 +6,7 @@ use bidi_shape::{
 use bidi_tree::{Members, Tree};
 use std::alloc::{AllocError, Global};
 
-/// A reference to a node by its shared id.
+/// A reference to a node by its shared id. The remote end of this project holds none: `no such node`.
 ///
 /// `{ sharedId: text, ? handle: text, Extensible }`
 ///
@@ -92,7 +92,7 @@ impl Shape for SharedReference {
     }
 }
 
-/// A reference to an object by its handle.
+/// A reference to an object by its handle, which is asked of the realm that the script runs in.
 ///
 /// `{ handle: text, ? sharedId: text, Extensible }`
 ///
@@ -196,7 +196,9 @@ impl Shape for RemoteObjectReference {
 /// After WebDriver BiDi, "The script.RemoteReference Type".
 #[derive(Drop)]
 pub enum Reference {
+    /// By a shared id: the map has a text as its `sharedId`.
     Shared(SharedReference),
+    /// By a handle, where the map is no `SharedReference`.
     RemoteObject(RemoteObjectReference),
 }
 

@@ -7,7 +7,7 @@ use bidi_shape::{
 use bidi_tree::{Members, Tree};
 use std::alloc::{AllocError, Global};
 
-/// A regular expression, as its source has it.
+/// A regular expression, as its source has it. Neither of the two texts is checked.
 ///
 /// `{ pattern: text, ? flags: text }`
 ///

@@ -30,13 +30,17 @@ pub type RemoteKey = NestedKey<RemotePlain, RemoteList, RemotePairs>;
 /// After WebDriver BiDi, "The script.RemoteValue Type".
 #[derive(Drop)]
 pub enum RemotePlain {
+    /// `undefined`, `null`, a text, a number, a truth value or a big integer.
     Primitive(Primitive),
     /// An array or a set without its values.
     List(RemoteList),
     /// An object or a map without its pairs.
     Pairs(RemotePairs),
+    /// A regular expression, with its pattern and its flags.
     RegExp(RemoteRegExp),
+    /// A date, as a text.
     Date(RemoteDate),
+    /// A value of which only the type is told, as a function.
     Opaque(RemoteOpaque),
 }
 

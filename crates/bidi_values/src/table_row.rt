@@ -7,7 +7,7 @@ use bidi_shape::{
 use bidi_tree::{JsUint, Members, Tree};
 use std::alloc::{AllocError, Global};
 
-/// A script that returns a value.
+/// A script that returns a value, which is the member `returns`.
 ///
 /// `{ text: text, returns: RemoteValue }`
 ///
@@ -53,7 +53,7 @@ impl Shape for ReturnsRow {
     }
 }
 
-/// A script that throws a value.
+/// A script that throws a value, which is the member `throws`.
 ///
 /// `{ text: text, throws: RemoteValue }`
 ///
@@ -99,7 +99,7 @@ impl Shape for ThrowsRow {
     }
 }
 
-/// A script that returns one of its arguments, counted from 0.
+/// A script that returns one of its arguments, counted from 0 by the member `argument`.
 ///
 /// `{ text: text, argument: js-uint }`
 ///
@@ -147,13 +147,16 @@ impl Shape for ArgumentRow {
 
 /// What a script of that text does.
 ///
-/// The maps of [`ReturnsRow`], [`ThrowsRow`] and [`ArgumentRow`], in this order.
+/// The maps of [`ReturnsRow`], [`ThrowsRow`] and [`ArgumentRow`], in this order. A script is known by its whole text.
 ///
 /// This project's own, as docs/FORMATS.md gives it, "Table of a play".
 #[derive(Drop)]
 pub enum TableRow {
+    /// It runs to its end, with a value.
     Returns(ReturnsRow),
+    /// It throws a value.
     Throws(ThrowsRow),
+    /// It gives back an argument, or `undefined` where it has none of that index.
     Argument(ArgumentRow),
 }
 

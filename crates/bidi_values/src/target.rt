@@ -10,6 +10,8 @@ use std::alloc::{AllocError, Global};
 ///
 /// `{ context: text, ? sandbox: text, Extensible }`
 ///
+/// A `sandbox` that is absent or empty stands for none; any other is an `unsupported operation` here.
+///
 /// After WebDriver BiDi, "The script.Target Type".
 #[derive(Drop)]
 pub struct ContextTarget {
@@ -182,7 +184,9 @@ impl Shape for RealmTarget {
 /// After WebDriver BiDi, "The script.Target Type".
 #[derive(Drop)]
 pub enum Target {
+    /// The realm that a context has at that time.
     Context(ContextTarget),
+    /// One realm, by its id. It is gone once its context navigates.
     Realm(RealmTarget),
 }
 
