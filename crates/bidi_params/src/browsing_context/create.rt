@@ -22,7 +22,9 @@ use std::alloc::{AllocError, Global};
 /// After WebDriver BiDi, "The browsingContext.create Command".
 #[derive(Clone, Copy, Debug, PartialEq, Eq)]
 pub enum ContextType {
+    /// A tab, in a window that is there.
     Tab,
+    /// A window of its own.
     Window,
 }
 
@@ -51,7 +53,8 @@ impl Named for ContextType {
 ///
 /// `{ type: "tab" / "window", ? referenceContext: text, ? background: bool, ? userContext: text, Extensible }`
 ///
-/// `background` has no effect here. Absent, `userContext` is the default one.
+/// `kind` is the member `type`. A tab opens in the window of `referenceContext` or, where this is absent, of the oldest
+/// top-level context. `background` has no effect here. Absent, `userContext` is the default one.
 ///
 /// After WebDriver BiDi, "The browsingContext.create Command".
 #[derive(Drop)]

@@ -26,6 +26,9 @@ use std::alloc::{AllocError, Global};
 /// `{ children: [*Info] / null, clientWindow: text, context: text, originalOpener: text / null, url: text,
 /// userContext: text, ? parent: text / null, Extensible }`
 ///
+/// `clientWindow` is the window that shows it, and `originalOpener` the context that opened it. The remote end of this
+/// project tells no opener, and `default` as the user context.
+///
 /// After WebDriver BiDi, "The browsingContext.Info Type".
 #[derive(Drop)]
 pub struct Info {

@@ -22,8 +22,11 @@ use std::alloc::{AllocError, Global};
 /// After WebDriver BiDi, "The browsingContext.ReadinessState Type".
 #[derive(Clone, Copy, Debug, PartialEq, Eq)]
 pub enum Wait {
+    /// The reply comes once the navigation has started.
     None,
+    /// The reply comes once the document is parsed, behind `domContentLoaded`.
     Interactive,
+    /// The reply comes once the document is loaded, behind `load`.
     Complete,
 }
 
@@ -220,6 +223,9 @@ impl Shape for ReloadParameters {
 ///
 /// `{ navigation: text / null, url: text, Extensible }`
 ///
+/// `navigation` is the id that the events of this navigation bear. `url` is serialised, as `http://a.test/` where the
+/// command said `http://a.test`.
+///
 /// After WebDriver BiDi, "The browsingContext.navigate Command".
 #[derive(Drop)]
 pub struct NavigateResult {
@@ -373,6 +379,9 @@ impl Shape for TraverseHistoryParameters {
 /// What the events of a navigation tell of it.
 ///
 /// `{ context: text, navigation: text / null, timestamp: js-uint, url: text, Extensible }`
+///
+/// `navigation` is the id that all events of one navigation bear, and its command's result. `url` is where it leads,
+/// and `timestamp` the moment of the event.
 ///
 /// After WebDriver BiDi, "The browsingContext.NavigationInfo Type".
 #[derive(Drop)]

@@ -23,13 +23,21 @@ use std::alloc::{AllocError, Global};
 /// After WebDriver BiDi, "The script.RealmType Type".
 #[derive(Clone, Copy, Debug, PartialEq, Eq)]
 pub enum RealmType {
+    /// The realm of a document. Those of this project's remote end are all of this type.
     Window,
+    /// A worker that one document or worker owns.
     DedicatedWorker,
+    /// A worker that documents of one origin share.
     SharedWorker,
+    /// A worker that stands between documents and the network.
     ServiceWorker,
+    /// A worker of none of these three types.
     Worker,
+    /// A worklet that paints for style sheets.
     PaintWorklet,
+    /// A worklet that makes or changes sound.
     AudioWorklet,
+    /// A worklet of neither of these two types.
     Worklet,
 }
 
@@ -70,7 +78,7 @@ impl Named for RealmType {
 ///
 /// `{ ? context: text, ? type: RealmType, Extensible }`
 ///
-/// Absent, `context` stands for every context, and `type` for every type.
+/// Absent, `context` stands for every context, and `type`, which is `kind` here, for every type.
 ///
 /// After WebDriver BiDi, "The script.getRealms Command".
 #[derive(Drop)]
@@ -137,6 +145,8 @@ impl Shape for GetRealmsParameters {
 /// A realm of a window.
 ///
 /// `{ realm: text, origin: text, type: "window", context: text, Extensible }`
+///
+/// `origin` is that of the URL, serialised, as `http://a.test`. Here it is `null` for all but http and https URLs.
 ///
 /// After WebDriver BiDi, "The script.RealmInfo Type".
 #[derive(Drop)]

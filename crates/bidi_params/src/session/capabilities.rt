@@ -85,6 +85,8 @@ impl Shape for NewParameters {
 ///
 /// `{ ? alwaysMatch: CapabilityRequest, ? firstMatch: [*CapabilityRequest], Extensible }`
 ///
+/// Absent, `firstMatch` asks for nothing more; an empty list is an `invalid argument` of `session.new`.
+///
 /// After WebDriver BiDi, "The session.CapabilitiesRequest Type".
 #[derive(Drop)]
 pub struct CapabilitiesRequest {
@@ -175,6 +177,9 @@ impl Shape for CapabilitiesRequest {
 /// The capabilities that a session is asked to have. One that is absent is not asked for.
 ///
 /// `{ ? acceptInsecureCerts: bool, ? browserName: text, ? browserVersion: text, ? platformName: text, Extensible }`
+///
+/// A further member with a colon in its name is another vendor's, and passed over; any other is an `invalid argument`
+/// of `session.new`.
 ///
 /// After WebDriver BiDi, "The session.CapabilityRequest Type".
 #[derive(Drop)]

@@ -10,6 +10,9 @@ use std::alloc::{AllocError, Global};
 ///
 /// `{ events: [+text], ? contexts: [+text], ? userContexts: [+text], Extensible }`
 ///
+/// `events` are names of events, or of modules for each of their events. Without `contexts` the subscription holds for
+/// all contexts. `userContexts` are not supported here.
+///
 /// After WebDriver BiDi, "The session.subscribe Command".
 #[derive(Drop)]
 pub struct SubscribeParameters {
@@ -254,7 +257,7 @@ impl Shape for UnsubscribeById {
     }
 }
 
-/// The events that are no longer subscribed to.
+/// The events that are no longer subscribed to, by their names or those of their modules.
 ///
 /// `{ events: [+text], Extensible }`
 ///
@@ -349,7 +352,9 @@ impl Shape for UnsubscribeByEvents {
 /// After WebDriver BiDi, "The session.unsubscribe Command".
 #[derive(Drop)]
 pub enum UnsubscribeParameters {
+    /// Single subscriptions, whatever they hold for. Tried first.
     ById(UnsubscribeById),
+    /// Events of the subscriptions that hold for all contexts.
     ByEvents(UnsubscribeByEvents),
 }
 
