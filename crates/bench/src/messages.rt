@@ -2,7 +2,7 @@
 use crate::measure::{Subject, measure_text};
 use crate::texts;
 use anyhow::{Result, bail};
-use bidi_messages::{Sent, Verdict, judge_with, read_message_with, text_of};
+use bidi_messages::{Sendable, Verdict, judge_with, read_message_with, text_of};
 use json::Scratch;
 use std::alloc::Global;
 use std::rt::Clock;
@@ -40,7 +40,7 @@ impl Subject for Messages {
 }
 
 /// How many bytes the text of a command or a message has.
-fn length<M: Sent>(alloc: Global, message: M) -> Result<usize>
+fn length<M: Sendable>(alloc: Global, message: M) -> Result<usize>
     requires { M.shape.well message }
 {
     let written = text_of(alloc, &message)?;

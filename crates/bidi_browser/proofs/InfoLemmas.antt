@@ -13,9 +13,9 @@ use Rattle.bidi_shape.specs.declared.ext.Ext.{Ext}
 use Rattle.bidi_shape.proofs.PartLemmas.{some_well}
 use Rattle.bidi_params.proofs.PartLemmas.{text_or_null}
 use Rattle.bidi_params.specs.InfoContent.{told, contents_of}
-use Rattle.bidi_params.specs.InfoLaws.{info_tree, infos_tree, info_map, BesideIsWell}
+use Rattle.bidi_params.specs.InfoLaws.{info_tree, infos_tree, info_map, OwnMembersAreWell}
 use Rattle.bidi_params.specs.InfoParts.{info_parts}
-use Rattle.bidi_params.specs.InfoView.{Beside, content, children_content, tree_of_children}
+use Rattle.bidi_params.specs.InfoView.{OwnMembers, content, children_content, tree_of_children}
 use Rattle.bidi_params.specs.contracts.browsing_context.info.InfoShape.TheImpl.{ghosts}
 use Rattle.bidi_params.specs.declared.browsing_context.info.Info.{Info}
 use Rattle.bidi_params.proofs.InfoLemmas.{info_made}
@@ -40,7 +40,7 @@ children-told None = refl
 children-told (Some v) = ap tree.list (infos-listed v.items)
 
 -- the tree of an Info is that of what stands beside its children, and of these
-pub info-told : (i : Info) (f : Beside) (c : Option (Vec Info Global)) (whole : Node → Node) → content i ≡ told f (children_content c) → ((x : Node) → info_map info_parts.table f x ≡ whole x)
+pub info-told : (i : Info) (f : OwnMembers) (c : Option (Vec Info Global)) (whole : Node → Node) → content i ≡ told f (children_content c) → ((x : Node) → info_map info_parts.table f x ≡ whole x)
     → tree_of i ≡ whole (children_node tree_of c)
 info-told i f c whole made same = ap (info_tree info_parts) made ∙ (same (tree_of_children info_parts c) ∙ ap whole (children-told c))
 
@@ -57,7 +57,7 @@ pub none-further : (rs : Rows) (others : Members) → others ≡ no_members → 
 none-further rs others e = record { no_known = rw e refl; may = subst (λ ms. OthersFit extensible ms) (sym e) (refl, omega arith) }
 
 -- it is well
-pub beside-well : (window number url user : String Global) (parent : Option (Option (String Global))) (ext : Ext) → others_of ext ≡ no_members → BesideIsWell info_parts (window, (number, (None, (url, (user, (parent, ext))))))
+pub beside-well : (window number url user : String Global) (parent : Option (Option (String Global))) (ext : Ext) → others_of ext ≡ no_members → OwnMembersAreWell info_parts (window, (number, (None, (url, (user, (parent, ext))))))
 beside-well window number url user parent ext e = (
   (tt, (tt, (text_or_null None, (tt, (tt, (some_well text_or_null parent, tt)))))),
   none-further _ (others_of ext) e,
@@ -98,7 +98,7 @@ children-well n None within = tt
 children-well n (Some v) within = all-well n v.items within
 
 -- an Info is well, and has two levels more than its children
-pub info-within : (n : ℕ) (i : Info) (f : Beside) (c : Option (Vec Info Global)) (p : Option (Option (String Global))) (row : Row) → content i ≡ told f (children_content c) → BesideIsWell info_parts f
+pub info-within : (n : ℕ) (i : Info) (f : OwnMembers) (c : Option (Vec Info Global)) (p : Option (Option (String Global))) (row : Row) → content i ≡ told f (children_content c) → OwnMembersAreWell info_parts f
     → tree_of i ≡ shown_info (option_map parent_node p) row (children_node tree_of c) → AreWithinIfTold ghosts.shape n c → n ≤ 58 → IsWithin ghosts.shape (n + 2) i
 info-within n i f c p row made beside is within few =
     let deep = shown-below (n + 1) p row (children_node tree_of c) (children-below n c within) in

@@ -11,8 +11,8 @@ ghost use Rattle.bidi_console.specs.MessageLines.{HasVerdict, IsMessageLine, Ref
 ghost use Rattle.bidi_console.specs.declared.message_lines.Side.TheVariants.{Remote};
 
 use bidi_messages::{
-    Command, ErrorCode, ErrorResponse, Event, Message, MessageFault, Method, Named, Response, Sent,
-    Verdict, judge_with, read_message_with, text_of,
+    Command, ErrorCode, ErrorResponse, Event, Message, MessageFault, Method, Named, Response,
+    Sendable, Verdict, judge_with, read_message_with, text_of,
 };
 use bidi_shape::Shape;
 use bidi_tree::JsUint;
@@ -251,7 +251,7 @@ fn event_line(alloc: Global, event: Event) -> Result<String, AllocError>
 // ---- of both
 
 // The text of a command or a message, which is used up.
-fn text_for<M: Sent>(alloc: Global, message: M) -> Result<String, AllocError>
+fn text_for<M: Sendable>(alloc: Global, message: M) -> Result<String, AllocError>
     requires { M.shape.well message }
     ensures { IfOk result (λ s. string_bytes s ≡ compact_text (M.shape.tree_of message)) }
 {

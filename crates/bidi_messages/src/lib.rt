@@ -26,4 +26,4 @@ pub use method::Method;
 pub use result_data::{ResultData, result_of};
 pub use sending::{error_text, event_text, response_text};
 pub use subject::Subject;
-pub use text::{MessageFault, Sent, read_message, read_message_with, text_of};
+pub use text::{MessageFault, Sendable, read_message, read_message_with, text_of};

@@ -13,38 +13,38 @@ use std::alloc::{AllocError, Global};
 use thiserror::Error;
 
 /// What is sent over a connection as a text: a command, or a message.
-pub trait Sent: Shape {
+pub trait Sendable: Shape {
     ghost use Rattle.std.specs.Prelude.{nat_le, true};
 
     // Its trees have few enough levels to be written.
     ghost writable: { nat_le Self.shape.deepest 100 ≡ true };
 }
 
-impl Sent for Command {
+impl Sendable for Command {
     ghost use Rattle.std.specs.Prelude.{refl};
 
     ghost writable = { refl };
 }
 
-impl Sent for Response {
+impl Sendable for Response {
     ghost use Rattle.std.specs.Prelude.{refl};
 
     ghost writable = { refl };
 }
 
-impl Sent for ErrorResponse {
+impl Sendable for ErrorResponse {
     ghost use Rattle.std.specs.Prelude.{refl};
 
     ghost writable = { refl };
 }
 
-impl Sent for Event {
+impl Sendable for Event {
     ghost use Rattle.std.specs.Prelude.{refl};
 
     ghost writable = { refl };
 }
 
-impl Sent for Message {
+impl Sendable for Message {
     ghost use Rattle.std.specs.Prelude.{refl};
 
     ghost writable = { refl };
@@ -56,7 +56,7 @@ impl Sent for Message {
 ///
 /// # Errors
 /// No memory: an allocation failed.
-pub fn text_of<M: Sent>(alloc: Global, value: &M) -> Result<String, AllocError>
+pub fn text_of<M: Sendable>(alloc: Global, value: &M) -> Result<String, AllocError>
     requires { M.shape.well value.now }
     ensures text { IfOk result (λ s. string_bytes s ≡ compact_text (M.shape.tree_of value.now)) }
     ensures reads_back { IfOk result (λ s. tree_of (string_bytes s) ≡ Some (M.shape.tree_of value.now)) }

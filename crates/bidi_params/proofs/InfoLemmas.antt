@@ -16,11 +16,11 @@ use Rattle.bidi_shape.specs.MapLaws.{map_inside}
 use Rattle.bidi_shape.proofs.FitsLemmas.{null_kind, list_inside, either_inside}
 use Rattle.bidi_shape.specs.InnerLaws.{RowsFit-first, RowsFit-more}
 use Rattle.bidi_params.specs.InfoContent.{told, contents_of}
-use Rattle.bidi_params.specs.InfoLaws.{InfoOf, names, rows_with, info_map, children_node, info_tree, infos_tree, PartsAreWell, ChildrenAreWell, InfosAreWell, BesideIsWell, IsWell, info_inside, children_levels}
-use Rattle.bidi_params.specs.InfoView.{Beside, content, content-told, children_content, beside_of, tree_of_info, tree_of_children, InfoIsWell}
+use Rattle.bidi_params.specs.InfoLaws.{InfoOf, names, rows_with, info_map, children_node, info_tree, infos_tree, PartsAreWell, ChildrenAreWell, InfosAreWell, OwnMembersAreWell, IsWell, info_inside, children_levels}
+use Rattle.bidi_params.specs.InfoView.{OwnMembers, content, content-told, children_content, beside_of, tree_of_info, tree_of_children, InfoIsWell}
 use Rattle.bidi_params.specs.declared.browsing_context.info.Info.{Info, out-Info}
 
-module _ (n : InfoOf Beside) (t : Node) (ms : Members) where
+module _ (n : InfoOf OwnMembers) (t : Node) (ms : Members) where
   inside : (τ : Term) → kind.map ms ≡ t → Fits t (map_of (rows_with n.table τ) n.table.openness) → RowsFit ms (rows_with n.table τ) × OthersFit n.table.openness (without (names_of (rows_with n.table τ)) ms)
   inside τ is f = map_inside (subst (λ x. Fits x (map_of (rows_with n.table τ) n.table.openness)) (sym is) f)
 
@@ -45,7 +45,7 @@ items_fit f = of_either (either_inside f)
     of_either (inl f) = (list_inside f).1
     of_either (inr f) = let e = null_kind f in cc
 
-module _ (n : InfoOf Beside) where
+module _ (n : InfoOf OwnMembers) where
   infos_tree-of : (is : List Info) → infos_tree n (contents_of (map content is)) ≡ items_of (map (tree_of_info n) is)
   infos_tree-of [] = refl
   infos_tree-of (i ∷ is) = ap (item (tree_of_info n i)) (infos_tree-of is)
@@ -65,28 +65,28 @@ module _ (n : InfoOf Beside) where
       each_part (i ∷ is) w = (w.0.parts, each_part is w.1)
 
   -- an Info of well parts within the cap
-  pub info_made : (i : Info) (f : Beside) (c : Option (Vec Info Global)) → content i ≡ told f (children_content c) → BesideIsWell n f → IfSome c (λ v. AllByRecursion (λ i. IsWell n (content i)) v.items) → levels (tree_of_info n i) ≤ 60 → IsWell n (content i)
+  pub info_made : (i : Info) (f : OwnMembers) (c : Option (Vec Info Global)) → content i ≡ told f (children_content c) → OwnMembersAreWell n f → IfSome c (λ v. AllByRecursion (λ i. IsWell n (content i)) v.items) → levels (tree_of_info n i) ≤ 60 → IsWell n (content i)
   info_made i f c made w ws h = record { parts = subst (PartsAreWell n) (sym made) (w, children_well c ws); cap = h }
 
   -- ---- readers
 
   -- the children that were found
-  pub found : {X : Type 0} (tree : X → Node) (f : Beside) (t : Node) (p : Option (Bor (List X))) (items : Bor (List X)) → p ≡ Some items → info_map n.table f (children_node (option_map (λ x. items_of (map tree x.now)) p)) ≡ t
+  pub found : {X : Type 0} (tree : X → Node) (f : OwnMembers) (t : Node) (p : Option (Bor (List X))) (items : Bor (List X)) → p ≡ Some items → info_map n.table f (children_node (option_map (λ x. items_of (map tree x.now)) p)) ≡ t
       → info_map n.table f (children_node (Some (items_of (map tree items.now)))) ≡ t
   found tree f t p items is e = ap (λ x. info_map n.table f (children_node (option_map (λ y. items_of (map tree y.now)) x))) (sym is) ∙ e
 
-  pub info_read : (i : Info) (f : Beside) (t : Node) → content i ≡ told f (children_content None) → info_map n.table f (children_node None) ≡ t → BesideIsWell n f
+  pub info_read : (i : Info) (f : OwnMembers) (t : Node) → content i ≡ told f (children_content None) → info_map n.table f (children_node None) ≡ t → OwnMembersAreWell n f
       → (tree_of_info n i ≡ t) × InfoIsWell n i
   info_read i f t made is w = (ap (info_tree n) made ∙ is, subst (PartsAreWell n) (sym made) (w, tt))
 
-  pub info_with_children : {X : Type 0} (tree : X → Node) (i : Info) (f : Beside) (v : Vec Info Global) (items : List X) (t : Node) → content i ≡ told f (children_content (Some v)) → info_map n.table f (children_node (Some (items_of (map tree items)))) ≡ t → BesideIsWell n f
+  pub info_with_children : {X : Type 0} (tree : X → Node) (i : Info) (f : OwnMembers) (v : Vec Info Global) (items : List X) (t : Node) → content i ≡ told f (children_content (Some v)) → info_map n.table f (children_node (Some (items_of (map tree items)))) ≡ t → OwnMembersAreWell n f
       → map (tree_of_info n) v.items ≡ map tree items → AllByRecursion (InfoIsWell n) v.items → (tree_of_info n i ≡ t) × InfoIsWell n i
   info_with_children tree i f v items t made is w e ws = (
     ap (info_tree n) made ∙ ap (λ x. info_map n.table f (kind.list x)) (infos_tree-of v.items ∙ ap items_of e) ∙ is,
     subst (PartsAreWell n) (sym made) (w, infos_well-of v.items ws),
   )
 
-  pub infos_misfit : (f : Beside) (items : Items) (t : Node) → info_map n.table f (children_node (Some items)) ≡ t → (AllFit items (rule info) → ⊥) → Fits t (rule info) → ⊥
+  pub infos_misfit : (f : OwnMembers) (items : Items) (t : Node) → info_map n.table f (children_node (Some items)) ≡ t → (AllFit items (rule info) → ⊥) → Fits t (rule info) → ⊥
   infos_misfit f items t is bad x =
       let ms = put (codes "children") (kind.list items) (joined (n.table.rows names []) (n.table.parts [] f) (n.table.others f)) in
       let rows = (map_inside (subst (λ y. Fits y (map_of (rows_with n.table (rule info)) n.table.openness)) (sym is) (info_inside n t x))).0 in
@@ -96,7 +96,7 @@ module _ (n : InfoOf Beside) where
   pub no_info : (t : Node) → ((τ : Term) → Fits t (map_of (rows_with n.table τ) n.table.openness) → ⊥) → Fits t (rule info) → ⊥
   no_info t bad f = bad (rule info) (info_inside n t f)
 
-  pub list_levels : (f : Beside) (items : Items) (t : Node) → info_map n.table f (children_node (Some items)) ≡ t → items_levels items + 1 < levels t
+  pub list_levels : (f : OwnMembers) (items : Items) (t : Node) → info_map n.table f (children_node (Some items)) ≡ t → items_levels items + 1 < levels t
   list_levels f items t is = subst (λ x. items_levels items + 1 < levels x) is (let below = children_levels n f (kind.list items) in omega (arith, below))
 
   -- ---- writers

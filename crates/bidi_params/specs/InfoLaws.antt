@@ -55,12 +55,12 @@ abbrev mutual
   infos_tree n (next i is) = item (info_tree n i) (infos_tree n is)
 
 -- the members beside `children` are well, and no other has a known name
-abbrev pub BesideIsWell : {F : Type 0} → InfoOf F → F → Type 0
-BesideIsWell n f = n.table.well f × TableWell (rows_with n.table (rule info)) n.table.openness (n.table.others f)
+abbrev pub OwnMembersAreWell : {F : Type 0} → InfoOf F → F → Type 0
+OwnMembersAreWell n f = n.table.well f × TableWell (rows_with n.table (rule info)) n.table.openness (n.table.others f)
 
 abbrev mutual
   pub PartsAreWell : {F : Type 0} → InfoOf F → Content F → Type 0
-  PartsAreWell n (told f c) = BesideIsWell n f × ChildrenAreWell n c
+  PartsAreWell n (told f c) = OwnMembersAreWell n f × ChildrenAreWell n c
 
   pub ChildrenAreWell : {F : Type 0} → InfoOf F → Children F → Type 0
   ChildrenAreWell n left_out = Unit {0}
@@ -106,7 +106,7 @@ module _ {F : Type 0} (n : InfoOf F) where
       let inside = member_levels (codes "children") c (put (codes "children") c ms) (get_member-put (codes "children") c ms) in
       omega (arith, inside)
 
-  one_map : (f : F) (c : Node) → BesideIsWell n f → levels (info_map n.table f c) ≤ 60 → Fits c (either (list_of 0 (rule info)) null) → Fits (info_map n.table f c) (rule info)
+  one_map : (f : F) (c : Node) → OwnMembersAreWell n f → levels (info_map n.table f c) ≤ 60 → Fits c (either (list_of 0 (rule info)) null) → Fits (info_map n.table f c) (rule info)
   one_map f c w h x =
       fits_rule (info_map n.table f c) info (subst (Fits (info_map n.table f c)) (sym n.is_info)
       (fits_capped (info_map n.table f c) (map_of (rows_with n.table (rule info)) n.table.openness) h
@@ -132,7 +132,7 @@ module _ {F : Type 0} (n : InfoOf F) where
         (aligned f a.0) (aligned g b.0) a.0.1.no_known b.0.1.no_known e in
         (n.table.one [] f g a.0.0 b.0.0 (same_tail p.0) p.1, children_one c d a.1 b.1 (same_some (same_head p.0)))
       where
-        aligned : (x : F) → BesideIsWell n x → Aligned (n.table.rows names []) (n.table.parts [] x)
+        aligned : (x : F) → OwnMembersAreWell n x → Aligned (n.table.rows names []) (n.table.parts [] x)
         aligned x w = Aligned-PartsFit (n.table.rows names []) (n.table.parts [] x) (n.table.parts_fit names [] x w.0)
 
     pub children_one : (c d : Children F) → ChildrenAreWell n c → ChildrenAreWell n d → children_tree n c ≡ children_tree n d → SameChildren n c d
@@ -149,7 +149,7 @@ module _ {F : Type 0} (n : InfoOf F) where
 
   -- ---- no Odd stands in a tree
 
-  map_no_odd : (f : F) (c : Node) → BesideIsWell n f → has_odd c ≡ false → has_odd (info_map n.table f c) ≡ false
+  map_no_odd : (f : F) (c : Node) → OwnMembersAreWell n f → has_odd c ≡ false → has_odd (info_map n.table f c) ≡ false
   map_no_odd f c w e =
       let rows = n.table.rows names [] in
       let others = others_whole n.table.openness (n.table.others f) w.1.may in

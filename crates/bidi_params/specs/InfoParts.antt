@@ -9,11 +9,11 @@ use Rattle.bidi_shape.specs.ScalarShapes.{string_shape}
 use Rattle.bidi_shape.specs.FieldTables.{required_table, optional_table, ext_table}
 use Rattle.bidi_shape.specs.Table.{table_tree}
 use Rattle.bidi_params.specs.InfoLaws.{InfoOf, rows_with}
-use Rattle.bidi_params.specs.InfoView.{Beside, tree_of_children}
+use Rattle.bidi_params.specs.InfoView.{OwnMembers, tree_of_children}
 use Rattle.bidi_params.specs.declared.browsing_context.info.Info.{Info}
 
 -- clientWindow, context, originalOpener, url, userContext, ? parent, and other members
-abbrev pub info_parts : InfoOf Beside
+abbrev pub info_parts : InfoOf OwnMembers
 info_parts = record {
   table = required_table string_shape (required_table string_shape (required_table (nullable_shape string_shape)
       (required_table string_shape (required_table string_shape (optional_table (nullable_shape string_shape) ext_table)))));

@@ -10,34 +10,34 @@ use Rattle.bidi_params.specs.InfoLaws.{InfoOf, info_tree, children_tree, PartsAr
 use Rattle.bidi_params.specs.declared.browsing_context.info.Info.{Info, Info-F, fold-Info, out-Info, the_lemmas}
 
 -- the members beside `children`
-abbrev pub Beside : Type 0
-Beside = Required (String Global) (Required (String Global) (Required (Option (String Global)) (Required (String Global) (Required (String Global) (Optional (Option (String Global)) Ext)))))
+abbrev pub OwnMembers : Type 0
+OwnMembers = Required (String Global) (Required (String Global) (Required (Option (String Global)) (Required (String Global) (Required (String Global) (Optional (Option (String Global)) Ext)))))
 
-abbrev pub beside_of : {A : Type 0} → Info-F A → Beside
+abbrev pub beside_of : {A : Type 0} → Info-F A → OwnMembers
 beside_of i = (i.client_window, (i.context, (i.original_opener, (i.url, (i.user_context, (i.parent, i.ext))))))
 
-abbrev pub children_step : Option (Vec (Content Beside) Global) → Children Beside
+abbrev pub children_step : Option (Vec (Content OwnMembers) Global) → Children OwnMembers
 children_step None = left_out
 children_step (Some v) = listed (contents_of v.items)
 
-abbrev pub info_step : Info-F (Content Beside) → Content Beside
+abbrev pub info_step : Info-F (Content OwnMembers) → Content OwnMembers
 info_step i = told (beside_of i) (children_step i.children)
 
-abbrev pub content : Info → Content Beside
-content = fold-Info (Content Beside) info_step
+abbrev pub content : Info → Content OwnMembers
+content = fold-Info (Content OwnMembers) info_step
 
-abbrev pub children_content : Option (Vec Info Global) → Children Beside
+abbrev pub children_content : Option (Vec Info Global) → Children OwnMembers
 children_content None = left_out
 children_content (Some v) = listed (contents_of (map content v.items))
 
 pub content-told : (i : Info) → content i ≡ told (beside_of (out-Info i)) (children_content (out-Info i).children)
 content-told i = search (rules, the_lemmas)
 
-abbrev pub tree_of_info : InfoOf Beside → Info → Node
+abbrev pub tree_of_info : InfoOf OwnMembers → Info → Node
 tree_of_info n i = info_tree n (content i)
 
-abbrev pub tree_of_children : InfoOf Beside → Option (Vec Info Global) → Node
+abbrev pub tree_of_children : InfoOf OwnMembers → Option (Vec Info Global) → Node
 tree_of_children n c = children_tree n (children_content c)
 
-abbrev pub InfoIsWell : InfoOf Beside → Info → Type 0
+abbrev pub InfoIsWell : InfoOf OwnMembers → Info → Type 0
 InfoIsWell n i = PartsAreWell n (content i)

@@ -24,7 +24,7 @@ impl EmptyParams {
     ghost use Rattle.bidi_shape.specs.Made.{Makes};
     ghost use Rattle.bidi_shape.specs.ValueLaws.{others_of};
 
-    /// The params, with further members. Takes no memory.
+    /// The parameters, with further members. Takes no memory.
     ///
     /// # Errors
     /// `TooDeep`: a further member has an `Odd` in it, or more than 60 levels.

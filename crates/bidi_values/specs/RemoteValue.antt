@@ -103,10 +103,10 @@ held_map tag handle internal_id others =
     (put_part (codes "internalId") (option_map (λ s. node.text (string_bytes s)) internal_id) others)))
 
 -- and with a value
-abbrev pub held_value : List ℕ → Option (String Global) → Option (String Global) → Node → Node
-held_value tag handle internal_id t = held_map tag handle internal_id (member (codes "value") t no_members)
+abbrev pub held_with_value : List ℕ → Option (String Global) → Option (String Global) → Node → Node
+held_with_value tag handle internal_id t = held_map tag handle internal_id (member (codes "value") t no_members)
 
-pub remote_list_not_plain : (k : ListKind) (h i : Option (String Global)) (t : Node) → Fits (held_value (list_text k) h i t) remote_plain → ⊥
+pub remote_list_not_plain : (k : ListKind) (h i : Option (String Global)) (t : Node) → Fits (held_with_value (list_text k) h i t) remote_plain → ⊥
 remote_list_not_plain Array None None t = misfits_by 20 refl
 remote_list_not_plain Array None (Some u) t = misfits_by 20 refl
 remote_list_not_plain Array (Some s) None t = misfits_by 20 refl
@@ -116,7 +116,7 @@ remote_list_not_plain Set None (Some u) t = misfits_by 20 refl
 remote_list_not_plain Set (Some s) None t = misfits_by 20 refl
 remote_list_not_plain Set (Some s) (Some u) t = misfits_by 20 refl
 
-pub remote_pairs_not_plain : (k : PairsKind) (h i : Option (String Global)) (t : Node) → Fits (held_value (pairs_text k) h i t) remote_plain → ⊥
+pub remote_pairs_not_plain : (k : PairsKind) (h i : Option (String Global)) (t : Node) → Fits (held_with_value (pairs_text k) h i t) remote_plain → ⊥
 remote_pairs_not_plain Object None None t = misfits_by 20 refl
 remote_pairs_not_plain Object None (Some u) t = misfits_by 20 refl
 remote_pairs_not_plain Object (Some s) None t = misfits_by 20 refl
@@ -126,7 +126,7 @@ remote_pairs_not_plain Map None (Some u) t = misfits_by 20 refl
 remote_pairs_not_plain Map (Some s) None t = misfits_by 20 refl
 remote_pairs_not_plain Map (Some s) (Some u) t = misfits_by 20 refl
 
-pub remote_list_not_pairs : (k : ListKind) (h i : Option (String Global)) (t : Node) → Fits (held_value (list_text k) h i t) remote_pairs → ⊥
+pub remote_list_not_pairs : (k : ListKind) (h i : Option (String Global)) (t : Node) → Fits (held_with_value (list_text k) h i t) remote_pairs → ⊥
 remote_list_not_pairs Array None None t = misfits_by 20 refl
 remote_list_not_pairs Array None (Some u) t = misfits_by 20 refl
 remote_list_not_pairs Array (Some s) None t = misfits_by 20 refl
@@ -136,7 +136,7 @@ remote_list_not_pairs Set None (Some u) t = misfits_by 20 refl
 remote_list_not_pairs Set (Some s) None t = misfits_by 20 refl
 remote_list_not_pairs Set (Some s) (Some u) t = misfits_by 20 refl
 
-pub remote_pairs_not_list : (k : PairsKind) (h i : Option (String Global)) (t : Node) → Fits (held_value (pairs_text k) h i t) remote_list → ⊥
+pub remote_pairs_not_list : (k : PairsKind) (h i : Option (String Global)) (t : Node) → Fits (held_with_value (pairs_text k) h i t) remote_list → ⊥
 remote_pairs_not_list Object None None t = misfits_by 20 refl
 remote_pairs_not_list Object None (Some u) t = misfits_by 20 refl
 remote_pairs_not_list Object (Some s) None t = misfits_by 20 refl

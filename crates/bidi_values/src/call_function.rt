@@ -24,7 +24,7 @@ use std::alloc::{AllocError, Global};
 /// ? resultOwnership: Ownership, ? this: LocalValue, ? userActivation: bool, Extensible }`
 ///
 /// `functionDeclaration` is looked up in the table of a play, and not run. `awaitPromise` and `userActivation` have no
-/// effect here, and `this` is checked alone. Absent, `arguments` is empty, and `resultOwnership` is `none`.
+/// effect here; `this` is checked, and has no other effect. Absent, `arguments` is empty, and `resultOwnership` is `none`.
 ///
 /// After WebDriver BiDi, "The script.callFunction Command".
 #[derive(Drop)]

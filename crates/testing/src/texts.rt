@@ -1,7 +1,7 @@
 //! Trees and values of texts, and texts of trees and values.
 ghost use Rattle.std.specs.Prelude.{IfOk};
 
-use bidi_shape::{MakeFault, Parsed, Shape};
+use bidi_shape::{Ext, MakeFault, Parsed, Shape};
 use bidi_tree::{Members, Tree, parse, read, write};
 use json::{Scratch, Value};
 use std::alloc::Global;
@@ -79,4 +79,10 @@ pub fn variant_of<X: Shape + Debug>(alloc: Global, text: &str) -> Result<String,
 /// A text of one's own.
 pub fn owned(alloc: Global, text: &str) -> Result<String, Fail> {
     Ok(String::from_str(alloc, text)?)
+}
+
+/// A name, and further members.
+pub fn with_further(alloc: Global, name: &str, ext: Ext) -> Result<String, Fail> {
+    let ext = written(alloc, Tree::Map(ext.copy_members()?))?;
+    Ok(format!(in alloc; "{name} {ext}")?)
 }

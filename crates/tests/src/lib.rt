@@ -1,4 +1,4 @@
-//! The tests of trees, values, messages, the local end and what the programs share, through their public calls.
+//! The tests of values, messages, the local end and what the programs share, through their public calls.
 //!
 //! A file for each library, or a folder. What is asked stands in tables, which are texts of rows.
 #![tactic(auto)]
@@ -15,7 +15,5 @@ mod messages;
 mod params;
 #[cfg(test)]
 mod shape;
-#[cfg(test)]
-mod tree;
 #[cfg(test)]
 mod values;

@@ -1,17 +1,17 @@
 //! Commands, results, events and errors: what texts are judged to be or read as, and the texts that are sent.
 ghost use Rattle.std.specs.Prelude.{IfOk};
 
-use crate::params::session::alternative_text;
 use bidi_messages::{
-    CommandData, ErrorCode, EventData, EventName, Message, Method, Named, ResultData, Sent,
+    CommandData, ErrorCode, EventData, EventName, Message, Method, Named, ResultData, Sendable,
     Subject, Verdict, data_of, error_text, event_text, judge, read_message, response_text,
     result_of, text_of,
 };
+use bidi_params::UnsubscribeParameters;
 use bidi_tree::{JsUint, Tree, are_whole};
 use std::alloc::{AllocError, Global};
 use std::test::Fail;
 use testing::rows::{Asked, check_rows};
-use testing::texts::{members_of, owned, tree_of, written};
+use testing::texts::{members_of, owned, tree_of, with_further, written};
 
 struct Messages;
 
@@ -166,7 +166,7 @@ fn refused(alloc: Global, id: Option<JsUint>, code: ErrorCode) -> Result<String,
 }
 
 /// The text of what was read.
-fn again<M: Sent>(alloc: Global, value: M) -> Result<String, Fail>
+fn again<M: Sendable>(alloc: Global, value: M) -> Result<String, Fail>
     requires { M.shape.well value }
 {
     Ok(text_of(alloc, &value)?)
@@ -174,7 +174,12 @@ fn again<M: Sent>(alloc: Global, value: M) -> Result<String, Fail>
 
 fn unsubscribe(alloc: Global, text: &str) -> Result<String, Fail> {
     match data_of(alloc, Method::SessionUnsubscribe, &tree_of(alloc, text)?) {
-        Ok(CommandData::SessionUnsubscribe(parameters)) => alternative_text(alloc, parameters),
+        Ok(CommandData::SessionUnsubscribe(UnsubscribeParameters::ById(by_id))) => {
+            with_further(alloc, "by id", by_id.ext)
+        }
+        Ok(CommandData::SessionUnsubscribe(UnsubscribeParameters::ByEvents(by_events))) => {
+            with_further(alloc, "by events", by_events.ext)
+        }
         Ok(_) => Err(Fail::from("another command")),
         Err(fault) => Ok(format!(in alloc; "{fault:?}")?),
     }

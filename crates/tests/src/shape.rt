@@ -1,5 +1,4 @@
 //! The forms of the grammar, each at a type that has it: `docs/FORMATS.md`.
-use crate::params::session::SessionMade;
 use bidi_params::{CloseParameters, RealmInfo, UnsubscribeParameters};
 use bidi_shape::{Bare, Either, Ext, OneOrMore, Shape, ShapeFault, Tag, Typed};
 use bidi_tree::{JsInt, JsUint};
@@ -186,24 +185,4 @@ fn each_form_takes_what_fits(rt: HostRuntime) -> Result<(), Fail> {
     check_rows::<Shapes>(rt.alloc(), LISTS)?;
     check_rows::<Shapes>(rt.alloc(), CHOICES)?;
     check_rows::<Shapes>(rt.alloc(), TAGGED)
-}
-
-/// The events `["e"]` with further members: the second of two alternatives, of which the first has subscriptions.
-const MADE: &str = r#"
-UnsubscribeByEvents {} -> {"events":["e"]}
-UnsubscribeByEvents {"x":[1]} -> {"events":["e"],"x":[1]}
-UnsubscribeByEvents {"subscriptions":[]} -> {"events":["e"],"subscriptions":[]}
-UnsubscribeByEvents {"events":[]} -> Clash
-UnsubscribeByEvents {"events":[],"subscriptions":["a"]} -> Clash
-UnsubscribeByEvents {"events":[],"x":1.5} -> Clash
-UnsubscribeByEvents {"subscriptions":["a"]} -> Shadowed
-UnsubscribeByEvents {"x":[-0]} -> TooDeep
-the earlier alternative does not take such a member either | UnsubscribeByEvents {"subscriptions":["a"],"x":1.5} -> TooDeep
-UnsubscribeByEvents {"x":«60 [»«60 ]»} -> {"events":["e"],"x":«60 [»«60 ]»}
-UnsubscribeByEvents {"x":«61 [»«61 ]»} -> TooDeep
-"#;
-
-#[test]
-fn a_constructor_refuses_with_the_first_cause(rt: HostRuntime) -> Result<(), Fail> {
-    check_rows::<SessionMade>(rt.alloc(), MADE)
 }

@@ -11,7 +11,7 @@ ghost use Rattle.bidi_shape.specs.Parts.{PartFits};
 ghost use Rattle.bidi_shape.specs.Outcome.{IfNoFit};
 ghost use Rattle.bidi_params.specs.InfoContent.{told};
 ghost use Rattle.bidi_params.specs.InfoParts.{info_parts};
-ghost use Rattle.bidi_params.specs.InfoLaws.{info_map, rows_with, children_node, BesideIsWell, info_shape};
+ghost use Rattle.bidi_params.specs.InfoLaws.{info_map, rows_with, children_node, OwnMembersAreWell, info_shape};
 ghost use Rattle.bidi_params.specs.declared.browsing_context.info.Info.{out-Info};
 ghost use Rattle.bidi_params.specs.InfoView.{beside_of, content, children_content, tree_of_info, InfoIsWell};
 
@@ -118,7 +118,7 @@ impl Info {
 }
 
 /// The members beside `children`.
-type Beside = Required<
+type OwnMembers = Required<
     String,
     Required<
         String,
@@ -178,13 +178,13 @@ fn read_infos<S: Parsed>(alloc: Global, items: &[S]) -> Result<Vec<Info>, ShapeF
 fn read_beside<'a, S: Parsed>(
     alloc: Global,
     tree: &'a S,
-) -> Result<(Beside, Option<&'a [S]>), ShapeFault>
+) -> Result<(OwnMembers, Option<&'a [S]>), ShapeFault>
     ensures ok { IfOk result (λ p. (info_map info_parts.table p.0 (children_node (option_map (λ x. items_of (map S.tree x.now)) p.1)) ≡ S.tree tree.now)
-        × BesideIsWell info_parts p.0) }
+        × OwnMembersAreWell info_parts p.0) }
     ensures no_fit { IfNoFit result ((τ : Term) → Fits (S.tree tree.now) (map_of (rows_with info_parts.table τ) info_parts.table.openness) → ⊥) }
 {
     tree.check_map()?;
-    let beside = Beside::read(
+    let beside = OwnMembers::read(
         alloc,
         tree,
         &[
@@ -238,7 +238,7 @@ fn items_or_null<S: Parsed>(children: &S) -> Result<Option<&[S]>, ShapeFault>
     }
 }
 
-fn with_children(beside: Beside, children: Option<Vec<Info>>) -> Info
+fn with_children(beside: OwnMembers, children: Option<Vec<Info>>) -> Info
     ensures { content result ≡ told beside (children_content children) }
 {
     let Required(

@@ -31,7 +31,7 @@ impl NewParameters {
     // In the order of the rule.
     const NAMES: &'static [&'static str] = &["capabilities"];
 
-    /// The params, with further members. Takes no memory.
+    /// The parameters, with further members. Takes no memory.
     ///
     /// # Errors
     /// - `Clash`: a further member is called `capabilities`.

@@ -36,7 +36,7 @@ impl SubscribeParameters {
     // In the order of the rule.
     const NAMES: &'static [&'static str] = &["events", "contexts", "userContexts"];
 
-    /// The params, with further members. Takes no memory.
+    /// The parameters, with further members. Takes no memory.
     ///
     /// # Errors
     /// - `Clash`: a further member is called `events`, `contexts` or `userContexts`.
@@ -207,7 +207,7 @@ impl UnsubscribeById {
     // In the order of the rule.
     const NAMES: &'static [&'static str] = &["subscriptions"];
 
-    /// The params, with further members. Takes no memory.
+    /// The parameters, with further members. Takes no memory.
     ///
     /// # Errors
     /// - `Clash`: a further member is called `subscriptions`.
@@ -284,7 +284,7 @@ impl UnsubscribeByEvents {
     // In the order of the rule.
     const NAMES: &'static [&'static str] = &["events"];
 
-    /// The params, with further members.
+    /// The parameters, with further members.
     ///
     /// # Errors
     /// - `Clash`: a further member is called `events`.

@@ -1,5 +1,5 @@
 use Rattle.std.proofs.Common.{◌∙◌, None, ap, rules}
-use Rattle.bidi_params.specs.InfoView.{Beside}
+use Rattle.bidi_params.specs.InfoView.{OwnMembers}
 use Rattle.bidi_params.specs.declared.browsing_context.info.Info.{the_lemmas}
 use Rattle.bidi_browser.specs.Urls.{url_text}
 use Rattle.bidi_browser.specs.ContextRows.{row_of}
@@ -7,7 +7,7 @@ use Rattle.bidi_browser.proofs.InfoLemmas.{info-told, info-within, beside-told, 
 use Rattle.bidi_browser.proofs.contexts.Context.shown.Goals as goal
 
 -- what stands beside the children
-abbrev beside : goal.After-empty → Beside
+abbrev beside : goal.After-empty → OwnMembers
 beside c = (c.in_ok-id_text.field-0, (c.in_ok-id_text-2.field-0, (None, (c.in_ok-from_str.field-0, (c.in_ok-from_str-2.field-0, (c.args.parent, c.empty.result))))))
 
 pub returns-clause-tree : goal.returns-clause-tree

@@ -4,12 +4,11 @@ use bidi_params::{
     SubscribeParameters, SubscribeResult, UnsubscribeByEvents, UnsubscribeById,
     UnsubscribeParameters,
 };
-use bidi_shape::Ext;
-use bidi_tree::{Members, Tree};
+use bidi_tree::Members;
 use std::alloc::Global;
 use std::test::Fail;
 use testing::rows::{Asked, check_rows};
-use testing::texts::{again, members_of, owned, told, value_of, written};
+use testing::texts::{again, members_of, owned, told, value_of, with_further};
 
 /// What a text reads as, by the name of a type.
 struct Session;
@@ -107,28 +106,20 @@ fn texts_fit_or_not(rt: HostRuntime) -> Result<(), Fail> {
     check_rows::<Session>(rt.alloc(), TEXTS)
 }
 
-fn alternative(alloc: Global, text: &str) -> Result<String, Fail> {
-    alternative_text(alloc, value_of(alloc, text)?)
-}
-
 /// The name of the alternative, and its further members.
-pub(crate) fn alternative_text(
-    alloc: Global,
-    parameters: UnsubscribeParameters,
-) -> Result<String, Fail> {
-    match parameters {
-        UnsubscribeParameters::ById(by_id) => with_name(alloc, "by id", by_id.ext),
-        UnsubscribeParameters::ByEvents(by_events) => with_name(alloc, "by events", by_events.ext),
+fn alternative(alloc: Global, text: &str) -> Result<String, Fail> {
+    match value_of(alloc, text)? {
+        UnsubscribeParameters::ById(by_id) => with_further(alloc, "by id", by_id.ext),
+        UnsubscribeParameters::ByEvents(by_events) => with_further(
+            alloc,
+            "by events",
+            by_events.ext,
+        ),
     }
 }
 
-fn with_name(alloc: Global, name: &str, ext: Ext) -> Result<String, Fail> {
-    let ext = written(alloc, Tree::Map(ext.copy_members()?))?;
-    Ok(format!(in alloc; "{name} {ext}")?)
-}
-
 /// What becomes of the same parts with further members, by the name of a type.
-pub(crate) struct SessionMade;
+struct SessionMade;
 
 impl Asked for SessionMade {
     fn found(alloc: Global, word: &str, text: &str) -> Result<String, Fail> {
@@ -217,6 +208,26 @@ UnsubscribeByEvents {"x":«61 [»«61 ]»} -> TooDeep
 #[test]
 fn made_with_further_members(rt: HostRuntime) -> Result<(), Fail> {
     check_rows::<SessionMade>(rt.alloc(), MADE)
+}
+
+/// The events `["e"]` with further members: the second of two alternatives, of which the first has subscriptions.
+const ALTERNATIVES: &str = r#"
+UnsubscribeByEvents {} -> {"events":["e"]}
+UnsubscribeByEvents {"x":[1]} -> {"events":["e"],"x":[1]}
+UnsubscribeByEvents {"subscriptions":[]} -> {"events":["e"],"subscriptions":[]}
+UnsubscribeByEvents {"events":[]} -> Clash
+UnsubscribeByEvents {"events":[],"subscriptions":["a"]} -> Clash
+UnsubscribeByEvents {"events":[],"x":1.5} -> Clash
+UnsubscribeByEvents {"subscriptions":["a"]} -> Shadowed
+UnsubscribeByEvents {"x":[-0]} -> TooDeep
+the earlier alternative does not take such a member either | UnsubscribeByEvents {"subscriptions":["a"],"x":1.5} -> TooDeep
+UnsubscribeByEvents {"x":«60 [»«60 ]»} -> {"events":["e"],"x":«60 [»«60 ]»}
+UnsubscribeByEvents {"x":«61 [»«61 ]»} -> TooDeep
+"#;
+
+#[test]
+fn a_constructor_refuses_with_the_first_cause(rt: HostRuntime) -> Result<(), Fail> {
+    check_rows::<SessionMade>(rt.alloc(), ALTERNATIVES)
 }
 
 fn requests_with(alloc: Global, ext: Members) -> Result<String, Fail> {
