@@ -5,8 +5,8 @@ use Rattle.std.proofs.lemmas.Bool.Decides.{nat_tests}
 use Rattle.std.proofs.lemmas.List.{length-map, map-append}
 use Rattle.std.proofs.lemmas.List.Elements.{filter-append}
 use Rattle.url.specs.Parts.{Parts}
-use Rattle.bidi_browser.specs.declared.id.Kind.{Kind}
-use Rattle.bidi_browser.specs.declared.id.Kind.TheVariants.{Context, Realm, Window}
+use Rattle.bidi_handles.specs.declared.id.Kind.{Kind}
+use Rattle.bidi_handles.specs.declared.id.Kind.TheVariants.{Context, Realm, Window}
 use Rattle.bidi_browser.specs.Urls.{about_blank}
 use Rattle.bidi_browser.specs.Acts.{Act, Made, Framed, Removed, Moved, gives, given, next_number}
 use Rattle.bidi_browser.specs.Contexts.{parent_of, top_of, level_of, window_of, is_under, is_gone, is_alive, up_to, contexts}

@@ -4,10 +4,11 @@ use Rattle.std.specs.Prelude.{◌==◌, not, if◌then◌else◌, filter}
 use Rattle.std.proofs.lemmas.Bool.Decides.{nat_tests}
 use Rattle.std.proofs.lemmas.List.Elements.{All-nil, All-push, All-weaker, All-filter}
 use Rattle.bidi_tree.specs.Node.{Node}
-use Rattle.bidi_browser.specs.declared.id.Kind.TheVariants.{Realm, Handle}
+use Rattle.bidi_handles.specs.declared.id.Kind.TheVariants.{Realm, Handle}
 use Rattle.bidi_browser.specs.Acts.{Act, Made, Framed, Moved, Removed, Logged, Tabled, Ran, Disowned, Looked, next_number}
 use Rattle.bidi_browser.specs.Accepted.{AreAccepted}
-use Rattle.bidi_browser.specs.Realms.{has_id, value_of, handles_of}
+use Rattle.bidi_handles.specs.Ids.{has_id}
+use Rattle.bidi_browser.specs.Realms.{value_of, handles_of}
 use Rattle.bidi_browser.proofs.AcceptedLemmas.{act-sound}
 
 -- what is given in another realm is not held in this one

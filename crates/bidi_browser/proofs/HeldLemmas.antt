@@ -4,10 +4,11 @@ use Rattle.std.specs.Prelude.{◌==◌, not, ◌&&◌, ◌||◌, if◌then◌els
 use Rattle.std.specs.List.{list_any}
 use Rattle.std.proofs.lemmas.Bool.Decides.{nat_tests, Decides-eqb}
 use Rattle.bidi_tree.specs.Node.{Node}
-use Rattle.bidi_browser.specs.declared.id.Kind.TheVariants.{Context, Handle}
+use Rattle.bidi_handles.specs.declared.id.Kind.TheVariants.{Context, Handle}
 use Rattle.bidi_browser.specs.Acts.{Act, Ran, Disowned, Ending, given, next_number}
 use Rattle.bidi_browser.specs.Contexts.{is_gone, is_alive}
-use Rattle.bidi_browser.specs.Realms.{realm_of, value_of, has_id, handles_of}
+use Rattle.bidi_handles.specs.Ids.{has_id}
+use Rattle.bidi_browser.specs.Realms.{realm_of, value_of, handles_of}
 use Rattle.bidi_browser.specs.ContextRows.{row_at, rows, changed, held_in, without_in}
 use Rattle.bidi_browser.proofs.AcceptedLemmas.{alive-above, alive-below}
 use Rattle.bidi_browser.proofs.RealmLemmas.{realm-one}

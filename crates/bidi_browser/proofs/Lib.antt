@@ -1,9 +1,5 @@
 pub mod OnLiterals
-pub mod Spelling
-pub mod IdFacts
-pub mod IdLemmas
 pub mod UrlFacts
-pub mod ArgumentFacts
 pub mod PushLemmas
 pub mod InfoLemmas
 pub mod TellingLemmas
@@ -19,11 +15,6 @@ pub mod PlanLemmas
 pub mod NavigationLemmas
 pub mod WalkLemmas
 pub mod ScriptTableLemmas
-pub mod ValueLemmas
-pub mod SizeLemmas
-pub mod ResolveLemmas
 pub mod RowLemmas
-pub mod SearchLemmas
-pub mod WellLemmas
 pub mod ScriptLemmas
 pub mod CallLemmas

@@ -4,7 +4,7 @@ use Rattle.std.specs.Prelude.{◌==◌, not, ◌&&◌, if◌then◌else◌, find
 use Rattle.std.specs.List.{list_any, position, position_or_len}
 use Rattle.std.proofs.lemmas.List.Quantifiers.{position-Some}
 use Rattle.std.proofs.lemmas.Bool.Decides.{nat_tests, Decides-eqb}
-use Rattle.bidi_browser.specs.declared.id.Kind.TheVariants.{Context, Realm}
+use Rattle.bidi_handles.specs.declared.id.Kind.TheVariants.{Context, Realm}
 use Rattle.bidi_browser.specs.Acts.{Act, Moved, Move, given, next_number}
 use Rattle.bidi_browser.specs.Accepted.{AreAccepted}
 use Rattle.bidi_browser.specs.Contexts.{is_under, is_born, is_gone, is_alive, up_to, contexts, children_of, subtree_of}
@@ -24,11 +24,6 @@ changed-at {X} g f c xs i x d at e = let here = position-Some (λ y. (g y).numbe
     by [] i less passes before e = absurd (omega arith)
     by (y ∷ xs) zero less passes before e = rw passes (ap (λ r. r ∷ map g xs) e)
     by (y ∷ xs) (suc i) less passes before e = rw (before 0 (omega arith)) (ap (λ rows. g y ∷ rows) (by xs i (omega arith) passes (λ j lower. before (suc j) (omega arith)) e))
-
--- no value is there
-pub no_value : {X : Type 0} (o : Option X) → ((x : X) → o ≡ Some x → ⊥) → o ≡ None
-no_value None none = refl
-no_value (Some x) none = absurd (none x refl)
 
 -- no item passes
 position-none : {X : Type 0} (p : X → Bool) (xs : List X) → (let none : Option ℕ = None in position p xs ≡ none) → find p xs ≡ None

@@ -10,30 +10,30 @@ use Rattle.url.specs.Parts.{Parts}
 use Rattle.bidi_tree.specs.Node.{Node, levels, items_levels}
 use Rattle.bidi_tree.specs.View.{items_of}
 use Rattle.bidi_messages.specs.declared.result_data.ResultData.{ResultData}
-use Rattle.bidi_messages.specs.declared.error_code.ErrorCode.TheVariants.{NoSuchFrame}
+use Rattle.bidi_codes.specs.declared.error_code.ErrorCode.TheVariants.{NoSuchFrame}
 use Rattle.bidi_messages.specs.contracts.result_data.ResultDataSubjectMethod.TheImpl as results
 use Rattle.bidi_values.specs.declared.log_entry.Level.{Level}
-use Rattle.bidi_browser.specs.declared.refusal.Refusal.{Refusal}
-use Rattle.bidi_browser.specs.declared.refusal.Refusal.TheVariants.{Code, NoMemory}
+use Rattle.bidi_codes.specs.declared.refusal.Refusal.{Refusal}
+use Rattle.bidi_codes.specs.declared.refusal.Refusal.TheVariants.{Code, NoMemory}
 use Rattle.bidi_browser.specs.declared.occurrence.Occurrence as in_hand
 use Rattle.bidi_browser.specs.declared.contexts.Context as declared_context
 use Rattle.bidi_browser.specs.declared.plan.Plan.{Plan}
 use Rattle.bidi_browser.specs.declared.plan.Edit.TheVariants.{Keep}
-use Rattle.bidi_browser.specs.declared.id.Kind.TheVariants.{Context, Realm, Window}
+use Rattle.bidi_handles.specs.declared.id.Kind.TheVariants.{Context, Realm, Window}
 use Rattle.bidi_browser.specs.Urls.{about_blank, parsed}
 use Rattle.bidi_browser.specs.Acts.{Act, Made, Framed, Tabled, Logged, Looked, next_number}
 use Rattle.bidi_browser.specs.Places.{begun_at}
 use Rattle.bidi_browser.specs.Accepted.{AreAccepted}
 use Rattle.bidi_browser.specs.Actions.{Action, Log, TableRow, is_asked}
 use Rattle.bidi_browser.specs.Found.{AreTold}
-use Rattle.bidi_browser.specs.Maps.{nothing}
+use Rattle.bidi_handles.specs.Maps.{nothing}
 use Rattle.bidi_browser.specs.Contexts.{parent_of, top_of, level_of, window_of, contexts, context_of, tops, subtree_of, tree_order}
-use Rattle.bidi_browser.specs.Checks.{found}
+use Rattle.bidi_codes.specs.Checks.{found}
 use Rattle.bidi_browser.specs.Outcome.{outcome, context_named, looked, looked_at, has_room, frame_outcome, log_outcome, oldest_window, row_in, row_checked}
 use Rattle.bidi_browser.specs.Occurrences.{Occurrence, realm_info, realm_destroyed, context_destroyed, removal, tree_events}
 use Rattle.bidi_browser.specs.Occurs.{Happens, Replies, roots, realm_holders, birth, occurs}
 use Rattle.bidi_browser.specs.ContextRows.{Row, row_of, row_at, realm_info_in, created_in, realm_created_in, realm_destroyed_in, entry_added_in}
-use Rattle.bidi_browser.specs.Params.{text_at}
+use Rattle.bidi_handles.specs.Params.{text_at}
 use Rattle.bidi_browser.specs.Plans.{Plans, Makes, AreWell, IsWellResult, IsWellTold, reply_in, leaves_tables}
 use Rattle.bidi_browser.specs.View.{seen, result_tree}
 use Rattle.bidi_browser.proofs.BirthLemmas.{row-made, row-framed}

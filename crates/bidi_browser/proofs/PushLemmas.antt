@@ -1,9 +1,8 @@
 -- A list of what is told grows by one item at a time.
-use Rattle.std.proofs.Common.{◌≡◌, ◌∙◌, ◌+◌, ◌<◌, ℕ, Bool, true, false, List, [], ◌∷◌, ◌++◌, length, get_or, take, map, append-nil, sym, ap, ap₂, subst}
-use Rattle.std.specs.Prelude.{flat_map, filter, if◌then◌else◌}
+use Rattle.std.proofs.Common.{◌≡◌, ◌∙◌, ◌+◌, ◌<◌, ℕ, List, [], ◌∷◌, ◌++◌, length, get_or, take, map, append-nil, sym, ap, ap₂, subst}
+use Rattle.std.specs.Prelude.{flat_map}
 use Rattle.std.specs.List.{AllByRecursion}
 use Rattle.std.proofs.lemmas.List.{map-append, append_assoc, take_more}
-use Rattle.std.proofs.lemmas.List.Elements.{filter-append}
 use Rattle.std.proofs.lemmas.Grind.{flat_map-append}
 
 -- what is told of the next item too
@@ -35,17 +34,6 @@ pub pushed-more : {X Y : Type 0} (f : X → Y) (items : List X) (i : ℕ) (x : X
 pushed-more f items i x before now after less at held added =
     added ∙ (ap (λ ys. ys ++ f x ∷ []) held ∙ (append_assoc before (map f (take i items)) (f x ∷ [])
     ∙ ap (λ ys. before ++ ys) (sym (ap (map f) (take_more items i x less ∙ ap (λ y. take i items ++ y ∷ []) (sym at)) ∙ map-append f (take i items) (x ∷ [])))))
-
--- of those that pass, what g gives of the next item too
-pub picked-more : {X Y Z : Type 0} (f : X → Y) (p : Y → Bool) (g : Y → Z) (items : List X) (i : ℕ) (x : X) (b : Bool) (now after : List Z) → i < length items → x ≡ get_or items i x → p (f x) ≡ b
-    → now ≡ map g (filter p (map f (take i items))) → after ≡ (if b then now ++ g (f x) ∷ [] else now) → after ≡ map g (filter p (map f (take (i + 1) items)))
-picked-more f p g items i x b now after less at passes held is =
-    is ∙ (by b passes ∙ sym (ap (λ xs. map g (filter p (map f xs))) (take_more items i x less ∙ ap (λ y. take i items ++ y ∷ []) (sym at))
-    ∙ (ap (λ ys. map g (filter p ys)) (map-append f (take i items) (x ∷ [])) ∙ (ap (map g) (filter-append p (map f (take i items)) (f x ∷ [])) ∙ map-append g (filter p (map f (take i items))) (filter p (f x ∷ []))))))
-  where
-    by : (b : Bool) → p (f x) ≡ b → (if b then now ++ g (f x) ∷ [] else now) ≡ map g (filter p (map f (take i items))) ++ map g (filter p (f x ∷ []))
-    by true e = rw e (ap (λ zs. zs ++ g (f x) ∷ []) held)
-    by false e = rw e (held ∙ sym (append-nil (map g (filter p (map f (take i items))))))
 
 -- the list that g gives of the next item too
 pub joined-more : {X Y : Type 0} (g : X → List Y) (items : List X) (i : ℕ) (d : X) (before now after : List Y) → i < length items → now ≡ before ++ flat_map g (take i items)

@@ -5,11 +5,12 @@ use Rattle.std.specs.List.{list_any}
 use Rattle.std.specs.Option.{option_eq}
 use Rattle.std.proofs.lemmas.Bool.Decides.{nat_tests, Decides-eqb}
 use Rattle.std.proofs.lemmas.List.Folds.{list_any-append}
-use Rattle.bidi_browser.specs.declared.id.Kind.TheVariants.{Context}
+use Rattle.bidi_handles.specs.declared.id.Kind.TheVariants.{Context}
 use Rattle.bidi_browser.specs.Acts.{Act, Framed, Removed, given, next_number}
 use Rattle.bidi_browser.specs.Contexts.{parent_of, level_of, is_under, is_born, is_gone, is_alive, up_to, contexts, children_of, subtree_within, subtree_of}
 use Rattle.bidi_browser.specs.Accepted.{AreAccepted}
 use Rattle.bidi_browser.specs.ContextRows.{Row, row_at, rows}
+use Rattle.bidi_handles.proofs.ListLemmas.{agree}
 use Rattle.bidi_browser.proofs.AcceptedLemmas.{act-sound, alive-above, alive-below, parent-born, under-parent, under-le, levels-accepted, level-child, parents-alive}
 
 -- ---- lists
@@ -188,12 +189,6 @@ pub under-self : (past : List Act) (c : ℕ) → is_under past c c ≡ true
 under-self [] c = (Decides-eqb c c).1 refl
 under-self (Framed p url ∷ past) c = self-step (c == next_number past Context) (c == c) (is_under past c p) (is_under past c c) ((Decides-eqb c c).1 refl) (under-self past c)
 under-self (act ∷ past) c = under-self past c
-
--- two tests agree where each follows from the other
-pub agree : (x y : Bool) → (x ≡ true → y ≡ true) → (y ≡ true → x ≡ true) → x ≡ y
-agree true y there back = sym (there refl)
-agree false true there back = back refl
-agree false false there back = refl
 
 -- a subtree has just the live contexts at and below its root
 pub any-subtree : (past : List Act) (a c : ℕ) → AreAccepted past → is_alive past a ≡ true → is_alive past c ≡ true → list_any (λ n. n == c) (subtree_of past a) ≡ is_under past a c

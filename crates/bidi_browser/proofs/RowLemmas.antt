@@ -17,24 +17,10 @@ use Rattle.bidi_browser.specs.Outcome.{oldest_window}
 use Rattle.bidi_browser.specs.Accepted.{AreAccepted}
 use Rattle.bidi_browser.specs.ContextRows.{Row, row_of, row_at, rows, children_in, below, inner_info, infos_below, root_info, info_in, created_in, destroyed_in, realm_created_in, realm_destroyed_in}
 use Rattle.bidi_browser.proofs.AcceptedLemmas.{levels-accepted, level-child}
+use Rattle.bidi_handles.proofs.ListLemmas.{filter-map, find-map, find-same}
 use Rattle.bidi_browser.proofs.RemovalLemmas.{any-contexts}
 
 -- ---- lists
-
--- what a look-up by what f gives finds
-pub find-map : {A B : Type 0} (f : A → B) (p : B → Bool) (xs : List A) → option_map f (find (λ x. p (f x)) xs) ≡ find p (map f xs)
-find-map f p [] = refl
-find-map f p (x ∷ xs) = let ih = find-map f p xs in grind (arith, ih)
-
--- two tests that agree find the same
-pub find-same : {A : Type 0} (p q : A → Bool) (xs : List A) → ((x : A) → p x ≡ q x) → find p xs ≡ find q xs
-find-same p q [] same = refl
-find-same p q (x ∷ xs) same = let ih = find-same p q xs same in let here = same x in grind (arith, ih, here)
-
--- a filter by what f gives
-pub filter-map : {A B : Type 0} (f : A → B) (p : B → Bool) (xs : List A) → filter p (map f xs) ≡ map f (filter (λ x. p (f x)) xs)
-filter-map f p [] = refl
-filter-map f p (x ∷ xs) = let ih = filter-map f p xs in grind (arith, ih)
 
 -- two tests that agree keep the same
 filter-same : {A : Type 0} (p q : A → Bool) (xs : List A) → ((x : A) → p x ≡ q x) → filter p xs ≡ filter q xs

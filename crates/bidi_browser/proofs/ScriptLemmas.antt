@@ -2,15 +2,15 @@
 use Rattle.std.proofs.Common.{◌≡◌, ◌∙◌, ℕ, Bool, true, false, List, [], Option, Some, None, Ok, refl, sym, ap}
 use Rattle.std.specs.Prelude.{find, option_map}
 use Rattle.std.specs.Borrow.{Bor}
-use Rattle.bidi_messages.specs.declared.error_code.ErrorCode.TheVariants.{NoSuchFrame}
+use Rattle.bidi_codes.specs.declared.error_code.ErrorCode.TheVariants.{NoSuchFrame}
 use Rattle.bidi_browser.specs.declared.contexts.Context.{Context}
 use Rattle.bidi_browser.specs.Acts.{Act}
-use Rattle.bidi_browser.specs.Checks.{found}
+use Rattle.bidi_codes.specs.Checks.{found}
 use Rattle.std.specs.Prelude.{map, filter, bytes_eq, ◌∷◌, Vec}
 use Rattle.std.specs.declared.alloc.Global.{Global}
 use Rattle.std.proofs.Common.{subst}
 use Rattle.bidi_messages.specs.declared.result_data.ResultData.{ResultData}
-use Rattle.bidi_browser.specs.declared.id.Kind.TheVariants as kind
+use Rattle.bidi_handles.specs.declared.id.Kind.TheVariants as kind
 use Rattle.bidi_browser.specs.declared.plan.Plan.{Plan}
 use Rattle.bidi_browser.specs.declared.plan.Edit.TheVariants.{Disown}
 use Rattle.bidi_browser.specs.Acts.{Disowned, given}
@@ -24,8 +24,8 @@ use Rattle.bidi_browser.specs.Occurs.{script_result}
 use Rattle.bidi_browser.specs.Outcome.{ending_outcome}
 use Rattle.bidi_browser.specs.Plans.{EditMakes}
 use Rattle.bidi_browser.specs.Realms.{value_of}
-use Rattle.bidi_browser.specs.Runs.{result_told, shown_as}
-use Rattle.bidi_browser.specs.Values.{takes_handle}
+use Rattle.bidi_browser.specs.Runs.{result_told}
+use Rattle.bidi_handles.specs.Values.{takes_handle, shown_as}
 use Rattle.bidi_browser.specs.Contexts.{contexts, is_alive, up_to}
 use Rattle.bidi_browser.specs.Occurs.{Replies, occurs}
 use Rattle.bidi_browser.specs.Outcome.{context_named, realm_targeted, outcome}
@@ -35,7 +35,8 @@ use Rattle.bidi_browser.proofs.AcceptedLemmas.{find-passes, named-alive}
 use Rattle.bidi_browser.specs.ContextRows as rows
 use Rattle.bidi_browser.specs.ContextRows.{row_at}
 use Rattle.bidi_browser.specs.Found.{IsTargeted}
-use Rattle.bidi_browser.specs.Realms.{realm_of, realms, has_id, handles_of}
+use Rattle.bidi_handles.specs.Ids.{has_id}
+use Rattle.bidi_browser.specs.Realms.{realm_of, realms, handles_of}
 use Rattle.bidi_browser.proofs.RowLemmas.{realm-found}
 
 -- the context in hand whose realm passes, where there is one

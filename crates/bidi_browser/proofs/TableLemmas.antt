@@ -14,9 +14,10 @@ use Rattle.bidi_browser.specs.TableInHand.{AreTabled}
 use Rattle.bidi_browser.specs.Stands.{StandsFor}
 use Rattle.bidi_browser.specs.Acts.{Act, Removed, Tabled, Ran, Disowned, Logged, Looked, Ending, next_number, Row as Said}
 use Rattle.bidi_tree.specs.Node.{Node}
-use Rattle.bidi_browser.specs.declared.id.Kind.TheVariants.{Handle}
+use Rattle.bidi_handles.specs.declared.id.Kind.TheVariants.{Handle}
 use Rattle.bidi_browser.specs.declared.context_table.Contexts.{Contexts}
-use Rattle.bidi_browser.specs.Realms.{realm_of, value_of, has_id, handles_of}
+use Rattle.bidi_handles.specs.Ids.{has_id}
+use Rattle.bidi_browser.specs.Realms.{realm_of, value_of, handles_of}
 use Rattle.bidi_browser.specs.ContextRows.{changed, held_in, without_in}
 use Rattle.bidi_browser.proofs.HeldLemmas.{rows-ran, rows-disowned}
 use Rattle.bidi_browser.specs.Contexts.{is_alive, tops, subtree_of, tree_order}

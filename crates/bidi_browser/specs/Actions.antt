@@ -5,7 +5,7 @@ use Rattle.bidi_tree.specs.Node.{Node, null}
 use Rattle.bidi_values.specs.declared.log_entry.Level.{Level}
 use Rattle.bidi_messages.specs.declared.method.Method.{Method}
 use Rattle.bidi_messages.specs.declared.method.Method.TheVariants.{BrowsingContextActivate, BrowsingContextClose, BrowsingContextCreate, BrowsingContextGetTree, BrowsingContextNavigate, BrowsingContextReload, BrowsingContextTraverseHistory, ScriptEvaluate, ScriptCallFunction, ScriptDisown, ScriptGetRealms}
-use Rattle.bidi_browser.specs.Params.{tree_if_at, text_if_at, number_if_at, trees_if_at, text_at, texts_at, whole_at, entry_at}
+use Rattle.bidi_handles.specs.Params.{tree_if_at, text_if_at, number_if_at, trees_if_at, text_at, texts_at, whole_at, entry_at}
 
 -- a tab of a window, or a window of its own
 pub data CreateType : Type 0 where

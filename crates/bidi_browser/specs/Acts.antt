@@ -3,8 +3,8 @@ use Rattle.std.specs.Prelude.{ℕ, suc, Bool, true, false, if◌then◌else◌, 
 use Rattle.url.specs.Parts.{Parts}
 use Rattle.bidi_tree.specs.Node.{Node}
 use Rattle.bidi_values.specs.declared.log_entry.Level.{Level}
-use Rattle.bidi_browser.specs.declared.id.Kind.{Kind}
-use Rattle.bidi_browser.specs.declared.id.Kind.TheVariants.{Context, Realm, Navigation, Handle, Window}
+use Rattle.bidi_handles.specs.declared.id.Kind.{Kind}
+use Rattle.bidi_handles.specs.declared.id.Kind.TheVariants.{Context, Realm, Navigation, Handle, Window}
 
 -- where a navigation leads: to a URL, to the same entry again, or to another entry of the session history
 pub data Move : Type 0 where

@@ -23,7 +23,7 @@ use Rattle.bidi_values.specs.declared.target.Target.TheVariants as target
 use Rattle.bidi_values.specs.declared.table_row.TableRow as declared_row
 use Rattle.bidi_values.specs.contracts.table_row.TableRowShape.TheImpl as rows
 use Rattle.bidi_tree.specs.Node.{Node}
-use Rattle.bidi_browser.specs.ValuesInHand.{local_tree}
+use Rattle.bidi_handles.specs.ValuesInHand.{local_tree}
 use Rattle.bidi_browser.specs.declared.action.Action as declared_action
 use Rattle.bidi_browser.specs.declared.action.Action.TheVariants as in_code
 use Rattle.bidi_browser.specs.Actions.{CreateType, Tab, OwnWindow, Wait, Started, Interactive, Complete, Action, Activate, Close, Create, GetTree, Navigate, Reload, TraverseHistory, Target, ContextTarget, RealmTarget, Evaluate, CallFunction, Disown, GetRealms, Frame, Unframe, Log, TableRow}

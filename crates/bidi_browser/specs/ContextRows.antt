@@ -1,5 +1,5 @@
 -- The table of live contexts: of each its row, in order of birth; how rows lie below one another, and what is told of them.
-use Rattle.std.specs.Prelude.{ℕ, zero, suc, nat_eq, ◌==◌, if◌then◌else◌, not, List, [], ◌∷◌, ◌++◌, bytes_eq, filter, find, flat_map, map, Option, Some, None, option_map}
+use Rattle.std.specs.Prelude.{ℕ, zero, suc, nat_eq, ◌==◌, if◌then◌else◌, not, List, [], ◌∷◌, ◌++◌, filter, flat_map, map, Option, Some, None}
 use Rattle.std.specs.List.{list_any}
 use Rattle.std.specs.Option.{option_eq}
 use Rattle.url.specs.Parts.{Parts}
@@ -7,16 +7,16 @@ use Rattle.bidi_tree.specs.Node.{Node, null, text, Members, no_members}
 use Rattle.bidi_values.specs.declared.log_entry.Level.{Level}
 use Rattle.bidi_messages.specs.declared.event.EventName.{EventName}
 use Rattle.bidi_messages.specs.declared.event.EventName.TheVariants.{ContextCreated, ContextDestroyed, RealmCreated, RealmDestroyed, EntryAdded}
-use Rattle.bidi_browser.specs.declared.id.Kind.TheVariants as kind
+use Rattle.bidi_handles.specs.declared.id.Kind.TheVariants as kind
 use Rattle.bidi_browser.specs.declared.contexts.Context.{Context}
-use Rattle.bidi_browser.specs.Ids.{id_of}
+use Rattle.bidi_handles.specs.Ids.{has_id}
 use Rattle.bidi_browser.specs.Urls.{url_text, origin_text}
 use Rattle.bidi_browser.specs.Acts.{Act, Move}
 use Rattle.bidi_browser.specs.Contexts.{contexts, parent_of, top_of, level_of, window_of}
 use Rattle.bidi_browser.specs.Places.{Entries, present, moved, entries_of}
-use Rattle.bidi_browser.specs.Realms.{realm_of, has_id, handles_of}
-use Rattle.bidi_browser.specs.ValuesInHand.{handle_seen}
-use Rattle.bidi_browser.specs.Maps.{◌being◌and◌, mapped, word, number, id_tree}
+use Rattle.bidi_browser.specs.Realms.{realm_of, handles_of}
+use Rattle.bidi_handles.specs.Handles.{handles_seen, held_among}
+use Rattle.bidi_handles.specs.Maps.{◌being◌and◌, mapped, word, number, id_tree}
 use Rattle.bidi_browser.specs.Info.{parent_tree, children_tree, depth_below}
 use Rattle.bidi_browser.specs.HistoryInHand.{entries_in}
 use Rattle.bidi_browser.specs.Occurrences.{Occurrence, console_entry}
@@ -38,11 +38,11 @@ url_in row = present row.entries
 
 -- the value that the handle of an id holds in its realm
 abbrev pub held_in_row : Row → List ℕ → Option Node
-held_in_row row id = option_map (λ held. held.1) (find (λ held. bytes_eq id (id_of kind.Handle held.0)) row.handles)
+held_in_row row = held_among row.handles
 
 -- the row of a context in hand
 abbrev pub row_of : Context → Row
-row_of c = record { number = c.number; parent = c.parent; top = c.top; level = c.level; window = c.window; realm = c.realm; entries = entries_in c.history; handles = map handle_seen c.handles.items }
+row_of c = record { number = c.number; parent = c.parent; top = c.top; level = c.level; window = c.window; realm = c.realm; entries = entries_in c.history; handles = handles_seen c.handles }
 
 -- the row that a past makes of a context
 abbrev pub row_at : List Act → ℕ → Row

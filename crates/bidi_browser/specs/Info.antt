@@ -1,12 +1,12 @@
 -- The tree of what is told of a context. After WebDriver BiDi, "The browsingContext.Info Type"; that `originalOpener` is null and `userContext` is `default` is this project's own.
 use Rattle.std.specs.Prelude.{ℕ, ◌-◌, zero, suc, map, Option, Some, None, option_map}
 use Rattle.bidi_tree.specs.Node.{Node, null, text, Members, no_members}
-use Rattle.bidi_browser.specs.declared.id.Kind.TheVariants.{Context, Window}
+use Rattle.bidi_handles.specs.declared.id.Kind.TheVariants.{Context, Window}
 use Rattle.bidi_browser.specs.Acts.{Act}
 use Rattle.bidi_browser.specs.Urls.{url_text}
 use Rattle.bidi_browser.specs.Contexts.{parent_of, window_of, children_of}
 use Rattle.bidi_browser.specs.Places.{url_of}
-use Rattle.bidi_browser.specs.Maps.{◌being◌and◌, mapped, listed, word, id_tree}
+use Rattle.bidi_handles.specs.Maps.{◌being◌and◌, mapped, listed, word, id_tree}
 use Rattle.std.specs.Prelude.{List}
 
 -- the parent's id, or null for a top-level context

@@ -5,7 +5,7 @@ use Rattle.std.specs.List.{AllByRecursion}
 use Rattle.bidi_tree.specs.Node.{Node, null, text, levels}
 use Rattle.bidi_shape.specs.Value.{ShapeOf}
 use Rattle.bidi_params.specs.declared.browsing_context.info.Info.{Info}
-use Rattle.bidi_browser.specs.Maps.{listed}
+use Rattle.bidi_handles.specs.Maps.{listed}
 
 -- the list of their trees, or null where they are not told
 abbrev pub children_node : (Info → Node) → Option (Vec Info Global) → Node

@@ -1,14 +1,9 @@
-pub mod Ids
 pub mod Urls
 pub mod Acts
 pub mod Contexts
 pub mod Places
 pub mod Realms
-pub mod Params
 pub mod Actions
-pub mod Checks
-pub mod Values
-pub mod Maps
 pub mod Info
 pub mod Occurrences
 pub mod Outcome
@@ -16,12 +11,8 @@ pub mod Accepted
 pub mod Occurs
 pub mod View
 pub mod HistoryInHand
-pub mod Sizes
-pub mod ValuesInHand
 pub mod ContextRows
 pub mod InfosInHand
-pub mod Measured
-pub mod Resolves
 pub mod Found
 pub mod TableInHand
 pub mod Asked

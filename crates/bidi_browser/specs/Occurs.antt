@@ -2,14 +2,14 @@
 use Rattle.std.specs.Prelude.{ℕ, Bool, true, false, List, [], ◌∷◌, ◌++◌, map, flat_map, codes, bytes_eq, Option, Some, None, option_to_list, unwrap_or}
 use Rattle.url.specs.Parts.{Parts}
 use Rattle.bidi_tree.specs.Node.{Node, text, no_members}
-use Rattle.bidi_browser.specs.declared.id.Kind.TheVariants.{Context, Realm, Navigation, Handle}
+use Rattle.bidi_handles.specs.declared.id.Kind.TheVariants.{Context, Realm, Navigation, Handle}
 use Rattle.bidi_browser.specs.Urls.{url_text}
 use Rattle.bidi_browser.specs.Acts.{Act, Made, Framed, Removed, Moved, Logged, Tabled, Ran, Disowned, Looked, Move, Across, Ending, Returned, Threw, next_number}
 use Rattle.bidi_browser.specs.Contexts.{context_of, tops, children_of, tree_order}
 use Rattle.bidi_browser.specs.Places.{entries_of, moved, present}
 use Rattle.bidi_browser.specs.Actions.{Wait, Started, Interactive, Complete, Action, Unframe, Navigate, Reload, GetTree, GetRealms}
-use Rattle.bidi_browser.specs.Values.{with_member}
-use Rattle.bidi_browser.specs.Maps.{◌being◌and◌, mapped, listed, nothing, word, number, id_tree}
+use Rattle.bidi_handles.specs.Values.{with_member}
+use Rattle.bidi_handles.specs.Maps.{◌being◌and◌, mapped, listed, nothing, word, number, id_tree}
 use Rattle.bidi_browser.specs.Info.{info_of}
 use Rattle.bidi_messages.specs.declared.event.EventName.TheVariants.{NavigationStarted, DomContentLoaded, Load}
 use Rattle.bidi_browser.specs.Occurrences.{Occurrence, context_created, realm_created, realm_destroyed, realm_info, removal, navigation_event, entry_added}

@@ -6,8 +6,8 @@ use Rattle.bidi_messages.specs.declared.method.Method.{Method}
 use Rattle.bidi_messages.specs.declared.result_data.ResultData.{ResultData}
 use Rattle.bidi_messages.specs.contracts.event.EventDataSubjectEventName.TheImpl as events
 use Rattle.bidi_messages.specs.contracts.result_data.ResultDataSubjectMethod.TheImpl as results
-use Rattle.bidi_browser.specs.declared.id.Kind.{Kind}
-use Rattle.bidi_browser.specs.declared.id.Kind.TheVariants.{Context, Realm, Handle, Window}
+use Rattle.bidi_handles.specs.declared.id.Kind.{Kind}
+use Rattle.bidi_handles.specs.declared.id.Kind.TheVariants.{Context, Realm, Handle, Window}
 use Rattle.bidi_browser.specs.declared.browser.Browser.{Browser}
 use Rattle.bidi_browser.specs.declared.context_table.Contexts.{Contexts}
 use Rattle.bidi_browser.specs.declared.contexts.Context as declared_context
@@ -18,11 +18,13 @@ use Rattle.bidi_browser.specs.declared.plan.Navigation.{Navigation}
 use Rattle.bidi_browser.specs.declared.plan.Change.{Change}
 use Rattle.bidi_browser.specs.declared.plan.Edit.{Edit}
 use Rattle.bidi_browser.specs.declared.plan.Edit.TheVariants.{Keep, Add, Remove, Navigate, SetRow, Hold, Disown}
-use Rattle.bidi_browser.specs.declared.refusal.Refusal.{Refusal}
-use Rattle.bidi_browser.specs.declared.refusal.Refusal.TheVariants.{Code, NoMemory}
+use Rattle.bidi_codes.specs.declared.refusal.Refusal.{Refusal}
+use Rattle.bidi_codes.specs.declared.refusal.Refusal.TheVariants.{Code, NoMemory}
 use Rattle.bidi_browser.specs.Acts.{Act, Removed, Moved, Tabled, Ran, Disowned, Logged, Looked, Ending, gives, next_number}
-use Rattle.bidi_browser.specs.Realms.{realm_of, value_of, has_id, handles_of}
-use Rattle.bidi_browser.specs.ValuesInHand.{handle_seen}
+use Rattle.bidi_handles.specs.Handles.{HasSpare}
+use Rattle.bidi_handles.specs.Ids.{has_id}
+use Rattle.bidi_browser.specs.Realms.{realm_of, value_of, handles_of}
+use Rattle.bidi_handles.specs.ValuesInHand.{handle_seen}
 use Rattle.bidi_browser.specs.Contexts.{is_alive, children_of, subtree_of}
 use Rattle.bidi_browser.specs.Actions.{Action, is_asked}
 use Rattle.bidi_browser.specs.Outcome.{outcome}
@@ -49,7 +51,7 @@ HasRoomIn contexts number move = (i : ℕ) (d : declared_context.Context) → po
 
 -- there is room for one more handle in the realm of the context of that number, where it is there
 abbrev pub HasRoomForHandle : Contexts → ℕ → Type 0
-HasRoomForHandle contexts number = (i : ℕ) (d : declared_context.Context) → position (λ c. c.number == number) contexts.live.items ≡ Some i → (let handles = (get_or contexts.live.items i d).handles in vec_len handles < vec_capacity handles)
+HasRoomForHandle contexts number = (i : ℕ) (d : declared_context.Context) → position (λ c. c.number == number) contexts.live.items ≡ Some i → HasSpare (get_or contexts.live.items i d).handles
 
 -- and for what a change puts in
 abbrev pub EditHasRoom : Browser → Edit → Type 0

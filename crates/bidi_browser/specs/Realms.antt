@@ -1,9 +1,8 @@
 -- Realms, the handles that hold values in them, and the table that stands for running scripts. After WebDriver BiDi, "The script Module".
-use Rattle.std.specs.Prelude.{ℕ, ◌==◌, Bool, true, not, if◌then◌else◌, List, [], ◌∷◌, ◌++◌, map, filter, find, bytes_eq, Option, Some, None, is_some, option_map}
-use Rattle.std.specs.List.{list_any}
+use Rattle.std.specs.Prelude.{ℕ, ◌==◌, true, not, if◌then◌else◌, List, [], ◌∷◌, ◌++◌, map, filter, find, bytes_eq, Option, Some, None, is_some, option_map}
 use Rattle.bidi_tree.specs.Node.{Node}
-use Rattle.bidi_browser.specs.declared.id.Kind.TheVariants.{Context, Realm, Handle}
-use Rattle.bidi_browser.specs.Ids.{id_of}
+use Rattle.bidi_handles.specs.declared.id.Kind.TheVariants.{Context, Realm, Handle}
+use Rattle.bidi_handles.specs.Ids.{id_of, has_id}
 use Rattle.bidi_browser.specs.Acts.{Act, Made, Framed, Moved, Tabled, Ran, Disowned, Ending, Returned, Threw, Row, next_number}
 use Rattle.bidi_browser.specs.Contexts.{contexts}
 
@@ -23,10 +22,6 @@ realms past = map (realm_of past) (contexts past)
 abbrev pub value_of : Ending → Node
 value_of (Returned value) = value
 value_of (Threw value) = value
-
--- the id of the n-th handle is among these
-abbrev pub has_id : List (List ℕ) → ℕ → Bool
-has_id ids n = list_any (bytes_eq (id_of Handle n)) ids
 
 -- the handles given in a realm and not disowned since, by number, each with its value
 abbrev pub handles_of : List Act → ℕ → List (ℕ × Node)

@@ -1,23 +1,23 @@
 -- What running a script in hand comes to.
 use Rattle.std.specs.Prelude.{◌≡◌, ℕ, Bool, true, false, ◌&&◌, nat_lt, List, length, Option, Some, None, Result, Ok, Err, ⊤}
 use Rattle.bidi_tree.specs.Node.{Node, no_members}
-use Rattle.bidi_messages.specs.declared.error_code.ErrorCode.{ErrorCode}
-use Rattle.bidi_messages.specs.declared.error_code.ErrorCode.TheVariants.{UnsupportedOperation, UnknownError}
+use Rattle.bidi_codes.specs.declared.error_code.ErrorCode.{ErrorCode}
+use Rattle.bidi_codes.specs.declared.error_code.ErrorCode.TheVariants.{UnsupportedOperation, UnknownError}
 use Rattle.bidi_values.specs.contracts.evaluate_result.EvaluateResultShape.TheImpl as results
-use Rattle.bidi_browser.specs.declared.handle.Ending as declared_ending
-use Rattle.bidi_browser.specs.declared.id.Kind.TheVariants.{Handle, Realm}
-use Rattle.bidi_browser.specs.declared.refusal.Refusal.{Refusal}
-use Rattle.bidi_browser.specs.declared.refusal.Refusal.TheVariants.{Code, NoMemory}
+use Rattle.bidi_handles.specs.declared.handle.Ending as declared_ending
+use Rattle.bidi_handles.specs.declared.id.Kind.TheVariants.{Handle, Realm}
+use Rattle.bidi_codes.specs.declared.refusal.Refusal.{Refusal}
+use Rattle.bidi_codes.specs.declared.refusal.Refusal.TheVariants.{Code, NoMemory}
 use Rattle.bidi_browser.specs.declared.scripts.Ran.{Ran as RanInHand}
 use Rattle.bidi_browser.specs.Acts.{Act, Ran, Ending, Returned, Threw, Row, next_number}
-use Rattle.bidi_browser.specs.Checks.{◌>>=◌, found}
-use Rattle.bidi_browser.specs.Maps.{◌being◌and◌, mapped, word, id_tree}
+use Rattle.bidi_codes.specs.Checks.{◌>>=◌, found}
+use Rattle.bidi_handles.specs.Maps.{◌being◌and◌, mapped, word, id_tree}
 use Rattle.bidi_browser.specs.Occurs.{exception_details, script_result}
 use Rattle.bidi_browser.specs.Outcome.{ending_of, ending_outcome, this_resolved}
 use Rattle.bidi_browser.specs.Plans.{EditMakes}
 use Rattle.bidi_browser.specs.Realms.{realm_of, row_of, value_of, handles_of, held_value}
 use Rattle.bidi_browser.specs.TableInHand.{ending_seen}
-use Rattle.bidi_browser.specs.Values.{arguments, takes_handle, with_member}
+use Rattle.bidi_handles.specs.Values.{arguments, takes_handle}
 
 -- how a script of that text ends with these arguments; or the table has no row of it
 abbrev pub IsEnding : Result declared_ending.Ending Refusal → List Act → List ℕ → List Node → Type 0
@@ -43,11 +43,6 @@ HasReturned (Err NoMemory) value = ⊤
 abbrev pub IsNextHandle : Result ℕ ErrorCode → List Act → ℕ → Type 0
 IsNextHandle (Ok n) past r = (nat_lt (length (handles_of past r)) 1000 ≡ true) × (n ≡ next_number past Handle)
 IsNextHandle (Err code) past r = (nat_lt (length (handles_of past r)) 1000 ≡ false) × (code ≡ UnknownError)
-
--- the value with its handle, where it gets one
-abbrev pub shown_as : Option ℕ → Node → Node
-shown_as None value = value
-shown_as (Some n) value = with_member "handle" (id_tree Handle n) value
 
 -- what is told of an ending in a realm, with its value as it is shown
 abbrev pub result_told : ℕ → Ending → Node → Node

@@ -7,16 +7,16 @@ use Rattle.bidi_tree.specs.Node.{Node, levels}
 use Rattle.bidi_values.specs.declared.table_row.TableRow.{TableRow}
 use Rattle.bidi_values.specs.declared.table_row.TableRow.TheVariants as read
 use Rattle.bidi_values.specs.contracts.table_row.TableRowShape.TheImpl as rows
-use Rattle.bidi_browser.specs.declared.refusal.Refusal.{Refusal}
-use Rattle.bidi_browser.specs.declared.refusal.Refusal.TheVariants.{Code, NoMemory}
-use Rattle.bidi_browser.specs.declared.handle.Ending as declared_ending
-use Rattle.bidi_browser.specs.declared.handle.Ending.TheVariants as ends
+use Rattle.bidi_codes.specs.declared.refusal.Refusal.{Refusal}
+use Rattle.bidi_codes.specs.declared.refusal.Refusal.TheVariants.{Code, NoMemory}
+use Rattle.bidi_handles.specs.declared.handle.Ending as declared_ending
+use Rattle.bidi_handles.specs.declared.handle.Ending.TheVariants as ends
 use Rattle.bidi_browser.specs.declared.script_table.ScriptRow as declared_row
 use Rattle.bidi_browser.specs.declared.script_table.ScriptRow.TheVariants as in_code
 use Rattle.bidi_browser.specs.declared.script_table.ScriptTable.{ScriptTable}
 use Rattle.bidi_browser.specs.Acts.{Act, Row, EndsIn, GivesBack, Ending, Returned, Threw}
 use Rattle.bidi_browser.specs.Outcome.{row_checked}
-use Rattle.bidi_browser.specs.ValuesInHand.{remote_tree, held_tree}
+use Rattle.bidi_handles.specs.ValuesInHand.{remote_tree, held_tree}
 use Rattle.bidi_browser.specs.Realms.{row_of, tabled_texts}
 
 -- the tree of a row that was read

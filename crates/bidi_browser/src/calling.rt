@@ -5,20 +5,19 @@ ghost use Rattle.bidi_browser.specs.Asked.{arguments_asked, call_function_asked}
 ghost use Rattle.bidi_browser.specs.ContextRows.{row_of, row_at};
 ghost use Rattle.bidi_browser.specs.Plans.{HasIds, Plans, HasResultOf, IsWellPlanned};
 ghost use Rattle.bidi_browser.specs.Realms.{realm_of};
-ghost use Rattle.bidi_browser.specs.Resolves.{Gives};
+ghost use Rattle.bidi_handles.specs.Resolves.{Gives};
 ghost use Rattle.bidi_browser.specs.Runs.{call_ending};
 ghost use Rattle.bidi_browser.specs.Stands.{StandsFor};
 ghost use Rattle.bidi_browser.specs.TableInHand.{ending_seen};
-ghost use Rattle.bidi_browser.specs.ValuesInHand.{local_tree};
+ghost use Rattle.bidi_handles.specs.ValuesInHand.{local_tree};
 
 use crate::browser::Browser;
 use crate::contexts::Context;
-use crate::handle::Ending;
 use crate::looking::answered;
 use crate::plan::Plan;
-use crate::refusal::Refusal;
-use crate::resolving::{check_arguments, check_this};
 use crate::scripts::{Ran, ending_of, is_owned, run, targeted};
+use bidi_codes::Refusal;
+use bidi_handles::{Ending, check_arguments, check_this};
 use bidi_messages::{Method, ResultData};
 use bidi_values::{CallFunctionParameters, LocalValue};
 
@@ -59,8 +58,8 @@ fn called(
         → Gives ending_seen result (call_ending past (realm_of past c) (string_bytes params.now.function_declaration) (arguments_asked params.now) (option_map local_tree params.now.this)) }
 {
     let arguments = arguments_of(params);
-    check_arguments(browser.alloc, context, arguments)?;
-    check_this(browser.alloc, context, &params.this)?;
+    check_arguments(browser.alloc, &context.handles, arguments)?;
+    check_this(browser.alloc, &context.handles, &params.this)?;
     ending_of(browser, context, &params.function_declaration, arguments)
 }
 

@@ -2,7 +2,7 @@
 ghost use Rattle.std.specs.Prelude.{◌≡◌, ◌≤◌, ◌<◌, ◌^◌, ◌==◌, ◌*◌, ◌++◌, ℕ, List, ◌∷◌, [], true, nat_eq, None, Some, IfOk, OnOk, map, find, filter, not, length, bytes_eq, is_none, option_map};
 ghost use Rattle.std.specs.List.{list_any, position};
 ghost use Rattle.std.specs.Option.{option_eq};
-ghost use Rattle.bidi_browser.specs.Ids.{id_of};
+ghost use Rattle.bidi_handles.specs.Ids.{id_of};
 ghost use Rattle.bidi_browser.specs.Acts.{Act, Removed, Moved, gives, next_number};
 ghost use Rattle.bidi_browser.specs.Contexts.{contexts, context_of, is_alive, parent_of, tops, children_of, subtree_of, tree_order};
 ghost use Rattle.bidi_browser.specs.Info.{info_of, depth_below, children_tree};
@@ -11,10 +11,9 @@ ghost use Rattle.bidi_browser.specs.Realms.{realm_of};
 ghost use Rattle.bidi_browser.specs.InfosInHand.{AreWithin, AreWithinIfTold, IsWithin, children_node};
 
 use crate::contexts::Context;
-use crate::handle::Handle;
-use crate::id::Kind;
 use crate::plan::Navigation;
 use crate::session_history::Move;
+use bidi_handles::{Handle, Kind};
 use bidi_params::Info;
 use bidi_shape::Shape;
 use std::alloc::{AllocError, Global};
@@ -34,7 +33,7 @@ impl Contexts {
     ghost use Rattle.bidi_browser.specs.Accepted.{AreAccepted};
     ghost use Rattle.bidi_browser.specs.Plans.{HasRoomForOne, HasRoomForHandle, HasRoomIn, IsNavigation};
     ghost use Rattle.bidi_browser.specs.ContextRows.{held_in, without_in};
-    ghost use Rattle.bidi_browser.specs.ValuesInHand.{handle_seen};
+    ghost use Rattle.bidi_handles.specs.ValuesInHand.{handle_seen};
     ghost use Rattle.bidi_browser.specs.Places.{entries_of};
     ghost use Rattle.bidi_browser.specs.HistoryInHand.{move_of, Leads};
 
@@ -186,7 +185,7 @@ impl Contexts {
         ensures room { OnOk result (HasRoomForHandle self.new number) }
     {
         match place_of(&self.live, number) {
-            Some(place) => self.live[place].handles.reserve(1),
+            Some(place) => self.live[place].handles.reserve(),
             None => Ok(()),
         }
     }
@@ -230,8 +229,8 @@ fn take_out(contexts: &mut Vec<Context>, numbers: &[u64])
     contexts.retain(|context| !is_listed(numbers, context.number));
 }
 
-/// Whether a number is among these.
-pub(crate) fn is_listed(numbers: &[u64], number: u64) -> bool
+// Whether a number is among these.
+fn is_listed(numbers: &[u64], number: u64) -> bool
     ensures { result ≡ list_any (λ n. n == number) numbers.now }
 {
     numbers.iter().any(|n| *n == number)

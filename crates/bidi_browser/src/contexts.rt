@@ -1,25 +1,20 @@
 //! A live context, with the Infos and events that describe it.
-ghost use Rattle.std.specs.Prelude.{◌≡◌, ℕ, ◌≤◌, ◌<◌, ◌+◌, ◌^◌, [], ◌∷◌, ◌++◌, true, vec_len, vec_capacity, None, Some, IfOk, IfSome, bytes_eq, filter, find, map, not, string_bytes, ◌==◌, option_map};
-ghost use Rattle.std.specs.List.{All, list_any};
-ghost use Rattle.std.specs.List.Sorted.{IsNonDecreasing, IsStrictlyIncreasing};
+ghost use Rattle.std.specs.Prelude.{◌≡◌, ℕ, ◌≤◌, ◌<◌, ◌+◌, ◌^◌, [], None, Some, IfOk, IfSome, bytes_eq, option_map};
+ghost use Rattle.std.specs.List.{All};
 ghost use Rattle.std.proofs.Props.{props};
-ghost use Rattle.bidi_browser.specs.Ids.{id_of};
-ghost use Rattle.bidi_browser.specs.Realms.{has_id};
+ghost use Rattle.bidi_handles.specs.Ids.{id_of};
 ghost use Rattle.bidi_browser.specs.View.{occurrence_of};
 
-use crate::context_table::is_listed;
-use crate::handle::{Handle, HeldValue};
-use crate::id::{Kind, handle_number, id_text, is_id};
 use crate::occurrence::Occurrence;
 use crate::session_history::{Move, SessionHistory};
 use crate::urls::{about_blank, origin_text};
+use bidi_handles::{Handle, Handles, Kind, id_text, is_id};
 use bidi_messages::{EventData, EventName, Subject};
 use bidi_params::{Info, NavigationInfo, RealmDestroyedParameters, RealmInfo};
 use bidi_shape::{Ext, Shape};
 use bidi_tree::JsUint;
 use bidi_values::LogEntry;
 use std::alloc::{AllocError, Global};
-use std::rc::Rc;
 use url::Url;
 
 /// A live context.
@@ -40,20 +35,20 @@ pub(crate) struct Context {
     /// Its session history, which has its URL.
     pub history: SessionHistory,
     /// The handles of its realm, in order of number.
-    pub handles: Vec<Handle>,
+    pub handles: Handles,
     ghost number_fits: { number < 2 ^ 48 },
     ghost parent_fits: { IfSome parent (λ p. p < 2 ^ 48) } by { Prim.hlevel props },
     ghost window_fits: { window < 2 ^ 48 },
     ghost realm_fits: { realm < 2 ^ 48 },
-    ghost handles_ascend: { IsStrictlyIncreasing (map (λ h. h.number) handles.items) } by { Prim.hlevel props },
 }
 
 impl Context {
     ghost use Rattle.bidi_browser.specs.Urls.{about_blank};
     ghost use Rattle.bidi_browser.specs.HistoryInHand.{entries_in, move_of, HasRoomFor, Leads};
     ghost use Rattle.bidi_browser.specs.Places.{begun_at};
-    ghost use Rattle.bidi_browser.specs.ContextRows.{row_of, inner_info, root_info, shown_info, created_in, realm_info_at, realm_info_in, realm_began_in, realm_created_in, realm_destroyed_in, navigation_info_in, occurrence_in, moved_in, held_in, held_in_row, without_in};
-    ghost use Rattle.bidi_browser.specs.ValuesInHand.{handle_seen, held_tree};
+    ghost use Rattle.bidi_browser.specs.ContextRows.{row_of, inner_info, root_info, shown_info, created_in, realm_info_at, realm_info_in, realm_began_in, realm_created_in, realm_destroyed_in, navigation_info_in, occurrence_in, moved_in, held_in, without_in};
+    ghost use Rattle.bidi_handles.specs.Handles.{HasSpare};
+    ghost use Rattle.bidi_handles.specs.ValuesInHand.{handle_seen};
     ghost use Rattle.bidi_browser.specs.Info.{parent_tree};
     ghost use Rattle.bidi_browser.specs.InfosInHand.{children_node, parent_node, AreWithinIfTold, IsWithin};
     ghost use Rattle.bidi_messages.specs.declared.event.EventName.TheVariants.{ContextDestroyed, NavigationStarted, DomContentLoaded, Load, EntryAdded};
@@ -79,7 +74,7 @@ impl Context {
             window,
             realm,
             history: SessionHistory::begun_at(alloc, url)?,
-            handles: Vec::new(alloc),
+            handles: Handles::new(alloc),
         })
     }
 
@@ -104,7 +99,7 @@ impl Context {
             window: self.window,
             realm,
             history: SessionHistory::begun_at(alloc, url)?,
-            handles: Vec::new(alloc),
+            handles: Handles::new(alloc),
         })
     }
 
@@ -121,19 +116,17 @@ impl Context {
 
     /// Adds a handle to its realm, if the number is above those of all handles there. Takes no memory.
     pub(crate) fn hold(&mut self, handle: Handle)
-        requires { vec_len self.now.handles < vec_capacity self.now.handles }
+        requires { HasSpare self.now.handles }
         ensures { All (λ held. held.0 < handle.number) (row_of self.old).handles → row_of self.new ≡ held_in (handle_seen handle) (row_of self.old) }
     {
-        if may_come(&self.handles, handle.number) {
-            self.handles.push_reserved(handle);
-        }
+        self.handles.hold(handle);
     }
 
     /// Releases the handles of these numbers in its realm. Takes no memory.
     pub(crate) fn disown(&mut self, numbers: &[u64])
         ensures { row_of self.new ≡ without_in numbers.now (row_of self.old) }
     {
-        take_out(&mut self.handles, numbers);
+        self.handles.disown(numbers);
     }
 
     /// Whether a text is its id.
@@ -148,32 +141,6 @@ impl Context {
         ensures { result ≡ bytes_eq id.now (id_of Kind.Realm self.now.realm) }
     {
         is_id(id, Kind::Realm, 0, self.realm)
-    }
-
-    /// The value of the handle of this id in its realm. Does a binary search, and takes no memory.
-    pub(crate) fn held(&self, id: &str) -> Option<&Rc<HeldValue>>
-        ensures { option_map (λ h. held_tree h.now.value) result ≡ held_in_row (row_of self.now) id.now }
-    {
-        let handle = handle_of_id(&self.handles, id)?;
-        Some(&handle.value)
-    }
-
-    /// The numbers of the handles of its realm that have one of these ids.
-    pub(crate) fn numbers_of(
-        &self,
-        alloc: Global,
-        ids: &Vec<String>,
-    ) -> Result<Vec<u64>, AllocError>
-        ensures { IfOk result (λ numbers. numbers.items ≡ map (λ h. h.0) (filter (λ h. has_id (map string_bytes ids.now.items) h.0) (row_of self.now).handles)) }
-    {
-        let named = handle_numbers(alloc, ids)?;
-        let mut numbers = Vec::new(alloc);
-        for handle in &self.handles {
-            if is_among(&named, handle.number) {
-                numbers.push(handle.number)?;
-            }
-        }
-        Ok(numbers)
     }
 
     /// Its Info as one of its parent's children: these children, and no member `parent`.
@@ -374,61 +341,4 @@ impl Context {
             top: self.top,
         }
     }
-}
-
-// The handle of this id, among handles in ascending order of number.
-fn handle_of_id<'a>(handles: &'a [Handle], id: &str) -> Option<&'a Handle>
-    ensures { IsStrictlyIncreasing (map (λ h. h.number) handles.now) → option_map (λ h. h.now) result ≡ find (λ h. bytes_eq id.now (id_of Kind.Handle h.number)) handles.now }
-{
-    handle_at(handles, handle_number(id)?)
-}
-
-// The handle of this number, among handles in ascending order of number.
-fn handle_at(handles: &[Handle], number: u64) -> Option<&Handle>
-    ensures { IsStrictlyIncreasing (map (λ h. h.number) handles.now) → option_map (λ h. h.now) result ≡ find (λ h. h.number == number) handles.now }
-{
-    match handles.binary_search_by_key(&number, |handle| handle.number) {
-        Ok(place) => Some(&handles[place]),
-        Err(_) => None,
-    }
-}
-
-// Whether a handle of this number keeps the ascending order where it is added last.
-fn may_come(handles: &[Handle], number: u64) -> bool
-    ensures may { result ≡ true → IsStrictlyIncreasing (map (λ h. h.number) handles.now) → IsStrictlyIncreasing (map (λ h. h.number) handles.now ++ number ∷ []) }
-    ensures above { All (λ h. h.number < number) handles.now → result ≡ true }
-{
-    match handles.last() {
-        Some(last) => last.number < number,
-        None => true,
-    }
-}
-
-// Removes the handles of these numbers.
-fn take_out(handles: &mut Vec<Handle>, numbers: &[u64])
-    ensures { handles.new.items ≡ filter (λ h. not (list_any (λ n. n == h.number) numbers.now)) handles.old.items }
-{
-    handles.retain(|handle| !is_listed(numbers, handle.number));
-}
-
-// The numbers of the handles that these ids can stand for, in ascending order.
-fn handle_numbers(alloc: Global, ids: &[String]) -> Result<Vec<u64>, AllocError>
-    ensures order { IfOk result (λ numbers. IsNonDecreasing numbers.items) }
-    ensures ids { (n : ℕ) → n < 2 ^ 48 → IfOk result (λ numbers. list_any (λ m. m == n) numbers.items ≡ has_id (map string_bytes ids.now) n) }
-{
-    let mut numbers = Vec::new(alloc);
-    for id in ids {
-        if let Some(number) = handle_number(id) {
-            numbers.push(number)?;
-        }
-    }
-    numbers.sort_unstable();
-    Ok(numbers)
-}
-
-// Whether a number is among these, which are in ascending order.
-fn is_among(numbers: &[u64], number: u64) -> bool
-    ensures { IsNonDecreasing numbers.now → result ≡ list_any (λ n. n == number) numbers.now }
-{
-    numbers.binary_search(&number).is_ok()
 }

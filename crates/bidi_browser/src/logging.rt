@@ -4,7 +4,7 @@ ghost use Rattle.bidi_tree.specs.Node.{no_members, text};
 ghost use Rattle.bidi_browser.specs.Acts.{Act};
 ghost use Rattle.bidi_browser.specs.Actions.{Log};
 ghost use Rattle.bidi_browser.specs.ContextRows.{row_of, entry_added_in};
-ghost use Rattle.bidi_browser.specs.Maps.{◌being◌and◌, mapped, word, id_tree};
+ghost use Rattle.bidi_handles.specs.Maps.{◌being◌and◌, mapped, word, id_tree};
 ghost use Rattle.bidi_browser.specs.Occurrences.{console_entry};
 ghost use Rattle.bidi_browser.specs.Plans.{AreWell, Plans, IsWellPlanned};
 ghost use Rattle.bidi_browser.specs.Stands.{StandsFor};
@@ -12,11 +12,11 @@ ghost use Rattle.bidi_browser.specs.View.{seen};
 
 use crate::browser::Browser;
 use crate::contexts::Context;
-use crate::id::{Kind, id_text};
 use crate::looking::context_named;
 use crate::occurrence::Occurrence;
 use crate::plan::{Change, Edit, Plan};
-use crate::refusal::Refusal;
+use bidi_codes::Refusal;
+use bidi_handles::{Kind, id_text};
 use bidi_shape::{Named, Shape};
 use bidi_tree::JsUint;
 use bidi_values::{

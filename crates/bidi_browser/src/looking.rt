@@ -9,7 +9,7 @@ ghost use Rattle.bidi_browser.specs.ContextRows.{row_of, row_at, realm_info_in};
 ghost use Rattle.bidi_browser.specs.Found.{AreTold, IsFound, IsFoundIfNamed};
 ghost use Rattle.bidi_browser.specs.InfosInHand.{AreWithin};
 ghost use Rattle.bidi_browser.specs.Info.{info_of};
-ghost use Rattle.bidi_browser.specs.Maps.{nothing};
+ghost use Rattle.bidi_handles.specs.Maps.{nothing};
 ghost use Rattle.bidi_browser.specs.Occurrences.{realm_info};
 ghost use Rattle.bidi_browser.specs.Occurs.{realm_holders, roots, takes_windows};
 ghost use Rattle.bidi_browser.specs.Outcome.{context_named, looked_at, top_named, top_if_named};
@@ -20,7 +20,7 @@ use crate::browser::Browser;
 use crate::context_table::Contexts;
 use crate::contexts::Context;
 use crate::plan::{Change, Edit, Plan};
-use crate::refusal::Refusal;
+use bidi_codes::Refusal;
 use bidi_messages::{ErrorCode, Method, ResultData, Subject};
 use bidi_params::{
     EmptyResult, GetRealmsParameters, GetRealmsResult, GetTreeParameters, GetTreeResult, Info,

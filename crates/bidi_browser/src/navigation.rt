@@ -5,7 +5,7 @@ ghost use Rattle.bidi_browser.specs.Acts.{Act, Move as Led};
 ghost use Rattle.bidi_browser.specs.Asked.{navigate_asked, reload_asked, traverse_asked, wait_of};
 ghost use Rattle.bidi_browser.specs.ContextRows.{row_of, row_at};
 ghost use Rattle.bidi_browser.specs.Contexts.{children_of, subtree_of};
-ghost use Rattle.bidi_browser.specs.Maps.{◌being◌and◌, mapped, id_tree};
+ghost use Rattle.bidi_handles.specs.Maps.{◌being◌and◌, mapped, id_tree};
 ghost use Rattle.bidi_browser.specs.Navigations.{AreNext, navigation_events, before_reply, IsTold};
 ghost use Rattle.bidi_browser.specs.Occurs.{led_to};
 ghost use Rattle.bidi_browser.specs.Plans.{AreWell, HasIds, Plans, HasResultOf, IsWellPlanned};
@@ -15,14 +15,14 @@ ghost use Rattle.bidi_browser.specs.View.{seen};
 
 use crate::browser::Browser;
 use crate::contexts::Context;
-use crate::id::{Kind, id_text};
 use crate::looking::{context_named, nothing, top_named};
 use crate::occurrence::Occurrence;
 use crate::plan::{Change, Edit, Navigation, Numbers, Plan};
-use crate::refusal::Refusal;
 use crate::removals::push_removals;
 use crate::session_history::Move;
 use crate::urls::parsed;
+use bidi_codes::Refusal;
+use bidi_handles::{Kind, id_text};
 use bidi_messages::{ErrorCode, Method, ResultData};
 use bidi_params::{
     NavigateParameters, NavigateResult, ReloadParameters, TraverseHistoryParameters, Wait,

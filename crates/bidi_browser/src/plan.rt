@@ -2,10 +2,10 @@
 ghost use Rattle.std.specs.Prelude.{◌<◌, ◌^◌};
 
 use crate::contexts::Context;
-use crate::handle::Handle;
 use crate::occurrence::Occurrence;
 use crate::script_table::ScriptRow;
 use crate::session_history::Move;
+use bidi_handles::Handle;
 use bidi_messages::ResultData;
 
 /// What an accepted action does: its events, its result and its change. Nothing has changed until the change

@@ -14,8 +14,8 @@ use crate::contexts::Context;
 use crate::looking::{context_named, nothing, top_named};
 use crate::occurrence::Occurrence;
 use crate::plan::{Change, Edit, Plan};
-use crate::refusal::Refusal;
 use crate::telling::push_realms_gone;
+use bidi_codes::Refusal;
 use bidi_messages::{ErrorCode, Method, ResultData};
 use std::alloc::{AllocError, Global};
 

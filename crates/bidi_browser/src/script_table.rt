@@ -1,7 +1,7 @@
 //! The script table, which has the outcomes of scripts, since no script is run.
 ghost use Rattle.std.specs.Prelude.{◌≡◌, List, [], ◌∷◌, OnOk, option_map, string_bytes};
 
-use crate::handle::Ending;
+use bidi_handles::Ending;
 use std::alloc::{AllocError, Global};
 use std::collections::HashMap;
 

@@ -8,9 +8,9 @@ ghost use Rattle.bidi_browser.specs.ContextRows.{row_of, row_at, held_in_row};
 ghost use Rattle.bidi_browser.specs.Realms.{realm_of, value_of};
 ghost use Rattle.bidi_browser.specs.Runs.{HasReturned, HasRun, IsEnding, IsNextHandle};
 ghost use Rattle.bidi_browser.specs.TableInHand.{ending_seen};
-ghost use Rattle.bidi_browser.specs.Values.{arguments};
-ghost use Rattle.bidi_browser.specs.ValuesInHand.{held_tree, local_tree};
-ghost use Rattle.bidi_browser.specs.declared.refusal.Refusal.TheVariants as refused;
+ghost use Rattle.bidi_handles.specs.Values.{arguments};
+ghost use Rattle.bidi_handles.specs.ValuesInHand.{held_tree, local_tree};
+ghost use Rattle.bidi_codes.specs.declared.refusal.Refusal.TheVariants as refused;
 ghost use Rattle.bidi_tree.specs.Node.{Node, levels};
 ghost use Rattle.bidi_browser.specs.Found.{IsTargeted};
 ghost use Rattle.bidi_browser.specs.Outcome.{realm_targeted, undefined};
@@ -20,14 +20,12 @@ ghost use Rattle.bidi_browser.specs.Stands.{IsTableOf, StandsFor};
 use crate::browser::{Browser, NO_ID};
 use crate::context_table::Contexts;
 use crate::contexts::Context;
-use crate::handle::{Ending, Handle, HeldValue, ThrownValue};
 use crate::looking::{answered, context_named, nothing};
 use crate::plan::{Edit, Plan};
-use crate::refusal::Refusal;
-use crate::resolving::given_back;
 use crate::script_table::ScriptRow;
-use crate::showing::{takes_handle, told};
-use crate::tabling::held;
+use crate::showing::told;
+use bidi_codes::Refusal;
+use bidi_handles::{Ending, Handle, HeldValue, ThrownValue, given_back, held, takes_handle};
 use bidi_messages::{ErrorCode, Method, ResultData};
 use bidi_shape::Shape;
 use bidi_values::{
@@ -112,7 +110,7 @@ fn returned(
     ensures { (vs : List Node) → arguments (held_in_row (row_of context.now)) (map local_tree values.now) ≡ Ok vs → HasReturned result (unwrap_or (slice_get vs place) undefined) }
 {
     match at(values, place) {
-        Some(value) => Ok(Ending::Returned(given_back(alloc, context, value)?)),
+        Some(value) => Ok(Ending::Returned(given_back(alloc, &context.handles, value)?)),
         None => Ok(Ending::Returned(undefined(alloc)?)),
     }
 }
@@ -229,7 +227,7 @@ pub(crate) fn plan_disown(browser: &Browser, params: &DisownParameters) -> Resul
     ensures of_method { HasResultOf Method.ScriptDisown result }
 {
     let context = targeted(&browser.contexts, &params.target)?;
-    let numbers = context.numbers_of(browser.alloc, &params.handles)?;
+    let numbers = context.handles.numbers_of(browser.alloc, &params.handles)?;
     let result = ResultData::ScriptDisown(nothing(browser.alloc));
     let edit = Edit::Disown(context.number, numbers);
     Ok(answered(browser.alloc, result, edit))

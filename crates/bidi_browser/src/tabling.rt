@@ -3,26 +3,23 @@ ghost use Rattle.std.specs.Prelude.{◌≡◌, ◌≤◌, ℕ, List, [], None, I
 ghost use Rattle.bidi_browser.specs.Acts.{Act, Tabled};
 ghost use Rattle.bidi_browser.specs.Asked.{row_asked};
 ghost use Rattle.bidi_browser.specs.Outcome.{row_in};
-ghost use Rattle.bidi_browser.specs.Params.{text_at};
+ghost use Rattle.bidi_handles.specs.Params.{text_at};
 ghost use Rattle.bidi_browser.specs.Plans.{Makes, Plans, IsWellPlanned};
 ghost use Rattle.bidi_browser.specs.Stands.{StandsFor};
 ghost use Rattle.bidi_browser.specs.TableInHand.{IsFew, IsRowChecked, row_tree, throws};
-ghost use Rattle.bidi_browser.specs.ValuesInHand.{remote_tree};
-ghost use Rattle.bidi_browser.specs.declared.refusal.Refusal.TheVariants as Refusal;
+ghost use Rattle.bidi_handles.specs.ValuesInHand.{remote_tree};
+ghost use Rattle.bidi_codes.specs.declared.refusal.Refusal.TheVariants as Refusal;
 ghost use Rattle.bidi_tree.specs.Node.{levels};
 
 use crate::browser::Browser;
-use crate::handle::{Ending, HeldValue, ThrownValue};
-use crate::measuring::size_of;
 use crate::plan::{Change, Edit, Plan};
-use crate::refusal::Refusal;
 use crate::script_table::ScriptRow;
-use crate::values::has_handle;
+use bidi_codes::Refusal;
+use bidi_handles::{Ending, ThrownValue, has_handle, held};
 use bidi_messages::ErrorCode;
 use bidi_shape::Shape;
-use bidi_values::{RemoteValue, TableRow};
+use bidi_values::TableRow;
 use std::alloc::Global;
-use std::rc::Rc;
 
 /// The most levels of the tree of a row; its value has one fewer.
 const MOST_LEVELS: usize = 61;
@@ -108,14 +105,4 @@ fn tabled(alloc: Global, row: TableRow) -> Result<Plan, Refusal>
         after: Vec::new(alloc),
         change: Change { edit },
     })
-}
-
-/// A value with its size, made to be shared.
-pub(crate) fn held(alloc: Global, value: RemoteValue) -> Result<Rc<HeldValue>, Refusal>
-    requires { levels (remote_tree value) ≤ 60 }
-    ensures ok { IfOk result (λ held. held.value.value ≡ value) }
-    ensures err { IfErr result (λ e. e ≡ Refusal.NoMemory) }
-{
-    let size = size_of(&value.to_tree(alloc)?);
-    Ok(Rc::new(alloc, HeldValue { value, size })?)
 }

@@ -1,7 +1,7 @@
 //! The line that is shown for a text of a local or of a remote end.
 ghost use Rattle.std.specs.Prelude.{◌≡◌, ℕ, List, ◌∷◌, ◌++◌, Some, None, IfOk, MatchResult, codes, decimal, option_map, string_bytes};
 ghost use Rattle.bidi_tree.specs.Text.{tree_of_text, compact_text};
-ghost use Rattle.bidi_messages.specs.ErrorCode.{error_code_text};
+ghost use Rattle.bidi_codes.specs.ErrorCode.{error_code_text};
 ghost use Rattle.bidi_messages.specs.Method.{method_text};
 ghost use Rattle.bidi_messages.specs.CommandData.{method_of};
 ghost use Rattle.bidi_messages.specs.EventName.{event_text};

@@ -4,7 +4,7 @@ use Rattle.std.specs.Prelude.{◌==◌, slice_get, slice_set, if◌then◌else�
 use Rattle.std.proofs.lemmas.Bool.{ne_eqb}
 use Rattle.bidi_tree.specs.Node.{Node, null}
 use Rattle.bidi_browser.specs.Actions.{is_text}
-use Rattle.bidi_browser.specs.Params.{tree_if_at, text_if_at, text_at}
+use Rattle.bidi_handles.specs.Params.{tree_if_at, text_if_at, text_at}
 use Rattle.bidi_tree.specs.declared.number.JsUint.{JsUint}
 use Rattle.bidi_messages.specs.declared.method.Method.{Method}
 use Rattle.bidi_messages.specs.Method.{method_text}

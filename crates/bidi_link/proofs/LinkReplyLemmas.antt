@@ -12,7 +12,7 @@ use Rattle.bidi_tree.proofs.RoundTrip.{tree_of-compact_text}
 use Rattle.bidi_shape.specs.Term.{rule}
 use Rattle.bidi_shape.specs.Fits.{Fits}
 use Rattle.bidi_shape.specs.ValueLaws.{others_of}
-use Rattle.bidi_messages.specs.declared.error_code.ErrorCode.{ErrorCode}
+use Rattle.bidi_codes.specs.declared.error_code.ErrorCode.{ErrorCode}
 use Rattle.bidi_messages.specs.declared.method.Method.{Method}
 use Rattle.bidi_messages.specs.declared.message.Message.{Message}
 use Rattle.bidi_messages.specs.declared.message.Message.TheVariants as message
@@ -26,7 +26,7 @@ use Rattle.bidi_messages.specs.Message.{response_tree, error_tree, error_text}
 use Rattle.bidi_messages.specs.Method.{method_text, result_of}
 use Rattle.bidi_messages.specs.Reading.{IsMessageText, IsEvent}
 use Rattle.bidi_browser.specs.Actions.{is_text}
-use Rattle.bidi_browser.specs.Params.{number_if_at}
+use Rattle.bidi_handles.specs.Params.{number_if_at}
 use Rattle.bidi_remote.specs.Machine.Replies.{IsEventText, IsReply, is_result, is_code}
 use Rattle.bidi_link.specs.Pairing.{Sending}
 use Rattle.bidi_link.specs.Link.{is_event, is_reply_to}

@@ -18,7 +18,7 @@ use Rattle.bidi_messages.specs.Event.{event_type_words}
 use Rattle.bidi_messages.specs.About.{about_inside}
 use Rattle.bidi_messages.specs.EventName.{event_words, event_text}
 use Rattle.bidi_messages.specs.EventData.{event_of}
-use Rattle.bidi_messages.specs.declared.error_code.ErrorCode.{ErrorCode}
+use Rattle.bidi_codes.specs.declared.error_code.ErrorCode.{ErrorCode}
 use Rattle.bidi_messages.specs.declared.event.EventName.{EventName}
 use Rattle.bidi_messages.specs.declared.event.EventData.{EventData}
 use Rattle.bidi_messages.specs.declared.event.Event.{Event}

@@ -5,8 +5,8 @@ use Rattle.bidi_tree.specs.Node.{Node, null, text, no_members}
 use Rattle.bidi_tree.specs.Text.{tree_of, compact_text}
 use Rattle.bidi_browser.specs.Contexts.{up_to}
 use Rattle.bidi_browser.specs.Actions.{is_text}
-use Rattle.bidi_browser.specs.Params.{tree_if_at, text_if_at, number_if_at, text_at}
-use Rattle.bidi_browser.specs.Maps.{◌being◌and◌, mapped, number}
+use Rattle.bidi_handles.specs.Params.{tree_if_at, text_if_at, number_if_at, text_at}
+use Rattle.bidi_handles.specs.Maps.{◌being◌and◌, mapped, number}
 use Rattle.bidi_link.specs.Pairing as past
 use Rattle.bidi_link.specs.Pairing.{Sending, Deed}
 

@@ -6,7 +6,7 @@ use Rattle.bidi_messages.specs.declared.event.EventData.{EventData}
 use Rattle.bidi_messages.specs.contracts.command.CommandDataSubjectMethod.TheImpl as asks
 use Rattle.bidi_messages.specs.contracts.event.EventDataSubjectEventName.TheImpl as told
 use Rattle.bidi_messages.specs.contracts.result_data.ResultDataSubjectMethod.TheImpl as results
-use Rattle.bidi_messages.specs.ErrorCode.{error_code_text}
+use Rattle.bidi_codes.specs.ErrorCode.{error_code_text}
 use Rattle.bidi_messages.specs.EventName.{event_text}
 use Rattle.bidi_messages.specs.Method.{method_text}
 use Rattle.bidi_remote.specs.Machine.Step as step

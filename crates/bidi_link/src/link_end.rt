@@ -1,7 +1,7 @@
 //! The local side of one link.
 ghost use Rattle.std.specs.Prelude.{◌≡◌, ◌+◌, ◌-◌, ◌<◌, ◌^◌, min, ℕ, suc, [], ◌∷◌, ◌++◌, map, slice_get, slice_set, Some, None, false, OnOk, IfSome, IfNone, string_bytes};
 ghost use Rattle.bidi_tree.specs.declared.number.JsUint as declared_number;
-ghost use Rattle.bidi_messages.specs.declared.error_code.ErrorCode.{ErrorCode};
+ghost use Rattle.bidi_codes.specs.declared.error_code.ErrorCode.{ErrorCode};
 ghost use Rattle.bidi_messages.specs.declared.event.EventData as declared_event;
 ghost use Rattle.bidi_messages.specs.declared.result_data.ResultData.{ResultData};
 ghost use Rattle.bidi_local.specs.Pending.{ids};

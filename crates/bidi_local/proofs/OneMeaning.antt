@@ -12,10 +12,10 @@ use Rattle.bidi_shape.proofs.FitsLemmas.{exactly_kind, map_kind, map_inside, Row
 use Rattle.bidi_messages.specs.Event.{event_type_words}
 use Rattle.bidi_messages.specs.About.{about_inside}
 use Rattle.bidi_messages.specs.declared.method.Method.{Method}
-use Rattle.bidi_messages.specs.declared.error_code.ErrorCode.{ErrorCode}
+use Rattle.bidi_codes.specs.declared.error_code.ErrorCode.{ErrorCode}
 use Rattle.bidi_messages.specs.declared.event.EventName.{EventName}
 use Rattle.bidi_messages.specs.Method.{result_of}
-use Rattle.bidi_messages.specs.ErrorCode.{error_code_words}
+use Rattle.bidi_codes.specs.ErrorCode.{error_code_words}
 use Rattle.bidi_messages.specs.EventName.{event_words}
 use Rattle.bidi_messages.specs.Command.{id_in, method_in, params_in}
 use Rattle.bidi_messages.specs.contracts.event.EventDataSubjectEventName.TheImpl as told

@@ -7,10 +7,10 @@ use Rattle.bidi_shape.specs.Name.{message, command_response, error_response, eve
 use Rattle.bidi_shape.specs.Term.{rule}
 use Rattle.bidi_shape.specs.Fits.{Fits}
 use Rattle.bidi_messages.specs.declared.method.Method.{Method}
-use Rattle.bidi_messages.specs.declared.error_code.ErrorCode.{ErrorCode}
+use Rattle.bidi_codes.specs.declared.error_code.ErrorCode.{ErrorCode}
 use Rattle.bidi_messages.specs.declared.event.EventName.{EventName}
 use Rattle.bidi_messages.specs.Method.{result_of}
-use Rattle.bidi_messages.specs.ErrorCode.{error_code_text}
+use Rattle.bidi_codes.specs.ErrorCode.{error_code_text}
 use Rattle.bidi_messages.specs.EventName.{event_text}
 use Rattle.bidi_messages.specs.Verdict.{echoed_id}
 use Rattle.bidi_messages.specs.Command.{id_in, method_in, params_in}

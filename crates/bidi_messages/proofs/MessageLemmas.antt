@@ -18,7 +18,7 @@ use Rattle.bidi_messages.specs.contracts.event.EventDataSubjectEventName.TheImpl
 use Rattle.bidi_messages.specs.declared.message.Response.{Response}
 use Rattle.bidi_messages.specs.declared.message.ErrorResponse.{ErrorResponse}
 use Rattle.bidi_messages.specs.declared.event.Event.{Event}
-use Rattle.bidi_messages.specs.ErrorCode.{error_code_text}
+use Rattle.bidi_codes.specs.ErrorCode.{error_code_text}
 use Rattle.bidi_messages.proofs.CommandLemmas.{apart, in_range}
 
 -- a member behind one of another name

@@ -1,6 +1,5 @@
 pub mod Method
 pub mod EventName
-pub mod ErrorCode
 pub mod Subject
 pub mod About
 pub mod CommandData

@@ -7,8 +7,8 @@ ghost use Rattle.bidi_messages.specs.View.{verdict_of, IsWell, AcceptsAs};
 ghost use Rattle.bidi_messages.specs.declared.command.Command.{Command};
 
 use crate::command::Command;
-use crate::error_code::ErrorCode;
 use crate::method::Method;
+use bidi_codes::ErrorCode;
 use bidi_shape::{Named, Parsed, Shape, ShapeFault};
 use bidi_tree::{JsUint, ReadFault, parse};
 use json::{Scratch, Value};

@@ -6,7 +6,6 @@
 #![tactic(auto)]
 
 mod command;
-mod error_code;
 mod event;
 mod judging;
 mod message;
@@ -16,9 +15,9 @@ mod sending;
 mod subject;
 mod text;
 
+pub use bidi_codes::ErrorCode;
 pub use bidi_shape::Named;
 pub use command::{Command, CommandData, data_of};
-pub use error_code::ErrorCode;
 pub use event::{Event, EventData, EventName};
 pub use judging::{Verdict, judge, judge_with};
 pub use message::{ErrorResponse, Message, Response};

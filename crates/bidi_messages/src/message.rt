@@ -1,6 +1,6 @@
 //! The messages of the remote end.
-use crate::error_code::ErrorCode;
 use crate::event::Event;
+use bidi_codes::ErrorCode;
 use bidi_shape::{
     Either, Ext, Fields, Literal, Optional, Parsed, Required, Ruled, Shape, ShapeFault,
     add_literal, add_member, add_optional, read_choice, read_fields,

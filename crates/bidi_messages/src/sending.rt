@@ -8,13 +8,13 @@ ghost use Rattle.bidi_shape.specs.ValueLaws.{others_of};
 ghost use Rattle.bidi_messages.specs.Message.{response_tree, response_text, error_text, event_text};
 ghost use Rattle.bidi_messages.specs.Reading.{IsMessageText};
 
-use crate::error_code::ErrorCode;
 use crate::event::{EventData, EventName, EventType};
 use crate::message::{ErrorResponse, Message, Response};
 use crate::method::Method;
 use crate::result_data::ResultData;
 use crate::subject::{Subject, write_about};
 use crate::text::text_of;
+use bidi_codes::ErrorCode;
 use bidi_shape::{Ext, Named, Shape, add_literal, add_member};
 use bidi_tree::{JsUint, Tree, put_member, write};
 use std::alloc::{AllocError, Global};

@@ -14,7 +14,7 @@ use Rattle.bidi_messages.specs.declared.command.Command as declared_command
 use Rattle.bidi_messages.specs.declared.command.CommandData.{CommandData}
 use Rattle.bidi_messages.specs.declared.command.CommandData.TheVariants as Of
 use Rattle.bidi_messages.proofs.CommandLemmas.{method_in-tree, params_in-tree}
-use Rattle.bidi_browser.specs.Params.{natural}
+use Rattle.bidi_handles.specs.Params.{natural}
 use Rattle.bidi_remote.specs.Machine.Commands.{command_in, id_of_command}
 use Rattle.bidi_remote.specs.Tables.Asked.{asked_of, IsWellAsked, Asks}
 use Rattle.bidi_remote.proofs.SubscribeAskLemmas.{subscribe-asks, unsubscribe-asks}

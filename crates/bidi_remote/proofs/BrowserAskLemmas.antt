@@ -36,7 +36,7 @@ use Rattle.bidi_params.specs.declared.browsing_context.create.CloseParameters.{C
 use Rattle.bidi_params.specs.declared.browsing_context.create.CreateParameters.{CreateParameters}
 use Rattle.bidi_params.specs.declared.browsing_context.get_tree.GetTreeParameters.{GetTreeParameters}
 use Rattle.bidi_messages.specs.declared.command.CommandData.TheVariants.{BrowsingContextActivate, BrowsingContextClose, BrowsingContextCreate, BrowsingContextGetTree, BrowsingContextNavigate, BrowsingContextReload, BrowsingContextTraverseHistory, ScriptGetRealms}
-use Rattle.bidi_browser.specs.Params.{natural}
+use Rattle.bidi_handles.specs.Params.{natural}
 use Rattle.bidi_browser.specs.Actions.{OwnWindow, Tab, Started, Interactive, Complete, is_text}
 use Rattle.bidi_browser.specs.Asked.{create_type_of, wait_of}
 use Rattle.bidi_remote.specs.Machine.Commands.{command_in}

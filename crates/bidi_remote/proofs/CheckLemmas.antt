@@ -1,10 +1,10 @@
 -- Checks of the items of a list, one after another, whose results are joined.
 use Rattle.std.proofs.Common.{◌≡◌, ◌∙◌, List, ◌++◌, append_assoc, refl, sym, ap, subst, Option, Some, None, option_map, Result, Ok, Err}
 use Rattle.std.specs.Result.{IsErrAnd}
-use Rattle.bidi_messages.specs.declared.error_code.ErrorCode.{ErrorCode}
-use Rattle.bidi_browser.specs.Checks.{◌>>=◌, found}
-use Rattle.bidi_browser.specs.declared.refusal.Refusal.{Refusal}
-use Rattle.bidi_browser.specs.declared.refusal.Refusal.TheVariants.{Code, NoMemory}
+use Rattle.bidi_codes.specs.declared.error_code.ErrorCode.{ErrorCode}
+use Rattle.bidi_codes.specs.Checks.{◌>>=◌, found}
+use Rattle.bidi_codes.specs.declared.refusal.Refusal.{Refusal}
+use Rattle.bidi_codes.specs.declared.refusal.Refusal.TheVariants.{Code, NoMemory}
 use Rattle.bidi_remote.specs.Tables.Checked.{IfChecked, behind}
 
 -- one check, then the rest

@@ -8,7 +8,7 @@ use Rattle.bidi_shape.specs.Term.{required, exactly, rule}
 use Rattle.bidi_shape.specs.Profile.{CommandRow, command_map, one_of_commands, session_status_row, further_commands}
 use Rattle.bidi_shape.specs.Fits.{Fits}
 use Rattle.bidi_shape.proofs.FitsLemmas.{exactly_kind, map_kind, map_inside, RowFits, row_inside, either_inside, rule_inside}
-use Rattle.bidi_browser.specs.Params.{text_at, tree_if_at}
+use Rattle.bidi_handles.specs.Params.{text_at, tree_if_at}
 use Rattle.bidi_remote.specs.Machine.Commands.{Command, command_in, command_of}
 
 -- a required member of one text is read as that text

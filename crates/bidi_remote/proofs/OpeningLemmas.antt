@@ -4,15 +4,15 @@ use Rattle.std.specs.Prelude.{◌==◌, ◌++◌, filter, find, ⊤, nat_lt, len
 use Rattle.std.specs.List.{list_any, list_all}
 use Rattle.std.proofs.lemmas.Bool.Decides.{nat_tests}
 use Rattle.std.proofs.lemmas.List.Folds.{list_any-append}
-use Rattle.bidi_messages.specs.declared.error_code.ErrorCode.{ErrorCode}
-use Rattle.bidi_messages.specs.declared.error_code.ErrorCode.TheVariants.{InvalidArgument, SessionNotCreated, UnknownError}
+use Rattle.bidi_codes.specs.declared.error_code.ErrorCode.{ErrorCode}
+use Rattle.bidi_codes.specs.declared.error_code.ErrorCode.TheVariants.{InvalidArgument, SessionNotCreated, UnknownError}
 use Rattle.bidi_messages.specs.Verdict.{Verdict, Accepted, Refused}
-use Rattle.bidi_browser.specs.declared.id.Kind.TheVariants.{Session}
-use Rattle.bidi_browser.specs.Ids.{id_of}
+use Rattle.bidi_handles.specs.declared.id.Kind.TheVariants.{Session}
+use Rattle.bidi_handles.specs.Ids.{id_of}
 use Rattle.bidi_browser.specs.Acts.{Act}
 use Rattle.bidi_browser.specs.Actions.{Action}
 use Rattle.bidi_browser.specs.Contexts.{up_to}
-use Rattle.bidi_browser.specs.Checks.{◌>>=◌, need}
+use Rattle.bidi_codes.specs.Checks.{◌>>=◌, need}
 use Rattle.bidi_browser.specs.Outcome as browser
 use Rattle.bidi_remote.specs.Machine.Commands.{Command, Status, New, End, Subscribe, UnsubscribeById, UnsubscribeByEvents, OfBrowser, command_of, id_of_command}
 use Rattle.bidi_remote.specs.Machine.History.{Input, At, Open, Drop, Heard, NotText, InPage, Deed, Time, Opened, Dropped, Began, Ended, Subscribed, Cancelled, Dismissed, Did, Told, acts}

@@ -15,7 +15,7 @@ use Rattle.bidi_messages.specs.Command.{method_in}
 use Rattle.bidi_messages.specs.Message.{response_text, response_tree}
 use Rattle.bidi_messages.specs.Method.{method_text, result_of, method_words}
 use Rattle.bidi_messages.specs.Verdict.{Verdict, Accepted, Refused}
-use Rattle.bidi_messages.specs.declared.error_code.ErrorCode.{ErrorCode}
+use Rattle.bidi_codes.specs.declared.error_code.ErrorCode.{ErrorCode}
 use Rattle.bidi_shape.specs.WordLaws.{value_named}
 use Rattle.bidi_browser.specs.Occurrences.{Occurrence}
 use Rattle.bidi_browser.specs.Occurs.{Item, Happens}
@@ -26,7 +26,7 @@ use Rattle.bidi_remote.specs.declared.turn.Asker.{Asker}
 use Rattle.bidi_remote.specs.declared.turn.Reply.{Reply}
 use Rattle.bidi_remote.specs.declared.turn.Telling.{Telling}
 use Rattle.bidi_remote.specs.declared.turn.Turn.{Turn}
-use Rattle.bidi_browser.specs.declared.refusal.Refusal as browser
+use Rattle.bidi_codes.specs.declared.refusal.Refusal as browser
 use Rattle.bidi_remote.specs.Machine.Commands.{Command, command_of, id_of_command}
 use Rattle.bidi_remote.specs.Machine.Connections.{Standing, is_shut, standing_of}
 use Rattle.bidi_remote.specs.Machine.History.{Input, Heard, InPage, Deed}

@@ -26,7 +26,7 @@ use Rattle.bidi_params.specs.declared.session.subscribe.SubscribeParameters.{Sub
 use Rattle.bidi_params.specs.declared.session.subscribe.UnsubscribeParameters.{UnsubscribeParameters}
 use Rattle.bidi_params.specs.declared.session.subscribe.UnsubscribeParameters.TheVariants.{ById, ByEvents}
 use Rattle.bidi_messages.specs.declared.command.CommandData.TheVariants.{SessionSubscribe, SessionUnsubscribe}
-use Rattle.bidi_browser.specs.Params.{items_in, texts_among, has_texts_at}
+use Rattle.bidi_handles.specs.Params.{items_in, texts_among, has_texts_at}
 use Rattle.bidi_remote.specs.Machine.Commands.{command_in}
 use Rattle.bidi_remote.specs.Tables.Asked.{texts, asked_of}
 

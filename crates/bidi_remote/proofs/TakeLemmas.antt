@@ -6,7 +6,7 @@ use Rattle.bidi_browser.specs.Acts.{Act}
 use Rattle.bidi_browser.specs.Actions.{Action}
 use Rattle.bidi_messages.specs.Message.{error_text}
 use Rattle.bidi_messages.specs.Verdict.{Verdict, IsVerdict, Accepted, Refused}
-use Rattle.bidi_messages.specs.declared.error_code.ErrorCode.{ErrorCode}
+use Rattle.bidi_codes.specs.declared.error_code.ErrorCode.{ErrorCode}
 use Rattle.bidi_remote.specs.declared.step.Sent as declared_sent
 use Rattle.bidi_remote.specs.declared.tables.Tables.{Tables}
 use Rattle.bidi_remote.specs.declared.turn.Asker.{Asker}

@@ -35,10 +35,10 @@ use Rattle.bidi_values.specs.declared.evaluate.Ownership.TheVariants as ownershi
 use Rattle.bidi_values.specs.declared.call_function.CallFunctionParameters.{CallFunctionParameters}
 use Rattle.bidi_values.specs.declared.call_function.DisownParameters.{DisownParameters}
 use Rattle.bidi_messages.specs.declared.command.CommandData.TheVariants.{ScriptCallFunction, ScriptDisown, ScriptEvaluate}
-use Rattle.bidi_browser.specs.Params.{items_in, text_if_at}
+use Rattle.bidi_handles.specs.Params.{items_in, text_if_at}
 use Rattle.bidi_browser.specs.Actions.{ContextTarget, RealmTarget, target_in, is_text, is_well_at}
 use Rattle.bidi_browser.specs.Asked.{is_owned, target_of}
-use Rattle.bidi_browser.specs.ValuesInHand.{local_tree}
+use Rattle.bidi_handles.specs.ValuesInHand.{local_tree}
 use Rattle.bidi_remote.specs.Machine.Commands.{command_in}
 use Rattle.bidi_remote.specs.Tables.Asked.{asked_of}
 use Rattle.bidi_remote.proofs.SubscribeAskLemmas.{text_tree, texts-list, text-fits, others_fit-without, inside_whole}

@@ -1,7 +1,7 @@
 -- What the machine does at each input, where it is known how the connection stands and what its command comes to.
 use Rattle.std.proofs.Common.{◌≡◌, ◌∙◌, ℕ, false, List, ◌++◌, map, flat_map, refl, ap, ap₂, Ok, Err, Some, None}
 use Rattle.bidi_tree.specs.Node.{Node}
-use Rattle.bidi_messages.specs.declared.error_code.ErrorCode.TheVariants.{InvalidArgument}
+use Rattle.bidi_codes.specs.declared.error_code.ErrorCode.TheVariants.{InvalidArgument}
 use Rattle.bidi_messages.specs.Verdict.{Verdict, Accepted}
 use Rattle.bidi_browser.specs.Occurs.{Item, Happens, Replies}
 use Rattle.bidi_remote.specs.Machine.Commands.{Command, command_of, id_of_command}

@@ -1,8 +1,8 @@
 //! Active sessions, and the resources that name them.
 ghost use Rattle.std.specs.Prelude.{◌≡◌, ◌<◌, ◌+◌, List, [], ◌∷◌, ◌++◌, ◌==◌, not, nat_lt, length, find, filter, map, replicate, codes, bytes_eq, Some, None, option_map, if◌then◌else◌, IfOk, OnOk, vec_len, vec_capacity};
 ghost use Rattle.std.specs.List.{position};
-ghost use Rattle.bidi_browser.specs.declared.id.Kind.TheVariants.{Session as OfSession};
-ghost use Rattle.bidi_browser.specs.Ids.{id_of};
+ghost use Rattle.bidi_handles.specs.declared.id.Kind.TheVariants.{Session as OfSession};
+ghost use Rattle.bidi_handles.specs.Ids.{id_of};
 ghost use Rattle.bidi_browser.specs.Acts.{Act};
 ghost use Rattle.bidi_browser.specs.Stands.{StandsFor};
 ghost use Rattle.bidi_remote.specs.Tables.EventTexts.{Written, written_of, written_in};

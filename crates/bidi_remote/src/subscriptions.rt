@@ -5,7 +5,7 @@ ghost use Rattle.bidi_remote.specs.Machine.Subscriptions.{is_global, is_listed, 
 ghost use Rattle.bidi_remote.specs.Tables.SubscriptionRows.{row_covers, row_holds, numbers_named, loses_all, stripped, dismissed};
 ghost use Rattle.bidi_remote.specs.Tables.Checked.{IfChecked};
 ghost use Rattle.bidi_remote.specs.Tables.SessionView.{scope_of, row_of};
-ghost use Rattle.bidi_browser.specs.Ids.{id_text};
+ghost use Rattle.bidi_handles.specs.Ids.{id_text};
 ghost use Rattle.bidi_browser.specs.Occurrences.{is_among};
 
 use bidi_browser::{Kind, Refusal, is_id};

@@ -3,7 +3,7 @@ use Prim.Native.String.{String}
 use Rattle.std.specs.Prelude.{◌≡◌, refl, ℕ, List, [], ◌∷◌, codes, unwrap_or}
 use Rattle.bidi_tree.specs.Node.{Node, null}
 use Rattle.bidi_tree.specs.Text.{tree_of}
-use Rattle.bidi_browser.proofs.Spelling.{said}
+use Rattle.bidi_handles.proofs.Spelling.{said}
 use Rattle.machine_facts.proofs.Rows.{machine_on_literals}
 use Rattle.bidi_link.specs.Link.{Fate, Answered, Refused, Lost, Waiting, Entry, Received, Page}
 use Rattle.bidi_link.specs.Ledger.{PairInput, Opens, Sends, Up, Down, Cuts, ledger}

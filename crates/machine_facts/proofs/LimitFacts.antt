@@ -1,11 +1,11 @@
 -- Limits, met and passed.
 use Rattle.std.specs.Prelude.{◌≡◌, ℕ, List, [], ◌∷◌, ◌++◌, map, codes, None, true, Some, None, replicate, refl}
 use Rattle.bidi_tree.specs.Node.{Node, no_members}
-use Rattle.bidi_browser.specs.declared.id.Kind.TheVariants.{Handle}
-use Rattle.bidi_browser.specs.Ids.{id_of}
+use Rattle.bidi_handles.specs.declared.id.Kind.TheVariants.{Handle}
+use Rattle.bidi_handles.specs.Ids.{id_of}
 use Rattle.bidi_browser.specs.Acts.{Made, Removed, Tabled, Ran, Disowned, Returned, EndsIn, GivesBack}
 use Rattle.bidi_browser.specs.Contexts.{up_to}
-use Rattle.bidi_browser.specs.Maps.{◌being◌and◌, mapped, word}
+use Rattle.bidi_handles.specs.Maps.{◌being◌and◌, mapped, word}
 use Rattle.bidi_browser.specs.Outcome.{undefined}
 use Rattle.bidi_messages.specs.declared.event.EventName.TheVariants.{EntryAdded}
 use Rattle.bidi_remote.specs.Machine.History.{Deed, Began, Opened, Subscribed, Cancelled, Did, All}

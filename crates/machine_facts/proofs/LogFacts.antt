@@ -1,11 +1,11 @@
 -- Worked examples of log entries and of those that wait.
 use Rattle.std.specs.Prelude.{◌≡◌, ℕ, List, [], ◌∷◌, ◌++◌, map, drop, codes, decimal, refl}
 use Rattle.bidi_browser.specs.Contexts.{up_to}
-use Rattle.bidi_browser.specs.declared.id.Kind.TheVariants.{Context}
-use Rattle.bidi_browser.specs.Ids.{id_of}
+use Rattle.bidi_handles.specs.declared.id.Kind.TheVariants.{Context}
+use Rattle.bidi_handles.specs.Ids.{id_of}
 use Rattle.bidi_values.specs.declared.log_entry.Level.TheVariants.{Error, Info}
 use Rattle.bidi_remote.specs.Machine.Sent.{Sent}
-use Rattle.bidi_browser.proofs.Spelling.{said}
+use Rattle.bidi_handles.proofs.Spelling.{said}
 use Rattle.bidi_remote.specs.Machine.Step.{Step, At, Open, Drop, Log}
 use Rattle.bidi_remote.specs.Machine.Sent as sent
 use Rattle.machine_facts.proofs.Rows.{after, ask, ask_on, begun, event, frame, log, machine_on_literals, success, unframe}

@@ -3,7 +3,7 @@ use Prim.Native.String.{String}
 use Rattle.std.specs.Prelude.{ℕ, List, [], ◌∷◌, ◌++◌, map, reverse, codes, decimal, ⊤}
 use Rattle.serde_json.proofs.OnLiterals.{serde_json_on_literals}
 use Rattle.bidi_browser.proofs.OnLiterals.{browser_on_literals}
-use Rattle.bidi_browser.proofs.Spelling.{said}
+use Rattle.bidi_handles.proofs.Spelling.{said}
 use Rattle.bidi_values.specs.declared.log_entry.Level.{Level}
 use Rattle.bidi_remote.specs.Machine.Step.{Step, Open, Text, Frame, Unframe, Log, TableRow}
 use Rattle.bidi_remote.specs.Machine.Sent as sent

@@ -3,7 +3,7 @@ use Rattle.std.specs.Prelude.{◌≡◌, ℕ, List, [], ◌∷◌, ◌++◌, map
 use Rattle.bidi_remote.specs.Machine.Strike.{strike_steps, strike, sees}
 use Rattle.bidi_remote.specs.Machine.Sent.{Sent}
 use Rattle.machine_facts.proofs.Hearing.{heard}
-use Rattle.bidi_browser.proofs.Spelling.{said}
+use Rattle.bidi_handles.proofs.Spelling.{said}
 use Rattle.bidi_remote.specs.Machine.Step.{Step, Open, NotText}
 use Rattle.bidi_remote.specs.Machine.Sent as sent
 use Rattle.machine_facts.proofs.Rows.{ask, ask_on, begun, machine_on_literals, open_session, success}

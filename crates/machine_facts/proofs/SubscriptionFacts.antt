@@ -1,6 +1,6 @@
 -- Worked examples of subscribing and unsubscribing.
 use Rattle.std.specs.Prelude.{◌≡◌, [], ◌∷◌, ◌++◌, codes, refl}
-use Rattle.bidi_browser.proofs.Spelling.{said}
+use Rattle.bidi_handles.proofs.Spelling.{said}
 use Rattle.bidi_values.specs.declared.log_entry.Level.TheVariants.{Info, Warn}
 use Rattle.bidi_remote.specs.Machine.Step.{Open, Drop}
 use Rattle.bidi_remote.specs.Machine.Sent as sent

@@ -1,7 +1,7 @@
 -- Worked examples of the table that stands for running scripts.
 use Rattle.std.specs.Prelude.{◌≡◌, ℕ, List, [], ◌∷◌, ◌++◌, codes, zero, suc, refl}
 use Prim.Native.String.{String}
-use Rattle.bidi_browser.proofs.Spelling.{said}
+use Rattle.bidi_handles.proofs.Spelling.{said}
 use Rattle.bidi_remote.specs.Machine.Step.{Step, TableRow}
 use Rattle.bidi_remote.specs.Machine.Sent as sent
 use Rattle.machine_facts.proofs.Rows.{after, ask, begun, machine_on_literals, success, value}

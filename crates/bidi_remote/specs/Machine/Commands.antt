@@ -3,7 +3,7 @@ use Prim.Native.String.{String}
 use Rattle.std.specs.Prelude.{ℕ, List, [], ◌∷◌, Option, unwrap_or, option_map, if◌then◌else◌}
 use Rattle.std.specs.Option.{option_or}
 use Rattle.bidi_tree.specs.Node.{Node, null}
-use Rattle.bidi_browser.specs.Params.{tree_if_at, text_at, texts_at, texts_if_at, number_at, has_texts_at, entry_at}
+use Rattle.bidi_handles.specs.Params.{tree_if_at, text_at, texts_at, texts_if_at, number_at, has_texts_at, entry_at}
 use Rattle.bidi_browser.specs.Actions.{Action, action_of}
 use Rattle.bidi_remote.specs.Machine.Capabilities.{Request, request_of}
 

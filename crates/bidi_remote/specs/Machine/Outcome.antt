@@ -1,13 +1,13 @@
 -- What a remote end does at each input: the checks of each command in order, and the deed where none fails. After WebDriver BiDi, "Transport" and the commands of "The session Module".
 use Rattle.std.specs.Prelude.{ℕ, nat_lt, Bool, not, ◌&&◌, if◌then◌else◌, List, [], ◌∷◌, ◌++◌, length, find, codes, bytes_eq, Option, Some, None, option_map, Result, Ok, Err}
 use Rattle.std.specs.List.{list_all}
-use Rattle.bidi_messages.specs.declared.error_code.ErrorCode.{ErrorCode}
-use Rattle.bidi_messages.specs.declared.error_code.ErrorCode.TheVariants.{InvalidArgument, InvalidSessionId, SessionNotCreated, UnknownCommand, UnknownError, UnsupportedOperation}
-use Rattle.bidi_browser.specs.declared.id.Kind.TheVariants.{Session, Subscription}
-use Rattle.bidi_browser.specs.Ids.{id_of, id_text}
+use Rattle.bidi_codes.specs.declared.error_code.ErrorCode.{ErrorCode}
+use Rattle.bidi_codes.specs.declared.error_code.ErrorCode.TheVariants.{InvalidArgument, InvalidSessionId, SessionNotCreated, UnknownCommand, UnknownError, UnsupportedOperation}
+use Rattle.bidi_handles.specs.declared.id.Kind.TheVariants.{Session, Subscription}
+use Rattle.bidi_handles.specs.Ids.{id_of, id_text}
 use Rattle.bidi_browser.specs.Acts.{Act}
 use Rattle.bidi_browser.specs.Contexts.{top_of}
-use Rattle.bidi_browser.specs.Checks.{◌>>=◌, need, found}
+use Rattle.bidi_codes.specs.Checks.{◌>>=◌, need, found}
 use Rattle.bidi_messages.specs.declared.event.EventName.{EventName}
 use Rattle.bidi_messages.specs.declared.event.EventName.TheVariants.{ContextCreated, ContextDestroyed, NavigationStarted, DomContentLoaded, Load, RealmCreated, RealmDestroyed, EntryAdded}
 use Rattle.bidi_messages.specs.EventName.{event_text as name_of, events as all_events}

@@ -4,7 +4,7 @@ use Rattle.bidi_tree.specs.Node.{Node}
 use Rattle.bidi_tree.specs.Text.{tree_of}
 use Rattle.bidi_shape.specs.Term.{rule}
 use Rattle.bidi_shape.specs.Fits.{Fits}
-use Rattle.bidi_messages.specs.declared.error_code.ErrorCode.{ErrorCode}
+use Rattle.bidi_codes.specs.declared.error_code.ErrorCode.{ErrorCode}
 use Rattle.bidi_messages.specs.declared.event.EventName.{EventName}
 use Rattle.bidi_messages.specs.declared.method.Method.{Method}
 use Rattle.bidi_messages.specs.Method.{method_text, result_of}

@@ -3,7 +3,7 @@ use Rattle.std.specs.Prelude.{ℕ, ◌==◌, Bool, true, false, not, ◌&&◌, �
 use Prim.Native.String.{String}
 use Rattle.std.specs.List.{list_any, items_where_true}
 use Rattle.bidi_tree.specs.Node.{Node}
-use Rattle.bidi_browser.specs.Params.{text_at}
+use Rattle.bidi_handles.specs.Params.{text_at}
 use Rattle.bidi_messages.specs.Verdict.{Verdict, Accepted, Refused}
 use Rattle.bidi_remote.specs.Machine.History.{Input, Heard, Deed}
 use Rattle.bidi_remote.specs.Machine.Step.{Step}

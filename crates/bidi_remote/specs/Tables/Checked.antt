@@ -1,9 +1,9 @@
 -- What checks in code come to, held against those of the definitions.
 use Rattle.std.specs.Prelude.{◌≡◌, ⊤, List, ◌++◌, Result, Ok, Err}
-use Rattle.bidi_messages.specs.declared.error_code.ErrorCode.{ErrorCode}
-use Rattle.bidi_browser.specs.Checks.{◌>>=◌}
-use Rattle.bidi_browser.specs.declared.refusal.Refusal.{Refusal}
-use Rattle.bidi_browser.specs.declared.refusal.Refusal.TheVariants.{Code, NoMemory}
+use Rattle.bidi_codes.specs.declared.error_code.ErrorCode.{ErrorCode}
+use Rattle.bidi_codes.specs.Checks.{◌>>=◌}
+use Rattle.bidi_codes.specs.declared.refusal.Refusal.{Refusal}
+use Rattle.bidi_codes.specs.declared.refusal.Refusal.TheVariants.{Code, NoMemory}
 
 -- they give what the definition gives, or its code, unless an allocation failed
 abbrev pub IfChecked : {A B : Type 0} → Result A Refusal → (A → B) → Result B ErrorCode → Type 0

@@ -1,15 +1,15 @@
 -- The tables of active sessions and of their live subscriptions, as the past makes them.
 use Rattle.std.specs.Prelude.{ℕ, suc, ◌==◌, Bool, not, ◌&&◌, if◌then◌else◌, List, [], ◌∷◌, ◌++◌, length, map, filter, find, bytes_eq, Option, option_map, unwrap_or, Result, Ok}
 use Rattle.std.specs.List.{list_any, list_all}
-use Rattle.bidi_messages.specs.declared.error_code.ErrorCode.{ErrorCode}
-use Rattle.bidi_messages.specs.declared.error_code.ErrorCode.TheVariants.{InvalidArgument}
+use Rattle.bidi_codes.specs.declared.error_code.ErrorCode.{ErrorCode}
+use Rattle.bidi_codes.specs.declared.error_code.ErrorCode.TheVariants.{InvalidArgument}
 use Rattle.bidi_messages.specs.declared.event.EventName.{EventName}
 use Rattle.bidi_messages.specs.declared.event.EventName.TheVariants.{EntryAdded}
-use Rattle.bidi_browser.specs.declared.id.Kind.TheVariants.{Subscription}
+use Rattle.bidi_handles.specs.declared.id.Kind.TheVariants.{Subscription}
 use Rattle.bidi_browser.specs.Acts.{Act}
 use Rattle.bidi_browser.specs.Contexts.{is_alive}
-use Rattle.bidi_browser.specs.Ids.{id_text}
-use Rattle.bidi_browser.specs.Checks.{◌>>=◌, found}
+use Rattle.bidi_handles.specs.Ids.{id_text}
+use Rattle.bidi_codes.specs.Checks.{◌>>=◌, found}
 use Rattle.bidi_browser.specs.Occurrences.{is_among}
 use Rattle.bidi_remote.specs.Machine.History.{Deed, Scope}
 use Rattle.bidi_remote.specs.Machine.Sessions.{sessions}

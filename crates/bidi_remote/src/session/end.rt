@@ -1,6 +1,6 @@
 //! `session.end`.
 ghost use Rattle.std.specs.Prelude.{◌≡◌, List, Ok};
-ghost use Rattle.bidi_browser.specs.Maps.{nothing};
+ghost use Rattle.bidi_handles.specs.Maps.{nothing};
 ghost use Rattle.bidi_remote.specs.Machine.Commands.{End};
 ghost use Rattle.bidi_remote.specs.Machine.History.{Deed, Ended};
 ghost use Rattle.bidi_browser.specs.View.{result_tree};

@@ -1,9 +1,9 @@
 //! `session.new`.
 ghost use Rattle.std.specs.Prelude.{◌≡◌, ◌<◌, List, IfOk};
 ghost use Rattle.bidi_tree.specs.Node.{text, no_members};
-ghost use Rattle.bidi_browser.specs.declared.id.Kind.TheVariants.{Session};
-ghost use Rattle.bidi_browser.specs.Ids.{id_of};
-ghost use Rattle.bidi_browser.specs.Maps.{◌being◌and◌, mapped};
+ghost use Rattle.bidi_handles.specs.declared.id.Kind.TheVariants.{Session};
+ghost use Rattle.bidi_handles.specs.Ids.{id_of};
+ghost use Rattle.bidi_handles.specs.Maps.{◌being◌and◌, mapped};
 ghost use Rattle.bidi_remote.specs.Machine.Capabilities.{capabilities, request_of};
 ghost use Rattle.bidi_remote.specs.Machine.Commands.{New};
 ghost use Rattle.bidi_remote.specs.Machine.History.{Deed};

@@ -1,6 +1,6 @@
 //! `session.unsubscribe`.
 ghost use Rattle.std.specs.Prelude.{◌≡◌, List, true, IfOk};
-ghost use Rattle.bidi_browser.specs.Maps.{nothing};
+ghost use Rattle.bidi_handles.specs.Maps.{nothing};
 ghost use Rattle.bidi_remote.specs.Machine.History.{Deed};
 ghost use Rattle.bidi_remote.specs.Machine.Outcome.{outcome_in, unsubscribe_by_id_outcome, unsubscribe_by_events_outcome};
 ghost use Rattle.bidi_remote.specs.Machine.Sessions.{is_active};

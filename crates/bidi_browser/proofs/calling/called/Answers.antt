@@ -3,9 +3,9 @@ use Rattle.std.specs.Prelude.{option_map}
 use Rattle.bidi_browser.specs.Asked.{arguments_asked}
 use Rattle.bidi_browser.specs.ContextRows.{row_of, held_in_row}
 use Rattle.bidi_browser.specs.Realms.{realm_of}
-use Rattle.bidi_browser.specs.Resolves.{this_argument}
-use Rattle.bidi_browser.specs.Values.{arguments}
-use Rattle.bidi_browser.specs.ValuesInHand.{local_tree}
+use Rattle.bidi_handles.specs.Resolves.{this_argument}
+use Rattle.bidi_handles.specs.Values.{arguments}
+use Rattle.bidi_handles.specs.ValuesInHand.{local_tree}
 use Rattle.bidi_browser.proofs.CallLemmas.{arguments-refuse, this-refuses, call-ends, passes-code}
 use Rattle.bidi_browser.proofs.calling.called.Goals as goal
 

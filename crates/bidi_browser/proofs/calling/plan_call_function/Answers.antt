@@ -3,14 +3,14 @@ use Rattle.std.specs.Prelude.{option_map, ◌&&◌}
 use Rattle.bidi_messages.specs.declared.result_data.ResultData.TheVariants.{ScriptCallFunction}
 use Rattle.bidi_browser.specs.Acts.{Ran}
 use Rattle.bidi_browser.specs.Asked.{arguments_asked, call_function_asked, is_owned, target_of}
-use Rattle.bidi_browser.specs.Checks.{◌>>=◌}
+use Rattle.bidi_codes.specs.Checks.{◌>>=◌}
 use Rattle.bidi_browser.specs.Occurs.{Replies}
 use Rattle.bidi_browser.specs.Outcome.{ending_outcome}
 use Rattle.bidi_browser.specs.Realms.{realm_of, value_of}
 use Rattle.bidi_browser.specs.Runs.{call_ending}
 use Rattle.bidi_browser.specs.TableInHand.{ending_seen}
-use Rattle.bidi_browser.specs.Values.{takes_handle}
-use Rattle.bidi_browser.specs.ValuesInHand.{local_tree}
+use Rattle.bidi_handles.specs.Values.{takes_handle}
+use Rattle.bidi_handles.specs.ValuesInHand.{local_tree}
 use Rattle.bidi_browser.proofs.CallLemmas.{call-outcome, gives-code, run-code, refused-plans, answered-plans}
 use Rattle.bidi_browser.proofs.calling.plan_call_function.Goals as goal
 

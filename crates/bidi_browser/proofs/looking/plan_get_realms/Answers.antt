@@ -8,7 +8,7 @@ use Rattle.bidi_params.specs.contracts.script.realms.RealmInfoShape.TheImpl.{gho
 use Rattle.bidi_messages.specs.declared.result_data.ResultData.TheVariants.{ScriptGetRealms}
 use Rattle.bidi_browser.specs.Asked.{get_realms_asked}
 use Rattle.bidi_browser.specs.ContextRows.{row_of}
-use Rattle.bidi_browser.specs.Maps.{◌being◌and◌, mapped, listed}
+use Rattle.bidi_handles.specs.Maps.{◌being◌and◌, mapped, listed}
 use Rattle.bidi_browser.specs.Occurs.{Replies, takes_windows}
 use Rattle.bidi_browser.proofs.InfoLemmas.{none-further}
 use Rattle.bidi_browser.proofs.PlanLemmas.{looked-plans, told-well, result-well, windows-told, windows-flat}

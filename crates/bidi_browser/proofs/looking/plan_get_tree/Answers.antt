@@ -7,7 +7,7 @@ use Rattle.bidi_messages.specs.declared.result_data.ResultData.TheVariants.{Brow
 use Rattle.bidi_browser.specs.Actions.{GetTree}
 use Rattle.bidi_browser.specs.Asked.{get_tree_asked}
 use Rattle.bidi_browser.specs.Info.{info_of}
-use Rattle.bidi_browser.specs.Maps.{◌being◌and◌, mapped, listed}
+use Rattle.bidi_handles.specs.Maps.{◌being◌and◌, mapped, listed}
 use Rattle.bidi_browser.specs.Occurs.{Replies, roots}
 use Rattle.bidi_browser.proofs.InfoLemmas.{items-below, all-well, none-further}
 use Rattle.bidi_browser.proofs.PlanLemmas.{looked-plans, refused-looks, told-well, result-well}

@@ -3,7 +3,7 @@ use Rattle.std.specs.Prelude.{string_bytes}
 use Rattle.bidi_messages.specs.declared.result_data.ResultData.TheVariants.{ScriptDisown}
 use Rattle.bidi_browser.specs.Asked.{disown_asked}
 use Rattle.bidi_browser.specs.Occurs.{Replies}
-use Rattle.bidi_browser.specs.Realms.{has_id}
+use Rattle.bidi_handles.specs.Ids.{has_id}
 use Rattle.bidi_browser.specs.ContextRows.{Row}
 use Rattle.bidi_browser.proofs.ScriptLemmas.{disown-plans}
 use Rattle.bidi_browser.proofs.PlanLemmas.{told-well, result-well}

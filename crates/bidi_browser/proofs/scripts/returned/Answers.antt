@@ -4,8 +4,8 @@ use Rattle.std.proofs.lemmas.Option.{slice_get-map}
 use Rattle.bidi_browser.specs.Acts.{Returned}
 use Rattle.bidi_browser.specs.ContextRows.{row_of, held_in_row}
 use Rattle.bidi_browser.specs.Outcome.{undefined}
-use Rattle.bidi_browser.specs.Values.{argument}
-use Rattle.bidi_browser.specs.ValuesInHand.{local_tree, shared_tree}
+use Rattle.bidi_handles.specs.Values.{argument}
+use Rattle.bidi_handles.specs.ValuesInHand.{local_tree, shared_tree}
 use Rattle.bidi_browser.proofs.CallLemmas.{returned-value, returned-none, passed-argument, not-returned}
 use Rattle.bidi_browser.proofs.scripts.returned.Goals as goal
 

@@ -4,7 +4,7 @@ use Rattle.std.proofs.lemmas.Bool.Decides.{nat_tests}
 use Rattle.bidi_browser.specs.ContextRows.{Row}
 use Rattle.bidi_browser.specs.Realms.{value_of}
 use Rattle.bidi_browser.specs.TableInHand.{ending_seen}
-use Rattle.bidi_browser.specs.Values.{takes_handle}
+use Rattle.bidi_handles.specs.Values.{takes_handle}
 use Rattle.bidi_browser.proofs.ScriptLemmas.{ran-unheld, ran-held}
 use Rattle.bidi_browser.proofs.scripts.run.Goals.{then-not-owned-via-then-not-owned, then-not-owned-via-else-not-owned+then-not-takes_handle}
 use Rattle.bidi_browser.proofs.scripts.run.Goals as goal

@@ -3,7 +3,8 @@ use Rattle.std.specs.List.{position}
 use Rattle.std.specs.Prelude.{◌==◌}
 use Rattle.bidi_browser.specs.declared.contexts.Context.{Context}
 use Rattle.bidi_browser.specs.ContextRows.{row_of, without_in}
-use Rattle.bidi_browser.proofs.MoveLemmas.{changed-at, changed-none, no_value}
+use Rattle.bidi_browser.proofs.MoveLemmas.{changed-at, changed-none}
+use Rattle.bidi_handles.proofs.ListLemmas.{no_value}
 use Rattle.bidi_browser.proofs.context_table.Contexts.disown.Goals as goal
 
 pub returns-in-Some : goal.returns-in-Some

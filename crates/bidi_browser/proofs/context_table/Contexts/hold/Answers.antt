@@ -1,15 +1,17 @@
 use Rattle.std.proofs.Common.{◌≡◌, ◌∙◌, ◌≤◌, ◌<◌, ℕ, List, All, Some, map, sym, ap, subst, arith}
 use Rattle.std.specs.List.{position}
-use Rattle.std.specs.Prelude.{◌==◌, get_or, vec_len, vec_capacity}
+use Rattle.std.specs.Prelude.{◌==◌, get_or}
 use Rattle.std.proofs.lemmas.List.Elements.{All-weaker}
-use Rattle.bidi_browser.specs.declared.id.Kind.TheVariants as kind
+use Rattle.bidi_handles.specs.declared.id.Kind.TheVariants as kind
 use Rattle.bidi_browser.specs.declared.contexts.Context.{Context}
 use Rattle.bidi_browser.specs.Acts.{Act, next_number}
 use Rattle.bidi_browser.specs.Realms.{realm_of, handles_of}
 use Rattle.bidi_browser.specs.ContextRows.{Row, row_of, rows, held_in}
-use Rattle.bidi_browser.specs.ValuesInHand.{handle_seen}
+use Rattle.bidi_handles.specs.Handles.{HasSpare}
+use Rattle.bidi_handles.specs.ValuesInHand.{handle_seen}
 use Rattle.bidi_browser.proofs.HandleLemmas.{handles-below}
-use Rattle.bidi_browser.proofs.MoveLemmas.{at-place, changed-at, changed-none, no_value}
+use Rattle.bidi_browser.proofs.MoveLemmas.{at-place, changed-at, changed-none}
+use Rattle.bidi_handles.proofs.ListLemmas.{no_value}
 use Rattle.bidi_browser.proofs.context_table.Contexts.hold.Goals as goal
 
 -- in the row of its context all numbers are below that of the next handle
@@ -22,7 +24,7 @@ below-next past items number i c n table at is next =
 pub hold-requires : goal.hold-requires
 hold-requires c =
     let at = ap (position (λ (x : Context). x.number == c.args.number)) (sym c.deref.ensures.value) ∙ (sym c.place_of.ensures ∙ c.in-Some.is) in
-    subst (λ (x : Context). vec_len x.handles < vec_capacity x.handles) (sym c.index_mut.ensures.value) (c.requires c.in-Some.place c.index_mut.result.now at)
+    subst (λ (x : Context). HasSpare x.handles) (sym c.index_mut.ensures.value) (c.requires c.in-Some.place c.index_mut.result.now at)
 
 pub returns-in-Some : goal.returns-in-Some
 returns-in-Some c = λ past table next.

@@ -4,7 +4,8 @@ use Rattle.std.specs.Prelude.{◌==◌}
 use Rattle.bidi_browser.specs.declared.contexts.Context.{Context}
 use Rattle.bidi_browser.specs.ContextRows.{Row, row_of, changed, moved_in}
 use Rattle.bidi_browser.specs.HistoryInHand.{move_of, Leads, HasRoomFor}
-use Rattle.bidi_browser.proofs.MoveLemmas.{changed-at, changed-none, at-place, no_value}
+use Rattle.bidi_browser.proofs.MoveLemmas.{changed-at, changed-none, at-place}
+use Rattle.bidi_handles.proofs.ListLemmas.{no_value}
 use Rattle.bidi_browser.proofs.context_table.Contexts.lead.Goals as goal
 
 pub navigate-requires-clause-room : goal.navigate-requires-clause-room

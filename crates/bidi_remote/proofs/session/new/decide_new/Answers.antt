@@ -1,8 +1,8 @@
 use Rattle.std.proofs.Common.{◌≡◌, ◌∙◌, [], ◌∷◌, refl, sym, ap, arith}
 use Rattle.bidi_tree.specs.Node.{text, no_members}
-use Rattle.bidi_browser.specs.declared.id.Kind.TheVariants.{Session}
-use Rattle.bidi_browser.specs.Ids.{id_of}
-use Rattle.bidi_browser.specs.Maps.{◌being◌and◌, mapped}
+use Rattle.bidi_handles.specs.declared.id.Kind.TheVariants.{Session}
+use Rattle.bidi_handles.specs.Ids.{id_of}
+use Rattle.bidi_handles.specs.Maps.{◌being◌and◌, mapped}
 use Rattle.bidi_browser.specs.Occurs.{Replies}
 use Rattle.bidi_params.specs.contracts.session.capabilities.NewParametersShape.TheImpl.{ghosts}
 use Rattle.bidi_remote.specs.declared.turn.Change.TheVariants.{Begin}

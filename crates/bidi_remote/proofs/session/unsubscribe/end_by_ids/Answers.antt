@@ -1,6 +1,6 @@
 use Rattle.std.proofs.Common.{◌∙◌, ℕ, List, Result, Ok, sym, ap}
-use Rattle.bidi_messages.specs.declared.error_code.ErrorCode.{ErrorCode}
-use Rattle.bidi_browser.specs.Checks.{◌>>=◌}
+use Rattle.bidi_codes.specs.declared.error_code.ErrorCode.{ErrorCode}
+use Rattle.bidi_codes.specs.Checks.{◌>>=◌}
 use Rattle.bidi_remote.specs.Machine.History.{Deed, Cancelled}
 use Rattle.bidi_remote.specs.Tables.Asked.{texts}
 use Rattle.bidi_remote.specs.Tables.SubscriptionRows.{numbers_named}

@@ -1,5 +1,5 @@
 use Rattle.std.proofs.Common.{◌∙◌, None, Err, refl, sym, ap}
-use Rattle.bidi_messages.specs.declared.error_code.ErrorCode.TheVariants.{InvalidArgument}
+use Rattle.bidi_codes.specs.declared.error_code.ErrorCode.TheVariants.{InvalidArgument}
 use Rattle.bidi_remote.specs.declared.step.Sent.TheVariants.{Lost}
 use Rattle.bidi_remote.specs.Machine.Connections.{is_shut}
 use Rattle.bidi_remote.specs.Machine.History.{NotText}

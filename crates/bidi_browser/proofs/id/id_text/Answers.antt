@@ -1,4 +1,0 @@
-use Rattle.bidi_browser.proofs.id.id_text.Goals as goal
-
-pub returns : goal.returns
-returns c = rw (← c.id_of.ensures, ← c.hyphenated.ensures, ← c.encode_lower-text.ensures.text) c.from_str.ensures.ok

@@ -1,4 +1,0 @@
-use Rattle.bidi_browser.proofs.id.is_id.Goals as goal
-
-pub returns : goal.returns
-returns c = rw (← c.id_of.ensures, ← c.hyphenated.ensures, ← c.encode_lower-id.ensures.text) c.eq.ensures

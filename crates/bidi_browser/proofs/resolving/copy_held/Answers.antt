@@ -1,5 +1,0 @@
-use Rattle.bidi_browser.proofs.WellLemmas.{remote-well}
-use Rattle.bidi_browser.proofs.resolving.copy_held.Goals as goal
-
-pub copy-requires : goal.copy-requires
-copy-requires c = remote-well c.deref.result.now.value c.deref.result.now.few

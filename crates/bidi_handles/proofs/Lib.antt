@@ -1,0 +1,10 @@
+pub mod ListLemmas
+pub mod Spelling
+pub mod IdFacts
+pub mod IdLemmas
+pub mod ArgumentFacts
+pub mod ValueLemmas
+pub mod SearchLemmas
+pub mod SizeLemmas
+pub mod ResolveLemmas
+pub mod WellLemmas

@@ -1,0 +1,150 @@
+-- Handles whose numbers ascend: one more that comes, and what a search by halves finds among them.
+use Rattle.std.proofs.Common.{◌≡◌, ◌∙◌, ◌<◌, ◌≤◌, ◌+◌, ◌^◌, ◌||◌, ℕ, zero, suc, Bool, true, false, true≢false, List, [], ◌∷◌, ◌++◌, length, get_or, map, take, filter, All, Option, Some, None, IfSome, option_to_list, Result, Ok, Err, MatchResult, is_ok, String, Global, string_bytes, refl, sym, ap, ap₂, subst, arith}
+use Rattle.std.specs.Prelude.{◌==◌, bytes_eq, find, option_map}
+use Rattle.std.specs.List.{list_any}
+use Rattle.std.specs.List.Sorted.{IsSearchInRange, IsBinarySearchResult, IsNonDecreasingBy, IsNonDecreasing, IsStrictlyIncreasing}
+use Rattle.std.specs.Ordering.{nat_cmp, ordering_index}
+use Rattle.std.proofs.lemmas.Bool.Decides.{nat_tests, Decides-eqb}
+use Rattle.std.proofs.lemmas.Cmp.{ranked}
+use Rattle.std.proofs.lemmas.List.{get_or-map, length-map, map-append, take_more}
+use Rattle.std.proofs.lemmas.List.Folds.{list_any-append}
+use Rattle.std.proofs.lemmas.List.Kept.{AllPairs-from_increasing, IsStrictlyIncreasing-filter}
+use Rattle.std.proofs.lemmas.List.Sorted.{searched}
+use Rattle.bidi_tree.specs.Node.{Node}
+use Rattle.bidi_handles.specs.declared.id.Kind.TheVariants as kind
+use Rattle.bidi_handles.specs.declared.handle.Handle.{Handle}
+use Rattle.bidi_handles.specs.Ids.{id_of, has_id}
+use Rattle.bidi_handles.specs.ValuesInHand.{handle_seen, held_tree}
+use Rattle.bidi_handles.proofs.ListLemmas.{agree, find-map, find-same, filter-map}
+use Rattle.bidi_handles.proofs.ValueLemmas.{same-either}
+
+-- ---- the first that passes a test
+
+-- it stands where none before it passes
+find-here : {X : Type 0} (p : X → Bool) (xs : List X) (i : ℕ) (d : X) → i < length xs → ((k : ℕ) → k < i → p (get_or xs k d) ≡ false) → p (get_or xs i d) ≡ true → find p xs ≡ Some (get_or xs i d)
+find-here p [] i d less before here = absurd (omega arith)
+find-here p (x ∷ xs) zero d less before here = rw here refl
+find-here p (x ∷ xs) (suc i) d less before here = rw (before 0 (omega arith)) (find-here p xs i d (omega arith) (λ k lower. before (suc k) (omega arith)) here)
+
+-- there is none where each fails
+find-none : {X : Type 0} (p : X → Bool) (xs : List X) → ((k : ℕ) (d : X) → k < length xs → p (get_or xs k d) ≡ false) → find p xs ≡ None
+find-none p [] fails = refl
+find-none p (x ∷ xs) fails = rw (fails 0 x (omega arith)) (find-none p xs (λ k d less. fails (suc k) d (omega arith)))
+
+-- ---- by number
+
+module _ {X : Type 0} (number : X → ℕ) (xs : List X) (ascend : IsStrictlyIncreasing (map number xs)) where
+  -- each number is below those behind it
+  below-later : (i j : ℕ) (d : X) → i < j → j < length xs → number (get_or xs i d) < number (get_or xs j d)
+  below-later i j d less within =
+      let all = AllPairs-from_increasing (map number xs) ascend i j 0 less (omega (arith, length-map xs number)) in
+      omega (arith, all, get_or-map number xs i d 0 (omega arith), get_or-map number xs j d 0 within)
+
+  module _ (n : ℕ) where
+    -- so the comparisons with a number do not fall
+    comparisons-rise : IsNonDecreasingBy (λ x. ordering_index (nat_cmp (number x) n)) xs
+    comparisons-rise i j d le within =
+        let later : i < j → number (get_or xs i d) < number (get_or xs j d) = λ less. below-later i j d less within in
+        let same : i ≡ j → number (get_or xs i d) ≡ number (get_or xs j d) = ap (λ k. number (get_or xs k d)) in
+        grind (arith, nat_tests, later, same)
+
+    -- what is found is the one of that number
+    pub found : (i : ℕ) (d : X) → IsSearchInRange (Ok i) (length xs) → IsBinarySearchResult (λ x. nat_cmp (number x) n) xs (Ok i) → find (λ x. number x == n) xs ≡ Some (get_or xs i d)
+    found i d within at =
+        let here : number (get_or xs i d) ≡ n = ranked _ n _ (sym (at d)) in
+        find-here (λ x. number x == n) xs i d within
+        (λ k lower. let less = below-later k i d lower within in grind (arith, nat_tests, less, here))
+        (grind (arith, nat_tests, here))
+
+    -- where nothing is found there is none
+    pub not-found : (i : ℕ) → IsSearchInRange (Err i) (length xs) → IsBinarySearchResult (λ x. nat_cmp (number x) n) xs (Err i) → find (λ x. number x == n) xs ≡ None
+    not-found i within parted =
+        find-none (λ x. number x == n) xs (λ k d inside.
+        let before : k < i → number (get_or xs k d) < n = λ lower. ranked _ n _ (sym ((parted comparisons-rise).0 k d (omega arith) lower)) in
+        let after : i ≤ k → n < number (get_or xs k d) = λ higher. ranked _ n _ (sym ((parted comparisons-rise).1 k d higher inside)) in
+        grind (arith, nat_tests, before, after))
+
+-- ---- by id
+
+-- the first of a number is the first that passes a test which that number passes and no other does
+pub by-number : (t : ℕ → Bool) (n : ℕ) → t n ≡ true → ((m : ℕ) → m < 2 ^ 48 → t m ≡ true → Some n ≡ Some m) → (hs : List Handle) → find (λ h. h.number == n) hs ≡ find (λ h. t h.number) hs
+by-number t n is every hs =
+    find-same (λ h. h.number == n) (λ h. t h.number) hs (λ h. agree (h.number == n) (t h.number)
+    (λ e. ap t ((Decides-eqb h.number n).0 e) ∙ is)
+    (λ e. let one = every h.number h.number_fits e in (Decides-eqb h.number n).1 (cc)))
+
+-- where no number passes there is none
+pub by-no-number : (t : ℕ → Bool) → ((m : ℕ) → m < 2 ^ 48 → t m ≡ true → (let none : Option ℕ = None in none ≡ Some m)) → (hs : List Handle) → find (λ h. t h.number) hs ≡ None
+by-no-number t every hs = find-none (λ (h : Handle). t h.number) hs (λ k h less. fails (get_or hs k h) (t (get_or hs k h).number) refl)
+  where
+    fails : (h : Handle) (b : Bool) → t h.number ≡ b → t h.number ≡ false
+    fails h true passes = let wrong = every h.number h.number_fits passes in absurd (cc)
+    fails h false passes = passes
+
+-- the value of a handle that was looked for is the one that is seen
+pub value-seen : (t : ℕ → Bool) (hs : List Handle) (o : Option Handle) → o ≡ find (λ h. t h.number) hs
+    → option_map (λ h. held_tree h.value.value) o ≡ option_map (λ held. held.1) (find (λ held. t held.0) (map handle_seen hs))
+value-seen t hs o is = seen o ∙ ap (option_map (λ held. held.1)) (ap (option_map handle_seen) is ∙ find-map handle_seen (λ held. t held.0) hs)
+  where
+    seen : (o : Option Handle) → option_map (λ h. held_tree h.value.value) o ≡ option_map (λ held. held.1) (option_map handle_seen o)
+    seen None = refl
+    seen (Some h) = refl
+
+-- ---- the numbers of handles
+
+-- what holds of each that is seen holds of each handle, as it is seen
+pub all-seen : (P : ℕ × Node → Type 0) (hs : List Handle) → All P (map handle_seen hs) → All (λ h. P (handle_seen h)) hs
+all-seen P hs all k d less = subst P (get_or-map handle_seen hs k d (handle_seen d) less) (all k (handle_seen d) (omega (arith, length-map hs handle_seen)))
+
+-- those without some of them ascend too
+pub ascend-filter : (p : ℕ → Bool) (hs : List Handle) → IsStrictlyIncreasing (map (λ h. h.number) hs) → IsStrictlyIncreasing (map (λ h. h.number) (filter (λ h. p h.number) hs))
+ascend-filter p hs up = subst IsStrictlyIncreasing (filter-map (λ (h : Handle). h.number) p hs) (IsStrictlyIncreasing-filter p (map (λ h. h.number) hs) up)
+
+-- ---- among numbers alone
+
+-- whether a number was found says whether it is among them
+pub is-among : (xs : List ℕ) (n : ℕ) (r : Result ℕ ℕ) → IsNonDecreasing xs → IsBinarySearchResult (λ m. nat_cmp m n) xs r → is_ok r ≡ list_any (λ m. m == n) xs
+is-among xs n r up result = by r (searched xs n r result (λ i j le within. up i j 0 le within))
+  where
+    among : (xs : List ℕ) (i : ℕ) → i < length xs → get_or xs i 0 ≡ n → list_any (λ m. m == n) xs ≡ true
+    among [] i within is = absurd (omega arith)
+    among (x ∷ xs) zero within is = grind (arith, nat_tests, is)
+    among (x ∷ xs) (suc i) within is = let ih = among xs i (omega arith) is in grind (arith, nat_tests, ih)
+
+    apart : (xs : List ℕ) → ((k : ℕ) → k < length xs → get_or xs k 0 ≡ n → ⊥) → list_any (λ m. m == n) xs ≡ false
+    apart [] differ = refl
+    apart (x ∷ xs) differ = let ih = apart xs (λ k within. differ (suc k) (omega arith)) in let here = differ 0 (omega arith) in grind (arith, nat_tests, ih, here)
+
+    by : (r : Result ℕ ℕ) → MatchResult r (λ i. (i < length xs) × (get_or xs i 0 ≡ n)) (λ i. (i ≤ length xs) × ((k : ℕ) → k < i → get_or xs k 0 < n) × ((k : ℕ) → i ≤ k → k < length xs → n < get_or xs k 0))
+        → is_ok r ≡ list_any (λ m. m == n) xs
+    by (Ok i) there = sym (among xs i there.0 there.1)
+    by (Err i) gap = sym (apart xs (λ k within is. let before = gap.1 k in let after = gap.2 k in grind (arith, before, after, within, is)))
+
+-- the number of a text that has one is a number that passes, and no other does
+numbered : (t : ℕ → Bool) (r : Option ℕ) → IfSome r (λ n. (n < 2 ^ 48) × (t n ≡ true)) → ((n : ℕ) → n < 2 ^ 48 → t n ≡ true → r ≡ Some n) → (n : ℕ) → n < 2 ^ 48 → list_any (λ m. m == n) (option_to_list r) ≡ t n
+numbered t (Some m) some every n fits =
+    agree ((m == n) || false) (t n)
+    (λ e. let same : m ≡ n = grind (arith, nat_tests, e) in ap t (sym same) ∙ some.1)
+    (λ e. let one = every n fits e in let same : m ≡ n = cc in grind (arith, nat_tests, same))
+numbered t None some every n fits =
+    agree false (t n) (λ e. absurd (true≢false (sym e))) (λ e. let wrong = every n fits e in absurd (cc))
+
+-- among the numbers of some texts is that of each text that has one, and that of the next
+pub numbers-more : (texts : List (String Global)) (i : ℕ) (s : String Global) (r : Option ℕ) (now after : List ℕ) → i < length texts → s ≡ get_or texts i s
+    → IfSome r (λ n. (n < 2 ^ 48) × (bytes_eq (string_bytes s) (id_of kind.Handle n) ≡ true)) → ((n : ℕ) → n < 2 ^ 48 → bytes_eq (string_bytes s) (id_of kind.Handle n) ≡ true → r ≡ Some n)
+    → ((n : ℕ) → n < 2 ^ 48 → list_any (λ m. m == n) now ≡ has_id (map string_bytes (take i texts)) n) → after ≡ now ++ option_to_list r
+    → (n : ℕ) → n < 2 ^ 48 → list_any (λ m. m == n) after ≡ has_id (map string_bytes (take (i + 1) texts)) n
+numbers-more texts i s r now after less at some every held is n fits =
+    let p = bytes_eq (id_of kind.Handle n) in
+    let more : map string_bytes (take (i + 1) texts) ≡ map string_bytes (take i texts) ++ string_bytes s ∷ [] =
+    ap (map string_bytes) (take_more texts i s less ∙ ap (λ x. take i texts ++ x ∷ []) (sym at)) ∙ map-append string_bytes (take i texts) (s ∷ []) in
+    let one : list_any (λ m. m == n) (option_to_list r) ≡ list_any p (string_bytes s ∷ []) =
+    numbered (λ m. bytes_eq (string_bytes s) (id_of kind.Handle m)) r some every n fits ∙ (same-either (string_bytes s) (id_of kind.Handle n) ∙ sym (or-false (p (string_bytes s)))) in
+    ap (list_any (λ m. m == n)) is
+    ∙ (list_any-append (λ m. m == n) now (option_to_list r)
+    ∙ (ap₂ (λ a b. a || b) (held n fits) one
+    ∙ (sym (list_any-append p (map string_bytes (take i texts)) (string_bytes s ∷ [])) ∙ ap (list_any p) (sym more))))
+  where
+    or-false : (b : Bool) → (b || false) ≡ b
+    or-false true = refl
+    or-false false = refl

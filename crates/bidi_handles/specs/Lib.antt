@@ -1,0 +1,9 @@
+pub mod Ids
+pub mod Maps
+pub mod Params
+pub mod Values
+pub mod ValuesInHand
+pub mod Handles
+pub mod Sizes
+pub mod Measured
+pub mod Resolves

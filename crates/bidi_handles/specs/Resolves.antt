@@ -1,0 +1,35 @@
+-- What resolving a local value in hand comes to, held against the definitions.
+use Rattle.std.specs.Prelude.{◌≡◌, Option, Some, None, Result, Ok, Err, ⊤}
+use Rattle.bidi_tree.specs.Node.{Node}
+use Rattle.bidi_codes.specs.declared.error_code.ErrorCode.{ErrorCode}
+use Rattle.bidi_codes.specs.declared.refusal.Refusal.{Refusal}
+use Rattle.bidi_codes.specs.declared.refusal.Refusal.TheVariants.{Code, NoMemory}
+use Rattle.bidi_handles.specs.declared.size.Size.{Size}
+use Rattle.bidi_codes.specs.Checks.{◌>>=◌}
+use Rattle.bidi_handles.specs.Sizes.{size_of}
+use Rattle.bidi_handles.specs.Values.{Held, argument}
+
+-- what was made is what the definition gives, or its code, unless an allocation failed
+abbrev pub Gives : {A B : Type 0} → (A → B) → Result A Refusal → Result B ErrorCode → Type 0
+Gives view (Ok x) answer = answer ≡ Ok (view x)
+Gives view (Err (Code code)) answer = answer ≡ Err code
+Gives view (Err NoMemory) answer = ⊤
+
+-- a size is that of the tree which the definition gives
+abbrev pub IsSized : Result Size Refusal → Result Node ErrorCode → Type 0
+IsSized (Ok size) answer = (t : Node) × (answer ≡ Ok t) × (size ≡ size_of t)
+IsSized (Err (Code code)) answer = answer ≡ Err code
+IsSized (Err NoMemory) answer = ⊤
+
+-- the definition gives something, or the code
+abbrev pub Passes : {B : Type 0} → Result (Unit {0}) Refusal → Result B ErrorCode → Type 0
+Passes {B} (Ok u) answer = (x : B) × (answer ≡ Ok x)
+Passes (Err (Code code)) answer = answer ≡ Err code
+Passes (Err NoMemory) answer = ⊤
+
+-- `this` as an argument, where it is given
+abbrev pub this_argument : Held → Option Node → Result (Option Node) ErrorCode
+this_argument held None = Ok None
+this_argument held (Some value) = do
+  v ← argument held value
+  Ok (Some v)

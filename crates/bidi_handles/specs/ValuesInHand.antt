@@ -1,0 +1,57 @@
+-- What contracts see of values in hand: the tree of one, and what a handle holds.
+use Rattle.std.specs.Prelude.{ℕ, map, Vec}
+use Rattle.std.specs.declared.alloc.Global.{Global}
+use Rattle.std.specs.declared.rc.Rc.{Rc}
+use Rattle.bidi_tree.specs.Node.{Node, Items}
+use Rattle.bidi_tree.specs.View.{items_of}
+use Rattle.bidi_values.specs.View.{nested_tree, nested_pair_tree, nested_key_tree}
+use Rattle.bidi_values.specs.declared.nested.Nested.{Nested}
+use Rattle.bidi_values.specs.declared.nested.NestedPair.{NestedPair}
+use Rattle.bidi_values.specs.declared.nested.NestedKey.{NestedKey}
+use Rattle.bidi_values.specs.declared.kinds.ListKind.{ListKind}
+use Rattle.bidi_values.specs.declared.kinds.PairsKind.{PairsKind}
+use Rattle.bidi_values.specs.declared.local_value.LocalPlain.{LocalPlain}
+use Rattle.bidi_values.specs.contracts.local_value.LocalPlainNestsListKindPairsKind.TheImpl as local
+use Rattle.bidi_values.specs.declared.remote_value.RemotePlain.{RemotePlain}
+use Rattle.bidi_values.specs.declared.held.Held.{Held as HeldBy}
+use Rattle.bidi_values.specs.contracts.remote_value.RemotePlainNestsRemoteListRemotePairs.TheImpl as remote
+use Rattle.bidi_handles.specs.declared.handle.Handle.{Handle}
+use Rattle.bidi_handles.specs.declared.handle.HeldValue.{HeldValue}
+
+-- the tree of a remote value in hand
+abbrev pub remote_tree : Nested RemotePlain (HeldBy ListKind) (HeldBy PairsKind) → Node
+remote_tree v = nested_tree remote.ghosts.nesting v
+
+-- the tree of a local value in hand, of a pair of an object or a map, and of its key
+abbrev pub local_tree : Nested LocalPlain ListKind PairsKind → Node
+local_tree v = nested_tree local.ghosts.nesting v
+
+abbrev pub local_pair_tree : NestedPair LocalPlain ListKind PairsKind → Node
+local_pair_tree p = nested_pair_tree local.ghosts.nesting p
+
+abbrev pub local_key_tree : NestedKey LocalPlain ListKind PairsKind → Node
+local_key_tree k = nested_key_tree local.ghosts.nesting k
+
+abbrev pub remote_pair_tree : NestedPair RemotePlain (HeldBy ListKind) (HeldBy PairsKind) → Node
+remote_pair_tree p = nested_pair_tree remote.ghosts.nesting p
+
+abbrev pub remote_key_tree : NestedKey RemotePlain (HeldBy ListKind) (HeldBy PairsKind) → Node
+remote_key_tree k = nested_key_tree remote.ghosts.nesting k
+
+-- those of some values, and of some pairs
+abbrev pub remote_trees : Vec (Nested RemotePlain (HeldBy ListKind) (HeldBy PairsKind)) Global → Items
+remote_trees vs = items_of (map remote_tree vs.items)
+
+abbrev pub remote_pair_trees : Vec (NestedPair RemotePlain (HeldBy ListKind) (HeldBy PairsKind)) Global → Items
+remote_pair_trees ps = items_of (map remote_pair_tree ps.items)
+
+-- that of a value that may be held, also where it is shared
+abbrev pub held_tree : HeldValue → Node
+held_tree held = remote_tree held.value
+
+abbrev pub shared_tree : Rc HeldValue Global → Node
+shared_tree shared = held_tree shared.value
+
+-- a handle by its number, with the value that it holds
+abbrev pub handle_seen : Handle → ℕ × Node
+handle_seen handle = (handle.number, held_tree handle.value.value)

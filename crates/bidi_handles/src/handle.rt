@@ -1,0 +1,48 @@
+//! Values that handles and rows of the script table hold, and the two ways in which a script ends.
+ghost use Rattle.std.specs.Prelude.{◌≡◌, ◌≤◌, ◌<◌, ◌^◌};
+ghost use Rattle.bidi_tree.specs.Node.{levels};
+ghost use Rattle.bidi_values.specs.View.{nested_tree};
+ghost use Rattle.bidi_handles.specs.Sizes.{size_of};
+
+use crate::size::Size;
+use bidi_values::{Nests, RemoteList, RemotePairs, RemotePlain, RemoteValue};
+use std::rc::Rc;
+
+/// A value that rows of the script table and handles share.
+#[derive(Drop)]
+pub struct HeldValue {
+    /// The value itself.
+    pub value: RemoteValue,
+    /// The levels and bytes of its tree, counted once.
+    pub(crate) size: Size,
+    ghost few: { levels (nested_tree ⟦<RemotePlain as Nests<RemoteList, RemotePairs>>⟧.nesting value) ≤ 60 },
+    ghost levels: { size.levels ≡ (size_of (nested_tree ⟦<RemotePlain as Nests<RemoteList, RemotePairs>>⟧.nesting value)).levels },
+    ghost bytes: { size.bytes ≡ (size_of (nested_tree ⟦<RemotePlain as Nests<RemoteList, RemotePairs>>⟧.nesting value)).bytes },
+}
+
+/// A value that a script throws. It has one level fewer than others, since the exception details wrap it.
+#[derive(Drop)]
+pub struct ThrownValue {
+    /// The value itself.
+    pub held: Rc<HeldValue>,
+    ghost few: { levels (nested_tree ⟦<RemotePlain as Nests<RemoteList, RemotePairs>>⟧.nesting held.value.value) ≤ 59 },
+}
+
+/// How a script ends.
+#[derive(Drop)]
+pub enum Ending {
+    /// The script returns this value.
+    Returned(Rc<HeldValue>),
+    /// The script throws this value.
+    Threw(ThrownValue),
+}
+
+/// A handle of a realm.
+#[derive(Drop)]
+pub struct Handle {
+    /// The number of the handle, from which its id is made.
+    pub number: u64,
+    /// The value that it holds.
+    pub value: Rc<HeldValue>,
+    ghost number_fits: { number < 2 ^ 48 },
+}

@@ -1,0 +1,159 @@
+//! The handles of a realm.
+ghost use Rattle.std.specs.Prelude.{◌≡◌, ℕ, ◌<◌, ◌^◌, [], ◌∷◌, ◌++◌, true, IfOk, OnOk, bytes_eq, filter, find, length, map, not, option_map, string_bytes, ◌==◌};
+ghost use Rattle.std.specs.List.{All, list_any};
+ghost use Rattle.std.specs.List.Sorted.{IsNonDecreasing, IsStrictlyIncreasing};
+ghost use Rattle.std.proofs.Props.{props};
+ghost use Rattle.bidi_handles.specs.Ids.{id_of, has_id};
+
+use crate::handle::{Handle, HeldValue};
+use crate::id::{Kind, handle_number};
+use std::alloc::{AllocError, Global};
+use std::rc::Rc;
+
+/// The handles of a realm, in order of number.
+#[derive(Drop)]
+pub struct Handles {
+    items: Vec<Handle>,
+    ghost ascend: { IsStrictlyIncreasing (map (λ h. h.number) items.items) } by { Prim.hlevel props },
+}
+
+impl Handles {
+    ghost use Rattle.bidi_handles.specs.Handles.{handles_seen, values_in, HasSpare};
+    ghost use Rattle.bidi_handles.specs.ValuesInHand.{handle_seen, held_tree};
+
+    /// Those of a new realm: none. Takes no memory.
+    pub fn new(alloc: Global) -> Handles
+        ensures { handles_seen result ≡ [] }
+    {
+        Handles {
+            items: Vec::new(alloc),
+        }
+    }
+
+    /// How many there are.
+    pub fn len(&self) -> usize
+        ensures { result ≡ length (handles_seen self.now) }
+    {
+        self.items.len()
+    }
+
+    /// The value that the handle of this id holds. Does a binary search, and takes no memory.
+    pub fn held(&self, id: &str) -> Option<&Rc<HeldValue>>
+        ensures { option_map (λ h. held_tree h.now.value) result ≡ values_in self.now id.now }
+    {
+        let handle = handle_of_id(&self.items, id)?;
+        Some(&handle.value)
+    }
+
+    /// The numbers of those that have one of these ids.
+    ///
+    /// Sorts the numbers of the ids, and does a binary search among them for each handle.
+    pub fn numbers_of(&self, alloc: Global, ids: &Vec<String>) -> Result<Vec<u64>, AllocError>
+        ensures { IfOk result (λ numbers. numbers.items ≡ map (λ h. h.0) (filter (λ h. has_id (map string_bytes ids.now.items) h.0) (handles_seen self.now))) }
+    {
+        let named = handle_numbers(alloc, ids)?;
+        let mut numbers = Vec::new(alloc);
+        for handle in &self.items {
+            if is_among(&named, handle.number) {
+                numbers.push(handle.number)?;
+            }
+        }
+        Ok(numbers)
+    }
+
+    /// Makes room for one more.
+    pub fn reserve(&mut self) -> Result<(), AllocError>
+        ensures kept { handles_seen self.new ≡ handles_seen self.old }
+        ensures room { OnOk result (HasSpare self.new) }
+    {
+        self.items.reserve(1)
+    }
+
+    /// Adds a handle, if its number is above those of all others. Takes no memory.
+    pub fn hold(&mut self, handle: Handle)
+        requires { HasSpare self.now }
+        ensures { All (λ held. held.0 < handle.number) (handles_seen self.old) → handles_seen self.new ≡ handles_seen self.old ++ handle_seen handle ∷ [] }
+    {
+        if may_come(&self.items, handle.number) {
+            self.items.push_reserved(handle);
+        }
+    }
+
+    /// Releases those of these numbers. Takes no memory.
+    pub fn disown(&mut self, numbers: &[u64])
+        ensures { handles_seen self.new ≡ filter (λ held. not (list_any (λ n. n == held.0) numbers.now)) (handles_seen self.old) }
+    {
+        take_out(&mut self.items, numbers);
+    }
+
+    /// Releases them all. Takes no memory.
+    pub fn clear(&mut self)
+        ensures { handles_seen self.new ≡ [] }
+    {
+        self.items.clear();
+    }
+}
+
+// The handle of this id, among handles in ascending order of number.
+fn handle_of_id<'a>(handles: &'a [Handle], id: &str) -> Option<&'a Handle>
+    ensures { IsStrictlyIncreasing (map (λ h. h.number) handles.now) → option_map (λ h. h.now) result ≡ find (λ h. bytes_eq id.now (id_of Kind.Handle h.number)) handles.now }
+{
+    handle_at(handles, handle_number(id)?)
+}
+
+// The handle of this number, among handles in ascending order of number.
+fn handle_at(handles: &[Handle], number: u64) -> Option<&Handle>
+    ensures { IsStrictlyIncreasing (map (λ h. h.number) handles.now) → option_map (λ h. h.now) result ≡ find (λ h. h.number == number) handles.now }
+{
+    match handles.binary_search_by_key(&number, |handle| handle.number) {
+        Ok(place) => Some(&handles[place]),
+        Err(_) => None,
+    }
+}
+
+// Whether a handle of this number keeps the ascending order where it is added last.
+fn may_come(handles: &[Handle], number: u64) -> bool
+    ensures may { result ≡ true → IsStrictlyIncreasing (map (λ h. h.number) handles.now) → IsStrictlyIncreasing (map (λ h. h.number) handles.now ++ number ∷ []) }
+    ensures above { All (λ h. h.number < number) handles.now → result ≡ true }
+{
+    match handles.last() {
+        Some(last) => last.number < number,
+        None => true,
+    }
+}
+
+// Removes the handles of these numbers.
+fn take_out(handles: &mut Vec<Handle>, numbers: &[u64])
+    ensures { handles.new.items ≡ filter (λ h. not (list_any (λ n. n == h.number) numbers.now)) handles.old.items }
+{
+    handles.retain(|handle| !is_listed(numbers, handle.number));
+}
+
+// Whether a number is among these.
+fn is_listed(numbers: &[u64], number: u64) -> bool
+    ensures { result ≡ list_any (λ n. n == number) numbers.now }
+{
+    numbers.iter().any(|n| *n == number)
+}
+
+// The numbers of the handles that these ids can stand for, in ascending order.
+fn handle_numbers(alloc: Global, ids: &[String]) -> Result<Vec<u64>, AllocError>
+    ensures order { IfOk result (λ numbers. IsNonDecreasing numbers.items) }
+    ensures ids { (n : ℕ) → n < 2 ^ 48 → IfOk result (λ numbers. list_any (λ m. m == n) numbers.items ≡ has_id (map string_bytes ids.now) n) }
+{
+    let mut numbers = Vec::new(alloc);
+    for id in ids {
+        if let Some(number) = handle_number(id) {
+            numbers.push(number)?;
+        }
+    }
+    numbers.sort_unstable();
+    Ok(numbers)
+}
+
+// Whether a number is among these, which are in ascending order.
+fn is_among(numbers: &[u64], number: u64) -> bool
+    ensures { IsNonDecreasing numbers.now → result ≡ list_any (λ n. n == number) numbers.now }
+{
+    numbers.binary_search(&number).is_ok()
+}

@@ -1,0 +1,120 @@
+//! Ids: the text of one, and the comparison of a text with one.
+ghost use Rattle.std.specs.Prelude.{◌≡◌, ◌<◌, ◌^◌, ℕ, true, bytes_eq, string_bytes, IfOk, IfSome, Some};
+ghost use Rattle.bidi_handles.specs.Ids.{kind_number, session_in, id_bytes, id_of, id_text};
+
+use std::alloc::{AllocError, Global};
+use uuid::Uuid;
+
+/// The kinds of things that have ids.
+#[derive(Clone, Copy, Debug, PartialEq, Eq)]
+pub enum Kind {
+    /// A session.
+    Session,
+    /// A browsing context.
+    Context,
+    /// A realm.
+    Realm,
+    /// A navigation.
+    Navigation,
+    /// A subscription, numbered within its session.
+    Subscription,
+    /// A handle of a remote value.
+    Handle,
+    /// A client window.
+    Window,
+}
+
+/// The id of the `n`-th thing of a kind, counted from 1. Only the id of a subscription has `session` in it;
+/// that of any other kind has 0 in its place.
+///
+/// `ssssssss-kkkk-8000-8000-nnnnnnnnnnnn`: the session, the kind and the number, in lower-case hexadecimal.
+///
+/// # Errors
+/// No memory: an allocation failed.
+///
+/// After RFC 9562, 4 and 5.8; what stands in the bytes is this project's own.
+pub fn id_text(alloc: Global, kind: Kind, session: u32, n: u64) -> Result<String, AllocError>
+    requires { n < 2 ^ 48 }
+    ensures { IfOk result (λ s. string_bytes s ≡ id_text kind session n) }
+{
+    let mut buffer = Uuid::encode_buffer();
+    let text = id_of(kind, session, n)
+        .hyphenated()
+        .encode_lower(&mut buffer);
+    String::from_str(alloc, text)
+}
+
+/// Whether a text is exactly the id that [`id_text`] gives; upper-case letters differ. Takes no memory.
+pub fn is_id(text: &str, kind: Kind, session: u32, n: u64) -> bool
+    requires { n < 2 ^ 48 }
+    ensures { result ≡ bytes_eq text.now (id_text kind session n) }
+{
+    let mut buffer = Uuid::encode_buffer();
+    let id = id_of(kind, session, n)
+        .hyphenated()
+        .encode_lower(&mut buffer);
+    text == id
+}
+
+/// The number of the handle that has exactly this id, if the text is the id of a handle. Takes no memory.
+pub(crate) fn handle_number(id: &str) -> Option<u64>
+    ensures some { IfSome result (λ n. (n < 2 ^ 48) × (bytes_eq id.now (id_of Kind.Handle n) ≡ true)) }
+    ensures every { (n : ℕ) → n < 2 ^ 48 → bytes_eq id.now (id_of Kind.Handle n) ≡ true → result ≡ Some n }
+{
+    let number = match Uuid::try_parse(id) {
+        Ok(uuid) => number_in(uuid),
+        Err(_) => return None,
+    };
+    if is_id(id, Kind::Handle, 0, number) {
+        Some(number)
+    } else {
+        None
+    }
+}
+
+// The number in the last six bytes of an id.
+fn number_in(uuid: Uuid) -> u64
+    ensures fits { result < 2 ^ 48 }
+    ensures back { (n : ℕ) → n < 2 ^ 48 → uuid ≡ id_bytes Kind.Handle 0 n → result ≡ n }
+{
+    let b = uuid.into_bytes();
+    u64::from_be_bytes([0, 0, b[10], b[11], b[12], b[13], b[14], b[15]])
+}
+
+// The sixteen bytes of an id.
+fn id_of(kind: Kind, session: u32, n: u64) -> Uuid
+    requires { n < 2 ^ 48 }
+    ensures { result ≡ id_bytes kind session n }
+{
+    let s = session_in(kind, session).to_be_bytes();
+    let k = number_of(kind).to_be_bytes();
+    let n = n.to_be_bytes();
+    Uuid::new_v8([
+        s[0], s[1], s[2], s[3], k[0], k[1], 0x80, 0, 0x80, 0, n[2], n[3], n[4], n[5], n[6], n[7],
+    ])
+}
+
+/// The session that stands in an id of this kind: 0 but for a subscription.
+fn session_in(kind: Kind, session: u32) -> u32
+    ensures { result ≡ session_in kind session }
+{
+    match kind {
+        Kind::Subscription => session,
+        _ => 0,
+    }
+}
+
+/// The number that stands for a kind in its ids.
+fn number_of(kind: Kind) -> u16
+    ensures { result ≡ kind_number kind }
+{
+    match kind {
+        Kind::Session => 1,
+        Kind::Context => 2,
+        Kind::Realm => 3,
+        Kind::Navigation => 4,
+        Kind::Subscription => 5,
+        Kind::Handle => 6,
+        Kind::Window => 7,
+    }
+}

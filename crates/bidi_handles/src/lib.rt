@@ -1,0 +1,25 @@
+//! The values that handles hold in a realm, and what references to them come to; and the ids of all things.
+//!
+//! [`held`] makes a value that handles and rows of the script table share, and [`Handles`] has those of a realm.
+//! [`check_arguments`] and [`check_this`] measure what a call is given, [`given_back`] builds one argument with the
+//! values of its handles in place of references, and [`shown`] copies a value with its handle. [`id_text`] makes
+//! ids, and [`is_id`] compares a text with one.
+#![tactic(auto)]
+
+mod handle;
+mod handles;
+mod holding;
+mod id;
+mod measuring;
+mod resolving;
+mod showing;
+mod size;
+mod values;
+
+pub use handle::{Ending, Handle, HeldValue, ThrownValue};
+pub use handles::Handles;
+pub use holding::held;
+pub use id::{Kind, id_text, is_id};
+pub use resolving::{check_arguments, check_this, given_back};
+pub use showing::{shown, takes_handle};
+pub use values::has_handle;

@@ -1,0 +1,114 @@
+//! The size of the value that a tree stands for, found without building the value.
+ghost use Rattle.std.specs.Prelude.{◌≡◌, Some, option_map};
+ghost use Rattle.bidi_tree.specs.Node.{map};
+ghost use Rattle.bidi_tree.specs.View.{node, items_node, members_node};
+ghost use Rattle.bidi_codes.specs.declared.error_code.ErrorCode.TheVariants.{NoSuchHandle};
+ghost use Rattle.bidi_codes.specs.Checks.{found};
+ghost use Rattle.bidi_handles.specs.Handles.{values_in};
+ghost use Rattle.bidi_handles.specs.Measured.{sized, items_sized, members_sized, seen, seen_items, seen_members, in_realm};
+ghost use Rattle.bidi_handles.specs.Sizes.{size_of};
+ghost use Rattle.bidi_handles.specs.Values.{handle_value};
+
+use crate::handles::Handles;
+use crate::size::{Size, decimal_bytes, quoted_bytes};
+use bidi_codes::ErrorCode;
+use bidi_tree::{Members, Tree, find_member};
+
+/// The size of a tree as it is.
+pub(crate) fn size_of(tree: &Tree) -> Size
+    ensures { result ≡ size_of (node tree.now) }
+{
+    match measured(None, tree) {
+        Ok(size) => size,
+        Err(_) => unreachable!(),
+    }
+}
+
+/// The size of the value that a tree stands for: with the handles of a realm, a reference counts as the value
+/// that its handle holds. Without a realm it is the size of the tree as it is.
+///
+/// # Errors
+/// Of the first reference that fails, and only in a realm:
+/// - `no such node`: it has a shared id.
+/// - `no such handle`: the realm has no such handle.
+#[cycle(measure)]
+pub(crate) fn measured(realm: Option<&Handles>, tree: &Tree) -> Result<Size, ErrorCode>
+    ensures { result ≡ sized (seen (in_realm realm.entry) (node tree.now)) }
+{
+    match tree {
+        Tree::Null => Ok(Size::flat(4)),
+        Tree::Bool(true) => Ok(Size::flat(4)),
+        Tree::Bool(false) => Ok(Size::flat(5)),
+        Tree::Int(whole) => Ok(Size::flat(decimal_bytes(whole.value))),
+        Tree::Odd => Ok(Size::flat(0)),
+        Tree::Text(text) => Ok(Size::flat(quoted_bytes(text))),
+        Tree::List(items) => measured_items(realm, items),
+        Tree::Map(members) => match realm {
+            Some(handles) => measured_map(handles, members),
+            None => measured_members(realm, members),
+        },
+    }
+}
+
+// The size of a map in a realm. With a member `sharedId` or `handle` it is a reference.
+#[cycle(measure)]
+fn measured_map(handles: &Handles, members: &Members) -> Result<Size, ErrorCode>
+    ensures { result ≡ sized (seen (Some (values_in handles.now)) (map (members_node members.now.entries))) }
+{
+    if find_member(members, "sharedId").is_some() {
+        return Err(ErrorCode::NoSuchNode);
+    }
+    match find_member(members, "handle") {
+        Some(handle) => size_held(handles, handle),
+        None => measured_members(Some(handles), members),
+    }
+}
+
+// The size of the value that a handle holds; the tree is that of its id.
+fn size_held(handles: &Handles, handle: &Tree) -> Result<Size, ErrorCode>
+    ensures { result ≡ sized (handle_value (values_in handles.now) (node handle.now)) }
+{
+    match handle.as_text() {
+        Some(id) => size_named(handles, id),
+        None => Err(ErrorCode::NoSuchHandle),
+    }
+}
+
+// The size of the value that the handle of this id holds.
+fn size_named(handles: &Handles, id: &str) -> Result<Size, ErrorCode>
+    ensures { result ≡ sized (found (values_in handles.now id.now) NoSuchHandle) }
+{
+    match handles.held(id) {
+        Some(held) => Ok(held.size),
+        None => Err(ErrorCode::NoSuchHandle),
+    }
+}
+
+// The size of a list of these items.
+#[cycle(measure)]
+fn measured_items(realm: Option<&Handles>, items: &Vec<Tree>) -> Result<Size, ErrorCode>
+    ensures { result ≡ items_sized (seen_items (in_realm realm.entry) (items_node items.now.items)) }
+{
+    let mut size = Size::flat(0);
+    let mut comma = 0;
+    for item in items {
+        size = size.and(comma, measured(realm, item)?);
+        comma = 1;
+    }
+    Ok(size.in_brackets())
+}
+
+// The size of a map of these members.
+#[cycle(measure)]
+fn measured_members(realm: Option<&Handles>, members: &Members) -> Result<Size, ErrorCode>
+    ensures { result ≡ members_sized (seen_members (in_realm realm.entry) (members_node members.now.entries)) }
+{
+    let mut size = Size::flat(0);
+    let mut comma = 0;
+    for (name, member) in members.iter() {
+        let before = quoted_bytes(name).saturating_add(comma).saturating_add(1);
+        size = size.and(before, measured(realm, member)?);
+        comma = 1;
+    }
+    Ok(size.in_brackets())
+}

@@ -1,0 +1,276 @@
+//! Local values resolved to remote ones, with the values of their handles in place of references.
+//!
+//! A value is measured before anything of it is built, and is built only where a script returns it.
+ghost use Rattle.std.specs.Prelude.{◌≡◌, IfOk, map, option_map};
+ghost use Rattle.bidi_codes.specs.declared.error_code.ErrorCode.TheVariants.{NoSuchHandle};
+ghost use Rattle.bidi_tree.specs.View.{items_of};
+ghost use Rattle.bidi_codes.specs.Checks.{found};
+ghost use Rattle.bidi_handles.specs.Handles.{values_in};
+ghost use Rattle.bidi_handles.specs.Resolves.{Gives, IsSized, Passes, this_argument};
+ghost use Rattle.bidi_handles.specs.Values.{resolved, resolved_items, argument, arguments};
+ghost use Rattle.bidi_handles.specs.ValuesInHand.{local_tree, local_pair_tree, local_key_tree, remote_tree, remote_trees, remote_pair_tree, remote_pair_trees, remote_key_tree, shared_tree};
+
+use crate::handle::HeldValue;
+use crate::handles::Handles;
+use crate::measuring::measured;
+use crate::size::Size;
+use bidi_codes::{ErrorCode, Refusal};
+use bidi_shape::Shape;
+use bidi_values::{
+    LocalKey, LocalPair, LocalPlain, LocalValue, Nested, NestedKey, NestedPair, Primitive,
+    Reference, RegExpValue, RemoteDate, RemoteKey, RemoteList, RemoteObjectReference, RemotePair,
+    RemotePairs, RemotePlain, RemoteRegExp, RemoteValue,
+};
+use std::alloc::{AllocError, Global};
+use std::rc::Rc;
+
+/// The most levels that an argument may have with the values of its handles in place.
+const MOST_LEVELS: u64 = 60;
+
+/// The most bytes that its compact text may have.
+const MOST_BYTES: u64 = 1_048_576;
+
+/// Checks the arguments of a call in the realm of these handles, in their order.
+///
+/// Builds no value. Costs a tree of each argument, and a look-up of each reference.
+///
+/// # Errors
+/// That of the first argument that fails; of it, the first of these that holds:
+/// - `no such node`, `no such handle`: a reference in it has a shared id, or a handle that is not of the
+///   realm. The first such reference counts, in the order of lists; in a pair the key comes first.
+/// - `unknown error`: it has more than 60 levels, or its compact text more than 1,048,576 bytes.
+/// - No memory: an allocation failed.
+pub fn check_arguments(
+    alloc: Global,
+    handles: &Handles,
+    values: &[LocalValue],
+) -> Result<(), Refusal>
+    ensures { Passes result (arguments (values_in handles.now) (map local_tree values.now)) }
+{
+    for value in values {
+        sized(alloc, handles, value)?;
+    }
+    Ok(())
+}
+
+/// Checks the `this` of a call, where one is given. Errors are those of [`check_arguments`].
+pub fn check_this(
+    alloc: Global,
+    handles: &Handles,
+    this: &Option<LocalValue>,
+) -> Result<(), Refusal>
+    ensures { Passes result (this_argument (values_in handles.now) (option_map local_tree this.now)) }
+{
+    match this {
+        Some(value) => {
+            sized(alloc, handles, value)?;
+            Ok(())
+        }
+        None => Ok(()),
+    }
+}
+
+/// Builds the value that an argument stands for, made to be shared.
+///
+/// # Errors
+/// Those of [`check_arguments`].
+pub fn given_back(
+    alloc: Global,
+    handles: &Handles,
+    value: &LocalValue,
+) -> Result<Rc<HeldValue>, Refusal>
+    ensures { Gives shared_tree result (argument (values_in handles.now) (local_tree value.now)) }
+{
+    let size = sized(alloc, handles, value)?;
+    let value = resolved(alloc, handles, value)?;
+    Ok(Rc::new(alloc, HeldValue { value, size })?)
+}
+
+// The size of the value that an argument stands for, or the error of an argument that fails.
+fn sized(alloc: Global, handles: &Handles, value: &LocalValue) -> Result<Size, Refusal>
+    ensures { IsSized result (argument (values_in handles.now) (local_tree value.now)) }
+{
+    let tree = value.to_tree(alloc)?;
+    let size = measured(Some(handles), &tree)?;
+    if size.levels <= MOST_LEVELS && size.bytes <= MOST_BYTES {
+        Ok(size)
+    } else {
+        Err(Refusal::Code(ErrorCode::UnknownError))
+    }
+}
+
+// The remote value of the same type and content, with copies of what handles hold.
+#[cycle(resolve)]
+fn resolved(alloc: Global, handles: &Handles, value: &LocalValue) -> Result<RemoteValue, Refusal>
+    ensures { Gives remote_tree result (resolved (values_in handles.now) (local_tree value.now)) }
+{
+    match value {
+        Nested::Plain(plain) => resolved_plain(alloc, handles, plain),
+        Nested::List(kind, values) => {
+            let values = resolved_values(alloc, handles, values)?;
+            let beside = RemoteList {
+                kind: *kind,
+                handle: None,
+                internal_id: None,
+            };
+            Ok(Nested::List(beside, values))
+        }
+        Nested::Pairs(kind, pairs) => {
+            let pairs = resolved_pairs(alloc, handles, pairs)?;
+            let beside = RemotePairs {
+                kind: *kind,
+                handle: None,
+                internal_id: None,
+            };
+            Ok(Nested::Pairs(beside, pairs))
+        }
+    }
+}
+
+// The remote values of a list.
+#[cycle(resolve)]
+fn resolved_values(
+    alloc: Global,
+    handles: &Handles,
+    values: &Vec<LocalValue>,
+) -> Result<Vec<RemoteValue>, Refusal>
+    ensures { Gives remote_trees result (resolved_items (values_in handles.now) (items_of (map local_tree values.now.items))) }
+{
+    let mut all = Vec::with_capacity(alloc, values.len())?;
+    for value in values {
+        all.push(resolved(alloc, handles, value)?)?;
+    }
+    Ok(all)
+}
+
+// The remote pairs of an object or a map.
+#[cycle(resolve)]
+fn resolved_pairs(
+    alloc: Global,
+    handles: &Handles,
+    pairs: &Vec<LocalPair>,
+) -> Result<Vec<RemotePair>, Refusal>
+    ensures { Gives remote_pair_trees result (resolved_items (values_in handles.now) (items_of (map local_pair_tree pairs.now.items))) }
+{
+    let mut all = Vec::with_capacity(alloc, pairs.len())?;
+    for pair in pairs {
+        all.push(resolved_pair(alloc, handles, pair)?)?;
+    }
+    Ok(all)
+}
+
+// The remote pair of a local one: the key is resolved before the value.
+#[cycle(resolve)]
+fn resolved_pair(alloc: Global, handles: &Handles, pair: &LocalPair) -> Result<RemotePair, Refusal>
+    ensures { Gives remote_pair_tree result (resolved (values_in handles.now) (local_pair_tree pair.now)) }
+{
+    let key = resolved_key(alloc, handles, &pair.key)?;
+    let value = resolved(alloc, handles, &pair.value)?;
+    Ok(NestedPair { key, value })
+}
+
+// The remote key of a local one.
+#[cycle(resolve)]
+fn resolved_key(alloc: Global, handles: &Handles, key: &LocalKey) -> Result<RemoteKey, Refusal>
+    ensures { Gives remote_key_tree result (resolved (values_in handles.now) (local_key_tree key.now)) }
+{
+    match key {
+        NestedKey::Value(value) => {
+            let value = resolved(alloc, handles, value)?;
+            Ok(NestedKey::Value(value))
+        }
+        NestedKey::Text(text) => Ok(NestedKey::Text(text.clone()?)),
+    }
+}
+
+// The remote value of a local value that holds no others.
+fn resolved_plain(
+    alloc: Global,
+    handles: &Handles,
+    plain: &LocalPlain,
+) -> Result<RemoteValue, Refusal>
+    ensures { Gives remote_tree result (resolved (values_in handles.now) (⟦<LocalPlain as Shape>⟧.shape.tree_of plain.now)) }
+{
+    match plain {
+        LocalPlain::Reference(reference) => referred(alloc, handles, reference),
+        LocalPlain::Primitive(primitive) => {
+            let copy = copy_primitive(primitive)?;
+            Ok(Nested::Plain(RemotePlain::Primitive(copy)))
+        }
+        LocalPlain::Date(date) => {
+            let date = RemoteDate {
+                value: date.clone()?,
+                handle: None,
+                internal_id: None,
+            };
+            Ok(Nested::Plain(RemotePlain::Date(date)))
+        }
+        LocalPlain::RegExp(reg_exp) => {
+            let reg_exp = RemoteRegExp {
+                value: copy_reg_exp(reg_exp)?,
+                handle: None,
+                internal_id: None,
+            };
+            Ok(Nested::Plain(RemotePlain::RegExp(reg_exp)))
+        }
+    }
+}
+
+// The value that a reference stands for. There are no nodes, so a shared id is `no such node`.
+fn referred(alloc: Global, handles: &Handles, reference: &Reference) -> Result<RemoteValue, Refusal>
+    ensures { Gives remote_tree result (resolved (values_in handles.now) (⟦<Reference as Shape>⟧.shape.tree_of reference.now)) }
+{
+    match reference {
+        Reference::Shared(_) => Err(Refusal::Code(ErrorCode::NoSuchNode)),
+        Reference::RemoteObject(object) => held_by(alloc, handles, object),
+    }
+}
+
+// The value that the handle of a reference holds. One that also has a member `sharedId` is `no such node`.
+fn held_by(
+    alloc: Global,
+    handles: &Handles,
+    object: &RemoteObjectReference,
+) -> Result<RemoteValue, Refusal>
+    ensures { Gives remote_tree result (resolved (values_in handles.now) (⟦<RemoteObjectReference as Shape>⟧.shape.tree_of object.now)) }
+{
+    if object.to_tree(alloc)?.get("sharedId").is_some() {
+        return Err(Refusal::Code(ErrorCode::NoSuchNode));
+    }
+    copy_held(alloc, handles, &object.handle)
+}
+
+// A copy of the value that a handle holds.
+fn copy_held(alloc: Global, handles: &Handles, handle: &str) -> Result<RemoteValue, Refusal>
+    ensures { Gives remote_tree result (found (values_in handles.now handle.now) NoSuchHandle) }
+{
+    match handles.held(handle) {
+        Some(held) => Ok(held.value.copy(alloc)?),
+        None => Err(Refusal::Code(ErrorCode::NoSuchHandle)),
+    }
+}
+
+fn copy_primitive(primitive: &Primitive) -> Result<Primitive, AllocError>
+    ensures { IfOk result (λ p. ⟦<Primitive as Shape>⟧.shape.tree_of p ≡ ⟦<Primitive as Shape>⟧.shape.tree_of primitive.now) }
+{
+    match primitive {
+        Primitive::Undefined => Ok(Primitive::Undefined),
+        Primitive::Null => Ok(Primitive::Null),
+        Primitive::String(text) => Ok(Primitive::String(text.clone()?)),
+        Primitive::Number(number) => Ok(Primitive::Number(*number)),
+        Primitive::Boolean(boolean) => Ok(Primitive::Boolean(*boolean)),
+        Primitive::BigInt(digits) => Ok(Primitive::BigInt(digits.clone()?)),
+    }
+}
+
+fn copy_reg_exp(reg_exp: &RegExpValue) -> Result<RegExpValue, AllocError>
+    ensures { IfOk result (λ r. ⟦<RegExpValue as Shape>⟧.shape.tree_of r ≡ ⟦<RegExpValue as Shape>⟧.shape.tree_of reg_exp.now) }
+{
+    Ok(RegExpValue {
+        pattern: reg_exp.pattern.clone()?,
+        flags: match &reg_exp.flags {
+            Some(flags) => Some(flags.clone()?),
+            None => None,
+        },
+    })
+}

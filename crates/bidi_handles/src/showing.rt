@@ -1,0 +1,90 @@
+//! What a reply shows of a value that is held: a copy, with its handle.
+ghost use Rattle.std.specs.Prelude.{◌≡◌, ◌≤◌, ◌<◌, ◌^◌, true, IfOk, IfSome, string_bytes};
+ghost use Rattle.bidi_tree.specs.Node.{levels, text};
+ghost use Rattle.bidi_values.specs.Content.{content};
+ghost use Rattle.bidi_values.specs.NestedLaws.{IsWell};
+ghost use Rattle.bidi_handles.specs.Values.{takes_handle, with_member, shown_as};
+ghost use Rattle.bidi_handles.specs.ValuesInHand.{remote_tree, held_tree};
+
+use crate::handle::HeldValue;
+use crate::id::{Kind, id_text};
+use bidi_shape::Shape;
+use bidi_values::{Nested, Nests, RemoteList, RemotePairs, RemotePlain, RemoteValue};
+use std::alloc::{AllocError, Global};
+
+/// Whether a value can have a handle: all but primitive values can.
+pub fn takes_handle(value: &RemoteValue) -> bool
+    ensures { result ≡ takes_handle (remote_tree value.now) }
+{
+    !matches!(value, Nested::Plain(RemotePlain::Primitive(_)))
+}
+
+/// A copy of a value, with this handle if there is one.
+pub fn shown(
+    alloc: Global,
+    held: &HeldValue,
+    handle: Option<u64>,
+) -> Result<RemoteValue, AllocError>
+    requires handle { IfSome handle (λ n. n < 2 ^ 48) }
+    requires takes { IfSome handle (λ n. takes_handle (held_tree held.now) ≡ true) }
+    ensures tree { IfOk result (λ v. remote_tree v ≡ shown_as handle (held_tree held.now)) }
+    ensures well { IfOk result (λ v. IsWell ⟦<RemotePlain as Nests<RemoteList, RemotePairs>>⟧.nesting (content v)) }
+    ensures few { IfOk result (λ v. levels (remote_tree v) ≤ levels (held_tree held.now)) }
+{
+    let copy = held.value.copy(alloc)?;
+    match handle {
+        Some(n) => {
+            let id = id_text(alloc, Kind::Handle, 0, n)?;
+            Ok(with_handle(copy, id))
+        }
+        None => Ok(copy),
+    }
+}
+
+// The value with this handle, in place of any that it has. Takes no memory.
+fn with_handle(value: RemoteValue, handle: String) -> RemoteValue
+    requires { takes_handle (remote_tree value) ≡ true }
+    ensures { remote_tree result ≡ with_member "handle" (text (string_bytes handle)) (remote_tree value) }
+{
+    match value {
+        Nested::List(mut beside, values) => {
+            beside.handle = Some(handle);
+            Nested::List(beside, values)
+        }
+        Nested::Pairs(mut beside, pairs) => {
+            beside.handle = Some(handle);
+            Nested::Pairs(beside, pairs)
+        }
+        Nested::Plain(plain) => Nested::Plain(plain_with_handle(plain, handle)),
+    }
+}
+
+// The same for a value that holds no others.
+fn plain_with_handle(plain: RemotePlain, handle: String) -> RemotePlain
+    requires { takes_handle (⟦<RemotePlain as Shape>⟧.shape.tree_of plain) ≡ true }
+    ensures { ⟦<RemotePlain as Shape>⟧.shape.tree_of result ≡ with_member "handle" (text (string_bytes handle)) (⟦<RemotePlain as Shape>⟧.shape.tree_of plain) }
+{
+    match plain {
+        RemotePlain::List(mut list) => {
+            list.handle = Some(handle);
+            RemotePlain::List(list)
+        }
+        RemotePlain::Pairs(mut pairs) => {
+            pairs.handle = Some(handle);
+            RemotePlain::Pairs(pairs)
+        }
+        RemotePlain::RegExp(mut reg_exp) => {
+            reg_exp.handle = Some(handle);
+            RemotePlain::RegExp(reg_exp)
+        }
+        RemotePlain::Date(mut date) => {
+            date.handle = Some(handle);
+            RemotePlain::Date(date)
+        }
+        RemotePlain::Opaque(mut opaque) => {
+            opaque.handle = Some(handle);
+            RemotePlain::Opaque(opaque)
+        }
+        RemotePlain::Primitive(primitive) => RemotePlain::Primitive(primitive),
+    }
+}
