@@ -6,7 +6,7 @@
 //! `bidi serve` serves WebSocket connections on 127.0.0.1.
 #![tactic(auto)]
 
-use bidi_console::{Device, LineFault, Run, Serving, Sink, command_line, write_all};
+use bidi_console::{Device, LineFault, Run, ServeOptions, Sink, command_line, write_all};
 use bidi_programs::{run, serving_status};
 use bidi_serve::{ServeFault, serve};
 use std::net::{Ipv4Addr, SocketAddr, SocketAddrV4, TcpListener};
@@ -73,7 +73,7 @@ fn status(rt: &HostRuntime) -> io::Result<u8> {
 }
 
 // Serves on 127.0.0.1.
-fn served(rt: &HostRuntime, asked: Serving) -> Result<(), ServeFault> {
+fn served(rt: &HostRuntime, asked: ServeOptions) -> Result<(), ServeFault> {
     let address = SocketAddr::V4(SocketAddrV4::new(Ipv4Addr::LOCALHOST, asked.port));
     let Ok(listener) = TcpListener::bind(rt, address) else {
         return Err(ServeFault::Listen);

@@ -12,7 +12,7 @@ use Rattle.bidi_browser.specs.Acts.{Act, Made, Framed, Removed, Moved, gives, gi
 use Rattle.bidi_browser.specs.Contexts.{parent_of, top_of, level_of, window_of, is_under, is_gone, is_alive, up_to, contexts}
 use Rattle.bidi_browser.specs.Places.{begun_at}
 use Rattle.bidi_browser.specs.Accepted.{AreAccepted}
-use Rattle.bidi_browser.specs.ContextRows.{Row, row_at, rows}
+use Rattle.bidi_browser.specs.ContextRows.{ContextRow, row_at, rows}
 use Rattle.bidi_browser.proofs.AcceptedLemmas.{act-sound, alive-below}
 use Rattle.bidi_browser.proofs.HandleLemmas.{handles-unmade}
 
@@ -80,21 +80,21 @@ other-number : (c n : ℕ) → c ≤ n → (c == suc n) ≡ false
 other-number c n older = grind (arith, nat_tests)
 
 -- the row of a number that passes
-abbrev pub row_if : (ℕ → Row) → Bool → ℕ → List Row
+abbrev pub row_if : (ℕ → ContextRow) → Bool → ℕ → List ContextRow
 row_if f b c = if b then f c ∷ [] else []
 
 -- it is that of a number in a filter
-row-one : (f : ℕ → Row) (b : Bool) (c : ℕ) → map f (cond b (c ∷ []) []) ≡ row_if f b c
+row-one : (f : ℕ → ContextRow) (b : Bool) (c : ℕ) → map f (cond b (c ∷ []) []) ≡ row_if f b c
 row-one f true c = refl
 row-one f false c = refl
 
 -- that of the last number stands at the end
-pub rows-split : (f : ℕ → Row) (p : ℕ → Bool) (n : ℕ) → map f (filter p (up_to (suc n))) ≡ map f (filter p (up_to n)) ++ row_if f (p (suc n)) (suc n)
+pub rows-split : (f : ℕ → ContextRow) (p : ℕ → Bool) (n : ℕ) → map f (filter p (up_to (suc n))) ≡ map f (filter p (up_to n)) ++ row_if f (p (suc n)) (suc n)
 rows-split f p n = ap (map f) (filter-append p (up_to n) (suc n ∷ [])) ∙ (map-append f (filter p (up_to n)) (filter p (suc n ∷ []))
     ∙ ap (λ rs. map f (filter p (up_to n)) ++ rs) (row-one f (p (suc n)) (suc n)))
 
 -- rows of the numbers up to n are the same where tests and rows agree there
-rows-up-to : (f g : ℕ → Row) (p q : ℕ → Bool) (n : ℕ) → ((c : ℕ) → c ≤ n → p c ≡ q c) → ((c : ℕ) → c ≤ n → f c ≡ g c)
+rows-up-to : (f g : ℕ → ContextRow) (p q : ℕ → Bool) (n : ℕ) → ((c : ℕ) → c ≤ n → p c ≡ q c) → ((c : ℕ) → c ≤ n → f c ≡ g c)
     → map f (filter p (up_to n)) ≡ map g (filter q (up_to n))
 rows-up-to f g p q zero tests same = refl
 rows-up-to f g p q (suc n) tests same =
@@ -121,7 +121,7 @@ born-new : (n : ℕ) (g : Bool) → g ≡ false → ((nat_lt 0 (suc n) && nat_lt
 born-new n g stays = grind (arith, nat_tests)
 
 -- with the new number at the end, the rows of the others are the same
-rows-new : (f g : ℕ → Row) (p q : ℕ → Bool) (n : ℕ) → ((c : ℕ) → c ≤ n → p c ≡ q c) → ((c : ℕ) → c ≤ n → f c ≡ g c) → p (suc n) ≡ true
+rows-new : (f g : ℕ → ContextRow) (p q : ℕ → Bool) (n : ℕ) → ((c : ℕ) → c ≤ n → p c ≡ q c) → ((c : ℕ) → c ≤ n → f c ≡ g c) → p (suc n) ≡ true
     → map f (filter p (up_to (suc n))) ≡ map g (filter q (up_to n)) ++ f (suc n) ∷ []
 rows-new f g p q n tests same new =
     rows-split f p n ∙ (ap (λ rs. rs ++ row_if f (p (suc n)) (suc n)) (rows-up-to f g p q n tests same) ∙ ap (λ b. map g (filter q (up_to n)) ++ row_if f b (suc n)) new)

@@ -11,7 +11,7 @@ use Rattle.bidi_browser.specs.declared.plan.Edit.{Edit}
 use Rattle.bidi_browser.specs.declared.plan.Plan.{Plan}
 use Rattle.bidi_codes.specs.declared.refusal.Refusal.{Refusal}
 use Rattle.bidi_codes.specs.declared.refusal.Refusal.TheVariants.{Code, NoMemory}
-use Rattle.bidi_browser.specs.Acts.{Act, Ending, Row, GivesBack}
+use Rattle.bidi_browser.specs.Acts.{Act, Ending, ScriptEffect, GivesBack}
 use Rattle.bidi_browser.specs.Actions.{Action, Target, is_asked}
 use Rattle.bidi_codes.specs.Checks.{◌>>=◌, found}
 use Rattle.bidi_browser.specs.Occurs.{Replies, occurs}
@@ -123,7 +123,7 @@ pub call-outcome : (past : List Act) (declaration : List ℕ) (target : Target) 
     → call_outcome past declaration target values this owned ≡ (call_ending past r declaration values this >>= λ ending. ending_outcome past r owned ending)
 call-outcome past declaration target values this owned r at = rw at (by (arguments (held_value past r) values) (this_resolved past r this) (found (row_of past declaration) UnsupportedOperation))
   where
-    by : (a : Result (List Node) ErrorCode) (s : Result (Option Node) ErrorCode) (o : Result Row ErrorCode)
+    by : (a : Result (List Node) ErrorCode) (s : Result (Option Node) ErrorCode) (o : Result ScriptEffect ErrorCode)
         → (a >>= λ vs. s >>= λ self. o >>= λ row. ending_outcome past r owned (ending_of row vs)) ≡ ((a >>= λ vs. s >>= λ self. o >>= λ row. Ok (ending_of row vs)) >>= λ ending. ending_outcome past r owned ending)
     by (Ok vs) (Ok self) (Ok row) = refl
     by (Ok vs) (Ok self) (Err code) = refl

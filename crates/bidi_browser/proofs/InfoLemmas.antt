@@ -22,7 +22,7 @@ use Rattle.bidi_params.proofs.InfoLemmas.{info_made}
 use Rattle.bidi_handles.specs.declared.id.Kind.TheVariants.{Context, Window}
 use Rattle.bidi_handles.specs.Ids.{id_of}
 use Rattle.bidi_browser.specs.Urls.{url_text}
-use Rattle.bidi_browser.specs.ContextRows.{Row, url_in, shown_info}
+use Rattle.bidi_browser.specs.ContextRows.{ContextRow, url_in, shown_info}
 use Rattle.bidi_browser.specs.InfosInHand.{children_node, parent_node, IsWithin, AreWithin, AreWithinIfTold}
 
 -- the tree of an Info in hand
@@ -45,7 +45,7 @@ pub info-told : (i : Info) (f : OwnMembers) (c : Option (Vec Info Global)) (whol
 info-told i f c whole made same = ap (info_tree info_parts) made ∙ (same (tree_of_children info_parts c) ∙ ap whole (children-told c))
 
 -- what stands beside the children
-pub beside-told : (window number url user : String Global) (parent : Option (Option (String Global))) (ext : Ext) (row : Row) (x : Node)
+pub beside-told : (window number url user : String Global) (parent : Option (Option (String Global))) (ext : Ext) (row : ContextRow) (x : Node)
     → string_bytes window ≡ id_of Window row.window → string_bytes number ≡ id_of Context row.number → string_bytes url ≡ url_text (url_in row) → string_bytes user ≡ codes "default" → others_of ext ≡ no_members
     → info_map info_parts.table (window, (number, (None, (url, (user, (parent, ext)))))) x ≡ shown_info (option_map parent_node parent) row x
 beside-told window number url user None ext row x w n u d e = rw (w, n, u, d, e) refl
@@ -84,7 +84,7 @@ parent-flat None = refl
 parent-flat (Some id) = refl
 
 -- an Info has one level more than its children
-shown-below : (n : ℕ) (p : Option (Option (String Global))) (row : Row) (children : Node) → levels children ≤ n → levels (shown_info (option_map parent_node p) row children) ≤ n + 1
+shown-below : (n : ℕ) (p : Option (Option (String Global))) (row : ContextRow) (children : Node) → levels children ≤ n → levels (shown_info (option_map parent_node p) row children) ≤ n + 1
 shown-below n None row children below = omega (arith, below)
 shown-below n (Some p) row children below = let flat = parent-flat p in omega (arith, below, flat)
 
@@ -98,7 +98,7 @@ children-well n None within = tt
 children-well n (Some v) within = all-well n v.items within
 
 -- an Info is well, and has two levels more than its children
-pub info-within : (n : ℕ) (i : Info) (f : OwnMembers) (c : Option (Vec Info Global)) (p : Option (Option (String Global))) (row : Row) → content i ≡ told f (children_content c) → OwnMembersAreWell info_parts f
+pub info-within : (n : ℕ) (i : Info) (f : OwnMembers) (c : Option (Vec Info Global)) (p : Option (Option (String Global))) (row : ContextRow) → content i ≡ told f (children_content c) → OwnMembersAreWell info_parts f
     → tree_of i ≡ shown_info (option_map parent_node p) row (children_node tree_of c) → AreWithinIfTold ghosts.shape n c → n ≤ 58 → IsWithin ghosts.shape (n + 2) i
 info-within n i f c p row made beside is within few =
     let deep = shown-below (n + 1) p row (children_node tree_of c) (children-below n c within) in

@@ -8,7 +8,7 @@ use Rattle.bidi_handles.specs.declared.id.Kind.TheVariants.{Context, Realm}
 use Rattle.bidi_browser.specs.Acts.{Act, Moved, Move, given, next_number}
 use Rattle.bidi_browser.specs.Accepted.{AreAccepted}
 use Rattle.bidi_browser.specs.Contexts.{is_under, is_born, is_gone, is_alive, up_to, contexts, children_of, subtree_of}
-use Rattle.bidi_browser.specs.ContextRows.{Row, row_at, rows, changed, moved_in}
+use Rattle.bidi_browser.specs.ContextRows.{ContextRow, row_at, rows, changed, moved_in}
 use Rattle.bidi_browser.proofs.HandleLemmas.{handles-unmade}
 use Rattle.bidi_browser.proofs.BirthLemmas.{row_if, rows-split}
 use Rattle.bidi_browser.proofs.RemovalLemmas.{any-filter, any-up-to, any-below, rows-filtered, stays}
@@ -16,7 +16,7 @@ use Rattle.bidi_browser.proofs.RemovalLemmas.{any-filter, any-up-to, any-below, 
 -- ---- one row that changes
 
 -- a value that is put at the place of the first of that number, by what is seen of it
-pub changed-at : {X : Type 0} (g : X → Row) (f : Row → Row) (c : ℕ) (xs : List X) (i : ℕ) (x d : X) → position (λ y. (g y).number == c) xs ≡ Some i → g x ≡ f (g (get_or xs i d))
+pub changed-at : {X : Type 0} (g : X → ContextRow) (f : ContextRow → ContextRow) (c : ℕ) (xs : List X) (i : ℕ) (x d : X) → position (λ y. (g y).number == c) xs ≡ Some i → g x ≡ f (g (get_or xs i d))
     → map g (set xs i x) ≡ changed c f (map g xs)
 changed-at {X} g f c xs i x d at e = let here = position-Some (λ y. (g y).number == c) xs i d at in by xs i here.0 here.1 here.2 e
   where
@@ -37,7 +37,7 @@ position-none p xs none = fails p xs (past-end (nat_lt (position_or_len p xs) (l
     fails p (x ∷ xs) le = let ih = fails p xs in grind (arith, nat_tests, ih, le)
 
 -- where none has the number, none is changed
-pub changed-none : {X : Type 0} (g : X → Row) (f : Row → Row) (c : ℕ) (xs : List X) → (let none : Option ℕ = None in position (λ y. (g y).number == c) xs ≡ none) → map g xs ≡ changed c f (map g xs)
+pub changed-none : {X : Type 0} (g : X → ContextRow) (f : ContextRow → ContextRow) (c : ℕ) (xs : List X) → (let none : Option ℕ = None in position (λ y. (g y).number == c) xs ≡ none) → map g xs ≡ changed c f (map g xs)
 changed-none {X} g f c xs none = by xs (position-none (λ y. (g y).number == c) xs none)
   where
     by : (xs : List X) → find (λ y. (g y).number == c) xs ≡ None → map g xs ≡ changed c f (map g xs)
@@ -45,12 +45,12 @@ changed-none {X} g f c xs none = by xs (position-none (λ y. (g y).number == c) 
     by (y ∷ xs) none = let ih = by xs in grind (arith, nat_tests, ih, none)
 
 -- no row is changed
-pub changed-self : (c : ℕ) (rs : List Row) → changed c (λ r. r) rs ≡ rs
+pub changed-self : (c : ℕ) (rs : List ContextRow) → changed c (λ r. r) rs ≡ rs
 changed-self c [] = refl
 changed-self c (r ∷ rs) = let ih = changed-self c rs in grind (arith, nat_tests, ih)
 
 -- what stands at the place of a context's number is its row
-pub at-place : {X : Type 0} (g : X → Row) (past : List Act) (xs : List X) (c i : ℕ) (d : X) → map g xs ≡ rows past → position (λ x. (g x).number == c) xs ≡ Some i → g (get_or xs i d) ≡ row_at past c
+pub at-place : {X : Type 0} (g : X → ContextRow) (past : List Act) (xs : List X) (c i : ℕ) (d : X) → map g xs ≡ rows past → position (λ x. (g x).number == c) xs ≡ Some i → g (get_or xs i d) ≡ row_at past c
 at-place {X} g past xs c i d same at = let here = position-Some (λ x. (g x).number == c) xs i d at in by xs (contexts past) i same here.0 here.1
   where
     by : (xs : List X) (cs : List ℕ) (i : ℕ) → map g xs ≡ map (row_at past) cs → i < length xs → ((g (get_or xs i d)).number == c) ≡ true → g (get_or xs i d) ≡ row_at past c
@@ -58,22 +58,22 @@ at-place {X} g past xs c i d same at = let here = position-Some (λ x. (g x).num
     by (x ∷ xs) [] i same less passes = absurd (cc)
     by (x ∷ xs) (e ∷ cs) zero same less passes =
         let head : g x ≡ row_at past e = cc in
-        let number : e ≡ c = sym (ap (λ (r : Row). r.number) head) ∙ (Decides-eqb (g x).number c).0 passes in
+        let number : e ≡ c = sym (ap (λ (r : ContextRow). r.number) head) ∙ (Decides-eqb (g x).number c).0 passes in
         head ∙ ap (row_at past) number
     by (x ∷ xs) (e ∷ cs) (suc i) same less passes = let rest : map g xs ≡ map (row_at past) cs = cc in by xs cs i rest (omega arith) passes
 
 -- none has the number
-none-changed : (f : Row → Row) (c : ℕ) (rs : List Row) → list_any (λ r. r.number == c) rs ≡ false → changed c f rs ≡ rs
+none-changed : (f : ContextRow → ContextRow) (c : ℕ) (rs : List ContextRow) → list_any (λ r. r.number == c) rs ≡ false → changed c f rs ≡ rs
 none-changed f c [] none = refl
 none-changed f c (r ∷ rs) none = let ih = none-changed f c rs in grind (arith, nat_tests, ih, none)
 
 -- where one of those before the last has it, the last stays
-last-stays : (f : Row → Row) (c : ℕ) (rs : List Row) (r : Row) → list_any (λ r. r.number == c) rs ≡ true → changed c f (rs ++ r ∷ []) ≡ changed c f rs ++ r ∷ []
+last-stays : (f : ContextRow → ContextRow) (c : ℕ) (rs : List ContextRow) (r : ContextRow) → list_any (λ r. r.number == c) rs ≡ true → changed c f (rs ++ r ∷ []) ≡ changed c f rs ++ r ∷ []
 last-stays f c [] r some = absurd (cc)
 last-stays f c (s ∷ rs) r some = let ih = last-stays f c rs r in grind (arith, nat_tests, ih, some)
 
 -- where none of them has it, the last may
-last-may : (f : Row → Row) (c : ℕ) (rs : List Row) (r : Row) → list_any (λ r. r.number == c) rs ≡ false → changed c f (rs ++ r ∷ []) ≡ rs ++ (if r.number == c then f r else r) ∷ []
+last-may : (f : ContextRow → ContextRow) (c : ℕ) (rs : List ContextRow) (r : ContextRow) → list_any (λ r. r.number == c) rs ≡ false → changed c f (rs ++ r ∷ []) ≡ rs ++ (if r.number == c then f r else r) ∷ []
 last-may f c [] r none = step (r.number == c)
   where
     step : (b : Bool) → (if b then f r ∷ [] else r ∷ []) ≡ (if b then f r else r) ∷ []
@@ -82,7 +82,7 @@ last-may f c [] r none = step (r.number == c)
 last-may f c (s ∷ rs) r none = let ih = last-may f c rs r in grind (arith, nat_tests, ih, none)
 
 -- the numbers of rows are those that the rows are made of
-any-rows : (g : ℕ → Row) (c : ℕ) (xs : List ℕ) → ((x : ℕ) → (g x).number ≡ x) → list_any (λ r. r.number == c) (map g xs) ≡ list_any (λ x. x == c) xs
+any-rows : (g : ℕ → ContextRow) (c : ℕ) (xs : List ℕ) → ((x : ℕ) → (g x).number ≡ x) → list_any (λ r. r.number == c) (map g xs) ≡ list_any (λ x. x == c) xs
 any-rows g c [] same = refl
 any-rows g c (x ∷ xs) same = let ih = any-rows g c xs same in let here = same x in grind (arith, nat_tests, ih, here)
 
@@ -90,7 +90,7 @@ any-rows g c (x ∷ xs) same = let ih = any-rows g c xs same in let here = same 
 not-next : (p : ℕ → Bool) (c n : ℕ) → list_any (λ x. x == c) (filter p (up_to n)) ≡ true → (suc n == c) ≡ false
 not-next p c n some = let older = any-up-to c n in let passes = any-filter c p (up_to n) in grind (arith, nat_tests, older, passes, some)
 
-module _ (f : Row → Row) (a : ℕ) (g h : ℕ → Row) (p : ℕ → Bool) (number : (c : ℕ) → (g c).number ≡ c) (same : (c : ℕ) → p c ≡ true → h c ≡ (if c == a then f (g c) else g c)) where
+module _ (f : ContextRow → ContextRow) (a : ℕ) (g h : ℕ → ContextRow) (p : ℕ → Bool) (number : (c : ℕ) → (g c).number ≡ c) (same : (c : ℕ) → p c ≡ true → h c ≡ (if c == a then f (g c) else g c)) where
   -- with the next number, where it passes or does not
   changed-next : (n : ℕ) (b : Bool) (some : Bool) → p (suc n) ≡ b → list_any (λ r. r.number == a) (map g (filter p (up_to n))) ≡ some → changed a f (map g (filter p (up_to n))) ≡ map h (filter p (up_to n))
       → changed a f (map g (filter p (up_to n)) ++ row_if g b (suc n)) ≡ map h (filter p (up_to n)) ++ row_if h b (suc n)

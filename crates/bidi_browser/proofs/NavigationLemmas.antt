@@ -25,7 +25,7 @@ use Rattle.bidi_browser.specs.HistoryInHand.{move_of, Leads}
 use Rattle.bidi_browser.specs.Occurrences.{Occurrence, realm_created, realm_destroyed, removal, navigation_event}
 use Rattle.bidi_browser.specs.Occurs.{Item, Happens, Replies, led_to, replying, unloading, navigating, navigated_result, wait_in}
 use Rattle.bidi_browser.specs.Outcome.{outcome}
-use Rattle.bidi_browser.specs.ContextRows.{Row, row_at, occurrence_in, realm_began_in, navigation_info_in}
+use Rattle.bidi_browser.specs.ContextRows.{ContextRow, row_at, occurrence_in, realm_began_in, navigation_info_in}
 use Rattle.bidi_browser.specs.Navigations.{navigation_events, before_reply, IsTold}
 use Rattle.bidi_browser.specs.Plans.{Plans, AreWell}
 use Rattle.bidi_browser.specs.View.{occurrence_of, seen, result_tree}
@@ -65,13 +65,13 @@ across-leads e delta n is = by (shifted e.place delta) is
 -- ---- its events
 
 -- one of its three
-pub event-told : (past : List Act) (moment c number : ℕ) (url to : Parts) (event : EventName) (row : Row) (o : Occurrence) (info : Node) → row ≡ row_at past c → number ≡ next_number past Navigation → to ≡ url
+pub event-told : (past : List Act) (moment c number : ℕ) (url to : Parts) (event : EventName) (row : ContextRow) (o : Occurrence) (info : Node) → row ≡ row_at past c → number ≡ next_number past Navigation → to ≡ url
     → o ≡ occurrence_in row event info → info ≡ navigation_info_in row moment number url → o ≡ navigation_event past moment c to event
 event-told past moment c number url to event row o info is next leads told tells =
     told ∙ (ap (occurrence_in row event) tells ∙ (ap₂ (λ r n. occurrence_in r event (navigation_info_in r moment n url)) is next ∙ ap (λ u. navigation_event past moment c u event) (sym leads)))
 
 -- the realm that comes
-pub realm-told : (past : List Act) (c realm : ℕ) (move : Move) (url : Parts) (row : Row) (o : Occurrence) → row ≡ row_at past c → realm ≡ next_number past Realm → led_to past c move ≡ url
+pub realm-told : (past : List Act) (c realm : ℕ) (move : Move) (url : Parts) (row : ContextRow) (o : Occurrence) → row ≡ row_at past c → realm ≡ next_number past Realm → led_to past c move ≡ url
     → o ≡ realm_began_in row realm url → o ≡ realm_created (Moved c move ∷ past) c
 realm-told past c realm move url row o is next leads told =
     told ∙ (ap₂ (λ r n. realm_began_in r n url) is next ∙ (ap (realm_began_in (row_at past c) (next_number past Realm)) (sym leads) ∙ sym (rw (same-number c) refl)))

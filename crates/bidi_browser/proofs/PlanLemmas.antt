@@ -32,7 +32,7 @@ use Rattle.bidi_codes.specs.Checks.{found}
 use Rattle.bidi_browser.specs.Outcome.{outcome, context_named, looked, looked_at, has_room, frame_outcome, log_outcome, oldest_window, row_in, row_checked}
 use Rattle.bidi_browser.specs.Occurrences.{Occurrence, realm_info, realm_destroyed, context_destroyed, removal, tree_events}
 use Rattle.bidi_browser.specs.Occurs.{Happens, Replies, roots, realm_holders, birth, occurs}
-use Rattle.bidi_browser.specs.ContextRows.{Row, row_of, row_at, realm_info_in, created_in, realm_created_in, realm_destroyed_in, entry_added_in}
+use Rattle.bidi_browser.specs.ContextRows.{ContextRow, row_of, row_at, realm_info_in, created_in, realm_created_in, realm_destroyed_in, entry_added_in}
 use Rattle.bidi_handles.specs.Params.{text_at}
 use Rattle.bidi_browser.specs.Plans.{Plans, Makes, AreWell, IsWellResult, IsWellTold, reply_in, leaves_tables}
 use Rattle.bidi_browser.specs.View.{seen, result_tree}
@@ -75,7 +75,7 @@ pub one-shown : {A B : Type 0} (see : A → B) (f : ℕ → B) (c : ℕ) (none a
 one-shown see f c none all x pushed empty is = ap (map see) (pushed ∙ ap (λ xs. xs ++ x ∷ []) empty) ∙ ap (λ t. t ∷ []) is
 
 -- the realms of windows, where they are asked for
-pub windows-told : {X : Type 0} (see : X → Row) (past : List Act) (id : Option (List ℕ)) (b : Bool) (xs : List X) → map see xs ≡ map (row_at past) (realm_holders past id true)
+pub windows-told : {X : Type 0} (see : X → ContextRow) (past : List Act) (id : Option (List ℕ)) (b : Bool) (xs : List X) → map see xs ≡ map (row_at past) (realm_holders past id true)
     → (if b then map (λ x. realm_info_in (see x)) xs else []) ≡ map (realm_info past) (realm_holders past id b)
 windows-told see past id false xs same = none-held id
   where
@@ -92,11 +92,11 @@ refused-looks see q (Err e) NoMemory past moment action shown checked failed is 
 refused-looks see q (Ok plan) refusal past moment action shown checked failed is = absurd is
 
 -- what is told of a realm has texts alone
-realm-flat : (row : Row) → levels (realm_info_in row) ≡ 1
+realm-flat : (row : ContextRow) → levels (realm_info_in row) ≡ 1
 realm-flat row = refl
 
 -- so the list of some has two levels
-pub windows-flat : {X : Type 0} (see : X → Row) (b : Bool) (xs : List X) → items_levels (items_of (if b then map (λ x. realm_info_in (see x)) xs else [])) ≤ 1
+pub windows-flat : {X : Type 0} (see : X → ContextRow) (b : Bool) (xs : List X) → items_levels (items_of (if b then map (λ x. realm_info_in (see x)) xs else [])) ≤ 1
 windows-flat see false xs = omega arith
 windows-flat see true [] = omega arith
 windows-flat see true (x ∷ xs) =
@@ -124,18 +124,18 @@ pub frame-passes : (past : List Act) (id address : List ℕ) (p : ℕ) (url : Pa
 frame-passes past id address p url named read room high = rw (named, read, room, high) refl
 
 -- the events of a birth
-born-told : (past : List Act) (act : Act) (row : Row) (os : List Occurrence) → row ≡ row_at (act ∷ past) (next_number past Context) → os ≡ created_in row ∷ realm_created_in row ∷ []
+born-told : (past : List Act) (act : Act) (row : ContextRow) (os : List Occurrence) → row ≡ row_at (act ∷ past) (next_number past Context) → os ≡ created_in row ∷ realm_created_in row ∷ []
     → map Happens os ≡ birth past act
 born-told past act row os is told = ap (map Happens) (told ∙ ap (λ r. created_in r ∷ realm_created_in r ∷ []) is)
 
 -- a birth that somebody asked for
-pub asked-birth : (past : List Act) (act : Act) (row : Row) (before after : List in_hand.Occurrence) (reply : Option ResultData) (t : Node) → row ≡ row_at (act ∷ past) (next_number past Context)
+pub asked-birth : (past : List Act) (act : Act) (row : ContextRow) (before after : List in_hand.Occurrence) (reply : Option ResultData) (t : Node) → row ≡ row_at (act ∷ past) (next_number past Context)
     → seen before ≡ created_in row ∷ realm_created_in row ∷ [] → reply_in reply ≡ Replies t ∷ [] → after ≡ []
     → map Happens (seen before) ++ (reply_in reply ++ map Happens (seen after)) ≡ birth past act ++ Replies t ∷ []
 asked-birth past act row before after reply t is told replied none = ap₂ (λ xs ys. xs ++ ys) (born-told past act row (seen before) is told) (ap₂ (λ xs os. xs ++ map Happens (seen os)) replied none)
 
 -- and one that nobody asked for
-pub unasked-birth : (past : List Act) (act : Act) (row : Row) (before after : List in_hand.Occurrence) → row ≡ row_at (act ∷ past) (next_number past Context)
+pub unasked-birth : (past : List Act) (act : Act) (row : ContextRow) (before after : List in_hand.Occurrence) → row ≡ row_at (act ∷ past) (next_number past Context)
     → seen before ≡ created_in row ∷ realm_created_in row ∷ [] → after ≡ [] → map Happens (seen before) ++ map Happens (seen after) ≡ birth past act
 unasked-birth past act row before after is told none = ap₂ (λ xs os. xs ++ map Happens (seen os)) (born-told past act row (seen before) is told) none
 
@@ -147,7 +147,7 @@ none-is (Some n) true e = absurd (cc)
 none-is (Some n) false e = refl
 
 -- the row of a new top-level context
-pub made-row : (past : List Act) (w : Option ℕ) (row : Row) (number window realm next : ℕ) → AreAccepted past → number ≡ next_number past Context → realm ≡ next_number past Realm → next ≡ next_number past Window → window ≡ unwrap_or w next
+pub made-row : (past : List Act) (w : Option ℕ) (row : ContextRow) (number window realm next : ℕ) → AreAccepted past → number ≡ next_number past Context → realm ≡ next_number past Realm → next ≡ next_number past Window → window ≡ unwrap_or w next
     → row ≡ record { number = number; parent = None; top = number; level = 1; window = window; realm = realm; entries = begun_at about_blank; handles = [] } → row ≡ row_at (Made w ∷ past) (next_number past Context)
 made-row past w row number window realm next accepted n r v opened is =
     is ∙ (ap₂ (λ k x. record { number = k; parent = None; top = k; level = 1; window = x; realm = realm; entries = begun_at about_blank; handles = [] }) n (opened ∙ ap (unwrap_or w) v)
@@ -155,11 +155,11 @@ made-row past w row number window realm next accepted n r v opened is =
     ∙ sym (row-made past w accepted)))
 
 -- the row of a new child
-pub framed-row : (past : List Act) (p : ℕ) (url : Parts) (parent row : Row) (number realm : ℕ) → AreAccepted past → number ≡ next_number past Context → realm ≡ next_number past Realm → parent ≡ row_at past p
+pub framed-row : (past : List Act) (p : ℕ) (url : Parts) (parent row : ContextRow) (number realm : ℕ) → AreAccepted past → number ≡ next_number past Context → realm ≡ next_number past Realm → parent ≡ row_at past p
     → row ≡ record { number = number; parent = Some parent.number; top = parent.top; level = parent.level + 1; window = parent.window; realm = realm; entries = begun_at url; handles = [] } → row ≡ row_at (Framed p url ∷ past) (next_number past Context)
 framed-row past p url parent row number realm accepted n r is made =
     made ∙ (ap₂ (λ k x. record { number = k; parent = Some parent.number; top = parent.top; level = parent.level + 1; window = parent.window; realm = x; entries = begun_at url; handles = [] }) n r
-    ∙ (ap (λ (q : Row). record { number = next_number past Context; parent = Some q.number; top = q.top; level = q.level + 1; window = q.window; realm = next_number past Realm; entries = begun_at url; handles = [] }) is
+    ∙ (ap (λ (q : ContextRow). record { number = next_number past Context; parent = Some q.number; top = q.top; level = q.level + 1; window = q.window; realm = next_number past Realm; entries = begun_at url; handles = [] }) is
     ∙ (ap (λ k. record { number = next_number past Context; parent = Some p; top = top_of past p; level = k; window = window_of past p; realm = next_number past Realm; entries = begun_at url; handles = [] }) (one-more (level_of past p))
     ∙ sym (row-framed past p url accepted))))
   where
@@ -171,13 +171,13 @@ framed-row past p url parent row number realm accepted n r is made =
 -- the window of the oldest top-level context in hand
 pub window-stands : (past : List Act) (o : Option (Bor declared_context.Context)) (window : Option ℕ) → window ≡ option_map (λ c. c.now.window) o
     → option_map (λ c. row_of c.now) o ≡ option_map (row_at past) (find (λ c. is_none (parent_of past c)) (contexts past)) → window ≡ oldest_window past (tops past)
-window-stands past o window is found = is ∙ (window-rows o ∙ (ap (option_map (λ (r : Row). r.window)) found ∙ (window-at (find (λ c. is_none (parent_of past c)) (contexts past)) ∙ sym (oldest-window past))))
+window-stands past o window is found = is ∙ (window-rows o ∙ (ap (option_map (λ (r : ContextRow). r.window)) found ∙ (window-at (find (λ c. is_none (parent_of past c)) (contexts past)) ∙ sym (oldest-window past))))
   where
-    window-rows : (o : Option (Bor declared_context.Context)) → option_map (λ c. c.now.window) o ≡ option_map (λ (r : Row). r.window) (option_map (λ c. row_of c.now) o)
+    window-rows : (o : Option (Bor declared_context.Context)) → option_map (λ c. c.now.window) o ≡ option_map (λ (r : ContextRow). r.window) (option_map (λ c. row_of c.now) o)
     window-rows None = refl
     window-rows (Some c) = refl
 
-    window-at : (o : Option ℕ) → option_map (λ (r : Row). r.window) (option_map (row_at past) o) ≡ option_map (window_of past) o
+    window-at : (o : Option ℕ) → option_map (λ (r : ContextRow). r.window) (option_map (row_at past) o) ≡ option_map (window_of past) o
     window-at None = refl
     window-at (Some c) = refl
 
@@ -196,18 +196,18 @@ rows-at past (x ∷ gs) (c ∷ cs) (suc i) g same less at =
 
 -- the numbers of contexts in hand
 pub numbers-of : (past : List Act) (gs : List (Bor declared_context.Context)) (cs : List ℕ) → map (λ g. row_of g.now) gs ≡ map (row_at past) cs → map (λ g. g.now.number) gs ≡ cs
-numbers-of past gs cs same = sym (map-map gs) ∙ (ap (map (λ (r : Row). r.number)) same ∙ numbers-at cs)
+numbers-of past gs cs same = sym (map-map gs) ∙ (ap (map (λ (r : ContextRow). r.number)) same ∙ numbers-at cs)
   where
-    map-map : (gs : List (Bor declared_context.Context)) → map (λ (r : Row). r.number) (map (λ g. row_of g.now) gs) ≡ map (λ g. g.now.number) gs
+    map-map : (gs : List (Bor declared_context.Context)) → map (λ (r : ContextRow). r.number) (map (λ g. row_of g.now) gs) ≡ map (λ g. g.now.number) gs
     map-map [] = refl
     map-map (g ∷ gs) = ap (λ ns. g.now.number ∷ ns) (map-map gs)
 
-    numbers-at : (cs : List ℕ) → map (λ (r : Row). r.number) (map (row_at past) cs) ≡ cs
+    numbers-at : (cs : List ℕ) → map (λ (r : ContextRow). r.number) (map (row_at past) cs) ≡ cs
     numbers-at [] = refl
     numbers-at (c ∷ cs) = ap (λ ns. c ∷ ns) (numbers-at cs)
 
 -- each context, then each realm, tells of the whole tree
-pub events-told : (past : List Act) (first second : List Row) (none some all : List Occurrence) → first ≡ map (row_at past) (tree_order past) → second ≡ map (row_at past) (tree_order past) → none ≡ []
+pub events-told : (past : List Act) (first second : List ContextRow) (none some all : List Occurrence) → first ≡ map (row_at past) (tree_order past) → second ≡ map (row_at past) (tree_order past) → none ≡ []
     → some ≡ none ++ map created_in first → all ≡ some ++ map realm_created_in second → all ≡ tree_events past
 events-told past first second none some all one two empty came realms =
     realms ∙ ap₂ (λ xs ys. xs ++ ys) (came ∙ (ap₂ (λ xs rs. xs ++ map created_in rs) empty one ∙ created-stand past (tree_order past))) (ap (map realm_created_in) two ∙ realms-stand past (tree_order past))
@@ -220,7 +220,7 @@ pub asked-removal : (past : List Act) (c : ℕ) (before after : List in_hand.Occ
 asked-removal past c before after reply told replied none = ap₂ (λ os xs. map Happens os ++ xs) told (ap₂ (λ xs os. xs ++ map Happens (seen os)) replied none)
 
 -- behind what was told, the realms of a subtree, then the context
-pub removal-told : (past : List Act) (c : ℕ) (rows : List Row) (before realms all : List Occurrence) (last : Occurrence) → rows ≡ map (row_at past) (subtree_of past c) → realms ≡ before ++ map realm_destroyed_in rows
+pub removal-told : (past : List Act) (c : ℕ) (rows : List ContextRow) (before realms all : List Occurrence) (last : Occurrence) → rows ≡ map (row_at past) (subtree_of past c) → realms ≡ before ++ map realm_destroyed_in rows
     → all ≡ realms ++ last ∷ [] → last ≡ context_destroyed past c → all ≡ before ++ removal past c
 removal-told past c rows before realms all last below gone added is =
     let ends = map (realm_destroyed past) (subtree_of past c) in
@@ -230,7 +230,7 @@ removal-told past c rows before realms all last below gone added is =
 -- ---- the log
 
 -- an entry is told, and nobody asked for it
-pub logged-plans : (past : List Act) (moment c : ℕ) (id : List ℕ) (level : Level) (line : List ℕ) (row : Row) (before after : List in_hand.Occurrence) → context_named past id ≡ Ok c → row ≡ row_at past c
+pub logged-plans : (past : List Act) (moment c : ℕ) (id : List ℕ) (level : Level) (line : List ℕ) (row : ContextRow) (before after : List in_hand.Occurrence) → context_named past id ≡ Ok c → row ≡ row_at past c
     → seen before ≡ entry_added_in row moment level line ∷ [] → after ≡ []
     → (act : Act) × (log_outcome past id level line ≡ Ok act) × (map Happens (seen before) ++ map Happens (seen after) ≡ occurs past moment (Log id level line) act) × (false ≡ false) × (leaves_tables act ≡ true) × (false ≡ false → after ≡ [])
 logged-plans past moment c id level line row before after named is told none = (

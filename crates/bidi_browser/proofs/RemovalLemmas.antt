@@ -9,7 +9,7 @@ use Rattle.bidi_handles.specs.declared.id.Kind.TheVariants.{Context}
 use Rattle.bidi_browser.specs.Acts.{Act, Framed, Removed, given, next_number}
 use Rattle.bidi_browser.specs.Contexts.{parent_of, level_of, is_under, is_born, is_gone, is_alive, up_to, contexts, children_of, subtree_within, subtree_of}
 use Rattle.bidi_browser.specs.Accepted.{AreAccepted}
-use Rattle.bidi_browser.specs.ContextRows.{Row, row_at, rows}
+use Rattle.bidi_browser.specs.ContextRows.{ContextRow, row_at, rows}
 use Rattle.bidi_handles.proofs.ListLemmas.{agree}
 use Rattle.bidi_browser.proofs.AcceptedLemmas.{act-sound, alive-above, alive-below, parent-born, under-parent, under-le, levels-accepted, level-child, parents-alive}
 
@@ -234,7 +234,7 @@ any-below past a c acc root alive =
 -- ---- the rows
 
 -- one more number in a filter on rows
-filtered-step : (f : ℕ → Row) (k : Row → Bool) (t u : Bool) (x : ℕ) (rs ps : List ℕ) → k (f x) ≡ not u → map f rs ≡ filter k (map f ps)
+filtered-step : (f : ℕ → ContextRow) (k : ContextRow → Bool) (t u : Bool) (x : ℕ) (rs ps : List ℕ) → k (f x) ≡ not u → map f rs ≡ filter k (map f ps)
     → map f (cond (t && not u) (x ∷ rs) rs) ≡ filter k (map f (cond t (x ∷ ps) ps))
 filtered-step f k false u x rs ps keeps ih = ih
 filtered-step f k true true x rs ps keeps ih = ih ∙ sym (ap (λ b. cond b (f x ∷ filter k (map f ps)) (filter k (map f ps))) keeps)

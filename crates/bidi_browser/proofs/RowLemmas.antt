@@ -15,7 +15,7 @@ use Rattle.bidi_browser.specs.Occurrences.{occurrence, context_created, context_
 use Rattle.bidi_messages.specs.declared.event.EventName.TheVariants.{ContextDestroyed}
 use Rattle.bidi_browser.specs.Outcome.{oldest_window}
 use Rattle.bidi_browser.specs.Accepted.{AreAccepted}
-use Rattle.bidi_browser.specs.ContextRows.{Row, row_of, row_at, rows, children_in, below, inner_info, infos_below, root_info, info_in, created_in, destroyed_in, realm_created_in, realm_destroyed_in}
+use Rattle.bidi_browser.specs.ContextRows.{ContextRow, row_of, row_at, rows, children_in, below, inner_info, infos_below, root_info, info_in, created_in, destroyed_in, realm_created_in, realm_destroyed_in}
 use Rattle.bidi_browser.proofs.AcceptedLemmas.{levels-accepted, level-child}
 use Rattle.bidi_handles.proofs.ListLemmas.{filter-map, find-map, find-same}
 use Rattle.bidi_browser.proofs.RemovalLemmas.{any-contexts}
@@ -62,8 +62,8 @@ map-self (c ∷ cs) = ap (λ ds. c ∷ ds) (map-self cs)
 -- the contexts in hand have the numbers of the rows
 numbers-rows : (past : List Act) (items : List Context) → map row_of items ≡ rows past → map (λ x. x.number) items ≡ contexts past
 numbers-rows past items same =
-    sym (map-map (λ (r : Row). r.number) row_of items) ∙ (ap (map (λ (r : Row). r.number)) same
-    ∙ (map-map (λ (r : Row). r.number) (row_at past) (contexts past) ∙ map-self (contexts past)))
+    sym (map-map (λ (r : ContextRow). r.number) row_of items) ∙ (ap (map (λ (r : ContextRow). r.number)) same
+    ∙ (map-map (λ (r : ContextRow). r.number) (row_at past) (contexts past) ∙ map-self (contexts past)))
 
 -- a test of the contexts in hand, by the numbers
 any-numbers : (p : ℕ → Bool) (items : List Context) → list_any (λ x. p x.number) items ≡ list_any p (map (λ x. x.number) items)
@@ -77,7 +77,7 @@ any-stands past items c same = any-numbers (λ d. d == c) items ∙ (ap (list_an
 -- ---- what is looked up
 
 -- a look-up by what its row tells finds the row of the live context
-find-row : (past : List Act) (items : List Context) (p : Row → Bool) → map row_of items ≡ rows past
+find-row : (past : List Act) (items : List Context) (p : ContextRow → Bool) → map row_of items ≡ rows past
     → option_map row_of (find (λ x. p (row_of x)) items) ≡ option_map (row_at past) (find (λ c. p (row_at past c)) (contexts past))
 find-row past items p same = find-map row_of p items ∙ (ap (find p) same ∙ sym (find-map (row_at past) p (contexts past)))
 
@@ -138,7 +138,7 @@ tops-stand past =
 subtrees-step : (n : ℕ) (past : List Act) (cs : List ℕ) → ((c : ℕ) → below n (rows past) (Some c) ≡ map (row_at past) (flat_map (subtree_within n past) (children_of past c)))
     → flat_map (λ r. r ∷ below n (rows past) (Some r.number)) (map (row_at past) cs) ≡ map (row_at past) (flat_map (subtree_within (suc n) past) cs)
 subtrees-step n past cs same =
-    flat_map-map (λ (r : Row). r ∷ below n (rows past) (Some r.number)) (row_at past) cs
+    flat_map-map (λ (r : ContextRow). r ∷ below n (rows past) (Some r.number)) (row_at past) cs
     ∙ flat_map-each (row_at past) (λ c. row_at past c ∷ below n (rows past) (Some c)) (subtree_within (suc n) past) cs (λ c. ap (λ rs. row_at past c ∷ rs) (same c))
 
 -- the rows below a context are those of its children's subtrees
@@ -174,7 +174,7 @@ pub infos-stand : (n : ℕ) (past : List Act) (depth : Option ℕ) (p : ℕ) →
 infos-stand zero past depth p acc deep = ap (map (info_within zero past depth)) (sym (none-below past p acc (omega arith)))
 infos-stand (suc n) past depth p acc deep =
     ap (map (λ r. inner_info r (children_tree depth (infos_below n (rows past) (depth_below depth) r.number)))) (children-stand past p)
-    ∙ (map-map (λ (r : Row). inner_info r (children_tree depth (infos_below n (rows past) (depth_below depth) r.number))) (row_at past) (children_of past p)
+    ∙ (map-map (λ (r : ContextRow). inner_info r (children_tree depth (infos_below n (rows past) (depth_below depth) r.number))) (row_at past) (children_of past p)
     ∙ map-filter-same (λ c. inner_info (row_at past c) (children_tree depth (infos_below n (rows past) (depth_below depth) c))) (info_within (suc n) past depth)
     (λ c. option_eq nat_eq (parent_of past c) (Some p)) (contexts past)
     (λ c e. ap (λ infos. inner_info (row_at past c) (children_tree depth infos))

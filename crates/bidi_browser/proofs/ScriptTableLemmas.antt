@@ -3,7 +3,7 @@ use Rattle.std.proofs.Common.{◌≡◌, ◌∙◌, ◌+◌, ℕ, Bool, true, fa
 use Rattle.std.specs.Prelude.{if◌then◌else◌, is_some, option_map, IsOk, OnOk}
 use Rattle.std.specs.String.{string_eq}
 use Rattle.std.specs.HashMap.{HashMap, get, hash_map_len, Updates}
-use Rattle.bidi_browser.specs.Acts.{Act, Tabled, Row}
+use Rattle.bidi_browser.specs.Acts.{Act, Tabled, ScriptEffect}
 use Rattle.bidi_browser.specs.Realms.{row_of, tabled_texts}
 
 -- what an insert does that succeeds
@@ -12,7 +12,7 @@ pub inserted : {R S E : Type 0} (m n : HashMap (String Global) R S) (key : Strin
 inserted m n key row (Ok old) done was updates len = (updates, len ∙ ap (λ o. hash_map_len m + (if is_some o then 0 else 1)) was)
 inserted m n key row (Err e) done was updates len = absurd (cc)
 
-module _ {R : Type 0} (see : R → Row) (past : List Act) (row : R) where
+module _ {R : Type 0} (see : R → ScriptEffect) (past : List Act) (row : R) where
   -- the row of each text after it
   pub row-set : (b : Bool) (script : List ℕ) (was now : Option R) → now ≡ cond b (Some row) was → option_map see was ≡ row_of past script → option_map see now ≡ (if b then Some (see row) else row_of past script)
   row-set true script was now is same = ap (option_map see) is

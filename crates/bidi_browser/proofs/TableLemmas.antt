@@ -12,7 +12,7 @@ use Rattle.bidi_browser.specs.Plans.{leaves_tables}
 use Rattle.bidi_browser.specs.declared.script_table.ScriptTable.{ScriptTable}
 use Rattle.bidi_browser.specs.TableInHand.{AreTabled}
 use Rattle.bidi_browser.specs.Stands.{StandsFor}
-use Rattle.bidi_browser.specs.Acts.{Act, Removed, Tabled, Ran, Disowned, Logged, Looked, Ending, next_number, Row as Said}
+use Rattle.bidi_browser.specs.Acts.{Act, Removed, Tabled, Ran, Disowned, Logged, Looked, Ending, next_number, ScriptEffect as Said}
 use Rattle.bidi_tree.specs.Node.{Node}
 use Rattle.bidi_handles.specs.declared.id.Kind.TheVariants.{Handle}
 use Rattle.bidi_browser.specs.declared.context_table.Contexts.{Contexts}
@@ -22,7 +22,7 @@ use Rattle.bidi_browser.specs.ContextRows.{changed, held_in, without_in}
 use Rattle.bidi_browser.proofs.HeldLemmas.{rows-ran, rows-disowned}
 use Rattle.bidi_browser.specs.Contexts.{is_alive, tops, subtree_of, tree_order}
 use Rattle.bidi_browser.specs.Info.{info_of}
-use Rattle.bidi_browser.specs.ContextRows.{Row, row_of, row_at, rows, children_in, below, info_in}
+use Rattle.bidi_browser.specs.ContextRows.{ContextRow, row_of, row_at, rows, children_in, below, info_in}
 use Rattle.bidi_browser.proofs.AcceptedLemmas.{act-sound}
 use Rattle.bidi_browser.proofs.RemovalLemmas.{rows-removed}
 use Rattle.bidi_browser.proofs.RowLemmas.{subtree-stands, tree_order-stands, tops-stand, info-stands}
@@ -42,15 +42,15 @@ pub first-pushed : {A B : Type 0} (f : A → B) (none one : List A) (x : A) (res
 first-pushed f none one x rest pushed empty = ap (λ xs. map f xs ++ rest) (pushed ∙ ap (λ xs. xs ++ x ∷ []) empty)
 
 -- a context and all below it
-pub subtree-in : (past : List Act) (c : ℕ) (row : Row) (all : List Row) → row ≡ row_at past c → all ≡ rows past → row ∷ below 15 all (Some row.number) ≡ map (row_at past) (subtree_of past c)
+pub subtree-in : (past : List Act) (c : ℕ) (row : ContextRow) (all : List ContextRow) → row ≡ row_at past c → all ≡ rows past → row ∷ below 15 all (Some row.number) ≡ map (row_at past) (subtree_of past c)
 subtree-in past c row all is table = ap₂ (λ r rs. r ∷ below 15 rs (Some r.number)) is table ∙ subtree-stands past c
 
 -- all in tree order
-pub order-in : (past : List Act) (all : List Row) → all ≡ rows past → below 16 all None ≡ map (row_at past) (tree_order past)
+pub order-in : (past : List Act) (all : List ContextRow) → all ≡ rows past → below 16 all None ≡ map (row_at past) (tree_order past)
 order-in past all table = ap (λ rs. below 16 rs None) table ∙ tree_order-stands past
 
 -- the Info of a context
-pub info-at : (past : List Act) (depth : Option ℕ) (c : ℕ) (row : Row) (all : List Row) → AreAccepted past → row ≡ row_at past c → all ≡ rows past → info_in all depth row ≡ info_of past depth c
+pub info-at : (past : List Act) (depth : Option ℕ) (c : ℕ) (row : ContextRow) (all : List ContextRow) → AreAccepted past → row ≡ row_at past c → all ≡ rows past → info_in all depth row ≡ info_of past depth c
 info-at past depth c row all accepted is table = ap₂ (λ rs r. info_in rs depth r) table is ∙ info-stands past depth c accepted
 
 -- the Infos of some contexts
@@ -59,12 +59,12 @@ infos-at past depth [] accepted = refl
 infos-at past depth (c ∷ cs) accepted = ap₂ (λ x xs. x ∷ xs) (info-stands past depth c accepted) (infos-at past depth cs accepted)
 
 -- those of the top-level contexts
-pub top_infos-at : (past : List Act) (depth : Option ℕ) (all : List Row) → AreAccepted past → all ≡ rows past → map (info_in all depth) (children_in all None) ≡ map (info_of past depth) (tops past)
+pub top_infos-at : (past : List Act) (depth : Option ℕ) (all : List ContextRow) → AreAccepted past → all ≡ rows past → map (info_in all depth) (children_in all None) ≡ map (info_of past depth) (tops past)
 top_infos-at past depth all accepted table =
     ap (λ rs. map (info_in rs depth) (children_in rs None)) table ∙ (ap (map (info_in (rows past) depth)) (tops-stand past) ∙ infos-at past depth (tops past) accepted)
 
 -- a row that is kept or not
-kept-row : (b : Bool) (x : Context) (items : List Context) (all : List Row) → map row_of items ≡ all → map row_of (cond b (x ∷ items) items) ≡ cond b (row_of x ∷ all) all
+kept-row : (b : Bool) (x : Context) (items : List Context) (all : List ContextRow) → map row_of items ≡ all → map row_of (cond b (x ∷ items) items) ≡ cond b (row_of x ∷ all) all
 kept-row true x items all same = ap (λ rs. row_of x ∷ rs) same
 kept-row false x items all same = same
 
@@ -74,7 +74,7 @@ kept-rows numbers [] = refl
 kept-rows numbers (x ∷ items) = kept-row (not (list_any (λ n. n == x.number) numbers)) x _ _ (kept-rows numbers items)
 
 -- a removal leaves the rows that the past has after it
-pub removed-rows : (past : List Act) (a : ℕ) (numbers : List ℕ) (all : List Row) → AreAccepted (Removed a ∷ past) → all ≡ rows past → numbers ≡ subtree_of past a
+pub removed-rows : (past : List Act) (a : ℕ) (numbers : List ℕ) (all : List ContextRow) → AreAccepted (Removed a ∷ past) → all ≡ rows past → numbers ≡ subtree_of past a
     → filter (λ r. not (list_any (λ n. n == r.number) numbers)) all ≡ rows (Removed a ∷ past)
 removed-rows past a numbers all accepted table is =
     ap₂ (λ ns rs. filter (λ r. not (list_any (λ n. n == r.number) ns)) rs) is table ∙ sym (rows-removed past a accepted.2 (act-sound past accepted.0 (Removed a) accepted.1))

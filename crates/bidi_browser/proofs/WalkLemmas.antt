@@ -8,7 +8,7 @@ use Rattle.std.proofs.lemmas.Grind.{flat_map-append}
 use Rattle.bidi_tree.specs.Node.{Node}
 use Rattle.bidi_browser.specs.declared.contexts.Context.{Context}
 use Rattle.bidi_browser.specs.Info.{children_tree, depth_below}
-use Rattle.bidi_browser.specs.ContextRows.{Row, row_of, children_in, below, inner_info, infos_below}
+use Rattle.bidi_browser.specs.ContextRows.{ContextRow, row_of, children_in, below, inner_info, infos_below}
 
 -- whether there is none
 pub is-none : (o : Option ℕ) (b : Bool) → is_some o ≡ not b → option_eq nat_eq o None ≡ b
@@ -20,7 +20,7 @@ is-none (Some n) false e = refl
 -- ---- the children among the contexts that were met
 
 -- whether a row is a child of the parent
-abbrev is_child : Option ℕ → Row → Bool
+abbrev is_child : Option ℕ → ContextRow → Bool
 is_child parent r = option_eq nat_eq r.parent parent
 
 -- the rows that were met, with the next one
@@ -52,16 +52,16 @@ one-less n = omega arith
 -- ---- subtrees
 
 -- a row, and what stands below it
-abbrev pub walked : ℕ → List Row → Row → List Row
+abbrev pub walked : ℕ → List ContextRow → ContextRow → List ContextRow
 walked n rows r = r ∷ below n rows (Some r.number)
 
 -- what stands below, where there are levels left
-below-walked : (n : ℕ) (rows : List Row) (parent : Option ℕ) → (n ≡ 0 → ⊥) → below n rows parent ≡ flat_map (walked (n - 1) rows) (children_in rows parent)
+below-walked : (n : ℕ) (rows : List ContextRow) (parent : Option ℕ) → (n ≡ 0 → ⊥) → below n rows parent ≡ flat_map (walked (n - 1) rows) (children_in rows parent)
 below-walked zero rows parent some = absurd (some refl)
 below-walked (suc n) rows parent some = ap (λ k. flat_map (walked k rows) (children_in rows parent)) (one-less n)
 
 -- with a child and what stands below it
-pub walked-more : (f : Row → List Row) (r : Row) (seen next : List Row) (before now pushed after below : List Row) → f r ≡ r ∷ below → next ≡ seen ++ r ∷ []
+pub walked-more : (f : ContextRow → List ContextRow) (r : ContextRow) (seen next : List ContextRow) (before now pushed after below : List ContextRow) → f r ≡ r ∷ below → next ≡ seen ++ r ∷ []
     → now ≡ before ++ flat_map f seen → pushed ≡ now ++ r ∷ [] → after ≡ pushed ++ below → after ≡ before ++ flat_map f next
 walked-more f r seen next before now pushed after below is more held one rest =
     rest
@@ -79,11 +79,11 @@ below-done n items i parent some all =
 -- ---- Infos
 
 -- the Info of a child
-abbrev pub child_info : ℕ → List Row → Option ℕ → Row → Node
+abbrev pub child_info : ℕ → List ContextRow → Option ℕ → ContextRow → Node
 child_info n rows depth r = inner_info r (children_tree depth (infos_below n rows (depth_below depth) r.number))
 
 -- the Infos of the children, where there are levels left
-infos-walked : (n : ℕ) (rows : List Row) (depth : Option ℕ) (parent : ℕ) → (n ≡ 0 → ⊥) → infos_below n rows depth parent ≡ map (child_info (n - 1) rows depth) (children_in rows (Some parent))
+infos-walked : (n : ℕ) (rows : List ContextRow) (depth : Option ℕ) (parent : ℕ) → (n ≡ 0 → ⊥) → infos_below n rows depth parent ≡ map (child_info (n - 1) rows depth) (children_in rows (Some parent))
 infos-walked zero rows depth parent some = absurd (some refl)
 infos-walked (suc n) rows depth parent some = ap (λ k. map (child_info k rows depth) (children_in rows (Some parent))) (one-less n)
 
@@ -93,7 +93,7 @@ two-more zero some = absurd (some refl)
 two-more (suc n) some = omega arith
 
 -- with one more
-pub infos-more : {A : Type 0} (tree : A → Node) (f : Row → Node) (r : Row) (seen next : List Row) (now after : List A) (x : A) → next ≡ seen ++ r ∷ []
+pub infos-more : {A : Type 0} (tree : A → Node) (f : ContextRow → Node) (r : ContextRow) (seen next : List ContextRow) (now after : List A) (x : A) → next ≡ seen ++ r ∷ []
     → map tree now ≡ map f seen → after ≡ now ++ x ∷ [] → tree x ≡ f r → map tree after ≡ map f next
 infos-more tree f r seen next now after x more held one is =
     ap (map tree) one ∙ (map-append tree now (x ∷ []) ∙ (ap₂ (λ xs y. xs ++ y ∷ []) held is ∙ sym (ap (map f) more ∙ map-append f seen (r ∷ []))))

@@ -18,9 +18,9 @@ pub data Ending : Type 0 where
   Threw : (value : Node) → Ending
 
 -- what the table says of a script: how it ends, or which of its arguments it gives back
-pub data Row : Type 0 where
-  EndsIn : (ending : Ending) → Row
-  GivesBack : (argument : ℕ) → Row
+pub data ScriptEffect : Type 0 where
+  EndsIn : (ending : Ending) → ScriptEffect
+  GivesBack : (argument : ℕ) → ScriptEffect
 
 -- what an accepted command or an effective step did
 pub data Act : Type 0 where
@@ -32,7 +32,7 @@ pub data Act : Type 0 where
   Removed : (context : ℕ) → Act
   Moved : (context : ℕ) (move : Move) → Act
   Logged : (context : ℕ) (level : Level) (text : List ℕ) → Act
-  Tabled : (text : List ℕ) (row : Row) → Act
+  Tabled : (text : List ℕ) (row : ScriptEffect) → Act
   -- a script ended in a realm, and where held is true its value got a handle
   Ran : (realm : ℕ) (ending : Ending) (held : Bool) → Act
   Disowned : (realm : ℕ) (handles : List (List ℕ)) → Act

@@ -22,7 +22,7 @@ use Rattle.bidi_browser.specs.HistoryInHand.{entries_in}
 use Rattle.bidi_browser.specs.Occurrences.{Occurrence, console_entry}
 
 -- a live context: its number, its parent if it is a child, its top-level context, its level, its window, its realm, its entries and the handles that are held in its realm
-pub record Row : Type 0 where
+pub record ContextRow : Type 0 where
   pub number : ℕ
   pub parent : Option ℕ
   pub top : ℕ
@@ -33,40 +33,40 @@ pub record Row : Type 0 where
   pub handles : List (ℕ × Node)
 
 -- the URL of the present entry
-abbrev pub url_in : Row → Parts
+abbrev pub url_in : ContextRow → Parts
 url_in row = present row.entries
 
 -- the value that the handle of an id holds in its realm
-abbrev pub held_in_row : Row → List ℕ → Option Node
+abbrev pub held_in_row : ContextRow → List ℕ → Option Node
 held_in_row row = held_among row.handles
 
 -- the row of a context in hand
-abbrev pub row_of : Context → Row
+abbrev pub row_of : Context → ContextRow
 row_of c = record { number = c.number; parent = c.parent; top = c.top; level = c.level; window = c.window; realm = c.realm; entries = entries_in c.history; handles = handles_seen c.handles }
 
 -- the row that a past makes of a context
-abbrev pub row_at : List Act → ℕ → Row
+abbrev pub row_at : List Act → ℕ → ContextRow
 row_at past c = record { number = c; parent = parent_of past c; top = top_of past c; level = level_of past c; window = window_of past c; realm = realm_of past c; entries = entries_of past c; handles = handles_of past (realm_of past c) }
 
 -- the rows of the live contexts, by creation
-abbrev pub rows : List Act → List Row
+abbrev pub rows : List Act → List ContextRow
 rows past = map (row_at past) (contexts past)
 
 -- ---- how they lie below one another
 
 -- the children of a context; of none, the top-level contexts
-abbrev pub children_in : List Row → Option ℕ → List Row
+abbrev pub children_in : List ContextRow → Option ℕ → List ContextRow
 children_in rows parent = filter (λ r. option_eq nat_eq r.parent parent) rows
 
 -- all that stands below it in tree order, as far as n levels
-abbrev pub below : ℕ → List Row → Option ℕ → List Row
+abbrev pub below : ℕ → List ContextRow → Option ℕ → List ContextRow
 below zero rows parent = []
 below (suc n) rows parent = flat_map (λ r. r ∷ below n rows (Some r.number)) (children_in rows parent)
 
 -- ---- what is told of a row
 
 -- the members of its Info, without the parent
-abbrev pub members_in : Row → Node → Members
+abbrev pub members_in : ContextRow → Node → Members
 members_in row children =
     "children" being children and
     "clientWindow" being id_tree kind.Window row.window and
@@ -76,29 +76,29 @@ members_in row children =
     "userContext" being word "default" and no_members
 
 -- its Info, with its parent where it is to be shown
-abbrev pub shown_info : Option Node → Row → Node → Node
+abbrev pub shown_info : Option Node → ContextRow → Node → Node
 shown_info None row children = mapped (members_in row children)
 shown_info (Some parent) row children = mapped ("parent" being parent and members_in row children)
 
 -- its Info where it stands in the list of its parent's, and at the root
-abbrev pub inner_info : Row → Node → Node
+abbrev pub inner_info : ContextRow → Node → Node
 inner_info row children = shown_info None row children
 
-abbrev pub root_info : Row → Node → Node
+abbrev pub root_info : ContextRow → Node → Node
 root_info row children = shown_info (Some (parent_tree row.parent)) row children
 
 -- the Infos of a context's children, as far as n levels
-abbrev pub infos_below : ℕ → List Row → Option ℕ → ℕ → List Node
+abbrev pub infos_below : ℕ → List ContextRow → Option ℕ → ℕ → List Node
 infos_below zero rows depth parent = []
 infos_below (suc n) rows depth parent =
     map (λ r. inner_info r (children_tree depth (infos_below n rows (depth_below depth) r.number))) (children_in rows (Some parent))
 
 -- the whole Info of a row, with its parent; no context stands below level 16
-abbrev pub info_in : List Row → Option ℕ → Row → Node
+abbrev pub info_in : List ContextRow → Option ℕ → ContextRow → Node
 info_in rows depth row = root_info row (children_tree depth (infos_below 16 rows (depth_below depth) row.number))
 
 -- what is told of a realm of it, where it is at a URL
-abbrev pub realm_info_at : Row → ℕ → Parts → Node
+abbrev pub realm_info_at : ContextRow → ℕ → Parts → Node
 realm_info_at row realm url = mapped (
     "realm" being id_tree kind.Realm realm and
     "origin" being text (origin_text url) and
@@ -108,39 +108,39 @@ realm_info_at row realm url = mapped (
 -- ---- its events
 
 -- an event of it
-abbrev pub occurrence_in : Row → EventName → Node → Occurrence
+abbrev pub occurrence_in : ContextRow → EventName → Node → Occurrence
 occurrence_in row event params = record { event = event; context = row.number; top = row.top; params = params }
 
 -- an entry was logged in it, at the moment
-abbrev pub entry_added_in : Row → ℕ → Level → List ℕ → Occurrence
+abbrev pub entry_added_in : ContextRow → ℕ → Level → List ℕ → Occurrence
 entry_added_in row moment level line = occurrence_in row EntryAdded (console_entry moment row.number row.realm level line)
 
 -- its context came
-abbrev pub created_in : Row → Occurrence
+abbrev pub created_in : ContextRow → Occurrence
 created_in row = occurrence_in row ContextCreated (root_info row null)
 
 -- its context goes, with all these rows below it
-abbrev pub destroyed_in : List Row → Row → Occurrence
+abbrev pub destroyed_in : List ContextRow → ContextRow → Occurrence
 destroyed_in rows row = occurrence_in row ContextDestroyed (info_in rows None row)
 
 -- what is told of its realm
-abbrev pub realm_info_in : Row → Node
+abbrev pub realm_info_in : ContextRow → Node
 realm_info_in row = realm_info_at row row.realm (url_in row)
 
 -- a realm of it came, where it is at a URL
-abbrev pub realm_began_in : Row → ℕ → Parts → Occurrence
+abbrev pub realm_began_in : ContextRow → ℕ → Parts → Occurrence
 realm_began_in row realm url = occurrence_in row RealmCreated (realm_info_at row realm url)
 
 -- its realm came
-abbrev pub realm_created_in : Row → Occurrence
+abbrev pub realm_created_in : ContextRow → Occurrence
 realm_created_in row = realm_began_in row row.realm (url_in row)
 
 -- its realm goes
-abbrev pub realm_destroyed_in : Row → Occurrence
+abbrev pub realm_destroyed_in : ContextRow → Occurrence
 realm_destroyed_in row = occurrence_in row RealmDestroyed (mapped ("realm" being id_tree kind.Realm row.realm and no_members))
 
 -- what is told of a navigation of it to a URL, at the moment
-abbrev pub navigation_info_in : Row → ℕ → ℕ → Parts → Node
+abbrev pub navigation_info_in : ContextRow → ℕ → ℕ → Parts → Node
 navigation_info_in row moment navigation url = mapped (
     "context" being id_tree kind.Context row.number and
     "navigation" being id_tree kind.Navigation navigation and
@@ -150,22 +150,22 @@ navigation_info_in row moment navigation url = mapped (
 -- ---- how it changes
 
 -- it has a new realm in which nothing is held, and moved in its session history
-abbrev pub moved_in : ℕ → Move → Row → Row
+abbrev pub moved_in : ℕ → Move → ContextRow → ContextRow
 moved_in realm move row = record row { realm = realm; entries = moved row.entries move; handles = [] }
 
 -- one more value is held in its realm
-abbrev pub held_in : ℕ × Node → Row → Row
+abbrev pub held_in : ℕ × Node → ContextRow → ContextRow
 held_in held row = record row { handles = row.handles ++ held ∷ [] }
 
 -- the handles of these numbers are held no longer
-abbrev pub without_in : List ℕ → Row → Row
+abbrev pub without_in : List ℕ → ContextRow → ContextRow
 without_in numbers row = record row { handles = filter (λ held. not (list_any (λ n. n == held.0) numbers)) row.handles }
 
 -- those of these ids
-abbrev pub disowned_in : List (List ℕ) → Row → Row
+abbrev pub disowned_in : List (List ℕ) → ContextRow → ContextRow
 disowned_in ids row = record row { handles = filter (λ held. not (has_id ids held.0)) row.handles }
 
 -- the first row of a context is changed, and no other
-abbrev pub changed : ℕ → (Row → Row) → List Row → List Row
+abbrev pub changed : ℕ → (ContextRow → ContextRow) → List ContextRow → List ContextRow
 changed c f [] = []
 changed c f (r ∷ rows) = if r.number == c then f r ∷ rows else r ∷ changed c f rows

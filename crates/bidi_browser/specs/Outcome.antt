@@ -7,7 +7,7 @@ use Rattle.bidi_handles.specs.declared.id.Kind.TheVariants.{Realm}
 use Rattle.bidi_handles.specs.Ids.{id_of}
 use Rattle.bidi_browser.specs.Urls.{parsed}
 use Rattle.bidi_values.specs.declared.log_entry.Level.{Level}
-use Rattle.bidi_browser.specs.Acts.{Act, Made, Framed, Removed, Moved, Logged, Tabled, Ran, Disowned, Looked, To, Again, Across, Ending, Returned, Threw, Row, EndsIn, GivesBack}
+use Rattle.bidi_browser.specs.Acts.{Act, Made, Framed, Removed, Moved, Logged, Tabled, Ran, Disowned, Looked, To, Again, Across, Ending, Returned, Threw, ScriptEffect, EndsIn, GivesBack}
 use Rattle.bidi_browser.specs.Contexts.{parent_of, level_of, window_of, contexts, context_of, tops}
 use Rattle.bidi_browser.specs.Places.{entries_of, place_across}
 use Rattle.bidi_browser.specs.Realms.{realm_of, realms, value_of, handles_of, held_value, row_of, tabled_texts}
@@ -140,7 +140,7 @@ abbrev pub undefined : Node
 undefined = mapped ("type" being word "undefined" and no_members)
 
 -- a row gives its own ending, or an argument; where there is no such argument, undefined
-abbrev pub ending_of : Row → List Node → Ending
+abbrev pub ending_of : ScriptEffect → List Node → Ending
 ending_of (EndsIn ending) values = ending
 ending_of (GivesBack n) values = Returned (unwrap_or (slice_get values n) undefined)
 
@@ -182,13 +182,13 @@ log_outcome past id level line = do
   Ok (Logged c level line)
 
 -- what a row of the table says: a tree that fits the rule TableRow has one of the three members
-abbrev pub row_said : Option Node → Option Node → Option ℕ → Row
+abbrev pub row_said : Option Node → Option Node → Option ℕ → ScriptEffect
 row_said (Some value) thrown argument = EndsIn (Returned value)
 row_said None (Some value) argument = EndsIn (Threw value)
 row_said None None argument = GivesBack (unwrap_or argument 0)
 
 -- the row that a tree is
-abbrev pub row_in : Node → Row
+abbrev pub row_in : Node → ScriptEffect
 row_in t = row_said (tree_if_at "returns" t) (tree_if_at "throws" t) (number_if_at "argument" t)
 
 -- a value in the table has no handle, no internal id and at most 60 levels; a thrown one, which its details wrap, has at most 59
@@ -197,7 +197,7 @@ may_end_in (Returned value) = not (has_handle value) && nat_le (levels value) 60
 may_end_in (Threw value) = not (has_handle value) && nat_lt (levels value) 60
 
 -- a row may end in such a value, and give back any argument
-abbrev pub may_say : Row → Bool
+abbrev pub may_say : ScriptEffect → Bool
 may_say (EndsIn ending) = may_end_in ending
 may_say (GivesBack n) = true
 

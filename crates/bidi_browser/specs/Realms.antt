@@ -3,7 +3,7 @@ use Rattle.std.specs.Prelude.{ℕ, ◌==◌, true, not, if◌then◌else◌, Lis
 use Rattle.bidi_tree.specs.Node.{Node}
 use Rattle.bidi_handles.specs.declared.id.Kind.TheVariants.{Context, Realm, Handle}
 use Rattle.bidi_handles.specs.Ids.{id_of, has_id}
-use Rattle.bidi_browser.specs.Acts.{Act, Made, Framed, Moved, Tabled, Ran, Disowned, Ending, Returned, Threw, Row, next_number}
+use Rattle.bidi_browser.specs.Acts.{Act, Made, Framed, Moved, Tabled, Ran, Disowned, Ending, Returned, Threw, ScriptEffect, next_number}
 use Rattle.bidi_browser.specs.Contexts.{contexts}
 
 -- the realm of a context: each birth and each navigation makes a new one
@@ -35,7 +35,7 @@ abbrev pub held_value : List Act → ℕ → List ℕ → Option Node
 held_value past r id = option_map (λ held. held.1) (find (λ held. bytes_eq id (id_of Handle held.0)) (handles_of past r))
 
 -- the last row of a text
-abbrev pub row_of : List Act → List ℕ → Option Row
+abbrev pub row_of : List Act → List ℕ → Option ScriptEffect
 row_of [] text = None
 row_of (Tabled t row ∷ past) text = if bytes_eq t text then Some row else row_of past text
 row_of (act ∷ past) text = row_of past text

@@ -9,7 +9,7 @@ use Rattle.bidi_handles.specs.declared.id.Kind.TheVariants.{Handle, Realm}
 use Rattle.bidi_codes.specs.declared.refusal.Refusal.{Refusal}
 use Rattle.bidi_codes.specs.declared.refusal.Refusal.TheVariants.{Code, NoMemory}
 use Rattle.bidi_browser.specs.declared.scripts.Ran.{Ran as RanInHand}
-use Rattle.bidi_browser.specs.Acts.{Act, Ran, Ending, Returned, Threw, Row, next_number}
+use Rattle.bidi_browser.specs.Acts.{Act, Ran, Ending, Returned, Threw, ScriptEffect, next_number}
 use Rattle.bidi_codes.specs.Checks.{◌>>=◌, found}
 use Rattle.bidi_handles.specs.Maps.{◌being◌and◌, mapped, word, id_tree}
 use Rattle.bidi_browser.specs.Occurs.{exception_details, script_result}
@@ -21,7 +21,7 @@ use Rattle.bidi_handles.specs.Values.{arguments, takes_handle}
 
 -- how a script of that text ends with these arguments; or the table has no row of it
 abbrev pub IsEnding : Result declared_ending.Ending Refusal → List Act → List ℕ → List Node → Type 0
-IsEnding (Ok ending) past script values = (row : Row) × (row_of past script ≡ Some row) × (ending_seen ending ≡ ending_of row values)
+IsEnding (Ok ending) past script values = (row : ScriptEffect) × (row_of past script ≡ Some row) × (ending_seen ending ≡ ending_of row values)
 IsEnding (Err (Code code)) past script values = (row_of past script ≡ None) × (code ≡ UnsupportedOperation)
 IsEnding (Err NoMemory) past script values = ⊤
 

@@ -14,7 +14,7 @@ use Rattle.bidi_handles.specs.declared.handle.Ending.TheVariants as ends
 use Rattle.bidi_browser.specs.declared.script_table.ScriptRow as declared_row
 use Rattle.bidi_browser.specs.declared.script_table.ScriptRow.TheVariants as in_code
 use Rattle.bidi_browser.specs.declared.script_table.ScriptTable.{ScriptTable}
-use Rattle.bidi_browser.specs.Acts.{Act, Row, EndsIn, GivesBack, Ending, Returned, Threw}
+use Rattle.bidi_browser.specs.Acts.{Act, ScriptEffect, EndsIn, GivesBack, Ending, Returned, Threw}
 use Rattle.bidi_browser.specs.Outcome.{row_checked}
 use Rattle.bidi_handles.specs.ValuesInHand.{remote_tree, held_tree}
 use Rattle.bidi_browser.specs.Realms.{row_of, tabled_texts}
@@ -34,7 +34,7 @@ ending_seen (ends.Returned value) = Returned (held_tree value.value)
 ending_seen (ends.Threw thrown) = Threw (held_tree thrown.held.value)
 
 -- what a row of the table says
-abbrev pub row_seen : declared_row.ScriptRow → Row
+abbrev pub row_seen : declared_row.ScriptRow → ScriptEffect
 row_seen (in_code.EndsIn ending) = EndsIn (ending_seen ending)
 row_seen (in_code.GivesBack n) = GivesBack n
 

@@ -4,7 +4,7 @@ use Rattle.std.specs.Result.{result_err}
 use Rattle.bidi_tree.specs.Text.{tree_of_text, compact_text}
 use Rattle.bidi_messages.specs.Method.{method_text}
 use Rattle.bidi_messages.specs.CommandData.{method_of}
-use Rattle.bidi_messages.specs.EventName.{event_text}
+use Rattle.bidi_messages.specs.EventName.{event_name_text}
 use Rattle.bidi_messages.specs.EventData.{event_of}
 use Rattle.bidi_messages.specs.Verdict as judged
 use Rattle.bidi_messages.specs.contracts.command.CommandShape.TheImpl as command
@@ -45,7 +45,7 @@ error_shown e line well is =
     subst (IsMessageLine t) (sym (is ∙ ap (λ o. codes "error " ++ id_text o ++ 32 ∷ compact_text t) (sym (echoed_id-error e)))) (of_error (error.ghosts.shape.fits e well))
 
 pub event_shown : (e : Event) (line : List ℕ) → event.ghosts.shape.well e
-    → line ≡ codes "event " ++ event_text (event_of e.«data») ++ 32 ∷ compact_text (event.ghosts.shape.tree_of e) → IsMessageLine (event.ghosts.shape.tree_of e) line
+    → line ≡ codes "event " ++ event_name_text (event_of e.«data») ++ 32 ∷ compact_text (event.ghosts.shape.tree_of e) → IsMessageLine (event.ghosts.shape.tree_of e) line
 event_shown e line well is =
     let t = event.ghosts.shape.tree_of e in
     subst (IsMessageLine t) (sym (is ∙ ap (λ m. codes "event " ++ m ++ 32 ∷ compact_text t) (sym (method_in-event e)))) (of_event (event.ghosts.shape.fits e well))
@@ -66,7 +66,7 @@ module _ {E : Type 0} (r : Result (String Global) E) (m : Message) (well : messa
       → IfOk r (λ s. IsMessageLine (message.ghosts.shape.tree_of m) (string_bytes s))
   error_told v is h = told r (λ s. error_shown v (string_bytes s) (subst message.ghosts.shape.well is well).0) is h
 
-  pub event_told : (v : Event) → m ≡ AsEvent v → IfOk r (λ s. string_bytes s ≡ codes "event " ++ event_text (event_of v.«data») ++ 32 ∷ compact_text (event.ghosts.shape.tree_of v))
+  pub event_told : (v : Event) → m ≡ AsEvent v → IfOk r (λ s. string_bytes s ≡ codes "event " ++ event_name_text (event_of v.«data») ++ 32 ∷ compact_text (event.ghosts.shape.tree_of v))
       → IfOk r (λ s. IsMessageLine (message.ghosts.shape.tree_of m) (string_bytes s))
   event_told v is h = told r (λ s. event_shown v (string_bytes s) (subst message.ghosts.shape.well is well).0.0) is h
 

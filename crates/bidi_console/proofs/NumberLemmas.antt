@@ -10,7 +10,7 @@ use Rattle.std.specs.Str.{bytes_eq}
 use Rattle.clap.specs.Words.{Row, Text, first_of}
 use Rattle.bidi_console.specs.declared.arguments.Run.{Run}
 use Rattle.bidi_console.specs.declared.arguments.Run.TheVariants.{Play, Pair, Show, Check, Serve}
-use Rattle.bidi_console.specs.declared.arguments.Serving.{Serving}
+use Rattle.bidi_console.specs.declared.arguments.ServeOptions.{ServeOptions}
 use Rattle.bidi_console.specs.declared.message_lines.Side.{Side}
 use Rattle.bidi_console.specs.CommandLine.{IsWithinBounds, all_digits, is_numeral, number_in, number_within, run_in, served, serving_in, side_in}
 
@@ -92,14 +92,14 @@ within_found least most n None e = cc
 within_found least most n (Some text) e = within least most n text e
 
 -- what is served has the numbers that were found
-served-from : (a b m : Option ℕ) (s : Serving) → served a b m ≡ Some s → (a ≡ Some s.port) × (b ≡ Some s.connections) × (m ≡ Some s.messages)
+served-from : (a b m : Option ℕ) (s : ServeOptions) → served a b m ≡ Some s → (a ≡ Some s.port) × (b ≡ Some s.connections) × (m ≡ Some s.messages)
 served-from (Some p) (Some k) (Some n) s e = (cc, cc, cc)
 served-from None b m s e = cc
 served-from (Some p) None m s e = cc
 served-from (Some p) (Some k) None s e = cc
 
 -- no other subcommand is one that serves
-serve-from : (is_play is_pair is_show is_check is_serve : Bool) (side : Option Side) (serving : Option Serving) (s : Serving)
+serve-from : (is_play is_pair is_show is_check is_serve : Bool) (side : Option Side) (serving : Option ServeOptions) (s : ServeOptions)
     → (if is_play then Some Play else (if is_pair then Some Pair else (if is_show then option_map Show side else (if is_check then option_map Check side else (if is_serve then option_map Serve serving else None))))) ≡ Some (Serve s)
     → serving ≡ Some s
 serve-from true q r t u side serving s e = cc

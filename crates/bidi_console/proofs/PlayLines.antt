@@ -14,7 +14,7 @@ use Rattle.std.proofs.lemmas.Slice.Eq.{bytes_eq-Decides}
 use Rattle.clap.proofs.OnLiterals.{clap_on_literals}
 use Rattle.bidi_console.specs.declared.arguments.Run.{Run}
 use Rattle.bidi_console.specs.declared.arguments.Run.TheVariants.{Play, Pair, Show, Check, Serve}
-use Rattle.bidi_console.specs.declared.arguments.Serving.{Serving}
+use Rattle.bidi_console.specs.declared.arguments.ServeOptions.{ServeOptions}
 use Rattle.bidi_console.specs.declared.message_lines.Side.{Side}
 use Rattle.bidi_console.specs.CommandLine.{AsksFor, bare_app, bidi_app, faults_of, run_in}
 
@@ -266,17 +266,17 @@ read_show run differs line e = entered_show run differs line (subst (λ s. run_i
 read_check : (run : Run) → ((side : Side) → Check side ≡ run → ⊥) → (line : List Text) → run_in (subcommand_of bidi_app (check ∷ line)) ≡ Some run → ⊥
 read_check run differs line e = entered_check run differs line (subst (λ s. run_in (entered app s) ≡ Some run) (stop_check line) e)
 
-entered_serve : (run : Run) → ((s : Serving) → Serve s ≡ run → ⊥) → (line : List Text) → run_in (entered app (Some (serve, line))) ≡ Some run → ⊥
+entered_serve : (run : Run) → ((s : ServeOptions) → Serve s ≡ run → ⊥) → (line : List Text) → run_in (entered app (Some (serve, line))) ≡ Some run → ⊥
 unfolding clap_on_literals
 entered_serve run differs line e = no_other Serve run differs _ e
 
-read_serve : (run : Run) → ((s : Serving) → Serve s ≡ run → ⊥) → (line : List Text) → run_in (subcommand_of bidi_app (serve ∷ line)) ≡ Some run → ⊥
+read_serve : (run : Run) → ((s : ServeOptions) → Serve s ≡ run → ⊥) → (line : List Text) → run_in (subcommand_of bidi_app (serve ∷ line)) ≡ Some run → ⊥
 read_serve run differs line e = entered_serve run differs line (subst (λ s. run_in (entered app s) ≡ Some run) (stop_serve line) e)
 
-serve_is_no_play : (s : Serving) → Serve s ≡ Play → ⊥
+serve_is_no_play : (s : ServeOptions) → Serve s ≡ Play → ⊥
 serve_is_no_play s e = cc
 
-serve_is_no_pair : (s : Serving) → Serve s ≡ Pair → ⊥
+serve_is_no_pair : (s : ServeOptions) → Serve s ≡ Pair → ⊥
 serve_is_no_pair s e = cc
 
 show_is_no_play : (side : Side) → Show side ≡ Play → ⊥

@@ -11,7 +11,7 @@ use Rattle.bidi_console.specs.declared.arguments.LineFault.{LineFault}
 use Rattle.bidi_console.specs.declared.arguments.LineFault.TheVariants.{Help, Usage, NoMemory}
 use Rattle.bidi_console.specs.declared.arguments.Run.{Run}
 use Rattle.bidi_console.specs.declared.arguments.Run.TheVariants.{Play, Pair, Show, Check, Serve}
-use Rattle.bidi_console.specs.declared.arguments.Serving.{Serving}
+use Rattle.bidi_console.specs.declared.arguments.ServeOptions.{ServeOptions}
 use Rattle.bidi_console.specs.declared.message_lines.Side.{Side}
 use Rattle.bidi_console.specs.declared.message_lines.Side.TheVariants.{Local, Remote}
 
@@ -88,16 +88,16 @@ abbrev pub number_in : Text → ℕ → ℕ → List Row → Option ℕ
 number_in name least most rows = option_and_then (number_within least most) (first_of name rows)
 
 -- what is to be served, where all three numbers are there
-abbrev pub served : Option ℕ → Option ℕ → Option ℕ → Option Serving
+abbrev pub served : Option ℕ → Option ℕ → Option ℕ → Option ServeOptions
 served (Some port) (Some connections) (Some messages) = Some (record { port = port; connections = connections; messages = messages })
 served port connections messages = None
 
 -- what the three options ask to be served
-abbrev pub serving_in : List Row → Option Serving
+abbrev pub serving_in : List Row → Option ServeOptions
 serving_in rows = served (number_in (codes "port") 0 65535 rows) (number_in (codes "connections") 1 1000 rows) (number_in (codes "messages") 1 100000 rows)
 
 -- the run of the subcommand of this name, whose options name this end, or say what is to be served
-abbrev pub run_named : Text → Option Side → Option Serving → Option Run
+abbrev pub run_named : Text → Option Side → Option ServeOptions → Option Run
 run_named name side serving =
     if bytes_eq name (codes "play") then Some Play
     else (if bytes_eq name (codes "pair") then Some Pair

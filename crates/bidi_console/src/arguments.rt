@@ -24,12 +24,12 @@ pub enum Run {
     /// `check`: writes a line for each line of the standard input that is no text of this end.
     Check(Side),
     /// `serve`: serves WebSocket connections on 127.0.0.1.
-    Serve(Serving),
+    Serve(ServeOptions),
 }
 
 /// The options of `serve`.
 #[derive(Clone, Copy, Debug, PartialEq, Eq)]
-pub struct Serving {
+pub struct ServeOptions {
     /// The port on 127.0.0.1, or 0 for one that the system chooses.
     pub port: u16,
     /// How many connections are served, one after another: 1 to 1,000.
@@ -249,7 +249,7 @@ fn run_of(matches: &ArgMatches<'_>) -> Option<Run>
 }
 
 // What the three options of `serve` ask for.
-fn serving_of(matches: &ArgMatches<'_>) -> Option<Serving>
+fn serving_of(matches: &ArgMatches<'_>) -> Option<ServeOptions>
     ensures { result ≡ serving_in (rows_of (found_of matches.now)) }
 {
     let port = port_of(matches);
@@ -259,10 +259,14 @@ fn serving_of(matches: &ArgMatches<'_>) -> Option<Serving>
 }
 
 // The options of `serve`, where all three numbers are valid.
-fn served(port: Option<u16>, connections: Option<u32>, messages: Option<u32>) -> Option<Serving>
+fn served(
+    port: Option<u16>,
+    connections: Option<u32>,
+    messages: Option<u32>,
+) -> Option<ServeOptions>
     ensures { result ≡ served port connections messages }
 {
-    Some(Serving {
+    Some(ServeOptions {
         port: port?,
         connections: connections?,
         messages: messages?,
@@ -308,7 +312,7 @@ fn number_within(text: &str, least: u32, most: u32) -> Option<u32>
 }
 
 // The run of the subcommand of this name, with the end that its option names or the options of `serve`.
-fn run_named(name: &str, side: Option<Side>, serving: Option<Serving>) -> Option<Run>
+fn run_named(name: &str, side: Option<Side>, serving: Option<ServeOptions>) -> Option<Run>
     ensures { result ≡ run_named name.now side serving }
 {
     match name {

@@ -13,7 +13,7 @@ mod message_lines;
 mod showing;
 mod tally;
 
-pub use arguments::{LineFault, Run, Serving, command_line};
+pub use arguments::{LineFault, Run, ServeOptions, command_line};
 pub use device::{Device, DeviceFault, Sink, Source, write_all};
 pub use feeds::LONGEST_LINE;
 pub use line_reader::{InputFault, LineReader};

@@ -4,7 +4,7 @@ ghost use Rattle.bidi_tree.specs.Text.{tree_of_text, compact_text};
 ghost use Rattle.bidi_codes.specs.ErrorCode.{error_code_text};
 ghost use Rattle.bidi_messages.specs.Method.{method_text};
 ghost use Rattle.bidi_messages.specs.CommandData.{method_of};
-ghost use Rattle.bidi_messages.specs.EventName.{event_text};
+ghost use Rattle.bidi_messages.specs.EventName.{event_name_text};
 ghost use Rattle.bidi_messages.specs.EventData.{event_of};
 ghost use Rattle.bidi_messages.specs.View.{verdict_of, IsWell};
 ghost use Rattle.bidi_console.specs.MessageLines.{HasVerdict, IsMessageLine, Refused, Refuses, Shows, ShowsMessage, id_text, refused, shown_of, verdict_shown};
@@ -239,7 +239,7 @@ fn error_line(alloc: Global, error: ErrorResponse) -> Result<String, AllocError>
 // `event METHOD TEXT`
 fn event_line(alloc: Global, event: Event) -> Result<String, AllocError>
     requires { ⟦<Event as Shape>⟧.shape.well event }
-    ensures { IfOk result (λ line. string_bytes line ≡ codes "event " ++ event_text (event_of event.«data»)
+    ensures { IfOk result (λ line. string_bytes line ≡ codes "event " ++ event_name_text (event_of event.«data»)
         ++ 32 ∷ compact_text (⟦<Event as Shape>⟧.shape.tree_of event)) }
 {
     let event_name = event.data.event();

@@ -16,7 +16,7 @@ use Rattle.bidi_shape.specs.Fits.{Fits}
 use Rattle.bidi_shape.proofs.FitsLemmas.{exactly_kind, map_kind, map_inside, RowFits, row_inside, rule_inside, either_inside}
 use Rattle.bidi_messages.specs.Event.{event_type_words}
 use Rattle.bidi_messages.specs.About.{about_inside}
-use Rattle.bidi_messages.specs.EventName.{event_words, event_text}
+use Rattle.bidi_messages.specs.EventName.{event_words, event_name_text}
 use Rattle.bidi_messages.specs.EventData.{event_of}
 use Rattle.bidi_codes.specs.declared.error_code.ErrorCode.{ErrorCode}
 use Rattle.bidi_messages.specs.declared.event.EventName.{EventName}
@@ -186,8 +186,8 @@ two : {x y : List ℕ} {t u : Node} → x ≡ y → t ≡ u → ◌≡◌ {A = s
 two p q = cc
 
 -- an event in hand is that of its message
-seen_in : (d : EventData) (n : EventName) (t : Node) → told.ghosts.subject.kind d ≡ n → told.ghosts.subject.tree_of d ≡ params_in t → method_in t ≡ event_text n → event_seen d ≡ event_in t
-seen_in d n t kind tree method = two (ap event_text kind ∙ sym method) tree
+seen_in : (d : EventData) (n : EventName) (t : Node) → told.ghosts.subject.kind d ≡ n → told.ghosts.subject.tree_of d ≡ params_in t → method_in t ≡ event_name_text n → event_seen d ≡ event_in t
+seen_in d n t kind tree method = two (ap event_name_text kind ∙ sym method) tree
 
 -- ---- the link in hand
 

@@ -8,7 +8,7 @@ use Rattle.bidi_values.specs.declared.log_entry.Level.{Level}
 use Rattle.bidi_browser.specs.Actions.{Frame, Unframe, Log, TableRow}
 use Rattle.bidi_remote.specs.Machine.Step as steps
 use Rattle.bidi_remote.specs.Machine.Step.{Text}
-use Rattle.bidi_remote.specs.Machine.History.{Input, At, Open, Drop, Heard, InPage, IsHeardAs}
+use Rattle.bidi_remote.specs.Machine.History.{Input, At, Open, Drop, Heard, PageStep, IsHeardAs}
 use Rattle.bidi_remote.specs.Machine.Connections.{is_open}
 use Rattle.bidi_remote.specs.Machine.Outcome.{deeds}
 use Rattle.bidi_remote.specs.Machine.Replies.{IsAnsweredOnce}
@@ -22,9 +22,9 @@ use Rattle.bidi_remote.specs.declared.remote_end.RemoteFault.TheVariants.{WornOu
 use Rattle.bidi_link.specs.declared.ends.Ends.{Ends}
 use Rattle.bidi_link.specs.Pairing.{Sending, Deed, Handed, Linked, Sent, Unsent, TakenUp, TakenDown, Cut, history, is_link, is_cut, commands, ups, downs, texts, unsent}
 use Rattle.bidi_link.specs.Link.{Link, link, may_send, tree_of_sending, page}
-use Rattle.bidi_link.specs.Ledger.{PairInput, Opens, Sends, Up, Down, Cuts, Beside, with_step, past_after, is_whole, is_connected, taken_up, dropped}
+use Rattle.bidi_link.specs.Ledger.{PairInput, Opens, Sends, Up, Down, Cuts, Direct, with_step, past_after, is_whole, is_connected, taken_up, dropped}
 use Rattle.bidi_link.specs.declared.pairing.PairStep.{PairStep}
-use Rattle.bidi_link.specs.Steps.{IsBeside, IsHeardAs as IsHeardAsPair, AreHeardAs}
+use Rattle.bidi_link.specs.Steps.{IsDirect, IsHeardAs as IsHeardAsPair, AreHeardAs}
 use Rattle.bidi_link.specs.declared.link_end.LinkEnd.{LinkEnd}
 use Rattle.bidi_link.specs.Rows.{Agrees, page_in_hand, blank, with_cut}
 use Rattle.bidi_link.specs.Stands.{StandsFor, IsSane, Both, CanCount, IsNextUp, RowsAgree, numbers}
@@ -159,10 +159,10 @@ cut-done (Ok u) ends new past l whole before row =
 -- a moment, or a step of a page
 pub beside-done : {E : Type 0} (r : Result (Unit {0}) E) (ends new : Ends) (x : steps.Step) → ((i : Input) → IsHeardAs x i → IsUnheard i × ((h : List Input) (k : ℕ) → IsApart h k i))
     → IfOk r (λ u. (i : Input) × IsHeardAs x i × ((p : List Deed) → StandsFor ends p → StandsFor new (Handed i ∷ p) × IsAnsweredOnce (deeds (history p)) i × AllReadBack (out (history p) i)))
-    → IfOk r (λ u. (q : PairInput) × IsBeside x q × ((p : List Deed) → StandsFor ends p → IsSane p → CanCount p → Both new (with_step p q)))
+    → IfOk r (λ u. (q : PairInput) × IsDirect x q × ((p : List Deed) → StandsFor ends p → IsSane p → CanCount p → Both new (with_step p q)))
 beside-done (Err e) ends new x quiet handed = tt
 beside-done (Ok u) ends new x quiet handed = (
-  Beside handed.0,
+  Direct handed.0,
   (handed.0, handed.1, refl),
   λ p stands sane count.
       let h = handed.2 p stands in
@@ -177,16 +177,16 @@ pub at-quiet : (n : ℕ) (i : Input) → IsHeardAs (steps.At n) i → IsUnheard 
 at-quiet n i heard = quiet-at i (At n) heard (tt, λ h k. tt)
 
 pub frame-quiet : (context url : List ℕ) (i : Input) → IsHeardAs (steps.Frame context url) i → IsUnheard i × ((h : List Input) (k : ℕ) → IsApart h k i)
-frame-quiet context url i heard = quiet-at i (InPage (Frame context url)) heard (tt, λ h k. tt)
+frame-quiet context url i heard = quiet-at i (PageStep (Frame context url)) heard (tt, λ h k. tt)
 
 pub unframe-quiet : (context : List ℕ) (i : Input) → IsHeardAs (steps.Unframe context) i → IsUnheard i × ((h : List Input) (k : ℕ) → IsApart h k i)
-unframe-quiet context i heard = quiet-at i (InPage (Unframe context)) heard (tt, λ h k. tt)
+unframe-quiet context i heard = quiet-at i (PageStep (Unframe context)) heard (tt, λ h k. tt)
 
 pub log-quiet : (context : List ℕ) (level : Level) (text : List ℕ) (i : Input) → IsHeardAs (steps.Log context level text) i → IsUnheard i × ((h : List Input) (k : ℕ) → IsApart h k i)
-log-quiet context level text i heard = quiet-at i (InPage (Log context level text)) heard (tt, λ h k. tt)
+log-quiet context level text i heard = quiet-at i (PageStep (Log context level text)) heard (tt, λ h k. tt)
 
 pub row-quiet : (text : List ℕ) (i : Input) → IsHeardAs (steps.TableRow text) i → IsUnheard i × ((h : List Input) (k : ℕ) → IsApart h k i)
-row-quiet text i heard = quiet-at i (InPage (TableRow heard.0)) heard.2 (tt, λ h k. tt)
+row-quiet text i heard = quiet-at i (PageStep (TableRow heard.0)) heard.2 (tt, λ h k. tt)
 
 -- ---- any step
 
@@ -270,7 +270,7 @@ counts-one past (Cuts k) l = cutting (is_whole past k) (is_connected past k)
     cutting false b = omega arith
     cutting true true = omega arith
     cutting true false = omega arith
-counts-one past (Beside i) l = omega arith
+counts-one past (Direct i) l = omega arith
 
 counts-after : (past : List Deed) (inputs : List PairInput) (l : ℕ) → unsent (past_after past inputs) l ≤ unsent past l + length inputs
 counts-after past [] l = omega arith

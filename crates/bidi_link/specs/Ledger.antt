@@ -15,7 +15,7 @@ pub data PairInput : Type 0 where
   Down : (link : ℕ) → PairInput
   Cuts : (link : ℕ) → PairInput
   -- a frame, an unframe, a log entry, a row of the table or a moment
-  Beside : (input : Input) → PairInput
+  Direct : (input : Input) → PairInput
 
 -- a link that was not cut
 abbrev pub is_whole : List Deed → ℕ → Bool
@@ -51,7 +51,7 @@ with_step past (Sends l c) = if not (is_whole past l) then past else if may_send
 with_step past (Up l) = if is_whole past l then taken_up past l (slice_get (commands past l) (ups past l)) else past
 with_step past (Down l) = if is_whole past l && nat_lt (downs past l) (length (texts past l)) then TakenDown l ∷ past else past
 with_step past (Cuts l) = if is_whole past l then cut past l else past
-with_step past (Beside i) = Handed i ∷ past
+with_step past (Direct i) = Handed i ∷ past
 
 -- the past that these steps make, in order, after the past before them
 abbrev pub past_after : List Deed → List PairInput → List Deed

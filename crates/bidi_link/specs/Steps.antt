@@ -7,7 +7,7 @@ use Rattle.bidi_messages.specs.contracts.command.CommandDataSubjectMethod.TheImp
 use Rattle.bidi_messages.specs.contracts.event.EventDataSubjectEventName.TheImpl as told
 use Rattle.bidi_messages.specs.contracts.result_data.ResultDataSubjectMethod.TheImpl as results
 use Rattle.bidi_codes.specs.ErrorCode.{error_code_text}
-use Rattle.bidi_messages.specs.EventName.{event_text}
+use Rattle.bidi_messages.specs.EventName.{event_name_text}
 use Rattle.bidi_messages.specs.Method.{method_text}
 use Rattle.bidi_remote.specs.Machine.Step as step
 use Rattle.bidi_remote.specs.Machine.History as remote
@@ -21,7 +21,7 @@ use Rattle.bidi_link.specs.declared.ledger.Fate as declared_fate
 use Rattle.bidi_link.specs.declared.ledger.Fate.TheVariants as fate_in_hand
 use Rattle.bidi_link.specs.Pairing.{Sending}
 use Rattle.bidi_link.specs.Link.{Fate, Answered, Refused, Lost, Waiting, Entry, Received, Page}
-use Rattle.bidi_link.specs.Ledger.{PairInput, Opens, Sends, Up, Down, Cuts, Beside}
+use Rattle.bidi_link.specs.Ledger.{PairInput, Opens, Sends, Up, Down, Cuts, Direct}
 
 -- ---- steps
 
@@ -30,8 +30,8 @@ abbrev pub sending_of : CommandData → Sending
 sending_of d = record { method = method_text (asks.ghosts.subject.kind d); params = asks.ghosts.subject.tree_of d }
 
 -- a step that the remote end takes by itself is heard as the remote end hears it
-abbrev pub IsBeside : step.Step → PairInput → Type 0
-IsBeside x p = (i : Input) × remote.IsHeardAs x i × (p ≡ Beside i)
+abbrev pub IsDirect : step.Step → PairInput → Type 0
+IsDirect x p = (i : Input) × remote.IsHeardAs x i × (p ≡ Direct i)
 
 -- what a step is heard as
 abbrev pub IsHeardAs : PairStep → PairInput → Type 0
@@ -40,11 +40,11 @@ IsHeardAs (in_hand.Send l d) p = p ≡ Sends l.value (sending_of d)
 IsHeardAs (in_hand.Up l) p = p ≡ Up l.value
 IsHeardAs (in_hand.Down l) p = p ≡ Down l.value
 IsHeardAs (in_hand.Cut l) p = p ≡ Cuts l.value
-IsHeardAs (in_hand.At n) p = IsBeside (step.At n.value) p
-IsHeardAs (in_hand.Frame context url) p = IsBeside (step.Frame (string_bytes context) (string_bytes url)) p
-IsHeardAs (in_hand.Unframe context) p = IsBeside (step.Unframe (string_bytes context)) p
-IsHeardAs (in_hand.Log context level text) p = IsBeside (step.Log (string_bytes context) level (string_bytes text)) p
-IsHeardAs (in_hand.TableRow text) p = IsBeside (step.TableRow (string_bytes text)) p
+IsHeardAs (in_hand.At n) p = IsDirect (step.At n.value) p
+IsHeardAs (in_hand.Frame context url) p = IsDirect (step.Frame (string_bytes context) (string_bytes url)) p
+IsHeardAs (in_hand.Unframe context) p = IsDirect (step.Unframe (string_bytes context)) p
+IsHeardAs (in_hand.Log context level text) p = IsDirect (step.Log (string_bytes context) level (string_bytes text)) p
+IsHeardAs (in_hand.TableRow text) p = IsDirect (step.TableRow (string_bytes text)) p
 
 -- each step is heard as the input at its place
 abbrev pub AreHeardAs : List PairStep → List PairInput → Type 0
@@ -73,7 +73,7 @@ abbrev pub entry_seen : declared_entry.Entry → Entry
 entry_seen e = record { id = e.id.value; method = method_text e.method; fate = fate_seen e.fate }
 
 abbrev pub event_seen : EventData → Received
-event_seen d = record { method = event_text (told.ghosts.subject.kind d); params = told.ghosts.subject.tree_of d }
+event_seen d = record { method = event_name_text (told.ghosts.subject.kind d); params = told.ghosts.subject.tree_of d }
 
 abbrev pub page_seen : declared_page.Page → Page
 page_seen p = record { link = p.link.value; entries = map entry_seen p.commands.items; events = map event_seen p.events.items; not_sent = p.unsent }

@@ -23,7 +23,7 @@ use Rattle.bidi_messages.specs.contracts.event.EventDataSubjectEventName.TheImpl
 use Rattle.bidi_messages.specs.Method.{result_of}
 use Rattle.bidi_codes.specs.ErrorCode.{error_code_text}
 use Rattle.bidi_messages.specs.EventData.{event_of}
-use Rattle.bidi_messages.specs.EventName.{event_text}
+use Rattle.bidi_messages.specs.EventName.{event_name_text}
 use Rattle.bidi_messages.specs.Verdict.{echoed_id}
 use Rattle.bidi_messages.specs.Command.{id_in, params_in}
 use Rattle.bidi_messages.proofs.CommandLemmas.{apart}
@@ -61,7 +61,7 @@ error_in-error e =
 pub params_in-event : (e : AnEvent) → params_in (event.ghosts.shape.tree_of e) ≡ told.ghosts.subject.tree_of e.«data»
 params_in-event e =
     ap (λ o. unwrap_or o null)
-    (third (codes "type") (codes "method") (codes "params") (text (codes "event")) (text (event_text (event_of e.«data»))) (told.ghosts.subject.tree_of e.«data») (others_of e.ext) refl refl)
+    (third (codes "type") (codes "method") (codes "params") (text (codes "event")) (text (event_name_text (event_of e.«data»))) (told.ghosts.subject.tree_of e.«data») (others_of e.ext) refl refl)
 
 -- ---- what a tree means
 

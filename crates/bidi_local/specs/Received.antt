@@ -11,7 +11,7 @@ use Rattle.bidi_codes.specs.declared.error_code.ErrorCode.{ErrorCode}
 use Rattle.bidi_messages.specs.declared.event.EventName.{EventName}
 use Rattle.bidi_messages.specs.Method.{result_of}
 use Rattle.bidi_codes.specs.ErrorCode.{error_code_text}
-use Rattle.bidi_messages.specs.EventName.{event_text}
+use Rattle.bidi_messages.specs.EventName.{event_name_text}
 use Rattle.bidi_messages.specs.Verdict.{echoed_id}
 use Rattle.bidi_messages.specs.Command.{id_in, method_in, params_in}
 use Rattle.bidi_local.specs.Pending.{Pending, method_of, without}
@@ -46,7 +46,7 @@ asked_by waiting t = option_and_then (method_of waiting) (echoed_id t)
 pub data Means (waiting : Pending) (s : List ℕ) : Meaning → Type 0 where
   is_not_json : tree_of s ≡ None → Means waiting s NotJson
   is_no_message : (t : Node) → tree_of s ≡ Some t → (Fits t (rule message) → ⊥) → Means waiting s NotInProfile
-  is_event : (t : Node) (e : EventName) → tree_of s ≡ Some t → Fits t (rule event) → method_in t ≡ event_text e → Means waiting s (Event e (params_in t))
+  is_event : (t : Node) (e : EventName) → tree_of s ≡ Some t → Fits t (rule event) → method_in t ≡ event_name_text e → Means waiting s (Event e (params_in t))
   is_stray_response : (t : Node) → tree_of s ≡ Some t → Fits t (rule command_response) → asked_by waiting t ≡ None → Means waiting s Stray
   is_stray_error : (t : Node) → tree_of s ≡ Some t → Fits t (rule error_response) → asked_by waiting t ≡ None → Means waiting s Stray
   is_refusal : (t : Node) (method : Method) (code : ErrorCode) → tree_of s ≡ Some t → Fits t (rule error_response) → asked_by waiting t ≡ Some method

@@ -9,7 +9,7 @@ use Rattle.bidi_shape.specs.ChoiceLaws.{nullable_tree}
 use Rattle.bidi_shape.specs.ValueLaws.{others_of}
 use Rattle.bidi_messages.specs.Verdict.{js_uint_in, echoed_id}
 use Rattle.bidi_messages.specs.Command.{method_in}
-use Rattle.bidi_messages.specs.EventName.{event_text}
+use Rattle.bidi_messages.specs.EventName.{event_name_text}
 use Rattle.bidi_messages.specs.EventData.{event_of}
 use Rattle.bidi_messages.specs.contracts.message.ResponseShape.TheImpl as response
 use Rattle.bidi_messages.specs.contracts.message.ErrorResponseShape.TheImpl as error
@@ -51,7 +51,7 @@ echoed_id-error e =
     ∙ error_id e.id
 
 -- the method of an event
-pub method_in-event : (e : Event) → method_in (event.ghosts.shape.tree_of e) ≡ event_text (event_of e.«data»)
+pub method_in-event : (e : Event) → method_in (event.ghosts.shape.tree_of e) ≡ event_name_text (event_of e.«data»)
 method_in-event e =
     ap (λ o. unwrap_or (option_and_then text_in o) [])
-    (behind (codes "type") (codes "method") (text (codes "event")) (text (event_text (event_of e.«data»))) (put (codes "params") (told.ghosts.subject.tree_of e.«data») (others_of e.ext)) refl)
+    (behind (codes "type") (codes "method") (text (codes "event")) (text (event_name_text (event_of e.«data»))) (put (codes "params") (told.ghosts.subject.tree_of e.«data») (others_of e.ext)) refl)

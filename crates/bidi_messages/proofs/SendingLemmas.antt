@@ -22,7 +22,7 @@ use Rattle.bidi_shape.proofs.FitsLemmas.{exactly_kind, js_uint_kind, map_kind, m
 use Rattle.bidi_messages.specs.Method.{result_of}
 use Rattle.bidi_codes.specs.ErrorCode.{error_code_text}
 use Rattle.bidi_messages.specs.EventData.{event_of}
-use Rattle.bidi_messages.specs.EventName.{event_text}
+use Rattle.bidi_messages.specs.EventName.{event_name_text}
 use Rattle.bidi_messages.specs.Reading.{IsEvent, IsMessageText}
 use Rattle.bidi_messages.specs.Message.{response_tree, error_tree, event_text as told_text}
 use Rattle.bidi_messages.specs.declared.event.EventName.{EventName}
@@ -145,7 +145,7 @@ abbrev pub an_event : EventData → Ext → Message
 an_event d e = AsEvent (record { «data» = d; ext = e })
 
 abbrev after_event : EventData → Ext → Members
-after_event d e = put (codes "method") (text (event_text (event_of d))) (put (codes "params") (told.ghosts.subject.tree_of d) (others_of e))
+after_event d e = put (codes "method") (text (event_name_text (event_of d))) (put (codes "params") (told.ghosts.subject.tree_of d) (others_of e))
 
 pub event_well : (d : EventData) (e : Ext) → told.ghosts.subject.well d → others_of e ≡ no_members → message.ghosts.shape.well (an_event d e)
 event_well d e well none = (

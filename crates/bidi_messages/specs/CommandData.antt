@@ -25,23 +25,23 @@ use Rattle.bidi_messages.specs.declared.command.CommandData.{CommandData}
 use Rattle.bidi_messages.specs.declared.command.CommandData.TheVariants as Of
 
 -- the params of each method
-abbrev pub Params : Method → Type 0
-Params SessionStatus = EmptyParams
-Params SessionNew = NewParameters
-Params SessionEnd = EmptyParams
-Params SessionSubscribe = SubscribeParameters
-Params SessionUnsubscribe = UnsubscribeParameters
-Params BrowsingContextActivate = ActivateParameters
-Params BrowsingContextClose = CloseParameters
-Params BrowsingContextCreate = CreateParameters
-Params BrowsingContextGetTree = GetTreeParameters
-Params BrowsingContextNavigate = NavigateParameters
-Params BrowsingContextReload = ReloadParameters
-Params BrowsingContextTraverseHistory = TraverseHistoryParameters
-Params ScriptEvaluate = EvaluateParameters
-Params ScriptCallFunction = CallFunctionParameters
-Params ScriptDisown = DisownParameters
-Params ScriptGetRealms = GetRealmsParameters
+abbrev pub ParamsOf : Method → Type 0
+ParamsOf SessionStatus = EmptyParams
+ParamsOf SessionNew = NewParameters
+ParamsOf SessionEnd = EmptyParams
+ParamsOf SessionSubscribe = SubscribeParameters
+ParamsOf SessionUnsubscribe = UnsubscribeParameters
+ParamsOf BrowsingContextActivate = ActivateParameters
+ParamsOf BrowsingContextClose = CloseParameters
+ParamsOf BrowsingContextCreate = CreateParameters
+ParamsOf BrowsingContextGetTree = GetTreeParameters
+ParamsOf BrowsingContextNavigate = NavigateParameters
+ParamsOf BrowsingContextReload = ReloadParameters
+ParamsOf BrowsingContextTraverseHistory = TraverseHistoryParameters
+ParamsOf ScriptEvaluate = EvaluateParameters
+ParamsOf ScriptCallFunction = CallFunctionParameters
+ParamsOf ScriptDisown = DisownParameters
+ParamsOf ScriptGetRealms = GetRealmsParameters
 
 abbrev pub method_of : CommandData → Method
 method_of (Of.SessionStatus v) = SessionStatus
@@ -61,7 +61,7 @@ method_of (Of.ScriptCallFunction v) = ScriptCallFunction
 method_of (Of.ScriptDisown v) = ScriptDisown
 method_of (Of.ScriptGetRealms v) = ScriptGetRealms
 
-abbrev pub inside : (d : CommandData) → Params (method_of d)
+abbrev pub inside : (d : CommandData) → ParamsOf (method_of d)
 inside (Of.SessionStatus v) = v
 inside (Of.SessionNew v) = v
 inside (Of.SessionEnd v) = v
@@ -97,7 +97,7 @@ pub record ParamShapes : Type 1 where
   pub disown_parameters : ShapeOf DisownParameters
   pub get_realms_parameters : ShapeOf GetRealmsParameters
 
-abbrev pub params_shape : ParamShapes → (k : Method) → ShapeOf (Params k)
+abbrev pub params_shape : ParamShapes → (k : Method) → ShapeOf (ParamsOf k)
 params_shape s SessionStatus = s.empty_params
 params_shape s SessionNew = s.new_parameters
 params_shape s SessionEnd = s.empty_params
@@ -152,4 +152,4 @@ each_of_rule s n w ScriptDisown = w.disown_parameters
 each_of_rule s n w ScriptGetRealms = w.get_realms_parameters
 
 abbrev pub command_subject : (s : ParamShapes) (n : ℕ) → AreOfRules s n → SubjectOf CommandData Method
-command_subject s n w = one_by_kind Params (params_shape s) params_of n method_of inside (each_of_rule s n w)
+command_subject s n w = one_by_kind ParamsOf (params_shape s) params_of n method_of inside (each_of_rule s n w)

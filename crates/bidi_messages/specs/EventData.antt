@@ -15,15 +15,15 @@ use Rattle.bidi_messages.specs.declared.event.EventData.{EventData}
 use Rattle.bidi_messages.specs.declared.event.EventData.TheVariants as Of
 
 -- the params of each event
-abbrev pub Told : EventName → Type 0
-Told ContextCreated = Info
-Told ContextDestroyed = Info
-Told NavigationStarted = NavigationInfo
-Told DomContentLoaded = NavigationInfo
-Told Load = NavigationInfo
-Told RealmCreated = RealmInfo
-Told RealmDestroyed = RealmDestroyedParameters
-Told EntryAdded = LogEntry
+abbrev pub EventParamsOf : EventName → Type 0
+EventParamsOf ContextCreated = Info
+EventParamsOf ContextDestroyed = Info
+EventParamsOf NavigationStarted = NavigationInfo
+EventParamsOf DomContentLoaded = NavigationInfo
+EventParamsOf Load = NavigationInfo
+EventParamsOf RealmCreated = RealmInfo
+EventParamsOf RealmDestroyed = RealmDestroyedParameters
+EventParamsOf EntryAdded = LogEntry
 
 abbrev pub event_of : EventData → EventName
 event_of (Of.ContextCreated v) = ContextCreated
@@ -35,7 +35,7 @@ event_of (Of.RealmCreated v) = RealmCreated
 event_of (Of.RealmDestroyed v) = RealmDestroyed
 event_of (Of.EntryAdded v) = EntryAdded
 
-abbrev pub inside : (d : EventData) → Told (event_of d)
+abbrev pub inside : (d : EventData) → EventParamsOf (event_of d)
 inside (Of.ContextCreated v) = v
 inside (Of.ContextDestroyed v) = v
 inside (Of.NavigationStarted v) = v
@@ -53,7 +53,7 @@ pub record EventShapes : Type 1 where
   pub realm_destroyed_parameters : ShapeOf RealmDestroyedParameters
   pub log_entry : ShapeOf LogEntry
 
-abbrev pub event_shape : EventShapes → (k : EventName) → ShapeOf (Told k)
+abbrev pub event_shape : EventShapes → (k : EventName) → ShapeOf (EventParamsOf k)
 event_shape s ContextCreated = s.info
 event_shape s ContextDestroyed = s.info
 event_shape s NavigationStarted = s.navigation_info
@@ -82,4 +82,4 @@ each_of_rule s n w RealmDestroyed = w.realm_destroyed_parameters
 each_of_rule s n w EntryAdded = w.log_entry
 
 abbrev pub event_subject : (s : EventShapes) (n : ℕ) → AreOfRules s n → SubjectOf EventData EventName
-event_subject s n w = one_by_kind Told (event_shape s) params_of n event_of inside (each_of_rule s n w)
+event_subject s n w = one_by_kind EventParamsOf (event_shape s) params_of n event_of inside (each_of_rule s n w)

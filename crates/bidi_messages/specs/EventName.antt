@@ -6,15 +6,15 @@ use Rattle.bidi_shape.specs.WordLaws.{Word, Words, word, one_of, value_named}
 use Rattle.bidi_messages.specs.declared.event.EventName.{EventName}
 use Rattle.bidi_messages.specs.declared.event.EventName.TheVariants.{ContextCreated, ContextDestroyed, NavigationStarted, DomContentLoaded, Load, RealmCreated, RealmDestroyed, EntryAdded}
 
-abbrev pub event_text : EventName → List ℕ
-event_text ContextCreated = codes "browsingContext.contextCreated"
-event_text ContextDestroyed = codes "browsingContext.contextDestroyed"
-event_text NavigationStarted = codes "browsingContext.navigationStarted"
-event_text DomContentLoaded = codes "browsingContext.domContentLoaded"
-event_text Load = codes "browsingContext.load"
-event_text RealmCreated = codes "script.realmCreated"
-event_text RealmDestroyed = codes "script.realmDestroyed"
-event_text EntryAdded = codes "log.entryAdded"
+abbrev pub event_name_text : EventName → List ℕ
+event_name_text ContextCreated = codes "browsingContext.contextCreated"
+event_name_text ContextDestroyed = codes "browsingContext.contextDestroyed"
+event_name_text NavigationStarted = codes "browsingContext.navigationStarted"
+event_name_text DomContentLoaded = codes "browsingContext.domContentLoaded"
+event_name_text Load = codes "browsingContext.load"
+event_name_text RealmCreated = codes "script.realmCreated"
+event_name_text RealmDestroyed = codes "script.realmDestroyed"
+event_name_text EntryAdded = codes "log.entryAdded"
 
 -- the rule of an event's params
 abbrev pub params_of : EventName → Name
@@ -32,23 +32,23 @@ abbrev pub events : List EventName
 events = ContextCreated ∷ ContextDestroyed ∷ NavigationStarted ∷ DomContentLoaded ∷ Load ∷ RealmCreated ∷ RealmDestroyed ∷ EntryAdded ∷ []
 
 -- they are those of the profile, with the same rules
-pub events_are_the_profiles : map {B = List ℕ × Name} (λ e. (event_text e, params_of e)) events ≡ map {B = List ℕ × Name} (λ r. (codes r.method, r.params)) (context_created_row ∷ further_events)
+pub events_are_the_profiles : map {B = List ℕ × Name} (λ e. (event_name_text e, params_of e)) events ≡ map {B = List ℕ × Name} (λ r. (codes r.method, r.params)) (context_created_row ∷ further_events)
 events_are_the_profiles = refl
 
 -- the events after the first, by their texts
 abbrev pub event_rest : List (Word EventName)
 event_rest =
-    word event_text ContextDestroyed
-    ∷ word event_text NavigationStarted
-    ∷ word event_text DomContentLoaded
-    ∷ word event_text Load
-    ∷ word event_text RealmCreated
-    ∷ word event_text RealmDestroyed
-    ∷ word event_text EntryAdded
+    word event_name_text ContextDestroyed
+    ∷ word event_name_text NavigationStarted
+    ∷ word event_name_text DomContentLoaded
+    ∷ word event_name_text Load
+    ∷ word event_name_text RealmCreated
+    ∷ word event_name_text RealmDestroyed
+    ∷ word event_name_text EntryAdded
     ∷ []
 
 -- each text names its event
-pub event_named : (e : EventName) → value_named (word event_text ContextCreated) event_rest (event_text e) ≡ Some e
+pub event_named : (e : EventName) → value_named (word event_name_text ContextCreated) event_rest (event_name_text e) ≡ Some e
 event_named ContextCreated = refl
 event_named ContextDestroyed = refl
 event_named NavigationStarted = refl
@@ -60,10 +60,10 @@ event_named EntryAdded = refl
 
 abbrev pub event_words : Words EventName
 event_words = record {
-  rule = one_of (word event_text ContextCreated) event_rest;
-  first = word event_text ContextCreated;
+  rule = one_of (word event_name_text ContextCreated) event_rest;
+  first = word event_name_text ContextCreated;
   rest = event_rest;
-  text_of = event_text;
+  text_of = event_name_text;
   is_rule = refl;
   has_texts = (refl, (refl, (refl, (refl, (refl, (refl, (refl, refl)))))));
   names_it = event_named;

@@ -19,23 +19,23 @@ use Rattle.bidi_messages.specs.declared.result_data.ResultData.{ResultData}
 use Rattle.bidi_messages.specs.declared.result_data.ResultData.TheVariants as Of
 
 -- the result of each method
-abbrev pub Outcome : Method → Type 0
-Outcome SessionStatus = StatusResult
-Outcome SessionNew = NewResult
-Outcome SessionEnd = EmptyResult
-Outcome SessionSubscribe = SubscribeResult
-Outcome SessionUnsubscribe = EmptyResult
-Outcome BrowsingContextActivate = EmptyResult
-Outcome BrowsingContextClose = EmptyResult
-Outcome BrowsingContextCreate = CreateResult
-Outcome BrowsingContextGetTree = GetTreeResult
-Outcome BrowsingContextNavigate = NavigateResult
-Outcome BrowsingContextReload = NavigateResult
-Outcome BrowsingContextTraverseHistory = EmptyResult
-Outcome ScriptEvaluate = EvaluateResult
-Outcome ScriptCallFunction = EvaluateResult
-Outcome ScriptDisown = EmptyResult
-Outcome ScriptGetRealms = GetRealmsResult
+abbrev pub ResultOf : Method → Type 0
+ResultOf SessionStatus = StatusResult
+ResultOf SessionNew = NewResult
+ResultOf SessionEnd = EmptyResult
+ResultOf SessionSubscribe = SubscribeResult
+ResultOf SessionUnsubscribe = EmptyResult
+ResultOf BrowsingContextActivate = EmptyResult
+ResultOf BrowsingContextClose = EmptyResult
+ResultOf BrowsingContextCreate = CreateResult
+ResultOf BrowsingContextGetTree = GetTreeResult
+ResultOf BrowsingContextNavigate = NavigateResult
+ResultOf BrowsingContextReload = NavigateResult
+ResultOf BrowsingContextTraverseHistory = EmptyResult
+ResultOf ScriptEvaluate = EvaluateResult
+ResultOf ScriptCallFunction = EvaluateResult
+ResultOf ScriptDisown = EmptyResult
+ResultOf ScriptGetRealms = GetRealmsResult
 
 abbrev pub method_of : ResultData → Method
 method_of (Of.SessionStatus v) = SessionStatus
@@ -55,7 +55,7 @@ method_of (Of.ScriptCallFunction v) = ScriptCallFunction
 method_of (Of.ScriptDisown v) = ScriptDisown
 method_of (Of.ScriptGetRealms v) = ScriptGetRealms
 
-abbrev pub inside : (d : ResultData) → Outcome (method_of d)
+abbrev pub inside : (d : ResultData) → ResultOf (method_of d)
 inside (Of.SessionStatus v) = v
 inside (Of.SessionNew v) = v
 inside (Of.SessionEnd v) = v
@@ -85,7 +85,7 @@ pub record ResultShapes : Type 1 where
   pub evaluate_result : ShapeOf EvaluateResult
   pub get_realms_result : ShapeOf GetRealmsResult
 
-abbrev pub result_shape : ResultShapes → (k : Method) → ShapeOf (Outcome k)
+abbrev pub result_shape : ResultShapes → (k : Method) → ShapeOf (ResultOf k)
 result_shape s SessionStatus = s.status_result
 result_shape s SessionNew = s.new_result
 result_shape s SessionEnd = s.empty_result
@@ -134,4 +134,4 @@ each_of_rule s n w ScriptDisown = w.empty_result
 each_of_rule s n w ScriptGetRealms = w.get_realms_result
 
 abbrev pub result_subject : (s : ResultShapes) (n : ℕ) → AreOfRules s n → SubjectOf ResultData Method
-result_subject s n w = one_by_kind Outcome (result_shape s) result_of n method_of inside (each_of_rule s n w)
+result_subject s n w = one_by_kind ResultOf (result_shape s) result_of n method_of inside (each_of_rule s n w)

@@ -8,9 +8,10 @@ ghost use Rattle.bidi_messages.specs.Method.{params_of as params_rule};
 
 use crate::method::Method;
 use crate::subject::{Subject, read_about, write_about};
+use bidi_params::session::NewParameters;
 use bidi_params::{
     ActivateParameters, CloseParameters, CreateParameters, EmptyParams, GetRealmsParameters,
-    GetTreeParameters, NavigateParameters, NewParameters, ReloadParameters, SubscribeParameters,
+    GetTreeParameters, NavigateParameters, ReloadParameters, SubscribeParameters,
     TraverseHistoryParameters, UnsubscribeParameters,
 };
 use bidi_shape::{Ext, Parsed, Ruled, Shape, ShapeFault};

@@ -9,9 +9,10 @@ ghost use Rattle.bidi_messages.specs.Method.{result_of as result_rule};
 
 use crate::method::Method;
 use crate::subject::Subject;
+use bidi_params::session::NewResult;
 use bidi_params::{
-    CreateResult, EmptyResult, GetRealmsResult, GetTreeResult, NavigateResult, NewResult,
-    StatusResult, SubscribeResult,
+    CreateResult, EmptyResult, GetRealmsResult, GetTreeResult, NavigateResult, StatusResult,
+    SubscribeResult,
 };
 use bidi_shape::{Parsed, Shape, ShapeFault};
 use bidi_tree::{Members, Tree, copy_members};

@@ -9,7 +9,7 @@ ghost use Rattle.bidi_pair.specs.PairLines.{IsPlayLine, Says, sending_line};
 
 use bidi_link::PairStep;
 use bidi_messages::{Method, Named, data_of};
-use bidi_play::{is_text, parts, read_number, read_words};
+use bidi_play::{is_same_text, read_number, read_step_text, split_at_space};
 use bidi_remote::Step;
 use bidi_shape::ShapeFault;
 use bidi_tree::{JsUint, ReadFault, Tree, read};
@@ -32,28 +32,28 @@ pub fn read_pair_step(alloc: Global, line: &[u8]) -> Result<Option<PairStep>, Al
 fn read_pair_words(alloc: Global, line: &str) -> Result<Option<PairStep>, AllocError>
     ensures some { IfOk result (λ found. IfSome found (λ x. Says line.now x × IsWell x)) }
 {
-    let Some((word, rest)) = parts(line) else {
+    let Some((word, rest)) = split_at_space(line) else {
         return Ok(None);
     };
-    if is_text(word, "send") {
+    if is_same_text(word, "send") {
         read_sending(alloc, rest)
-    } else if is_text(word, "up") {
+    } else if is_same_text(word, "up") {
         match read_number(alloc, rest)? {
             None => Ok(None),
             Some(link) => Ok(Some(PairStep::Up(link))),
         }
-    } else if is_text(word, "down") {
+    } else if is_same_text(word, "down") {
         match read_number(alloc, rest)? {
             None => Ok(None),
             Some(link) => Ok(Some(PairStep::Down(link))),
         }
-    } else if is_text(word, "cut") {
+    } else if is_same_text(word, "cut") {
         match read_number(alloc, rest)? {
             None => Ok(None),
             Some(link) => Ok(Some(PairStep::Cut(link))),
         }
     } else {
-        match read_words(alloc, line)? {
+        match read_step_text(alloc, line)? {
             None => Ok(None),
             Some(step) => Ok(pair_step(step)),
         }
@@ -79,7 +79,7 @@ fn pair_step(step: Step) -> Option<PairStep>
 fn read_sending(alloc: Global, rest: &str) -> Result<Option<PairStep>, AllocError>
     ensures some { IfOk result (λ found. IfSome found (λ x. Says (codes "send " ++ rest.now) x × IsWell x)) }
 {
-    let Some((number, command)) = parts(rest) else {
+    let Some((number, command)) = split_at_space(rest) else {
         return Ok(None);
     };
     let Some((method, params)) = method_and_params(command) else {
@@ -95,7 +95,7 @@ fn read_sending(alloc: Global, rest: &str) -> Result<Option<PairStep>, AllocErro
 fn method_and_params(command: &str) -> Option<(Method, &str)>
     ensures some { IfSome result (λ x. command.now ≡ method_text x.0 ++ 32 ∷ x.1.now) }
 {
-    let (name, params) = parts(command)?;
+    let (name, params) = split_at_space(command)?;
     let method = Method::named(name)?;
     Some((method, params))
 }

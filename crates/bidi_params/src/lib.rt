@@ -3,12 +3,14 @@
 //! A folder for each module of the protocol. The commands whose parameters bear values of a script stand with those, in
 //! `bidi_values`. Each type is a [`Shape`](bidi_shape::Shape): its values are the trees that fit
 //! its rule. A type that takes further members has a constructor, which refuses the parts that are no value of it.
+//! All stand at the root, but for [`session::NewParameters`] and [`session::NewResult`], whose names say what they are of
+//! only beside their module.
 #![tactic(auto)]
 
 mod base;
 mod browsing_context;
 mod script;
-mod session;
+pub mod session;
 
 pub use base::{EmptyParams, EmptyResult};
 pub use browsing_context::{
@@ -20,7 +22,6 @@ pub use script::{
     GetRealmsParameters, GetRealmsResult, RealmDestroyedParameters, RealmInfo, RealmType,
 };
 pub use session::{
-    Capabilities, CapabilitiesRequest, CapabilityRequest, NewParameters, NewResult, StatusResult,
-    SubscribeParameters, SubscribeResult, UnsubscribeByEvents, UnsubscribeById,
-    UnsubscribeParameters,
+    Capabilities, CapabilitiesRequest, CapabilityRequest, StatusResult, SubscribeParameters,
+    SubscribeResult, UnsubscribeByEvents, UnsubscribeById, UnsubscribeParameters,
 };

@@ -11,7 +11,7 @@ use Rattle.bidi_messages.specs.Verdict.{Verdict, IsVerdict}
 use Rattle.bidi_messages.proofs.VerdictLemmas.{one_verdict}
 use Rattle.bidi_remote.specs.Machine.Step as step
 use Rattle.bidi_remote.specs.Machine.Step.{Step}
-use Rattle.bidi_remote.specs.Machine.History.{Input, Heard, InPage, IsRow, is_row, is_not_json, is_no_row, IsHeardAs, AreHeardAs}
+use Rattle.bidi_remote.specs.Machine.History.{Input, Heard, PageStep, IsRow, is_row, is_not_json, is_no_row, IsHeardAs, AreHeardAs}
 use Rattle.bidi_remote.specs.Machine.Sent.{Sent, answers, answers_after}
 use Rattle.bidi_console.specs.Feeds.{ended}
 use Rattle.bidi_play.specs.Lines.{sent_line, written}
@@ -45,7 +45,7 @@ one_input one (step.NotText c) i j a b = a ∙ sym b
 one_input one (step.Frame context url) i j a b = a ∙ sym b
 one_input one (step.Unframe context) i j a b = a ∙ sym b
 one_input one (step.Log context level text) i j a b = a ∙ sym b
-one_input one (step.TableRow text) i j a b = a.2 ∙ (ap (λ r. InPage (TableRow r)) (one_row a.1 b.1) ∙ sym b.2)
+one_input one (step.TableRow text) i j a b = a.2 ∙ (ap (λ r. PageStep (TableRow r)) (one_row a.1 b.1) ∙ sym b.2)
 
 -- and some steps as one list of inputs
 one_inputs : OneVerdict → (steps : List Step) (inputs others : List Input) → AreHeardAs steps inputs → AreHeardAs steps others → inputs ≡ others

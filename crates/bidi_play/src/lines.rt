@@ -28,7 +28,7 @@ pub fn read_step(alloc: Global, line: &[u8]) -> Result<Option<Step>, AllocError>
     }
     match std::str::from_utf8(line) {
         Err(_) => Ok(None),
-        Ok(text) => read_words(alloc, text),
+        Ok(text) => read_step_text(alloc, text),
     }
 }
 
@@ -36,54 +36,54 @@ pub fn read_step(alloc: Global, line: &[u8]) -> Result<Option<Step>, AllocError>
 ///
 /// # Errors
 /// No memory: an allocation failed.
-pub fn read_words(alloc: Global, line: &str) -> Result<Option<Step>, AllocError>
+pub fn read_step_text(alloc: Global, line: &str) -> Result<Option<Step>, AllocError>
     ensures some { IfOk result (λ found. IfSome found (λ step. IsSayable (step_of step) × (line.now ≡ line_of (step_of step)))) }
     ensures none { IfOk result (λ found. IfNone found ((s : play.Step) → IsSayable s → line.now ≡ line_of s → ⊥)) }
 {
-    let Some((word, rest)) = parts(line) else {
+    let Some((word, rest)) = split_at_space(line) else {
         return Ok(None);
     };
-    if is_text(word, "at") {
+    if is_same_text(word, "at") {
         match read_number(alloc, rest)? {
             None => Ok(None),
             Some(moment) => Ok(Some(Step::At(moment))),
         }
-    } else if is_text(word, "drop") {
+    } else if is_same_text(word, "drop") {
         match read_number(alloc, rest)? {
             None => Ok(None),
             Some(conn) => Ok(Some(Step::Drop(conn))),
         }
-    } else if is_text(word, "binary") {
+    } else if is_same_text(word, "binary") {
         match read_number(alloc, rest)? {
             None => Ok(None),
             Some(conn) => Ok(Some(Step::NotText(conn))),
         }
-    } else if is_text(word, "open") {
+    } else if is_same_text(word, "open") {
         match read_number_and_text(alloc, rest)? {
             None => Ok(None),
             Some((conn, resource)) => Ok(Some(Step::Open(conn, resource))),
         }
-    } else if is_text(word, ">") {
+    } else if is_same_text(word, ">") {
         match read_number_and_text(alloc, rest)? {
             None => Ok(None),
             Some((conn, text)) => Ok(Some(Step::Text(conn, text))),
         }
-    } else if is_text(word, "frame") {
+    } else if is_same_text(word, "frame") {
         match read_context_and_text(alloc, rest)? {
             None => Ok(None),
             Some((context, url)) => Ok(Some(Step::Frame(context, url))),
         }
-    } else if is_text(word, "unframe") {
+    } else if is_same_text(word, "unframe") {
         match read_context(alloc, rest)? {
             None => Ok(None),
             Some(context) => Ok(Some(Step::Unframe(context))),
         }
-    } else if is_text(word, "log") {
+    } else if is_same_text(word, "log") {
         match read_entry(alloc, rest)? {
             None => Ok(None),
             Some((context, level, text)) => Ok(Some(Step::Log(context, level, text))),
         }
-    } else if is_text(word, "value") {
+    } else if is_same_text(word, "value") {
         Ok(Some(Step::TableRow(String::from_str(alloc, rest)?)))
     } else {
         Ok(None)
@@ -95,7 +95,7 @@ fn read_number_and_text(alloc: Global, rest: &str) -> Result<Option<(JsUint, Str
     ensures some { IfOk result (λ found. IfSome found (λ x. rest.now ≡ decimal x.0.value ++ 32 ∷ string_bytes x.1)) }
     ensures none { IfOk result (λ found. IfNone found ((n : ℕ) (text : List ℕ) → n < 2 ^ 53 → rest.now ≡ decimal n ++ 32 ∷ text → ⊥)) }
 {
-    let Some((number, text)) = parts(rest) else {
+    let Some((number, text)) = split_at_space(rest) else {
         return Ok(None);
     };
     match read_number(alloc, number)? {
@@ -109,7 +109,7 @@ fn read_context_and_text(alloc: Global, rest: &str) -> Result<Option<(String, St
     ensures some { IfOk result (λ found. IfSome found (λ x. IsContext (string_bytes x.0) × (rest.now ≡ string_bytes x.0 ++ 32 ∷ string_bytes x.1))) }
     ensures none { IfOk result (λ found. IfNone found ((context text : List ℕ) → IsContext context → rest.now ≡ context ++ 32 ∷ text → ⊥)) }
 {
-    let Some((context, text)) = parts(rest) else {
+    let Some((context, text)) = split_at_space(rest) else {
         return Ok(None);
     };
     match read_context(alloc, context)? {
@@ -123,7 +123,7 @@ fn read_entry(alloc: Global, rest: &str) -> Result<Option<(String, Level, String
     ensures some { IfOk result (λ found. IfSome found (λ x. IsContext (string_bytes x.0) × (rest.now ≡ string_bytes x.0 ++ 32 ∷ level_text x.1 ++ 32 ∷ string_bytes x.2))) }
     ensures none { IfOk result (λ found. IfNone found ((context text : List ℕ) (level : Level) → IsContext context → rest.now ≡ context ++ 32 ∷ level_text level ++ 32 ∷ text → ⊥)) }
 {
-    let Some((context, entry)) = parts(rest) else {
+    let Some((context, entry)) = split_at_space(rest) else {
         return Ok(None);
     };
     let Some((level, text)) = level_and_text(entry) else {
@@ -140,7 +140,7 @@ fn level_and_text(rest: &str) -> Option<(Level, &str)>
     ensures some { IfSome result (λ x. rest.now ≡ level_text x.0 ++ 32 ∷ x.1.now) }
     ensures none { IfNone result ((level : Level) (text : List ℕ) → rest.now ≡ level_text level ++ 32 ∷ text → ⊥) }
 {
-    let (word, text) = parts(rest)?;
+    let (word, text) = split_at_space(rest)?;
     let level = Level::named(word)?;
     Some((level, text))
 }
@@ -150,7 +150,7 @@ fn read_context(alloc: Global, text: &str) -> Result<Option<String>, AllocError>
     ensures some { IfOk result (λ found. IfSome found (λ context. IsContext (string_bytes context) × (text.now ≡ string_bytes context))) }
     ensures none { IfOk result (λ found. IfNone found (IsContext text.now → ⊥)) }
 {
-    if is_text(text, "") || has_space(text) {
+    if is_same_text(text, "") || has_space(text) {
         return Ok(None);
     }
     Ok(Some(String::from_str(alloc, text)?))
@@ -175,7 +175,7 @@ pub fn read_number(alloc: Global, text: &str) -> Result<Option<JsUint>, AllocErr
         return Ok(None);
     };
     let shown = n.to_string(alloc)?;
-    if is_text(shown.as_str(), text) {
+    if is_same_text(shown.as_str(), text) {
         Ok(JsUint::new(n))
     } else {
         Ok(None)
@@ -183,7 +183,7 @@ pub fn read_number(alloc: Global, text: &str) -> Result<Option<JsUint>, AllocErr
 }
 
 /// The text before the first space, and the text behind it; `None` where there is no space.
-pub fn parts(text: &str) -> Option<(&str, &str)>
+pub fn split_at_space(text: &str) -> Option<(&str, &str)>
     ensures some { IfSome result (λ x. text.now ≡ x.0.now ++ 32 ∷ x.1.now) }
     ensures first { (xs ys : List ℕ) → text.now ≡ xs ++ 32 ∷ ys → list_any (λ b. b == 32) xs ≡ false
         → IsSomeAnd result (λ x. (x.0.now ≡ xs) × (x.1.now ≡ ys)) }
@@ -192,7 +192,7 @@ pub fn parts(text: &str) -> Option<(&str, &str)>
 }
 
 /// Whether two texts are equal.
-pub fn is_text(text: &str, other: &str) -> bool
+pub fn is_same_text(text: &str, other: &str) -> bool
     ensures { IsTrue result ↔ (text.now ≡ other.now) }
 {
     text == other

@@ -4,7 +4,7 @@ use Rattle.std.specs.Prelude.{◌==◌}
 use Rattle.std.proofs.lemmas.Bool.Decides.{nat_tests}
 use Rattle.bidi_remote.specs.declared.connections.Connection.{Connection}
 use Rattle.bidi_remote.specs.Machine.Connections.{SpeaksFor, is_for}
-use Rattle.bidi_remote.specs.Tables.ConnectionRows.{Row, row_of, begun, to_each}
+use Rattle.bidi_remote.specs.Tables.ConnectionRows.{ConnectionRow, row_of, begun, to_each}
 use Rattle.bidi_remote.specs.Machine.Sent.{Sent}
 
 -- the first of them changed by g
@@ -41,10 +41,10 @@ pub over-kept : {X : Type 0} (g : X → X) (i : ℕ) (xs ys : List X) (y : X) �
 over-kept g i xs ys y less same at is = sym (set-again ys i y at) ∙ (ap (set ys i) is ∙ sym (over-next g i xs ys y less same at))
 
 -- a row of that number begins, and any other is as it was
-pub begun-same : (c s : ℕ) (row : Row) → row.0 ≡ c → begun c s row ≡ (row.0, SpeaksFor s)
+pub begun-same : (c s : ℕ) (row : ConnectionRow) → row.0 ≡ c → begun c s row ≡ (row.0, SpeaksFor s)
 begun-same c s row e = grind (arith, nat_tests, e)
 
-pub begun-other : (c s : ℕ) (row : Row) → (row.0 == c) ≡ false → begun c s row ≡ row
+pub begun-other : (c s : ℕ) (row : ConnectionRow) → (row.0 == c) ≡ false → begun c s row ≡ row
 begun-other c s row e = rw e refl
 
 -- ---- what each connection of a session is sent

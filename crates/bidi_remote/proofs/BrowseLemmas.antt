@@ -24,7 +24,7 @@ use Rattle.bidi_remote.specs.declared.turn.Change.TheVariants.{Browse}
 use Rattle.bidi_remote.specs.declared.turn.Reply.{Reply}
 use Rattle.bidi_remote.specs.declared.turn.Turn.{Turn}
 use Rattle.bidi_remote.specs.Machine.Commands.{OfBrowser}
-use Rattle.bidi_remote.specs.Machine.History.{Input, InPage, Deed, Did, acts, moment}
+use Rattle.bidi_remote.specs.Machine.History.{Input, PageStep, Deed, Did, acts, moment}
 use Rattle.bidi_remote.specs.Machine.Outcome.{deeds, did, in_page, turn}
 use Rattle.bidi_remote.specs.Machine.Sent.{Sent, sent_unasked, to_hearers, items, told}
 use Rattle.bidi_remote.specs.Tables.Messages.{AllReadBack}
@@ -144,7 +144,7 @@ planned-decides turn plan past action asker asked p same announced before reply 
 
 -- what is told of a step of a page
 unasked-told : (past : List Deed) (action : Action) (act : Act) (ws : List Written) (all : List Item) → ws ≡ [] → all ≡ items past (Some action) (Did act)
-    → sent_for past None (Did act) ws all ≡ told past (InPage action) (Ok (Did act))
+    → sent_for past None (Did act) ws all ≡ told past (PageStep action) (Ok (Did act))
 unasked-told past action act ws all none same = append-nil _ ∙ (flat_map-same _ _ all (λ item. one item) ∙ ap (flat_map (sent_unasked past)) same)
   where
     one : (item : Item) → sent_of_item past None item ≡ sent_unasked past item
@@ -157,18 +157,18 @@ pub page_takes : {E : Type 0} (r : Result (Vec declared_sent.Sent Global) E) (t 
     → ((i : Input) (act : Act) → turn (deeds h) i ≡ Ok (deed_of turned.change act) → IsMade turned.change (acts (deeds h)) act → AreMessages (written_in turned.telling.announced.items)
     → IfOk r (λ all. (map sent_of all.items ≡ sent_for (deeds h) (asker_in turned.telling.reply) (deed_of turned.change act) (written_in turned.telling.announced.items) (items_in turned.telling))
     × AllReadBack (map sent_of all.items) × AgreeWith t (deed_of turned.change act ∷ deeds h)))
-    → IfOk r (λ all. Takes t (map sent_of all.items) h (InPage action))
+    → IfOk r (λ all. Takes t (map sent_of all.items) h (PageStep action))
 page_takes r t h turned plan action unasked quiet p same announced before reply after taken =
     let past = deeds h in
     let act = p.0 in
     let ws = written_in turned.telling.announced.items in
-    let turn_is : turn past (InPage action) ≡ Ok (Did act) = ap in_page p.1 in
+    let turn_is : turn past (PageStep action) ≡ Ok (Did act) = ap in_page p.1 in
     let made = planned-made turned plan past action None p same announced before reply after quiet in
     let all = planned-items turned plan past action None p same announced before reply after (sym (reply-unasked plan.result (p.3 ∙ unasked))) in
-    all_taken t h (InPage action) (deed_of turned.change act) _ r
-    (taken (InPage action) act (turn_is ∙ ap (λ x. Ok (deed_of x act)) (sym same)) made (subst (λ es. AreMessages (written_in es)) (sym announced) tt)) (turn_is ∙ ap (λ x. Ok (deed_of x act)) (sym same))
+    all_taken t h (PageStep action) (deed_of turned.change act) _ r
+    (taken (PageStep action) act (turn_is ∙ ap (λ x. Ok (deed_of x act)) (sym same)) made (subst (λ es. AreMessages (written_in es)) (sym announced) tt)) (turn_is ∙ ap (λ x. Ok (deed_of x act)) (sym same))
     (ap (λ x. sent_for past (asker_in turned.telling.reply) (deed_of x act) ws (items_in turned.telling)) same
-    ∙ (ap (λ who. sent_for past who (Did act) ws (items_in turned.telling)) (ap asker_in reply) ∙ (unasked-told past action act ws (items_in turned.telling) (ap written_in announced) all ∙ ap (λ x. told past (InPage action) (Ok (deed_of x act))) (sym same))))
+    ∙ (ap (λ who. sent_for past who (Did act) ws (items_in turned.telling)) (ap asker_in reply) ∙ (unasked-told past action act ws (items_in turned.telling) (ap written_in announced) all ∙ ap (λ x. told past (PageStep action) (Ok (deed_of x act))) (sym same))))
 
 -- ---- the log
 
@@ -206,6 +206,6 @@ last-written (x ∷ y ∷ left) e w is = absurd (cc)
 
 -- an entry is taken
 pub entry_takes : (t : Tables) (h : List Input) (c : ℕ) (id : List ℕ) (level : Level) (line : List ℕ) (sent : List Sent) → browser.log_outcome (acts (deeds h)) id level line ≡ Ok (Logged c level line)
-    → sent ≡ to_hearers (deeds h) (entry_added (acts (deeds h)) (moment (deeds h)) c level line) → AllReadBack sent → AgreeWith t (Did (Logged c level line) ∷ deeds h) → Takes t sent h (InPage (Log id level line))
+    → sent ≡ to_hearers (deeds h) (entry_added (acts (deeds h)) (moment (deeds h)) c level line) → AllReadBack sent → AgreeWith t (Did (Logged c level line) ∷ deeds h) → Takes t sent h (PageStep (Log id level line))
 entry_takes t h c id level line sent named is reads agree =
-    takes t h (InPage (Log id level line)) (Ok (Did (Logged c level line))) sent (ap in_page named) (is ∙ sym (append-nil (to_hearers (deeds h) (entry_added (acts (deeds h)) (moment (deeds h)) c level line)))) reads agree
+    takes t h (PageStep (Log id level line)) (Ok (Did (Logged c level line))) sent (ap in_page named) (is ∙ sym (append-nil (to_hearers (deeds h) (entry_added (acts (deeds h)) (moment (deeds h)) c level line)))) reads agree

@@ -9,13 +9,13 @@ use Rattle.bidi_remote.specs.declared.connections.Connection.{Connection}
 use Rattle.bidi_remote.specs.Machine.History.{Deed, Opened, Dropped, Began, Ended}
 use Rattle.bidi_remote.specs.Machine.Sessions.{next_session}
 use Rattle.bidi_remote.specs.Machine.Connections.{Standing, Shut, Alone, SpeaksFor, is_shut, is_for, opened_for, standing_of, openings, connections_of}
-use Rattle.bidi_remote.specs.Tables.ConnectionRows.{standing_in, Row, row_of, rows, begun, to_each}
+use Rattle.bidi_remote.specs.Tables.ConnectionRows.{standing_in, ConnectionRow, row_of, rows, begun, to_each}
 use Rattle.bidi_remote.specs.Machine.Sent.{Sent}
 
 -- ---- rows
 
 -- the rows of these numbers, which stand so
-abbrev pub rows_by : (ℕ → Standing) → List ℕ → List Row
+abbrev pub rows_by : (ℕ → Standing) → List ℕ → List ConnectionRow
 rows_by f cs = map (λ c. (c, f c)) (filter (λ c. not (is_shut (f c))) cs)
 
 -- what is shut is `Shut`
@@ -58,7 +58,7 @@ rows-opened past c s e =
     let g = standing_of (Opened c s ∷ past) in
     let cs = filter (λ d. not (c == d)) (openings past) in
     let split = filter-append (λ d. not (is_shut (g d))) cs (c ∷ []) in
-    let parts = map-append {B = Row} (λ d. (d, g d)) (filter (λ d. not (is_shut (g d))) cs) (filter (λ d. not (is_shut (g d))) (c ∷ [])) in
+    let parts = map-append {B = ConnectionRow} (λ d. (d, g d)) (filter (λ d. not (is_shut (g d))) cs) (filter (λ d. not (is_shut (g d))) (c ∷ [])) in
     let front = opened-apart (standing_of past) g c (openings past) e (λ d apart. rw apart refl) in
     grind (arith, nat_tests, split, parts, front, opened_not_shut s)
 
@@ -118,5 +118,5 @@ found-row c [] = refl
 found-row c (x ∷ items) = let ih = found-row c items in grind (arith, nat_tests, ih)
 
 -- the table says how a connection stands
-pub standing-found : (past : List Deed) (c : ℕ) (all : List Row) → WasOpened past c → all ≡ rows past → standing_in (find (λ row. row.0 == c) all) ≡ standing_of past c
+pub standing-found : (past : List Deed) (c : ℕ) (all : List ConnectionRow) → WasOpened past c → all ≡ rows past → standing_in (find (λ row. row.0 == c) all) ≡ standing_of past c
 standing-found past c all opened same = ap (λ xs. standing_in (find (λ row. row.0 == c) xs)) same ∙ find-rows past c (is_shut (standing_of past c)) refl opened

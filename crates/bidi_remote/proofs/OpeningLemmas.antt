@@ -15,12 +15,12 @@ use Rattle.bidi_browser.specs.Contexts.{up_to}
 use Rattle.bidi_codes.specs.Checks.{◌>>=◌, need}
 use Rattle.bidi_browser.specs.Outcome as browser
 use Rattle.bidi_remote.specs.Machine.Commands.{Command, Status, New, End, Subscribe, UnsubscribeById, UnsubscribeByEvents, OfBrowser, command_of, id_of_command}
-use Rattle.bidi_remote.specs.Machine.History.{Input, At, Open, Drop, Heard, NotText, InPage, Deed, Time, Opened, Dropped, Began, Ended, Subscribed, Cancelled, Dismissed, Did, Told, acts}
+use Rattle.bidi_remote.specs.Machine.History.{Input, At, Open, Drop, Heard, NotText, PageStep, Deed, Time, Opened, Dropped, Began, Ended, Subscribed, Cancelled, Dismissed, Did, Told, acts}
 use Rattle.bidi_remote.specs.Machine.Sessions.{sessions_made, is_active, sessions}
 use Rattle.bidi_remote.specs.Machine.Connections.{Standing, Shut, Alone, SpeaksFor, is_shut, is_open, standing_of, openings}
 use Rattle.bidi_remote.specs.Machine.Capabilities.{matching}
 use Rattle.bidi_remote.specs.Machine.Subscriptions.{subscriptions, holds_globally}
-use Rattle.bidi_remote.specs.Machine.Outcome.{Refusal, Lost, outcome, replied, asked, answered, in_page, opening, is_ready, all_named, scope_asked, subscriptions_named, subscribe_outcome, unsubscribe_by_events_outcome, session_of_resource, may_open, turn, with_turn, deeds, did}
+use Rattle.bidi_remote.specs.Machine.Outcome.{NotTaken, Lost, outcome, replied, asked, answered, in_page, opening, is_ready, all_named, scope_asked, subscriptions_named, subscribe_outcome, unsubscribe_by_events_outcome, session_of_resource, may_open, turn, with_turn, deeds, did}
 use Rattle.bidi_remote.proofs.ConnectionLemmas.{WasOpened}
 
 -- ---- what each turn rests on
@@ -94,7 +94,7 @@ answered_fair : (past : List Deed) (c : ℕ) (v : Verdict) → IsFairIfDone past
 answered_fair past c (Accepted t) = asked_fair past c (id_of_command t) (command_of t)
 answered_fair past c (Refused id code) = tt
 
-when_open : (past : List Deed) (c : ℕ) (b : Bool) (r : Result Deed Refusal) → IsFairIfDone past r → (let t : Result Deed Refusal = cond b r (Err (Lost c)) in IsFairIfDone past t)
+when_open : (past : List Deed) (c : ℕ) (b : Bool) (r : Result Deed NotTaken) → IsFairIfDone past r → (let t : Result Deed NotTaken = cond b r (Err (Lost c)) in IsFairIfDone past t)
 when_open past c true r h = h
 when_open past c false r h = tt
 
@@ -128,7 +128,7 @@ turn_fair past (Open c resource) =
 turn_fair past (Drop c) = when_open past c (is_open past c) (Ok (Dropped c)) tt
 turn_fair past (Heard c v) = when_open past c (is_open past c) (answered past c v) (answered_fair past c v)
 turn_fair past (NotText c) = when_open past c (is_open past c) (answered past c (Refused None InvalidArgument)) tt
-turn_fair past (InPage action) = in_page_fair past action (browser.outcome (acts past) action) refl
+turn_fair past (PageStep action) = in_page_fair past action (browser.outcome (acts past) action) refl
 
 -- ---- so what is open was opened
 
@@ -136,7 +136,7 @@ any_filter : (c : ℕ) (p : ℕ → Bool) (xs : List ℕ) → list_any (λ d. d 
 any_filter c p [] = grind (arith, nat_tests)
 any_filter c p (x ∷ xs) = grind (arith, nat_tests, any_filter c p xs)
 
-opened_more : (past : List Deed) (r : Result Deed Refusal) → IsFairIfDone past r → ((c : ℕ) → WasOpened past c) → (c : ℕ) → WasOpened (with_turn past r) c
+opened_more : (past : List Deed) (r : Result Deed NotTaken) → IsFairIfDone past r → ((c : ℕ) → WasOpened past c) → (c : ℕ) → WasOpened (with_turn past r) c
 opened_more past (Err refusal) fair was c = was c
 opened_more past (Ok (Time n)) fair was c = was c
 opened_more past (Ok (Opened d s)) fair was c = λ e.

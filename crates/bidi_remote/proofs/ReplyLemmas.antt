@@ -29,8 +29,8 @@ use Rattle.bidi_remote.specs.declared.turn.Turn.{Turn}
 use Rattle.bidi_codes.specs.declared.refusal.Refusal as browser
 use Rattle.bidi_remote.specs.Machine.Commands.{Command, command_of, id_of_command}
 use Rattle.bidi_remote.specs.Machine.Connections.{Standing, is_shut, standing_of}
-use Rattle.bidi_remote.specs.Machine.History.{Input, Heard, InPage, Deed}
-use Rattle.bidi_remote.specs.Machine.Outcome.{Refusal, Error, deeds, turn, replied, outcome}
+use Rattle.bidi_remote.specs.Machine.History.{Input, Heard, PageStep, Deed}
+use Rattle.bidi_remote.specs.Machine.Outcome.{NotTaken, Error, deeds, turn, replied, outcome}
 use Rattle.bidi_remote.specs.Machine.Replies.{ReadsAs, HasOneReply, IsAnsweredOnce}
 use Rattle.bidi_remote.specs.Machine.Sent.{action_in, items}
 use Rattle.bidi_remote.specs.Tables.Asked.{Asks}
@@ -130,7 +130,7 @@ module _ {E : Type 0} (q : Result (Vec declared_sent.Sent Global) E) (h : List I
           (is.3.items ∙ ap (λ o. items (deeds h) (action_in o) d) (sym asks.what))))
 
 -- a text that does nothing has no reply of that kind
-pub not_answered : (past : List Deed) (c : ℕ) (v : Verdict) (refusal : Refusal) → turn past (Heard c v) ≡ Err refusal → IsAnsweredOnce past (Heard c v)
+pub not_answered : (past : List Deed) (c : ℕ) (v : Verdict) (refusal : NotTaken) → turn past (Heard c v) ≡ Err refusal → IsAnsweredOnce past (Heard c v)
 not_answered past c (Accepted t) refusal is = λ m n. subst (λ r. IfOk r (λ d. HasOneReply (id_of_command t) m (items past (action_in (command_of t)) d))) (sym is) tt
 not_answered past c (Refused id code) refusal is = tt
 

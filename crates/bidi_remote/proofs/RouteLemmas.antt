@@ -19,9 +19,9 @@ use Rattle.bidi_browser.specs.Occurrences.{Occurrence}
 use Rattle.bidi_browser.specs.Occurs.{Item, Happens, Replies}
 use Rattle.bidi_remote.specs.Machine.Capabilities.{matching}
 use Rattle.bidi_remote.specs.Machine.Commands.{Command, Status, New, End, Subscribe, UnsubscribeById, UnsubscribeByEvents, OfBrowser, command_of, id_of_command}
-use Rattle.bidi_remote.specs.Machine.History.{Input, At, Open, Drop, Heard, NotText, InPage, Deed, Time, Opened, Dropped, Began, Ended, Subscribed, Cancelled, Dismissed, Did, Told, acts}
+use Rattle.bidi_remote.specs.Machine.History.{Input, At, Open, Drop, Heard, NotText, PageStep, Deed, Time, Opened, Dropped, Began, Ended, Subscribed, Cancelled, Dismissed, Did, Told, acts}
 use Rattle.bidi_remote.specs.Machine.Connections.{Standing, Shut, Alone, SpeaksFor, is_for, is_open, is_shut, standing_of, openings, connections_of}
-use Rattle.bidi_remote.specs.Machine.Outcome.{Refusal, Denied, Lost, Error, NoEffect, deeds, turn, with_turn, if_open, in_page, asked, replied, outcome, answered, opening, may_open, session_of_resource, is_ready, did, all_named, scope_asked, subscriptions_named}
+use Rattle.bidi_remote.specs.Machine.Outcome.{NotTaken, Denied, Lost, Error, NoEffect, deeds, turn, with_turn, if_open, in_page, asked, replied, outcome, answered, opening, may_open, session_of_resource, is_ready, did, all_named, scope_asked, subscriptions_named}
 use Rattle.bidi_remote.specs.Machine.Subscriptions.{subscriptions, holds_globally}
 use Rattle.bidi_remote.specs.Machine.Replies.{IsEventText, IsReply, is_result, is_code, HasOneReply, IsAnsweredOnce}
 use Rattle.bidi_remote.specs.Machine.Sent as sent
@@ -167,7 +167,7 @@ module _ (past : List Deed) (l : ℕ) where
       regroup (x ∷ xs) ys zs = ap (λ t. x ∷ t) (regroup xs ys zs)
 
   -- a refusal that is told is an error for who asked
-  abbrev IsErrorFor : ℕ → ℕ → Result Deed Refusal → Type 0
+  abbrev IsErrorFor : ℕ → ℕ → Result Deed NotTaken → Type 0
   IsErrorFor c id (Err (Error d n code)) = (d ≡ c) × (n ≡ Some id)
   IsErrorFor c id turned = ⊤
 
@@ -179,14 +179,14 @@ module _ (past : List Deed) (l : ℕ) where
   asked-error c id None = (refl, refl)
   asked-error c id (Some command) = replied-error c id (outcome past c (standing_of past c) command)
 
-  open-error : (c id : ℕ) (b : Bool) (turned : Result Deed Refusal) → IsErrorFor c id turned → IsErrorFor c id (if b then turned else Err (Lost c))
+  open-error : (c id : ℕ) (b : Bool) (turned : Result Deed NotTaken) → IsErrorFor c id turned → IsErrorFor c id (if b then turned else Err (Lost c))
   open-error c id true turned is = is
   open-error c id false turned is = tt
 
   none-answers : (c id : ℕ) (method : Method) → Answers c id method []
   none-answers c id method = record { before = []; reply = []; after = []; is = refl; events = no-events opens; replies = no_reply; later = no-events opens }
 
-  refused-answers : (c id : ℕ) (method : Method) (refusal : Refusal) → IsErrorFor c id (Err refusal) → Answers c id method (texts_on l (sent.refused refusal))
+  refused-answers : (c id : ℕ) (method : Method) (refusal : NotTaken) → IsErrorFor c id (Err refusal) → Answers c id method (texts_on l (sent.refused refusal))
   refused-answers c id method (Denied d) is = none-answers c id method
   refused-answers c id method (Lost d) is = none-answers c id method
   refused-answers c id method NoEffect is = none-answers c id method
@@ -213,7 +213,7 @@ answers-heard h l c t method named once = of (turn past i) refl
     i : Input
     i = Heard c (Accepted t)
 
-    of : (turned : Result Deed Refusal) → turn past i ≡ turned → Answers past l c (id_of_command t) method (texts_on l (told past i turned))
+    of : (turned : Result Deed NotTaken) → turn past i ≡ turned → Answers past l c (id_of_command t) method (texts_on l (told past i turned))
     of (Ok d) e = done-answers past l c (id_of_command t) method d _ (subst (λ r. IfOk r (λ x. HasOneReply (id_of_command t) method (items past (action_in (command_of t)) x))) e (once method named))
     of (Err refusal) e = refused-answers past l c (id_of_command t) method refusal (subst (IsErrorFor past l c (id_of_command t)) e (open-error past l c (id_of_command t) (is_open past c) _ (asked-error past l c (id_of_command t) (command_of t))))
 
@@ -244,7 +244,7 @@ module _ (h : List Input) (l : ℕ) where
   of-drop c true = no-events b
   of-drop c false = no-events b
 
-  of-page : (action : Action) (r : Result Act ErrorCode) → AreEvents b (texts_on l (told past (InPage action) (in_page r)))
+  of-page : (action : Action) (r : Result Act ErrorCode) → AreEvents b (texts_on l (told past (PageStep action) (in_page r)))
   of-page action (Ok act) = events-flat b l (sent_unasked past) (unasked-events past l) (items past (Some action) (Did act))
   of-page action (Err code) = no-events b
 
@@ -253,7 +253,7 @@ module _ (h : List Input) (l : ℕ) where
   events-unheard (At n) is = no-events b
   events-unheard (Open c resource) is = of-opening c resource (session_of_resource past resource)
   events-unheard (Drop c) is = of-drop c (is_open past c)
-  events-unheard (InPage action) is = of-page action (browser.outcome (acts past) action)
+  events-unheard (PageStep action) is = of-page action (browser.outcome (acts past) action)
   events-unheard (Heard c verdict) is = absurd is
   events-unheard (NotText c) is = absurd is
 
@@ -281,7 +281,7 @@ module _ (h : List Input) (l : ℕ) where
   stays (Ended s) apart e = closed-still s (standing_of past l) e
   stays d apart e = e
 
-  stays-turned : (turned : Result Deed Refusal) → IfOk turned NotOpening → b ≡ false → is_open (with_turn past turned) l ≡ false
+  stays-turned : (turned : Result Deed NotTaken) → IfOk turned NotOpening → b ≡ false → is_open (with_turn past turned) l ≡ false
   stays-turned (Ok d) apart e = stays d apart e
   stays-turned (Err refusal) apart e = e
 
@@ -322,7 +322,7 @@ module _ (h : List Input) (l : ℕ) where
   answered-apart c apart (Accepted t) = asked-apart c (id_of_command t) apart (command_of t)
   answered-apart c apart (Refused id code) = tt
 
-  open-apart : (c : ℕ) (m : Bool) (turned : Result Deed Refusal) → IfOk turned NotOpening → IfOk (if m then turned else Err (Lost c)) NotOpening
+  open-apart : (c : ℕ) (m : Bool) (turned : Result Deed NotTaken) → IfOk turned NotOpening → IfOk (if m then turned else Err (Lost c)) NotOpening
   open-apart c true turned is = is
   open-apart c false turned is = tt
 
@@ -350,4 +350,4 @@ module _ (h : List Input) (l : ℕ) where
   stays-shut (Drop c) apart e = stays-turned (if_open past c (Ok (Dropped c))) (open-apart c (is_open past c) (Ok (Dropped c)) tt) e
   stays-shut (Heard c v) apart e = stays-turned (if_open past c (answered past c v)) (open-apart c (is_open past c) (answered past c v) (answered-apart c apart v)) e
   stays-shut (NotText c) apart e = stays-turned (if_open past c (answered past c (Refused None InvalidArgument))) (open-apart c (is_open past c) (answered past c (Refused None InvalidArgument)) tt) e
-  stays-shut (InPage action) apart e = stays-turned (in_page (browser.outcome (acts past) action)) (page-apart (browser.outcome (acts past) action)) e
+  stays-shut (PageStep action) apart e = stays-turned (in_page (browser.outcome (acts past) action)) (page-apart (browser.outcome (acts past) action)) e

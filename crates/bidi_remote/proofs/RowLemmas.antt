@@ -12,7 +12,7 @@ use Rattle.bidi_browser.specs.Occurrences.{is_among}
 use Rattle.bidi_remote.specs.Machine.History.{Deed}
 use Rattle.bidi_remote.specs.Machine.Sessions.{is_active, sessions, sessions_made}
 use Rattle.bidi_remote.specs.Machine.Subscriptions.{is_global}
-use Rattle.bidi_remote.specs.Tables.SubscriptionRows.{Row, SessionRow, session_row, session_rows, begun, updated, changed, row_in, stripped}
+use Rattle.bidi_remote.specs.Tables.SubscriptionRows.{SubscriptionRow, SessionRow, session_row, session_rows, begun, updated, changed, row_in, stripped}
 use Rattle.bidi_remote.specs.Tables.SessionView.{session_row_of}
 use Rattle.bidi_remote.specs.declared.sessions.Session.{Session}
 use Rattle.bidi_remote.proofs.ListLemmas.{find-seen, position-none}
@@ -129,9 +129,9 @@ updated-same past s f g (n ∷ ns) same = ap₂ (λ r rows. r ∷ rows) (row_sam
 
 -- ---- events that are taken from a row
 
-pub stripped-global : (es : List EventName) (r : Row) (left : List EventName) → is_global r.scope ≡ true → left ≡ filter (λ e. not (is_among es e)) r.events
+pub stripped-global : (es : List EventName) (r : SubscriptionRow) (left : List EventName) → is_global r.scope ≡ true → left ≡ filter (λ e. not (is_among es e)) r.events
     → record r { events = left } ≡ stripped es r
 stripped-global es r left global is = rw global (ap (λ events. record r { events = events }) is)
 
-pub stripped-other : (es : List EventName) (r : Row) → is_global r.scope ≡ false → stripped es r ≡ r
+pub stripped-other : (es : List EventName) (r : SubscriptionRow) → is_global r.scope ≡ false → stripped es r ≡ r
 stripped-other es r scoped = rw scoped refl

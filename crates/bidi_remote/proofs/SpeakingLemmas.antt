@@ -6,7 +6,7 @@ use Rattle.bidi_remote.specs.Machine.History.{Input, Deed, Opened, Dropped, Bega
 use Rattle.bidi_remote.specs.Machine.Sessions.{sessions_made, is_active}
 use Rattle.bidi_remote.specs.Machine.Connections.{Standing, Shut, Alone, SpeaksFor, is_for, opened_for, standing_of}
 use Rattle.bidi_remote.specs.Machine.Subscriptions.{subscriptions_made}
-use Rattle.bidi_remote.specs.Machine.Outcome.{Refusal, turn, with_turn, deeds}
+use Rattle.bidi_remote.specs.Machine.Outcome.{NotTaken, turn, with_turn, deeds}
 use Rattle.bidi_browser.specs.Plans.{HasIds}
 use Rattle.bidi_browser.proofs.BirthLemmas.{given-few}
 use Rattle.bidi_remote.specs.Tables.Stands.{IsShort}
@@ -29,7 +29,7 @@ still_for t s Alone e = cc
 still_for t s (SpeaksFor u) e = grind (arith, nat_tests)
 
 -- one turn more
-active_more : (past : List Deed) (r : Result Deed Refusal) → IsFairIfDone past r → AreActive past → AreActive (with_turn past r)
+active_more : (past : List Deed) (r : Result Deed NotTaken) → IsFairIfDone past r → AreActive past → AreActive (with_turn past r)
 active_more past (Err refusal) fair was = was
 active_more past (Ok (Opened d o)) fair was = λ c s e. let so = was c s in let named = fair s in let opened = opened_speaks o s in grind (arith, nat_tests, so, named, opened)
 active_more past (Ok (Dropped d)) fair was = λ c s e. let so = was c s in grind (arith, nat_tests, so)
@@ -49,7 +49,7 @@ abbrev HaveNone : List Deed → Type 0
 HaveNone past = (s : ℕ) → sessions_made past < s → subscriptions_made past s ≡ 0
 
 -- one turn more
-none_more : (past : List Deed) (r : Result Deed Refusal) → IsFairIfDone past r → AreActive past → HaveNone past → HaveNone (with_turn past r)
+none_more : (past : List Deed) (r : Result Deed NotTaken) → IsFairIfDone past r → AreActive past → HaveNone past → HaveNone (with_turn past r)
 none_more past (Err refusal) fair active was = was
 none_more past (Ok (Began c)) fair active was = λ s less. was s (omega arith)
 none_more past (Ok (Subscribed t es scope)) fair active was = λ s less.
@@ -65,7 +65,7 @@ made-none (i ∷ h) s less = none_more (deeds h) (turn (deeds h) i) (turn_fair (
 
 -- ---- and there are no more sessions and subscriptions than steps
 
-sessions_more : (past : List Deed) (r : Result Deed Refusal) → sessions_made (with_turn past r) ≤ suc (sessions_made past)
+sessions_more : (past : List Deed) (r : Result Deed NotTaken) → sessions_made (with_turn past r) ≤ suc (sessions_made past)
 sessions_more past (Err refusal) = omega arith
 sessions_more past (Ok (Began c)) = omega arith
 sessions_more past (Ok d) = omega arith
@@ -78,7 +78,7 @@ made_one : (b : Bool) (n : ℕ) → cond b (suc n) n ≤ suc n
 made_one true n = omega arith
 made_one false n = omega arith
 
-subscriptions_more : (past : List Deed) (r : Result Deed Refusal) (s : ℕ) → subscriptions_made (with_turn past r) s ≤ suc (subscriptions_made past s)
+subscriptions_more : (past : List Deed) (r : Result Deed NotTaken) (s : ℕ) → subscriptions_made (with_turn past r) s ≤ suc (subscriptions_made past s)
 subscriptions_more past (Err refusal) s = omega arith
 subscriptions_more past (Ok (Subscribed t es scope)) s = made_one (s == t) (subscriptions_made past s)
 subscriptions_more past (Ok d) s = omega arith
@@ -89,7 +89,7 @@ few-subscriptions (i ∷ h) s = let more = subscriptions_more (deeds h) (turn (d
 
 -- ---- so ids are left for what the browser makes
 
-acts_more : (past : List Deed) (r : Result Deed Refusal) → length (acts (with_turn past r)) ≤ suc (length (acts past))
+acts_more : (past : List Deed) (r : Result Deed NotTaken) → length (acts (with_turn past r)) ≤ suc (length (acts past))
 acts_more past (Err refusal) = omega arith
 acts_more past (Ok (Did act)) = omega arith
 acts_more past (Ok d) = omega arith

@@ -19,7 +19,7 @@ use Rattle.bidi_browser.specs.Occurrences.{event_place, is_among}
 use Rattle.bidi_remote.specs.Machine.History.{Deed, Began, Ended, Subscribed, Cancelled, Dismissed, Scope, acts}
 use Rattle.bidi_remote.specs.Machine.Sessions.{sessions_made, next_session, is_active, sessions}
 use Rattle.bidi_remote.specs.Machine.Subscriptions.{subscriptions_made, next_subscription, subscriptions, events_of, scope_of, is_listed, is_global, is_kept, is_live, holds, holds_globally, covers, is_enabled, is_newly_enabled}
-use Rattle.bidi_remote.specs.Tables.SubscriptionRows.{Row, row_at, events_left, subscription_rows, SessionRow, session_row, session_rows, any_covers, any_global, row_covers, without, loses_all, stripped, dismissed, begun, subscribed, updated, is_new}
+use Rattle.bidi_remote.specs.Tables.SubscriptionRows.{SubscriptionRow, row_at, events_left, subscription_rows, SessionRow, session_row, session_rows, any_covers, any_global, row_covers, without, loses_all, stripped, dismissed, begun, subscribed, updated, is_new}
 use Rattle.bidi_remote.specs.Tables.MissedRows.{places, all_left}
 use Rattle.bidi_remote.specs.Machine.LogBuffer.{missed}
 use Rattle.bidi_remote.proofs.ListLemmas.{each-passing}
@@ -121,11 +121,11 @@ rows_agree : (past next : List Deed) (s : ℕ) → subscriptions_made next s ≡
 rows_agree past next s made live row = λ i. map (λ n. row n i) (filter (λ n. live n i) (up_to (made i)))
 
 -- the rows of some numbers, and then of others
-rows_append : (f : ℕ → Row) (p : ℕ → Bool) (ms ns : List ℕ) → map f (filter p (ms ++ ns)) ≡ map f (filter p ms) ++ map f (filter p ns)
+rows_append : (f : ℕ → SubscriptionRow) (p : ℕ → Bool) (ms ns : List ℕ) → map f (filter p (ms ++ ns)) ≡ map f (filter p ms) ++ map f (filter p ns)
 rows_append f p ms ns = ap (map f) (filter-append p ms ns) ∙ map-append f (filter p ms) (filter p ns)
 
 -- rows that are the same but for one number, up to a smaller one
-rows_below : (f g : ℕ → Row) (p q : ℕ → Bool) (m k : ℕ) → k < m → ((n : ℕ) → (n == m) ≡ false → p n ≡ q n) → ((n : ℕ) → (n == m) ≡ false → f n ≡ g n)
+rows_below : (f g : ℕ → SubscriptionRow) (p q : ℕ → Bool) (m k : ℕ) → k < m → ((n : ℕ) → (n == m) ≡ false → p n ≡ q n) → ((n : ℕ) → (n == m) ≡ false → f n ≡ g n)
     → map f (filter p (up_to k)) ≡ map g (filter q (up_to k))
 rows_below f g p q m zero less live row = refl
 rows_below f g p q m (suc k) less live row =
@@ -279,7 +279,7 @@ rows-dismissed-other past s t es apart =
 -- ---- what the rows tell
 
 -- a test of rows, by their numbers
-any_row : (t : Row → Bool) (f : ℕ → Row) (ns : List ℕ) → list_any t (map f ns) ≡ list_any (λ n. t (f n)) ns
+any_row : (t : SubscriptionRow → Bool) (f : ℕ → SubscriptionRow) (ns : List ℕ) → list_any t (map f ns) ≡ list_any (λ n. t (f n)) ns
 any_row t f [] = refl
 any_row t f (n ∷ ns) = ap (λ b. t (f n) || b) (any_row t f ns)
 
@@ -417,7 +417,7 @@ pub find-active : (past : List Deed) (s : ℕ) → is_active past s ≡ true →
 find-active past s active = let made = active_made past s active in find-row (session_row past) (is_active past) s (up_to (sessions_made past)) (λ n. refl) active (up_to-any s (sessions_made past) made.0 made.1)
 
 -- a number is found by its row
-find-number : (f : ℕ → Row) (q : ℕ → Bool) (ns : List ℕ) → ((n : ℕ) → (f n).number ≡ n) → find q ns ≡ option_map (λ r. r.number) (find (λ r. q r.number) (map f ns))
+find-number : (f : ℕ → SubscriptionRow) (q : ℕ → Bool) (ns : List ℕ) → ((n : ℕ) → (f n).number ≡ n) → find q ns ≡ option_map (λ r. r.number) (find (λ r. q r.number) (map f ns))
 find-number f q [] number = refl
 find-number f q (n ∷ ns) number = let ih = find-number f q ns number in let at = number n in grind (arith, nat_tests, ih, at)
 

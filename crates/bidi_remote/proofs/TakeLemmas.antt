@@ -12,10 +12,10 @@ use Rattle.bidi_remote.specs.declared.tables.Tables.{Tables}
 use Rattle.bidi_remote.specs.declared.turn.Asker.{Asker}
 use Rattle.bidi_remote.specs.declared.turn.Turn.{Turn}
 use Rattle.bidi_remote.specs.Machine.Step.{Step, Text}
-use Rattle.bidi_remote.specs.Machine.History.{Input, Open, Heard, InPage, IsHeardAs, Deed, acts}
+use Rattle.bidi_remote.specs.Machine.History.{Input, Open, Heard, PageStep, IsHeardAs, Deed, acts}
 use Rattle.bidi_remote.specs.Machine.Commands.{Command, id_of_command}
 use Rattle.bidi_remote.specs.Machine.Connections.{Standing, is_shut, is_open, standing_of}
-use Rattle.bidi_remote.specs.Machine.Outcome.{Refusal, Error, deeds, turn, with_turn, replied, outcome}
+use Rattle.bidi_remote.specs.Machine.Outcome.{NotTaken, Error, deeds, turn, with_turn, replied, outcome}
 use Rattle.bidi_remote.specs.Machine.Sent as sent
 use Rattle.bidi_remote.specs.Machine.Sent.{Sent, action_in, items, told}
 use Rattle.bidi_remote.specs.Tables.Messages.{ReadsBack, AllReadBack}
@@ -27,7 +27,7 @@ use Rattle.bidi_remote.specs.Tables.View.{sent_of}
 use Rattle.bidi_remote.proofs.ChangeLemmas.{opens-open}
 use Rattle.bidi_remote.proofs.TurnLemmas.{heard-open, asked-is, told-for}
 
-pub takes : (t : Tables) (h : List Input) (i : Input) (r : Result Deed Refusal) (all : List Sent) → turn (deeds h) i ≡ r → all ≡ told (deeds h) i r → AllReadBack all → AgreeWith t (with_turn (deeds h) r) → Takes t all h i
+pub takes : (t : Tables) (h : List Input) (i : Input) (r : Result Deed NotTaken) (all : List Sent) → turn (deeds h) i ≡ r → all ≡ told (deeds h) i r → AllReadBack all → AgreeWith t (with_turn (deeds h) r) → Takes t all h i
 takes t h i r all is sends reads agree = record {
   sends = sends ∙ ap (told (deeds h) i) (sym is);
   reads_back = reads;
@@ -42,7 +42,7 @@ all_taken t h i d sends (Err e) all is same = tt
 all_taken t h i d sends (Ok v) all is same = takes t h i (Ok d) (map sent_of v.items) is (all.0 ∙ same) all.1 all.2
 
 -- one thing alone is sent, which is no text
-pub only_takes : {E : Type 0} (r : Result (Vec declared_sent.Sent Global) E) (x : declared_sent.Sent) (t : Tables) (h : List Input) (i : Input) (turned : Result Deed Refusal) → IfOk r (λ all. all.items ≡ x ∷ [])
+pub only_takes : {E : Type 0} (r : Result (Vec declared_sent.Sent Global) E) (x : declared_sent.Sent) (t : Tables) (h : List Input) (i : Input) (turned : Result Deed NotTaken) → IfOk r (λ all. all.items ≡ x ∷ [])
     → turn (deeds h) i ≡ turned → sent_of x ∷ [] ≡ told (deeds h) i turned → ReadsBack (sent_of x) → AgreeWith t (with_turn (deeds h) turned) → IfOk r (λ all. Takes t (map sent_of all.items) h i)
 only_takes (Err e) x t h i turned only is sends reads agree = tt
 only_takes (Ok all) x t h i turned only is sends reads agree =
@@ -61,13 +61,13 @@ pub nothing : (items : List declared_sent.Sent) → items ≡ [] → AllReadBack
 nothing items none = subst (λ all. AllReadBack (map sent_of all)) (sym none) tt
 
 -- a text is refused
-pub refused_takes : {E : Type 0} (r : Result (Vec declared_sent.Sent Global) E) (t : Tables) (h : List Input) (i : Input) (turned : Result Deed Refusal) (sends : List Sent) → IfOk r (λ all. map sent_of all.items ≡ sends)
+pub refused_takes : {E : Type 0} (r : Result (Vec declared_sent.Sent Global) E) (t : Tables) (h : List Input) (i : Input) (turned : Result Deed NotTaken) (sends : List Sent) → IfOk r (λ all. map sent_of all.items ≡ sends)
     → IfOk r (λ all. AllReadBack (map sent_of all.items)) → turn (deeds h) i ≡ turned → sends ≡ told (deeds h) i turned → AgreeWith t (with_turn (deeds h) turned) → IfOk r (λ all. Takes t (map sent_of all.items) h i)
 refused_takes (Err e) t h i turned sends text reads is same agree = tt
 refused_takes (Ok all) t h i turned sends text reads is same agree = takes t h i turned (map sent_of all.items) is (text ∙ same) reads agree
 
 -- a refusal is told the same of every verdict
-pub told-refused : (past : List Deed) (c : ℕ) (v : Verdict) (refusal : Refusal) → told past (Heard c v) (Err refusal) ≡ sent.refused refusal
+pub told-refused : (past : List Deed) (c : ℕ) (v : Verdict) (refusal : NotTaken) → told past (Heard c v) (Err refusal) ≡ sent.refused refusal
 told-refused past c (Accepted t) refusal = refl
 told-refused past c (Refused id code) refusal = refl
 
@@ -150,11 +150,11 @@ step_heard (Err e) x old after i is f = tt
 step_heard (Ok all) x old after i is f = (i, is, λ h short. f h)
 
 -- so is a step of a page, while the history is short
-pub page_heard : {E : Type 0} (r : Result (Vec declared_sent.Sent Global) E) (x : Step) (old after : Tables) (action : Action) → IsHeardAs x (InPage action)
-    → ((h : List Input) → IsShort h → AgreeWith old (deeds h) → IfOk r (λ all. Takes after (map sent_of all.items) h (InPage action)))
+pub page_heard : {E : Type 0} (r : Result (Vec declared_sent.Sent Global) E) (x : Step) (old after : Tables) (action : Action) → IsHeardAs x (PageStep action)
+    → ((h : List Input) → IsShort h → AgreeWith old (deeds h) → IfOk r (λ all. Takes after (map sent_of all.items) h (PageStep action)))
     → IfOk r (λ all. (j : Input) × IsHeardAs x j × TakesIt old after (map sent_of all.items) j)
 page_heard (Err e) x old after action is f = tt
-page_heard (Ok all) x old after action is f = (InPage action, is, f)
+page_heard (Ok all) x old after action is f = (PageStep action, is, f)
 
 -- a text is heard as its verdict
 pub text_heard : {E : Type 0} (r : Result (Vec declared_sent.Sent Global) E) (x : Step) (c : ℕ) (text : List ℕ) (old after : Tables) → x ≡ Text c text

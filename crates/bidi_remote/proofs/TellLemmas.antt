@@ -29,7 +29,7 @@ use Rattle.bidi_remote.proofs.SubscriptionLemmas.{covers-enabled}
 
 -- ---- the sessions that hear an event, one after another
 
-module _ (rows : List connections.Row) (text : List ℕ) (e : EventName) (top : ℕ) where
+module _ (rows : List connections.ConnectionRow) (text : List ℕ) (e : EventName) (top : ℕ) where
   abbrev pub heard : List SessionRow → List Sent
   heard all = flat_map (λ r. to_each (λ n. Text n text) r.number rows) (filter (λ r. any_covers r.subscriptions e top) all)
 
@@ -99,7 +99,7 @@ in-order a b c d e =
     ap (λ xs. xs ++ e) (append_assoc (a ++ b) c d ∙ append_assoc a b (c ++ d)) ∙ append_assoc a (b ++ (c ++ d)) e
 
 -- what is sent by the rows of the tables, in its order
-abbrev pub sent_in : List SessionRow → List connections.Row → Deed → List Sent → List Written → List Occurrence → List Occurrence → List Sent
+abbrev pub sent_in : List SessionRow → List connections.ConnectionRow → Deed → List Sent → List Written → List Occurrence → List Occurrence → List Sent
 sent_in sessions rows d replied announced before after =
     to_subscriber_in rows d announced ++ ((flat_map (to_all sessions rows) before ++ (replied ++ flat_map (to_all sessions rows) after)) ++ closed_in rows d)
 
@@ -131,7 +131,7 @@ pub if-more-read : {D E : Type 0} (r : Result D E) (old more all : List Sent) �
 if-more-read (Ok done) old more all is added before = more-read old more is added before
 if-more-read (Err e) old more all is added before = tt
 
-module _ (rows : List connections.Row) (text : List ℕ) (is : IsMessageText ghosts.shape text) where
+module _ (rows : List connections.ConnectionRow) (text : List ℕ) (is : IsMessageText ghosts.shape text) where
   -- a text to each connection of a session
   pub each-reads : (s : ℕ) → AllReadBack (to_each (λ c. Text c text) s rows)
   each-reads s = all-map ReadsBack (λ row. Text row.0 text) (λ row. is) (filter (λ row. is_for s row.1) rows)
@@ -141,13 +141,13 @@ module _ (rows : List connections.Row) (text : List ℕ) (is : IsMessageText gho
   heard-read e top all = all-flat_map ReadsBack (λ r. to_each (λ n. Text n text) r.number rows) (λ r. each-reads r.number) (filter (λ r. any_covers r.subscriptions e top) all)
 
 -- what is announced reads back
-pub subscriber-read : (rows : List connections.Row) (d : Deed) (ws : List Written) → AreMessages ws → AllReadBack (to_subscriber_in rows d ws)
+pub subscriber-read : (rows : List connections.ConnectionRow) (d : Deed) (ws : List Written) → AreMessages ws → AllReadBack (to_subscriber_in rows d ws)
 subscriber-read rows (history.Subscribed s es scope) [] all = tt
 subscriber-read rows (history.Subscribed s es scope) (w ∷ ws) all =
     all-append ReadsBack (to_one rows s w.text) (flat_map (λ v. to_one rows s v.text) ws) (each-reads rows w.text all.0 s) (subscriber-read rows (history.Subscribed s es scope) ws all.1)
 subscriber-read rows d ws all = tt
 
 -- closes are no texts
-pub closed-read : (rows : List connections.Row) (d : Deed) → AllReadBack (closed_in rows d)
+pub closed-read : (rows : List connections.ConnectionRow) (d : Deed) → AllReadBack (closed_in rows d)
 closed-read rows (history.Ended s) = all-map ReadsBack (λ row. Close row.0) (λ row. tt) (filter (λ row. is_for s row.1) rows)
 closed-read rows d = tt

@@ -19,7 +19,7 @@ use crate::tables::Tables;
 use crate::turn::{Asker, Turn};
 use bidi_browser::{Action, Refusal};
 use bidi_messages::{CommandData, ErrorCode, Method, Subject};
-use bidi_params::NewParameters;
+use bidi_params::session::NewParameters;
 use bidi_shape::Shape;
 use std::alloc::Global;
 

@@ -15,7 +15,7 @@ ghost use Rattle.bidi_browser.specs.View.{result_tree};
 ghost use Rattle.bidi_remote.specs.Machine.Step as steps;
 ghost use Rattle.bidi_remote.specs.Machine.Replies.{IsAnsweredOnce, ReadsAs};
 ghost use Rattle.bidi_remote.specs.Machine.Sent.{Text};
-ghost use Rattle.bidi_remote.specs.Machine.History.{Input, Open, Drop, Heard, NotText, InPage, IsHeardAs, acts, moment};
+ghost use Rattle.bidi_remote.specs.Machine.History.{Input, Open, Drop, Heard, NotText, PageStep, IsHeardAs, acts, moment};
 ghost use Rattle.bidi_remote.specs.Machine.Connections.{is_open, standing_of, is_shut};
 ghost use Rattle.bidi_remote.specs.Machine.Outcome.{deeds, turn};
 ghost use Rattle.bidi_remote.specs.Tables.Asked.{Asks, IsWellAsked, asked_of};
@@ -35,7 +35,7 @@ use bidi_browser::{Action, Browser, Change as BrowserChange, Occurrence, Plan, R
 use bidi_messages::{
     Command, CommandData, ErrorCode, Method, Subject, Verdict, error_text, judge_with,
 };
-use bidi_params::NewParameters;
+use bidi_params::session::NewParameters;
 use bidi_shape::Shape;
 use bidi_tree::JsUint;
 use bidi_values::Level;
@@ -254,7 +254,7 @@ impl Tables {
     // Takes a step of a page, which has no effect where the browser refuses it.
     fn page(&mut self, alloc: Global, action: Action) -> Result<Vec<Sent>, AllocError>
         ensures ok { (h : List Input) → IsShort h → AgreeWith self.old (deeds h)
-            → is_asked (action_of action.entry) ≡ false → is_log (action_of action.entry) ≡ false → IfOk result (λ sent. Takes self.new (map sent_of sent.items) h (InPage (action_of action.entry))) }
+            → is_asked (action_of action.entry) ≡ false → is_log (action_of action.entry) ≡ false → IfOk result (λ sent. Takes self.new (map sent_of sent.items) h (PageStep (action_of action.entry))) }
         ensures err { OnErr result (Keeps self.old self.new) }
     {
         match self.browser.plan(action, self.moment) {
@@ -272,7 +272,7 @@ impl Tables {
         level: Level,
         text: &str,
     ) -> Result<Vec<Sent>, AllocError>
-        ensures ok { (h : List Input) → IsShort h → AgreeWith self.old (deeds h) → IfOk result (λ sent. Takes self.new (map sent_of sent.items) h (InPage (Log context.now level text.now))) }
+        ensures ok { (h : List Input) → IsShort h → AgreeWith self.old (deeds h) → IfOk result (λ sent. Takes self.new (map sent_of sent.items) h (PageStep (Log context.now level text.now))) }
         ensures err { OnErr result (Keeps self.old self.new) }
     {
         match self
@@ -289,7 +289,7 @@ impl Tables {
     fn take_entry(&mut self, alloc: Global, plan: Plan) -> Result<Vec<Sent>, AllocError>
         requires { planned.IsWellTold plan }
         ensures ok { (h : List Input) (context text : List ℕ) (level : Level) → IsShort h → AgreeWith self.old (deeds h)
-            → planned.Plans (Ok plan) (acts (deeds h)) (moment (deeds h)) (Log context level text) → IfOk result (λ sent. Takes self.new (map sent_of sent.items) h (InPage (Log context level text))) }
+            → planned.Plans (Ok plan) (acts (deeds h)) (moment (deeds h)) (Log context level text) → IfOk result (λ sent. Takes self.new (map sent_of sent.items) h (PageStep (Log context level text))) }
         ensures err { OnErr result (Keeps self.old self.new) }
     {
         let (told, change) = told_by(plan);

@@ -11,7 +11,7 @@ use Rattle.bidi_messages.specs.Verdict.{command_tree, echoed_id}
 use Rattle.bidi_browser.specs.Actions.{Frame, Unframe, Log, TableRow}
 use Rattle.bidi_messages.specs.Verdict.{Verdict, Accepted, Refused, refusal_code, IsVerdict, is_command, is_not_json, is_no_command}
 use Rattle.bidi_remote.specs.Machine.Step as step
-use Rattle.bidi_remote.specs.Machine.History.{Input, At, Open, Drop, Heard, NotText, InPage, row_tree, IsRow, is_row, is_no_row, IsHeardAs}
+use Rattle.bidi_remote.specs.Machine.History.{Input, At, Open, Drop, Heard, NotText, PageStep, row_tree, IsRow, is_row, is_no_row, IsHeardAs}
 use Rattle.bidi_remote.specs.Machine.History as history
 
 -- ---- computed
@@ -51,10 +51,10 @@ heard (step.Open c resource) = Open c resource
 heard (step.Drop c) = Drop c
 heard (step.Text c text) = Heard c (verdict_in (command_tree text))
 heard (step.NotText c) = NotText c
-heard (step.Frame id url) = InPage (Frame id url)
-heard (step.Unframe id) = InPage (Unframe id)
-heard (step.Log id level text) = InPage (Log id level text)
-heard (step.TableRow text) = InPage (TableRow (row_in (row_tree text)))
+heard (step.Frame id url) = PageStep (Frame id url)
+heard (step.Unframe id) = PageStep (Unframe id)
+heard (step.Log id level text) = PageStep (Log id level text)
+heard (step.TableRow text) = PageStep (TableRow (row_in (row_tree text)))
 
 -- ---- it is right
 

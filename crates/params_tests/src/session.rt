@@ -1,8 +1,8 @@
 //! Sessions and subscriptions: texts that fit and texts that do not, and what the constructors answer.
+use bidi_params::session::{NewParameters, NewResult};
 use bidi_params::{
-    Capabilities, CapabilitiesRequest, CapabilityRequest, NewParameters, NewResult, StatusResult,
-    SubscribeParameters, SubscribeResult, UnsubscribeByEvents, UnsubscribeById,
-    UnsubscribeParameters,
+    Capabilities, CapabilitiesRequest, CapabilityRequest, StatusResult, SubscribeParameters,
+    SubscribeResult, UnsubscribeByEvents, UnsubscribeById, UnsubscribeParameters,
 };
 use bidi_tree::Members;
 use std::alloc::Global;

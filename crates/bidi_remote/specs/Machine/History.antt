@@ -22,7 +22,7 @@ pub data Input : Type 0 where
   -- a message that is no text
   NotText : (conn : ℕ) → Input
   -- a step that the browser takes
-  InPage : (action : Action) → Input
+  PageStep : (action : Action) → Input
 
 -- the tree of a row's text, which has at most 1,048,576 bytes
 abbrev pub row_tree : List ℕ → Option Node
@@ -41,10 +41,10 @@ IsHeardAs (step.Open c resource) i = i ≡ Open c resource
 IsHeardAs (step.Drop c) i = i ≡ Drop c
 IsHeardAs (step.Text c text) i = (v : Verdict) × IsVerdict text v × (i ≡ Heard c v)
 IsHeardAs (step.NotText c) i = i ≡ NotText c
-IsHeardAs (step.Frame id url) i = i ≡ InPage (Frame id url)
-IsHeardAs (step.Unframe id) i = i ≡ InPage (Unframe id)
-IsHeardAs (step.Log id level text) i = i ≡ InPage (Log id level text)
-IsHeardAs (step.TableRow text) i = (row : Option Node) × IsRow text row × (i ≡ InPage (TableRow row))
+IsHeardAs (step.Frame id url) i = i ≡ PageStep (Frame id url)
+IsHeardAs (step.Unframe id) i = i ≡ PageStep (Unframe id)
+IsHeardAs (step.Log id level text) i = i ≡ PageStep (Log id level text)
+IsHeardAs (step.TableRow text) i = (row : Option Node) × IsRow text row × (i ≡ PageStep (TableRow row))
 
 -- each step is heard as the input at its place
 abbrev pub AreHeardAs : List step.Step → List Input → Type 0

@@ -10,12 +10,12 @@ use Rattle.bidi_browser.specs.Contexts.{top_of}
 use Rattle.bidi_codes.specs.Checks.{◌>>=◌, need, found}
 use Rattle.bidi_messages.specs.declared.event.EventName.{EventName}
 use Rattle.bidi_messages.specs.declared.event.EventName.TheVariants.{ContextCreated, ContextDestroyed, NavigationStarted, DomContentLoaded, Load, RealmCreated, RealmDestroyed, EntryAdded}
-use Rattle.bidi_messages.specs.EventName.{event_text as name_of, events as all_events}
+use Rattle.bidi_messages.specs.EventName.{event_name_text as name_of, events as all_events}
 use Rattle.bidi_browser.specs.Outcome as browser
 use Rattle.bidi_messages.specs.Verdict.{Verdict, Accepted, Refused}
 use Rattle.bidi_remote.specs.Machine.Capabilities.{Request, matching}
 use Rattle.bidi_remote.specs.Machine.Commands.{Command, Status, New, End, Subscribe, UnsubscribeById, UnsubscribeByEvents, OfBrowser, command_of, id_of_command}
-use Rattle.bidi_remote.specs.Machine.History.{Input, At, Open, Drop, Heard, NotText, InPage, Deed, Time, Opened, Dropped, Began, Ended, Subscribed, Cancelled, Dismissed, Did, Told, Scope, All, Below, acts}
+use Rattle.bidi_remote.specs.Machine.History.{Input, At, Open, Drop, Heard, NotText, PageStep, Deed, Time, Opened, Dropped, Began, Ended, Subscribed, Cancelled, Dismissed, Did, Told, Scope, All, Below, acts}
 use Rattle.bidi_remote.specs.Machine.Sessions.{sessions}
 use Rattle.bidi_remote.specs.Machine.Connections.{Standing, Shut, Alone, SpeaksFor, is_open, standing_of, open_connections}
 use Rattle.bidi_remote.specs.Machine.Subscriptions.{subscriptions, holds_globally}
@@ -139,11 +139,11 @@ outcome past c (SpeaksFor s) command = outcome_in past s command
 -- ---- inputs
 
 -- why an input was not taken
-pub data Refusal : Type 0 where
-  Denied : (conn : ℕ) → Refusal
-  Lost : (conn : ℕ) → Refusal
-  Error : (conn : ℕ) (id : Option ℕ) (code : ErrorCode) → Refusal
-  NoEffect : Refusal
+pub data NotTaken : Type 0 where
+  Denied : (conn : ℕ) → NotTaken
+  Lost : (conn : ℕ) → NotTaken
+  Error : (conn : ℕ) (id : Option ℕ) (code : ErrorCode) → NotTaken
+  NoEffect : NotTaken
 
 -- the session of a resource: none for `/session`, an active one for `/session/ID`
 abbrev pub session_of_resource : List Deed → List ℕ → Option (Option ℕ)
@@ -156,45 +156,45 @@ abbrev pub may_open : List Deed → ℕ → Bool
 may_open past c = not (is_open past c) && nat_lt (length (open_connections past)) 64
 
 -- a connection is opened for what its resource names
-abbrev pub opening : List Deed → ℕ → Option (Option ℕ) → Result Deed Refusal
+abbrev pub opening : List Deed → ℕ → Option (Option ℕ) → Result Deed NotTaken
 opening past c None = Err (Denied c)
 opening past c (Some s) = if may_open past c then Ok (Opened c s) else Err (Denied c)
 
 -- a code refuses a command with its id
-abbrev pub replied : ℕ → ℕ → Result Deed ErrorCode → Result Deed Refusal
+abbrev pub replied : ℕ → ℕ → Result Deed ErrorCode → Result Deed NotTaken
 replied c id (Ok d) = Ok d
 replied c id (Err code) = Err (Error c (Some id) code)
 
 -- what a command asks is done; each tree that fits the rule of commands asks something
-abbrev pub asked : List Deed → ℕ → ℕ → Option Command → Result Deed Refusal
+abbrev pub asked : List Deed → ℕ → ℕ → Option Command → Result Deed NotTaken
 asked past c id None = Err (Error c (Some id) UnknownCommand)
 asked past c id (Some command) = replied c id (outcome past c (standing_of past c) command)
 
 -- what a text of an open connection does
-abbrev pub answered : List Deed → ℕ → Verdict → Result Deed Refusal
+abbrev pub answered : List Deed → ℕ → Verdict → Result Deed NotTaken
 answered past c (Accepted t) = asked past c (id_of_command t) (command_of t)
 answered past c (Refused id code) = Err (Error c id code)
 
 -- the same, where the connection is open
-abbrev pub if_open : List Deed → ℕ → Result Deed Refusal → Result Deed Refusal
+abbrev pub if_open : List Deed → ℕ → Result Deed NotTaken → Result Deed NotTaken
 if_open past c turn = if is_open past c then turn else Err (Lost c)
 
 -- a step of a play that the browser refuses has no effect
-abbrev pub in_page : Result Act ErrorCode → Result Deed Refusal
+abbrev pub in_page : Result Act ErrorCode → Result Deed NotTaken
 in_page (Ok act) = Ok (Did act)
 in_page (Err code) = Err NoEffect
 
 -- what an input does, asked of the past before it, or why it is not taken
-abbrev pub turn : List Deed → Input → Result Deed Refusal
+abbrev pub turn : List Deed → Input → Result Deed NotTaken
 turn past (At n) = Ok (Time n)
 turn past (Open c resource) = opening past c (session_of_resource past resource)
 turn past (Drop c) = if_open past c (Ok (Dropped c))
 turn past (Heard c verdict) = if_open past c (answered past c verdict)
 turn past (NotText c) = if_open past c (answered past c (Refused None InvalidArgument))
-turn past (InPage action) = in_page (browser.outcome (acts past) action)
+turn past (PageStep action) = in_page (browser.outcome (acts past) action)
 
 -- the past with the deed, where there is one
-abbrev pub with_turn : List Deed → Result Deed Refusal → List Deed
+abbrev pub with_turn : List Deed → Result Deed NotTaken → List Deed
 with_turn past (Ok d) = d ∷ past
 with_turn past (Err refusal) = past
 

@@ -11,13 +11,13 @@ use Rattle.bidi_browser.specs.Occurs.{Item, Happens, Replies, occurs}
 use Rattle.bidi_messages.specs.Verdict.{Accepted}
 use Rattle.bidi_remote.specs.Machine.Capabilities.{capabilities}
 use Rattle.bidi_remote.specs.Machine.Commands.{Command, OfBrowser, command_of, id_of_command}
-use Rattle.bidi_remote.specs.Machine.History.{Input, Heard, InPage, Deed, Began, Ended, Subscribed, Did, Told, acts, moment}
+use Rattle.bidi_remote.specs.Machine.History.{Input, Heard, PageStep, Deed, Began, Ended, Subscribed, Did, Told, acts, moment}
 use Rattle.bidi_remote.specs.Machine.History as did
 use Rattle.bidi_remote.specs.Machine.Sessions.{next_session, sessions}
 use Rattle.bidi_remote.specs.Machine.Connections.{connections_of}
 use Rattle.bidi_remote.specs.Machine.Subscriptions.{next_subscription, is_enabled, is_newly_enabled}
 use Rattle.bidi_remote.specs.Machine.LogBuffer.{waiting_for}
-use Rattle.bidi_remote.specs.Machine.Outcome.{Refusal, is_ready, turn, deeds}
+use Rattle.bidi_remote.specs.Machine.Outcome.{NotTaken, is_ready, turn, deeds}
 use Rattle.bidi_remote.specs.Machine.Outcome as outcome
 
 -- what goes out, or is told of a connection or a step
@@ -112,19 +112,19 @@ sent_unasked past (Happens o) = to_hearers past o
 sent_unasked past (Replies result) = []
 
 -- what is sent where an input was not taken
-abbrev pub refused : Refusal → List Sent
+abbrev pub refused : NotTaken → List Sent
 refused (outcome.Denied c) = Denied c ∷ []
 refused (outcome.Lost c) = Lost c ∷ []
 refused (outcome.Error c id code) = Text c (error_text id code) ∷ []
 refused outcome.NoEffect = NoEffect ∷ []
 
 -- what is sent where an input has done this, or was not taken for this
-abbrev pub told : List Deed → Input → Result Deed Refusal → List Sent
+abbrev pub told : List Deed → Input → Result Deed NotTaken → List Sent
 told past (Heard c (Accepted t)) (Ok d) =
     announced past d
     ++ (flat_map (sent_to past c (id_of_command t)) (items past (action_in (command_of t)) d)
     ++ closed past d)
-told past (InPage action) (Ok d) = flat_map (sent_unasked past) (items past (Some action) d)
+told past (PageStep action) (Ok d) = flat_map (sent_unasked past) (items past (Some action) d)
 told past i (Ok (did.Opened c s)) = Opened c ∷ []
 told past i (Ok d) = []
 told past i (Err refusal) = refused refusal

@@ -6,19 +6,19 @@ use Rattle.bidi_remote.specs.declared.connections.Standing as declared_standing
 use Rattle.bidi_remote.specs.declared.connections.Standing.TheVariants as in_code
 use Rattle.bidi_remote.specs.Machine.History.{Deed, Opened}
 use Rattle.bidi_remote.specs.Machine.Connections.{Standing, Shut, Alone, SpeaksFor, is_for, opened_for, standing_of, open_connections}
-use Rattle.bidi_remote.specs.Machine.Outcome.{Refusal, Denied}
+use Rattle.bidi_remote.specs.Machine.Outcome.{NotTaken, Denied}
 use Rattle.bidi_remote.specs.Machine.Sent.{Sent}
 
 -- a connection, and how it stands
-abbrev pub Row : Type 0
-Row = ℕ × Standing
+abbrev pub ConnectionRow : Type 0
+ConnectionRow = ℕ × Standing
 
 -- the row of a connection in hand
-abbrev pub row_of : Connection → Row
+abbrev pub row_of : Connection → ConnectionRow
 row_of c = (c.number.value, opened_for c.session)
 
 -- the rows of a table in hand
-abbrev pub rows_in : Connections → List Row
+abbrev pub rows_in : Connections → List ConnectionRow
 rows_in connections = map row_of connections.open.items
 
 -- how a connection stands, as the code says it
@@ -28,23 +28,23 @@ standing_in_hand in_code.Alone = Alone
 standing_in_hand (in_code.SpeaksFor s) = SpeaksFor s
 
 -- how the connection of a row stands; without a row it is shut
-abbrev pub standing_in : Option Row → Standing
+abbrev pub standing_in : Option ConnectionRow → Standing
 standing_in None = Shut
 standing_in (Some row) = row.1
 
 -- the rows that a past makes
-abbrev pub rows : List Deed → List Row
+abbrev pub rows : List Deed → List ConnectionRow
 rows past = map (λ c. (c, standing_of past c)) (open_connections past)
 
 -- the connection of this number speaks for the session, and any other stands as it stood
-abbrev pub begun : ℕ → ℕ → Row → Row
+abbrev pub begun : ℕ → ℕ → ConnectionRow → ConnectionRow
 begun c s row = if row.0 == c then (c, SpeaksFor s) else row
 
 -- what is sent to each connection that speaks for a session
-abbrev pub to_each : (ℕ → Sent) → ℕ → List Row → List Sent
+abbrev pub to_each : (ℕ → Sent) → ℕ → List ConnectionRow → List Sent
 to_each what s rows = map (λ row. what row.0) (filter (λ row. is_for s row.1) rows)
 
 -- what an opening does, for the session that was found or for none; without leave it is denied
-abbrev pub opening_by : ℕ → Option (Option ℕ) → Result Deed Refusal
+abbrev pub opening_by : ℕ → Option (Option ℕ) → Result Deed NotTaken
 opening_by c None = Err (Denied c)
 opening_by c (Some s) = Ok (Opened c s)

@@ -9,13 +9,13 @@ use Rattle.bidi_remote.specs.declared.sessions.Session.{Session}
 use Rattle.bidi_remote.specs.declared.sessions.Sessions.{Sessions}
 use Rattle.bidi_remote.specs.Machine.History.{Scope, All, Below}
 use Rattle.bidi_remote.specs.Tables.EventTexts.{Written, place_row}
-use Rattle.bidi_remote.specs.Tables.SubscriptionRows.{Row, SessionRow}
+use Rattle.bidi_remote.specs.Tables.SubscriptionRows.{SubscriptionRow, SessionRow}
 
 abbrev pub scope_of : declared_scope.Scope → Scope
 scope_of in_code.All = All
 scope_of (in_code.Below tops) = Below tops.items
 
-abbrev pub row_of : Subscription → Row
+abbrev pub row_of : Subscription → SubscriptionRow
 row_of s = record { number = s.number; events = s.events.items; scope = scope_of s.scope }
 
 -- the places of a buffer in hand

@@ -18,7 +18,7 @@ use Rattle.bidi_remote.specs.Tables.MissedRows.{places, all_left, with_missed}
 use Rattle.bidi_remote.specs.Machine.Subscriptions.{subscriptions_made, subscriptions, events_of, scope_of, holds, is_global, is_listed, covers}
 
 -- a live subscription: its number, the events that it still holds for, and its scope
-pub record Row : Type 0 where
+pub record SubscriptionRow : Type 0 where
   pub number : ℕ
   pub events : List EventName
   pub scope : Scope
@@ -28,18 +28,18 @@ abbrev pub events_left : List Deed → ℕ → ℕ → List EventName
 events_left past s n = filter (holds past s n) (events_of past s n)
 
 -- the n-th subscription of a session
-abbrev pub row_at : List Deed → ℕ → ℕ → Row
+abbrev pub row_at : List Deed → ℕ → ℕ → SubscriptionRow
 row_at past s n = record { number = n; events = events_left past s n; scope = scope_of past s n }
 
 -- the live subscriptions of a session, by number
-abbrev pub subscription_rows : List Deed → ℕ → List Row
+abbrev pub subscription_rows : List Deed → ℕ → List SubscriptionRow
 subscription_rows past s = map (row_at past s) (subscriptions past s)
 
 -- an active session: its number, how many subscriptions it has made, the live ones, and the log entries that it has missed
 pub record SessionRow : Type 0 where
   pub number : ℕ
   pub made : ℕ
-  pub subscriptions : List Row
+  pub subscriptions : List SubscriptionRow
   pub missed : List (Option Written)
 
 -- the row of a session
@@ -53,31 +53,31 @@ session_rows past = map (session_row past) (sessions past)
 -- ---- what the rows tell
 
 -- the subscription holds for the event, in contexts below the top-level one
-abbrev pub row_covers : EventName → ℕ → Row → Bool
+abbrev pub row_covers : EventName → ℕ → SubscriptionRow → Bool
 row_covers e top r = is_among r.events e && covers r.scope top
 
 -- one of them does
-abbrev pub any_covers : List Row → EventName → ℕ → Bool
+abbrev pub any_covers : List SubscriptionRow → EventName → ℕ → Bool
 any_covers rows e top = list_any (row_covers e top) rows
 
 -- the top-level context is alive, none of these subscriptions covers the event there, and these events in this scope do
-abbrev pub is_new : List Act → List Row → List EventName → Scope → EventName → ℕ → Bool
+abbrev pub is_new : List Act → List SubscriptionRow → List EventName → Scope → EventName → ℕ → Bool
 is_new past held events scope e top = is_alive past top && (not (any_covers held e top) && (is_among events e && covers scope top))
 
 -- it is global, and holds for the event
-abbrev pub row_holds : EventName → Row → Bool
+abbrev pub row_holds : EventName → SubscriptionRow → Bool
 row_holds e r = is_global r.scope && is_among r.events e
 
 -- one of them is
-abbrev pub any_global : List Row → EventName → Bool
+abbrev pub any_global : List SubscriptionRow → EventName → Bool
 any_global rows e = list_any (row_holds e) rows
 
 -- the number of the row of that id
-abbrev pub number_named : ℕ → List Row → List ℕ → Option ℕ
+abbrev pub number_named : ℕ → List SubscriptionRow → List ℕ → Option ℕ
 number_named s rows id = option_map (λ r. r.number) (find (λ r. bytes_eq id (id_text Subscription s r.number)) rows)
 
 -- the numbers of the rows of these ids
-abbrev pub numbers_named : ℕ → List Row → List (List ℕ) → Result (List ℕ) ErrorCode
+abbrev pub numbers_named : ℕ → List SubscriptionRow → List (List ℕ) → Result (List ℕ) ErrorCode
 numbers_named s rows [] = Ok []
 numbers_named s rows (id ∷ ids) = do
   n ← found (number_named s rows id) InvalidArgument
@@ -87,19 +87,19 @@ numbers_named s rows (id ∷ ids) = do
 -- ---- what is done to them
 
 -- those with these numbers go
-abbrev pub without : List ℕ → List Row → List Row
+abbrev pub without : List ℕ → List SubscriptionRow → List SubscriptionRow
 without ns rows = filter (λ r. not (is_listed ns r.number)) rows
 
 -- the subscription is global, and loses its last events with these
-abbrev pub loses_all : List EventName → Row → Bool
+abbrev pub loses_all : List EventName → SubscriptionRow → Bool
 loses_all es r = is_global r.scope && (not (length r.events == 0) && list_all (is_among es) r.events)
 
 -- a global subscription loses these events
-abbrev pub stripped : List EventName → Row → Row
+abbrev pub stripped : List EventName → SubscriptionRow → SubscriptionRow
 stripped es r = if is_global r.scope then record r { events = filter (λ e. not (is_among es e)) r.events } else r
 
 -- each global subscription loses these events, and goes with its last
-abbrev pub dismissed : List EventName → List Row → List Row
+abbrev pub dismissed : List EventName → List SubscriptionRow → List SubscriptionRow
 dismissed es rows = map (stripped es) (filter (λ r. not (loses_all es r)) rows)
 
 -- a session that has just begun

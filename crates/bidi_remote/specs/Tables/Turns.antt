@@ -138,12 +138,12 @@ to_subscriber past (Subscribed s es scope) ws = flat_map (λ w. map (λ c. Text 
 to_subscriber past d ws = []
 
 -- the same by the table of connections
-abbrev pub to_subscriber_in : List connections.Row → Deed → List Written → List Sent
+abbrev pub to_subscriber_in : List connections.ConnectionRow → Deed → List Written → List Sent
 to_subscriber_in rows (Subscribed s es scope) ws = flat_map (λ w. to_one rows s w.text) ws
 to_subscriber_in rows d ws = []
 
 -- and the closes of a session that ends
-abbrev pub closed_in : List connections.Row → Deed → List Sent
+abbrev pub closed_in : List connections.ConnectionRow → Deed → List Sent
 closed_in rows (Ended s) = to_each Close s rows
 closed_in rows d = []
 

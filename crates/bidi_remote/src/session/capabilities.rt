@@ -5,7 +5,8 @@ ghost use Rattle.bidi_tree.specs.Node as tree;
 ghost use Rattle.bidi_remote.specs.Machine.Capabilities.{request_of, requested_in, matching, has_colon, is_known, are_apart, is_met, is_match};
 
 use bidi_messages::ErrorCode;
-use bidi_params::{CapabilityRequest, NewParameters};
+use bidi_params::CapabilityRequest;
+use bidi_params::session::NewParameters;
 use bidi_shape::{Ext, Shape};
 
 /// The browser's name.

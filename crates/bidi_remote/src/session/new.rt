@@ -21,7 +21,8 @@ use crate::tables::Tables;
 use crate::turn::{Asker, Change, Turn};
 use bidi_browser::{Kind, Refusal, id_text};
 use bidi_messages::{ErrorCode, Method, ResultData, Subject};
-use bidi_params::{Capabilities, NewParameters, NewResult};
+use bidi_params::Capabilities;
+use bidi_params::session::{NewParameters, NewResult};
 use bidi_shape::{Ext, Shape};
 use std::alloc::{AllocError, Global};
 

@@ -1,7 +1,7 @@
 use Rattle.std.proofs.Common.{◌≡◌, true, false, ap, rules}
 use Rattle.std.specs.Prelude.{◌&&◌}
 use Rattle.std.proofs.lemmas.Bool.Decides.{nat_tests}
-use Rattle.bidi_browser.specs.ContextRows.{Row}
+use Rattle.bidi_browser.specs.ContextRows.{ContextRow}
 use Rattle.bidi_browser.specs.Realms.{value_of}
 use Rattle.bidi_browser.specs.TableInHand.{ending_seen}
 use Rattle.bidi_handles.specs.Values.{takes_handle}
@@ -16,7 +16,7 @@ returns-then-not-owned-clause-ran c = λ past k stands ids alive is.
       | then-not-owned-via-then-not-owned w ↦ let no = w.if-not-owned.true in grind (rules, nat_tests, no)
       | then-not-owned-via-else-not-owned+then-not-takes_handle w ↦ let no = w.if-not-takes_handle.true in let same = w.takes_handle.ensures in let of = ap takes_handle w.value_of.ensures in grind (rules, nat_tests, no, same, of)
     ] in
-    ran-unheld past k c.args.owned (ending_seen c.args.ending) c.args.context.now.realm _ held (ap (λ (r : Row). r.realm) is) c.in_ok-result.ensures.tree
+    ran-unheld past k c.args.owned (ending_seen c.args.ending) c.args.context.now.realm _ held (ap (λ (r : ContextRow). r.realm) is) c.in_ok-result.ensures.tree
 
 pub returns-clause-ran : goal.returns-clause-ran
 returns-clause-ran c = λ past k stands ids alive is.
@@ -24,5 +24,5 @@ returns-clause-ran c = λ past k stands ids alive is.
     let held : (c.args.owned && takes_handle value) ≡ true =
     let a = c.if-not-owned.false in let b = c.if-not-takes_handle.false in let same = c.takes_handle.ensures in let of = ap takes_handle c.value_of.ensures in grind (rules, nat_tests, a, b, same, of) in
     let next = c.in_ok-number.ensures.next past k stands ids is in
-    ran-held past k c.args.owned (ending_seen c.args.ending) c.args.context.now.realm _ c.in_ok-number.number _ c.args.context.now.number held next.0 next.1 alive (ap (λ (r : Row). r.realm) is) (ap (λ (r : Row). r.number) is) c.in_ok-result-2.ensures.tree
+    ran-held past k c.args.owned (ending_seen c.args.ending) c.args.context.now.realm _ c.in_ok-number.number _ c.args.context.now.number held next.0 next.1 alive (ap (λ (r : ContextRow). r.realm) is) (ap (λ (r : ContextRow). r.number) is) c.in_ok-result-2.ensures.tree
     (ap (λ t. (c.in_ok-number.number, t)) c.into_value.ensures)

@@ -6,7 +6,7 @@ use Rattle.bidi_handles.specs.declared.id.Kind.TheVariants as kind
 use Rattle.bidi_browser.specs.declared.contexts.Context.{Context}
 use Rattle.bidi_browser.specs.Acts.{Act, next_number}
 use Rattle.bidi_browser.specs.Realms.{realm_of, handles_of}
-use Rattle.bidi_browser.specs.ContextRows.{Row, row_of, rows, held_in}
+use Rattle.bidi_browser.specs.ContextRows.{ContextRow, row_of, rows, held_in}
 use Rattle.bidi_handles.specs.Handles.{HasSpare}
 use Rattle.bidi_handles.specs.ValuesInHand.{handle_seen}
 use Rattle.bidi_browser.proofs.HandleLemmas.{handles-below}
@@ -18,7 +18,7 @@ use Rattle.bidi_browser.proofs.context_table.Contexts.hold.Goals as goal
 below-next : (past : List Act) (items : List Context) (number i : ℕ) (c : Context) (n : ℕ) → map row_of items ≡ rows past → position (λ (x : Context). x.number == number) items ≡ Some i → c ≡ get_or items i c
     → next_number past kind.Handle ≤ n → All (λ held. held.0 < n) (row_of c).handles
 below-next past items number i c n table at is next =
-    subst (λ (r : Row). All (λ held. held.0 < n) r.handles) (sym (ap row_of is ∙ at-place row_of past items number i c table at))
+    subst (λ (r : ContextRow). All (λ held. held.0 < n) r.handles) (sym (ap row_of is ∙ at-place row_of past items number i c table at))
     (All-weaker (λ held. held.0 < next_number past kind.Handle) (λ held. held.0 < n) (λ held below. omega arith) (handles_of past (realm_of past number)) (handles-below past (realm_of past number)))
 
 pub hold-requires : goal.hold-requires

@@ -5,7 +5,7 @@ use Rattle.bidi_values.specs.contracts.table_row.TableRowShape.TheImpl.{ghosts}
 use Rattle.bidi_browser.specs.Asked.{row_asked}
 use Rattle.bidi_remote.specs.declared.step.Step.{Step}
 use Rattle.bidi_remote.specs.Machine.Step.{Text}
-use Rattle.bidi_remote.specs.Machine.History.{At, Open, Drop, NotText, InPage, Time, IsHeardAs, IsRow}
+use Rattle.bidi_remote.specs.Machine.History.{At, Open, Drop, NotText, PageStep, Time, IsHeardAs, IsRow}
 use Rattle.bidi_remote.specs.Machine.Outcome.{deeds}
 use Rattle.bidi_remote.specs.Tables.View.{step_of, sent_of}
 use Rattle.bidi_remote.proofs.ChangeLemmas.{agree-time}
@@ -45,25 +45,25 @@ pub returns-in-Frame-clause-ok : goal.returns-in-Frame-clause-ok
 returns-in-Frame-clause-ok c =
     let action = Frame c.as_str-in-Frame.result.now c.as_str-in-Frame-2.result.now in
     page_heard c.page.result (step_of c.args.step) c.args.self.now c.page.new.self action
-    (subst (λ (s : Step). IsHeardAs (step_of s) (InPage action)) (sym c.in-Frame.is) (ap₂ (λ id url. InPage (Frame id url)) c.as_str-in-Frame.ensures.value c.as_str-in-Frame-2.ensures.value)) (λ h short a. c.page.ensures.ok h short a refl refl)
+    (subst (λ (s : Step). IsHeardAs (step_of s) (PageStep action)) (sym c.in-Frame.is) (ap₂ (λ id url. PageStep (Frame id url)) c.as_str-in-Frame.ensures.value c.as_str-in-Frame-2.ensures.value)) (λ h short a. c.page.ensures.ok h short a refl refl)
 
 pub returns-in-Unframe-clause-ok : goal.returns-in-Unframe-clause-ok
 returns-in-Unframe-clause-ok c =
     let action = Unframe c.as_str-in-Unframe.result.now in
     page_heard c.page-in-Unframe.result (step_of c.args.step) c.args.self.now c.page-in-Unframe.new.self action
-    (subst (λ (s : Step). IsHeardAs (step_of s) (InPage action)) (sym c.in-Unframe.is) (ap (λ id. InPage (Unframe id)) c.as_str-in-Unframe.ensures.value)) (λ h short a. c.page-in-Unframe.ensures.ok h short a refl refl)
+    (subst (λ (s : Step). IsHeardAs (step_of s) (PageStep action)) (sym c.in-Unframe.is) (ap (λ id. PageStep (Unframe id)) c.as_str-in-Unframe.ensures.value)) (λ h short a. c.page-in-Unframe.ensures.ok h short a refl refl)
 
 pub returns-in-Log-clause-ok : goal.returns-in-Log-clause-ok
 returns-in-Log-clause-ok c =
     let action = Log c.as_str-in-Log.result.now c.in-Log.level c.as_str-in-Log-2.result.now in
     page_heard c.log.result (step_of c.args.step) c.args.self.now c.log.new.self action
-    (subst (λ (s : Step). IsHeardAs (step_of s) (InPage action)) (sym c.in-Log.is) (ap₂ (λ id line. InPage (Log id c.in-Log.level line)) c.as_str-in-Log.ensures.value c.as_str-in-Log-2.ensures.value)) c.log.ensures.ok
+    (subst (λ (s : Step). IsHeardAs (step_of s) (PageStep action)) (sym c.in-Log.is) (ap₂ (λ id line. PageStep (Log id c.in-Log.level line)) c.as_str-in-Log.ensures.value c.as_str-in-Log-2.ensures.value)) c.log.ensures.ok
 
 pub returns-in_ok-row-in-TableRow-clause-ok : goal.returns-in_ok-row-in-TableRow-clause-ok
 returns-in_ok-row-in-TableRow-clause-ok c =
     let row = c.in_ok-row-in-TableRow.row in
     let action = row_asked row in
     page_heard c.page-in-TableRow.result (step_of c.args.step) c.args.self.now c.page-in-TableRow.new.self action
-    (subst (λ (s : Step). IsHeardAs (step_of s) (InPage action)) (sym c.in-TableRow.is)
+    (subst (λ (s : Step). IsHeardAs (step_of s) (PageStep action)) (sym c.in-TableRow.is)
     (option_map ghosts.shape.tree_of row, subst (λ t. IsRow t (option_map ghosts.shape.tree_of row)) c.as_str-in-TableRow.ensures.value c.in_ok-row-in-TableRow.ensures, refl))
     (λ h short a. c.page-in-TableRow.ensures.ok h short a refl refl)

@@ -2,7 +2,7 @@ use Rattle.std.proofs.Common.{arith}
 use Rattle.std.proofs.lemmas.Str.Pattern.{split_after, split_parts}
 use Rattle.bidi_play.proofs.DigitLemmas.{no_space_at}
 use Rattle.bidi_console.proofs.ResultLemmas.{some_and, if_some_first}
-use Rattle.bidi_play.proofs.lines.parts.Goals as goal
+use Rattle.bidi_play.proofs.lines.split_at_space.Goals as goal
 
 pub returns-clause-first : goal.returns-clause-first
 returns-clause-first c = λ xs ys e f. some_and c.split_once.result _ (split_after 32 c.args.text.now xs ys c.split_once.result c.split_once.ensures.cases (omega arith) e (no_space_at xs f))
