@@ -95,13 +95,13 @@ event_reads s is reads = by_message reads.0 reads.3 (reads.4 is.0 is.1 is.2)
 pub event_typed : (e : Event) → is_event (event.ghosts.shape.tree_of e) ≡ true
 event_typed e =
     ap (λ o. is_text "event" (option_and_then text_in o))
-    (get_member-put (codes "type") (text (codes "event")) (put (codes "method") (text (names.event_text (event_of e.«data»))) (put (codes "params") (told.ghosts.subject.tree_of e.«data») (others_of e.ext))))
+    (get_member-put (codes "type") (text (codes "event")) (put (codes "method") (text (names.event_name_text (event_of e.«data»))) (put (codes "params") (told.ghosts.subject.tree_of e.«data») (others_of e.ext))))
 
 -- its type
 pub event_type_in : (e : Event) → unwrap_or (option_and_then text_in (get_of (codes "type") (event.ghosts.shape.tree_of e))) [] ≡ codes "event"
 event_type_in e =
     ap (λ o. unwrap_or (option_and_then text_in o) [])
-    (get_member-put (codes "type") (text (codes "event")) (put (codes "method") (text (names.event_text (event_of e.«data»))) (put (codes "params") (told.ghosts.subject.tree_of e.«data») (others_of e.ext))))
+    (get_member-put (codes "type") (text (codes "event")) (put (codes "method") (text (names.event_name_text (event_of e.«data»))) (put (codes "params") (told.ghosts.subject.tree_of e.«data») (others_of e.ext))))
 
 pub is_event_text : (s : List ℕ) → IsEventText s → IsMessageText ghosts.shape s → is_event (tree_in s) ≡ true
 is_event_text s is reads =

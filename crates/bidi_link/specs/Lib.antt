@@ -6,5 +6,3 @@ pub mod Steps
 pub mod Rows
 pub mod Stands
 pub mod Outcomes
-pub mod SocketTaking
-pub mod SocketSending

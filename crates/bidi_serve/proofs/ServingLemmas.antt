@@ -6,9 +6,9 @@ use Rattle.bidi_remote.specs.declared.step.Sent.{Sent}
 use Rattle.bidi_remote.specs.declared.step.Sent.TheVariants as in_hand
 use Rattle.bidi_remote.specs.Tables.View.{sent_of}
 use Rattle.bidi_remote.specs.Machine.Sent.{Text, text_on}
-use Rattle.bidi_link.specs.declared.link.LinkFault.{LinkFault}
-use Rattle.bidi_link.specs.SocketSending.{SendsText}
-use Rattle.bidi_link.specs.declared.link.Link.{Link}
+use Rattle.bidi_socket.specs.declared.link.LinkFault.{LinkFault}
+use Rattle.bidi_socket.specs.SocketSending.{SendsText}
+use Rattle.bidi_socket.specs.declared.link.Link.{Link}
 use Rattle.bidi_serve.specs.Serving.{AreSent, all, next, stop}
 
 module _ {S K : Type 0} (contents : S → Option (List ℕ)) where

@@ -9,11 +9,11 @@ use Rattle.bidi_remote.specs.Tables.Stands.{StandsFor}
 use Rattle.bidi_remote.specs.declared.remote_end.RemoteEnd.{RemoteEnd}
 use Rattle.bidi_remote.specs.declared.remote_end.RemoteFault.{RemoteFault}
 use Rattle.bidi_remote.specs.declared.remote_end.RemoteFault.TheVariants.{WornOut}
-use Rattle.bidi_link.specs.declared.link.Link.{Link}
-use Rattle.bidi_link.specs.declared.link.LinkFault.{LinkFault}
-use Rattle.bidi_link.specs.SocketTaking as link
-use Rattle.bidi_link.specs.SocketTaking.{Taken, Control, Closed, IsTaken}
-use Rattle.bidi_link.specs.SocketSending.{SendsText, SendsClose}
+use Rattle.bidi_socket.specs.declared.link.Link.{Link}
+use Rattle.bidi_socket.specs.declared.link.LinkFault.{LinkFault}
+use Rattle.bidi_socket.specs.SocketTaking as link
+use Rattle.bidi_socket.specs.SocketTaking.{Taken, Control, Closed, IsTaken}
+use Rattle.bidi_socket.specs.SocketSending.{SendsText, SendsClose}
 
 -- the connection is open after this history
 abbrev pub is_served : List Input → ℕ → Bool

@@ -1,7 +1,7 @@
 //! Serving over a listener: the remote end behind WebSocket connections, one after another.
 use super::serving::serve_link;
-use bidi_link::Link;
 use bidi_remote::{RemoteEnd, RemoteFault};
+use bidi_socket::Link;
 use bidi_tree::JsUint;
 use http::{Request, Response};
 use std::alloc::{AllocError, Global};

@@ -6,8 +6,8 @@ ghost use Rattle.bidi_remote.specs.Tables.Stands.{StandsFor};
 ghost use Rattle.bidi_remote.specs.Tables.View.{step_of, sent_of};
 ghost use Rattle.bidi_serve.specs.Serving.{AreSent, Exchange, Exchanged, Exchanges, IsRefused, Served, dropped, is_denied, is_served};
 
-use bidi_link::{Incoming, Link};
 use bidi_remote::{RemoteEnd, RemoteFault, Sent, Step};
+use bidi_socket::{Incoming, Link};
 use bidi_tree::JsUint;
 use std::alloc::{AllocError, Global};
 use std::io::{Read, Write};

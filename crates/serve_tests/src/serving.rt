@@ -1,9 +1,9 @@
 //! Serving over loopback, in one process: what the clients write, the server, and what the clients read.
 //!
 //! A value that is large in the prover's eyes (a remote end, a link) is held by a function without another way out.
-use bidi_link::Link;
 use bidi_remote::RemoteEnd;
 use bidi_serve::{ServeFault, serve, serve_link};
+use bidi_socket::Link;
 use bidi_tree::JsUint;
 use std::alloc::{AllocError, Global};
 use std::io;

@@ -1,6 +1,6 @@
 use Rattle.std.proofs.Common.{◌∷◌, Ok, subst, sym}
 use Rattle.std.specs.Prelude.{string_bytes}
-use Rattle.bidi_link.specs.SocketTaking.{Text, NotText, IsTaken, incoming_seen}
+use Rattle.bidi_socket.specs.SocketTaking.{Text, NotText, IsTaken, incoming_seen}
 use Rattle.bidi_serve.specs.Serving.{Exchange, control, message, end}
 use Rattle.bidi_serve.proofs.ServingLemmas.{gives}
 use Rattle.bidi_serve.proofs.serving.exchange.Goals as goal

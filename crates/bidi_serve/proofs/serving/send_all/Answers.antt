@@ -1,7 +1,7 @@
 use Rattle.std.proofs.Common.{true, false, sym, subst, map, arith}
 use Rattle.bidi_remote.specs.Machine.Sent.{text_on, texts_on}
 use Rattle.bidi_remote.specs.Tables.View.{sent_of}
-use Rattle.bidi_link.proofs.LinkFateLemmas.{no_length}
+use Rattle.std.proofs.lemmas.List.{nil_from_length}
 use Rattle.bidi_serve.specs.Serving.{AreSent, all}
 use Rattle.bidi_serve.proofs.ServingLemmas.{sent-more, sent-stop}
 use Rattle.bidi_serve.proofs.serving.send_all.Goals as goal
@@ -20,5 +20,5 @@ texts-preserved g c = λ n w rest.
 
 pub returns : goal.returns
 returns g c =
-    let none = no_length c.texts.one-iterator.rest.items (omega (arith, c.in-None.ensures.steps.0, c.texts.one-iterator.rest.ok)) in
+    let none = nil_from_length c.texts.one-iterator.rest.items (omega (arith, c.in-None.ensures.steps.0, c.texts.one-iterator.rest.ok)) in
     c.texts.invariant c.texts.link true (subst (λ xs. AreSent g.S.Write.contents c.texts.link (texts_on c.args.conn.value (map sent_of xs)) c.texts.link true) (sym none) (all c.texts.link))

@@ -1,7 +1,7 @@
 //! Links over streams of given bytes: what each call answers, and what is written.
 ghost use Rattle.std.specs.Prelude.{◌<◌};
 
-use bidi_link::{Incoming, Link, LinkFault};
+use bidi_socket::{Incoming, Link, LinkFault};
 use std::alloc::Global;
 use std::cell::RefCell;
 use std::io;

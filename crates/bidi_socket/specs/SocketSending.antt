@@ -6,10 +6,10 @@ use Rattle.tungstenite.specs.Connection.{Effect, write_step, can_write}
 use Rattle.tungstenite.specs.Content.{text, close}
 use Rattle.tungstenite.specs.Failure.{of_frame}
 use Rattle.tungstenite.specs.Socket.{Socket, Writes}
-use Rattle.bidi_link.specs.declared.link.Link.{Link}
-use Rattle.bidi_link.specs.declared.link.LinkFault.{LinkFault}
-use Rattle.bidi_link.specs.declared.link.LinkFault.TheVariants as fault
-use Rattle.bidi_link.specs.SocketTaking.{fault_of}
+use Rattle.bidi_socket.specs.declared.link.Link.{Link}
+use Rattle.bidi_socket.specs.declared.link.LinkFault.{LinkFault}
+use Rattle.bidi_socket.specs.declared.link.LinkFault.TheVariants as fault
+use Rattle.bidi_socket.specs.SocketTaking.{fault_of}
 
 -- the link is closed after it
 abbrev pub closes : LinkFault → Bool

@@ -5,11 +5,11 @@ use Rattle.tungstenite.specs.declared.error.Error.{Error}
 use Rattle.tungstenite.specs.declared.error.Error.TheVariants.{Io, WriteBufferFull, OutOfMemory, ConnectionClosed, AlreadyClosed}
 use Rattle.tungstenite.specs.declared.message.Message.{Message}
 use Rattle.tungstenite.specs.declared.message.Message.TheVariants as message
-use Rattle.bidi_link.specs.declared.link.Incoming.{Incoming}
-use Rattle.bidi_link.specs.declared.link.Incoming.TheVariants as in_hand
-use Rattle.bidi_link.specs.declared.link.Link.{Link}
-use Rattle.bidi_link.specs.declared.link.LinkFault.{LinkFault}
-use Rattle.bidi_link.specs.declared.link.LinkFault.TheVariants as fault
+use Rattle.bidi_socket.specs.declared.link.Incoming.{Incoming}
+use Rattle.bidi_socket.specs.declared.link.Incoming.TheVariants as in_hand
+use Rattle.bidi_socket.specs.declared.link.Link.{Link}
+use Rattle.bidi_socket.specs.declared.link.LinkFault.{LinkFault}
+use Rattle.bidi_socket.specs.declared.link.LinkFault.TheVariants as fault
 
 -- what is taken
 pub data Taken : Type 0 where

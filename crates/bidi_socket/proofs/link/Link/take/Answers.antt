@@ -1,5 +1,5 @@
 use Rattle.std.proofs.Common.{true≢false, sym, ◌∙◌, Ok, Err, inl}
-use Rattle.bidi_link.proofs.link.Link.take.Goals as goal
+use Rattle.bidi_socket.proofs.link.Link.take.Goals as goal
 
 pub returns-in-Ok-clause-takes : goal.returns-in-Ok-clause-takes
 returns-in-Ok-clause-takes g c = record {

@@ -2,8 +2,8 @@
 ghost use Rattle.std.specs.Prelude.{◌≡◌, ◌⊎◌, false, IfOk, IfErr, OnOk, IsOk, Ok, Err};
 ghost use Rattle.tungstenite.specs.Socket.{Flushed, IsFresh};
 ghost use Rattle.websocket.specs.declared.protocol.config.Role.TheVariants as role;
-ghost use Rattle.bidi_link.specs.SocketTaking.{IsTaken, Settles, seen, told, told_fault, fault_of, is_last, IsFaultOfTaking};
-ghost use Rattle.bidi_link.specs.SocketSending.{SendsText, SendsClose, IsFaultOf, closes};
+ghost use Rattle.bidi_socket.specs.SocketTaking.{IsTaken, Settles, seen, told, told_fault, fault_of, is_last, IsFaultOfTaking};
+ghost use Rattle.bidi_socket.specs.SocketSending.{SendsText, SendsClose, IsFaultOf, closes};
 
 use std::alloc::{AllocError, Global};
 use std::io::{Read, Write};

@@ -1,0 +1,2 @@
+pub mod SocketTaking
+pub mod SocketSending
