@@ -55,7 +55,7 @@ pub enum LineFault {
 // What the help of each subcommand ends with: the forms of its lines, and its statuses.
 
 const PLAY_HELP: &str =
-    "Lines in: `open N /session` opens connection N, `> N TEXT` is a text on it, `drop N` cuts it;\n`at`, `binary`, `frame`, `unframe`, `log` and `value` are the clock, the pages and the scripts.\nLines out: `opened N`, `denied N`, `< N TEXT`, `close N`, `lost N`, `no effect`.\nStatus: 0 where all was played, 2 at a bad line, 3 where input, output or memory failed.\nThe rest stands in docs/FORMATS.md.";
+    "Lines in: `open N /session`, `> N TEXT`, `binary N` and `drop N` are of connection N, `at MOMENT` sets the clock,\n`frame CONTEXT URL`, `unframe CONTEXT` and `log CONTEXT LEVEL TEXT` happen in a page, `value ROW` says what a script does.\nLines out: `opened N`, `denied N`, `< N TEXT`, `close N`, `lost N`, `no effect`.\nStatus: 0 where all was played, 2 at a bad line, 3 where input, output or memory failed.\nThe rest stands in docs/FORMATS.md.";
 
 const PAIR_HELP: &str =
     "Lines in: `open L /session` opens link L, `send L METHOD PARAMS` sends a command,\n`up L` and `down L` carry a text, `cut L` drops the link, and lines of a play.\nLines out: what became of each command, and which events each link received.\nStatus: 0 where all was played, 2 at a bad line, 3 where input, output or memory failed.\nThe rest stands in docs/FORMATS.md.";
