@@ -10,7 +10,7 @@ use Rattle.bidi_shape.specs.Parts.{put_part}
 use Rattle.bidi_shape.specs.ValueLaws.{others_of}
 use Rattle.bidi_codes.specs.declared.error_code.ErrorCode.{ErrorCode}
 use Rattle.bidi_codes.specs.declared.error_code.ErrorCode.TheVariants.{NoSuchHandle, NoSuchNode}
-use Rattle.bidi_values.specs.BesideLaws.{around}
+use Rattle.bidi_values.specs.SiblingLaws.{around}
 use Rattle.bidi_values.specs.Content.{content, pair_content, contents_of, pairs_of, content-List, content-Pairs}
 use Rattle.bidi_values.specs.Kinds.{list_text, pairs_text}
 use Rattle.bidi_values.specs.NestedLaws.{NestingOf, value_tree, values_tree, pairs_tree}

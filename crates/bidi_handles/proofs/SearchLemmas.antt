@@ -6,7 +6,8 @@ use Rattle.std.specs.List.Sorted.{IsSearchInRange, IsBinarySearchResult, IsNonDe
 use Rattle.std.specs.Ordering.{nat_cmp, ordering_index}
 use Rattle.std.proofs.lemmas.Bool.Decides.{nat_tests, Decides-eqb}
 use Rattle.std.proofs.lemmas.Cmp.{ranked}
-use Rattle.std.proofs.lemmas.List.{get_or-map, length-map, map-append, take_more}
+use Rattle.std.proofs.Math.Seq.{get_or-append_seam}
+use Rattle.std.proofs.lemmas.List.{get_or-map, get_or_append_left, length-map, length-append, map-append, take_more}
 use Rattle.std.proofs.lemmas.List.Folds.{list_any-append}
 use Rattle.std.proofs.lemmas.List.Kept.{AllPairs-from_increasing, IsStrictlyIncreasing-filter}
 use Rattle.std.proofs.lemmas.List.Sorted.{searched}
@@ -95,6 +96,21 @@ value-seen t hs o is = seen o ∙ ap (option_map (λ held. held.1)) (ap (option_
 -- what holds of each that is seen holds of each handle, as it is seen
 pub all-seen : (P : ℕ × Node → Type 0) (hs : List Handle) → All P (map handle_seen hs) → All (λ h. P (handle_seen h)) hs
 all-seen P hs all k d less = subst P (get_or-map handle_seen hs k d (handle_seen d) less) (all k (handle_seen d) (omega (arith, length-map hs handle_seen)))
+
+number_at : (hs : List Handle) (k : ℕ) (d : ℕ × Node) → (get_or (map handle_seen hs) k d).0 ≡ get_or (map (λ h. h.number) hs) k d.0
+number_at [] k d = refl
+number_at (h ∷ hs) zero d = refl
+number_at (h ∷ hs) (suc k) d = number_at hs k d
+
+-- a number that ascends behind those of handles is above them
+pub all-below : (hs : List Handle) (n : ℕ) → IsStrictlyIncreasing (map (λ h. h.number) hs ++ n ∷ []) → All (λ held. held.0 < n) (map handle_seen hs)
+all-below hs n up k d less =
+    let ns : List ℕ = map (λ h. h.number) hs in
+    let within : k < length ns = omega (arith, less, length-map hs handle_seen, length-map hs (λ (h : Handle). h.number)) in
+    let last : length ns < length (ns ++ n ∷ []) = omega (arith, length-append ns (n ∷ [])) in
+    let lower : get_or (ns ++ n ∷ []) k d.0 < get_or (ns ++ n ∷ []) (length ns) d.0 = AllPairs-from_increasing (ns ++ n ∷ []) up k (length ns) d.0 within last in
+    let here : get_or ns k d.0 < get_or (ns ++ n ∷ []) (length ns) d.0 = subst (λ x. x < get_or (ns ++ n ∷ []) (length ns) d.0) (get_or_append_left ns (n ∷ []) d.0 k within) lower in
+    subst (λ x. x < n) (sym (number_at hs k d)) (subst (λ y. get_or ns k d.0 < y) (get_or-append_seam ns n [] d.0) here)
 
 -- those without some of them ascend too
 pub ascend-filter : (p : ℕ → Bool) (hs : List Handle) → IsStrictlyIncreasing (map (λ h. h.number) hs) → IsStrictlyIncreasing (map (λ h. h.number) (filter (λ h. p h.number) hs))

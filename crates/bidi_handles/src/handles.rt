@@ -69,10 +69,11 @@ impl Handles {
         self.items.reserve(1)
     }
 
-    /// Adds a handle, if its number is above those of all others. Takes no memory.
+    /// Adds a handle, if its number is above those of all others; else they stay as they are. Takes no memory.
     pub fn hold(&mut self, handle: Handle)
         requires { HasSpare self.now }
-        ensures { All (λ held. held.0 < handle.number) (handles_seen self.old) → handles_seen self.new ≡ handles_seen self.old ++ handle_seen handle ∷ [] }
+        ensures added { All (λ held. held.0 < handle.number) (handles_seen self.old) → handles_seen self.new ≡ handles_seen self.old ++ handle_seen handle ∷ [] }
+        ensures kept { ¬ All (λ held. held.0 < handle.number) (handles_seen self.old) → handles_seen self.new ≡ handles_seen self.old }
     {
         if may_come(&self.items, handle.number) {
             self.items.push_reserved(handle);

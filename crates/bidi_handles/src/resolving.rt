@@ -108,21 +108,21 @@ fn resolved(alloc: Global, handles: &Handles, value: &LocalValue) -> Result<Remo
         Nested::Plain(plain) => resolved_plain(alloc, handles, plain),
         Nested::List(kind, values) => {
             let values = resolved_values(alloc, handles, values)?;
-            let beside = RemoteList {
+            let siblings = RemoteList {
                 kind: *kind,
                 handle: None,
                 internal_id: None,
             };
-            Ok(Nested::List(beside, values))
+            Ok(Nested::List(siblings, values))
         }
         Nested::Pairs(kind, pairs) => {
             let pairs = resolved_pairs(alloc, handles, pairs)?;
-            let beside = RemotePairs {
+            let siblings = RemotePairs {
                 kind: *kind,
                 handle: None,
                 internal_id: None,
             };
-            Ok(Nested::Pairs(beside, pairs))
+            Ok(Nested::Pairs(siblings, pairs))
         }
     }
 }

@@ -47,13 +47,13 @@ fn with_handle(value: RemoteValue, handle: String) -> RemoteValue
     ensures { remote_tree result ≡ with_member "handle" (text (string_bytes handle)) (remote_tree value) }
 {
     match value {
-        Nested::List(mut beside, values) => {
-            beside.handle = Some(handle);
-            Nested::List(beside, values)
+        Nested::List(mut siblings, values) => {
+            siblings.handle = Some(handle);
+            Nested::List(siblings, values)
         }
-        Nested::Pairs(mut beside, pairs) => {
-            beside.handle = Some(handle);
-            Nested::Pairs(beside, pairs)
+        Nested::Pairs(mut siblings, pairs) => {
+            siblings.handle = Some(handle);
+            Nested::Pairs(siblings, pairs)
         }
         Nested::Plain(plain) => Nested::Plain(plain_with_handle(plain, handle)),
     }

@@ -7,7 +7,7 @@ ghost use Rattle.bidi_shape.specs.Outcome.{IfNoFit};
 ghost use Rattle.bidi_messages.specs.Method.{params_of as params_rule};
 
 use crate::method::Method;
-use crate::subject::{Subject, read_about, write_about};
+use crate::subject::{Subject, draft_about, read_about};
 use bidi_params::session::NewParameters;
 use bidi_params::{
     ActivateParameters, CloseParameters, CreateParameters, EmptyParams, GetRealmsParameters,
@@ -15,7 +15,7 @@ use bidi_params::{
     TraverseHistoryParameters, UnsubscribeParameters,
 };
 use bidi_shape::{Ext, Parsed, Ruled, Shape, ShapeFault};
-use bidi_tree::{JsUint, Tree};
+use bidi_tree::{Draft, JsUint, Tree};
 use bidi_values::{CallFunctionParameters, DisownParameters, EvaluateParameters};
 use std::alloc::{AllocError, Global};
 
@@ -153,24 +153,24 @@ impl Subject<Method> for CommandData {
         }
     }
 
-    fn content(&self, alloc: Global) -> Result<Tree, AllocError> {
+    fn draft<'a>(&'a self, alloc: Global) -> Result<Draft<'a>, AllocError> {
         match self {
-            CommandData::SessionStatus(params) => params.to_tree(alloc),
-            CommandData::SessionNew(params) => params.to_tree(alloc),
-            CommandData::SessionEnd(params) => params.to_tree(alloc),
-            CommandData::SessionSubscribe(params) => params.to_tree(alloc),
-            CommandData::SessionUnsubscribe(params) => params.to_tree(alloc),
-            CommandData::BrowsingContextActivate(params) => params.to_tree(alloc),
-            CommandData::BrowsingContextClose(params) => params.to_tree(alloc),
-            CommandData::BrowsingContextCreate(params) => params.to_tree(alloc),
-            CommandData::BrowsingContextGetTree(params) => params.to_tree(alloc),
-            CommandData::BrowsingContextNavigate(params) => params.to_tree(alloc),
-            CommandData::BrowsingContextReload(params) => params.to_tree(alloc),
-            CommandData::BrowsingContextTraverseHistory(params) => params.to_tree(alloc),
-            CommandData::ScriptEvaluate(params) => params.to_tree(alloc),
-            CommandData::ScriptCallFunction(params) => params.to_tree(alloc),
-            CommandData::ScriptDisown(params) => params.to_tree(alloc),
-            CommandData::ScriptGetRealms(params) => params.to_tree(alloc),
+            CommandData::SessionStatus(params) => params.draft(alloc),
+            CommandData::SessionNew(params) => params.draft(alloc),
+            CommandData::SessionEnd(params) => params.draft(alloc),
+            CommandData::SessionSubscribe(params) => params.draft(alloc),
+            CommandData::SessionUnsubscribe(params) => params.draft(alloc),
+            CommandData::BrowsingContextActivate(params) => params.draft(alloc),
+            CommandData::BrowsingContextClose(params) => params.draft(alloc),
+            CommandData::BrowsingContextCreate(params) => params.draft(alloc),
+            CommandData::BrowsingContextGetTree(params) => params.draft(alloc),
+            CommandData::BrowsingContextNavigate(params) => params.draft(alloc),
+            CommandData::BrowsingContextReload(params) => params.draft(alloc),
+            CommandData::BrowsingContextTraverseHistory(params) => params.draft(alloc),
+            CommandData::ScriptEvaluate(params) => params.draft(alloc),
+            CommandData::ScriptCallFunction(params) => params.draft(alloc),
+            CommandData::ScriptDisown(params) => params.draft(alloc),
+            CommandData::ScriptGetRealms(params) => params.draft(alloc),
         }
     }
 }
@@ -220,7 +220,7 @@ impl Shape for Command {
         })
     }
 
-    fn to_tree(&self, alloc: Global) -> Result<Tree, AllocError> {
-        write_about(alloc, "id", &self.id, &self.data, &self.ext)
+    fn draft<'a>(&'a self, alloc: Global) -> Result<Draft<'a>, AllocError> {
+        draft_about(alloc, "id", &self.id, &self.data, &self.ext)
     }
 }

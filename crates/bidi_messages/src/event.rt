@@ -2,10 +2,10 @@
 ghost use Rattle.std.specs.Prelude.{◌≡◌, IfOk};
 ghost use Rattle.bidi_tree.specs.View.{node};
 
-use crate::subject::{Subject, read_about, write_about};
+use crate::subject::{Subject, draft_about, read_about};
 use bidi_params::{Info, NavigationInfo, RealmDestroyedParameters, RealmInfo};
 use bidi_shape::{Ext, Named, Parsed, Ruled, Shape, ShapeFault};
-use bidi_tree::Tree;
+use bidi_tree::{Draft, Tree};
 use bidi_values::LogEntry;
 use std::alloc::{AllocError, Global};
 
@@ -169,16 +169,16 @@ impl Subject<EventName> for EventData {
         }
     }
 
-    fn content(&self, alloc: Global) -> Result<Tree, AllocError> {
+    fn draft<'a>(&'a self, alloc: Global) -> Result<Draft<'a>, AllocError> {
         match self {
-            EventData::ContextCreated(params) => params.to_tree(alloc),
-            EventData::ContextDestroyed(params) => params.to_tree(alloc),
-            EventData::NavigationStarted(params) => params.to_tree(alloc),
-            EventData::DomContentLoaded(params) => params.to_tree(alloc),
-            EventData::Load(params) => params.to_tree(alloc),
-            EventData::RealmCreated(params) => params.to_tree(alloc),
-            EventData::RealmDestroyed(params) => params.to_tree(alloc),
-            EventData::EntryAdded(params) => params.to_tree(alloc),
+            EventData::ContextCreated(params) => params.draft(alloc),
+            EventData::ContextDestroyed(params) => params.draft(alloc),
+            EventData::NavigationStarted(params) => params.draft(alloc),
+            EventData::DomContentLoaded(params) => params.draft(alloc),
+            EventData::Load(params) => params.draft(alloc),
+            EventData::RealmCreated(params) => params.draft(alloc),
+            EventData::RealmDestroyed(params) => params.draft(alloc),
+            EventData::EntryAdded(params) => params.draft(alloc),
         }
     }
 }
@@ -198,7 +198,7 @@ impl EventData {
     pub fn tree_of(&self, alloc: Global) -> Result<Tree, AllocError>
         ensures { IfOk result (λ t. node t ≡ ⟦<EventData as Subject<EventName>>⟧.subject.tree_of self.now) }
     {
-        self.content(alloc)
+        self.to_tree(alloc)
     }
 }
 
@@ -224,7 +224,7 @@ impl Shape for Event {
         })
     }
 
-    fn to_tree(&self, alloc: Global) -> Result<Tree, AllocError> {
-        write_about(alloc, "type", &EventType::Event, &self.data, &self.ext)
+    fn draft<'a>(&'a self, alloc: Global) -> Result<Draft<'a>, AllocError> {
+        draft_about(alloc, "type", &EventType::Event, &self.data, &self.ext)
     }
 }

@@ -2,10 +2,10 @@
 use crate::event::Event;
 use bidi_codes::ErrorCode;
 use bidi_shape::{
-    Either, Ext, Fields, Literal, Optional, Parsed, Required, Ruled, Shape, ShapeFault,
-    add_literal, add_member, add_optional, read_choice, read_fields,
+    Either, Exact, Ext, Fields, Literal, Maybe, One, Optional, Parsed, Required, Rest, Ruled,
+    Shape, ShapeFault, draft_fields, read_choice, read_fields,
 };
-use bidi_tree::{JsUint, Tree};
+use bidi_tree::{Draft, JsUint};
 use std::alloc::{AllocError, Global};
 
 /// The answer to a command that was carried out, with its result.
@@ -22,6 +22,11 @@ pub struct Response {
     pub result: Ext,
     /// The members beside `type`, `id` and `result`. They have no effect.
     pub ext: Ext,
+}
+
+impl Response {
+    // In the order of the rule.
+    const NAMES: &'static [&'static str] = &["type", "id", "result"];
 }
 
 type ResponseParts = Literal<Required<JsUint, Required<Ext, Ext>>>;
@@ -44,16 +49,13 @@ impl Shape for Response {
             Response,
             ResponseParts,
             S,
-        >(alloc, tree, &["type", "id", "result"], &["success"])?;
+        >(alloc, tree, Self::NAMES, &["success"])?;
         Ok(Response { id, result, ext })
     }
 
-    fn to_tree(&self, alloc: Global) -> Result<Tree, AllocError> {
-        let mut members = self.ext.copy_members()?;
-        add_member(alloc, &mut members, "result", &self.result)?;
-        add_member(alloc, &mut members, "id", &self.id)?;
-        add_literal(alloc, &mut members, "type", "success")?;
-        Ok(Tree::Map(members))
+    fn draft<'a>(&'a self, alloc: Global) -> Result<Draft<'a>, AllocError> {
+        let members = Exact(One(&self.id, One(&self.result, Rest(&self.ext))));
+        draft_fields(alloc, &members, Self::NAMES, &["success"])
     }
 }
 
@@ -76,6 +78,11 @@ pub struct ErrorResponse {
     pub ext: Ext,
 }
 
+impl ErrorResponse {
+    // In the order of the rule.
+    const NAMES: &'static [&'static str] = &["type", "id", "error", "message", "stacktrace"];
+}
+
 type ErrorParts = Literal<
     Required<Option<JsUint>, Required<ErrorCode, Required<String, Optional<String, Ext>>>>,
 >;
@@ -95,12 +102,7 @@ impl Shape for ErrorResponse {
 
     fn from_tree<S: Parsed>(alloc: Global, tree: &S) -> Result<ErrorResponse, ShapeFault> {
         let Literal(Required(id, Required(error, Required(message, Optional(stacktrace, ext))))) =
-            read_fields::<ErrorResponse, ErrorParts, S>(
-                alloc,
-                tree,
-                &["type", "id", "error", "message", "stacktrace"],
-                &["error"],
-            )?;
+            read_fields::<ErrorResponse, ErrorParts, S>(alloc, tree, Self::NAMES, &["error"])?;
         Ok(ErrorResponse {
             id,
             error,
@@ -110,14 +112,15 @@ impl Shape for ErrorResponse {
         })
     }
 
-    fn to_tree(&self, alloc: Global) -> Result<Tree, AllocError> {
-        let mut members = self.ext.copy_members()?;
-        add_optional(alloc, &mut members, "stacktrace", &self.stacktrace)?;
-        add_member(alloc, &mut members, "message", &self.message)?;
-        add_member(alloc, &mut members, "error", &self.error)?;
-        add_member(alloc, &mut members, "id", &self.id)?;
-        add_literal(alloc, &mut members, "type", "error")?;
-        Ok(Tree::Map(members))
+    fn draft<'a>(&'a self, alloc: Global) -> Result<Draft<'a>, AllocError> {
+        let members = Exact(One(
+            &self.id,
+            One(
+                &self.error,
+                One(&self.message, Maybe(&self.stacktrace, Rest(&self.ext))),
+            ),
+        ));
+        draft_fields(alloc, &members, Self::NAMES, &["error"])
     }
 }
 
@@ -164,11 +167,11 @@ impl Shape for Message {
         }
     }
 
-    fn to_tree(&self, alloc: Global) -> Result<Tree, AllocError> {
+    fn draft<'a>(&'a self, alloc: Global) -> Result<Draft<'a>, AllocError> {
         match self {
-            Message::Response(response) => response.to_tree(alloc),
-            Message::Error(error) => error.to_tree(alloc),
-            Message::Event(event) => event.to_tree(alloc),
+            Message::Response(response) => response.draft(alloc),
+            Message::Error(error) => error.draft(alloc),
+            Message::Event(event) => event.draft(alloc),
         }
     }
 }

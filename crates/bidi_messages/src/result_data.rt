@@ -15,7 +15,7 @@ use bidi_params::{
     SubscribeResult,
 };
 use bidi_shape::{Parsed, Shape, ShapeFault};
-use bidi_tree::{Members, Tree, copy_members};
+use bidi_tree::{Draft, Members, Tree, copy_members};
 use bidi_values::EvaluateResult;
 use std::alloc::{AllocError, Global};
 
@@ -134,24 +134,24 @@ impl Subject<Method> for ResultData {
         }
     }
 
-    fn content(&self, alloc: Global) -> Result<Tree, AllocError> {
+    fn draft<'a>(&'a self, alloc: Global) -> Result<Draft<'a>, AllocError> {
         match self {
-            ResultData::SessionStatus(result) => result.to_tree(alloc),
-            ResultData::SessionNew(result) => result.to_tree(alloc),
-            ResultData::SessionEnd(result) => result.to_tree(alloc),
-            ResultData::SessionSubscribe(result) => result.to_tree(alloc),
-            ResultData::SessionUnsubscribe(result) => result.to_tree(alloc),
-            ResultData::BrowsingContextActivate(result) => result.to_tree(alloc),
-            ResultData::BrowsingContextClose(result) => result.to_tree(alloc),
-            ResultData::BrowsingContextCreate(result) => result.to_tree(alloc),
-            ResultData::BrowsingContextGetTree(result) => result.to_tree(alloc),
-            ResultData::BrowsingContextNavigate(result) => result.to_tree(alloc),
-            ResultData::BrowsingContextReload(result) => result.to_tree(alloc),
-            ResultData::BrowsingContextTraverseHistory(result) => result.to_tree(alloc),
-            ResultData::ScriptEvaluate(result) => result.to_tree(alloc),
-            ResultData::ScriptCallFunction(result) => result.to_tree(alloc),
-            ResultData::ScriptDisown(result) => result.to_tree(alloc),
-            ResultData::ScriptGetRealms(result) => result.to_tree(alloc),
+            ResultData::SessionStatus(result) => result.draft(alloc),
+            ResultData::SessionNew(result) => result.draft(alloc),
+            ResultData::SessionEnd(result) => result.draft(alloc),
+            ResultData::SessionSubscribe(result) => result.draft(alloc),
+            ResultData::SessionUnsubscribe(result) => result.draft(alloc),
+            ResultData::BrowsingContextActivate(result) => result.draft(alloc),
+            ResultData::BrowsingContextClose(result) => result.draft(alloc),
+            ResultData::BrowsingContextCreate(result) => result.draft(alloc),
+            ResultData::BrowsingContextGetTree(result) => result.draft(alloc),
+            ResultData::BrowsingContextNavigate(result) => result.draft(alloc),
+            ResultData::BrowsingContextReload(result) => result.draft(alloc),
+            ResultData::BrowsingContextTraverseHistory(result) => result.draft(alloc),
+            ResultData::ScriptEvaluate(result) => result.draft(alloc),
+            ResultData::ScriptCallFunction(result) => result.draft(alloc),
+            ResultData::ScriptDisown(result) => result.draft(alloc),
+            ResultData::ScriptGetRealms(result) => result.draft(alloc),
         }
     }
 }
@@ -171,7 +171,7 @@ impl ResultData {
     pub fn tree_of(&self, alloc: Global) -> Result<Tree, AllocError>
         ensures { IfOk result (λ t. node t ≡ ⟦<ResultData as Subject<Method>>⟧.subject.tree_of self.now) }
     {
-        self.content(alloc)
+        self.to_tree(alloc)
     }
 }
 

@@ -3,7 +3,6 @@ ghost use Rattle.std.specs.Prelude.{◌≡◌, ◌≤◌, Some, IfOk, IsSome, st
 ghost use Rattle.bidi_tree.specs.Node.{levels, map};
 ghost use Rattle.bidi_tree.specs.Kind.{map_in};
 ghost use Rattle.bidi_tree.specs.Text.{tree_of};
-ghost use Rattle.bidi_tree.specs.View.{node};
 ghost use Rattle.bidi_shape.specs.ValueLaws.{others_of};
 ghost use Rattle.bidi_messages.specs.Message.{response_tree, response_text, error_text, event_text};
 ghost use Rattle.bidi_messages.specs.Reading.{IsMessageText};
@@ -12,11 +11,11 @@ use crate::event::{EventData, EventName, EventType};
 use crate::message::{ErrorResponse, Message, Response};
 use crate::method::Method;
 use crate::result_data::ResultData;
-use crate::subject::{Subject, write_about};
+use crate::subject::{Subject, draft_about};
 use crate::text::text_of;
 use bidi_codes::ErrorCode;
-use bidi_shape::{Ext, Named, Shape, add_literal, add_member};
-use bidi_tree::{JsUint, Tree, put_member, write};
+use bidi_shape::{Ext, Named, Shape};
+use bidi_tree::{JsUint, Tree, write_draft};
 use std::alloc::{AllocError, Global};
 
 /// The text of the response to a command: compact, its members in byte order of their names.
@@ -45,8 +44,7 @@ pub fn response_text(
         result: members,
         ext: Ext::empty(alloc),
     };
-    let tree = response_tree(alloc, response)?;
-    write(alloc, &tree)
+    text_of(alloc, &response)
 }
 
 /// The members of a result. It is used up.
@@ -54,27 +52,12 @@ fn contents<D: Subject<Method>>(alloc: Global, result_data: D) -> Result<Ext, Al
     requires { IsSome (map_in (D.subject.tree_of result_data)) }
     ensures { IfOk result (λ e. map (others_of e) ≡ D.subject.tree_of result_data) }
 {
-    let Tree::Map(members) = result_data.content(alloc)? else {
+    let Tree::Map(members) = result_data.to_tree(alloc)? else {
         unreachable!()
     };
     // The contract of `len` has the order of the names, which an `Ext` keeps.
     let _ = members.len();
     Ok(Ext { members })
-}
-
-/// The tree of a response, which is used up: its members are not copied.
-fn response_tree(alloc: Global, response: Response) -> Result<Tree, AllocError>
-    ensures { IfOk result (λ t. node t ≡ ⟦<Response as Shape>⟧.shape.tree_of response) }
-{
-    let mut members = response.ext.members;
-    put_member(
-        &mut members,
-        String::from_str(alloc, "result")?,
-        Tree::Map(response.result.members),
-    )?;
-    add_member(alloc, &mut members, "id", &response.id)?;
-    add_literal(alloc, &mut members, "type", "success")?;
-    Ok(Tree::Map(members))
 }
 
 /// The text of an event.
@@ -88,8 +71,8 @@ pub fn event_text(alloc: Global, event: &EventData) -> Result<String, AllocError
     ensures reads_back { IfOk result (λ s. IsMessageText ⟦<Message as Shape>⟧.shape (string_bytes s)) }
 {
     let ext = Ext::empty(alloc);
-    let tree = write_about(alloc, "type", &EventType::Event, event, &ext)?;
-    write(alloc, &tree)
+    let draft = draft_about(alloc, "type", &EventType::Event, event, &ext)?;
+    write_draft(alloc, &draft)
 }
 
 /// The text of an error, whose message is the code's text.

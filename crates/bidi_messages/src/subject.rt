@@ -1,8 +1,9 @@
 //! What a message is about: a method with its params.
 ghost use Rattle.std.specs.Prelude.{◌≡◌, IfOk, OnOk, Some, codes, true};
 ghost use Rattle.bidi_tree.specs.Node as kind;
-ghost use Rattle.bidi_tree.specs.Node.{put, get_member};
+ghost use Rattle.bidi_tree.specs.Node.{put, get_member, IsSound};
 ghost use Rattle.bidi_tree.specs.Kind.{members_in};
+ghost use Rattle.bidi_tree.specs.Draft.{draft_node};
 ghost use Rattle.bidi_tree.specs.View.{node};
 ghost use Rattle.bidi_shape.specs.Term.{required};
 ghost use Rattle.bidi_shape.specs.Fits.{Fits};
@@ -16,8 +17,11 @@ use bidi_shape::{
     Ext, Fields, Named, Parsed, Required, Ruled, Shape, ShapeFault, add_literal, add_member,
     read_word,
 };
-use bidi_tree::{Tree, put_member};
+use bidi_tree::{Draft, Tree, draft_members_of, own_draft, put_draft};
 use std::alloc::{AllocError, Global};
+
+/// The members that such a map has by its rule.
+const ROOM: usize = 3;
 
 /// A value of one of several kinds, each with a rule of its own.
 pub trait Subject<K: Drop>: Drop {
@@ -37,12 +41,24 @@ pub trait Subject<K: Drop>: Drop {
         ensures ok { IfOk result (λ v. (subject.kind v ≡ kind) × (subject.tree_of v ≡ S.tree tree.now) × subject.well v) }
         ensures no_fit { IfNoFit result (Fits (S.tree tree.now) (subject.rule kind) → ⊥) };
 
+    /// Makes the draft of the value's tree, to be written. No text is copied.
+    ///
+    /// # Errors
+    /// No memory: an allocation failed.
+    fn draft<'a>(&'a self, alloc: Global) -> Result<Draft<'a>, AllocError>
+        ensures tree { IfOk result (λ d. draft_node d ≡ subject.tree_of self.now) }
+        ensures sound { IfOk result (λ d. IsSound (draft_node d)) };
+
     /// Makes the tree of the value.
     ///
     /// # Errors
     /// No memory: an allocation failed.
-    fn content(&self, alloc: Global) -> Result<Tree, AllocError>
-        ensures { IfOk result (λ t. node t ≡ subject.tree_of self.now) };
+    final fn to_tree(&self, alloc: Global) -> Result<Tree, AllocError>
+        ensures { IfOk result (λ t. node t ≡ subject.tree_of self.now) }
+    {
+        let draft = self.draft(alloc)?;
+        own_draft(alloc, &draft)
+    }
 }
 
 /// A map that says what it is about: its first member, its method with the params, and its other members.
@@ -109,26 +125,23 @@ fn content_at<K: Drop, D: Subject<K>, S: Parsed>(
     }
 }
 
-/// Makes the map of a first member, a subject and other members.
+/// Makes the draft of the map of a first member, a subject and other members.
 ///
 /// # Errors
 /// No memory: an allocation failed.
-pub(crate) fn write_about<X: Shape, K: Named, D: Subject<K>>(
+pub(crate) fn draft_about<'a, X: Shape, K: Named, D: Subject<K>>(
     alloc: Global,
-    name: &str,
-    head: &X,
-    subject: &D,
-    ext: &Ext,
-) -> Result<Tree, AllocError>
-    ensures { IfOk result (λ t. node t ≡ about_tree name.now X.shape K.words D.subject head.now subject.now ext.now) }
+    name: &'a str,
+    head: &'a X,
+    subject: &'a D,
+    ext: &'a Ext,
+) -> Result<Draft<'a>, AllocError>
+    ensures tree { IfOk result (λ d. draft_node d ≡ about_tree name.now X.shape K.words D.subject head.now subject.now ext.now) }
+    ensures sound { IfOk result (λ d. IsSound (draft_node d)) }
 {
-    let mut members = ext.copy_members()?;
-    put_member(
-        &mut members,
-        String::from_str(alloc, "params")?,
-        subject.content(alloc)?,
-    )?;
-    add_literal(alloc, &mut members, "method", subject.kind().name())?;
+    let mut members = draft_members_of(alloc, &ext.members, ROOM)?;
+    put_draft(&mut members, "params", subject.draft(alloc)?)?;
+    add_literal(&mut members, "method", subject.kind().name())?;
     add_member(alloc, &mut members, name, head)?;
-    Ok(Tree::Map(members))
+    Ok(Draft::Map(members))
 }

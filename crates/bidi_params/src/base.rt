@@ -1,6 +1,6 @@
 //! Maps with no member that has a meaning.
 use bidi_shape::{Ext, Fields, MakeFault, Parsed, Ruled, Shape, ShapeFault, read_fields};
-use bidi_tree::{Members, Tree};
+use bidi_tree::{Draft, Members, draft_members_of};
 use std::alloc::{AllocError, Global};
 
 /// Params with no member that has a meaning.
@@ -62,8 +62,8 @@ impl Shape for EmptyParams {
         Ok(EmptyParams { ext })
     }
 
-    fn to_tree(&self, alloc: Global) -> Result<Tree, AllocError> {
-        Ok(Tree::Map(self.ext.copy_members()?))
+    fn draft<'a>(&'a self, alloc: Global) -> Result<Draft<'a>, AllocError> {
+        Ok(Draft::Map(draft_members_of(alloc, &self.ext.members, 0)?))
     }
 }
 
@@ -126,7 +126,7 @@ impl Shape for EmptyResult {
         Ok(EmptyResult { ext })
     }
 
-    fn to_tree(&self, alloc: Global) -> Result<Tree, AllocError> {
-        Ok(Tree::Map(self.ext.copy_members()?))
+    fn draft<'a>(&'a self, alloc: Global) -> Result<Draft<'a>, AllocError> {
+        Ok(Draft::Map(draft_members_of(alloc, &self.ext.members, 0)?))
     }
 }

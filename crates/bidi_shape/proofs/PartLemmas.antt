@@ -1,9 +1,15 @@
--- What holds of every value holds of a list of them, and of one that may be there; null is no text; and an item has no more levels than its list.
-use Rattle.std.proofs.Common.{ℕ, zero, suc, ◌≤◌, ◌<◌, length, map, get_or, arith}
-use Rattle.std.specs.Prelude.{List, [], ◌∷◌, Option, Some, None, IfSome, refl}
+-- What holds of every value holds of a list of them, and of one that may be there; null is no text; an item has no more levels than its list; and what is put into a sound map leaves it sound.
+use Rattle.std.proofs.Common.{ℕ, zero, suc, ◌++◌, ◌≤◌, ◌<◌, length, map, get_or, arith}
+use Rattle.std.specs.Prelude.{◌≡◌, List, [], ◌∷◌, Option, Some, None, IfSome, Result, Ok, Err, OnOk, refl}
+use Rattle.std.proofs.Common.{sym, subst, ap, ◌∙◌, take, ◌+◌}
+use Rattle.std.proofs.lemmas.List.{map-append, take_more}
 use Rattle.std.specs.List.{AllByRecursion}
-use Rattle.bidi_tree.specs.Node.{Node, levels, items_levels}
+use Rattle.bidi_tree.specs.Node as tree
+use Rattle.bidi_tree.specs.Node.{Node, Members, put, levels, items_levels, IsSound, ItemsAreSound}
+use Rattle.bidi_tree.proofs.SoundLemmas.{AreAscending-put, MembersAreSound-put}
 use Rattle.bidi_tree.specs.View.{items_of}
+use Rattle.bidi_tree.specs.Draft.{draft_node, draft_items}
+use Rattle.bidi_tree.specs.declared.draft.Draft.{Draft}
 use Rattle.bidi_shape.specs.Term.{text}
 use Rattle.bidi_shape.specs.ChoiceLaws.{NullableWell}
 use Rattle.bidi_shape.proofs.FitsTest.{misfits_by}
@@ -25,3 +31,24 @@ pub item_levels : {X : Type 0} (tree_of : X → Node) (xs : List X) (i : ℕ) (d
 item_levels tree_of [] i d h = absurd (omega arith)
 item_levels tree_of (x ∷ xs) zero d h = omega arith
 item_levels tree_of (x ∷ xs) (suc i) d h = let rest = item_levels tree_of xs i d (omega arith) in omega (arith, rest)
+
+-- what is put into a sound map leaves it sound
+pub sound-put : {U E : Type 0} (r : Result U E) (k : List ℕ) (n : Node) (old new : Members) → IsSound n → OnOk r (new ≡ put k n old) → IsSound (tree.map old) → OnOk r (IsSound (tree.map new))
+sound-put (Ok u) k n old new s is h = subst (λ ms. IsSound (tree.map ms)) (sym is) (AreAscending-put k n old h.0, MembersAreSound-put k n old s h.1)
+sound-put (Err e) k n old new s is h = tt
+
+-- ---- drafts of the items of a list, made one after the other
+
+sound-next : (ds : List Draft) (d : Draft) → ItemsAreSound (draft_items ds) → IsSound (draft_node d) → ItemsAreSound (draft_items (ds ++ d ∷ []))
+sound-next [] d all s = (s, tt)
+sound-next (e ∷ ds) d all s = (all.0, sound-next ds d all.1 s)
+
+pub next-drafted : {X : Type 0} (tree_of : X → Node) (xs : List X) (i : ℕ) (x : X) (ds new : List Draft) (d : Draft) → new ≡ ds ++ d ∷ [] → i < length xs
+    → map draft_node ds ≡ map tree_of (take i xs) → ItemsAreSound (draft_items ds) → draft_node d ≡ tree_of x → x ≡ get_or xs i x → IsSound (draft_node d)
+    → (map draft_node new ≡ map tree_of (take (i + 1) xs)) × ItemsAreSound (draft_items new)
+next-drafted tree_of xs i x ds new d is few same all one at s =
+    let more : take (i + 1) xs ≡ take i xs ++ x ∷ [] = take_more xs i x few ∙ ap (λ y. take i xs ++ y ∷ []) (sym at) in (
+      ap (map draft_node) is ∙ map-append draft_node ds (d ∷ []) ∙ ap (λ ns. ns ++ draft_node d ∷ []) same ∙ ap (λ n. map tree_of (take i xs) ++ n ∷ []) one
+          ∙ sym (map-append tree_of (take i xs) (x ∷ [])) ∙ ap (map tree_of) (sym more),
+      subst (λ es. ItemsAreSound (draft_items es)) (sym is) (sound-next ds d all s),
+    )

@@ -1,6 +1,5 @@
 //! A value or null, and the first of two types that fits.
 ghost use Rattle.std.specs.Prelude.{◌≡◌, IfOk};
-ghost use Rattle.bidi_tree.specs.View.{node};
 ghost use Rattle.bidi_shape.specs.Fits.{Fits};
 ghost use Rattle.bidi_shape.specs.Outcome.{IfNoFit};
 ghost use Rattle.bidi_shape.specs.Table.{unfolded};
@@ -9,7 +8,7 @@ use crate::fault::ShapeFault;
 use crate::parsed::Parsed;
 use crate::shape::Shape;
 use crate::table::Ruled;
-use bidi_tree::Tree;
+use bidi_tree::Draft;
 use std::alloc::{AllocError, Global};
 
 /// A value of the first type, where the tree fits its rule, or else of the second: `A / B`.
@@ -37,10 +36,10 @@ impl<A: Shape, B: Shape> Shape for Either<A, B> {
         }
     }
 
-    fn to_tree(&self, alloc: Global) -> Result<Tree, AllocError> {
+    fn draft<'a>(&'a self, alloc: Global) -> Result<Draft<'a>, AllocError> {
         match self {
-            Either::First(value) => value.to_tree(alloc),
-            Either::Second(value) => value.to_tree(alloc),
+            Either::First(value) => value.draft(alloc),
+            Either::Second(value) => value.draft(alloc),
         }
     }
 }
@@ -78,10 +77,10 @@ impl<X: Shape> Shape for Option<X> {
         }
     }
 
-    fn to_tree(&self, alloc: Global) -> Result<Tree, AllocError> {
+    fn draft<'a>(&'a self, alloc: Global) -> Result<Draft<'a>, AllocError> {
         match self {
-            Some(value) => value.to_tree(alloc),
-            None => Ok(Tree::Null),
+            Some(value) => value.draft(alloc),
+            None => Ok(Draft::Null),
         }
     }
 }

@@ -1,50 +1,53 @@
 //! The members of a map that is written, as a list of references.
 ghost use Rattle.std.specs.Prelude.{◌≡◌, ℕ, List, IfOk};
 ghost use Rattle.bidi_tree.specs.Node as kind;
-ghost use Rattle.bidi_tree.specs.Node.{Members as Listed};
-ghost use Rattle.bidi_tree.specs.View.{node, members_node};
+ghost use Rattle.bidi_tree.specs.Node.{IsSound, Members as Listed};
+ghost use Rattle.bidi_tree.specs.Draft.{draft_node, draft_members};
 ghost use Rattle.bidi_shape.specs.Parts.{texts_in};
 
 use crate::ext::Ext;
 use crate::fields::next_text;
-use crate::members::{add_literal, add_member, add_optional};
+use crate::members::{add_literal, add_member};
 use crate::shape::Shape;
-use bidi_tree::{Members, Tree};
+use bidi_tree::{Draft, DraftMembers, draft_members_of};
 use std::alloc::{AllocError, Global};
 
 /// The members of a map, one after the other, each by a reference.
-pub trait Lent: Drop {
+pub trait Lent<'a>: Drop {
     // The members of that map, by their names and the texts of its literal members.
     ghost listed: { List (List ℕ) → List (List ℕ) → Self → Listed };
 
-    /// Makes the members.
-    fn to_members(
+    /// Makes the drafts of the members, with room for so many.
+    fn draft(
         &self,
         alloc: Global,
-        names: &[&str],
-        texts: &[&str],
-    ) -> Result<Members, AllocError>
-        ensures { IfOk result (λ ms. members_node ms.entries ≡ listed (texts_in names.now) (texts_in texts.now) self.now) };
+        names: &'a [&'a str],
+        texts: &'a [&'a str],
+        room: usize,
+    ) -> Result<DraftMembers<'a>, AllocError>
+        ensures ok { IfOk result (λ ms. draft_members ms.items ≡ listed (texts_in names.now) (texts_in texts.now) self.now) }
+        ensures sound { IfOk result (λ ms. IsSound (kind.map (draft_members ms.items))) };
 }
 
 /// A member that is there.
 #[derive(Drop)]
 pub struct One<'a, X: Drop, L: Drop>(pub &'a X, pub L);
 
-impl<'a, X: Shape, L: Lent> Lent for One<'a, X, L> {
+impl<'a, X: Shape, L: Lent<'a>> Lent<'a> for One<'a, X, L> {
     ghost use Rattle.bidi_tree.specs.Node.{put};
     ghost use Rattle.bidi_shape.specs.Table.{head, tail};
 
     ghost listed = { λ ks ws l. put (head ks) (X.shape.tree_of l.0.now) (L.listed (tail ks) ws l.1) };
 
-    fn to_members(
+    fn draft(
         &self,
         alloc: Global,
-        names: &[&str],
-        texts: &[&str],
-    ) -> Result<Members, AllocError> {
+        names: &'a [&'a str],
+        texts: &'a [&'a str],
+        room: usize,
+    ) -> Result<DraftMembers<'a>, AllocError> {
         let (name, names) = next_text(names);
-        let mut members = self.1.to_members(alloc, names, texts)?;
+        let mut members = self.1.draft(alloc, names, texts, room)?;
         add_member(alloc, &mut members, name, self.0)?;
         Ok(members)
     }
@@ -54,22 +57,25 @@ impl<'a, X: Shape, L: Lent> Lent for One<'a, X, L> {
 #[derive(Drop)]
 pub struct Maybe<'a, X: Drop, L: Drop>(pub &'a Option<X>, pub L);
 
-impl<'a, X: Shape, L: Lent> Lent for Maybe<'a, X, L> {
+impl<'a, X: Shape, L: Lent<'a>> Lent<'a> for Maybe<'a, X, L> {
     ghost use Rattle.std.specs.Prelude.{option_map};
     ghost use Rattle.bidi_shape.specs.Parts.{put_part};
     ghost use Rattle.bidi_shape.specs.Table.{head, tail};
 
     ghost listed = { λ ks ws l. put_part (head ks) (option_map X.shape.tree_of l.0.now) (L.listed (tail ks) ws l.1) };
 
-    fn to_members(
+    fn draft(
         &self,
         alloc: Global,
-        names: &[&str],
-        texts: &[&str],
-    ) -> Result<Members, AllocError> {
+        names: &'a [&'a str],
+        texts: &'a [&'a str],
+        room: usize,
+    ) -> Result<DraftMembers<'a>, AllocError> {
         let (name, names) = next_text(names);
-        let mut members = self.1.to_members(alloc, names, texts)?;
-        add_optional(alloc, &mut members, name, self.0)?;
+        let mut members = self.1.draft(alloc, names, texts, room)?;
+        if let Some(value) = self.0 {
+            add_member(alloc, &mut members, name, value)?;
+        }
         Ok(members)
     }
 }
@@ -78,22 +84,23 @@ impl<'a, X: Shape, L: Lent> Lent for Maybe<'a, X, L> {
 #[derive(Drop)]
 pub struct Exact<L: Drop>(pub L);
 
-impl<L: Lent> Lent for Exact<L> {
+impl<'a, L: Lent<'a>> Lent<'a> for Exact<L> {
     ghost use Rattle.bidi_tree.specs.Node.{put};
     ghost use Rattle.bidi_shape.specs.Table.{head, tail};
 
     ghost listed = { λ ks ws l. put (head ks) (kind.text (head ws)) (L.listed (tail ks) (tail ws) l.0) };
 
-    fn to_members(
+    fn draft(
         &self,
         alloc: Global,
-        names: &[&str],
-        texts: &[&str],
-    ) -> Result<Members, AllocError> {
+        names: &'a [&'a str],
+        texts: &'a [&'a str],
+        room: usize,
+    ) -> Result<DraftMembers<'a>, AllocError> {
         let (name, names) = next_text(names);
         let (text, texts) = next_text(texts);
-        let mut members = self.0.to_members(alloc, names, texts)?;
-        add_literal(alloc, &mut members, name, text)?;
+        let mut members = self.0.draft(alloc, names, texts, room)?;
+        add_literal(&mut members, name, text)?;
         Ok(members)
     }
 }
@@ -102,18 +109,19 @@ impl<L: Lent> Lent for Exact<L> {
 #[derive(Drop)]
 pub struct Rest<'a>(pub &'a Ext);
 
-impl<'a> Lent for Rest<'a> {
+impl<'a> Lent<'a> for Rest<'a> {
     ghost use Rattle.bidi_shape.specs.ValueLaws.{others_of};
 
     ghost listed = { λ ks ws l. others_of l.0.now };
 
-    fn to_members(
+    fn draft(
         &self,
         alloc: Global,
-        names: &[&str],
-        texts: &[&str],
-    ) -> Result<Members, AllocError> {
-        self.0.copy_members()
+        _names: &'a [&'a str],
+        _texts: &'a [&'a str],
+        room: usize,
+    ) -> Result<DraftMembers<'a>, AllocError> {
+        draft_members_of(alloc, &self.0.members, room)
     }
 }
 
@@ -121,32 +129,34 @@ impl<'a> Lent for Rest<'a> {
 #[derive(Drop)]
 pub struct End;
 
-impl Lent for End {
+impl<'a> Lent<'a> for End {
     ghost use Rattle.bidi_tree.specs.Node.{no_members};
 
     ghost listed = { λ ks ws l. no_members };
 
-    fn to_members(
+    fn draft(
         &self,
         alloc: Global,
-        names: &[&str],
-        texts: &[&str],
-    ) -> Result<Members, AllocError> {
-        Ok(Members::new(alloc))
+        _names: &'a [&'a str],
+        _texts: &'a [&'a str],
+        room: usize,
+    ) -> Result<DraftMembers<'a>, AllocError> {
+        Vec::with_capacity(alloc, room)
     }
 }
 
-/// Makes the tree of a map of these members, by their names and the texts of its literal members, in order.
+/// Makes the draft of the map of these members, by their names and the texts of its literal members, in order.
 ///
 /// # Errors
 /// No memory: an allocation failed.
-pub fn write_fields<L: Lent>(
+pub fn draft_fields<'a, L: Lent<'a>>(
     alloc: Global,
     members: &L,
-    names: &[&str],
-    texts: &[&str],
-) -> Result<Tree, AllocError>
-    ensures { IfOk result (λ t. node t ≡ kind.map (L.listed (texts_in names.now) (texts_in texts.now) members.now)) }
+    names: &'a [&'a str],
+    texts: &'a [&'a str],
+) -> Result<Draft<'a>, AllocError>
+    ensures tree { IfOk result (λ d. draft_node d ≡ kind.map (L.listed (texts_in names.now) (texts_in texts.now) members.now)) }
+    ensures sound { IfOk result (λ d. IsSound (draft_node d)) }
 {
-    Ok(Tree::Map(members.to_members(alloc, names, texts)?))
+    Ok(Draft::Map(members.draft(alloc, names, texts, names.len())?))
 }

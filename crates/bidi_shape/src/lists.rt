@@ -2,7 +2,9 @@
 ghost use Rattle.std.proofs.Common.{zero-le};
 ghost use Rattle.std.specs.Prelude.{◌≡◌, ◌≤◌, IfOk, length, map, suc, max};
 ghost use Rattle.std.specs.List.{AllByRecursion};
-ghost use Rattle.bidi_tree.specs.View.{node, items_of};
+ghost use Rattle.bidi_tree.specs.Node.{IsSound};
+ghost use Rattle.bidi_tree.specs.Draft.{draft_node};
+ghost use Rattle.bidi_tree.specs.View.{items_of};
 ghost use Rattle.bidi_shape.specs.Term.{list_of, pair_of};
 ghost use Rattle.bidi_shape.specs.Fits.{AllFit};
 ghost use Rattle.bidi_shape.specs.ListLaws.{list_tree, SameEach, list_fits, list_one, pair_tree, pair_fits, first_same, second_same};
@@ -12,7 +14,7 @@ ghost use Rattle.bidi_shape.specs.Outcome.{IfNoFit};
 use crate::fault::ShapeFault;
 use crate::parsed::Parsed;
 use crate::shape::Shape;
-use bidi_tree::Tree;
+use bidi_tree::Draft;
 use std::alloc::{AllocError, Global};
 
 /// The values of the items.
@@ -27,15 +29,16 @@ fn read_items<X: Shape, S: Parsed>(alloc: Global, items: &[S]) -> Result<Vec<X>,
     Ok(values)
 }
 
-/// The trees of the items.
-fn write_items<X: Shape>(alloc: Global, items: &[X]) -> Result<Vec<Tree>, AllocError>
-    ensures { IfOk result (λ v. map node v.items ≡ map X.shape.tree_of items.now) }
+/// The list of the items.
+fn draft_items<'a, X: Shape>(alloc: Global, items: &'a [X]) -> Result<Draft<'a>, AllocError>
+    ensures tree { IfOk result (λ d. draft_node d ≡ list_tree X.shape.tree_of items.now) }
+    ensures sound { IfOk result (λ d. IsSound (draft_node d)) }
 {
-    let mut trees = Vec::with_capacity(alloc, items.len())?;
+    let mut drafts = Vec::with_capacity(alloc, items.len())?;
     for item in items {
-        trees.push(item.to_tree(alloc)?)?;
+        drafts.push(item.draft(alloc)?)?;
     }
-    Ok(trees)
+    Ok(Draft::List(drafts))
 }
 
 /// A list of any length: `[*X]`.
@@ -58,8 +61,8 @@ impl<X: Shape> Shape for Vec<X> {
         }
     }
 
-    fn to_tree(&self, alloc: Global) -> Result<Tree, AllocError> {
-        Ok(Tree::List(write_items(alloc, self)?))
+    fn draft<'a>(&'a self, alloc: Global) -> Result<Draft<'a>, AllocError> {
+        draft_items(alloc, self)
     }
 }
 
@@ -92,8 +95,8 @@ impl<X: Shape> Shape for OneOrMore<X> {
         }
     }
 
-    fn to_tree(&self, alloc: Global) -> Result<Tree, AllocError> {
-        Ok(Tree::List(write_items(alloc, &self.items)?))
+    fn draft<'a>(&'a self, alloc: Global) -> Result<Draft<'a>, AllocError> {
+        draft_items(alloc, &self.items)
     }
 }
 
@@ -121,10 +124,10 @@ impl<X: Shape, Y: Shape> Shape for (X, Y) {
         }
     }
 
-    fn to_tree(&self, alloc: Global) -> Result<Tree, AllocError> {
-        let mut trees = Vec::with_capacity(alloc, 2)?;
-        trees.push(self.0.to_tree(alloc)?)?;
-        trees.push(self.1.to_tree(alloc)?)?;
-        Ok(Tree::List(trees))
+    fn draft<'a>(&'a self, alloc: Global) -> Result<Draft<'a>, AllocError> {
+        let mut drafts = Vec::with_capacity(alloc, 2)?;
+        drafts.push(self.0.draft(alloc)?)?;
+        drafts.push(self.1.draft(alloc)?)?;
+        Ok(Draft::List(drafts))
     }
 }

@@ -1,7 +1,8 @@
 //! The members of a map, one by one.
-ghost use Rattle.std.specs.Prelude.{◌≡◌, IfOk, OnOk, OnErr, IsTrue, ◌↔◌, option_map, Some, IfSome};
-ghost use Rattle.bidi_tree.specs.Node.{put, get_member, IsWhole, MembersAreWhole, AreAscending, no_members};
+ghost use Rattle.std.specs.Prelude.{◌≡◌, IfOk, OnOk, IsTrue, ◌↔◌, option_map, Some, IfSome};
+ghost use Rattle.bidi_tree.specs.Node.{put, get_member, IsSound, IsWhole, MembersAreWhole, AreAscending, no_members};
 ghost use Rattle.bidi_tree.specs.Kind.{members_in};
+ghost use Rattle.bidi_tree.specs.Draft.{draft_members};
 ghost use Rattle.bidi_tree.specs.View.{node, members_node};
 ghost use Rattle.bidi_shape.specs.Term.{required, optional};
 ghost use Rattle.bidi_shape.specs.Fits.{without};
@@ -17,7 +18,7 @@ use crate::ext::Ext;
 use crate::fault::ShapeFault;
 use crate::parsed::Parsed;
 use crate::shape::Shape;
-use bidi_tree::{Members, Tree, put_member};
+use bidi_tree::{Draft, DraftMembers, Members, Tree, put_draft, put_member};
 use std::alloc::{AllocError, Global};
 use std::default::Emptied;
 
@@ -54,42 +55,55 @@ pub(crate) fn optional<X: Shape, S: Parsed>(
     }
 }
 
-/// Puts a value's tree at a name, in place of a member of that name.
+/// Puts a value's draft at a name, in place of a member of that name.
 ///
 /// # Errors
-/// No memory: the members are as they were.
-pub fn add_member<X: Shape>(
+/// No memory: an allocation failed.
+pub fn add_member<'a, X: Shape>(
     alloc: Global,
-    members: &mut Members,
-    name: &str,
-    value: &X,
+    members: &mut DraftMembers<'a>,
+    name: &'a str,
+    value: &'a X,
 ) -> Result<(), AllocError>
-    ensures ok { OnOk result (members_node members.new.entries
-        ≡ put name.now (X.shape.tree_of value.now) (members_node members.old.entries)) }
-    ensures err { OnErr result (members_node members.new.entries ≡ members_node members.old.entries) }
+    ensures ok { OnOk result (draft_members members.new.items ≡ put name.now (X.shape.tree_of value.now) (draft_members members.old.items)) }
+    ensures sound { IsSound (kind.map (draft_members members.old.items)) → OnOk result (IsSound (kind.map (draft_members members.new.items))) }
 {
-    let tree = value.to_tree(alloc)?;
-    put_member(members, String::from_str(alloc, name)?, tree)
+    let draft = value.draft(alloc)?;
+    put_draft(members, name, draft)
 }
 
-/// Puts a value's tree at a name, if there is a value.
+/// Puts a value's draft at a name, if there is a value.
 ///
 /// # Errors
-/// No memory: the members are as they were.
-pub fn add_optional<X: Shape>(
+/// No memory: an allocation failed.
+pub fn add_optional<'a, X: Shape>(
     alloc: Global,
-    members: &mut Members,
-    name: &str,
-    value: &Option<X>,
+    members: &mut DraftMembers<'a>,
+    name: &'a str,
+    value: &'a Option<X>,
 ) -> Result<(), AllocError>
-    ensures ok { OnOk result (members_node members.new.entries
-        ≡ put_part name.now (option_map X.shape.tree_of value.now) (members_node members.old.entries)) }
-    ensures err { OnErr result (members_node members.new.entries ≡ members_node members.old.entries) }
+    ensures ok { OnOk result (draft_members members.new.items ≡ put_part name.now (option_map X.shape.tree_of value.now) (draft_members members.old.items)) }
+    ensures sound { IsSound (kind.map (draft_members members.old.items)) → OnOk result (IsSound (kind.map (draft_members members.new.items))) }
 {
     match value {
         Some(value) => add_member(alloc, members, name, value),
         None => Ok(()),
     }
+}
+
+/// Puts a text at a name, in place of a member of that name.
+///
+/// # Errors
+/// No memory: an allocation failed.
+pub fn add_literal<'a>(
+    members: &mut DraftMembers<'a>,
+    name: &'a str,
+    text: &'a str,
+) -> Result<(), AllocError>
+    ensures ok { OnOk result (draft_members members.new.items ≡ put name.now (kind.text text.now) (draft_members members.old.items)) }
+    ensures sound { IsSound (kind.map (draft_members members.old.items)) → OnOk result (IsSound (kind.map (draft_members members.new.items))) }
+{
+    put_draft(members, name, Draft::Text(text))
 }
 
 pub(crate) fn is_listed(names: &[&str], name: &str) -> bool
@@ -184,22 +198,4 @@ fn is_literal<S: Parsed>(value: &S, text: &str) -> Result<(), ShapeFault>
         }
         None => Err(ShapeFault::NoFit),
     }
-}
-
-/// Puts a text at a name, in place of a member of that name.
-///
-/// # Errors
-/// No memory: the members are as they were.
-pub fn add_literal(
-    alloc: Global,
-    members: &mut Members,
-    name: &str,
-    text: &str,
-) -> Result<(), AllocError>
-    ensures ok { OnOk result (members_node members.new.entries
-        ≡ put name.now (kind.text text.now) (members_node members.old.entries)) }
-    ensures err { OnErr result (members_node members.new.entries ≡ members_node members.old.entries) }
-{
-    let tree = Tree::Text(String::from_str(alloc, text)?);
-    put_member(members, String::from_str(alloc, name)?, tree)
 }

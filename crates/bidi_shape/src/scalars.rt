@@ -2,7 +2,7 @@
 use crate::fault::ShapeFault;
 use crate::parsed::Parsed;
 use crate::shape::Shape;
-use bidi_tree::{JsInt, JsUint, Tree};
+use bidi_tree::{Draft, JsInt, JsUint};
 use std::alloc::{AllocError, Global};
 
 impl Shape for String {
@@ -17,8 +17,8 @@ impl Shape for String {
         }
     }
 
-    fn to_tree(&self, alloc: Global) -> Result<Tree, AllocError> {
-        Ok(Tree::Text(self.clone()?))
+    fn draft<'a>(&'a self, alloc: Global) -> Result<Draft<'a>, AllocError> {
+        Ok(Draft::Text(self.as_str()))
     }
 }
 
@@ -31,8 +31,8 @@ impl Shape for bool {
         tree.as_bool().ok_or(ShapeFault::NoFit)
     }
 
-    fn to_tree(&self, alloc: Global) -> Result<Tree, AllocError> {
-        Ok(Tree::Bool(*self))
+    fn draft<'a>(&'a self, alloc: Global) -> Result<Draft<'a>, AllocError> {
+        Ok(Draft::Bool(*self))
     }
 }
 
@@ -48,8 +48,8 @@ impl Shape for JsUint {
         }
     }
 
-    fn to_tree(&self, alloc: Global) -> Result<Tree, AllocError> {
-        Ok(Tree::Int(JsInt::new(self.value as i64).unwrap()))
+    fn draft<'a>(&'a self, alloc: Global) -> Result<Draft<'a>, AllocError> {
+        Ok(Draft::Int(JsInt::new(self.value as i64).unwrap()))
     }
 }
 
@@ -62,7 +62,7 @@ impl Shape for JsInt {
         tree.as_int().ok_or(ShapeFault::NoFit)
     }
 
-    fn to_tree(&self, alloc: Global) -> Result<Tree, AllocError> {
-        Ok(Tree::Int(*self))
+    fn draft<'a>(&'a self, alloc: Global) -> Result<Draft<'a>, AllocError> {
+        Ok(Draft::Int(*self))
     }
 }

@@ -1,5 +1,7 @@
 //! Types whose values are the trees that fit a rule.
 ghost use Rattle.std.specs.Prelude.{◌≡◌, IfOk};
+ghost use Rattle.bidi_tree.specs.Node.{IsSound};
+ghost use Rattle.bidi_tree.specs.Draft.{draft_node};
 ghost use Rattle.bidi_tree.specs.View.{node};
 ghost use Rattle.bidi_shape.specs.Value.{ShapeOf};
 ghost use Rattle.bidi_shape.specs.Fits.{Fits};
@@ -7,7 +9,7 @@ ghost use Rattle.bidi_shape.specs.Outcome.{IfNoFit};
 
 use crate::fault::ShapeFault;
 use crate::parsed::Parsed;
-use bidi_tree::Tree;
+use bidi_tree::{Draft, Tree, own_draft};
 use std::alloc::{AllocError, Global};
 
 /// A type whose values are the trees that fit a rule.
@@ -26,10 +28,22 @@ pub trait Shape: Drop {
         ensures ok { IfOk result (λ v. (shape.tree_of v ≡ S.tree tree.now) × shape.well v) }
         ensures no_fit { IfNoFit result (Fits (S.tree tree.now) shape.rule → ⊥) };
 
+    /// Makes the draft of the value's tree, to be written. No text is copied.
+    ///
+    /// # Errors
+    /// No memory: an allocation failed.
+    fn draft<'a>(&'a self, alloc: Global) -> Result<Draft<'a>, AllocError>
+        ensures tree { IfOk result (λ d. draft_node d ≡ shape.tree_of self.now) }
+        ensures sound { IfOk result (λ d. IsSound (draft_node d)) };
+
     /// Makes the tree of the value.
     ///
     /// # Errors
     /// No memory: an allocation failed.
-    fn to_tree(&self, alloc: Global) -> Result<Tree, AllocError>
-        ensures { IfOk result (λ t. node t ≡ shape.tree_of self.now) };
+    final fn to_tree(&self, alloc: Global) -> Result<Tree, AllocError>
+        ensures { IfOk result (λ t. node t ≡ shape.tree_of self.now) }
+    {
+        let draft = self.draft(alloc)?;
+        own_draft(alloc, &draft)
+    }
 }

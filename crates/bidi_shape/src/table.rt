@@ -1,6 +1,5 @@
 //! A map, read whole.
 ghost use Rattle.std.specs.Prelude.{◌≡◌, IfOk};
-ghost use Rattle.bidi_tree.specs.View.{node};
 ghost use Rattle.bidi_shape.specs.Term.{Term};
 ghost use Rattle.bidi_shape.specs.Fits.{Fits};
 ghost use Rattle.bidi_shape.specs.Outcome.{IfNoFit};
@@ -13,7 +12,7 @@ use crate::fault::ShapeFault;
 use crate::fields::Fields;
 use crate::parsed::Parsed;
 use crate::shape::Shape;
-use bidi_tree::Tree;
+use bidi_tree::{Draft, draft_members_of};
 use std::alloc::{AllocError, Global};
 
 /// A type whose values are maps, by its rule.
@@ -60,7 +59,7 @@ impl Shape for Ext {
         read_fields::<Ext, Ext, S>(alloc, tree, &[], &[])
     }
 
-    fn to_tree(&self, alloc: Global) -> Result<Tree, AllocError> {
-        Ok(Tree::Map(self.copy_members()?))
+    fn draft<'a>(&'a self, alloc: Global) -> Result<Draft<'a>, AllocError> {
+        Ok(Draft::Map(draft_members_of(alloc, &self.members, 0)?))
     }
 }

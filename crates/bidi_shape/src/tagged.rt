@@ -1,6 +1,7 @@
 //! Closed maps that a text tells apart.
 ghost use Rattle.std.specs.Prelude.{◌≡◌, IfOk, ℕ, List};
-ghost use Rattle.bidi_tree.specs.View.{node};
+ghost use Rattle.bidi_tree.specs.Node.{IsSound};
+ghost use Rattle.bidi_tree.specs.Draft.{draft_node};
 ghost use Rattle.bidi_shape.specs.TagLaws.{bare_tree, typed_tree};
 
 use crate::fault::ShapeFault;
@@ -9,7 +10,7 @@ use crate::members::{add_literal, add_member};
 use crate::parsed::Parsed;
 use crate::shape::Shape;
 use crate::table::{Ruled, read_fields};
-use bidi_tree::{Members, Tree};
+use bidi_tree::Draft;
 use std::alloc::{AllocError, Global};
 use std::marker::PhantomData;
 
@@ -64,8 +65,9 @@ impl<T: Tag> Shape for Bare<T> {
         Ok(Bare { of: PhantomData })
     }
 
-    fn to_tree(&self, alloc: Global) -> Result<Tree, AllocError> {
-        tree_of_type(alloc, T::tag())
+    fn draft<'a>(&'a self, alloc: Global) -> Result<Draft<'a>, AllocError> {
+        let tag: &'a str = T::tag();
+        draft_of_type(alloc, tag)
     }
 }
 
@@ -88,32 +90,39 @@ impl<T: Tag, X: Shape> Shape for Typed<T, X> {
         })
     }
 
-    fn to_tree(&self, alloc: Global) -> Result<Tree, AllocError> {
-        tree_of_typed(alloc, T::tag(), &self.value)
+    fn draft<'a>(&'a self, alloc: Global) -> Result<Draft<'a>, AllocError> {
+        let tag: &'a str = T::tag();
+        draft_of_typed(alloc, tag, &self.value)
     }
 }
 
-/// Makes the tree of a map with its type alone.
+/// Makes the map with its type alone.
 ///
 /// # Errors
 /// No memory: an allocation failed.
-pub fn tree_of_type(alloc: Global, tag: &str) -> Result<Tree, AllocError>
-    ensures { IfOk result (λ t. node t ≡ bare_tree tag.now) }
+pub fn draft_of_type<'a>(alloc: Global, tag: &'a str) -> Result<Draft<'a>, AllocError>
+    ensures tree { IfOk result (λ d. draft_node d ≡ bare_tree tag.now) }
+    ensures sound { IfOk result (λ d. IsSound (draft_node d)) }
 {
-    let mut members = Members::new(alloc);
-    add_literal(alloc, &mut members, "type", tag)?;
-    Ok(Tree::Map(members))
+    let mut members = Vec::with_capacity(alloc, 1)?;
+    add_literal(&mut members, "type", tag)?;
+    Ok(Draft::Map(members))
 }
 
-/// Makes the tree of a map with its type and a value.
+/// Makes the map with its type and a value.
 ///
 /// # Errors
 /// No memory: an allocation failed.
-pub fn tree_of_typed<X: Shape>(alloc: Global, tag: &str, value: &X) -> Result<Tree, AllocError>
-    ensures { IfOk result (λ t. node t ≡ typed_tree tag.now (X.shape.tree_of value.now)) }
+pub fn draft_of_typed<'a, X: Shape>(
+    alloc: Global,
+    tag: &'a str,
+    value: &'a X,
+) -> Result<Draft<'a>, AllocError>
+    ensures tree { IfOk result (λ d. draft_node d ≡ typed_tree tag.now (X.shape.tree_of value.now)) }
+    ensures sound { IfOk result (λ d. IsSound (draft_node d)) }
 {
-    let mut members = Members::new(alloc);
+    let mut members = Vec::with_capacity(alloc, 2)?;
     add_member(alloc, &mut members, "value", value)?;
-    add_literal(alloc, &mut members, "type", tag)?;
-    Ok(Tree::Map(members))
+    add_literal(&mut members, "type", tag)?;
+    Ok(Draft::Map(members))
 }

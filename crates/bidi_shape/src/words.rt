@@ -1,7 +1,6 @@
 //! Types whose values are a few texts.
 ghost use Rattle.std.specs.Prelude.{◌≡◌, IfOk};
 ghost use Rattle.bidi_tree.specs.Node as kind;
-ghost use Rattle.bidi_tree.specs.View.{node};
 ghost use Rattle.bidi_shape.specs.Fits.{Fits};
 ghost use Rattle.bidi_shape.specs.Outcome.{IfNoFit};
 ghost use Rattle.bidi_shape.specs.WordLaws.{Words, value_named};
@@ -9,7 +8,7 @@ ghost use Rattle.bidi_shape.specs.WordLaws.{Words, value_named};
 use crate::fault::ShapeFault;
 use crate::parsed::Parsed;
 use crate::shape::Shape;
-use bidi_tree::Tree;
+use bidi_tree::Draft;
 use std::alloc::{AllocError, Global};
 
 /// A type whose values are a few texts: `"a" / "b" / ..`.
@@ -36,8 +35,8 @@ impl<W: Named> Shape for W {
         read_word(tree)
     }
 
-    fn to_tree(&self, alloc: Global) -> Result<Tree, AllocError> {
-        write_word(alloc, self)
+    fn draft<'a>(&'a self, alloc: Global) -> Result<Draft<'a>, AllocError> {
+        Ok(Draft::Text(self.name()))
     }
 }
 
@@ -56,14 +55,4 @@ pub fn read_word<W: Named, S: Parsed>(tree: &S) -> Result<W, ShapeFault>
         },
         None => Err(ShapeFault::NoFit),
     }
-}
-
-/// Makes the tree of the value's text.
-///
-/// # Errors
-/// No memory: an allocation failed.
-pub fn write_word<W: Named>(alloc: Global, word: &W) -> Result<Tree, AllocError>
-    ensures { IfOk result (λ t. node t ≡ kind.text (W.words.text_of word.now)) }
-{
-    Ok(Tree::Text(String::from_str(alloc, word.name())?))
 }

@@ -5,3 +5,5 @@ pub mod SoundLemmas
 pub mod MemberLemmas
 pub mod JsonLemmas
 pub mod TextFacts
+pub mod DraftLemmas
+pub mod NumberLemmas

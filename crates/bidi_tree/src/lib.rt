@@ -9,6 +9,8 @@
 #![tactic(auto)]
 
 mod copying;
+mod draft;
+mod drafting;
 mod levels;
 mod number;
 mod number_text;
@@ -20,10 +22,12 @@ mod whole;
 mod writing;
 
 pub use copying::copy_members;
+pub use draft::{Draft, DraftMembers, own_draft, put_draft};
+pub use drafting::{draft_members_of, draft_of};
 pub use number::{JsInt, JsUint};
 pub use number_text::whole_number;
 pub use owning::{is_parsed_within, own};
 pub use reading::{ReadFault, parse, read};
 pub use tree::{Members, Tree, find_member, put_member};
 pub use whole::are_whole;
-pub use writing::write;
+pub use writing::{write, write_draft};

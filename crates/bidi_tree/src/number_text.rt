@@ -1,5 +1,6 @@
 //! The tree of a number's text.
-ghost use Rattle.std.specs.Prelude.{◌≡◌, ◌∷◌, ◌==◌, MatchOption, pos, true, false, option_map, slice_index};
+ghost use Rattle.std.specs.Prelude.{◌≡◌, ◌∷◌, ◌==◌, ◌<◌, ◌^◌, IfSome, length, MatchOption, pos, true, false, option_map, slice_index};
+ghost use Rattle.std.specs.Str.Parse.{AllDigits, digits_value};
 ghost use Rattle.serde_json.specs.Read.{number_of, number_from, float_of};
 ghost use Rattle.bidi_tree.specs.Kind.{whole_in};
 ghost use Rattle.bidi_tree.specs.Json.{number_in};
@@ -22,6 +23,32 @@ pub fn whole_number(text: &str) -> Option<JsInt>
 
 /// The tree of a number's text, where it is not too large for a float.
 pub(crate) fn number_tree(text: &str) -> Option<Tree>
+    ensures { option_map node result ≡ option_map number_node (number_of text.now) }
+{
+    match digits_alone(text.as_bytes()) {
+        Some(value) => Some(unsigned_tree(value)),
+        None => any_number(text),
+    }
+}
+
+/// The number that these bytes write, where they are digits alone, as most are, and it fits.
+fn digits_alone(bytes: &[u8]) -> Option<u64>
+    ensures digits { IfSome result (λ n. (0 < length bytes.now) × AllDigits 10 bytes.now × (digits_value 10 bytes.now ≡ n)) }
+    ensures fits { IfSome result (λ n. n < 2 ^ 64) }
+{
+    if bytes.is_empty() {
+        return None;
+    }
+    let mut value: u64 = 0;
+    for byte in bytes {
+        let digit = char::from(*byte).to_digit(10)?;
+        value = value.checked_mul(10)?.checked_add(u64::from(digit))?;
+    }
+    Some(value)
+}
+
+/// The same of any text.
+fn any_number(text: &str) -> Option<Tree>
     ensures { option_map node result ≡ option_map number_node (number_of text.now) }
 {
     match behind_minus(text) {

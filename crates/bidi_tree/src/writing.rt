@@ -1,11 +1,14 @@
 //! From a tree to its text.
 ghost use Rattle.std.specs.Prelude.{◌≡◌, ◌++◌, Some, false, IfOk, OnOk, string_bytes};
-ghost use Rattle.bidi_tree.specs.Node.{Node, whole, has_odd, items_have_odd, members_have_odd, IsWritable, IsSound, ItemsAreSound, MembersAreSound, AreAscending};
+ghost use Rattle.bidi_tree.specs.Node.{Node, whole, has_odd, items_have_odd, members_have_odd, IsWritable, IsSound};
 ghost use Rattle.bidi_tree.specs.Data.{tokens_of, items_tokens, members_tokens};
 ghost use Rattle.bidi_tree.specs.Text.{tree_of, compact_text};
-ghost use Rattle.bidi_tree.specs.View.{node, items_node, members_node};
+ghost use Rattle.bidi_tree.specs.Draft.{draft_node, draft_items, draft_members};
+ghost use Rattle.bidi_tree.specs.View.{node};
 
-use crate::tree::{Members, Tree};
+use crate::draft::{Draft, DraftMembers};
+use crate::drafting::draft_of;
+use crate::tree::Tree;
 use json::Writer;
 use std::alloc::{AllocError, Global};
 
@@ -14,7 +17,7 @@ const ROOM: usize = 256;
 
 /// Writes the compact text of a tree: no blank, the members in byte order of their names.
 ///
-/// What is written reads back as the tree. One walk of the tree; no part of it is copied but into the text.
+/// What is written reads back as the tree. No text is copied but into the one that is written.
 ///
 /// # Errors
 /// No memory: an allocation failed.
@@ -27,30 +30,47 @@ pub fn write(alloc: Global, tree: &Tree) -> Result<String, AllocError>
     // The law behind it: the compact text of any sound tree that may be written reads back as that tree.
     ensures law { (n : Node) → IsSound n → IsWritable n → tree_of (compact_text n) ≡ Some n }
 {
+    let draft = draft_of(alloc, tree)?;
+    write_draft(alloc, &draft)
+}
+
+/// Writes the compact text of a draft: no blank, its members in their order.
+///
+/// What is written reads back as the draft's tree. One walk of the draft.
+///
+/// # Errors
+/// No memory: an allocation failed.
+///
+/// After RFC 8259.
+pub fn write_draft(alloc: Global, draft: &Draft<'_>) -> Result<String, AllocError>
+    requires sound { IsSound (draft_node draft.now) }
+    requires writable { IsWritable (draft_node draft.now) }
+    ensures text { IfOk result (λ s. string_bytes s ≡ compact_text (draft_node draft.now)) }
+    ensures reads_back { IfOk result (λ s. tree_of (string_bytes s) ≡ Some (draft_node draft.now)) }
+{
     let mut out = Writer::new(Vec::with_capacity(alloc, ROOM)?);
-    write_tree(&mut out, tree)?;
+    write_value(&mut out, draft)?;
     Ok(unsafe { String::from_utf8_unchecked(out.into_inner()) })
 }
 
 #[cycle(write)]
 #[inline(always)]
-fn write_tree(out: &mut Writer, tree: &Tree) -> Result<(), AllocError>
-    requires { has_odd (node tree.now) ≡ false }
+fn write_value(out: &mut Writer, draft: &Draft<'_>) -> Result<(), AllocError>
+    requires { has_odd (draft_node draft.now) ≡ false }
     ensures before { OnOk result (out.new.before ≡ out.old.before) }
-    ensures tokens { OnOk result (out.new.tokens ≡ out.old.tokens ++ tokens_of (node tree.now)) }
-    ensures sound { OnOk result (IsSound (node tree.now)) }
+    ensures tokens { OnOk result (out.new.tokens ≡ out.old.tokens ++ tokens_of (draft_node draft.now)) }
 {
-    match tree {
-        Tree::Null => out.null(),
-        Tree::Bool(b) => out.boolean(*b),
-        Tree::Int(whole) => write_whole(out, whole.value),
-        Tree::Odd => unreachable!(),
-        Tree::Text(text) => out.string(text.as_str()),
-        Tree::List(items) => {
+    match draft {
+        Draft::Null => out.null(),
+        Draft::Bool(b) => out.boolean(*b),
+        Draft::Int(whole) => write_whole(out, whole.value),
+        Draft::Odd => unreachable!(),
+        Draft::Text(text) => out.string(text),
+        Draft::List(items) => {
             out.begin_array()?;
             write_items(out, items)
         }
-        Tree::Map(members) => {
+        Draft::Map(members) => {
             out.begin_object()?;
             write_members(out, members)
         }
@@ -69,15 +89,14 @@ fn write_whole(out: &mut Writer, value: i64) -> Result<(), AllocError>
 /// The items of a list, and the closing bracket.
 #[cycle(write)]
 #[inline(never)]
-fn write_items(out: &mut Writer, items: &Vec<Tree>) -> Result<(), AllocError>
-    requires { items_have_odd (items_node items.now.items) ≡ false }
+fn write_items(out: &mut Writer, items: &Vec<Draft<'_>>) -> Result<(), AllocError>
+    requires { items_have_odd (draft_items items.now.items) ≡ false }
     ensures before { OnOk result (out.new.before ≡ out.old.before) }
     ensures tokens { OnOk result (out.new.tokens
-        ≡ out.old.tokens ++ items_tokens (items_node items.now.items)) }
-    ensures sound { OnOk result (ItemsAreSound (items_node items.now.items)) }
+        ≡ out.old.tokens ++ items_tokens (draft_items items.now.items)) }
 {
     for item in items {
-        write_tree(out, item)?;
+        write_value(out, item)?;
     }
     out.end_array()
 }
@@ -85,17 +104,15 @@ fn write_items(out: &mut Writer, items: &Vec<Tree>) -> Result<(), AllocError>
 /// The members of a map, and the closing brace.
 #[cycle(write)]
 #[inline(never)]
-fn write_members(out: &mut Writer, members: &Members) -> Result<(), AllocError>
-    requires { members_have_odd (members_node members.now.entries) ≡ false }
+fn write_members(out: &mut Writer, members: &DraftMembers<'_>) -> Result<(), AllocError>
+    requires { members_have_odd (draft_members members.now.items) ≡ false }
     ensures before { OnOk result (out.new.before ≡ out.old.before) }
     ensures tokens { OnOk result (out.new.tokens
-        ≡ out.old.tokens ++ members_tokens (members_node members.now.entries)) }
-    ensures ascending { OnOk result (AreAscending (members_node members.now.entries)) }
-    ensures sound { OnOk result (MembersAreSound (members_node members.now.entries)) }
+        ≡ out.old.tokens ++ members_tokens (draft_members members.now.items)) }
 {
-    for (name, member) in members.iter() {
-        out.key(name.as_str())?;
-        write_tree(out, member)?;
+    for member in members {
+        out.key(member.0)?;
+        write_value(out, &member.1)?;
     }
     out.end_object()
 }

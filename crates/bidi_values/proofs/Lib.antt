@@ -1,3 +1,3 @@
-pub mod BesideLemmas
+pub mod SiblingLemmas
 pub mod NestedLemmas
 pub mod PartLemmas

@@ -8,18 +8,18 @@ use Rattle.bidi_tree.specs.Node as kind
 use Rattle.bidi_tree.specs.Node.{Node, Items, no_items, item, levels, items_levels}
 use Rattle.bidi_tree.specs.Kind.{list_in}
 use Rattle.bidi_shape.specs.ListLaws.{two_items as length_of_two}
-use Rattle.bidi_tree.specs.View.{node, items_of}
-use Rattle.bidi_tree.specs.declared.tree.Tree.{Tree, List as TreeList}
-use Rattle.bidi_tree.proofs.TreeLemmas.{node-List}
+use Rattle.bidi_tree.specs.View.{items_of}
+use Rattle.bidi_tree.specs.Draft.{draft_node, draft_items}
+use Rattle.bidi_tree.specs.declared.draft.Draft.{Draft}
 use Rattle.bidi_shape.specs.Term.{Term, map_of, closed, rule, list_of, pair_of, either, text}
 use Rattle.bidi_shape.specs.Parts.{joined}
 use Rattle.bidi_shape.specs.Fits.{Fits, AllFit, fits_pair}
 use Rattle.bidi_shape.specs.Value.{ShapeOf}
 use Rattle.bidi_shape.proofs.FitsLemmas.{list_inside, rule_inside}
 use Rattle.bidi_shape.specs.InnerLaws.{same_items}
-use Rattle.bidi_values.specs.BesideLaws.{BesideOf, and_value, around, holding, value_inside, value_levels}
+use Rattle.bidi_values.specs.SiblingLaws.{SiblingsOf, and_value, around, holding, value_inside, value_levels}
 use Rattle.bidi_values.specs.Content.{content, list, pairs, pair_content, contents_of, pairs_of, content-Plain, content-List, content-Pairs}
-use Rattle.bidi_values.specs.NestedLaws.{NestingOf, SameBeside, Agrees, value_tree, values_tree, pairs_tree, pair_node, PartsAreWell, ValuesAreWell, PairsAreWell, IsWell, Same, value_one, same_pair, value_fits_inside}
+use Rattle.bidi_values.specs.NestedLaws.{NestingOf, SameSiblings, Agrees, value_tree, values_tree, pairs_tree, pair_node, PartsAreWell, ValuesAreWell, PairsAreWell, IsWell, Same, value_one, same_pair, value_fits_inside}
 use Rattle.bidi_values.specs.View.{nested_tree, nested_pair_tree, NestedIsWell, NestedPairIsWell}
 use Rattle.bidi_values.specs.declared.nested.Nested.{Nested, Plain as PlainOf, List as ListOf, Pairs as PairsOf}
 use Rattle.bidi_values.specs.declared.nested.NestedPair.{NestedPair}
@@ -45,10 +45,10 @@ copies_gathered f W done after x ys i d is h e same w = (ap (map f) is ∙ gathe
 
 -- ---- what stands beside, as the rule sees it
 
-around_same : {H : Type 0} {a b : BesideOf H} (e : SameBeside a b) (h : H) (t : Node) → around a h t ≡ around b h t
+around_same : {H : Type 0} {a b : SiblingsOf H} (e : SameSiblings a b) (h : H) (t : Node) → around a h t ≡ around b h t
 around_same {a = a} {b = b} e h t = ap (λ rs. kind.map (joined rs (a.parts h) (kind.member (codes "value") t kind.no_members))) e.rows ∙ ap (λ ps. kind.map (joined b.rows ps (kind.member (codes "value") t kind.no_members))) (e.parts h)
 
-holding_same : {H : Type 0} {a b : BesideOf H} (e : SameBeside a b) (τ : Term) → holding a τ ≡ holding b τ
+holding_same : {H : Type 0} {a b : SiblingsOf H} (e : SameSiblings a b) (τ : Term) → holding a τ ≡ holding b τ
 holding_same e τ = ap (λ rs. map_of (and_value rs τ) closed) e.rows
 
 -- ---- lists of values and pairs
@@ -103,24 +103,24 @@ module _ {P L M : Type 0} (n : NestingOf P L M) where
       (record { parts = p.1; cap = cap }, value_one n (content w) (content v) p.1 well.parts cap well.cap p.0)
   same_if_well (Err e) v well p = (tt, tt)
 
-  module _ {s : ShapeOf P} {l : BesideOf L} {m : BesideOf M} (a : Agrees n s l m) where
+  module _ {s : ShapeOf P} {l : SiblingsOf L} {m : SiblingsOf M} (a : Agrees n s l m) where
     -- ---- writers
 
-    pub plain_written : (r : Result Tree AllocError) (v : Nested P L M) (p : P) → v ≡ PlainOf p → IfOk r (λ t. node t ≡ s.tree_of p) → IfOk r (λ t. node t ≡ nested_tree n v)
-    plain_written (Ok t) v p is e = e ∙ a.tree p ∙ sym (ap (value_tree n) (content-Plain p)) ∙ ap (nested_tree n) (sym is)
-    plain_written (Err x) v p is e = tt
+    pub plain_drafted : (r : Result Draft AllocError) (v : Nested P L M) (p : P) → v ≡ PlainOf p → IfOk r (λ d. draft_node d ≡ s.tree_of p) → IfOk r (λ d. draft_node d ≡ nested_tree n v)
+    plain_drafted (Ok t) v p is e = e ∙ a.tree p ∙ sym (ap (value_tree n) (content-Plain p)) ∙ ap (nested_tree n) (sym is)
+    plain_drafted (Err x) v p is e = tt
 
-    pub list_written : (r : Result Tree AllocError) (v : Nested P L M) (h : L) (vs : Vec (Nested P L M) Global) (trees : Vec Tree Global) → v ≡ ListOf h vs
-        → map node trees.items ≡ map (nested_tree n) vs.items → IfOk r (λ t. node t ≡ around l h (node (TreeList trees))) → IfOk r (λ t. node t ≡ nested_tree n v)
-    list_written (Ok t) v h vs trees is e p =
-        p ∙ around_same a.list h (node (TreeList trees)) ∙ ap (around n.list h) (node-List trees) ∙ sym (list_tree h vs (map node trees.items) (sym e)) ∙ ap (nested_tree n) (sym is)
-    list_written (Err x) v h vs trees is e p = tt
+    pub list_drafted : (r : Result Draft AllocError) (v : Nested P L M) (h : L) (vs : Vec (Nested P L M) Global) (drafts : Vec Draft Global) → v ≡ ListOf h vs
+        → map draft_node drafts.items ≡ map (nested_tree n) vs.items → IfOk r (λ d. draft_node d ≡ around l h (kind.list (draft_items drafts.items))) → IfOk r (λ d. draft_node d ≡ nested_tree n v)
+    list_drafted (Ok t) v h vs drafts is e p =
+        p ∙ around_same a.list h (kind.list (draft_items drafts.items)) ∙ sym (list_tree h vs (map draft_node drafts.items) (sym e)) ∙ ap (nested_tree n) (sym is)
+    list_drafted (Err x) v h vs drafts is e p = tt
 
-    pub pairs_written : (r : Result Tree AllocError) (v : Nested P L M) (h : M) (ps : Vec (NestedPair P L M) Global) (trees : Vec Tree Global) → v ≡ PairsOf h ps
-        → map node trees.items ≡ map (nested_pair_tree n) ps.items → IfOk r (λ t. node t ≡ around m h (node (TreeList trees))) → IfOk r (λ t. node t ≡ nested_tree n v)
-    pairs_written (Ok t) v h ps trees is e p =
-        p ∙ around_same a.pairs h (node (TreeList trees)) ∙ ap (around n.pairs h) (node-List trees) ∙ sym (pairs_list_tree h ps (map node trees.items) (sym e)) ∙ ap (nested_tree n) (sym is)
-    pairs_written (Err x) v h ps trees is e p = tt
+    pub pairs_drafted : (r : Result Draft AllocError) (v : Nested P L M) (h : M) (ps : Vec (NestedPair P L M) Global) (drafts : Vec Draft Global) → v ≡ PairsOf h ps
+        → map draft_node drafts.items ≡ map (nested_pair_tree n) ps.items → IfOk r (λ d. draft_node d ≡ around m h (kind.list (draft_items drafts.items))) → IfOk r (λ d. draft_node d ≡ nested_tree n v)
+    pairs_drafted (Ok t) v h ps drafts is e p =
+        p ∙ around_same a.pairs h (kind.list (draft_items drafts.items)) ∙ sym (pairs_list_tree h ps (map draft_node drafts.items) (sym e)) ∙ ap (nested_tree n) (sym is)
+    pairs_drafted (Err x) v h ps drafts is e p = tt
 
     -- ---- copies
 
@@ -216,7 +216,7 @@ module _ {P L M : Type 0} (n : NestingOf P L M) where
 
 -- ---- levels
 
-pub list_levels : {H : Type 0} (s : BesideOf H) (h : H) (items : Items) (t : Node) → around s h (kind.list items) ≡ t → items_levels items + 1 < levels t
+pub list_levels : {H : Type 0} (s : SiblingsOf H) (h : H) (items : Items) (t : Node) → around s h (kind.list items) ≡ t → items_levels items + 1 < levels t
 list_levels s h items t is = subst (λ x. items_levels items + 1 < levels x) is (let below = value_levels s h (kind.list items) in omega (arith, below))
 
 pub pair_levels : (t u v : Node) → t ≡ pair_node u v → (levels u < levels t) × (levels v < levels t)

@@ -3,7 +3,7 @@ pub mod Opaque
 pub mod Level
 pub mod Ownership
 pub mod Maps
-pub mod BesideLaws
+pub mod SiblingLaws
 pub mod Content
 pub mod NestedLaws
 pub mod View

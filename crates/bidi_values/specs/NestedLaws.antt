@@ -10,7 +10,7 @@ use Rattle.bidi_shape.specs.Fits.{Fits, AllFit, no_item, an_item, fits_text, fit
 use Rattle.bidi_shape.specs.Value.{ShapeOf}
 use Rattle.bidi_shape.proofs.FitsLemmas.{map_kind, rule_inside, capped_inside}
 use Rattle.bidi_shape.specs.InnerLaws.{same_items, first_item, other_items}
-use Rattle.bidi_values.specs.BesideLaws.{BesideOf, around, holding, around_fits, around_one, around_no_odd, value_levels}
+use Rattle.bidi_values.specs.SiblingLaws.{SiblingsOf, around, holding, around_fits, around_one, around_no_odd, value_levels}
 use Rattle.bidi_values.specs.Content.{Content, plain, list, pairs, Contents, no_values, value, Pairs, no_pairs, pair, Key, value_key, text_key}
 
 -- ---- rules
@@ -19,8 +19,8 @@ use Rattle.bidi_values.specs.Content.{Content, plain, list, pairs, Contents, no_
 pub record NestingOf (P L M : Type 0) : Type 1 where
   pub plain : ShapeOf P
   -- what stands beside a list of values, and beside a list of pairs
-  pub list : BesideOf L
-  pub pairs : BesideOf M
+  pub list : SiblingsOf L
+  pub pairs : SiblingsOf M
   pub values : Name
   pub pair_rule : Name
   -- the rule's alternatives
@@ -266,17 +266,17 @@ module _ {P L M : Type 0} (n : NestingOf P L M) where
 
 -- ---- what a rule says of its parts, and what these say of themselves
 
-pub record SameBeside {H : Type 0} (a b : BesideOf H) : Type 0 where
+pub record SameSiblings {H : Type 0} (a b : SiblingsOf H) : Type 0 where
   pub rows : a.rows ≡ b.rows
   pub parts : (h : H) → a.parts h ≡ b.parts h
   pub well : (h : H) → a.well h → b.well h
   pub well_there : (h : H) → b.well h → a.well h
   pub same : (g h : H) → b.same g h → a.same g h
 
-pub record Agrees {P L M : Type 0} (n : NestingOf P L M) (s : ShapeOf P) (l : BesideOf L) (m : BesideOf M) : Type 0 where
+pub record Agrees {P L M : Type 0} (n : NestingOf P L M) (s : ShapeOf P) (l : SiblingsOf L) (m : SiblingsOf M) : Type 0 where
   pub rule : s.rule ≡ n.plain.rule
   pub tree : (p : P) → s.tree_of p ≡ n.plain.tree_of p
   pub well : (p : P) → s.well p → n.plain.well p
   pub same : (p q : P) → n.plain.same p q → s.same p q
-  pub list : SameBeside l n.list
-  pub pairs : SameBeside m n.pairs
+  pub list : SameSiblings l n.list
+  pub pairs : SameSiblings m n.pairs

@@ -10,7 +10,7 @@ use Rattle.bidi_shape.specs.Term.{required, optional, Term, closed, map_of, Rows
 use Rattle.bidi_shape.specs.Fits.{Fits, fits_map, RowsFit, no_row, there, absent, without}
 use Rattle.bidi_shape.specs.MapLaws.{at-without_other}
 use Rattle.bidi_shape.specs.InnerLaws.{RowsFit-row}
-use Rattle.bidi_values.specs.BesideLaws.{is_named, and_value, or_kept}
+use Rattle.bidi_values.specs.SiblingLaws.{is_named, and_value, or_kept}
 
 -- the rows of the other members, and then `value`, which may be there
 abbrev pub and_value_or_not : Rows → Term → Rows

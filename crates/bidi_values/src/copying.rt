@@ -3,8 +3,8 @@ ghost use Rattle.std.specs.Prelude.{◌≡◌, IfOk, map, option_map, string_byt
 ghost use Rattle.std.specs.List.{AllByRecursion};
 ghost use Rattle.bidi_values.specs.View.{nested_tree, nested_pair_tree, nested_key_tree, NestedIsWell, NestedPairIsWell, NestedKeyIsWell};
 
-use crate::beside::Beside;
 use crate::nested::{Nested, NestedKey, NestedPair, Nests};
+use crate::siblings::Siblings;
 use std::alloc::{AllocError, Global};
 
 /// A text that may be there.
@@ -19,7 +19,7 @@ pub(crate) fn copy_text(text: &Option<String>) -> Result<Option<String>, AllocEr
 
 /// An equal value: its tree is the same, and it is well.
 #[cycle(copy)]
-pub(crate) fn copy_value<P: Nests<L, M>, L: Beside, M: Beside>(
+pub(crate) fn copy_value<P: Nests<L, M>, L: Siblings, M: Siblings>(
     alloc: Global,
     value: &Nested<P, L, M>,
 ) -> Result<Nested<P, L, M>, AllocError>
@@ -31,21 +31,21 @@ pub(crate) fn copy_value<P: Nests<L, M>, L: Beside, M: Beside>(
             let copy = plain.copy(alloc)?;
             Ok(Nested::Plain(copy))
         }
-        Nested::List(beside, values) => {
+        Nested::List(siblings, values) => {
             let values = copy_values(alloc, values)?;
-            let beside = beside.copy(alloc)?;
-            Ok(Nested::List(beside, values))
+            let siblings = siblings.copy(alloc)?;
+            Ok(Nested::List(siblings, values))
         }
-        Nested::Pairs(beside, pairs) => {
+        Nested::Pairs(siblings, pairs) => {
             let pairs = copy_pairs(alloc, pairs)?;
-            let beside = beside.copy(alloc)?;
-            Ok(Nested::Pairs(beside, pairs))
+            let siblings = siblings.copy(alloc)?;
+            Ok(Nested::Pairs(siblings, pairs))
         }
     }
 }
 
 #[cycle(copy)]
-fn copy_values<P: Nests<L, M>, L: Beside, M: Beside>(
+fn copy_values<P: Nests<L, M>, L: Siblings, M: Siblings>(
     alloc: Global,
     values: &Vec<Nested<P, L, M>>,
 ) -> Result<Vec<Nested<P, L, M>>, AllocError>
@@ -60,7 +60,7 @@ fn copy_values<P: Nests<L, M>, L: Beside, M: Beside>(
 }
 
 #[cycle(copy)]
-fn copy_pairs<P: Nests<L, M>, L: Beside, M: Beside>(
+fn copy_pairs<P: Nests<L, M>, L: Siblings, M: Siblings>(
     alloc: Global,
     pairs: &Vec<NestedPair<P, L, M>>,
 ) -> Result<Vec<NestedPair<P, L, M>>, AllocError>
@@ -75,7 +75,7 @@ fn copy_pairs<P: Nests<L, M>, L: Beside, M: Beside>(
 }
 
 #[cycle(copy)]
-fn copy_pair<P: Nests<L, M>, L: Beside, M: Beside>(
+fn copy_pair<P: Nests<L, M>, L: Siblings, M: Siblings>(
     alloc: Global,
     pair: &NestedPair<P, L, M>,
 ) -> Result<NestedPair<P, L, M>, AllocError>
@@ -88,7 +88,7 @@ fn copy_pair<P: Nests<L, M>, L: Beside, M: Beside>(
 }
 
 #[cycle(copy)]
-fn copy_key<P: Nests<L, M>, L: Beside, M: Beside>(
+fn copy_key<P: Nests<L, M>, L: Siblings, M: Siblings>(
     alloc: Global,
     key: &NestedKey<P, L, M>,
 ) -> Result<NestedKey<P, L, M>, AllocError>

@@ -11,9 +11,9 @@ ghost use Rattle.bidi_shape.specs.ValueLaws.{others_of};
 use crate::target::Target;
 use bidi_shape::{
     Ext, Fields, MakeFault, Maybe, Named, One, Optional, Parsed, Required, Rest, Ruled, Shape,
-    ShapeFault, further, read_fields, write_fields,
+    ShapeFault, draft_fields, further, read_fields,
 };
-use bidi_tree::{Members, Tree};
+use bidi_tree::{Draft, Members};
 use std::alloc::{AllocError, Global};
 
 /// Whether the handle of a result is kept.
@@ -148,7 +148,7 @@ impl Shape for EvaluateParameters {
         })
     }
 
-    fn to_tree(&self, alloc: Global) -> Result<Tree, AllocError> {
+    fn draft<'a>(&'a self, alloc: Global) -> Result<Draft<'a>, AllocError> {
         let members = One(
             &self.expression,
             One(
@@ -162,6 +162,6 @@ impl Shape for EvaluateParameters {
                 ),
             ),
         );
-        write_fields(alloc, &members, Self::NAMES, &[])
+        draft_fields(alloc, &members, Self::NAMES, &[])
     }
 }

@@ -3,9 +3,9 @@ use crate::exception::ExceptionDetails;
 use crate::remote_value::RemoteValue;
 use bidi_shape::{
     Closed, Either, End, Exact, Fields, Literal, One, Parsed, Required, Ruled, Shape, ShapeFault,
-    read_choice, read_fields, write_fields,
+    draft_fields, read_choice, read_fields,
 };
-use bidi_tree::{Members, Tree};
+use bidi_tree::Draft;
 use std::alloc::{AllocError, Global};
 
 /// The value of a script that ran to its end, and the realm that it ran in.
@@ -47,9 +47,9 @@ impl Shape for EvaluateSuccess {
         Ok(EvaluateSuccess { result, realm })
     }
 
-    fn to_tree(&self, alloc: Global) -> Result<Tree, AllocError> {
+    fn draft<'a>(&'a self, alloc: Global) -> Result<Draft<'a>, AllocError> {
         let members = Exact(One(&self.result, One(&self.realm, End)));
-        write_fields(alloc, &members, Self::NAMES, &["success"])
+        draft_fields(alloc, &members, Self::NAMES, &["success"])
     }
 }
 
@@ -95,9 +95,9 @@ impl Shape for EvaluateException {
         })
     }
 
-    fn to_tree(&self, alloc: Global) -> Result<Tree, AllocError> {
+    fn draft<'a>(&'a self, alloc: Global) -> Result<Draft<'a>, AllocError> {
         let members = Exact(One(&self.exception_details, One(&self.realm, End)));
-        write_fields(alloc, &members, Self::NAMES, &["exception"])
+        draft_fields(alloc, &members, Self::NAMES, &["exception"])
     }
 }
 
@@ -139,10 +139,10 @@ impl Shape for EvaluateResult {
         }
     }
 
-    fn to_tree(&self, alloc: Global) -> Result<Tree, AllocError> {
+    fn draft<'a>(&'a self, alloc: Global) -> Result<Draft<'a>, AllocError> {
         match self {
-            EvaluateResult::Success(success) => success.to_tree(alloc),
-            EvaluateResult::Exception(exception) => exception.to_tree(alloc),
+            EvaluateResult::Success(success) => success.draft(alloc),
+            EvaluateResult::Exception(exception) => exception.draft(alloc),
         }
     }
 }

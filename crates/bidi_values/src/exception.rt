@@ -2,9 +2,9 @@
 use crate::remote_value::RemoteValue;
 use crate::stack_trace::StackTrace;
 use bidi_shape::{
-    Closed, End, Fields, One, Parsed, Required, Ruled, Shape, ShapeFault, read_fields, write_fields,
+    Closed, End, Fields, One, Parsed, Required, Ruled, Shape, ShapeFault, draft_fields, read_fields,
 };
-use bidi_tree::{JsUint, Members, Tree};
+use bidi_tree::{Draft, JsUint};
 use std::alloc::{AllocError, Global};
 
 /// The value that a script threw, and where, with an account in words. Lines and columns are counted from 0.
@@ -67,7 +67,7 @@ impl Shape for ExceptionDetails {
         })
     }
 
-    fn to_tree(&self, alloc: Global) -> Result<Tree, AllocError> {
+    fn draft<'a>(&'a self, alloc: Global) -> Result<Draft<'a>, AllocError> {
         let members = One(
             &self.column_number,
             One(
@@ -78,6 +78,6 @@ impl Shape for ExceptionDetails {
                 ),
             ),
         );
-        write_fields(alloc, &members, Self::NAMES, &[])
+        draft_fields(alloc, &members, Self::NAMES, &[])
     }
 }

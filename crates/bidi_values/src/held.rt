@@ -1,14 +1,14 @@
 //! Values that a remote end holds, as it names them: by a handle, or by an id within one message.
-use crate::beside::Beside;
 use crate::copying::copy_text;
 use crate::kinds::{ListKind, PairsKind};
 use crate::opaque::Opaque;
 use crate::reg_exp::RegExpValue;
+use crate::siblings::Siblings;
 use bidi_shape::{
     Closed, End, Exact, Fields, Literal, Maybe, One, Optional, Parsed, Required, Ruled, Shape,
-    ShapeFault, add_member, add_optional, read_fields, write_fields,
+    ShapeFault, add_member, add_optional, draft_fields, read_fields,
 };
-use bidi_tree::{Members, Tree};
+use bidi_tree::{Draft, DraftMembers};
 use std::alloc::{AllocError, Global};
 
 /// What a remote end holds: its kind, which is the member `type`, and what it is named by.
@@ -65,20 +65,20 @@ impl<K: Shape> Shape for Held<K> {
         })
     }
 
-    fn to_tree(&self, alloc: Global) -> Result<Tree, AllocError> {
+    fn draft<'a>(&'a self, alloc: Global) -> Result<Draft<'a>, AllocError> {
         let members = One(
             &self.kind,
             Maybe(&self.handle, Maybe(&self.internal_id, End)),
         );
-        write_fields(alloc, &members, NAMES, &[])
+        draft_fields(alloc, &members, NAMES, &[])
     }
 }
 
-impl<K: Shape + Copy> Beside for Held<K> {
+impl<K: Shape + Copy> Siblings for Held<K> {
     ghost use Rattle.std.specs.Prelude.{refl, [], ◌∷◌, codes};
-    ghost use Rattle.bidi_values.specs.BesideLaws.{beside_by};
+    ghost use Rattle.bidi_values.specs.SiblingLaws.{siblings_by};
 
-    ghost beside = { beside_by ⟦<HeldParts<K> as Fields>⟧.table (codes "type" ∷ codes "handle" ∷ codes "internalId" ∷ []) (λ v. (v.kind, (v.handle, (v.internal_id, record {})))) (λ f g. refl) refl refl };
+    ghost siblings = { siblings_by ⟦<HeldParts<K> as Fields>⟧.table (codes "type" ∷ codes "handle" ∷ codes "internalId" ∷ []) (λ v. (v.kind, (v.handle, (v.internal_id, record {})))) (λ f g. refl) refl refl };
 
     fn read<S: Parsed>(alloc: Global, map: &S) -> Result<Held<K>, ShapeFault> {
         let Required(kind, Optional(handle, Optional(internal_id, Closed))) = HeldParts::<K>::read(
@@ -95,7 +95,11 @@ impl<K: Shape + Copy> Beside for Held<K> {
         })
     }
 
-    fn add_to(&self, alloc: Global, members: &mut Members) -> Result<(), AllocError> {
+    fn add_to<'a>(
+        &'a self,
+        alloc: Global,
+        members: &mut DraftMembers<'a>,
+    ) -> Result<(), AllocError> {
         add_optional(alloc, members, "internalId", &self.internal_id)?;
         add_optional(alloc, members, "handle", &self.handle)?;
         add_member(alloc, members, "type", &self.kind)
@@ -170,12 +174,12 @@ impl Shape for RemoteRegExp {
         })
     }
 
-    fn to_tree(&self, alloc: Global) -> Result<Tree, AllocError> {
+    fn draft<'a>(&'a self, alloc: Global) -> Result<Draft<'a>, AllocError> {
         let members = Exact(One(
             &self.value,
             Maybe(&self.handle, Maybe(&self.internal_id, End)),
         ));
-        write_fields(alloc, &members, Self::NAMES, &["regexp"])
+        draft_fields(alloc, &members, Self::NAMES, &["regexp"])
     }
 }
 
@@ -239,11 +243,11 @@ impl Shape for RemoteDate {
         })
     }
 
-    fn to_tree(&self, alloc: Global) -> Result<Tree, AllocError> {
+    fn draft<'a>(&'a self, alloc: Global) -> Result<Draft<'a>, AllocError> {
         let members = Exact(One(
             &self.value,
             Maybe(&self.handle, Maybe(&self.internal_id, End)),
         ));
-        write_fields(alloc, &members, Self::NAMES, &["date"])
+        draft_fields(alloc, &members, Self::NAMES, &["date"])
     }
 }

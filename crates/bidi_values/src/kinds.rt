@@ -1,7 +1,7 @@
 //! What holds a list of values, and what holds a list of pairs.
-use crate::beside::Beside;
+use crate::siblings::Siblings;
 use bidi_shape::{Closed, Fields, Named, Parsed, Required, ShapeFault, add_member};
-use bidi_tree::{Members, Tree};
+use bidi_tree::DraftMembers;
 use std::alloc::{AllocError, Global};
 
 /// What holds a list of values.
@@ -75,11 +75,11 @@ impl Named for PairsKind {
 type KindParts<K> = Required<K, Closed>;
 
 /// Beside the values or pairs of a local value stands its type alone.
-impl<K: Named + Copy> Beside for K {
+impl<K: Named + Copy> Siblings for K {
     ghost use Rattle.std.specs.Prelude.{refl, [], ◌∷◌, codes};
-    ghost use Rattle.bidi_values.specs.BesideLaws.{beside_by};
+    ghost use Rattle.bidi_values.specs.SiblingLaws.{siblings_by};
 
-    ghost beside = { beside_by ⟦<KindParts<K> as Fields>⟧.table (codes "type" ∷ []) (λ k. (k, record {})) (λ f g. refl) refl refl };
+    ghost siblings = { siblings_by ⟦<KindParts<K> as Fields>⟧.table (codes "type" ∷ []) (λ k. (k, record {})) (λ f g. refl) refl refl };
 
     fn read<S: Parsed>(alloc: Global, map: &S) -> Result<K, ShapeFault> {
         let Required(kind, Closed) = KindParts::<K>::read(
@@ -92,7 +92,11 @@ impl<K: Named + Copy> Beside for K {
         Ok(kind)
     }
 
-    fn add_to(&self, alloc: Global, members: &mut Members) -> Result<(), AllocError> {
+    fn add_to<'a>(
+        &'a self,
+        alloc: Global,
+        members: &mut DraftMembers<'a>,
+    ) -> Result<(), AllocError> {
         add_member(alloc, members, "type", self)
     }
 

@@ -5,7 +5,6 @@
 //! which refuses the parts that are no value of it.
 #![tactic(auto)]
 
-mod beside;
 mod call_function;
 mod copying;
 mod evaluate;
@@ -22,12 +21,12 @@ mod reading;
 mod reference;
 mod reg_exp;
 mod remote_value;
+mod siblings;
 mod stack_trace;
 mod table_row;
 mod target;
 mod writing;
 
-pub use beside::Beside;
 pub use call_function::{CallFunctionParameters, DisownParameters};
 pub use evaluate::{EvaluateParameters, Ownership};
 pub use evaluate_result::{EvaluateException, EvaluateResult, EvaluateSuccess};
@@ -44,6 +43,7 @@ pub use primitive::{Number, Primitive, SpecialNumber};
 pub use reference::{Reference, RemoteObjectReference, SharedReference};
 pub use reg_exp::RegExpValue;
 pub use remote_value::{RemoteKey, RemotePair, RemotePlain, RemoteValue};
+pub use siblings::Siblings;
 pub use stack_trace::{StackFrame, StackTrace};
 pub use table_row::{ArgumentRow, ReturnsRow, TableRow, ThrowsRow};
 pub use target::{ContextTarget, RealmTarget, Target};

@@ -5,9 +5,9 @@ use crate::primitive::Primitive;
 use crate::reference::Reference;
 use crate::reg_exp::RegExpValue;
 use bidi_shape::{
-    Either, Parsed, Ruled, Shape, ShapeFault, Tag, Typed, copied, read_choice, tree_of_typed,
+    Either, Parsed, Ruled, Shape, ShapeFault, Tag, Typed, copied, draft_of_typed, read_choice,
 };
-use bidi_tree::Tree;
+use bidi_tree::Draft;
 use std::alloc::{AllocError, Global};
 
 /// A value that a client sends to a script, of at most 60 levels.
@@ -77,12 +77,12 @@ impl Shape for LocalPlain {
         }
     }
 
-    fn to_tree(&self, alloc: Global) -> Result<Tree, AllocError> {
+    fn draft<'a>(&'a self, alloc: Global) -> Result<Draft<'a>, AllocError> {
         match self {
-            LocalPlain::Reference(reference) => reference.to_tree(alloc),
-            LocalPlain::Primitive(primitive) => primitive.to_tree(alloc),
-            LocalPlain::Date(date) => tree_of_typed(alloc, "date", date),
-            LocalPlain::RegExp(reg_exp) => tree_of_typed(alloc, "regexp", reg_exp),
+            LocalPlain::Reference(reference) => reference.draft(alloc),
+            LocalPlain::Primitive(primitive) => primitive.draft(alloc),
+            LocalPlain::Date(date) => draft_of_typed(alloc, "date", date),
+            LocalPlain::RegExp(reg_exp) => draft_of_typed(alloc, "regexp", reg_exp),
         }
     }
 }
@@ -94,8 +94,8 @@ impl Nests<ListKind, PairsKind> for LocalPlain {
 
     ghost nesting = { record {
       plain = ⟦<LocalPlain as Shape>⟧.shape;
-      list = ⟦<ListKind as crate::Beside>⟧.beside;
-      pairs = ⟦<PairsKind as crate::Beside>⟧.beside;
+      list = ⟦<ListKind as crate::Siblings>⟧.siblings;
+      pairs = ⟦<PairsKind as crate::Siblings>⟧.siblings;
       values = local_value;
       pair_rule = local_pair;
       inside = local_alternatives;

@@ -1,5 +1,8 @@
 //! Log entries, their levels and their sources.
 ghost use Rattle.std.specs.Prelude.{◌≡◌, OnOk};
+ghost use Rattle.bidi_tree.specs.Node as kind;
+ghost use Rattle.bidi_tree.specs.Node.{IsSound};
+ghost use Rattle.bidi_tree.specs.Draft.{draft_members};
 ghost use Rattle.bidi_tree.specs.View.{members_node};
 ghost use Rattle.bidi_values.specs.LogEntry.{and_base};
 
@@ -7,10 +10,10 @@ use crate::remote_value::RemoteValue;
 use crate::stack_trace::StackTrace;
 use bidi_shape::{
     Closed, Either, End, Ext, Fields, Literal, MakeFault, Maybe, Named, One, Optional, Parsed,
-    Required, Ruled, Shape, ShapeFault, add_literal, add_member, add_optional, not_shadowed,
-    read_choice, read_fields, write_fields,
+    Required, Ruled, Shape, ShapeFault, add_literal, add_member, add_optional, draft_fields,
+    not_shadowed, read_choice, read_fields,
 };
-use bidi_tree::{JsUint, Members, Tree};
+use bidi_tree::{Draft, DraftMembers, JsUint, Members, draft_members_of};
 use std::alloc::{AllocError, Global};
 
 /// How grave a log entry is.
@@ -96,9 +99,9 @@ impl Shape for Source {
         Ok(Source { realm, context })
     }
 
-    fn to_tree(&self, alloc: Global) -> Result<Tree, AllocError> {
+    fn draft<'a>(&'a self, alloc: Global) -> Result<Draft<'a>, AllocError> {
         let members = One(&self.realm, Maybe(&self.context, End));
-        write_fields(alloc, &members, Self::NAMES, &[])
+        draft_fields(alloc, &members, Self::NAMES, &[])
     }
 }
 
@@ -155,9 +158,14 @@ impl<F: Fields> Fields for WithBase<F> {
     }
 }
 
-/// Puts what every log entry has into a map.
-fn add_base(alloc: Global, members: &mut Members, base: &BaseLogEntry) -> Result<(), AllocError>
-    ensures { OnOk result (members_node members.new.entries ≡ and_base base.now (members_node members.old.entries)) }
+/// Puts what every log entry has among the members of a map.
+fn add_base<'a>(
+    alloc: Global,
+    members: &mut DraftMembers<'a>,
+    base: &'a BaseLogEntry,
+) -> Result<(), AllocError>
+    ensures ok { OnOk result (draft_members members.new.items ≡ and_base base.now (draft_members members.old.items)) }
+    ensures sound { IsSound (kind.map (draft_members members.old.items)) → OnOk result (IsSound (kind.map (draft_members members.new.items))) }
 {
     add_optional(alloc, members, "stackTrace", &base.stack_trace)?;
     add_member(alloc, members, "timestamp", &base.timestamp)?;
@@ -216,13 +224,13 @@ impl Shape for ConsoleEntry {
         Ok(ConsoleEntry { base, method, args })
     }
 
-    fn to_tree(&self, alloc: Global) -> Result<Tree, AllocError> {
-        let mut members = Members::new(alloc);
+    fn draft<'a>(&'a self, alloc: Global) -> Result<Draft<'a>, AllocError> {
+        let mut members = Vec::with_capacity(alloc, Self::NAMES.len())?;
         add_member(alloc, &mut members, "args", &self.args)?;
         add_member(alloc, &mut members, "method", &self.method)?;
-        add_literal(alloc, &mut members, "type", "console")?;
+        add_literal(&mut members, "type", "console")?;
         add_base(alloc, &mut members, &self.base)?;
-        Ok(Tree::Map(members))
+        Ok(Draft::Map(members))
     }
 }
 
@@ -273,11 +281,11 @@ impl Shape for JavascriptEntry {
         Ok(JavascriptEntry { base })
     }
 
-    fn to_tree(&self, alloc: Global) -> Result<Tree, AllocError> {
-        let mut members = Members::new(alloc);
-        add_literal(alloc, &mut members, "type", "javascript")?;
+    fn draft<'a>(&'a self, alloc: Global) -> Result<Draft<'a>, AllocError> {
+        let mut members = Vec::with_capacity(alloc, Self::NAMES.len())?;
+        add_literal(&mut members, "type", "javascript")?;
         add_base(alloc, &mut members, &self.base)?;
-        Ok(Tree::Map(members))
+        Ok(Draft::Map(members))
     }
 }
 
@@ -371,11 +379,11 @@ impl Shape for GenericLogEntry {
         Ok(GenericLogEntry { base, kind, ext })
     }
 
-    fn to_tree(&self, alloc: Global) -> Result<Tree, AllocError> {
-        let mut members = self.ext.copy_members()?;
+    fn draft<'a>(&'a self, alloc: Global) -> Result<Draft<'a>, AllocError> {
+        let mut members = draft_members_of(alloc, &self.ext.members, Self::NAMES.len())?;
         add_member(alloc, &mut members, "type", &self.kind)?;
         add_base(alloc, &mut members, &self.base)?;
-        Ok(Tree::Map(members))
+        Ok(Draft::Map(members))
     }
 }
 
@@ -422,11 +430,11 @@ impl Shape for LogEntry {
         }
     }
 
-    fn to_tree(&self, alloc: Global) -> Result<Tree, AllocError> {
+    fn draft<'a>(&'a self, alloc: Global) -> Result<Draft<'a>, AllocError> {
         match self {
-            LogEntry::Console(console) => console.to_tree(alloc),
-            LogEntry::Javascript(javascript) => javascript.to_tree(alloc),
-            LogEntry::Generic(generic) => generic.to_tree(alloc),
+            LogEntry::Console(console) => console.draft(alloc),
+            LogEntry::Javascript(javascript) => javascript.draft(alloc),
+            LogEntry::Generic(generic) => generic.draft(alloc),
         }
     }
 }

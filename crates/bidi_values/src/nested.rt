@@ -3,12 +3,12 @@ ghost use Rattle.std.specs.Prelude.{◌≡◌, IfOk};
 ghost use Rattle.bidi_values.specs.Content.{content, plain};
 ghost use Rattle.bidi_values.specs.NestedLaws.{NestingOf, Agrees};
 
-use crate::beside::Beside;
 use crate::copying::copy_value;
 use crate::reading::read_value;
-use crate::writing::write_value;
+use crate::siblings::Siblings;
+use crate::writing::draft_value;
 use bidi_shape::{MakeFault, Parsed, Shape, ShapeFault};
-use bidi_tree::Tree;
+use bidi_tree::Draft;
 use std::alloc::{AllocError, Global};
 
 /// A value that is plain, or holds a list of values, or a list of pairs.
@@ -42,7 +42,7 @@ pub enum NestedKey<P: Drop, L: Drop, M: Drop> {
 }
 
 /// The plain values of a rule whose other values hold values of the rule.
-pub trait Nests<L: Beside, M: Beside>: Shape {
+pub trait Nests<L: Siblings, M: Siblings>: Shape {
     // The rule, that its alternatives are these three, and that no tree is of two of them.
     ghost nesting: { NestingOf Self L M };
 
@@ -60,13 +60,13 @@ pub trait Nests<L: Beside, M: Beside>: Shape {
         ensures well { IfOk result nesting.plain.well };
 
     // What the rule says of each of the three is what each says of itself.
-    ghost agrees: { Agrees nesting Self.shape L.beside M.beside };
+    ghost agrees: { Agrees nesting Self.shape L.siblings M.siblings };
 }
 
 /// The most levels of a value's tree.
 const MAX_LEVELS: usize = 60;
 
-impl<P: Nests<L, M>, L: Beside, M: Beside> Shape for Nested<P, L, M> {
+impl<P: Nests<L, M>, L: Siblings, M: Siblings> Shape for Nested<P, L, M> {
     ghost use Rattle.bidi_values.specs.NestedLaws.{nested_shape};
 
     ghost shape = { nested_shape P.nesting content };
@@ -79,12 +79,12 @@ impl<P: Nests<L, M>, L: Beside, M: Beside> Shape for Nested<P, L, M> {
         }
     }
 
-    fn to_tree(&self, alloc: Global) -> Result<Tree, AllocError> {
-        write_value(alloc, self)
+    fn draft<'a>(&'a self, alloc: Global) -> Result<Draft<'a>, AllocError> {
+        draft_value(alloc, self)
     }
 }
 
-impl<P: Nests<L, M>, L: Beside, M: Beside> Nested<P, L, M> {
+impl<P: Nests<L, M>, L: Siblings, M: Siblings> Nested<P, L, M> {
     ghost use Rattle.std.specs.Prelude.{◌≡◌, ◌≤◌, IfOk};
     ghost use Rattle.bidi_tree.specs.Node.{levels};
     ghost use Rattle.bidi_shape.specs.Made.{Makes};
@@ -102,8 +102,8 @@ impl<P: Nests<L, M>, L: Beside, M: Beside> Nested<P, L, M> {
         ensures made { Makes result ⊥ ⊥ (¬ (levels (nested_tree P.nesting self) ≤ 60)) (λ v. v ≡ self) }
         ensures well { IfOk result (λ v. IsWell P.nesting (content v)) }
     {
-        let tree = self.to_tree(alloc)?;
-        if tree.is_within(MAX_LEVELS) {
+        let is_within = self.draft(alloc)?.is_within(MAX_LEVELS);
+        if is_within {
             Ok(self)
         } else {
             Err(MakeFault::TooDeep)

@@ -1,9 +1,9 @@
 //! Primitive values.
 use bidi_shape::{
-    Bare, Either, Named, Parsed, Ruled, Shape, ShapeFault, Tag, Typed, read_choice, tree_of_type,
-    tree_of_typed,
+    Bare, Either, Named, Parsed, Ruled, Shape, ShapeFault, Tag, Typed, draft_of_type,
+    draft_of_typed, read_choice,
 };
-use bidi_tree::{JsInt, Tree};
+use bidi_tree::{Draft, JsInt};
 use std::alloc::{AllocError, Global};
 
 /// A number that JSON has not, or that would lose its sign.
@@ -83,10 +83,10 @@ impl Shape for Number {
         }
     }
 
-    fn to_tree(&self, alloc: Global) -> Result<Tree, AllocError> {
+    fn draft<'a>(&'a self, alloc: Global) -> Result<Draft<'a>, AllocError> {
         match self {
-            Number::Whole(whole) => whole.to_tree(alloc),
-            Number::Special(special) => special.to_tree(alloc),
+            Number::Whole(whole) => whole.draft(alloc),
+            Number::Special(special) => special.draft(alloc),
         }
     }
 }
@@ -189,14 +189,14 @@ impl Shape for Primitive {
         }
     }
 
-    fn to_tree(&self, alloc: Global) -> Result<Tree, AllocError> {
+    fn draft<'a>(&'a self, alloc: Global) -> Result<Draft<'a>, AllocError> {
         match self {
-            Primitive::Undefined => tree_of_type(alloc, "undefined"),
-            Primitive::Null => tree_of_type(alloc, "null"),
-            Primitive::String(text) => tree_of_typed(alloc, "string", text),
-            Primitive::Number(number) => tree_of_typed(alloc, "number", number),
-            Primitive::Boolean(boolean) => tree_of_typed(alloc, "boolean", boolean),
-            Primitive::BigInt(digits) => tree_of_typed(alloc, "bigint", digits),
+            Primitive::Undefined => draft_of_type(alloc, "undefined"),
+            Primitive::Null => draft_of_type(alloc, "null"),
+            Primitive::String(text) => draft_of_typed(alloc, "string", text),
+            Primitive::Number(number) => draft_of_typed(alloc, "number", number),
+            Primitive::Boolean(boolean) => draft_of_typed(alloc, "boolean", boolean),
+            Primitive::BigInt(digits) => draft_of_typed(alloc, "bigint", digits),
         }
     }
 }

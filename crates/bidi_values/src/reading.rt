@@ -9,14 +9,14 @@ ghost use Rattle.bidi_shape.specs.Outcome.{IfNoFit};
 ghost use Rattle.bidi_values.specs.NestedLaws.{pair_node};
 ghost use Rattle.bidi_values.specs.View.{nested_tree, nested_pair_tree, nested_key_tree, NestedIsWell, NestedPairIsWell, NestedKeyIsWell};
 
-use crate::beside::{Beside, read_around};
 use crate::nested::{Nested, NestedKey, NestedPair, Nests};
+use crate::siblings::{Siblings, read_around};
 use bidi_shape::{Parsed, ShapeFault};
 use std::alloc::Global;
 
 /// The value of a tree.
 #[cycle(read)]
-pub(crate) fn read_value<P: Nests<L, M>, L: Beside, M: Beside, S: Parsed>(
+pub(crate) fn read_value<P: Nests<L, M>, L: Siblings, M: Siblings, S: Parsed>(
     alloc: Global,
     tree: &S,
 ) -> Result<Nested<P, L, M>, ShapeFault>
@@ -25,17 +25,17 @@ pub(crate) fn read_value<P: Nests<L, M>, L: Beside, M: Beside, S: Parsed>(
     ensures no_fit { IfNoFit result (Fits (S.tree tree.now) (rule P.nesting.values) → ⊥) }
 {
     match read_around::<L, S>(alloc, tree) {
-        Ok((beside, items)) => {
+        Ok((siblings, items)) => {
             let values = read_values(alloc, items)?;
-            return Ok(Nested::List(beside, values));
+            return Ok(Nested::List(siblings, values));
         }
         Err(ShapeFault::NoMemory) => return Err(ShapeFault::NoMemory),
         Err(ShapeFault::NoFit) => {}
     }
     match read_around::<M, S>(alloc, tree) {
-        Ok((beside, items)) => {
+        Ok((siblings, items)) => {
             let pairs = read_pairs(alloc, items)?;
-            Ok(Nested::Pairs(beside, pairs))
+            Ok(Nested::Pairs(siblings, pairs))
         }
         Err(ShapeFault::NoMemory) => Err(ShapeFault::NoMemory),
         Err(ShapeFault::NoFit) => {
@@ -46,7 +46,7 @@ pub(crate) fn read_value<P: Nests<L, M>, L: Beside, M: Beside, S: Parsed>(
 }
 
 #[cycle(read)]
-fn read_values<P: Nests<L, M>, L: Beside, M: Beside, S: Parsed>(
+fn read_values<P: Nests<L, M>, L: Siblings, M: Siblings, S: Parsed>(
     alloc: Global,
     items: &[S],
 ) -> Result<Vec<Nested<P, L, M>>, ShapeFault>
@@ -62,7 +62,7 @@ fn read_values<P: Nests<L, M>, L: Beside, M: Beside, S: Parsed>(
 }
 
 #[cycle(read)]
-fn read_pairs<P: Nests<L, M>, L: Beside, M: Beside, S: Parsed>(
+fn read_pairs<P: Nests<L, M>, L: Siblings, M: Siblings, S: Parsed>(
     alloc: Global,
     items: &[S],
 ) -> Result<Vec<NestedPair<P, L, M>>, ShapeFault>
@@ -78,7 +78,7 @@ fn read_pairs<P: Nests<L, M>, L: Beside, M: Beside, S: Parsed>(
 }
 
 #[cycle(read)]
-fn read_pair<P: Nests<L, M>, L: Beside, M: Beside, S: Parsed>(
+fn read_pair<P: Nests<L, M>, L: Siblings, M: Siblings, S: Parsed>(
     alloc: Global,
     tree: &S,
 ) -> Result<NestedPair<P, L, M>, ShapeFault>
@@ -97,7 +97,7 @@ fn read_pair<P: Nests<L, M>, L: Beside, M: Beside, S: Parsed>(
 }
 
 #[cycle(read)]
-fn read_key<P: Nests<L, M>, L: Beside, M: Beside, S: Parsed>(
+fn read_key<P: Nests<L, M>, L: Siblings, M: Siblings, S: Parsed>(
     alloc: Global,
     tree: &S,
 ) -> Result<NestedKey<P, L, M>, ShapeFault>

@@ -1,9 +1,9 @@
 //! References to values that a remote end holds.
 use bidi_shape::{
     Either, Ext, Fields, MakeFault, Maybe, One, Optional, Parsed, Required, Rest, Ruled, Shape,
-    ShapeFault, further, not_shadowed, read_choice, read_fields, write_fields,
+    ShapeFault, draft_fields, further, not_shadowed, read_choice, read_fields,
 };
-use bidi_tree::{Members, Tree};
+use bidi_tree::{Draft, Members};
 use std::alloc::{AllocError, Global};
 
 /// A reference to a node by its shared id. The remote end of this project holds none: `no such node`.
@@ -86,9 +86,9 @@ impl Shape for SharedReference {
         })
     }
 
-    fn to_tree(&self, alloc: Global) -> Result<Tree, AllocError> {
+    fn draft<'a>(&'a self, alloc: Global) -> Result<Draft<'a>, AllocError> {
         let members = One(&self.shared_id, Maybe(&self.handle, Rest(&self.ext)));
-        write_fields(alloc, &members, Self::NAMES, &[])
+        draft_fields(alloc, &members, Self::NAMES, &[])
     }
 }
 
@@ -183,9 +183,9 @@ impl Shape for RemoteObjectReference {
         })
     }
 
-    fn to_tree(&self, alloc: Global) -> Result<Tree, AllocError> {
+    fn draft<'a>(&'a self, alloc: Global) -> Result<Draft<'a>, AllocError> {
         let members = One(&self.handle, Maybe(&self.shared_id, Rest(&self.ext)));
-        write_fields(alloc, &members, Self::NAMES, &[])
+        draft_fields(alloc, &members, Self::NAMES, &[])
     }
 }
 
@@ -227,10 +227,10 @@ impl Shape for Reference {
         }
     }
 
-    fn to_tree(&self, alloc: Global) -> Result<Tree, AllocError> {
+    fn draft<'a>(&'a self, alloc: Global) -> Result<Draft<'a>, AllocError> {
         match self {
-            Reference::Shared(shared) => shared.to_tree(alloc),
-            Reference::RemoteObject(object) => object.to_tree(alloc),
+            Reference::Shared(shared) => shared.draft(alloc),
+            Reference::RemoteObject(object) => object.draft(alloc),
         }
     }
 }

@@ -2,9 +2,9 @@
 use crate::copying::copy_text;
 use bidi_shape::{
     Closed, End, Fields, Maybe, One, Optional, Parsed, Required, Ruled, Shape, ShapeFault,
-    read_fields, write_fields,
+    draft_fields, read_fields,
 };
-use bidi_tree::{Members, Tree};
+use bidi_tree::Draft;
 use std::alloc::{AllocError, Global};
 
 /// A regular expression, as its source has it. Neither of the two texts is checked.
@@ -66,8 +66,8 @@ impl Shape for RegExpValue {
         Ok(RegExpValue { pattern, flags })
     }
 
-    fn to_tree(&self, alloc: Global) -> Result<Tree, AllocError> {
+    fn draft<'a>(&'a self, alloc: Global) -> Result<Draft<'a>, AllocError> {
         let members = One(&self.pattern, Maybe(&self.flags, End));
-        write_fields(alloc, &members, Self::NAMES, &[])
+        draft_fields(alloc, &members, Self::NAMES, &[])
     }
 }

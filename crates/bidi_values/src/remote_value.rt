@@ -1,10 +1,10 @@
 //! Values that a script gives back.
-use crate::beside::Beside;
 use crate::held::{RemoteDate, RemoteList, RemoteOpaque, RemotePairs, RemoteRegExp};
 use crate::nested::{Nested, NestedKey, NestedPair, Nests};
 use crate::primitive::Primitive;
+use crate::siblings::Siblings;
 use bidi_shape::{Either, Parsed, Ruled, Shape, ShapeFault, read_choice};
-use bidi_tree::Tree;
+use bidi_tree::Draft;
 use std::alloc::{AllocError, Global};
 
 /// A value that a script gives back, of at most 60 levels.
@@ -84,14 +84,14 @@ impl Shape for RemotePlain {
         }
     }
 
-    fn to_tree(&self, alloc: Global) -> Result<Tree, AllocError> {
+    fn draft<'a>(&'a self, alloc: Global) -> Result<Draft<'a>, AllocError> {
         match self {
-            RemotePlain::Primitive(primitive) => primitive.to_tree(alloc),
-            RemotePlain::List(list) => list.to_tree(alloc),
-            RemotePlain::Pairs(pairs) => pairs.to_tree(alloc),
-            RemotePlain::RegExp(reg_exp) => reg_exp.to_tree(alloc),
-            RemotePlain::Date(date) => date.to_tree(alloc),
-            RemotePlain::Opaque(opaque) => opaque.to_tree(alloc),
+            RemotePlain::Primitive(primitive) => primitive.draft(alloc),
+            RemotePlain::List(list) => list.draft(alloc),
+            RemotePlain::Pairs(pairs) => pairs.draft(alloc),
+            RemotePlain::RegExp(reg_exp) => reg_exp.draft(alloc),
+            RemotePlain::Date(date) => date.draft(alloc),
+            RemotePlain::Opaque(opaque) => opaque.draft(alloc),
         }
     }
 }
@@ -103,8 +103,8 @@ impl Nests<RemoteList, RemotePairs> for RemotePlain {
 
     ghost nesting = { record {
       plain = ⟦<RemotePlain as Shape>⟧.shape;
-      list = ⟦<RemoteList as crate::Beside>⟧.beside;
-      pairs = ⟦<RemotePairs as crate::Beside>⟧.beside;
+      list = ⟦<RemoteList as crate::Siblings>⟧.siblings;
+      pairs = ⟦<RemotePairs as crate::Siblings>⟧.siblings;
       values = remote_value;
       pair_rule = remote_pair;
       inside = remote_alternatives;

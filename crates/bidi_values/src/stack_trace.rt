@@ -1,8 +1,8 @@
 //! Stack traces.
 use bidi_shape::{
-    Closed, End, Fields, One, Parsed, Required, Ruled, Shape, ShapeFault, read_fields, write_fields,
+    Closed, End, Fields, One, Parsed, Required, Ruled, Shape, ShapeFault, draft_fields, read_fields,
 };
-use bidi_tree::{JsUint, Members, Tree};
+use bidi_tree::{Draft, JsUint};
 use std::alloc::{AllocError, Global};
 
 /// A place in a script, and the function that it stands in.
@@ -51,7 +51,7 @@ impl Shape for StackFrame {
         })
     }
 
-    fn to_tree(&self, alloc: Global) -> Result<Tree, AllocError> {
+    fn draft<'a>(&'a self, alloc: Global) -> Result<Draft<'a>, AllocError> {
         let members = One(
             &self.column_number,
             One(
@@ -59,7 +59,7 @@ impl Shape for StackFrame {
                 One(&self.line_number, One(&self.url, End)),
             ),
         );
-        write_fields(alloc, &members, Self::NAMES, &[])
+        draft_fields(alloc, &members, Self::NAMES, &[])
     }
 }
 
@@ -103,8 +103,8 @@ impl Shape for StackTrace {
         Ok(StackTrace { call_frames })
     }
 
-    fn to_tree(&self, alloc: Global) -> Result<Tree, AllocError> {
+    fn draft<'a>(&'a self, alloc: Global) -> Result<Draft<'a>, AllocError> {
         let members = One(&self.call_frames, End);
-        write_fields(alloc, &members, Self::NAMES, &[])
+        draft_fields(alloc, &members, Self::NAMES, &[])
     }
 }

@@ -1,10 +1,10 @@
 //! The table of a play: what each script does.
 use crate::remote_value::RemoteValue;
 use bidi_shape::{
-    Closed, Either, End, Fields, One, Parsed, Required, Ruled, Shape, ShapeFault, read_choice,
-    read_fields, write_fields,
+    Closed, Either, End, Fields, One, Parsed, Required, Ruled, Shape, ShapeFault, draft_fields,
+    read_choice, read_fields,
 };
-use bidi_tree::{JsUint, Members, Tree};
+use bidi_tree::{Draft, JsUint};
 use std::alloc::{AllocError, Global};
 
 /// A script that returns a value, which is the member `returns`.
@@ -47,9 +47,9 @@ impl Shape for ReturnsRow {
         Ok(ReturnsRow { text, value })
     }
 
-    fn to_tree(&self, alloc: Global) -> Result<Tree, AllocError> {
+    fn draft<'a>(&'a self, alloc: Global) -> Result<Draft<'a>, AllocError> {
         let members = One(&self.text, One(&self.value, End));
-        write_fields(alloc, &members, Self::NAMES, &[])
+        draft_fields(alloc, &members, Self::NAMES, &[])
     }
 }
 
@@ -93,9 +93,9 @@ impl Shape for ThrowsRow {
         Ok(ThrowsRow { text, value })
     }
 
-    fn to_tree(&self, alloc: Global) -> Result<Tree, AllocError> {
+    fn draft<'a>(&'a self, alloc: Global) -> Result<Draft<'a>, AllocError> {
         let members = One(&self.text, One(&self.value, End));
-        write_fields(alloc, &members, Self::NAMES, &[])
+        draft_fields(alloc, &members, Self::NAMES, &[])
     }
 }
 
@@ -139,9 +139,9 @@ impl Shape for ArgumentRow {
         Ok(ArgumentRow { text, index })
     }
 
-    fn to_tree(&self, alloc: Global) -> Result<Tree, AllocError> {
+    fn draft<'a>(&'a self, alloc: Global) -> Result<Draft<'a>, AllocError> {
         let members = One(&self.text, One(&self.index, End));
-        write_fields(alloc, &members, Self::NAMES, &[])
+        draft_fields(alloc, &members, Self::NAMES, &[])
     }
 }
 
@@ -188,11 +188,11 @@ impl Shape for TableRow {
         }
     }
 
-    fn to_tree(&self, alloc: Global) -> Result<Tree, AllocError> {
+    fn draft<'a>(&'a self, alloc: Global) -> Result<Draft<'a>, AllocError> {
         match self {
-            TableRow::Returns(returns) => returns.to_tree(alloc),
-            TableRow::Throws(throws) => throws.to_tree(alloc),
-            TableRow::Argument(argument) => argument.to_tree(alloc),
+            TableRow::Returns(returns) => returns.draft(alloc),
+            TableRow::Throws(throws) => throws.draft(alloc),
+            TableRow::Argument(argument) => argument.draft(alloc),
         }
     }
 }

@@ -1,9 +1,9 @@
 //! Where a script is run.
 use bidi_shape::{
     Either, Ext, Fields, MakeFault, Maybe, One, Optional, Parsed, Required, Rest, Ruled, Shape,
-    ShapeFault, further, not_shadowed, read_choice, read_fields, write_fields,
+    ShapeFault, draft_fields, further, not_shadowed, read_choice, read_fields,
 };
-use bidi_tree::{Members, Tree};
+use bidi_tree::{Draft, Members};
 use std::alloc::{AllocError, Global};
 
 /// A browsing context, or a sandbox in it.
@@ -88,9 +88,9 @@ impl Shape for ContextTarget {
         })
     }
 
-    fn to_tree(&self, alloc: Global) -> Result<Tree, AllocError> {
+    fn draft<'a>(&'a self, alloc: Global) -> Result<Draft<'a>, AllocError> {
         let members = One(&self.context, Maybe(&self.sandbox, Rest(&self.ext)));
-        write_fields(alloc, &members, Self::NAMES, &[])
+        draft_fields(alloc, &members, Self::NAMES, &[])
     }
 }
 
@@ -171,9 +171,9 @@ impl Shape for RealmTarget {
         Ok(RealmTarget { realm, ext })
     }
 
-    fn to_tree(&self, alloc: Global) -> Result<Tree, AllocError> {
+    fn draft<'a>(&'a self, alloc: Global) -> Result<Draft<'a>, AllocError> {
         let members = One(&self.realm, Rest(&self.ext));
-        write_fields(alloc, &members, Self::NAMES, &[])
+        draft_fields(alloc, &members, Self::NAMES, &[])
     }
 }
 
@@ -215,10 +215,10 @@ impl Shape for Target {
         }
     }
 
-    fn to_tree(&self, alloc: Global) -> Result<Tree, AllocError> {
+    fn draft<'a>(&'a self, alloc: Global) -> Result<Draft<'a>, AllocError> {
         match self {
-            Target::Context(context) => context.to_tree(alloc),
-            Target::Realm(realm) => realm.to_tree(alloc),
+            Target::Context(context) => context.draft(alloc),
+            Target::Realm(realm) => realm.draft(alloc),
         }
     }
 }

@@ -1,86 +1,92 @@
-//! Values that may hold others, as trees.
+//! Values that may hold others, as drafts.
 ghost use Rattle.std.specs.Prelude.{◌≡◌, IfOk, map};
-ghost use Rattle.bidi_tree.specs.View.{node};
+ghost use Rattle.bidi_tree.specs.Node.{IsSound, ItemsAreSound};
+ghost use Rattle.bidi_tree.specs.Draft.{draft_node, draft_items};
 ghost use Rattle.bidi_values.specs.View.{nested_tree, nested_pair_tree, nested_key_tree};
 
-use crate::beside::{Beside, write_around};
 use crate::nested::{Nested, NestedKey, NestedPair, Nests};
-use bidi_tree::Tree;
+use crate::siblings::{Siblings, draft_around};
+use bidi_tree::Draft;
 use std::alloc::{AllocError, Global};
 
-/// The tree of a value.
+/// The draft of a value.
 #[cycle(write)]
-pub(crate) fn write_value<P: Nests<L, M>, L: Beside, M: Beside>(
+pub(crate) fn draft_value<'a, P: Nests<L, M>, L: Siblings, M: Siblings>(
     alloc: Global,
-    value: &Nested<P, L, M>,
-) -> Result<Tree, AllocError>
-    ensures { IfOk result (λ t. node t ≡ nested_tree P.nesting value.now) }
+    value: &'a Nested<P, L, M>,
+) -> Result<Draft<'a>, AllocError>
+    ensures tree { IfOk result (λ d. draft_node d ≡ nested_tree P.nesting value.now) }
+    ensures sound { IfOk result (λ d. IsSound (draft_node d)) }
 {
     match value {
-        Nested::Plain(plain) => plain.to_tree(alloc),
-        Nested::List(beside, values) => {
-            let trees = write_values(alloc, values)?;
-            write_around(alloc, beside, Tree::List(trees))
+        Nested::Plain(plain) => plain.draft(alloc),
+        Nested::List(siblings, values) => {
+            let drafts = draft_values(alloc, values)?;
+            draft_around(alloc, siblings, drafts)
         }
-        Nested::Pairs(beside, pairs) => {
-            let trees = write_pairs(alloc, pairs)?;
-            write_around(alloc, beside, Tree::List(trees))
+        Nested::Pairs(siblings, pairs) => {
+            let drafts = draft_pairs(alloc, pairs)?;
+            draft_around(alloc, siblings, drafts)
         }
     }
 }
 
 #[cycle(write)]
-fn write_values<P: Nests<L, M>, L: Beside, M: Beside>(
+fn draft_values<'a, P: Nests<L, M>, L: Siblings, M: Siblings>(
     alloc: Global,
-    values: &Vec<Nested<P, L, M>>,
-) -> Result<Vec<Tree>, AllocError>
-    ensures { IfOk result (λ v. map node v.items ≡ map (nested_tree P.nesting) values.now.items) }
+    values: &'a Vec<Nested<P, L, M>>,
+) -> Result<Vec<Draft<'a>>, AllocError>
+    ensures same { IfOk result (λ v. map draft_node v.items ≡ map (nested_tree P.nesting) values.now.items) }
+    ensures sound { IfOk result (λ v. ItemsAreSound (draft_items v.items)) }
 {
-    let mut trees = Vec::with_capacity(alloc, values.len())?;
+    let mut drafts = Vec::with_capacity(alloc, values.len())?;
     for value in values {
-        trees.push(write_value(alloc, value)?)?;
+        drafts.push(draft_value(alloc, value)?)?;
     }
-    Ok(trees)
+    Ok(drafts)
 }
 
 #[cycle(write)]
-fn write_pairs<P: Nests<L, M>, L: Beside, M: Beside>(
+fn draft_pairs<'a, P: Nests<L, M>, L: Siblings, M: Siblings>(
     alloc: Global,
-    pairs: &Vec<NestedPair<P, L, M>>,
-) -> Result<Vec<Tree>, AllocError>
-    ensures { IfOk result (λ v. map node v.items ≡ map (nested_pair_tree P.nesting) pairs.now.items) }
+    pairs: &'a Vec<NestedPair<P, L, M>>,
+) -> Result<Vec<Draft<'a>>, AllocError>
+    ensures same { IfOk result (λ v. map draft_node v.items ≡ map (nested_pair_tree P.nesting) pairs.now.items) }
+    ensures sound { IfOk result (λ v. ItemsAreSound (draft_items v.items)) }
 {
-    let mut trees = Vec::with_capacity(alloc, pairs.len())?;
+    let mut drafts = Vec::with_capacity(alloc, pairs.len())?;
     for pair in pairs {
-        trees.push(write_pair(alloc, pair)?)?;
+        drafts.push(draft_pair(alloc, pair)?)?;
     }
-    Ok(trees)
+    Ok(drafts)
 }
 
 #[cycle(write)]
-fn write_pair<P: Nests<L, M>, L: Beside, M: Beside>(
+fn draft_pair<'a, P: Nests<L, M>, L: Siblings, M: Siblings>(
     alloc: Global,
-    pair: &NestedPair<P, L, M>,
-) -> Result<Tree, AllocError>
-    ensures { IfOk result (λ t. node t ≡ nested_pair_tree P.nesting pair.now) }
+    pair: &'a NestedPair<P, L, M>,
+) -> Result<Draft<'a>, AllocError>
+    ensures tree { IfOk result (λ d. draft_node d ≡ nested_pair_tree P.nesting pair.now) }
+    ensures sound { IfOk result (λ d. IsSound (draft_node d)) }
 {
-    let key = write_key(alloc, &pair.key)?;
-    let value = write_value(alloc, &pair.value)?;
+    let key = draft_key(alloc, &pair.key)?;
+    let value = draft_value(alloc, &pair.value)?;
     let mut items = Vec::with_capacity(alloc, 2)?;
     items.push(key)?;
     items.push(value)?;
-    Ok(Tree::List(items))
+    Ok(Draft::List(items))
 }
 
 #[cycle(write)]
-fn write_key<P: Nests<L, M>, L: Beside, M: Beside>(
+fn draft_key<'a, P: Nests<L, M>, L: Siblings, M: Siblings>(
     alloc: Global,
-    key: &NestedKey<P, L, M>,
-) -> Result<Tree, AllocError>
-    ensures { IfOk result (λ t. node t ≡ nested_key_tree P.nesting key.now) }
+    key: &'a NestedKey<P, L, M>,
+) -> Result<Draft<'a>, AllocError>
+    ensures tree { IfOk result (λ d. draft_node d ≡ nested_key_tree P.nesting key.now) }
+    ensures sound { IfOk result (λ d. IsSound (draft_node d)) }
 {
     match key {
-        NestedKey::Value(value) => write_value(alloc, value),
-        NestedKey::Text(text) => Ok(Tree::Text(text.clone()?)),
+        NestedKey::Value(value) => draft_value(alloc, value),
+        NestedKey::Text(text) => Ok(Draft::Text(text.as_str())),
     }
 }

@@ -1,6 +1,7 @@
 //! Numbers, trees and JSON text: RFC 8259, and `docs/FORMATS.md` on what is read.
 use bidi_tree::{
-    JsInt, JsUint, Members, ReadFault, Tree, are_whole, find_member, put_member, read, write,
+    Draft, DraftMembers, JsInt, JsUint, Members, ReadFault, Tree, are_whole, draft_of, find_member,
+    own_draft, put_draft, put_member, read, write, write_draft,
 };
 use std::alloc::Global;
 use std::test::Fail;
@@ -24,6 +25,9 @@ impl Asked for Trees {
             "put" => put(alloc, text),
             "whole" => whole(alloc, text),
             "copies" => copies(alloc, text),
+            "drafted" => drafted(alloc, text),
+            "placed" => placed(alloc, text),
+            "draft" => draft_within(alloc, text),
             _ => Err(Fail::from("no such word")),
         }
     }
@@ -287,6 +291,77 @@ fn copies(alloc: Global, asked: &str) -> Result<String, Fail> {
     let (first, second) = asked.split_once(' ').ok_or("no second text")?;
     let copy = tree_of(alloc, first)?.clone()?;
     Ok((copy == tree_of(alloc, second)?).to_string(alloc)?)
+}
+
+// ---- drafts
+
+const DRAFTS: &str = r#"
+null | drafted null -> null
+a truth value | drafted true -> true
+the least whole number | drafted -9007199254740991 -> -9007199254740991
+an odd number | drafted 1.5 -> not writable
+a text with a line feed | drafted "a\nb" -> "a\nb"
+an empty list | drafted [] -> []
+an empty map | drafted {} -> {}
+lists and maps in one another | drafted {"b":[1,{"d":2,"c":[]}],"a":"x"} -> {"a":"x","b":[1,{"c":[],"d":2}]}
+a member | placed a=1 -> a=1
+above all others | placed a=1 b=2 -> a=1 b=2
+below all others | placed b=1 a=2 -> a=2 b=1
+between others | placed a=1 c=2 b=3 -> a=1 b=3 c=2
+a name that is there | placed a=1 b=2 a=3 -> a=3 b=2
+capitals come first | placed a=1 B=2 -> B=2 a=1
+the beginning of a name comes first | placed ab=1 a=2 -> a=2 ab=1
+a text has no level | draft 0 "x" -> true
+an empty list has one | draft 0 [] -> false
+within it | draft 1 [] -> true
+the deepest member counts | draft 2 {"a":[1],"b":[[]]} -> false
+as many as it has | draft 3 {"a":[1],"b":[[]]} -> true
+"#;
+
+#[test]
+fn drafts_stand_for_trees(rt: HostRuntime) -> Result<(), Fail> {
+    check_rows::<Trees>(rt.alloc(), DRAFTS)
+}
+
+/// The text of the draft of a text's tree, which is that tree once it owns its texts.
+fn drafted(alloc: Global, text: &str) -> Result<String, Fail> {
+    let tree = tree_of(alloc, text)?;
+    if !tree.is_writable() {
+        return Ok(String::from_str(alloc, "not writable")?);
+    }
+    let draft = draft_of(alloc, &tree)?;
+    if own_draft(alloc, &draft)? != tree {
+        return Err(Fail::from("another tree"));
+    }
+    Ok(write_draft(alloc, &draft)?)
+}
+
+/// The members in their order, after whole numbers were put at names.
+fn placed(alloc: Global, asked: &str) -> Result<String, Fail> {
+    let mut members: DraftMembers = Vec::new(alloc);
+    for member in asked.split(' ') {
+        let (name, number) = member.split_once('=').ok_or("no member")?;
+        let number = JsInt::new(number.parse()?).ok_or("out of range")?;
+        put_draft(&mut members, name, Draft::Int(number))?;
+    }
+    let mut told = String::new(alloc);
+    for (name, draft) in &members {
+        let Draft::Int(number) = draft else {
+            return Err(Fail::from("another draft"));
+        };
+        if !told.is_empty() {
+            told.push_str(" ")?;
+        }
+        told.push_str(&format!(in alloc; "{}={}", name, number.value)?)?;
+    }
+    Ok(told)
+}
+
+fn draft_within(alloc: Global, asked: &str) -> Result<String, Fail> {
+    let (limit, text) = asked.split_once(' ').ok_or("no limit")?;
+    let tree = tree_of(alloc, text)?;
+    let limit = limit.parse()?;
+    Ok(draft_of(alloc, &tree)?.is_within(limit).to_string(alloc)?)
 }
 
 // ---- allocations that fail

@@ -2,11 +2,11 @@
 use bidi_shape::Shape;
 use bidi_tree::Tree;
 use bidi_values::{
-    Beside, ConsoleEntry, ContextTarget, EvaluateException, EvaluateResult, EvaluateSuccess,
+    ConsoleEntry, ContextTarget, EvaluateException, EvaluateResult, EvaluateSuccess,
     ExceptionDetails, GenericLogEntry, JavascriptEntry, Level, ListKind, LocalPlain, LocalValue,
     LogEntry, Nested, Nests, Opaque, PairsKind, Primitive, RealmTarget, Reference, RegExpValue,
     RemoteList, RemoteObjectReference, RemotePairs, RemotePlain, RemoteValue, SharedReference,
-    Source, StackTrace, TableRow, Target,
+    Siblings, Source, StackTrace, TableRow, Target,
 };
 use std::alloc::Global;
 use std::test::Fail;
@@ -477,7 +477,7 @@ fn made_of_parts(rt: HostRuntime) -> Result<(), Fail> {
     check_rows::<Made>(rt.alloc(), MADE_ENTRIES)
 }
 
-fn checked<P: Nests<L, M>, L: Beside, M: Beside>(
+fn checked<P: Nests<L, M>, L: Siblings, M: Siblings>(
     alloc: Global,
     text: &str,
 ) -> Result<String, Fail> {
@@ -485,7 +485,10 @@ fn checked<P: Nests<L, M>, L: Beside, M: Beside>(
     text_of(alloc, value)
 }
 
-fn copied<P: Nests<L, M>, L: Beside, M: Beside>(alloc: Global, text: &str) -> Result<String, Fail> {
+fn copied<P: Nests<L, M>, L: Siblings, M: Siblings>(
+    alloc: Global,
+    text: &str,
+) -> Result<String, Fail> {
     let copy = value_of::<Nested<P, L, M>>(alloc, text)?.copy(alloc)?;
     text_of(alloc, copy)
 }

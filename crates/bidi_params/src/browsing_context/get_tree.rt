@@ -11,9 +11,9 @@ ghost use Rattle.bidi_shape.specs.ValueLaws.{others_of};
 use crate::browsing_context::info::Info;
 use bidi_shape::{
     Ext, Fields, MakeFault, Maybe, One, Optional, Parsed, Required, Rest, Ruled, Shape, ShapeFault,
-    further, read_fields, write_fields,
+    draft_fields, further, read_fields,
 };
-use bidi_tree::{JsUint, Members, Tree};
+use bidi_tree::{Draft, JsUint, Members};
 use std::alloc::{AllocError, Global};
 
 /// Parameters of `browsingContext.getTree`.
@@ -86,9 +86,9 @@ impl Shape for GetTreeParameters {
         })
     }
 
-    fn to_tree(&self, alloc: Global) -> Result<Tree, AllocError> {
+    fn draft<'a>(&'a self, alloc: Global) -> Result<Draft<'a>, AllocError> {
         let members = Maybe(&self.max_depth, Maybe(&self.root, Rest(&self.ext)));
-        write_fields(alloc, &members, Self::NAMES, &[])
+        draft_fields(alloc, &members, Self::NAMES, &[])
     }
 }
 
@@ -149,8 +149,8 @@ impl Shape for GetTreeResult {
         Ok(GetTreeResult { contexts, ext })
     }
 
-    fn to_tree(&self, alloc: Global) -> Result<Tree, AllocError> {
+    fn draft<'a>(&'a self, alloc: Global) -> Result<Draft<'a>, AllocError> {
         let members = One(&self.contexts, Rest(&self.ext));
-        write_fields(alloc, &members, Self::NAMES, &[])
+        draft_fields(alloc, &members, Self::NAMES, &[])
     }
 }

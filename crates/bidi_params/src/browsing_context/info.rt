@@ -1,9 +1,10 @@
 //! What is told of a browsing context and of those below it.
 ghost use Rattle.std.specs.Prelude.{◌≡◌, IfOk, Some, codes, map, option_map};
 ghost use Rattle.std.specs.List.{AllByRecursion};
-ghost use Rattle.bidi_tree.specs.Node.{get_member};
+ghost use Rattle.bidi_tree.specs.Node.{get_member, IsSound, ItemsAreSound};
 ghost use Rattle.bidi_tree.specs.Kind.{members_in};
-ghost use Rattle.bidi_tree.specs.View.{node, items_of};
+ghost use Rattle.bidi_tree.specs.Draft.{draft_node, draft_items};
+ghost use Rattle.bidi_tree.specs.View.{items_of};
 ghost use Rattle.bidi_shape.specs.Name.{info};
 ghost use Rattle.bidi_shape.specs.Term.{Term, required, either, list_of, map_of, null, rule as named};
 ghost use Rattle.bidi_shape.specs.Fits.{Fits, AllFit};
@@ -18,7 +19,7 @@ ghost use Rattle.bidi_params.specs.InfoView.{beside_of, content, children_conten
 use bidi_shape::{
     Ext, Fields, MakeFault, Optional, Parsed, Required, Shape, ShapeFault, add_member, add_optional,
 };
-use bidi_tree::{Members, Tree, put_member};
+use bidi_tree::{Draft, Members, draft_members_of, put_draft};
 use std::alloc::{AllocError, Global};
 
 /// A browsing context, and those below it, of at most 60 levels.
@@ -55,7 +56,7 @@ impl Info {
     ghost use Rattle.bidi_params.specs.InfoParts.{map_of_parts};
     ghost use Rattle.bidi_params.specs.declared.browsing_context.info.Info.{out-Info};
 
-    /// The Info of these parts, with further members. Costs the making of its tree.
+    /// The Info of these parts, with further members. Costs the making of its draft.
     ///
     /// # Errors
     /// - `Clash`: a further member is called `children`, `clientWindow`, `context`, `originalOpener`, `url`,
@@ -84,18 +85,7 @@ impl Info {
             × ((out-Info v).parent ≡ parent) × (others_of (out-Info v).ext ≡ members_node ext.entries)) }
         ensures well { IfOk result (λ v. ⟦<Info as Shape>⟧.shape.well v) }
     {
-        let ext = Ext::new(
-            ext,
-            &[
-                "children",
-                "clientWindow",
-                "context",
-                "originalOpener",
-                "url",
-                "userContext",
-                "parent",
-            ],
-        )?;
+        let ext = Ext::new(ext, NAMES)?;
         if !ext.is_whole() {
             return Err(MakeFault::TooDeep);
         }
@@ -109,13 +99,34 @@ impl Info {
             parent,
             ext,
         };
-        if made.to_tree(alloc)?.is_within(MAX_LEVELS) {
+        let is_within = made.draft(alloc)?.is_within(MAX_LEVELS);
+        if is_within {
             Ok(made)
         } else {
             Err(MakeFault::TooDeep)
         }
     }
 }
+
+/// In the order of the rule.
+const NAMES: &[&str] = &[
+    "children",
+    "clientWindow",
+    "context",
+    "originalOpener",
+    "url",
+    "userContext",
+    "parent",
+];
+
+const OWN_NAMES: &[&str] = &[
+    "clientWindow",
+    "context",
+    "originalOpener",
+    "url",
+    "userContext",
+    "parent",
+];
 
 /// The members beside `children`.
 type OwnMembers = Required<
@@ -140,8 +151,8 @@ impl Shape for Info {
         }
     }
 
-    fn to_tree(&self, alloc: Global) -> Result<Tree, AllocError> {
-        write_info(alloc, self)
+    fn draft<'a>(&'a self, alloc: Global) -> Result<Draft<'a>, AllocError> {
+        draft_info(alloc, self)
     }
 }
 
@@ -184,28 +195,7 @@ fn read_beside<'a, S: Parsed>(
     ensures no_fit { IfNoFit result ((τ : Term) → Fits (S.tree tree.now) (map_of (rows_with info_parts.table τ) info_parts.table.openness) → ⊥) }
 {
     tree.check_map()?;
-    let beside = OwnMembers::read(
-        alloc,
-        tree,
-        &[
-            "clientWindow",
-            "context",
-            "originalOpener",
-            "url",
-            "userContext",
-            "parent",
-        ],
-        &[],
-        &[
-            "children",
-            "clientWindow",
-            "context",
-            "originalOpener",
-            "url",
-            "userContext",
-            "parent",
-        ],
-    )?;
+    let beside = OwnMembers::read(alloc, tree, OWN_NAMES, &[], NAMES)?;
     let children = children_in(tree)?;
     Ok((beside, children))
 }
@@ -263,40 +253,48 @@ fn with_children(beside: OwnMembers, children: Option<Vec<Info>>) -> Info
 // ---- writing
 
 #[cycle(write)]
-fn write_info(alloc: Global, info: &Info) -> Result<Tree, AllocError>
-    ensures { IfOk result (λ t. node t ≡ tree_of_info info_parts info.now) }
+fn draft_info<'a>(alloc: Global, info: &'a Info) -> Result<Draft<'a>, AllocError>
+    ensures tree { IfOk result (λ d. draft_node d ≡ tree_of_info info_parts info.now) }
+    ensures sound { IfOk result (λ d. IsSound (draft_node d)) }
 {
     match &info.children {
         Some(infos) => {
-            let trees = write_infos(alloc, infos)?;
-            write_beside(alloc, info, Tree::List(trees))
+            let drafts = draft_infos(alloc, infos)?;
+            draft_beside(alloc, info, Draft::List(drafts))
         }
-        None => write_beside(alloc, info, Tree::Null),
+        None => draft_beside(alloc, info, Draft::Null),
     }
 }
 
 #[cycle(write)]
-fn write_infos(alloc: Global, infos: &Vec<Info>) -> Result<Vec<Tree>, AllocError>
-    ensures { IfOk result (λ v. map node v.items ≡ map (tree_of_info info_parts) infos.now.items) }
+fn draft_infos<'a>(alloc: Global, infos: &'a Vec<Info>) -> Result<Vec<Draft<'a>>, AllocError>
+    ensures same { IfOk result (λ v. map draft_node v.items ≡ map (tree_of_info info_parts) infos.now.items) }
+    ensures sound { IfOk result (λ v. ItemsAreSound (draft_items v.items)) }
 {
-    let mut trees = Vec::with_capacity(alloc, infos.len())?;
+    let mut drafts = Vec::with_capacity(alloc, infos.len())?;
     for info in infos {
-        trees.push(write_info(alloc, info)?)?;
+        drafts.push(draft_info(alloc, info)?)?;
     }
-    Ok(trees)
+    Ok(drafts)
 }
 
-/// The map of the children's tree and the members beside it.
-fn write_beside(alloc: Global, info: &Info, children: Tree) -> Result<Tree, AllocError>
-    ensures { IfOk result (λ t. node t ≡ info_map info_parts.table (beside_of (out-Info info.now)) (node children)) }
+/// The map of the children's draft and the members beside it.
+fn draft_beside<'a>(
+    alloc: Global,
+    info: &'a Info,
+    children: Draft<'a>,
+) -> Result<Draft<'a>, AllocError>
+    requires { IsSound (draft_node children) }
+    ensures tree { IfOk result (λ d. draft_node d ≡ info_map info_parts.table (beside_of (out-Info info.now)) (draft_node children.entry)) }
+    ensures sound { IfOk result (λ d. IsSound (draft_node d)) }
 {
-    let mut members = info.ext.copy_members()?;
+    let mut members = draft_members_of(alloc, &info.ext.members, NAMES.len())?;
     add_optional(alloc, &mut members, "parent", &info.parent)?;
     add_member(alloc, &mut members, "userContext", &info.user_context)?;
     add_member(alloc, &mut members, "url", &info.url)?;
     add_member(alloc, &mut members, "originalOpener", &info.original_opener)?;
     add_member(alloc, &mut members, "context", &info.context)?;
     add_member(alloc, &mut members, "clientWindow", &info.client_window)?;
-    put_member(&mut members, String::from_str(alloc, "children")?, children)?;
-    Ok(Tree::Map(members))
+    put_draft(&mut members, "children", children)?;
+    Ok(Draft::Map(members))
 }

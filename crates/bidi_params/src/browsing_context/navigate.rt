@@ -10,9 +10,9 @@ ghost use Rattle.bidi_shape.specs.ValueLaws.{others_of};
 
 use bidi_shape::{
     Ext, Fields, MakeFault, Maybe, Named, One, Optional, Parsed, Required, Rest, Ruled, Shape,
-    ShapeFault, further, read_fields, write_fields,
+    ShapeFault, draft_fields, further, read_fields,
 };
-use bidi_tree::{JsInt, JsUint, Members, Tree};
+use bidi_tree::{Draft, JsInt, JsUint, Members};
 use std::alloc::{AllocError, Global};
 
 /// How far a navigation has to be before its command is answered.
@@ -127,12 +127,12 @@ impl Shape for NavigateParameters {
         })
     }
 
-    fn to_tree(&self, alloc: Global) -> Result<Tree, AllocError> {
+    fn draft<'a>(&'a self, alloc: Global) -> Result<Draft<'a>, AllocError> {
         let members = One(
             &self.context,
             One(&self.url, Maybe(&self.wait, Rest(&self.ext))),
         );
-        write_fields(alloc, &members, Self::NAMES, &[])
+        draft_fields(alloc, &members, Self::NAMES, &[])
     }
 }
 
@@ -210,12 +210,12 @@ impl Shape for ReloadParameters {
         })
     }
 
-    fn to_tree(&self, alloc: Global) -> Result<Tree, AllocError> {
+    fn draft<'a>(&'a self, alloc: Global) -> Result<Draft<'a>, AllocError> {
         let members = One(
             &self.context,
             Maybe(&self.ignore_cache, Maybe(&self.wait, Rest(&self.ext))),
         );
-        write_fields(alloc, &members, Self::NAMES, &[])
+        draft_fields(alloc, &members, Self::NAMES, &[])
     }
 }
 
@@ -291,9 +291,9 @@ impl Shape for NavigateResult {
         })
     }
 
-    fn to_tree(&self, alloc: Global) -> Result<Tree, AllocError> {
+    fn draft<'a>(&'a self, alloc: Global) -> Result<Draft<'a>, AllocError> {
         let members = One(&self.navigation, One(&self.url, Rest(&self.ext)));
-        write_fields(alloc, &members, Self::NAMES, &[])
+        draft_fields(alloc, &members, Self::NAMES, &[])
     }
 }
 
@@ -370,9 +370,9 @@ impl Shape for TraverseHistoryParameters {
         })
     }
 
-    fn to_tree(&self, alloc: Global) -> Result<Tree, AllocError> {
+    fn draft<'a>(&'a self, alloc: Global) -> Result<Draft<'a>, AllocError> {
         let members = One(&self.context, One(&self.delta, Rest(&self.ext)));
-        write_fields(alloc, &members, Self::NAMES, &[])
+        draft_fields(alloc, &members, Self::NAMES, &[])
     }
 }
 
@@ -456,7 +456,7 @@ impl Shape for NavigationInfo {
         })
     }
 
-    fn to_tree(&self, alloc: Global) -> Result<Tree, AllocError> {
+    fn draft<'a>(&'a self, alloc: Global) -> Result<Draft<'a>, AllocError> {
         let members = One(
             &self.context,
             One(
@@ -464,6 +464,6 @@ impl Shape for NavigationInfo {
                 One(&self.timestamp, One(&self.url, Rest(&self.ext))),
             ),
         );
-        write_fields(alloc, &members, Self::NAMES, &[])
+        draft_fields(alloc, &members, Self::NAMES, &[])
     }
 }

@@ -10,9 +10,9 @@ ghost use Rattle.bidi_shape.specs.ValueLaws.{others_of};
 
 use bidi_shape::{
     Exact, Ext, Fields, Literal, MakeFault, Maybe, Named, One, Optional, Parsed, Required, Rest,
-    Ruled, Shape, ShapeFault, further, read_fields, write_fields,
+    Ruled, Shape, ShapeFault, draft_fields, further, read_fields,
 };
-use bidi_tree::{Members, Tree};
+use bidi_tree::{Draft, Members};
 use std::alloc::{AllocError, Global};
 
 /// What a realm belongs to.
@@ -136,9 +136,9 @@ impl Shape for GetRealmsParameters {
         Ok(GetRealmsParameters { context, kind, ext })
     }
 
-    fn to_tree(&self, alloc: Global) -> Result<Tree, AllocError> {
+    fn draft<'a>(&'a self, alloc: Global) -> Result<Draft<'a>, AllocError> {
         let members = Maybe(&self.context, Maybe(&self.kind, Rest(&self.ext)));
-        write_fields(alloc, &members, Self::NAMES, &[])
+        draft_fields(alloc, &members, Self::NAMES, &[])
     }
 }
 
@@ -216,12 +216,12 @@ impl Shape for RealmInfo {
         })
     }
 
-    fn to_tree(&self, alloc: Global) -> Result<Tree, AllocError> {
+    fn draft<'a>(&'a self, alloc: Global) -> Result<Draft<'a>, AllocError> {
         let members = One(
             &self.realm,
             One(&self.origin, Exact(One(&self.context, Rest(&self.ext)))),
         );
-        write_fields(alloc, &members, Self::NAMES, &["window"])
+        draft_fields(alloc, &members, Self::NAMES, &["window"])
     }
 }
 
@@ -282,9 +282,9 @@ impl Shape for GetRealmsResult {
         Ok(GetRealmsResult { realms, ext })
     }
 
-    fn to_tree(&self, alloc: Global) -> Result<Tree, AllocError> {
+    fn draft<'a>(&'a self, alloc: Global) -> Result<Draft<'a>, AllocError> {
         let members = One(&self.realms, Rest(&self.ext));
-        write_fields(alloc, &members, Self::NAMES, &[])
+        draft_fields(alloc, &members, Self::NAMES, &[])
     }
 }
 
@@ -347,8 +347,8 @@ impl Shape for RealmDestroyedParameters {
         Ok(RealmDestroyedParameters { realm, ext })
     }
 
-    fn to_tree(&self, alloc: Global) -> Result<Tree, AllocError> {
+    fn draft<'a>(&'a self, alloc: Global) -> Result<Draft<'a>, AllocError> {
         let members = One(&self.realm, Rest(&self.ext));
-        write_fields(alloc, &members, Self::NAMES, &[])
+        draft_fields(alloc, &members, Self::NAMES, &[])
     }
 }

@@ -1,9 +1,9 @@
 //! What a session can do.
 use bidi_shape::{
     Ext, Fields, MakeFault, Maybe, One, Optional, Parsed, Required, Rest, Ruled, Shape, ShapeFault,
-    further, read_fields, write_fields,
+    draft_fields, further, read_fields,
 };
-use bidi_tree::{Members, Tree};
+use bidi_tree::{Draft, Members};
 use std::alloc::{AllocError, Global};
 
 /// Parameters of `session.new`.
@@ -75,9 +75,9 @@ impl Shape for NewParameters {
         Ok(NewParameters { capabilities, ext })
     }
 
-    fn to_tree(&self, alloc: Global) -> Result<Tree, AllocError> {
+    fn draft<'a>(&'a self, alloc: Global) -> Result<Draft<'a>, AllocError> {
         let members = One(&self.capabilities, Rest(&self.ext));
-        write_fields(alloc, &members, Self::NAMES, &[])
+        draft_fields(alloc, &members, Self::NAMES, &[])
     }
 }
 
@@ -165,12 +165,12 @@ impl Shape for CapabilitiesRequest {
         })
     }
 
-    fn to_tree(&self, alloc: Global) -> Result<Tree, AllocError> {
+    fn draft<'a>(&'a self, alloc: Global) -> Result<Draft<'a>, AllocError> {
         let members = Maybe(
             &self.always_match,
             Maybe(&self.first_match, Rest(&self.ext)),
         );
-        write_fields(alloc, &members, Self::NAMES, &[])
+        draft_fields(alloc, &members, Self::NAMES, &[])
     }
 }
 
@@ -270,7 +270,7 @@ impl Shape for CapabilityRequest {
         })
     }
 
-    fn to_tree(&self, alloc: Global) -> Result<Tree, AllocError> {
+    fn draft<'a>(&'a self, alloc: Global) -> Result<Draft<'a>, AllocError> {
         let members = Maybe(
             &self.accept_insecure_certs,
             Maybe(
@@ -281,7 +281,7 @@ impl Shape for CapabilityRequest {
                 ),
             ),
         );
-        write_fields(alloc, &members, Self::NAMES, &[])
+        draft_fields(alloc, &members, Self::NAMES, &[])
     }
 }
 
@@ -366,9 +366,9 @@ impl Shape for NewResult {
         })
     }
 
-    fn to_tree(&self, alloc: Global) -> Result<Tree, AllocError> {
+    fn draft<'a>(&'a self, alloc: Global) -> Result<Draft<'a>, AllocError> {
         let members = One(&self.session_id, One(&self.capabilities, Rest(&self.ext)));
-        write_fields(alloc, &members, Self::NAMES, &[])
+        draft_fields(alloc, &members, Self::NAMES, &[])
     }
 }
 
@@ -485,7 +485,7 @@ impl Shape for Capabilities {
         })
     }
 
-    fn to_tree(&self, alloc: Global) -> Result<Tree, AllocError> {
+    fn draft<'a>(&'a self, alloc: Global) -> Result<Draft<'a>, AllocError> {
         let members = One(
             &self.accept_insecure_certs,
             One(
@@ -502,6 +502,6 @@ impl Shape for Capabilities {
                 ),
             ),
         );
-        write_fields(alloc, &members, Self::NAMES, &[])
+        draft_fields(alloc, &members, Self::NAMES, &[])
     }
 }

@@ -1,9 +1,9 @@
 //! Whether a remote end is ready.
 use bidi_shape::{
-    Ext, Fields, MakeFault, One, Parsed, Required, Rest, Ruled, Shape, ShapeFault, further,
-    read_fields, write_fields,
+    Ext, Fields, MakeFault, One, Parsed, Required, Rest, Ruled, Shape, ShapeFault, draft_fields,
+    further, read_fields,
 };
-use bidi_tree::{Members, Tree};
+use bidi_tree::{Draft, Members};
 use std::alloc::{AllocError, Global};
 
 /// Whether a remote end can make a session, and a word about it.
@@ -83,8 +83,8 @@ impl Shape for StatusResult {
         })
     }
 
-    fn to_tree(&self, alloc: Global) -> Result<Tree, AllocError> {
+    fn draft<'a>(&'a self, alloc: Global) -> Result<Draft<'a>, AllocError> {
         let members = One(&self.ready, One(&self.message, Rest(&self.ext)));
-        write_fields(alloc, &members, Self::NAMES, &[])
+        draft_fields(alloc, &members, Self::NAMES, &[])
     }
 }

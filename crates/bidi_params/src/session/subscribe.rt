@@ -1,9 +1,9 @@
 //! Subscriptions to events.
 use bidi_shape::{
     Either, Ext, Fields, MakeFault, Maybe, One, OneOrMore, Optional, Parsed, Required, Rest, Ruled,
-    Shape, ShapeFault, further, not_shadowed, read_choice, read_fields, write_fields,
+    Shape, ShapeFault, draft_fields, further, not_shadowed, read_choice, read_fields,
 };
-use bidi_tree::{Members, Tree};
+use bidi_tree::{Draft, Members};
 use std::alloc::{AllocError, Global};
 
 /// Parameters of `session.subscribe`.
@@ -99,12 +99,12 @@ impl Shape for SubscribeParameters {
         })
     }
 
-    fn to_tree(&self, alloc: Global) -> Result<Tree, AllocError> {
+    fn draft<'a>(&'a self, alloc: Global) -> Result<Draft<'a>, AllocError> {
         let members = One(
             &self.events,
             Maybe(&self.contexts, Maybe(&self.user_contexts, Rest(&self.ext))),
         );
-        write_fields(alloc, &members, Self::NAMES, &[])
+        draft_fields(alloc, &members, Self::NAMES, &[])
     }
 }
 
@@ -176,9 +176,9 @@ impl Shape for SubscribeResult {
         Ok(SubscribeResult { subscription, ext })
     }
 
-    fn to_tree(&self, alloc: Global) -> Result<Tree, AllocError> {
+    fn draft<'a>(&'a self, alloc: Global) -> Result<Draft<'a>, AllocError> {
         let members = One(&self.subscription, Rest(&self.ext));
-        write_fields(alloc, &members, Self::NAMES, &[])
+        draft_fields(alloc, &members, Self::NAMES, &[])
     }
 }
 
@@ -251,9 +251,9 @@ impl Shape for UnsubscribeById {
         Ok(UnsubscribeById { subscriptions, ext })
     }
 
-    fn to_tree(&self, alloc: Global) -> Result<Tree, AllocError> {
+    fn draft<'a>(&'a self, alloc: Global) -> Result<Draft<'a>, AllocError> {
         let members = One(&self.subscriptions, Rest(&self.ext));
-        write_fields(alloc, &members, Self::NAMES, &[])
+        draft_fields(alloc, &members, Self::NAMES, &[])
     }
 }
 
@@ -339,9 +339,9 @@ impl Shape for UnsubscribeByEvents {
         Ok(UnsubscribeByEvents { events, ext })
     }
 
-    fn to_tree(&self, alloc: Global) -> Result<Tree, AllocError> {
+    fn draft<'a>(&'a self, alloc: Global) -> Result<Draft<'a>, AllocError> {
         let members = One(&self.events, Rest(&self.ext));
-        write_fields(alloc, &members, Self::NAMES, &[])
+        draft_fields(alloc, &members, Self::NAMES, &[])
     }
 }
 
@@ -383,10 +383,10 @@ impl Shape for UnsubscribeParameters {
         }
     }
 
-    fn to_tree(&self, alloc: Global) -> Result<Tree, AllocError> {
+    fn draft<'a>(&'a self, alloc: Global) -> Result<Draft<'a>, AllocError> {
         match self {
-            UnsubscribeParameters::ById(by_id) => by_id.to_tree(alloc),
-            UnsubscribeParameters::ByEvents(by_events) => by_events.to_tree(alloc),
+            UnsubscribeParameters::ById(by_id) => by_id.draft(alloc),
+            UnsubscribeParameters::ByEvents(by_events) => by_events.draft(alloc),
         }
     }
 }

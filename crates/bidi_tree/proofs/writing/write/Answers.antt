@@ -1,28 +1,8 @@
-use Rattle.std.proofs.Common.{◌≡◌, ◌++◌, ℕ, List, string_bytes, ap, ap₂, ◌∙◌}
-use Rattle.json.specs.Print.{print}
-use Rattle.bidi_tree.specs.Data.{tokens_of}
-use Rattle.bidi_tree.specs.Text.{tree_of, compact_text}
-use Rattle.bidi_tree.specs.View.{node}
-use Rattle.bidi_tree.proofs.RoundTrip.{print-tokens_of, tree_of-compact_text}
+use Rattle.bidi_tree.proofs.RoundTrip.{tree_of-compact_text}
 use Rattle.bidi_tree.proofs.writing.write.Goals as goal
-
-pub returns-clause-text : goal.returns-clause-text
-returns-clause-text c =
-    let before = c.in_ok-write_tree.ensures.before ∙ (c.new-out.ensures.before ∙ c.in_ok-with_capacity.ensures.items) in
-    let tokens = c.in_ok-write_tree.ensures.tokens ∙ ap (λ ts. ts ++ tokens_of (node c.args.tree.now)) c.new-out.ensures.tokens in
-    ap (λ v. v.items) c.from_utf8_unchecked.ensures.value ∙ (c.into_inner.ensures.items ∙ (ap₂ (λ (a b : List ℕ). a ++ b) before (ap print tokens) ∙ print-tokens_of (node c.args.tree.now) c.requires.0))
-
-pub returns-clause-reads_back : goal.returns-clause-reads_back
-returns-clause-reads_back c =
-    let n = node c.args.tree.now in
-    let text : string_bytes c.from_utf8_unchecked.result ≡ compact_text n = returns-clause-text c in
-    ap tree_of text ∙ tree_of-compact_text n c.in_ok-write_tree.ensures.sound c.requires
 
 pub returns-clause-law : goal.returns-clause-law
 returns-clause-law c = tree_of-compact_text
 
-pub returns-in_err-with_capacity-clause-law : goal.returns-in_err-with_capacity-clause-law
-returns-in_err-with_capacity-clause-law c = tree_of-compact_text
-
-pub returns-in_err-write_tree-clause-law : goal.returns-in_err-write_tree-clause-law
-returns-in_err-write_tree-clause-law c = tree_of-compact_text
+pub returns-in_err-draft-clause-law : goal.returns-in_err-draft-clause-law
+returns-in_err-draft-clause-law c = tree_of-compact_text

@@ -13,32 +13,32 @@ use Rattle.bidi_values.proofs.reading.+read.Goals as goal
 
 pub read_value-read_values-requires : goal.read_value-read_values-requires
 read_value-read_values-requires g t c κs within =
-    let below = list_levels g.L.Beside.beside c.in-Ok.beside (items_of (map g.S.Parsed.tree c.in-Ok.items.now)) (g.S.Parsed.tree c.args.tree.now) c.in-Ok.ensures.ok.0 in
+    let below = list_levels g.L.Siblings.siblings c.in-Ok.siblings (items_of (map g.S.Parsed.tree c.in-Ok.items.now)) (g.S.Parsed.tree c.args.tree.now) c.in-Ok.ensures.ok.0 in
     (omega (arith, below), within)
 
 pub read_value-returns-in_err-values-in-Ok-clause-no_fit : goal.read_value-returns-in_err-values-in-Ok-clause-no_fit
 read_value-returns-in_err-values-in-Ok-clause-no_fit g t c =
     handed_on _ _ c.from_residual.ensures.1 c.in_err-values-in-Ok.ensures.no_fit
-    (list_misfit g.P.Nests.nesting g.met.P.Nests.agrees c.in-Ok.beside (items_of (map g.S.Parsed.tree c.in-Ok.items.now)) (g.S.Parsed.tree c.args.tree.now) c.in-Ok.ensures.ok.0 c.in-Ok.ensures.ok.1)
+    (list_misfit g.P.Nests.nesting g.met.P.Nests.agrees c.in-Ok.siblings (items_of (map g.S.Parsed.tree c.in-Ok.items.now)) (g.S.Parsed.tree c.args.tree.now) c.in-Ok.ensures.ok.0 c.in-Ok.ensures.ok.1)
 
 pub read_value-returns-in-Ok-clause-ok : goal.read_value-returns-in-Ok-clause-ok
 read_value-returns-in-Ok-clause-ok g t c =
-    list_read g.P.Nests.nesting g.met.P.Nests.agrees g.S.Parsed.tree c.in-Ok.beside c.in_ok-values-in-Ok.values c.in-Ok.items.now (g.S.Parsed.tree c.args.tree.now) c.in-Ok.ensures.ok.0 c.in-Ok.ensures.ok.1
+    list_read g.P.Nests.nesting g.met.P.Nests.agrees g.S.Parsed.tree c.in-Ok.siblings c.in_ok-values-in-Ok.values c.in-Ok.items.now (g.S.Parsed.tree c.args.tree.now) c.in-Ok.ensures.ok.0 c.in-Ok.ensures.ok.1
     c.in_ok-values-in-Ok.ensures.ok.0 c.in_ok-values-in-Ok.ensures.ok.1
 
 pub read_value-read_pairs-requires : goal.read_value-read_pairs-requires
 read_value-read_pairs-requires g t c κs within =
-    let below = list_levels g.M.Beside.beside c.in-Ok-read_around.beside (items_of (map g.S.Parsed.tree c.in-Ok-read_around.items.now)) (g.S.Parsed.tree c.args.tree.now) c.in-Ok-read_around.ensures.ok.0 in
+    let below = list_levels g.M.Siblings.siblings c.in-Ok-read_around.siblings (items_of (map g.S.Parsed.tree c.in-Ok-read_around.items.now)) (g.S.Parsed.tree c.args.tree.now) c.in-Ok-read_around.ensures.ok.0 in
     (omega (arith, below), within)
 
 pub read_value-returns-in_err-pairs-in-Ok-read_around-clause-no_fit : goal.read_value-returns-in_err-pairs-in-Ok-read_around-clause-no_fit
 read_value-returns-in_err-pairs-in-Ok-read_around-clause-no_fit g t c =
     handed_on _ _ c.from_residual-in_err-pairs-in-Ok-read_around.ensures.1 c.in_err-pairs-in-Ok-read_around.ensures.no_fit
-    (pairs_misfit g.P.Nests.nesting g.met.P.Nests.agrees c.in-Ok-read_around.beside (items_of (map g.S.Parsed.tree c.in-Ok-read_around.items.now)) (g.S.Parsed.tree c.args.tree.now) c.in-Ok-read_around.ensures.ok.0 c.in-Ok-read_around.ensures.ok.1)
+    (pairs_misfit g.P.Nests.nesting g.met.P.Nests.agrees c.in-Ok-read_around.siblings (items_of (map g.S.Parsed.tree c.in-Ok-read_around.items.now)) (g.S.Parsed.tree c.args.tree.now) c.in-Ok-read_around.ensures.ok.0 c.in-Ok-read_around.ensures.ok.1)
 
 pub read_value-returns-in_ok-pairs-in-Ok-read_around-clause-ok : goal.read_value-returns-in_ok-pairs-in-Ok-read_around-clause-ok
 read_value-returns-in_ok-pairs-in-Ok-read_around-clause-ok g t c =
-    pairs_read g.P.Nests.nesting g.met.P.Nests.agrees g.S.Parsed.tree c.in-Ok-read_around.beside c.in_ok-pairs-in-Ok-read_around.pairs c.in-Ok-read_around.items.now (g.S.Parsed.tree c.args.tree.now) c.in-Ok-read_around.ensures.ok.0 c.in-Ok-read_around.ensures.ok.1
+    pairs_read g.P.Nests.nesting g.met.P.Nests.agrees g.S.Parsed.tree c.in-Ok-read_around.siblings c.in_ok-pairs-in-Ok-read_around.pairs c.in-Ok-read_around.items.now (g.S.Parsed.tree c.args.tree.now) c.in-Ok-read_around.ensures.ok.0 c.in-Ok-read_around.ensures.ok.1
     c.in_ok-pairs-in-Ok-read_around.ensures.ok.0 c.in_ok-pairs-in-Ok-read_around.ensures.ok.1
 
 pub read_value-returns-in_err-plain-in-Err-NoFit-read_around-clause-no_fit : goal.read_value-returns-in_err-plain-in-Err-NoFit-read_around-clause-no_fit

@@ -21,7 +21,7 @@ and_value no_more τ = row (codes "value") required τ no_more
 and_value (row k need σ rows) τ = row k need σ (and_value rows τ)
 
 -- what a type owes whose values stand beside a `value`
-pub record BesideOf (H : Type 0) : Type 1 where
+pub record SiblingsOf (H : Type 0) : Type 1 where
   pub rows : Rows
   -- what stands under each row's name
   pub parts : H → List (Option Node)
@@ -37,11 +37,11 @@ pub record BesideOf (H : Type 0) : Type 1 where
   pub whole : (h : H) → well h → PartsAreWhole (parts h) deepest
 
 -- the term of such a map whose `value` fits a term
-abbrev pub holding : {H : Type 0} → BesideOf H → Term → Term
+abbrev pub holding : {H : Type 0} → SiblingsOf H → Term → Term
 holding s τ = map_of (and_value s.rows τ) closed
 
 -- the map itself
-abbrev pub around : {H : Type 0} → BesideOf H → H → Node → Node
+abbrev pub around : {H : Type 0} → SiblingsOf H → H → Node → Node
 around s h t = node.map (joined s.rows (s.parts h) (member (codes "value") t no_members))
 
 -- ---- rows and names
@@ -92,14 +92,14 @@ names-and_value (row k need ρ rs) σ τ = ap (◌∷◌ k) (names-and_value rs 
 
 -- ---- laws
 
-module _ {H : Type 0} (s : BesideOf H) where
-  beside : (t : Node) → without (names_of s.rows) (member (codes "value") t no_members) ≡ member (codes "value") t no_members
-  beside t = rw s.free refl
+module _ {H : Type 0} (s : SiblingsOf H) where
+  siblings : (t : Node) → without (names_of s.rows) (member (codes "value") t no_members) ≡ member (codes "value") t no_members
+  siblings t = rw s.free refl
 
   parts_at : (h : H) (t : Node) → s.well h → PartsAt s.rows (s.parts h) (joined s.rows (s.parts h) (member (codes "value") t no_members))
   parts_at h t w =
       PartsAt-joined s.rows (s.parts h) (member (codes "value") t no_members) s.once (Aligned-PartsFit s.rows (s.parts h) (s.parts_fit h w))
-      (unnamed (names_of s.rows) (member (codes "value") t no_members) (beside t))
+      (unnamed (names_of s.rows) (member (codes "value") t no_members) (siblings t))
 
   value_at : (h : H) (t : Node) → get_member (codes "value") (joined s.rows (s.parts h) (member (codes "value") t no_members)) ≡ Some t
   value_at h t = at-joined_other s.rows (s.parts h) (member (codes "value") t no_members) (codes "value") s.free
@@ -124,7 +124,7 @@ module _ {H : Type 0} (s : BesideOf H) where
   pub around_one : (g h : H) (t u : Node) → s.well g → s.well h → around s g t ≡ around s h u → s.same g h × (t ≡ u)
   around_one g h t u v w e =
       let p = map_one s.rows (s.parts g) (s.parts h) (member (codes "value") t no_members) (member (codes "value") u no_members) s.once
-      (Aligned-PartsFit s.rows (s.parts g) (s.parts_fit g v)) (Aligned-PartsFit s.rows (s.parts h) (s.parts_fit h w)) (beside t) (beside u) e in
+      (Aligned-PartsFit s.rows (s.parts g) (s.parts_fit g v)) (Aligned-PartsFit s.rows (s.parts h) (s.parts_fit h w)) (siblings t) (siblings u) e in
       (s.one g h v w p.0, let same : member (codes "value") t no_members ≡ member (codes "value") u no_members = p.1 in cc)
 
   -- no Odd stands in the map where none stands in its value
@@ -136,9 +136,9 @@ module _ {H : Type 0} (s : BesideOf H) where
   value_levels h t = let inside = member_levels (codes "value") t (joined s.rows (s.parts h) (member (codes "value") t no_members)) (value_at h t) in omega (arith, inside)
 
 -- members read by a list of fields that is closed
-abbrev pub beside_by : {F H : Type 0} (t : Table F) (ks : List (List ℕ)) (m : H → F) → ((f g : F) → t.others f ≡ t.others g)
-    → distinct (names_of (t.rows ks [])) ≡ true → list_any (bytes_eq (codes "value")) (names_of (t.rows ks [])) ≡ false → BesideOf H
-beside_by t ks m alone once free = record {
+abbrev pub siblings_by : {F H : Type 0} (t : Table F) (ks : List (List ℕ)) (m : H → F) → ((f g : F) → t.others f ≡ t.others g)
+    → distinct (names_of (t.rows ks [])) ≡ true → list_any (bytes_eq (codes "value")) (names_of (t.rows ks [])) ≡ false → SiblingsOf H
+siblings_by t ks m alone once free = record {
   rows = t.rows ks [];
   parts = λ h. t.parts [] (m h);
   well = λ h. t.well (m h);

@@ -9,17 +9,17 @@ use Rattle.bidi_shape.specs.Term.{Term, required, null, list_of, names_of}
 use Rattle.bidi_shape.specs.Fits.{Fits, RowsFit, without}
 use Rattle.bidi_shape.specs.Parts.{PartsAt, PartFits}
 use Rattle.bidi_shape.specs.MapLaws.{map_again, map_inside, apart, at-without_other, at-without_named, Sorted-without}
-use Rattle.bidi_values.specs.BesideLaws.{BesideOf, and_value, around, holding, names-and_value, RowsFit-head, value_fits, unnamed-and_value}
+use Rattle.bidi_values.specs.SiblingLaws.{SiblingsOf, and_value, around, holding, names-and_value, RowsFit-head, value_fits, unnamed-and_value}
 
-module _ {H : Type 0} (s : BesideOf H) (t : Node) (ms : Members) where
+module _ {H : Type 0} (s : SiblingsOf H) (t : Node) (ms : Members) where
   inside : (τ : Term) → node.map ms ≡ t → Fits t (holding s τ) → RowsFit ms (and_value s.rows τ) × (without (names_of (and_value s.rows null)) ms ≡ no_members)
   inside τ is f =
       let p = map_inside (subst (λ x. Fits x (holding s τ)) (sym is) f) in
       (p.0, ap (λ ks. without ks ms) (names-and_value s.rows null τ) ∙ p.1)
 
   -- a map whose other members do not fit
-  pub beside_misfit : node.map ms ≡ t → (RowsFit ms s.rows → without (names_of (and_value s.rows null)) ms ≡ no_members → ⊥) → (τ : Term) → Fits t (holding s (list_of 0 τ)) → ⊥
-  beside_misfit is bad τ f = let p = inside (list_of 0 τ) is f in bad (RowsFit-head s.rows (list_of 0 τ) ms p.0) p.1
+  pub siblings_misfit : node.map ms ≡ t → (RowsFit ms s.rows → without (names_of (and_value s.rows null)) ms ≡ no_members → ⊥) → (τ : Term) → Fits t (holding s (list_of 0 τ)) → ⊥
+  siblings_misfit is bad τ f = let p = inside (list_of 0 τ) is f in bad (RowsFit-head s.rows (list_of 0 τ) ms p.0) p.1
 
   -- and one whose value is no list
   pub value_misfit : node.map ms ≡ t → ((τ : Term) → PartFits required (list_of 0 τ) (get_member (codes "value") ms) → ⊥) → (τ : Term) → Fits t (holding s (list_of 0 τ)) → ⊥
