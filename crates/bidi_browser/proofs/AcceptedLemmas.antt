@@ -4,7 +4,7 @@ use Rattle.std.specs.Prelude.{◌==◌, not, ◌&&◌, ◌||◌, nat_lt, if◌th
 use Rattle.std.proofs.lemmas.Bool.Decides.{nat_tests, Decides-eqb, Decides-ltb}
 use Rattle.bidi_codes.specs.declared.error_code.ErrorCode.{ErrorCode}
 use Rattle.bidi_codes.specs.declared.error_code.ErrorCode.TheVariants.{InvalidArgument, NoSuchFrame, UnknownError, UnsupportedOperation}
-use Rattle.bidi_handles.specs.declared.id.Kind.TheVariants.{Context, Realm}
+use Rattle.bidi_handles.specs.declared.id.IdKind.TheVariants.{Context, Realm}
 use Rattle.bidi_handles.specs.Ids.{id_of}
 use Rattle.bidi_browser.specs.Urls.{parsed}
 use Rattle.bidi_browser.specs.Acts.{Act, Made, Framed, Removed, Moved, Ran, Looked, To, Again, Across, given, next_number, Ending}

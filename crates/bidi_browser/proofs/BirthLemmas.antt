@@ -5,8 +5,8 @@ use Rattle.std.proofs.lemmas.Bool.Decides.{nat_tests}
 use Rattle.std.proofs.lemmas.List.{length-map, map-append}
 use Rattle.std.proofs.lemmas.List.Elements.{filter-append}
 use Rattle.url.specs.Parts.{Parts}
-use Rattle.bidi_handles.specs.declared.id.Kind.{Kind}
-use Rattle.bidi_handles.specs.declared.id.Kind.TheVariants.{Context, Realm, Window}
+use Rattle.bidi_handles.specs.declared.id.IdKind.{IdKind}
+use Rattle.bidi_handles.specs.declared.id.IdKind.TheVariants.{Context, Realm, Window}
 use Rattle.bidi_browser.specs.Urls.{about_blank}
 use Rattle.bidi_browser.specs.Acts.{Act, Made, Framed, Removed, Moved, gives, given, next_number}
 use Rattle.bidi_browser.specs.Contexts.{parent_of, top_of, level_of, window_of, is_under, is_gone, is_alive, up_to, contexts}
@@ -148,7 +148,7 @@ few-step true g n few = omega arith
 few-step false g n few = omega arith
 
 -- no more ids of a kind were given out than acts, and one at the start
-pub given-few : (past : List Act) (kind : Kind) → given past kind ≤ length past + 1
+pub given-few : (past : List Act) (kind : IdKind) → given past kind ≤ length past + 1
 given-few [] Context = omega arith
 given-few [] Realm = omega arith
 given-few [] Window = omega arith

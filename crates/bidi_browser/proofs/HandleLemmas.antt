@@ -4,7 +4,7 @@ use Rattle.std.specs.Prelude.{◌==◌, not, if◌then◌else◌, filter}
 use Rattle.std.proofs.lemmas.Bool.Decides.{nat_tests}
 use Rattle.std.proofs.lemmas.List.Elements.{All-nil, All-push, All-weaker, All-filter}
 use Rattle.bidi_tree.specs.Node.{Node}
-use Rattle.bidi_handles.specs.declared.id.Kind.TheVariants.{Realm, Handle}
+use Rattle.bidi_handles.specs.declared.id.IdKind.TheVariants.{Realm, Handle}
 use Rattle.bidi_browser.specs.Acts.{Act, Made, Framed, Moved, Removed, Logged, Tabled, Ran, Disowned, Looked, next_number}
 use Rattle.bidi_browser.specs.Accepted.{AreAccepted}
 use Rattle.bidi_handles.specs.Ids.{has_id}

@@ -4,7 +4,7 @@ use Rattle.std.specs.Prelude.{◌==◌, not, ◌&&◌, ◌||◌, if◌then◌els
 use Rattle.std.specs.List.{list_any}
 use Rattle.std.proofs.lemmas.Bool.Decides.{nat_tests, Decides-eqb}
 use Rattle.bidi_tree.specs.Node.{Node}
-use Rattle.bidi_handles.specs.declared.id.Kind.TheVariants.{Context, Handle}
+use Rattle.bidi_handles.specs.declared.id.IdKind.TheVariants.{Context, Handle}
 use Rattle.bidi_browser.specs.Acts.{Act, Ran, Disowned, Ending, given, next_number}
 use Rattle.bidi_browser.specs.Contexts.{is_gone, is_alive}
 use Rattle.bidi_handles.specs.Ids.{has_id}

@@ -19,7 +19,7 @@ use Rattle.bidi_params.specs.InfoView.{OwnMembers, content, children_content, tr
 use Rattle.bidi_params.specs.contracts.browsing_context.info.InfoShape.TheImpl.{ghosts}
 use Rattle.bidi_params.specs.declared.browsing_context.info.Info.{Info}
 use Rattle.bidi_params.proofs.InfoLemmas.{info_made}
-use Rattle.bidi_handles.specs.declared.id.Kind.TheVariants.{Context, Window}
+use Rattle.bidi_handles.specs.declared.id.IdKind.TheVariants.{Context, Window}
 use Rattle.bidi_handles.specs.Ids.{id_of}
 use Rattle.bidi_browser.specs.Urls.{url_text}
 use Rattle.bidi_browser.specs.ContextRows.{ContextRow, url_in, shown_info}

@@ -4,7 +4,7 @@ use Rattle.std.specs.Prelude.{◌==◌, not, ◌&&◌, if◌then◌else◌, find
 use Rattle.std.specs.List.{list_any, position, position_or_len}
 use Rattle.std.proofs.lemmas.List.Quantifiers.{position-Some}
 use Rattle.std.proofs.lemmas.Bool.Decides.{nat_tests, Decides-eqb}
-use Rattle.bidi_handles.specs.declared.id.Kind.TheVariants.{Context, Realm}
+use Rattle.bidi_handles.specs.declared.id.IdKind.TheVariants.{Context, Realm}
 use Rattle.bidi_browser.specs.Acts.{Act, Moved, Move, given, next_number}
 use Rattle.bidi_browser.specs.Accepted.{AreAccepted}
 use Rattle.bidi_browser.specs.Contexts.{is_under, is_born, is_gone, is_alive, up_to, contexts, children_of, subtree_of}

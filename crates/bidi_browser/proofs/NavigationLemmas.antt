@@ -10,7 +10,7 @@ use Rattle.bidi_messages.specs.declared.event.EventName.{EventName}
 use Rattle.bidi_messages.specs.declared.event.EventName.TheVariants.{NavigationStarted, DomContentLoaded, Load}
 use Rattle.bidi_messages.specs.contracts.event.EventDataSubjectEventName.TheImpl.{ghosts}
 use Rattle.bidi_messages.specs.declared.result_data.ResultData.{ResultData}
-use Rattle.bidi_handles.specs.declared.id.Kind.TheVariants.{Realm, Navigation}
+use Rattle.bidi_handles.specs.declared.id.IdKind.TheVariants.{Realm, Navigation}
 use Rattle.bidi_browser.specs.declared.occurrence.Occurrence as in_hand
 use Rattle.bidi_browser.specs.declared.navigation.Told.{Told}
 use Rattle.bidi_browser.specs.declared.plan.Plan.{Plan}

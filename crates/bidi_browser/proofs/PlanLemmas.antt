@@ -19,7 +19,7 @@ use Rattle.bidi_browser.specs.declared.occurrence.Occurrence as in_hand
 use Rattle.bidi_browser.specs.declared.contexts.Context as declared_context
 use Rattle.bidi_browser.specs.declared.plan.Plan.{Plan}
 use Rattle.bidi_browser.specs.declared.plan.Edit.TheVariants.{Keep}
-use Rattle.bidi_handles.specs.declared.id.Kind.TheVariants.{Context, Realm, Window}
+use Rattle.bidi_handles.specs.declared.id.IdKind.TheVariants.{Context, Realm, Window}
 use Rattle.bidi_browser.specs.Urls.{about_blank, parsed}
 use Rattle.bidi_browser.specs.Acts.{Act, Made, Framed, Tabled, Logged, Looked, next_number}
 use Rattle.bidi_browser.specs.Places.{begun_at}

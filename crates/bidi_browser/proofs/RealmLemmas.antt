@@ -10,7 +10,7 @@ use Rattle.bidi_browser.specs.Actions.{Target, ContextTarget, RealmTarget}
 use Rattle.bidi_codes.specs.Checks.{◌>>=◌, need, found}
 use Rattle.bidi_browser.specs.Contexts.{contexts}
 use Rattle.bidi_browser.specs.Outcome.{context_named, realm_targeted}
-use Rattle.bidi_handles.specs.declared.id.Kind.TheVariants.{Context, Realm}
+use Rattle.bidi_handles.specs.declared.id.IdKind.TheVariants.{Context, Realm}
 use Rattle.bidi_browser.specs.Acts.{Act, Made, Framed, Moved, Removed, Logged, Tabled, Ran, Disowned, Looked, next_number}
 use Rattle.bidi_browser.specs.Realms.{realm_of, realms}
 

@@ -14,7 +14,7 @@ use Rattle.bidi_browser.specs.TableInHand.{AreTabled}
 use Rattle.bidi_browser.specs.Stands.{StandsFor}
 use Rattle.bidi_browser.specs.Acts.{Act, Removed, Tabled, Ran, Disowned, Logged, Looked, Ending, next_number, ScriptEffect as Said}
 use Rattle.bidi_tree.specs.Node.{Node}
-use Rattle.bidi_handles.specs.declared.id.Kind.TheVariants.{Handle}
+use Rattle.bidi_handles.specs.declared.id.IdKind.TheVariants.{Handle}
 use Rattle.bidi_browser.specs.declared.context_table.Contexts.{Contexts}
 use Rattle.bidi_handles.specs.Ids.{has_id}
 use Rattle.bidi_browser.specs.Realms.{realm_of, value_of, handles_of}

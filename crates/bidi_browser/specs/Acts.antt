@@ -3,8 +3,8 @@ use Rattle.std.specs.Prelude.{ℕ, suc, Bool, true, false, if◌then◌else◌, 
 use Rattle.url.specs.Parts.{Parts}
 use Rattle.bidi_tree.specs.Node.{Node}
 use Rattle.bidi_values.specs.declared.log_entry.Level.{Level}
-use Rattle.bidi_handles.specs.declared.id.Kind.{Kind}
-use Rattle.bidi_handles.specs.declared.id.Kind.TheVariants.{Context, Realm, Navigation, Handle, Window}
+use Rattle.bidi_handles.specs.declared.id.IdKind.{IdKind}
+use Rattle.bidi_handles.specs.declared.id.IdKind.TheVariants.{Context, Realm, Navigation, Handle, Window}
 
 -- where a navigation leads: to a URL, to the same entry again, or to another entry of the session history
 pub data Move : Type 0 where
@@ -40,7 +40,7 @@ pub data Act : Type 0 where
   Looked : Act
 
 -- whether an act gives out an id of the kind
-abbrev pub gives : Kind → Act → Bool
+abbrev pub gives : IdKind → Act → Bool
 gives Context (Made w) = true
 gives Context (Framed p url) = true
 gives Realm (Made w) = true
@@ -52,17 +52,17 @@ gives Window (Made w) = is_none w
 gives kind act = false
 
 -- at the start stand one context, its realm and its window
-abbrev pub given_at_start : Kind → ℕ
+abbrev pub given_at_start : IdKind → ℕ
 given_at_start Context = 1
 given_at_start Realm = 1
 given_at_start Window = 1
 given_at_start kind = 0
 
 -- how many ids of the kind were given out, those at the start too
-abbrev pub given : List Act → Kind → ℕ
+abbrev pub given : List Act → IdKind → ℕ
 given [] kind = given_at_start kind
 given (act ∷ past) kind = if gives kind act then suc (given past kind) else given past kind
 
 -- the number that the next thing of the kind gets; none is given out twice
-abbrev pub next_number : List Act → Kind → ℕ
+abbrev pub next_number : List Act → IdKind → ℕ
 next_number past kind = suc (given past kind)

@@ -7,7 +7,7 @@ use Rattle.bidi_tree.specs.Node.{Node, null, text, Members, no_members}
 use Rattle.bidi_values.specs.declared.log_entry.Level.{Level}
 use Rattle.bidi_messages.specs.declared.event.EventName.{EventName}
 use Rattle.bidi_messages.specs.declared.event.EventName.TheVariants.{ContextCreated, ContextDestroyed, RealmCreated, RealmDestroyed, EntryAdded}
-use Rattle.bidi_handles.specs.declared.id.Kind.TheVariants as kind
+use Rattle.bidi_handles.specs.declared.id.IdKind.TheVariants as kind
 use Rattle.bidi_browser.specs.declared.contexts.Context.{Context}
 use Rattle.bidi_handles.specs.Ids.{has_id}
 use Rattle.bidi_browser.specs.Urls.{url_text, origin_text}

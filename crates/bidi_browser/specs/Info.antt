@@ -1,7 +1,7 @@
 -- The tree of what is told of a context. After WebDriver BiDi, "The browsingContext.Info Type"; that `originalOpener` is null and `userContext` is `default` is this project's own.
 use Rattle.std.specs.Prelude.{ℕ, ◌-◌, zero, suc, map, Option, Some, None, option_map}
 use Rattle.bidi_tree.specs.Node.{Node, null, text, Members, no_members}
-use Rattle.bidi_handles.specs.declared.id.Kind.TheVariants.{Context, Window}
+use Rattle.bidi_handles.specs.declared.id.IdKind.TheVariants.{Context, Window}
 use Rattle.bidi_browser.specs.Acts.{Act}
 use Rattle.bidi_browser.specs.Urls.{url_text}
 use Rattle.bidi_browser.specs.Contexts.{parent_of, window_of, children_of}

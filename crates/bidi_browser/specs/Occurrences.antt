@@ -7,7 +7,7 @@ use Rattle.bidi_values.specs.declared.log_entry.Level.{Level}
 use Rattle.bidi_values.specs.Level.{level_text}
 use Rattle.bidi_messages.specs.declared.event.EventName.{EventName}
 use Rattle.bidi_messages.specs.declared.event.EventName.TheVariants.{ContextCreated, ContextDestroyed, NavigationStarted, DomContentLoaded, Load, RealmCreated, RealmDestroyed, EntryAdded}
-use Rattle.bidi_handles.specs.declared.id.Kind.TheVariants.{Context, Realm, Navigation}
+use Rattle.bidi_handles.specs.declared.id.IdKind.TheVariants.{Context, Realm, Navigation}
 use Rattle.bidi_browser.specs.Urls.{url_text, origin_text}
 use Rattle.bidi_browser.specs.Acts.{Act, next_number}
 use Rattle.bidi_browser.specs.Contexts.{top_of, subtree_of, tree_order}

@@ -2,7 +2,7 @@
 use Rattle.std.specs.Prelude.{ℕ, Bool, true, false, List, [], ◌∷◌, ◌++◌, map, flat_map, codes, bytes_eq, Option, Some, None, option_to_list, unwrap_or}
 use Rattle.url.specs.Parts.{Parts}
 use Rattle.bidi_tree.specs.Node.{Node, text, no_members}
-use Rattle.bidi_handles.specs.declared.id.Kind.TheVariants.{Context, Realm, Navigation, Handle}
+use Rattle.bidi_handles.specs.declared.id.IdKind.TheVariants.{Context, Realm, Navigation, Handle}
 use Rattle.bidi_browser.specs.Urls.{url_text}
 use Rattle.bidi_browser.specs.Acts.{Act, Made, Framed, Removed, Moved, Logged, Tabled, Ran, Disowned, Looked, Move, Across, Ending, Returned, Threw, next_number}
 use Rattle.bidi_browser.specs.Contexts.{context_of, tops, children_of, tree_order}

@@ -3,7 +3,7 @@ use Rattle.std.specs.Prelude.{ℕ, nat_lt, nat_le, ℤ, Bool, true, not, ◌&&�
 use Rattle.bidi_tree.specs.Node.{Node, levels, no_members}
 use Rattle.bidi_codes.specs.declared.error_code.ErrorCode.{ErrorCode}
 use Rattle.bidi_codes.specs.declared.error_code.ErrorCode.TheVariants.{InvalidArgument, NoSuchFrame, NoSuchHistoryEntry, NoSuchUserContext, UnknownError, UnsupportedOperation}
-use Rattle.bidi_handles.specs.declared.id.Kind.TheVariants.{Realm}
+use Rattle.bidi_handles.specs.declared.id.IdKind.TheVariants.{Realm}
 use Rattle.bidi_handles.specs.Ids.{id_of}
 use Rattle.bidi_browser.specs.Urls.{parsed}
 use Rattle.bidi_values.specs.declared.log_entry.Level.{Level}

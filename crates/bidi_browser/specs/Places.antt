@@ -1,7 +1,7 @@
 -- The session history of a context: its entries and the place among them. After WebDriver BiDi, "The browsingContext.traverseHistory Command".
 use Rattle.std.specs.Prelude.{ℕ, ◌+◌, ◌-◌, ◌==◌, min, nat_lt, ℤ, pos, negsuc, if◌then◌else◌, List, [], ◌∷◌, ◌++◌, length, take, drop, slice_get, Option, Some, None, option_and_then, unwrap_or}
 use Rattle.url.specs.Parts.{Parts}
-use Rattle.bidi_handles.specs.declared.id.Kind.TheVariants.{Context}
+use Rattle.bidi_handles.specs.declared.id.IdKind.TheVariants.{Context}
 use Rattle.bidi_browser.specs.Urls.{about_blank}
 use Rattle.bidi_browser.specs.Acts.{Act, Made, Framed, Moved, Move, To, Again, Across, next_number}
 

@@ -6,8 +6,8 @@ use Rattle.bidi_messages.specs.declared.method.Method.{Method}
 use Rattle.bidi_messages.specs.declared.result_data.ResultData.{ResultData}
 use Rattle.bidi_messages.specs.contracts.event.EventDataSubjectEventName.TheImpl as events
 use Rattle.bidi_messages.specs.contracts.result_data.ResultDataSubjectMethod.TheImpl as results
-use Rattle.bidi_handles.specs.declared.id.Kind.{Kind}
-use Rattle.bidi_handles.specs.declared.id.Kind.TheVariants.{Context, Realm, Handle, Window}
+use Rattle.bidi_handles.specs.declared.id.IdKind.{IdKind}
+use Rattle.bidi_handles.specs.declared.id.IdKind.TheVariants.{Context, Realm, Handle, Window}
 use Rattle.bidi_browser.specs.declared.browser.Browser.{Browser}
 use Rattle.bidi_browser.specs.declared.context_table.Contexts.{Contexts}
 use Rattle.bidi_browser.specs.declared.contexts.Context as declared_context
@@ -39,7 +39,7 @@ use Rattle.bidi_browser.specs.View.{seen, result_tree}
 
 -- the next thing of each kind gets a number that an id can show
 abbrev pub HasIds : List Act → Type 0
-HasIds past = (kind : Kind) → next_number past kind < 2 ^ 48
+HasIds past = (kind : IdKind) → next_number past kind < 2 ^ 48
 
 -- there is room for one more context
 abbrev pub HasRoomForOne : Contexts → Type 0

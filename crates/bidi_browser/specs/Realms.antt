@@ -1,7 +1,7 @@
 -- Realms, the handles that hold values in them, and the table that stands for running scripts. After WebDriver BiDi, "The script Module".
 use Rattle.std.specs.Prelude.{ℕ, ◌==◌, true, not, if◌then◌else◌, List, [], ◌∷◌, ◌++◌, map, filter, find, bytes_eq, Option, Some, None, is_some, option_map}
 use Rattle.bidi_tree.specs.Node.{Node}
-use Rattle.bidi_handles.specs.declared.id.Kind.TheVariants.{Context, Realm, Handle}
+use Rattle.bidi_handles.specs.declared.id.IdKind.TheVariants.{Context, Realm, Handle}
 use Rattle.bidi_handles.specs.Ids.{id_of, has_id}
 use Rattle.bidi_browser.specs.Acts.{Act, Made, Framed, Moved, Tabled, Ran, Disowned, Ending, Returned, Threw, ScriptEffect, next_number}
 use Rattle.bidi_browser.specs.Contexts.{contexts}

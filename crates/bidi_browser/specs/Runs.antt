@@ -5,7 +5,7 @@ use Rattle.bidi_codes.specs.declared.error_code.ErrorCode.{ErrorCode}
 use Rattle.bidi_codes.specs.declared.error_code.ErrorCode.TheVariants.{UnsupportedOperation, UnknownError}
 use Rattle.bidi_values.specs.contracts.evaluate_result.EvaluateResultShape.TheImpl as results
 use Rattle.bidi_handles.specs.declared.handle.Ending as declared_ending
-use Rattle.bidi_handles.specs.declared.id.Kind.TheVariants.{Handle, Realm}
+use Rattle.bidi_handles.specs.declared.id.IdKind.TheVariants.{Handle, Realm}
 use Rattle.bidi_codes.specs.declared.refusal.Refusal.{Refusal}
 use Rattle.bidi_codes.specs.declared.refusal.Refusal.TheVariants.{Code, NoMemory}
 use Rattle.bidi_browser.specs.declared.scripts.Ran.{Ran as RanInHand}

@@ -1,6 +1,6 @@
 -- The past that a browser stands for.
 use Rattle.std.specs.Prelude.{◌≡◌, List, map}
-use Rattle.bidi_handles.specs.declared.id.Kind.TheVariants.{Context, Realm, Navigation, Handle, Window}
+use Rattle.bidi_handles.specs.declared.id.IdKind.TheVariants.{Context, Realm, Navigation, Handle, Window}
 use Rattle.bidi_browser.specs.declared.browser.Browser.{Browser}
 use Rattle.bidi_browser.specs.declared.context_table.Contexts.{Contexts}
 use Rattle.bidi_browser.specs.Acts.{Act, next_number}

@@ -21,7 +21,7 @@ use crate::occurrence::Occurrence;
 use crate::plan::{Change, Edit, Plan};
 use crate::urls::parsed;
 use bidi_codes::Refusal;
-use bidi_handles::{Kind, id_text};
+use bidi_handles::{IdKind, id_text};
 use bidi_messages::{ErrorCode, Method, ResultData, Subject};
 use bidi_params::{ContextType, CreateParameters, CreateResult};
 use bidi_shape::Ext;
@@ -167,11 +167,11 @@ fn births(alloc: Global, context: &Context) -> Result<Vec<Occurrence>, AllocErro
 // The result of `browsingContext.create`: the id of the new context.
 fn created(alloc: Global, number: u64) -> Result<ResultData, AllocError>
     requires { number < 2 ^ 48 }
-    ensures tree { IfOk result (λ r. result_tree r ≡ mapped ("context" being id_tree Kind.Context number and no_members)) }
+    ensures tree { IfOk result (λ r. result_tree r ≡ mapped ("context" being id_tree IdKind.Context number and no_members)) }
     ensures well { IfOk result IsWellResult }
     ensures of_method { IfOk result (λ r. ⟦<ResultData as Subject<Method>>⟧.subject.kind r ≡ Method.BrowsingContextCreate) }
 {
-    let context = id_text(alloc, Kind::Context, 0, number)?;
+    let context = id_text(alloc, IdKind::Context, 0, number)?;
     Ok(ResultData::BrowsingContextCreate(CreateResult {
         context,
         ext: Ext::empty(alloc),

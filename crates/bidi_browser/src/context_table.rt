@@ -13,7 +13,7 @@ ghost use Rattle.bidi_browser.specs.InfosInHand.{AreWithin, AreWithinIfTold, IsW
 use crate::contexts::Context;
 use crate::plan::Navigation;
 use crate::session_history::Move;
-use bidi_handles::{Handle, Kind};
+use bidi_handles::{Handle, IdKind};
 use bidi_params::Info;
 use bidi_shape::Shape;
 use std::alloc::{AllocError, Global};
@@ -70,7 +70,7 @@ impl Contexts {
 
     /// The live context whose realm has this id. Passes over the contexts.
     pub(crate) fn in_realm(&self, id: &str) -> Option<&Context>
-        ensures { (past : List Act) → IsTableOf self.now past → option_map (λ c. row_of c.now) result ≡ option_map (row_at past) (find (λ c. bytes_eq id.now (id_of Kind.Realm (realm_of past c))) (contexts past)) }
+        ensures { (past : List Act) → IsTableOf self.now past → option_map (λ c. row_of c.now) result ≡ option_map (row_at past) (find (λ c. bytes_eq id.now (id_of IdKind.Realm (realm_of past c))) (contexts past)) }
     {
         in_realm(&self.live, id)
     }
@@ -149,8 +149,8 @@ impl Contexts {
     /// Adds a new context, for which room was made. Takes no memory.
     pub(crate) fn add(&mut self, context: Context)
         requires { HasRoomForOne self.now }
-        ensures { (past : List Act) (act : Act) → IsTableOf self.old past → AreAccepted (act ∷ past) → gives Kind.Context act ≡ true
-            → row_of context ≡ row_at (act ∷ past) (next_number past Kind.Context) → IsTableOf self.new (act ∷ past) }
+        ensures { (past : List Act) (act : Act) → IsTableOf self.old past → AreAccepted (act ∷ past) → gives IdKind.Context act ≡ true
+            → row_of context ≡ row_at (act ∷ past) (next_number past IdKind.Context) → IsTableOf self.new (act ∷ past) }
     {
         self.live.push_reserved(context);
     }
@@ -193,7 +193,7 @@ impl Contexts {
     /// Adds a handle, newer than all others, to the realm of the context of this number. Takes no memory.
     pub(crate) fn hold(&mut self, number: u64, handle: Handle)
         requires { HasRoomForHandle self.now number }
-        ensures { (past : List Act) → IsTableOf self.old past → next_number past Kind.Handle ≤ handle.number
+        ensures { (past : List Act) → IsTableOf self.old past → next_number past IdKind.Handle ≤ handle.number
             → map row_of self.new.live.items ≡ changed number (held_in (handle_seen handle)) (map row_of self.old.live.items) }
     {
         if let Some(place) = place_of(&self.live, number) {
@@ -252,14 +252,14 @@ fn place_of(contexts: &[Context], number: u64) -> Option<usize>
 
 // The context of this id.
 fn named<'a>(contexts: &'a [Context], id: &str) -> Option<&'a Context>
-    ensures { option_map (λ c. c.now) result ≡ find (λ c. bytes_eq id.now (id_of Kind.Context c.number)) contexts.now }
+    ensures { option_map (λ c. c.now) result ≡ find (λ c. bytes_eq id.now (id_of IdKind.Context c.number)) contexts.now }
 {
     contexts.iter().find(|context| context.is_named(id))
 }
 
 // The context whose realm has this id.
 fn in_realm<'a>(contexts: &'a [Context], id: &str) -> Option<&'a Context>
-    ensures { option_map (λ c. c.now) result ≡ find (λ c. bytes_eq id.now (id_of Kind.Realm c.realm)) contexts.now }
+    ensures { option_map (λ c. c.now) result ≡ find (λ c. bytes_eq id.now (id_of IdKind.Realm c.realm)) contexts.now }
 {
     contexts.iter().find(|context| context.is_in_realm(id))
 }

@@ -8,7 +8,7 @@ ghost use Rattle.bidi_browser.specs.View.{occurrence_of};
 use crate::occurrence::Occurrence;
 use crate::session_history::{Move, SessionHistory};
 use crate::urls::{about_blank, origin_text};
-use bidi_handles::{Handle, Handles, Kind, id_text, is_id};
+use bidi_handles::{Handle, Handles, IdKind, id_text, is_id};
 use bidi_messages::{EventData, EventName, Subject};
 use bidi_params::{Info, NavigationInfo, RealmDestroyedParameters, RealmInfo};
 use bidi_shape::{Ext, Shape};
@@ -131,16 +131,16 @@ impl Context {
 
     /// Whether a text is its id.
     pub(crate) fn is_named(&self, id: &str) -> bool
-        ensures { result ≡ bytes_eq id.now (id_of Kind.Context self.now.number) }
+        ensures { result ≡ bytes_eq id.now (id_of IdKind.Context self.now.number) }
     {
-        is_id(id, Kind::Context, 0, self.number)
+        is_id(id, IdKind::Context, 0, self.number)
     }
 
     /// Whether a text is the id of its realm.
     pub(crate) fn is_in_realm(&self, id: &str) -> bool
-        ensures { result ≡ bytes_eq id.now (id_of Kind.Realm self.now.realm) }
+        ensures { result ≡ bytes_eq id.now (id_of IdKind.Realm self.now.realm) }
     {
-        is_id(id, Kind::Realm, 0, self.realm)
+        is_id(id, IdKind::Realm, 0, self.realm)
     }
 
     /// Its Info as one of its parent's children: these children, and no member `parent`.
@@ -173,7 +173,7 @@ impl Context {
         ensures { IfOk result (λ id. parent_node id ≡ parent_tree self.now.parent) }
     {
         match self.parent {
-            Some(parent) => Ok(Some(id_text(alloc, Kind::Context, 0, parent)?)),
+            Some(parent) => Ok(Some(id_text(alloc, IdKind::Context, 0, parent)?)),
             None => Ok(None),
         }
     }
@@ -191,8 +191,8 @@ impl Context {
     {
         Ok(Info {
             children,
-            client_window: id_text(alloc, Kind::Window, 0, self.window)?,
-            context: id_text(alloc, Kind::Context, 0, self.number)?,
+            client_window: id_text(alloc, IdKind::Window, 0, self.window)?,
+            context: id_text(alloc, IdKind::Context, 0, self.number)?,
             original_opener: None,
             url: String::from_str(alloc, self.history.present().as_str())?,
             user_context: String::from_str(alloc, "default")?,
@@ -216,9 +216,9 @@ impl Context {
         ensures well { IfOk result ⟦<RealmInfo as Shape>⟧.shape.well }
     {
         Ok(RealmInfo {
-            realm: id_text(alloc, Kind::Realm, 0, realm)?,
+            realm: id_text(alloc, IdKind::Realm, 0, realm)?,
             origin: origin_text(alloc, url)?,
-            context: id_text(alloc, Kind::Context, 0, self.number)?,
+            context: id_text(alloc, IdKind::Context, 0, self.number)?,
             ext: Ext::empty(alloc),
         })
     }
@@ -268,7 +268,7 @@ impl Context {
         ensures told { IfOk result (λ o. occurrence_of ⟦<EventData as Subject<EventName>>⟧.subject o ≡ realm_destroyed_in (row_of self.now)) }
         ensures well { IfOk result (λ o. ⟦<EventData as Subject<EventName>>⟧.subject.well o.event) }
     {
-        let realm = id_text(alloc, Kind::Realm, 0, self.realm)?;
+        let realm = id_text(alloc, IdKind::Realm, 0, self.realm)?;
         let params = RealmDestroyedParameters {
             realm,
             ext: Ext::empty(alloc),
@@ -289,8 +289,8 @@ impl Context {
         ensures well { IfOk result ⟦<NavigationInfo as Shape>⟧.shape.well }
     {
         Ok(NavigationInfo {
-            context: id_text(alloc, Kind::Context, 0, self.number)?,
-            navigation: Some(id_text(alloc, Kind::Navigation, 0, navigation)?),
+            context: id_text(alloc, IdKind::Context, 0, self.number)?,
+            navigation: Some(id_text(alloc, IdKind::Navigation, 0, navigation)?),
             timestamp: moment,
             url: String::from_str(alloc, url.as_str())?,
             ext: Ext::empty(alloc),

@@ -36,7 +36,7 @@ mod urls;
 
 pub use action::Action;
 pub use bidi_codes::Refusal;
-pub use bidi_handles::{Kind, id_text, is_id};
+pub use bidi_handles::{IdKind, id_text, is_id};
 pub use browser::Browser;
 pub use occurrence::Occurrence;
 pub use plan::{Change, Plan};

@@ -16,7 +16,7 @@ use crate::looking::context_named;
 use crate::occurrence::Occurrence;
 use crate::plan::{Change, Edit, Plan};
 use bidi_codes::Refusal;
-use bidi_handles::{Kind, id_text};
+use bidi_handles::{IdKind, id_text};
 use bidi_shape::{Named, Shape};
 use bidi_tree::JsUint;
 use bidi_values::{
@@ -97,11 +97,11 @@ fn entry(
 // The context as the source of an entry, with its realm.
 fn source(alloc: Global, context: &Context) -> Result<Source, AllocError>
     ensures { IfOk result (λ s. ⟦<Source as Shape>⟧.shape.tree_of s
-        ≡ mapped ("context" being id_tree Kind.Context context.now.number and "realm" being id_tree Kind.Realm context.now.realm and no_members)) }
+        ≡ mapped ("context" being id_tree IdKind.Context context.now.number and "realm" being id_tree IdKind.Realm context.now.realm and no_members)) }
 {
     Ok(Source {
-        realm: id_text(alloc, Kind::Realm, 0, context.realm)?,
-        context: Some(id_text(alloc, Kind::Context, 0, context.number)?),
+        realm: id_text(alloc, IdKind::Realm, 0, context.realm)?,
+        context: Some(id_text(alloc, IdKind::Context, 0, context.number)?),
     })
 }
 

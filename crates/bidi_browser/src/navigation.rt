@@ -22,7 +22,7 @@ use crate::removals::push_removals;
 use crate::session_history::Move;
 use crate::urls::parsed;
 use bidi_codes::Refusal;
-use bidi_handles::{Kind, id_text};
+use bidi_handles::{IdKind, id_text};
 use bidi_messages::{ErrorCode, Method, ResultData};
 use bidi_params::{
     NavigateParameters, NavigateResult, ReloadParameters, TraverseHistoryParameters, Wait,
@@ -223,11 +223,11 @@ fn events(
 // The result of `navigate` and `reload`.
 fn navigated(alloc: Global, navigation: u64, url: &Url) -> Result<NavigateResult, AllocError>
     requires { navigation < 2 ^ 48 }
-    ensures tree { IfOk result (λ r. ⟦<NavigateResult as Shape>⟧.shape.tree_of r ≡ mapped ("navigation" being id_tree Kind.Navigation navigation and "url" being text (url_text url.now) and no_members)) }
+    ensures tree { IfOk result (λ r. ⟦<NavigateResult as Shape>⟧.shape.tree_of r ≡ mapped ("navigation" being id_tree IdKind.Navigation navigation and "url" being text (url_text url.now) and no_members)) }
     ensures well { IfOk result ⟦<NavigateResult as Shape>⟧.shape.well }
 {
     Ok(NavigateResult {
-        navigation: Some(id_text(alloc, Kind::Navigation, 0, navigation)?),
+        navigation: Some(id_text(alloc, IdKind::Navigation, 0, navigation)?),
         url: String::from_str(alloc, url.as_str())?,
         ext: Ext::empty(alloc),
     })

@@ -11,7 +11,7 @@ ghost use Rattle.bidi_browser.specs.TableInHand.{ending_seen};
 ghost use Rattle.bidi_handles.specs.Values.{shown_as, takes_handle};
 ghost use Rattle.bidi_handles.specs.ValuesInHand.{remote_tree};
 
-use bidi_handles::{Ending, Kind, id_text, shown};
+use bidi_handles::{Ending, IdKind, id_text, shown};
 use bidi_shape::Shape;
 use bidi_tree::JsUint;
 use bidi_values::{
@@ -35,7 +35,7 @@ pub(crate) fn told(
     ensures tree { IfOk result (λ r. ⟦<EvaluateResult as Shape>⟧.shape.tree_of r ≡ result_told realm (ending_seen ending.now) (shown_as handle (value_of (ending_seen ending.now)))) }
     ensures well { IfOk result (λ r. ⟦<EvaluateResult as Shape>⟧.shape.well r × (levels (⟦<EvaluateResult as Shape>⟧.shape.tree_of r) ≤ 61)) }
 {
-    let realm = id_text(alloc, Kind::Realm, 0, realm)?;
+    let realm = id_text(alloc, IdKind::Realm, 0, realm)?;
     match ending {
         Ending::Returned(value) => {
             let result = shown(alloc, value, handle)?;

@@ -1,6 +1,6 @@
 -- The first id of each kind, as its text.
 use Rattle.std.specs.Prelude.{◌≡◌, refl, codes}
-use Rattle.bidi_handles.specs.declared.id.Kind.TheVariants.{Session, Context, Realm, Navigation, Subscription, Handle, Window}
+use Rattle.bidi_handles.specs.declared.id.IdKind.TheVariants.{Session, Context, Realm, Navigation, Subscription, Handle, Window}
 use Rattle.bidi_handles.specs.Ids.{id_of, id_text}
 use Rattle.uuid.specs.Text.{by_index}
 

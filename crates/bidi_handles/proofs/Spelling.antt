@@ -2,7 +2,7 @@
 -- `$c2` is the id of the second context, `$u1` of the first subscription of session 1, `$v1` of the first of session 2.
 use Prim.Native.String.{String}
 use Rattle.std.specs.Prelude.{ℕ, zero, suc, ◌-◌, ◌==◌, List, [], ◌∷◌, ◌++◌, slice_index, codes, if◌then◌else◌}
-use Rattle.bidi_handles.specs.declared.id.Kind.TheVariants.{Session, Context, Realm, Navigation, Subscription, Handle, Window}
+use Rattle.bidi_handles.specs.declared.id.IdKind.TheVariants.{Session, Context, Realm, Navigation, Subscription, Handle, Window}
 use Rattle.bidi_handles.specs.Ids.{id_of, id_text}
 
 -- the id of a letter and a number

@@ -2,7 +2,7 @@
 use Rattle.std.specs.Prelude.{ℕ, ◌<◌, List, bytes_eq, find, map, option_map, vec_len, vec_capacity}
 use Rattle.bidi_tree.specs.Node.{Node}
 use Rattle.bidi_handles.specs.declared.handles.Handles.{Handles}
-use Rattle.bidi_handles.specs.declared.id.Kind.TheVariants.{Handle}
+use Rattle.bidi_handles.specs.declared.id.IdKind.TheVariants.{Handle}
 use Rattle.bidi_handles.specs.Ids.{id_of}
 use Rattle.bidi_handles.specs.Values.{Held}
 use Rattle.bidi_handles.specs.ValuesInHand.{handle_seen}

@@ -3,11 +3,11 @@ use Rattle.std.specs.Prelude.{ℕ, Bool, List, ◌∷◌, ◌++◌, bytes_eq, dr
 use Rattle.std.specs.List.{list_any}
 use Rattle.std.specs.Int.{w16, w32, w64, to_be_bytes}
 use Rattle.uuid.specs.Text.{hyphenated_text, lower}
-use Rattle.bidi_handles.specs.declared.id.Kind.{Kind}
-use Rattle.bidi_handles.specs.declared.id.Kind.TheVariants.{Session, Context, Realm, Navigation, Subscription, Handle, Window}
+use Rattle.bidi_handles.specs.declared.id.IdKind.{IdKind}
+use Rattle.bidi_handles.specs.declared.id.IdKind.TheVariants.{Session, Context, Realm, Navigation, Subscription, Handle, Window}
 
 -- the number of a kind in its ids
-abbrev pub kind_number : Kind → ℕ
+abbrev pub kind_number : IdKind → ℕ
 kind_number Session = 1
 kind_number Context = 2
 kind_number Realm = 3
@@ -17,22 +17,22 @@ kind_number Handle = 6
 kind_number Window = 7
 
 -- the session in an id: that of a subscription, and 0 in the id of any other kind
-abbrev pub session_in : Kind → ℕ → ℕ
+abbrev pub session_in : IdKind → ℕ → ℕ
 session_in Subscription session = session
 session_in _ session = 0
 
 -- the session in four bytes, the kind in two, version 8 and its variant with zeros, and the number in six
-abbrev pub id_bytes : Kind → ℕ → ℕ → List ℕ
+abbrev pub id_bytes : IdKind → ℕ → ℕ → List ℕ
 id_bytes kind session n =
     to_be_bytes w32 (session_in kind session)
     ++ (to_be_bytes w16 (kind_number kind) ++ (128 ∷ 0 ∷ 128 ∷ 0 ∷ drop 2 (to_be_bytes w64 n)))
 
 -- the id of the n-th thing of a kind, for a subscription of its session
-abbrev pub id_text : Kind → ℕ → ℕ → List ℕ
+abbrev pub id_text : IdKind → ℕ → ℕ → List ℕ
 id_text kind session n = hyphenated_text lower (id_bytes kind session n)
 
 -- the id of the n-th thing of a kind that is no subscription
-abbrev pub id_of : Kind → ℕ → List ℕ
+abbrev pub id_of : IdKind → ℕ → List ℕ
 id_of kind n = id_text kind 0 n
 
 -- the id of the n-th handle is among these

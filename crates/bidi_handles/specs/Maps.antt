@@ -3,7 +3,7 @@ use Prim.Native.String.{String}
 use Rattle.std.specs.Prelude.{ℕ, pos, List, codes}
 use Rattle.bidi_tree.specs.Node.{Node, whole, text, list, map, Members, no_members, put}
 use Rattle.bidi_tree.specs.View.{items_of}
-use Rattle.bidi_handles.specs.declared.id.Kind.{Kind}
+use Rattle.bidi_handles.specs.declared.id.IdKind.{IdKind}
 use Rattle.bidi_handles.specs.Ids.{id_of}
 
 -- the members with one more
@@ -32,5 +32,5 @@ abbrev pub number : ℕ → Node
 number n = whole (pos n)
 
 -- the text of an id
-abbrev pub id_tree : Kind → ℕ → Node
+abbrev pub id_tree : IdKind → ℕ → Node
 id_tree kind n = text (id_of kind n)

@@ -6,7 +6,7 @@ use Rattle.bidi_tree.specs.Node.{Node, null, boolean, whole, odd, text, list, ma
 use Rattle.bidi_tree.specs.Text.{compact_text}
 use Rattle.bidi_codes.specs.declared.error_code.ErrorCode.{ErrorCode}
 use Rattle.bidi_codes.specs.declared.error_code.ErrorCode.TheVariants.{NoSuchHandle, NoSuchNode, UnknownError}
-use Rattle.bidi_handles.specs.declared.id.Kind.TheVariants.{Handle}
+use Rattle.bidi_handles.specs.declared.id.IdKind.TheVariants.{Handle}
 use Rattle.bidi_handles.specs.Maps.{id_tree}
 use Rattle.bidi_handles.specs.Params.{text_at}
 use Rattle.bidi_codes.specs.Checks.{◌>>=◌, need, found}

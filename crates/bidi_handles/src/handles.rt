@@ -6,7 +6,7 @@ ghost use Rattle.std.proofs.Props.{props};
 ghost use Rattle.bidi_handles.specs.Ids.{id_of, has_id};
 
 use crate::handle::{Handle, HeldValue};
-use crate::id::{Kind, handle_number};
+use crate::id::{IdKind, handle_number};
 use std::alloc::{AllocError, Global};
 use std::rc::Rc;
 
@@ -97,7 +97,7 @@ impl Handles {
 
 // The handle of this id, among handles in ascending order of number.
 fn handle_of_id<'a>(handles: &'a [Handle], id: &str) -> Option<&'a Handle>
-    ensures { IsStrictlyIncreasing (map (λ h. h.number) handles.now) → option_map (λ h. h.now) result ≡ find (λ h. bytes_eq id.now (id_of Kind.Handle h.number)) handles.now }
+    ensures { IsStrictlyIncreasing (map (λ h. h.number) handles.now) → option_map (λ h. h.now) result ≡ find (λ h. bytes_eq id.now (id_of IdKind.Handle h.number)) handles.now }
 {
     handle_at(handles, handle_number(id)?)
 }

@@ -7,7 +7,7 @@ use uuid::Uuid;
 
 /// The kinds of things that have ids.
 #[derive(Clone, Copy, Debug, PartialEq, Eq)]
-pub enum Kind {
+pub enum IdKind {
     /// A session.
     Session,
     /// A browsing context.
@@ -33,7 +33,7 @@ pub enum Kind {
 /// No memory: an allocation failed.
 ///
 /// After RFC 9562, 4 and 5.8; what stands in the bytes is this project's own.
-pub fn id_text(alloc: Global, kind: Kind, session: u32, n: u64) -> Result<String, AllocError>
+pub fn id_text(alloc: Global, kind: IdKind, session: u32, n: u64) -> Result<String, AllocError>
     requires { n < 2 ^ 48 }
     ensures { IfOk result (λ s. string_bytes s ≡ id_text kind session n) }
 {
@@ -45,7 +45,7 @@ pub fn id_text(alloc: Global, kind: Kind, session: u32, n: u64) -> Result<String
 }
 
 /// Whether a text is exactly the id that [`id_text`] gives; upper-case letters differ. Takes no memory.
-pub fn is_id(text: &str, kind: Kind, session: u32, n: u64) -> bool
+pub fn is_id(text: &str, kind: IdKind, session: u32, n: u64) -> bool
     requires { n < 2 ^ 48 }
     ensures { result ≡ bytes_eq text.now (id_text kind session n) }
 {
@@ -58,14 +58,14 @@ pub fn is_id(text: &str, kind: Kind, session: u32, n: u64) -> bool
 
 /// The number of the handle that has exactly this id, if the text is the id of a handle. Takes no memory.
 pub(crate) fn handle_number(id: &str) -> Option<u64>
-    ensures some { IfSome result (λ n. (n < 2 ^ 48) × (bytes_eq id.now (id_of Kind.Handle n) ≡ true)) }
-    ensures every { (n : ℕ) → n < 2 ^ 48 → bytes_eq id.now (id_of Kind.Handle n) ≡ true → result ≡ Some n }
+    ensures some { IfSome result (λ n. (n < 2 ^ 48) × (bytes_eq id.now (id_of IdKind.Handle n) ≡ true)) }
+    ensures every { (n : ℕ) → n < 2 ^ 48 → bytes_eq id.now (id_of IdKind.Handle n) ≡ true → result ≡ Some n }
 {
     let number = match Uuid::try_parse(id) {
         Ok(uuid) => number_in(uuid),
         Err(_) => return None,
     };
-    if is_id(id, Kind::Handle, 0, number) {
+    if is_id(id, IdKind::Handle, 0, number) {
         Some(number)
     } else {
         None
@@ -75,14 +75,14 @@ pub(crate) fn handle_number(id: &str) -> Option<u64>
 // The number in the last six bytes of an id.
 fn number_in(uuid: Uuid) -> u64
     ensures fits { result < 2 ^ 48 }
-    ensures back { (n : ℕ) → n < 2 ^ 48 → uuid ≡ id_bytes Kind.Handle 0 n → result ≡ n }
+    ensures back { (n : ℕ) → n < 2 ^ 48 → uuid ≡ id_bytes IdKind.Handle 0 n → result ≡ n }
 {
     let b = uuid.into_bytes();
     u64::from_be_bytes([0, 0, b[10], b[11], b[12], b[13], b[14], b[15]])
 }
 
 // The sixteen bytes of an id.
-fn id_of(kind: Kind, session: u32, n: u64) -> Uuid
+fn id_of(kind: IdKind, session: u32, n: u64) -> Uuid
     requires { n < 2 ^ 48 }
     ensures { result ≡ id_bytes kind session n }
 {
@@ -95,26 +95,26 @@ fn id_of(kind: Kind, session: u32, n: u64) -> Uuid
 }
 
 /// The session that stands in an id of this kind: 0 but for a subscription.
-fn session_in(kind: Kind, session: u32) -> u32
+fn session_in(kind: IdKind, session: u32) -> u32
     ensures { result ≡ session_in kind session }
 {
     match kind {
-        Kind::Subscription => session,
+        IdKind::Subscription => session,
         _ => 0,
     }
 }
 
 /// The number that stands for a kind in its ids.
-fn number_of(kind: Kind) -> u16
+fn number_of(kind: IdKind) -> u16
     ensures { result ≡ kind_number kind }
 {
     match kind {
-        Kind::Session => 1,
-        Kind::Context => 2,
-        Kind::Realm => 3,
-        Kind::Navigation => 4,
-        Kind::Subscription => 5,
-        Kind::Handle => 6,
-        Kind::Window => 7,
+        IdKind::Session => 1,
+        IdKind::Context => 2,
+        IdKind::Realm => 3,
+        IdKind::Navigation => 4,
+        IdKind::Subscription => 5,
+        IdKind::Handle => 6,
+        IdKind::Window => 7,
     }
 }

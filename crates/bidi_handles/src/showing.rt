@@ -7,7 +7,7 @@ ghost use Rattle.bidi_handles.specs.Values.{takes_handle, with_member, shown_as}
 ghost use Rattle.bidi_handles.specs.ValuesInHand.{remote_tree, held_tree};
 
 use crate::handle::HeldValue;
-use crate::id::{Kind, id_text};
+use crate::id::{IdKind, id_text};
 use bidi_shape::Shape;
 use bidi_values::{Nested, Nests, RemoteList, RemotePairs, RemotePlain, RemoteValue};
 use std::alloc::{AllocError, Global};
@@ -34,7 +34,7 @@ pub fn shown(
     let copy = held.value.copy(alloc)?;
     match handle {
         Some(n) => {
-            let id = id_text(alloc, Kind::Handle, 0, n)?;
+            let id = id_text(alloc, IdKind::Handle, 0, n)?;
             Ok(with_handle(copy, id))
         }
         None => Ok(copy),

@@ -3,7 +3,7 @@ use Rattle.std.proofs.Common.{◌≡◌, ◌∙◌, ℕ, ◌+◌, Bool, true, fa
 use Rattle.std.specs.Prelude.{◌==◌, filter, find, nat_lt, bytes_eq, codes, if◌then◌else◌, option_map}
 use Rattle.std.specs.List.{AllByRecursion}
 use Rattle.std.proofs.lemmas.List.{length-map}
-use Rattle.bidi_handles.specs.declared.id.Kind.TheVariants.{Session as OfSession}
+use Rattle.bidi_handles.specs.declared.id.IdKind.TheVariants.{Session as OfSession}
 use Rattle.bidi_handles.specs.Ids.{id_of}
 use Rattle.bidi_browser.specs.declared.browser.Browser.{Browser}
 use Rattle.bidi_browser.specs.Acts.{Act, Logged}

@@ -7,7 +7,7 @@ use Rattle.std.proofs.lemmas.List.Folds.{list_any-append}
 use Rattle.bidi_codes.specs.declared.error_code.ErrorCode.{ErrorCode}
 use Rattle.bidi_codes.specs.declared.error_code.ErrorCode.TheVariants.{InvalidArgument, SessionNotCreated, UnknownError}
 use Rattle.bidi_messages.specs.Verdict.{Verdict, Accepted, Refused}
-use Rattle.bidi_handles.specs.declared.id.Kind.TheVariants.{Session}
+use Rattle.bidi_handles.specs.declared.id.IdKind.TheVariants.{Session}
 use Rattle.bidi_handles.specs.Ids.{id_of}
 use Rattle.bidi_browser.specs.Acts.{Act}
 use Rattle.bidi_browser.specs.Actions.{Action}

@@ -12,7 +12,7 @@ use Rattle.std.proofs.lemmas.Simd.{map-map}
 use Rattle.bidi_messages.specs.declared.event.EventName.{EventName}
 use Rattle.bidi_messages.specs.declared.event.EventName.TheVariants.{ContextCreated, ContextDestroyed, NavigationStarted, DomContentLoaded, Load, RealmCreated, RealmDestroyed, EntryAdded}
 use Rattle.bidi_messages.specs.EventName.{events as all_events}
-use Rattle.bidi_handles.specs.declared.id.Kind.TheVariants.{Subscription}
+use Rattle.bidi_handles.specs.declared.id.IdKind.TheVariants.{Subscription}
 use Rattle.bidi_handles.specs.Ids.{id_text}
 use Rattle.bidi_browser.specs.Contexts.{up_to, is_alive}
 use Rattle.bidi_browser.specs.Occurrences.{event_place, is_among}

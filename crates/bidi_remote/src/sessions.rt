@@ -1,7 +1,7 @@
 //! Active sessions, and the resources that name them.
 ghost use Rattle.std.specs.Prelude.{◌≡◌, ◌<◌, ◌+◌, List, [], ◌∷◌, ◌++◌, ◌==◌, not, nat_lt, length, find, filter, map, replicate, codes, bytes_eq, Some, None, option_map, if◌then◌else◌, IfOk, OnOk, vec_len, vec_capacity};
 ghost use Rattle.std.specs.List.{position};
-ghost use Rattle.bidi_handles.specs.declared.id.Kind.TheVariants.{Session as OfSession};
+ghost use Rattle.bidi_handles.specs.declared.id.IdKind.TheVariants.{Session as OfSession};
 ghost use Rattle.bidi_handles.specs.Ids.{id_of};
 ghost use Rattle.bidi_browser.specs.Acts.{Act};
 ghost use Rattle.bidi_browser.specs.Stands.{StandsFor};
@@ -13,7 +13,7 @@ ghost use Rattle.bidi_remote.specs.Tables.SessionView.{scope_of, row_of, session
 use crate::event_texts::EventText;
 use crate::log_buffer::LogBuffer;
 use crate::subscriptions::{Scope, Subscription, any_covers, cancel, dismiss};
-use bidi_browser::{Browser, Kind, is_id};
+use bidi_browser::{Browser, IdKind, is_id};
 use bidi_messages::EventName;
 use std::alloc::{AllocError, Global};
 use std::rc::Rc;
@@ -323,6 +323,6 @@ fn session_named(sessions: &[Session], id: &str) -> Option<u32>
 {
     sessions
         .iter()
-        .find(|s| is_id(id, Kind::Session, 0, u64::from(s.number)))
+        .find(|s| is_id(id, IdKind::Session, 0, u64::from(s.number)))
         .map(|s| s.number)
 }

@@ -8,7 +8,7 @@ ghost use Rattle.bidi_remote.specs.Tables.SessionView.{scope_of, row_of};
 ghost use Rattle.bidi_handles.specs.Ids.{id_text};
 ghost use Rattle.bidi_browser.specs.Occurrences.{is_among};
 
-use bidi_browser::{Kind, Refusal, is_id};
+use bidi_browser::{IdKind, Refusal, is_id};
 use bidi_messages::{ErrorCode, EventName};
 use std::alloc::Global;
 
@@ -127,11 +127,11 @@ pub(crate) fn numbers_of(
 
 // The number of the subscription of a session that has the id.
 fn number_of(subscriptions: &[Subscription], session: u32, id: &str) -> Option<u32>
-    ensures { result ≡ option_map (λ s. s.number) (find (λ s. bytes_eq id.now (id_text Kind.Subscription session s.number)) subscriptions.now) }
+    ensures { result ≡ option_map (λ s. s.number) (find (λ s. bytes_eq id.now (id_text IdKind.Subscription session s.number)) subscriptions.now) }
 {
     subscriptions
         .iter()
-        .find(|s| is_id(id, Kind::Subscription, session, u64::from(s.number)))
+        .find(|s| is_id(id, IdKind::Subscription, session, u64::from(s.number)))
         .map(|s| s.number)
 }
 

@@ -1,5 +1,5 @@
 //! Ids and their texts, and what a browser says and tells as it starts.
-use bidi_browser::{Browser, Kind, Occurrence, id_text, is_id};
+use bidi_browser::{Browser, IdKind, Occurrence, id_text, is_id};
 use bidi_messages::{EventData, EventName, Subject, event_text};
 use std::alloc::{AllocError, Global};
 use std::test::Fail;
@@ -10,7 +10,7 @@ struct Browsers;
 impl Asked for Browsers {
     fn found(alloc: Global, word: &str, text: &str) -> Result<String, Fail> {
         match word {
-            "is-handle-1001" => Ok(is_id(text, Kind::Handle, 0, 1001).to_string(alloc)?),
+            "is-handle-1001" => Ok(is_id(text, IdKind::Handle, 0, 1001).to_string(alloc)?),
             "live" => live(alloc, text),
             "top" => top(alloc, text),
             "events" => events(alloc),
@@ -49,20 +49,20 @@ fn each_kind_has_ids_of_its_own_and_an_id_is_its_exact_text(rt: HostRuntime) -> 
     check_rows::<Browsers>(rt.alloc(), IDS)
 }
 
-fn kind_of(word: &str) -> Option<Kind> {
+fn kind_of(word: &str) -> Option<IdKind> {
     match word {
-        "Session" => Some(Kind::Session),
-        "Context" => Some(Kind::Context),
-        "Realm" => Some(Kind::Realm),
-        "Navigation" => Some(Kind::Navigation),
-        "Subscription" => Some(Kind::Subscription),
-        "Handle" => Some(Kind::Handle),
-        "Window" => Some(Kind::Window),
+        "Session" => Some(IdKind::Session),
+        "Context" => Some(IdKind::Context),
+        "Realm" => Some(IdKind::Realm),
+        "Navigation" => Some(IdKind::Navigation),
+        "Subscription" => Some(IdKind::Subscription),
+        "Handle" => Some(IdKind::Handle),
+        "Window" => Some(IdKind::Window),
         _ => None,
     }
 }
 
-fn id(alloc: Global, kind: Kind, text: &str) -> Result<String, Fail> {
+fn id(alloc: Global, kind: IdKind, text: &str) -> Result<String, Fail> {
     let (session, number) = text.split_once(' ').ok_or("no number")?;
     let session = session.parse()?;
     let number = number.parse::<u64>()?;

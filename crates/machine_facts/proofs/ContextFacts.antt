@@ -1,7 +1,7 @@
 -- Worked examples of contexts.
 use Rattle.std.specs.Prelude.{◌≡◌, ℕ, List, [], ◌∷◌, ◌++◌, map, codes, refl}
 use Rattle.bidi_browser.specs.Contexts.{up_to}
-use Rattle.bidi_handles.specs.declared.id.Kind.TheVariants.{Context}
+use Rattle.bidi_handles.specs.declared.id.IdKind.TheVariants.{Context}
 use Rattle.bidi_handles.specs.Ids.{id_of}
 use Rattle.bidi_remote.specs.Machine.Step.{Step, Frame}
 use Rattle.bidi_remote.specs.Machine.Sent as sent

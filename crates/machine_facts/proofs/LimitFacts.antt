@@ -1,7 +1,7 @@
 -- Limits, met and passed.
 use Rattle.std.specs.Prelude.{◌≡◌, ℕ, List, [], ◌∷◌, ◌++◌, map, codes, None, true, Some, None, replicate, refl}
 use Rattle.bidi_tree.specs.Node.{Node, no_members}
-use Rattle.bidi_handles.specs.declared.id.Kind.TheVariants.{Handle}
+use Rattle.bidi_handles.specs.declared.id.IdKind.TheVariants.{Handle}
 use Rattle.bidi_handles.specs.Ids.{id_of}
 use Rattle.bidi_browser.specs.Acts.{Made, Removed, Tabled, Ran, Disowned, Returned, EndsIn, GivesBack}
 use Rattle.bidi_browser.specs.Contexts.{up_to}

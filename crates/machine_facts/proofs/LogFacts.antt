@@ -1,7 +1,7 @@
 -- Worked examples of log entries and of those that wait.
 use Rattle.std.specs.Prelude.{◌≡◌, ℕ, List, [], ◌∷◌, ◌++◌, map, drop, codes, decimal, refl}
 use Rattle.bidi_browser.specs.Contexts.{up_to}
-use Rattle.bidi_handles.specs.declared.id.Kind.TheVariants.{Context}
+use Rattle.bidi_handles.specs.declared.id.IdKind.TheVariants.{Context}
 use Rattle.bidi_handles.specs.Ids.{id_of}
 use Rattle.bidi_values.specs.declared.log_entry.Level.TheVariants.{Error, Info}
 use Rattle.bidi_remote.specs.Machine.Sent.{Sent}

@@ -3,7 +3,7 @@ use Rattle.std.specs.Prelude.{ℕ, nat_lt, Bool, not, ◌&&◌, if◌then◌else
 use Rattle.std.specs.List.{list_all}
 use Rattle.bidi_codes.specs.declared.error_code.ErrorCode.{ErrorCode}
 use Rattle.bidi_codes.specs.declared.error_code.ErrorCode.TheVariants.{InvalidArgument, InvalidSessionId, SessionNotCreated, UnknownCommand, UnknownError, UnsupportedOperation}
-use Rattle.bidi_handles.specs.declared.id.Kind.TheVariants.{Session, Subscription}
+use Rattle.bidi_handles.specs.declared.id.IdKind.TheVariants.{Session, Subscription}
 use Rattle.bidi_handles.specs.Ids.{id_of, id_text}
 use Rattle.bidi_browser.specs.Acts.{Act}
 use Rattle.bidi_browser.specs.Contexts.{top_of}

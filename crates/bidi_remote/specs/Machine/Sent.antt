@@ -2,7 +2,7 @@
 use Rattle.std.specs.Prelude.{ℕ, ◌==◌, true, false, if◌then◌else◌, List, [], ◌∷◌, ◌++◌, map, filter, flat_map, codes, Option, Some, None, Result, Ok, Err}
 use Rattle.bidi_tree.specs.Node.{Node, text, no_members}
 use Rattle.bidi_messages.specs.Message.{status_tree, response_text, error_text, event_text}
-use Rattle.bidi_handles.specs.declared.id.Kind.TheVariants.{Session, Subscription}
+use Rattle.bidi_handles.specs.declared.id.IdKind.TheVariants.{Session, Subscription}
 use Rattle.bidi_handles.specs.Ids.{id_of, id_text}
 use Rattle.bidi_browser.specs.Actions.{Action}
 use Rattle.bidi_handles.specs.Maps.{◌being◌and◌, mapped, nothing}

@@ -5,7 +5,7 @@ use Rattle.bidi_codes.specs.declared.error_code.ErrorCode.{ErrorCode}
 use Rattle.bidi_codes.specs.declared.error_code.ErrorCode.TheVariants.{InvalidArgument}
 use Rattle.bidi_messages.specs.declared.event.EventName.{EventName}
 use Rattle.bidi_messages.specs.declared.event.EventName.TheVariants.{EntryAdded}
-use Rattle.bidi_handles.specs.declared.id.Kind.TheVariants.{Subscription}
+use Rattle.bidi_handles.specs.declared.id.IdKind.TheVariants.{Subscription}
 use Rattle.bidi_browser.specs.Acts.{Act}
 use Rattle.bidi_browser.specs.Contexts.{is_alive}
 use Rattle.bidi_handles.specs.Ids.{id_text}

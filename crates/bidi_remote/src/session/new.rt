@@ -1,7 +1,7 @@
 //! `session.new`.
 ghost use Rattle.std.specs.Prelude.{◌≡◌, ◌<◌, List, IfOk};
 ghost use Rattle.bidi_tree.specs.Node.{text, no_members};
-ghost use Rattle.bidi_handles.specs.declared.id.Kind.TheVariants.{Session};
+ghost use Rattle.bidi_handles.specs.declared.id.IdKind.TheVariants.{Session};
 ghost use Rattle.bidi_handles.specs.Ids.{id_of};
 ghost use Rattle.bidi_handles.specs.Maps.{◌being◌and◌, mapped};
 ghost use Rattle.bidi_remote.specs.Machine.Capabilities.{capabilities, request_of};
@@ -19,7 +19,7 @@ use crate::session::capabilities::{
 };
 use crate::tables::Tables;
 use crate::turn::{Asker, Change, Turn};
-use bidi_browser::{Kind, Refusal, id_text};
+use bidi_browser::{IdKind, Refusal, id_text};
 use bidi_messages::{ErrorCode, Method, ResultData, Subject};
 use bidi_params::Capabilities;
 use bidi_params::session::{NewParameters, NewResult};
@@ -64,7 +64,7 @@ fn new_result(alloc: Global, session: u32) -> Result<ResultData, AllocError>
     ensures well { IfOk result ⟦<ResultData as Subject<Method>>⟧.subject.well }
     ensures of_method { IfOk result (λ r. ⟦<ResultData as Subject<Method>>⟧.subject.kind r ≡ Method.SessionNew) }
 {
-    let session_id = id_text(alloc, Kind::Session, 0, u64::from(session))?;
+    let session_id = id_text(alloc, IdKind::Session, 0, u64::from(session))?;
     let capabilities = capabilities(alloc)?;
     Ok(ResultData::SessionNew(NewResult {
         session_id,

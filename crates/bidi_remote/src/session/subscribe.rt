@@ -23,7 +23,7 @@ use crate::session::event_names::all_named;
 use crate::subscriptions::{Scope, Subscription};
 use crate::tables::Tables;
 use crate::turn::{Asker, Change, Turn};
-use bidi_browser::{Browser, Kind, Refusal, id_text};
+use bidi_browser::{Browser, IdKind, Refusal, id_text};
 use bidi_messages::{ErrorCode, EventName, Method, ResultData, Subject};
 use bidi_params::{SubscribeParameters, SubscribeResult};
 use bidi_shape::Ext;
@@ -159,7 +159,7 @@ fn subscribe_result(alloc: Global, session: u32, number: u32) -> Result<ResultDa
     ensures well { IfOk result ⟦<ResultData as Subject<Method>>⟧.subject.well }
     ensures of_method { IfOk result (λ r. ⟦<ResultData as Subject<Method>>⟧.subject.kind r ≡ Method.SessionSubscribe) }
 {
-    let subscription = id_text(alloc, Kind::Subscription, session, u64::from(number))?;
+    let subscription = id_text(alloc, IdKind::Subscription, session, u64::from(number))?;
     Ok(ResultData::SessionSubscribe(SubscribeResult {
         subscription,
         ext: Ext::empty(alloc),

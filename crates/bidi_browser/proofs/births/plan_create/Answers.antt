@@ -1,6 +1,6 @@
 use Rattle.std.proofs.Common.{◌∙◌, ◌∷◌, [], Some, refl, sym, ap, subst}
 use Rattle.bidi_tree.specs.Node.{no_members}
-use Rattle.bidi_handles.specs.declared.id.Kind.TheVariants.{Context}
+use Rattle.bidi_handles.specs.declared.id.IdKind.TheVariants.{Context}
 use Rattle.bidi_browser.specs.Acts.{Made}
 use Rattle.bidi_browser.specs.ContextRows.{row_of}
 use Rattle.bidi_handles.specs.Maps.{◌being◌and◌, mapped, id_tree}

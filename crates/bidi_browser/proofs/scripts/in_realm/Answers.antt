@@ -1,7 +1,7 @@
 use Rattle.std.proofs.Common.{subst}
 use Rattle.std.specs.Prelude.{bytes_eq}
 use Rattle.bidi_codes.specs.declared.error_code.ErrorCode.TheVariants.{NoSuchFrame}
-use Rattle.bidi_handles.specs.declared.id.Kind.TheVariants.{Realm}
+use Rattle.bidi_handles.specs.declared.id.IdKind.TheVariants.{Realm}
 use Rattle.bidi_browser.specs.Actions.{RealmTarget}
 use Rattle.bidi_codes.specs.Checks.{found}
 use Rattle.bidi_browser.specs.Found.{IsTargeted}

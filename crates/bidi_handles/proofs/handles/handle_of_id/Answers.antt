@@ -1,6 +1,6 @@
 use Rattle.std.proofs.Common.{◌∙◌, None, sym, ap, rules}
 use Rattle.std.specs.Prelude.{◌≡◌, ℕ, bytes_eq, option_map}
-use Rattle.bidi_handles.specs.declared.id.Kind.TheVariants.{Handle}
+use Rattle.bidi_handles.specs.declared.id.IdKind.TheVariants.{Handle}
 use Rattle.bidi_handles.specs.Ids.{id_of}
 use Rattle.bidi_handles.proofs.SearchLemmas.{by-number, by-no-number}
 use Rattle.bidi_handles.proofs.handles.handle_of_id.Goals as goal

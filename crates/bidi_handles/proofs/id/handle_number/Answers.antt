@@ -1,6 +1,6 @@
 use Rattle.std.proofs.Common.{◌≡◌, ◌∙◌, ℕ, Some, true≢false, sym, ap}
 use Rattle.std.specs.Prelude.{bytes_eq}
-use Rattle.bidi_handles.specs.declared.id.Kind.TheVariants.{Handle}
+use Rattle.bidi_handles.specs.declared.id.IdKind.TheVariants.{Handle}
 use Rattle.bidi_handles.specs.Ids.{id_bytes, id_of}
 use Rattle.bidi_handles.proofs.IdLemmas.{parses-to}
 use Rattle.bidi_handles.proofs.id.handle_number.Goals as goal

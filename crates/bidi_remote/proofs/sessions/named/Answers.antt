@@ -1,6 +1,6 @@
 use Rattle.std.proofs.Common.{◌≡◌, ◌∙◌, ◌++◌, false, refl, rules}
 use Rattle.std.specs.Prelude.{bytes_eq, codes}
-use Rattle.bidi_handles.specs.declared.id.Kind.TheVariants.{Session as OfSession}
+use Rattle.bidi_handles.specs.declared.id.IdKind.TheVariants.{Session as OfSession}
 use Rattle.bidi_handles.specs.Ids.{id_of}
 use Rattle.bidi_remote.specs.declared.sessions.Session.{Session}
 use Rattle.bidi_remote.proofs.FindLemmas.{find-none, differ}

@@ -1,7 +1,7 @@
 use Rattle.std.proofs.Common.{◌∙◌, ◌∷◌, [], ◌+◌, sym, ap, map, drop, string_bytes, arith}
 use Rattle.std.specs.Prelude.{bytes_eq}
 use Rattle.bidi_codes.specs.declared.error_code.ErrorCode.TheVariants.{InvalidArgument}
-use Rattle.bidi_handles.specs.declared.id.Kind.TheVariants.{Subscription}
+use Rattle.bidi_handles.specs.declared.id.IdKind.TheVariants.{Subscription}
 use Rattle.bidi_handles.specs.Ids.{id_text}
 use Rattle.bidi_codes.specs.Checks.{found}
 use Rattle.bidi_remote.specs.Tables.Checked.{behind}

@@ -3,7 +3,7 @@ use Rattle.std.specs.Prelude.{ℕ, string_bytes}
 use Rattle.std.proofs.Common.{rules, arith}
 use Rattle.bidi_tree.specs.Node.{Node}
 use Rattle.bidi_browser.specs.Acts.{Tabled}
-use Rattle.bidi_handles.specs.declared.id.Kind.TheVariants.{Handle}
+use Rattle.bidi_handles.specs.declared.id.IdKind.TheVariants.{Handle}
 use Rattle.bidi_browser.specs.TableInHand.{row_seen}
 use Rattle.bidi_handles.specs.ValuesInHand.{handle_seen}
 use Rattle.bidi_browser.specs.declared.plan.Navigation.{Navigation}

@@ -2,7 +2,7 @@ use Rattle.std.proofs.Common.{◌≡◌, ◌∙◌, ◌≤◌, ◌<◌, ℕ, Lis
 use Rattle.std.specs.List.{position}
 use Rattle.std.specs.Prelude.{◌==◌, get_or}
 use Rattle.std.proofs.lemmas.List.Elements.{All-weaker}
-use Rattle.bidi_handles.specs.declared.id.Kind.TheVariants as kind
+use Rattle.bidi_handles.specs.declared.id.IdKind.TheVariants as kind
 use Rattle.bidi_browser.specs.declared.contexts.Context.{Context}
 use Rattle.bidi_browser.specs.Acts.{Act, next_number}
 use Rattle.bidi_browser.specs.Realms.{realm_of, handles_of}

@@ -3,7 +3,7 @@ use Rattle.std.specs.Prelude.{bytes_eq, find, option_map}
 use Rattle.std.specs.Borrow.{Bor}
 use Rattle.std.specs.List.Sorted.{IsStrictlyIncreasing}
 use Rattle.bidi_tree.specs.Node.{Node}
-use Rattle.bidi_handles.specs.declared.id.Kind.TheVariants as kind
+use Rattle.bidi_handles.specs.declared.id.IdKind.TheVariants as kind
 use Rattle.bidi_handles.specs.declared.handle.Handle.{Handle}
 use Rattle.bidi_handles.specs.Ids.{id_of}
 use Rattle.bidi_handles.specs.ValuesInHand.{handle_seen, held_tree}

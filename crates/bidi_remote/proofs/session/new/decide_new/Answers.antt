@@ -1,6 +1,6 @@
 use Rattle.std.proofs.Common.{◌≡◌, ◌∙◌, [], ◌∷◌, refl, sym, ap, arith}
 use Rattle.bidi_tree.specs.Node.{text, no_members}
-use Rattle.bidi_handles.specs.declared.id.Kind.TheVariants.{Session}
+use Rattle.bidi_handles.specs.declared.id.IdKind.TheVariants.{Session}
 use Rattle.bidi_handles.specs.Ids.{id_of}
 use Rattle.bidi_handles.specs.Maps.{◌being◌and◌, mapped}
 use Rattle.bidi_browser.specs.Occurs.{Replies}

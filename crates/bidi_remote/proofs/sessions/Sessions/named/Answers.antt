@@ -1,6 +1,6 @@
 use Rattle.std.proofs.Common.{◌∙◌, ◌++◌, ℕ, Some, None, option_map, sym, ap}
 use Rattle.std.specs.Prelude.{bytes_eq, codes, find, if◌then◌else◌}
-use Rattle.bidi_handles.specs.declared.id.Kind.TheVariants.{Session as OfSession}
+use Rattle.bidi_handles.specs.declared.id.IdKind.TheVariants.{Session as OfSession}
 use Rattle.bidi_handles.specs.Ids.{id_of}
 use Rattle.bidi_remote.specs.Tables.SessionView.{session_row_of}
 use Rattle.bidi_remote.proofs.ListLemmas.{find-map}
