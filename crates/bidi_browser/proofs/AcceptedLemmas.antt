@@ -9,7 +9,8 @@ use Rattle.bidi_handles.specs.Ids.{id_of}
 use Rattle.bidi_browser.specs.Urls.{parsed}
 use Rattle.bidi_browser.specs.Acts.{Act, Made, Framed, Removed, Moved, Ran, Looked, To, Again, Across, given, next_number, Ending}
 use Rattle.bidi_browser.specs.Contexts.{parent_of, level_of, is_under, is_born, is_gone, is_alive, up_to}
-use Rattle.bidi_browser.specs.Actions.{Action, Activate, Close, Create, GetTree, Navigate, Reload, TraverseHistory, Evaluate, CallFunction, Disown, GetRealms, Frame, Unframe, Log, TableRow}
+use Rattle.bidi_browser.specs.Actions.{Action, Activate, Close, Create, GetTree, Navigate, Reload, TraverseHistory}
+use Rattle.bidi_browser.specs.Actions.{Evaluate, CallFunction, Disown, GetRealms, Frame, Unframe, Log, TableRow}
 use Rattle.bidi_codes.specs.Checks.{◌>>=◌, need, found}
 use Rattle.bidi_browser.specs.Outcome.{context_named, top_named, looked, looked_at, has_room, realm_targeted, this_resolved, ending_of, ending_outcome, outcome}
 use Rattle.bidi_browser.specs.Accepted.{AreAccepted}
@@ -85,7 +86,8 @@ unfolding EndsSound
 sound-err past code act e = absurd (cc)
 
 -- a check and what follows it end so where that does after the check ended well
-sound-then : {A : Type 0} (past : List Act) (r : Result A ErrorCode) (next : A → Result Act ErrorCode) → ((x : A) → r ≡ Ok x → EndsSound past (next x)) → EndsSound past (r >>= next)
+sound-then : {A : Type 0} (past : List Act) (r : Result A ErrorCode) (next : A → Result Act ErrorCode)
+    → ((x : A) → r ≡ Ok x → EndsSound past (next x)) → EndsSound past (r >>= next)
 sound-then past (Ok x) next sound = sound x refl
 sound-then past (Err code) next sound = sound-err past code
 
@@ -113,20 +115,27 @@ ends-sound past (Activate id) = sound-looked past (top_named past id)
 ends-sound past (Close id) = sound-then past (top_named past id) _ (λ c e. sound-ok past (Removed c) (top-alive past id c e))
 ends-sound past (Create type reference user) = search (sound-then, sound-ok)
 ends-sound past (GetTree depth root) = sound-at past root
-ends-sound past (Navigate id address wait) = sound-then past (context_named past id) _ (λ c e. sound-then past _ _ (λ url f. sound-ok past (Moved c (To url)) (named-alive past id c e)))
+ends-sound past (Navigate id address wait) =
+    sound-then past (context_named past id) _ (λ c e. sound-then past _ _ (λ url f. sound-ok past (Moved c (To url)) (named-alive past id c e)))
 ends-sound past (Reload id wait) = sound-then past (context_named past id) _ (λ c e. sound-ok past (Moved c Again) (named-alive past id c e))
-ends-sound past (TraverseHistory id delta) = sound-then past (top_named past id) _ (λ c e. sound-then past _ _ (λ place f. sound-ok past (Moved c (Across place)) (top-alive past id c e)))
+ends-sound past (TraverseHistory id delta) =
+    sound-then past (top_named past id) _ (λ c e. sound-then past _ _ (λ place f. sound-ok past (Moved c (Across place)) (top-alive past id c e)))
 ends-sound past (Evaluate expression target owned) =
-    sound-then past (realm_targeted past target) _ (λ r e. sound-then past (found (row_of past expression) UnsupportedOperation) _ (λ row f. sound-ending past r owned (ending_of row []) (target-made past target r e)))
+    sound-then past (realm_targeted past target) _ (λ r e. sound-then past (found (row_of past expression) UnsupportedOperation) _
+    (λ row f. sound-ending past r owned (ending_of row []) (target-made past target r e)))
 ends-sound past (CallFunction declaration target values this owned) =
-    sound-then past (realm_targeted past target) _ (λ r e. sound-then past (arguments (held_value past r) values) _ (λ resolved f. sound-then past (this_resolved past r this) _
-    (λ self g. sound-then past (found (row_of past declaration) UnsupportedOperation) _ (λ row h. sound-ending past r owned (ending_of row resolved) (target-made past target r e)))))
+    sound-then past (realm_targeted past target) _
+    (λ r e. sound-then past (arguments (held_value past r) values) _ (λ resolved f. sound-then past (this_resolved past r this) _
+    (λ self g. sound-then past (found (row_of past declaration) UnsupportedOperation) _
+    (λ row h. sound-ending past r owned (ending_of row resolved) (target-made past target r e)))))
 ends-sound past (Disown ids target) = search (sound-then, sound-ok)
 ends-sound past (GetRealms context type) = sound-at past context
 ends-sound past (Frame id address) =
-    sound-then past (context_named past id) _ (λ c e. sound-then past (found (parsed address) InvalidArgument) _ (λ url f. sound-then past (need (has_room past) UnknownError) _ (λ room g.
+    sound-then past (context_named past id) _
+    (λ c e. sound-then past (found (parsed address) InvalidArgument) _ (λ url f. sound-then past (need (has_room past) UnknownError) _ (λ room g.
     sound-then past _ _ (λ high h. sound-ok past (Framed c url) (checked past c high (named-alive past id c e) h)))))
-ends-sound past (Unframe id) = sound-then past (context_named past id) _ (λ c e. sound-then past _ _ (λ child f. sound-ok past (Removed c) (named-alive past id c e)))
+ends-sound past (Unframe id) =
+    sound-then past (context_named past id) _ (λ c e. sound-then past _ _ (λ child f. sound-ok past (Removed c) (named-alive past id c e)))
 ends-sound past (Log id level line) = search (sound-then, sound-ok)
 ends-sound past (TableRow row) = search (sound-then, sound-ok)
 
@@ -146,7 +155,8 @@ level-step false x y high low = low
 pub levels-accepted : (past : List Act) → AreAccepted past → (c : ℕ) → level_of past c ≤ 16
 levels-accepted [] acc c = omega arith
 levels-accepted (Framed p url ∷ past) acc c =
-    level-step (c == next_number past Context) (level_of past p) (level_of past c) (act-sound past acc.0 (Framed p url) acc.1).high (levels-accepted past acc.2 c)
+    level-step (c == next_number past Context) (level_of past p) (level_of past c) (act-sound past acc.0 (Framed p url) acc.1).high
+    (levels-accepted past acc.2 c)
 levels-accepted (act ∷ past) acc c = levels-accepted past acc.2 c
 
 -- ---- parents
@@ -176,7 +186,8 @@ pub record AreBorn (p c n : ℕ) : Type 0 where
   pub below : c < n
 
 -- so they are where one more child was born
-born-step : (b : Bool) (c n p q : ℕ) (o : Option ℕ) → (b ≡ true → c ≡ n) → 0 < q → q < n → (o ≡ Some p → AreBorn p c n) → (if b then Some q else o) ≡ Some p → AreBorn p c (suc n)
+born-step : (b : Bool) (c n p q : ℕ) (o : Option ℕ)
+    → (b ≡ true → c ≡ n) → 0 < q → q < n → (o ≡ Some p → AreBorn p c n) → (if b then Some q else o) ≡ Some p → AreBorn p c (suc n)
 born-step true c n p q o here above below ih e =
     let same : q ≡ p = cc in
     let new : c ≡ n = here refl in
@@ -189,18 +200,21 @@ parent-born [] acc c p e = absurd (cc)
 parent-born (Framed q url ∷ past) acc c p e =
     let alive = (act-sound past acc.0 (Framed q url) acc.1).alive in
     born-step (c == next_number past Context) c (next_number past Context) p q (parent_of past c) (Decides-eqb c (next_number past Context)).0
-    (alive-above q (next_number past Context) (is_gone past q) alive) (alive-below q (next_number past Context) (is_gone past q) alive) (parent-born past acc.2 c p) e
+    (alive-above q (next_number past Context) (is_gone past q) alive) (alive-below q (next_number past Context) (is_gone past q) alive)
+    (parent-born past acc.2 c p) e
 parent-born (Made w ∷ past) acc c p e = let old = parent-born past acc.2 c p e in record { above = old.above; smaller = old.smaller; below = omega arith }
 parent-born (act ∷ past) acc c p e = parent-born past acc.2 c p e
 
 -- a number on the chain of a context, where one more was born
-le-step : (b s uq uc : Bool) (a c n q : ℕ) → (b ≡ true → c ≡ n) → (s ≡ true → a ≡ c) → q < n → (uq ≡ true → a ≤ q) → (uc ≡ true → a ≤ c) → (if b then s || uq else uc) ≡ true → a ≤ c
+le-step : (b s uq uc : Bool) (a c n q : ℕ) → (b ≡ true → c ≡ n)
+    → (s ≡ true → a ≡ c) → q < n → (uq ≡ true → a ≤ q) → (uc ≡ true → a ≤ c) → (if b then s || uq else uc) ≡ true → a ≤ c
 le-step true true uq uc a c n q here same below ihq ihc e = let eq = same refl in omega arith
 le-step true false uq uc a c n q here same below ihq ihc e = let eq = here refl in let le = ihq e in omega arith
 le-step false s uq uc a c n q here same below ihq ihc e = ihc e
 
 -- the new child stands one level below its parent, and so did each child before
-child-step : (b d : Bool) (l : ℕ → ℕ) (c p q n : ℕ) (o : Option ℕ) → (d ≡ true → p ≡ n) → AreBorn p c (suc n) → (o ≡ Some p → l c ≡ suc (l p)) → (if b then Some q else o) ≡ Some p
+child-step : (b d : Bool) (l : ℕ → ℕ) (c p q n : ℕ) (o : Option ℕ)
+    → (d ≡ true → p ≡ n) → AreBorn p c (suc n) → (o ≡ Some p → l c ≡ suc (l p)) → (if b then Some q else o) ≡ Some p
     → (if b then suc (l q) else l c) ≡ suc (if d then suc (l q) else l p)
 child-step b true l c p q n o there born ih e = let new = there refl in let less = born.smaller in let under = born.below in absurd (omega arith)
 child-step true false l c p q n o there born ih e = let same : q ≡ p = cc in ap (λ x. suc (l x)) same
@@ -230,7 +244,8 @@ true-or true u e = refl
 true-or false u e = e
 
 -- what stands on the chain of a parent, where one more context was born
-under-step : (u : ℕ → Bool) (b d s t : Bool) (c p q n : ℕ) (o : Option ℕ) → (b ≡ true → c ≡ n) → (d ≡ true → p ≡ n) → q < n → (o ≡ Some p → AreBorn p c n) → (u p ≡ true → o ≡ Some p → u c ≡ true)
+under-step : (u : ℕ → Bool) (b d s t : Bool) (c p q n : ℕ) (o : Option ℕ)
+    → (b ≡ true → c ≡ n) → (d ≡ true → p ≡ n) → q < n → (o ≡ Some p → AreBorn p c n) → (u p ≡ true → o ≡ Some p → u c ≡ true)
     → (if d then s || u q else u p) ≡ true → (if b then Some q else o) ≡ Some p → (if b then t || u q else u c) ≡ true
 under-step u true true s t c p q n o here there below born ih up e =
     let same : q ≡ p = cc in
@@ -250,13 +265,15 @@ pub under-parent : (past : List Act) → AreAccepted past → (a c p : ℕ) → 
 under-parent [] acc a c p up e = absurd (cc)
 under-parent (Framed q url ∷ past) acc a c p up e =
     let alive = (act-sound past acc.0 (Framed q url) acc.1).alive in
-    under-step (is_under past a) (c == next_number past Context) (p == next_number past Context) (a == p) (a == c) c p q (next_number past Context) (parent_of past c)
+    under-step (is_under past a) (c == next_number past Context) (p == next_number past Context) (a == p) (a == c) c p q
+    (next_number past Context) (parent_of past c)
     (Decides-eqb c (next_number past Context)).0 (Decides-eqb p (next_number past Context)).0 (alive-below q (next_number past Context) (is_gone past q) alive)
     (parent-born past acc.2 c p) (under-parent past acc.2 a c p) up e
 under-parent (act ∷ past) acc a c p up e = under-parent past acc.2 a c p up e
 
 -- what went, where one more context was born
-gone-framed : (g : ℕ → Bool) (b : Bool) (c p q : ℕ) (o : Option ℕ) → g q ≡ false → (g p ≡ true → o ≡ Some p → g c ≡ true) → g p ≡ true → (if b then Some q else o) ≡ Some p → g c ≡ true
+gone-framed : (g : ℕ → Bool) (b : Bool) (c p q : ℕ) (o : Option ℕ)
+    → g q ≡ false → (g p ≡ true → o ≡ Some p → g c ≡ true) → g p ≡ true → (if b then Some q else o) ≡ Some p → g c ≡ true
 gone-framed g true c p q o stays ih gone e =
     let same : q ≡ p = cc in
     absurd (cc)
@@ -276,12 +293,15 @@ gone-parent : (past : List Act) → AreAccepted past → (c p : ℕ) → is_gone
 gone-parent [] acc c p gone e = absurd (cc)
 gone-parent (Framed q url ∷ past) acc c p gone e =
     let alive = (act-sound past acc.0 (Framed q url) acc.1).alive in
-    gone-framed (is_gone past) (c == next_number past Context) c p q (parent_of past c) (alive-stays (is_born past q) (is_gone past q) alive) (gone-parent past acc.2 c p) gone e
+    gone-framed (is_gone past) (c == next_number past Context) c p q (parent_of past c) (alive-stays (is_born past q) (is_gone past q) alive)
+    (gone-parent past acc.2 c p) gone e
 gone-parent (Removed a ∷ past) acc c p gone e =
-    gone-removed (is_under past a p) (is_under past a c) (is_gone past p) (is_gone past c) (λ up. under-parent past acc.2 a c p up e) (λ old. gone-parent past acc.2 c p old e) gone
+    gone-removed (is_under past a p) (is_under past a c) (is_gone past p) (is_gone past c) (λ up. under-parent past acc.2 a c p up e)
+    (λ old. gone-parent past acc.2 c p old e) gone
 gone-parent (Moved a move ∷ past) acc c p gone e =
     gone-removed (is_under past a p && not (a == p)) (is_under past a c && not (a == c)) (is_gone past p) (is_gone past c)
-    (below-step (is_under past a p) (is_under past a c) a p c (parent-born past acc.2 c p e).smaller (under-le past acc.2 a p) (λ up. under-parent past acc.2 a c p up e))
+    (below-step (is_under past a p) (is_under past a c) a p c (parent-born past acc.2 c p e).smaller (under-le past acc.2 a p)
+    (λ up. under-parent past acc.2 a c p up e))
     (λ old. gone-parent past acc.2 c p old e) gone
 gone-parent (act ∷ past) acc c p gone e = gone-parent past acc.2 c p gone e
 

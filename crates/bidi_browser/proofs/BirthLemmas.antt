@@ -43,9 +43,11 @@ gone-unborn [] c acc unborn = refl
 gone-unborn (Framed p url ∷ past) c acc unborn = gone-unborn past c acc.2 (omega arith)
 gone-unborn (Made w ∷ past) c acc unborn = gone-unborn past c acc.2 (omega arith)
 gone-unborn (Removed a ∷ past) c acc unborn =
-    gone-step (is_under past a c) (is_gone past c) a c (alive-smaller past a c (act-sound past acc.0 (Removed a) acc.1) unborn) (under-unborn past a c unborn) (gone-unborn past c acc.2 unborn)
+    gone-step (is_under past a c) (is_gone past c) a c (alive-smaller past a c (act-sound past acc.0 (Removed a) acc.1) unborn)
+    (under-unborn past a c unborn) (gone-unborn past c acc.2 unborn)
 gone-unborn (Moved a move ∷ past) c acc unborn =
-    moved-step (is_under past a c) (is_gone past c) a c (alive-smaller past a c (act-sound past acc.0 (Moved a move) acc.1) unborn) (under-unborn past a c unborn) (gone-unborn past c acc.2 unborn)
+    moved-step (is_under past a c) (is_gone past c) a c (alive-smaller past a c (act-sound past acc.0 (Moved a move) acc.1) unborn)
+    (under-unborn past a c unborn) (gone-unborn past c acc.2 unborn)
 gone-unborn (act ∷ past) c acc unborn = gone-unborn past c acc.2 unborn
 
 -- it has no parent
@@ -124,10 +126,12 @@ born-new n g stays = grind (arith, nat_tests)
 rows-new : (f g : ℕ → ContextRow) (p q : ℕ → Bool) (n : ℕ) → ((c : ℕ) → c ≤ n → p c ≡ q c) → ((c : ℕ) → c ≤ n → f c ≡ g c) → p (suc n) ≡ true
     → map f (filter p (up_to (suc n))) ≡ map g (filter q (up_to n)) ++ f (suc n) ∷ []
 rows-new f g p q n tests same new =
-    rows-split f p n ∙ (ap (λ rs. rs ++ row_if f (p (suc n)) (suc n)) (rows-up-to f g p q n tests same) ∙ ap (λ b. map g (filter q (up_to n)) ++ row_if f b (suc n)) new)
+    rows-split f p n ∙ (ap (λ rs. rs ++ row_if f (p (suc n)) (suc n)) (rows-up-to f g p q n tests same)
+    ∙ ap (λ b. map g (filter q (up_to n)) ++ row_if f b (suc n)) new)
 
 -- a birth adds the row of the new context at the end
-pub rows-born : (past : List Act) (act : Act) → AreAccepted past → gives Context act ≡ true → rows (act ∷ past) ≡ rows past ++ row_at (act ∷ past) (next_number past Context) ∷ []
+pub rows-born : (past : List Act) (act : Act)
+    → AreAccepted past → gives Context act ≡ true → rows (act ∷ past) ≡ rows past ++ row_at (act ∷ past) (next_number past Context) ∷ []
 rows-born past (Made w) acc gives-it =
     let n = given past Context in
     rows-new (row_at (Made w ∷ past)) (row_at past) (is_alive (Made w ∷ past)) (is_alive past) n (λ c older. born-older c n (is_gone past c) older)
@@ -178,5 +182,14 @@ row-made past w acc =
 
 -- the new context of a frame
 pub row-framed : (past : List Act) (p : ℕ) (url : Parts) → AreAccepted past → row_at (Framed p url ∷ past) (next_number past Context)
-    ≡ record { number = next_number past Context; parent = Some p; top = top_of past p; level = suc (level_of past p); window = window_of past p; realm = next_number past Realm; entries = begun_at url; handles = [] }
+    ≡ record {
+      number = next_number past Context;
+      parent = Some p;
+      top = top_of past p;
+      level = suc (level_of past p);
+      window = window_of past p;
+      realm = next_number past Realm;
+      entries = begun_at url;
+      handles = [];
+    }
 row-framed past p url acc = rw (same-number (next_number past Context), handles-unmade past (next_number past Realm) acc (omega arith)) refl

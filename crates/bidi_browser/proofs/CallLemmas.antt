@@ -27,7 +27,8 @@ use Rattle.bidi_browser.specs.View.{result_tree}
 -- ---- the arguments of a call
 
 -- the first of some that pass, and the others
-first-passes : (r : Result Node ErrorCode) (s : Result (List Node) ErrorCode) (ws : List Node) → (r >>= λ v. s >>= λ vs. Ok (v ∷ vs)) ≡ Ok ws → (v : Node) × (vs : List Node) × (r ≡ Ok v) × (s ≡ Ok vs) × (ws ≡ v ∷ vs)
+first-passes : (r : Result Node ErrorCode) (s : Result (List Node) ErrorCode) (ws : List Node)
+    → (r >>= λ v. s >>= λ vs. Ok (v ∷ vs)) ≡ Ok ws → (v : Node) × (vs : List Node) × (r ≡ Ok v) × (s ≡ Ok vs) × (ws ≡ v ∷ vs)
 first-passes (Ok v) (Ok vs) ws e = (v, vs, refl, refl, cc)
 first-passes (Ok v) (Err code) ws e = absurd (cc)
 first-passes (Err code) s ws e = absurd (cc)
@@ -37,17 +38,20 @@ abbrev taken : Node → Result Node ErrorCode
 taken v = Ok v
 
 -- what the argument of a place comes to stands at that place
-at-place : (held : Held) (ts vs : List Node) (n : ℕ) → arguments held ts ≡ Ok vs → option_map taken (slice_get vs n) ≡ option_map (argument held) (slice_get ts n)
+at-place : (held : Held) (ts vs : List Node) (n : ℕ)
+    → arguments held ts ≡ Ok vs → option_map taken (slice_get vs n) ≡ option_map (argument held) (slice_get ts n)
 at-place held [] vs n e = let none : vs ≡ [] = cc in rw none refl
 at-place held (t ∷ ts) vs n e = step n (first-passes (argument held t) (arguments held ts) vs e) (λ us m f. at-place held ts us m f)
   where
     step : (n : ℕ) → (u : Node) × (us : List Node) × (argument held t ≡ Ok u) × (arguments held ts ≡ Ok us) × (vs ≡ u ∷ us)
-        → ((us : List Node) (m : ℕ) → arguments held ts ≡ Ok us → option_map taken (slice_get us m) ≡ option_map (argument held) (slice_get ts m)) → option_map taken (slice_get vs n) ≡ option_map (argument held) (slice_get (t ∷ ts) n)
+        → ((us : List Node) (m : ℕ) → arguments held ts ≡ Ok us → option_map taken (slice_get us m) ≡ option_map (argument held) (slice_get ts m))
+        → option_map taken (slice_get vs n) ≡ option_map (argument held) (slice_get (t ∷ ts) n)
     step zero all rest = rw all.4 (ap Some (sym all.2))
     step (suc n) all rest = rw all.4 (rest all.1 n all.3)
 
 -- the argument that is given back
-pub returned-value : (held : Held) (ts vs : List Node) (n : ℕ) (t v : Node) → arguments held ts ≡ Ok vs → slice_get ts n ≡ Some t → argument held t ≡ Ok v → v ≡ unwrap_or (slice_get vs n) undefined
+pub returned-value : (held : Held) (ts vs : List Node) (n : ℕ) (t v : Node)
+    → arguments held ts ≡ Ok vs → slice_get ts n ≡ Some t → argument held t ≡ Ok v → v ≡ unwrap_or (slice_get vs n) undefined
 returned-value held ts vs n t v all there is = by (slice_get vs n) (at-place held ts vs n all ∙ (ap (option_map (argument held)) there ∙ ap Some is))
   where
     by : (o : Option Node) → option_map taken o ≡ Some (taken v) → v ≡ unwrap_or o undefined
@@ -55,7 +59,8 @@ returned-value held ts vs n t v all there is = by (slice_get vs n) (at-place hel
     by (Some u) e = cc
 
 -- and there is none
-pub returned-none : (held : Held) (ts vs : List Node) (n : ℕ) → arguments held ts ≡ Ok vs → slice_get ts n ≡ None → undefined ≡ unwrap_or (slice_get vs n) undefined
+pub returned-none : (held : Held) (ts vs : List Node) (n : ℕ)
+    → arguments held ts ≡ Ok vs → slice_get ts n ≡ None → undefined ≡ unwrap_or (slice_get vs n) undefined
 returned-none held ts vs n all there = by (slice_get vs n) (at-place held ts vs n all ∙ ap (option_map (argument held)) there)
   where
     by : (o : Option Node) → option_map taken o ≡ None → undefined ≡ unwrap_or o undefined
@@ -63,20 +68,23 @@ returned-none held ts vs n all there = by (slice_get vs n) (at-place held ts vs 
     by (Some u) e = absurd (cc)
 
 -- an argument that passed is refused for want of memory alone
-pub passed-argument : (held : Held) (ts vs : List Node) (n : ℕ) (t : Node) → arguments held ts ≡ Ok vs → slice_get ts n ≡ Some t → (v : Node) × (argument held t ≡ Ok v)
+pub passed-argument : (held : Held) (ts vs : List Node) (n : ℕ) (t : Node)
+    → arguments held ts ≡ Ok vs → slice_get ts n ≡ Some t → (v : Node) × (argument held t ≡ Ok v)
 passed-argument held ts vs n t all there = by (slice_get vs n) (at-place held ts vs n all ∙ ap (option_map (argument held)) there)
   where
     by : (o : Option Node) → option_map taken o ≡ Some (argument held t) → (v : Node) × (argument held t ≡ Ok v)
     by None e = absurd (cc)
     by (Some u) e = (u, cc)
 
-pub not-returned : {A : Type 0} (view : A → Node) (r : Result declared_ending.Ending Refusal) (e : Refusal) (answer : Result Node ErrorCode) (v value : Node) → IsErrAnd r (λ f. f ≡ e) → Gives view (Err e) answer → answer ≡ Ok v → HasReturned r value
+pub not-returned : {A : Type 0} (view : A → Node) (r : Result declared_ending.Ending Refusal) (e : Refusal) (answer : Result Node ErrorCode)
+    (v value : Node) → IsErrAnd r (λ f. f ≡ e) → Gives view (Err e) answer → answer ≡ Ok v → HasReturned r value
 not-returned view (Ok ending) e answer v value is gives passed = absurd is
 not-returned view (Err f) (Code code) answer v value is gives passed = absurd (cc)
 not-returned view (Err f) NoMemory answer v value is gives passed = rw is tt
 
 -- a row that gives an argument back ends in it
-pub gives-ending : (r : Result declared_ending.Ending Refusal) (past : List Act) (script : List ℕ) (vs : List Node) (n : ℕ) → row_of past script ≡ Some (GivesBack n) → HasReturned r (unwrap_or (slice_get vs n) undefined) → IsEnding r past script vs
+pub gives-ending : (r : Result declared_ending.Ending Refusal) (past : List Act) (script : List ℕ) (vs : List Node) (n : ℕ)
+    → row_of past script ≡ Some (GivesBack n) → HasReturned r (unwrap_or (slice_get vs n) undefined) → IsEnding r past script vs
 gives-ending (Ok ending) past script vs n row returned = (GivesBack n, row, returned)
 gives-ending (Err (Code code)) past script vs n row returned = absurd returned
 gives-ending (Err NoMemory) past script vs n row returned = tt
@@ -88,20 +96,25 @@ pub this-in : (past : List Act) (r : ℕ) (this : Option Node) → this_argument
 this-in past r None = refl
 this-in past r (Some value) = refl
 
-pub call-ends : (result : Result declared_ending.Ending Refusal) (past : List Act) (r : ℕ) (declaration : List ℕ) (values vs : List Node) (this self : Option Node) → arguments (held_value past r) values ≡ Ok vs → this_argument (held_value past r) this ≡ Ok self
+pub call-ends : (result : Result declared_ending.Ending Refusal) (past : List Act) (r : ℕ) (declaration : List ℕ) (values vs : List Node)
+    (this self : Option Node) → arguments (held_value past r) values ≡ Ok vs → this_argument (held_value past r) this ≡ Ok self
     → IsEnding result past declaration vs → Gives ending_seen result (call_ending past r declaration values this)
 call-ends (Ok ending) past r declaration values vs this self passed own ends = rw (passed, sym (this-in past r this) ∙ own, ends.1) (ap Ok (sym ends.2))
 call-ends (Err (Code code)) past r declaration values vs this self passed own ends = rw (passed, sym (this-in past r this) ∙ own, ends.0, ends.1) refl
 call-ends (Err NoMemory) past r declaration values vs this self passed own ends = tt
 
-pub arguments-refuse : (result : Result declared_ending.Ending Refusal) (e : Refusal) (past : List Act) (r : ℕ) (declaration : List ℕ) (values : List Node) (this : Option Node) → IsErrAnd result (λ f. f ≡ e)
-    → ((code : ErrorCode) → e ≡ Code code → arguments (held_value past r) values ≡ Err code) → Gives ending_seen result (call_ending past r declaration values this)
+pub arguments-refuse : (result : Result declared_ending.Ending Refusal) (e : Refusal) (past : List Act) (r : ℕ) (declaration : List ℕ)
+    (values : List Node) (this : Option Node) → IsErrAnd result (λ f. f ≡ e)
+    → ((code : ErrorCode) → e ≡ Code code → arguments (held_value past r) values ≡ Err code)
+    → Gives ending_seen result (call_ending past r declaration values this)
 arguments-refuse (Ok ending) e past r declaration values this is refused = absurd is
 arguments-refuse (Err (Code code)) e past r declaration values this is refused = rw (refused code (sym is)) refl
 arguments-refuse (Err NoMemory) e past r declaration values this is refused = tt
 
-pub this-refuses : (result : Result declared_ending.Ending Refusal) (e : Refusal) (past : List Act) (r : ℕ) (declaration : List ℕ) (values vs : List Node) (this : Option Node) → arguments (held_value past r) values ≡ Ok vs → IsErrAnd result (λ f. f ≡ e)
-    → ((code : ErrorCode) → e ≡ Code code → this_argument (held_value past r) this ≡ Err code) → Gives ending_seen result (call_ending past r declaration values this)
+pub this-refuses : (result : Result declared_ending.Ending Refusal) (e : Refusal) (past : List Act) (r : ℕ) (declaration : List ℕ)
+    (values vs : List Node) (this : Option Node) → arguments (held_value past r) values ≡ Ok vs → IsErrAnd result (λ f. f ≡ e)
+    → ((code : ErrorCode) → e ≡ Code code → this_argument (held_value past r) this ≡ Err code)
+    → Gives ending_seen result (call_ending past r declaration values this)
 this-refuses (Ok ending) e past r declaration values vs this passed is refused = absurd is
 this-refuses (Err (Code code)) e past r declaration values vs this passed is refused = rw (passed, sym (this-in past r this) ∙ refused code (sym is)) refl
 this-refuses (Err NoMemory) e past r declaration values vs this passed is refused = tt
@@ -110,33 +123,42 @@ this-refuses (Err NoMemory) e past r declaration values vs this passed is refuse
 pub passes-code : {B : Type 0} (e : Refusal) (answer : Result B ErrorCode) → Passes (Err e) answer → (code : ErrorCode) → e ≡ Code code → answer ≡ Err code
 passes-code e answer passes code is = subst (λ f. Passes (Err f) answer) is passes
 
-pub gives-code : {A B : Type 0} (view : A → B) (e : Refusal) (answer : Result B ErrorCode) → Gives view (Err e) answer → (code : ErrorCode) → e ≡ Code code → answer ≡ Err code
+pub gives-code : {A B : Type 0} (view : A → B) (e : Refusal) (answer : Result B ErrorCode)
+    → Gives view (Err e) answer → (code : ErrorCode) → e ≡ Code code → answer ≡ Err code
 gives-code view e answer gives code is = subst (λ f. Gives view (Err f) answer) is gives
 
-pub run-code : (e : Refusal) (past : List Act) (c : ℕ) (owned : Bool) (ending : Ending) → HasRun (Err e) past c owned ending → (code : ErrorCode) → e ≡ Code code → ending_outcome past (realm_of past c) owned ending ≡ Err code
+pub run-code : (e : Refusal) (past : List Act) (c : ℕ) (owned : Bool) (ending : Ending) → HasRun (Err e) past c owned ending
+    → (code : ErrorCode) → e ≡ Code code → ending_outcome past (realm_of past c) owned ending ≡ Err code
 run-code e past c owned ending has_run code is = subst (λ f. HasRun (Err f) past c owned ending) is has_run
 
 -- ---- what is planned
 
 -- a call is the realm, then how it ends, then the number of handles
-pub call-outcome : (past : List Act) (declaration : List ℕ) (target : Target) (values : List Node) (this : Option Node) (owned : Bool) (r : ℕ) → realm_targeted past target ≡ Ok r
+pub call-outcome : (past : List Act) (declaration : List ℕ) (target : Target) (values : List Node) (this : Option Node) (owned : Bool) (r : ℕ)
+    → realm_targeted past target ≡ Ok r
     → call_outcome past declaration target values this owned ≡ (call_ending past r declaration values this >>= λ ending. ending_outcome past r owned ending)
-call-outcome past declaration target values this owned r at = rw at (by (arguments (held_value past r) values) (this_resolved past r this) (found (row_of past declaration) UnsupportedOperation))
+call-outcome past declaration target values this owned r at =
+    rw at (by (arguments (held_value past r) values) (this_resolved past r this) (found (row_of past declaration) UnsupportedOperation))
   where
     by : (a : Result (List Node) ErrorCode) (s : Result (Option Node) ErrorCode) (o : Result ScriptEffect ErrorCode)
-        → (a >>= λ vs. s >>= λ self. o >>= λ row. ending_outcome past r owned (ending_of row vs)) ≡ ((a >>= λ vs. s >>= λ self. o >>= λ row. Ok (ending_of row vs)) >>= λ ending. ending_outcome past r owned ending)
+        → (a >>= λ vs. s >>= λ self. o >>= λ row. ending_outcome past r owned (ending_of row vs))
+        ≡ ((a >>= λ vs. s >>= λ self. o >>= λ row. Ok (ending_of row vs)) >>= λ ending. ending_outcome past r owned ending)
     by (Ok vs) (Ok self) (Ok row) = refl
     by (Ok vs) (Ok self) (Err code) = refl
     by (Ok vs) (Err code) o = refl
     by (Err code) s o = refl
 
 -- an action that is refused
-pub refused-plans : (r : Result Plan Refusal) (e : Refusal) (past : List Act) (moment : ℕ) (action : Action) → IsErrAnd r (λ f. f ≡ e) → ((code : ErrorCode) → e ≡ Code code → outcome past action ≡ Err code) → Plans r past moment action
+pub refused-plans : (r : Result Plan Refusal) (e : Refusal) (past : List Act) (moment : ℕ) (action : Action)
+    → IsErrAnd r (λ f. f ≡ e) → ((code : ErrorCode) → e ≡ Code code → outcome past action ≡ Err code) → Plans r past moment action
 refused-plans (Ok plan) e past moment action is refused = absurd is
 refused-plans (Err (Code code)) e past moment action is refused = refused code (sym is)
 refused-plans (Err NoMemory) e past moment action is refused = tt
 
 -- an action that is answered, and tells of no event
-pub answered-plans : (plan : Plan) (past : List Act) (moment : ℕ) (action : Action) (act : Act) (r : ResultData) (edit : Edit) → is_asked action ≡ true → outcome past action ≡ Ok act → Replies (result_tree r) ∷ [] ≡ occurs past moment action act
-    → plan.before.items ≡ [] → plan.result ≡ Some r → plan.after.items ≡ [] → plan.change.edit ≡ edit → EditMakes edit past act → Plans (Ok plan) past moment action
-answered-plans plan past moment action act r edit asked checked told before reply after change makes = (act, checked, rw (before, reply, after) told, rw (reply, asked) refl, rw change makes, λ unasked. after)
+pub answered-plans : (plan : Plan) (past : List Act) (moment : ℕ) (action : Action) (act : Act) (r : ResultData) (edit : Edit)
+    → is_asked action ≡ true → outcome past action ≡ Ok act → Replies (result_tree r) ∷ [] ≡ occurs past moment action act
+    → plan.before.items ≡ [] → plan.result ≡ Some r
+    → plan.after.items ≡ [] → plan.change.edit ≡ edit → EditMakes edit past act → Plans (Ok plan) past moment action
+answered-plans plan past moment action act r edit asked checked told before reply after change makes =
+    (act, checked, rw (before, reply, after) told, rw (reply, asked) refl, rw change makes, λ unasked. after)

@@ -56,13 +56,15 @@ handles-below (Ran q ending true ∷ past) r =
     let n = next_number past Handle in
     step n (q == r) (below-higher n (suc n) (handles_of past r) (omega arith) (handles-below past r))
   where
-    step : (n : ℕ) (b : Bool) → AreBelow (suc n) (handles_of past r) → AreBelow (suc n) (if b then handles_of past r ++ (n, value_of ending) ∷ [] else handles_of past r)
+    step : (n : ℕ) (b : Bool) → AreBelow (suc n) (handles_of past r)
+        → AreBelow (suc n) (if b then handles_of past r ++ (n, value_of ending) ∷ [] else handles_of past r)
     step n true older = All-push (λ held. held.0 < suc n) (handles_of past r) (n, value_of ending) older (omega arith)
     step n false older = older
 handles-below (Ran q ending false ∷ past) r = handles-below past r
 handles-below (Disowned q ids ∷ past) r = step (q == r) (handles-below past r)
   where
-    step : (b : Bool) → AreBelow (next_number past Handle) (handles_of past r) → AreBelow (next_number past Handle) (if b then filter (λ held. not (has_id ids held.0)) (handles_of past r) else handles_of past r)
+    step : (b : Bool) → AreBelow (next_number past Handle) (handles_of past r)
+        → AreBelow (next_number past Handle) (if b then filter (λ held. not (has_id ids held.0)) (handles_of past r) else handles_of past r)
     step true all = All-filter (λ held. not (has_id ids held.0)) (λ held. held.0 < next_number past Handle) (handles_of past r) all
     step false all = all
 handles-below (Looked ∷ past) r = handles-below past r

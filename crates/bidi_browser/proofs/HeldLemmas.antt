@@ -20,7 +20,8 @@ use Rattle.bidi_browser.proofs.MoveLemmas.{changed-rows}
 alive-one : (past : List Act) (c d : ℕ) → is_alive past c ≡ true → is_alive past d ≡ true → realm_of past c ≡ realm_of past d → c ≡ d
 alive-one past c d a b same =
     let n = next_number past Context in
-    realm-one past c d (alive-above c n (is_gone past c) a) (alive-below c n (is_gone past c) a) (alive-above d n (is_gone past d) b) (alive-below d n (is_gone past d) b) same
+    realm-one past c d (alive-above c n (is_gone past c) a) (alive-below c n (is_gone past c) a) (alive-above d n (is_gone past d) b)
+    (alive-below d n (is_gone past d) b) same
 
 -- so a test of realms is one of contexts
 realm-test : (past : List Act) (a c : ℕ) → is_alive past a ≡ true → is_alive past c ≡ true → (realm_of past a == realm_of past c) ≡ (c == a)
@@ -40,7 +41,8 @@ ran-step past a c ending false is = rw is refl
 pub rows-ran : (past : List Act) (a : ℕ) (ending : Ending) → is_alive past a ≡ true
     → rows (Ran (realm_of past a) ending true ∷ past) ≡ changed a (held_in (next_number past Handle, value_of ending)) (rows past)
 rows-ran past a ending alive =
-    sym (changed-rows (held_in (next_number past Handle, value_of ending)) a (row_at past) (row_at (Ran (realm_of past a) ending true ∷ past)) (is_alive past) (λ c. refl)
+    sym (changed-rows (held_in (next_number past Handle, value_of ending)) a (row_at past)
+    (row_at (Ran (realm_of past a) ending true ∷ past)) (is_alive past) (λ c. refl)
     (λ c live. ran-step past a c ending (c == a) (realm-test past a c alive live)) (given past Context))
 
 -- ---- handles are held no longer
@@ -55,7 +57,8 @@ listed p m [] = none (p m)
 listed p m (h ∷ hs) = step (listed p m hs) (p h.0) refl
   where
     step : list_any (λ n. n == m) (map (λ h. h.0) (filter (λ h. p h.0) hs)) ≡ (p m && list_any (λ h. h.0 == m) hs) → (b : Bool) → p h.0 ≡ b
-        → list_any (λ n. n == m) (map (λ h. h.0) (if b then h ∷ filter (λ h. p h.0) hs else filter (λ h. p h.0) hs)) ≡ (p m && (h.0 == m || list_any (λ h. h.0 == m) hs))
+        → list_any (λ n. n == m) (map (λ h. h.0) (if b then h ∷ filter (λ h. p h.0) hs else filter (λ h. p h.0) hs))
+        ≡ (p m && (h.0 == m || list_any (λ h. h.0 == m) hs))
     step ih true is = let here : h.0 ≡ m → p m ≡ true = (λ e. sym (ap p e) ∙ is) in grind (arith, nat_tests, ih, here)
     step ih false is = let here : h.0 ≡ m → p m ≡ false = (λ e. sym (ap p e) ∙ is) in grind (arith, nat_tests, ih, here)
 
@@ -78,7 +81,8 @@ left-out p all (h ∷ hs) among =
 
     step : (b c : Bool) → list_any (λ n. n == h.0) (map (λ g. g.0) (filter (λ g. p g.0) all)) ≡ (b && c) → c ≡ true
         → filter (λ h. not (list_any (λ n. n == h.0) (map (λ g. g.0) (filter (λ g. p g.0) all)))) hs ≡ filter (λ h. not (p h.0)) hs
-        → filter (λ h. not (list_any (λ n. n == h.0) (map (λ g. g.0) (filter (λ g. p g.0) all)))) (h ∷ hs) ≡ (if not b then h ∷ filter (λ h. not (p h.0)) hs else filter (λ h. not (p h.0)) hs)
+        → filter (λ h. not (list_any (λ n. n == h.0) (map (λ g. g.0) (filter (λ g. p g.0) all)))) (h ∷ hs)
+        ≡ (if not b then h ∷ filter (λ h. not (p h.0)) hs else filter (λ h. not (p h.0)) hs)
     step true true is there rest = rw is rest
     step false true is there rest = rw is (ap (λ hs. h ∷ hs) rest)
     step b false is there rest = absurd (cc)
@@ -88,12 +92,14 @@ disowned-step : (past : List Act) (a c : ℕ) (ids : List (List ℕ)) (b : Bool)
     ≡ (if b then without_in (map (λ h. h.0) (filter (λ h. has_id ids h.0) (handles_of past (realm_of past a)))) (row_at past c) else row_at past c)
 disowned-step past a c ids true one is =
     let same = (Decides-eqb c a).0 one in
-    rw (is, ← same) (ap (λ hs. record (row_at past c) { handles = hs }) (sym (left-out (has_id ids) (handles_of past (realm_of past c)) (handles_of past (realm_of past c)) (λ h e. e))))
+    rw (is, ← same) (ap (λ hs. record (row_at past c) { handles = hs })
+    (sym (left-out (has_id ids) (handles_of past (realm_of past c)) (handles_of past (realm_of past c)) (λ h e. e))))
 disowned-step past a c ids false one is = rw is refl
 
 -- the row of its context is without them, and no other row changes
 pub rows-disowned : (past : List Act) (a : ℕ) (ids : List (List ℕ)) → is_alive past a ≡ true
-    → rows (Disowned (realm_of past a) ids ∷ past) ≡ changed a (without_in (map (λ h. h.0) (filter (λ h. has_id ids h.0) (handles_of past (realm_of past a))))) (rows past)
+    → rows (Disowned (realm_of past a) ids ∷ past)
+    ≡ changed a (without_in (map (λ h. h.0) (filter (λ h. has_id ids h.0) (handles_of past (realm_of past a))))) (rows past)
 rows-disowned past a ids alive =
     let numbers = map (λ h. h.0) (filter (λ h. has_id ids h.0) (handles_of past (realm_of past a))) in
     sym (changed-rows (without_in numbers) a (row_at past) (row_at (Disowned (realm_of past a) ids ∷ past)) (is_alive past) (λ c. refl)

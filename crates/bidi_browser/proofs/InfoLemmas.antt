@@ -40,13 +40,15 @@ children-told None = refl
 children-told (Some v) = ap tree.list (infos-listed v.items)
 
 -- the tree of an Info is that of what stands beside its children, and of these
-pub info-told : (i : Info) (f : OwnMembers) (c : Option (Vec Info Global)) (whole : Node → Node) → content i ≡ told f (children_content c) → ((x : Node) → info_map info_parts.table f x ≡ whole x)
+pub info-told : (i : Info) (f : OwnMembers) (c : Option (Vec Info Global)) (whole : Node → Node)
+    → content i ≡ told f (children_content c) → ((x : Node) → info_map info_parts.table f x ≡ whole x)
     → tree_of i ≡ whole (children_node tree_of c)
 info-told i f c whole made same = ap (info_tree info_parts) made ∙ (same (tree_of_children info_parts c) ∙ ap whole (children-told c))
 
 -- what stands beside the children
 pub beside-told : (window number url user : String Global) (parent : Option (Option (String Global))) (ext : Ext) (row : ContextRow) (x : Node)
-    → string_bytes window ≡ id_of Window row.window → string_bytes number ≡ id_of Context row.number → string_bytes url ≡ url_text (url_in row) → string_bytes user ≡ codes "default" → others_of ext ≡ no_members
+    → string_bytes window ≡ id_of Window row.window → string_bytes number ≡ id_of Context row.number
+    → string_bytes url ≡ url_text (url_in row) → string_bytes user ≡ codes "default" → others_of ext ≡ no_members
     → info_map info_parts.table (window, (number, (None, (url, (user, (parent, ext)))))) x ≡ shown_info (option_map parent_node parent) row x
 beside-told window number url user None ext row x w n u d e = rw (w, n, u, d, e) refl
 beside-told window number url user (Some None) ext row x w n u d e = rw (w, n, u, d, e) refl
@@ -57,7 +59,8 @@ pub none-further : (rs : Rows) (others : Members) → others ≡ no_members → 
 none-further rs others e = record { no_known = rw e refl; may = subst (λ ms. OthersFit extensible ms) (sym e) (refl, omega arith) }
 
 -- it is well
-pub beside-well : (window number url user : String Global) (parent : Option (Option (String Global))) (ext : Ext) → others_of ext ≡ no_members → OwnMembersAreWell info_parts (window, (number, (None, (url, (user, (parent, ext))))))
+pub beside-well : (window number url user : String Global) (parent : Option (Option (String Global))) (ext : Ext)
+    → others_of ext ≡ no_members → OwnMembersAreWell info_parts (window, (number, (None, (url, (user, (parent, ext))))))
 beside-well window number url user parent ext e = (
   (tt, (tt, (text_or_null None, (tt, (tt, (some_well text_or_null parent, tt)))))),
   none-further _ (others_of ext) e,
@@ -84,7 +87,8 @@ parent-flat None = refl
 parent-flat (Some id) = refl
 
 -- an Info has one level more than its children
-shown-below : (n : ℕ) (p : Option (Option (String Global))) (row : ContextRow) (children : Node) → levels children ≤ n → levels (shown_info (option_map parent_node p) row children) ≤ n + 1
+shown-below : (n : ℕ) (p : Option (Option (String Global))) (row : ContextRow) (children : Node)
+    → levels children ≤ n → levels (shown_info (option_map parent_node p) row children) ≤ n + 1
 shown-below n None row children below = omega (arith, below)
 shown-below n (Some p) row children below = let flat = parent-flat p in omega (arith, below, flat)
 
@@ -98,8 +102,10 @@ children-well n None within = tt
 children-well n (Some v) within = all-well n v.items within
 
 -- an Info is well, and has two levels more than its children
-pub info-within : (n : ℕ) (i : Info) (f : OwnMembers) (c : Option (Vec Info Global)) (p : Option (Option (String Global))) (row : ContextRow) → content i ≡ told f (children_content c) → OwnMembersAreWell info_parts f
-    → tree_of i ≡ shown_info (option_map parent_node p) row (children_node tree_of c) → AreWithinIfTold ghosts.shape n c → n ≤ 58 → IsWithin ghosts.shape (n + 2) i
+pub info-within : (n : ℕ) (i : Info) (f : OwnMembers) (c : Option (Vec Info Global)) (p : Option (Option (String Global))) (row : ContextRow)
+    → content i ≡ told f (children_content c) → OwnMembersAreWell info_parts f
+    → tree_of i ≡ shown_info (option_map parent_node p) row (children_node tree_of c)
+    → AreWithinIfTold ghosts.shape n c → n ≤ 58 → IsWithin ghosts.shape (n + 2) i
 info-within n i f c p row made beside is within few =
     let deep = shown-below (n + 1) p row (children_node tree_of c) (children-below n c within) in
     let below : levels (tree_of i) ≤ n + 2 = subst (λ t. levels t ≤ n + 2) (sym is) (omega (arith, deep)) in

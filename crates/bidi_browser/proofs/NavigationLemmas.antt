@@ -1,7 +1,9 @@
 -- Why a navigation in hand is that of the definitions.
-use Rattle.std.proofs.Common.{◌≡◌, ◌∙◌, ◌≤◌, ◌<◌, ◌+◌, ◌-◌, ℕ, ℤ, zero, suc, Bool, true, false, List, [], ◌∷◌, ◌++◌, length, take, drop, take_all, map, Option, Some, None, Ok, unwrap_or, refl, sym, ap, ap₂, subst, arith}
+use Rattle.std.proofs.Common.{◌≡◌, ◌∙◌, ◌≤◌, ◌<◌, ◌+◌, ◌-◌, ℕ, ℤ, zero, suc, Bool, true, false, List, [], ◌∷◌, ◌++◌, length, take}
+use Rattle.std.proofs.Common.{drop, take_all, map, Option, Some, None, Ok, unwrap_or, refl, sym, ap, ap₂, subst, arith}
 use Rattle.std.specs.Prelude.{min, slice_get, nat_lt, if◌then◌else◌, flat_map, option_and_then}
-use Rattle.std.proofs.lemmas.List.{append_assoc, drop_all, length-append, length-take-le, length-drop, drop-append-le, length-map, take-map, drop-map, map-append}
+use Rattle.std.proofs.lemmas.List.{append_assoc, drop_all, length-append, length-take-le, length-drop}
+use Rattle.std.proofs.lemmas.List.{drop-append-le, length-map, take-map, drop-map, map-append}
 use Rattle.std.proofs.Math.Seq.{take-append_seam, drop-append_seam}
 use Rattle.std.proofs.lemmas.Bool.Decides.{Decides-ltb}
 use Rattle.url.specs.Parts.{Parts}
@@ -65,19 +67,24 @@ across-leads e delta n is = by (shifted e.place delta) is
 -- ---- its events
 
 -- one of its three
-pub event-told : (past : List Act) (moment c number : ℕ) (url to : Parts) (event : EventName) (row : ContextRow) (o : Occurrence) (info : Node) → row ≡ row_at past c → number ≡ next_number past Navigation → to ≡ url
+pub event-told : (past : List Act) (moment c number : ℕ) (url to : Parts) (event : EventName) (row : ContextRow) (o : Occurrence) (info : Node)
+    → row ≡ row_at past c → number ≡ next_number past Navigation → to ≡ url
     → o ≡ occurrence_in row event info → info ≡ navigation_info_in row moment number url → o ≡ navigation_event past moment c to event
 event-told past moment c number url to event row o info is next leads told tells =
-    told ∙ (ap (occurrence_in row event) tells ∙ (ap₂ (λ r n. occurrence_in r event (navigation_info_in r moment n url)) is next ∙ ap (λ u. navigation_event past moment c u event) (sym leads)))
+    told ∙ (ap (occurrence_in row event) tells ∙ (ap₂ (λ r n. occurrence_in r event (navigation_info_in r moment n url)) is next
+    ∙ ap (λ u. navigation_event past moment c u event) (sym leads)))
 
 -- the realm that comes
-pub realm-told : (past : List Act) (c realm : ℕ) (move : Move) (url : Parts) (row : ContextRow) (o : Occurrence) → row ≡ row_at past c → realm ≡ next_number past Realm → led_to past c move ≡ url
+pub realm-told : (past : List Act) (c realm : ℕ) (move : Move) (url : Parts) (row : ContextRow) (o : Occurrence)
+    → row ≡ row_at past c → realm ≡ next_number past Realm → led_to past c move ≡ url
     → o ≡ realm_began_in row realm url → o ≡ realm_created (Moved c move ∷ past) c
 realm-told past c realm move url row o is next leads told =
-    told ∙ (ap₂ (λ r n. realm_began_in r n url) is next ∙ (ap (realm_began_in (row_at past c) (next_number past Realm)) (sym leads) ∙ sym (rw (same-number c) refl)))
+    told ∙ (ap₂ (λ r n. realm_began_in r n url) is next
+    ∙ (ap (realm_began_in (row_at past c) (next_number past Realm)) (sym leads) ∙ sym (rw (same-number c) refl)))
 
 -- one more is told
-pub one-told : (now after : List in_hand.Occurrence) (o : in_hand.Occurrence) (is : Occurrence) → after ≡ now ++ o ∷ [] → seen (o ∷ []) ≡ is ∷ [] → seen after ≡ seen now ++ is ∷ []
+pub one-told : (now after : List in_hand.Occurrence) (o : in_hand.Occurrence) (is : Occurrence)
+    → after ≡ now ++ o ∷ [] → seen (o ∷ []) ≡ is ∷ [] → seen after ≡ seen now ++ is ∷ []
 one-told now after o is added told = ap seen added ∙ (map-append _ now (o ∷ []) ∙ ap (λ os. seen now ++ os) told)
 
 -- four more, one by one
@@ -87,7 +94,8 @@ four-more (x ∷ xs) p q r s = ap (λ ys. x ∷ ys) (four-more xs p q r s)
 
 -- all of them
 pub all-told : (past : List Act) (moment c : ℕ) (move : Move) (none first gone ended begun ready : List Occurrence) (all : List Occurrence) → none ≡ []
-    → first ≡ none ++ navigation_event past moment c (led_to past c move) NavigationStarted ∷ [] → gone ≡ first ++ flat_map (removal past) (children_of past c) → ended ≡ gone ++ realm_destroyed past c ∷ []
+    → first ≡ none ++ navigation_event past moment c (led_to past c move) NavigationStarted ∷ []
+    → gone ≡ first ++ flat_map (removal past) (children_of past c) → ended ≡ gone ++ realm_destroyed past c ∷ []
     → begun ≡ ended ++ realm_created (Moved c move ∷ past) c ∷ [] → ready ≡ begun ++ navigation_event past moment c (led_to past c move) DomContentLoaded ∷ []
     → all ≡ ready ++ navigation_event past moment c (led_to past c move) Load ∷ [] → all ≡ navigation_events past moment c move
 all-told past moment c move none first gone ended begun ready all a b d e f g h =
@@ -98,13 +106,15 @@ all-told past moment c move none first gone ended begun ready all a b d e f g h 
     let new = realm_created (Moved c move ∷ past) c in
     let there = navigation_event past moment c url DomContentLoaded in
     let loaded = navigation_event past moment c url Load in
-    h ∙ (ap (λ xs. xs ++ loaded ∷ []) (g ∙ ap (λ xs. xs ++ there ∷ []) (f ∙ ap (λ xs. xs ++ new ∷ []) (e ∙ ap (λ xs. xs ++ over ∷ []) (d ∙ ap (λ xs. xs ++ below) (b ∙ ap (λ xs. xs ++ started ∷ []) a)))))
+    h ∙ (ap (λ xs. xs ++ loaded ∷ []) (g ∙ ap (λ xs. xs ++ there ∷ [])
+    (f ∙ ap (λ xs. xs ++ new ∷ []) (e ∙ ap (λ xs. xs ++ over ∷ []) (d ∙ ap (λ xs. xs ++ below) (b ∙ ap (λ xs. xs ++ started ∷ []) a)))))
     ∙ four-more (started ∷ below) over new there loaded)
 
 -- ---- the reply among them
 
 -- where it waits for the last event but one
-before-last : {A : Type 0} (front : List A) (l : A) (all : List A) (n : ℕ) (x : A) → all ≡ front ++ l ∷ [] → n ≡ length all - 1 → take n all ++ x ∷ drop n all ≡ front ++ x ∷ l ∷ []
+before-last : {A : Type 0} (front : List A) (l : A) (all : List A) (n : ℕ) (x : A)
+    → all ≡ front ++ l ∷ [] → n ≡ length all - 1 → take n all ++ x ∷ drop n all ≡ front ++ x ∷ l ∷ []
 before-last front l all n x is at =
     let long = length-append front (l ∷ []) in
     let size = ap length is in
@@ -123,17 +133,20 @@ drop-well (suc n) [] well = tt
 drop-well (suc n) (o ∷ os) well = drop-well n os well.1
 
 -- the reply among the events, where its wait places it
-parted : (wait : Wait) (reply s r l : Item) (unloaded all : List Item) (n : ℕ) → all ≡ s ∷ unloaded ++ r ∷ l ∷ [] → n ≡ before_reply wait (length all) → take n all ++ reply ∷ drop n all ≡ replying wait reply s unloaded r l
+parted : (wait : Wait) (reply s r l : Item) (unloaded all : List Item) (n : ℕ) → all ≡ s ∷ unloaded ++ r ∷ l ∷ []
+    → n ≡ before_reply wait (length all) → take n all ++ reply ∷ drop n all ≡ replying wait reply s unloaded r l
 parted Started reply s r l unloaded all n is at = ap₂ (λ k xs. take k xs ++ reply ∷ drop k xs) at is
 parted Interactive reply s r l unloaded all n is at =
-    before-last (s ∷ unloaded ++ r ∷ []) l all n reply (is ∙ sym (append_assoc (s ∷ unloaded) (r ∷ []) (l ∷ []))) at ∙ append_assoc (s ∷ unloaded) (r ∷ []) (reply ∷ l ∷ [])
+    before-last (s ∷ unloaded ++ r ∷ []) l all n reply (is ∙ sym (append_assoc (s ∷ unloaded) (r ∷ []) (l ∷ []))) at
+    ∙ append_assoc (s ∷ unloaded) (r ∷ []) (reply ∷ l ∷ [])
 parted Complete reply s r l unloaded all n is at =
     ap₂ (λ xs ys. xs ++ reply ∷ ys) (take_all n all (omega (arith, at))) (drop_all n all (omega (arith, at)))
     ∙ (ap (λ xs. xs ++ reply ∷ []) is ∙ append_assoc (s ∷ unloaded) (r ∷ l ∷ []) (reply ∷ []))
 
 -- all events happen
 all-happen : (past : List Act) (moment c : ℕ) (move : Move) → (let url = led_to past c move in map Happens (navigation_events past moment c move)
-    ≡ Happens (navigation_event past moment c url NavigationStarted) ∷ unloading past (Moved c move) c ++ Happens (navigation_event past moment c url DomContentLoaded) ∷ Happens (navigation_event past moment c url Load) ∷ [])
+    ≡ Happens (navigation_event past moment c url NavigationStarted) ∷ unloading past (Moved c move) c
+    ++ Happens (navigation_event past moment c url DomContentLoaded) ∷ Happens (navigation_event past moment c url Load) ∷ [])
 all-happen past moment c move =
     let url = led_to past c move in
     let started = navigation_event past moment c url NavigationStarted in
@@ -143,17 +156,21 @@ all-happen past moment c move =
     let there = navigation_event past moment c url DomContentLoaded in
     let loaded = navigation_event past moment c url Load in
     ap (λ xs. Happens started ∷ xs)
-    (map-append Happens below (over ∷ new ∷ there ∷ loaded ∷ []) ∙ sym (append_assoc (map Happens below) (Happens over ∷ Happens new ∷ []) (Happens there ∷ Happens loaded ∷ [])))
+    (map-append Happens below (over ∷ new ∷ there ∷ loaded ∷ [])
+    ∙ sym (append_assoc (map Happens below) (Happens over ∷ Happens new ∷ []) (Happens there ∷ Happens loaded ∷ [])))
 
 -- the events in hand, parted where the reply stands
-pub told-parted : (past : List Act) (moment c : ℕ) (move : Move) (wait : Wait) (told : Told) (xs : List in_hand.Occurrence) (n : ℕ) → seen xs ≡ navigation_events past moment c move → n ≡ before_reply wait (length xs)
+pub told-parted : (past : List Act) (moment c : ℕ) (move : Move) (wait : Wait) (told : Told) (xs : List in_hand.Occurrence) (n : ℕ)
+    → seen xs ≡ navigation_events past moment c move → n ≡ before_reply wait (length xs)
     → told.before.items ≡ take n xs → told.after.items ≡ drop n xs → IsTold told past moment wait c move
 told-parted past moment c move wait told xs n all at before after = λ reply.
     let url = led_to past c move in
     let happened = λ (os : List in_hand.Occurrence). map Happens (seen os) in
     ap₂ (λ os ps. happened os ++ reply ∷ happened ps) before after
-    ∙ (ap₂ (λ is js. is ++ reply ∷ js) (sym (ap (take n) (seen-map xs) ∙ (take-map _ n xs ∙ sym (seen-map (take n xs))))) (sym (ap (drop n) (seen-map xs) ∙ (drop-map _ n xs ∙ sym (seen-map (drop n xs)))))
-    ∙ parted wait reply (Happens (navigation_event past moment c url NavigationStarted)) (Happens (navigation_event past moment c url DomContentLoaded)) (Happens (navigation_event past moment c url Load)) (unloading past (Moved c move) c)
+    ∙ (ap₂ (λ is js. is ++ reply ∷ js) (sym (ap (take n) (seen-map xs) ∙ (take-map _ n xs ∙ sym (seen-map (take n xs)))))
+    (sym (ap (drop n) (seen-map xs) ∙ (drop-map _ n xs ∙ sym (seen-map (drop n xs)))))
+    ∙ parted wait reply (Happens (navigation_event past moment c url NavigationStarted)) (Happens (navigation_event past moment c url DomContentLoaded))
+    (Happens (navigation_event past moment c url Load)) (unloading past (Moved c move) c)
     (happened xs) n (ap (map Happens) all ∙ all-happen past moment c move) (at ∙ ap (before_reply wait) (sym (ap length (seen-map xs) ∙ length-map xs _))))
   where
     seen-map : (os : List in_hand.Occurrence) → map Happens (seen os) ≡ map (λ o. Happens (occurrence_of ghosts.subject o)) os
@@ -163,9 +180,11 @@ told-parted past moment c move wait told xs n all at before after = λ reply.
 -- ---- plans
 
 -- what plans a navigation
-pub navigation-plans : (plan : Plan) (told : Told) (n : planned.Navigation) (r : ResultData) (past : List Act) (moment c : ℕ) (move : Move) (action : Action) → is_asked action ≡ true → outcome past action ≡ Ok (Moved c move)
+pub navigation-plans : (plan : Plan) (told : Told) (n : planned.Navigation) (r : ResultData) (past : List Act) (moment c : ℕ) (move : Move)
+    (action : Action) → is_asked action ≡ true → outcome past action ≡ Ok (Moved c move)
     → IsTold told past moment (wait_in action) c move → result_tree r ≡ navigated_result past (led_to past c move) move
-    → n.context ≡ c → move_of n.to ≡ move → n.realm ≡ next_number past Realm → Leads (entries_of past c) move → n.gone.items ≡ flat_map (subtree_of past) (children_of past c)
+    → n.context ≡ c → move_of n.to ≡ move
+    → n.realm ≡ next_number past Realm → Leads (entries_of past c) move → n.gone.items ≡ flat_map (subtree_of past) (children_of past c)
     → plan.before ≡ told.before → plan.result ≡ Some r → plan.after ≡ told.after → plan.change.edit ≡ Navigate n → Plans (Ok plan) past moment action
 navigation-plans plan told n r past moment c move action asked done is result at to realm leads gone before reply after change = (
   Moved c move,

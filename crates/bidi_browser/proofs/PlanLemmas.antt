@@ -1,5 +1,6 @@
 -- Why a plan in hand is that of the definitions.
-use Rattle.std.proofs.Common.{◌≡◌, ◌∙◌, ◌≤◌, ◌<◌, ◌+◌, ℕ, zero, suc, length, get_or, Bool, true, false, List, [], ◌∷◌, ◌++◌, map, Option, Some, None, Result, Ok, Err, unwrap_or, refl, sym, ap, ap₂, subst, arith}
+use Rattle.std.proofs.Common.{◌≡◌, ◌∙◌, ◌≤◌, ◌<◌, ◌+◌, ℕ, zero, suc, length, get_or, Bool, true, false, List, [], ◌∷◌, ◌++◌}
+use Rattle.std.proofs.Common.{map, Option, Some, None, Result, Ok, Err, unwrap_or, refl, sym, ap, ap₂, subst, arith}
 use Rattle.std.specs.Prelude.{not, find, nat_lt, if◌then◌else◌, is_none, is_some, Vec, option_map, option_to_list, IfSome, IfOk, IfErr}
 use Rattle.std.specs.Borrow.{Bor}
 use Rattle.std.specs.Result.{IsErrAnd}
@@ -42,17 +43,22 @@ use Rattle.bidi_browser.proofs.RowLemmas.{oldest-window, created-stand, realms-s
 -- ---- what only looks
 
 -- its result, and nothing else; the tables stay
-pub kept-plans : (plan : Plan) (past : List Act) (moment : ℕ) (action : Action) (act : Act) (r : ResultData) → is_asked action ≡ true → leaves_tables act ≡ true → outcome past action ≡ Ok act
-    → Replies (result_tree r) ∷ [] ≡ occurs past moment action act → plan.before.items ≡ [] → plan.result ≡ Some r → plan.after.items ≡ [] → plan.change.edit ≡ Keep → Plans (Ok plan) past moment action
-kept-plans plan past moment action act r asked leaves checked told before reply after change = (act, checked, rw (before, reply, after) told, rw (reply, asked) refl, rw change leaves, λ unasked. after)
+pub kept-plans : (plan : Plan) (past : List Act) (moment : ℕ) (action : Action) (act : Act) (r : ResultData)
+    → is_asked action ≡ true → leaves_tables act ≡ true → outcome past action ≡ Ok act
+    → Replies (result_tree r) ∷ [] ≡ occurs past moment action act → plan.before.items ≡ []
+    → plan.result ≡ Some r → plan.after.items ≡ [] → plan.change.edit ≡ Keep → Plans (Ok plan) past moment action
+kept-plans plan past moment action act r asked leaves checked told before reply after change =
+    (act, checked, rw (before, reply, after) told, rw (reply, asked) refl, rw change leaves, λ unasked. after)
 
 -- what only looks has its result
-pub looked-plans : (plan : Plan) (past : List Act) (moment : ℕ) (action : Action) (r : ResultData) → is_asked action ≡ true → outcome past action ≡ Ok Looked → Replies (result_tree r) ∷ [] ≡ occurs past moment action Looked
+pub looked-plans : (plan : Plan) (past : List Act) (moment : ℕ) (action : Action) (r : ResultData)
+    → is_asked action ≡ true → outcome past action ≡ Ok Looked → Replies (result_tree r) ∷ [] ≡ occurs past moment action Looked
     → plan.before.items ≡ [] → plan.result ≡ Some r → plan.after.items ≡ [] → plan.change.edit ≡ Keep → Plans (Ok plan) past moment action
 looked-plans plan past moment action r asked = kept-plans plan past moment action Looked r asked refl
 
 -- the context that is asked for
-pub root-found : (past : List Act) (id : List ℕ) (c : ℕ) (root : Option (List ℕ)) → root ≡ Some id → context_named past id ≡ Ok c → (looked_at past root ≡ Ok Looked) × (roots past root ≡ c ∷ [])
+pub root-found : (past : List Act) (id : List ℕ) (c : ℕ) (root : Option (List ℕ))
+    → root ≡ Some id → context_named past id ≡ Ok c → (looked_at past root ≡ Ok Looked) × (roots past root ≡ c ∷ [])
 root-found past id c root is named = rw is (ap looked named, ap option_to_list (of-found (context_of past id) c named))
   where
     of-found : (o : Option ℕ) (c : ℕ) → found o NoSuchFrame ≡ Ok c → o ≡ Some c
@@ -60,34 +66,41 @@ root-found past id c root is named = rw is (ap looked named, ap option_to_list (
     of-found (Some d) c e = cc
 
 -- the one whose realm is asked for
-pub holder-found : (past : List Act) (id : List ℕ) (c : ℕ) (context : Option (List ℕ)) → context ≡ Some id → context_named past id ≡ Ok c → (looked_at past context ≡ Ok Looked) × (realm_holders past context true ≡ c ∷ [])
+pub holder-found : (past : List Act) (id : List ℕ) (c : ℕ) (context : Option (List ℕ))
+    → context ≡ Some id → context_named past id ≡ Ok c → (looked_at past context ≡ Ok Looked) × (realm_holders past context true ≡ c ∷ [])
 holder-found past id c context is named = root-found-holds (root-found past id c context is named)
   where
     holders-are : (o : Option (List ℕ)) → o ≡ Some id → realm_holders past o true ≡ roots past o
     holders-are None e = absurd (cc)
     holders-are (Some x) e = refl
 
-    root-found-holds : (looked_at past context ≡ Ok Looked) × (roots past context ≡ c ∷ []) → (looked_at past context ≡ Ok Looked) × (realm_holders past context true ≡ c ∷ [])
+    root-found-holds : (looked_at past context ≡ Ok Looked) × (roots past context ≡ c ∷ [])
+        → (looked_at past context ≡ Ok Looked) × (realm_holders past context true ≡ c ∷ [])
     root-found-holds found = (found.0, holders-are context is ∙ found.1)
 
 -- the one that is shown
-pub one-shown : {A B : Type 0} (see : A → B) (f : ℕ → B) (c : ℕ) (none all : List A) (x : A) → all ≡ none ++ x ∷ [] → none ≡ [] → see x ≡ f c → map see all ≡ map f (c ∷ [])
+pub one-shown : {A B : Type 0} (see : A → B) (f : ℕ → B) (c : ℕ) (none all : List A) (x : A)
+    → all ≡ none ++ x ∷ [] → none ≡ [] → see x ≡ f c → map see all ≡ map f (c ∷ [])
 one-shown see f c none all x pushed empty is = ap (map see) (pushed ∙ ap (λ xs. xs ++ x ∷ []) empty) ∙ ap (λ t. t ∷ []) is
 
 -- the realms of windows, where they are asked for
-pub windows-told : {X : Type 0} (see : X → ContextRow) (past : List Act) (id : Option (List ℕ)) (b : Bool) (xs : List X) → map see xs ≡ map (row_at past) (realm_holders past id true)
+pub windows-told : {X : Type 0} (see : X → ContextRow) (past : List Act) (id : Option (List ℕ)) (b : Bool) (xs : List X)
+    → map see xs ≡ map (row_at past) (realm_holders past id true)
     → (if b then map (λ x. realm_info_in (see x)) xs else []) ≡ map (realm_info past) (realm_holders past id b)
 windows-told see past id false xs same = none-held id
   where
     none-held : (id : Option (List ℕ)) → (let none : List Node = [] in none ≡ map (realm_info past) (realm_holders past id false))
     none-held None = refl
     none-held (Some x) = refl
-windows-told see past id true xs same = sym (map-map realm_info_in see xs) ∙ (ap (map realm_info_in) same ∙ map-map realm_info_in (row_at past) (realm_holders past id true))
+windows-told see past id true xs same =
+    sym (map-map realm_info_in see xs) ∙ (ap (map realm_info_in) same ∙ map-map realm_info_in (row_at past) (realm_holders past id true))
 
 -- the check of what looks fails
-pub refused-looks : {A B : Type 0} (see : A → B) (q : Result (Vec A Global) Refusal) (r : Result Plan Refusal) (refusal : Refusal) (past : List Act) (moment : ℕ) (action : Action) (shown : List B)
+pub refused-looks : {A B : Type 0} (see : A → B) (q : Result (Vec A Global) Refusal) (r : Result Plan Refusal) (refusal : Refusal)
+    (past : List Act) (moment : ℕ) (action : Action) (shown : List B)
     → AreTold see q (outcome past action) shown → q ≡ Err refusal → IsErrAnd r (λ e. e ≡ refusal) → Plans r past moment action
-refused-looks see q (Err e) (Code code) past moment action shown checked failed is = subst (λ x. Plans (Err x) past moment action) (sym is) (subst (λ x. AreTold see x (outcome past action) shown) failed checked)
+refused-looks see q (Err e) (Code code) past moment action shown checked failed is =
+    subst (λ x. Plans (Err x) past moment action) (sym is) (subst (λ x. AreTold see x (outcome past action) shown) failed checked)
 refused-looks see q (Err e) NoMemory past moment action shown checked failed is = subst (λ x. Plans (Err x) past moment action) (sym is) tt
 refused-looks see q (Ok plan) refusal past moment action shown checked failed is = absurd is
 
@@ -96,7 +109,8 @@ realm-flat : (row : ContextRow) → levels (realm_info_in row) ≡ 1
 realm-flat row = refl
 
 -- so the list of some has two levels
-pub windows-flat : {X : Type 0} (see : X → ContextRow) (b : Bool) (xs : List X) → items_levels (items_of (if b then map (λ x. realm_info_in (see x)) xs else [])) ≤ 1
+pub windows-flat : {X : Type 0} (see : X → ContextRow) (b : Bool) (xs : List X)
+    → items_levels (items_of (if b then map (λ x. realm_info_in (see x)) xs else [])) ≤ 1
 windows-flat see false xs = omega arith
 windows-flat see true [] = omega arith
 windows-flat see true (x ∷ xs) =
@@ -119,23 +133,28 @@ told-well plan r before reply after well = record {
 -- ---- births
 
 -- the checks of a frame
-pub frame-passes : (past : List Act) (id address : List ℕ) (p : ℕ) (url : Parts) → context_named past id ≡ Ok p → parsed address ≡ Some url → has_room past ≡ true → nat_lt (level_of past p) 16 ≡ true
+pub frame-passes : (past : List Act) (id address : List ℕ) (p : ℕ) (url : Parts)
+    → context_named past id ≡ Ok p → parsed address ≡ Some url → has_room past ≡ true → nat_lt (level_of past p) 16 ≡ true
     → frame_outcome past id address ≡ Ok (Framed p url)
 frame-passes past id address p url named read room high = rw (named, read, room, high) refl
 
 -- the events of a birth
-born-told : (past : List Act) (act : Act) (row : ContextRow) (os : List Occurrence) → row ≡ row_at (act ∷ past) (next_number past Context) → os ≡ created_in row ∷ realm_created_in row ∷ []
+born-told : (past : List Act) (act : Act) (row : ContextRow) (os : List Occurrence)
+    → row ≡ row_at (act ∷ past) (next_number past Context) → os ≡ created_in row ∷ realm_created_in row ∷ []
     → map Happens os ≡ birth past act
 born-told past act row os is told = ap (map Happens) (told ∙ ap (λ r. created_in r ∷ realm_created_in r ∷ []) is)
 
 -- a birth that somebody asked for
-pub asked-birth : (past : List Act) (act : Act) (row : ContextRow) (before after : List in_hand.Occurrence) (reply : Option ResultData) (t : Node) → row ≡ row_at (act ∷ past) (next_number past Context)
+pub asked-birth : (past : List Act) (act : Act) (row : ContextRow) (before after : List in_hand.Occurrence) (reply : Option ResultData) (t : Node)
+    → row ≡ row_at (act ∷ past) (next_number past Context)
     → seen before ≡ created_in row ∷ realm_created_in row ∷ [] → reply_in reply ≡ Replies t ∷ [] → after ≡ []
     → map Happens (seen before) ++ (reply_in reply ++ map Happens (seen after)) ≡ birth past act ++ Replies t ∷ []
-asked-birth past act row before after reply t is told replied none = ap₂ (λ xs ys. xs ++ ys) (born-told past act row (seen before) is told) (ap₂ (λ xs os. xs ++ map Happens (seen os)) replied none)
+asked-birth past act row before after reply t is told replied none =
+    ap₂ (λ xs ys. xs ++ ys) (born-told past act row (seen before) is told) (ap₂ (λ xs os. xs ++ map Happens (seen os)) replied none)
 
 -- and one that nobody asked for
-pub unasked-birth : (past : List Act) (act : Act) (row : ContextRow) (before after : List in_hand.Occurrence) → row ≡ row_at (act ∷ past) (next_number past Context)
+pub unasked-birth : (past : List Act) (act : Act) (row : ContextRow) (before after : List in_hand.Occurrence)
+    → row ≡ row_at (act ∷ past) (next_number past Context)
     → seen before ≡ created_in row ∷ realm_created_in row ∷ [] → after ≡ [] → map Happens (seen before) ++ map Happens (seen after) ≡ birth past act
 unasked-birth past act row before after is told none = ap₂ (λ xs os. xs ++ map Happens (seen os)) (born-told past act row (seen before) is told) none
 
@@ -147,20 +166,71 @@ none-is (Some n) true e = absurd (cc)
 none-is (Some n) false e = refl
 
 -- the row of a new top-level context
-pub made-row : (past : List Act) (w : Option ℕ) (row : ContextRow) (number window realm next : ℕ) → AreAccepted past → number ≡ next_number past Context → realm ≡ next_number past Realm → next ≡ next_number past Window → window ≡ unwrap_or w next
-    → row ≡ record { number = number; parent = None; top = number; level = 1; window = window; realm = realm; entries = begun_at about_blank; handles = [] } → row ≡ row_at (Made w ∷ past) (next_number past Context)
+pub made-row : (past : List Act) (w : Option ℕ) (row : ContextRow) (number window realm next : ℕ) → AreAccepted past
+    → number ≡ next_number past Context → realm ≡ next_number past Realm → next ≡ next_number past Window → window ≡ unwrap_or w next
+    → row ≡ record { number = number; parent = None; top = number; level = 1; window = window; realm = realm; entries = begun_at about_blank; handles = [] }
+    → row ≡ row_at (Made w ∷ past) (next_number past Context)
 made-row past w row number window realm next accepted n r v opened is =
-    is ∙ (ap₂ (λ k x. record { number = k; parent = None; top = k; level = 1; window = x; realm = realm; entries = begun_at about_blank; handles = [] }) n (opened ∙ ap (unwrap_or w) v)
-    ∙ (ap (λ x. record { number = next_number past Context; parent = None; top = next_number past Context; level = 1; window = unwrap_or w (next_number past Window); realm = x; entries = begun_at about_blank; handles = [] }) r
+    is ∙ (ap₂ (λ k x. record { number = k; parent = None; top = k; level = 1; window = x; realm = realm; entries = begun_at about_blank; handles = [] })
+    n (opened ∙ ap (unwrap_or w) v)
+    ∙ (ap (λ x. record {
+      number = next_number past Context;
+      parent = None;
+      top = next_number past Context;
+      level = 1;
+      window = unwrap_or w (next_number past Window);
+      realm = x;
+      entries = begun_at about_blank;
+      handles = [];
+    }) r
     ∙ sym (row-made past w accepted)))
 
 -- the row of a new child
-pub framed-row : (past : List Act) (p : ℕ) (url : Parts) (parent row : ContextRow) (number realm : ℕ) → AreAccepted past → number ≡ next_number past Context → realm ≡ next_number past Realm → parent ≡ row_at past p
-    → row ≡ record { number = number; parent = Some parent.number; top = parent.top; level = parent.level + 1; window = parent.window; realm = realm; entries = begun_at url; handles = [] } → row ≡ row_at (Framed p url ∷ past) (next_number past Context)
+pub framed-row : (past : List Act) (p : ℕ) (url : Parts) (parent row : ContextRow) (number realm : ℕ)
+    → AreAccepted past → number ≡ next_number past Context → realm ≡ next_number past Realm → parent ≡ row_at past p
+    → row ≡ record {
+      number = number;
+      parent = Some parent.number;
+      top = parent.top;
+      level = parent.level + 1;
+      window = parent.window;
+      realm = realm;
+      entries = begun_at url;
+      handles = [];
+    }
+    → row ≡ row_at (Framed p url ∷ past) (next_number past Context)
 framed-row past p url parent row number realm accepted n r is made =
-    made ∙ (ap₂ (λ k x. record { number = k; parent = Some parent.number; top = parent.top; level = parent.level + 1; window = parent.window; realm = x; entries = begun_at url; handles = [] }) n r
-    ∙ (ap (λ (q : ContextRow). record { number = next_number past Context; parent = Some q.number; top = q.top; level = q.level + 1; window = q.window; realm = next_number past Realm; entries = begun_at url; handles = [] }) is
-    ∙ (ap (λ k. record { number = next_number past Context; parent = Some p; top = top_of past p; level = k; window = window_of past p; realm = next_number past Realm; entries = begun_at url; handles = [] }) (one-more (level_of past p))
+    made ∙ (ap₂ (λ k x. record {
+      number = k;
+      parent = Some parent.number;
+      top = parent.top;
+      level = parent.level + 1;
+      window = parent.window;
+      realm = x;
+      entries = begun_at url;
+      handles = [];
+    }) n r
+    ∙ (ap (λ (q : ContextRow). record {
+      number = next_number past Context;
+      parent = Some q.number;
+      top = q.top;
+      level = q.level + 1;
+      window = q.window;
+      realm = next_number past Realm;
+      entries = begun_at url;
+      handles = [];
+    }) is
+    ∙ (ap (λ k. record {
+      number = next_number past Context;
+      parent = Some p;
+      top = top_of past p;
+      level = k;
+      window = window_of past p;
+      realm = next_number past Realm;
+      entries = begun_at url;
+      handles = [];
+    })
+    (one-more (level_of past p))
     ∙ sym (row-framed past p url accepted))))
   where
     one-more : (n : ℕ) → n + 1 ≡ suc n
@@ -170,10 +240,14 @@ framed-row past p url parent row number realm accepted n r is made =
 
 -- the window of the oldest top-level context in hand
 pub window-stands : (past : List Act) (o : Option (Bor declared_context.Context)) (window : Option ℕ) → window ≡ option_map (λ c. c.now.window) o
-    → option_map (λ c. row_of c.now) o ≡ option_map (row_at past) (find (λ c. is_none (parent_of past c)) (contexts past)) → window ≡ oldest_window past (tops past)
-window-stands past o window is found = is ∙ (window-rows o ∙ (ap (option_map (λ (r : ContextRow). r.window)) found ∙ (window-at (find (λ c. is_none (parent_of past c)) (contexts past)) ∙ sym (oldest-window past))))
+    → option_map (λ c. row_of c.now) o ≡ option_map (row_at past) (find (λ c. is_none (parent_of past c)) (contexts past))
+    → window ≡ oldest_window past (tops past)
+window-stands past o window is found =
+    is ∙ (window-rows o ∙ (ap (option_map (λ (r : ContextRow). r.window)) found
+    ∙ (window-at (find (λ c. is_none (parent_of past c)) (contexts past)) ∙ sym (oldest-window past))))
   where
-    window-rows : (o : Option (Bor declared_context.Context)) → option_map (λ c. c.now.window) o ≡ option_map (λ (r : ContextRow). r.window) (option_map (λ c. row_of c.now) o)
+    window-rows : (o : Option (Bor declared_context.Context))
+        → option_map (λ c. c.now.window) o ≡ option_map (λ (r : ContextRow). r.window) (option_map (λ c. row_of c.now) o)
     window-rows None = refl
     window-rows (Some c) = refl
 
@@ -184,7 +258,8 @@ window-stands past o window is found = is ∙ (window-rows o ∙ (ap (option_map
 -- ---- several contexts
 
 -- one of several contexts in hand
-pub rows-at : (past : List Act) (gs : List (Bor declared_context.Context)) (cs : List ℕ) (i : ℕ) (g : Bor declared_context.Context) → map (λ x. row_of x.now) gs ≡ map (row_at past) cs → i < length gs → g ≡ get_or gs i g
+pub rows-at : (past : List Act) (gs : List (Bor declared_context.Context)) (cs : List ℕ) (i : ℕ) (g : Bor declared_context.Context)
+    → map (λ x. row_of x.now) gs ≡ map (row_at past) cs → i < length gs → g ≡ get_or gs i g
     → (i < length cs) × (row_of g.now ≡ row_at past (get_or cs i 0))
 rows-at past [] cs i g same less at = absurd (omega arith)
 rows-at past (x ∷ gs) [] i g same less at = absurd (cc)
@@ -195,7 +270,8 @@ rows-at past (x ∷ gs) (c ∷ cs) (suc i) g same less at =
     let near = below.0 in (omega (arith, near), below.1)
 
 -- the numbers of contexts in hand
-pub numbers-of : (past : List Act) (gs : List (Bor declared_context.Context)) (cs : List ℕ) → map (λ g. row_of g.now) gs ≡ map (row_at past) cs → map (λ g. g.now.number) gs ≡ cs
+pub numbers-of : (past : List Act) (gs : List (Bor declared_context.Context)) (cs : List ℕ)
+    → map (λ g. row_of g.now) gs ≡ map (row_at past) cs → map (λ g. g.now.number) gs ≡ cs
 numbers-of past gs cs same = sym (map-map gs) ∙ (ap (map (λ (r : ContextRow). r.number)) same ∙ numbers-at cs)
   where
     map-map : (gs : List (Bor declared_context.Context)) → map (λ (r : ContextRow). r.number) (map (λ g. row_of g.now) gs) ≡ map (λ g. g.now.number) gs
@@ -207,20 +283,24 @@ numbers-of past gs cs same = sym (map-map gs) ∙ (ap (map (λ (r : ContextRow).
     numbers-at (c ∷ cs) = ap (λ ns. c ∷ ns) (numbers-at cs)
 
 -- each context, then each realm, tells of the whole tree
-pub events-told : (past : List Act) (first second : List ContextRow) (none some all : List Occurrence) → first ≡ map (row_at past) (tree_order past) → second ≡ map (row_at past) (tree_order past) → none ≡ []
+pub events-told : (past : List Act) (first second : List ContextRow) (none some all : List Occurrence)
+    → first ≡ map (row_at past) (tree_order past) → second ≡ map (row_at past) (tree_order past) → none ≡ []
     → some ≡ none ++ map created_in first → all ≡ some ++ map realm_created_in second → all ≡ tree_events past
 events-told past first second none some all one two empty came realms =
-    realms ∙ ap₂ (λ xs ys. xs ++ ys) (came ∙ (ap₂ (λ xs rs. xs ++ map created_in rs) empty one ∙ created-stand past (tree_order past))) (ap (map realm_created_in) two ∙ realms-stand past (tree_order past))
+    realms ∙ ap₂ (λ xs ys. xs ++ ys) (came ∙ (ap₂ (λ xs rs. xs ++ map created_in rs) empty one ∙ created-stand past (tree_order past)))
+    (ap (map realm_created_in) two ∙ realms-stand past (tree_order past))
 
 -- ---- removals
 
 -- a removal that somebody asked for
-pub asked-removal : (past : List Act) (c : ℕ) (before after : List in_hand.Occurrence) (reply : Option ResultData) → seen before ≡ removal past c → reply_in reply ≡ Replies nothing ∷ [] → after ≡ []
+pub asked-removal : (past : List Act) (c : ℕ) (before after : List in_hand.Occurrence) (reply : Option ResultData)
+    → seen before ≡ removal past c → reply_in reply ≡ Replies nothing ∷ [] → after ≡ []
     → map Happens (seen before) ++ (reply_in reply ++ map Happens (seen after)) ≡ map Happens (removal past c) ++ Replies nothing ∷ []
 asked-removal past c before after reply told replied none = ap₂ (λ os xs. map Happens os ++ xs) told (ap₂ (λ xs os. xs ++ map Happens (seen os)) replied none)
 
 -- behind what was told, the realms of a subtree, then the context
-pub removal-told : (past : List Act) (c : ℕ) (rows : List ContextRow) (before realms all : List Occurrence) (last : Occurrence) → rows ≡ map (row_at past) (subtree_of past c) → realms ≡ before ++ map realm_destroyed_in rows
+pub removal-told : (past : List Act) (c : ℕ) (rows : List ContextRow) (before realms all : List Occurrence) (last : Occurrence)
+    → rows ≡ map (row_at past) (subtree_of past c) → realms ≡ before ++ map realm_destroyed_in rows
     → all ≡ realms ++ last ∷ [] → last ≡ context_destroyed past c → all ≡ before ++ removal past c
 removal-told past c rows before realms all last below gone added is =
     let ends = map (realm_destroyed past) (subtree_of past c) in
@@ -230,9 +310,12 @@ removal-told past c rows before realms all last below gone added is =
 -- ---- the log
 
 -- an entry is told, and nobody asked for it
-pub logged-plans : (past : List Act) (moment c : ℕ) (id : List ℕ) (level : Level) (line : List ℕ) (row : ContextRow) (before after : List in_hand.Occurrence) → context_named past id ≡ Ok c → row ≡ row_at past c
+pub logged-plans : (past : List Act) (moment c : ℕ) (id : List ℕ) (level : Level) (line : List ℕ) (row : ContextRow)
+    (before after : List in_hand.Occurrence) → context_named past id ≡ Ok c → row ≡ row_at past c
     → seen before ≡ entry_added_in row moment level line ∷ [] → after ≡ []
-    → (act : Act) × (log_outcome past id level line ≡ Ok act) × (map Happens (seen before) ++ map Happens (seen after) ≡ occurs past moment (Log id level line) act) × (false ≡ false) × (leaves_tables act ≡ true) × (false ≡ false → after ≡ [])
+    → (act : Act) × (log_outcome past id level line ≡ Ok act)
+    × (map Happens (seen before) ++ map Happens (seen after) ≡ occurs past moment (Log id level line) act)
+    × (false ≡ false) × (leaves_tables act ≡ true) × (false ≡ false → after ≡ [])
 logged-plans past moment c id level line row before after named is told none = (
   Logged c level line,
   rw named refl,
@@ -245,7 +328,8 @@ logged-plans past moment c id level line row before after named is told none = (
 -- ---- the table
 
 -- a row is set, of which nothing is told
-pub row-plans : (plan : Plan) (past : List Act) (moment : ℕ) (row : Option Node) (t : Node) → row ≡ Some t → row_checked past t ≡ Ok tt → plan.before.items ≡ [] → plan.result ≡ None → plan.after.items ≡ []
+pub row-plans : (plan : Plan) (past : List Act) (moment : ℕ) (row : Option Node) (t : Node)
+    → row ≡ Some t → row_checked past t ≡ Ok tt → plan.before.items ≡ [] → plan.result ≡ None → plan.after.items ≡ []
     → Makes plan.change past (Tabled (text_at "text" t) (row_in t)) → Plans (Ok plan) past moment (TableRow row)
 row-plans plan past moment row t is checked before reply after makes = (
   Tabled (text_at "text" t) (row_in t),
@@ -257,7 +341,8 @@ row-plans plan past moment row t is checked before reply after makes = (
 )
 
 -- so does what may find no memory for it
-pub tabled-plans : (r : Result Plan Refusal) (past : List Act) (moment : ℕ) (row : Option Node) (t : Node) → row ≡ Some t → row_checked past t ≡ Ok tt → IfOk r (λ p. (p.before.items ≡ []) × (p.result ≡ None) × (p.after.items ≡ []))
+pub tabled-plans : (r : Result Plan Refusal) (past : List Act) (moment : ℕ) (row : Option Node) (t : Node)
+    → row ≡ Some t → row_checked past t ≡ Ok tt → IfOk r (λ p. (p.before.items ≡ []) × (p.result ≡ None) × (p.after.items ≡ []))
     → IfOk r (λ p. Makes p.change past (Tabled (text_at "text" t) (row_in t))) → IfErr r (λ e. e ≡ NoMemory) → Plans r past moment (TableRow row)
 tabled-plans (Ok plan) past moment row t is checked told makes err = row-plans plan past moment row t is checked told.0 told.1 told.2 makes
 tabled-plans (Err e) past moment row t is checked told makes err = subst (λ e. Plans (Err e) past moment (TableRow row)) (sym err) tt

@@ -22,26 +22,30 @@ told-more tell f row items i x before now after a less at held added same =
     ∙ ap (λ ys. told ++ ys) (sym next))))
 
 -- what is seen of the next one too
-pub seen-more : {A B X : Type 0} (see : A → B) (f : X → B) (items : List X) (i : ℕ) (x : X) (now after : List A) (a : A) → i < length items → x ≡ get_or items i x → map see now ≡ map f (take i items)
+pub seen-more : {A B X : Type 0} (see : A → B) (f : X → B) (items : List X) (i : ℕ) (x : X) (now after : List A) (a : A)
+    → i < length items → x ≡ get_or items i x → map see now ≡ map f (take i items)
     → after ≡ now ++ a ∷ [] → see a ≡ f x → map see after ≡ map f (take (i + 1) items)
 seen-more see f items i x now after a less at held added is =
     ap (map see) added ∙ (map-append see now (a ∷ []) ∙ (ap₂ (λ xs y. xs ++ y ∷ []) held is
     ∙ sym (ap (map f) (take_more items i x less ∙ ap (λ y. take i items ++ y ∷ []) (sym at)) ∙ map-append f (take i items) (x ∷ []))))
 
 -- what f gives of the next item too
-pub pushed-more : {X Y : Type 0} (f : X → Y) (items : List X) (i : ℕ) (x : X) (before now after : List Y) → i < length items → x ≡ get_or items i x → now ≡ before ++ map f (take i items)
+pub pushed-more : {X Y : Type 0} (f : X → Y) (items : List X) (i : ℕ) (x : X) (before now after : List Y)
+    → i < length items → x ≡ get_or items i x → now ≡ before ++ map f (take i items)
     → after ≡ now ++ f x ∷ [] → after ≡ before ++ map f (take (i + 1) items)
 pushed-more f items i x before now after less at held added =
     added ∙ (ap (λ ys. ys ++ f x ∷ []) held ∙ (append_assoc before (map f (take i items)) (f x ∷ [])
     ∙ ap (λ ys. before ++ ys) (sym (ap (map f) (take_more items i x less ∙ ap (λ y. take i items ++ y ∷ []) (sym at)) ∙ map-append f (take i items) (x ∷ [])))))
 
 -- the list that g gives of the next item too
-pub joined-more : {X Y : Type 0} (g : X → List Y) (items : List X) (i : ℕ) (d : X) (before now after : List Y) → i < length items → now ≡ before ++ flat_map g (take i items)
+pub joined-more : {X Y : Type 0} (g : X → List Y) (items : List X) (i : ℕ) (d : X) (before now after : List Y)
+    → i < length items → now ≡ before ++ flat_map g (take i items)
     → after ≡ now ++ g (get_or items i d) → after ≡ before ++ flat_map g (take (i + 1) items)
 joined-more g items i d before now after less held added =
     let x = get_or items i d in
     added ∙ (ap (λ ys. ys ++ g x) held ∙ (append_assoc before (flat_map g (take i items)) (g x)
-    ∙ ap (λ ys. before ++ ys) (sym (ap (flat_map g) (take_more items i d less) ∙ (flat_map-append g (take i items) (x ∷ []) ∙ ap (λ ys. flat_map g (take i items) ++ ys) (append-nil (g x)))))))
+    ∙ ap (λ ys. before ++ ys) (sym (ap (flat_map g) (take_more items i d less)
+    ∙ (flat_map-append g (take i items) (x ∷ []) ∙ ap (λ ys. flat_map g (take i items) ++ ys) (append-nil (g x)))))))
 
 -- one more of which it holds
 AllByRecursion-push : {A : Type 0} (P : A → Type 0) (bs : List A) (a : A) → AllByRecursion P bs → P a → AllByRecursion P (bs ++ a ∷ [])
@@ -49,5 +53,6 @@ AllByRecursion-push P [] a all one = (one, tt)
 AllByRecursion-push P (b ∷ bs) a all one = (all.0, AllByRecursion-push P bs a all.1 one)
 
 -- what holds of each item holds with the next item too
-pub AllByRecursion-more : {A : Type 0} (P : A → Type 0) (now after : List A) (a : A) → after ≡ now ++ a ∷ [] → AllByRecursion P now → P a → AllByRecursion P after
+pub AllByRecursion-more : {A : Type 0} (P : A → Type 0) (now after : List A) (a : A)
+    → after ≡ now ++ a ∷ [] → AllByRecursion P now → P a → AllByRecursion P after
 AllByRecursion-more P now after a added all one = subst (AllByRecursion P) (sym added) (AllByRecursion-push P now a all one)

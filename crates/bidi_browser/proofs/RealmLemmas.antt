@@ -28,7 +28,8 @@ realm-made (Disowned r ids ∷ past) c = realm-made past c
 realm-made (Looked ∷ past) c = realm-made past c
 
 -- contexts that were born and share a realm are one
-pub realm-one : (past : List Act) (c d : ℕ) → 0 < c → c < next_number past Context → 0 < d → d < next_number past Context → realm_of past c ≡ realm_of past d → c ≡ d
+pub realm-one : (past : List Act) (c d : ℕ)
+    → 0 < c → c < next_number past Context → 0 < d → d < next_number past Context → realm_of past c ≡ realm_of past d → c ≡ d
 realm-one [] c d a b e f same = omega arith
 realm-one (Made w ∷ past) c d a b e f same =
     let ih = realm-one past c d in
@@ -70,7 +71,8 @@ target-made past (ContextTarget id sandbox) r e = by (context_named past id) (by
     by (Ok c) false e = absurd (cc)
     by (Err code) b e = absurd (cc)
 target-made past (RealmTarget id) r e =
-    let given = found-given (realm_of past) (λ q. bytes_eq id (id_of Realm q)) (contexts past) r (of-found (find (λ q. bytes_eq id (id_of Realm q)) (realms past)) e) in
+    let given = found-given (realm_of past) (λ q. bytes_eq id (id_of Realm q)) (contexts past) r
+    (of-found (find (λ q. bytes_eq id (id_of Realm q)) (realms past)) e) in
     let same = given.1 in
     let made = realm-made past given.0 in
     omega (arith, same, made)

@@ -11,7 +11,8 @@ use Rattle.bidi_browser.specs.Contexts.{parent_of, level_of, is_under, is_born, 
 use Rattle.bidi_browser.specs.Accepted.{AreAccepted}
 use Rattle.bidi_browser.specs.ContextRows.{ContextRow, row_at, rows}
 use Rattle.bidi_handles.proofs.ListLemmas.{agree}
-use Rattle.bidi_browser.proofs.AcceptedLemmas.{act-sound, alive-above, alive-below, parent-born, under-parent, under-le, levels-accepted, level-child, parents-alive}
+use Rattle.bidi_browser.proofs.AcceptedLemmas.{act-sound, alive-above, alive-below, parent-born, under-parent}
+use Rattle.bidi_browser.proofs.AcceptedLemmas.{under-le, levels-accepted, level-child, parents-alive}
 
 -- ---- lists
 
@@ -63,14 +64,16 @@ flat-back : (f r : ℕ → Bool) (g : ℕ → List ℕ) (b : Bool) (xs : List �
 flat-back f r g b [] each e = absurd (cc)
 flat-back f r g b (x ∷ xs) each e =
     or-split (r x && list_any f (g x)) (list_any f (flat_map g (filter r xs))) b
-    (λ here. let both = and-both (r x) (list_any f (g x)) here in each x both.0 both.1) (flat-back f r g b xs each) (sym (any-flat f g (r x) x (filter r xs)) ∙ e)
+    (λ here. let both = and-both (r x) (list_any f (g x)) here in each x both.0 both.1) (flat-back f r g b xs each)
+    (sym (any-flat f g (r x) x (filter r xs)) ∙ e)
 
 -- what stands in each list of g where another stands in that of h, stands in all of g together where that stands in all of h
 flat-wide : (f k r : ℕ → Bool) (h g : ℕ → List ℕ) (xs : List ℕ) → ((d : ℕ) → r d ≡ true → list_any f (h d) ≡ true → list_any k (g d) ≡ true)
     → list_any f (flat_map h (filter r xs)) ≡ true → list_any k (flat_map g (filter r xs)) ≡ true
 flat-wide f k r h g [] each e = absurd (cc)
 flat-wide f k r h g (x ∷ xs) each e =
-    any-flat k g (r x) x (filter r xs) ∙ or-both (r x && list_any f (h x)) (list_any f (flat_map h (filter r xs))) (r x && list_any k (g x)) (list_any k (flat_map g (filter r xs)))
+    any-flat k g (r x) x (filter r xs)
+    ∙ or-both (r x && list_any f (h x)) (list_any f (flat_map h (filter r xs))) (r x && list_any k (g x)) (list_any k (flat_map g (filter r xs)))
     (λ here. let both = and-both (r x) (list_any f (h x)) here in let more = each x both.0 both.1 in rw (both.0, more) refl) (flat-wide f k r h g xs each)
     (sym (any-flat f h (r x) x (filter r xs)) ∙ e)
 
@@ -80,7 +83,8 @@ flat-in : (f r : ℕ → Bool) (g : ℕ → List ℕ) (c : ℕ) (xs : List ℕ) 
 flat-in f r g c [] stands passes there = absurd (cc)
 flat-in f r g c (x ∷ xs) stands passes there =
     any-flat f g (r x) x (filter r xs) ∙ or-both (x == c) (list_any (λ d. d == c) xs) (r x && list_any f (g x)) (list_any f (flat_map g (filter r xs)))
-    (λ here. let same = (Decides-eqb x c).0 here in subst (λ d. (r d && list_any f (g d)) ≡ true) (sym same) (rw (passes, there) refl)) (λ later. flat-in f r g c xs later passes there) stands
+    (λ here. let same = (Decides-eqb x c).0 here in subst (λ d. (r d && list_any f (g d)) ≡ true) (sym same) (rw (passes, there) refl))
+    (λ later. flat-in f r g c xs later passes there) stands
 
 -- ---- one step of a subtree
 
@@ -127,7 +131,8 @@ child-in : (n : ℕ) (past : List Act) → AreAccepted past → (a p c : ℕ) �
 child-in zero past acc a p c e alive deep stands = absurd (cc)
 child-in (suc n) past acc a p c e alive deep stands =
     or-right (a == c) (list_any (λ x. x == c) (flat_map (subtree_within n past) (children_of past a)))
-    (or-split (a == p) (list_any (λ x. x == p) (flat_map (subtree_within n past) (children_of past a))) (list_any (λ x. x == c) (flat_map (subtree_within n past) (children_of past a)))
+    (or-split (a == p) (list_any (λ x. x == p) (flat_map (subtree_within n past) (children_of past a)))
+    (list_any (λ x. x == c) (flat_map (subtree_within n past) (children_of past a)))
     (λ here.
     let same = (Decides-eqb a p).0 here in
     let level = level-child past c p acc e in
@@ -158,12 +163,14 @@ up-step u x false s a c q n o same below old ih e =
     elim (ih e) [ inl eq ↦ inl eq | inr w ↦ inr (w.0, w.1, kept (w.0 == n) (x w.0) (u w.0) w.0 n (Decides-eqb w.0 n).0 (old w.0 w.1) w.2) ]
 
 -- what stands on the chain of a context is that context, or stands on the chain of its parent
-under-up : (past : List Act) → AreAccepted past → (a c : ℕ) → is_under past a c ≡ true → (a ≡ c) ⊎ ((p : ℕ) × (parent_of past c ≡ Some p) × (is_under past a p ≡ true))
+under-up : (past : List Act) → AreAccepted past
+    → (a c : ℕ) → is_under past a c ≡ true → (a ≡ c) ⊎ ((p : ℕ) × (parent_of past c ≡ Some p) × (is_under past a p ≡ true))
 under-up [] acc a c e = inl ((Decides-eqb a c).0 e)
 under-up (Framed q url ∷ past) acc a c e =
     let alive = (act-sound past acc.0 (Framed q url) acc.1).alive in
     up-step (is_under past a) (λ p. (a == p) || is_under past a q) (c == next_number past Context) (a == c) a c q (next_number past Context) (parent_of past c)
-    (Decides-eqb a c).0 (alive-below q (next_number past Context) (is_gone past q) alive) (λ p f. let born = parent-born past acc.2 c p f in omega arith) (under-up past acc.2 a c) e
+    (Decides-eqb a c).0 (alive-below q (next_number past Context) (is_gone past q) alive)
+    (λ p f. let born = parent-born past acc.2 c p f in omega arith) (under-up past acc.2 a c) e
 under-up (act ∷ past) acc a c e = under-up past acc.2 a c e
 
 -- what stands below a context is in its subtree, as far as there are levels
@@ -174,7 +181,8 @@ under-in zero n past acc a c few deep alive up =
     absurd (omega arith)
 under-in (suc k) n past acc a c few deep alive up =
     elim (under-up past acc a c up) [
-      | inl same ↦ (let low = levels-accepted past acc a in subst (λ d. list_any (λ x. x == d) (subtree_within n past a) ≡ true) same (root-in n past a (omega arith)))
+      | inl same ↦ (let low = levels-accepted past acc a in
+          subst (λ d. list_any (λ x. x == d) (subtree_within n past a) ≡ true) same (root-in n past a (omega arith)))
       | inr w ↦ (let born = parent-born past acc c w.0 w.1 in
           child-in n past acc a w.0 c w.1 alive deep (under-in k n past acc a w.0 (omega arith) deep (parents-alive past acc c w.0 alive w.1) w.2))
     ]
@@ -187,23 +195,28 @@ self-step false s up uc same old = old
 -- each context stands on its own chain
 pub under-self : (past : List Act) (c : ℕ) → is_under past c c ≡ true
 under-self [] c = (Decides-eqb c c).1 refl
-under-self (Framed p url ∷ past) c = self-step (c == next_number past Context) (c == c) (is_under past c p) (is_under past c c) ((Decides-eqb c c).1 refl) (under-self past c)
+under-self (Framed p url ∷ past) c =
+    self-step (c == next_number past Context) (c == c) (is_under past c p) (is_under past c c) ((Decides-eqb c c).1 refl) (under-self past c)
 under-self (act ∷ past) c = under-self past c
 
 -- a subtree has just the live contexts at and below its root
-pub any-subtree : (past : List Act) (a c : ℕ) → AreAccepted past → is_alive past a ≡ true → is_alive past c ≡ true → list_any (λ n. n == c) (subtree_of past a) ≡ is_under past a c
+pub any-subtree : (past : List Act) (a c : ℕ)
+    → AreAccepted past → is_alive past a ≡ true → is_alive past c ≡ true → list_any (λ n. n == c) (subtree_of past a) ≡ is_under past a c
 any-subtree past a c acc root alive =
     let above = level-above past a in
     agree (list_any (λ n. n == c) (subtree_within 16 past a)) (is_under past a c)
     (subtree-under 16 past acc a a c (under-self past a)) (under-in c 16 past acc a c (omega arith) (omega arith) alive)
 
 -- a subtree that goes deeper has no less
-subtree-deeper : (n : ℕ) (past : List Act) (d c : ℕ) → list_any (λ x. x == c) (subtree_within n past d) ≡ true → list_any (λ x. x == c) (subtree_within (suc n) past d) ≡ true
+subtree-deeper : (n : ℕ) (past : List Act) (d c : ℕ)
+    → list_any (λ x. x == c) (subtree_within n past d) ≡ true → list_any (λ x. x == c) (subtree_within (suc n) past d) ≡ true
 subtree-deeper zero past d c stands = absurd (cc)
 subtree-deeper (suc n) past d c stands =
-    or-both (d == c) (list_any (λ x. x == c) (flat_map (subtree_within n past) (children_of past d))) (d == c) (list_any (λ x. x == c) (flat_map (subtree_within (suc n) past) (children_of past d)))
+    or-both (d == c) (list_any (λ x. x == c) (flat_map (subtree_within n past) (children_of past d))) (d == c)
+    (list_any (λ x. x == c) (flat_map (subtree_within (suc n) past) (children_of past d)))
     (λ here. here)
-    (flat-wide (λ x. x == c) (λ x. x == c) (λ e. option_eq nat_eq (parent_of past e) (Some d)) (subtree_within n past) (subtree_within (suc n) past) (contexts past)
+    (flat-wide (λ x. x == c) (λ x. x == c) (λ e. option_eq nat_eq (parent_of past e) (Some d)) (subtree_within n past)
+    (subtree_within (suc n) past) (contexts past)
     (λ e child later. subtree-deeper n past e c later)) stands
 
 -- below a context stand just the live contexts that have it on their chain, and are not it

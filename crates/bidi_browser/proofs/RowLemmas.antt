@@ -15,7 +15,8 @@ use Rattle.bidi_browser.specs.Occurrences.{occurrence, context_created, context_
 use Rattle.bidi_messages.specs.declared.event.EventName.TheVariants.{ContextDestroyed}
 use Rattle.bidi_browser.specs.Outcome.{oldest_window}
 use Rattle.bidi_browser.specs.Accepted.{AreAccepted}
-use Rattle.bidi_browser.specs.ContextRows.{ContextRow, row_of, row_at, rows, children_in, below, inner_info, infos_below, root_info, info_in, created_in, destroyed_in, realm_created_in, realm_destroyed_in}
+use Rattle.bidi_browser.specs.ContextRows.{ContextRow, row_of, row_at, rows, children_in, below, inner_info, infos_below}
+use Rattle.bidi_browser.specs.ContextRows.{root_info, info_in, created_in, destroyed_in, realm_created_in, realm_destroyed_in}
 use Rattle.bidi_browser.proofs.AcceptedLemmas.{levels-accepted, level-child}
 use Rattle.bidi_handles.proofs.ListLemmas.{filter-map, find-map, find-same}
 use Rattle.bidi_browser.proofs.RemovalLemmas.{any-contexts}
@@ -43,9 +44,11 @@ map-joined f [] ys = refl
 map-joined f (x ∷ xs) ys = ap (λ zs. f x ∷ zs) (map-joined f xs ys)
 
 -- f of each of many lists joined
-flat_map-each : {A B C : Type 0} (f : B → C) (g : A → List C) (h : A → List B) (xs : List A) → ((x : A) → g x ≡ map f (h x)) → flat_map g xs ≡ map f (flat_map h xs)
+flat_map-each : {A B C : Type 0} (f : B → C) (g : A → List C) (h : A → List B) (xs : List A)
+    → ((x : A) → g x ≡ map f (h x)) → flat_map g xs ≡ map f (flat_map h xs)
 flat_map-each f g h [] same = refl
-flat_map-each f g h (x ∷ xs) same = ap (λ zs. zs ++ flat_map g xs) (same x) ∙ (ap (λ zs. map f (h x) ++ zs) (flat_map-each f g h xs same) ∙ sym (map-joined f (h x) (flat_map h xs)))
+flat_map-each f g h (x ∷ xs) same =
+    ap (λ zs. zs ++ flat_map g xs) (same x) ∙ (ap (λ zs. map f (h x) ++ zs) (flat_map-each f g h xs same) ∙ sym (map-joined f (h x) (flat_map h xs)))
 
 -- many empty lists joined
 flat_map-none : (xs : List ℕ) → flat_map {X = ℕ} {A = ℕ} (λ x. []) xs ≡ []
@@ -105,7 +108,8 @@ pub oldest-stands : (past : List Act) (items : List Context) → map row_of item
     → option_map row_of (find (λ x. option_eq nat_eq x.parent None) items) ≡ option_map (row_at past) (find (λ c. is_none (parent_of past c)) (contexts past))
 oldest-stands past items same =
     find-row past items (λ r. option_eq nat_eq r.parent None) same
-    ∙ ap (option_map (row_at past)) (find-same (λ c. option_eq nat_eq (parent_of past c) None) (λ c. is_none (parent_of past c)) (contexts past) (λ c. parentless (parent_of past c)))
+    ∙ ap (option_map (row_at past)) (find-same (λ c. option_eq nat_eq (parent_of past c) None) (λ c. is_none (parent_of past c))
+    (contexts past) (λ c. parentless (parent_of past c)))
 
 -- a context that passes is the first, before those that follow
 first-step : (past : List Act) (b : Bool) (c : ℕ) (ds : List ℕ) (o : Option ℕ) → oldest_window past ds ≡ option_map (window_of past) o
@@ -132,19 +136,24 @@ children-stand past p = filter-map (row_at past) (λ r. option_eq nat_eq r.paren
 pub tops-stand : (past : List Act) → children_in (rows past) None ≡ map (row_at past) (tops past)
 tops-stand past =
     filter-map (row_at past) (λ r. option_eq nat_eq r.parent None) (contexts past)
-    ∙ ap (map (row_at past)) (filter-same (λ c. option_eq nat_eq (parent_of past c) None) (λ c. is_none (parent_of past c)) (contexts past) (λ c. parentless (parent_of past c)))
+    ∙ ap (map (row_at past)) (filter-same (λ c. option_eq nat_eq (parent_of past c) None) (λ c. is_none (parent_of past c)) (contexts past)
+    (λ c. parentless (parent_of past c)))
 
 -- rows, each with all below it, are those of their subtrees
-subtrees-step : (n : ℕ) (past : List Act) (cs : List ℕ) → ((c : ℕ) → below n (rows past) (Some c) ≡ map (row_at past) (flat_map (subtree_within n past) (children_of past c)))
+subtrees-step : (n : ℕ) (past : List Act) (cs : List ℕ)
+    → ((c : ℕ) → below n (rows past) (Some c) ≡ map (row_at past) (flat_map (subtree_within n past) (children_of past c)))
     → flat_map (λ r. r ∷ below n (rows past) (Some r.number)) (map (row_at past) cs) ≡ map (row_at past) (flat_map (subtree_within (suc n) past) cs)
 subtrees-step n past cs same =
     flat_map-map (λ (r : ContextRow). r ∷ below n (rows past) (Some r.number)) (row_at past) cs
-    ∙ flat_map-each (row_at past) (λ c. row_at past c ∷ below n (rows past) (Some c)) (subtree_within (suc n) past) cs (λ c. ap (λ rs. row_at past c ∷ rs) (same c))
+    ∙ flat_map-each (row_at past) (λ c. row_at past c ∷ below n (rows past) (Some c)) (subtree_within (suc n) past) cs
+    (λ c. ap (λ rs. row_at past c ∷ rs) (same c))
 
 -- the rows below a context are those of its children's subtrees
 below-stands : (n : ℕ) (past : List Act) (c : ℕ) → below n (rows past) (Some c) ≡ map (row_at past) (flat_map (subtree_within n past) (children_of past c))
 below-stands zero past c = ap (map (row_at past)) (sym (flat_map-none (children_of past c)))
-below-stands (suc n) past c = ap (flat_map (λ r. r ∷ below n (rows past) (Some r.number))) (children-stand past c) ∙ subtrees-step n past (children_of past c) (below-stands n past)
+below-stands (suc n) past c =
+    ap (flat_map (λ r. r ∷ below n (rows past) (Some r.number))) (children-stand past c)
+    ∙ subtrees-step n past (children_of past c) (below-stands n past)
 
 -- the rows of a subtree, in tree order
 pub subtree-stands : (past : List Act) (c : ℕ) → row_at past c ∷ below 15 (rows past) (Some c) ≡ map (row_at past) (subtree_of past c)
@@ -152,7 +161,8 @@ subtree-stands past c = ap (λ rs. row_at past c ∷ rs) (below-stands 15 past c
 
 -- all rows, in tree order
 pub tree_order-stands : (past : List Act) → below 16 (rows past) None ≡ map (row_at past) (tree_order past)
-tree_order-stands past = ap (flat_map (λ r. r ∷ below 15 (rows past) (Some r.number))) (tops-stand past) ∙ subtrees-step 15 past (tops past) (below-stands 15 past)
+tree_order-stands past =
+    ap (flat_map (λ r. r ∷ below 15 (rows past) (Some r.number))) (tops-stand past) ∙ subtrees-step 15 past (tops past) (below-stands 15 past)
 
 -- ---- levels
 
@@ -174,7 +184,8 @@ pub infos-stand : (n : ℕ) (past : List Act) (depth : Option ℕ) (p : ℕ) →
 infos-stand zero past depth p acc deep = ap (map (info_within zero past depth)) (sym (none-below past p acc (omega arith)))
 infos-stand (suc n) past depth p acc deep =
     ap (map (λ r. inner_info r (children_tree depth (infos_below n (rows past) (depth_below depth) r.number)))) (children-stand past p)
-    ∙ (map-map (λ (r : ContextRow). inner_info r (children_tree depth (infos_below n (rows past) (depth_below depth) r.number))) (row_at past) (children_of past p)
+    ∙ (map-map (λ (r : ContextRow). inner_info r (children_tree depth (infos_below n (rows past) (depth_below depth) r.number)))
+    (row_at past) (children_of past p)
     ∙ map-filter-same (λ c. inner_info (row_at past c) (children_tree depth (infos_below n (rows past) (depth_below depth) c))) (info_within (suc n) past depth)
     (λ c. option_eq nat_eq (parent_of past c) (Some p)) (contexts past)
     (λ c e. ap (λ infos. inner_info (row_at past c) (children_tree depth infos))

@@ -40,11 +40,15 @@ use Rattle.bidi_browser.specs.Realms.{realm_of, realms, handles_of}
 use Rattle.bidi_browser.proofs.RowLemmas.{realm-found}
 
 -- the context in hand whose realm passes, where there is one
-pub realm-targeted : (past : List Act) (p : ℕ → Bool) (o : Option (Bor Context)) → option_map (λ c. rows.row_of c.now) o ≡ option_map (row_at past) (find (λ c. p (realm_of past c)) (contexts past))
+pub realm-targeted : (past : List Act) (p : ℕ → Bool) (o : Option (Bor Context))
+    → option_map (λ c. rows.row_of c.now) o ≡ option_map (row_at past) (find (λ c. p (realm_of past c)) (contexts past))
     → IsTargeted (found o NoSuchFrame) past (found (find p (realms past)) NoSuchFrame)
-realm-targeted past p o stands = by o (find (λ c. p (realm_of past c)) (contexts past)) stands (realm-found past p) (λ c e. find-passes (λ c. p (realm_of past c)) (is_alive past) (up_to (given past kind.Context)) c e)
+realm-targeted past p o stands =
+    by o (find (λ c. p (realm_of past c)) (contexts past)) stands (realm-found past p)
+    (λ c e. find-passes (λ c. p (realm_of past c)) (is_alive past) (up_to (given past kind.Context)) c e)
   where
-    by : (o : Option (Bor Context)) (q : Option ℕ) → option_map (λ c. rows.row_of c.now) o ≡ option_map (row_at past) q → find p (realms past) ≡ option_map (realm_of past) q → ((c : ℕ) → q ≡ Some c → is_alive past c ≡ true)
+    by : (o : Option (Bor Context)) (q : Option ℕ) → option_map (λ c. rows.row_of c.now) o ≡ option_map (row_at past) q
+        → find p (realms past) ≡ option_map (realm_of past) q → ((c : ℕ) → q ≡ Some c → is_alive past c ≡ true)
         → IsTargeted (found o NoSuchFrame) past (found (find p (realms past)) NoSuchFrame)
     by None None e is alive = ap (λ r. found r NoSuchFrame) is
     by None (Some c) e is alive = absurd (cc)
@@ -52,36 +56,64 @@ realm-targeted past p o stands = by o (find (λ c. p (realm_of past c)) (context
     by (Some x) (Some c) e is alive = (c, alive c refl, ap (λ r. found r NoSuchFrame) is, cc)
 
 -- a context that is named is targeted, where no sandbox is meant
-pub context-targeted : (past : List Act) (id sandbox : List ℕ) (c : ℕ) → context_named past id ≡ Ok c → bytes_eq sandbox [] ≡ true → (is_alive past c ≡ true) × (realm_targeted past (ContextTarget id sandbox) ≡ Ok (realm_of past c))
+pub context-targeted : (past : List Act) (id sandbox : List ℕ) (c : ℕ) → context_named past id ≡ Ok c
+    → bytes_eq sandbox [] ≡ true → (is_alive past c ≡ true) × (realm_targeted past (ContextTarget id sandbox) ≡ Ok (realm_of past c))
 context-targeted past id sandbox c named empty = (named-alive past id c named, rw (named, empty) refl)
 
 -- what plans that handles are held no longer
-pub disown-plans : (plan : Plan) (past : List Act) (moment : ℕ) (action : Action) (c : ℕ) (ids : List (List ℕ)) (r : ResultData) (number : ℕ) (numbers : Vec ℕ Global) → is_asked action ≡ true → is_alive past c ≡ true → outcome past action ≡ Ok (Disowned (realm_of past c) ids)
-    → Replies (result_tree r) ∷ [] ≡ occurs past moment action (Disowned (realm_of past c) ids) → number ≡ c → numbers.items ≡ map (λ h. h.0) (filter (λ h. has_id ids h.0) (handles_of past (realm_of past c)))
+pub disown-plans : (plan : Plan) (past : List Act) (moment : ℕ) (action : Action) (c : ℕ) (ids : List (List ℕ)) (r : ResultData) (number : ℕ)
+    (numbers : Vec ℕ Global) → is_asked action ≡ true → is_alive past c ≡ true → outcome past action ≡ Ok (Disowned (realm_of past c) ids)
+    → Replies (result_tree r) ∷ [] ≡ occurs past moment action (Disowned (realm_of past c) ids)
+    → number ≡ c → numbers.items ≡ map (λ h. h.0) (filter (λ h. has_id ids h.0) (handles_of past (realm_of past c)))
     → plan.before.items ≡ [] → plan.result ≡ Some r → plan.after.items ≡ [] → plan.change.edit ≡ Disown number numbers → Plans (Ok plan) past moment action
 disown-plans plan past moment action c ids r number numbers asked alive checked told at gone before reply after change = (
   Disowned (realm_of past c) ids,
   checked,
   rw (before, reply, after) told,
   rw (reply, asked) refl,
-  rw change (ids, subst (λ k. is_alive past k ≡ true) (sym at) alive, ap (λ k. Disowned (realm_of past k) ids) (sym at), gone ∙ ap (λ k. map (λ h. h.0) (filter (λ h. has_id ids h.0) (handles_of past (realm_of past k)))) (sym at)),
+  rw change (
+    ids,
+    subst (λ k. is_alive past k ≡ true) (sym at) alive,
+    ap (λ k. Disowned (realm_of past k) ids) (sym at),
+    gone ∙ ap (λ k. map (λ h. h.0) (filter (λ h. has_id ids h.0) (handles_of past (realm_of past k)))) (sym at),
+  ),
   λ unasked. after,
 )
 
 -- ---- scripts that ended
 
 -- a script whose value gets no handle
-pub ran-unheld : (past : List Act) (c : ℕ) (owned : Bool) (ending : Ending) (realm : ℕ) (t : Node) → (owned && takes_handle (value_of ending)) ≡ false → realm ≡ realm_of past c → t ≡ result_told realm ending (value_of ending)
-    → (let r = realm_of past c in let held = owned && takes_handle (value_of ending) in (ending_outcome past r owned ending ≡ Ok (Ran r ending held)) × (t ≡ script_result past r ending held) × EditMakes Keep past (Ran r ending held))
+pub ran-unheld : (past : List Act) (c : ℕ) (owned : Bool) (ending : Ending) (realm : ℕ) (t : Node)
+    → (owned && takes_handle (value_of ending)) ≡ false → realm ≡ realm_of past c → t ≡ result_told realm ending (value_of ending)
+    → (let r = realm_of past c in let held = owned && takes_handle (value_of ending) in
+    (ending_outcome past r owned ending ≡ Ok (Ran r ending held)) × (t ≡ script_result past r ending held) × EditMakes Keep past (Ran r ending held))
 ran-unheld past c owned (Returned v) realm t none at told = rw none (refl, told ∙ ap (λ r. result_told r (Returned v) v) at, refl)
 ran-unheld past c owned (Threw v) realm t none at told = rw none (refl, told ∙ ap (λ r. result_told r (Threw v) v) at, refl)
 
 -- and one whose value gets one
-pub ran-held : (past : List Act) (c : ℕ) (owned : Bool) (ending : Ending) (realm : ℕ) (t : Node) (n : ℕ) (seen : ℕ × Node) (number : ℕ) → (owned && takes_handle (value_of ending)) ≡ true → nat_lt (length (handles_of past (realm_of past c))) 1000 ≡ true → n ≡ next_number past kind.Handle
-    → is_alive past c ≡ true → realm ≡ realm_of past c → number ≡ c → t ≡ result_told realm ending (shown_as (Some n) (value_of ending)) → seen ≡ (n, value_of ending)
-    → (let r = realm_of past c in let held = owned && takes_handle (value_of ending) in (ending_outcome past r owned ending ≡ Ok (Ran r ending held)) × (t ≡ script_result past r ending held)
-    × ((e : Ending) × (is_alive past number ≡ true) × (Ran r ending held ≡ Ran (realm_of past number) e true) × (seen ≡ (next_number past kind.Handle, value_of e))))
+pub ran-held : (past : List Act) (c : ℕ) (owned : Bool) (ending : Ending) (realm : ℕ) (t : Node) (n : ℕ) (seen : ℕ × Node) (number : ℕ)
+    → (owned && takes_handle (value_of ending)) ≡ true
+    → nat_lt (length (handles_of past (realm_of past c))) 1000 ≡ true → n ≡ next_number past kind.Handle
+    → is_alive past c ≡ true → realm ≡ realm_of past c
+    → number ≡ c → t ≡ result_told realm ending (shown_as (Some n) (value_of ending)) → seen ≡ (n, value_of ending)
+    → (let r = realm_of past c in let held = owned && takes_handle (value_of ending) in
+    (ending_outcome past r owned ending ≡ Ok (Ran r ending held)) × (t ≡ script_result past r ending held)
+    × ((e : Ending) × (is_alive past number ≡ true)
+    × (Ran r ending held ≡ Ran (realm_of past number) e true) × (seen ≡ (next_number past kind.Handle, value_of e))))
 ran-held past c owned (Returned v) realm t n seen number some room next alive at is told holds =
-    rw (some, room) (refl, told ∙ ap₂ (λ r k. result_told r (Returned v) (shown_as (Some k) v)) at next, (Returned v, subst (λ k. is_alive past k ≡ true) (sym is) alive, ap (λ k. Ran (realm_of past k) (Returned v) true) (sym is), holds ∙ ap (λ k. (k, v)) next))
+    rw (some, room) (
+      refl,
+      told ∙ ap₂ (λ r k. result_told r (Returned v) (shown_as (Some k) v)) at next,
+      (
+        Returned v,
+        subst (λ k. is_alive past k ≡ true) (sym is) alive,
+        ap (λ k. Ran (realm_of past k) (Returned v) true) (sym is),
+        holds ∙ ap (λ k. (k, v)) next,
+      ),
+    )
 ran-held past c owned (Threw v) realm t n seen number some room next alive at is told holds =
-    rw (some, room) (refl, told ∙ ap₂ (λ r k. result_told r (Threw v) (shown_as (Some k) v)) at next, (Threw v, subst (λ k. is_alive past k ≡ true) (sym is) alive, ap (λ k. Ran (realm_of past k) (Threw v) true) (sym is), holds ∙ ap (λ k. (k, v)) next))
+    rw (some, room) (
+      refl,
+      told ∙ ap₂ (λ r k. result_told r (Threw v) (shown_as (Some k) v)) at next,
+      (Threw v, subst (λ k. is_alive past k ≡ true) (sym is) alive, ap (λ k. Ran (realm_of past k) (Threw v) true) (sym is), holds ∙ ap (λ k. (k, v)) next),
+    )

@@ -1,5 +1,6 @@
 -- The table in hand by its rows, and by the past that they stand for.
-use Rattle.std.proofs.Common.{◌≡◌, ◌∙◌, ℕ, suc, List, [], ◌∷◌, ◌++◌, map, Bool, true, false, cond, Option, Some, None, Result, Ok, Err, IfOk, refl, sym, ap, ap₂, subst}
+use Rattle.std.proofs.Common.{◌≡◌, ◌∙◌, ℕ, suc, List, [], ◌∷◌, ◌++◌, map, Bool, true, false, cond}
+use Rattle.std.proofs.Common.{Option, Some, None, Result, Ok, Err, IfOk, refl, sym, ap, ap₂, subst}
 use Rattle.std.specs.Prelude.{◌==◌, not, filter, option_map}
 use Rattle.std.specs.Borrow.{Bor}
 use Rattle.std.specs.List.{list_any}
@@ -42,7 +43,8 @@ pub first-pushed : {A B : Type 0} (f : A → B) (none one : List A) (x : A) (res
 first-pushed f none one x rest pushed empty = ap (λ xs. map f xs ++ rest) (pushed ∙ ap (λ xs. xs ++ x ∷ []) empty)
 
 -- a context and all below it
-pub subtree-in : (past : List Act) (c : ℕ) (row : ContextRow) (all : List ContextRow) → row ≡ row_at past c → all ≡ rows past → row ∷ below 15 all (Some row.number) ≡ map (row_at past) (subtree_of past c)
+pub subtree-in : (past : List Act) (c : ℕ) (row : ContextRow) (all : List ContextRow)
+    → row ≡ row_at past c → all ≡ rows past → row ∷ below 15 all (Some row.number) ≡ map (row_at past) (subtree_of past c)
 subtree-in past c row all is table = ap₂ (λ r rs. r ∷ below 15 rs (Some r.number)) is table ∙ subtree-stands past c
 
 -- all in tree order
@@ -50,47 +52,81 @@ pub order-in : (past : List Act) (all : List ContextRow) → all ≡ rows past �
 order-in past all table = ap (λ rs. below 16 rs None) table ∙ tree_order-stands past
 
 -- the Info of a context
-pub info-at : (past : List Act) (depth : Option ℕ) (c : ℕ) (row : ContextRow) (all : List ContextRow) → AreAccepted past → row ≡ row_at past c → all ≡ rows past → info_in all depth row ≡ info_of past depth c
+pub info-at : (past : List Act) (depth : Option ℕ) (c : ℕ) (row : ContextRow) (all : List ContextRow)
+    → AreAccepted past → row ≡ row_at past c → all ≡ rows past → info_in all depth row ≡ info_of past depth c
 info-at past depth c row all accepted is table = ap₂ (λ rs r. info_in rs depth r) table is ∙ info-stands past depth c accepted
 
 -- the Infos of some contexts
-infos-at : (past : List Act) (depth : Option ℕ) (cs : List ℕ) → AreAccepted past → map (info_in (rows past) depth) (map (row_at past) cs) ≡ map (info_of past depth) cs
+infos-at : (past : List Act) (depth : Option ℕ) (cs : List ℕ)
+    → AreAccepted past → map (info_in (rows past) depth) (map (row_at past) cs) ≡ map (info_of past depth) cs
 infos-at past depth [] accepted = refl
 infos-at past depth (c ∷ cs) accepted = ap₂ (λ x xs. x ∷ xs) (info-stands past depth c accepted) (infos-at past depth cs accepted)
 
 -- those of the top-level contexts
-pub top_infos-at : (past : List Act) (depth : Option ℕ) (all : List ContextRow) → AreAccepted past → all ≡ rows past → map (info_in all depth) (children_in all None) ≡ map (info_of past depth) (tops past)
+pub top_infos-at : (past : List Act) (depth : Option ℕ) (all : List ContextRow)
+    → AreAccepted past → all ≡ rows past → map (info_in all depth) (children_in all None) ≡ map (info_of past depth) (tops past)
 top_infos-at past depth all accepted table =
-    ap (λ rs. map (info_in rs depth) (children_in rs None)) table ∙ (ap (map (info_in (rows past) depth)) (tops-stand past) ∙ infos-at past depth (tops past) accepted)
+    ap (λ rs. map (info_in rs depth) (children_in rs None)) table
+    ∙ (ap (map (info_in (rows past) depth)) (tops-stand past) ∙ infos-at past depth (tops past) accepted)
 
 -- a row that is kept or not
-kept-row : (b : Bool) (x : Context) (items : List Context) (all : List ContextRow) → map row_of items ≡ all → map row_of (cond b (x ∷ items) items) ≡ cond b (row_of x ∷ all) all
+kept-row : (b : Bool) (x : Context) (items : List Context) (all : List ContextRow)
+    → map row_of items ≡ all → map row_of (cond b (x ∷ items) items) ≡ cond b (row_of x ∷ all) all
 kept-row true x items all same = ap (λ rs. row_of x ∷ rs) same
 kept-row false x items all same = same
 
 -- the rows without some numbers
-pub kept-rows : (numbers : List ℕ) (items : List Context) → map row_of (filter (λ x. not (list_any (λ n. n == x.number) numbers)) items) ≡ filter (λ r. not (list_any (λ n. n == r.number) numbers)) (map row_of items)
+pub kept-rows : (numbers : List ℕ) (items : List Context) → map row_of (filter (λ x. not (list_any (λ n. n == x.number) numbers)) items)
+    ≡ filter (λ r. not (list_any (λ n. n == r.number) numbers)) (map row_of items)
 kept-rows numbers [] = refl
 kept-rows numbers (x ∷ items) = kept-row (not (list_any (λ n. n == x.number) numbers)) x _ _ (kept-rows numbers items)
 
 -- a removal leaves the rows that the past has after it
-pub removed-rows : (past : List Act) (a : ℕ) (numbers : List ℕ) (all : List ContextRow) → AreAccepted (Removed a ∷ past) → all ≡ rows past → numbers ≡ subtree_of past a
+pub removed-rows : (past : List Act) (a : ℕ) (numbers : List ℕ) (all : List ContextRow)
+    → AreAccepted (Removed a ∷ past) → all ≡ rows past → numbers ≡ subtree_of past a
     → filter (λ r. not (list_any (λ n. n == r.number) numbers)) all ≡ rows (Removed a ∷ past)
 removed-rows past a numbers all accepted table is =
-    ap₂ (λ ns rs. filter (λ r. not (list_any (λ n. n == r.number) ns)) rs) is table ∙ sym (rows-removed past a accepted.2 (act-sound past accepted.0 (Removed a) accepted.1))
+    ap₂ (λ ns rs. filter (λ r. not (list_any (λ n. n == r.number) ns)) rs) is table
+    ∙ sym (rows-removed past a accepted.2 (act-sound past accepted.0 (Removed a) accepted.1))
 
 -- an act that leaves the tables as they are leaves what a browser stands for with it
-pub kept-stands : (b : Browser) (past : List Act) (action : Action) (act : Act) → leaves_tables act ≡ true → outcome past action ≡ Ok act → StandsFor b past → StandsFor b (act ∷ past)
+pub kept-stands : (b : Browser) (past : List Act) (action : Action) (act : Act)
+    → leaves_tables act ≡ true → outcome past action ≡ Ok act → StandsFor b past → StandsFor b (act ∷ past)
 kept-stands b past action Looked leaves done s =
-    record { contexts = record { rows = s.contexts.rows; accepted = (action, done, s.contexts.accepted) }; next_context = s.next_context; next_realm = s.next_realm; next_navigation = s.next_navigation; next_handle = s.next_handle; table = record { rows = s.table.rows; count = s.table.count }; next_window = s.next_window }
+    record {
+      contexts = record { rows = s.contexts.rows; accepted = (action, done, s.contexts.accepted) };
+      next_context = s.next_context;
+      next_realm = s.next_realm;
+      next_navigation = s.next_navigation;
+      next_handle = s.next_handle;
+      table = record { rows = s.table.rows; count = s.table.count };
+      next_window = s.next_window;
+    }
 kept-stands b past action (Logged c level line) leaves done s =
-    record { contexts = record { rows = s.contexts.rows; accepted = (action, done, s.contexts.accepted) }; next_context = s.next_context; next_realm = s.next_realm; next_navigation = s.next_navigation; next_handle = s.next_handle; table = record { rows = s.table.rows; count = s.table.count }; next_window = s.next_window }
+    record {
+      contexts = record { rows = s.contexts.rows; accepted = (action, done, s.contexts.accepted) };
+      next_context = s.next_context;
+      next_realm = s.next_realm;
+      next_navigation = s.next_navigation;
+      next_handle = s.next_handle;
+      table = record { rows = s.table.rows; count = s.table.count };
+      next_window = s.next_window;
+    }
 kept-stands b past action (Ran r ending false) leaves done s =
-    record { contexts = record { rows = s.contexts.rows; accepted = (action, done, s.contexts.accepted) }; next_context = s.next_context; next_realm = s.next_realm; next_navigation = s.next_navigation; next_handle = s.next_handle; table = record { rows = s.table.rows; count = s.table.count }; next_window = s.next_window }
+    record {
+      contexts = record { rows = s.contexts.rows; accepted = (action, done, s.contexts.accepted) };
+      next_context = s.next_context;
+      next_realm = s.next_realm;
+      next_navigation = s.next_navigation;
+      next_handle = s.next_handle;
+      table = record { rows = s.table.rows; count = s.table.count };
+      next_window = s.next_window;
+    }
 kept-stands b past action act leaves done s = absurd (cc)
 
 -- so does a row that is set, with the table that has it
-pub row-stands : (b : Browser) (table : ScriptTable) (past : List Act) (action : Action) (act : Act) (script : List ℕ) (row : Said) → act ≡ Tabled script row → outcome past action ≡ Ok act → AreTabled table (Tabled script row ∷ past) → StandsFor b past
+pub row-stands : (b : Browser) (table : ScriptTable) (past : List Act) (action : Action) (act : Act) (script : List ℕ) (row : Said)
+    → act ≡ Tabled script row → outcome past action ≡ Ok act → AreTabled table (Tabled script row ∷ past) → StandsFor b past
     → StandsFor (record b { table = table }) (act ∷ past)
 row-stands b table past action act script row is done tabled s =
     subst (λ a. StandsFor (record b { table = table }) (a ∷ past)) (sym is) (record {
@@ -104,8 +140,10 @@ row-stands b table past action act script row is done tabled s =
     })
 
 -- a browser whose contexts changed stands for the act that changed them
-pub held-stands : (b : Browser) (contexts : Contexts) (n : ℕ) (past : List Act) (action : Action) (a : ℕ) (ending : Ending) (act : Act) (held : ℕ × Node) → act ≡ Ran (realm_of past a) ending true → is_alive past a ≡ true
-    → held ≡ (next_number past Handle, value_of ending) → outcome past action ≡ Ok act → StandsFor b past → n ≡ suc (next_number past Handle) → map row_of contexts.live.items ≡ changed a (held_in held) (map row_of b.contexts.live.items)
+pub held-stands : (b : Browser) (contexts : Contexts) (n : ℕ) (past : List Act) (action : Action) (a : ℕ) (ending : Ending) (act : Act) (held : ℕ × Node)
+    → act ≡ Ran (realm_of past a) ending true → is_alive past a ≡ true
+    → held ≡ (next_number past Handle, value_of ending) → outcome past action ≡ Ok act → StandsFor b past
+    → n ≡ suc (next_number past Handle) → map row_of contexts.live.items ≡ changed a (held_in held) (map row_of b.contexts.live.items)
     → StandsFor (record b { contexts = contexts; next_handle = n }) (act ∷ past)
 held-stands b contexts n past action a ending act held is alive holds done s next rows =
     subst (λ x. StandsFor (record b { contexts = contexts; next_handle = n }) (x ∷ past)) (sym is) (record {
@@ -122,14 +160,19 @@ held-stands b contexts n past action a ending act held is alive holds done s nex
     })
 
 -- the same, where what is held is another by an equation
-pub handle-stands : (b : Browser) (contexts : Contexts) (n : ℕ) (past : List Act) (action : Action) (a : ℕ) (ending : Ending) (act : Act) (held seen : ℕ × Node) → map row_of contexts.live.items ≡ changed a (held_in held) (map row_of b.contexts.live.items)
-    → held ≡ seen → seen ≡ (next_number past Handle, value_of ending) → act ≡ Ran (realm_of past a) ending true → is_alive past a ≡ true → outcome past action ≡ Ok act → StandsFor b past → n ≡ suc (next_number past Handle)
+pub handle-stands : (b : Browser) (contexts : Contexts) (n : ℕ) (past : List Act) (action : Action) (a : ℕ) (ending : Ending) (act : Act)
+    (held seen : ℕ × Node) → map row_of contexts.live.items ≡ changed a (held_in held) (map row_of b.contexts.live.items)
+    → held ≡ seen → seen ≡ (next_number past Handle, value_of ending) → act ≡ Ran (realm_of past a) ending true
+    → is_alive past a ≡ true → outcome past action ≡ Ok act → StandsFor b past → n ≡ suc (next_number past Handle)
     → StandsFor (record b { contexts = contexts; next_handle = n }) (act ∷ past)
-handle-stands b contexts n past action a ending act held seen rows same holds is alive done s next = held-stands b contexts n past action a ending act held is alive (same ∙ holds) done s next rows
+handle-stands b contexts n past action a ending act held seen rows same holds is alive done s next =
+    held-stands b contexts n past action a ending act held is alive (same ∙ holds) done s next rows
 
-pub disowned-stands : (b : Browser) (contexts : Contexts) (past : List Act) (action : Action) (a : ℕ) (ids : List (List ℕ)) (act : Act) (numbers : List ℕ) → act ≡ Disowned (realm_of past a) ids → is_alive past a ≡ true
+pub disowned-stands : (b : Browser) (contexts : Contexts) (past : List Act) (action : Action) (a : ℕ) (ids : List (List ℕ)) (act : Act) (numbers : List ℕ)
+    → act ≡ Disowned (realm_of past a) ids → is_alive past a ≡ true
     → numbers ≡ map (λ h. h.0) (filter (λ h. has_id ids h.0) (handles_of past (realm_of past a))) → outcome past action ≡ Ok act → StandsFor b past
-    → map row_of contexts.live.items ≡ changed a (without_in numbers) (map row_of b.contexts.live.items) → StandsFor (record b { contexts = contexts }) (act ∷ past)
+    → map row_of contexts.live.items ≡ changed a (without_in numbers) (map row_of b.contexts.live.items)
+    → StandsFor (record b { contexts = contexts }) (act ∷ past)
 disowned-stands b contexts past action a ids act numbers is alive gone done s rows =
     subst (λ x. StandsFor (record b { contexts = contexts }) (x ∷ past)) (sym is) (record {
       contexts = record {

@@ -1,10 +1,15 @@
 -- What the browser is asked: its commands, and the steps of a play that it takes. After WebDriver BiDi, "The browsingContext Module" and "The script Module".
 use Prim.Native.String.{String}
-use Rattle.std.specs.Prelude.{ℕ, ℤ, Bool, true, false, List, [], ◌∷◌, codes, bytes_eq, Option, Some, None, unwrap_or, option_map, is_some, is_none, ◌&&◌, ◌||◌, if◌then◌else◌}
+use Rattle.std.specs.Prelude.{ℕ, ℤ, Bool, true, false, List, [], ◌∷◌, codes, bytes_eq, Option, Some, None}
+use Rattle.std.specs.Prelude.{unwrap_or, option_map, is_some, is_none, ◌&&◌, ◌||◌, if◌then◌else◌}
 use Rattle.bidi_tree.specs.Node.{Node, null}
 use Rattle.bidi_values.specs.declared.log_entry.Level.{Level}
 use Rattle.bidi_messages.specs.declared.method.Method.{Method}
-use Rattle.bidi_messages.specs.declared.method.Method.TheVariants.{BrowsingContextActivate, BrowsingContextClose, BrowsingContextCreate, BrowsingContextGetTree, BrowsingContextNavigate, BrowsingContextReload, BrowsingContextTraverseHistory, ScriptEvaluate, ScriptCallFunction, ScriptDisown, ScriptGetRealms}
+use Rattle.bidi_messages.specs.declared.method.Method.TheVariants.{BrowsingContextActivate, BrowsingContextClose}
+use Rattle.bidi_messages.specs.declared.method.Method.TheVariants.{BrowsingContextCreate, BrowsingContextGetTree}
+use Rattle.bidi_messages.specs.declared.method.Method.TheVariants.{BrowsingContextNavigate, BrowsingContextReload}
+use Rattle.bidi_messages.specs.declared.method.Method.TheVariants.{BrowsingContextTraverseHistory, ScriptEvaluate, ScriptCallFunction}
+use Rattle.bidi_messages.specs.declared.method.Method.TheVariants.{ScriptDisown, ScriptGetRealms}
 use Rattle.bidi_handles.specs.Params.{tree_if_at, text_if_at, number_if_at, trees_if_at, text_at, texts_at, whole_at, entry_at}
 
 -- a tab of a window, or a window of its own
@@ -114,7 +119,10 @@ browser_commands =
     ∷ ("browsingContext.reload", λ p. Reload (text_at "context" p) (wait_of p))
     ∷ ("browsingContext.traverseHistory", λ p. TraverseHistory (text_at "context" p) (whole_at "delta" p))
     ∷ ("script.evaluate", λ p. Evaluate (text_at "expression" p) (target_of p) (is_owned p))
-    ∷ ("script.callFunction", λ p. CallFunction (text_at "functionDeclaration" p) (target_of p) (unwrap_or (trees_if_at "arguments" p) []) (tree_if_at "this" p) (is_owned p))
+    ∷ (
+      "script.callFunction",
+      λ p. CallFunction (text_at "functionDeclaration" p) (target_of p) (unwrap_or (trees_if_at "arguments" p) []) (tree_if_at "this" p) (is_owned p),
+    )
     ∷ ("script.disown", λ p. Disown (texts_at "handles" p) (target_of p))
     ∷ ("script.getRealms", λ p. GetRealms (text_if_at "context" p) (text_if_at "type" p))
     ∷ []

@@ -26,7 +26,9 @@ use Rattle.bidi_tree.specs.Node.{Node}
 use Rattle.bidi_handles.specs.ValuesInHand.{local_tree}
 use Rattle.bidi_browser.specs.declared.action.Action as declared_action
 use Rattle.bidi_browser.specs.declared.action.Action.TheVariants as in_code
-use Rattle.bidi_browser.specs.Actions.{CreateType, Tab, OwnWindow, Wait, Started, Interactive, Complete, Action, Activate, Close, Create, GetTree, Navigate, Reload, TraverseHistory, Target, ContextTarget, RealmTarget, Evaluate, CallFunction, Disown, GetRealms, Frame, Unframe, Log, TableRow}
+use Rattle.bidi_browser.specs.Actions.{CreateType, Tab, OwnWindow, Wait, Started, Interactive, Complete, Action, Activate, Close}
+use Rattle.bidi_browser.specs.Actions.{Create, GetTree, Navigate, Reload, TraverseHistory, Target, ContextTarget, RealmTarget}
+use Rattle.bidi_browser.specs.Actions.{Evaluate, CallFunction, Disown, GetRealms, Frame, Unframe, Log, TableRow}
 
 -- as what a context is created
 abbrev pub create_type_of : ContextType → CreateType
@@ -81,7 +83,9 @@ abbrev pub arguments_asked : CallFunctionParameters → List Node
 arguments_asked p = unwrap_or (option_map (λ vs. map local_tree vs.items) p.arguments) []
 
 abbrev pub call_function_asked : CallFunctionParameters → Action
-call_function_asked p = CallFunction (string_bytes p.function_declaration) (target_of p.target) (arguments_asked p) (option_map local_tree p.this) (is_owned p.result_ownership)
+call_function_asked p =
+    CallFunction (string_bytes p.function_declaration) (target_of p.target) (arguments_asked p)
+    (option_map local_tree p.this) (is_owned p.result_ownership)
 
 abbrev pub disown_asked : DisownParameters → Action
 disown_asked p = Disown (map string_bytes p.handles.items) (target_of p.target)

@@ -42,11 +42,31 @@ held_in_row row = held_among row.handles
 
 -- the row of a context in hand
 abbrev pub row_of : Context → ContextRow
-row_of c = record { number = c.number; parent = c.parent; top = c.top; level = c.level; window = c.window; realm = c.realm; entries = entries_in c.history; handles = handles_seen c.handles }
+row_of c =
+    record {
+      number = c.number;
+      parent = c.parent;
+      top = c.top;
+      level = c.level;
+      window = c.window;
+      realm = c.realm;
+      entries = entries_in c.history;
+      handles = handles_seen c.handles;
+    }
 
 -- the row that a past makes of a context
 abbrev pub row_at : List Act → ℕ → ContextRow
-row_at past c = record { number = c; parent = parent_of past c; top = top_of past c; level = level_of past c; window = window_of past c; realm = realm_of past c; entries = entries_of past c; handles = handles_of past (realm_of past c) }
+row_at past c =
+    record {
+      number = c;
+      parent = parent_of past c;
+      top = top_of past c;
+      level = level_of past c;
+      window = window_of past c;
+      realm = realm_of past c;
+      entries = entries_of past c;
+      handles = handles_of past (realm_of past c);
+    }
 
 -- the rows of the live contexts, by creation
 abbrev pub rows : List Act → List ContextRow

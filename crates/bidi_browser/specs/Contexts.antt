@@ -1,5 +1,6 @@
 -- Which contexts there are, and how they lie below one another: questions about the browser's past. After WebDriver BiDi, "The browsingContext Module".
-use Rattle.std.specs.Prelude.{ℕ, zero, suc, ◌==◌, nat_eq, nat_lt, Bool, false, not, ◌&&◌, ◌||◌, if◌then◌else◌, List, [], ◌∷◌, ◌++◌, filter, flat_map, find, bytes_eq, Option, Some, None, is_none, unwrap_or}
+use Rattle.std.specs.Prelude.{ℕ, zero, suc, ◌==◌, nat_eq, nat_lt, Bool, false, not, ◌&&◌, ◌||◌, if◌then◌else◌, List, []}
+use Rattle.std.specs.Prelude.{◌∷◌, ◌++◌, filter, flat_map, find, bytes_eq, Option, Some, None, is_none, unwrap_or}
 use Rattle.std.specs.Option.{option_eq}
 use Rattle.bidi_handles.specs.declared.id.IdKind.TheVariants.{Context, Window}
 use Rattle.bidi_handles.specs.Ids.{id_of}

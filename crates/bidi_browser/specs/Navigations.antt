@@ -36,4 +36,5 @@ pub record AreNext (numbers : Numbers) (past : List Act) : Type 0 where
 
 -- with any reply between them, the events in hand are those of the navigation
 abbrev pub IsTold : Told → List Act → ℕ → Wait → ℕ → Move → Type 0
-IsTold told past moment wait c move = (reply : Item) → map Happens (seen told.before.items) ++ reply ∷ map Happens (seen told.after.items) ≡ navigating past moment wait c move reply
+IsTold told past moment wait c move =
+    (reply : Item) → map Happens (seen told.before.items) ++ reply ∷ map Happens (seen told.after.items) ≡ navigating past moment wait c move reply

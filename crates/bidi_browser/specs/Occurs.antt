@@ -4,7 +4,8 @@ use Rattle.url.specs.Parts.{Parts}
 use Rattle.bidi_tree.specs.Node.{Node, text, no_members}
 use Rattle.bidi_handles.specs.declared.id.IdKind.TheVariants.{Context, Realm, Navigation, Handle}
 use Rattle.bidi_browser.specs.Urls.{url_text}
-use Rattle.bidi_browser.specs.Acts.{Act, Made, Framed, Removed, Moved, Logged, Tabled, Ran, Disowned, Looked, Move, Across, Ending, Returned, Threw, next_number}
+use Rattle.bidi_browser.specs.Acts.{Act, Made, Framed, Removed, Moved, Logged, Tabled, Ran, Disowned}
+use Rattle.bidi_browser.specs.Acts.{Looked, Move, Across, Ending, Returned, Threw, next_number}
 use Rattle.bidi_browser.specs.Contexts.{context_of, tops, children_of, tree_order}
 use Rattle.bidi_browser.specs.Places.{entries_of, moved, present}
 use Rattle.bidi_browser.specs.Actions.{Wait, Started, Interactive, Complete, Action, Unframe, Navigate, Reload, GetTree, GetRealms}
@@ -132,7 +133,8 @@ takes_windows type = bytes_eq (unwrap_or type (codes "window")) (codes "window")
 -- what a command that looks is told
 abbrev pub looked_result : List Act → Action → Node
 looked_result past (GetTree depth root) = mapped ("contexts" being listed (map (info_of past depth) (roots past root)) and no_members)
-looked_result past (GetRealms context type) = mapped ("realms" being listed (map (realm_info past) (realm_holders past context (takes_windows type))) and no_members)
+looked_result past (GetRealms context type) =
+    mapped ("realms" being listed (map (realm_info past) (realm_holders past context (takes_windows type))) and no_members)
 looked_result past action = nothing
 
 -- ---- every act

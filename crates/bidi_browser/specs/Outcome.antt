@@ -1,18 +1,23 @@
 -- What the browser does at an action: its checks in order, and the act where none fails. After WebDriver BiDi, the commands of "The browsingContext Module" and "The script Module".
-use Rattle.std.specs.Prelude.{ℕ, nat_lt, nat_le, ℤ, Bool, true, not, ◌&&◌, ◌||◌, List, [], ◌∷◌, length, find, slice_get, codes, bytes_eq, Option, Some, None, is_none, is_some, unwrap_or, Result, Ok, Err}
+use Rattle.std.specs.Prelude.{ℕ, nat_lt, nat_le, ℤ, Bool, true, not, ◌&&◌, ◌||◌, List, [], ◌∷◌, length, find, slice_get}
+use Rattle.std.specs.Prelude.{codes, bytes_eq, Option, Some, None, is_none, is_some, unwrap_or, Result, Ok, Err}
 use Rattle.bidi_tree.specs.Node.{Node, levels, no_members}
 use Rattle.bidi_codes.specs.declared.error_code.ErrorCode.{ErrorCode}
-use Rattle.bidi_codes.specs.declared.error_code.ErrorCode.TheVariants.{InvalidArgument, NoSuchFrame, NoSuchHistoryEntry, NoSuchUserContext, UnknownError, UnsupportedOperation}
+use Rattle.bidi_codes.specs.declared.error_code.ErrorCode.TheVariants.{InvalidArgument, NoSuchFrame, NoSuchHistoryEntry}
+use Rattle.bidi_codes.specs.declared.error_code.ErrorCode.TheVariants.{NoSuchUserContext, UnknownError, UnsupportedOperation}
 use Rattle.bidi_handles.specs.declared.id.IdKind.TheVariants.{Realm}
 use Rattle.bidi_handles.specs.Ids.{id_of}
 use Rattle.bidi_browser.specs.Urls.{parsed}
 use Rattle.bidi_values.specs.declared.log_entry.Level.{Level}
-use Rattle.bidi_browser.specs.Acts.{Act, Made, Framed, Removed, Moved, Logged, Tabled, Ran, Disowned, Looked, To, Again, Across, Ending, Returned, Threw, ScriptEffect, EndsIn, GivesBack}
+use Rattle.bidi_browser.specs.Acts.{Act, Made, Framed, Removed, Moved, Logged, Tabled, Ran, Disowned, Looked, To}
+use Rattle.bidi_browser.specs.Acts.{Again, Across, Ending, Returned, Threw, ScriptEffect, EndsIn, GivesBack}
 use Rattle.bidi_browser.specs.Contexts.{parent_of, level_of, window_of, contexts, context_of, tops}
 use Rattle.bidi_browser.specs.Places.{entries_of, place_across}
 use Rattle.bidi_browser.specs.Realms.{realm_of, realms, value_of, handles_of, held_value, row_of, tabled_texts}
 use Rattle.bidi_handles.specs.Params.{text_at, tree_if_at, number_if_at}
-use Rattle.bidi_browser.specs.Actions.{CreateType, Tab, OwnWindow, Target, ContextTarget, RealmTarget, Action, Activate, Close, Create, GetTree, Navigate, Reload, TraverseHistory, Evaluate, CallFunction, Disown, GetRealms, Frame, Unframe, Log, TableRow}
+use Rattle.bidi_browser.specs.Actions.{CreateType, Tab, OwnWindow, Target, ContextTarget, RealmTarget, Action}
+use Rattle.bidi_browser.specs.Actions.{Activate, Close, Create, GetTree, Navigate, Reload, TraverseHistory, Evaluate}
+use Rattle.bidi_browser.specs.Actions.{CallFunction, Disown, GetRealms, Frame, Unframe, Log, TableRow}
 use Rattle.bidi_codes.specs.Checks.{◌>>=◌, need, found}
 use Rattle.bidi_handles.specs.Values.{argument, arguments, takes_handle, has_handle}
 use Rattle.bidi_handles.specs.Maps.{◌being◌and◌, mapped, word}

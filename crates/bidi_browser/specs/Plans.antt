@@ -1,5 +1,6 @@
 -- What a plan in hand is: what it tells, and what its change makes of the tables.
-use Rattle.std.specs.Prelude.{◌≡◌, ◌≤◌, ◌<◌, ◌^◌, ◌==◌, ℕ, Bool, true, false, not, List, [], ◌∷◌, ◌++◌, map, filter, flat_map, get_or, Option, Some, None, Result, Ok, Err, is_some, IfSome, ⊤, string_bytes, vec_len, vec_capacity}
+use Rattle.std.specs.Prelude.{◌≡◌, ◌≤◌, ◌<◌, ◌^◌, ◌==◌, ℕ, Bool, true, false, not, List, [], ◌∷◌, ◌++◌, map, filter, flat_map, get_or}
+use Rattle.std.specs.Prelude.{Option, Some, None, Result, Ok, Err, is_some, IfSome, ⊤, string_bytes, vec_len, vec_capacity}
 use Rattle.std.specs.List.{AllByRecursion, position}
 use Rattle.bidi_tree.specs.Node.{levels}
 use Rattle.bidi_messages.specs.declared.method.Method.{Method}
@@ -47,11 +48,15 @@ HasRoomForOne contexts = vec_len contexts.live < vec_capacity contexts.live
 
 -- there is room for what a move adds to the session history of the context of that number, where it is there
 abbrev pub HasRoomIn : Contexts → ℕ → Move → Type 0
-HasRoomIn contexts number move = (i : ℕ) (d : declared_context.Context) → position (λ c. c.number == number) contexts.live.items ≡ Some i → HasRoomFor (get_or contexts.live.items i d).history move
+HasRoomIn contexts number move =
+    (i : ℕ) (d : declared_context.Context)
+    → position (λ c. c.number == number) contexts.live.items ≡ Some i → HasRoomFor (get_or contexts.live.items i d).history move
 
 -- there is room for one more handle in the realm of the context of that number, where it is there
 abbrev pub HasRoomForHandle : Contexts → ℕ → Type 0
-HasRoomForHandle contexts number = (i : ℕ) (d : declared_context.Context) → position (λ c. c.number == number) contexts.live.items ≡ Some i → HasSpare (get_or contexts.live.items i d).handles
+HasRoomForHandle contexts number =
+    (i : ℕ) (d : declared_context.Context)
+    → position (λ c. c.number == number) contexts.live.items ≡ Some i → HasSpare (get_or contexts.live.items i d).handles
 
 -- and for what a change puts in
 abbrev pub EditHasRoom : Browser → Edit → Type 0
@@ -112,7 +117,8 @@ EditMakes (Add context opens_window) past act =
 EditMakes (Remove numbers) past act = (c : ℕ) × (act ≡ Removed c) × (numbers.items ≡ subtree_of past c)
 EditMakes (Navigate n) past act = (act ≡ Moved n.context (move_of n.to)) × IsNavigation n past
 EditMakes (Hold number handle) past act =
-    (ending : Ending) × (is_alive past number ≡ true) × (act ≡ Ran (realm_of past number) ending true) × (handle_seen handle ≡ (next_number past Handle, value_of ending))
+    (ending : Ending) × (is_alive past number ≡ true)
+    × (act ≡ Ran (realm_of past number) ending true) × (handle_seen handle ≡ (next_number past Handle, value_of ending))
 EditMakes (Disown number numbers) past act =
     (ids : List (List ℕ)) × (is_alive past number ≡ true) × (act ≡ Disowned (realm_of past number) ids)
     × (numbers.items ≡ map (λ held. held.0) (filter (λ held. has_id ids held.0) (handles_of past (realm_of past number))))
@@ -126,7 +132,8 @@ Makes change past act = EditMakes change.edit past act
 -- the act of an action, all that it brings about, with a reply where somebody asked, and the change that it makes; or the code of the check that fails. Behind no reply stands nothing.
 abbrev pub Plans : Result Plan Refusal → List Act → ℕ → Action → Type 0
 Plans (Ok plan) past moment action =
-    (act : Act) × (outcome past action ≡ Ok act) × (items_in plan ≡ occurs past moment action act) × (is_some plan.result ≡ is_asked action) × Makes plan.change past act
+    (act : Act) × (outcome past action ≡ Ok act)
+    × (items_in plan ≡ occurs past moment action act) × (is_some plan.result ≡ is_asked action) × Makes plan.change past act
     × (is_asked action ≡ false → plan.after.items ≡ [])
 Plans (Err (Code code)) past moment action = outcome past action ≡ Err code
 Plans (Err NoMemory) past moment action = ⊤

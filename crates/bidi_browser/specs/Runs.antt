@@ -60,6 +60,7 @@ abbrev pub HasRun : Result RanInHand Refusal → List Act → ℕ → Bool → E
 HasRun (Ok ran) past c owned ending =
     let r = realm_of past c in
     let held = owned && takes_handle (value_of ending) in
-    (ending_outcome past r owned ending ≡ Ok (Ran r ending held)) × (results.ghosts.shape.tree_of ran.result ≡ script_result past r ending held) × EditMakes ran.edit past (Ran r ending held)
+    (ending_outcome past r owned ending ≡ Ok (Ran r ending held))
+    × (results.ghosts.shape.tree_of ran.result ≡ script_result past r ending held) × EditMakes ran.edit past (Ran r ending held)
 HasRun (Err (Code code)) past c owned ending = ending_outcome past (realm_of past c) owned ending ≡ Err code
 HasRun (Err NoMemory) past c owned ending = ⊤

@@ -70,7 +70,8 @@ pub(crate) fn plan_create(browser: &Browser, params: &CreateParameters) -> Resul
 // Makes the checks of a create. Gives the window that the new context joins, or `None` where it opens one.
 fn window_checked(browser: &Browser, params: &CreateParameters) -> Result<Option<u64>, ErrorCode>
     ensures checked { (past : List Act) → StandsFor browser.now past → HasIds past
-        → IsChecked Made result (create_outcome past (create_type_of params.now.kind) (option_map string_bytes params.now.reference_context) (option_map string_bytes params.now.user_context)) }
+        → IsChecked Made result (create_outcome past (create_type_of params.now.kind) (option_map string_bytes params.now.reference_context)
+        (option_map string_bytes params.now.user_context)) }
     ensures ids { IfOk result (λ _. (browser.now.next_context < 2 ^ 48) × (browser.now.next_realm < 2 ^ 48) × (browser.now.next_window < 2 ^ 48)) }
     ensures fits { IfOk result (λ window. IfSome window (λ n. n < 2 ^ 48)) }
 {
@@ -97,7 +98,8 @@ fn is_user(user: &Option<String>) -> bool
 // The window that a new context joins: a tab that of its reference, or else that of the oldest top-level
 // context. `None` where a new window is opened.
 fn window_for(contexts: &Contexts, kind: ContextType, reference: Option<&Context>) -> Option<u64>
-    ensures window { (past : List Act) (c : Option ℕ) → IsTableOf contexts.now past → option_map (λ r. row_of r.now) reference.entry ≡ option_map (row_at past) c
+    ensures window { (past : List Act) (c : Option ℕ)
+        → IsTableOf contexts.now past → option_map (λ r. row_of r.now) reference.entry ≡ option_map (row_at past) c
         → result ≡ window_for past (create_type_of kind) c }
     ensures fits { IfSome result (λ n. n < 2 ^ 48) }
 {

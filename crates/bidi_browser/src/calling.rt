@@ -55,7 +55,8 @@ fn called(
     params: &CallFunctionParameters,
 ) -> Result<Ending, Refusal>
     ensures { (past : List Act) (c : ℕ) → StandsFor browser.now past → row_of context.now ≡ row_at past c
-        → Gives ending_seen result (call_ending past (realm_of past c) (string_bytes params.now.function_declaration) (arguments_asked params.now) (option_map local_tree params.now.this)) }
+        → Gives ending_seen result (call_ending past (realm_of past c) (string_bytes params.now.function_declaration)
+        (arguments_asked params.now) (option_map local_tree params.now.this)) }
 {
     let arguments = arguments_of(params);
     check_arguments(browser.alloc, &context.handles, arguments)?;

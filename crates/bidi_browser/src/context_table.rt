@@ -1,5 +1,6 @@
 //! The table of live contexts. Only this file knows how they are kept; the rest of the crate asks it.
-ghost use Rattle.std.specs.Prelude.{◌≡◌, ◌≤◌, ◌<◌, ◌^◌, ◌==◌, ◌*◌, ◌++◌, ℕ, List, ◌∷◌, [], true, nat_eq, None, Some, IfOk, OnOk, map, find, filter, not, length, bytes_eq, is_none, option_map};
+ghost use Rattle.std.specs.Prelude.{◌≡◌, ◌≤◌, ◌<◌, ◌^◌, ◌==◌, ◌*◌, ◌++◌, ℕ, List, ◌∷◌, [], true, nat_eq, None, Some};
+ghost use Rattle.std.specs.Prelude.{IfOk, OnOk, map, find, filter, not, length, bytes_eq, is_none, option_map};
 ghost use Rattle.std.specs.List.{list_any, position};
 ghost use Rattle.std.specs.Option.{option_eq};
 ghost use Rattle.bidi_handles.specs.Ids.{id_of};
@@ -70,14 +71,16 @@ impl Contexts {
 
     /// The live context whose realm has this id. Passes over the contexts.
     pub(crate) fn in_realm(&self, id: &str) -> Option<&Context>
-        ensures { (past : List Act) → IsTableOf self.now past → option_map (λ c. row_of c.now) result ≡ option_map (row_at past) (find (λ c. bytes_eq id.now (id_of IdKind.Realm (realm_of past c))) (contexts past)) }
+        ensures { (past : List Act) → IsTableOf self.now past → option_map (λ c. row_of c.now) result
+            ≡ option_map (row_at past) (find (λ c. bytes_eq id.now (id_of IdKind.Realm (realm_of past c))) (contexts past)) }
     {
         in_realm(&self.live, id)
     }
 
     /// The top-level context that was created first, if any is live.
     pub(crate) fn oldest(&self) -> Option<&Context>
-        ensures { (past : List Act) → IsTableOf self.now past → option_map (λ c. row_of c.now) result ≡ option_map (row_at past) (find (λ c. is_none (parent_of past c)) (contexts past)) }
+        ensures { (past : List Act) → IsTableOf self.now past
+            → option_map (λ c. row_of c.now) result ≡ option_map (row_at past) (find (λ c. is_none (parent_of past c)) (contexts past)) }
     {
         oldest(&self.live)
     }
@@ -87,7 +90,8 @@ impl Contexts {
         &'a self,
         context: &'a Context,
     ) -> Result<Vec<&'a Context>, AllocError>
-        ensures { (past : List Act) (c : ℕ) → IsTableOf self.now past → row_of context.now ≡ row_at past c → IfOk result (λ all. map (λ c. row_of c.now) all.items ≡ map (row_at past) (subtree_of past c)) }
+        ensures { (past : List Act) (c : ℕ) → IsTableOf self.now past → row_of context.now ≡ row_at past c
+            → IfOk result (λ all. map (λ c. row_of c.now) all.items ≡ map (row_at past) (subtree_of past c)) }
     {
         let mut all = Vec::new(self.alloc);
         all.push(context)?;
@@ -97,7 +101,8 @@ impl Contexts {
 
     /// The children of a context, in order of creation. Passes over the contexts.
     pub(crate) fn children_of(&self, context: &Context) -> Result<Vec<&Context>, AllocError>
-        ensures { (past : List Act) (c : ℕ) → IsTableOf self.now past → row_of context.now ≡ row_at past c → IfOk result (λ all. map (λ c. row_of c.now) all.items ≡ map (row_at past) (children_of past c)) }
+        ensures { (past : List Act) (c : ℕ) → IsTableOf self.now past → row_of context.now ≡ row_at past c
+            → IfOk result (λ all. map (λ c. row_of c.now) all.items ≡ map (row_at past) (children_of past c)) }
     {
         children_of(self.alloc, &self.live, context.number)
     }
@@ -113,7 +118,8 @@ impl Contexts {
 
     /// The Info of a context with its parent, to this depth. `None` is the whole depth.
     pub(crate) fn info(&self, context: &Context, depth: Option<u64>) -> Result<Info, AllocError>
-        ensures tree { (past : List Act) (c : ℕ) → IsTableOf self.now past → row_of context.now ≡ row_at past c → IfOk result (λ i. ⟦<Info as Shape>⟧.shape.tree_of i ≡ info_of past depth c) }
+        ensures tree { (past : List Act) (c : ℕ) → IsTableOf self.now past
+            → row_of context.now ≡ row_at past c → IfOk result (λ i. ⟦<Info as Shape>⟧.shape.tree_of i ≡ info_of past depth c) }
         ensures well { IfOk result (IsWithin ⟦<Info as Shape>⟧.shape 34) }
     {
         whole_info(self.alloc, &self.live, context, depth)
@@ -121,7 +127,8 @@ impl Contexts {
 
     /// The Info of each top-level context, to this depth. `None` is the whole depth.
     pub(crate) fn top_infos(&self, depth: Option<u64>) -> Result<Vec<Info>, AllocError>
-        ensures tree { (past : List Act) → IsTableOf self.now past → IfOk result (λ all. map ⟦<Info as Shape>⟧.shape.tree_of all.items ≡ map (info_of past depth) (tops past)) }
+        ensures tree { (past : List Act) → IsTableOf self.now past
+            → IfOk result (λ all. map ⟦<Info as Shape>⟧.shape.tree_of all.items ≡ map (info_of past depth) (tops past)) }
         ensures well { IfOk result (λ all. AreWithin ⟦<Info as Shape>⟧.shape 34 all.items) }
     {
         top_infos(self.alloc, &self.live, depth)
@@ -157,7 +164,8 @@ impl Contexts {
 
     /// Removes the contexts of these numbers, which are a context and all its descendants.
     pub(crate) fn remove(&mut self, numbers: &[u64])
-        ensures { (past : List Act) (c : ℕ) → IsTableOf self.old past → AreAccepted (Removed c ∷ past) → numbers.now ≡ subtree_of past c → IsTableOf self.new (Removed c ∷ past) }
+        ensures { (past : List Act) (c : ℕ) → IsTableOf self.old past
+            → AreAccepted (Removed c ∷ past) → numbers.now ≡ subtree_of past c → IsTableOf self.new (Removed c ∷ past) }
     {
         take_out(&mut self.live, numbers);
     }
@@ -214,7 +222,8 @@ impl Contexts {
     fn lead(&mut self, number: u64, realm: u64, to: Move)
         requires realm { realm < 2 ^ 48 }
         requires room { HasRoomIn self.now number to }
-        ensures { (past : List Act) → IsTableOf self.old past → Leads (entries_of past number) (move_of to) → map row_of self.new.live.items ≡ changed number (moved_in realm (move_of to)) (rows past) }
+        ensures { (past : List Act) → IsTableOf self.old past → Leads (entries_of past number) (move_of to)
+            → map row_of self.new.live.items ≡ changed number (moved_in realm (move_of to)) (rows past) }
     {
         if let Some(place) = place_of(&self.live, number) {
             self.live[place].navigate(realm, to);
@@ -295,7 +304,8 @@ fn push_below<'a>(
     levels: u64,
     all: &mut Vec<&'a Context>,
 ) -> Result<(), AllocError>
-    ensures { IfOk result (λ _. map (λ c. row_of c.now) all.new.items ≡ map (λ c. row_of c.now) all.old.items ++ below levels (map row_of contexts.now) parent) }
+    ensures { IfOk result (λ _. map (λ c. row_of c.now) all.new.items
+        ≡ map (λ c. row_of c.now) all.old.items ++ below levels (map row_of contexts.now) parent) }
 {
     if levels == 0 {
         return Ok(());
@@ -315,7 +325,8 @@ fn top_infos(
     contexts: &[Context],
     depth: Option<u64>,
 ) -> Result<Vec<Info>, AllocError>
-    ensures tree { IfOk result (λ all. map ⟦<Info as Shape>⟧.shape.tree_of all.items ≡ map (info_in (map row_of contexts.now) depth) (children_in (map row_of contexts.now) None)) }
+    ensures tree { IfOk result (λ all. map ⟦<Info as Shape>⟧.shape.tree_of all.items
+        ≡ map (info_in (map row_of contexts.now) depth) (children_in (map row_of contexts.now) None)) }
     ensures well { IfOk result (λ all. AreWithin ⟦<Info as Shape>⟧.shape 34 all.items) }
 {
     let mut all = Vec::new(alloc);
@@ -350,7 +361,8 @@ fn children(
     depth: Option<u64>,
     levels: u64,
 ) -> Result<Option<Vec<Info>>, AllocError>
-    ensures tree { IfOk result (λ told. children_node ⟦<Info as Shape>⟧.shape.tree_of told ≡ children_tree depth (infos_below levels (map row_of contexts.now) (depth_below depth) parent)) }
+    ensures tree { IfOk result (λ told. children_node ⟦<Info as Shape>⟧.shape.tree_of told
+        ≡ children_tree depth (infos_below levels (map row_of contexts.now) (depth_below depth) parent)) }
     ensures well { levels ≤ 29 → IfOk result (AreWithinIfTold ⟦<Info as Shape>⟧.shape (2 * levels)) }
 {
     match depth {

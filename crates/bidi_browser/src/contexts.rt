@@ -46,7 +46,9 @@ impl Context {
     ghost use Rattle.bidi_browser.specs.Urls.{about_blank};
     ghost use Rattle.bidi_browser.specs.HistoryInHand.{entries_in, move_of, HasRoomFor, Leads};
     ghost use Rattle.bidi_browser.specs.Places.{begun_at};
-    ghost use Rattle.bidi_browser.specs.ContextRows.{row_of, inner_info, root_info, shown_info, created_in, realm_info_at, realm_info_in, realm_began_in, realm_created_in, realm_destroyed_in, navigation_info_in, occurrence_in, moved_in, held_in, without_in};
+    ghost use Rattle.bidi_browser.specs.ContextRows.{row_of, inner_info, root_info, shown_info, created_in, realm_info_at};
+    ghost use Rattle.bidi_browser.specs.ContextRows.{realm_info_in, realm_began_in, realm_created_in, realm_destroyed_in};
+    ghost use Rattle.bidi_browser.specs.ContextRows.{navigation_info_in, occurrence_in, moved_in, held_in, without_in};
     ghost use Rattle.bidi_handles.specs.Handles.{HasSpare};
     ghost use Rattle.bidi_handles.specs.ValuesInHand.{handle_seen};
     ghost use Rattle.bidi_browser.specs.Info.{parent_tree};
@@ -63,7 +65,17 @@ impl Context {
         requires number { number < 2 ^ 48 }
         requires window { window < 2 ^ 48 }
         requires realm { realm < 2 ^ 48 }
-        ensures { IfOk result (λ c. row_of c ≡ record { number = number; parent = None; top = number; level = 1; window = window; realm = realm; entries = begun_at about_blank; handles = [] }) }
+        ensures { IfOk result (λ c. row_of c
+            ≡ record {
+              number = number;
+              parent = None;
+              top = number;
+              level = 1;
+              window = window;
+              realm = realm;
+              entries = begun_at about_blank;
+              handles = [];
+            }) }
     {
         let url = about_blank(alloc)?;
         Ok(Context {
@@ -89,7 +101,17 @@ impl Context {
         requires number { number < 2 ^ 48 }
         requires realm { realm < 2 ^ 48 }
         ensures { self.now.level < 16
-            → IfOk result (λ c. row_of c ≡ record { number = number; parent = Some self.now.number; top = self.now.top; level = self.now.level + 1; window = self.now.window; realm = realm; entries = begun_at url; handles = [] }) }
+            → IfOk result (λ c. row_of c
+            ≡ record {
+              number = number;
+              parent = Some self.now.number;
+              top = self.now.top;
+              level = self.now.level + 1;
+              window = self.now.window;
+              realm = realm;
+              entries = begun_at url;
+              handles = [];
+            }) }
     {
         Ok(Context {
             number,
@@ -149,7 +171,8 @@ impl Context {
         alloc: Global,
         children: Option<Vec<Info>>,
     ) -> Result<Info, AllocError>
-        ensures tree { IfOk result (λ i. ⟦<Info as Shape>⟧.shape.tree_of i ≡ inner_info (row_of self.now) (children_node ⟦<Info as Shape>⟧.shape.tree_of children)) }
+        ensures tree { IfOk result (λ i. ⟦<Info as Shape>⟧.shape.tree_of i
+            ≡ inner_info (row_of self.now) (children_node ⟦<Info as Shape>⟧.shape.tree_of children)) }
         ensures well { (n : ℕ) → AreWithinIfTold ⟦<Info as Shape>⟧.shape n children → n ≤ 58 → IfOk result (IsWithin ⟦<Info as Shape>⟧.shape (n + 2)) }
     {
         self.shown(alloc, None, children)
@@ -161,7 +184,8 @@ impl Context {
         alloc: Global,
         children: Option<Vec<Info>>,
     ) -> Result<Info, AllocError>
-        ensures tree { IfOk result (λ i. ⟦<Info as Shape>⟧.shape.tree_of i ≡ root_info (row_of self.now) (children_node ⟦<Info as Shape>⟧.shape.tree_of children)) }
+        ensures tree { IfOk result (λ i. ⟦<Info as Shape>⟧.shape.tree_of i
+            ≡ root_info (row_of self.now) (children_node ⟦<Info as Shape>⟧.shape.tree_of children)) }
         ensures well { (n : ℕ) → AreWithinIfTold ⟦<Info as Shape>⟧.shape n children → n ≤ 58 → IfOk result (IsWithin ⟦<Info as Shape>⟧.shape (n + 2)) }
     {
         let parent = self.parent_id(alloc)?;
@@ -234,7 +258,8 @@ impl Context {
 
     /// The contextDestroyed event of this context, with its Info to the whole depth. Takes no memory.
     pub(crate) fn destroyed(&self, info: Info) -> Occurrence
-        ensures told { occurrence_of ⟦<EventData as Subject<EventName>>⟧.subject result ≡ occurrence_in (row_of self.now) ContextDestroyed (⟦<Info as Shape>⟧.shape.tree_of info) }
+        ensures told { occurrence_of ⟦<EventData as Subject<EventName>>⟧.subject result
+            ≡ occurrence_in (row_of self.now) ContextDestroyed (⟦<Info as Shape>⟧.shape.tree_of info) }
         ensures well { ⟦<Info as Shape>⟧.shape.well info → ⟦<EventData as Subject<EventName>>⟧.subject.well result.event }
     {
         self.occurrence(EventData::ContextDestroyed(info))
@@ -299,7 +324,8 @@ impl Context {
 
     /// The navigationStarted event of this context. Takes no memory.
     pub(crate) fn navigation_started(&self, info: NavigationInfo) -> Occurrence
-        ensures told { occurrence_of ⟦<EventData as Subject<EventName>>⟧.subject result ≡ occurrence_in (row_of self.now) NavigationStarted (⟦<NavigationInfo as Shape>⟧.shape.tree_of info) }
+        ensures told { occurrence_of ⟦<EventData as Subject<EventName>>⟧.subject result
+            ≡ occurrence_in (row_of self.now) NavigationStarted (⟦<NavigationInfo as Shape>⟧.shape.tree_of info) }
         ensures well { ⟦<NavigationInfo as Shape>⟧.shape.well info → ⟦<EventData as Subject<EventName>>⟧.subject.well result.event }
     {
         self.occurrence(EventData::NavigationStarted(info))
@@ -307,7 +333,8 @@ impl Context {
 
     /// The domContentLoaded event of this context. Takes no memory.
     pub(crate) fn dom_content_loaded(&self, info: NavigationInfo) -> Occurrence
-        ensures told { occurrence_of ⟦<EventData as Subject<EventName>>⟧.subject result ≡ occurrence_in (row_of self.now) DomContentLoaded (⟦<NavigationInfo as Shape>⟧.shape.tree_of info) }
+        ensures told { occurrence_of ⟦<EventData as Subject<EventName>>⟧.subject result
+            ≡ occurrence_in (row_of self.now) DomContentLoaded (⟦<NavigationInfo as Shape>⟧.shape.tree_of info) }
         ensures well { ⟦<NavigationInfo as Shape>⟧.shape.well info → ⟦<EventData as Subject<EventName>>⟧.subject.well result.event }
     {
         self.occurrence(EventData::DomContentLoaded(info))
@@ -315,7 +342,8 @@ impl Context {
 
     /// The load event of this context. Takes no memory.
     pub(crate) fn loaded(&self, info: NavigationInfo) -> Occurrence
-        ensures told { occurrence_of ⟦<EventData as Subject<EventName>>⟧.subject result ≡ occurrence_in (row_of self.now) Load (⟦<NavigationInfo as Shape>⟧.shape.tree_of info) }
+        ensures told { occurrence_of ⟦<EventData as Subject<EventName>>⟧.subject result
+            ≡ occurrence_in (row_of self.now) Load (⟦<NavigationInfo as Shape>⟧.shape.tree_of info) }
         ensures well { ⟦<NavigationInfo as Shape>⟧.shape.well info → ⟦<EventData as Subject<EventName>>⟧.subject.well result.event }
     {
         self.occurrence(EventData::Load(info))
@@ -323,7 +351,8 @@ impl Context {
 
     /// The log.entryAdded event of an entry that was logged in this context. Takes no memory.
     pub(crate) fn logged(&self, entry: LogEntry) -> Occurrence
-        ensures told { occurrence_of ⟦<EventData as Subject<EventName>>⟧.subject result ≡ occurrence_in (row_of self.now) EntryAdded (⟦<LogEntry as Shape>⟧.shape.tree_of entry) }
+        ensures told { occurrence_of ⟦<EventData as Subject<EventName>>⟧.subject result
+            ≡ occurrence_in (row_of self.now) EntryAdded (⟦<LogEntry as Shape>⟧.shape.tree_of entry) }
         ensures well { ⟦<LogEntry as Shape>⟧.shape.well entry → ⟦<EventData as Subject<EventName>>⟧.subject.well result.event }
     {
         self.occurrence(EventData::EntryAdded(entry))

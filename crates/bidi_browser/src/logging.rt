@@ -75,7 +75,8 @@ fn entry(
     level: Level,
     text: &str,
 ) -> Result<ConsoleEntry, AllocError>
-    ensures tree { IfOk result (λ e. ⟦<ConsoleEntry as Shape>⟧.shape.tree_of e ≡ console_entry moment.value context.now.number context.now.realm level text.now) }
+    ensures tree { IfOk result (λ e. ⟦<ConsoleEntry as Shape>⟧.shape.tree_of e
+        ≡ console_entry moment.value context.now.number context.now.realm level text.now) }
     ensures well { IfOk result ⟦<ConsoleEntry as Shape>⟧.shape.well }
 {
     let base = BaseLogEntry {
@@ -107,7 +108,8 @@ fn source(alloc: Global, context: &Context) -> Result<Source, AllocError>
 
 // A text as a remote value of type `string`.
 fn text_value(alloc: Global, line: &str) -> Result<RemoteValue, AllocError>
-    ensures tree { IfOk result (λ v. ⟦<RemoteValue as Shape>⟧.shape.tree_of v ≡ mapped ("type" being word "string" and "value" being text line.now and no_members)) }
+    ensures tree { IfOk result (λ v. ⟦<RemoteValue as Shape>⟧.shape.tree_of v
+        ≡ mapped ("type" being word "string" and "value" being text line.now and no_members)) }
     ensures well { IfOk result ⟦<RemoteValue as Shape>⟧.shape.well }
 {
     let text = String::from_str(alloc, line)?;

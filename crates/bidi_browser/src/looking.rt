@@ -111,7 +111,8 @@ fn depth_in(params: &GetTreeParameters) -> Option<u64>
 
 // The Info of the context that is asked for, or of each top-level one.
 fn roots(browser: &Browser, depth: Option<u64>, root: &Option<String>) -> Result<Vec<Info>, Refusal>
-    ensures infos { (past : List Act) → StandsFor browser.now past → (let id = option_map string_bytes root.now in AreTold ⟦<Info as Shape>⟧.shape.tree_of result (looked_at past id) (map (info_of past depth) (roots past id))) }
+    ensures infos { (past : List Act) → StandsFor browser.now past → (let id = option_map string_bytes root.now in
+        AreTold ⟦<Info as Shape>⟧.shape.tree_of result (looked_at past id) (map (info_of past depth) (roots past id))) }
     ensures well { IfOk result (λ all. AreWithin ⟦<Info as Shape>⟧.shape 34 all.items) }
 {
     match root {
@@ -157,7 +158,8 @@ fn takes_windows(kind: Option<RealmType>) -> bool
 // The contexts whose realms are asked for: one, or all in tree order.
 fn holders<'a>(browser: &'a Browser, id: &Option<String>) -> Result<Vec<&'a Context>, Refusal>
     ensures { (past : List Act) → StandsFor browser.now past
-        → (let named = option_map string_bytes id.now in AreTold (λ c. row_of c.now) result (looked_at past named) (map (row_at past) (realm_holders past named true))) }
+        → (let named = option_map string_bytes id.now in
+        AreTold (λ c. row_of c.now) result (looked_at past named) (map (row_at past) (realm_holders past named true))) }
 {
     match id {
         None => Ok(browser.contexts.in_tree_order()?),

@@ -168,7 +168,8 @@ fn tell(
     url: &Url,
     wait: Option<Wait>,
 ) -> Result<(Told, Vec<u64>), AllocError>
-    ensures told { (past : List Act) (c : ℕ) (move : Led) → StandsFor browser.now past → AreNext numbers past → row_of context.now ≡ row_at past c → led_to past c move ≡ url.now
+    ensures told { (past : List Act) (c : ℕ) (move : Led)
+        → StandsFor browser.now past → AreNext numbers past → row_of context.now ≡ row_at past c → led_to past c move ≡ url.now
         → IfOk result (λ r. IsTold r.0 past moment.value (wait_of wait) c move × (r.1.items ≡ flat_map (subtree_of past) (children_of past c))) }
     ensures well { IfOk result (λ r. AreWell r.0.before.items × AreWell r.0.after.items) }
 {
@@ -201,8 +202,10 @@ fn events(
     url: &Url,
     gone: &mut Vec<u64>,
 ) -> Result<Vec<Occurrence>, AllocError>
-    ensures told { (past : List Act) (c : ℕ) (move : Led) → StandsFor browser.now past → AreNext numbers past → row_of context.now ≡ row_at past c → led_to past c move ≡ url.now
-        → IfOk result (λ all. (seen all.items ≡ navigation_events past moment.value c move) × (gone.new.items ≡ gone.old.items ++ flat_map (subtree_of past) (children_of past c))) }
+    ensures told { (past : List Act) (c : ℕ) (move : Led)
+        → StandsFor browser.now past → AreNext numbers past → row_of context.now ≡ row_at past c → led_to past c move ≡ url.now
+        → IfOk result (λ all. (seen all.items ≡ navigation_events past moment.value c move)
+        × (gone.new.items ≡ gone.old.items ++ flat_map (subtree_of past) (children_of past c))) }
     ensures some { IfOk result (λ all. 1 ≤ vec_len all) }
     ensures well { IfOk result (λ all. AreWell all.items) }
 {
@@ -223,7 +226,8 @@ fn events(
 // The result of `navigate` and `reload`.
 fn navigated(alloc: Global, navigation: u64, url: &Url) -> Result<NavigateResult, AllocError>
     requires { navigation < 2 ^ 48 }
-    ensures tree { IfOk result (λ r. ⟦<NavigateResult as Shape>⟧.shape.tree_of r ≡ mapped ("navigation" being id_tree IdKind.Navigation navigation and "url" being text (url_text url.now) and no_members)) }
+    ensures tree { IfOk result (λ r. ⟦<NavigateResult as Shape>⟧.shape.tree_of r
+        ≡ mapped ("navigation" being id_tree IdKind.Navigation navigation and "url" being text (url_text url.now) and no_members)) }
     ensures well { IfOk result ⟦<NavigateResult as Shape>⟧.shape.well }
 {
     Ok(NavigateResult {

@@ -89,7 +89,8 @@ pub(crate) fn push_removals(
     numbers: &mut Vec<u64>,
 ) -> Result<(), AllocError>
     ensures told { (past : List Act) (cs : List ℕ) → StandsFor browser.now past → map (λ c. row_of c.now) contexts.now ≡ map (row_at past) cs
-        → IfOk result (λ _. (seen events.new.items ≡ seen events.old.items ++ flat_map (removal past) cs) × (numbers.new.items ≡ numbers.old.items ++ flat_map (subtree_of past) cs)) }
+        → IfOk result (λ _. (seen events.new.items ≡ seen events.old.items ++ flat_map (removal past) cs)
+        × (numbers.new.items ≡ numbers.old.items ++ flat_map (subtree_of past) cs)) }
     ensures well { IfOk result (λ _. AreWell events.old.items → AreWell events.new.items) }
 {
     for context in contexts {

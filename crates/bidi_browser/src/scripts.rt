@@ -107,7 +107,8 @@ fn returned(
     values: &[LocalValue],
     place: u64,
 ) -> Result<Ending, Refusal>
-    ensures { (vs : List Node) → arguments (held_in_row (row_of context.now)) (map local_tree values.now) ≡ Ok vs → HasReturned result (unwrap_or (slice_get vs place) undefined) }
+    ensures { (vs : List Node) → arguments (held_in_row (row_of context.now)) (map local_tree values.now) ≡ Ok vs
+        → HasReturned result (unwrap_or (slice_get vs place) undefined) }
 {
     match at(values, place) {
         Some(value) => Ok(Ending::Returned(given_back(alloc, &context.handles, value)?)),
@@ -160,8 +161,10 @@ pub(crate) fn run(
     ending: Ending,
     owned: bool,
 ) -> Result<Ran, Refusal>
-    ensures ran { (past : List Act) (c : ℕ) → StandsFor browser.now past → HasIds past → is_alive past c ≡ true → row_of context.now ≡ row_at past c → HasRun result past c owned (ending_seen ending) }
-    ensures well { IfOk result (λ ran. ⟦<EvaluateResult as Shape>⟧.shape.well ran.result × (levels (⟦<EvaluateResult as Shape>⟧.shape.tree_of ran.result) ≤ 61)) }
+    ensures ran { (past : List Act) (c : ℕ) → StandsFor browser.now past
+        → HasIds past → is_alive past c ≡ true → row_of context.now ≡ row_at past c → HasRun result past c owned (ending_seen ending) }
+    ensures well { IfOk result (λ ran. ⟦<EvaluateResult as Shape>⟧.shape.well ran.result
+        × (levels (⟦<EvaluateResult as Shape>⟧.shape.tree_of ran.result) ≤ 61)) }
 {
     if !owned || !takes_handle(&value_of(&ending).value) {
         let result = told(browser.alloc, context.realm, &ending, None)?;
@@ -184,7 +187,8 @@ pub(crate) fn run(
 
 // The number of the next handle in the realm of a context; an error where the realm can have no more.
 fn next_handle(browser: &Browser, context: &Context) -> Result<u64, ErrorCode>
-    ensures next { (past : List Act) (c : ℕ) → StandsFor browser.now past → HasIds past → row_of context.now ≡ row_at past c → IsNextHandle result past (realm_of past c) }
+    ensures next { (past : List Act) (c : ℕ)
+        → StandsFor browser.now past → HasIds past → row_of context.now ≡ row_at past c → IsNextHandle result past (realm_of past c) }
     ensures fits { IfOk result (λ n. n < 2 ^ 48) }
 {
     if context.handles.len() < MOST_HANDLES && browser.next_handle < NO_ID {

@@ -57,7 +57,8 @@ impl SessionHistory {
     /// The entry `delta` places from the present one, if there is one: its place and its URL.
     pub(crate) fn across(&self, delta: JsInt) -> Option<(usize, &Url)>
         ensures { MatchOption result (place_across (entries_in self.now) delta.value ≡ None)
-            (λ entry. (place_across (entries_in self.now) delta.value ≡ Some entry.0) × (entry.1.now ≡ present (moved (entries_in self.now) (leads.Across entry.0)))) }
+            (λ entry. (place_across (entries_in self.now) delta.value ≡ Some entry.0)
+            × (entry.1.now ≡ present (moved (entries_in self.now) (leads.Across entry.0)))) }
     {
         let place = self.place.checked_add_signed(delta.value as isize)?;
         let url = self.entries.get(place)?;

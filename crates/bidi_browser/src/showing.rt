@@ -32,7 +32,8 @@ pub(crate) fn told(
     requires realm { realm < 2 ^ 48 }
     requires handle { IfSome handle (λ n. n < 2 ^ 48) }
     requires takes { IfSome handle (λ n. takes_handle (value_of (ending_seen ending.now)) ≡ true) }
-    ensures tree { IfOk result (λ r. ⟦<EvaluateResult as Shape>⟧.shape.tree_of r ≡ result_told realm (ending_seen ending.now) (shown_as handle (value_of (ending_seen ending.now)))) }
+    ensures tree { IfOk result (λ r. ⟦<EvaluateResult as Shape>⟧.shape.tree_of r
+        ≡ result_told realm (ending_seen ending.now) (shown_as handle (value_of (ending_seen ending.now)))) }
     ensures well { IfOk result (λ r. ⟦<EvaluateResult as Shape>⟧.shape.well r × (levels (⟦<EvaluateResult as Shape>⟧.shape.tree_of r) ≤ 61)) }
 {
     let realm = id_text(alloc, IdKind::Realm, 0, realm)?;
@@ -54,7 +55,8 @@ pub(crate) fn told(
 // The exception details of a thrown value. They name line 0 and column 0, the first, and no call frames.
 fn details(alloc: Global, exception: RemoteValue) -> Result<ExceptionDetails, AllocError>
     ensures tree { IfOk result (λ d. ⟦<ExceptionDetails as Shape>⟧.shape.tree_of d ≡ exception_details (remote_tree exception)) }
-    ensures well { IsWell ⟦<RemotePlain as Nests<RemoteList, RemotePairs>>⟧.nesting (content exception) → IfOk result (λ d. ⟦<ExceptionDetails as Shape>⟧.shape.well d) }
+    ensures well { IsWell ⟦<RemotePlain as Nests<RemoteList, RemotePairs>>⟧.nesting (content exception)
+        → IfOk result (λ d. ⟦<ExceptionDetails as Shape>⟧.shape.well d) }
 {
     let text = String::from_str(alloc, "thrown")?;
     Ok(ExceptionDetails {

@@ -4,7 +4,13 @@ use Rattle.bidi_shape.specs.Name.{error_code}
 use Rattle.bidi_shape.specs.Term.{rule}
 use Rattle.bidi_shape.specs.WordLaws.{Word, Words, word, value_named}
 use Rattle.bidi_codes.specs.declared.error_code.ErrorCode.{ErrorCode}
-use Rattle.bidi_codes.specs.declared.error_code.ErrorCode.TheVariants.{InvalidArgument, InvalidSelector, InvalidSessionId, MoveTargetOutOfBounds, NoSuchAlert, NoSuchElement, NoSuchFrame, NoSuchHandle, NoSuchHistoryEntry, NoSuchIntercept, NoSuchNode, NoSuchRequest, NoSuchScript, NoSuchStoragePartition, NoSuchUserContext, SessionNotCreated, UnableToCaptureScreen, UnableToCloseBrowser, UnableToSetCookie, UnableToSetFileInput, UnknownCommand, UnknownError, UnsupportedOperation}
+use Rattle.bidi_codes.specs.declared.error_code.ErrorCode.TheVariants.{InvalidArgument, InvalidSelector, InvalidSessionId}
+use Rattle.bidi_codes.specs.declared.error_code.ErrorCode.TheVariants.{MoveTargetOutOfBounds, NoSuchAlert, NoSuchElement, NoSuchFrame}
+use Rattle.bidi_codes.specs.declared.error_code.ErrorCode.TheVariants.{NoSuchHandle, NoSuchHistoryEntry, NoSuchIntercept, NoSuchNode}
+use Rattle.bidi_codes.specs.declared.error_code.ErrorCode.TheVariants.{NoSuchRequest, NoSuchScript, NoSuchStoragePartition}
+use Rattle.bidi_codes.specs.declared.error_code.ErrorCode.TheVariants.{NoSuchUserContext, SessionNotCreated, UnableToCaptureScreen}
+use Rattle.bidi_codes.specs.declared.error_code.ErrorCode.TheVariants.{UnableToCloseBrowser, UnableToSetCookie, UnableToSetFileInput}
+use Rattle.bidi_codes.specs.declared.error_code.ErrorCode.TheVariants.{UnknownCommand, UnknownError, UnsupportedOperation}
 
 abbrev pub error_code_text : ErrorCode → List ℕ
 error_code_text InvalidArgument = codes "invalid argument"

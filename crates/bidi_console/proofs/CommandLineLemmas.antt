@@ -74,7 +74,8 @@ refused line error (Usage text) (inl memory) cause = absurd (cause.2 memory)
 refused line error (Usage text) (inr among) cause = inl (kind_of error, among, cause)
 
 -- so has one for an option that names no end
-pub refused_end : (line : List Text) (fault : LineFault) → Causes InvalidValue fault → faults_of line ≡ [] → run_in (subcommand_of bidi_app line) ≡ None → IsRefusedFor line fault
+pub refused_end : (line : List Text) (fault : LineFault)
+    → Causes InvalidValue fault → faults_of line ≡ [] → run_in (subcommand_of bidi_app line) ≡ None → IsRefusedFor line fault
 refused_end line NoMemory cause takes none = tt
 refused_end line (Help text) (inl h) takes none = absurd cc
 refused_end line (Help text) (inr h) takes none = absurd cc
@@ -98,7 +99,8 @@ pub no_run : (run : Run) → (let none : Option Run = None in none) ≡ Some run
 no_run run e = cc
 
 -- the subcommand that was met, from its name and its rows
-pub met : {Z : Type 0} (sub : Option (Box SubCommand Z)) (name : Text) (rows : List Row) → Some name ≡ option_map (λ b. (out-SubCommand (box_value b)).name.now) sub
+pub met : {Z : Type 0} (sub : Option (Box SubCommand Z)) (name : Text) (rows : List Row)
+    → Some name ≡ option_map (λ b. (out-SubCommand (box_value b)).name.now) sub
     → Some rows ≡ option_map (λ p. p.1) (subcommand_rows sub) → subcommand_rows sub ≡ Some (name, rows)
 met None name rows named found = absurd cc
 met (Some b) name rows named found = cc

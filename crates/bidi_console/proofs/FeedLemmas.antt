@@ -1,5 +1,6 @@
 -- The first line feed.
-use Rattle.std.proofs.Common.{◌≡◌, ℕ, suc, ◌+◌, ◌-◌, ◌<◌, ◌≤◌, Bool, true, false, ◌||◌, ltb, cond, List, [], ◌∷◌, ◌++◌, length, take, drop, refl, sym, ◌∙◌, ap, ap₂, subst, length-drop, take_all, take-append-drop, arith, Some, None}
+use Rattle.std.proofs.Common.{◌≡◌, ℕ, suc, ◌+◌, ◌-◌, ◌<◌, ◌≤◌, Bool, true, false, ◌||◌, ltb, cond, List, [], ◌∷◌, ◌++◌, length, take}
+use Rattle.std.proofs.Common.{drop, refl, sym, ◌∙◌, ap, ap₂, subst, length-drop, take_all, take-append-drop, arith, Some, None}
 use Rattle.std.proofs.lemmas.List.{drop-drop, drop-take, take-take}
 use Rattle.std.specs.Prelude.{◌==◌, position}
 use Rattle.std.specs.List.{list_any, position_or_len}
@@ -40,7 +41,8 @@ none_cond : (b : Bool) (n : ℕ) → None ≡ cond b (Some n) None → b ≡ fal
 none_cond true n e = cc
 none_cond false n e = refl
 
-pub feed_some : (bs : List ℕ) (i : ℕ) → Some i ≡ position (λ b. b == 10) bs → (bs ≡ take i bs ++ 10 ∷ drop (i + 1) bs) × (has_feed (take i bs) ≡ false) × (i < length bs)
+pub feed_some : (bs : List ℕ) (i : ℕ)
+    → Some i ≡ position (λ b. b == 10) bs → (bs ≡ take i bs ++ 10 ∷ drop (i + 1) bs) × (has_feed (take i bs) ≡ false) × (i < length bs)
 feed_some bs i e =
     let h = some_cond (ltb (place bs) (length bs)) i (place bs) (e ∙ found_at bs) in
     let t = h.0 in
@@ -87,7 +89,8 @@ feed_behind_some bs n i seen e =
     let found = feed_some (drop n bs) i e in
     let front = take_sum bs n i in
     let back : drop (i + 1) (drop n bs) ≡ drop (n + i + 1) bs = drop-drop (i + 1) n bs ∙ ap (λ (k : ℕ). drop k bs) (omega arith) in (
-      sym (take-append-drop n bs) ∙ (ap (λ (r : List ℕ). take n bs ++ r) found.0 ∙ (sym (append_assoc (take n bs) (take i (drop n bs)) (10 ∷ drop (i + 1) (drop n bs)))
+      sym (take-append-drop n bs) ∙ (ap (λ (r : List ℕ). take n bs ++ r) found.0
+          ∙ (sym (append_assoc (take n bs) (take i (drop n bs)) (10 ∷ drop (i + 1) (drop n bs)))
           ∙ ap₂ (λ (a b : List ℕ). a ++ 10 ∷ b) (sym front) back)),
       ap has_feed front ∙ no_feed_append (take n bs) (take i (drop n bs)) seen found.1,
     )

@@ -1,5 +1,6 @@
 -- Why an answer of a line reader holds.
-use Rattle.std.proofs.Common.{◌≡◌, ◌≢◌, ℕ, ◌+◌, ◌<◌, ◌≤◌, Bool, true, false, List, [], ◌++◌, length, take, take_all, length-append, append-nil, sym, ◌∙◌, ap, arith, inl, inr, Ok, Err}
+use Rattle.std.proofs.Common.{◌≡◌, ◌≢◌, ℕ, ◌+◌, ◌<◌, ◌≤◌, Bool, true, false, List, [], ◌++◌, length, take}
+use Rattle.std.proofs.Common.{take_all, length-append, append-nil, sym, ◌∙◌, ap, arith, inl, inr, Ok, Err}
 use Rattle.std.specs.Prelude.{Option, Result, IsErr, IsErrAnd}
 use Rattle.std.specs.Global.{Vec}
 use Rattle.bidi_console.specs.Feeds.{has_feed}

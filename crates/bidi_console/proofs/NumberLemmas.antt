@@ -44,7 +44,8 @@ number-parsed k least most n bs r is parses =
     ∙ ap (λ x. if nat_le least x && nat_le x most then Some x else None) (sym h.1)
 
 -- one that is not
-pub number-refused : {E : Type 0} (k least most : ℕ) (bs : List ℕ) (r : Result ℕ E) (e : E) → r ≡ Err e → most < 2 ^ k → ParsesUnsigned k 10 bs r → number_within least most bs ≡ None
+pub number-refused : {E : Type 0} (k least most : ℕ) (bs : List ℕ) (r : Result ℕ E) (e : E)
+    → r ≡ Err e → most < 2 ^ k → ParsesUnsigned k 10 bs r → number_within least most bs ≡ None
 number-refused k least most bs r e is fits parses = of (is_numeral ds && (nat_le least v && nat_le v most)) refl
   where
     ds : List ℕ
@@ -63,7 +64,8 @@ number-refused k least most bs r e is fits parses = of (is_numeral ds && (nat_le
 
 -- the same of equal numbers
 pub served-same : (a a' b b' m m' : Option ℕ) → a ≡ a' → b ≡ b' → m ≡ m' → served a b m ≡ served a' b' m'
-served-same a a' b b' m m' p q r = subst (λ x. served a b m ≡ served x b' m') p (subst (λ x. served a b m ≡ served a x m') q (subst (λ x. served a b m ≡ served a b x) r refl))
+served-same a a' b b' m m' p q r =
+    subst (λ x. served a b m ≡ served x b' m') p (subst (λ x. served a b m ≡ served a x m') q (subst (λ x. served a b m ≡ served a b x) r refl))
 
 -- ---- bounds
 
@@ -100,7 +102,8 @@ served-from (Some p) (Some k) None s e = cc
 
 -- no other subcommand is one that serves
 serve-from : (is_play is_pair is_show is_check is_serve : Bool) (side : Option Side) (serving : Option ServeOptions) (s : ServeOptions)
-    → (if is_play then Some Play else (if is_pair then Some Pair else (if is_show then option_map Show side else (if is_check then option_map Check side else (if is_serve then option_map Serve serving else None))))) ≡ Some (Serve s)
+    → (if is_play then Some Play else (if is_pair then Some Pair else (if is_show then option_map Show side
+    else (if is_check then option_map Check side else (if is_serve then option_map Serve serving else None))))) ≡ Some (Serve s)
     → serving ≡ Some s
 serve-from true q r t u side serving s e = cc
 serve-from false true r t u side serving s e = cc
@@ -121,8 +124,10 @@ within_bounds met (Check side) e = tt
 within_bounds None (Serve s) e = cc
 within_bounds (Some (name, rows)) (Serve s) e =
     let is : Text → Bool = λ other. bytes_eq name other in
-    let serves = serve-from (is (codes "play")) (is (codes "pair")) (is (codes "show")) (is (codes "check")) (is (codes "serve")) (side_in rows) (serving_in rows) s e in
-    let from = served-from (number_in (codes "port") 0 65535 rows) (number_in (codes "connections") 1 1000 rows) (number_in (codes "messages") 1 100000 rows) s serves in
+    let serves = serve-from (is (codes "play")) (is (codes "pair")) (is (codes "show")) (is (codes "check")) (is (codes "serve"))
+    (side_in rows) (serving_in rows) s e in
+    let from = served-from (number_in (codes "port") 0 65535 rows) (number_in (codes "connections") 1 1000 rows)
+    (number_in (codes "messages") 1 100000 rows) s serves in
     let port = within_found 0 65535 s.port (first_of (codes "port") rows) from.0 in
     let connections = within_found 1 1000 s.connections (first_of (codes "connections") rows) from.1 in
     let messages = within_found 1 100000 s.messages (first_of (codes "messages") rows) from.2 in

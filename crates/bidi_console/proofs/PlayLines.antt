@@ -1,13 +1,18 @@
 -- The lines that clap takes and reads as a play are `play` and `play --`, and so are those of a pair.
-use Rattle.std.proofs.Common.{◌≡◌, ◌⊎◌, ℕ, Bool, true, false, zero, suc, List, [], ◌∷◌, ◌++◌, Option, None, Some, codes, refl, sym, ap, ap₂, subst, ◌||◌, ◌∙◌, inl, inr, cond, slice_get, length, bytes_eq, is_some, option_map, append-nil, append_assoc}
+use Rattle.std.proofs.Common.{◌≡◌, ◌⊎◌, ℕ, Bool, true, false, zero, suc, List, [], ◌∷◌, ◌++◌, Option, None}
+use Rattle.std.proofs.Common.{Some, codes, refl, sym, ap, ap₂, subst, ◌||◌, ◌∙◌, inl, inr, cond, slice_get}
+use Rattle.std.proofs.Common.{length, bytes_eq, is_some, option_map, append-nil, append_assoc}
 use Rattle.std.specs.Str.{chars}
 use Rattle.std.specs.List.{fold}
 use Rattle.clap.specs.Lexer.{long_of, short_of}
-use Rattle.clap.specs.Walk.{Held, Names, Rule, Step, Text, Walk, finished, nothing_held, settled, subcommand_or_other, walk_from, has_long, has_short, long_or_other, short_or_plain, bundle_met, bundle_step, after_flag, walked}
+use Rattle.clap.specs.Walk.{Held, Names, Rule, Step, Text, Walk, finished, nothing_held, settled, subcommand_or_other, walk_from}
+use Rattle.clap.specs.Walk.{has_long, has_short, long_or_other, short_or_plain, bundle_met, bundle_step, after_flag, walked}
 use Rattle.clap.specs.Walk as walk
 use Rattle.clap.specs.Simple.{App, Shape, built, entered, filled, help_rule, names_of, new_app, subcommand_of, with_index, with_subcommand}
 use Rattle.bidi_shape.specs.Table.{same_some}
-use Rattle.clap.specs.Faults.{bundle_fault, bundle_step_fault, check_fault, defaults_fault, entered_fault, flag_word_fault, flags_fault, level_fault, long_fault, other_fault, settle_fault, short_fault, step_fault, stray_fault, turn_fault, walk_fault}
+use Rattle.clap.specs.Faults.{bundle_fault, bundle_step_fault, check_fault, defaults_fault, entered_fault}
+use Rattle.clap.specs.Faults.{flag_word_fault, flags_fault, level_fault, long_fault, other_fault}
+use Rattle.clap.specs.Faults.{settle_fault, short_fault, step_fault, stray_fault, turn_fault, walk_fault}
 use Rattle.clap.specs.Kinds.{Kinds, or_else}
 use Rattle.std.specs.Option.{option_map_or}
 use Rattle.std.proofs.lemmas.Slice.Eq.{bytes_eq-Decides}
@@ -38,13 +43,15 @@ step_part stray walk.value = stray
 step_part stray _ = []
 
 -- `--name`, where the option is known or not
-long_refused : (is_known : Bool) (value : Option Text) (next : Kinds) → or_else (long_fault rules false (cond is_known (Some help) None) value nothing_held) next ≡ [] → ⊥
+long_refused : (is_known : Bool) (value : Option Text) (next : Kinds)
+    → or_else (long_fault rules false (cond is_known (Some help) None) value nothing_held) next ≡ [] → ⊥
 long_refused true (Some value) next none = cc
 long_refused true None next none = cc
 long_refused false value next none = cc
 
 -- the first character of `-abc`, where the option is known or not
-short_refused : (is_known : Bool) (rest : Text) (more : Held → Kinds) (next : Kinds) → or_else (short_fault rules false (cond is_known (Some help) None) rest nothing_held more) next ≡ [] → ⊥
+short_refused : (is_known : Bool) (rest : Text) (more : Held → Kinds) (next : Kinds)
+    → or_else (short_fault rules false (cond is_known (Some help) None) rest nothing_held more) next ≡ [] → ⊥
 short_refused true rest more next none = cc
 short_refused false rest more next none = cc
 
@@ -52,13 +59,15 @@ module _ (stray : Kinds) (some : stray ≡ [] → ⊥) (word : Text) where
   -- `-abc`, by its first character
   step_refused : (first : Option ℕ) (k : ℕ) (flags : Text)
       → or_else (bundle_step_fault rules false first flags 0 nothing_held (flags_fault rules false k))
-      (step_part stray (after_flag rules walk.idle word (bundle_step rules first flags 0 walk.plain nothing_held (bundle_met rules k)).0 (bundle_step rules first flags 0 walk.plain nothing_held (bundle_met rules k)).1).1) ≡ [] → ⊥
+      (step_part stray (after_flag rules walk.idle word (bundle_step rules first flags 0 walk.plain nothing_held (bundle_met rules k)).0
+      (bundle_step rules first flags 0 walk.plain nothing_held (bundle_met rules k)).1).1) ≡ [] → ⊥
   step_refused None k flags none = some none
   step_refused (Some x) k flags none = short_refused (has_short help x) _ _ _ none
 
   bundle_refused : (n : ℕ) (flags : Text)
       → or_else (flags_fault rules false n flags 0 nothing_held)
-      (step_part stray (after_flag rules walk.idle word (bundle_met rules n flags 0 walk.plain nothing_held).0 (bundle_met rules n flags 0 walk.plain nothing_held).1).1) ≡ [] → ⊥
+      (step_part stray (after_flag rules walk.idle word (bundle_met rules n flags 0 walk.plain nothing_held).0
+      (bundle_met rules n flags 0 walk.plain nothing_held).1).1) ≡ [] → ⊥
   unfolding clap_on_literals
   bundle_refused zero flags none = some none
   bundle_refused (suc k) flags none = step_refused (slice_get (chars flags) 0) k flags none
@@ -123,7 +132,8 @@ module _ (name : Text) where
   unfolding clap_on_literals
   leaf_end word line none = cc
 
-  leaf_rest : (x : Text) (line : List Text) → x ≡ dashes → walk_fault (leaf name) [] (walked (leaf name).rules [] (walk_from nothing_held) x) line ≡ [] → line ≡ []
+  leaf_rest : (x : Text) (line : List Text)
+      → x ≡ dashes → walk_fault (leaf name) [] (walked (leaf name).rules [] (walk_from nothing_held) x) line ≡ [] → line ≡ []
   leaf_rest x [] mark none = refl
   leaf_rest x (y ∷ line) mark none =
       absurd (leaf_end y line (subst (λ w. walk_fault (leaf name) [] (walked (leaf name).rules [] (walk_from nothing_held) w) (y ∷ line) ≡ []) mark none))
@@ -133,7 +143,8 @@ module _ (name : Text) where
   leaf_lines [] none = inl refl
   leaf_lines (x ∷ line) none =
       let part = or_else-nil (walk_fault (leaf name) [] (walk_from nothing_held) (x ∷ line)) (later (leaf name) [] (x ∷ line) false) none in
-      let turn = or_else-nil (turn_fault (leaf name) [] (walk_from nothing_held) x) (walk_fault (leaf name) [] (walked (leaf name).rules [] (walk_from nothing_held) x) line) part.0 in
+      let turn = or_else-nil (turn_fault (leaf name) [] (walk_from nothing_held) x)
+      (walk_fault (leaf name) [] (walked (leaf name).rules [] (walk_from nothing_held) x) line) part.0 in
       let mark : x ≡ dashes = (bytes_eq-Decides x dashes).0 (leaf_turn x turn.0) in
       inr (ap₂ (λ w rest. w ∷ rest) mark (leaf_rest x line mark turn.1))
 
@@ -155,7 +166,8 @@ serve = codes "serve"
 abbrev named : Bool → Bool → Bool → Bool → Bool → Option Text
 named is_play is_pair is_show is_check is_serve =
     option_map {T = Text × List Text} (λ s. s.0)
-    (cond is_play (Some (play, [])) (cond is_pair (Some (pair, [])) (cond is_show (Some (show, [])) (cond is_check (Some (check, [])) (cond is_serve (Some (serve, [])) None)))))
+    (cond is_play (Some (play, []))
+    (cond is_pair (Some (pair, [])) (cond is_show (Some (show, [])) (cond is_check (Some (check, [])) (cond is_serve (Some (serve, [])) None)))))
 
 abbrev top_met : Option Text → Text → Held × Step
 top_met name word = subcommand_or_other rules name walk.idle 1 word nothing_held
@@ -317,7 +329,8 @@ data Begins (word : Text) : Type 0 where
   with_serve : serve ≡ word → Begins word
 
 begins_as : (word : Text) (line : List Text) → faults_of (word ∷ line) ≡ []
-    → Passes (bytes_eq play word || false) (bytes_eq pair word || false) (bytes_eq show word || false) (bytes_eq check word || false) (bytes_eq serve word || false) (bytes_eq word dashes) → Begins word
+    → Passes (bytes_eq play word || false) (bytes_eq pair word || false) (bytes_eq show word || false) (bytes_eq check word || false)
+    (bytes_eq serve word || false) (bytes_eq word dashes) → Begins word
 begins_as word line none (as_play e) = with_play (same_word play word e)
 begins_as word line none (as_pair e) = with_pair (same_word pair word e)
 begins_as word line none (as_show e) = with_show (same_word show word e)
@@ -334,7 +347,8 @@ begins word line none =
     (or_else (entered_fault app stop) (later top names (word ∷ line) (is_some (entered app stop)))) none in
     let turn = or_else-nil (turn_fault top names (walk_from nothing_held) word)
     (walk_fault top names (walked top.rules names (walk_from nothing_held) word) line) part.0 in
-    begins_as word line none (top_turn (bytes_eq play word || false) (bytes_eq pair word || false) (bytes_eq show word || false) (bytes_eq check word || false) (bytes_eq serve word || false) word turn.0)
+    begins_as word line none (top_turn (bytes_eq play word || false) (bytes_eq pair word || false) (bytes_eq show word || false)
+    (bytes_eq check word || false) (bytes_eq serve word || false) word turn.0)
 
 abbrev IsRead : Run → List Text → Text → Type 0
 IsRead run line word = run_in (subcommand_of bidi_app (word ∷ line)) ≡ Some run

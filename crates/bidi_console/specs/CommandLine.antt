@@ -1,5 +1,6 @@
 -- What the words of a command line ask for, as `clap` reads them.
-use Rattle.std.specs.Prelude.{◌≡◌, ◌≢◌, ◌⊎◌, ◌≤◌, ℕ, Bool, true, ◌&&◌, nat_lt, nat_le, List, [], ◌∷◌, ◌++◌, length, ⊤, Option, Some, None, option_and_then, option_map, if◌then◌else◌, codes, map}
+use Rattle.std.specs.Prelude.{◌≡◌, ◌≢◌, ◌⊎◌, ◌≤◌, ℕ, Bool, true, ◌&&◌, nat_lt, nat_le, List, [], ◌∷◌, ◌++◌, length, ⊤}
+use Rattle.std.specs.Prelude.{Option, Some, None, option_and_then, option_map, if◌then◌else◌, codes, map}
 use Rattle.std.specs.Char.{digit_value}
 use Rattle.std.specs.Str.Parse.{digits_value, without_leading_plus}
 use Rattle.std.specs.Str.{bytes_eq}
@@ -41,7 +42,9 @@ from_shape name = (with_rule (new_app name) from_rule).top
 
 -- the subcommand `serve`, with its three options
 abbrev pub serve_shape : Shape
-serve_shape = (with_rule (with_rule (with_rule (new_app (codes "serve")) (option_rule (codes "port"))) (option_rule (codes "connections"))) (option_rule (codes "messages"))).top
+serve_shape =
+    (with_rule (with_rule (with_rule (new_app (codes "serve")) (option_rule (codes "port"))) (option_rule (codes "connections")))
+    (option_rule (codes "messages"))).top
 
 -- the program's command before it has subcommands
 abbrev pub bare_app : App
@@ -49,7 +52,9 @@ bare_app = record { top = with_settings (new_app (codes "bidi")).top; subs = [] 
 
 -- the program's command, which wants one of its subcommands
 abbrev pub bidi_app : App
-bidi_app = with_subcommand (with_subcommand (with_subcommand (with_subcommand (with_subcommand bare_app play_shape) pair_shape) (from_shape (codes "show"))) (from_shape (codes "check"))) serve_shape
+bidi_app =
+    with_subcommand (with_subcommand (with_subcommand (with_subcommand (with_subcommand bare_app play_shape) pair_shape) (from_shape (codes "show")))
+    (from_shape (codes "check"))) serve_shape
 
 -- the words as texts
 abbrev pub line_of : List (Bor (List ℕ)) → List Text
@@ -157,5 +162,6 @@ Causes kind NoMemory = ⊤
 -- a refusal has its cause among the faults of the line, or clap takes the line and its option names no end or no number within its bounds
 abbrev pub IsRefusedFor : List Text → LineFault → Type 0
 IsRefusedFor line (Help text) = (kind : ErrorKind) × IsAmong kind (faults_of line) × IsRequest kind
-IsRefusedFor line (Usage text) = ((kind : ErrorKind) × IsAmong kind (faults_of line) × IsMistake kind) ⊎ ((faults_of line ≡ []) × (run_in (subcommand_of bidi_app line) ≡ None))
+IsRefusedFor line (Usage text) =
+    ((kind : ErrorKind) × IsAmong kind (faults_of line) × IsMistake kind) ⊎ ((faults_of line ≡ []) × (run_in (subcommand_of bidi_app line) ≡ None))
 IsRefusedFor line NoMemory = ⊤

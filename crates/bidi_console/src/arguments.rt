@@ -4,7 +4,9 @@ ghost use Rattle.clap.specs.Words.{app_of, found_of, first_value, kind_of, new_a
 ghost use Rattle.clap.specs.declared.builder.command.Command.TheViews.{out-Command};
 ghost use Rattle.clap.specs.declared.error.kind.ErrorKind.TheVariants.{InvalidValue};
 ghost use Rattle.bidi_console.specs.declared.arguments.Run.{Run};
-ghost use Rattle.bidi_console.specs.CommandLine.{AsksFor, Causes, IsRefusedFor, IsSaidBy, IsWithinBounds, bare_app, bidi_app, from_rule, from_shape, line_of, number_within, option_rule, pair_shape, play_shape, run_in, run_named, serve_shape, served, serving_in, side_named};
+ghost use Rattle.bidi_console.specs.CommandLine.{AsksFor, Causes, IsRefusedFor, IsSaidBy, IsWithinBounds, bare_app, bidi_app};
+ghost use Rattle.bidi_console.specs.CommandLine.{from_rule, from_shape, line_of, number_within, option_rule, pair_shape};
+ghost use Rattle.bidi_console.specs.CommandLine.{play_shape, run_in, run_named, serve_shape, served, serving_in, side_named};
 
 use super::message_lines::Side;
 use clap::error::ErrorKind;
@@ -114,7 +116,8 @@ fn command<'a>(alloc: Global) -> Result<Command<'a>, AllocError>
 
 // The program's command with all subcommands but `serve`.
 fn with_listings<'a>(alloc: Global) -> Result<Command<'a>, AllocError>
-    ensures { IfOk result (λ command. app_of command ≡ with_subcommand (with_subcommand (with_subcommand (with_subcommand bare_app play_shape) pair_shape) (from_shape (codes "show"))) (from_shape (codes "check"))) }
+    ensures { IfOk result (λ command. app_of command ≡ with_subcommand
+        (with_subcommand (with_subcommand (with_subcommand bare_app play_shape) pair_shape) (from_shape (codes "show"))) (from_shape (codes "check"))) }
 {
     let command = with_pair(alloc)?;
     let command = with_listing(

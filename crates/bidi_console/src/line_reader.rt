@@ -1,5 +1,6 @@
 //! A reader of lines, which holds little more of an input than one line.
-ghost use Rattle.std.specs.Prelude.{◌≡◌, ◌≢◌, ℕ, ◌+◌, ◌≤◌, List, [], ◌∷◌, ◌++◌, false, true, length, take, drop, vec_len, IfOk, IfSome, IfNone, IfErr, IsTrue, MatchResult};
+ghost use Rattle.std.specs.Prelude.{◌≡◌, ◌≢◌, ℕ, ◌+◌, ◌≤◌, List, [], ◌∷◌, ◌++◌, false, true, length, take};
+ghost use Rattle.std.specs.Prelude.{drop, vec_len, IfOk, IfSome, IfNone, IfErr, IsTrue, MatchResult};
 ghost use Rattle.std.specs.Io.KnownBytes.{IsAtEnd};
 ghost use Rattle.bidi_console.specs.Devices.{ReadsOn, TellsEnd};
 ghost use Rattle.bidi_console.specs.Feeds.{has_feed};
@@ -69,7 +70,8 @@ impl LineReader {
         ensures bytes { ReadsOn (S.left source.old) (S.left source.new) self.old (given result ++ self.new) }
         ensures says { Says result (S.has_ended source.new) self.new }
         ensures end { IfOk result (λ found. IfNone found (IsAtEnd (S.left source.new))) }
-        ensures failures { MatchResult result (λ _. S.failures source.new ≡ S.failures source.old) (λ fault. S.failures source.new ≡ S.failures source.old + failed_reads fault) }
+        ensures failures { MatchResult result (λ _. S.failures source.new ≡ S.failures source.old)
+            (λ fault. S.failures source.new ≡ S.failures source.old + failed_reads fault) }
     {
         let mut seen = 0;
         'reads: loop {
@@ -108,7 +110,8 @@ impl LineReader {
         ensures more { IfOk result (λ more. IsTrue more → self.new ≢ []) }
         ensures end { IfOk result (λ more. more ≡ false → (self.new ≡ []) × IsTrue (S.has_ended source.new) × IsAtEnd (S.left source.new)) }
         ensures err { IfErr result (λ fault. (fault ≢ BadLine) × (self.new ≡ [])) }
-        ensures failures { MatchResult result (λ _. S.failures source.new ≡ S.failures source.old) (λ fault. S.failures source.new ≡ S.failures source.old + failed_reads fault) }
+        ensures failures { MatchResult result (λ _. S.failures source.new ≡ S.failures source.old)
+            (λ fault. S.failures source.new ≡ S.failures source.old + failed_reads fault) }
     {
         if !self.held().is_empty() {
             return Ok(true);
@@ -136,7 +139,8 @@ impl LineReader {
         ensures bytes { ReadsOn (S.left source.old) (S.left source.new) self.old self.new }
         ensures count { IfOk result (λ n. length self.new ≡ length self.old + n) }
         ensures end { IfOk result (λ n. n ≡ 0 → IsTrue (S.has_ended source.new) × IsAtEnd (S.left source.new)) }
-        ensures failures { MatchResult result (λ _. S.failures source.new ≡ S.failures source.old) (λ fault. S.failures source.new ≡ S.failures source.old + failed_reads fault) }
+        ensures failures { MatchResult result (λ _. S.failures source.new ≡ S.failures source.old)
+            (λ fault. S.failures source.new ≡ S.failures source.old + failed_reads fault) }
         ensures err { IfErr result (λ fault. (fault ≢ BadLine) × (self.new ≡ self.old)) }
     {
         drop_front(&mut self.buffer, self.start);
@@ -155,7 +159,8 @@ fn read_some<S: Source>(source: &mut S, buffer: &mut Vec<u8>) -> Result<usize, I
     ensures end { IfOk result (λ n. n ≡ 0 → IsAtEnd (S.left source.new)) }
     ensures told { TellsEnd result CHUNK (S.has_ended source.old) (S.has_ended source.new) }
     ensures err { IfErr result (λ fault. (fault ≢ BadLine) × (buffer.new.items ≡ buffer.old.items)) }
-    ensures failures { MatchResult result (λ _. S.failures source.new ≡ S.failures source.old) (λ fault. S.failures source.new ≡ S.failures source.old + failed_reads fault) }
+    ensures failures { MatchResult result (λ _. S.failures source.new ≡ S.failures source.old)
+        (λ fault. S.failures source.new ≡ S.failures source.old + failed_reads fault) }
 {
     let mut chunk = [0u8; CHUNK];
     buffer.reserve(CHUNK).map_err(|_| InputFault::NoMemory)?;

@@ -1,5 +1,6 @@
 //! Listings of an input: a line for each text, or one for each text that is refused.
-ghost use Rattle.std.specs.Prelude.{◌≡◌, ◌+◌, ◌==◌, ◌||◌, not, [], ◌∷◌, ◌++◌, length, nat_lt, decimal, option_map, string_bytes, IfOk, IfErr, OnOk, IsTrue, MatchResult};
+ghost use Rattle.std.specs.Prelude.{◌≡◌, ◌+◌, ◌==◌, ◌||◌, not, [], ◌∷◌, ◌++◌, length, nat_lt, decimal};
+ghost use Rattle.std.specs.Prelude.{option_map, string_bytes, IfOk, IfErr, OnOk, IsTrue, MatchResult};
 ghost use Rattle.std.specs.Io.KnownBytes.{IsAtEnd};
 ghost use Rattle.bidi_console.specs.Devices.{Moves};
 ghost use Rattle.bidi_console.specs.Feeds.{ended};
@@ -90,8 +91,10 @@ pub fn list<R: Source, W: Sink>(
         (StopsAt listing side fault (R.has_ended source.new))) }
 
     // A device is blamed where it failed, and no listing succeeds after a failure.
-    ensures reads { MatchResult result (λ _. R.failures source.new ≡ R.failures source.old) (λ fault. R.failures source.new ≡ R.failures source.old + failed_reads fault) }
-    ensures writes { MatchResult result (λ _. W.failures sink.new ≡ W.failures sink.old) (λ fault. W.failures sink.new ≡ W.failures sink.old + failed_writes fault) }
+    ensures reads { MatchResult result (λ _. R.failures source.new ≡ R.failures source.old)
+        (λ fault. R.failures source.new ≡ R.failures source.old + failed_reads fault) }
+    ensures writes { MatchResult result (λ _. W.failures sink.new ≡ W.failures sink.old)
+        (λ fault. W.failures sink.new ≡ W.failures sink.old + failed_writes fault) }
 {
     let mut reader = LineReader::new(alloc);
     let mut scratch = Scratch::new(alloc);

@@ -22,10 +22,17 @@ escape-replicate (suc n) = ap (λ s. 97 ∷ s) (escape-replicate n)
 length-letters : (n : ℕ) → length (compact_text (letters n)) ≡ n + 28
 unfolding escape_byte
 length-letters n =
-    rw (escape-replicate n) (omega (arith, length-append {A = ℕ} (replicate n 97 ++ 34 ∷ []) (125 ∷ []), length-append {A = ℕ} (replicate n 97) (34 ∷ []), length-replicate {A = ℕ} n 97))
+    rw (escape-replicate n) (omega
+    (arith, length-append {A = ℕ} (replicate n 97 ++ 34 ∷ []) (125 ∷ []), length-append {A = ℕ} (replicate n 97) (34 ∷ []), length-replicate {A = ℕ} n 97))
 
 pub text_within_the_limit_is_taken : (held : Held) (n : ℕ) → n + 28 ≤ 1048576 → argument held (letters n) ≡ Ok (letters n)
-text_within_the_limit_is_taken held n within = let few = length-letters n in let test = leb_tells (length (compact_text (letters n))) 1048576 in grind (arith, few, test, within)
+text_within_the_limit_is_taken held n within =
+    let few = length-letters n in
+    let test = leb_tells (length (compact_text (letters n))) 1048576 in
+    grind (arith, few, test, within)
 
 pub text_past_the_limit_is_refused : (held : Held) (n : ℕ) → 1048576 < n + 28 → argument held (letters n) ≡ Err UnknownError
-text_past_the_limit_is_refused held n past = let few = length-letters n in let test = leb_tells (length (compact_text (letters n))) 1048576 in grind (arith, few, test, past)
+text_past_the_limit_is_refused held n past =
+    let few = length-letters n in
+    let test = leb_tells (length (compact_text (letters n))) 1048576 in
+    grind (arith, few, test, past)

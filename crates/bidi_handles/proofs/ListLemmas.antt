@@ -1,5 +1,6 @@
 -- What is found in a list, and what passes a test there.
-use Rattle.std.proofs.Common.{◌≡◌, ◌∙◌, ◌+◌, ◌<◌, ℕ, Bool, true, false, List, [], ◌∷◌, ◌++◌, length, get_or, take, map, filter, append-nil, Option, Some, None, refl, sym, ap, arith}
+use Rattle.std.proofs.Common.{◌≡◌, ◌∙◌, ◌+◌, ◌<◌, ℕ, Bool, true, false, List, [], ◌∷◌, ◌++◌, length, get_or}
+use Rattle.std.proofs.Common.{take, map, filter, append-nil, Option, Some, None, refl, sym, ap, arith}
 use Rattle.std.specs.Prelude.{find, option_map, if◌then◌else◌}
 use Rattle.std.proofs.lemmas.List.{map-append, take_more}
 use Rattle.std.proofs.lemmas.List.Elements.{filter-append}
@@ -31,11 +32,13 @@ filter-map f p [] = refl
 filter-map f p (x ∷ xs) = let ih = filter-map f p xs in grind (arith, ih)
 
 -- of those that pass, what g gives of the next item too
-pub picked-more : {X Y Z : Type 0} (f : X → Y) (p : Y → Bool) (g : Y → Z) (items : List X) (i : ℕ) (x : X) (b : Bool) (now after : List Z) → i < length items → x ≡ get_or items i x → p (f x) ≡ b
+pub picked-more : {X Y Z : Type 0} (f : X → Y) (p : Y → Bool) (g : Y → Z) (items : List X) (i : ℕ) (x : X) (b : Bool) (now after : List Z)
+    → i < length items → x ≡ get_or items i x → p (f x) ≡ b
     → now ≡ map g (filter p (map f (take i items))) → after ≡ (if b then now ++ g (f x) ∷ [] else now) → after ≡ map g (filter p (map f (take (i + 1) items)))
 picked-more f p g items i x b now after less at passes held is =
     is ∙ (by b passes ∙ sym (ap (λ xs. map g (filter p (map f xs))) (take_more items i x less ∙ ap (λ y. take i items ++ y ∷ []) (sym at))
-    ∙ (ap (λ ys. map g (filter p ys)) (map-append f (take i items) (x ∷ [])) ∙ (ap (map g) (filter-append p (map f (take i items)) (f x ∷ [])) ∙ map-append g (filter p (map f (take i items))) (filter p (f x ∷ []))))))
+    ∙ (ap (λ ys. map g (filter p ys)) (map-append f (take i items) (x ∷ [])) ∙ (ap (map g) (filter-append p (map f (take i items)) (f x ∷ []))
+    ∙ map-append g (filter p (map f (take i items))) (filter p (f x ∷ []))))))
   where
     by : (b : Bool) → p (f x) ≡ b → (if b then now ++ g (f x) ∷ [] else now) ≡ map g (filter p (map f (take i items))) ++ map g (filter p (f x ∷ []))
     by true e = rw e (ap (λ zs. zs ++ g (f x) ∷ []) held)

@@ -1,5 +1,6 @@
 -- Arguments that are resolved, one by one and part by part.
-use Rattle.std.proofs.Common.{◌≡◌, ◌∙◌, ◌<◌, ◌≤◌, ◌+◌, ℕ, List, [], ◌∷◌, ◌++◌, drop, get_or, length, map, codes, false, string_bytes, Option, Some, None, Result, Ok, Err, Vec, Global, refl, sym, ap, subst}
+use Rattle.std.proofs.Common.{◌≡◌, ◌∙◌, ◌<◌, ◌≤◌, ◌+◌, ℕ, List, [], ◌∷◌, ◌++◌, drop, get_or, length, map, codes, false}
+use Rattle.std.proofs.Common.{string_bytes, Option, Some, None, Result, Ok, Err, Vec, Global, refl, sym, ap, subst}
 use Rattle.std.specs.Prelude.{is_some, option_map}
 use Rattle.std.specs.Result.{IsErrAnd}
 use Rattle.std.proofs.lemmas.List.{map-append, drop_more, drop_all}
@@ -53,7 +54,8 @@ by-shared held (text s) id is = cc
 by-shared held (list_node ts) id is = cc
 
 -- without one a handle has its value
-pub by-handle : {A : Type 0} (view : A → Node) (held : Held) (r : Result A Refusal) (t : Node) (id : List ℕ) → get_of (codes "sharedId") t ≡ None → get_of (codes "handle") t ≡ Some (text id)
+pub by-handle : {A : Type 0} (view : A → Node) (held : Held) (r : Result A Refusal) (t : Node) (id : List ℕ)
+    → get_of (codes "sharedId") t ≡ None → get_of (codes "handle") t ≡ Some (text id)
     → Gives view r (found (held id) NoSuchHandle) → Gives view r (resolved held t)
 by-handle view held r (map_node ms) id none is gives = rw (none, is) gives
 by-handle view held r null id none is gives = absurd (cc)
@@ -65,13 +67,19 @@ by-handle view held r (list_node ts) id none is gives = absurd (cc)
 
 -- a reference has what it is by
 pub shared-there : (r : SharedReference) → get_of (codes "sharedId") (shared.ghosts.shape.tree_of r) ≡ Some (text (string_bytes r.shared_id))
-shared-there r = get_member-put (codes "sharedId") (text (string_bytes r.shared_id)) (put_part (codes "handle") (option_map (λ h. text (string_bytes h)) r.handle) (others_of r.ext))
+shared-there r =
+    get_member-put (codes "sharedId") (text (string_bytes r.shared_id))
+    (put_part (codes "handle") (option_map (λ h. text (string_bytes h)) r.handle) (others_of r.ext))
 
 pub handle-there : (r : RemoteObjectReference) → get_of (codes "handle") (objects.ghosts.shape.tree_of r) ≡ Some (text (string_bytes r.handle))
-handle-there r = get_member-put (codes "handle") (text (string_bytes r.handle)) (put_part (codes "sharedId") (option_map (λ s. text (string_bytes s)) r.shared_id) (others_of r.ext))
+handle-there r =
+    get_member-put (codes "handle") (text (string_bytes r.handle))
+    (put_part (codes "sharedId") (option_map (λ s. text (string_bytes s)) r.shared_id) (others_of r.ext))
 
 pub shared-refused : (held : Held) (r : Reference) (s : SharedReference) → r ≡ Shared s → resolved held (references.ghosts.shape.tree_of r) ≡ Err NoSuchNode
-shared-refused held r s is = ap (λ r. resolved held (references.ghosts.shape.tree_of r)) is ∙ by-shared held (shared.ghosts.shape.tree_of s) (text (string_bytes s.shared_id)) (shared-there s)
+shared-refused held r s is =
+    ap (λ r. resolved held (references.ghosts.shape.tree_of r)) is
+    ∙ by-shared held (shared.ghosts.shape.tree_of s) (text (string_bytes s.shared_id)) (shared-there s)
 
 -- what is not there is none
 pub none-there : {A B : Type 0} (f : A → B) (o : Option A) (q : Option B) → is_some o ≡ false → option_map f o ≡ q → q ≡ None
@@ -89,15 +97,19 @@ pub carries-all : {B : Type 0} (r : Result B ErrorCode) → Carries r r
 carries-all (Ok x) = (x, refl)
 carries-all (Err code) = refl
 
-pub carries-more : (held : Held) (t u : Node) (ts : List Node) (all : Result (List Node) ErrorCode) → argument held t ≡ Ok u → Carries (arguments held (t ∷ ts)) all → Carries (arguments held ts) all
-carries-more held t u ts all is carries = by (arguments held ts) (subst (λ (r : Result Node ErrorCode). Carries (r >>= λ v. arguments held ts >>= λ vs. Ok (v ∷ vs)) all) is carries)
+pub carries-more : (held : Held) (t u : Node) (ts : List Node) (all : Result (List Node) ErrorCode)
+    → argument held t ≡ Ok u → Carries (arguments held (t ∷ ts)) all → Carries (arguments held ts) all
+carries-more held t u ts all is carries =
+    by (arguments held ts) (subst (λ (r : Result Node ErrorCode). Carries (r >>= λ v. arguments held ts >>= λ vs. Ok (v ∷ vs)) all) is carries)
   where
     by : (vs : Result (List Node) ErrorCode) → Carries (vs >>= λ ws. Ok (u ∷ ws)) all → Carries vs all
     by (Ok vs) c = c
     by (Err code) c = c
 
-pub carries-refused : (held : Held) (t : Node) (ts : List Node) (code : ErrorCode) (all : Result (List Node) ErrorCode) → argument held t ≡ Err code → Carries (arguments held (t ∷ ts)) all → all ≡ Err code
-carries-refused held t ts code all is carries = subst (λ (r : Result Node ErrorCode). Carries (r >>= λ v. arguments held ts >>= λ vs. Ok (v ∷ vs)) all) is carries
+pub carries-refused : (held : Held) (t : Node) (ts : List Node) (code : ErrorCode) (all : Result (List Node) ErrorCode)
+    → argument held t ≡ Err code → Carries (arguments held (t ∷ ts)) all → all ≡ Err code
+carries-refused held t ts code all is carries =
+    subst (λ (r : Result Node ErrorCode). Carries (r >>= λ v. arguments held ts >>= λ vs. Ok (v ∷ vs)) all) is carries
 
 pub this-passes : (held : Held) (t u : Node) → argument held t ≡ Ok u → this_argument held (Some t) ≡ Ok (Some u)
 this-passes held t u is = rw is refl
@@ -126,7 +138,8 @@ with_done-none (Ok ts) = refl
 with_done-none (Err code) = refl
 
 -- one more is done
-pub done-more : (held : Held) (done : List Node) (t u : Node) (ts : Items) → resolved held t ≡ Ok u → with_done done (resolved_items held (item t ts)) ≡ with_done (done ++ u ∷ []) (resolved_items held ts)
+pub done-more : (held : Held) (done : List Node) (t u : Node) (ts : Items)
+    → resolved held t ≡ Ok u → with_done done (resolved_items held (item t ts)) ≡ with_done (done ++ u ∷ []) (resolved_items held ts)
 done-more held done t u ts is = rw is (by (resolved_items held ts))
   where
     by : (us : Result Items ErrorCode) → with_done done (us >>= λ vs. Ok (item u vs)) ≡ with_done (done ++ u ∷ []) us
@@ -139,10 +152,12 @@ done-more held done t u ts is = rw is (by (resolved_items held ts))
 abbrev typed : List ℕ → Node → Node
 typed s t = map_node (member (codes "type") (text s) (member (codes "value") t no_members))
 
-typed-passes : (held : Held) (s : List ℕ) (ts us : Items) → resolved_items held ts ≡ Ok us → resolved held (typed s (list_node ts)) ≡ Ok (typed s (list_node us))
+typed-passes : (held : Held) (s : List ℕ) (ts us : Items)
+    → resolved_items held ts ≡ Ok us → resolved held (typed s (list_node ts)) ≡ Ok (typed s (list_node us))
 typed-passes held s ts us is = rw is refl
 
-typed-refused : (held : Held) (s : List ℕ) (ts : Items) (code : ErrorCode) → resolved_items held ts ≡ Err code → resolved held (typed s (list_node ts)) ≡ Err code
+typed-refused : (held : Held) (s : List ℕ) (ts : Items) (code : ErrorCode)
+    → resolved_items held ts ≡ Err code → resolved held (typed s (list_node ts)) ≡ Err code
 typed-refused held s ts code is = rw is refl
 
 module _ {P L M : Type 0} (n : NestingOf P L M) where
@@ -157,7 +172,8 @@ module _ {P L M : Type 0} (n : NestingOf P L M) where
   list_tree : (l : L) (vs : Vec (Nested P L M) Global) → nested_tree n (ListOf l vs) ≡ around n.list l (list_node (items_of (map (nested_tree n) vs.items)))
   list_tree l vs = ap (value_tree n) (content-List l vs) ∙ ap (λ ts. around n.list l (list_node ts)) (values_tree-of vs.items)
 
-  of_pairs_tree : (m : M) (ps : Vec (NestedPair P L M) Global) → nested_tree n (PairsOf m ps) ≡ around n.pairs m (list_node (items_of (map (nested_pair_tree n) ps.items)))
+  of_pairs_tree : (m : M) (ps : Vec (NestedPair P L M) Global)
+      → nested_tree n (PairsOf m ps) ≡ around n.pairs m (list_node (items_of (map (nested_pair_tree n) ps.items)))
   of_pairs_tree m ps = ap (value_tree n) (content-Pairs m ps) ∙ ap (λ ts. around n.pairs m (list_node ts)) (pairs_tree-of ps.items)
 
 around-list : (k : ListKind) (t : Node) → around local.ghosts.nesting.list k t ≡ typed (list_text k) t
@@ -177,63 +193,79 @@ held-pairs object.Object t = refl
 held-pairs object.Map t = refl
 
 -- the tree of a list, and of a list of pairs, of local values
-local-list : (v : Nested LocalPlain ListKind PairsKind) (k : ListKind) (vs : Vec (Nested LocalPlain ListKind PairsKind) Global) → v ≡ ListOf k vs → local_tree v ≡ typed (list_text k) (list_node (items_of (map local_tree vs.items)))
+local-list : (v : Nested LocalPlain ListKind PairsKind) (k : ListKind) (vs : Vec (Nested LocalPlain ListKind PairsKind) Global)
+    → v ≡ ListOf k vs → local_tree v ≡ typed (list_text k) (list_node (items_of (map local_tree vs.items)))
 local-list v k vs is = ap local_tree is ∙ (list_tree local.ghosts.nesting k vs ∙ around-list k _)
 
-local-pairs : (v : Nested LocalPlain ListKind PairsKind) (k : PairsKind) (ps : Vec (NestedPair LocalPlain ListKind PairsKind) Global) → v ≡ PairsOf k ps → local_tree v ≡ typed (pairs_text k) (list_node (items_of (map local_pair_tree ps.items)))
+local-pairs : (v : Nested LocalPlain ListKind PairsKind) (k : PairsKind) (ps : Vec (NestedPair LocalPlain ListKind PairsKind) Global)
+    → v ≡ PairsOf k ps → local_tree v ≡ typed (pairs_text k) (list_node (items_of (map local_pair_tree ps.items)))
 local-pairs v k ps is = ap local_tree is ∙ (of_pairs_tree local.ghosts.nesting k ps ∙ around-pairs k _)
 
 -- and what they come to
-pub list-given : (held : Held) (v : Nested LocalPlain ListKind PairsKind) (k : ListKind) (vs : Vec (Nested LocalPlain ListKind PairsKind) Global) (us : Vec (Nested RemotePlain (HeldBy ListKind) (HeldBy PairsKind)) Global) → v ≡ ListOf k vs
-    → resolved_items held (items_of (map local_tree vs.items)) ≡ Ok (remote_trees us) → resolved held (local_tree v) ≡ Ok (remote_tree (ListOf (record { kind = k; handle = None; internal_id = None }) us))
+pub list-given : (held : Held) (v : Nested LocalPlain ListKind PairsKind) (k : ListKind) (vs : Vec (Nested LocalPlain ListKind PairsKind) Global)
+    (us : Vec (Nested RemotePlain (HeldBy ListKind) (HeldBy PairsKind)) Global) → v ≡ ListOf k vs
+    → resolved_items held (items_of (map local_tree vs.items)) ≡ Ok (remote_trees us)
+    → resolved held (local_tree v) ≡ Ok (remote_tree (ListOf (record { kind = k; handle = None; internal_id = None }) us))
 list-given held v k vs us is given =
     ap (resolved held) (local-list v k vs is) ∙ (typed-passes held (list_text k) (items_of (map local_tree vs.items)) (remote_trees us) given
     ∙ ap Ok (sym (list_tree remote.ghosts.nesting (record { kind = k; handle = None; internal_id = None }) us ∙ held-list k _)))
 
-pub pairs-given : (held : Held) (v : Nested LocalPlain ListKind PairsKind) (k : PairsKind) (ps : Vec (NestedPair LocalPlain ListKind PairsKind) Global) (qs : Vec (NestedPair RemotePlain (HeldBy ListKind) (HeldBy PairsKind)) Global) → v ≡ PairsOf k ps
-    → resolved_items held (items_of (map local_pair_tree ps.items)) ≡ Ok (remote_pair_trees qs) → resolved held (local_tree v) ≡ Ok (remote_tree (PairsOf (record { kind = k; handle = None; internal_id = None }) qs))
+pub pairs-given : (held : Held) (v : Nested LocalPlain ListKind PairsKind) (k : PairsKind) (ps : Vec (NestedPair LocalPlain ListKind PairsKind) Global)
+    (qs : Vec (NestedPair RemotePlain (HeldBy ListKind) (HeldBy PairsKind)) Global) → v ≡ PairsOf k ps
+    → resolved_items held (items_of (map local_pair_tree ps.items)) ≡ Ok (remote_pair_trees qs)
+    → resolved held (local_tree v) ≡ Ok (remote_tree (PairsOf (record { kind = k; handle = None; internal_id = None }) qs))
 pairs-given held v k ps qs is given =
     ap (resolved held) (local-pairs v k ps is) ∙ (typed-passes held (pairs_text k) (items_of (map local_pair_tree ps.items)) (remote_pair_trees qs) given
     ∙ ap Ok (sym (of_pairs_tree remote.ghosts.nesting (record { kind = k; handle = None; internal_id = None }) qs ∙ held-pairs k _)))
 
-pub list-refused : (held : Held) (v : Nested LocalPlain ListKind PairsKind) (k : ListKind) (vs : Vec (Nested LocalPlain ListKind PairsKind) Global) (e : Refusal) → v ≡ ListOf k vs
+pub list-refused : (held : Held) (v : Nested LocalPlain ListKind PairsKind) (k : ListKind)
+    (vs : Vec (Nested LocalPlain ListKind PairsKind) Global) (e : Refusal) → v ≡ ListOf k vs
     → Gives remote_trees (Err e) (resolved_items held (items_of (map local_tree vs.items))) → Gives remote_tree (Err e) (resolved held (local_tree v))
-list-refused held v k vs (Code code) is gives = ap (resolved held) (local-list v k vs is) ∙ typed-refused held (list_text k) (items_of (map local_tree vs.items)) code gives
+list-refused held v k vs (Code code) is gives =
+    ap (resolved held) (local-list v k vs is) ∙ typed-refused held (list_text k) (items_of (map local_tree vs.items)) code gives
 list-refused held v k vs NoMemory is gives = tt
 
-pub pairs-refused : (held : Held) (v : Nested LocalPlain ListKind PairsKind) (k : PairsKind) (ps : Vec (NestedPair LocalPlain ListKind PairsKind) Global) (e : Refusal) → v ≡ PairsOf k ps
+pub pairs-refused : (held : Held) (v : Nested LocalPlain ListKind PairsKind) (k : PairsKind)
+    (ps : Vec (NestedPair LocalPlain ListKind PairsKind) Global) (e : Refusal) → v ≡ PairsOf k ps
     → Gives remote_pair_trees (Err e) (resolved_items held (items_of (map local_pair_tree ps.items))) → Gives remote_tree (Err e) (resolved held (local_tree v))
-pairs-refused held v k ps (Code code) is gives = ap (resolved held) (local-pairs v k ps is) ∙ typed-refused held (pairs_text k) (items_of (map local_pair_tree ps.items)) code gives
+pairs-refused held v k ps (Code code) is gives =
+    ap (resolved held) (local-pairs v k ps is) ∙ typed-refused held (pairs_text k) (items_of (map local_pair_tree ps.items)) code gives
 pairs-refused held v k ps NoMemory is gives = tt
 
 -- ---- one by one
 
 -- a refusal that is handed on
-pub handed : {A B : Type 0} (view : A → B) (r : Result A Refusal) (e : Refusal) (answer : Result B ErrorCode) → IsErrAnd r (λ f. f ≡ e) → Gives view (Err e) answer → Gives view r answer
+pub handed : {A B : Type 0} (view : A → B) (r : Result A Refusal) (e : Refusal) (answer : Result B ErrorCode)
+    → IsErrAnd r (λ f. f ≡ e) → Gives view (Err e) answer → Gives view r answer
 handed view (Ok x) e answer is gives = absurd is
 handed view (Err f) e answer is gives = subst (λ g. Gives view (Err g) answer) (sym is) gives
 
 -- the first of those that are left, where a list is of what is seen of some
 module _ {A B : Type 0} (local : A → Node) (tree : B → Node) (held : Held) (xs zs : List A) (same : zs ≡ xs) where
-  pub seen-more : (done after : List B) (x : A) (y : B) (i : ℕ) → i < length zs → x ≡ get_or zs i x → after ≡ done ++ y ∷ [] → resolved held (local x) ≡ Ok (tree y)
+  pub seen-more : (done after : List B) (x : A) (y : B) (i : ℕ)
+      → i < length zs → x ≡ get_or zs i x → after ≡ done ++ y ∷ [] → resolved held (local x) ≡ Ok (tree y)
       → with_done (map tree done) (resolved_items held (items_of (map local (drop i xs)))) ≡ resolved_items held (items_of (map local xs))
       → with_done (map tree after) (resolved_items held (items_of (map local (drop (i + 1) xs)))) ≡ resolved_items held (items_of (map local xs))
   seen-more done after x y i below at is given so_far =
-      let rest : drop i xs ≡ x ∷ drop (i + 1) xs = subst (λ ys. drop i ys ≡ x ∷ drop (i + 1) ys) same (drop_more zs i x below ∙ ap (λ z. z ∷ drop (i + 1) zs) (sym at)) in
+      let rest : drop i xs ≡ x ∷ drop (i + 1) xs =
+      subst (λ ys. drop i ys ≡ x ∷ drop (i + 1) ys) same (drop_more zs i x below ∙ ap (λ z. z ∷ drop (i + 1) zs) (sym at)) in
       ap (λ ys. with_done (map tree ys) (resolved_items held (items_of (map local (drop (i + 1) xs))))) is
       ∙ (ap (λ ts. with_done ts (resolved_items held (items_of (map local (drop (i + 1) xs))))) (map-append tree done (y ∷ []))
       ∙ (sym (done-more held (map tree done) (local x) (tree y) (items_of (map local (drop (i + 1) xs))) given)
       ∙ (ap (λ ys. with_done (map tree done) (resolved_items held (items_of (map local ys)))) (sym rest) ∙ so_far)))
 
-  pub seen-refused : {C : Type 0} (view : C → Items) (done : List B) (x : A) (e : Refusal) (i : ℕ) → i < length zs → x ≡ get_or zs i x → Gives tree (Err e) (resolved held (local x))
+  pub seen-refused : {C : Type 0} (view : C → Items) (done : List B) (x : A) (e : Refusal) (i : ℕ)
+      → i < length zs → x ≡ get_or zs i x → Gives tree (Err e) (resolved held (local x))
       → with_done (map tree done) (resolved_items held (items_of (map local (drop i xs)))) ≡ resolved_items held (items_of (map local xs))
       → Gives view (Err e) (resolved_items held (items_of (map local xs)))
   seen-refused view done x (Code code) i below at refused so_far =
-      let rest : drop i xs ≡ x ∷ drop (i + 1) xs = subst (λ ys. drop i ys ≡ x ∷ drop (i + 1) ys) same (drop_more zs i x below ∙ ap (λ z. z ∷ drop (i + 1) zs) (sym at)) in
+      let rest : drop i xs ≡ x ∷ drop (i + 1) xs =
+      subst (λ ys. drop i ys ≡ x ∷ drop (i + 1) ys) same (drop_more zs i x below ∙ ap (λ z. z ∷ drop (i + 1) zs) (sym at)) in
       sym so_far ∙ (ap (λ ys. with_done (map tree done) (resolved_items held (items_of (map local ys)))) rest ∙ rw refused refl)
   seen-refused view done x NoMemory i below at refused so_far = tt
 
-  pub seen-all : (done : List B) (i : ℕ) → length zs ≤ i → with_done (map tree done) (resolved_items held (items_of (map local (drop i xs)))) ≡ resolved_items held (items_of (map local xs))
+  pub seen-all : (done : List B) (i : ℕ) → length zs ≤ i
+      → with_done (map tree done) (resolved_items held (items_of (map local (drop i xs)))) ≡ resolved_items held (items_of (map local xs))
       → resolved_items held (items_of (map local xs)) ≡ Ok (items_of (map tree done))
   seen-all done i above so_far =
       let none : drop i xs ≡ [] = subst (λ ys. drop i ys ≡ []) same (drop_all i zs above) in

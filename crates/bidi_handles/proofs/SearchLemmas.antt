@@ -1,5 +1,7 @@
 -- Handles whose numbers ascend: one more that comes, and what a search by halves finds among them.
-use Rattle.std.proofs.Common.{◌≡◌, ◌∙◌, ◌<◌, ◌≤◌, ◌+◌, ◌^◌, ◌||◌, ℕ, zero, suc, Bool, true, false, true≢false, List, [], ◌∷◌, ◌++◌, length, get_or, map, take, filter, All, Option, Some, None, IfSome, option_to_list, Result, Ok, Err, MatchResult, is_ok, String, Global, string_bytes, refl, sym, ap, ap₂, subst, arith}
+use Rattle.std.proofs.Common.{◌≡◌, ◌∙◌, ◌<◌, ◌≤◌, ◌+◌, ◌^◌, ◌||◌, ℕ, zero, suc, Bool, true, false, true≢false, List, [], ◌∷◌, ◌++◌}
+use Rattle.std.proofs.Common.{length, get_or, map, take, filter, All, Option, Some, None, IfSome, option_to_list, Result, Ok, Err}
+use Rattle.std.proofs.Common.{MatchResult, is_ok, String, Global, string_bytes, refl, sym, ap, ap₂, subst, arith}
 use Rattle.std.specs.Prelude.{◌==◌, bytes_eq, find, option_map}
 use Rattle.std.specs.List.{list_any}
 use Rattle.std.specs.List.Sorted.{IsSearchInRange, IsBinarySearchResult, IsNonDecreasingBy, IsNonDecreasing, IsStrictlyIncreasing}
@@ -22,7 +24,8 @@ use Rattle.bidi_handles.proofs.ValueLemmas.{same-either}
 -- ---- the first that passes a test
 
 -- it stands where none before it passes
-find-here : {X : Type 0} (p : X → Bool) (xs : List X) (i : ℕ) (d : X) → i < length xs → ((k : ℕ) → k < i → p (get_or xs k d) ≡ false) → p (get_or xs i d) ≡ true → find p xs ≡ Some (get_or xs i d)
+find-here : {X : Type 0} (p : X → Bool) (xs : List X) (i : ℕ) (d : X)
+    → i < length xs → ((k : ℕ) → k < i → p (get_or xs k d) ≡ false) → p (get_or xs i d) ≡ true → find p xs ≡ Some (get_or xs i d)
 find-here p [] i d less before here = absurd (omega arith)
 find-here p (x ∷ xs) zero d less before here = rw here refl
 find-here p (x ∷ xs) (suc i) d less before here = rw (before 0 (omega arith)) (find-here p xs i d (omega arith) (λ k lower. before (suc k) (omega arith)) here)
@@ -50,7 +53,8 @@ module _ {X : Type 0} (number : X → ℕ) (xs : List X) (ascend : IsStrictlyInc
         grind (arith, nat_tests, later, same)
 
     -- what is found is the one of that number
-    pub found : (i : ℕ) (d : X) → IsSearchInRange (Ok i) (length xs) → IsBinarySearchResult (λ x. nat_cmp (number x) n) xs (Ok i) → find (λ x. number x == n) xs ≡ Some (get_or xs i d)
+    pub found : (i : ℕ) (d : X) → IsSearchInRange (Ok i) (length xs)
+        → IsBinarySearchResult (λ x. nat_cmp (number x) n) xs (Ok i) → find (λ x. number x == n) xs ≡ Some (get_or xs i d)
     found i d within at =
         let here : number (get_or xs i d) ≡ n = ranked _ n _ (sym (at d)) in
         find-here (λ x. number x == n) xs i d within
@@ -58,7 +62,8 @@ module _ {X : Type 0} (number : X → ℕ) (xs : List X) (ascend : IsStrictlyInc
         (grind (arith, nat_tests, here))
 
     -- where nothing is found there is none
-    pub not-found : (i : ℕ) → IsSearchInRange (Err i) (length xs) → IsBinarySearchResult (λ x. nat_cmp (number x) n) xs (Err i) → find (λ x. number x == n) xs ≡ None
+    pub not-found : (i : ℕ) → IsSearchInRange (Err i) (length xs)
+        → IsBinarySearchResult (λ x. nat_cmp (number x) n) xs (Err i) → find (λ x. number x == n) xs ≡ None
     not-found i within parted =
         find-none (λ x. number x == n) xs (λ k d inside.
         let before : k < i → number (get_or xs k d) < n = λ lower. ranked _ n _ (sym ((parted comparisons-rise).0 k d (omega arith) lower)) in
@@ -68,14 +73,16 @@ module _ {X : Type 0} (number : X → ℕ) (xs : List X) (ascend : IsStrictlyInc
 -- ---- by id
 
 -- the first of a number is the first that passes a test which that number passes and no other does
-pub by-number : (t : ℕ → Bool) (n : ℕ) → t n ≡ true → ((m : ℕ) → m < 2 ^ 48 → t m ≡ true → Some n ≡ Some m) → (hs : List Handle) → find (λ h. h.number == n) hs ≡ find (λ h. t h.number) hs
+pub by-number : (t : ℕ → Bool) (n : ℕ) → t n ≡ true
+    → ((m : ℕ) → m < 2 ^ 48 → t m ≡ true → Some n ≡ Some m) → (hs : List Handle) → find (λ h. h.number == n) hs ≡ find (λ h. t h.number) hs
 by-number t n is every hs =
     find-same (λ h. h.number == n) (λ h. t h.number) hs (λ h. agree (h.number == n) (t h.number)
     (λ e. ap t ((Decides-eqb h.number n).0 e) ∙ is)
     (λ e. let one = every h.number h.number_fits e in (Decides-eqb h.number n).1 (cc)))
 
 -- where no number passes there is none
-pub by-no-number : (t : ℕ → Bool) → ((m : ℕ) → m < 2 ^ 48 → t m ≡ true → (let none : Option ℕ = None in none ≡ Some m)) → (hs : List Handle) → find (λ h. t h.number) hs ≡ None
+pub by-no-number : (t : ℕ → Bool) → ((m : ℕ) → m < 2 ^ 48 → t m ≡ true → (let none : Option ℕ = None in none ≡ Some m))
+    → (hs : List Handle) → find (λ h. t h.number) hs ≡ None
 by-no-number t every hs = find-none (λ (h : Handle). t h.number) hs (λ k h less. fails (get_or hs k h) (t (get_or hs k h).number) refl)
   where
     fails : (h : Handle) (b : Bool) → t h.number ≡ b → t h.number ≡ false
@@ -108,12 +115,15 @@ all-below hs n up k d less =
     let ns : List ℕ = map (λ h. h.number) hs in
     let within : k < length ns = omega (arith, less, length-map hs handle_seen, length-map hs (λ (h : Handle). h.number)) in
     let last : length ns < length (ns ++ n ∷ []) = omega (arith, length-append ns (n ∷ [])) in
-    let lower : get_or (ns ++ n ∷ []) k d.0 < get_or (ns ++ n ∷ []) (length ns) d.0 = AllPairs-from_increasing (ns ++ n ∷ []) up k (length ns) d.0 within last in
-    let here : get_or ns k d.0 < get_or (ns ++ n ∷ []) (length ns) d.0 = subst (λ x. x < get_or (ns ++ n ∷ []) (length ns) d.0) (get_or_append_left ns (n ∷ []) d.0 k within) lower in
+    let lower : get_or (ns ++ n ∷ []) k d.0 < get_or (ns ++ n ∷ []) (length ns) d.0 =
+    AllPairs-from_increasing (ns ++ n ∷ []) up k (length ns) d.0 within last in
+    let here : get_or ns k d.0 < get_or (ns ++ n ∷ []) (length ns) d.0 =
+    subst (λ x. x < get_or (ns ++ n ∷ []) (length ns) d.0) (get_or_append_left ns (n ∷ []) d.0 k within) lower in
     subst (λ x. x < n) (sym (number_at hs k d)) (subst (λ y. get_or ns k d.0 < y) (get_or-append_seam ns n [] d.0) here)
 
 -- those without some of them ascend too
-pub ascend-filter : (p : ℕ → Bool) (hs : List Handle) → IsStrictlyIncreasing (map (λ h. h.number) hs) → IsStrictlyIncreasing (map (λ h. h.number) (filter (λ h. p h.number) hs))
+pub ascend-filter : (p : ℕ → Bool) (hs : List Handle)
+    → IsStrictlyIncreasing (map (λ h. h.number) hs) → IsStrictlyIncreasing (map (λ h. h.number) (filter (λ h. p h.number) hs))
 ascend-filter p hs up = subst IsStrictlyIncreasing (filter-map (λ (h : Handle). h.number) p hs) (IsStrictlyIncreasing-filter p (map (λ h. h.number) hs) up)
 
 -- ---- among numbers alone
@@ -129,15 +139,20 @@ is-among xs n r up result = by r (searched xs n r result (λ i j le within. up i
 
     apart : (xs : List ℕ) → ((k : ℕ) → k < length xs → get_or xs k 0 ≡ n → ⊥) → list_any (λ m. m == n) xs ≡ false
     apart [] differ = refl
-    apart (x ∷ xs) differ = let ih = apart xs (λ k within. differ (suc k) (omega arith)) in let here = differ 0 (omega arith) in grind (arith, nat_tests, ih, here)
+    apart (x ∷ xs) differ =
+        let ih = apart xs (λ k within. differ (suc k) (omega arith)) in
+        let here = differ 0 (omega arith) in
+        grind (arith, nat_tests, ih, here)
 
-    by : (r : Result ℕ ℕ) → MatchResult r (λ i. (i < length xs) × (get_or xs i 0 ≡ n)) (λ i. (i ≤ length xs) × ((k : ℕ) → k < i → get_or xs k 0 < n) × ((k : ℕ) → i ≤ k → k < length xs → n < get_or xs k 0))
+    by : (r : Result ℕ ℕ) → MatchResult r (λ i. (i < length xs) × (get_or xs i 0 ≡ n))
+        (λ i. (i ≤ length xs) × ((k : ℕ) → k < i → get_or xs k 0 < n) × ((k : ℕ) → i ≤ k → k < length xs → n < get_or xs k 0))
         → is_ok r ≡ list_any (λ m. m == n) xs
     by (Ok i) there = sym (among xs i there.0 there.1)
     by (Err i) gap = sym (apart xs (λ k within is. let before = gap.1 k in let after = gap.2 k in grind (arith, before, after, within, is)))
 
 -- the number of a text that has one is a number that passes, and no other does
-numbered : (t : ℕ → Bool) (r : Option ℕ) → IfSome r (λ n. (n < 2 ^ 48) × (t n ≡ true)) → ((n : ℕ) → n < 2 ^ 48 → t n ≡ true → r ≡ Some n) → (n : ℕ) → n < 2 ^ 48 → list_any (λ m. m == n) (option_to_list r) ≡ t n
+numbered : (t : ℕ → Bool) (r : Option ℕ) → IfSome r (λ n. (n < 2 ^ 48) × (t n ≡ true))
+    → ((n : ℕ) → n < 2 ^ 48 → t n ≡ true → r ≡ Some n) → (n : ℕ) → n < 2 ^ 48 → list_any (λ m. m == n) (option_to_list r) ≡ t n
 numbered t (Some m) some every n fits =
     agree ((m == n) || false) (t n)
     (λ e. let same : m ≡ n = grind (arith, nat_tests, e) in ap t (sym same) ∙ some.1)
@@ -147,7 +162,8 @@ numbered t None some every n fits =
 
 -- among the numbers of some texts is that of each text that has one, and that of the next
 pub numbers-more : (texts : List (String Global)) (i : ℕ) (s : String Global) (r : Option ℕ) (now after : List ℕ) → i < length texts → s ≡ get_or texts i s
-    → IfSome r (λ n. (n < 2 ^ 48) × (bytes_eq (string_bytes s) (id_of kind.Handle n) ≡ true)) → ((n : ℕ) → n < 2 ^ 48 → bytes_eq (string_bytes s) (id_of kind.Handle n) ≡ true → r ≡ Some n)
+    → IfSome r (λ n. (n < 2 ^ 48) × (bytes_eq (string_bytes s) (id_of kind.Handle n) ≡ true))
+    → ((n : ℕ) → n < 2 ^ 48 → bytes_eq (string_bytes s) (id_of kind.Handle n) ≡ true → r ≡ Some n)
     → ((n : ℕ) → n < 2 ^ 48 → list_any (λ m. m == n) now ≡ has_id (map string_bytes (take i texts)) n) → after ≡ now ++ option_to_list r
     → (n : ℕ) → n < 2 ^ 48 → list_any (λ m. m == n) after ≡ has_id (map string_bytes (take (i + 1) texts)) n
 numbers-more texts i s r now after less at some every held is n fits =
@@ -155,7 +171,8 @@ numbers-more texts i s r now after less at some every held is n fits =
     let more : map string_bytes (take (i + 1) texts) ≡ map string_bytes (take i texts) ++ string_bytes s ∷ [] =
     ap (map string_bytes) (take_more texts i s less ∙ ap (λ x. take i texts ++ x ∷ []) (sym at)) ∙ map-append string_bytes (take i texts) (s ∷ []) in
     let one : list_any (λ m. m == n) (option_to_list r) ≡ list_any p (string_bytes s ∷ []) =
-    numbered (λ m. bytes_eq (string_bytes s) (id_of kind.Handle m)) r some every n fits ∙ (same-either (string_bytes s) (id_of kind.Handle n) ∙ sym (or-false (p (string_bytes s)))) in
+    numbered (λ m. bytes_eq (string_bytes s) (id_of kind.Handle m)) r some every n fits
+    ∙ (same-either (string_bytes s) (id_of kind.Handle n) ∙ sym (or-false (p (string_bytes s)))) in
     ap (list_any (λ m. m == n)) is
     ∙ (list_any-append (λ m. m == n) now (option_to_list r)
     ∙ (ap₂ (λ a b. a || b) (held n fits) one

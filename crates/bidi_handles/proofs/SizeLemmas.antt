@@ -40,11 +40,17 @@ items-first (item t ts) = let e = length-append (compact_text t) (items_text tru
 
 members-later : (ms : Members) → length (members_text true ms) ≡ members_bytes 1 ms
 members-later no_members = refl
-members-later (member k t ms) = let e = length-append (quoted k) (58 ∷ (compact_text t ++ members_text true ms)) in let f = length-append (compact_text t) (members_text true ms) in omega (arith, e, f)
+members-later (member k t ms) =
+    let e = length-append (quoted k) (58 ∷ (compact_text t ++ members_text true ms)) in
+    let f = length-append (compact_text t) (members_text true ms) in
+    omega (arith, e, f)
 
 members-first : (ms : Members) → length (members_text false ms) ≡ members_bytes 0 ms
 members-first no_members = refl
-members-first (member k t ms) = let e = length-append (quoted k) (58 ∷ (compact_text t ++ members_text true ms)) in let f = length-append (compact_text t) (members_text true ms) in omega (arith, e, f)
+members-first (member k t ms) =
+    let e = length-append (quoted k) (58 ∷ (compact_text t ++ members_text true ms)) in
+    let f = length-append (compact_text t) (members_text true ms) in
+    omega (arith, e, f)
 
 -- two sizes with equal parts
 abbrev sized-as : ℕ → ℕ → Size
@@ -63,7 +69,8 @@ members-begun s (Ok ms) levels bytes = let e = members-first ms in ap Ok (same-s
 members-begun s (Err code) levels bytes = refl
 
 -- an item more
-module _ (s r : Size) (c : ℕ) (u : Node) (levels : r.levels ≡ max s.levels (size_of u).levels) (bytes : r.bytes ≡ counted (counted (s.bytes + c) + (size_of u).bytes)) where
+module _ (s r : Size) (c : ℕ) (u : Node) (levels : r.levels ≡ max s.levels (size_of u).levels)
+    (bytes : r.bytes ≡ counted (counted (s.bytes + c) + (size_of u).bytes)) where
   grown-items : (us : Items) → with_items s c (Ok (item u us)) ≡ with_items r 1 (Ok us)
   grown-items us = let e = items-later us in ap Ok (same-size (omega (arith, levels)) (omega (arith, bytes, e)))
 
@@ -76,11 +83,14 @@ module _ (s r : Size) (c : ℕ) (u : Node) (levels : r.levels ≡ max s.levels (
       by (Err code) = refl
 
 -- a member more
-module _ (s r : Size) (c before : ℕ) (k : List ℕ) (u : Node) (levels : r.levels ≡ max s.levels (size_of u).levels) (is : before ≡ counted (counted (counted (length (quoted k)) + c) + 1)) (bytes : r.bytes ≡ counted (counted (s.bytes + before) + (size_of u).bytes)) where
+module _ (s r : Size) (c before : ℕ) (k : List ℕ)
+    (u : Node) (levels : r.levels ≡ max s.levels (size_of u).levels) (is : before ≡ counted (counted (counted (length (quoted k)) + c) + 1))
+    (bytes : r.bytes ≡ counted (counted (s.bytes + before) + (size_of u).bytes)) where
   grown-members : (us : Members) → with_members s c (Ok (member k u us)) ≡ with_members r 1 (Ok us)
   grown-members us = let e = members-later us in ap Ok (same-size (omega (arith, levels)) (omega (arith, is, bytes, e)))
 
-  pub one-member : (h : Option Held) (t : Node) (ts : Members) → seen h t ≡ Ok u → with_members s c (seen_members h (member k t ts)) ≡ with_members r 1 (seen_members h ts)
+  pub one-member : (h : Option Held) (t : Node) (ts : Members)
+      → seen h t ≡ Ok u → with_members s c (seen_members h (member k t ts)) ≡ with_members r 1 (seen_members h ts)
   one-member None t ts same = let e : t ≡ u = cc in rw e (grown-members ts)
   one-member (Some held) t ts same = rw same (by (resolved_members held ts))
     where

@@ -8,7 +8,8 @@ use Rattle.std.proofs.Common.{ℕ, zero, suc, List, Ordering, Less, Equal, Great
 use Rattle.std.specs.Cmp.Lexicographic.{slice_cmp}
 use Rattle.std.specs.Ordering.{match_ordering}
 use Rattle.bidi_handles.specs.Values.{with_member}
-use Rattle.bidi_tree.specs.Node.{Node, null, boolean, whole, odd, text, list as list_node, map, Members, no_members, member, get_member, put, levels, members_levels}
+use Rattle.bidi_tree.specs.Node.{Node, null, boolean, whole, odd, text, list as list_node, map, Members}
+use Rattle.bidi_tree.specs.Node.{no_members, member, get_member, put, levels, members_levels}
 use Rattle.bidi_tree.proofs.MemberLemmas.{get_member-put}
 use Rattle.bidi_shape.specs.Name as name
 use Rattle.bidi_shape.specs.ChoiceLaws.{fits_neither}
@@ -48,20 +49,24 @@ use Rattle.bidi_handles.specs.ValuesInHand.{remote_tree}
 -- ---- values of any kind
 
 mutual
-  parts-well : {P L M : Type 0} (n : NestingOf P L M) → ((p : P) → n.plain.well p) → ((h : L) → n.list.well h) → ((h : M) → n.pairs.well h) → (v : Content P L M) → PartsAreWell n v
+  parts-well : {P L M : Type 0} (n : NestingOf P L M)
+      → ((p : P) → n.plain.well p) → ((h : L) → n.list.well h) → ((h : M) → n.pairs.well h) → (v : Content P L M) → PartsAreWell n v
   parts-well n p l m (plain x) = p x
   parts-well n p l m (list h vs) = (l h, values-well n p l m vs)
   parts-well n p l m (pairs h ps) = (m h, pairs-well n p l m ps)
 
-  values-well : {P L M : Type 0} (n : NestingOf P L M) → ((p : P) → n.plain.well p) → ((h : L) → n.list.well h) → ((h : M) → n.pairs.well h) → (vs : Contents P L M) → ValuesAreWell n vs
+  values-well : {P L M : Type 0} (n : NestingOf P L M)
+      → ((p : P) → n.plain.well p) → ((h : L) → n.list.well h) → ((h : M) → n.pairs.well h) → (vs : Contents P L M) → ValuesAreWell n vs
   values-well n p l m no_values = tt
   values-well n p l m (value v vs) = (parts-well n p l m v, values-well n p l m vs)
 
-  pairs-well : {P L M : Type 0} (n : NestingOf P L M) → ((p : P) → n.plain.well p) → ((h : L) → n.list.well h) → ((h : M) → n.pairs.well h) → (ps : Pairs P L M) → PairsAreWell n ps
+  pairs-well : {P L M : Type 0} (n : NestingOf P L M)
+      → ((p : P) → n.plain.well p) → ((h : L) → n.list.well h) → ((h : M) → n.pairs.well h) → (ps : Pairs P L M) → PairsAreWell n ps
   pairs-well n p l m no_pairs = tt
   pairs-well n p l m (pair k v ps) = ((key-well n p l m k, parts-well n p l m v), pairs-well n p l m ps)
 
-  key-well : {P L M : Type 0} (n : NestingOf P L M) → ((p : P) → n.plain.well p) → ((h : L) → n.list.well h) → ((h : M) → n.pairs.well h) → (k : Key P L M) → KeyIsWell n k
+  key-well : {P L M : Type 0} (n : NestingOf P L M)
+      → ((p : P) → n.plain.well p) → ((h : L) → n.list.well h) → ((h : M) → n.pairs.well h) → (k : Key P L M) → KeyIsWell n k
   key-well n p l m (value_key v) = parts-well n p l m v
   key-well n p l m (text_key k) = tt
 
@@ -127,11 +132,14 @@ primitive-well primitive.Null = ((tt, closed-well _), misfits_by 20 refl)
 primitive-well (primitive.String s) = ((((tt, tt), closed-well _), misfits_by 20 refl), misfits_by 20 refl)
 primitive-well (primitive.Number n) = (((((number-well n, tt), closed-well _), misfits_by 20 refl), misfits_by 20 refl), misfits_by 20 refl)
 primitive-well (primitive.Boolean b) = ((((((tt, tt), closed-well _), misfits_by 20 refl), misfits_by 20 refl), misfits_by 20 refl), misfits_by 20 refl)
-primitive-well (primitive.BigInt s) = (((((((tt, tt), closed-well _), misfits_by 20 refl), misfits_by 20 refl), misfits_by 20 refl), misfits_by 20 refl), misfits_by 20 refl)
+primitive-well (primitive.BigInt s) =
+    (((((((tt, tt), closed-well _), misfits_by 20 refl), misfits_by 20 refl), misfits_by 20 refl), misfits_by 20 refl), misfits_by 20 refl)
 
 -- what a remote end holds it by
 abbrev holds : Option (String Global) → Option (String Global) → Members
-holds h i = put_part (codes "handle") (option_map (λ s. text (string_bytes s)) h) (put_part (codes "internalId") (option_map (λ s. text (string_bytes s)) i) no_members)
+holds h i =
+    put_part (codes "handle") (option_map (λ s. text (string_bytes s)) h)
+    (put_part (codes "internalId") (option_map (λ s. text (string_bytes s)) i) no_members)
 
 held-well : (h i : Option (String Global)) → IfSome h (λ s. ⊤) × (IfSome i (λ s. ⊤) × ⊤)
 held-well h i = (some_well (λ s. tt) h, (some_well (λ s. tt) i, tt))
@@ -159,22 +167,31 @@ opaque-own opaque.ArrayBuffer = refl
 
 plain-well : (p : RemotePlain) → remote.ghosts.nesting.plain.well p
 plain-well (of.Primitive p) = primitive-well p
-plain-well (of.List l) = (((tt, held-well l.handle l.internal_id), closed-well _), of-other (list_text l.kind) (holds l.handle l.internal_id) _ (list-own l.kind))
+plain-well (of.List l) =
+    (((tt, held-well l.handle l.internal_id), closed-well _), of-other (list_text l.kind) (holds l.handle l.internal_id) _ (list-own l.kind))
 plain-well (of.Pairs p) =
     let none = of-other (pairs_text p.kind) (holds p.handle p.internal_id) (rule name.primitive or bare_list) (pairs-own p.kind) in
     ((((tt, held-well p.handle p.internal_id), closed-well _), λ f. none (fits_second _ _ _ f)), λ f. none (fits_first _ _ _ f))
 plain-well (of.RegExp r) =
-    let none : (τ : Term) → refuses 20 (text (codes "regexp")) τ ≡ true → Fits (remote.ghosts.nesting.plain.tree_of (of.RegExp r)) τ → ⊥ = of-other (codes "regexp") (put (codes "value") (reg_exps.ghosts.shape.tree_of r.value) (holds r.handle r.internal_id)) in
-    (((((((tt, (some_well (λ s. tt) r.value.flags, tt)), closed-well _), held-well r.handle r.internal_id), closed-well _), none _ refl), none _ refl), none _ refl)
+    let none : (τ : Term) → refuses 20 (text (codes "regexp")) τ ≡ true → Fits (remote.ghosts.nesting.plain.tree_of (of.RegExp r)) τ → ⊥ =
+    of-other (codes "regexp") (put (codes "value") (reg_exps.ghosts.shape.tree_of r.value) (holds r.handle r.internal_id)) in (
+      ((((((tt, (some_well (λ s. tt) r.value.flags, tt)), closed-well _), held-well r.handle r.internal_id), closed-well _), none _ refl), none _ refl),
+      none _ refl,
+    )
 plain-well (of.Date d) =
-    let none : (τ : Term) → refuses 20 (text (codes "date")) τ ≡ true → Fits (remote.ghosts.nesting.plain.tree_of (of.Date d)) τ → ⊥ = of-other (codes "date") (put (codes "value") (text (string_bytes d.value)) (holds d.handle d.internal_id)) in
+    let none : (τ : Term) → refuses 20 (text (codes "date")) τ ≡ true → Fits (remote.ghosts.nesting.plain.tree_of (of.Date d)) τ → ⊥ =
+    of-other (codes "date") (put (codes "value") (text (string_bytes d.value)) (holds d.handle d.internal_id)) in
     ((((((tt, held-well d.handle d.internal_id), closed-well _), none _ refl), none _ refl), none _ refl), none _ refl)
 plain-well (of.Opaque o) =
-    let none = of-other (opaque_text o.kind) (holds o.handle o.internal_id) (rule name.primitive or bare_list or bare_pairs or remote_reg_exp or remote_date) (opaque-own o.kind) in (
+    let none = of-other (opaque_text o.kind) (holds o.handle o.internal_id)
+    (rule name.primitive or bare_list or bare_pairs or remote_reg_exp or remote_date) (opaque-own o.kind) in (
       (
         (
           (
-            (((tt, held-well o.handle o.internal_id), closed-well _), λ f. none (fits_second _ _ _ (fits_second _ _ _ (fits_second _ _ _ (fits_second _ _ _ f))))),
+            (
+              ((tt, held-well o.handle o.internal_id), closed-well _),
+              λ f. none (fits_second _ _ _ (fits_second _ _ _ (fits_second _ _ _ (fits_second _ _ _ f)))),
+            ),
             λ f. none (fits_second _ _ _ (fits_second _ _ _ (fits_second _ _ _ (fits_first _ _ _ f)))),
           ),
           λ f. none (fits_second _ _ _ (fits_second _ _ _ (fits_first _ _ _ f))),
@@ -194,7 +211,8 @@ put-levels k s no_members = omega arith
 put-levels k s (member l t ms) = step (slice_cmp nat_cmp k l) (put-levels k s ms)
   where
     step : (o : Ordering) → members_levels (put k (text s) ms) ≤ members_levels ms
-        → members_levels (match_ordering o (member k (text s) (member l t ms)) (member l (text s) ms) (member l t (put k (text s) ms))) ≤ members_levels (member l t ms)
+        → members_levels (match_ordering o (member k (text s) (member l t ms)) (member l (text s) ms) (member l t (put k (text s) ms)))
+        ≤ members_levels (member l t ms)
     step Less few = omega arith
     step Equal few = omega arith
     step Greater few = omega (arith, few)

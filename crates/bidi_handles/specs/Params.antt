@@ -1,6 +1,7 @@
 -- The members of a command's params, read one by one. Of a tree that fits the rule of the params each reading is exact; of any other tree it gives something.
 use Prim.Native.String.{String}
-use Rattle.std.specs.Prelude.{ℕ, ℤ, pos, negsuc, List, [], ◌∷◌, codes, bytes_eq, flat_map, Option, Some, None, option_map, option_and_then, option_to_list, unwrap_or, is_some, Bool, ◌&&◌, nat_lt, length, if◌then◌else◌}
+use Rattle.std.specs.Prelude.{ℕ, ℤ, pos, negsuc, List, [], ◌∷◌, codes, bytes_eq, flat_map, Option, Some, None, option_map}
+use Rattle.std.specs.Prelude.{option_and_then, option_to_list, unwrap_or, is_some, Bool, ◌&&◌, nat_lt, length, if◌then◌else◌}
 use Rattle.std.specs.List.{list_all}
 use Rattle.bidi_tree.specs.Node.{Node, Items, no_items, item, get_of}
 use Rattle.bidi_tree.specs.Kind.{text_in, whole_in, list_in}

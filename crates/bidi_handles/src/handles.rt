@@ -1,5 +1,6 @@
 //! The handles of a realm.
-ghost use Rattle.std.specs.Prelude.{◌≡◌, ℕ, ◌<◌, ◌^◌, [], ◌∷◌, ◌++◌, true, IfOk, OnOk, bytes_eq, filter, find, length, map, not, option_map, string_bytes, ◌==◌};
+ghost use Rattle.std.specs.Prelude.{◌≡◌, ℕ, ◌<◌, ◌^◌, [], ◌∷◌, ◌++◌, true, IfOk, OnOk, bytes_eq, filter};
+ghost use Rattle.std.specs.Prelude.{find, length, map, not, option_map, string_bytes, ◌==◌};
 ghost use Rattle.std.specs.List.{All, list_any};
 ghost use Rattle.std.specs.List.Sorted.{IsNonDecreasing, IsStrictlyIncreasing};
 ghost use Rattle.std.proofs.Props.{props};
@@ -48,6 +49,9 @@ impl Handles {
     /// The numbers of those that have one of these ids.
     ///
     /// Sorts the numbers of the ids, and does a binary search among them for each handle.
+    ///
+    /// # Errors
+    /// No memory: an allocation failed.
     pub fn numbers_of(&self, alloc: Global, ids: &Vec<String>) -> Result<Vec<u64>, AllocError>
         ensures { IfOk result (λ numbers. numbers.items ≡ map (λ h. h.0) (filter (λ h. has_id (map string_bytes ids.now.items) h.0) (handles_seen self.now))) }
     {
@@ -62,6 +66,9 @@ impl Handles {
     }
 
     /// Makes room for one more.
+    ///
+    /// # Errors
+    /// No memory: an allocation failed. The handles are as they were.
     pub fn reserve(&mut self) -> Result<(), AllocError>
         ensures kept { handles_seen self.new ≡ handles_seen self.old }
         ensures room { OnOk result (HasSpare self.new) }
@@ -69,10 +76,12 @@ impl Handles {
         self.items.reserve(1)
     }
 
-    /// Adds a handle, if its number is above those of all others; else they stay as they are. Takes no memory.
+    /// Adds a handle whose number is above those of all others. Of any other number it is dropped, and the handles
+    /// stay as they are. Takes no memory.
     pub fn hold(&mut self, handle: Handle)
         requires { HasSpare self.now }
-        ensures added { All (λ held. held.0 < handle.number) (handles_seen self.old) → handles_seen self.new ≡ handles_seen self.old ++ handle_seen handle ∷ [] }
+        ensures added { All (λ held. held.0 < handle.number) (handles_seen self.old)
+            → handles_seen self.new ≡ handles_seen self.old ++ handle_seen handle ∷ [] }
         ensures kept { ¬ All (λ held. held.0 < handle.number) (handles_seen self.old) → handles_seen self.new ≡ handles_seen self.old }
     {
         if may_come(&self.items, handle.number) {
@@ -97,7 +106,8 @@ impl Handles {
 
 // The handle of this id, among handles in ascending order of number.
 fn handle_of_id<'a>(handles: &'a [Handle], id: &str) -> Option<&'a Handle>
-    ensures { IsStrictlyIncreasing (map (λ h. h.number) handles.now) → option_map (λ h. h.now) result ≡ find (λ h. bytes_eq id.now (id_of IdKind.Handle h.number)) handles.now }
+    ensures { IsStrictlyIncreasing (map (λ h. h.number) handles.now)
+        → option_map (λ h. h.now) result ≡ find (λ h. bytes_eq id.now (id_of IdKind.Handle h.number)) handles.now }
 {
     handle_at(handles, handle_number(id)?)
 }
@@ -114,7 +124,8 @@ fn handle_at(handles: &[Handle], number: u64) -> Option<&Handle>
 
 // Whether a handle of this number keeps the ascending order where it is added last.
 fn may_come(handles: &[Handle], number: u64) -> bool
-    ensures may { result ≡ true → IsStrictlyIncreasing (map (λ h. h.number) handles.now) → IsStrictlyIncreasing (map (λ h. h.number) handles.now ++ number ∷ []) }
+    ensures may { result ≡ true → IsStrictlyIncreasing (map (λ h. h.number) handles.now)
+        → IsStrictlyIncreasing (map (λ h. h.number) handles.now ++ number ∷ []) }
     ensures above { All (λ h. h.number < number) handles.now → result ≡ true }
 {
     match handles.last() {

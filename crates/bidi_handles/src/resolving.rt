@@ -8,7 +8,8 @@ ghost use Rattle.bidi_codes.specs.Checks.{found};
 ghost use Rattle.bidi_handles.specs.Handles.{values_in};
 ghost use Rattle.bidi_handles.specs.Resolves.{Gives, IsSized, Passes, this_argument};
 ghost use Rattle.bidi_handles.specs.Values.{resolved, resolved_items, argument, arguments};
-ghost use Rattle.bidi_handles.specs.ValuesInHand.{local_tree, local_pair_tree, local_key_tree, remote_tree, remote_trees, remote_pair_tree, remote_pair_trees, remote_key_tree, shared_tree};
+ghost use Rattle.bidi_handles.specs.ValuesInHand.{local_tree, local_pair_tree, local_key_tree, remote_tree, remote_trees};
+ghost use Rattle.bidi_handles.specs.ValuesInHand.{remote_pair_tree, remote_pair_trees, remote_key_tree, shared_tree};
 
 use crate::handle::HeldValue;
 use crate::handles::Handles;

@@ -1,5 +1,6 @@
 -- The entries of a link in hand, place by place: their ids, which of them wait, and one whose fate changes.
-use Rattle.std.proofs.Common.{◌≡◌, ◌∙◌, ◌<◌, ◌+◌, ℕ, suc, zero, Bool, true, false, true≢false, cond, not, List, [], ◌∷◌, map, length, Option, Some, None, option_map, refl, sym, ap, ap₂, subst, arith, rules, filter, find, unwrap_or}
+use Rattle.std.proofs.Common.{◌≡◌, ◌∙◌, ◌<◌, ◌+◌, ℕ, suc, zero, Bool, true, false, true≢false, cond, not, List, [], ◌∷◌, map, length}
+use Rattle.std.proofs.Common.{Option, Some, None, option_map, refl, sym, ap, ap₂, subst, arith, rules, filter, find, unwrap_or}
 use Rattle.std.specs.Prelude.{◌==◌, slice_get, slice_set, if◌then◌else◌}
 use Rattle.std.proofs.lemmas.Bool.{ne_eqb}
 use Rattle.bidi_tree.specs.Node.{Node, null}
@@ -48,7 +49,8 @@ pub record IsEntry (v : Link) (n : ℕ) (c : Sending) (e : Entry) : Type 0 where
   pub method : method_text e.method ≡ c.method
   pub fate : fate_seen e.fate ≡ fate_of v n
 
-pub entry_at : (p k n : ℕ) (v : Link) (es : List Entry) (cs : List Sending) (c : Sending) → n ≡ k + p → map entry_seen es ≡ entries_from k v cs → slice_get cs p ≡ Some c
+pub entry_at : (p k n : ℕ) (v : Link) (es : List Entry) (cs : List Sending) (c : Sending)
+    → n ≡ k + p → map entry_seen es ≡ entries_from k v cs → slice_get cs p ≡ Some c
     → (e : Entry) × (slice_get es p ≡ Some e) × IsEntry v n c e
 entry_at p k n v es [] c place is at = cc
 entry_at p k n v [] (d ∷ cs) c place is at = cc
@@ -60,7 +62,8 @@ entry_at zero k n v (e ∷ es) (d ∷ cs) c place is at =
 entry_at (suc p) k n v (e ∷ es) (d ∷ cs) c place is at = entry_at p (suc k) n v es cs c (omega (arith, place)) (same_tail is) at
 
 -- the entries where one fate changes
-pub entries-set : (p k n : ℕ) (v w : Link) (f : Fate) (e : Entry) (es : List Entry) (cs : List Sending) → n ≡ k + p → map entry_seen es ≡ entries_from k v cs → slice_get es p ≡ Some e
+pub entries-set : (p k n : ℕ) (v w : Link) (f : Fate) (e : Entry) (es : List Entry) (cs : List Sending)
+    → n ≡ k + p → map entry_seen es ≡ entries_from k v cs → slice_get es p ≡ Some e
     → fate_seen f ≡ fate_of w n → ((id : ℕ) → (id ≡ n → ⊥) → fate_of v id ≡ fate_of w id)
     → map entry_seen (slice_set es p (record e { fate = f })) ≡ entries_from k w cs
 entries-set p k n v w f e [] cs place is at here others = cc
@@ -75,7 +78,9 @@ entries-set zero k n v w f e (x ∷ es) (c ∷ cs) place is at here others =
   where
     later : (j : ℕ) (ds : List Sending) → n < j → entries_from j v ds ≡ entries_from j w ds
     later j [] above = refl
-    later j (d ∷ ds) above = ap₂ {B = List seen.Entry} (λ g ys. record { id = j; method = d.method; fate = g } ∷ ys) (others j (λ same. omega (arith, same, above))) (later (suc j) ds (omega (arith, above)))
+    later j (d ∷ ds) above =
+        ap₂ {B = List seen.Entry} (λ g ys. record { id = j; method = d.method; fate = g } ∷ ys)
+        (others j (λ same. omega (arith, same, above))) (later (suc j) ds (omega (arith, above)))
 entries-set (suc p) k n v w f e (x ∷ es) (c ∷ cs) place is at here others =
     ap₂ {B = List seen.Entry} (λ y ys. y ∷ ys)
     (same_head is ∙ ap (λ g. record { id = k; method = c.method; fate = g }) (others k (λ same. omega (arith, same, place))))
@@ -92,16 +97,20 @@ waiting-if true e es = refl
 waiting-if false e es = refl
 
 -- the first waits, or not
-waiting-cons : (e : Entry) (es : List Entry) → waiting_among (e ∷ es) ≡ cond (is_waiting (fate_seen e.fate)) ((e.id.value, e.method) ∷ waiting_among es) (waiting_among es)
+waiting-cons : (e : Entry) (es : List Entry)
+    → waiting_among (e ∷ es) ≡ cond (is_waiting (fate_seen e.fate)) ((e.id.value, e.method) ∷ waiting_among es) (waiting_among es)
 waiting-cons e es = waiting-if (is_waiting (fate_seen e.fate)) e (filter (λ x. is_waiting (fate_seen x.fate)) es)
 
-pub waits : (e : Entry) (es : List Entry) (b : Bool) → is_waiting (fate_seen e.fate) ≡ b → waiting_among (e ∷ es) ≡ cond b ((e.id.value, e.method) ∷ waiting_among es) (waiting_among es)
+pub waits : (e : Entry) (es : List Entry) (b : Bool)
+    → is_waiting (fate_seen e.fate) ≡ b → waiting_among (e ∷ es) ≡ cond b ((e.id.value, e.method) ∷ waiting_among es) (waiting_among es)
 waits e es b is = waiting-cons e es ∙ ap (λ d. cond d ((e.id.value, e.method) ∷ waiting_among es) (waiting_among es)) is
 
-keeps : (id : ℕ) (w : ℕ × Method) (waiting : Pending) (b : Bool) → (id == w.0) ≡ b → without (w ∷ waiting) id ≡ cond (not b) (w ∷ without waiting id) (without waiting id)
+keeps : (id : ℕ) (w : ℕ × Method) (waiting : Pending) (b : Bool)
+    → (id == w.0) ≡ b → without (w ∷ waiting) id ≡ cond (not b) (w ∷ without waiting id) (without waiting id)
 keeps id w waiting b is = ap (λ d. cond (not d) (w ∷ without waiting id) (without waiting id)) is
 
-finds : (id : ℕ) (w : ℕ × Method) (waiting : Pending) (b : Bool) → (id == w.0) ≡ b → method_of (w ∷ waiting) id ≡ option_map (λ x. x.1) (cond b (Some w) (find (λ x. id == x.0) waiting))
+finds : (id : ℕ) (w : ℕ × Method) (waiting : Pending) (b : Bool)
+    → (id == w.0) ≡ b → method_of (w ∷ waiting) id ≡ option_map (λ x. x.1) (cond b (Some w) (find (λ x. id == x.0) waiting))
 finds id w waiting b is = ap (λ d. option_map (λ x. x.1) (cond d (Some w) (find (λ x. id == x.0) waiting))) is
 
 itself : (n m : ℕ) → m ≡ n → (n == m) ≡ true
@@ -115,7 +124,8 @@ none-without : (j id : ℕ) (es : List Entry) → AreNumbered j es → id < j �
 none-without j id [] numbered before = refl
 none-without j id (e ∷ es) numbered before = by_case (is_waiting (fate_seen e.fate)) refl (none-without (suc j) id es numbered.1 (omega (arith, before)))
   where
-    by_case : (b : Bool) → is_waiting (fate_seen e.fate) ≡ b → without (waiting_among es) id ≡ waiting_among es → without (waiting_among (e ∷ es)) id ≡ waiting_among (e ∷ es)
+    by_case : (b : Bool) → is_waiting (fate_seen e.fate) ≡ b
+        → without (waiting_among es) id ≡ waiting_among es → without (waiting_among (e ∷ es)) id ≡ waiting_among (e ∷ es)
     by_case true is rest =
         ap (λ ws. without ws id) (waits e es true is)
         ∙ (keeps id (row e) (waiting_among es) false (apart id e.id.value j numbered.0 (λ same. omega (arith, same, before)))
@@ -123,14 +133,19 @@ none-without j id (e ∷ es) numbered before = by_case (is_waiting (fate_seen e.
     by_case false is rest = ap (λ ws. without ws id) (waits e es false is) ∙ (rest ∙ sym (waits e es false is))
 
 -- the command at a place waits no longer
-pub waiting-set : (p k n : ℕ) (f : Fate) (e : Entry) (es : List Entry) → n ≡ k + p → AreNumbered k es → slice_get es p ≡ Some e → is_waiting (fate_seen f) ≡ false
+pub waiting-set : (p k n : ℕ) (f : Fate) (e : Entry) (es : List Entry)
+    → n ≡ k + p → AreNumbered k es → slice_get es p ≡ Some e → is_waiting (fate_seen f) ≡ false
     → waiting_among (slice_set es p (record e { fate = f })) ≡ without (waiting_among es) n
 waiting-set p k n f e [] place numbered at settled = cc
 waiting-set zero k n f e (x ∷ es) place numbered at settled =
-    waits (record e { fate = f }) es false settled ∙ sym (by_case (is_waiting (fate_seen x.fate)) refl (none-without (suc k) n es numbered.1 (omega (arith, place))))
+    waits (record e { fate = f }) es false settled
+    ∙ sym (by_case (is_waiting (fate_seen x.fate)) refl (none-without (suc k) n es numbered.1 (omega (arith, place))))
   where
-    by_case : (b : Bool) → is_waiting (fate_seen x.fate) ≡ b → without (waiting_among es) n ≡ waiting_among es → without (waiting_among (x ∷ es)) n ≡ waiting_among es
-    by_case true is rest = ap (λ ws. without ws n) (waits x es true is) ∙ (keeps n (row x) (waiting_among es) true (itself n x.id.value (omega (arith, numbered.0, place))) ∙ rest)
+    by_case : (b : Bool) → is_waiting (fate_seen x.fate) ≡ b
+        → without (waiting_among es) n ≡ waiting_among es → without (waiting_among (x ∷ es)) n ≡ waiting_among es
+    by_case true is rest =
+        ap (λ ws. without ws n) (waits x es true is)
+        ∙ (keeps n (row x) (waiting_among es) true (itself n x.id.value (omega (arith, numbered.0, place))) ∙ rest)
     by_case false is rest = ap (λ ws. without ws n) (waits x es false is) ∙ rest
 waiting-set (suc p) k n f e (x ∷ es) place numbered at settled =
     by_case (is_waiting (fate_seen x.fate)) refl (waiting-set p (suc k) n f e es (omega (arith, place)) numbered.1 at settled)
@@ -140,11 +155,13 @@ waiting-set (suc p) k n f e (x ∷ es) place numbered at settled =
     by_case true is rest =
         waits x (slice_set es p (record e { fate = f })) true is
         ∙ (ap (λ ws. row x ∷ ws) rest
-        ∙ sym (ap (λ ws. without ws n) (waits x es true is) ∙ keeps n (row x) (waiting_among es) false (apart n x.id.value k numbered.0 (λ same. omega (arith, same, place)))))
+        ∙ sym (ap (λ ws. without ws n) (waits x es true is)
+        ∙ keeps n (row x) (waiting_among es) false (apart n x.id.value k numbered.0 (λ same. omega (arith, same, place)))))
     by_case false is rest = waits x (slice_set es p (record e { fate = f })) false is ∙ (rest ∙ sym (ap (λ ws. without ws n) (waits x es false is)))
 
 -- a command that waits is found by its id
-pub method_of-waiting : (p k n : ℕ) (e : Entry) (es : List Entry) → n ≡ k + p → AreNumbered k es → slice_get es p ≡ Some e → is_waiting (fate_seen e.fate) ≡ true → method_of (waiting_among es) n ≡ Some e.method
+pub method_of-waiting : (p k n : ℕ) (e : Entry) (es : List Entry) → n ≡ k + p
+    → AreNumbered k es → slice_get es p ≡ Some e → is_waiting (fate_seen e.fate) ≡ true → method_of (waiting_among es) n ≡ Some e.method
 method_of-waiting p k n e [] place numbered at waiting = cc
 method_of-waiting zero k n e (x ∷ es) place numbered at waiting =
     let same : x ≡ e = cc at in
@@ -153,7 +170,8 @@ method_of-waiting zero k n e (x ∷ es) place numbered at waiting =
 method_of-waiting (suc p) k n e (x ∷ es) place numbered at waiting =
     by_case (is_waiting (fate_seen x.fate)) refl (method_of-waiting p (suc k) n e es (omega (arith, place)) numbered.1 at waiting)
   where
-    by_case : (b : Bool) → is_waiting (fate_seen x.fate) ≡ b → method_of (waiting_among es) n ≡ Some e.method → method_of (waiting_among (x ∷ es)) n ≡ Some e.method
+    by_case : (b : Bool) → is_waiting (fate_seen x.fate) ≡ b
+        → method_of (waiting_among es) n ≡ Some e.method → method_of (waiting_among (x ∷ es)) n ≡ Some e.method
     by_case true is rest =
         ap (λ ws. method_of ws n) (waits x es true is)
         ∙ (finds n (row x) (waiting_among es) false (apart n x.id.value k numbered.0 (λ same. omega (arith, same, place))) ∙ rest)
@@ -200,7 +218,9 @@ first_lost k r rs (x ∷ es) numbered is = by_case (is_waiting (fate_seen x.fate
             at = refl;
             numbered = numbered;
             left = ap ids (waits (record x { fate = in_hand.Lost }) es false refl) ∙ sym left;
-            lost = ap (λ g. record { id = x.id.value; method = method_text x.method; fate = g } ∷ map lost_entry (map entry_seen es)) (sym (ap (λ b. if b then seen.Lost else fate_seen x.fate) waiting));
+            lost =
+                ap (λ g. record { id = x.id.value; method = method_text x.method; fate = g } ∷ map lost_entry (map entry_seen es))
+                (sym (ap (λ b. if b then seen.Lost else fate_seen x.fate) waiting));
           },
         )
     by_case false settled rest =
@@ -237,13 +257,16 @@ none-waits : (es : List Entry) → [] ≡ ids (waiting_among es) → map entry_s
 none-waits [] none = refl
 none-waits (x ∷ es) none = by_case (is_waiting (fate_seen x.fate)) refl (none-waits es)
   where
-    by_case : (b : Bool) → is_waiting (fate_seen x.fate) ≡ b → ([] ≡ ids (waiting_among es) → map entry_seen es ≡ map lost_entry (map entry_seen es)) → map entry_seen (x ∷ es) ≡ map lost_entry (map entry_seen (x ∷ es))
+    by_case : (b : Bool) → is_waiting (fate_seen x.fate) ≡ b
+        → ([] ≡ ids (waiting_among es) → map entry_seen es ≡ map lost_entry (map entry_seen es))
+        → map entry_seen (x ∷ es) ≡ map lost_entry (map entry_seen (x ∷ es))
     by_case true waiting rest = let whole : [] ≡ x.id.value ∷ ids (waiting_among es) = none ∙ ap ids (waits x es true waiting) in cc
     by_case false settled rest =
         ap₂ {B = List seen.Entry} (λ g ys. record { id = x.id.value; method = method_text x.method; fate = g } ∷ ys)
         (sym (ap (λ b. if b then seen.Lost else fate_seen x.fate) settled)) (rest (none ∙ ap ids (waits x es false settled)))
 
-replied : (b : Bool) (answered refused : seen.Fate) → is_waiting answered ≡ false → is_waiting refused ≡ false → lost_fate (if b then answered else refused) ≡ (if b then answered else refused)
+replied : (b : Bool) (answered refused : seen.Fate) → is_waiting answered ≡ false
+    → is_waiting refused ≡ false → lost_fate (if b then answered else refused) ≡ (if b then answered else refused)
 replied true answered refused a r = ap (λ b. if b then seen.Lost else answered) a
 replied false answered refused a r = ap (λ b. if b then seen.Lost else refused) r
 
@@ -251,11 +274,16 @@ replied false answered refused a r = ap (λ b. if b then seen.Lost else refused)
 fate-cut : (o : Option Node) (b : Bool) → b ≡ false → lost_fate (fate_with o b) ≡ fate_with o true
 fate-cut o true is = absurd (true≢false is)
 fate-cut None false is = refl
-fate-cut (Some t) false is = replied (is_text "success" (text_if_at "type" t)) (seen.Answered (unwrap_or (tree_if_at "result" t) null)) (seen.Refused (text_at "error" t)) refl refl
+fate-cut (Some t) false is =
+    replied (is_text "success" (text_if_at "type" t)) (seen.Answered (unwrap_or (tree_if_at "result" t) null))
+    (seen.Refused (text_at "error" t)) refl refl
 
 lost-entries : (k : ℕ) (v : Link) (cs : List Sending) → v.is_cut ≡ false → map lost_entry (entries_from k v cs) ≡ entries_from k (with_cut v) cs
 lost-entries k v [] whole = refl
-lost-entries k v (c ∷ cs) whole = ap₂ {B = List seen.Entry} (λ g ys. record { id = k; method = c.method; fate = g } ∷ ys) (fate-cut (find (is_reply_to k) (messages v)) v.is_cut whole) (lost-entries (suc k) v cs whole)
+lost-entries k v (c ∷ cs) whole =
+    ap₂ {B = List seen.Entry} (λ g ys. record { id = k; method = c.method; fate = g } ∷ ys)
+    (fate-cut (find (is_reply_to k) (messages v)) v.is_cut whole) (lost-entries (suc k) v cs whole)
 
-pub all_lost : (old es : List Entry) (v : Link) → AreLost old es [] → v.is_cut ≡ false → map entry_seen old ≡ entries_from 1 v v.commands → map entry_seen es ≡ entries_from 1 (with_cut v) v.commands
+pub all_lost : (old es : List Entry) (v : Link) → AreLost old es []
+    → v.is_cut ≡ false → map entry_seen old ≡ entries_from 1 v v.commands → map entry_seen es ≡ entries_from 1 (with_cut v) v.commands
 all_lost old es v a whole is = none-waits es a.left ∙ (a.lost ∙ (ap (map lost_entry) is ∙ lost-entries 1 v v.commands whole))

@@ -1,5 +1,6 @@
 -- What a link in hand stands for as its queues change: what is taken from them, and what is put there.
-use Rattle.std.proofs.Common.{◌≡◌, ◌∙◌, ◌≤◌, ℕ, suc, zero, Bool, true, false, List, [], ◌∷◌, ◌++◌, map, length, take, drop, filter, find, Option, Some, None, option_to_list, unwrap_or, Result, Ok, Err, refl, sym, ap, ap₂, subst, arith}
+use Rattle.std.proofs.Common.{◌≡◌, ◌∙◌, ◌≤◌, ℕ, suc, zero, Bool, true, false, List, [], ◌∷◌, ◌++◌, map, length, take, drop, filter, find}
+use Rattle.std.proofs.Common.{Option, Some, None, option_to_list, unwrap_or, Result, Ok, Err, refl, sym, ap, ap₂, subst, arith}
 use Rattle.std.specs.Prelude.{slice_get, if◌then◌else◌, IfNone, IfSome, OnOk}
 use Rattle.bidi_link.specs.Pairing.{Sending}
 use Rattle.std.proofs.lemmas.List.{take-append-le}
@@ -63,7 +64,9 @@ cut_or false o f = f refl
 
 -- with no text on the way up no command is taken up next
 pub next_up-none : (v : Link) (ss : List (List ℕ)) → (v.is_cut ≡ false → AreUpward (suc v.ups) (drop v.ups v.commands) ss) → ss ≡ [] → next_up v ≡ None
-next_up-none v ss up none = cut_or v.is_cut (slice_get v.commands v.ups) (λ uncut. none_up (suc v.ups) v.ups v.commands (subst (AreUpward (suc v.ups) (drop v.ups v.commands)) none (up uncut)))
+next_up-none v ss up none =
+    cut_or v.is_cut (slice_get v.commands v.ups)
+    (λ uncut. none_up (suc v.ups) v.ups v.commands (subst (AreUpward (suc v.ups) (drop v.ups v.commands)) none (up uncut)))
 
 -- the first text on the way up is that of the command that is taken up next, and the others follow
 pub next_up-some : (v : Link) (s : List ℕ) (ss : List (List ℕ)) → v.is_cut ≡ false → AreUpward (suc v.ups) (drop v.ups v.commands) (s ∷ ss)
@@ -82,15 +85,20 @@ uncut false x xs empty = refl
 -- the entries depend on the fates alone
 pub entries-same : (k : ℕ) (v w : Link) (cs : List Sending) → ((id : ℕ) → fate_of v id ≡ fate_of w id) → entries_from k v cs ≡ entries_from k w cs
 entries-same k v w [] same = refl
-entries-same k v w (c ∷ cs) same = ap₂ {B = List Entry} (λ f es. record { id = k; method = c.method; fate = f } ∷ es) (same k) (entries-same (suc k) v w cs same)
+entries-same k v w (c ∷ cs) same =
+    ap₂ {B = List Entry} (λ f es. record { id = k; method = c.method; fate = f } ∷ es) (same k) (entries-same (suc k) v w cs same)
 
 -- texts that are not taken down yet change no fate
 pub fate-texts : (v : Link) (ts : List (List ℕ)) (id : ℕ) → v.downs ≤ length v.texts → fate_of v id ≡ fate_of (with_texts v ts) id
-fate-texts v ts id within = ap {B = Fate} (λ us. fate_with (find (is_reply_to id) (map (λ s. unwrap_or (tree_of s) null) us)) v.is_cut) (sym (take-append-le v.downs v.texts ts within))
+fate-texts v ts id within =
+    ap {B = Fate} (λ us. fate_with (find (is_reply_to id) (map (λ s. unwrap_or (tree_of s) null) us)) v.is_cut)
+    (sym (take-append-le v.downs v.texts ts within))
 
 -- and are no events that were received
 pub events-texts : (v : Link) (ts : List (List ℕ)) → v.downs ≤ length v.texts → events v ≡ events (with_texts v ts)
-events-texts v ts within = ap {B = List Received} (λ us. map event_in (filter is_event (map (λ s. unwrap_or (tree_of s) null) us))) (sym (take-append-le v.downs v.texts ts within))
+events-texts v ts within =
+    ap {B = List Received} (λ us. map event_in (filter is_event (map (λ s. unwrap_or (tree_of s) null) us)))
+    (sym (take-append-le v.downs v.texts ts within))
 
 -- one more text on the way down
 pub drop-append : {A : Type 0} (d : ℕ) (xs ys : List A) → d ≤ length xs → drop d (xs ++ ys) ≡ drop d xs ++ ys
@@ -99,7 +107,8 @@ drop-append (suc d) [] ys within = absurd (omega (arith, within))
 drop-append (suc d) (x ∷ xs) ys within = drop-append d xs ys (omega (arith, within))
 
 -- a place behind which something lies
-pub dropped : {A : Type 0} (d : ℕ) (xs : List A) (x : A) (ys : List A) → drop d xs ≡ x ∷ ys → (drop (suc d) xs ≡ ys) × (take (suc d) xs ≡ take d xs ++ x ∷ []) × (suc d ≤ length xs)
+pub dropped : {A : Type 0} (d : ℕ) (xs : List A) (x : A) (ys : List A)
+    → drop d xs ≡ x ∷ ys → (drop (suc d) xs ≡ ys) × (take (suc d) xs ≡ take d xs ++ x ∷ []) × (suc d ≤ length xs)
 dropped zero [] x ys is = cc
 dropped zero (z ∷ xs) x ys is = (let e : xs ≡ ys = cc in e, let e : z ≡ x = cc in ap (λ w. w ∷ []) e, omega arith)
 dropped (suc d) [] x ys is = cc

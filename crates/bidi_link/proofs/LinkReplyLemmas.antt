@@ -1,5 +1,7 @@
 -- The texts on the way down, place by place: which command each replies to, and what it is read as.
-use Rattle.std.proofs.Common.{◌≡◌, ◌∙◌, ◌≤◌, ◌<◌, ◌^◌, ◌⊎◌, inl, inr, ℕ, suc, zero, true, false, true≢false, not, cond, nat_eq, List, [], ◌∷◌, map, length, get_or, take, drop, Option, Some, None, option_and_then, unwrap_or, codes, find, refl, sym, ap, ap₂, subst, arith, rules}
+use Rattle.std.proofs.Common.{◌≡◌, ◌∙◌, ◌≤◌, ◌<◌, ◌^◌, ◌⊎◌, inl, inr, ℕ, suc, zero, true, false, true≢false, not, cond}
+use Rattle.std.proofs.Common.{nat_eq, List, [], ◌∷◌, map, length, get_or, take, drop, Option, Some, None}
+use Rattle.std.proofs.Common.{option_and_then, unwrap_or, codes, find, refl, sym, ap, ap₂, subst, arith, rules}
 use Rattle.std.specs.Prelude.{slice_get, ◌&&◌}
 use Rattle.std.specs.Option.{option_eq}
 use Rattle.std.specs.List.{AllByRecursion}
@@ -40,7 +42,9 @@ tree_in s = unwrap_or (tree_of s) null
 
 -- an error reads back
 pub error_reads : (id : ℕ) (code : ErrorCode) → id < 2 ^ 53 → tree_of (error_text (Some id) code) ≡ Some (error_tree (Some id) code)
-error_reads id code small = tree_of-compact_text (error_tree (Some id) code) (((refl, (refl, (refl, tt))), ((refl, (refl, tt)), ((refl, tt), (tt, tt)))), (tt, (small, (tt, (tt, tt))))) (refl, omega arith)
+error_reads id code small =
+    tree_of-compact_text (error_tree (Some id) code)
+    (((refl, (refl, (refl, tt))), ((refl, (refl, tt)), ((refl, tt), (tt, tt)))), (tt, (small, (tt, (tt, tt))))) (refl, omega arith)
 
 -- it replies to the command of that id
 pub record Replies (id : ℕ) (t : Node) : Type 0 where
@@ -49,7 +53,8 @@ pub record Replies (id : ℕ) (t : Node) : Type 0 where
 
 pub reply_reads : (id : ℕ) (method : Method) {s : List ℕ} → id < 2 ^ 53 → IsReply id method s → Replies id (tree_in s)
 reply_reads id method small (is_result r fits reads) = subst (Replies id) (sym (ap (λ o. unwrap_or o null) reads)) (record { to = refl; no_event = refl })
-reply_reads id method small (is_code code) = subst (Replies id) (sym (ap (λ o. unwrap_or o null) (error_reads id code small))) (record { to = refl; no_event = refl })
+reply_reads id method small (is_code code) =
+    subst (Replies id) (sym (ap (λ o. unwrap_or o null) (error_reads id code small))) (record { to = refl; no_event = refl })
 
 -- a reply is a result or a code
 pub record ResultOf (id : ℕ) (method : Method) (s : List ℕ) : Type 0 where
@@ -95,13 +100,15 @@ event_reads s is reads = by_message reads.0 reads.3 (reads.4 is.0 is.1 is.2)
 pub event_typed : (e : Event) → is_event (event.ghosts.shape.tree_of e) ≡ true
 event_typed e =
     ap (λ o. is_text "event" (option_and_then text_in o))
-    (get_member-put (codes "type") (text (codes "event")) (put (codes "method") (text (names.event_name_text (event_of e.«data»))) (put (codes "params") (told.ghosts.subject.tree_of e.«data») (others_of e.ext))))
+    (get_member-put (codes "type") (text (codes "event")) (put (codes "method") (text (names.event_name_text (event_of e.«data»)))
+    (put (codes "params") (told.ghosts.subject.tree_of e.«data») (others_of e.ext))))
 
 -- its type
 pub event_type_in : (e : Event) → unwrap_or (option_and_then text_in (get_of (codes "type") (event.ghosts.shape.tree_of e))) [] ≡ codes "event"
 event_type_in e =
     ap (λ o. unwrap_or (option_and_then text_in o) [])
-    (get_member-put (codes "type") (text (codes "event")) (put (codes "method") (text (names.event_name_text (event_of e.«data»))) (put (codes "params") (told.ghosts.subject.tree_of e.«data») (others_of e.ext))))
+    (get_member-put (codes "type") (text (codes "event")) (put (codes "method") (text (names.event_name_text (event_of e.«data»)))
+    (put (codes "params") (told.ghosts.subject.tree_of e.«data») (others_of e.ext))))
 
 pub is_event_text : (s : List ℕ) → IsEventText s → IsMessageText ghosts.shape s → is_event (tree_in s) ≡ true
 is_event_text s is reads =
@@ -123,7 +130,8 @@ passes : (k : ℕ) (t : Node) (ts : List Node) → is_reply_to k t ≡ false →
 passes k t ts not_so none = ap (λ b. cond b (Some t) (find (is_reply_to k) ts)) not_so ∙ none
 
 -- no text replies to a command that was not taken up
-pub none_replies : (cs : List Sending) (d k : ℕ) {n m : ℕ} {ts : List (List ℕ)} → AreSpoken cs n m ts → m < 2 ^ 53 → AllByRecursion (IsMessageText ghosts.shape) ts → m < k
+pub none_replies : (cs : List Sending) (d k : ℕ) {n m : ℕ} {ts : List (List ℕ)}
+    → AreSpoken cs n m ts → m < 2 ^ 53 → AllByRecursion (IsMessageText ghosts.shape) ts → m < k
     → find (is_reply_to k) (map tree_in (take d ts)) ≡ None
 none_replies cs zero k spoken small reads above = refl
 none_replies cs (suc d) k (nothing n m within) small reads above = refl
@@ -136,14 +144,16 @@ none_replies cs (suc d) k (a_reply n m p c method s ts after at named is rest) s
     (none_replies cs d k rest small reads.1 above)
 
 -- a reply among the texts is to a command behind the first so many, and up to the last of so many
-pub reply_among : (cs : List Sending) (j k : ℕ) (s : List ℕ) {n m : ℕ} {ts : List (List ℕ)} → AreSpoken cs n m ts → m < 2 ^ 53 → AllByRecursion (IsMessageText ghosts.shape) ts → j < length ts → get_or ts j s ≡ s
+pub reply_among : (cs : List Sending) (j k : ℕ) (s : List ℕ) {n m : ℕ} {ts : List (List ℕ)}
+    → AreSpoken cs n m ts → m < 2 ^ 53 → AllByRecursion (IsMessageText ghosts.shape) ts → j < length ts → get_or ts j s ≡ s
     → is_reply_to (suc k) (tree_in s) ≡ true → (n ≤ k) × (k < m)
 reply_among cs j k s (nothing n m within) small reads inside at reply = absurd (omega (arith, inside))
 reply_among cs zero k s (an_event n m u ts is rest) small reads inside at reply =
     absurd (true≢false (sym reply ∙ (ap (λ x. is_reply_to (suc k) (tree_in x)) (sym at) ∙ events_reply (suc k) (tree_in u) (is_event_text u is reads.0))))
 reply_among cs zero k s (a_reply n m p c method u ts after found named is rest) small reads inside at reply =
     let bound = spoken-bound cs rest in
-    let same = replies_one (suc p) (suc k) (tree_in u) (reply_reads (suc p) method (omega (arith, bound, small)) is) (ap (λ x. is_reply_to (suc k) (tree_in x)) at ∙ reply) in
+    let same = replies_one (suc p) (suc k) (tree_in u) (reply_reads (suc p) method (omega (arith, bound, small)) is)
+    (ap (λ x. is_reply_to (suc k) (tree_in x)) at ∙ reply) in
     (omega (arith, after, same), omega (arith, bound, same))
 reply_among cs (suc j) k s (an_event n m u ts is rest) small reads inside at reply = reply_among cs j k s rest small reads.1 (omega (arith, inside)) at reply
 reply_among cs (suc j) k s (a_reply n m p c method u ts after found named is rest) small reads inside at reply =
@@ -157,26 +167,35 @@ pub data IsNext (cs : List Sending) (n m : ℕ) (before : List Node) (s : List �
       → find (is_reply_to (suc p)) before ≡ None → IsNext cs n m before s
 
 -- one more text before it
-next_behind : (cs : List Sending) (n j m : ℕ) (t : Node) (before : List Node) (s : List ℕ) → n ≤ j → ((k : ℕ) → j < k → is_reply_to k t ≡ false) → IsNext cs j m before s → IsNext cs n m (t ∷ before) s
+next_behind : (cs : List Sending) (n j m : ℕ) (t : Node) (before : List Node) (s : List ℕ)
+    → n ≤ j → ((k : ℕ) → j < k → is_reply_to k t ≡ false) → IsNext cs j m before s → IsNext cs n m (t ∷ before) s
 next_behind cs n j m t before s below others (next_event is) = next_event is
 next_behind cs n j m t before s below others (next_reply p c method after bound at named is none) =
     next_reply p c method (omega (arith, below, after)) bound at named is (passes (suc p) t before (others (suc p) (omega (arith, after))) none)
 
-pub next_text : (cs : List Sending) (d : ℕ) (s : List ℕ) (rest : List (List ℕ)) {n m : ℕ} {ts : List (List ℕ)} → AreSpoken cs n m ts → m < 2 ^ 53 → AllByRecursion (IsMessageText ghosts.shape) ts
+pub next_text : (cs : List Sending) (d : ℕ) (s : List ℕ) (rest : List (List ℕ)) {n m : ℕ} {ts : List (List ℕ)}
+    → AreSpoken cs n m ts → m < 2 ^ 53 → AllByRecursion (IsMessageText ghosts.shape) ts
     → drop d ts ≡ s ∷ rest → IsNext cs n m (map tree_in (take d ts)) s × IsMessageText ghosts.shape s
 next_text cs zero s rest (nothing n m within) small reads is = cc
 next_text cs (suc d) s rest (nothing n m within) small reads is = cc
 next_text cs zero s rest (an_event n m u ts event more) small reads is =
     let same : u ≡ s = cc is in (next_event (subst IsEventText same event), subst (IsMessageText ghosts.shape) same reads.0)
 next_text cs zero s rest (a_reply n m p c method u ts after at named reply more) small reads is =
-    let same : u ≡ s = cc is in (next_reply p c method after (spoken-bound cs more) at named (subst (IsReply (suc p) method) same reply) refl, subst (IsMessageText ghosts.shape) same reads.0)
+    let same : u ≡ s = cc is in (
+      next_reply p c method after (spoken-bound cs more) at named (subst (IsReply (suc p) method) same reply) refl,
+      subst (IsMessageText ghosts.shape) same reads.0,
+    )
 next_text cs (suc d) s rest (an_event n m u ts event more) small reads is =
-    let later = next_text cs d s rest more small reads.1 is in
-    (next_behind cs n n m (tree_in u) (map tree_in (take d ts)) s (omega arith) (λ k above. events_reply k (tree_in u) (is_event_text u event reads.0)) later.0, later.1)
+    let later = next_text cs d s rest more small reads.1 is in (
+      next_behind cs n n m (tree_in u) (map tree_in (take d ts)) s (omega arith)
+          (λ k above. events_reply k (tree_in u) (is_event_text u event reads.0)) later.0,
+      later.1,
+    )
 next_text cs (suc d) s rest (a_reply n m p c method u ts after at named reply more) small reads is =
     let later = next_text cs d s rest more small reads.1 is in
     let bound = spoken-bound cs more in (
       next_behind cs n (suc p) m (tree_in u) (map tree_in (take d ts)) s (omega (arith, after))
-          (λ k above. replies_alone (suc p) k (tree_in u) (reply_reads (suc p) method (omega (arith, bound, small)) reply) (λ same. omega (arith, above, same))) later.0,
+          (λ k above. replies_alone (suc p) k (tree_in u) (reply_reads (suc p) method (omega (arith, bound, small)) reply)
+          (λ same. omega (arith, above, same))) later.0,
       later.1,
     )

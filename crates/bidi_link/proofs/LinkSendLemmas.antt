@@ -1,5 +1,6 @@
 -- A link in hand where a command is sent: how many wait, why it may not be sent, and that it waits.
-use Rattle.std.proofs.Common.{◌≡◌, ◌∙◌, ◌<◌, ◌+◌, ◌-◌, ◌^◌, ℕ, suc, zero, min, Bool, true, false, true≢false, not, cond, List, [], ◌∷◌, ◌++◌, map, length, drop, filter, Option, Some, None, Err, refl, sym, ap, ap₂, subst, arith, rules, tests}
+use Rattle.std.proofs.Common.{◌≡◌, ◌∙◌, ◌<◌, ◌+◌, ◌-◌, ◌^◌, ℕ, suc, zero, min, Bool, true, false, true≢false, not, cond, List, [], ◌∷◌}
+use Rattle.std.proofs.Common.{◌++◌, map, length, drop, filter, Option, Some, None, Err, refl, sym, ap, ap₂, subst, arith, rules, tests}
 use Rattle.std.specs.Prelude.{nat_lt, nat_le, ◌&&◌, if◌then◌else◌, string_bytes}
 use Rattle.std.proofs.lemmas.List.{length-map, length-append, length-drop, map-append}
 use Rattle.bidi_local.specs.declared.local_end.LocalFault.{LocalFault}
@@ -41,7 +42,8 @@ up_to-from : (n : ℕ) → up_to n ≡ from 1 n
 up_to-from zero = refl
 up_to-from (suc n) = ap (λ ks. ks ++ suc n ∷ []) (up_to-from n) ∙ (ap (λ j. from 1 n ++ j ∷ []) (omega arith) ∙ sym (from-last 1 n))
 
-counted : {A B : Type 0} (b d : Bool) (x : A) (xs : List A) (y : B) (ys : List B) → b ≡ d → length xs ≡ length ys → length (cond b (x ∷ xs) xs) ≡ length (cond d (y ∷ ys) ys)
+counted : {A B : Type 0} (b d : Bool) (x : A) (xs : List A) (y : B) (ys : List B)
+    → b ≡ d → length xs ≡ length ys → length (cond b (x ∷ xs) xs) ≡ length (cond d (y ∷ ys) ys)
 counted true true x xs y ys e is = ap suc is
 counted true false x xs y ys e is = absurd (true≢false e)
 counted false true x xs y ys e is = absurd (true≢false (sym e))
@@ -53,7 +55,8 @@ waiting-from k v [] [] is = refl
 waiting-from k v [] (c ∷ cs) is = cc
 waiting-from k v (e ∷ es) [] is = cc
 waiting-from k v (e ∷ es) (c ∷ cs) is =
-    counted (is_waiting (fate_seen e.fate)) (is_waiting (fate_of v k)) e (filter (λ x. is_waiting (fate_seen x.fate)) es) k (filter (λ id. is_waiting (fate_of v id)) (from (suc k) (length cs)))
+    counted (is_waiting (fate_seen e.fate)) (is_waiting (fate_of v k)) e (filter (λ x. is_waiting (fate_seen x.fate)) es) k
+    (filter (λ id. is_waiting (fate_of v id)) (from (suc k) (length cs)))
     (ap (λ x. is_waiting x.fate) (same_head is)) (waiting-from (suc k) v es cs (same_tail is))
 
 -- as many wait in hand as are unsettled
@@ -114,9 +117,12 @@ may-fault n w t f e = may-not n w t ∙ by_fault (nat_le (2 ^ 53 - 1) n) (nat_le
 pub entries_from-last : (k : ℕ) (v : Link) (cs : List Sending) (c : Sending) (n : ℕ) → n ≡ k + length cs
     → entries_from k v (cs ++ c ∷ []) ≡ entries_from k v cs ++ record { id = n; method = c.method; fate = fate_of v n } ∷ []
 entries_from-last k v [] c n place = ap (λ j. record { id = j; method = c.method; fate = fate_of v j } ∷ []) (omega (arith, place))
-entries_from-last k v (d ∷ cs) c n place = ap {B = List seen.Entry} (λ ys. record { id = k; method = d.method; fate = fate_of v k } ∷ ys) (entries_from-last (suc k) v cs c n (omega (arith, place)))
+entries_from-last k v (d ∷ cs) c n place =
+    ap {B = List seen.Entry} (λ ys. record { id = k; method = d.method; fate = fate_of v k } ∷ ys)
+    (entries_from-last (suc k) v cs c n (omega (arith, place)))
 
-pub upward-last : (id : ℕ) (cs : List Sending) (ss : List (List ℕ)) (c : Sending) (s : List ℕ) (n : ℕ) → n ≡ id + length cs → AreUpward id cs ss → IsUpward n c s → AreUpward id (cs ++ c ∷ []) (ss ++ s ∷ [])
+pub upward-last : (id : ℕ) (cs : List Sending) (ss : List (List ℕ)) (c : Sending) (s : List ℕ) (n : ℕ)
+    → n ≡ id + length cs → AreUpward id cs ss → IsUpward n c s → AreUpward id (cs ++ c ∷ []) (ss ++ s ∷ [])
 upward-last id [] [] c s n place up is = (subst (λ j. IsUpward j c s) (omega (arith, place)) is, tt)
 upward-last id [] (x ∷ ss) c s n place up is = absurd up
 upward-last id (d ∷ cs) [] c s n place up is = absurd up
@@ -126,41 +132,51 @@ waiting-last : (es : List Entry) (e : Entry) → is_waiting (fate_seen e.fate) �
 waiting-last [] e is = waits e [] true is
 waiting-last (x ∷ es) e is = by_case (is_waiting (fate_seen x.fate)) refl (waiting-last es e is)
   where
-    by_case : (b : Bool) → is_waiting (fate_seen x.fate) ≡ b → waiting_among (es ++ e ∷ []) ≡ waiting_among es ++ row e ∷ [] → waiting_among (x ∷ (es ++ e ∷ [])) ≡ waiting_among (x ∷ es) ++ row e ∷ []
+    by_case : (b : Bool) → is_waiting (fate_seen x.fate) ≡ b → waiting_among (es ++ e ∷ []) ≡ waiting_among es ++ row e ∷ []
+        → waiting_among (x ∷ (es ++ e ∷ [])) ≡ waiting_among (x ∷ es) ++ row e ∷ []
     by_case true waiting rest = waits x (es ++ e ∷ []) true waiting ∙ (ap (λ ws. row x ∷ ws) rest ∙ ap (λ ws. ws ++ row e ∷ []) (sym (waits x es true waiting)))
     by_case false settled rest = waits x (es ++ e ∷ []) false settled ∙ (rest ∙ ap (λ ws. ws ++ row e ∷ []) (sym (waits x es false settled)))
 
 -- ---- the link in hand
 
 -- the local end stands for that many commands, and may send this one where the link may
-same_may : (v : Link) (es : List Entry) (d : CommandData) (sent : ℕ) (waiting : Pending) → map entry_seen es ≡ entries_from 1 v v.commands → sent ≡ length v.commands → waiting ≡ waiting_among es
+same_may : (v : Link) (es : List Entry) (d : CommandData) (sent : ℕ) (waiting : Pending)
+    → map entry_seen es ≡ entries_from 1 v v.commands → sent ≡ length v.commands → waiting ≡ waiting_among es
     → may sent (length waiting) (length (command_text sent (asks.ghosts.subject.kind d) (asks.ghosts.subject.tree_of d))) ≡ may_send v (sending_of d)
 same_may v es d sent waiting entries count is =
     ap (λ n. may n (length waiting) (length (command_text n (asks.ghosts.subject.kind d) (asks.ghosts.subject.tree_of d)))) count
-    ∙ ap (λ w. may (length v.commands) w (length (command_text (length v.commands) (asks.ghosts.subject.kind d) (asks.ghosts.subject.tree_of d)))) (ap length is ∙ waiting-unsettled v es entries)
+    ∙ ap (λ w. may (length v.commands) w (length (command_text (length v.commands) (asks.ghosts.subject.kind d) (asks.ghosts.subject.tree_of d))))
+    (ap length is ∙ waiting-unsettled v es entries)
 
-pub may_send-none : (v : Link) (es : List Entry) (d : CommandData) (sent : ℕ) (waiting : Pending) → map entry_seen es ≡ entries_from 1 v v.commands → sent ≡ length v.commands → waiting ≡ waiting_among es
+pub may_send-none : (v : Link) (es : List Entry) (d : CommandData) (sent : ℕ) (waiting : Pending)
+    → map entry_seen es ≡ entries_from 1 v v.commands → sent ≡ length v.commands → waiting ≡ waiting_among es
     → refusal_of sent waiting (command_text sent (asks.ghosts.subject.kind d) (asks.ghosts.subject.tree_of d)) ≡ None → may_send v (sending_of d) ≡ true
 may_send-none v es d sent waiting entries count is none =
-    sym (same_may v es d sent waiting entries count is) ∙ may-none sent (length waiting) (length (command_text sent (asks.ghosts.subject.kind d) (asks.ghosts.subject.tree_of d))) none
+    sym (same_may v es d sent waiting entries count is)
+    ∙ may-none sent (length waiting) (length (command_text sent (asks.ghosts.subject.kind d) (asks.ghosts.subject.tree_of d))) none
 
-pub may_send-fault : (v : Link) (es : List Entry) (d : CommandData) (sent : ℕ) (waiting : Pending) (f : LocalFault) → map entry_seen es ≡ entries_from 1 v v.commands → sent ≡ length v.commands → waiting ≡ waiting_among es
+pub may_send-fault : (v : Link) (es : List Entry) (d : CommandData) (sent : ℕ) (waiting : Pending) (f : LocalFault)
+    → map entry_seen es ≡ entries_from 1 v v.commands → sent ≡ length v.commands → waiting ≡ waiting_among es
     → refusal_of sent waiting (command_text sent (asks.ghosts.subject.kind d) (asks.ghosts.subject.tree_of d)) ≡ Some f → may_send v (sending_of d) ≡ false
 may_send-fault v es d sent waiting f entries count is fault =
-    sym (same_may v es d sent waiting entries count is) ∙ may-fault sent (length waiting) (length (command_text sent (asks.ghosts.subject.kind d) (asks.ghosts.subject.tree_of d))) f fault
+    sym (same_may v es d sent waiting entries count is)
+    ∙ may-fault sent (length waiting) (length (command_text sent (asks.ghosts.subject.kind d) (asks.ghosts.subject.tree_of d))) f fault
 
 pub sent_on-true : (v : Link) (c : Sending) → v.is_cut ≡ false → may_send v c ≡ true → sent_on v c ≡ record v { commands = v.commands ++ c ∷ [] }
 sent_on-true v c whole sends =
-    ap (λ b. if b then v else with_sending v c) whole ∙ ap (λ b. if b then record v { commands = v.commands ++ c ∷ [] } else record v { not_sent = suc v.not_sent }) sends
+    ap (λ b. if b then v else with_sending v c) whole
+    ∙ ap (λ b. if b then record v { commands = v.commands ++ c ∷ [] } else record v { not_sent = suc v.not_sent }) sends
 
 pub sent_on-false : (v : Link) (c : Sending) → v.is_cut ≡ false → may_send v c ≡ false → sent_on v c ≡ record v { not_sent = suc v.not_sent }
 sent_on-false v c whole sends =
-    ap (λ b. if b then v else with_sending v c) whole ∙ ap (λ b. if b then record v { commands = v.commands ++ c ∷ [] } else record v { not_sent = suc v.not_sent }) sends
+    ap (λ b. if b then v else with_sending v c) whole
+    ∙ ap (λ b. if b then record v { commands = v.commands ++ c ∷ [] } else record v { not_sent = suc v.not_sent }) sends
 
 -- no reply to the next command was taken down
 next_waits : (v : Link) → IsSound v → v.is_cut ≡ false → fate_of v (suc (length v.commands)) ≡ seen.Waiting
 next_waits v sound whole =
-    ap₂ {B = Bool} fate_with (none_replies v.commands v.downs (suc (length v.commands)) sound.spoken (omega (arith, sound.taken, sound.ids)) sound.read_back (omega (arith, sound.taken))) whole
+    ap₂ {B = Bool} fate_with (none_replies v.commands v.downs (suc (length v.commands)) sound.spoken (omega (arith, sound.taken, sound.ids))
+    sound.read_back (omega (arith, sound.taken))) whole
 
 -- what stays of a link in hand, where a command is sent
 pub record IsRest (end new : LinkEnd) : Type 0 where
@@ -169,7 +185,8 @@ pub record IsRest (end new : LinkEnd) : Type 0 where
   pub is_cut : new.is_cut ≡ end.is_cut
   pub events : new.events ≡ end.events
 
-pub sends : (end new : LinkEnd) (l : ℕ) (v : Link) (d : CommandData) (e : Entry) (s : List ℕ) → Agrees end l v → IsSound v → v.is_cut ≡ false → IsRest end new → new.unsent ≡ end.unsent
+pub sends : (end new : LinkEnd) (l : ℕ) (v : Link) (d : CommandData) (e : Entry) (s : List ℕ)
+    → Agrees end l v → IsSound v → v.is_cut ≡ false → IsRest end new → new.unsent ≡ end.unsent
     → new.commands.items ≡ end.commands.items ++ e ∷ [] → map string_bytes new.up.items ≡ map string_bytes end.up.items ++ s ∷ []
     → e.id.value ≡ suc (sent_by end.local) → e.method ≡ asks.ghosts.subject.kind d → fate_seen e.fate ≡ seen.Waiting → FateIsWell e.fate
     → s ≡ command_text (sent_by end.local) (asks.ghosts.subject.kind d) (asks.ghosts.subject.tree_of d)
@@ -181,7 +198,8 @@ sends end new l v d e s a sound whole rest unsent commands up has_id has_method 
     let c = sending_of d in
     let local = (a.carries whole).local in
     let id : e.id.value ≡ suc n = has_id ∙ ap suc local.sent in
-    let entry : entry_seen e ≡ record { id = suc n; method = c.method; fate = fate_of v (suc n) } = three id (ap method_text has_method) (waiting ∙ sym (next_waits v sound whole)) in
+    let entry : entry_seen e ≡ record { id = suc n; method = c.method; fate = fate_of v (suc n) } =
+    three id (ap method_text has_method) (waiting ∙ sym (next_waits v sound whole)) in
     let upward : IsUpward (suc n) c s = record {
       text = written ∙ ap (λ k. command_text k (asks.ghosts.subject.kind d) (asks.ghosts.subject.tree_of d)) local.sent;
       accepted = subst (λ k. IsVerdict s (Accepted (command_tree (suc k) (asks.ghosts.subject.kind d) (asks.ghosts.subject.tree_of d)))) local.sent accepted;
@@ -193,7 +211,8 @@ sends end new l v d e s a sound whole rest unsent commands up has_id has_method 
       events_well = subst (λ x. EventsAreWell x.items) (sym rest.events) a.events_well;
       number = ap (λ x. x.value) rest.number ∙ a.number;
       entries = ap (map entry_seen) commands ∙ (map-append entry_seen end.commands.items (e ∷ []) ∙ (ap₂ {B = seen.Entry} (λ ys y. ys ++ y ∷ []) a.entries entry
-          ∙ (sym (entries_from-last 1 v v.commands c (suc n) (omega arith)) ∙ entries-same 1 v (record v { commands = v.commands ++ c ∷ [] }) (v.commands ++ c ∷ []) (λ k. refl))));
+          ∙ (sym (entries_from-last 1 v v.commands c (suc n) (omega arith))
+          ∙ entries-same 1 v (record v { commands = v.commands ++ c ∷ [] }) (v.commands ++ c ∷ []) (λ k. refl))));
       events = ap (λ x. map event_seen x.items) rest.events ∙ a.events;
       not_sent = unsent ∙ a.not_sent;
       is_cut = rest.is_cut ∙ a.is_cut;
@@ -201,19 +220,27 @@ sends end new l v d e s a sound whole rest unsent commands up has_id has_method 
       carries = λ u. record {
         local = record {
           sent = stands.sent ∙ (ap suc local.sent ∙ (let m : suc n ≡ length (v.commands ++ c ∷ []) = simp length-append (omega arith) in m));
-          waiting = stands.waiting ∙ (ap₂ {B = ℕ × Method} (λ ws w. ws ++ w ∷ []) local.waiting (ap₂ {B = Method} (λ (x : ℕ) (m : Method). (x, m)) (sym has_id) (sym has_method)) ∙ (sym (waiting-last end.commands.items e (ap is_waiting waiting)) ∙ ap waiting_among (sym commands)));
+          waiting =
+              stands.waiting
+              ∙ (ap₂ {B = ℕ × Method} (λ ws w. ws ++ w ∷ []) local.waiting (ap₂ {B = Method} (λ (x : ℕ) (m : Method). (x, m)) (sym has_id) (sym has_method))
+              ∙ (sym (waiting-last end.commands.items e (ap is_waiting waiting)) ∙ ap waiting_among (sym commands)));
         };
-        up = subst (AreUpward (suc v.ups) (drop v.ups (v.commands ++ c ∷ []))) (sym up) (subst (λ cs. AreUpward (suc v.ups) cs (map string_bytes end.up.items ++ s ∷ [])) (sym (drop-append v.ups v.commands (c ∷ []) sound.taken))
-            (upward-last (suc v.ups) (drop v.ups v.commands) (map string_bytes end.up.items) c s (suc n) (omega (arith, length-drop v.ups v.commands, sound.taken)) (a.carries whole).up upward));
+        up =
+            subst (AreUpward (suc v.ups) (drop v.ups (v.commands ++ c ∷ []))) (sym up)
+            (subst (λ cs. AreUpward (suc v.ups) cs (map string_bytes end.up.items ++ s ∷ [])) (sym (drop-append v.ups v.commands (c ∷ []) sound.taken))
+            (upward-last (suc v.ups) (drop v.ups v.commands) (map string_bytes end.up.items) c s (suc n)
+            (omega (arith, length-drop v.ups v.commands, sound.taken)) (a.carries whole).up upward));
         down = ap (λ x. map string_bytes x.items) rest.down ∙ (a.carries whole).down;
       };
       empty = λ u. absurd (true≢false (sym u ∙ whole));
     }
   where
-    three : {x y : ℕ} {i j : List ℕ} {f g : seen.Fate} → x ≡ y → i ≡ j → f ≡ g → ◌≡◌ {A = seen.Entry} (record { id = x; method = i; fate = f }) (record { id = y; method = j; fate = g })
+    three : {x y : ℕ} {i j : List ℕ} {f g : seen.Fate}
+        → x ≡ y → i ≡ j → f ≡ g → ◌≡◌ {A = seen.Entry} (record { id = x; method = i; fate = f }) (record { id = y; method = j; fate = g })
     three p q r = cc
 
-pub counts : (end new : LinkEnd) (l : ℕ) (v : Link) → Agrees end l v → v.is_cut ≡ false → IsRest end new → new.commands ≡ end.commands → new.up ≡ end.up → new.unsent ≡ suc end.unsent
+pub counts : (end new : LinkEnd) (l : ℕ) (v : Link)
+    → Agrees end l v → v.is_cut ≡ false → IsRest end new → new.commands ≡ end.commands → new.up ≡ end.up → new.unsent ≡ suc end.unsent
     → Stands new.local (sent_by end.local) (waiting_in end.local) → Agrees new l (record v { not_sent = suc v.not_sent })
 counts end new l v a whole rest commands up unsent stands =
     let local = (a.carries whole).local in

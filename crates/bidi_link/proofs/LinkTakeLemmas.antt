@@ -1,5 +1,7 @@
 -- A link in hand where a text is taken down: what the local end makes of it, and what is noted.
-use Rattle.std.proofs.Common.{◌≡◌, ◌∙◌, ◌≤◌, ◌<◌, ◌^◌, ◌⊎◌, ℕ, suc, Bool, true, false, true≢false, not, cond, bytes_eq, List, [], ◌∷◌, ◌++◌, map, length, take, drop, filter, find, codes, Option, Some, None, option_and_then, unwrap_or, Result, inl, inr, refl, sym, ap, ap₂, subst, arith, rules, tests, append-nil, lt-ltb}
+use Rattle.std.proofs.Common.{◌≡◌, ◌∙◌, ◌≤◌, ◌<◌, ◌^◌, ◌⊎◌, ℕ, suc, Bool, true, false, true≢false, not, cond, bytes_eq, List, []}
+use Rattle.std.proofs.Common.{◌∷◌, ◌++◌, map, length, take, drop, filter, find, codes, Option, Some, None, option_and_then}
+use Rattle.std.proofs.Common.{unwrap_or, Result, inl, inr, refl, sym, ap, ap₂, subst, arith, rules, tests, append-nil, lt-ltb}
 use Rattle.std.specs.Prelude.{slice_get, slice_set, nat_lt, ◌&&◌, if◌then◌else◌, OnOk, string_bytes}
 use Rattle.std.specs.Option.{option_or}
 use Rattle.std.proofs.lemmas.List.{map-append}
@@ -53,7 +55,9 @@ use Rattle.bidi_link.specs.Rows.{Agrees, waiting_among, AreUpward, with_down}
 use Rattle.bidi_link.specs.Steps.{fate_seen, entry_seen, event_seen, EntriesAreWell, EventsAreWell}
 use Rattle.bidi_link.proofs.LinkLemmas.{both_ok, entries-same, dropped, all_dropped}
 use Rattle.bidi_link.proofs.LinkFateLemmas.{are_numbered, IsEntry, entry_at, entries-set, waiting-set, method_of-waiting}
-use Rattle.bidi_link.proofs.LinkReplyLemmas.{tree_in, ResultOf, CodeOf, result_or_code, Replies, replies_alone, replies_itself, reply_reads, ReadsAsEvent, event_reads, event_type_in, is_event_text, events_reply, IsNext, next_event, next_reply, next_text}
+use Rattle.bidi_link.proofs.LinkReplyLemmas.{tree_in, ResultOf, CodeOf, result_or_code, Replies, replies_alone}
+use Rattle.bidi_link.proofs.LinkReplyLemmas.{replies_itself, reply_reads, ReadsAsEvent, event_reads, event_type_in}
+use Rattle.bidi_link.proofs.LinkReplyLemmas.{is_event_text, events_reply, IsNext, next_event, next_reply, next_text}
 
 -- ---- what fits a message, by its type
 
@@ -94,7 +98,8 @@ fits_event t fit is =
 fits_response : (t : Node) → Fits t (rule message_name) → type_in t ≡ codes "success" → Fits t (rule command_response)
 fits_response t fit is =
     cases (Fits t (rule command_response)) (either_inside (rule_inside fit)) (λ f. f)
-    (λ f. cases (Fits t (rule command_response)) (either_inside f) (λ g. absurd (differ (codes "error") (codes "success") refl (error_type t g) is)) (λ g. absurd (differ (codes "event") (codes "success") refl (event_is_typed t g) is)))
+    (λ f. cases (Fits t (rule command_response)) (either_inside f) (λ g. absurd (differ (codes "error") (codes "success") refl (error_type t g) is))
+    (λ g. absurd (differ (codes "event") (codes "success") refl (event_is_typed t g) is)))
 
 fits_error : (t : Node) → Fits t (rule message_name) → type_in t ≡ codes "error" → Fits t (rule error_response)
 fits_error t fit is =
@@ -120,10 +125,12 @@ module _ (v : Link) (s : List ℕ) (more : take (suc v.downs) v.texts ≡ take v
   messages-next : messages (with_next v) ≡ messages v ++ tree_in s ∷ []
   messages-next = ap (map tree_in) more ∙ map-append tree_in (take v.downs v.texts) (s ∷ [])
 
-  found-next : (id : ℕ) (b : Bool) → is_reply_to id (tree_in s) ≡ b → find (is_reply_to id) (messages (with_next v)) ≡ option_or (find (is_reply_to id) (messages v)) (cond b (Some (tree_in s)) None)
+  found-next : (id : ℕ) (b : Bool) → is_reply_to id (tree_in s) ≡ b
+      → find (is_reply_to id) (messages (with_next v)) ≡ option_or (find (is_reply_to id) (messages v)) (cond b (Some (tree_in s)) None)
   found-next id b is =
       ap (find (is_reply_to id)) messages-next
-      ∙ (find-append (is_reply_to id) (messages v) (tree_in s ∷ []) ∙ ap (λ d. option_or (find (is_reply_to id) (messages v)) (cond d (Some (tree_in s)) None)) is)
+      ∙ (find-append (is_reply_to id) (messages v) (tree_in s ∷ [])
+      ∙ ap (λ d. option_or (find (is_reply_to id) (messages v)) (cond d (Some (tree_in s)) None)) is)
 
   -- a command to which it does not reply has the fate that it had
   fate-other : (id : ℕ) → is_reply_to id (tree_in s) ≡ false → fate_of v id ≡ fate_of (with_next v) id
@@ -186,7 +193,8 @@ two : {x y : List ℕ} {t u : Node} → x ≡ y → t ≡ u → ◌≡◌ {A = s
 two p q = cc
 
 -- an event in hand is that of its message
-seen_in : (d : EventData) (n : EventName) (t : Node) → told.ghosts.subject.kind d ≡ n → told.ghosts.subject.tree_of d ≡ params_in t → method_in t ≡ event_name_text n → event_seen d ≡ event_in t
+seen_in : (d : EventData) (n : EventName) (t : Node) → told.ghosts.subject.kind d ≡ n
+    → told.ghosts.subject.tree_of d ≡ params_in t → method_in t ≡ event_name_text n → event_seen d ≡ event_in t
 seen_in d n t kind tree method = two (ap event_name_text kind ∙ sym method) tree
 
 -- ---- the link in hand
@@ -208,7 +216,8 @@ pub record IsNoted {E : Type 0} (end new : LinkEnd) (r : Received) (q : Result (
   pub event : (d : EventData) → r ≡ received.Event d → OnOk q ((new.commands.items ≡ end.commands.items) × (new.events.items ≡ end.events.items ++ d ∷ []))
   pub well : EntriesAreWell end.commands.items → EventsAreWell end.events.items → OnOk q (EntriesAreWell new.commands.items × EventsAreWell new.events.items)
 
-module _ {E : Type 0} (end new : LinkEnd) (l : ℕ) (v : Link) (s : List ℕ) (rest : List (List ℕ)) (r : Received) (q : Result (Unit {0}) E) (a : Agrees end l v) (sound : IsSound v) (whole : v.is_cut ≡ false)
+module _ {E : Type 0} (end new : LinkEnd) (l : ℕ) (v : Link) (s : List ℕ) (rest : List (List ℕ)) (r : Received) (q : Result (Unit {0}) E)
+    (a : Agrees end l v) (sound : IsSound v) (whole : v.is_cut ≡ false)
     (kept : IsKept end new rest) (noted : IsNoted end new r q) (here : drop v.downs v.texts ≡ s ∷ rest)
     (no_other : (m : Meaning) → Means (waiting_in end.local) s m → m ≡ meaning_of r)
     (settles : Stands new.local (sent_by end.local) (settled (waiting_in end.local) (meaning_of r))) where
@@ -223,7 +232,8 @@ module _ {E : Type 0} (end new : LinkEnd) (l : ℕ) (v : Link) (s : List ℕ) (r
   is_well = noted.well a.results_well a.events_well
 
   -- what agrees whatever was received
-  agrees : EntriesAreWell new.commands.items × EventsAreWell new.events.items → map entry_seen new.commands.items ≡ entries_from 1 w v.commands → map event_seen new.events.items ≡ events w → settled (waiting_in end.local) (meaning_of r) ≡ waiting_among new.commands.items
+  agrees : EntriesAreWell new.commands.items × EventsAreWell new.events.items → map entry_seen new.commands.items ≡ entries_from 1 w v.commands
+      → map event_seen new.events.items ≡ events w → settled (waiting_in end.local) (meaning_of r) ≡ waiting_among new.commands.items
       → Agrees new l w
   agrees well entries events waits = record {
     results_well = well.0;
@@ -256,12 +266,15 @@ module _ {E : Type 0} (end new : LinkEnd) (l : ℕ) (v : Link) (s : List ℕ) (r
       agrees well
       (ap (map entry_seen) z.0 ∙ (a.entries ∙ entries-same 1 v w v.commands (λ id. fate-other v s more id (events_reply id (tree_in s) typed_so))))
       (ap (map event_seen) z.1 ∙ (map-append event_seen end.events.items (is_told.0 ∷ [])
-      ∙ (ap₂ {B = seen.Received} (λ xs x. xs ++ x ∷ []) a.events (seen_in is_told.0 n t is_told.1.kind is_told.1.tree (method_in-event e) ∙ ap event_in (sym tree)) ∙ sym (events-next v s more true typed_so))))
+      ∙ (ap₂ {B = seen.Received} (λ xs x. xs ++ x ∷ []) a.events (seen_in is_told.0 n t is_told.1.kind is_told.1.tree (method_in-event e)
+      ∙ ap event_in (sym tree)) ∙ sym (events-next v s more true typed_so))))
       (ap (settled (waiting_in end.local)) (sym is_meant) ∙ ((a.carries whole).local.waiting ∙ ap waiting_among (sym z.0))))
 
   -- a reply to the command at a place
-  of_reply : (p : ℕ) (e : Entry) (f : Fate) → slice_get end.commands.items p ≡ Some e → Replies (suc p) (tree_in s) → find (is_reply_to (suc p)) (messages v) ≡ None
-      → fate_seen f ≡ fate_by (tree_in s) → is_waiting (fate_seen f) ≡ false → settled (waiting_in end.local) (meaning_of r) ≡ without (waiting_in end.local) (suc p)
+  of_reply : (p : ℕ) (e : Entry) (f : Fate)
+      → slice_get end.commands.items p ≡ Some e → Replies (suc p) (tree_in s) → find (is_reply_to (suc p)) (messages v) ≡ None
+      → fate_seen f ≡ fate_by (tree_in s)
+      → is_waiting (fate_seen f) ≡ false → settled (waiting_in end.local) (meaning_of r) ≡ without (waiting_in end.local) (suc p)
       → OnOk q ((new.commands.items ≡ slice_set end.commands.items p (record e { fate = f })) × (new.events.items ≡ end.events.items)) → OnOk q (Agrees new l w)
   of_reply p e f at replies none decides settled_so gone note =
       both_ok q note is_well (λ z well.
@@ -271,17 +284,20 @@ module _ {E : Type 0} (end new : LinkEnd) (l : ℕ) (v : Link) (s : List ℕ) (r
       (λ id apart. fate-other v s more id (replies_alone (suc p) id (tree_in s) replies (λ same. apart (sym same)))))
       (ap (map event_seen) z.1 ∙ (a.events ∙ (sym (append-nil (events v)) ∙ sym (events-next v s more false replies.no_event))))
       (gone ∙ (ap (λ ws. without ws (suc p)) (a.carries whole).local.waiting
-      ∙ sym (ap waiting_among z.0 ∙ waiting-set p 1 (suc p) f e end.commands.items (omega arith) (are_numbered 1 v end.commands.items v.commands a.entries) at settled_so))))
+      ∙ sym (ap waiting_among z.0 ∙ waiting-set p 1 (suc p) f e end.commands.items (omega arith)
+      (are_numbered 1 v end.commands.items v.commands a.entries) at settled_so))))
 
   -- the command at a place waits
-  asked : (p : ℕ) (c : Sending) (e : Entry) → slice_get end.commands.items p ≡ Some e → IsEntry v (suc p) c e → find (is_reply_to (suc p)) (messages v) ≡ None → method_of (waiting_in end.local) (suc p) ≡ Some e.method
+  asked : (p : ℕ) (c : Sending) (e : Entry) → slice_get end.commands.items p ≡ Some e
+      → IsEntry v (suc p) c e → find (is_reply_to (suc p)) (messages v) ≡ None → method_of (waiting_in end.local) (suc p) ≡ Some e.method
   asked p c e at entry none =
       ap (λ ws. method_of ws (suc p)) (a.carries whole).local.waiting
       ∙ method_of-waiting p 1 (suc p) e end.commands.items (omega arith) (are_numbered 1 v end.commands.items v.commands a.entries) at
       (ap is_waiting (entry.fate ∙ ap₂ {B = Bool} fate_with none whole))
 
   -- a result settles the command, and is noted
-  of_result : (p : ℕ) (e : Entry) (method : Method) → suc p < 2 ^ 53 → slice_get end.commands.items p ≡ Some e → e.method ≡ method → Replies (suc p) (tree_in s) → find (is_reply_to (suc p)) (messages v) ≡ None
+  of_result : (p : ℕ) (e : Entry) (method : Method) → suc p < 2 ^ 53 → slice_get end.commands.items p ≡ Some e
+      → e.method ≡ method → Replies (suc p) (tree_in s) → find (is_reply_to (suc p)) (messages v) ≡ None
       → method_of (waiting_in end.local) (suc p) ≡ Some e.method → IsMessageText ghosts.shape s → ResultOf (suc p) method s → OnOk q (Agrees new l w)
   of_result p e method small at same replies none waits reads is =
       let t = response_tree (suc p) is.outcome in
@@ -289,14 +305,16 @@ module _ {E : Type 0} (end new : LinkEnd) (l : ℕ) (v : Link) (s : List ℕ) (r
       let echoed = in_range (suc p) small in
       let id_is : id_in t ≡ suc p = ap (λ o. unwrap_or o 0) echoed in
       let is_asked : asked_by (waiting_in end.local) t ≡ Some e.method = ap (option_and_then (method_of (waiting_in end.local))) echoed ∙ waits in
-      let is_meant = no_other (Answer (id_in t) e.method is.outcome) (is_answer t e.method is.reads fit is_asked (subst (λ m. Fits is.outcome (rule (result_of m))) (sym same) is.fits)) in
+      let is_meant = no_other (Answer (id_in t) e.method is.outcome)
+      (is_answer t e.method is.reads fit is_asked (subst (λ m. Fits is.outcome (rule (result_of m))) (sym same) is.fits)) in
       let got = answered_as r (id_in t) e.method is.outcome is_meant in
       of_reply p e (in_hand.Answered got.1) at replies none (ap seen.Answered got.2.tree ∙ sym (ap (λ o. fate_by (unwrap_or o null)) is.reads)) refl
       (ap (settled (waiting_in end.local)) (sym is_meant) ∙ ap (without (waiting_in end.local)) id_is)
       (noted.answer p e got.0 got.1 got.2.is (got.2.id_is ∙ id_is) at)
 
   -- so does a code
-  of_code : (p : ℕ) (e : Entry) → suc p < 2 ^ 53 → slice_get end.commands.items p ≡ Some e → Replies (suc p) (tree_in s) → find (is_reply_to (suc p)) (messages v) ≡ None
+  of_code : (p : ℕ) (e : Entry) → suc p < 2 ^ 53
+      → slice_get end.commands.items p ≡ Some e → Replies (suc p) (tree_in s) → find (is_reply_to (suc p)) (messages v) ≡ None
       → method_of (waiting_in end.local) (suc p) ≡ Some e.method → IsMessageText ghosts.shape s → CodeOf (suc p) s → OnOk q (Agrees new l w)
   of_code p e small at replies none waits reads is =
       let t = error_tree (Some (suc p)) is.code in
@@ -338,7 +356,8 @@ past_all false false v w f = refl
 -- with nothing on its way down nothing is taken down
 pub with_down-none : (v : Link) → (v.is_cut ≡ false → drop v.downs v.texts ≡ []) → with_down v ≡ v
 with_down-none v none =
-    past_all v.is_cut (nat_lt v.downs (length v.texts)) v (with_next v) (λ whole. let all = all_dropped v.downs v.texts (none whole) in outside v.downs (length v.texts) all)
+    past_all v.is_cut (nat_lt v.downs (length v.texts)) v (with_next v)
+    (λ whole. let all = all_dropped v.downs v.texts (none whole) in outside v.downs (length v.texts) all)
   where
     outside : (n m : ℕ) → m ≤ n → nat_lt n m ≡ false
     outside n m is = search (rules, tests)

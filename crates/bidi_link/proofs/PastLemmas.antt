@@ -6,7 +6,8 @@ use Rattle.std.proofs.lemmas.List.{reverse-append, reverse-reverse}
 use Rattle.bidi_remote.specs.Machine.History.{Input}
 use Rattle.bidi_remote.specs.Machine.Sent.{out, answers, texts_on}
 use Rattle.bidi_remote.proofs.RouteLemmas.{texts_on-append}
-use Rattle.bidi_link.specs.Pairing.{Sending, Deed, Handed, Linked, Sent as SentOn, Unsent, TakenUp, TakenDown, Cut, history, links, is_link, commands, unsent, downs, texts}
+use Rattle.bidi_link.specs.Pairing.{Sending, Deed, Handed, Linked, Sent as SentOn, Unsent, TakenUp, TakenDown}
+use Rattle.bidi_link.specs.Pairing.{Cut, history, links, is_link, commands, unsent, downs, texts}
 use Rattle.bidi_link.specs.Link.{Link, link}
 use Rattle.bidi_link.specs.Rows.{with_texts, with_up, with_cut}
 use Rattle.bidi_remote.proofs.AnswerLemmas.{answers_more}
@@ -26,7 +27,8 @@ pub texts-handed : (past : List Deed) (i : Input) (l : ℕ) → texts (Handed i 
 texts-handed past i l =
     let h = history past in
     ap (λ xs. texts_on l (answers xs)) (reverse-append (i ∷ []) h)
-    ∙ (ap (texts_on l) (answers_more (reverse h) i ∙ ap (λ g. answers (reverse h) ++ out g i) (reverse-reverse h)) ∙ texts_on-append l (answers (reverse h)) (out h i))
+    ∙ (ap (texts_on l) (answers_more (reverse h) i ∙ ap (λ g. answers (reverse h) ++ out g i) (reverse-reverse h))
+    ∙ texts_on-append l (answers (reverse h)) (out h i))
 
 pub link-handed : (past : List Deed) (i : Input) (l : ℕ) → link (Handed i ∷ past) l ≡ with_texts (link past l) (texts_on l (out (history past) i))
 link-handed past i l = ap (λ ts. record (link past l) { texts = ts }) (texts-handed past i l)

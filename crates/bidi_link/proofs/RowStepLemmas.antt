@@ -1,5 +1,6 @@
 -- One link in hand is written, and both ends stand for the past with the step.
-use Rattle.std.proofs.Common.{◌≡◌, ◌∙◌, ◌<◌, ◌^◌, ℕ, suc, Bool, true, false, nat_eq, List, [], ◌∷◌, ◌++◌, length, Option, Some, None, Result, Ok, Err, String, Global, string_bytes, append-nil, refl, sym, ap}
+use Rattle.std.proofs.Common.{◌≡◌, ◌∙◌, ◌<◌, ◌^◌, ℕ, suc, Bool, true, false, nat_eq, List, [], ◌∷◌, ◌++◌, length, Option}
+use Rattle.std.proofs.Common.{Some, None, Result, Ok, Err, String, Global, string_bytes, append-nil, refl, sym, ap}
 use Rattle.std.specs.Prelude.{◌&&◌, not, if◌then◌else◌, nat_lt, nat_le, OnOk, IfSome, IfNone}
 use Rattle.std.specs.List.{IsDistinct}
 use Rattle.std.specs.Map.{lookup, set_value}
@@ -57,25 +58,43 @@ module _ (ends new : Ends) (past : List Deed) (l : ℕ) (x w : LinkEnd) (written
       let id = suc (length v.commands) in
       ltb-true id (2 ^ 53) (third (nat_lt (length (unsettled v)) 1024) (nat_le (length (compact_text (tree_of_sending id c))) 1048576) (nat_lt id (2 ^ 53)) may)
 
-  sent : (c : Sending) → IsSane past → (b m : Bool) → may_send (link past l) c ≡ m → Agrees w l (if b then link past l else if m then record (link past l) { commands = commands past l ++ c ∷ [] } else record (link past l) { not_sent = suc (link past l).not_sent })
+  sent : (c : Sending) → IsSane past → (b m : Bool) → may_send (link past l) c ≡ m → Agrees w l (if b then link past l else if m
+      then record (link past l) { commands = commands past l ++ c ∷ [] } else record (link past l) { not_sent = suc (link past l).not_sent })
       → Both new (if not (is_link past l && not b) then past else if m then Sent l c ∷ past else Unsent l ∷ past)
   sent c sane true m may agree = rw there (still agree, sane)
-  sent c sane false true may agree = rw there (with-deed (Sent l c) _ (sent-of l c past) agree, sane-of l (Sent l c) past _ (c ∷ []) (sent-of l c past) refl sane there (sound-sent (link past l) c (sane.sound l) (fits c may)))
-  sent c sane false false may agree = rw there (with-deed (Unsent l) _ (unsent-of l past) agree, sane-of l (Unsent l) past _ [] (unsent-of l past) (sym (append-nil (commands past l))) sane there (sound-so (link past l) _ refl refl refl (sane.sound l)))
+  sent c sane false true may agree =
+      rw there (
+        with-deed (Sent l c) _ (sent-of l c past) agree,
+        sane-of l (Sent l c) past _ (c ∷ []) (sent-of l c past) refl sane there (sound-sent (link past l) c (sane.sound l) (fits c may)),
+      )
+  sent c sane false false may agree =
+      rw there (
+        with-deed (Unsent l) _ (unsent-of l past) agree,
+        sane-of l (Unsent l) past _ [] (unsent-of l past) (sym (append-nil (commands past l))) sane there
+            (sound-so (link past l) _ refl refl refl (sane.sound l)),
+      )
 
-  pub send-row : {E : Type 0} (r : Result (Unit {0}) E) (c : Sending) → IsSane past → CanCount past → ((n : ℕ) (v : Link) → Agrees x n v → IsSound v → v.not_sent < 2 ^ 63 → OnOk r (Agrees w n (sent_on v c)))
+  pub send-row : {E : Type 0} (r : Result (Unit {0}) E) (c : Sending) → IsSane past
+      → CanCount past → ((n : ℕ) (v : Link) → Agrees x n v → IsSound v → v.not_sent < 2 ^ 63 → OnOk r (Agrees w n (sent_on v c)))
       → OnOk r (Both new (with_step past (Sends l c)))
   send-row (Err e) c sane count row = tt
   send-row (Ok u) c sane count row = sent c sane (is_cut past l) (may_send (link past l) c) refl (row l (link past l) was (sane.sound l) (count l))
 
   -- ---- carrying down
 
-  downed : IsSane past → (b m : Bool) → Agrees w l (if not b && m then record (link past l) { downs = suc (downs past l) } else link past l) → Both new (if (is_link past l && not b) && m then TakenDown l ∷ past else past)
+  downed : IsSane past → (b m : Bool) → Agrees w l (if not b && m then record (link past l) { downs = suc (downs past l) } else link past l)
+      → Both new (if (is_link past l && not b) && m then TakenDown l ∷ past else past)
   downed sane true m agree = rw there (still agree, sane)
-  downed sane false true agree = rw there (with-deed (TakenDown l) _ (down-of l past) agree, sane-of l (TakenDown l) past _ [] (down-of l past) (sym (append-nil (commands past l))) sane there (sound-so (link past l) _ refl refl refl (sane.sound l)))
+  downed sane false true agree =
+      rw there (
+        with-deed (TakenDown l) _ (down-of l past) agree,
+        sane-of l (TakenDown l) past _ [] (down-of l past) (sym (append-nil (commands past l))) sane there
+            (sound-so (link past l) _ refl refl refl (sane.sound l)),
+      )
   downed sane false false agree = rw there (still agree, sane)
 
-  pub down-row : {E : Type 0} (r : Result (Unit {0}) E) → IsSane past → ((n : ℕ) (v : Link) → Agrees x n v → IsSound v → OnOk r (Agrees w n (with_down v))) → OnOk r (Both new (with_step past (Down l)))
+  pub down-row : {E : Type 0} (r : Result (Unit {0}) E) → IsSane past
+      → ((n : ℕ) (v : Link) → Agrees x n v → IsSound v → OnOk r (Agrees w n (with_down v))) → OnOk r (Both new (with_step past (Down l)))
   down-row (Err e) sane row = tt
   down-row (Ok u) sane row = downed sane (is_cut past l) (nat_lt (downs past l) (length (texts past l))) (row l (link past l) was (sane.sound l))
 
@@ -86,17 +105,20 @@ module _ (ends new : Ends) (past : List Deed) (l : ℕ) (x w : LinkEnd) (written
   whole-cut true true e = cc e
   whole-cut false b e = cc e
 
-  pub cut-row : {E : Type 0} (r : Result (Unit {0}) E) → is_whole past l ≡ true → ((n : ℕ) (v : Link) → Agrees x n v → v.is_cut ≡ false → OnOk r (Agrees w n (with_cut v))) → OnOk r (StandsFor new (Cut l ∷ past))
+  pub cut-row : {E : Type 0} (r : Result (Unit {0}) E) → is_whole past l ≡ true
+      → ((n : ℕ) (v : Link) → Agrees x n v → v.is_cut ≡ false → OnOk r (Agrees w n (with_cut v))) → OnOk r (StandsFor new (Cut l ∷ past))
   cut-row (Err e) whole row = tt
   cut-row (Ok u) whole row = with-deed (Cut l) _ (cut-of l past) (row l (link past l) was (whole-cut (is_link past l) (is_cut past l) whole))
 
   -- ---- carrying up
 
-  pub up-row-none : (r : Option (String Global)) → ((n : ℕ) (v : Link) → Agrees x n v → IfNone r ((next_up v ≡ None) × Agrees w n v)) → IfNone r ((with_step past (Up l) ≡ past) × StandsFor new past)
+  pub up-row-none : (r : Option (String Global)) → ((n : ℕ) (v : Link) → Agrees x n v → IfNone r ((next_up v ≡ None) × Agrees w n v))
+      → IfNone r ((with_step past (Up l) ≡ past) × StandsFor new past)
   up-row-none (Some s) row = tt
   up-row-none None row = (let row_is = row l (link past l) was in (up-nothing past l row_is.0, still row_is.1))
 
-  pub up-row-some : (r : Option (String Global)) → ((n : ℕ) (v : Link) → Agrees x n v → IfSome r (λ s. (c : Sending) × (next_up v ≡ Some c) × IsUpward (suc v.ups) c (string_bytes s) × Agrees w n (with_up v)))
+  pub up-row-some : (r : Option (String Global)) → ((n : ℕ) (v : Link) → Agrees x n v
+      → IfSome r (λ s. (c : Sending) × (next_up v ≡ Some c) × IsUpward (suc v.ups) c (string_bytes s) × Agrees w n (with_up v)))
       → IfSome r (λ s. (c : Sending) × IsNextUp past l c (string_bytes s) × StandsFor new (TakenUp l ∷ past))
   up-row-some None row = tt
   up-row-some (Some s) row =
@@ -131,7 +153,8 @@ module _ (ends new : Ends) (past : List Deed) (l : ℕ) (kept : IsKept ends new 
 
 -- ---- whether a link is whole
 
-pub whole-found : (ends : Ends) (past : List Deed) (l : ℕ) (x : LinkEnd) (b : Bool) → StandsFor ends past → Some x ≡ lookup (nat_eq l) ends.links.entries → b ≡ x.is_cut → not b ≡ is_whole past l
+pub whole-found : (ends : Ends) (past : List Deed) (l : ℕ) (x : LinkEnd) (b : Bool)
+    → StandsFor ends past → Some x ≡ lookup (nat_eq l) ends.links.entries → b ≡ x.is_cut → not b ≡ is_whole past l
 whole-found ends past l x b stands found cut = rw (is-link ends past l x stands found) (ap not (cut ∙ (found-agrees ends past l x stands found).is_cut))
 
 pub whole-none : (ends : Ends) (past : List Deed) (l : ℕ) → StandsFor ends past → None ≡ lookup (nat_eq l) ends.links.entries → false ≡ is_whole past l

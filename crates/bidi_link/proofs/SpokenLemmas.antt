@@ -31,7 +31,8 @@ get-first (x ∷ cs) ds (suc p) c within e = get-first cs ds p c (omega (arith, 
 pub spoken-sent : (cs ds : List Sending) {n m : ℕ} {ts : List (List ℕ)} → AreSpoken cs n m ts → AreSpoken (cs ++ ds) n m ts
 spoken-sent cs ds (nothing n m within) = nothing n m within
 spoken-sent cs ds (an_event n m s ts is more) = an_event n m s ts is (spoken-sent cs ds more)
-spoken-sent cs ds (a_reply n m p c method s ts after at named is more) = a_reply n m p c method s ts after (get-before cs ds p c at) named is (spoken-sent cs ds more)
+spoken-sent cs ds (a_reply n m p c method s ts after at named is more) =
+    a_reply n m p c method s ts after (get-before cs ds p c at) named is (spoken-sent cs ds more)
 
 -- more may be taken up
 pub spoken-up : (cs : List Sending) (k : ℕ) {n m : ℕ} {ts : List (List ℕ)} → m ≤ k → AreSpoken cs n m ts → AreSpoken cs n k ts
@@ -51,18 +52,23 @@ spoken-from cs n below (an_event m k u us is rest) = an_event n k u us is (spoke
 spoken-from cs n below (a_reply m k p c method u us after at named is rest) = a_reply n k p c method u us (omega (arith, below, after)) at named is rest
 
 -- one after another
-pub spoken-append : (cs : List Sending) (k : ℕ) (us : List (List ℕ)) {n m : ℕ} {ts : List (List ℕ)} → AreSpoken cs n m ts → AreSpoken cs m k us → AreSpoken cs n k (ts ++ us)
+pub spoken-append : (cs : List Sending) (k : ℕ) (us : List (List ℕ)) {n m : ℕ} {ts : List (List ℕ)}
+    → AreSpoken cs n m ts → AreSpoken cs m k us → AreSpoken cs n k (ts ++ us)
 spoken-append cs k us (nothing n m within) more = spoken-from cs n within more
 spoken-append cs k us (an_event n m s ts is rest) more = an_event n k s (ts ++ us) is (spoken-append cs k us rest more)
-spoken-append cs k us (a_reply n m p c method s ts after at named is rest) more = a_reply n k p c method s (ts ++ us) after at named is (spoken-append cs k us rest more)
+spoken-append cs k us (a_reply n m p c method s ts after at named is rest) more =
+    a_reply n k p c method s (ts ++ us) after at named is (spoken-append cs k us rest more)
 
-one-spoken : (cs : List Sending) (u : ℕ) (c : Sending) (method : Method) (l d : ℕ) (past : List Deed) → slice_get cs u ≡ Some c → c.method ≡ method_text method → {rs : List (List ℕ)} → MayReply past l d (suc u) method rs
+one-spoken : (cs : List Sending) (u : ℕ) (c : Sending) (method : Method) (l d : ℕ) (past : List Deed)
+    → slice_get cs u ≡ Some c → c.method ≡ method_text method → {rs : List (List ℕ)} → MayReply past l d (suc u) method rs
     → AreSpoken cs u (suc u) rs
 one-spoken cs u c method l d past at named no_reply = nothing u (suc u) (omega arith)
-one-spoken cs u c method l d past at named (one_reply s same is) = a_reply u (suc u) u c method s [] (omega arith) at named is (nothing (suc u) (suc u) (omega arith))
+one-spoken cs u c method l d past at named (one_reply s same is) =
+    a_reply u (suc u) u c method s [] (omega arith) at named is (nothing (suc u) (suc u) (omega arith))
 
 -- what is sent at a command, on the connection that asked
-pub spoken-answers : (cs : List Sending) (u : ℕ) (c : Sending) (method : Method) (l d : ℕ) (past : List Deed) (ts : List (List ℕ)) → slice_get cs u ≡ Some c → c.method ≡ method_text method
+pub spoken-answers : (cs : List Sending) (u : ℕ) (c : Sending) (method : Method) (l d : ℕ) (past : List Deed) (ts : List (List ℕ))
+    → slice_get cs u ≡ Some c → c.method ≡ method_text method
     → Answers past l d (suc u) method ts → AreSpoken cs u (suc u) ts
 spoken-answers cs u c method l d past ts at named a =
     subst (AreSpoken cs u (suc u)) (sym a.is)
@@ -74,7 +80,8 @@ none-elsewhere l d id method past apart no_reply = refl
 none-elsewhere l d id method past apart (one_reply s same is) = absurd (apart same)
 
 -- and on another connection
-pub events-answers : (l d id : ℕ) (method : Method) (past : List Deed) (ts : List (List ℕ)) → (l ≡ d → ⊥) → Answers past l d id method ts → AreEvents (is_open past l) ts
+pub events-answers : (l d id : ℕ) (method : Method) (past : List Deed) (ts : List (List ℕ))
+    → (l ≡ d → ⊥) → Answers past l d id method ts → AreEvents (is_open past l) ts
 events-answers l d id method past ts apart a =
     subst (AreEvents (is_open past l)) (sym (a.is ∙ ap (λ rs. a.before ++ (rs ++ a.after)) (none-elsewhere l d id method past apart a.replies)))
     (events-append (is_open past l) a.before a.after a.events a.later)

@@ -1,5 +1,6 @@
 -- Both ends in hand, after each step, stand for the past with it.
-use Rattle.std.proofs.Common.{◌≡◌, ◌∙◌, ◌<◌, ◌≤◌, ◌+◌, ◌^◌, ℕ, suc, Bool, true, false, List, [], ◌∷◌, ◌++◌, map, length, Option, Some, None, Result, Ok, Err, append-nil, refl, sym, ap, ap₂, subst, arith}
+use Rattle.std.proofs.Common.{◌≡◌, ◌∙◌, ◌<◌, ◌≤◌, ◌+◌, ◌^◌, ℕ, suc, Bool, true, false, List, [], ◌∷◌, ◌++◌, map, length}
+use Rattle.std.proofs.Common.{Option, Some, None, Result, Ok, Err, append-nil, refl, sym, ap, ap₂, subst, arith}
 use Rattle.std.specs.Prelude.{◌==◌, ◌&&◌, take, get_or, IsErrOf, not, slice_get, if◌then◌else◌, nat_lt, OnOk, IfOk}
 use Rattle.bidi_messages.specs.Verdict.{Verdict, Accepted}
 use Rattle.bidi_messages.specs.declared.method.Method.{Method}
@@ -20,7 +21,8 @@ use Rattle.std.specs.Result.{IsErrAnd}
 use Rattle.bidi_remote.specs.declared.remote_end.RemoteFault.{RemoteFault}
 use Rattle.bidi_remote.specs.declared.remote_end.RemoteFault.TheVariants.{WornOut}
 use Rattle.bidi_link.specs.declared.ends.Ends.{Ends}
-use Rattle.bidi_link.specs.Pairing.{Sending, Deed, Handed, Linked, Sent, Unsent, TakenUp, TakenDown, Cut, history, is_link, is_cut, commands, ups, downs, texts, unsent}
+use Rattle.bidi_link.specs.Pairing.{Sending, Deed, Handed, Linked, Sent, Unsent, TakenUp, TakenDown, Cut}
+use Rattle.bidi_link.specs.Pairing.{history, is_link, is_cut, commands, ups, downs, texts, unsent}
 use Rattle.bidi_link.specs.Link.{Link, link, may_send, tree_of_sending, page}
 use Rattle.bidi_link.specs.Ledger.{PairInput, Opens, Sends, Up, Down, Cuts, Direct, with_step, past_after, is_whole, is_connected, taken_up, dropped}
 use Rattle.bidi_link.specs.declared.pairing.PairStep.{PairStep}
@@ -36,27 +38,37 @@ use Rattle.bidi_link.proofs.SaneLemmas.{unknown-events, sane-denied, sane-linked
 pub opens-known : (past : List Deed) (l : ℕ) (resource : List ℕ) → is_link past l ≡ true → with_step past (Opens l resource) ≡ past
 opens-known past l resource there = rw there refl
 
-opens-linked : (past : List Deed) (l : ℕ) (resource : List ℕ) → is_link past l ≡ false → is_connected past l ≡ false → is_connected (Handed (Open l resource) ∷ past) l ≡ true → with_step past (Opens l resource) ≡ Linked l ∷ Handed (Open l resource) ∷ past
+opens-linked : (past : List Deed) (l : ℕ) (resource : List ℕ) → is_link past l ≡ false → is_connected past l ≡ false
+    → is_connected (Handed (Open l resource) ∷ past) l ≡ true → with_step past (Opens l resource) ≡ Linked l ∷ Handed (Open l resource) ∷ past
 opens-linked past l resource none shut unshut = at (is_link past l) (is_connected (Handed (Open l resource) ∷ past) l) (is_connected past l) none unshut shut
   where
-    at : (a b c : Bool) → a ≡ false → b ≡ true → c ≡ false → (if a then past else if b && not c then Linked l ∷ Handed (Open l resource) ∷ past else Handed (Open l resource) ∷ past) ≡ Linked l ∷ Handed (Open l resource) ∷ past
+    at : (a b c : Bool) → a ≡ false → b ≡ true → c ≡ false
+        → (if a then past else if b && not c then Linked l ∷ Handed (Open l resource) ∷ past else Handed (Open l resource) ∷ past)
+        ≡ Linked l ∷ Handed (Open l resource) ∷ past
     at false true false x y z = refl
     at true b c x y z = cc x
     at false false c x y z = cc y
     at false true true x y z = cc z
 
-opens-denied : (past : List Deed) (l : ℕ) (resource : List ℕ) → is_link past l ≡ false → is_connected (Handed (Open l resource) ∷ past) l ≡ false → with_step past (Opens l resource) ≡ Handed (Open l resource) ∷ past
+opens-denied : (past : List Deed) (l : ℕ) (resource : List ℕ) → is_link past l ≡ false
+    → is_connected (Handed (Open l resource) ∷ past) l ≡ false → with_step past (Opens l resource) ≡ Handed (Open l resource) ∷ past
 opens-denied past l resource none shut = at (is_link past l) (is_connected (Handed (Open l resource) ∷ past) l) (is_connected past l) none shut
   where
-    at : (a b c : Bool) → a ≡ false → b ≡ false → (if a then past else if b && not c then Linked l ∷ Handed (Open l resource) ∷ past else Handed (Open l resource) ∷ past) ≡ Handed (Open l resource) ∷ past
+    at : (a b c : Bool) → a ≡ false → b ≡ false
+        → (if a then past else if b && not c then Linked l ∷ Handed (Open l resource) ∷ past else Handed (Open l resource) ∷ past)
+        ≡ Handed (Open l resource) ∷ past
     at false false c x y = refl
     at true b c x y = cc x
     at false true c x y = cc y
 
-pub open-linked : (handed new : Ends) (past : List Deed) (l : ℕ) (resource : List ℕ) (i : Input) → i ≡ Open l resource → is_link past l ≡ false → StandsFor handed (Handed i ∷ past) → AllReadBack (out (history past) i) → IsSane past
-    → is_open (deeds (i ∷ history past)) l ≡ true → ((p : List Deed) → StandsFor handed p → is_link p l ≡ false → link p l ≡ blank → StandsFor new (Linked l ∷ p)) → Both new (with_step past (Opens l resource))
+pub open-linked : (handed new : Ends) (past : List Deed) (l : ℕ) (resource : List ℕ) (i : Input)
+    → i ≡ Open l resource → is_link past l ≡ false → StandsFor handed (Handed i ∷ past) → AllReadBack (out (history past) i) → IsSane past
+    → is_open (deeds (i ∷ history past)) l ≡ true
+    → ((p : List Deed) → StandsFor handed p → is_link p l ≡ false → link p l ≡ blank → StandsFor new (Linked l ∷ p))
+    → Both new (with_step past (Opens l resource))
 open-linked handed new past l resource i is none stands reads sane unshut added = subst (Both new) (sym (opens-linked past l resource none known.1 now)) (
-  added (Handed (Open l resource) ∷ past) (subst (λ x. StandsFor handed (Handed x ∷ past)) is stands) none (unknown-events past (Open l resource) l known.0 known.1 (events-unheard (history past) l (Open l resource) tt)),
+  added (Handed (Open l resource) ∷ past) (subst (λ x. StandsFor handed (Handed x ∷ past)) is stands) none
+      (unknown-events past (Open l resource) l known.0 known.1 (events-unheard (history past) l (Open l resource) tt)),
   sane-linked past l resource sane (subst (λ x. AllReadBack (out (history past) x)) is reads),
 )
   where
@@ -66,7 +78,8 @@ open-linked handed new past l resource i is none stands reads sane unshut added 
     now : is_connected (Handed (Open l resource) ∷ past) l ≡ true
     now = subst (λ x. is_open (deeds (x ∷ history past)) l ≡ true) is unshut
 
-pub open-denied : (new : Ends) (past : List Deed) (l : ℕ) (resource : List ℕ) (i : Input) → i ≡ Open l resource → is_link past l ≡ false → StandsFor new (Handed i ∷ past) → AllReadBack (out (history past) i) → IsSane past
+pub open-denied : (new : Ends) (past : List Deed) (l : ℕ) (resource : List ℕ) (i : Input)
+    → i ≡ Open l resource → is_link past l ≡ false → StandsFor new (Handed i ∷ past) → AllReadBack (out (history past) i) → IsSane past
     → is_open (deeds (i ∷ history past)) l ≡ false → Both new (with_step past (Opens l resource))
 open-denied new past l resource i is none stands reads sane shut = subst (Both new) (sym (opens-denied past l resource none now)) (
   subst (λ x. StandsFor new (Handed x ∷ past)) is stands,
@@ -79,11 +92,14 @@ open-denied new past l resource i is none stands reads sane shut = subst (Both n
 -- ---- taking up
 
 -- a text has one verdict, and is heard as the command that was sent
-pub up-handed : (new : Ends) (past : List Deed) (l : ℕ) (c : Sending) (method : Method) (v : Verdict) (i : Input) → IsSane past → is_whole past l ≡ true → slice_get (commands past l) (ups past l) ≡ Some c → c.method ≡ method_text method
-    → v ≡ Accepted (tree_of_sending (suc (ups past l)) c) → i ≡ Heard l v → StandsFor new (Handed i ∷ TakenUp l ∷ past) → IsAnsweredOnce (deeds (history past)) i → AllReadBack (out (history past) i) → Both new (with_step past (Up l))
+pub up-handed : (new : Ends) (past : List Deed) (l : ℕ) (c : Sending) (method : Method) (v : Verdict) (i : Input)
+    → IsSane past → is_whole past l ≡ true → slice_get (commands past l) (ups past l) ≡ Some c → c.method ≡ method_text method
+    → v ≡ Accepted (tree_of_sending (suc (ups past l)) c) → i ≡ Heard l v → StandsFor new (Handed i ∷ TakenUp l ∷ past)
+    → IsAnsweredOnce (deeds (history past)) i → AllReadBack (out (history past) i) → Both new (with_step past (Up l))
 up-handed new past l c method v i sane whole next named judged heard stands once reads = subst (Both new) (sym step) (
   subst (λ x. StandsFor new (Handed x ∷ TakenUp l ∷ past)) is stands,
-  sane-up past l c method sane (there (is_link past l) (is_cut past l) whole) next named (subst (IsAnsweredOnce (deeds (history past))) is once) (subst (λ x. AllReadBack (out (history past) x)) is reads),
+  sane-up past l c method sane (there (is_link past l) (is_cut past l) whole) next named
+      (subst (IsAnsweredOnce (deeds (history past))) is once) (subst (λ x. AllReadBack (out (history past) x)) is reads),
 )
   where
     is : i ≡ Heard l (Accepted (tree_of_sending (suc (ups past l)) c))
@@ -97,8 +113,11 @@ up-handed new past l c method v i sane whole next named judged heard stands once
     step = rw (whole, next) refl
 
 -- the text that a link takes up is handed on
-pub up-carried : {E : Type 0} (r : Result (Unit {0}) E) (taken new : Ends) (past : List Deed) (l : ℕ) (s : List ℕ) → ((c : Sending) × IsNextUp past l c s × StandsFor taken (TakenUp l ∷ past)) → IsSane past
-    → IfOk r (λ u. (i : Input) × IsHeardAs (Text l s) i × ((p : List Deed) → StandsFor taken p → StandsFor new (Handed i ∷ p) × IsAnsweredOnce (deeds (history p)) i × AllReadBack (out (history p) i))) → OnOk r (Both new (with_step past (Up l)))
+pub up-carried : {E : Type 0} (r : Result (Unit {0}) E) (taken new : Ends) (past : List Deed) (l : ℕ) (s : List ℕ)
+    → ((c : Sending) × IsNextUp past l c s × StandsFor taken (TakenUp l ∷ past)) → IsSane past
+    → IfOk r (λ u. (i : Input) × IsHeardAs (Text l s) i
+    × ((p : List Deed) → StandsFor taken p → StandsFor new (Handed i ∷ p) × IsAnsweredOnce (deeds (history p)) i × AllReadBack (out (history p) i)))
+    → OnOk r (Both new (with_step past (Up l)))
 up-carried (Err e) taken new past l s next sane handed = tt
 up-carried (Ok u) taken new past l s next sane handed =
     let c = next.0 in
@@ -129,8 +148,11 @@ whole-dropped past l = at (is_connected past l)
     at false = refl
 
 -- the connection is dropped, where it is open
-pub drop-done : {E : Type 0} (r : Result (Unit {0}) E) (ends new : Ends) (past : List Deed) (l : ℕ) → StandsFor ends past → IsSane past → is_connected past l ≡ true
-    → IfOk r (λ u. (i : Input) × IsHeardAs (steps.Drop l) i × ((p : List Deed) → StandsFor ends p → StandsFor new (Handed i ∷ p) × IsAnsweredOnce (deeds (history p)) i × AllReadBack (out (history p) i))) → OnOk r (Both new (dropped past l))
+pub drop-done : {E : Type 0} (r : Result (Unit {0}) E) (ends new : Ends) (past : List Deed) (l : ℕ)
+    → StandsFor ends past → IsSane past → is_connected past l ≡ true
+    → IfOk r (λ u. (i : Input) × IsHeardAs (steps.Drop l) i
+    × ((p : List Deed) → StandsFor ends p → StandsFor new (Handed i ∷ p) × IsAnsweredOnce (deeds (history p)) i × AllReadBack (out (history p) i)))
+    → OnOk r (Both new (dropped past l))
 drop-done (Err e) ends new past l stands sane unshut handed = tt
 drop-done (Ok u) ends new past l stands sane unshut handed =
     let h = handed.2 past stands in
@@ -151,14 +173,17 @@ cut-done (Ok u) ends new past l whole before row =
     let still = whole-dropped past l ∙ whole in
     rw whole (
       row p before.0 still,
-      sane-of l (Cut l) p (with_cut (link p l)) [] (cut-of l p) (sym (append-nil (commands p l))) before.1 (link-there (is_link p l) (is_cut p l) still) (sound-so (link p l) (with_cut (link p l)) refl refl refl (before.1.sound l)),
+      sane-of l (Cut l) p (with_cut (link p l)) [] (cut-of l p) (sym (append-nil (commands p l))) before.1
+          (link-there (is_link p l) (is_cut p l) still) (sound-so (link p l) (with_cut (link p l)) refl refl refl (before.1.sound l)),
     )
 
 -- ---- steps that the remote end takes by itself
 
 -- a moment, or a step of a page
-pub beside-done : {E : Type 0} (r : Result (Unit {0}) E) (ends new : Ends) (x : steps.Step) → ((i : Input) → IsHeardAs x i → IsUnheard i × ((h : List Input) (k : ℕ) → IsApart h k i))
-    → IfOk r (λ u. (i : Input) × IsHeardAs x i × ((p : List Deed) → StandsFor ends p → StandsFor new (Handed i ∷ p) × IsAnsweredOnce (deeds (history p)) i × AllReadBack (out (history p) i)))
+pub beside-done : {E : Type 0} (r : Result (Unit {0}) E) (ends new : Ends) (x : steps.Step)
+    → ((i : Input) → IsHeardAs x i → IsUnheard i × ((h : List Input) (k : ℕ) → IsApart h k i))
+    → IfOk r (λ u. (i : Input) × IsHeardAs x i
+    × ((p : List Deed) → StandsFor ends p → StandsFor new (Handed i ∷ p) × IsAnsweredOnce (deeds (history p)) i × AllReadBack (out (history p) i)))
     → IfOk r (λ u. (q : PairInput) × IsDirect x q × ((p : List Deed) → StandsFor ends p → IsSane p → CanCount p → Both new (with_step p q)))
 beside-done (Err e) ends new x quiet handed = tt
 beside-done (Ok u) ends new x quiet handed = (
@@ -182,7 +207,8 @@ frame-quiet context url i heard = quiet-at i (PageStep (Frame context url)) hear
 pub unframe-quiet : (context : List ℕ) (i : Input) → IsHeardAs (steps.Unframe context) i → IsUnheard i × ((h : List Input) (k : ℕ) → IsApart h k i)
 unframe-quiet context i heard = quiet-at i (PageStep (Unframe context)) heard (tt, λ h k. tt)
 
-pub log-quiet : (context : List ℕ) (level : Level) (text : List ℕ) (i : Input) → IsHeardAs (steps.Log context level text) i → IsUnheard i × ((h : List Input) (k : ℕ) → IsApart h k i)
+pub log-quiet : (context : List ℕ) (level : Level) (text : List ℕ) (i : Input)
+    → IsHeardAs (steps.Log context level text) i → IsUnheard i × ((h : List Input) (k : ℕ) → IsApart h k i)
 log-quiet context level text i heard = quiet-at i (PageStep (Log context level text)) heard (tt, λ h k. tt)
 
 pub row-quiet : (text : List ℕ) (i : Input) → IsHeardAs (steps.TableRow text) i → IsUnheard i × ((h : List Input) (k : ℕ) → IsApart h k i)
@@ -195,19 +221,22 @@ abbrev pub Does : Ends → Ends → PairInput → Type 0
 Does ends new q = (p : List Deed) → StandsFor ends p → IsSane p → CanCount p → Both new (with_step p q)
 
 -- a step that is heard as this input
-pub step-done : {E : Type 0} (r : Result (Unit {0}) E) (ends new : Ends) (x : PairStep) (q : PairInput) → IsHeardAsPair x q → ((p : List Deed) → StandsFor ends p → IsSane p → CanCount p → OnOk r (Both new (with_step p q)))
+pub step-done : {E : Type 0} (r : Result (Unit {0}) E) (ends new : Ends) (x : PairStep) (q : PairInput)
+    → IsHeardAsPair x q → ((p : List Deed) → StandsFor ends p → IsSane p → CanCount p → OnOk r (Both new (with_step p q)))
     → IfOk r (λ u. (q : PairInput) × IsHeardAsPair x q × ((p : List Deed) → StandsFor ends p → IsSane p → CanCount p → Both new (with_step p q)))
 step-done (Err e) ends new x q heard done = tt
 step-done (Ok u) ends new x q heard done = (q, heard, done)
 
 -- of a step in hand the same is said by its variant
-pub of-step : {S E : Type 0} (r : Result S E) (x y : PairStep) (P : PairInput → Type 0) → x ≡ y → IfOk r (λ u. (q : PairInput) × IsHeardAsPair y q × P q) → IfOk r (λ u. (q : PairInput) × IsHeardAsPair x q × P q)
+pub of-step : {S E : Type 0} (r : Result S E) (x y : PairStep) (P : PairInput → Type 0)
+    → x ≡ y → IfOk r (λ u. (q : PairInput) × IsHeardAsPair y q × P q) → IfOk r (λ u. (q : PairInput) × IsHeardAsPair x q × P q)
 of-step r x y P is done = subst (λ z. IfOk r (λ u. (q : PairInput) × IsHeardAsPair z q × P q)) (sym is) done
 
 -- ---- the pages
 
 -- each link in hand leaves the page of its link
-pub rows-pages : (f : ℕ → Link) (rows : List (ℕ × LinkEnd)) → RowsAgree rows f → map page_in_hand (map (λ row. row.1) rows) ≡ map (λ l. page l (f l)) (numbers rows)
+pub rows-pages : (f : ℕ → Link) (rows : List (ℕ × LinkEnd))
+    → RowsAgree rows f → map page_in_hand (map (λ row. row.1) rows) ≡ map (λ l. page l (f l)) (numbers rows)
 rows-pages f [] agree = refl
 rows-pages f (row ∷ rows) agree = ap₂ (λ p ps. p ∷ ps) (one row.1 row.0 (f row.0) agree.0) (rows-pages f rows agree.1)
   where
@@ -217,7 +246,8 @@ rows-pages f (row ∷ rows) agree = ap₂ (λ p ps. p ∷ ps) (one row.1 row.0 (
 -- ---- a list of steps
 
 -- one more step is heard
-pub heard-more : (xs : List PairStep) (inputs : List PairInput) (x : PairStep) (q : PairInput) → AreHeardAs xs inputs → IsHeardAsPair x q → AreHeardAs (xs ++ x ∷ []) (inputs ++ q ∷ [])
+pub heard-more : (xs : List PairStep) (inputs : List PairInput) (x : PairStep) (q : PairInput)
+    → AreHeardAs xs inputs → IsHeardAsPair x q → AreHeardAs (xs ++ x ∷ []) (inputs ++ q ∷ [])
 heard-more [] [] x q all is = (is, tt)
 heard-more [] (p ∷ inputs) x q all is = absurd all
 heard-more (y ∷ xs) [] x q all is = absurd all
@@ -239,7 +269,8 @@ past_after-more past (p ∷ inputs) q = past_after-more (with_step past p) input
 counts-one : (past : List Deed) (q : PairInput) (l : ℕ) → unsent (with_step past q) l ≤ suc (unsent past l)
 counts-one past (Opens k resource) l = opening (is_link past k) (is_connected (Handed (Open k resource) ∷ past) k && not (is_connected past k))
   where
-    opening : (a b : Bool) → unsent (if a then past else if b then Linked k ∷ Handed (Open k resource) ∷ past else Handed (Open k resource) ∷ past) l ≤ suc (unsent past l)
+    opening : (a b : Bool)
+        → unsent (if a then past else if b then Linked k ∷ Handed (Open k resource) ∷ past else Handed (Open k resource) ∷ past) l ≤ suc (unsent past l)
     opening true b = omega arith
     opening false true = omega arith
     opening false false = omega arith
@@ -284,7 +315,8 @@ pub can-count : (xs : List PairStep) (inputs : List PairInput) → AreHeardAs xs
 can-count xs inputs heard few = λ l. (let n = counts-after [] inputs l in let m = heard-length xs inputs heard in omega (arith, n, m, few))
 
 -- the steps so far stand at the front, and so with one more
-pub front-more : {A : Type 0} (all xs : List A) (x : A) → take (length xs) all ≡ xs → length xs < length all → x ≡ get_or all (length xs) x → take (length (xs ++ x ∷ [])) all ≡ xs ++ x ∷ []
+pub front-more : {A : Type 0} (all xs : List A) (x : A)
+    → take (length xs) all ≡ xs → length xs < length all → x ≡ get_or all (length xs) x → take (length (xs ++ x ∷ [])) all ≡ xs ++ x ∷ []
 front-more [] xs x front within is = absurd (omega (arith, within))
 front-more (y ∷ all) [] x front within is = ap (λ z. z ∷ []) (sym is)
 front-more (y ∷ all) (z ∷ xs) x front within is = ap₂ (λ w ws. w ∷ ws) (head front) (front-more all xs x (tail front) (omega (arith, within)) is)
@@ -300,7 +332,8 @@ fault-of : {A : Type 0} → RemoteFault → Result A RemoteFault → RemoteFault
 fault-of d (Ok x) = d
 fault-of d (Err e) = e
 
-pub worn-is : {A : Type 0} (r : Result A RemoteFault) (e : RemoteFault) → IsErrAnd r (λ f. f ≡ e) → IsErrOf r WornOut → (let q : Result (Unit {0}) RemoteFault = Err e in IsErrOf q WornOut)
+pub worn-is : {A : Type 0} (r : Result A RemoteFault) (e : RemoteFault)
+    → IsErrAnd r (λ f. f ≡ e) → IsErrOf r WornOut → (let q : Result (Unit {0}) RemoteFault = Err e in IsErrOf q WornOut)
 unfolding fault-of
 worn-is (Ok x) e is worn = absurd is
 worn-is (Err f) e is worn = ap (λ g. Err g) (sym is ∙ ap (fault-of e) worn)

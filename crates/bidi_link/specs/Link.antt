@@ -1,5 +1,6 @@
 -- One link as the past of both ends leaves it, and what becomes of its commands, by places in lists. This project's own.
-use Rattle.std.specs.Prelude.{ℕ, suc, ◌^◌, nat_eq, nat_lt, nat_le, Bool, true, false, not, ◌&&◌, if◌then◌else◌, List, [], ◌∷◌, map, filter, find, take, length, Option, Some, None, unwrap_or}
+use Rattle.std.specs.Prelude.{ℕ, suc, ◌^◌, nat_eq, nat_lt, nat_le, Bool, true, false, not, ◌&&◌, if◌then◌else◌}
+use Rattle.std.specs.Prelude.{List, [], ◌∷◌, map, filter, find, take, length, Option, Some, None, unwrap_or}
 use Rattle.std.specs.Option.{option_eq}
 use Rattle.bidi_tree.specs.Node.{Node, null, text, no_members}
 use Rattle.bidi_tree.specs.Text.{tree_of, compact_text}

@@ -28,4 +28,6 @@ pub record IsOutcome (past : List Deed) (l id : ℕ) (c : Sending) (fate : Fate)
 
 -- each answer and each refusal on a link is the outcome of its command
 abbrev pub AreOutcomes : List Deed → ℕ → Type 0
-AreOutcomes past l = (k : ℕ) (c : Sending) → slice_get (commands past l) k ≡ Some c → is_reply (fate_of (link past l) (suc k)) ≡ true → IsOutcome past l (suc k) c (fate_of (link past l) (suc k))
+AreOutcomes past l =
+    (k : ℕ) (c : Sending) → slice_get (commands past l) k ≡ Some c
+    → is_reply (fate_of (link past l) (suc k)) ≡ true → IsOutcome past l (suc k) c (fate_of (link past l) (suc k))

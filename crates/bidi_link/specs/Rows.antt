@@ -1,5 +1,6 @@
 -- What a link in hand stands for.
-use Rattle.std.specs.Prelude.{◌≡◌, ℕ, suc, ◌≤◌, nat_lt, true, false, not, ◌&&◌, if◌then◌else◌, List, [], ◌∷◌, ◌++◌, map, filter, drop, length, slice_get, Option, None, string_bytes, ⊤}
+use Rattle.std.specs.Prelude.{◌≡◌, ℕ, suc, ◌≤◌, nat_lt, true, false, not, ◌&&◌, if◌then◌else◌, List, [], ◌∷◌}
+use Rattle.std.specs.Prelude.{◌++◌, map, filter, drop, length, slice_get, Option, None, string_bytes, ⊤}
 use Rattle.bidi_tree.specs.Text.{compact_text}
 use Rattle.bidi_messages.specs.Verdict.{IsVerdict, Accepted}
 use Rattle.bidi_messages.specs.Method.{method_text}
@@ -89,4 +90,5 @@ pub record Agrees (end : LinkEnd) (l : ℕ) (v : Link) : Type 0 where
 
 -- the page that it would leave
 abbrev pub page_in_hand : LinkEnd → Page
-page_in_hand end = record { link = end.number.value; entries = map entry_seen end.commands.items; events = map event_seen end.events.items; not_sent = end.unsent }
+page_in_hand end =
+    record { link = end.number.value; entries = map entry_seen end.commands.items; events = map event_seen end.events.items; not_sent = end.unsent }

@@ -14,7 +14,8 @@ use Rattle.bidi_link.specs.Link.{Link}
 pub data AreSpoken (commands : List Sending) : ℕ → ℕ → List (List ℕ) → Type 0 where
   nothing : (n m : ℕ) → n ≤ m → AreSpoken commands n m []
   an_event : (n m : ℕ) (s : List ℕ) (ts : List (List ℕ)) → IsEventText s → AreSpoken commands n m ts → AreSpoken commands n m (s ∷ ts)
-  a_reply : (n m p : ℕ) (c : Sending) (method : Method) (s : List ℕ) (ts : List (List ℕ)) → n ≤ p → slice_get commands p ≡ Some c → c.method ≡ method_text method
+  a_reply : (n m p : ℕ) (c : Sending) (method : Method) (s : List ℕ) (ts : List (List ℕ))
+      → n ≤ p → slice_get commands p ≡ Some c → c.method ≡ method_text method
       → IsReply (suc p) method s → AreSpoken commands (suc p) m ts → AreSpoken commands n m (s ∷ ts)
 
 -- all that was carried down on a link, or is to be, is spoken to the commands that were taken up, and reads back

@@ -38,7 +38,9 @@ pub record IsFrom (past : List Deed) (l id : ℕ) (c : Sending) (s : List ℕ) :
 
 -- each reply among the texts for a link is one that the machine sends at its command
 abbrev pub AreFrom : List Deed → ℕ → Type 0
-AreFrom past l = (p : ℕ) (c : Sending) (s : List ℕ) → Contains (texts past l) s → slice_get (commands past l) p ≡ Some c → is_reply_to (suc p) (unwrap_or (tree_of s) null) ≡ true → IsFrom past l (suc p) c s
+AreFrom past l =
+    (p : ℕ) (c : Sending) (s : List ℕ) → Contains (texts past l) s
+    → slice_get (commands past l) p ≡ Some c → is_reply_to (suc p) (unwrap_or (tree_of s) null) ≡ true → IsFrom past l (suc p) c s
 
 -- What holds of each past that both ends make: all that a link gets is sound, a number that is no link got nothing, and each
 -- reply is what the machine sends at its command.

@@ -134,7 +134,8 @@ impl Ends {
     // Removes and returns the oldest text of a link on its way to the remote end.
     fn next_up(&mut self, number: JsUint) -> Option<String>
         ensures none { (past : List Deed) → StandsFor self.old past → IfNone result ((with_step past (Up number.value) ≡ past) × StandsFor self.new past) }
-        ensures some { (past : List Deed) → StandsFor self.old past → IfSome result (λ s. (c : Sending) × IsNextUp past number.value c (string_bytes s) × StandsFor self.new (TakenUp number.value ∷ past)) }
+        ensures some { (past : List Deed) → StandsFor self.old past
+            → IfSome result (λ s. (c : Sending) × IsNextUp past number.value c (string_bytes s) × StandsFor self.new (TakenUp number.value ∷ past)) }
     {
         match self.links.get_mut(&number.value) {
             Some(end) => end.next_up(),
@@ -189,7 +190,8 @@ impl Ends {
 
     // Cuts the local side of a link.
     fn end_link(&mut self, number: JsUint) -> Result<(), AllocError>
-        ensures { (past : List Deed) → StandsFor self.old past → is_whole past number.value ≡ true → OnOk result (StandsFor self.new (Cut number.value ∷ past)) }
+        ensures { (past : List Deed) → StandsFor self.old past
+            → is_whole past number.value ≡ true → OnOk result (StandsFor self.new (Cut number.value ∷ past)) }
     {
         match self.links.get_mut(&number.value) {
             Some(end) => end.cut(),

@@ -1,5 +1,6 @@
 //! The local side of one link.
-ghost use Rattle.std.specs.Prelude.{◌≡◌, ◌+◌, ◌-◌, ◌<◌, ◌^◌, min, ℕ, suc, [], ◌∷◌, ◌++◌, map, slice_get, slice_set, Some, None, false, OnOk, IfSome, IfNone, string_bytes};
+ghost use Rattle.std.specs.Prelude.{◌≡◌, ◌+◌, ◌-◌, ◌<◌, ◌^◌, min, ℕ, suc, [], ◌∷◌, ◌++◌, map, slice_get};
+ghost use Rattle.std.specs.Prelude.{slice_set, Some, None, false, OnOk, IfSome, IfNone, string_bytes};
 ghost use Rattle.bidi_tree.specs.declared.number.JsUint as declared_number;
 ghost use Rattle.bidi_codes.specs.declared.error_code.ErrorCode.{ErrorCode};
 ghost use Rattle.bidi_messages.specs.declared.event.EventData as declared_event;
@@ -78,7 +79,8 @@ impl LinkEnd {
     /// Removes and returns the oldest text on its way to the remote end.
     pub(crate) fn next_up(&mut self) -> Option<String>
         ensures none { (l : ℕ) (v : Link) → Agrees self.old l v → IfNone result ((next_up v ≡ None) × Agrees self.new l v) }
-        ensures some { (l : ℕ) (v : Link) → Agrees self.old l v → IfSome result (λ s. (c : Sending) × (next_up v ≡ Some c) × IsUpward (suc v.ups) c (string_bytes s) × Agrees self.new l (with_up v)) }
+        ensures some { (l : ℕ) (v : Link) → Agrees self.old l v
+            → IfSome result (λ s. (c : Sending) × (next_up v ≡ Some c) × IsUpward (suc v.ups) c (string_bytes s) × Agrees self.new l (with_up v)) }
     {
         self.up.pop_front()
     }
@@ -168,12 +170,16 @@ fn note(
     events: &mut Vec<EventData>,
     received: Received,
 ) -> Result<(), AllocError>
-    ensures answer { (p : ℕ) (e : declared_entry.Entry) (id : declared_number.JsUint) (d : ResultData) → received ≡ Received.Answer id d → id.value ≡ suc p → slice_get commands.old.items p ≡ Some e
+    ensures answer { (p : ℕ) (e : declared_entry.Entry) (id : declared_number.JsUint) (d : ResultData)
+        → received ≡ Received.Answer id d → id.value ≡ suc p → slice_get commands.old.items p ≡ Some e
         → OnOk result ((commands.new.items ≡ slice_set commands.old.items p (record e { fate = Fate.Answered d })) × (events.new.items ≡ events.old.items)) }
-    ensures refusal { (p : ℕ) (e : declared_entry.Entry) (id : declared_number.JsUint) (code : ErrorCode) → received ≡ Received.Refusal id code → id.value ≡ suc p → slice_get commands.old.items p ≡ Some e
+    ensures refusal { (p : ℕ) (e : declared_entry.Entry) (id : declared_number.JsUint) (code : ErrorCode)
+        → received ≡ Received.Refusal id code → id.value ≡ suc p → slice_get commands.old.items p ≡ Some e
         → OnOk result ((commands.new.items ≡ slice_set commands.old.items p (record e { fate = Fate.Refused code })) × (events.new.items ≡ events.old.items)) }
-    ensures event { (d : declared_event.EventData) → received ≡ Received.Event d → OnOk result ((commands.new.items ≡ commands.old.items) × (events.new.items ≡ events.old.items ++ d ∷ [])) }
-    ensures well { IsWell received → EntriesAreWell commands.old.items → EventsAreWell events.old.items → OnOk result (EntriesAreWell commands.new.items × EventsAreWell events.new.items) }
+    ensures event { (d : declared_event.EventData) → received ≡ Received.Event d
+        → OnOk result ((commands.new.items ≡ commands.old.items) × (events.new.items ≡ events.old.items ++ d ∷ [])) }
+    ensures well { IsWell received → EntriesAreWell commands.old.items
+        → EventsAreWell events.old.items → OnOk result (EntriesAreWell commands.new.items × EventsAreWell events.new.items) }
 {
     match received {
         Received::Answer(id, result) => {
@@ -194,7 +200,8 @@ fn note(
 
 // Notes that these commands are lost.
 fn lose(commands: &mut Vec<Entry>, lost: Vec<JsUint>)
-    ensures entries { (v : Link) → v.is_cut ≡ false → map entry_seen commands.old.items ≡ entries_from 1 v v.commands → map (λ id. id.value) lost.items ≡ ids (waiting_among commands.old.items)
+    ensures entries { (v : Link) → v.is_cut ≡ false → map entry_seen commands.old.items ≡ entries_from 1 v v.commands
+        → map (λ id. id.value) lost.items ≡ ids (waiting_among commands.old.items)
         → map entry_seen commands.new.items ≡ entries_from 1 (with_cut v) v.commands }
     ensures well { EntriesAreWell commands.old.items → EntriesAreWell commands.new.items }
 {
@@ -205,7 +212,8 @@ fn lose(commands: &mut Vec<Entry>, lost: Vec<JsUint>)
 
 // Notes what became of a command.
 fn settle(commands: &mut Vec<Entry>, id: JsUint, fate: Fate)
-    ensures set { (p : ℕ) (e : declared_entry.Entry) → id.value ≡ suc p → slice_get commands.old.items p ≡ Some e → commands.new.items ≡ slice_set commands.old.items p (record e { fate = fate }) }
+    ensures set { (p : ℕ) (e : declared_entry.Entry) → id.value ≡ suc p
+        → slice_get commands.old.items p ≡ Some e → commands.new.items ≡ slice_set commands.old.items p (record e { fate = fate }) }
     ensures well { FateIsWell fate → EntriesAreWell commands.old.items → EntriesAreWell commands.new.items }
 {
     let Some(place) = id.value.checked_sub(1) else {

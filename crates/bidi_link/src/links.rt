@@ -13,7 +13,8 @@ use std::alloc::AllocError;
 
 /// Puts each text that the remote end sent on its way down its link.
 pub(crate) fn deliver(links: &mut IndexMap<u64, LinkEnd>, all: Vec<Sent>) -> Result<(), AllocError>
-    ensures rows { (f : ℕ → Link) → RowsAgree links.old.entries f → OnOk result (RowsAgree links.new.entries (λ l. with_texts (f l) (texts_on l (map sent_of all.items)))) }
+    ensures rows { (f : ℕ → Link) → RowsAgree links.old.entries f
+        → OnOk result (RowsAgree links.new.entries (λ l. with_texts (f l) (texts_on l (map sent_of all.items)))) }
     ensures numbers { OnOk result (numbers links.new.entries ≡ numbers links.old.entries) }
 {
     for sent in all {
@@ -24,7 +25,8 @@ pub(crate) fn deliver(links: &mut IndexMap<u64, LinkEnd>, all: Vec<Sent>) -> Res
 
 // Puts one thing that the remote end sent on its way, if it is a text.
 fn deliver_one(links: &mut IndexMap<u64, LinkEnd>, sent: Sent) -> Result<(), AllocError>
-    ensures rows { (f : ℕ → Link) → RowsAgree links.old.entries f → OnOk result (RowsAgree links.new.entries (λ l. with_texts (f l) (text_on l (sent_of sent)))) }
+    ensures rows { (f : ℕ → Link) → RowsAgree links.old.entries f
+        → OnOk result (RowsAgree links.new.entries (λ l. with_texts (f l) (text_on l (sent_of sent)))) }
     ensures numbers { OnOk result (numbers links.new.entries ≡ numbers links.old.entries) }
 {
     let Sent::Text(conn, text) = sent else {

@@ -1,5 +1,6 @@
 -- What the trees of responses, errors and events mean while some commands wait.
-use Rattle.std.proofs.Common.{◌≡◌, ◌∙◌, ◌==◌, not, Result, Ok, Err, IfOk, OnErr, ℕ, List, [], codes, Option, Some, None, option_map, option_and_then, unwrap_or, bytes_eq, false, string_bytes, refl, sym, ap, ap₂, subst, pos}
+use Rattle.std.proofs.Common.{◌≡◌, ◌∙◌, ◌==◌, not, Result, Ok, Err, IfOk, OnErr, ℕ, List, [], codes, Option, Some, None, option_map}
+use Rattle.std.proofs.Common.{option_and_then, unwrap_or, bytes_eq, false, string_bytes, refl, sym, ap, ap₂, subst, pos}
 use Rattle.std.specs.List.{AllByRecursion}
 use Rattle.bidi_tree.specs.Node.{Node, Members, put, get_member, null, whole, text, map}
 use Rattle.bidi_tree.specs.Kind.{text_in}
@@ -29,7 +30,8 @@ use Rattle.bidi_messages.specs.Command.{id_in, params_in}
 use Rattle.bidi_messages.proofs.CommandLemmas.{apart}
 use Rattle.bidi_messages.proofs.MessageLemmas.{echoed_id-response, echoed_id-error, method_in-event}
 use Rattle.bidi_local.specs.Pending.{Pending, method_of, without}
-use Rattle.bidi_local.specs.Received.{Meaning, Answer, BadResult, Refusal, Event, Stray, NotInProfile, NotJson, Means, result_in, error_in, asked_by, settled, is_event, is_stray_response, is_stray_error, is_refusal, is_answer, is_bad_result}
+use Rattle.bidi_local.specs.Received.{Meaning, Answer, BadResult, Refusal, Event, Stray, NotInProfile, NotJson, Means, result_in, error_in}
+use Rattle.bidi_local.specs.Received.{asked_by, settled, is_event, is_stray_response, is_stray_error, is_refusal, is_answer, is_bad_result}
 use Rattle.bidi_local.specs.View.{meaning_of}
 use Rattle.bidi_local.specs.declared.received.Received.{Received}
 use Rattle.bidi_local.proofs.PendingLemmas.{AllByRecursion-filter}
@@ -45,23 +47,28 @@ third i j k x y z ms one two =
 -- the result of a response
 pub result_in-response : (r : Response) → result_in (response.ghosts.shape.tree_of r) ≡ map (others_of r.«result»)
 result_in-response r =
-    ap (λ o. unwrap_or o null) (third (codes "type") (codes "id") (codes "result") (text (codes "success")) (whole (pos r.id.value)) (map (others_of r.«result»)) (others_of r.ext) refl refl)
+    ap (λ o. unwrap_or o null) (third (codes "type") (codes "id") (codes "result") (text (codes "success")) (whole (pos r.id.value))
+    (map (others_of r.«result»)) (others_of r.ext) refl refl)
 
 -- the members of an error after its code
 abbrev after_code : ErrorResponse → Members
-after_code e = put (codes "message") (text (string_bytes e.message)) (put_part (codes "stacktrace") (option_map (λ s. text (string_bytes s)) e.stacktrace) (others_of e.ext))
+after_code e =
+    put (codes "message") (text (string_bytes e.message))
+    (put_part (codes "stacktrace") (option_map (λ s. text (string_bytes s)) e.stacktrace) (others_of e.ext))
 
 -- the code of an error
 pub error_in-error : (e : ErrorResponse) → error_in (error.ghosts.shape.tree_of e) ≡ error_code_text e.error
 error_in-error e =
     ap (λ o. unwrap_or (option_and_then text_in o) [])
-    (third (codes "type") (codes "id") (codes "error") (text (codes "error")) (nullable_tree (λ n. whole (pos n.value)) e.id) (text (error_code_text e.error)) (after_code e) refl refl)
+    (third (codes "type") (codes "id") (codes "error") (text (codes "error")) (nullable_tree (λ n. whole (pos n.value)) e.id)
+    (text (error_code_text e.error)) (after_code e) refl refl)
 
 -- the params of an event
 pub params_in-event : (e : AnEvent) → params_in (event.ghosts.shape.tree_of e) ≡ told.ghosts.subject.tree_of e.«data»
 params_in-event e =
     ap (λ o. unwrap_or o null)
-    (third (codes "type") (codes "method") (codes "params") (text (codes "event")) (text (event_name_text (event_of e.«data»))) (told.ghosts.subject.tree_of e.«data») (others_of e.ext) refl refl)
+    (third (codes "type") (codes "method") (codes "params") (text (codes "event")) (text (event_name_text (event_of e.«data»)))
+    (told.ghosts.subject.tree_of e.«data») (others_of e.ext) refl refl)
 
 -- ---- what a tree means
 
@@ -73,7 +80,8 @@ module _ (waiting : Pending) (t : Node) where
   id_is : (id : ℕ) → echoed_id t ≡ Some id → id_in t ≡ id
   id_is id has_id = ap (λ o. unwrap_or o 0) has_id
 
-  pub outcome_means : (id : ℕ) (method : Method) (outcome : Node) (m : Meaning) → Fits t (rule command_response) → echoed_id t ≡ Some id → method_of waiting id ≡ Some method
+  pub outcome_means : (id : ℕ) (method : Method) (outcome : Node) (m : Meaning)
+      → Fits t (rule command_response) → echoed_id t ≡ Some id → method_of waiting id ≡ Some method
       → result_in t ≡ outcome → IsOutcome id method outcome m → IsMeaningOf waiting t m
   outcome_means id method outcome m fit has_id waits has_result (is_good good) = λ s is.
       subst (λ p. Means waiting s p) (ap₂ (λ i o. Answer i method o) (id_is id has_id) has_result)
@@ -85,24 +93,30 @@ module _ (waiting : Pending) (t : Node) where
   pub refusal_means : (id : ℕ) (code : ErrorCode) (m : Meaning) → Fits t (rule error_response) → echoed_id t ≡ Some id → error_in t ≡ error_code_text code
       → IsRefusal waiting id code m → IsMeaningOf waiting t m
   refusal_means id code m fit has_id has_code (refuses method waits) = λ s is.
-      subst (λ p. Means waiting s p) (ap (λ i. Refusal i code) (id_is id has_id)) (is_refusal t method code is fit (asked id (Some method) has_id waits) has_code)
+      subst (λ p. Means waiting s p) (ap (λ i. Refusal i code) (id_is id has_id))
+      (is_refusal t method code is fit (asked id (Some method) has_id waits) has_code)
   refusal_means id code m fit has_id has_code (is_stray none) = λ s is. is_stray_error t is fit (asked id None has_id none)
 
 -- ---- what a message means
 
 -- a response for no command that waits
-pub response_stray : (waiting : Pending) (r : Response) → response.ghosts.shape.well r → method_of waiting r.id.value ≡ None → IsMeaningOf waiting (response.ghosts.shape.tree_of r) Stray
+pub response_stray : (waiting : Pending) (r : Response)
+    → response.ghosts.shape.well r → method_of waiting r.id.value ≡ None → IsMeaningOf waiting (response.ghosts.shape.tree_of r) Stray
 response_stray waiting r well none = λ s is.
-    is_stray_response (response.ghosts.shape.tree_of r) is (response.ghosts.shape.fits r well) (asked waiting (response.ghosts.shape.tree_of r) r.id.value None (echoed_id-response r) none)
+    is_stray_response (response.ghosts.shape.tree_of r) is (response.ghosts.shape.fits r well)
+    (asked waiting (response.ghosts.shape.tree_of r) r.id.value None (echoed_id-response r) none)
 
 -- a response for a command that waits
-pub response_means : (waiting : Pending) (r : Response) (method : Method) (m : Meaning) → response.ghosts.shape.well r → method_of waiting r.id.value ≡ Some method
+pub response_means : (waiting : Pending) (r : Response) (method : Method) (m : Meaning)
+    → response.ghosts.shape.well r → method_of waiting r.id.value ≡ Some method
     → IsOutcome r.id.value method (map (others_of r.«result»)) m → IsMeaningOf waiting (response.ghosts.shape.tree_of r) m
 response_means waiting r method m well waits outcome =
-    outcome_means waiting (response.ghosts.shape.tree_of r) r.id.value method (map (others_of r.«result»)) m (response.ghosts.shape.fits r well) (echoed_id-response r) waits (result_in-response r) outcome
+    outcome_means waiting (response.ghosts.shape.tree_of r) r.id.value method (map (others_of r.«result»)) m
+    (response.ghosts.shape.fits r well) (echoed_id-response r) waits (result_in-response r) outcome
 
 -- it settles the command
-pub outcome_settles : (waiting : Pending) {id : ℕ} {method : Method} {outcome : Node} {m : Meaning} → IsOutcome id method outcome m → settled waiting m ≡ without waiting id
+pub outcome_settles : (waiting : Pending) {id : ℕ} {method : Method} {outcome : Node} {m : Meaning}
+    → IsOutcome id method outcome m → settled waiting m ≡ without waiting id
 outcome_settles waiting (is_good good) = refl
 outcome_settles waiting (is_bad bad) = refl
 
@@ -113,18 +127,21 @@ error_means waiting e id m well has_id refusal =
     refusal_means waiting (error.ghosts.shape.tree_of e) id e.error m (error.ghosts.shape.fits e well) (echoed_id-error e ∙ has_id) (error_in-error e) refusal
 
 -- an error with none
-pub error_stray : (waiting : Pending) (e : ErrorResponse) → error.ghosts.shape.well e → option_map (λ n. n.value) e.id ≡ None → IsMeaningOf waiting (error.ghosts.shape.tree_of e) Stray
+pub error_stray : (waiting : Pending) (e : ErrorResponse)
+    → error.ghosts.shape.well e → option_map (λ n. n.value) e.id ≡ None → IsMeaningOf waiting (error.ghosts.shape.tree_of e) Stray
 error_stray waiting e well no_id = λ s is.
     is_stray_error (error.ghosts.shape.tree_of e) is (error.ghosts.shape.fits e well) (ap (option_and_then (method_of waiting)) (echoed_id-error e ∙ no_id))
 
 -- an event
-pub event_means : (waiting : Pending) (e : AnEvent) → event.ghosts.shape.well e → IsMeaningOf waiting (event.ghosts.shape.tree_of e) (Event (event_of e.«data») (told.ghosts.subject.tree_of e.«data»))
+pub event_means : (waiting : Pending) (e : AnEvent) → event.ghosts.shape.well e
+    → IsMeaningOf waiting (event.ghosts.shape.tree_of e) (Event (event_of e.«data») (told.ghosts.subject.tree_of e.«data»))
 event_means waiting e well = λ s is.
     subst (λ p. Means waiting s (Event (event_of e.«data») p)) (params_in-event e)
     (is_event (event.ghosts.shape.tree_of e) (event_of e.«data») is (event.ghosts.shape.fits e well) (method_in-event e))
 
 -- what a tree means, its text means
-pub at_text : {E : Type 0} (waiting : Pending) (s : List ℕ) (t : Node) (r : Result Received E) → tree_of s ≡ Some t → IfOk r (λ v. IsMeaningOf waiting t (meaning_of v))
+pub at_text : {E : Type 0} (waiting : Pending) (s : List ℕ) (t : Node) (r : Result Received E)
+    → tree_of s ≡ Some t → IfOk r (λ v. IsMeaningOf waiting t (meaning_of v))
     → IfOk r (λ v. Means waiting s (meaning_of v))
 at_text waiting s t (Ok v) is means = means s is
 at_text waiting s t (Err e) is means = tt
@@ -141,7 +158,8 @@ settled_holds P waiting Stray all = all
 settled_holds P waiting NotInProfile all = all
 settled_holds P waiting NotJson all = all
 
-pub received_holds : {E : Type 0} (P : ℕ × Method → Type 0) (old new : Pending) (r : Result Received E) → IfOk r (λ v. new ≡ settled old (meaning_of v)) → OnErr r (new ≡ old)
+pub received_holds : {E : Type 0} (P : ℕ × Method → Type 0) (old new : Pending) (r : Result Received E)
+    → IfOk r (λ v. new ≡ settled old (meaning_of v)) → OnErr r (new ≡ old)
     → AllByRecursion P old → AllByRecursion P new
 received_holds P old new (Ok v) settles err all = subst (AllByRecursion P) (sym settles) (settled_holds P old (meaning_of v) all)
 received_holds P old new (Err e) settles err all = subst (AllByRecursion P) (sym err) all

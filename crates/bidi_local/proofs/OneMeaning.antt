@@ -1,5 +1,6 @@
 -- A text has one meaning: two questions, whether its tree fits a message and whether it is a good response, decide it.
-use Rattle.std.proofs.Common.{◌≡◌, ◌∙◌, ℕ, Bool, true, false, if◌then◌else◌, bytes_eq, List, [], codes, Option, Some, None, option_and_then, unwrap_or, Result, Ok, Err, IfOk, refl, sym, ap, ap₂, subst}
+use Rattle.std.proofs.Common.{◌≡◌, ◌∙◌, ℕ, Bool, true, false, if◌then◌else◌, bytes_eq, List, [], codes, Option, Some}
+use Rattle.std.proofs.Common.{None, option_and_then, unwrap_or, Result, Ok, Err, IfOk, refl, sym, ap, ap₂, subst}
 use Rattle.bidi_tree.specs.Node.{Node, get_of}
 use Rattle.bidi_tree.specs.Kind.{text_in}
 use Rattle.bidi_tree.specs.Text.{tree_of}
@@ -21,7 +22,9 @@ use Rattle.bidi_messages.specs.Command.{id_in, method_in, params_in}
 use Rattle.bidi_messages.specs.contracts.event.EventDataSubjectEventName.TheImpl as told
 use Rattle.bidi_messages.proofs.CommandLemmas.{apart}
 use Rattle.bidi_local.specs.Pending.{Pending}
-use Rattle.bidi_local.specs.Received.{Meaning, Answer, BadResult, Refusal, Event, Stray, NotInProfile, NotJson, Means, result_in, error_in, asked_by, is_not_json, is_no_message, is_event, is_stray_response, is_stray_error, is_refusal, is_answer, is_bad_result}
+use Rattle.bidi_local.specs.Received.{Meaning, Answer, BadResult, Refusal, Event, Stray, NotInProfile, NotJson, Means}
+use Rattle.bidi_local.specs.Received.{result_in, error_in, asked_by, is_not_json, is_no_message, is_event}
+use Rattle.bidi_local.specs.Received.{is_stray_response, is_stray_error, is_refusal, is_answer, is_bad_result}
 use Rattle.bidi_local.specs.View.{meaning_of}
 use Rattle.bidi_local.specs.declared.received.Received.{Received}
 
@@ -70,7 +73,8 @@ IsMessage (Some t) = Fits t (rule message)
 -- a response to a command that waits, with a result of its method
 abbrev IsGood : Pending → Option Node → Type 0
 IsGood waiting None = ⊥
-IsGood waiting (Some t) = Fits t (rule command_response) × ((method : Method) × ((asked_by waiting t ≡ Some method) × Fits (result_in t) (rule (result_of method))))
+IsGood waiting (Some t) =
+    Fits t (rule command_response) × ((method : Method) × ((asked_by waiting t ≡ Some method) × Fits (result_in t) (rule (result_of method))))
 
 abbrev of_event : Node → Option EventName → Meaning
 of_event t None = NotInProfile
@@ -131,7 +135,13 @@ module _ (waiting : Pending) (t : Node) where
 
   no_message : (Fits t (rule message) → ⊥) → IsDecided waiting (Some t) NotInProfile
   no_message misfit =
-      record { is_message = false; good = false; message_holds = it_does_not misfit; good_holds = it_does_not (λ good. misfit (response_fits good.0)); is = refl }
+      record {
+        is_message = false;
+        good = false;
+        message_holds = it_does_not misfit;
+        good_holds = it_does_not (λ good. misfit (response_fits good.0));
+        is = refl;
+      }
 
   an_event : (e : EventName) → Fits t (rule event) → method_in t ≡ event_words.text_of e → IsDecided waiting (Some t) (Event e (params_in t))
   an_event e fit method = record {
@@ -139,20 +149,26 @@ module _ (waiting : Pending) (t : Node) where
     good = false;
     message_holds = it_does (event_fits fit);
     good_holds = it_does_not (other (codes "event") (event_is_typed t fit) refl);
-    is = sym (ap (of_type waiting t false) (event_is_typed t fit) ∙ ap (of_event t) (ap (value_named event_words.first event_words.rest) method ∙ event_words.names_it e));
+    is =
+        sym (ap (of_type waiting t false) (event_is_typed t fit)
+        ∙ ap (of_event t) (ap (value_named event_words.first event_words.rest) method ∙ event_words.names_it e));
   }
 
-  an_error : (o : Option Method) (m : Meaning) → Fits t (rule error_response) → of_error t o (value_named error_code_words.first error_code_words.rest (error_in t)) ≡ m → asked_by waiting t ≡ o
+  an_error : (o : Option Method) (m : Meaning) → Fits t (rule error_response)
+      → of_error t o (value_named error_code_words.first error_code_words.rest (error_in t)) ≡ m → asked_by waiting t ≡ o
       → IsDecided waiting (Some t) m
   an_error o m fit is asked = record {
     is_message = true;
     good = false;
     message_holds = it_does (error_fits fit);
     good_holds = it_does_not (other (codes "error") (error_type t fit) refl);
-    is = sym (ap (of_type waiting t false) (error_type t fit) ∙ ap (λ a. of_error t a (value_named error_code_words.first error_code_words.rest (error_in t))) asked ∙ is);
+    is =
+        sym (ap (of_type waiting t false) (error_type t fit)
+        ∙ ap (λ a. of_error t a (value_named error_code_words.first error_code_words.rest (error_in t))) asked ∙ is);
   }
 
-  a_response : (o : Option Method) (good : Bool) → Fits t (rule command_response) → Holds (IsGood waiting (Some t)) good → asked_by waiting t ≡ o → IsDecided waiting (Some t) (of_response t o good)
+  a_response : (o : Option Method) (good : Bool) → Fits t (rule command_response)
+      → Holds (IsGood waiting (Some t)) good → asked_by waiting t ≡ o → IsDecided waiting (Some t) (of_response t o good)
   a_response o good fit holds asked = record {
     is_message = true;
     good = good;
@@ -171,7 +187,8 @@ module _ (waiting : Pending) (s : List ℕ) where
 
   is_decided : {m : Meaning} → Means waiting s m → IsDecided waiting (tree_of s) m
   is_decided (is_not_json none) =
-      subst (λ o. IsDecided waiting o NotJson) (sym none) (record { is_message = false; good = false; message_holds = it_does_not (λ h. h); good_holds = it_does_not (λ h. h); is = refl })
+      subst (λ o. IsDecided waiting o NotJson) (sym none)
+      (record { is_message = false; good = false; message_holds = it_does_not (λ h. h); good_holds = it_does_not (λ h. h); is = refl })
   is_decided (is_no_message t is misfit) = read t _ is (no_message waiting t misfit)
   is_decided (is_event t e is fit method) = read t _ is (an_event waiting t e fit method)
   is_decided (is_stray_response t is fit none) = read t _ is (a_response waiting t None false fit (it_does_not (unasked waiting t none)) none)
@@ -181,7 +198,8 @@ module _ (waiting : Pending) (s : List ℕ) where
       (an_error waiting t (Some method) (Refusal (id_in t) code) fit
       (ap (of_error t (Some method)) (ap (value_named error_code_words.first error_code_words.rest) named ∙ error_code_words.names_it code)) asked)
   is_decided (is_answer t method is fit asked good) = read t _ is (a_response waiting t (Some method) true fit (it_does (fit, (method, (asked, good)))) asked)
-  is_decided (is_bad_result t method is fit asked bad) = read t _ is (a_response waiting t (Some method) false fit (it_does_not (misfit_is_bad waiting t method asked bad)) asked)
+  is_decided (is_bad_result t method is fit asked bad) =
+      read t _ is (a_response waiting t (Some method) false fit (it_does_not (misfit_is_bad waiting t method asked bad)) asked)
 
 -- a text has one meaning
 pub one_meaning : (waiting : Pending) (s : List ℕ) (m n : Meaning) → Means waiting s m → Means waiting s n → m ≡ n
@@ -191,6 +209,7 @@ one_meaning waiting s m n p q =
     a.is ∙ ap₂ (decided waiting (tree_of s)) (one_answer a.message_holds b.message_holds) (one_answer a.good_holds b.good_holds) ∙ sym b.is
 
 -- what is told of a text is its one meaning
-pub no_other : {E : Type 0} (waiting : Pending) (s : List ℕ) (r : Result Received E) → IfOk r (λ v. Means waiting s (meaning_of v)) → (m : Meaning) → Means waiting s m → IfOk r (λ v. m ≡ meaning_of v)
+pub no_other : {E : Type 0} (waiting : Pending) (s : List ℕ) (r : Result Received E)
+    → IfOk r (λ v. Means waiting s (meaning_of v)) → (m : Meaning) → Means waiting s m → IfOk r (λ v. m ≡ meaning_of v)
 no_other waiting s (Ok v) told m means = one_meaning waiting s m (meaning_of v) means told
 no_other waiting s (Err e) told m means = tt

@@ -1,5 +1,6 @@
 -- What a look-up, a removal and an insertion in the table are to the commands that wait.
-use Rattle.std.proofs.Common.{◌≡◌, ◌≤◌, ◌<◌, ◌+◌, ℕ, suc, Bool, true, false, cond, not, List, [], ◌∷◌, ◌++◌, filter, find, map, Option, Some, None, option_map, is_some, nat_eq, true≢false, refl, ap, sym, arith}
+use Rattle.std.proofs.Common.{◌≡◌, ◌≤◌, ◌<◌, ◌+◌, ℕ, suc, Bool, true, false, cond, not, List, [], ◌∷◌, ◌++◌, filter, find}
+use Rattle.std.proofs.Common.{map, Option, Some, None, option_map, is_some, nat_eq, true≢false, refl, ap, sym, arith}
 use Rattle.std.specs.List.{AllByRecursion}
 use Rattle.std.proofs.lemmas.Bool.{ne_eqb}
 use Rattle.indexmap.specs.IndexMap.{insert_entry}
@@ -67,12 +68,15 @@ is_new true e changed es rest differ is = absurd (true≢false differ)
 is_new false e changed es rest differ is = ap (λ l. e ∷ l) is
 
 -- the next id goes last
-pub insert_entry-next : {X : Type 0} (n : ℕ) (v : X) (es : List (ℕ × X)) → AllByRecursion (λ w. w.0 ≤ n) es → insert_entry nat_eq es (n + 1) v ≡ es ++ (suc n, v) ∷ []
+pub insert_entry-next : {X : Type 0} (n : ℕ) (v : X) (es : List (ℕ × X))
+    → AllByRecursion (λ w. w.0 ≤ n) es → insert_entry nat_eq es (n + 1) v ≡ es ++ (suc n, v) ∷ []
 insert_entry-next n v [] all = ap (λ k. (k, v) ∷ []) (omega arith)
 insert_entry-next n v (e ∷ es) all =
-    is_new (nat_eq (n + 1) e.0) e ((e.0, v) ∷ es) (insert_entry nat_eq es (n + 1) v) (es ++ (suc n, v) ∷ []) (ne_eqb (n + 1) e.0 (λ is. omega (arith, all.0, is))) (insert_entry-next n v es all.1)
+    is_new (nat_eq (n + 1) e.0) e ((e.0, v) ∷ es) (insert_entry nat_eq es (n + 1) v) (es ++ (suc n, v) ∷ [])
+    (ne_eqb (n + 1) e.0 (λ is. omega (arith, all.0, is))) (insert_entry-next n v es all.1)
 
 -- and all were sent
-pub were_sent-next : {X : Type 0} (n : ℕ) (v : X) (es : List (ℕ × X)) → AllByRecursion (λ w. w.0 ≤ n) es → AllByRecursion (λ w. w.0 ≤ n + 1) (es ++ (suc n, v) ∷ [])
+pub were_sent-next : {X : Type 0} (n : ℕ) (v : X) (es : List (ℕ × X))
+    → AllByRecursion (λ w. w.0 ≤ n) es → AllByRecursion (λ w. w.0 ≤ n + 1) (es ++ (suc n, v) ∷ [])
 were_sent-next n v [] all = (omega arith, tt)
 were_sent-next n v (e ∷ es) all = (omega (arith, all.0), were_sent-next n v es all.1)

@@ -20,16 +20,21 @@ use Rattle.bidi_local.specs.Pending.{command_tree}
 none_beside : (rs : Rows) (ms : Members) → ms ≡ no_members → TableWell rs extensible ms
 none_beside rs ms none = record { no_known = ap (without (names_of rs)) none ∙ sym none; may = subst (λ x. MembersAreWhole x 60) (sym none) (refl, zero-le) }
 
-pub command_well : (id : JsUint) (d : CommandData) (e : Ext) → asks.ghosts.subject.well d → others_of e ≡ no_members → command.ghosts.shape.well (record { id = id; «data» = d; ext = e })
+pub command_well : (id : JsUint) (d : CommandData) (e : Ext)
+    → asks.ghosts.subject.well d → others_of e ≡ no_members → command.ghosts.shape.well (record { id = id; «data» = d; ext = e })
 command_well id d e well none = record { head = tt; subject = well; others = none_beside _ (others_of e) none }
 
 -- its tree
 pub command-tree : (id : JsUint) (d : CommandData) (e : Ext) → others_of e ≡ no_members
-    → command.ghosts.shape.tree_of (record { id = id; «data» = d; ext = e }) ≡ command_tree id.value (asks.ghosts.subject.kind d) (asks.ghosts.subject.tree_of d)
+    → command.ghosts.shape.tree_of (record { id = id; «data» = d; ext = e })
+    ≡ command_tree id.value (asks.ghosts.subject.kind d) (asks.ghosts.subject.tree_of d)
 command-tree id d e none = rw none refl
 
-pub command_fits : (id : JsUint) (d : CommandData) (e : Ext) → asks.ghosts.subject.well d → others_of e ≡ no_members → Fits (command_tree id.value (asks.ghosts.subject.kind d) (asks.ghosts.subject.tree_of d)) (rule rules.command)
-command_fits id d e well none = subst (λ t. Fits t (rule rules.command)) (command-tree id d e none) (command.ghosts.shape.fits (record { id = id; «data» = d; ext = e }) (command_well id d e well none))
+pub command_fits : (id : JsUint) (d : CommandData) (e : Ext) → asks.ghosts.subject.well d → others_of e ≡ no_members
+    → Fits (command_tree id.value (asks.ghosts.subject.kind d) (asks.ghosts.subject.tree_of d)) (rule rules.command)
+command_fits id d e well none =
+    subst (λ t. Fits t (rule rules.command)) (command-tree id d e none)
+    (command.ghosts.shape.fits (record { id = id; «data» = d; ext = e }) (command_well id d e well none))
 
 -- a text within the limit is accepted as the command that it reads as
 pub text_accepted : (s : List ℕ) (t : Node) → length s ≤ 1048576 → tree_of s ≡ Some t → Fits t (rule rules.command) → IsVerdict s (Accepted t)

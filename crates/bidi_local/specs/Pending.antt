@@ -1,5 +1,6 @@
 -- The commands of a local end that wait for an answer, and what each call does to them. The limits are this project's own.
-use Rattle.std.specs.Prelude.{◌≡◌, ℕ, suc, pos, ◌-◌, ◌^◌, ◌==◌, nat_le, nat_lt, not, if◌then◌else◌, List, map, filter, find, length, codes, Option, Some, None, option_map, Result, Ok, Err}
+use Rattle.std.specs.Prelude.{◌≡◌, ℕ, suc, pos, ◌-◌, ◌^◌, ◌==◌, nat_le, nat_lt, not, if◌then◌else◌, List, map}
+use Rattle.std.specs.Prelude.{filter, find, length, codes, Option, Some, None, option_map, Result, Ok, Err}
 use Rattle.std.specs.Prelude.{◌⊎◌}
 use Rattle.bidi_tree.specs.Node.{Node, whole, text, map as map_of, no_members, member}
 use Rattle.bidi_tree.specs.Text.{compact_text}

@@ -83,7 +83,7 @@ impl LocalEnd {
     /// The text is `{ id: js-uint, method: "M", params: P }`, its members in that order. Ids count from 1, in
     /// order of sending; a command that is not sent takes none. The command is used up.
     ///
-    /// Costs a tree of the command and its text, each once. A command past the first two limits is refused
+    /// Costs a draft of the command and its text, each once. A command past the first two limits is refused
     /// before that.
     ///
     /// # Errors
@@ -98,14 +98,17 @@ impl LocalEnd {
     pub fn send(&mut self, data: CommandData) -> Result<(JsUint, String), LocalFault>
         requires { ⟦<CommandData as Subject<Method>>⟧.subject.well «data» }
         ensures ok { IfOk result (λ sent. (sent.0.value ≡ suc (sent_by self.old)) × (string_bytes sent.1
-            ≡ command_text (sent_by self.old) (⟦<CommandData as Subject<Method>>⟧.subject.kind «data») (⟦<CommandData as Subject<Method>>⟧.subject.tree_of «data»))) }
+            ≡ command_text (sent_by self.old) (⟦<CommandData as Subject<Method>>⟧.subject.kind «data»)
+            (⟦<CommandData as Subject<Method>>⟧.subject.tree_of «data»))) }
         // The remote end accepts the text as that command.
         ensures accepted { IfOk result (λ sent. IsVerdict (string_bytes sent.1) (Accepted
-            (command_tree (suc (sent_by self.old)) (⟦<CommandData as Subject<Method>>⟧.subject.kind «data») (⟦<CommandData as Subject<Method>>⟧.subject.tree_of «data»)))) }
+            (command_tree (suc (sent_by self.old)) (⟦<CommandData as Subject<Method>>⟧.subject.kind «data»)
+            (⟦<CommandData as Subject<Method>>⟧.subject.tree_of «data»)))) }
         ensures waits { OnOk result (Stands self.new (suc (sent_by self.old))
             (waiting_in self.old ++ (suc (sent_by self.old), ⟦<CommandData as Subject<Method>>⟧.subject.kind «data») ∷ [])) }
         ensures refusal { IsAnswered result (refusal_of (sent_by self.old) (waiting_in self.old)
-            (command_text (sent_by self.old) (⟦<CommandData as Subject<Method>>⟧.subject.kind «data») (⟦<CommandData as Subject<Method>>⟧.subject.tree_of «data»))) }
+            (command_text (sent_by self.old) (⟦<CommandData as Subject<Method>>⟧.subject.kind «data»)
+            (⟦<CommandData as Subject<Method>>⟧.subject.tree_of «data»))) }
         ensures err { OnErr result (Stands self.new (sent_by self.old) (waiting_in self.old)) }
     {
         if self.sent >= LAST_ID {

@@ -23,8 +23,10 @@ pub(crate) fn written(
     requires { ⟦<CommandData as Subject<Method>>⟧.subject.well «data» }
     ensures method { IfOk result (λ w. w.0 ≡ ⟦<CommandData as Subject<Method>>⟧.subject.kind «data») }
     ensures text { IfOk result (λ w. string_bytes w.1
-        ≡ compact_text (command_tree id.value (⟦<CommandData as Subject<Method>>⟧.subject.kind «data») (⟦<CommandData as Subject<Method>>⟧.subject.tree_of «data»))) }
-    ensures fits { IfOk result (λ w. Fits (command_tree id.value (⟦<CommandData as Subject<Method>>⟧.subject.kind «data») (⟦<CommandData as Subject<Method>>⟧.subject.tree_of «data»)) (rule command)) }
+        ≡ compact_text (command_tree id.value (⟦<CommandData as Subject<Method>>⟧.subject.kind «data»)
+        (⟦<CommandData as Subject<Method>>⟧.subject.tree_of «data»))) }
+    ensures fits { IfOk result (λ w. Fits (command_tree id.value (⟦<CommandData as Subject<Method>>⟧.subject.kind «data»)
+        (⟦<CommandData as Subject<Method>>⟧.subject.tree_of «data»)) (rule command)) }
     ensures reads_back { IfOk result (λ w. tree_of (string_bytes w.1)
         ≡ Some (command_tree id.value (⟦<CommandData as Subject<Method>>⟧.subject.kind «data») (⟦<CommandData as Subject<Method>>⟧.subject.tree_of «data»))) }
 {

@@ -18,11 +18,13 @@ module _ {X D K : Type 0} (name : List ℕ) (s : ShapeOf X) (w : Words K) (d : S
   -- ---- found
 
   pub about_read : (x : X) (v : D) (e : Ext) (ms : Members) (t : Node) → distinct (names_about name) ≡ true → tree.map ms ≡ t → AreAscending ms
-      → get_member name ms ≡ Some (s.tree_of x) → s.well x → get_member (codes "method") ms ≡ Some (tree.text (w.text_of (d.kind v))) → get_member (codes "params") ms ≡ Some (d.tree_of v) → d.well v
+      → get_member name ms ≡ Some (s.tree_of x) → s.well x → get_member (codes "method") ms ≡ Some (tree.text (w.text_of (d.kind v)))
+      → get_member (codes "params") ms ≡ Some (d.tree_of v) → d.well v
       → others_of e ≡ without (names_about name) ms → OthersFit extensible (others_of e) → (about_tree name s w d x v e ≡ t) × AboutIsWell name s w d x v e
   about_read x v e ms t once is sorted head well_head method params well_subject rest may =
       let rows = rows_of name s w d (d.kind v) in
-      let p = table_read (names_about name) rows extensible (parts_of name s w d x v) ms (others_of e) t (record { names = refl; once = once }) is (head, (method, (params, tt))) sorted rest may in
+      let p = table_read (names_about name) rows extensible (parts_of name s w d x v) ms (others_of e) t
+      (record { names = refl; once = once }) is (head, (method, (params, tt))) sorted rest may in
       (p.0, record { head = well_head; subject = well_subject; others = p.1 })
 
   -- ---- not found
@@ -32,13 +34,15 @@ module _ {X D K : Type 0} (name : List ℕ) (s : ShapeOf X) (w : Words K) (d : S
     pub no_map : (t : Node) → ((rs : Rows) (o : Openness) → Fits t (map_of rs o) → ⊥) → Fits t ρ → ⊥
     no_map t bad fit = let p = about_inside name s w d ρ says t fit in bad (rows_of name s w d p.0) extensible p.1
 
-    rows_inside : (t : Node) (ms : Members) → tree.map ms ≡ t → Fits t ρ → (k : K) × (RowsFit ms (rows_of name s w d k) × OthersFit extensible (without (names_about name) ms))
+    rows_inside : (t : Node) (ms : Members)
+        → tree.map ms ≡ t → Fits t ρ → (k : K) × (RowsFit ms (rows_of name s w d k) × OthersFit extensible (without (names_about name) ms))
     rows_inside t ms is fit =
         let p = about_inside name s w d ρ says t fit in
         (p.0, map_inside (subst (λ u. Fits u (map_of (rows_of name s w d p.0) extensible)) (sym is) p.1))
 
     -- a map whose first member or whose others do not fit
-    pub no_head : (t : Node) (ms : Members) → tree.map ms ≡ t → (RowsFit ms (row name required s.rule no_more) → OthersFit extensible (without (names_about name) ms) → ⊥) → Fits t ρ → ⊥
+    pub no_head : (t : Node) (ms : Members) → tree.map ms ≡ t
+        → (RowsFit ms (row name required s.rule no_more) → OthersFit extensible (without (names_about name) ms) → ⊥) → Fits t ρ → ⊥
     no_head t ms is bad fit =
         let p = rows_inside t ms is fit in
         bad (row_fits ms name required s.rule no_more (row_inside p.1.0).0 (no_row ms)) p.1.1
@@ -58,10 +62,12 @@ module _ {X D K : Type 0} (name : List ℕ) (s : ShapeOf X) (w : Words K) (d : S
     as_part τ None f = f
 
     -- a map whose params do not fit the rule of its method
-    pub no_params : (t : Node) (ms : Members) (k : K) → tree.map ms ≡ t → get_member (codes "method") ms ≡ Some (tree.text (w.text_of k)) → (PartFits required (d.rule k) (get_member (codes "params") ms) → ⊥) → Fits t ρ → ⊥
+    pub no_params : (t : Node) (ms : Members) (k : K) → tree.map ms ≡ t → get_member (codes "method") ms ≡ Some (tree.text (w.text_of k))
+        → (PartFits required (d.rule k) (get_member (codes "params") ms) → ⊥) → Fits t ρ → ⊥
     no_params t ms k is method bad fit =
         let p = rows_inside t ms is fit in
         let after = (row_inside p.1.0).1 in
         let text = exactly_inside (subst (RowFits required (exactly (w.text_of p.0))) method (row_inside after).0) in
         let same = word_one w p.0 k (ap tree.text (sym text)) in
-        bad (subst (λ i. PartFits required (d.rule i) (get_member (codes "params") ms)) same (as_part (d.rule p.0) (get_member (codes "params") ms) (row_inside (row_inside after).1).0))
+        bad (subst (λ i. PartFits required (d.rule i) (get_member (codes "params") ms)) same
+        (as_part (d.rule p.0) (get_member (codes "params") ms) (row_inside (row_inside after).1).0))

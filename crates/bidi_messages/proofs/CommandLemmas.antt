@@ -1,5 +1,6 @@
 -- What the tree of a command asks.
-use Rattle.std.proofs.Common.{◌≡◌, ◌≢◌, ◌∙◌, ◌^◌, ◌<◌, ℕ, pos, List, codes, Some, option_and_then, unwrap_or, nat_lt, if◌then◌else◌, None, [], bytes_eq, false, true≢false, sym, refl, ap}
+use Rattle.std.proofs.Common.{◌≡◌, ◌≢◌, ◌∙◌, ◌^◌, ◌<◌, ℕ, pos, List, codes, Some, option_and_then, unwrap_or}
+use Rattle.std.proofs.Common.{nat_lt, if◌then◌else◌, None, [], bytes_eq, false, true≢false, sym, refl, ap}
 use Rattle.std.proofs.lemmas.Bool.{lt-ltb}
 use Rattle.std.proofs.lemmas.Slice.Eq.{bytes_eq-Decides}
 use Rattle.bidi_shape.specs.ValueLaws.{others_of}
@@ -18,7 +19,9 @@ pub apart : (j k : List ℕ) → bytes_eq j k ≡ false → j ≢ k
 apart j k differ is = true≢false (sym ((bytes_eq-Decides j k).1 is) ∙ differ)
 
 at_method : (x y : Node) (ms : Members) → get_member (codes "method") (put (codes "id") x (put (codes "method") y ms)) ≡ Some y
-at_method x y ms = get_member-put_other (codes "method") (codes "id") x (put (codes "method") y ms) (apart (codes "method") (codes "id") refl) ∙ get_member-put (codes "method") y ms
+at_method x y ms =
+    get_member-put_other (codes "method") (codes "id") x (put (codes "method") y ms) (apart (codes "method") (codes "id") refl)
+    ∙ get_member-put (codes "method") y ms
 
 at_params : (x y z : Node) (ms : Members) → get_member (codes "params") (put (codes "id") x (put (codes "method") y (put (codes "params") z ms))) ≡ Some z
 at_params x y z ms =
@@ -44,8 +47,11 @@ id_in-tree c =
 
 -- its method
 pub method_in-tree : (c : Command) → method_in (ghosts.shape.tree_of c) ≡ method_text (method_of c.«data»)
-method_in-tree c = ap (λ o. unwrap_or (option_and_then text_in o) []) (at_method (whole (pos c.id.value)) (text (method_text (method_of c.«data»))) (with_params c))
+method_in-tree c =
+    ap (λ o. unwrap_or (option_and_then text_in o) []) (at_method (whole (pos c.id.value)) (text (method_text (method_of c.«data»))) (with_params c))
 
 -- its params
 pub params_in-tree : (c : Command) → params_in (ghosts.shape.tree_of c) ≡ asks.ghosts.subject.tree_of c.«data»
-params_in-tree c = ap (λ o. unwrap_or o null) (at_params (whole (pos c.id.value)) (text (method_text (method_of c.«data»))) (asks.ghosts.subject.tree_of c.«data») (others_of c.ext))
+params_in-tree c =
+    ap (λ o. unwrap_or o null)
+    (at_params (whole (pos c.id.value)) (text (method_text (method_of c.«data»))) (asks.ghosts.subject.tree_of c.«data») (others_of c.ext))

@@ -1,5 +1,6 @@
 -- What the trees of responses, errors and events tell: an id, or a method.
-use Rattle.std.proofs.Common.{◌≡◌, ◌∙◌, ℕ, pos, List, [], codes, Option, Some, None, option_map, option_and_then, unwrap_or, bytes_eq, false, string_bytes, refl, ap}
+use Rattle.std.proofs.Common.{◌≡◌, ◌∙◌, ℕ, pos, List, [], codes, Option, Some, None, option_map}
+use Rattle.std.proofs.Common.{option_and_then, unwrap_or, bytes_eq, false, string_bytes, refl, ap}
 use Rattle.bidi_tree.specs.Node.{Node, Members, put, get_member, whole, text, map}
 use Rattle.bidi_tree.specs.Kind.{text_in}
 use Rattle.bidi_tree.specs.declared.number.JsUint.{JsUint}
@@ -38,7 +39,8 @@ echoed_id-response r =
 -- the members of an error after its id
 abbrev after_error_id : ErrorResponse → Members
 after_error_id e =
-    put (codes "error") (text (error_code_text e.error)) (put (codes "message") (text (string_bytes e.message)) (put_part (codes "stacktrace") (option_map (λ s. text (string_bytes s)) e.stacktrace) (others_of e.ext)))
+    put (codes "error") (text (error_code_text e.error)) (put (codes "message") (text (string_bytes e.message))
+    (put_part (codes "stacktrace") (option_map (λ s. text (string_bytes s)) e.stacktrace) (others_of e.ext)))
 
 error_id : (o : Option JsUint) → js_uint_in (nullable_tree (λ n. whole (pos n.value)) o) ≡ option_map (λ n. n.value) o
 error_id None = refl
@@ -47,11 +49,13 @@ error_id (Some n) = in_range n.value n.in_range
 -- its id, if it has one
 pub echoed_id-error : (e : ErrorResponse) → echoed_id (error.ghosts.shape.tree_of e) ≡ option_map (λ n. n.value) e.id
 echoed_id-error e =
-    ap (option_and_then js_uint_in) (behind (codes "type") (codes "id") (text (codes "error")) (nullable_tree (λ n. whole (pos n.value)) e.id) (after_error_id e) refl)
+    ap (option_and_then js_uint_in)
+    (behind (codes "type") (codes "id") (text (codes "error")) (nullable_tree (λ n. whole (pos n.value)) e.id) (after_error_id e) refl)
     ∙ error_id e.id
 
 -- the method of an event
 pub method_in-event : (e : Event) → method_in (event.ghosts.shape.tree_of e) ≡ event_name_text (event_of e.«data»)
 method_in-event e =
     ap (λ o. unwrap_or (option_and_then text_in o) [])
-    (behind (codes "type") (codes "method") (text (codes "event")) (text (event_name_text (event_of e.«data»))) (put (codes "params") (told.ghosts.subject.tree_of e.«data») (others_of e.ext)) refl)
+    (behind (codes "type") (codes "method") (text (codes "event")) (text (event_name_text (event_of e.«data»)))
+    (put (codes "params") (told.ghosts.subject.tree_of e.«data») (others_of e.ext)) refl)

@@ -17,4 +17,5 @@ pub reads_as : (shape : ShapeOf Message) (s : List ℕ) (t : Node) (r : Result M
 reads_as shape s t (Ok v) of reads ok err m = λ well is. shape.one_value v m ok.1 well (ok.0 ∙ same_some (sym reads ∙ is))
 reads_as shape s t (Err NoMemory) of reads ok err m = tt
 reads_as shape s t (Err NotJson) of reads ok err m = λ well is. err
-reads_as shape s t (Err NoFit) of reads ok err m = λ well is. err (subst (λ u. Fits u (rule message)) (same_some (sym is ∙ reads)) (subst (Fits (shape.tree_of m)) of (shape.fits m well)))
+reads_as shape s t (Err NoFit) of reads ok err m =
+    λ well is. err (subst (λ u. Fits u (rule message)) (same_some (sym is ∙ reads)) (subst (Fits (shape.tree_of m)) of (shape.fits m well)))

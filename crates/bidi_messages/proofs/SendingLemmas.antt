@@ -1,5 +1,7 @@
 -- What a remote end sends may be written, and is the text of a well message.
-use Rattle.std.proofs.Common.{◌≡◌, ◌∙◌, ◌≤◌, ◌⊎◌, inl, inr, ℕ, pos, nat_le, nat_eq, Bool, true, false, true≢false, bytes_eq, List, [], ◌∷◌, codes, Option, Some, None, option_map, IsSome, Result, Ok, Err, IfOk, String, Global, string_bytes, refl, sym, ap, subst, zero-le, arith}
+use Rattle.std.proofs.Common.{◌≡◌, ◌∙◌, ◌≤◌, ◌⊎◌, inl, inr, ℕ, pos, nat_le, nat_eq, Bool, true, false, true≢false}
+use Rattle.std.proofs.Common.{bytes_eq, List, [], ◌∷◌, codes, Option, Some, None, option_map, IsSome, Result, Ok, Err}
+use Rattle.std.proofs.Common.{IfOk, String, Global, string_bytes, refl, sym, ap, subst, zero-le, arith}
 use Rattle.std.proofs.lemmas.Bool.{leb-true}
 use Rattle.json.specs.Print.{escape_byte}
 use Rattle.bidi_tree.specs.Node.{Node, Members, no_members, member, put, map, text, whole, levels, IsWhole, IsWritable, MembersAreWhole}
@@ -37,8 +39,11 @@ use Rattle.bidi_messages.specs.contracts.message.MessageShape.TheImpl as message
 
 -- the text of a well message's tree is that of a well message
 pub is_text : {E : Type 0} (shape : ShapeOf Message) (m : Message) (t : Node) → shape.well m → t ≡ shape.tree_of m
-    → ((e : EventName) (params : Node) → compact_text t ≡ told_text e params → IsEvent m) → (r : Result (String Global) E) → IfOk r (λ s. string_bytes s ≡ compact_text t) → IfOk r (λ s. tree_of (string_bytes s) ≡ Some t) → IfOk r (λ s. IsMessageText shape (string_bytes s))
-is_text shape m t well is event (Ok s) written back = (m, well, written ∙ ap compact_text is, back ∙ ap Some is, λ e params same. event e params (sym written ∙ same))
+    → ((e : EventName) (params : Node) → compact_text t ≡ told_text e params → IsEvent m)
+    → (r : Result (String Global) E) → IfOk r (λ s. string_bytes s ≡ compact_text t)
+    → IfOk r (λ s. tree_of (string_bytes s) ≡ Some t) → IfOk r (λ s. IsMessageText shape (string_bytes s))
+is_text shape m t well is event (Ok s) written back =
+    (m, well, written ∙ ap compact_text is, back ∙ ap Some is, λ e params same. event e params (sym written ∙ same))
 is_text shape m t well is event (Err e) written back = tt
 
 -- the third letter of the text is that one
@@ -52,7 +57,8 @@ unfolding has_third escape_byte
 no_event-response id result t is e params same = true≢false (ap (has_third 105) (sym (ap compact_text is) ∙ same))
 
 -- an error begins with its code
-pub no_event-error : (id : Option ℕ) (code : ErrorCode) (t : Node) → t ≡ error_tree id code → (e : EventName) (params : Node) → compact_text t ≡ told_text e params → ⊥
+pub no_event-error : (id : Option ℕ) (code : ErrorCode) (t : Node)
+    → t ≡ error_tree id code → (e : EventName) (params : Node) → compact_text t ≡ told_text e params → ⊥
 unfolding has_third escape_byte
 no_event-error id code t is e params same = true≢false (ap (has_third 101) (sym (ap compact_text is) ∙ same))
 
@@ -83,7 +89,8 @@ type_is (Some t) s fit = ap Some (exactly_kind fit)
 type_is None s fit = absurd fit
 
 -- a map with one type does not fit a rule that asks for another
-other_type : (n : Name) (s u : List ℕ) (rs : Rows) (o : Openness) (ms : Members) → term_of n ≡ map_of (row (codes "type") required (exactly s) rs) o → bytes_eq u s ≡ false
+other_type : (n : Name) (s u : List ℕ) (rs : Rows) (o : Openness) (ms : Members)
+    → term_of n ≡ map_of (row (codes "type") required (exactly s) rs) o → bytes_eq u s ≡ false
     → Fits (map (put (codes "type") (text u) ms)) (rule n) → ⊥
 other_type n s u rs o ms of differ fit =
     let rows = map_inside (subst (Fits (map (put (codes "type") (text u) ms))) of (rule_inside fit)) in
@@ -110,7 +117,8 @@ abbrev pub a_response : JsUint → Ext → Ext → Message
 a_response id contents e = AsResponse (record { id = id; «result» = contents; ext = e })
 
 -- its tree
-pub response-tree : (id : JsUint) (contents e : Ext) (r t : Node) → map (others_of contents) ≡ r → others_of e ≡ no_members → t ≡ message.ghosts.shape.tree_of (a_response id contents e) → t ≡ response_tree id.value r
+pub response-tree : (id : JsUint) (contents e : Ext) (r t : Node) → map (others_of contents) ≡ r
+    → others_of e ≡ no_members → t ≡ message.ghosts.shape.tree_of (a_response id contents e) → t ≡ response_tree id.value r
 response-tree id contents e r t is none same = same ∙ rw (none, sym is) refl
 
 pub response_well : (id : JsUint) (contents e : Ext) (t : Node) (n : ℕ) → map (others_of contents) ≡ t → IsWhole t n → levels t ≤ 61 → others_of e ≡ no_members
@@ -129,7 +137,9 @@ an_error id code said e = AsError (record { id = id; error = code; message = sai
 
 -- its members after its type
 abbrev after_error : Option JsUint → ErrorCode → String Global → Ext → Members
-after_error id code said e = put (codes "id") (nullable_tree (λ n. whole (pos n.value)) id) (put (codes "error") (text (error_code_text code)) (put (codes "message") (text (string_bytes said)) (others_of e)))
+after_error id code said e =
+    put (codes "id") (nullable_tree (λ n. whole (pos n.value)) id)
+    (put (codes "error") (text (error_code_text code)) (put (codes "message") (text (string_bytes said)) (others_of e)))
 
 -- its tree
 pub error-tree : (id : Option JsUint) (code : ErrorCode) (said : String Global) (e : Ext) → string_bytes said ≡ error_code_text code → others_of e ≡ no_members
@@ -137,9 +147,12 @@ pub error-tree : (id : Option JsUint) (code : ErrorCode) (said : String Global) 
 error-tree None code said e same none = rw (same, none) refl
 error-tree (Some n) code said e same none = rw (same, none) refl
 
-pub error_well : (id : Option JsUint) (code : ErrorCode) (said : String Global) (e : Ext) → others_of e ≡ no_members → message.ghosts.shape.well (an_error id code said e)
-error_well id code said e none =
-    (((id_well id, (tt, (tt, (tt, tt)))), none_beside _ (others_of e) none), other_type command_response (codes "success") (codes "error") _ _ (after_error id code said e) refl refl)
+pub error_well : (id : Option JsUint) (code : ErrorCode) (said : String Global) (e : Ext)
+    → others_of e ≡ no_members → message.ghosts.shape.well (an_error id code said e)
+error_well id code said e none = (
+  ((id_well id, (tt, (tt, (tt, tt)))), none_beside _ (others_of e) none),
+  other_type command_response (codes "success") (codes "error") _ _ (after_error id code said e) refl refl,
+)
 
 abbrev pub an_event : EventData → Ext → Message
 an_event d e = AsEvent (record { «data» = d; ext = e })
@@ -149,6 +162,9 @@ after_event d e = put (codes "method") (text (event_name_text (event_of d))) (pu
 
 pub event_well : (d : EventData) (e : Ext) → told.ghosts.subject.well d → others_of e ≡ no_members → message.ghosts.shape.well (an_event d e)
 event_well d e well none = (
-  (record { head = tt; subject = well; others = none_beside _ (others_of e) none }, other_type error_response (codes "error") (codes "event") _ _ (after_event d e) refl refl),
+  (
+    record { head = tt; subject = well; others = none_beside _ (others_of e) none },
+    other_type error_response (codes "error") (codes "event") _ _ (after_event d e) refl refl,
+  ),
   other_type command_response (codes "success") (codes "event") _ _ (after_event d e) refl refl,
 )

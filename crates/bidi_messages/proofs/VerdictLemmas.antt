@@ -30,12 +30,14 @@ module _ (shape : ShapeOf Command) (of : shape.rule ≡ rule command) (s : List 
     pub accepted : (c : Command) → shape.tree_of c ≡ n → shape.well c → IsVerdict s (Accepted (shape.tree_of c))
     accepted c is well = is_command (shape.tree_of c) (seen ∙ ap Some (sym is)) (subst (Fits (shape.tree_of c)) of (shape.fits c well))
 
-    pub accepted_as : (d : Command) → shape.tree_of d ≡ n → shape.well d → (c : Command) → shape.well c → command_tree s ≡ Some (shape.tree_of c) → shape.same d c
+    pub accepted_as : (d : Command)
+        → shape.tree_of d ≡ n → shape.well d → (c : Command) → shape.well c → command_tree s ≡ Some (shape.tree_of c) → shape.same d c
     accepted_as d is well c good also = shape.one_value d c well good (is ∙ same_some (sym seen ∙ also))
 
     -- a text whose tree fits no command has the tree of none
     pub refused_as : (Fits n (rule command) → ⊥) → (c : Command) → shape.well c → command_tree s ≡ Some (shape.tree_of c) → ⊥
-    refused_as misfit c good also = misfit (subst (λ t. Fits t (rule command)) (same_some (sym also ∙ seen)) (subst (Fits (shape.tree_of c)) of (shape.fits c good)))
+    refused_as misfit c good also =
+        misfit (subst (λ t. Fits t (rule command)) (same_some (sym also ∙ seen)) (subst (Fits (shape.tree_of c)) of (shape.fits c good)))
 
   -- nor has a text without a tree
   pub no_tree_as : command_tree s ≡ None → (c : Command) → shape.well c → command_tree s ≡ Some (shape.tree_of c) → ⊥

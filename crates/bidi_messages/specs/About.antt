@@ -1,6 +1,7 @@
 -- Maps that say what they are about, as commands and events: `{ NAME: X, method: "M", params: P, Extensible }`,
 -- one alternative for each of some rows (M, P).
-use Rattle.std.proofs.Common.{◌≡◌, ℕ, suc, max, List, [], ◌∷◌, codes, Bool, true, false, Option, Some, None, if◌then◌else◌, refl, zero-le, sym, subst, bytes_eq, arith}
+use Rattle.std.proofs.Common.{◌≡◌, ℕ, suc, max, List, [], ◌∷◌, codes, Bool, true, false, Option, Some}
+use Rattle.std.proofs.Common.{None, if◌then◌else◌, refl, zero-le, sym, subst, bytes_eq, arith}
 use Rattle.bidi_tree.specs.Node as tree
 use Rattle.bidi_tree.specs.Node.{Node, Members, put, IsWhole}
 use Rattle.bidi_shape.specs.Term.{Term, required, extensible, exactly, map_of, either, Rows, no_more, row}
@@ -22,19 +23,23 @@ abbrev pub one_each : {K : Type 0} → (K → Term) → Word K → List (Word K)
 one_each f w [] = f w.value
 one_each f w (x ∷ xs) = either (f w.value) (one_each f x xs)
 
-last_fits : {K : Type 0} (b : Bool) (f : K → Term) (w : Word K) (k : K) (t : Node) → (if b then Some w.value else None) ≡ Some k → Fits t (f k) → Fits t (f w.value)
+last_fits : {K : Type 0} (b : Bool) (f : K → Term) (w : Word K) (k : K) (t : Node)
+    → (if b then Some w.value else None) ≡ Some k → Fits t (f k) → Fits t (f w.value)
 last_fits true f w k t e fit = subst (λ x. Fits t (f x)) (sym (same_some e)) fit
 last_fits false f w k t e fit = cc
 
-each_at : {K : Type 0} (b : Bool) (f : K → Term) (w : Word K) (rest : Option K) (σ : Term) (k : K) (t : Node) → (if b then Some w.value else rest) ≡ Some k → (rest ≡ Some k → Fits t σ)
+each_at : {K : Type 0} (b : Bool) (f : K → Term) (w : Word K) (rest : Option K) (σ : Term) (k : K) (t : Node)
+    → (if b then Some w.value else rest) ≡ Some k → (rest ≡ Some k → Fits t σ)
     → Fits t (f k) → Fits t (either (f w.value) σ)
 each_at true f w rest σ k t e later fit = fits_first t (f w.value) σ (subst (λ x. Fits t (f x)) (sym (same_some e)) fit)
 each_at false f w rest σ k t e later fit = fits_second t (f w.value) σ (later e)
 
 -- what fits the alternative of a value that is named fits the choice
-each_fits : {K : Type 0} (f : K → Term) (w : Word K) (xs : List (Word K)) (s : List ℕ) (k : K) (t : Node) → value_named w xs s ≡ Some k → Fits t (f k) → Fits t (one_each f w xs)
+each_fits : {K : Type 0} (f : K → Term) (w : Word K) (xs : List (Word K)) (s : List ℕ) (k : K) (t : Node)
+    → value_named w xs s ≡ Some k → Fits t (f k) → Fits t (one_each f w xs)
 each_fits f w [] s k t e fit = last_fits (bytes_eq s w.text) f w k t e fit
-each_fits f w (x ∷ xs) s k t e fit = each_at (bytes_eq s w.text) f w (value_named x xs s) (one_each f x xs) k t e (λ later. each_fits f x xs s k t later fit) fit
+each_fits f w (x ∷ xs) s k t e fit =
+    each_at (bytes_eq s w.text) f w (value_named x xs s) (one_each f x xs) k t e (λ later. each_fits f x xs s k t later fit) fit
 
 split : {t : Node} {σ τ : Term} {P : Type 0} → (Fits t σ → P) → (Fits t τ → P) → Fits t (either σ τ) → P
 split f g (fits_first t σ τ h) = f h
@@ -65,7 +70,8 @@ module _ {X D K : Type 0} (name : List ℕ) (s : ShapeOf X) (w : Words K) (d : S
 
   -- the map of a head, a subject and other members
   abbrev pub about_tree : X → D → Ext → Node
-  about_tree x v e = tree.map (put name (s.tree_of x) (put (codes "method") (tree.text (w.text_of (d.kind v))) (put (codes "params") (d.tree_of v) (others_of e))))
+  about_tree x v e =
+      tree.map (put name (s.tree_of x) (put (codes "method") (tree.text (w.text_of (d.kind v))) (put (codes "params") (d.tree_of v) (others_of e))))
 
   -- well: each part is, and no other member has a known name
   pub record AboutIsWell (x : X) (v : D) (e : Ext) : Type 0 where
@@ -82,14 +88,17 @@ module _ {X D K : Type 0} (name : List ℕ) (s : ShapeOf X) (w : Words K) (d : S
   pub about_inside : (ρ : Term) → unfolded ρ ≡ about_term → (t : Node) → Fits t ρ → (k : K) × Fits t (map_of (rows_of k) extensible)
   about_inside ρ is t f = some_fits (λ k. map_of (rows_of k) extensible) w.first w.rest t (subst (Fits t) is (unfolded_fits t ρ f))
 
-  pub about_fits : (ρ : Term) → unfolded ρ ≡ about_term → distinct (names_about name) ≡ true → (x : X) (v : D) (e : Ext) → AboutIsWell x v e → Fits (about_tree x v e) ρ
+  pub about_fits : (ρ : Term) → unfolded ρ ≡ about_term
+      → distinct (names_about name) ≡ true → (x : X) (v : D) (e : Ext) → AboutIsWell x v e → Fits (about_tree x v e) ρ
   about_fits ρ is once x v e a =
       let k = d.kind v in
       fits_named (about_tree x v e) ρ about_term is
       (each_fits (λ i. map_of (rows_of i) extensible) w.first w.rest (w.text_of k) k (about_tree x v e) (w.names_it k)
-      (map_fits (rows_of k) extensible (parts_of x v) (others_of e) once (s.fits x a.head, (fits_exactly (w.text_of k), (d.fits v a.subject, tt))) a.others.no_known a.others.may))
+      (map_fits (rows_of k) extensible (parts_of x v) (others_of e) once
+      (s.fits x a.head, (fits_exactly (w.text_of k), (d.fits v a.subject, tt))) a.others.no_known a.others.may))
 
-  pub about_one : distinct (names_about name) ≡ true → (x y : X) (u v : D) (e f : Ext) → AboutIsWell x u e → AboutIsWell y v f → about_tree x u e ≡ about_tree y v f
+  pub about_one : distinct (names_about name) ≡ true
+      → (x y : X) (u v : D) (e f : Ext) → AboutIsWell x u e → AboutIsWell y v f → about_tree x u e ≡ about_tree y v f
       → s.same x y × (d.same u v × (others_of e ≡ others_of f))
   about_one once x y u v e f a b is =
       let p = map_one (rows_of (d.kind u)) (parts_of x u) (parts_of y v) (others_of e) (others_of f) once tt tt a.others.no_known b.others.no_known is in
@@ -101,8 +110,10 @@ module _ {X D K : Type 0} (name : List ℕ) (s : ShapeOf X) (w : Words K) (d : S
   pub about_whole : (x : X) (v : D) (e : Ext) → AboutIsWell x v e → IsWhole (about_tree x v e) (suc (max (max s.deepest d.deepest) 60))
   about_whole x v e a =
       let n = max s.deepest d.deepest in
-      map_whole (rows_of (d.kind v)) extensible (parts_of x v) (others_of e) n
-      (whole_within (s.tree_of x) s.deepest n (omega arith) (s.whole x a.head), ((refl, zero-le), (whole_within (d.tree_of v) d.deepest n (omega arith) (d.whole v a.subject), tt))) a.others.may
+      map_whole (rows_of (d.kind v)) extensible (parts_of x v) (others_of e) n (
+        whole_within (s.tree_of x) s.deepest n (omega arith) (s.whole x a.head),
+        ((refl, zero-le), (whole_within (d.tree_of v) d.deepest n (omega arith) (d.whole v a.subject), tt)),
+      ) a.others.may
 
   -- the shape of such a type
   abbrev pub about_shape : {V : Type 0} (ρ : Term) (m : V → X × (D × Ext)) → unfolded ρ ≡ about_term → distinct (names_about name) ≡ true → ShapeOf V

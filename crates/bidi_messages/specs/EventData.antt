@@ -10,7 +10,8 @@ use Rattle.bidi_shape.specs.Name as name
 use Rattle.bidi_messages.specs.Subject.{SubjectOf, IsOfRule, one_by_kind}
 use Rattle.bidi_messages.specs.EventName.{params_of}
 use Rattle.bidi_messages.specs.declared.event.EventName.{EventName}
-use Rattle.bidi_messages.specs.declared.event.EventName.TheVariants.{ContextCreated, ContextDestroyed, NavigationStarted, DomContentLoaded, Load, RealmCreated, RealmDestroyed, EntryAdded}
+use Rattle.bidi_messages.specs.declared.event.EventName.TheVariants.{ContextCreated, ContextDestroyed, NavigationStarted}
+use Rattle.bidi_messages.specs.declared.event.EventName.TheVariants.{DomContentLoaded, Load, RealmCreated, RealmDestroyed, EntryAdded}
 use Rattle.bidi_messages.specs.declared.event.EventData.{EventData}
 use Rattle.bidi_messages.specs.declared.event.EventData.TheVariants as Of
 

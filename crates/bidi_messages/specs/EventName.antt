@@ -4,7 +4,8 @@ use Rattle.bidi_shape.specs.Name.{Name, info, navigation_info, realm_info, realm
 use Rattle.bidi_shape.specs.Profile.{context_created_row, further_events}
 use Rattle.bidi_shape.specs.WordLaws.{Word, Words, word, one_of, value_named}
 use Rattle.bidi_messages.specs.declared.event.EventName.{EventName}
-use Rattle.bidi_messages.specs.declared.event.EventName.TheVariants.{ContextCreated, ContextDestroyed, NavigationStarted, DomContentLoaded, Load, RealmCreated, RealmDestroyed, EntryAdded}
+use Rattle.bidi_messages.specs.declared.event.EventName.TheVariants.{ContextCreated, ContextDestroyed, NavigationStarted}
+use Rattle.bidi_messages.specs.declared.event.EventName.TheVariants.{DomContentLoaded, Load, RealmCreated, RealmDestroyed, EntryAdded}
 
 abbrev pub event_name_text : EventName → List ℕ
 event_name_text ContextCreated = codes "browsingContext.contextCreated"
@@ -32,7 +33,8 @@ abbrev pub events : List EventName
 events = ContextCreated ∷ ContextDestroyed ∷ NavigationStarted ∷ DomContentLoaded ∷ Load ∷ RealmCreated ∷ RealmDestroyed ∷ EntryAdded ∷ []
 
 -- they are those of the profile, with the same rules
-pub events_are_the_profiles : map {B = List ℕ × Name} (λ e. (event_name_text e, params_of e)) events ≡ map {B = List ℕ × Name} (λ r. (codes r.method, r.params)) (context_created_row ∷ further_events)
+pub events_are_the_profiles : map {B = List ℕ × Name} (λ e. (event_name_text e, params_of e)) events
+    ≡ map {B = List ℕ × Name} (λ r. (codes r.method, r.params)) (context_created_row ∷ further_events)
 events_are_the_profiles = refl
 
 -- the events after the first, by their texts

@@ -1,10 +1,19 @@
 -- The methods of commands: their texts, and the rules of their params and results. After WebDriver BiDi, "Protocol".
 use Rattle.std.specs.Prelude.{◌≡◌, ℕ, List, [], ◌∷◌, Some, codes, map, refl}
-use Rattle.bidi_shape.specs.Name.{Name, empty_params, new_parameters, subscribe_parameters, unsubscribe_parameters, activate_parameters, close_parameters, create_parameters, get_tree_parameters, navigate_parameters, reload_parameters, traverse_history_parameters, evaluate_parameters, call_function_parameters, disown_parameters, get_realms_parameters, status_result, new_result, empty_result, subscribe_result, create_result, get_tree_result, navigate_result, evaluate_result, get_realms_result}
+use Rattle.bidi_shape.specs.Name.{Name, empty_params, new_parameters, subscribe_parameters, unsubscribe_parameters}
+use Rattle.bidi_shape.specs.Name.{activate_parameters, close_parameters, create_parameters, get_tree_parameters, navigate_parameters}
+use Rattle.bidi_shape.specs.Name.{reload_parameters, traverse_history_parameters, evaluate_parameters, call_function_parameters}
+use Rattle.bidi_shape.specs.Name.{disown_parameters, get_realms_parameters, status_result, new_result, empty_result}
+use Rattle.bidi_shape.specs.Name.{subscribe_result, create_result, get_tree_result, navigate_result, evaluate_result, get_realms_result}
 use Rattle.bidi_shape.specs.Profile.{session_status_row, further_commands}
 use Rattle.bidi_shape.specs.WordLaws.{Word, Words, word, one_of, value_named}
 use Rattle.bidi_messages.specs.declared.method.Method.{Method}
-use Rattle.bidi_messages.specs.declared.method.Method.TheVariants.{SessionStatus, SessionNew, SessionEnd, SessionSubscribe, SessionUnsubscribe, BrowsingContextActivate, BrowsingContextClose, BrowsingContextCreate, BrowsingContextGetTree, BrowsingContextNavigate, BrowsingContextReload, BrowsingContextTraverseHistory, ScriptEvaluate, ScriptCallFunction, ScriptDisown, ScriptGetRealms}
+use Rattle.bidi_messages.specs.declared.method.Method.TheVariants.{SessionStatus, SessionNew, SessionEnd, SessionSubscribe}
+use Rattle.bidi_messages.specs.declared.method.Method.TheVariants.{SessionUnsubscribe, BrowsingContextActivate, BrowsingContextClose}
+use Rattle.bidi_messages.specs.declared.method.Method.TheVariants.{BrowsingContextCreate, BrowsingContextGetTree}
+use Rattle.bidi_messages.specs.declared.method.Method.TheVariants.{BrowsingContextNavigate, BrowsingContextReload}
+use Rattle.bidi_messages.specs.declared.method.Method.TheVariants.{BrowsingContextTraverseHistory, ScriptEvaluate, ScriptCallFunction}
+use Rattle.bidi_messages.specs.declared.method.Method.TheVariants.{ScriptDisown, ScriptGetRealms}
 
 abbrev pub method_text : Method → List ℕ
 method_text SessionStatus = codes "session.status"
@@ -83,7 +92,8 @@ methods = SessionStatus
     ∷ []
 
 -- they are those of the profile, with the same rules
-pub methods_are_the_profiles : map {B = List ℕ × (Name × Name)} (λ m. (method_text m, (params_of m, result_of m))) methods ≡ map {B = List ℕ × (Name × Name)} (λ r. (codes r.method, (r.params, r.result))) (session_status_row ∷ further_commands)
+pub methods_are_the_profiles : map {B = List ℕ × (Name × Name)} (λ m. (method_text m, (params_of m, result_of m))) methods
+    ≡ map {B = List ℕ × (Name × Name)} (λ r. (codes r.method, (r.params, r.result))) (session_status_row ∷ further_commands)
 methods_are_the_profiles = refl
 
 -- the methods after the first, by their texts

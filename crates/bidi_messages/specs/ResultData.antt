@@ -14,7 +14,12 @@ use Rattle.bidi_shape.specs.Name as name
 use Rattle.bidi_messages.specs.Subject.{SubjectOf, IsOfRule, one_by_kind}
 use Rattle.bidi_messages.specs.Method.{result_of}
 use Rattle.bidi_messages.specs.declared.method.Method.{Method}
-use Rattle.bidi_messages.specs.declared.method.Method.TheVariants.{SessionStatus, SessionNew, SessionEnd, SessionSubscribe, SessionUnsubscribe, BrowsingContextActivate, BrowsingContextClose, BrowsingContextCreate, BrowsingContextGetTree, BrowsingContextNavigate, BrowsingContextReload, BrowsingContextTraverseHistory, ScriptEvaluate, ScriptCallFunction, ScriptDisown, ScriptGetRealms}
+use Rattle.bidi_messages.specs.declared.method.Method.TheVariants.{SessionStatus, SessionNew, SessionEnd, SessionSubscribe}
+use Rattle.bidi_messages.specs.declared.method.Method.TheVariants.{SessionUnsubscribe, BrowsingContextActivate, BrowsingContextClose}
+use Rattle.bidi_messages.specs.declared.method.Method.TheVariants.{BrowsingContextCreate, BrowsingContextGetTree}
+use Rattle.bidi_messages.specs.declared.method.Method.TheVariants.{BrowsingContextNavigate, BrowsingContextReload}
+use Rattle.bidi_messages.specs.declared.method.Method.TheVariants.{BrowsingContextTraverseHistory, ScriptEvaluate, ScriptCallFunction}
+use Rattle.bidi_messages.specs.declared.method.Method.TheVariants.{ScriptDisown, ScriptGetRealms}
 use Rattle.bidi_messages.specs.declared.result_data.ResultData.{ResultData}
 use Rattle.bidi_messages.specs.declared.result_data.ResultData.TheVariants as Of
 

@@ -32,7 +32,8 @@ pub data SameKind {K : Type 0} (P : K → Type 0) (s : (k : K) → ShapeOf (P k)
 pub one_kind : {K : Type 0} (P : K → Type 0) (s : (k : K) → ShapeOf (P k)) (j k : K) (x : P j) (y : P k) → (s j).well x → (s k).well y → j ≡ k
     → (s j).tree_of x ≡ (s k).tree_of y → SameKind P s j x k y
 one_kind P s j k x y a b e t =
-    subst (λ i. (z : P i) → (s i).well z → (s j).tree_of x ≡ (s i).tree_of z → SameKind P s j x i z) e (λ z c u. same_kind j x z ((s j).one_value x z a c u)) y b t
+    subst (λ i. (z : P i) → (s i).well z → (s j).tree_of x ≡ (s i).tree_of z → SameKind P s j x i z) e
+    (λ z c u. same_kind j x z ((s j).one_value x z a c u)) y b t
 
 -- the shape is that of the rule, and its trees have so many levels at most
 pub record IsOfRule {V : Type 0} (s : ShapeOf V) (r : Name) (n : ℕ) : Type 0 where
@@ -51,5 +52,7 @@ one_by_kind P s r n kind inside of = record {
   fits = λ d w. subst (λ σ. Fits ((s (kind d)).tree_of (inside d)) σ) (of (kind d)).is_rule ((s (kind d)).fits (inside d) w);
   one_value = λ d e a b k t. one_kind P s (kind d) (kind e) (inside d) (inside e) a b k t;
   deepest = n;
-  whole = λ d w. whole_within ((s (kind d)).tree_of (inside d)) (s (kind d)).deepest n (leb-true (s (kind d)).deepest n (of (kind d)).within) ((s (kind d)).whole (inside d) w);
+  whole =
+      λ d w. whole_within ((s (kind d)).tree_of (inside d)) (s (kind d)).deepest n (leb-true (s (kind d)).deepest n (of (kind d)).within)
+      ((s (kind d)).whole (inside d) w);
 }

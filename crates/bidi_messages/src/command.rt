@@ -76,7 +76,41 @@ impl Subject<Method> for CommandData {
     ghost use Rattle.std.specs.Prelude.{refl};
     ghost use Rattle.bidi_messages.specs.CommandData.{ParamShapes, command_subject};
 
-    ghost subject = { command_subject (record { empty_params = ⟦<EmptyParams as Shape>⟧.shape; new_parameters = ⟦<NewParameters as Shape>⟧.shape; subscribe_parameters = ⟦<SubscribeParameters as Shape>⟧.shape; unsubscribe_parameters = ⟦<UnsubscribeParameters as Shape>⟧.shape; activate_parameters = ⟦<ActivateParameters as Shape>⟧.shape; close_parameters = ⟦<CloseParameters as Shape>⟧.shape; create_parameters = ⟦<CreateParameters as Shape>⟧.shape; get_tree_parameters = ⟦<GetTreeParameters as Shape>⟧.shape; navigate_parameters = ⟦<NavigateParameters as Shape>⟧.shape; reload_parameters = ⟦<ReloadParameters as Shape>⟧.shape; traverse_history_parameters = ⟦<TraverseHistoryParameters as Shape>⟧.shape; evaluate_parameters = ⟦<EvaluateParameters as Shape>⟧.shape; call_function_parameters = ⟦<CallFunctionParameters as Shape>⟧.shape; disown_parameters = ⟦<DisownParameters as Shape>⟧.shape; get_realms_parameters = ⟦<GetRealmsParameters as Shape>⟧.shape }) 70 (record { empty_params = record { is_rule = refl; within = refl }; new_parameters = record { is_rule = refl; within = refl }; subscribe_parameters = record { is_rule = refl; within = refl }; unsubscribe_parameters = record { is_rule = refl; within = refl }; activate_parameters = record { is_rule = refl; within = refl }; close_parameters = record { is_rule = refl; within = refl }; create_parameters = record { is_rule = refl; within = refl }; get_tree_parameters = record { is_rule = refl; within = refl }; navigate_parameters = record { is_rule = refl; within = refl }; reload_parameters = record { is_rule = refl; within = refl }; traverse_history_parameters = record { is_rule = refl; within = refl }; evaluate_parameters = record { is_rule = refl; within = refl }; call_function_parameters = record { is_rule = refl; within = refl }; disown_parameters = record { is_rule = refl; within = refl }; get_realms_parameters = record { is_rule = refl; within = refl } }) };
+    ghost subject = { command_subject
+        (record {
+          empty_params = ⟦<EmptyParams as Shape>⟧.shape;
+          new_parameters = ⟦<NewParameters as Shape>⟧.shape;
+          subscribe_parameters = ⟦<SubscribeParameters as Shape>⟧.shape;
+          unsubscribe_parameters = ⟦<UnsubscribeParameters as Shape>⟧.shape;
+          activate_parameters = ⟦<ActivateParameters as Shape>⟧.shape;
+          close_parameters = ⟦<CloseParameters as Shape>⟧.shape;
+          create_parameters = ⟦<CreateParameters as Shape>⟧.shape;
+          get_tree_parameters = ⟦<GetTreeParameters as Shape>⟧.shape;
+          navigate_parameters = ⟦<NavigateParameters as Shape>⟧.shape;
+          reload_parameters = ⟦<ReloadParameters as Shape>⟧.shape;
+          traverse_history_parameters = ⟦<TraverseHistoryParameters as Shape>⟧.shape;
+          evaluate_parameters = ⟦<EvaluateParameters as Shape>⟧.shape;
+          call_function_parameters = ⟦<CallFunctionParameters as Shape>⟧.shape;
+          disown_parameters = ⟦<DisownParameters as Shape>⟧.shape;
+          get_realms_parameters = ⟦<GetRealmsParameters as Shape>⟧.shape;
+        }) 70
+        (record {
+          empty_params = record { is_rule = refl; within = refl };
+          new_parameters = record { is_rule = refl; within = refl };
+          subscribe_parameters = record { is_rule = refl; within = refl };
+          unsubscribe_parameters = record { is_rule = refl; within = refl };
+          activate_parameters = record { is_rule = refl; within = refl };
+          close_parameters = record { is_rule = refl; within = refl };
+          create_parameters = record { is_rule = refl; within = refl };
+          get_tree_parameters = record { is_rule = refl; within = refl };
+          navigate_parameters = record { is_rule = refl; within = refl };
+          reload_parameters = record { is_rule = refl; within = refl };
+          traverse_history_parameters = record { is_rule = refl; within = refl };
+          evaluate_parameters = record { is_rule = refl; within = refl };
+          call_function_parameters = record { is_rule = refl; within = refl };
+          disown_parameters = record { is_rule = refl; within = refl };
+          get_realms_parameters = record { is_rule = refl; within = refl };
+        }) };
 
     fn kind(&self) -> Method {
         match self {
@@ -209,7 +243,8 @@ impl Shape for Command {
     ghost use Rattle.std.specs.Prelude.{refl, codes};
     ghost use Rattle.bidi_messages.specs.About.{about_shape};
 
-    ghost shape = { about_shape (codes "id") ⟦<JsUint as Shape>⟧.shape ⟦<Method as bidi_shape::Named>⟧.words ⟦<CommandData as Subject<Method>>⟧.subject ⟦<Command as Ruled>⟧.rule (λ c. (c.id, (c.«data», c.ext))) refl refl };
+    ghost shape = { about_shape (codes "id") ⟦<JsUint as Shape>⟧.shape ⟦<Method as bidi_shape::Named>⟧.words
+        ⟦<CommandData as Subject<Method>>⟧.subject ⟦<Command as Ruled>⟧.rule (λ c. (c.id, (c.«data», c.ext))) refl refl };
 
     fn from_tree<S: Parsed>(alloc: Global, tree: &S) -> Result<Command, ShapeFault> {
         let about = read_about::<Command, JsUint, Method, CommandData, S>(alloc, tree, "id")?;

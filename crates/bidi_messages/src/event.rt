@@ -129,7 +129,21 @@ impl Subject<EventName> for EventData {
     ghost use Rattle.std.specs.Prelude.{refl};
     ghost use Rattle.bidi_messages.specs.EventData.{EventShapes, event_subject};
 
-    ghost subject = { event_subject (record { info = ⟦<Info as Shape>⟧.shape; navigation_info = ⟦<NavigationInfo as Shape>⟧.shape; realm_info = ⟦<RealmInfo as Shape>⟧.shape; realm_destroyed_parameters = ⟦<RealmDestroyedParameters as Shape>⟧.shape; log_entry = ⟦<LogEntry as Shape>⟧.shape }) 70 (record { info = record { is_rule = refl; within = refl }; navigation_info = record { is_rule = refl; within = refl }; realm_info = record { is_rule = refl; within = refl }; realm_destroyed_parameters = record { is_rule = refl; within = refl }; log_entry = record { is_rule = refl; within = refl } }) };
+    ghost subject = { event_subject
+        (record {
+          info = ⟦<Info as Shape>⟧.shape;
+          navigation_info = ⟦<NavigationInfo as Shape>⟧.shape;
+          realm_info = ⟦<RealmInfo as Shape>⟧.shape;
+          realm_destroyed_parameters = ⟦<RealmDestroyedParameters as Shape>⟧.shape;
+          log_entry = ⟦<LogEntry as Shape>⟧.shape;
+        }) 70
+        (record {
+          info = record { is_rule = refl; within = refl };
+          navigation_info = record { is_rule = refl; within = refl };
+          realm_info = record { is_rule = refl; within = refl };
+          realm_destroyed_parameters = record { is_rule = refl; within = refl };
+          log_entry = record { is_rule = refl; within = refl };
+        }) };
 
     fn kind(&self) -> EventName {
         match self {
@@ -214,7 +228,8 @@ impl Shape for Event {
     ghost use Rattle.bidi_messages.specs.About.{about_shape};
     ghost use Rattle.bidi_messages.specs.declared.event.EventType.TheVariants.{Event as event_type};
 
-    ghost shape = { about_shape (codes "type") ⟦<EventType as Shape>⟧.shape ⟦<EventName as Named>⟧.words ⟦<EventData as Subject<EventName>>⟧.subject ⟦<Event as Ruled>⟧.rule (λ e. (event_type, (e.«data», e.ext))) refl refl };
+    ghost shape = { about_shape (codes "type") ⟦<EventType as Shape>⟧.shape ⟦<EventName as Named>⟧.words
+        ⟦<EventData as Subject<EventName>>⟧.subject ⟦<Event as Ruled>⟧.rule (λ e. (event_type, (e.«data», e.ext))) refl refl };
 
     fn from_tree<S: Parsed>(alloc: Global, tree: &S) -> Result<Event, ShapeFault> {
         let about = read_about::<Event, EventType, EventName, EventData, S>(alloc, tree, "type")?;

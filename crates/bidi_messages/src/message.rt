@@ -42,7 +42,8 @@ impl Shape for Response {
     ghost use Rattle.std.specs.Prelude.{refl, [], ◌∷◌, codes};
     ghost use Rattle.bidi_shape.specs.Table.{map_shape};
 
-    ghost shape = { map_shape ⟦<Response as Ruled>⟧.rule ⟦<ResponseParts as Fields>⟧.table (codes "success" ∷ []) (λ v. record { 0 = (v.id, (v.«result», v.ext)) }) refl refl };
+    ghost shape = { map_shape ⟦<Response as Ruled>⟧.rule ⟦<ResponseParts as Fields>⟧.table (codes "success" ∷ [])
+        (λ v. record { 0 = (v.id, (v.«result», v.ext)) }) refl refl };
 
     fn from_tree<S: Parsed>(alloc: Global, tree: &S) -> Result<Response, ShapeFault> {
         let Literal(Required(id, Required(result, ext))) = read_fields::<
@@ -98,7 +99,8 @@ impl Shape for ErrorResponse {
     ghost use Rattle.std.specs.Prelude.{refl, [], ◌∷◌, codes};
     ghost use Rattle.bidi_shape.specs.Table.{map_shape};
 
-    ghost shape = { map_shape ⟦<ErrorResponse as Ruled>⟧.rule ⟦<ErrorParts as Fields>⟧.table (codes "error" ∷ []) (λ v. record { 0 = (v.id, (v.error, (v.message, (v.stacktrace, v.ext)))) }) refl refl };
+    ghost shape = { map_shape ⟦<ErrorResponse as Ruled>⟧.rule ⟦<ErrorParts as Fields>⟧.table (codes "error" ∷ [])
+        (λ v. record { 0 = (v.id, (v.error, (v.message, (v.stacktrace, v.ext)))) }) refl refl };
 
     fn from_tree<S: Parsed>(alloc: Global, tree: &S) -> Result<ErrorResponse, ShapeFault> {
         let Literal(Required(id, Required(error, Required(message, Optional(stacktrace, ext))))) =

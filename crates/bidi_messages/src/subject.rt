@@ -20,7 +20,7 @@ use bidi_shape::{
 use bidi_tree::{Draft, Tree, draft_members_of, own_draft, put_draft};
 use std::alloc::{AllocError, Global};
 
-/// The members that such a map has by its rule.
+/// How many members such a map has by its rule.
 const ROOM: usize = 3;
 
 /// A value of one of several kinds, each with a rule of its own.
@@ -116,7 +116,8 @@ fn content_at<K: Drop, D: Subject<K>, S: Parsed>(
     name: &str,
     kind: K,
 ) -> Result<D, ShapeFault>
-    ensures ok { IfOk result (λ v. (D.subject.kind v ≡ kind) × (get_member name.now (members_in (S.tree map.now)) ≡ Some (D.subject.tree_of v)) × D.subject.well v) }
+    ensures ok { IfOk result (λ v. (D.subject.kind v ≡ kind)
+        × (get_member name.now (members_in (S.tree map.now)) ≡ Some (D.subject.tree_of v)) × D.subject.well v) }
     ensures no_fit { IfNoFit result (PartFits required (D.subject.rule kind) (get_member name.now (members_in (S.tree map.now))) → ⊥) }
 {
     match map.member(name) {

@@ -12,7 +12,8 @@ pub writable : (t u : Node) → t ≡ u → IsWhole u 70 → IsWritable t
 writable t u e whole = subst IsWritable (sym e) (whole_within u 70 100 (omega arith) whole)
 
 -- the line of an event
-pub event_grouped : (l : ℕ) (method params m p line : List ℕ) → line ≡ decimal l ++ 32 ∷ (codes "event " ++ (m ++ 32 ∷ (p ++ 10 ∷ []))) → m ≡ method → p ≡ params
+pub event_grouped : (l : ℕ) (method params m p line : List ℕ)
+    → line ≡ decimal l ++ 32 ∷ (codes "event " ++ (m ++ 32 ∷ (p ++ 10 ∷ []))) → m ≡ method → p ≡ params
     → line ≡ ended (decimal l ++ 32 ∷ (codes "event " ++ (method ++ 32 ∷ params)))
 event_grouped l method params m p line e same_method same_params =
     e

@@ -34,16 +34,19 @@ pub record Schedule (bytes : List ℕ) (steps : List PairStep) (rest : List ℕ)
 
 -- every byte belongs to a pair line, and the text is that of the ledger of the inputs that the steps are heard as
 abbrev pub PairsAll : List ℕ → List ℕ → Type 0
-PairsAll bytes text = (steps : List PairStep) × (inputs : List PairInput) × Schedule bytes steps [] × AreHeardAs steps inputs × (text ≡ ledger_text (ledger inputs))
+PairsAll bytes text =
+    (steps : List PairStep) × (inputs : List PairInput) × Schedule bytes steps [] × AreHeardAs steps inputs × (text ≡ ledger_text (ledger inputs))
 
 -- What a fault says of the bytes that were read, the last of them or not, and of what was written: but for a failed write, nothing was.
 abbrev pub StopsAt : PairFault → Bool → List ℕ → List ℕ → Type 0
 -- each whole line that was read says a step, and what is left may be the beginning of a line
 StopsAt Read at_end read wrote = (steps : List PairStep) × (rest : List ℕ) × Schedule read steps rest × IsLine rest × (wrote ≡ [])
 -- line n is there, and all lines before it say a step
-StopsAt (BadLine n) at_end read wrote = (steps : List PairStep) × (rest : List ℕ) × Schedule read steps rest × HasLine at_end rest × (n ≡ length steps + 1) × (wrote ≡ [])
+StopsAt (BadLine n) at_end read wrote =
+    (steps : List PairStep) × (rest : List ℕ) × Schedule read steps rest × HasLine at_end rest × (n ≡ length steps + 1) × (wrote ≡ [])
 -- as many lines as are taken say a step, and the input goes on
-StopsAt TooManyLines at_end read wrote = (steps : List PairStep) × (rest : List ℕ) × Schedule read steps rest × (length steps ≡ 1000000000) × (rest ≢ []) × (wrote ≡ [])
+StopsAt TooManyLines at_end read wrote =
+    (steps : List PairStep) × (rest : List ℕ) × Schedule read steps rest × (length steps ≡ 1000000000) × (rest ≢ []) × (wrote ≡ [])
 -- all lines say a step, and of some at their front as many inputs were handed to the remote end as it takes
 StopsAt WornOut at_end read wrote = (steps : List PairStep) × (n : ℕ) × (inputs : List PairInput) × Schedule read steps [] × AreHeardAs (take n steps) inputs
     × (1000000000 ≤ length (history (past_after [] inputs))) × (wrote ≡ [])

@@ -95,8 +95,10 @@ pub fn play_pair<R: Source, W: Sink>(
         (StopsAt fault (R.has_ended source.new))) }
 
     // A device is blamed where it failed, and no run succeeds after a failure.
-    ensures reads { MatchResult result (λ _. R.failures source.new ≡ R.failures source.old) (λ fault. R.failures source.new ≡ R.failures source.old + failed_reads fault) }
-    ensures writes { MatchResult result (λ _. W.failures sink.new ≡ W.failures sink.old) (λ fault. W.failures sink.new ≡ W.failures sink.old + failed_writes fault) }
+    ensures reads { MatchResult result (λ _. R.failures source.new ≡ R.failures source.old)
+        (λ fault. R.failures source.new ≡ R.failures source.old + failed_reads fault) }
+    ensures writes { MatchResult result (λ _. W.failures sink.new ≡ W.failures sink.old)
+        (λ fault. W.failures sink.new ≡ W.failures sink.old + failed_writes fault) }
 {
     let steps = read_steps(alloc, source)?;
     let ledger = pair(alloc, steps)?;
@@ -111,7 +113,8 @@ fn read_steps<R: Source>(alloc: Global, source: &mut R) -> Result<Vec<PairStep>,
     ensures well { IfOk result (λ steps. AreWell steps.items) }
     ensures end { OnOk result (IsTrue (R.has_ended source.new) × IsAtEnd (R.left source.new)) }
     ensures err { IfErr result (λ fault. Reads (R.left source.old) (R.left source.new) (λ read. StopsAt fault (R.has_ended source.new) read [])) }
-    ensures reads { MatchResult result (λ _. R.failures source.new ≡ R.failures source.old) (λ fault. R.failures source.new ≡ R.failures source.old + failed_reads fault) }
+    ensures reads { MatchResult result (λ _. R.failures source.new ≡ R.failures source.old)
+        (λ fault. R.failures source.new ≡ R.failures source.old + failed_reads fault) }
     ensures no_write { IfErr result (λ fault. failed_writes fault ≡ 0) }
 {
     let mut reader = LineReader::new(alloc);

@@ -106,19 +106,25 @@ module _ {F : Type 0} (n : InfoOf F) where
       let inside = member_levels (codes "children") c (put (codes "children") c ms) (get_member-put (codes "children") c ms) in
       omega (arith, inside)
 
-  one_map : (f : F) (c : Node) → OwnMembersAreWell n f → levels (info_map n.table f c) ≤ 60 → Fits c (either (list_of 0 (rule info)) null) → Fits (info_map n.table f c) (rule info)
+  one_map : (f : F) (c : Node) → OwnMembersAreWell n f
+      → levels (info_map n.table f c) ≤ 60 → Fits c (either (list_of 0 (rule info)) null) → Fits (info_map n.table f c) (rule info)
   one_map f c w h x =
       fits_rule (info_map n.table f c) info (subst (Fits (info_map n.table f c)) (sym n.is_info)
       (fits_capped (info_map n.table f c) (map_of (rows_with n.table (rule info)) n.table.openness) h
-      (map_fits (rows_with n.table (rule info)) n.table.openness (Some c ∷ n.table.parts [] f) (n.table.others f) n.once (x, n.table.parts_fit names [] f w.0) w.1.no_known w.1.may)))
+      (map_fits (rows_with n.table (rule info)) n.table.openness (Some c ∷ n.table.parts [] f) (n.table.others f) n.once
+      (x, n.table.parts_fit names [] f w.0) w.1.no_known w.1.may)))
 
   mutual
     pub info_fits : (i : Content F) → PartsAreWell n i → levels (info_tree n i) ≤ 60 → Fits (info_tree n i) (rule info)
-    info_fits (told f c) w h = let below = children_levels f (children_tree n c) in one_map f (children_tree n c) w.0 h (children_fit c w.1 (omega (arith, below, h)))
+    info_fits (told f c) w h =
+        let below = children_levels f (children_tree n c) in
+        one_map f (children_tree n c) w.0 h (children_fit c w.1 (omega (arith, below, h)))
 
     pub children_fit : (c : Children F) → ChildrenAreWell n c → levels (children_tree n c) ≤ 60 → Fits (children_tree n c) (either (list_of 0 (rule info)) null)
     children_fit left_out w h = fits_second node.null (list_of 0 (rule info)) null fits_null
-    children_fit (listed is) w h = fits_first (node.list (infos_tree n is)) (list_of 0 (rule info)) null (fits_list (infos_tree n is) 0 (rule info) (omega arith) (infos_fit is w (omega (arith, h))))
+    children_fit (listed is) w h =
+        fits_first (node.list (infos_tree n is)) (list_of 0 (rule info)) null
+        (fits_list (infos_tree n is) 0 (rule info) (omega arith) (infos_fit is w (omega (arith, h))))
 
     pub infos_fit : (is : Contents F) → InfosAreWell n is → items_levels (infos_tree n is) ≤ 60 → AllFit (infos_tree n is) (rule info)
     infos_fit no_more w h = no_item (rule info)
@@ -128,7 +134,8 @@ module _ {F : Type 0} (n : InfoOf F) where
     pub info_one : (i j : Content F) → PartsAreWell n i → PartsAreWell n j → info_tree n i ≡ info_tree n j → Same n i j
     info_one (told f c) (told g d) a b e =
         let rows = rows_with n.table (rule info) in
-        let p = map_one rows (Some (children_tree n c) ∷ n.table.parts [] f) (Some (children_tree n d) ∷ n.table.parts [] g) (n.table.others f) (n.table.others g) n.once
+        let p = map_one rows (Some (children_tree n c) ∷ n.table.parts [] f) (Some (children_tree n d) ∷ n.table.parts [] g)
+        (n.table.others f) (n.table.others g) n.once
         (aligned f a.0) (aligned g b.0) a.0.1.no_known b.0.1.no_known e in
         (n.table.one [] f g a.0.0 b.0.0 (same_tail p.0) p.1, children_one c d a.1 b.1 (same_some (same_head p.0)))
       where

@@ -22,10 +22,12 @@ info_parts = record {
 }
 
 -- the map of children, these members beside them, and further members
-abbrev pub map_of_parts : Option (Vec Info Global) → String Global → String Global → Option (String Global) → String Global → String Global → Option (Option (String Global)) → Members → Node
+abbrev pub map_of_parts : Option (Vec Info Global) → String Global
+    → String Global → Option (String Global) → String Global → String Global → Option (Option (String Global)) → Members → Node
 map_of_parts children client_window context original_opener url user_context parent ext =
     let text = string_shape.tree_of in
     let text_or_null = (nullable_shape string_shape).tree_of in
     table_tree (rows_with info_parts.table (rule info))
-    (Some (tree_of_children info_parts children) ∷ Some (text client_window) ∷ Some (text context) ∷ Some (text_or_null original_opener) ∷ Some (text url) ∷ Some (text user_context) ∷ option_map text_or_null parent ∷ [])
+    (Some (tree_of_children info_parts children) ∷ Some (text client_window) ∷ Some (text context)
+    ∷ Some (text_or_null original_opener) ∷ Some (text url) ∷ Some (text user_context) ∷ option_map text_or_null parent ∷ [])
     ext

@@ -11,7 +11,9 @@ use Rattle.bidi_params.specs.declared.browsing_context.info.Info.{Info, Info-F, 
 
 -- the members beside `children`
 abbrev pub OwnMembers : Type 0
-OwnMembers = Required (String Global) (Required (String Global) (Required (Option (String Global)) (Required (String Global) (Required (String Global) (Optional (Option (String Global)) Ext)))))
+OwnMembers =
+    Required (String Global) (Required (String Global)
+    (Required (Option (String Global)) (Required (String Global) (Required (String Global) (Optional (Option (String Global)) Ext)))))
 
 abbrev pub beside_of : {A : Type 0} → Info-F A → OwnMembers
 beside_of i = (i.client_window, (i.context, (i.original_opener, (i.url, (i.user_context, (i.parent, i.ext))))))

@@ -9,7 +9,8 @@ use Rattle.bidi_params.specs.declared.browsing_context.create.ContextType.TheVar
 use Rattle.bidi_params.specs.declared.browsing_context.navigate.Wait.{Wait}
 use Rattle.bidi_params.specs.declared.browsing_context.navigate.Wait.TheVariants.{None as Never, Interactive, Complete}
 use Rattle.bidi_params.specs.declared.script.realms.RealmType.{RealmType}
-use Rattle.bidi_params.specs.declared.script.realms.RealmType.TheVariants.{Window as WindowRealm, DedicatedWorker, SharedWorker, ServiceWorker, Worker, PaintWorklet, AudioWorklet, Worklet}
+use Rattle.bidi_params.specs.declared.script.realms.RealmType.TheVariants.{Window as WindowRealm, DedicatedWorker, SharedWorker}
+use Rattle.bidi_params.specs.declared.script.realms.RealmType.TheVariants.{ServiceWorker, Worker, PaintWorklet, AudioWorklet, Worklet}
 
 -- ---- types of a new context
 
@@ -77,7 +78,9 @@ realm_type_text AudioWorklet = codes "audio-worklet"
 realm_type_text Worklet = codes "worklet"
 
 -- each value's text names it
-pub realm_type_named : (v : RealmType) → value_named (word realm_type_text WindowRealm) (word realm_type_text DedicatedWorker ∷ word realm_type_text SharedWorker ∷ word realm_type_text ServiceWorker ∷ word realm_type_text Worker ∷ word realm_type_text PaintWorklet ∷ word realm_type_text AudioWorklet ∷ word realm_type_text Worklet ∷ []) (realm_type_text v) ≡ Some v
+pub realm_type_named : (v : RealmType) → value_named (word realm_type_text WindowRealm)
+    (word realm_type_text DedicatedWorker ∷ word realm_type_text SharedWorker ∷ word realm_type_text ServiceWorker ∷ word realm_type_text Worker
+    ∷ word realm_type_text PaintWorklet ∷ word realm_type_text AudioWorklet ∷ word realm_type_text Worklet ∷ []) (realm_type_text v) ≡ Some v
 realm_type_named WindowRealm = refl
 realm_type_named DedicatedWorker = refl
 realm_type_named SharedWorker = refl
@@ -91,7 +94,9 @@ abbrev pub realm_type_words : Words RealmType
 realm_type_words = record {
   rule = rule name.realm_type;
   first = word realm_type_text WindowRealm;
-  rest = word realm_type_text DedicatedWorker ∷ word realm_type_text SharedWorker ∷ word realm_type_text ServiceWorker ∷ word realm_type_text Worker ∷ word realm_type_text PaintWorklet ∷ word realm_type_text AudioWorklet ∷ word realm_type_text Worklet ∷ [];
+  rest =
+      word realm_type_text DedicatedWorker ∷ word realm_type_text SharedWorker ∷ word realm_type_text ServiceWorker
+      ∷ word realm_type_text Worker ∷ word realm_type_text PaintWorklet ∷ word realm_type_text AudioWorklet ∷ word realm_type_text Worklet ∷ [];
   text_of = realm_type_text;
   is_rule = refl;
   has_texts = (refl, (refl, (refl, (refl, (refl, (refl, (refl, refl)))))));

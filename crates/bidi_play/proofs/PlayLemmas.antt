@@ -1,5 +1,6 @@
 -- One more line of a play.
-use Rattle.std.proofs.Common.{◌≡◌, ℕ, ◌+◌, Bool, false, List, [], ◌∷◌, ◌++◌, length, reverse, take, drop, take-append-drop, append_assoc, append-nil, length-append, arith, refl, sym, ◌∙◌, ap, subst, inl, inr, true≢false, Err}
+use Rattle.std.proofs.Common.{◌≡◌, ℕ, ◌+◌, Bool, false, List, [], ◌∷◌, ◌++◌, length, reverse, take, drop, take-append-drop}
+use Rattle.std.proofs.Common.{append_assoc, append-nil, length-append, arith, refl, sym, ◌∙◌, ap, subst, inl, inr, true≢false, Err}
 use Rattle.std.specs.Prelude.{Option, Result}
 use Rattle.std.specs.Global.{Vec}
 use lib.Seq.{take-append_seam}
@@ -26,7 +27,8 @@ pub all_more : (steps : List Step) (s : Step) → AllByRecursion CanBeSaid steps
 all_more [] s a c = (c, tt)
 all_more (y ∷ ys) s a c = (a.0, all_more ys s a.1 c)
 
-pub heard_more : (steps : List Step) (inputs : List Input) (s : Step) (i : Input) → AreHeardAs steps inputs → IsHeardAs s i → AreHeardAs (steps ++ s ∷ []) (inputs ++ i ∷ [])
+pub heard_more : (steps : List Step) (inputs : List Input) (s : Step) (i : Input)
+    → AreHeardAs steps inputs → IsHeardAs s i → AreHeardAs (steps ++ s ∷ []) (inputs ++ i ∷ [])
 heard_more [] [] s i a h = (h, tt)
 heard_more [] (j ∷ inputs) s i a h = absurd a
 heard_more (y ∷ ys) [] s i a h = absurd a
@@ -56,7 +58,8 @@ play_more bytes rest line more steps text s i p r l c h reads =
     }
 
 -- more bytes were read, of no whole line
-unfoldable pub play_read : (read bytes rest rest' : List ℕ) (steps : List Step) (wrote : List ℕ) → Play read steps rest wrote → rest' ≡ rest ++ bytes → Play (read ++ bytes) steps rest' wrote
+unfoldable pub play_read : (read bytes rest rest' : List ℕ) (steps : List Step) (wrote : List ℕ)
+    → Play read steps rest wrote → rest' ≡ rest ++ bytes → Play (read ++ bytes) steps rest' wrote
 play_read read bytes rest rest' steps wrote p e = record {
   lines = ap (λ (z : List ℕ). z ++ bytes) p.lines ∙ (append_assoc (said steps) rest bytes ∙ ap (λ (z : List ℕ). said steps ++ z) (sym e));
   each = p.each;
@@ -82,9 +85,16 @@ pub part_so_far : (bytes rest : List ℕ) (steps : List Step) (wrote : List ℕ)
 part_so_far bytes rest steps wrote p = (steps, rest, wrote, [], p, sym (append-nil wrote))
 
 -- so is that and a beginning of the next text
-pub part_of_text : (bytes rest : List ℕ) (steps : List Step) (wrote text : List ℕ) (n : ℕ) → Play bytes steps rest (wrote ++ text) → PlaysPart bytes (wrote ++ take n text)
-part_of_text bytes rest steps wrote text n p =
-    (steps, rest, wrote ++ text, drop n text, p, ap (λ (t : List ℕ). wrote ++ t) (sym (take-append-drop n text)) ∙ sym (append_assoc wrote (take n text) (drop n text)))
+pub part_of_text : (bytes rest : List ℕ) (steps : List Step) (wrote text : List ℕ) (n : ℕ)
+    → Play bytes steps rest (wrote ++ text) → PlaysPart bytes (wrote ++ take n text)
+part_of_text bytes rest steps wrote text n p = (
+  steps,
+  rest,
+  wrote ++ text,
+  drop n text,
+  p,
+  ap (λ (t : List ℕ). wrote ++ t) (sym (take-append-drop n text)) ∙ sym (append_assoc wrote (take n text) (drop n text)),
+)
 
 -- a fault of the remote end stops a play at a play line
 pub remote_stop : (e : RemoteFault) (at_end : Bool) (bytes rest : List ℕ) (steps : List Step) (wrote : List ℕ) → Play bytes steps rest wrote
@@ -109,19 +119,23 @@ stops_next fault.Read at_end read rest steps wrote p says = (steps, rest, p, say
 stops_next fault.BadLine at_end read rest steps wrote p says = (steps, rest, p, inr says.enough, no_play_line at_end rest says, refl)
 stops_next fault.NoMemory at_end read rest steps wrote p says = part_so_far read rest steps wrote p
 
-pub input_stop : (f : InputFault) (shown : PlayFault) (count : ℕ) (at_end : Bool) (read rest : List ℕ) (steps : List Step) (wrote : List ℕ) → shown ≡ play_fault_of f (count + 1)
-    → count ≡ length steps → Play read steps rest wrote → (let r : Result (Option (Vec ℕ)) InputFault = Err f in Says r at_end rest) → StopsAt shown at_end read wrote
+pub input_stop : (f : InputFault) (shown : PlayFault) (count : ℕ) (at_end : Bool) (read rest : List ℕ) (steps : List Step) (wrote : List ℕ)
+    → shown ≡ play_fault_of f (count + 1)
+    → count ≡ length steps → Play read steps rest wrote
+    → (let r : Result (Option (Vec ℕ)) InputFault = Err f in Says r at_end rest) → StopsAt shown at_end read wrote
 input_stop f shown count at_end read rest steps wrote is counted p says =
     let same : play_fault_of f (length steps + 1) ≡ shown = ap (λ (n : ℕ). play_fault_of f (n + 1)) (sym counted) ∙ sym is in
     subst (λ (x : PlayFault). StopsAt x at_end read wrote) same (stops_next f at_end read rest steps wrote p says)
 
 -- a line that says no step begins no play
-pub no_line : (line more rest : List ℕ) → rest ≡ line ++ 10 ∷ more → has_feed line ≡ false → ((s : Step) → CanBeSaid s → line ≡ line_of s → ⊥) → HasNoPlayLine rest
+pub no_line : (line more rest : List ℕ)
+    → rest ≡ line ++ 10 ∷ more → has_feed line ≡ false → ((s : Step) → CanBeSaid s → line ≡ line_of s → ⊥) → HasNoPlayLine rest
 no_line line more rest r f none s after c e =
     none s c (one_front 10 line more (line_of s) after f c.one_line (sym r ∙ (e ∙ append_assoc (line_of s) (10 ∷ []) after))).0
 
 -- a line that says no step stops a play; it is known by another name
-pub line_stop : (count : ℕ) (at_end : Bool) (read line seen rest : List ℕ) (steps : List Step) (wrote : List ℕ) → Play read steps (ended line ++ rest) wrote → IsLine line → seen ≡ line
+pub line_stop : (count : ℕ) (at_end : Bool) (read line seen rest : List ℕ) (steps : List Step) (wrote : List ℕ)
+    → Play read steps (ended line ++ rest) wrote → IsLine line → seen ≡ line
     → ((s : Step) → CanBeSaid s → seen ≡ line_of s → ⊥) → count ≡ length steps → StopsAt (BadLine (count + 1)) at_end read wrote
 line_stop count at_end read line seen rest steps wrote p is same none counted =
     let whole = ended line ++ rest in
@@ -141,4 +155,5 @@ unfoldable pub play_next : (read bytes rest rest' line : List ℕ) (steps : List
 unfolding play_more play_read
 play_next read bytes rest rest' line steps wrote s i p e says can heard reads =
     let whole = ended line ++ rest' in
-    play_more (read ++ bytes) whole line rest' steps wrote s i (play_read read bytes rest whole steps wrote p e) (append_assoc line (10 ∷ []) rest') says can heard reads
+    play_more (read ++ bytes) whole line rest' steps wrote s i (play_read read bytes rest whole steps wrote p e)
+    (append_assoc line (10 ∷ []) rest') says can heard reads

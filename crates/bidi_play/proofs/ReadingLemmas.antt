@@ -45,12 +45,20 @@ logged context id level grave text other a b e =
 pub one_step : (s t : Step) → IsSayable s → IsSayable t → line_of s ≡ line_of t → s ≡ t
 one_step (At n) (At m) a b e = let below = a.number in let less = b.number in ap At (decimal_injective n m (omega arith) (omega arith) (ap (drop 3) e))
 one_step (Drop c) (Drop d) a b e = let below = a.number in let less = b.number in ap Drop (decimal_injective c d (omega arith) (omega arith) (ap (drop 5) e))
-one_step (NotText c) (NotText d) a b e = let below = a.number in let less = b.number in ap NotText (decimal_injective c d (omega arith) (omega arith) (ap (drop 7) e))
+one_step (NotText c) (NotText d) a b e =
+    let below = a.number in
+    let less = b.number in
+    ap NotText (decimal_injective c d (omega arith) (omega arith) (ap (drop 7) e))
 one_step (Open c resource) (Open d other) a b e = let h = numbered c d resource other a.number b.number (ap (drop 5) e) in let i = h.0 in let j = h.1 in cc
 one_step (Text c text) (Text d other) a b e = let h = numbered c d text other a.number b.number (ap (drop 2) e) in let i = h.0 in let j = h.1 in cc
 one_step (Frame context url) (Frame id other) a b e = let h = named context id url other a.context b.context (ap (drop 6) e) in ap₂ Frame h.0 h.1
 one_step (Unframe context) (Unframe id) a b e = ap Unframe (ap (drop 8) e)
-one_step (Log context level text) (Log id grave other) a b e = let h = logged context id level grave text other a.context b.context (ap (drop 4) e) in let i = h.0 in let j = h.1 in let k = h.2 in cc
+one_step (Log context level text) (Log id grave other) a b e =
+    let h = logged context id level grave text other a.context b.context (ap (drop 4) e) in
+    let i = h.0 in
+    let j = h.1 in
+    let k = h.2 in
+    cc
 one_step (TableRow text) (TableRow other) a b e = ap TableRow (ap (drop 6) e)
 one_step s t a b e = absurd (apart (first (line_of s)) (first (line_of t)) (ap first e) refl)
 

@@ -25,7 +25,8 @@ has_space line h (step.TableRow text) e = h (codes "value") text e refl
 
 -- and that of a step begins with one of nine words
 pub known_word : (line word rest : List ℕ) → Splits line (λ xs ys. (word ≡ xs) × (rest ≡ ys))
-    → (word ≡ codes "at" → ⊥) → (word ≡ codes "drop" → ⊥) → (word ≡ codes "binary" → ⊥) → (word ≡ codes "open" → ⊥) → (word ≡ codes ">" → ⊥) → (word ≡ codes "frame" → ⊥) → (word ≡ codes "unframe" → ⊥) → (word ≡ codes "log" → ⊥) → (word ≡ codes "value" → ⊥)
+    → (word ≡ codes "at" → ⊥) → (word ≡ codes "drop" → ⊥) → (word ≡ codes "binary" → ⊥) → (word ≡ codes "open" → ⊥) → (word ≡ codes ">" → ⊥)
+    → (word ≡ codes "frame" → ⊥) → (word ≡ codes "unframe" → ⊥) → (word ≡ codes "log" → ⊥) → (word ≡ codes "value" → ⊥)
     → (s : Step) → line ≡ line_of s → ⊥
 known_word line word rest h a d b o t f u l v (step.At n) e = a (h (codes "at") (decimal n) e refl).0
 known_word line word rest h a d b o t f u l v (step.Open c r) e = o (h (codes "open") (decimal c ++ 32 ∷ r) e refl).0

@@ -54,7 +54,8 @@ abbrev pub StopsAt : PlayFault → Bool → List ℕ → List ℕ → Type 0
 -- each whole line that was read was played, and what is left may be the beginning of a line
 StopsAt Read at_end read wrote = (steps : List Step) × (rest : List ℕ) × Play read steps rest wrote × IsLine rest
 -- line n is there and is no play line, and all lines before it were played
-StopsAt (BadLine n) at_end read wrote = (steps : List Step) × (rest : List ℕ) × Play read steps rest wrote × HasLine at_end rest × HasNoPlayLine rest × (n ≡ length steps + 1)
+StopsAt (BadLine n) at_end read wrote =
+    (steps : List Step) × (rest : List ℕ) × Play read steps rest wrote × HasLine at_end rest × HasNoPlayLine rest × (n ≡ length steps + 1)
 -- as many steps as a remote end takes were played, and the next line is there and is a play line
 StopsAt WornOut at_end read wrote = (steps : List Step) × (rest : List ℕ) × Play read steps rest wrote × (length steps ≡ 1000000000) × HasPlayLine rest
 StopsAt Write at_end read wrote = PlaysPart read wrote

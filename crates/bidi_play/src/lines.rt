@@ -1,5 +1,6 @@
 //! Lines: reading one as a step, and writing those of what is sent.
-ghost use Rattle.std.specs.Prelude.{◌≡◌, ℕ, ◌<◌, ◌≤◌, ◌^◌, ◌==◌, ◌↔◌, List, [], ◌∷◌, ◌++◌, true, false, map, length, decimal, string_bytes, IsTrue, IfOk, IfSome, IfNone, IsSomeAnd, position};
+ghost use Rattle.std.specs.Prelude.{◌≡◌, ℕ, ◌<◌, ◌≤◌, ◌^◌, ◌==◌, ◌↔◌, List, [], ◌∷◌, ◌++◌, true, false, map, length};
+ghost use Rattle.std.specs.Prelude.{decimal, string_bytes, IsTrue, IfOk, IfSome, IfNone, IsSomeAnd, position};
 ghost use Rattle.std.specs.List.{list_any};
 ghost use Rattle.bidi_values.specs.Level.{level_text};
 ghost use Rattle.bidi_remote.specs.Machine.Step as play;
@@ -120,8 +121,10 @@ fn read_context_and_text(alloc: Global, rest: &str) -> Result<Option<(String, St
 
 // Reads a context's id, a level behind the first space, and the text behind the next.
 fn read_entry(alloc: Global, rest: &str) -> Result<Option<(String, Level, String)>, AllocError>
-    ensures some { IfOk result (λ found. IfSome found (λ x. IsContext (string_bytes x.0) × (rest.now ≡ string_bytes x.0 ++ 32 ∷ level_text x.1 ++ 32 ∷ string_bytes x.2))) }
-    ensures none { IfOk result (λ found. IfNone found ((context text : List ℕ) (level : Level) → IsContext context → rest.now ≡ context ++ 32 ∷ level_text level ++ 32 ∷ text → ⊥)) }
+    ensures some { IfOk result (λ found.
+        IfSome found (λ x. IsContext (string_bytes x.0) × (rest.now ≡ string_bytes x.0 ++ 32 ∷ level_text x.1 ++ 32 ∷ string_bytes x.2))) }
+    ensures none { IfOk result (λ found. IfNone found
+        ((context text : List ℕ) (level : Level) → IsContext context → rest.now ≡ context ++ 32 ∷ level_text level ++ 32 ∷ text → ⊥)) }
 {
     let Some((context, entry)) = split_at_space(rest) else {
         return Ok(None);

@@ -86,8 +86,10 @@ pub fn play<R: Source, W: Sink>(
         (StopsAt fault (R.has_ended source.new))) }
 
     // A device is blamed where it failed, and no play succeeds after a failure.
-    ensures reads { MatchResult result (λ _. R.failures source.new ≡ R.failures source.old) (λ fault. R.failures source.new ≡ R.failures source.old + failed_reads fault) }
-    ensures writes { MatchResult result (λ _. W.failures sink.new ≡ W.failures sink.old) (λ fault. W.failures sink.new ≡ W.failures sink.old + failed_writes fault) }
+    ensures reads { MatchResult result (λ _. R.failures source.new ≡ R.failures source.old)
+        (λ fault. R.failures source.new ≡ R.failures source.old + failed_reads fault) }
+    ensures writes { MatchResult result (λ _. W.failures sink.new ≡ W.failures sink.old)
+        (λ fault. W.failures sink.new ≡ W.failures sink.old + failed_writes fault) }
 {
     let mut end = RemoteEnd::new(alloc)?;
     let mut reader = LineReader::new(alloc);

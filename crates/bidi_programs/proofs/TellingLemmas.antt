@@ -32,7 +32,8 @@ begins_second a b c xs ys whole (n, short, part) =
     (length xs + n, omega (arith, long), subst (Appends a c) (sym (take-append-add xs ys n)) (Appends-trans a b c xs (take n ys) whole part))
 
 -- what a writing says of its bytes and of the failures is that they were told
-pub told : {T E : Type 0} (r : Result T E) (a b : Option (List ℕ)) (failed failed' : ℕ) (line : List ℕ) → OnOk r (Appends a b line) → OnErr r (AppendsBeginning a b line)
+pub told : {T E : Type 0} (r : Result T E) (a b : Option (List ℕ)) (failed failed' : ℕ) (line : List ℕ)
+    → OnOk r (Appends a b line) → OnErr r (AppendsBeginning a b line)
     → CountsFailure r failed failed' → Tells a b failed failed' line
 told (Ok x) a b failed failed' line whole part counts = inl (counts, whole)
 told (Err e) a b failed failed' line whole part counts = inr (counts, part)

@@ -60,8 +60,10 @@ fn finish<R: Source, W: Sink>(
         × Moves (R.left source.old) (R.left source.new) (W.contents sink.old) (W.contents sink.new) (Completes run.now status)) }
     ensures err { IfErr result (λ fault. Moves (R.left source.old) (R.left source.new) (W.contents sink.old) (W.contents sink.new)
         (Stops run.now fault (R.has_ended source.new))) }
-    ensures reads { MatchResult result (λ _. R.failures source.new ≡ R.failures source.old) (λ fault. R.failures source.new ≡ R.failures source.old + failed_reads fault) }
-    ensures writes { MatchResult result (λ _. W.failures sink.new ≡ W.failures sink.old) (λ fault. W.failures sink.new ≡ W.failures sink.old + failed_writes fault) }
+    ensures reads { MatchResult result (λ _. R.failures source.new ≡ R.failures source.old)
+        (λ fault. R.failures source.new ≡ R.failures source.old + failed_reads fault) }
+    ensures writes { MatchResult result (λ _. W.failures sink.new ≡ W.failures sink.old)
+        (λ fault. W.failures sink.new ≡ W.failures sink.old + failed_writes fault) }
 {
     match run {
         Run::Play => match play(alloc, source, sink) {

@@ -18,7 +18,8 @@ use Rattle.bidi_handles.specs.Params.{natural}
 use Rattle.bidi_remote.specs.Machine.Commands.{command_in, id_of_command}
 use Rattle.bidi_remote.specs.Tables.Asked.{asked_of, IsWellAsked, Asks}
 use Rattle.bidi_remote.proofs.SubscribeAskLemmas.{subscribe-asks, unsubscribe-asks}
-use Rattle.bidi_remote.proofs.BrowserAskLemmas.{activate-asks, close-asks, create-asks, get_tree-asks, navigate-asks, reload-asks, traverse-asks, get_realms-asks}
+use Rattle.bidi_remote.proofs.BrowserAskLemmas.{activate-asks, close-asks, create-asks, get_tree-asks}
+use Rattle.bidi_remote.proofs.BrowserAskLemmas.{navigate-asks, reload-asks, traverse-asks, get_realms-asks}
 use Rattle.bidi_remote.proofs.TargetAskLemmas.{evaluate-asks, call-asks, disown-asks}
 
 -- the tree of a command
@@ -26,7 +27,8 @@ abbrev pub tree_of : declared_command.Command → Node
 tree_of c = ghosts.shape.tree_of c
 
 -- a method and its params ask what a command in hand asks
-what : (d : CommandData) → asks.ghosts.subject.well d → command_in (method_text (method_of d)) (asks.ghosts.subject.tree_of d) ≡ Some (asked_of params.ghosts.shape d)
+what : (d : CommandData) → asks.ghosts.subject.well d
+    → command_in (method_text (method_of d)) (asks.ghosts.subject.tree_of d) ≡ Some (asked_of params.ghosts.shape d)
 what (Of.SessionStatus p) w = refl
 what (Of.SessionNew p) w = refl
 what (Of.SessionEnd p) w = refl

@@ -1,5 +1,6 @@
 -- A table whose first rows were looked at.
-use Rattle.std.proofs.Common.{◌≡◌, ◌∙◌, ◌<◌, ◌≤◌, ◌+◌, ℕ, zero, suc, true, false, List, [], ◌∷◌, ◌++◌, append_assoc, length, map, set, get_or, drop, refl, sym, ap, arith}
+use Rattle.std.proofs.Common.{◌≡◌, ◌∙◌, ◌<◌, ◌≤◌, ◌+◌, ℕ, zero, suc, true, false, List, [], ◌∷◌, ◌++◌}
+use Rattle.std.proofs.Common.{append_assoc, length, map, set, get_or, drop, refl, sym, ap, arith}
 use Rattle.std.specs.Prelude.{◌==◌}
 use Rattle.std.proofs.lemmas.Bool.Decides.{nat_tests}
 use Rattle.bidi_remote.specs.declared.connections.Connection.{Connection}
@@ -25,7 +26,8 @@ next g zero (x ∷ xs) d less = refl
 next g (suc i) (x ∷ xs) d less = ap (λ ys. g x ∷ ys) (next g i xs d (omega arith))
 
 -- the next one is changed
-pub over-next : {X : Type 0} (g : X → X) (i : ℕ) (xs ys : List X) (y : X) → i < length xs → ys ≡ over g i xs → get_or ys i y ≡ y → over g (i + 1) xs ≡ set ys i (g y)
+pub over-next : {X : Type 0} (g : X → X) (i : ℕ) (xs ys : List X) (y : X)
+    → i < length xs → ys ≡ over g i xs → get_or ys i y ≡ y → over g (i + 1) xs ≡ set ys i (g y)
 over-next g i xs ys y less same at =
     let e : i + 1 ≡ suc i = omega arith in
     ap (λ k. over g k xs) e ∙ (next g i xs y less ∙ (ap (λ zs. set zs i (g (get_or zs i y))) (sym same) ∙ ap (λ z. set ys i (g z)) at))
@@ -37,7 +39,8 @@ set-again (y ∷ xs) zero x at = ap (λ z. z ∷ xs) (sym at)
 set-again (y ∷ xs) (suc i) x at = ap (λ zs. y ∷ zs) (set-again xs i x at)
 
 -- the next one is as it would be changed
-pub over-kept : {X : Type 0} (g : X → X) (i : ℕ) (xs ys : List X) (y : X) → i < length xs → ys ≡ over g i xs → get_or ys i y ≡ y → y ≡ g y → ys ≡ over g (i + 1) xs
+pub over-kept : {X : Type 0} (g : X → X) (i : ℕ) (xs ys : List X) (y : X)
+    → i < length xs → ys ≡ over g i xs → get_or ys i y ≡ y → y ≡ g y → ys ≡ over g (i + 1) xs
 over-kept g i xs ys y less same at is = sym (set-again ys i y at) ∙ (ap (set ys i) is ∙ sym (over-next g i xs ys y less same at))
 
 -- a row of that number begins, and any other is as it was
@@ -64,7 +67,8 @@ module _ (what : ℕ → Sent) (s : ℕ) where
 
   -- the next connection speaks for the session
   pub to_each-next : (items : List Connection) (i : ℕ) (d : Connection) (sent : List Sent) → i < length items → is_for s (row_of (get_or items i d)).1 ≡ true
-      → (sent ++ what (get_or items i d).number.value ∷ []) ++ to_each what s (map row_of (drop (i + 1) items)) ≡ sent ++ to_each what s (map row_of (drop i items))
+      → (sent ++ what (get_or items i d).number.value ∷ []) ++ to_each what s (map row_of (drop (i + 1) items))
+      ≡ sent ++ to_each what s (map row_of (drop i items))
   to_each-next items i d sent less is =
       let e : i + 1 ≡ suc i = omega arith in
       append_assoc sent (what (get_or items i d).number.value ∷ []) (to_each what s (map row_of (drop (i + 1) items)))

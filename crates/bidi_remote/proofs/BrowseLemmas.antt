@@ -1,5 +1,6 @@
 -- A plan of the browser is told, and so is what comes of it.
-use Rattle.std.proofs.Common.{◌≡◌, ◌∙◌, ℕ, Bool, true, false, List, [], ◌∷◌, ◌++◌, append-nil, map, flat_map, Option, Some, None, Result, Ok, Err, Vec, Global, IfOk, refl, sym, ap, ap₂, subst}
+use Rattle.std.proofs.Common.{◌≡◌, ◌∙◌, ℕ, Bool, true, false, List, [], ◌∷◌, ◌++◌, append-nil, map, flat_map, Option}
+use Rattle.std.proofs.Common.{Some, None, Result, Ok, Err, Vec, Global, IfOk, refl, sym, ap, ap₂, subst}
 use Rattle.std.specs.Prelude.{is_some, option_map}
 use Rattle.std.specs.Option.{option_zip}
 use Rattle.std.specs.declared.rc.Rc.{Rc}
@@ -7,7 +8,8 @@ use Rattle.bidi_codes.specs.declared.error_code.ErrorCode.{ErrorCode}
 use Rattle.bidi_messages.specs.declared.result_data.ResultData.{ResultData}
 use Rattle.bidi_browser.specs.declared.plan.Plan.{Plan}
 use Rattle.bidi_browser.specs.Acts.{Act, Logged, Looked, Ending}
-use Rattle.bidi_browser.specs.Actions.{Action, Activate, Close, Create, GetTree, Navigate, Reload, TraverseHistory, Evaluate, CallFunction, Disown, GetRealms, Frame, Unframe, Log, TableRow, is_asked}
+use Rattle.bidi_browser.specs.Actions.{Action, Activate, Close, Create, GetTree, Navigate, Reload, TraverseHistory, Evaluate}
+use Rattle.bidi_browser.specs.Actions.{CallFunction, Disown, GetRealms, Frame, Unframe, Log, TableRow, is_asked}
 use Rattle.bidi_codes.specs.Checks.{◌>>=◌}
 use Rattle.bidi_browser.specs.Outcome as browser
 use Rattle.bidi_browser.specs.Occurrences.{Occurrence, entry_added}
@@ -47,7 +49,8 @@ reply-asked asker None = refl
 reply-asked asker (Some r) = refl
 
 -- it goes to who asked
-asker-asked : (asker : Asker) (o : Option ResultData) → is_some o ≡ true → asker_in (option_map reply_of (option_zip (Some asker) o)) ≡ Some (asker.conn.value, asker.id.value)
+asker-asked : (asker : Asker) (o : Option ResultData)
+    → is_some o ≡ true → asker_in (option_map reply_of (option_zip (Some asker) o)) ≡ Some (asker.conn.value, asker.id.value)
 asker-asked asker None e = absurd (cc)
 asker-asked asker (Some r) e = refl
 
@@ -119,16 +122,20 @@ module _ (turn : Turn) (plan : Plan) (past : List Deed) (action : Action) (to : 
     (same : turn.change ≡ Browse plan.change) (announced : turn.telling.announced.items ≡ []) (before : turn.telling.before ≡ plan.before)
     (reply : turn.telling.reply ≡ option_map reply_of (option_zip to plan.result)) (after : turn.telling.after ≡ plan.after) where
   -- all that it brings about is told
-  planned-items : reply_in (option_map reply_of (option_zip to plan.result)) ≡ planned.reply_in plan.result → items_in turn.telling ≡ items past (Some action) (Did p.0)
-  planned-items replied = rw (before, reply, after) (ap (λ xs. map Happens (seen plan.before.items) ++ (xs ++ map Happens (seen plan.after.items))) replied ∙ p.2)
+  planned-items : reply_in (option_map reply_of (option_zip to plan.result)) ≡ planned.reply_in plan.result
+      → items_in turn.telling ≡ items past (Some action) (Did p.0)
+  planned-items replied =
+      rw (before, reply, after) (ap (λ xs. map Happens (seen plan.before.items) ++ (xs ++ map Happens (seen plan.after.items))) replied ∙ p.2)
 
   -- the change makes the act, which is no entry of the log
   planned-made : is_log action ≡ false → IsMade turn.change (acts past) p.0
   planned-made quiet = subst (λ x. IsMade x (acts past) p.0) (sym same) (p.4, only-logs (acts past) action quiet p.0 p.1)
 
 -- what a command of the browser comes to
-pub planned-decides : (turn : Turn) (plan : Plan) (past : List Deed) (action : Action) (asker : Asker) → is_asked action ≡ true → Plans (Ok plan) (acts past) (moment past) action
-    → turn.change ≡ Browse plan.change → turn.telling.announced.items ≡ [] → turn.telling.before ≡ plan.before → turn.telling.reply ≡ option_map reply_of (option_zip (Some asker) plan.result) → turn.telling.after ≡ plan.after
+pub planned-decides : (turn : Turn) (plan : Plan) (past : List Deed) (action : Action) (asker : Asker)
+    → is_asked action ≡ true → Plans (Ok plan) (acts past) (moment past) action
+    → turn.change ≡ Browse plan.change → turn.telling.announced.items ≡ [] → turn.telling.before ≡ plan.before
+    → turn.telling.reply ≡ option_map reply_of (option_zip (Some asker) plan.result) → turn.telling.after ≡ plan.after
     → Decides (Ok turn) past asker (OfBrowser action) (did (browser.outcome (acts past) action))
 planned-decides turn plan past action asker asked p same announced before reply after = (
   p.0,
@@ -152,10 +159,14 @@ unasked-told past action act ws all none same = append-nil _ ∙ (flat_map-same 
     one (Replies result) = refl
 
 -- a step of a page is taken
-pub page_takes : {E : Type 0} (r : Result (Vec declared_sent.Sent Global) E) (t : Tables) (h : List Input) (turned : Turn) (plan : Plan) (action : Action) → is_asked action ≡ false → is_log action ≡ false → Plans (Ok plan) (acts (deeds h)) (moment (deeds h)) action
-    → turned.change ≡ Browse plan.change → turned.telling.announced.items ≡ [] → turned.telling.before ≡ plan.before → turned.telling.reply ≡ option_map reply_of (option_zip None plan.result) → turned.telling.after ≡ plan.after
-    → ((i : Input) (act : Act) → turn (deeds h) i ≡ Ok (deed_of turned.change act) → IsMade turned.change (acts (deeds h)) act → AreMessages (written_in turned.telling.announced.items)
-    → IfOk r (λ all. (map sent_of all.items ≡ sent_for (deeds h) (asker_in turned.telling.reply) (deed_of turned.change act) (written_in turned.telling.announced.items) (items_in turned.telling))
+pub page_takes : {E : Type 0} (r : Result (Vec declared_sent.Sent Global) E) (t : Tables) (h : List Input) (turned : Turn) (plan : Plan) (action : Action)
+    → is_asked action ≡ false → is_log action ≡ false → Plans (Ok plan) (acts (deeds h)) (moment (deeds h)) action
+    → turned.change ≡ Browse plan.change → turned.telling.announced.items ≡ [] → turned.telling.before ≡ plan.before
+    → turned.telling.reply ≡ option_map reply_of (option_zip None plan.result) → turned.telling.after ≡ plan.after
+    → ((i : Input) (act : Act) → turn (deeds h) i ≡ Ok (deed_of turned.change act)
+    → IsMade turned.change (acts (deeds h)) act → AreMessages (written_in turned.telling.announced.items)
+    → IfOk r (λ all. (map sent_of all.items ≡ sent_for (deeds h) (asker_in turned.telling.reply) (deed_of turned.change act)
+    (written_in turned.telling.announced.items) (items_in turned.telling))
     × AllReadBack (map sent_of all.items) × AgreeWith t (deed_of turned.change act ∷ deeds h)))
     → IfOk r (λ all. Takes t (map sent_of all.items) h (PageStep action))
 page_takes r t h turned plan action unasked quiet p same announced before reply after taken =
@@ -166,14 +177,17 @@ page_takes r t h turned plan action unasked quiet p same announced before reply 
     let made = planned-made turned plan past action None p same announced before reply after quiet in
     let all = planned-items turned plan past action None p same announced before reply after (sym (reply-unasked plan.result (p.3 ∙ unasked))) in
     all_taken t h (PageStep action) (deed_of turned.change act) _ r
-    (taken (PageStep action) act (turn_is ∙ ap (λ x. Ok (deed_of x act)) (sym same)) made (subst (λ es. AreMessages (written_in es)) (sym announced) tt)) (turn_is ∙ ap (λ x. Ok (deed_of x act)) (sym same))
+    (taken (PageStep action) act (turn_is ∙ ap (λ x. Ok (deed_of x act)) (sym same)) made (subst (λ es. AreMessages (written_in es)) (sym announced) tt))
+    (turn_is ∙ ap (λ x. Ok (deed_of x act)) (sym same))
     (ap (λ x. sent_for past (asker_in turned.telling.reply) (deed_of x act) ws (items_in turned.telling)) same
-    ∙ (ap (λ who. sent_for past who (Did act) ws (items_in turned.telling)) (ap asker_in reply) ∙ (unasked-told past action act ws (items_in turned.telling) (ap written_in announced) all ∙ ap (λ x. told past (PageStep action) (Ok (deed_of x act))) (sym same))))
+    ∙ (ap (λ who. sent_for past who (Did act) ws (items_in turned.telling)) (ap asker_in reply) ∙ (unasked-told past action act ws
+    (items_in turned.telling) (ap written_in announced) all ∙ ap (λ x. told past (PageStep action) (Ok (deed_of x act))) (sym same))))
 
 -- ---- the log
 
 -- what logs is named, and logs there
-logs-there : (r : Result ℕ ErrorCode) (level : Level) (line : List ℕ) (act : Act) → (r >>= λ c. Ok (Logged c level line)) ≡ Ok act → (c : ℕ) × (act ≡ Logged c level line)
+logs-there : (r : Result ℕ ErrorCode) (level : Level) (line : List ℕ) (act : Act)
+    → (r >>= λ c. Ok (Logged c level line)) ≡ Ok act → (c : ℕ) × (act ≡ Logged c level line)
 logs-there (Ok c) level line act is = (c, cc)
 logs-there (Err code) level line act is = absurd (cc)
 
@@ -184,13 +198,16 @@ one-happens (x ∷ []) o is = cc
 one-happens (x ∷ y ∷ os) o is = absurd (cc)
 
 -- a planned entry: where it was logged, its event, and its change
-pub entry-planned : (past : List Deed) (id : List ℕ) (level : Level) (line : List ℕ) (plan : Plan) → Plans (Ok plan) (acts past) (moment past) (Log id level line)
-    → (c : ℕ) × (browser.log_outcome (acts past) id level line ≡ Ok (Logged c level line)) × (seen plan.before.items ≡ entry_added (acts past) (moment past) c level line ∷ []) × planned.Makes plan.change (acts past) (Logged c level line)
+pub entry-planned : (past : List Deed) (id : List ℕ) (level : Level) (line : List ℕ) (plan : Plan)
+    → Plans (Ok plan) (acts past) (moment past) (Log id level line)
+    → (c : ℕ) × (browser.log_outcome (acts past) id level line ≡ Ok (Logged c level line))
+    × (seen plan.before.items ≡ entry_added (acts past) (moment past) c level line ∷ []) × planned.Makes plan.change (acts past) (Logged c level line)
 entry-planned past id level line plan p =
     let there = logs-there (browser.context_named (acts past) id) level line p.0 p.1 in
     let replied = reply-unasked plan.result p.3 in
     let behind = p.5 refl in
-    let all = sym (append-nil (map Happens (seen plan.before.items))) ∙ (ap₂ (λ xs os. map Happens (seen plan.before.items) ++ (xs ++ map Happens (seen os))) (sym replied) (sym behind)
+    let all = sym (append-nil (map Happens (seen plan.before.items)))
+    ∙ (ap₂ (λ xs os. map Happens (seen plan.before.items) ++ (xs ++ map Happens (seen os))) (sym replied) (sym behind)
     ∙ (p.2 ∙ ap (occurs (acts past) (moment past) (Log id level line)) there.1)) in (
       there.0,
       p.1 ∙ ap Ok there.1,
@@ -205,7 +222,10 @@ last-written (x ∷ []) e w is = absurd (cc)
 last-written (x ∷ y ∷ left) e w is = absurd (cc)
 
 -- an entry is taken
-pub entry_takes : (t : Tables) (h : List Input) (c : ℕ) (id : List ℕ) (level : Level) (line : List ℕ) (sent : List Sent) → browser.log_outcome (acts (deeds h)) id level line ≡ Ok (Logged c level line)
-    → sent ≡ to_hearers (deeds h) (entry_added (acts (deeds h)) (moment (deeds h)) c level line) → AllReadBack sent → AgreeWith t (Did (Logged c level line) ∷ deeds h) → Takes t sent h (PageStep (Log id level line))
+pub entry_takes : (t : Tables) (h : List Input) (c : ℕ) (id : List ℕ) (level : Level) (line : List ℕ) (sent : List Sent)
+    → browser.log_outcome (acts (deeds h)) id level line ≡ Ok (Logged c level line)
+    → sent ≡ to_hearers (deeds h) (entry_added (acts (deeds h)) (moment (deeds h)) c level line)
+    → AllReadBack sent → AgreeWith t (Did (Logged c level line) ∷ deeds h) → Takes t sent h (PageStep (Log id level line))
 entry_takes t h c id level line sent named is reads agree =
-    takes t h (PageStep (Log id level line)) (Ok (Did (Logged c level line))) sent (ap in_page named) (is ∙ sym (append-nil (to_hearers (deeds h) (entry_added (acts (deeds h)) (moment (deeds h)) c level line)))) reads agree
+    takes t h (PageStep (Log id level line)) (Ok (Did (Logged c level line))) sent (ap in_page named)
+    (is ∙ sym (append-nil (to_hearers (deeds h) (entry_added (acts (deeds h)) (moment (deeds h)) c level line)))) reads agree

@@ -6,7 +6,8 @@ use Rattle.bidi_tree.specs.Node.{Node}
 use Rattle.bidi_tree.specs.Kind.{text_in, whole_in}
 use Rattle.bidi_tree.specs.declared.number.JsUint.{JsUint}
 use Rattle.bidi_tree.proofs.MemberLemmas.{get_member-put}
-use Rattle.bidi_shape.specs.Name.{close_parameters, create_parameters, get_tree_parameters, navigate_parameters, reload_parameters, traverse_history_parameters, get_realms_parameters}
+use Rattle.bidi_shape.specs.Name.{close_parameters, create_parameters, get_tree_parameters, navigate_parameters}
+use Rattle.bidi_shape.specs.Name.{reload_parameters, traverse_history_parameters, get_realms_parameters}
 use Rattle.bidi_shape.specs.Term.{names_of}
 use Rattle.bidi_shape.specs.Profile.{term_of}
 use Rattle.bidi_shape.specs.MapLaws.{PartsAt-joined, unnamed}
@@ -35,7 +36,10 @@ use Rattle.bidi_params.specs.declared.browsing_context.create.ActivateParameters
 use Rattle.bidi_params.specs.declared.browsing_context.create.CloseParameters.{CloseParameters}
 use Rattle.bidi_params.specs.declared.browsing_context.create.CreateParameters.{CreateParameters}
 use Rattle.bidi_params.specs.declared.browsing_context.get_tree.GetTreeParameters.{GetTreeParameters}
-use Rattle.bidi_messages.specs.declared.command.CommandData.TheVariants.{BrowsingContextActivate, BrowsingContextClose, BrowsingContextCreate, BrowsingContextGetTree, BrowsingContextNavigate, BrowsingContextReload, BrowsingContextTraverseHistory, ScriptGetRealms}
+use Rattle.bidi_messages.specs.declared.command.CommandData.TheVariants.{BrowsingContextActivate, BrowsingContextClose}
+use Rattle.bidi_messages.specs.declared.command.CommandData.TheVariants.{BrowsingContextCreate, BrowsingContextGetTree}
+use Rattle.bidi_messages.specs.declared.command.CommandData.TheVariants.{BrowsingContextNavigate, BrowsingContextReload}
+use Rattle.bidi_messages.specs.declared.command.CommandData.TheVariants.{BrowsingContextTraverseHistory, ScriptGetRealms}
 use Rattle.bidi_handles.specs.Params.{natural}
 use Rattle.bidi_browser.specs.Actions.{OwnWindow, Tab, Started, Interactive, Complete, is_text}
 use Rattle.bidi_browser.specs.Asked.{create_type_of, wait_of}
@@ -93,7 +97,8 @@ pub close-asks : (p : CloseParameters) → close.ghosts.shape.well p
 close-asks p w =
     let rs = rows_in (term_of close_parameters) in
     let others = others_of p.ext in
-    let at = PartsAt-joined rs (Some (text_tree p.context) ∷ option_map tree.boolean p.prompt_unload ∷ []) others refl tt (unnamed (names_of rs) others w.1.no_known) in
+    let at = PartsAt-joined rs (Some (text_tree p.context) ∷ option_map tree.boolean p.prompt_unload ∷ []) others refl tt
+    (unnamed (names_of rs) others w.1.no_known) in
     rw at.0 refl
 
 -- a `browsingContext.create` asks for its type, its reference context and its user context
@@ -102,7 +107,8 @@ pub create-asks : (p : CreateParameters) → create.ghosts.shape.well p
 create-asks p w =
     let rs = rows_in (term_of create_parameters) in
     let others = others_of p.ext in
-    let parts = Some (tree.text (context_type_text p.kind)) ∷ option_map text_tree p.reference_context ∷ option_map tree.boolean p.background ∷ option_map text_tree p.user_context ∷ [] in
+    let parts = Some (tree.text (context_type_text p.kind))
+    ∷ option_map text_tree p.reference_context ∷ option_map tree.boolean p.background ∷ option_map text_tree p.user_context ∷ [] in
     let at = PartsAt-joined rs parts others refl tt (unnamed (names_of rs) others w.1.no_known) in
     rw (at.0, at.1.0, at.1.1.1.0, type-read p.kind, text-optional p.reference_context, text-optional p.user_context) refl
 
@@ -112,7 +118,8 @@ pub get_tree-asks : (p : GetTreeParameters) → get_tree.ghosts.shape.well p
 get_tree-asks p w =
     let rs = rows_in (term_of get_tree_parameters) in
     let others = others_of p.ext in
-    let at = PartsAt-joined rs (option_map number_tree p.max_depth ∷ option_map text_tree p.root ∷ []) others refl tt (unnamed (names_of rs) others w.1.no_known) in
+    let at = PartsAt-joined rs (option_map number_tree p.max_depth ∷ option_map text_tree p.root ∷ []) others refl tt
+    (unnamed (names_of rs) others w.1.no_known) in
     rw (at.0, at.1.0, number-optional p.max_depth, text-optional p.root) refl
 
 -- a `browsingContext.navigate` asks for its context, its URL and its wait
@@ -137,7 +144,8 @@ reload-asks p w =
 
 -- a `browsingContext.traverseHistory` asks for its context and its delta
 pub traverse-asks : (p : TraverseHistoryParameters) → traverse.ghosts.shape.well p
-    → command_in (codes "browsingContext.traverseHistory") (traverse.ghosts.shape.tree_of p) ≡ Some (asked_of params.ghosts.shape (BrowsingContextTraverseHistory p))
+    → command_in (codes "browsingContext.traverseHistory") (traverse.ghosts.shape.tree_of p)
+    ≡ Some (asked_of params.ghosts.shape (BrowsingContextTraverseHistory p))
 traverse-asks p w =
     let rs = rows_in (term_of traverse_history_parameters) in
     let others = others_of p.ext in
@@ -150,5 +158,6 @@ pub get_realms-asks : (p : GetRealmsParameters) → get_realms.ghosts.shape.well
 get_realms-asks p w =
     let rs = rows_in (term_of get_realms_parameters) in
     let others = others_of p.ext in
-    let at = PartsAt-joined rs (option_map text_tree p.context ∷ option_map (λ t. tree.text (realm_type_text t)) p.kind ∷ []) others refl tt (unnamed (names_of rs) others w.1.no_known) in
+    let at = PartsAt-joined rs (option_map text_tree p.context ∷ option_map (λ t. tree.text (realm_type_text t)) p.kind ∷ []) others refl tt
+    (unnamed (names_of rs) others w.1.no_known) in
     rw (at.0, at.1.0, text-optional p.context, realm_type-optional p.kind) refl

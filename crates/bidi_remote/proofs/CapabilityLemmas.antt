@@ -1,5 +1,7 @@
 -- What the tree of requested capabilities asks for, name by name.
-use Rattle.std.proofs.Common.{◌≡◌, ◌∙◌, ℕ, List, [], ◌∷◌, Bool, true, false, not, ◌&&◌, ◌||◌, if◌then◌else◌, Option, Some, None, Ok, Err, codes, map, bytes_eq, string_bytes, String, Global, option_map, option_and_then, unwrap_or, is_some, true≢false, Ordering, Less, Equal, Greater, nat_cmp, refl, sym, ap}
+use Rattle.std.proofs.Common.{◌≡◌, ◌∙◌, ℕ, List, [], ◌∷◌, Bool, true, false, not, ◌&&◌, ◌||◌, if◌then◌else◌, Option, Some, None}
+use Rattle.std.proofs.Common.{Ok, Err, codes, map, bytes_eq, string_bytes, String, Global, option_map, option_and_then}
+use Rattle.std.proofs.Common.{unwrap_or, is_some, true≢false, Ordering, Less, Equal, Greater, nat_cmp, refl, sym, ap}
 use Rattle.std.proofs.lemmas.Slice.Eq.{bytes_eq-Decides}
 use Rattle.std.specs.Global.{Vec}
 use Rattle.std.specs.List.{list_any, list_all}
@@ -25,7 +27,8 @@ use Rattle.bidi_params.specs.contracts.session.capabilities.CapabilitiesRequestS
 use Rattle.bidi_params.specs.contracts.session.capabilities.NewParametersShape.TheImpl as whole
 use Rattle.bidi_codes.specs.declared.error_code.ErrorCode.TheVariants.{InvalidArgument, SessionNotCreated}
 use Rattle.bidi_handles.specs.Params.{items_in}
-use Rattle.bidi_remote.specs.Machine.Capabilities.{Capability, Request, has_colon, requested, requested_in, request_in, request_of, is_known, are_apart, is_met, matching}
+use Rattle.bidi_remote.specs.Machine.Capabilities.{Capability, Request, has_colon, requested, requested_in}
+use Rattle.bidi_remote.specs.Machine.Capabilities.{request_in, request_of, is_known, are_apart, is_met, matching}
 
 -- ---- truth values
 
@@ -69,13 +72,15 @@ later_none Equal r t h = cc
 later_none Greater r t h = h
 
 all_behind : (f : Capability → Bool) (k l : List ℕ) (t u : Node) (ms ns : Members) (c : Bool) → has_colon l ≡ c
-    → list_all f (requested ns) ≡ (f (k, t) && list_all f (requested ms)) → list_all f (requested (member l u ns)) ≡ (f (k, t) && list_all f (requested (member l u ms)))
+    → list_all f (requested ns) ≡ (f (k, t) && list_all f (requested ms))
+    → list_all f (requested (member l u ns)) ≡ (f (k, t) && list_all f (requested (member l u ms)))
 all_behind f k l t u ms ns true e later = rw e later
 all_behind f k l t u ms ns false e later = rw e (ap (λ b. f (l, u) && b) later ∙ and_swap (f (l, u)) (f (k, t)) (list_all f (requested ms)))
 
 all_put_at : (f : Capability → Bool) (k l : List ℕ) (t u : Node) (ms ns : Members) (o : Ordering) → slice_cmp nat_cmp k l ≡ o → has_colon k ≡ false
     → get_member k (member l u ms) ≡ None → list_all f (requested ns) ≡ (f (k, t) && list_all f (requested ms))
-    → list_all f (requested (match_ordering o (member k t (member l u ms)) (member l t ms) (member l u ns))) ≡ (f (k, t) && list_all f (requested (member l u ms)))
+    → list_all f (requested (match_ordering o (member k t (member l u ms)) (member l t ms) (member l u ns)))
+    ≡ (f (k, t) && list_all f (requested (member l u ms)))
 all_put_at f k l t u ms ns Less is plain none later = rw plain
 all_put_at f k l t u ms ns Equal is plain none later = let h : Some u ≡ None = rw is at none in cc
 all_put_at f k l t u ms ns Greater is plain none later = all_behind f k l t u ms ns (has_colon l) refl later
@@ -85,7 +90,8 @@ all-put : (f : Capability → Bool) (k : List ℕ) (t : Node) (ms : Members) →
     → list_all f (requested (put k t ms)) ≡ (f (k, t) && list_all f (requested ms))
 all-put f k t no_members plain none = rw plain
 all-put f k t (member l u ms) plain none =
-    all_put_at f k l t u ms (put k t ms) (slice_cmp nat_cmp k l) refl plain none (all-put f k t ms plain (later_none (slice_cmp nat_cmp k l) (get_member k ms) u none))
+    all_put_at f k l t u ms (put k t ms) (slice_cmp nat_cmp k l) refl plain none
+    (all-put f k t ms plain (later_none (slice_cmp nat_cmp k l) (get_member k ms) u none))
 
 -- the test of a part, if it is there
 abbrev part_test : (Capability → Bool) → List ℕ → Option Node → Bool
@@ -106,8 +112,10 @@ parts_test f (row k need τ rs) (p ∷ ps) others = part_test f k p && parts_tes
 abbrev is_named : List (List ℕ) → List ℕ → Bool
 is_named ks q = list_any (bytes_eq q) ks
 
-all-joined : (f : Capability → Bool) (rs : Rows) (ps : List (Option Node)) (others : Members) → distinct (names_of rs) ≡ true → list_all (λ k. not (has_colon k)) (names_of rs) ≡ true
-    → ((q : List ℕ) → is_named (names_of rs) q ≡ true → get_member q others ≡ None) → list_all f (requested (joined rs ps others)) ≡ parts_test f rs ps (list_all f (requested others))
+all-joined : (f : Capability → Bool) (rs : Rows) (ps : List (Option Node)) (others : Members)
+    → distinct (names_of rs) ≡ true → list_all (λ k. not (has_colon k)) (names_of rs) ≡ true
+    → ((q : List ℕ) → is_named (names_of rs) q ≡ true → get_member q others ≡ None)
+    → list_all f (requested (joined rs ps others)) ≡ parts_test f rs ps (list_all f (requested others))
 all-joined f no_more ps others once plain none = refl
 all-joined f (row k need τ rs) [] others once plain none = refl
 all-joined f (row k need τ rs) (p ∷ ps) others once plain none =
@@ -139,7 +147,13 @@ bytes_eq-turned : (j k : List ℕ) → bytes_eq j k ≡ bytes_eq k j
 bytes_eq-turned j k = turned j k (bytes_eq j k) (bytes_eq k j) refl refl
 
 is_known-is_named : (k : List ℕ) (t : Node) → is_known (k, t) ≡ is_named names k
-is_known-is_named k t = rw (bytes_eq-turned (codes "acceptInsecureCerts") k, bytes_eq-turned (codes "browserName") k, bytes_eq-turned (codes "browserVersion") k, bytes_eq-turned (codes "platformName") k)
+is_known-is_named k t =
+    rw (
+      bytes_eq-turned (codes "acceptInsecureCerts") k,
+      bytes_eq-turned (codes "browserName") k,
+      bytes_eq-turned (codes "browserVersion") k,
+      bytes_eq-turned (codes "platformName") k,
+    )
 
 absent_later : (k : List ℕ) (t : Node) (ms : Members) → AreAbsent (member k t ms) → AreAbsent ms
 absent_later k t ms none q y = later_none (slice_cmp nat_cmp q k) (get_member q ms) t (none q y)
@@ -187,7 +201,9 @@ word_tree s = text (string_bytes s)
 
 -- its tree's members of the four names
 abbrev parts_of : CapabilityRequest → List (Option Node)
-parts_of r = option_map boolean r.accept_insecure_certs ∷ option_map word_tree r.browser_name ∷ option_map word_tree r.browser_version ∷ option_map word_tree r.platform_name ∷ []
+parts_of r =
+    option_map boolean r.accept_insecure_certs
+    ∷ option_map word_tree r.browser_name ∷ option_map word_tree r.browser_version ∷ option_map word_tree r.platform_name ∷ []
 
 absent_others : (r : CapabilityRequest) → ghosts.shape.well r → AreAbsent (others_of r.ext)
 absent_others r w = unnamed names (others_of r.ext) w.1.no_known
@@ -222,13 +238,15 @@ flag_met None = refl
 flag_met (Some true) = refl
 flag_met (Some false) = refl
 
-word_met : (k s : List ℕ) (o : Option (String Global)) → ((t : List ℕ) → is_met (k, text t) ≡ bytes_eq t s) → part_test is_met k (option_map word_tree o) ≡ is_none_or o s
+word_met : (k s : List ℕ) (o : Option (String Global))
+    → ((t : List ℕ) → is_met (k, text t) ≡ bytes_eq t s) → part_test is_met k (option_map word_tree o) ≡ is_none_or o s
 word_met k s None same = refl
 word_met k s (Some t) same = same (string_bytes t)
 
 -- it is met where each of the four is, if it is asked for
 pub met_asked : (r : CapabilityRequest) → ghosts.shape.well r → list_all is_known (asked r) ≡ true
-    → list_all is_met (asked r) ≡ (((unwrap_or (option_map not r.accept_insecure_certs) true && is_none_or r.browser_name (codes "memory-browser")) && is_none_or r.browser_version (codes "1.0")) && is_none_or r.platform_name (codes "none"))
+    → list_all is_met (asked r) ≡ (((unwrap_or (option_map not r.accept_insecure_certs) true && is_none_or r.browser_name (codes "memory-browser"))
+    && is_none_or r.browser_version (codes "1.0")) && is_none_or r.platform_name (codes "none"))
 met_asked r w known =
     all_asked is_met r w ∙ rw (
       nothing_else r w known,
@@ -236,7 +254,8 @@ met_asked r w known =
       word_met (codes "browserName") (codes "memory-browser") r.browser_name (λ t. refl),
       word_met (codes "browserVersion") (codes "1.0") r.browser_version (λ t. refl),
       word_met (codes "platformName") (codes "none") r.platform_name (λ t. refl),
-    ) (and_left (unwrap_or (option_map not r.accept_insecure_certs) true) (is_none_or r.browser_name (codes "memory-browser")) (is_none_or r.browser_version (codes "1.0")) (is_none_or r.platform_name (codes "none")))
+    ) (and_left (unwrap_or (option_map not r.accept_insecure_certs) true) (is_none_or r.browser_name (codes "memory-browser"))
+    (is_none_or r.browser_version (codes "1.0")) (is_none_or r.platform_name (codes "none")))
 
 -- ---- two requests
 
@@ -252,7 +271,8 @@ the_same : {X : Type 0} (g : X → Node) (k : List ℕ) (o : Option X) → bytes
 the_same g k None e = refl
 the_same g k (Some x) e = rw e
 
-certs_absent : (r : CapabilityRequest) → ghosts.shape.well r → list_all is_known (asked r) ≡ true → list_all (is_other (codes "acceptInsecureCerts")) (asked r) ≡ not (is_some r.accept_insecure_certs)
+certs_absent : (r : CapabilityRequest) → ghosts.shape.well r → list_all is_known (asked r) ≡ true
+    → list_all (is_other (codes "acceptInsecureCerts")) (asked r) ≡ not (is_some r.accept_insecure_certs)
 certs_absent r w known =
     let k = codes "acceptInsecureCerts" in
     all_asked (is_other k) r w ∙ rw (
@@ -263,7 +283,8 @@ certs_absent r w known =
       another k (codes "platformName") (option_map word_tree r.platform_name) refl,
     ) (and_true (not (is_some r.accept_insecure_certs)))
 
-name_absent : (r : CapabilityRequest) → ghosts.shape.well r → list_all is_known (asked r) ≡ true → list_all (is_other (codes "browserName")) (asked r) ≡ not (is_some r.browser_name)
+name_absent : (r : CapabilityRequest) → ghosts.shape.well r
+    → list_all is_known (asked r) ≡ true → list_all (is_other (codes "browserName")) (asked r) ≡ not (is_some r.browser_name)
 name_absent r w known =
     let k = codes "browserName" in
     all_asked (is_other k) r w ∙ rw (
@@ -274,7 +295,8 @@ name_absent r w known =
       another k (codes "platformName") (option_map word_tree r.platform_name) refl,
     ) (and_true (not (is_some r.browser_name)))
 
-version_absent : (r : CapabilityRequest) → ghosts.shape.well r → list_all is_known (asked r) ≡ true → list_all (is_other (codes "browserVersion")) (asked r) ≡ not (is_some r.browser_version)
+version_absent : (r : CapabilityRequest) → ghosts.shape.well r
+    → list_all is_known (asked r) ≡ true → list_all (is_other (codes "browserVersion")) (asked r) ≡ not (is_some r.browser_version)
 version_absent r w known =
     let k = codes "browserVersion" in
     all_asked (is_other k) r w ∙ rw (
@@ -285,7 +307,8 @@ version_absent r w known =
       another k (codes "platformName") (option_map word_tree r.platform_name) refl,
     ) (and_true (not (is_some r.browser_version)))
 
-platform_absent : (r : CapabilityRequest) → ghosts.shape.well r → list_all is_known (asked r) ≡ true → list_all (is_other (codes "platformName")) (asked r) ≡ not (is_some r.platform_name)
+platform_absent : (r : CapabilityRequest) → ghosts.shape.well r
+    → list_all is_known (asked r) ≡ true → list_all (is_other (codes "platformName")) (asked r) ≡ not (is_some r.platform_name)
 platform_absent r w known =
     let k = codes "platformName" in
     all_asked (is_other k) r w ∙ rw (
@@ -296,23 +319,30 @@ platform_absent r w known =
       the_same word_tree k r.platform_name refl,
     ) (and_true (not (is_some r.platform_name)))
 
-in_one : {X : Type 0} (g : X → Node) (f : Capability → Bool) (k : List ℕ) (o : Option X) (b : Bool) → ((t : Node) → f (k, t) ≡ not b) → part_test f k (option_map g o) ≡ not (is_some o && b)
+in_one : {X : Type 0} (g : X → Node) (f : Capability → Bool) (k : List ℕ) (o : Option X) (b : Bool)
+    → ((t : Node) → f (k, t) ≡ not b) → part_test f k (option_map g o) ≡ not (is_some o && b)
 in_one g f k None b same = refl
 in_one g f k (Some x) b same = same (g x)
 
 -- they are apart where none of the four is asked for in both
-pub apart_asked : (a r : CapabilityRequest) → ghosts.shape.well a → ghosts.shape.well r → list_all is_known (asked a) ≡ true → list_all is_known (asked r) ≡ true
-    → are_apart (asked a) (asked r) ≡ (((not (is_some a.accept_insecure_certs && is_some r.accept_insecure_certs) && not (is_some a.browser_name && is_some r.browser_name)) && not (is_some a.browser_version && is_some r.browser_version)) && not (is_some a.platform_name && is_some r.platform_name))
+pub apart_asked : (a r : CapabilityRequest)
+    → ghosts.shape.well a → ghosts.shape.well r → list_all is_known (asked a) ≡ true → list_all is_known (asked r) ≡ true
+    → are_apart (asked a) (asked r)
+    ≡ (((not (is_some a.accept_insecure_certs && is_some r.accept_insecure_certs) && not (is_some a.browser_name && is_some r.browser_name))
+    && not (is_some a.browser_version && is_some r.browser_version)) && not (is_some a.platform_name && is_some r.platform_name))
 apart_asked a r v w known known_too =
     let f : Capability → Bool = λ x. not (list_any (λ b. bytes_eq x.0 b.0) (asked r)) in
     let none = λ (k : List ℕ). not_any (λ b. bytes_eq k b.0) (asked r) in
     all_asked f a v ∙ rw (
       nothing_else a v known,
-      in_one boolean f (codes "acceptInsecureCerts") a.accept_insecure_certs (is_some r.accept_insecure_certs) (λ t. none (codes "acceptInsecureCerts") ∙ certs_absent r w known_too),
+      in_one boolean f (codes "acceptInsecureCerts") a.accept_insecure_certs (is_some r.accept_insecure_certs)
+          (λ t. none (codes "acceptInsecureCerts") ∙ certs_absent r w known_too),
       in_one word_tree f (codes "browserName") a.browser_name (is_some r.browser_name) (λ t. none (codes "browserName") ∙ name_absent r w known_too),
-      in_one word_tree f (codes "browserVersion") a.browser_version (is_some r.browser_version) (λ t. none (codes "browserVersion") ∙ version_absent r w known_too),
+      in_one word_tree f (codes "browserVersion") a.browser_version (is_some r.browser_version)
+          (λ t. none (codes "browserVersion") ∙ version_absent r w known_too),
       in_one word_tree f (codes "platformName") a.platform_name (is_some r.platform_name) (λ t. none (codes "platformName") ∙ platform_absent r w known_too),
-    ) (and_left (not (is_some a.accept_insecure_certs && is_some r.accept_insecure_certs)) (not (is_some a.browser_name && is_some r.browser_name)) (not (is_some a.browser_version && is_some r.browser_version)) (not (is_some a.platform_name && is_some r.platform_name)))
+    ) (and_left (not (is_some a.accept_insecure_certs && is_some r.accept_insecure_certs)) (not (is_some a.browser_name && is_some r.browser_name))
+    (not (is_some a.browser_version && is_some r.browser_version)) (not (is_some a.platform_name && is_some r.platform_name)))
 
 -- ---- one empty entry
 
@@ -341,7 +371,8 @@ entries (Some v) = map asked v.items
 abbrev choices_tree : Option (Vec CapabilityRequest) → Option Node
 choices_tree o = option_map (λ v. list_tree ghosts.shape.tree_of v.items) o
 
-entries_asked : (o : Option (Vec CapabilityRequest)) → map requested_in (unwrap_or (option_map items_in (option_and_then list_in (choices_tree o))) (null ∷ [])) ≡ entries o
+entries_asked : (o : Option (Vec CapabilityRequest))
+    → map requested_in (unwrap_or (option_map items_in (option_and_then list_in (choices_tree o))) (null ∷ [])) ≡ entries o
 entries_asked None = refl
 entries_asked (Some v) = each_asked v.items
 
@@ -349,7 +380,8 @@ entries_asked (Some v) = each_asked v.items
 abbrev requests : Option CapabilityRequest → Option (Vec CapabilityRequest) → Request
 requests always choices = record { always = asked_if_any always; entries = entries choices }
 
-request_asked : (p : NewParameters) → whole.ghosts.shape.well p → request_of (whole.ghosts.shape.tree_of p) ≡ requests p.capabilities.always_match p.capabilities.first_match
+request_asked : (p : NewParameters) → whole.ghosts.shape.well p
+    → request_of (whole.ghosts.shape.tree_of p) ≡ requests p.capabilities.always_match p.capabilities.first_match
 request_asked p w =
     let always = option_map ghosts.shape.tree_of p.capabilities.always_match in
     let choices = choices_tree p.capabilities.first_match in

@@ -1,5 +1,6 @@
 -- How the tables move with the past.
-use Rattle.std.proofs.Common.{◌≡◌, ◌∙◌, ℕ, ◌+◌, Bool, true, false, cond, not, ◌&&◌, List, [], ◌∷◌, ◌++◌, map, length, refl, sym, ap, ap₂, subst, arith, Err, Option, Some, None}
+use Rattle.std.proofs.Common.{◌≡◌, ◌∙◌, ℕ, ◌+◌, Bool, true, false, cond, not, ◌&&◌, List, [], ◌∷◌, ◌++◌, map}
+use Rattle.std.proofs.Common.{length, refl, sym, ap, ap₂, subst, arith, Err, Option, Some, None}
 use Rattle.std.specs.Prelude.{◌==◌, filter, find, nat_lt, bytes_eq, codes, if◌then◌else◌, option_map}
 use Rattle.std.specs.List.{AllByRecursion}
 use Rattle.std.proofs.lemmas.List.{length-map}
@@ -18,7 +19,8 @@ use Rattle.bidi_messages.specs.declared.event.EventName.TheVariants.{EntryAdded}
 use Rattle.bidi_remote.specs.declared.connections.Connections.{Connections}
 use Rattle.bidi_remote.specs.declared.sessions.Sessions.{Sessions}
 use Rattle.bidi_remote.specs.declared.tables.Tables.{Tables}
-use Rattle.bidi_remote.specs.Machine.History.{Input, Open, Deed, Scope, Time, Opened, Dropped, Began, Ended, Subscribed, Cancelled, Dismissed, Did, Told, acts, moment}
+use Rattle.bidi_remote.specs.Machine.History.{Input, Open, Deed, Scope, Time, Opened, Dropped, Began, Ended}
+use Rattle.bidi_remote.specs.Machine.History.{Subscribed, Cancelled, Dismissed, Did, Told, acts, moment}
 use Rattle.bidi_remote.specs.Machine.Sessions.{is_active, sessions, next_session}
 use Rattle.bidi_remote.specs.Machine.Subscriptions.{subscriptions_made, is_enabled}
 use Rattle.bidi_remote.specs.Machine.LogBuffer.{Missed, missed, announced_at, last_hundred}
@@ -38,7 +40,8 @@ use Rattle.bidi_remote.proofs.LogLemmas.{rows-logged}
 use Rattle.bidi_remote.proofs.PlaceLemmas.{entries-announced, entries-logged}
 use Rattle.bidi_remote.proofs.ConnectionLemmas.{rows-opened, rows-dropped, rows-began, rows-ended, standing-found}
 use Rattle.bidi_remote.proofs.OpeningLemmas.{was_opened}
-use Rattle.bidi_remote.proofs.SubscriptionLemmas.{session_rows-began, session_rows-ended, session_rows-subscribed, session_rows-cancelled, session_rows-dismissed, numbers-session_rows}
+use Rattle.bidi_remote.proofs.SubscriptionLemmas.{session_rows-began, session_rows-ended, session_rows-subscribed}
+use Rattle.bidi_remote.proofs.SubscriptionLemmas.{session_rows-cancelled, session_rows-dismissed, numbers-session_rows}
 use Rattle.bidi_remote.proofs.RowLemmas.{changed-updated, one-row}
 use Rattle.bidi_remote.proofs.ListLemmas.{find-map}
 
@@ -54,7 +57,8 @@ agree-told t past a = record { moment = a.moment; made = a.made; sessions = a.se
 
 -- another browser that stands for the same
 pub agree-kept : (t : Tables) (past : List Deed) (b : Browser) → AgreeWith t past → StandsFor b (acts past) → AgreeWith (record t { browser = b }) past
-agree-kept t past b a stands = record { moment = a.moment; made = a.made; sessions = a.sessions; connections = a.connections; browser = stands; entries = a.entries }
+agree-kept t past b a stands =
+    record { moment = a.moment; made = a.made; sessions = a.sessions; connections = a.connections; browser = stands; entries = a.entries }
 
 -- what is no entry of the log is missed by nobody
 quiet-act : (past : List Deed) (act : Act) → IsQuiet act → (s : ℕ) → missed (Did act ∷ past) s ≡ missed past s
@@ -62,20 +66,26 @@ quiet-act past (Logged c level line) quiet s = absurd quiet
 quiet-act past act quiet s = refl
 
 -- the browser did something else than to log
-pub agree-did : (t : Tables) (past : List Deed) (act : Act) (b : Browser) → AgreeWith t past → IsQuiet act → StandsFor b (act ∷ acts past) → AgreeWith (record t { browser = b }) (Did act ∷ past)
+pub agree-did : (t : Tables) (past : List Deed) (act : Act) (b : Browser)
+    → AgreeWith t past → IsQuiet act → StandsFor b (act ∷ acts past) → AgreeWith (record t { browser = b }) (Did act ∷ past)
 agree-did t past act b a quiet stands =
     let same = quiet-act past act quiet in record {
       moment = a.moment;
       made = a.made;
-      sessions = a.sessions ∙ sym (λ i. map (λ s. record { number = s; made = subscriptions_made past s; subscriptions = subscription_rows past s; missed = map place_of (last_hundred (same s i)) }) (sessions past));
+      sessions =
+          a.sessions ∙ sym (λ i. map (λ s.
+          record { number = s; made = subscriptions_made past s; subscriptions = subscription_rows past s; missed = map place_of (last_hundred (same s i)) })
+          (sessions past));
       connections = a.connections;
       browser = stands;
       entries = λ s. subst (AllByRecursion IsEntry) (sym (same s)) (a.entries s);
     }
 
 -- it logged an entry, which each session hears or misses
-pub agree-logged : (t : Tables) (past : List Deed) (c : ℕ) (level : Level) (line : List ℕ) (b : Browser) (s : Sessions) (w : Written) → AgreeWith t past → w ≡ written (entry_added (acts past) (moment past) c level line)
-    → IsMessageText ghosts.shape w.text → s.made ≡ t.sessions.made → in_hand.rows_in s ≡ map (logged w) (in_hand.rows_in t.sessions) → StandsFor b (Logged c level line ∷ acts past)
+pub agree-logged : (t : Tables) (past : List Deed) (c : ℕ) (level : Level) (line : List ℕ) (b : Browser) (s : Sessions) (w : Written)
+    → AgreeWith t past → w ≡ written (entry_added (acts past) (moment past) c level line)
+    → IsMessageText ghosts.shape w.text → s.made ≡ t.sessions.made
+    → in_hand.rows_in s ≡ map (logged w) (in_hand.rows_in t.sessions) → StandsFor b (Logged c level line ∷ acts past)
     → AgreeWith (record t { browser = b; sessions = s }) (Did (Logged c level line) ∷ past)
 agree-logged t past c level line b s w a is text made rows stands =
     let o = entry_added (acts past) (moment past) c level line in record {
@@ -84,7 +94,9 @@ agree-logged t past c level line b s w a is text made rows stands =
       sessions = rows ∙ (ap₂ (λ v all. map (logged v) all) is a.sessions ∙ sym (rows-logged past c level line));
       connections = a.connections;
       browser = stands;
-      entries = λ k. entries-logged (is_enabled past k EntryAdded o.top) (missed past k) o refl (subst (λ v. IsMessageText ghosts.shape v.text) is text) (a.entries k);
+      entries =
+          λ k. entries-logged (is_enabled past k EntryAdded o.top) (missed past k) o refl
+          (subst (λ v. IsMessageText ghosts.shape v.text) is text) (a.entries k);
     }
 
 -- a connection more
@@ -100,7 +112,8 @@ agree-opened t past c s v a shut is = record {
 }
 
 -- a connection less
-pub agree-dropped : (t : Tables) (past : List Deed) (c : ℕ) (v : Connections) → AgreeWith t past → connections.rows_in v ≡ filter (λ row. not (row.0 == c)) (connections.rows_in t.connections)
+pub agree-dropped : (t : Tables) (past : List Deed) (c : ℕ) (v : Connections)
+    → AgreeWith t past → connections.rows_in v ≡ filter (λ row. not (row.0 == c)) (connections.rows_in t.connections)
     → AgreeWith (record t { connections = v }) (Dropped c ∷ past)
 agree-dropped t past c v a is = record {
   moment = a.moment;
@@ -121,8 +134,10 @@ if_announced true p ms all = entries-announced p ms all
 if_announced false p ms all = all
 
 -- a session more, which is that of an open connection and has no subscription yet
-pub agree-began : (t : Tables) (past : List Deed) (c n : ℕ) (v : Connections) (s : Sessions) → AgreeWith t past → is_shut (standing_of past c) ≡ false → subscriptions_made past (next_session past) ≡ 0 → n ≡ t.sessions.made + 1
-    → s.made ≡ n → in_hand.rows_in s ≡ in_hand.rows_in t.sessions ++ begun n ∷ [] → connections.rows_in v ≡ map (connections.begun c n) (connections.rows_in t.connections)
+pub agree-began : (t : Tables) (past : List Deed) (c n : ℕ) (v : Connections) (s : Sessions)
+    → AgreeWith t past → is_shut (standing_of past c) ≡ false → subscriptions_made past (next_session past) ≡ 0 → n ≡ t.sessions.made + 1
+    → s.made ≡ n → in_hand.rows_in s ≡ in_hand.rows_in t.sessions ++ begun n ∷ []
+    → connections.rows_in v ≡ map (connections.begun c n) (connections.rows_in t.connections)
     → AgreeWith (record t { connections = v; sessions = s }) (Began c ∷ past)
 agree-began t past c n v s a opened fresh next made more is =
     let number : n ≡ next_session past = let m = a.made in omega (arith, m, next) in record {
@@ -135,8 +150,10 @@ agree-began t past c n v s a opened fresh next made more is =
     }
 
 -- a session less, and its connections
-pub agree-ended : (t : Tables) (past : List Deed) (n : ℕ) (v : Connections) (s : Sessions) → AgreeWith t past → connections.rows_in v ≡ filter (λ row. not (is_for n row.1)) (connections.rows_in t.connections)
-    → in_hand.rows_in s ≡ filter (λ r. not (r.number == n)) (in_hand.rows_in t.sessions) → s.made ≡ t.sessions.made → AgreeWith (record t { connections = v; sessions = s }) (Ended n ∷ past)
+pub agree-ended : (t : Tables) (past : List Deed) (n : ℕ) (v : Connections) (s : Sessions)
+    → AgreeWith t past → connections.rows_in v ≡ filter (λ row. not (is_for n row.1)) (connections.rows_in t.connections)
+    → in_hand.rows_in s ≡ filter (λ r. not (r.number == n)) (in_hand.rows_in t.sessions)
+    → s.made ≡ t.sessions.made → AgreeWith (record t { connections = v; sessions = s }) (Ended n ∷ past)
 agree-ended t past n v s a shut less made = record {
   moment = a.moment;
   made = made ∙ a.made;
@@ -148,11 +165,14 @@ agree-ended t past n v s a shut less made = record {
 
 module _ (t : Tables) (past : List Deed) (n : ℕ) (s : Sessions) (a : AgreeWith t past) (made : s.made ≡ t.sessions.made) where
   -- the first of that number is the only one
-  row-changed : (f : SessionRow → SessionRow) → in_hand.rows_in s ≡ changed n f (in_hand.rows_in t.sessions) → in_hand.rows_in s ≡ updated n f (session_rows past)
+  row-changed : (f : SessionRow → SessionRow)
+      → in_hand.rows_in s ≡ changed n f (in_hand.rows_in t.sessions) → in_hand.rows_in s ≡ updated n f (session_rows past)
   row-changed f is = is ∙ (ap (changed n f) a.sessions ∙ changed-updated n f (session_rows past) (one-row past n))
 
   -- a subscription more
-  pub agree-subscribed : (es : List EventName) (scope : Scope) → is_active past n ≡ true → in_hand.rows_in s ≡ changed n (subscribed (acts past) es scope) (in_hand.rows_in t.sessions) → AgreeWith (record t { sessions = s }) (Subscribed n es scope ∷ past)
+  pub agree-subscribed : (es : List EventName) (scope : Scope)
+      → is_active past n ≡ true → in_hand.rows_in s ≡ changed n (subscribed (acts past) es scope) (in_hand.rows_in t.sessions)
+      → AgreeWith (record t { sessions = s }) (Subscribed n es scope ∷ past)
   agree-subscribed es scope active is = record {
     moment = a.moment;
     made = made ∙ a.made;
@@ -163,7 +183,8 @@ module _ (t : Tables) (past : List Deed) (n : ℕ) (s : Sessions) (a : AgreeWith
   }
 
   -- subscriptions less
-  pub agree-cancelled : (ns : List ℕ) → in_hand.rows_in s ≡ changed n (cancelled ns) (in_hand.rows_in t.sessions) → AgreeWith (record t { sessions = s }) (Cancelled n ns ∷ past)
+  pub agree-cancelled : (ns : List ℕ) → in_hand.rows_in s ≡ changed n (cancelled ns) (in_hand.rows_in t.sessions)
+      → AgreeWith (record t { sessions = s }) (Cancelled n ns ∷ past)
   agree-cancelled ns is = record {
     moment = a.moment;
     made = made ∙ a.made;
@@ -174,7 +195,8 @@ module _ (t : Tables) (past : List Deed) (n : ℕ) (s : Sessions) (a : AgreeWith
   }
 
   -- events less
-  pub agree-dismissed : (es : List EventName) → in_hand.rows_in s ≡ changed n (lost es) (in_hand.rows_in t.sessions) → AgreeWith (record t { sessions = s }) (Dismissed n es ∷ past)
+  pub agree-dismissed : (es : List EventName)
+      → in_hand.rows_in s ≡ changed n (lost es) (in_hand.rows_in t.sessions) → AgreeWith (record t { sessions = s }) (Dismissed n es ∷ past)
   agree-dismissed es is = record {
     moment = a.moment;
     made = made ∙ a.made;
@@ -187,7 +209,8 @@ module _ (t : Tables) (past : List Deed) (n : ℕ) (s : Sessions) (a : AgreeWith
 -- ---- what the tables say
 
 -- how a connection stands
-pub stands : (t : Tables) (h : List Input) (c : ℕ) (x : Standing) → AgreeWith t (deeds h) → x ≡ standing_in (find (λ row. row.0 == c) (connections.rows_in t.connections)) → x ≡ standing_of (deeds h) c
+pub stands : (t : Tables) (h : List Input) (c : ℕ) (x : Standing)
+    → AgreeWith t (deeds h) → x ≡ standing_in (find (λ row. row.0 == c) (connections.rows_in t.connections)) → x ≡ standing_of (deeds h) c
 stands t h c x a is = is ∙ standing-found (deeds h) c (connections.rows_in t.connections) (was_opened h c) a.connections
 
 -- what is not said to be shut is open
@@ -202,12 +225,14 @@ length-open t past a = ap length a.connections ∙ length-map (open_connections 
 
 -- a resource names what it names
 resource-names : (t : Tables) (past : List Deed) (resource : List ℕ) (o : Option (Option ℕ)) → AgreeWith t past
-    → o ≡ (if bytes_eq resource (codes "/session") then Some None else option_map (λ r. Some r.number) (find (λ r. bytes_eq resource (codes "/session/" ++ id_of OfSession r.number)) (in_hand.rows_in t.sessions)))
+    → o ≡ (if bytes_eq resource (codes "/session") then Some None else option_map (λ r. Some r.number)
+    (find (λ r. bytes_eq resource (codes "/session/" ++ id_of OfSession r.number)) (in_hand.rows_in t.sessions)))
     → session_of_resource past resource ≡ o
 resource-names t past resource o a is =
     let named = λ (n : ℕ). bytes_eq resource (codes "/session/" ++ id_of OfSession n) in
     sym (is ∙ ap (λ o. if bytes_eq resource (codes "/session") then Some None else o)
-    (sym (find-map (λ r. r.number) Some named (in_hand.rows_in t.sessions)) ∙ ap (λ ns. option_map Some (find named ns)) (ap (map (λ r. r.number)) a.sessions ∙ numbers-session_rows past)))
+    (sym (find-map (λ r. r.number) Some named (in_hand.rows_in t.sessions))
+    ∙ ap (λ ns. option_map Some (find named ns)) (ap (map (λ r. r.number)) a.sessions ∙ numbers-session_rows past)))
 
 -- what may not be opened is denied
 opening-denied : (past : List Deed) (c : ℕ) (o : Option (Option ℕ)) → may_open past c ≡ false → opening past c o ≡ Err (Denied c)
@@ -219,15 +244,18 @@ opening-may past c None room = refl
 opening-may past c (Some s) room = rw room refl
 
 -- a connection that is shut may be opened where there is room
-pub opens : (t : Tables) (past : List Deed) (c : ℕ) (resource : List ℕ) (o : Option (Option ℕ)) (room : Bool) → AgreeWith t past → standing_of past c ≡ Shut → room ≡ nat_lt (length (connections.rows_in t.connections)) 64 → room ≡ true
-    → o ≡ (if bytes_eq resource (codes "/session") then Some None else option_map (λ r. Some r.number) (find (λ r. bytes_eq resource (codes "/session/" ++ id_of OfSession r.number)) (in_hand.rows_in t.sessions)))
+pub opens : (t : Tables) (past : List Deed) (c : ℕ) (resource : List ℕ) (o : Option (Option ℕ)) (room : Bool)
+    → AgreeWith t past → standing_of past c ≡ Shut → room ≡ nat_lt (length (connections.rows_in t.connections)) 64 → room ≡ true
+    → o ≡ (if bytes_eq resource (codes "/session") then Some None else option_map (λ r. Some r.number)
+    (find (λ r. bytes_eq resource (codes "/session/" ++ id_of OfSession r.number)) (in_hand.rows_in t.sessions)))
     → opening_by c o ≡ turn past (Open c resource)
 opens t past c resource o room a shut has free is =
     let may : may_open past c ≡ true = rw (shut, sym (ap (λ n. nat_lt n 64) (length-open t past a)) ∙ (sym has ∙ free)) refl in
     sym (ap (opening past c) (resource-names t past resource o a is) ∙ opening-may past c o may)
 
 -- and is denied where there is none
-pub opens-full : (t : Tables) (past : List Deed) (c : ℕ) (resource : List ℕ) (room : Bool) → AgreeWith t past → room ≡ nat_lt (length (connections.rows_in t.connections)) 64 → room ≡ false → Err (Denied c) ≡ turn past (Open c resource)
+pub opens-full : (t : Tables) (past : List Deed) (c : ℕ) (resource : List ℕ) (room : Bool) → AgreeWith t past
+    → room ≡ nat_lt (length (connections.rows_in t.connections)) 64 → room ≡ false → Err (Denied c) ≡ turn past (Open c resource)
 opens-full t past c resource room a has none =
     let may : may_open past c ≡ false = full (not (is_open past c)) (sym (ap (λ n. nat_lt n 64) (length-open t past a)) ∙ (sym has ∙ none)) in
     sym (opening-denied past c (session_of_resource past resource) may)

@@ -18,7 +18,8 @@ joined-ok g held first (Ok ys) x is = rw is (ap Ok (sym (append_assoc held (g x)
 joined-ok g held first (Err code) x is = rw is refl
 
 -- a check that fails
-pub joined-err : {A Y : Type 0} (g : A → List Y) (held : List Y) (first : Result A ErrorCode) (rest : Result (List Y) ErrorCode) (code : ErrorCode) → first ≡ Err code
+pub joined-err : {A Y : Type 0} (g : A → List Y) (held : List Y) (first : Result A ErrorCode) (rest : Result (List Y) ErrorCode)
+    (code : ErrorCode) → first ≡ Err code
     → behind held (joined g first rest) ≡ Err code
 joined-err g held first rest code is = rw is refl
 
@@ -26,12 +27,14 @@ same_ok : {A : Type 0} {x y : A} → (let l : Result A ErrorCode = Ok x in let r
 same_ok e = cc
 
 -- a check whose results were added to those before it
-pub added-ok : {Y : Type 0} (held after : List Y) (first rest : Result (List Y) ErrorCode) → behind held first ≡ Ok after → behind held (joined (λ ys. ys) first rest) ≡ behind after rest
+pub added-ok : {Y : Type 0} (held after : List Y) (first rest : Result (List Y) ErrorCode)
+    → behind held first ≡ Ok after → behind held (joined (λ ys. ys) first rest) ≡ behind after rest
 added-ok held after (Ok ys) (Ok zs) is = ap Ok (sym (append_assoc held ys zs) ∙ ap (λ xs. xs ++ zs) (same_ok is))
 added-ok held after (Ok ys) (Err code) is = refl
 added-ok held after (Err code) rest is = cc
 
-pub added-err : {Y : Type 0} (held : List Y) (first rest : Result (List Y) ErrorCode) (code : ErrorCode) → behind held first ≡ Err code → behind held (joined (λ ys. ys) first rest) ≡ Err code
+pub added-err : {Y : Type 0} (held : List Y) (first rest : Result (List Y) ErrorCode) (code : ErrorCode)
+    → behind held first ≡ Err code → behind held (joined (λ ys. ys) first rest) ≡ Err code
 added-err held (Ok ys) rest code is = cc
 added-err held (Err c) rest code is = is
 
@@ -48,8 +51,10 @@ found-none f None code is = refl
 found-none f (Some x) code is = cc
 
 -- a refusal that is handed on
-pub carried : {A B C D : Type 0} (q : Result A Refusal) (r : Result C Refusal) (refusal : Refusal) (v : A → B) (w : C → D) (given : Result B ErrorCode) (answer : Result D ErrorCode)
+pub carried : {A B C D : Type 0} (q : Result A Refusal) (r : Result C Refusal) (refusal : Refusal) (v : A → B) (w : C → D)
+    (given : Result B ErrorCode) (answer : Result D ErrorCode)
     → IfChecked q v given → q ≡ Err refusal → IsErrAnd r (λ e. e ≡ refusal) → ((code : ErrorCode) → given ≡ Err code → answer ≡ Err code) → IfChecked r w answer
-carried q (Err e) (Code code) v w given answer is failed same f = subst (λ x. IfChecked (Err x) w answer) (sym same) (f code (subst (λ x. IfChecked x v given) failed is))
+carried q (Err e) (Code code) v w given answer is failed same f =
+    subst (λ x. IfChecked (Err x) w answer) (sym same) (f code (subst (λ x. IfChecked x v given) failed is))
 carried q (Err e) NoMemory v w given answer is failed same f = subst (λ x. IfChecked (Err x) w answer) (sym same) tt
 carried q (Ok x) refusal v w given answer is failed same f = absurd same

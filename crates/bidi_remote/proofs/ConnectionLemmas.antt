@@ -40,7 +40,8 @@ find-shut f c [] e = refl
 find-shut f c (x ∷ cs) e = let ih = find-shut f c cs e in grind (arith, nat_tests, ih)
 
 -- the row of one that is open and stands among the numbers
-find-open : (f : ℕ → Standing) (c : ℕ) (cs : List ℕ) → is_shut (f c) ≡ false → list_any (λ d. d == c) cs ≡ true → find (λ row. row.0 == c) (rows_by f cs) ≡ Some (c, f c)
+find-open : (f : ℕ → Standing) (c : ℕ) (cs : List ℕ)
+    → is_shut (f c) ≡ false → list_any (λ d. d == c) cs ≡ true → find (λ row. row.0 == c) (rows_by f cs) ≡ Some (c, f c)
 find-open f c [] e there = cc
 find-open f c (x ∷ cs) e there = let ih = find-open f c cs e in grind (arith, nat_tests, ih)
 
@@ -53,7 +54,8 @@ opened-apart f g c [] e same = refl
 opened-apart f g c (x ∷ cs) e same = let ih = opened-apart f g c cs e same in let at = same x in grind (arith, nat_tests, ih, at)
 
 -- an opening goes to the end
-pub rows-opened : (past : List Deed) (c : ℕ) (s : Option ℕ) → is_shut (standing_of past c) ≡ true → rows (Opened c s ∷ past) ≡ rows past ++ (c, opened_for s) ∷ []
+pub rows-opened : (past : List Deed) (c : ℕ) (s : Option ℕ)
+    → is_shut (standing_of past c) ≡ true → rows (Opened c s ∷ past) ≡ rows past ++ (c, opened_for s) ∷ []
 rows-opened past c s e =
     let g = standing_of (Opened c s ∷ past) in
     let cs = filter (λ d. not (c == d)) (openings past) in
@@ -83,7 +85,11 @@ rows-began past c e = begun-rows (standing_of past) (standing_of (Began c ∷ pa
 ended-rows : (f g : ℕ → Standing) (s : ℕ) (cs : List ℕ) → ((d : ℕ) → g d ≡ (if is_for s (f d) then Shut else f d))
     → rows_by g cs ≡ filter (λ row. not (is_for s row.1)) (rows_by f cs)
 ended-rows f g s [] same = refl
-ended-rows f g s (x ∷ cs) same = let ih = ended-rows f g s cs same in let at = same x in let open_for = for_not_shut s (f x) in grind (arith, nat_tests, ih, at, open_for)
+ended-rows f g s (x ∷ cs) same =
+    let ih = ended-rows f g s cs same in
+    let at = same x in
+    let open_for = for_not_shut s (f x) in
+    grind (arith, nat_tests, ih, at, open_for)
 
 -- the end of a session takes its connections out
 pub rows-ended : (past : List Deed) (s : ℕ) → rows (Ended s ∷ past) ≡ filter (λ row. not (is_for s row.1)) (rows past)
@@ -103,7 +109,8 @@ each-past what past s = each-row what (standing_of past) s (openings past)
 abbrev pub WasOpened : List Deed → ℕ → Type 0
 WasOpened past c = is_shut (standing_of past c) ≡ false → list_any (λ d. d == c) (openings past) ≡ true
 
-find-rows : (past : List Deed) (c : ℕ) (b : Bool) → b ≡ is_shut (standing_of past c) → WasOpened past c → standing_in (find (λ row. row.0 == c) (rows past)) ≡ standing_of past c
+find-rows : (past : List Deed) (c : ℕ) (b : Bool)
+    → b ≡ is_shut (standing_of past c) → WasOpened past c → standing_in (find (λ row. row.0 == c) (rows past)) ≡ standing_of past c
 find-rows past c true is opened = ap standing_in (find-shut (standing_of past) c (openings past) (sym is)) ∙ sym (is_Shut (standing_of past c) (sym is))
 find-rows past c false is opened = ap standing_in (find-open (standing_of past) c (openings past) (sym is) (opened (sym is)))
 
@@ -113,10 +120,12 @@ standing_found None = Shut
 standing_found (Some c) = opened_for c.session
 
 -- it is found as its row is
-pub found-row : (c : ℕ) (items : List Connection) → standing_found (find (λ x. x.number.value == c) items) ≡ standing_in (find (λ row. row.0 == c) (map row_of items))
+pub found-row : (c : ℕ) (items : List Connection)
+    → standing_found (find (λ x. x.number.value == c) items) ≡ standing_in (find (λ row. row.0 == c) (map row_of items))
 found-row c [] = refl
 found-row c (x ∷ items) = let ih = found-row c items in grind (arith, nat_tests, ih)
 
 -- the table says how a connection stands
-pub standing-found : (past : List Deed) (c : ℕ) (all : List ConnectionRow) → WasOpened past c → all ≡ rows past → standing_in (find (λ row. row.0 == c) all) ≡ standing_of past c
+pub standing-found : (past : List Deed) (c : ℕ) (all : List ConnectionRow)
+    → WasOpened past c → all ≡ rows past → standing_in (find (λ row. row.0 == c) all) ≡ standing_of past c
 standing-found past c all opened same = ap (λ xs. standing_in (find (λ row. row.0 == c) xs)) same ∙ find-rows past c (is_shut (standing_of past c)) refl opened

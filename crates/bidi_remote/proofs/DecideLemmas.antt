@@ -1,5 +1,6 @@
 -- What a command comes to, by the tables and by the past.
-use Rattle.std.proofs.Common.{◌≡◌, ◌∙◌, ℕ, Bool, true, false, not, ◌&&◌, List, [], ◌∷◌, ◌++◌, map, length, Option, Some, unwrap_or, Result, Ok, Err, refl, sym, ap, ap₂, subst}
+use Rattle.std.proofs.Common.{◌≡◌, ◌∙◌, ℕ, Bool, true, false, not, ◌&&◌, List, [], ◌∷◌, ◌++◌, map, length}
+use Rattle.std.proofs.Common.{Option, Some, unwrap_or, Result, Ok, Err, refl, sym, ap, ap₂, subst}
 use Rattle.std.specs.Prelude.{filter, nat_lt}
 use Rattle.std.specs.List.{list_any, list_all, AllByRecursion, items_where_true}
 use Rattle.std.proofs.lemmas.List.{length-map, map-append}
@@ -26,14 +27,16 @@ use Rattle.bidi_remote.specs.Machine.History.{Deed, Began, Subscribed, Dismissed
 use Rattle.bidi_remote.specs.Machine.Sessions.{is_active}
 use Rattle.bidi_remote.specs.Machine.Subscriptions.{subscriptions, is_newly_enabled, holds_globally, covers}
 use Rattle.bidi_remote.specs.Machine.LogBuffer.{missed, waiting_for}
-use Rattle.bidi_remote.specs.Machine.Outcome.{is_ready, new_outcome, all_named, scope_asked, subscribe_outcome, subscriptions_named, unsubscribe_by_events_outcome}
+use Rattle.bidi_remote.specs.Machine.Outcome.{is_ready, new_outcome, all_named, scope_asked, subscribe_outcome}
+use Rattle.bidi_remote.specs.Machine.Outcome.{subscriptions_named, unsubscribe_by_events_outcome}
 use Rattle.bidi_remote.specs.Machine.Sent.{items, action_in, announcements}
 use Rattle.bidi_remote.specs.Tables.EventTexts.{Written, written, written_in, AreMessages}
 use Rattle.bidi_remote.specs.Tables.MissedRows.{places, waiting, IsEntry}
 use Rattle.bidi_remote.specs.Tables.SessionView as in_hand
 use Rattle.bidi_remote.specs.Tables.SessionView.{row_of}
 use Rattle.bidi_remote.specs.Tables.Stands.{AgreeWith}
-use Rattle.bidi_remote.specs.Tables.SubscriptionRows.{session_row, session_rows, row_at, subscription_rows, row_in, begun, row_covers, row_holds, any_global, is_new, numbers_named}
+use Rattle.bidi_remote.specs.Tables.SubscriptionRows.{session_row, session_rows, row_at, subscription_rows, row_in, begun}
+use Rattle.bidi_remote.specs.Tables.SubscriptionRows.{row_covers, row_holds, any_global, is_new, numbers_named}
 use Rattle.bidi_browser.specs.View.{result_tree}
 use Rattle.bidi_remote.specs.Tables.Turns.{Decides, IsMade, IsOfSessions, deed_of, announced_by}
 use Rattle.bidi_remote.proofs.ListLemmas.{filter-same, any-map, all-same}
@@ -52,11 +55,14 @@ made-of_sessions (Subscribe s es scope) past act ours = tt
 made-of_sessions (Cancel s ns) past act ours = tt
 made-of_sessions (Dismiss s es) past act ours = tt
 
-module _ (turn : Turn) (past : List Deed) (asker : Asker) (asked : Command) (answer : Result Deed ErrorCode) (change : Change) (r : ResultData) (ours : IsOfSessions change)
-    (same : turn.change ≡ change) (before : turn.telling.before.items ≡ []) (reply : turn.telling.reply ≡ Some (record { to = asker; outcome = r })) (after : turn.telling.after.items ≡ [])
+module _ (turn : Turn) (past : List Deed) (asker : Asker) (asked : Command) (answer : Result Deed ErrorCode) (change : Change)
+    (r : ResultData) (ours : IsOfSessions change)
+    (same : turn.change ≡ change) (before : turn.telling.before.items ≡ [])
+    (reply : turn.telling.reply ≡ Some (record { to = asker; outcome = r })) (after : turn.telling.after.items ≡ [])
     (is : answer ≡ Ok (deed_of change Looked)) (told : Replies (result_tree r) ∷ [] ≡ items past (action_in (Some asked)) (deed_of change Looked)) where
   -- a change that is announced, and then replied to
-  pub announced-decides : written_in turn.telling.announced.items ≡ map written (announced_by past (deed_of change Looked)) → AreMessages (written_in turn.telling.announced.items) → Decides (Ok turn) past asker asked answer
+  pub announced-decides : written_in turn.telling.announced.items ≡ map written (announced_by past (deed_of change Looked))
+      → AreMessages (written_in turn.telling.announced.items) → Decides (Ok turn) past asker asked answer
   announced-decides announced messages = (
     Looked,
     is ∙ ap (λ x. Ok (deed_of x Looked)) (sym same),
@@ -81,7 +87,8 @@ is_ready-rows t past b a is =
     is ∙ ap (λ n. nat_lt n 8) (ap length a.sessions ∙ (sym (length-map (session_rows past) (λ r. r.number)) ∙ ap length (numbers-session_rows past)))
 
 -- the row of an active session
-pub row-active : (t : Tables) (past : List Deed) (s : ℕ) → AgreeWith t past → is_active past s ≡ true → row_in s (in_hand.rows_in t.sessions) ≡ session_row past s
+pub row-active : (t : Tables) (past : List Deed) (s : ℕ)
+    → AgreeWith t past → is_active past s ≡ true → row_in s (in_hand.rows_in t.sessions) ≡ session_row past s
 row-active t past s a active = ap (row_in s) a.sessions ∙ ap (λ o. unwrap_or o (begun s)) (find-active past s active)
 
 -- ---- `session.new`
@@ -90,14 +97,17 @@ no_error : {E : Type 0} (r : Result (Unit {0}) E) → ((e : E) → r ≡ Err e �
 no_error (Ok tt) h = refl
 no_error (Err e) h = absurd (h e refl)
 
-pub new-began : (past : List Deed) (c : ℕ) (request : Request) (fits : Result (Unit {0}) ErrorCode) → fits ≡ matching request → ((e : ErrorCode) → fits ≡ Err e → ⊥) → true ≡ is_ready past → new_outcome past c request ≡ Ok (Began c)
+pub new-began : (past : List Deed) (c : ℕ) (request : Request) (fits : Result (Unit {0}) ErrorCode)
+    → fits ≡ matching request → ((e : ErrorCode) → fits ≡ Err e → ⊥) → true ≡ is_ready past → new_outcome past c request ≡ Ok (Began c)
 new-began past c request fits same fit room = rw (sym same ∙ no_error fits fit, sym room) refl
 
 -- ---- `session.subscribe`
 
 -- whether an event is new, by the three answers
-pub is-new : (past : List Act) (held : List Subscription) (es : List EventName) (scope : Scope) (e : EventName) (top : ℕ) (live was is : Bool) → live ≡ is_alive past top
-    → was ≡ list_any (λ s. row_covers e top (row_of s)) held → is ≡ (is_among es e && covers scope top) → (live && (not was && is)) ≡ is_new past (map row_of held) es scope e top
+pub is-new : (past : List Act) (held : List Subscription) (es : List EventName) (scope : Scope) (e : EventName) (top : ℕ) (live was is : Bool)
+    → live ≡ is_alive past top
+    → was ≡ list_any (λ s. row_covers e top (row_of s)) held
+    → is ≡ (is_among es e && covers scope top) → (live && (not was && is)) ≡ is_new past (map row_of held) es scope e top
 is-new past held es scope e top live was is lives covered covers =
     ap₂ (λ a b. a && b) lives (ap₂ (λ a b. not a && b) (covered ∙ sym (any-map row_of (row_covers e top) held)) covers)
 
@@ -121,20 +131,24 @@ all-kept P (true ∷ bs) (x ∷ xs) all = (all.0, all-kept P bs xs all.1)
 all-kept P (false ∷ bs) (x ∷ xs) all = all-kept P bs xs all.1
 
 -- as many subscriptions are held as live
-pub held-length : (past : List Deed) (s : ℕ) (held : List Subscription) → map row_of held ≡ subscription_rows past s → length held ≡ length (subscriptions past s)
+pub held-length : (past : List Deed) (s : ℕ) (held : List Subscription)
+    → map row_of held ≡ subscription_rows past s → length held ≡ length (subscriptions past s)
 held-length past s held rows = sym (length-map held row_of) ∙ (ap length rows ∙ length-map (subscriptions past s) (row_at past s))
 
 -- the checks, one after another
-pub subscribe-checked : (past : List Deed) (s n : ℕ) (names : List (List ℕ)) (contexts users : Option (List (List ℕ))) (es : List EventName) (scope : Scope) (few : Bool)
+pub subscribe-checked : (past : List Deed) (s n : ℕ) (names : List (List ℕ)) (contexts users : Option (List (List ℕ)))
+    (es : List EventName) (scope : Scope) (few : Bool)
     → all_named names ≡ Ok es → scope_asked (acts past) contexts users ≡ Ok scope → n ≡ length (subscriptions past s) → nat_lt n 256 ≡ few
     → subscribe_outcome past s names contexts users ≡ (need few UnknownError >>= λ room. Ok (Subscribed s es scope))
 subscribe-checked past s n names contexts users es scope few named scoped long is =
     rw (named, scoped) (ap (λ (b : Bool). need b UnknownError >>= λ room. Ok (Subscribed s es scope)) (ap (λ k. nat_lt k 256) (sym long) ∙ is))
 
 -- what is new by the table is what is announced: of the tree, then of the entries that wait
-pub new-announced : (past : List Deed) (s : ℕ) (held : List Subscription) (es : List EventName) (scope : Scope) (tree waits : List Written) → is_active past s ≡ true → AllByRecursion IsEntry (missed past s) → map row_of held ≡ subscription_rows past s
+pub new-announced : (past : List Deed) (s : ℕ) (held : List Subscription) (es : List EventName) (scope : Scope) (tree waits : List Written)
+    → is_active past s ≡ true → AllByRecursion IsEntry (missed past s) → map row_of held ≡ subscription_rows past s
     → tree ≡ map written (filter (λ o. is_new (acts past) (map row_of held) es scope o.event o.top) (tree_events (acts past)))
-    → waits ≡ filter (λ w. is_new (acts past) (map row_of held) es scope EntryAdded w.top) (waiting (places past s)) → tree ++ waits ≡ map written (announcements past (Subscribed s es scope) s)
+    → waits ≡ filter (λ w. is_new (acts past) (map row_of held) es scope EntryAdded w.top) (waiting (places past s))
+    → tree ++ waits ≡ map written (announcements past (Subscribed s es scope) s)
 new-announced past s held es scope tree waits active entries rows told later =
     let in_hand = λ (o : Occurrence). is_new (acts past) (map row_of held) es scope o.event o.top in
     let newly = λ (o : Occurrence). is_newly_enabled past (Subscribed s es scope) s o.event o.top in
@@ -143,7 +157,8 @@ new-announced past s held es scope tree waits active entries rows told later =
     (later ∙ (ap (filter (λ w. is_new (acts past) (map row_of held) es scope EntryAdded w.top)) (waiting-places past s)
     ∙ new-written (is_new (acts past) (map row_of held) es scope) (waiting_for past s) (waiting-events past s entries)))
     ∙ (sym (map-append written (filter in_hand (tree_events (acts past))) (filter in_hand (waiting_for past s)))
-    ∙ ap (map written) (sym (filter-append in_hand (tree_events (acts past)) (waiting_for past s)) ∙ filter-same in_hand newly (tree_events (acts past) ++ waiting_for past s) same))
+    ∙ ap (map written) (sym (filter-append in_hand (tree_events (acts past)) (waiting_for past s))
+    ∙ filter-same in_hand newly (tree_events (acts past) ++ waiting_for past s) same))
 
 -- ---- `session.unsubscribe`
 
@@ -151,13 +166,15 @@ new-announced past s held es scope tree waits active entries rows told later =
 pub numbers-named : (past : List Deed) (s : ℕ) (ids : List (List ℕ)) → numbers_named s (subscription_rows past s) ids ≡ subscriptions_named past s ids
 numbers-named past s [] = refl
 numbers-named past s (id ∷ ids) =
-    ap₂ (λ (o : Option ℕ) (r : Result (List ℕ) ErrorCode). found o InvalidArgument >>= λ n. r >>= λ ns. Ok (n ∷ ns)) (sym (named-subscription_rows past s id)) (numbers-named past s ids)
+    ap₂ (λ (o : Option ℕ) (r : Result (List ℕ) ErrorCode). found o InvalidArgument >>= λ n. r >>= λ ns. Ok (n ∷ ns))
+    (sym (named-subscription_rows past s id)) (numbers-named past s ids)
 
 -- each event is held globally in hand where it is in the past
 pub all-held : (past : List Deed) (s : ℕ) (held : List Subscription) (es : List EventName) → map row_of held ≡ subscription_rows past s
     → list_all (λ e. list_any (λ x. row_holds e (row_of x)) held) es ≡ list_all (holds_globally past s) es
 all-held past s held es rows = all-same _ _ es (λ e. sym (any-map row_of (row_holds e) held) ∙ (ap (λ all. any_global all e) rows ∙ sym (global-held past s e)))
 
-pub dismiss-checked : (past : List Deed) (s : ℕ) (names : List (List ℕ)) (es : List EventName) (b : Bool) → all_named names ≡ Ok es → list_all (holds_globally past s) es ≡ b
+pub dismiss-checked : (past : List Deed) (s : ℕ) (names : List (List ℕ)) (es : List EventName) (b : Bool)
+    → all_named names ≡ Ok es → list_all (holds_globally past s) es ≡ b
     → unsubscribe_by_events_outcome past s names ≡ (need b InvalidArgument >>= λ held. Ok (Dismissed s es))
 dismiss-checked past s names es b named held = rw named (ap (λ (b : Bool). need b InvalidArgument >>= λ held. Ok (Dismissed s es)) held)

@@ -9,7 +9,8 @@ next p (x ∷ xs) zero d less fails = rw fails refl
 next p (x ∷ xs) (suc i) d less fails = next p xs i d (omega arith) fails
 
 -- the next item fails the test
-pub find-next : {X : Type 0} (p : X → Bool) (xs : List X) (i : ℕ) (d : X) → i < length xs → p (get_or xs i d) ≡ false → find p (drop i xs) ≡ find p (drop (i + 1) xs)
+pub find-next : {X : Type 0} (p : X → Bool) (xs : List X) (i : ℕ) (d : X)
+    → i < length xs → p (get_or xs i d) ≡ false → find p (drop i xs) ≡ find p (drop (i + 1) xs)
 find-next p xs i d less fails = let e : suc i ≡ i + 1 = omega arith in next p xs i d less fails ∙ ap (λ k. find p (drop k xs)) e
 
 -- the next item passes it

@@ -1,5 +1,6 @@
 -- Lists that are looked at through a function.
-use Rattle.std.proofs.Common.{◌≡◌, ◌<◌, ◌≤◌, ◌+◌, ℕ, suc, Bool, true, false, cond, Option, Some, None, ◌&&◌, ◌||◌, length, get_or, drop, drop-cons, add-one, option_map, List, [], ◌∷◌, ◌++◌, map, refl, sym, ap, ap₂, arith}
+use Rattle.std.proofs.Common.{◌≡◌, ◌<◌, ◌≤◌, ◌+◌, ℕ, suc, Bool, true, false, cond, Option, Some, None, ◌&&◌, ◌||◌, length, get_or}
+use Rattle.std.proofs.Common.{drop, drop-cons, add-one, option_map, List, [], ◌∷◌, ◌++◌, map, refl, sym, ap, ap₂, arith}
 use Rattle.std.specs.Prelude.{filter, find, flat_map, nat_lt}
 use Rattle.std.specs.List.{AllByRecursion, list_any, list_all, position, position_or_len}
 use Rattle.std.proofs.lemmas.Bool.Decides.{nat_tests}
@@ -20,7 +21,8 @@ all-same p q [] same = refl
 all-same p q (x ∷ xs) same = ap₂ (λ b c. b && c) (same x) (all-same p q xs same)
 
 -- the first item that passes, as it is seen
-pub find-map : {X Y Z : Type 0} (g : X → Y) (f : Y → Z) (p : Y → Bool) (xs : List X) → option_map f (find p (map g xs)) ≡ option_map (λ x. f (g x)) (find (λ x. p (g x)) xs)
+pub find-map : {X Y Z : Type 0} (g : X → Y) (f : Y → Z) (p : Y → Bool) (xs : List X)
+    → option_map f (find p (map g xs)) ≡ option_map (λ x. f (g x)) (find (λ x. p (g x)) xs)
 find-map g f p [] = refl
 find-map g f p (x ∷ xs) = let ih = find-map g f p xs in grind (arith, nat_tests, ih)
 
@@ -33,7 +35,9 @@ find-seen g p (x ∷ xs) = let ih = find-seen g p xs in grind (arith, nat_tests,
 pub position-none : {X : Type 0} (p : X → Bool) (xs : List X) → (let none : Option ℕ = None in position p xs ≡ none) → find p xs ≡ None
 position-none p xs none = fails p xs (past-end (nat_lt (position_or_len p xs) (length xs)) refl none)
   where
-    past-end : (b : Bool) → nat_lt (position_or_len p xs) (length xs) ≡ b → (let none : Option ℕ = None in cond (nat_lt (position_or_len p xs) (length xs)) (Some (position_or_len p xs)) None ≡ none) → length xs ≤ position_or_len p xs
+    past-end : (b : Bool) → nat_lt (position_or_len p xs) (length xs) ≡ b
+        → (let none : Option ℕ = None in cond (nat_lt (position_or_len p xs) (length xs)) (Some (position_or_len p xs)) None ≡ none)
+        → length xs ≤ position_or_len p xs
     past-end b e is = grind (arith, nat_tests, e, is)
 
     fails : {X : Type 0} (p : X → Bool) (xs : List X) → length xs ≤ position_or_len p xs → find p xs ≡ None
@@ -60,7 +64,8 @@ no_value None h = refl
 no_value (Some x) h = absurd (h x refl)
 
 -- what is so of each that passes
-passes-next : {X : Type 0} (f g : ℕ → X) (p : ℕ → Bool) (n : ℕ) (ns : List ℕ) (b : Bool) → p n ≡ b → (p n ≡ true → f n ≡ g n) → map f (filter p ns) ≡ map g (filter p ns) → map f (filter p (n ∷ ns)) ≡ map g (filter p (n ∷ ns))
+passes-next : {X : Type 0} (f g : ℕ → X) (p : ℕ → Bool) (n : ℕ) (ns : List ℕ) (b : Bool)
+    → p n ≡ b → (p n ≡ true → f n ≡ g n) → map f (filter p ns) ≡ map g (filter p ns) → map f (filter p (n ∷ ns)) ≡ map g (filter p (n ∷ ns))
 passes-next f g p n ns true is same rest = rw is (ap₂ (λ x xs. x ∷ xs) (same is) rest)
 passes-next f g p n ns false is same rest = rw is rest
 

@@ -21,12 +21,14 @@ module _ (past : List Deed) (c : ℕ) (level : Level) (line : List ℕ) where
   o = entry_added (acts past) (moment past) c level line
 
   -- an active session hears it, or misses it
-  row-logged : (s : ℕ) (b : Bool) → is_enabled past s EntryAdded o.top ≡ b → any_covers (subscription_rows past s) EntryAdded o.top ≡ b → session_row (Did (Logged c level line) ∷ past) s ≡ logged (written o) (session_row past s)
+  row-logged : (s : ℕ) (b : Bool) → is_enabled past s EntryAdded o.top ≡ b → any_covers (subscription_rows past s) EntryAdded o.top ≡ b
+      → session_row (Did (Logged c level line) ∷ past) s ≡ logged (written o) (session_row past s)
   row-logged s true enabled covered = rw (enabled, covered) refl
   row-logged s false enabled covered = rw (enabled, covered) (ap (λ ps. record (session_row past s) { missed = ps }) (places-more (missed past s) o))
 
   pub rows-logged : session_rows (Did (Logged c level line) ∷ past) ≡ map (logged (written o)) (session_rows past)
   rows-logged =
       each-passing (session_row (Did (Logged c level line) ∷ past)) (λ s. logged (written o) (session_row past s)) (is_active past) (up_to (sessions_made past))
-      (λ s active. row-logged s (any_covers (subscription_rows past s) EntryAdded o.top) (covers-enabled past s EntryAdded o.top ∙ ap (λ a. a && any_covers (subscription_rows past s) EntryAdded o.top) active) refl)
+      (λ s active. row-logged s (any_covers (subscription_rows past s) EntryAdded o.top)
+      (covers-enabled past s EntryAdded o.top ∙ ap (λ a. a && any_covers (subscription_rows past s) EntryAdded o.top) active) refl)
       ∙ sym (map-twice (logged (written o)) (session_row past) (sessions past))

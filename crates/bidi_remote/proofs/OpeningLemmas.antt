@@ -15,12 +15,15 @@ use Rattle.bidi_browser.specs.Contexts.{up_to}
 use Rattle.bidi_codes.specs.Checks.{◌>>=◌, need}
 use Rattle.bidi_browser.specs.Outcome as browser
 use Rattle.bidi_remote.specs.Machine.Commands.{Command, Status, New, End, Subscribe, UnsubscribeById, UnsubscribeByEvents, OfBrowser, command_of, id_of_command}
-use Rattle.bidi_remote.specs.Machine.History.{Input, At, Open, Drop, Heard, NotText, PageStep, Deed, Time, Opened, Dropped, Began, Ended, Subscribed, Cancelled, Dismissed, Did, Told, acts}
+use Rattle.bidi_remote.specs.Machine.History.{Input, At, Open, Drop, Heard, NotText, PageStep, Deed, Time, Opened, Dropped}
+use Rattle.bidi_remote.specs.Machine.History.{Began, Ended, Subscribed, Cancelled, Dismissed, Did, Told, acts}
 use Rattle.bidi_remote.specs.Machine.Sessions.{sessions_made, is_active, sessions}
 use Rattle.bidi_remote.specs.Machine.Connections.{Standing, Shut, Alone, SpeaksFor, is_shut, is_open, standing_of, openings}
 use Rattle.bidi_remote.specs.Machine.Capabilities.{matching}
 use Rattle.bidi_remote.specs.Machine.Subscriptions.{subscriptions, holds_globally}
-use Rattle.bidi_remote.specs.Machine.Outcome.{NotTaken, Lost, outcome, replied, asked, answered, in_page, opening, is_ready, all_named, scope_asked, subscriptions_named, subscribe_outcome, unsubscribe_by_events_outcome, session_of_resource, may_open, turn, with_turn, deeds, did}
+use Rattle.bidi_remote.specs.Machine.Outcome.{NotTaken, Lost, outcome, replied, asked, answered, in_page, opening, is_ready}
+use Rattle.bidi_remote.specs.Machine.Outcome.{all_named, scope_asked, subscriptions_named, subscribe_outcome}
+use Rattle.bidi_remote.specs.Machine.Outcome.{unsubscribe_by_events_outcome, session_of_resource, may_open, turn, with_turn, deeds, did}
 use Rattle.bidi_remote.proofs.ConnectionLemmas.{WasOpened}
 
 -- ---- what each turn rests on
@@ -39,7 +42,8 @@ IsFairIfDone past (Ok d) = IsFair past d
 IsFairIfDone past (Err e) = ⊤
 
 -- after a check
-checked : {A : Type 0} (past : List Deed) (r : Result A ErrorCode) (next : A → Result Deed ErrorCode) → ((x : A) → IsFairIfDone past (next x)) → IsFairIfDone past (r >>= next)
+checked : {A : Type 0} (past : List Deed) (r : Result A ErrorCode) (next : A → Result Deed ErrorCode)
+    → ((x : A) → IsFairIfDone past (next x)) → IsFairIfDone past (r >>= next)
 checked past (Ok x) next h = h x
 checked past (Err code) next h = tt
 
@@ -53,7 +57,8 @@ new_fair past c (Err code) room e = tt
 new_fair past c (Ok fit) true e = e
 new_fair past c (Ok fit) false e = tt
 
-subscribe_fair : (past : List Deed) (c s : ℕ) (names : List (List ℕ)) (contexts users : Option (List (List ℕ))) → standing_of past c ≡ SpeaksFor s → IsFairIfDone past (subscribe_outcome past s names contexts users)
+subscribe_fair : (past : List Deed) (c s : ℕ) (names : List (List ℕ)) (contexts users : Option (List (List ℕ)))
+    → standing_of past c ≡ SpeaksFor s → IsFairIfDone past (subscribe_outcome past s names contexts users)
 subscribe_fair past c s names contexts users e =
     let few : Result (Unit {0}) ErrorCode = need (nat_lt (length (subscriptions past s)) 256) UnknownError in
     checked past (all_named names) (λ events. scope_asked (acts past) contexts users >>= λ scope. few >>= λ room. Ok (Subscribed s events scope))
@@ -88,13 +93,15 @@ replied_fair past c id (Err code) h = tt
 
 asked_fair : (past : List Deed) (c id : ℕ) (command : Option Command) → IsFairIfDone past (asked past c id command)
 asked_fair past c id None = tt
-asked_fair past c id (Some command) = replied_fair past c id (outcome past c (standing_of past c) command) (outcome_fair past c (standing_of past c) command refl)
+asked_fair past c id (Some command) =
+    replied_fair past c id (outcome past c (standing_of past c) command) (outcome_fair past c (standing_of past c) command refl)
 
 answered_fair : (past : List Deed) (c : ℕ) (v : Verdict) → IsFairIfDone past (answered past c v)
 answered_fair past c (Accepted t) = asked_fair past c (id_of_command t) (command_of t)
 answered_fair past c (Refused id code) = tt
 
-when_open : (past : List Deed) (c : ℕ) (b : Bool) (r : Result Deed NotTaken) → IsFairIfDone past r → (let t : Result Deed NotTaken = cond b r (Err (Lost c)) in IsFairIfDone past t)
+when_open : (past : List Deed) (c : ℕ) (b : Bool) (r : Result Deed NotTaken)
+    → IsFairIfDone past r → (let t : Result Deed NotTaken = cond b r (Err (Lost c)) in IsFairIfDone past t)
 when_open past c true r h = h
 when_open past c false r h = tt
 
@@ -104,13 +111,17 @@ found_active past q [] s found = cc
 found_active past q (n ∷ ns) s found = let ih = found_active past q ns s in grind (arith, nat_tests, ih)
 
 -- so is the session of a resource
-resource_active : (past : List Deed) (resource : List ℕ) (s : ℕ) (b : Bool) (o : Option ℕ) → find (λ t. bytes_eq resource (codes "/session/" ++ id_of Session t)) (sessions past) ≡ o
+resource_active : (past : List Deed) (resource : List ℕ) (s : ℕ) (b : Bool) (o : Option ℕ)
+    → find (λ t. bytes_eq resource (codes "/session/" ++ id_of Session t)) (sessions past) ≡ o
     → cond b (Some None) (option_map Some o) ≡ Some (Some s) → is_active past s ≡ true
 resource_active past resource s true o found e = cc
 resource_active past resource s false None found e = cc
-resource_active past resource s false (Some t) found e = let is : t ≡ s = cc in found_active past (λ n. bytes_eq resource (codes "/session/" ++ id_of Session n)) (up_to (sessions_made past)) s (found ∙ ap Some is)
+resource_active past resource s false (Some t) found e =
+    let is : t ≡ s = cc in
+    found_active past (λ n. bytes_eq resource (codes "/session/" ++ id_of Session n)) (up_to (sessions_made past)) s (found ∙ ap Some is)
 
-opening_fair : (past : List Deed) (c : ℕ) (b : Bool) (o : Option (Option ℕ)) → may_open past c ≡ b → ((s : ℕ) → o ≡ Some (Some s) → is_active past s ≡ true) → IsFairIfDone past (opening past c o)
+opening_fair : (past : List Deed) (c : ℕ) (b : Bool) (o : Option (Option ℕ))
+    → may_open past c ≡ b → ((s : ℕ) → o ≡ Some (Some s) → is_active past s ≡ true) → IsFairIfDone past (opening past c o)
 opening_fair past c b None e active = tt
 opening_fair past c true (Some o) e active = rw e (λ s is. active s (ap Some is))
 opening_fair past c false (Some o) e active = rw e tt
@@ -124,7 +135,8 @@ pub turn_fair : (past : List Deed) (i : Input) → IsFairIfDone past (turn past 
 turn_fair past (At n) = tt
 turn_fair past (Open c resource) =
     opening_fair past c (may_open past c) (session_of_resource past resource) refl
-    (λ s. resource_active past resource s (bytes_eq resource (codes "/session")) (find (λ t. bytes_eq resource (codes "/session/" ++ id_of Session t)) (sessions past)) refl)
+    (λ s. resource_active past resource s (bytes_eq resource (codes "/session"))
+    (find (λ t. bytes_eq resource (codes "/session/" ++ id_of Session t)) (sessions past)) refl)
 turn_fair past (Drop c) = when_open past c (is_open past c) (Ok (Dropped c)) tt
 turn_fair past (Heard c v) = when_open past c (is_open past c) (answered past c v) (answered_fair past c v)
 turn_fair past (NotText c) = when_open past c (is_open past c) (answered past c (Refused None InvalidArgument)) tt
@@ -141,7 +153,13 @@ opened_more past (Err refusal) fair was c = was c
 opened_more past (Ok (Time n)) fair was c = was c
 opened_more past (Ok (Opened d s)) fair was c = λ e.
     let so = was c in
-    grind (arith, nat_tests, so, list_any-append (λ x. x == c) (filter (λ x. not (d == x)) (openings past)) (d ∷ []), any_filter c (λ x. not (d == x)) (openings past))
+    grind (
+      arith,
+      nat_tests,
+      so,
+      list_any-append (λ x. x == c) (filter (λ x. not (d == x)) (openings past)) (d ∷ []),
+      any_filter c (λ x. not (d == x)) (openings past),
+    )
 opened_more past (Ok (Dropped d)) fair was c = λ e. let so = was c in grind (arith, nat_tests, so)
 opened_more past (Ok (Began d)) fair was c = λ e. let so = was c in let alone = ap is_shut fair in grind (arith, nat_tests, so, alone)
 opened_more past (Ok (Ended s)) fair was c = λ e. let so = was c in grind (arith, nat_tests, so)

@@ -42,13 +42,16 @@ hundred-more xs x =
 -- ---- places
 
 -- one more is missed
-pub places-more : (all : List Missed) (o : Occurrence) → map place_of (last_hundred (all ++ just_missed o ∷ [])) ≡ with_missed (written o) (map place_of (last_hundred all))
+pub places-more : (all : List Missed) (o : Occurrence)
+    → map place_of (last_hundred (all ++ just_missed o ∷ [])) ≡ with_missed (written o) (map place_of (last_hundred all))
 places-more all o =
     ap (map place_of) (sym (hundred-more all (just_missed o)))
-    ∙ (sym (hundred-map place_of (last_hundred all ++ just_missed o ∷ [])) ∙ ap (λ ps. drop (length ps - 100) ps) (map-append place_of (last_hundred all) (just_missed o ∷ [])))
+    ∙ (sym (hundred-map place_of (last_hundred all ++ just_missed o ∷ []))
+    ∙ ap (λ ps. drop (length ps - 100) ps) (map-append place_of (last_hundred all) (just_missed o ∷ [])))
 
 -- those of some top-level contexts are announced
-pub places-announced : (p q : ℕ → Bool) (all : List Missed) → ((top : ℕ) → p top ≡ q top) → map place_of (last_hundred (map (announced_at p) all)) ≡ all_left q (map place_of (last_hundred all))
+pub places-announced : (p q : ℕ → Bool) (all : List Missed)
+    → ((top : ℕ) → p top ≡ q top) → map place_of (last_hundred (map (announced_at p) all)) ≡ all_left q (map place_of (last_hundred all))
 places-announced p q all same = ap (map place_of) (hundred-map (announced_at p) all) ∙ each (last_hundred all)
   where
     one : (m : Missed) (b : Bool) → m.announced ≡ b → place_of (announced_at p m) ≡ left q (place_of m)
@@ -72,7 +75,8 @@ left-empty p x is = is ∙ ap (left p) (sym is)
 -- ---- what waits
 
 -- what waits in the places
-waiting-next : (m : Missed) (ms : List Missed) (b : Bool) → m.announced ≡ b → waiting (map place_of ms) ≡ map written (map (λ n. n.entry) (filter (λ n. not n.announced) ms))
+waiting-next : (m : Missed) (ms : List Missed) (b : Bool)
+    → m.announced ≡ b → waiting (map place_of ms) ≡ map written (map (λ n. n.entry) (filter (λ n. not n.announced) ms))
     → waiting (map place_of (m ∷ ms)) ≡ map written (map (λ n. n.entry) (filter (λ n. not n.announced) (m ∷ ms)))
 waiting-next m ms true is same = rw is same
 waiting-next m ms false is same = rw is (ap (λ ws. written m.entry ∷ ws) same)
@@ -91,7 +95,8 @@ new-next : (n : EventName → ℕ → Bool) (o : Occurrence) (os : List Occurren
 new-next n o os true is same rest = rw (same, is) (ap (λ ws. written o ∷ ws) rest)
 new-next n o os false is same rest = rw (same, is) rest
 
-pub new-written : (n : EventName → ℕ → Bool) (os : List Occurrence) → AllByRecursion (λ o. o.event ≡ EntryAdded) os → filter (λ w. n EntryAdded w.top) (map written os) ≡ map written (filter (λ o. n o.event o.top) os)
+pub new-written : (n : EventName → ℕ → Bool) (os : List Occurrence) → AllByRecursion (λ o. o.event ≡ EntryAdded) os
+    → filter (λ w. n EntryAdded w.top) (map written os) ≡ map written (filter (λ o. n o.event o.top) os)
 new-written n [] all = refl
 new-written n (o ∷ os) all = new-next n o os (n EntryAdded o.top) refl (ap (λ e. n e o.top) all.0) (new-written n os all.1)
 
@@ -114,17 +119,20 @@ entries-more [] m is all = (is, tt)
 entries-more (n ∷ ms) m is all = (all.0, entries-more ms m is all.1)
 
 -- an entry more, where it was missed
-pub entries-logged : (b : Bool) (ms : List Missed) (o : Occurrence) → o.event ≡ EntryAdded → IsMessageText ghosts.shape (occurrence_text o) → AllByRecursion IsEntry ms → AllByRecursion IsEntry (cond b ms (ms ++ just_missed o ∷ []))
+pub entries-logged : (b : Bool) (ms : List Missed) (o : Occurrence) → o.event ≡ EntryAdded → IsMessageText ghosts.shape (occurrence_text o)
+    → AllByRecursion IsEntry ms → AllByRecursion IsEntry (cond b ms (ms ++ just_missed o ∷ []))
 entries-logged true ms o is text all = all
 entries-logged false ms o is text all = entries-more ms (just_missed o) (record { event = is; reads_back = text }) all
 
 -- what waits is an entry
-waits-next : (P : Occurrence → Type 0) (m : Missed) (ms : List Missed) (b : Bool) → m.announced ≡ b → P m.entry → AllByRecursion P (map (λ n. n.entry) (filter (λ n. not n.announced) ms))
+waits-next : (P : Occurrence → Type 0) (m : Missed) (ms : List Missed) (b : Bool)
+    → m.announced ≡ b → P m.entry → AllByRecursion P (map (λ n. n.entry) (filter (λ n. not n.announced) ms))
     → AllByRecursion P (map (λ n. n.entry) (filter (λ n. not n.announced) (m ∷ ms)))
 waits-next P m ms true is this all = rw is all
 waits-next P m ms false is this all = rw is (this, all)
 
-waiting-all : (P : Occurrence → Type 0) (ms : List Missed) → AllByRecursion (λ m. P m.entry) ms → AllByRecursion P (map (λ m. m.entry) (filter (λ m. not m.announced) ms))
+waiting-all : (P : Occurrence → Type 0) (ms : List Missed)
+    → AllByRecursion (λ m. P m.entry) ms → AllByRecursion P (map (λ m. m.entry) (filter (λ m. not m.announced) ms))
 waiting-all P [] all = tt
 waiting-all P (m ∷ ms) all = waits-next P m ms m.announced refl all.0 (waiting-all P ms all.1)
 
@@ -137,7 +145,9 @@ are-texts [] all = tt
 are-texts (m ∷ ms) all = (all.0.reads_back, are-texts ms all.1)
 
 pub waiting-events : (past : List Deed) (s : ℕ) → AllByRecursion IsEntry (missed past s) → AllByRecursion (λ o. o.event ≡ EntryAdded) (waiting_for past s)
-waiting-events past s all = waiting-all (λ o. o.event ≡ EntryAdded) (last_hundred (missed past s)) (are-events _ (all-dropped IsEntry (length (missed past s) - 100) (missed past s) all))
+waiting-events past s all =
+    waiting-all (λ o. o.event ≡ EntryAdded) (last_hundred (missed past s))
+    (are-events _ (all-dropped IsEntry (length (missed past s) - 100) (missed past s) all))
 
 -- and its text that of a message
 texts-messages : (os : List Occurrence) → AllByRecursion (λ o. IsMessageText ghosts.shape (occurrence_text o)) os → AreMessages (map written os)
@@ -147,7 +157,8 @@ texts-messages (o ∷ os) all = (all.0, texts-messages os all.1)
 pub waiting-messages : (past : List Deed) (s : ℕ) → AllByRecursion IsEntry (missed past s) → AreMessages (map written (waiting_for past s))
 waiting-messages past s all =
     texts-messages (waiting_for past s)
-    (waiting-all (λ o. IsMessageText ghosts.shape (occurrence_text o)) (last_hundred (missed past s)) (are-texts _ (all-dropped IsEntry (length (missed past s) - 100) (missed past s) all)))
+    (waiting-all (λ o. IsMessageText ghosts.shape (occurrence_text o)) (last_hundred (missed past s))
+    (are-texts _ (all-dropped IsEntry (length (missed past s) - 100) (missed past s) all)))
 
 -- so are those of them that are kept
 kept-next : {X : Type 0} (P : X → Type 0) (b : Bool) (x : X) (xs : List X) → P x → AllByRecursion P xs → AllByRecursion P (cond b (x ∷ xs) xs)

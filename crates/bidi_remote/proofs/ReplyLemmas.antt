@@ -1,5 +1,6 @@
 -- Why a command that does something gets one reply, with a result of its method.
-use Rattle.std.proofs.Common.{◌≡◌, ◌∙◌, ℕ, true, false, true≢false, unwrap_or, List, ◌∷◌, ◌++◌, map, Option, Some, None, Result, Ok, Err, IfOk, Vec, String, Global, string_bytes, refl, sym, ap, subst}
+use Rattle.std.proofs.Common.{◌≡◌, ◌∙◌, ℕ, true, false, true≢false, unwrap_or, List, ◌∷◌, ◌++◌, map, Option, Some, None}
+use Rattle.std.proofs.Common.{Result, Ok, Err, IfOk, Vec, String, Global, string_bytes, refl, sym, ap, subst}
 use Rattle.std.specs.Prelude.{IfSome, OnOk, option_map, is_some}
 use Rattle.std.specs.Option.{option_zip}
 use Rattle.bidi_tree.specs.Node.{Node}
@@ -43,23 +44,27 @@ abbrev kind : ResultData → Method
 kind r = results.ghosts.subject.kind r
 
 -- a turn of which only a reply tells
-pub replied-of : (method : Method) (turn : Turn) (to : Asker) (r : ResultData) → turn.telling.reply ≡ Some (record { to = to; outcome = r }) → kind r ≡ method → HasResultOf method (Ok turn)
+pub replied-of : (method : Method) (turn : Turn) (to : Asker) (r : ResultData)
+    → turn.telling.reply ≡ Some (record { to = to; outcome = r }) → kind r ≡ method → HasResultOf method (Ok turn)
 replied-of method turn to r is same = subst (λ o. IfSome o (λ x. kind x.outcome ≡ method)) (sym is) same
 
 -- one that the browser planned
-pub planned-of : (method : Method) (turn : Turn) (asker : Asker) (o : Option ResultData) → turn.telling.reply ≡ option_map (λ r. record { to = r.0; outcome = r.1 }) (option_zip (Some asker) o)
+pub planned-of : (method : Method) (turn : Turn) (asker : Asker) (o : Option ResultData)
+    → turn.telling.reply ≡ option_map (λ r. record { to = r.0; outcome = r.1 }) (option_zip (Some asker) o)
     → IfSome o (λ r. kind r ≡ method) → HasResultOf method (Ok turn)
 planned-of method turn asker None is same = subst (λ o. IfSome o (λ x. kind x.outcome ≡ method)) (sym is) tt
 planned-of method turn asker (Some r) is same = subst (λ o. IfSome o (λ x. kind x.outcome ≡ method)) (sym is) same
 
 -- the method that is asked for
-pub asked-of : (asked d : CommandData) (r : Result Turn browser.Refusal) → asked ≡ d → HasResultOf (asks.ghosts.subject.kind d) r → HasResultOf (asks.ghosts.subject.kind asked) r
+pub asked-of : (asked d : CommandData) (r : Result Turn browser.Refusal)
+    → asked ≡ d → HasResultOf (asks.ghosts.subject.kind d) r → HasResultOf (asks.ghosts.subject.kind asked) r
 asked-of asked d r is has = subst (λ a. HasResultOf (asks.ghosts.subject.kind a) r) (sym is) has
 
 -- ---- the text of a result
 
 -- what was written reads back
-pub reads-as : {E : Type 0} (q : Result (String Global) E) (id : ℕ) (result : Node) → IfOk q (λ s. string_bytes s ≡ response_text id result) → IfOk q (λ s. tree_of (string_bytes s) ≡ Some (response_tree id result)) → OnOk q (ReadsAs id result)
+pub reads-as : {E : Type 0} (q : Result (String Global) E) (id : ℕ) (result : Node) → IfOk q (λ s. string_bytes s ≡ response_text id result)
+    → IfOk q (λ s. tree_of (string_bytes s) ≡ Some (response_tree id result)) → OnOk q (ReadsAs id result)
 reads-as (Ok s) id result text tree = subst (λ t. tree_of t ≡ Some (response_tree id result)) text tree
 reads-as (Err e) id result text tree = tt
 
@@ -89,7 +94,8 @@ one-method m n e =
 same-id : (x y : ℕ × ℕ) → Some x ≡ Some y → x.1 ≡ y.1
 same-id x y e = ap (λ o. (unwrap_or o x).1) e
 
-reply-in : (c id : ℕ) (method : Method) (before after : List Occurrence) (o : Option Reply) (all : List Item) → IfSome o (λ r. IsWellResult r.outcome) → asker_in o ≡ Some (c, id) → IfSome o (λ r. kind r.outcome ≡ method)
+reply-in : (c id : ℕ) (method : Method) (before after : List Occurrence) (o : Option Reply) (all : List Item)
+    → IfSome o (λ r. IsWellResult r.outcome) → asker_in o ≡ Some (c, id) → IfSome o (λ r. kind r.outcome ≡ method)
     → IfSome o (λ r. ReadsAs r.to.id.value (result_tree r.outcome)) → map Happens before ++ (reply_in o ++ map Happens after) ≡ all → HasOneReply id method all
 reply-in c id method before after None all well asker same reads is = absurd (true≢false (sym (ap is_some asker)))
 reply-in c id method before after (Some r) all well asker same reads is = (
@@ -102,36 +108,47 @@ reply-in c id method before after (Some r) all well asker same reads is = (
 )
 
 module _ {E : Type 0} (q : Result (Vec declared_sent.Sent Global) E) (h : List Input) (asker : Asker) (tree : Node) (s : Standing) (x : Command)
-    (stands : standing_of (deeds h) asker.conn.value ≡ s) (opened : is_shut s ≡ false) (asks : Asks tree asker.id.value x) (method : Method) (named : method_in tree ≡ method_text method) where
+    (stands : standing_of (deeds h) asker.conn.value ≡ s) (opened : is_shut s ≡ false) (asks : Asks tree asker.id.value x) (method : Method)
+    (named : method_in tree ≡ method_text method) where
   abbrev c : ℕ
   c = asker.conn.value
 
-  turned : (answer : Result Deed ErrorCode) → outcome (deeds h) c s x ≡ answer → turn (deeds h) (Heard c (Accepted tree)) ≡ replied c (id_of_command tree) answer
-  turned answer is = heard-open (deeds h) c (Accepted tree) (ap is_shut stands ∙ opened) ∙ (asked-is (deeds h) c tree s x stands asks.what ∙ ap (replied c (id_of_command tree)) is)
+  turned : (answer : Result Deed ErrorCode)
+      → outcome (deeds h) c s x ≡ answer → turn (deeds h) (Heard c (Accepted tree)) ≡ replied c (id_of_command tree) answer
+  turned answer is =
+      heard-open (deeds h) c (Accepted tree) (ap is_shut stands ∙ opened)
+      ∙ (asked-is (deeds h) c tree s x stands asks.what ∙ ap (replied c (id_of_command tree)) is)
 
   -- a code refused the command
   pub code_answered : (code : ErrorCode) → outcome (deeds h) c s x ≡ Err code → OnOk q (IsAnsweredOnce (deeds h) (Heard c (Accepted tree)))
-  code_answered code is = on-ok q (λ m n. subst (λ r. IfOk r (λ d. HasOneReply (id_of_command tree) m (items (deeds h) (action_in (command_of tree)) d))) (sym (turned (Err code) is)) tt)
+  code_answered code is =
+      on-ok q (λ m n. subst (λ r. IfOk r (λ d. HasOneReply (id_of_command tree) m (items (deeds h) (action_in (command_of tree)) d)))
+      (sym (turned (Err code) is)) tt)
 
   -- a turn was taken
-  pub turn_answered : (decided : Turn) → Decides (Ok decided) (deeds h) asker x (outcome (deeds h) c s x) → IsWellTold decided.telling → HasResultOf method (Ok decided)
+  pub turn_answered : (decided : Turn)
+      → Decides (Ok decided) (deeds h) asker x (outcome (deeds h) c s x) → IsWellTold decided.telling → HasResultOf method (Ok decided)
       → IfSome decided.telling.reply (λ r. OnOk q (ReadsAs r.to.id.value (result_tree r.outcome))) → OnOk q (IsAnsweredOnce (deeds h) (Heard c (Accepted tree)))
   turn_answered decided is well has reads = of q reads
     where
       d : Deed
       d = deed_of decided.change is.0
 
-      of : (q : Result (Vec declared_sent.Sent Global) E) → IfSome decided.telling.reply (λ r. OnOk q (ReadsAs r.to.id.value (result_tree r.outcome))) → OnOk q (IsAnsweredOnce (deeds h) (Heard c (Accepted tree)))
+      of : (q : Result (Vec declared_sent.Sent Global) E)
+          → IfSome decided.telling.reply (λ r. OnOk q (ReadsAs r.to.id.value (result_tree r.outcome)))
+          → OnOk q (IsAnsweredOnce (deeds h) (Heard c (Accepted tree)))
       of (Err e) reads = tt
       of (Ok v) reads = λ m n.
           subst (λ r. IfOk r (λ d. HasOneReply (id_of_command tree) m (items (deeds h) (action_in (command_of tree)) d))) (sym (turned (Ok d) is.1))
           (subst (λ k. HasOneReply (id_of_command tree) k (items (deeds h) (action_in (command_of tree)) d)) (one-method method m (sym named ∙ n))
-          (reply-in c (id_of_command tree) method (seen decided.telling.before.items) (seen decided.telling.after.items) decided.telling.reply _ well.reply (is.4 ∙ ap (λ k. Some (c, k)) (sym asks.same_id)) has reads
+          (reply-in c (id_of_command tree) method (seen decided.telling.before.items) (seen decided.telling.after.items)
+          decided.telling.reply _ well.reply (is.4 ∙ ap (λ k. Some (c, k)) (sym asks.same_id)) has reads
           (is.3.items ∙ ap (λ o. items (deeds h) (action_in o) d) (sym asks.what))))
 
 -- a text that does nothing has no reply of that kind
 pub not_answered : (past : List Deed) (c : ℕ) (v : Verdict) (refusal : NotTaken) → turn past (Heard c v) ≡ Err refusal → IsAnsweredOnce past (Heard c v)
-not_answered past c (Accepted t) refusal is = λ m n. subst (λ r. IfOk r (λ d. HasOneReply (id_of_command t) m (items past (action_in (command_of t)) d))) (sym is) tt
+not_answered past c (Accepted t) refusal is =
+    λ m n. subst (λ r. IfOk r (λ d. HasOneReply (id_of_command t) m (items past (action_in (command_of t)) d))) (sym is) tt
 not_answered past c (Refused id code) refusal is = tt
 
 -- nor has a step of a page

@@ -1,5 +1,6 @@
 -- To whom what is sent goes: events to those that are open, and a reply to who asked.
-use Rattle.std.proofs.Common.{◌≡◌, ◌∙◌, ◌<◌, ◌^◌, ℕ, Bool, true, false, List, [], ◌∷◌, ◌++◌, map, flat_map, Option, Some, None, Result, Ok, Err, refl, sym, ap, ap₂, subst, append-nil, rules}
+use Rattle.std.proofs.Common.{◌≡◌, ◌∙◌, ◌<◌, ◌^◌, ℕ, Bool, true, false, List, [], ◌∷◌, ◌++◌, map, flat_map, Option}
+use Rattle.std.proofs.Common.{Some, None, Result, Ok, Err, refl, sym, ap, ap₂, subst, append-nil, rules}
 use Rattle.std.specs.Prelude.{◌==◌, nat_lt, length, not, filter, if◌then◌else◌, IfOk, ⊤}
 use Rattle.std.specs.List.{AllByRecursion, list_all}
 use Rattle.std.proofs.lemmas.Grind.{flat_map-append}
@@ -19,13 +20,17 @@ use Rattle.bidi_browser.specs.Occurrences.{Occurrence}
 use Rattle.bidi_browser.specs.Occurs.{Item, Happens, Replies}
 use Rattle.bidi_remote.specs.Machine.Capabilities.{matching}
 use Rattle.bidi_remote.specs.Machine.Commands.{Command, Status, New, End, Subscribe, UnsubscribeById, UnsubscribeByEvents, OfBrowser, command_of, id_of_command}
-use Rattle.bidi_remote.specs.Machine.History.{Input, At, Open, Drop, Heard, NotText, PageStep, Deed, Time, Opened, Dropped, Began, Ended, Subscribed, Cancelled, Dismissed, Did, Told, acts}
+use Rattle.bidi_remote.specs.Machine.History.{Input, At, Open, Drop, Heard, NotText, PageStep, Deed, Time, Opened, Dropped}
+use Rattle.bidi_remote.specs.Machine.History.{Began, Ended, Subscribed, Cancelled, Dismissed, Did, Told, acts}
 use Rattle.bidi_remote.specs.Machine.Connections.{Standing, Shut, Alone, SpeaksFor, is_for, is_open, is_shut, standing_of, openings, connections_of}
-use Rattle.bidi_remote.specs.Machine.Outcome.{NotTaken, Denied, Lost, Error, NoEffect, deeds, turn, with_turn, if_open, in_page, asked, replied, outcome, answered, opening, may_open, session_of_resource, is_ready, did, all_named, scope_asked, subscriptions_named}
+use Rattle.bidi_remote.specs.Machine.Outcome.{NotTaken, Denied, Lost, Error, NoEffect, deeds, turn, with_turn, if_open}
+use Rattle.bidi_remote.specs.Machine.Outcome.{in_page, asked, replied, outcome, answered, opening, may_open}
+use Rattle.bidi_remote.specs.Machine.Outcome.{session_of_resource, is_ready, did, all_named, scope_asked, subscriptions_named}
 use Rattle.bidi_remote.specs.Machine.Subscriptions.{subscriptions, holds_globally}
 use Rattle.bidi_remote.specs.Machine.Replies.{IsEventText, IsReply, is_result, is_code, HasOneReply, IsAnsweredOnce}
 use Rattle.bidi_remote.specs.Machine.Sent as sent
-use Rattle.bidi_remote.specs.Machine.Sent.{Sent, Text, Close, occurrence_text, to_session, hearers, to_hearers, announcements, announced, closed, sent_to, sent_unasked, items, action_in, told, out, text_on, texts_on}
+use Rattle.bidi_remote.specs.Machine.Sent.{Sent, Text, Close, occurrence_text, to_session, hearers, to_hearers, announcements}
+use Rattle.bidi_remote.specs.Machine.Sent.{announced, closed, sent_to, sent_unasked, items, action_in, told, out, text_on, texts_on}
 use Rattle.bidi_remote.proofs.ListLemmas.{all-append}
 
 -- ---- texts on one connection
@@ -47,7 +52,8 @@ events-append b ts us x y = record { each = all-append IsEventText ts us x.each 
 events-more : (b : Bool) (l : ℕ) (xs ys : List Sent) → AreEvents b (texts_on l xs) → AreEvents b (texts_on l ys) → AreEvents b (texts_on l (xs ++ ys))
 events-more b l xs ys x y = subst (AreEvents b) (sym (texts_on-append l xs ys)) (events-append b _ _ x y)
 
-events-flat : {X : Type 0} (b : Bool) (l : ℕ) (f : X → List Sent) → ((x : X) → AreEvents b (texts_on l (f x))) → (xs : List X) → AreEvents b (texts_on l (flat_map f xs))
+events-flat : {X : Type 0} (b : Bool) (l : ℕ) (f : X → List Sent)
+    → ((x : X) → AreEvents b (texts_on l (f x))) → (xs : List X) → AreEvents b (texts_on l (flat_map f xs))
 events-flat b l f each [] = no-events b
 events-flat b l f each (x ∷ xs) = events-more b l (f x) (flat_map f xs) (each x) (events-flat b l f each xs)
 
@@ -64,7 +70,8 @@ module _ (past : List Deed) (l : ℕ) where
   for-open s Alone e = refl
   for-open s (SpeaksFor t) e = refl
 
-  one-text : (x : List ℕ) → IsEventText x → (s c : ℕ) (ts : List (List ℕ)) → is_for s (standing_of past c) ≡ true → (b : Bool) → (l == c) ≡ b → AreEvents opens ts → AreEvents opens ((if b then x ∷ [] else []) ++ ts)
+  one-text : (x : List ℕ) → IsEventText x → (s c : ℕ) (ts : List (List ℕ)) → is_for s (standing_of past c) ≡ true
+      → (b : Bool) → (l == c) ≡ b → AreEvents opens ts → AreEvents opens ((if b then x ∷ [] else []) ++ ts)
   one-text x is s c ts speaks false e more = more
   one-text x is s c ts speaks true e more = record {
     each = (is, more.each);
@@ -77,8 +84,10 @@ module _ (past : List Deed) (l : ℕ) where
   abbrev each-of : List ℕ → ℕ → List ℕ → List Sent
   each-of x s cs = map (λ c. Text c x) (filter (λ c. is_for s (standing_of past c)) cs)
 
-  one-more : (x : List ℕ) → IsEventText x → (s c : ℕ) (cs : List ℕ) → AreEvents opens (texts_on l (each-of x s cs)) → (m : Bool) → is_for s (standing_of past c) ≡ m
-      → AreEvents opens (texts_on l (map (λ c. Text c x) (if m then c ∷ filter (λ c. is_for s (standing_of past c)) cs else filter (λ c. is_for s (standing_of past c)) cs)))
+  one-more : (x : List ℕ) → IsEventText x
+      → (s c : ℕ) (cs : List ℕ) → AreEvents opens (texts_on l (each-of x s cs)) → (m : Bool) → is_for s (standing_of past c) ≡ m
+      → AreEvents opens (texts_on l (map (λ c. Text c x)
+      (if m then c ∷ filter (λ c. is_for s (standing_of past c)) cs else filter (λ c. is_for s (standing_of past c)) cs)))
   one-more x is s c cs rest false e = rest
   one-more x is s c cs rest true e = one-text x is s c _ e (l == c) refl rest
 
@@ -94,7 +103,8 @@ module _ (past : List Deed) (l : ℕ) where
   heard-events o = events-flat opens l (to_session past o) (session-events o) (hearers past o)
 
   announced-events : (d : Deed) → AreEvents opens (texts_on l (announced past d))
-  announced-events (Subscribed s es scope) = events-flat opens l (λ o. to_session past o s) (λ o. session-events o s) (announcements past (Subscribed s es scope) s)
+  announced-events (Subscribed s es scope) =
+      events-flat opens l (λ o. to_session past o s) (λ o. session-events o s) (announcements past (Subscribed s es scope) s)
   announced-events d = no-events opens
 
   closes-none : (cs : List ℕ) → texts_on l (map Close cs) ≡ []
@@ -138,7 +148,8 @@ module _ (past : List Deed) (l : ℕ) where
   one-text-on c s = append-nil _
 
   -- what is sent for a command that does something
-  done-answers : (c id : ℕ) (method : Method) (d : Deed) (all : List Item) → HasOneReply id method all → Answers c id method (texts_on l (announced past d ++ (flat_map (sent_to past c id) all ++ closed past d)))
+  done-answers : (c id : ℕ) (method : Method) (d : Deed) (all : List Item) → HasOneReply id method all
+      → Answers c id method (texts_on l (announced past d ++ (flat_map (sent_to past c id) all ++ closed past d)))
   done-answers c id method d all one =
       let before = map Happens one.0 in
       let after = map Happens one.2 in
@@ -155,10 +166,13 @@ module _ (past : List Deed) (l : ℕ) where
             ∙ (ap (λ ts. texts_on l (announced past d) ++ ts) (texts_on-append l (flat_map (sent_to past c id) all) (closed past d)
             ∙ (ap (λ ts. texts_on l (flat_map (sent_to past c id) all) ++ ts) (closed-events d) ∙ (append-nil _
             ∙ (ap (λ xs. texts_on l (flat_map (sent_to past c id) xs)) one.3
-            ∙ (ap (texts_on l) (flat_map-append (sent_to past c id) before (Replies result ∷ after)) ∙ (texts_on-append l told_before (reply ++ told_after) ∙ ap (λ ts. texts_on l told_before ++ ts) (texts_on-append l reply told_after)))))))
+            ∙ (ap (texts_on l) (flat_map-append (sent_to past c id) before (Replies result ∷ after))
+            ∙ (texts_on-append l told_before (reply ++ told_after) ∙ ap (λ ts. texts_on l told_before ++ ts) (texts_on-append l reply told_after)))))))
             ∙ sym (regroup (texts_on l (announced past d)) (texts_on l told_before) _));
         events = events-append opens _ _ (announced-events d) (happened-events c id one.0);
-        replies = subst (MayReply c id method) (sym (one-text-on c (response_text id result))) (reply-text c id method (response_text id result) (is_result result one.4 one.5) (l == c) refl);
+        replies =
+            subst (MayReply c id method) (sym (one-text-on c (response_text id result)))
+            (reply-text c id method (response_text id result) (is_result result one.4 one.5) (l == c) refl);
         later = happened-events c id one.2;
       }
     where
@@ -214,8 +228,12 @@ answers-heard h l c t method named once = of (turn past i) refl
     i = Heard c (Accepted t)
 
     of : (turned : Result Deed NotTaken) → turn past i ≡ turned → Answers past l c (id_of_command t) method (texts_on l (told past i turned))
-    of (Ok d) e = done-answers past l c (id_of_command t) method d _ (subst (λ r. IfOk r (λ x. HasOneReply (id_of_command t) method (items past (action_in (command_of t)) x))) e (once method named))
-    of (Err refusal) e = refused-answers past l c (id_of_command t) method refusal (subst (IsErrorFor past l c (id_of_command t)) e (open-error past l c (id_of_command t) (is_open past c) _ (asked-error past l c (id_of_command t) (command_of t))))
+    of (Ok d) e =
+        done-answers past l c (id_of_command t) method d _
+        (subst (λ r. IfOk r (λ x. HasOneReply (id_of_command t) method (items past (action_in (command_of t)) x))) e (once method named))
+    of (Err refusal) e =
+        refused-answers past l c (id_of_command t) method refusal (subst (IsErrorFor past l c (id_of_command t)) e
+        (open-error past l c (id_of_command t) (is_open past c) _ (asked-error past l c (id_of_command t) (command_of t))))
 
 -- ---- other inputs
 
@@ -293,7 +311,8 @@ module _ (h : List Input) (l : ℕ) where
   outcome-apart : (c : ℕ) → (l == c) ≡ false → (standing : Standing) (command : Command) → IfOk (outcome past c standing command) NotOpening
   outcome-apart c apart Shut command = tt
   outcome-apart c apart Alone Status = tt
-  outcome-apart c apart Alone (New request) = bound NotOpening (matching request) _ (λ fit. bound NotOpening (need (is_ready past) SessionNotCreated) _ (λ few. apart))
+  outcome-apart c apart Alone (New request) =
+      bound NotOpening (matching request) _ (λ fit. bound NotOpening (need (is_ready past) SessionNotCreated) _ (λ few. apart))
   outcome-apart c apart Alone command = tt
   outcome-apart c apart (SpeaksFor s) Status = tt
   outcome-apart c apart (SpeaksFor s) (New request) = tt
@@ -346,8 +365,12 @@ module _ (h : List Input) (l : ℕ) where
 
   pub stays-shut : (i : Input) → IsApart i → b ≡ false → is_open (deeds (i ∷ h)) l ≡ false
   stays-shut (At n) apart e = e
-  stays-shut (Open c resource) apart e = stays-turned (opening past c (session_of_resource past resource)) (opening-apart c apart (session_of_resource past resource)) e
+  stays-shut (Open c resource) apart e =
+      stays-turned (opening past c (session_of_resource past resource)) (opening-apart c apart (session_of_resource past resource)) e
   stays-shut (Drop c) apart e = stays-turned (if_open past c (Ok (Dropped c))) (open-apart c (is_open past c) (Ok (Dropped c)) tt) e
-  stays-shut (Heard c v) apart e = stays-turned (if_open past c (answered past c v)) (open-apart c (is_open past c) (answered past c v) (answered-apart c apart v)) e
-  stays-shut (NotText c) apart e = stays-turned (if_open past c (answered past c (Refused None InvalidArgument))) (open-apart c (is_open past c) (answered past c (Refused None InvalidArgument)) tt) e
+  stays-shut (Heard c v) apart e =
+      stays-turned (if_open past c (answered past c v)) (open-apart c (is_open past c) (answered past c v) (answered-apart c apart v)) e
+  stays-shut (NotText c) apart e =
+      stays-turned (if_open past c (answered past c (Refused None InvalidArgument)))
+      (open-apart c (is_open past c) (answered past c (Refused None InvalidArgument)) tt) e
   stays-shut (PageStep action) apart e = stays-turned (in_page (browser.outcome (acts past) action)) (page-apart (browser.outcome (acts past) action)) e

@@ -8,7 +8,8 @@ use Rattle.bidi_remote.specs.Machine.History.{IsRow, is_row, is_no_row, is_not_j
 use Rattle.bidi_remote.specs.Tables.RowsRead.{IsRowOf}
 
 -- a text has a tree, and so has the row that it is, or there is none
-pub row-of-text : {E : Type 0} (r : Result (Option TableRow) E) (s : List ℕ) (t : Node) → row_tree s ≡ Some t → IfOk r (λ row. IsRowOf ghosts.shape t row) → IfOk r (λ row. IsRow s (option_map ghosts.shape.tree_of row))
+pub row-of-text : {E : Type 0} (r : Result (Option TableRow) E) (s : List ℕ) (t : Node)
+    → row_tree s ≡ Some t → IfOk r (λ row. IsRowOf ghosts.shape t row) → IfOk r (λ row. IsRow s (option_map ghosts.shape.tree_of row))
 row-of-text (Ok (Some row)) s t at read = is_row (ghosts.shape.tree_of row) (at ∙ ap Some (sym read.0)) (ghosts.shape.fits row read.1)
 row-of-text (Ok None) s t at read = is_no_row t at read
 row-of-text (Err e) s t at read = tt

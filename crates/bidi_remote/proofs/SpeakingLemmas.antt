@@ -31,7 +31,11 @@ still_for t s (SpeaksFor u) e = grind (arith, nat_tests)
 -- one turn more
 active_more : (past : List Deed) (r : Result Deed NotTaken) → IsFairIfDone past r → AreActive past → AreActive (with_turn past r)
 active_more past (Err refusal) fair was = was
-active_more past (Ok (Opened d o)) fair was = λ c s e. let so = was c s in let named = fair s in let opened = opened_speaks o s in grind (arith, nat_tests, so, named, opened)
+active_more past (Ok (Opened d o)) fair was =
+    λ c s e. let so = was c s in
+    let named = fair s in
+    let opened = opened_speaks o s in
+    grind (arith, nat_tests, so, named, opened)
 active_more past (Ok (Dropped d)) fair was = λ c s e. let so = was c s in grind (arith, nat_tests, so)
 active_more past (Ok (Began d)) fair was = λ c s e. let so = was c s in grind (arith, nat_tests, so)
 active_more past (Ok (Ended t)) fair was = λ c s e. let still = still_for t s (standing_of past c) e in rw still.1 (was c s still.0)

@@ -1,5 +1,7 @@
 -- What the tree of a `session.subscribe` or a `session.unsubscribe` in hand asks.
-use Rattle.std.proofs.Common.{◌≡◌, ◌≤◌, ℕ, suc, List, [], ◌∷◌, length, map, Bool, true, false, ◌&&◌, nat_lt, true≢false, Option, Some, None, is_some, option_map, option_and_then, unwrap_or, codes, bytes_eq, String, string_bytes, Global, refl, sym, ap, arith}
+use Rattle.std.proofs.Common.{◌≡◌, ◌≤◌, ℕ, suc, List, [], ◌∷◌, length, map, Bool, true, false, ◌&&◌, nat_lt}
+use Rattle.std.proofs.Common.{true≢false, Option, Some, None, is_some, option_map, option_and_then, unwrap_or}
+use Rattle.std.proofs.Common.{codes, bytes_eq, String, string_bytes, Global, refl, sym, ap, arith}
 use Rattle.std.proofs.lemmas.Bool.{and_parts, lt-ltb, false_from_ne_true}
 use Rattle.std.specs.Prelude.{if◌then◌else◌}
 use Rattle.std.specs.List.{list_any, list_all}
@@ -99,7 +101,8 @@ without_one false k t ms ns fit more = others_fit k t ns (others_inside k t ms f
 -- and without those of some names
 pub others_fit-without : (ks : List (List ℕ)) (ms : Members) → OthersFit extensible ms → OthersFit extensible (without ks ms)
 others_fit-without ks no_members fit = fit
-others_fit-without ks (member k t ms) fit = without_one (list_any (bytes_eq k) ks) k t ms (without ks ms) fit (others_fit-without ks ms (others_inside k t ms fit).1)
+others_fit-without ks (member k t ms) fit =
+    without_one (list_any (bytes_eq k) ks) k t ms (without ks ms) fit (others_fit-without ks ms (others_inside k t ms fit).1)
 
 -- the members of a map that is whole within 61 levels may stand in an open map
 pub inside_whole : (ms : Members) → IsWhole (tree.map ms) 61 → OthersFit extensible ms
@@ -113,21 +116,30 @@ by_id-fits ms fit has =
     let k = codes "subscriptions" in
     let rows = row k required (list_of 1 text) no_more in
     fits_rule (tree.map ms) unsubscribe_by_id
-    (fits_map ms rows extensible (row_fits ms k required (list_of 1 text) no_more (has_texts-fits (get_member k ms) has) (no_row ms)) (others_fit-without (k ∷ []) ms fit))
+    (fits_map ms rows extensible (row_fits ms k required (list_of 1 text) no_more (has_texts-fits (get_member k ms) has) (no_row ms))
+    (others_fit-without (k ∷ []) ms fit))
 
 -- a `session.subscribe` asks for its events, its contexts and its user contexts
-pub subscribe-asks : (p : SubscribeParameters) → subscribe.ghosts.shape.well p → command_in (codes "session.subscribe") (subscribe.ghosts.shape.tree_of p) ≡ Some (asked_of params.ghosts.shape (SessionSubscribe p))
+pub subscribe-asks : (p : SubscribeParameters) → subscribe.ghosts.shape.well p
+    → command_in (codes "session.subscribe") (subscribe.ghosts.shape.tree_of p) ≡ Some (asked_of params.ghosts.shape (SessionSubscribe p))
 subscribe-asks p w =
     let rs = rows_in (term_of subscribe_parameters) in
     let others = others_of p.ext in
-    let at = PartsAt-joined rs (Some (texts_tree p.events) ∷ option_map texts_tree p.contexts ∷ option_map texts_tree p.user_contexts ∷ []) others refl tt (unnamed (names_of rs) others w.1.no_known) in
+    let at = PartsAt-joined rs (Some (texts_tree p.events) ∷ option_map texts_tree p.contexts ∷ option_map texts_tree p.user_contexts ∷ [])
+    others refl tt (unnamed (names_of rs) others w.1.no_known) in
     rw (at.0, at.1.0, at.1.1.0, texts-list p.events.items.items, texts-optional p.contexts, texts-optional p.user_contexts)
 
 -- a `session.unsubscribe` asks by its ids, or else by its events
-pub unsubscribe-asks : (p : UnsubscribeParameters) → unsubscribe.ghosts.shape.well p → command_in (codes "session.unsubscribe") (unsubscribe.ghosts.shape.tree_of p) ≡ Some (asked_of params.ghosts.shape (SessionUnsubscribe p))
+pub unsubscribe-asks : (p : UnsubscribeParameters) → unsubscribe.ghosts.shape.well p
+    → command_in (codes "session.unsubscribe") (unsubscribe.ghosts.shape.tree_of p) ≡ Some (asked_of params.ghosts.shape (SessionUnsubscribe p))
 unsubscribe-asks (ById p) w =
-    rw (get_member-put (codes "subscriptions") (texts_tree p.subscriptions) (others_of p.ext), has_texts-list p.subscriptions.items.items w.0.0.0, texts-list p.subscriptions.items.items)
+    rw (
+      get_member-put (codes "subscriptions") (texts_tree p.subscriptions) (others_of p.ext),
+      has_texts-list p.subscriptions.items.items w.0.0.0,
+      texts-list p.subscriptions.items.items,
+    )
 unsubscribe-asks (ByEvents p) w =
     let ms = tree.put (codes "events") (texts_tree p.events) (others_of p.ext) in
-    let by_id = false_from_ne_true (has_texts_at "subscriptions" (tree.map ms)) (λ has. w.1 (by_id-fits ms (inside_whole ms (by_events.ghosts.shape.whole p w.0)) has)) in
+    let by_id = false_from_ne_true (has_texts_at "subscriptions" (tree.map ms))
+    (λ has. w.1 (by_id-fits ms (inside_whole ms (by_events.ghosts.shape.whole p w.0)) has)) in
     rw (by_id, get_member-put (codes "events") (texts_tree p.events) (others_of p.ext), texts-list p.events.items.items)

@@ -27,7 +27,8 @@ use Rattle.bidi_remote.specs.Tables.View.{sent_of}
 use Rattle.bidi_remote.proofs.ChangeLemmas.{opens-open}
 use Rattle.bidi_remote.proofs.TurnLemmas.{heard-open, asked-is, told-for}
 
-pub takes : (t : Tables) (h : List Input) (i : Input) (r : Result Deed NotTaken) (all : List Sent) → turn (deeds h) i ≡ r → all ≡ told (deeds h) i r → AllReadBack all → AgreeWith t (with_turn (deeds h) r) → Takes t all h i
+pub takes : (t : Tables) (h : List Input) (i : Input) (r : Result Deed NotTaken) (all : List Sent)
+    → turn (deeds h) i ≡ r → all ≡ told (deeds h) i r → AllReadBack all → AgreeWith t (with_turn (deeds h) r) → Takes t all h i
 takes t h i r all is sends reads agree = record {
   sends = sends ∙ ap (told (deeds h) i) (sym is);
   reads_back = reads;
@@ -36,14 +37,17 @@ takes t h i r all is sends reads agree = record {
 
 -- what was sent for a turn, with the tables after it
 pub all_taken : {E : Type 0} (t : Tables) (h : List Input) (i : Input) (d : Deed) (sends : List Sent) (q : Result (Vec declared_sent.Sent Global) E)
-    → IfOk q (λ all. (map sent_of all.items ≡ sends) × AllReadBack (map sent_of all.items) × AgreeWith t (d ∷ deeds h)) → turn (deeds h) i ≡ Ok d → sends ≡ told (deeds h) i (Ok d)
+    → IfOk q (λ all. (map sent_of all.items ≡ sends) × AllReadBack (map sent_of all.items) × AgreeWith t (d ∷ deeds h))
+    → turn (deeds h) i ≡ Ok d → sends ≡ told (deeds h) i (Ok d)
     → IfOk q (λ all. Takes t (map sent_of all.items) h i)
 all_taken t h i d sends (Err e) all is same = tt
 all_taken t h i d sends (Ok v) all is same = takes t h i (Ok d) (map sent_of v.items) is (all.0 ∙ same) all.1 all.2
 
 -- one thing alone is sent, which is no text
-pub only_takes : {E : Type 0} (r : Result (Vec declared_sent.Sent Global) E) (x : declared_sent.Sent) (t : Tables) (h : List Input) (i : Input) (turned : Result Deed NotTaken) → IfOk r (λ all. all.items ≡ x ∷ [])
-    → turn (deeds h) i ≡ turned → sent_of x ∷ [] ≡ told (deeds h) i turned → ReadsBack (sent_of x) → AgreeWith t (with_turn (deeds h) turned) → IfOk r (λ all. Takes t (map sent_of all.items) h i)
+pub only_takes : {E : Type 0} (r : Result (Vec declared_sent.Sent Global) E) (x : declared_sent.Sent) (t : Tables) (h : List Input)
+    (i : Input) (turned : Result Deed NotTaken) → IfOk r (λ all. all.items ≡ x ∷ [])
+    → turn (deeds h) i ≡ turned → sent_of x ∷ [] ≡ told (deeds h) i turned
+    → ReadsBack (sent_of x) → AgreeWith t (with_turn (deeds h) turned) → IfOk r (λ all. Takes t (map sent_of all.items) h i)
 only_takes (Err e) x t h i turned only is sends reads agree = tt
 only_takes (Ok all) x t h i turned only is sends reads agree =
     subst (λ items. Takes t (map sent_of items) h i) (sym only) (takes t h i turned (sent_of x ∷ []) is sends (reads, tt) agree)
@@ -52,7 +56,8 @@ only_takes (Ok all) x t h i turned only is sends reads agree =
 pub one_reads : (items : List declared_sent.Sent) (x : declared_sent.Sent) → items ≡ x ∷ [] → ReadsBack (sent_of x) → AllReadBack (map sent_of items)
 one_reads items x only reads = subst (λ items. AllReadBack (map sent_of items)) (sym only) (reads, tt)
 
-pub only_reads : {E : Type 0} (r : Result (Vec declared_sent.Sent Global) E) (x : declared_sent.Sent) → IfOk r (λ all. all.items ≡ x ∷ []) → ReadsBack (sent_of x) → IfOk r (λ all. AllReadBack (map sent_of all.items))
+pub only_reads : {E : Type 0} (r : Result (Vec declared_sent.Sent Global) E) (x : declared_sent.Sent)
+    → IfOk r (λ all. all.items ≡ x ∷ []) → ReadsBack (sent_of x) → IfOk r (λ all. AllReadBack (map sent_of all.items))
 only_reads (Err e) x only reads = tt
 only_reads (Ok all) x only reads = one_reads all.items x only reads
 
@@ -61,8 +66,10 @@ pub nothing : (items : List declared_sent.Sent) → items ≡ [] → AllReadBack
 nothing items none = subst (λ all. AllReadBack (map sent_of all)) (sym none) tt
 
 -- a text is refused
-pub refused_takes : {E : Type 0} (r : Result (Vec declared_sent.Sent Global) E) (t : Tables) (h : List Input) (i : Input) (turned : Result Deed NotTaken) (sends : List Sent) → IfOk r (λ all. map sent_of all.items ≡ sends)
-    → IfOk r (λ all. AllReadBack (map sent_of all.items)) → turn (deeds h) i ≡ turned → sends ≡ told (deeds h) i turned → AgreeWith t (with_turn (deeds h) turned) → IfOk r (λ all. Takes t (map sent_of all.items) h i)
+pub refused_takes : {E : Type 0} (r : Result (Vec declared_sent.Sent Global) E) (t : Tables) (h : List Input) (i : Input)
+    (turned : Result Deed NotTaken) (sends : List Sent) → IfOk r (λ all. map sent_of all.items ≡ sends)
+    → IfOk r (λ all. AllReadBack (map sent_of all.items)) → turn (deeds h) i ≡ turned
+    → sends ≡ told (deeds h) i turned → AgreeWith t (with_turn (deeds h) turned) → IfOk r (λ all. Takes t (map sent_of all.items) h i)
 refused_takes (Err e) t h i turned sends text reads is same agree = tt
 refused_takes (Ok all) t h i turned sends text reads is same agree = takes t h i turned (map sent_of all.items) is (text ∙ same) reads agree
 
@@ -77,20 +84,27 @@ module _ {E : Type 0} (r : Result (Vec declared_sent.Sent Global) E) (t : Tables
   c = asker.conn.value
 
   -- what the command comes to is the turn of its text
-  turned : (answer : Result Deed ErrorCode) → outcome (deeds h) c s x ≡ answer → turn (deeds h) (Heard c (Accepted tree)) ≡ replied c (id_of_command tree) answer
-  turned answer is = heard-open (deeds h) c (Accepted tree) (ap is_shut stands ∙ opened) ∙ (asked-is (deeds h) c tree s x stands asks.what ∙ ap (replied c (id_of_command tree)) is)
+  turned : (answer : Result Deed ErrorCode)
+      → outcome (deeds h) c s x ≡ answer → turn (deeds h) (Heard c (Accepted tree)) ≡ replied c (id_of_command tree) answer
+  turned answer is =
+      heard-open (deeds h) c (Accepted tree) (ap is_shut stands ∙ opened)
+      ∙ (asked-is (deeds h) c tree s x stands asks.what ∙ ap (replied c (id_of_command tree)) is)
 
   -- a code refused the command
-  pub code_takes : (code : ErrorCode) → outcome (deeds h) c s x ≡ Err code → AgreeWith t (deeds h) → IfOk r (λ all. map sent_of all.items ≡ sent.Text c (error_text (Some asker.id.value) code) ∷ [])
+  pub code_takes : (code : ErrorCode) → outcome (deeds h) c s x ≡ Err code
+      → AgreeWith t (deeds h) → IfOk r (λ all. map sent_of all.items ≡ sent.Text c (error_text (Some asker.id.value) code) ∷ [])
       → IfOk r (λ all. AllReadBack (map sent_of all.items)) → IfOk r (λ all. Takes t (map sent_of all.items) h (Heard c (Accepted tree)))
   code_takes code is agree text reads =
-      refused_takes r t h (Heard c (Accepted tree)) (Err (Error c (Some (id_of_command tree)) code)) (sent.Text c (error_text (Some asker.id.value) code) ∷ []) text reads (turned (Err code) is)
+      refused_takes r t h (Heard c (Accepted tree)) (Err (Error c (Some (id_of_command tree)) code))
+      (sent.Text c (error_text (Some asker.id.value) code) ∷ []) text reads (turned (Err code) is)
       (ap (λ n. sent.Text c (error_text (Some n) code) ∷ []) (sym asks.same_id)) agree
 
   -- a turn was taken
   pub turn_takes : (decided : Turn) → Decides (Ok decided) (deeds h) asker x (outcome (deeds h) c s x)
-      → ((i : Input) (act : Act) → turn (deeds h) i ≡ Ok (deed_of decided.change act) → IsMade decided.change (acts (deeds h)) act → AreMessages (written_in decided.telling.announced.items)
-      → IfOk r (λ all. (map sent_of all.items ≡ sent_for (deeds h) (asker_in decided.telling.reply) (deed_of decided.change act) (written_in decided.telling.announced.items) (items_in decided.telling))
+      → ((i : Input) (act : Act) → turn (deeds h) i ≡ Ok (deed_of decided.change act)
+      → IsMade decided.change (acts (deeds h)) act → AreMessages (written_in decided.telling.announced.items)
+      → IfOk r (λ all. (map sent_of all.items ≡ sent_for (deeds h) (asker_in decided.telling.reply) (deed_of decided.change act)
+      (written_in decided.telling.announced.items) (items_in decided.telling))
       × AllReadBack (map sent_of all.items) × AgreeWith t (deed_of decided.change act ∷ deeds h)))
       → IfOk r (λ all. Takes t (map sent_of all.items) h (Heard c (Accepted tree)))
   turn_takes decided is taken = all_taken t h i d _ r (taken i is.0 turn_is is.2 is.3.messages) turn_is sends
@@ -109,8 +123,10 @@ module _ {E : Type 0} (r : Result (Vec declared_sent.Sent Global) E) (t : Tables
 
       sends : sent_for past (asker_in decided.telling.reply) d (written_in decided.telling.announced.items) (items_in decided.telling) ≡ told past i (Ok d)
       sends =
-          ap (λ who. sent_for past who d (written_in decided.telling.announced.items) (items_in decided.telling)) (is.4 ∙ ap (λ n. Some (c, n)) (sym asks.same_id))
-          ∙ told-for past c tree d (written_in decided.telling.announced.items) (items_in decided.telling) is.3.announced (is.3.items ∙ ap (λ o. items past (action_in o) d) (sym asks.what))
+          ap (λ who. sent_for past who d (written_in decided.telling.announced.items) (items_in decided.telling))
+          (is.4 ∙ ap (λ n. Some (c, n)) (sym asks.same_id))
+          ∙ told-for past c tree d (written_in decided.telling.announced.items) (items_in decided.telling) is.3.announced
+          (is.3.items ∙ ap (λ o. items past (action_in o) d) (sym asks.what))
 
 -- what holds anyway holds after an error
 pub anyway : {S E : Type 0} (r : Result S E) {P : Type 0} → P → OnErr r P
@@ -118,7 +134,8 @@ anyway (Err e) p = p
 anyway (Ok x) p = tt
 
 -- what is opened was shut
-pub opened-shut : (past : List Deed) (c : ℕ) (resource : List ℕ) (d : Deed) (b : Bool) → is_shut (standing_of past c) ≡ b → turn past (Open c resource) ≡ Ok d → is_shut (standing_of past c) ≡ true
+pub opened-shut : (past : List Deed) (c : ℕ) (resource : List ℕ) (d : Deed) (b : Bool)
+    → is_shut (standing_of past c) ≡ b → turn past (Open c resource) ≡ Ok d → is_shut (standing_of past c) ≡ true
 opened-shut past c resource d true e is = e
 opened-shut past c resource d false e is = absurd (apart (opens-open past c resource e ∙ is))
   where

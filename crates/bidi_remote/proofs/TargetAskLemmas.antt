@@ -1,5 +1,6 @@
 -- What the tree of a target in hand asks, and of the commands that name one.
-use Rattle.std.proofs.Common.{◌≡◌, ℕ, List, [], ◌∷◌, map, Vec, true, ◌&&◌, ◌||◌, true≢false, Option, Some, None, is_none, is_some, option_map, option_and_then, unwrap_or, codes, String, string_bytes, Global, refl, sym, ap}
+use Rattle.std.proofs.Common.{◌≡◌, ℕ, List, [], ◌∷◌, map, Vec, true, ◌&&◌, ◌||◌, true≢false, Option, Some, None, is_none, is_some}
+use Rattle.std.proofs.Common.{option_map, option_and_then, unwrap_or, codes, String, string_bytes, Global, refl, sym, ap}
 use Rattle.std.proofs.lemmas.Bool.{and_parts, false_from_ne_true}
 use Rattle.std.specs.Prelude.{if◌then◌else◌}
 use Rattle.bidi_tree.specs.Node as tree
@@ -56,7 +57,8 @@ text-allowed None e = tt
 text-allowed (Some t) e = text-fits t e
 
 -- a map of such members, with a text under `context` and none but a text under `sandbox`, is a context target
-context-fits : (ms : Members) → OthersFit extensible ms → (is_some (text_if_at "context" (tree.map ms)) && is_well_at "sandbox" (tree.map ms)) ≡ true → Fits (tree.map ms) (rule context_target)
+context-fits : (ms : Members) → OthersFit extensible ms
+    → (is_some (text_if_at "context" (tree.map ms)) && is_well_at "sandbox" (tree.map ms)) ≡ true → Fits (tree.map ms) (rule context_target)
 context-fits ms fit has =
     let k = codes "context" in
     let l = codes "sandbox" in
@@ -64,12 +66,14 @@ context-fits ms fit has =
     let both = and_parts (is_some (text_if_at "context" (tree.map ms))) (is_well_at "sandbox" (tree.map ms)) has in
     fits_rule (tree.map ms) context_target
     (fits_map ms (row k required text rows) extensible
-    (row_fits ms k required text rows (text-required (get_member k ms) both.0) (row_fits ms l optional text no_more (text-allowed (get_member l ms) both.1) (no_row ms)))
+    (row_fits ms k required text rows (text-required (get_member k ms) both.0)
+    (row_fits ms l optional text no_more (text-allowed (get_member l ms) both.1) (no_row ms)))
     (others_fit-without (k ∷ l ∷ []) ms fit))
 
 -- the text of a sandbox that may be there
 sandbox-read : (id realm : List ℕ) (o : Option (String Global)) → (let t = option_map text_tree o in
-    if is_none t || is_some (option_and_then text_in t) then ContextTarget id (unwrap_or (option_and_then text_in t) []) else RealmTarget realm) ≡ ContextTarget id (unwrap_or (option_map string_bytes o) [])
+    if is_none t || is_some (option_and_then text_in t) then ContextTarget id (unwrap_or (option_and_then text_in t) []) else RealmTarget realm)
+    ≡ ContextTarget id (unwrap_or (option_map string_bytes o) [])
 sandbox-read id realm None = refl
 sandbox-read id realm (Some s) = refl
 
@@ -82,7 +86,8 @@ target-read (target.Context t) w =
     rw (at.0, at.1.0) (sandbox-read (string_bytes t.context) _ t.sandbox)
 target-read (target.Realm t) w =
     let ms = tree.put (codes "realm") (text_tree t.realm) (others_of t.ext) in
-    let by_context = false_from_ne_true (is_some (text_if_at "context" (tree.map ms)) && is_well_at "sandbox" (tree.map ms)) (λ has. w.1 (context-fits ms (inside_whole ms (realm_targets.ghosts.shape.whole t w.0)) has)) in
+    let by_context = false_from_ne_true (is_some (text_if_at "context" (tree.map ms)) && is_well_at "sandbox" (tree.map ms))
+    (λ has. w.1 (context-fits ms (inside_whole ms (realm_targets.ghosts.shape.whole t w.0)) has)) in
     rw (by_context, get_member-put (codes "realm") (text_tree t.realm) (others_of t.ext)) refl
 
 -- the text of an ownership, which may be absent, is read as whether the value is owned
@@ -112,7 +117,8 @@ pub evaluate-asks : (p : EvaluateParameters) → evaluate.ghosts.shape.well p
 evaluate-asks p w =
     let rs = rows_in (term_of evaluate_parameters) in
     let others = others_of p.ext in
-    let parts = Some (text_tree p.expression) ∷ Some (targets.ghosts.shape.tree_of p.target) ∷ Some (tree.boolean p.await_promise) ∷ option_map (λ w. tree.text (ownership_text w)) p.result_ownership ∷ option_map tree.boolean p.user_activation ∷ [] in
+    let parts = Some (text_tree p.expression) ∷ Some (targets.ghosts.shape.tree_of p.target) ∷ Some (tree.boolean p.await_promise)
+    ∷ option_map (λ w. tree.text (ownership_text w)) p.result_ownership ∷ option_map tree.boolean p.user_activation ∷ [] in
     let at = PartsAt-joined rs parts others refl tt (unnamed (names_of rs) others w.1.no_known) in
     rw (at.0, at.1.0, at.1.1.1.0, target-read p.target w.0.1.0, owned-read p.result_ownership) refl
 
@@ -122,7 +128,8 @@ pub call-asks : (p : CallFunctionParameters) → call.ghosts.shape.well p
 call-asks p w =
     let rs = rows_in (term_of call_function_parameters) in
     let others = others_of p.ext in
-    let parts = Some (text_tree p.function_declaration) ∷ Some (tree.boolean p.await_promise) ∷ Some (targets.ghosts.shape.tree_of p.target) ∷ option_map (λ vs. list_tree local_tree vs.items) p.arguments
+    let parts = Some (text_tree p.function_declaration) ∷ Some (tree.boolean p.await_promise)
+    ∷ Some (targets.ghosts.shape.tree_of p.target) ∷ option_map (λ vs. list_tree local_tree vs.items) p.arguments
     ∷ option_map (λ w. tree.text (ownership_text w)) p.result_ownership ∷ option_map local_tree p.this ∷ option_map tree.boolean p.user_activation ∷ [] in
     let at = PartsAt-joined rs parts others refl tt (unnamed (names_of rs) others w.1.no_known) in
     rw (at.0, at.1.1.0, at.1.1.1.0, at.1.1.1.1.0, at.1.1.1.1.1.0, target-read p.target w.0.1.1.0, values-read p.arguments, owned-read p.result_ownership) refl
@@ -133,5 +140,6 @@ pub disown-asks : (p : DisownParameters) → disown.ghosts.shape.well p
 disown-asks p w =
     let rs = rows_in (term_of disown_parameters) in
     let others = others_of p.ext in
-    let at = PartsAt-joined rs (Some (list_tree text_tree p.handles.items) ∷ Some (targets.ghosts.shape.tree_of p.target) ∷ []) others refl tt (unnamed (names_of rs) others w.1.no_known) in
+    let at = PartsAt-joined rs (Some (list_tree text_tree p.handles.items) ∷ Some (targets.ghosts.shape.tree_of p.target) ∷ []) others refl
+    tt (unnamed (names_of rs) others w.1.no_known) in
     rw (at.0, at.1.0, texts-list p.handles.items, target-read p.target w.0.1.0) refl

@@ -36,17 +36,20 @@ drop-open past c e = rw e refl
 -- ---- what a command comes to
 
 -- a tree that asks this, on a connection that stands so
-pub asked-is : (past : List Deed) (c : ℕ) (t : Node) (s : Standing) (x : Command) → standing_of past c ≡ s → command_of t ≡ Some x → answered past c (Accepted t) ≡ replied c (id_of_command t) (outcome past c s x)
+pub asked-is : (past : List Deed) (c : ℕ) (t : Node) (s : Standing) (x : Command)
+    → standing_of past c ≡ s → command_of t ≡ Some x → answered past c (Accepted t) ≡ replied c (id_of_command t) (outcome past c s x)
 asked-is past c t s x stands asks = ap (asked past c (id_of_command t)) asks ∙ ap (λ u. replied c (id_of_command t) (outcome past c u x)) stands
 
 -- ---- what is sent for a turn
 
 announced-told : (past : List Deed) (d : Deed) → to_subscriber past d (map written (announced_by past d)) ≡ announced past d
-announced-told past (Subscribed s es scope) = flat_map-map (λ w. map (λ c. Text c w.text) (connections_of past s)) written (announced_by past (Subscribed s es scope))
+announced-told past (Subscribed s es scope) =
+    flat_map-map (λ w. map (λ c. Text c w.text) (connections_of past s)) written (announced_by past (Subscribed s es scope))
 announced-told past d = refl
 
 -- of a command, what the machine tells
-pub told-for : (past : List Deed) (c : ℕ) (t : Node) (d : Deed) (ws : List Written) (all : List Item) → ws ≡ map written (announced_by past d) → all ≡ items past (action_in (command_of t)) d
+pub told-for : (past : List Deed) (c : ℕ) (t : Node) (d : Deed) (ws : List Written) (all : List Item)
+    → ws ≡ map written (announced_by past d) → all ≡ items past (action_in (command_of t)) d
     → sent_for past (Some (c, id_of_command t)) d ws all ≡ told past (Heard c (Accepted t)) (Ok d)
 told-for past c t d ws all same_announced same_items =
     ap₂ (λ xs ys. xs ++ (ys ++ closed past d)) (ap (to_subscriber past d) same_announced ∙ announced-told past d)

@@ -163,7 +163,8 @@ fn push_text(
     text: &str,
     sent: &mut Vec<Sent>,
 ) -> Result<(), AllocError>
-    ensures { IfOk result (λ _. map sent_of sent.new.items ≡ map sent_of sent.old.items ++ to_each (λ c. Text c text.now) session (map row_of connections.now)) }
+    ensures { IfOk result (λ _. map sent_of sent.new.items
+        ≡ map sent_of sent.old.items ++ to_each (λ c. Text c text.now) session (map row_of connections.now)) }
 {
     for connection in connections {
         if connection.is_for(session) {

@@ -40,7 +40,8 @@ pub(crate) fn decide(
 ) -> Result<Turn, Refusal>
     requires { IsWellAsked ⟦<NewParameters as Shape>⟧.shape asked.now }
     ensures ok { (h : List Input) → IsShort h → AgreeWith tables.now (deeds h) → standing_of (deeds h) asker.conn.value ≡ standing_in_hand standing
-        → (let what = asked_of ⟦<NewParameters as Shape>⟧.shape asked.now in Decides result (deeds h) asker what (outcome (deeds h) asker.conn.value (standing_in_hand standing) what)) }
+        → (let what = asked_of ⟦<NewParameters as Shape>⟧.shape asked.now in
+        Decides result (deeds h) asker what (outcome (deeds h) asker.conn.value (standing_in_hand standing) what)) }
     ensures well { IsWellDecided result }
     ensures of_method { HasResultOf (⟦<CommandData as Subject<Method>>⟧.subject.kind asked.now) result }
 {
@@ -60,7 +61,8 @@ fn decide_alone(
 ) -> Result<Turn, Refusal>
     requires { IsWellAsked ⟦<NewParameters as Shape>⟧.shape asked.now }
     ensures ok { (h : List Input) → IsShort h → AgreeWith tables.now (deeds h)
-        → (let what = asked_of ⟦<NewParameters as Shape>⟧.shape asked.now in Decides result (deeds h) asker what (outcome (deeds h) asker.conn.value Alone what)) }
+        → (let what = asked_of ⟦<NewParameters as Shape>⟧.shape asked.now in
+        Decides result (deeds h) asker what (outcome (deeds h) asker.conn.value Alone what)) }
     ensures well { IsWellDecided result }
     ensures of_method { HasResultOf (⟦<CommandData as Subject<Method>>⟧.subject.kind asked.now) result }
 {
@@ -80,7 +82,8 @@ fn decide_in(
     asked: &CommandData,
 ) -> Result<Turn, Refusal>
     ensures ok { (h : List Input) → IsShort h → AgreeWith tables.now (deeds h) → standing_of (deeds h) asker.conn.value ≡ SpeaksFor session
-        → (let what = asked_of ⟦<NewParameters as Shape>⟧.shape asked.now in Decides result (deeds h) asker what (outcome (deeds h) asker.conn.value (SpeaksFor session) what)) }
+        → (let what = asked_of ⟦<NewParameters as Shape>⟧.shape asked.now in
+        Decides result (deeds h) asker what (outcome (deeds h) asker.conn.value (SpeaksFor session) what)) }
     ensures well { IsWellDecided result }
     ensures of_method { HasResultOf (⟦<CommandData as Subject<Method>>⟧.subject.kind asked.now) result }
 {

@@ -1,5 +1,6 @@
 //! Active sessions, and the resources that name them.
-ghost use Rattle.std.specs.Prelude.{◌≡◌, ◌<◌, ◌+◌, List, [], ◌∷◌, ◌++◌, ◌==◌, not, nat_lt, length, find, filter, map, replicate, codes, bytes_eq, Some, None, option_map, if◌then◌else◌, IfOk, OnOk, vec_len, vec_capacity};
+ghost use Rattle.std.specs.Prelude.{◌≡◌, ◌<◌, ◌+◌, List, [], ◌∷◌, ◌++◌, ◌==◌, not, nat_lt, length, find, filter, map, replicate};
+ghost use Rattle.std.specs.Prelude.{codes, bytes_eq, Some, None, option_map, if◌then◌else◌, IfOk, OnOk, vec_len, vec_capacity};
 ghost use Rattle.std.specs.List.{position};
 ghost use Rattle.bidi_handles.specs.declared.id.IdKind.TheVariants.{Session as OfSession};
 ghost use Rattle.bidi_handles.specs.Ids.{id_of};
@@ -55,7 +56,8 @@ impl Session {
     // Adds a subscription with the next number. The log entries that it newly enables wait no longer.
     fn subscribe(&mut self, browser: &Browser, events: Vec<EventName>, scope: Scope)
         requires { HasRoom self.now }
-        ensures { (past : List Act) → StandsFor browser.now past → self.old.made < 4294967295 → session_row_of self.new ≡ subscribed past events.items (scope_of scope) (session_row_of self.old) }
+        ensures { (past : List Act) → StandsFor browser.now past → self.old.made < 4294967295
+            → session_row_of self.new ≡ subscribed past events.items (scope_of scope) (session_row_of self.old) }
     {
         let number = self.made.wrapping_add(1);
         self.missed
@@ -272,7 +274,8 @@ impl Sessions {
     /// Hands a log entry to the sessions, of which each gets one of these references and keeps it, unless the
     /// entry is enabled for the session. Takes no memory.
     pub(crate) fn log(&mut self, copies: Vec<Rc<EventText>>)
-        ensures rows { (w : Written) → written_in copies.items ≡ replicate (length (rows_in self.old)) w → rows_in self.new ≡ map (logged w) (rows_in self.old) }
+        ensures rows { (w : Written) → written_in copies.items ≡ replicate (length (rows_in self.old)) w
+            → rows_in self.new ≡ map (logged w) (rows_in self.old) }
         ensures made { self.new.made ≡ self.old.made }
     {
         log(&mut self.active, copies);
@@ -281,7 +284,8 @@ impl Sessions {
 
 // Hands a log entry to the sessions.
 fn log(sessions: &mut [Session], copies: Vec<Rc<EventText>>)
-    ensures { (w : Written) → written_in copies.items ≡ replicate (length sessions.old) w → map session_row_of sessions.new ≡ map (logged w) (map session_row_of sessions.old) }
+    ensures { (w : Written) → written_in copies.items ≡ replicate (length sessions.old) w
+        → map session_row_of sessions.new ≡ map (logged w) (map session_row_of sessions.old) }
 {
     let mut copies = copies;
     for session in sessions.iter_mut() {

@@ -82,7 +82,8 @@ impl Tables {
         ensures ok { IfOk result (λ sent. (i : Input) × IsHeardAs (step_of step) i
             × ((h : List Input) → IsShort h → AgreeWith self.old (deeds h) → Takes self.new (map sent_of sent.items) h i)) }
         ensures err { OnErr result (Keeps self.old self.new) }
-        ensures answered { (h : List Input) (i : Input) → IsShort h → AgreeWith self.old (deeds h) → IsHeardAs (step_of step) i → OnOk result (IsAnsweredOnce (deeds h) i) }
+        ensures answered { (h : List Input) (i : Input)
+            → IsShort h → AgreeWith self.old (deeds h) → IsHeardAs (step_of step) i → OnOk result (IsAnsweredOnce (deeds h) i) }
         ensures at { (n : ℕ) → step_of step ≡ steps.At n → IsOk result }
         ensures drop { (h : List Input) (c : ℕ) → AgreeWith self.old (deeds h)
             → step_of step ≡ steps.Drop c → IsTrue (is_open (deeds h) c) → IsOk result }
@@ -178,7 +179,8 @@ impl Tables {
         ensures ok { IfOk result (λ sent. (v : judged.Verdict) × IsVerdict text.now v × ((h : List Input) → IsShort h → AgreeWith self.old (deeds h)
             → Takes self.new (map sent_of sent.items) h (Heard conn.value v))) }
         ensures err { OnErr result (Keeps self.old self.new) }
-        ensures answered { (h : List Input) (v : judged.Verdict) → IsShort h → AgreeWith self.old (deeds h) → IsVerdict text.now v → OnOk result (IsAnsweredOnce (deeds h) (Heard conn.value v)) }
+        ensures answered { (h : List Input) (v : judged.Verdict) → IsShort h
+            → AgreeWith self.old (deeds h) → IsVerdict text.now v → OnOk result (IsAnsweredOnce (deeds h) (Heard conn.value v)) }
     {
         let verdict = judge_with(alloc, text, scratch)?;
         self.settle(alloc, conn, &verdict)
@@ -241,7 +243,8 @@ impl Tables {
         ensures err { OnErr result (Keeps self.old self.new) }
         ensures answered { (h : List Input) (t : Node) → IsShort h → AgreeWith self.old (deeds h)
             → standing_of (deeds h) asker.conn.value ≡ standing_in_hand standing → is_shut (standing_in_hand standing) ≡ false
-            → Asks t asker.id.value (asked_of ⟦<NewParameters as Shape>⟧.shape asked.now) → method_in t ≡ method_text (⟦<CommandData as Subject<Method>>⟧.subject.kind asked.now)
+            → Asks t asker.id.value (asked_of ⟦<NewParameters as Shape>⟧.shape asked.now)
+            → method_in t ≡ method_text (⟦<CommandData as Subject<Method>>⟧.subject.kind asked.now)
             → OnOk result (IsAnsweredOnce (deeds h) (Heard asker.conn.value (Accepted t))) }
     {
         match decide(alloc, self, asker, standing, asked) {
@@ -254,7 +257,8 @@ impl Tables {
     // Takes a step of a page, which has no effect where the browser refuses it.
     fn page(&mut self, alloc: Global, action: Action) -> Result<Vec<Sent>, AllocError>
         ensures ok { (h : List Input) → IsShort h → AgreeWith self.old (deeds h)
-            → is_asked (action_of action.entry) ≡ false → is_log (action_of action.entry) ≡ false → IfOk result (λ sent. Takes self.new (map sent_of sent.items) h (PageStep (action_of action.entry))) }
+            → is_asked (action_of action.entry) ≡ false → is_log (action_of action.entry) ≡ false
+            → IfOk result (λ sent. Takes self.new (map sent_of sent.items) h (PageStep (action_of action.entry))) }
         ensures err { OnErr result (Keeps self.old self.new) }
     {
         match self.browser.plan(action, self.moment) {
@@ -272,7 +276,8 @@ impl Tables {
         level: Level,
         text: &str,
     ) -> Result<Vec<Sent>, AllocError>
-        ensures ok { (h : List Input) → IsShort h → AgreeWith self.old (deeds h) → IfOk result (λ sent. Takes self.new (map sent_of sent.items) h (PageStep (Log context.now level text.now))) }
+        ensures ok { (h : List Input) → IsShort h → AgreeWith self.old (deeds h)
+            → IfOk result (λ sent. Takes self.new (map sent_of sent.items) h (PageStep (Log context.now level text.now))) }
         ensures err { OnErr result (Keeps self.old self.new) }
     {
         match self
@@ -289,7 +294,8 @@ impl Tables {
     fn take_entry(&mut self, alloc: Global, plan: Plan) -> Result<Vec<Sent>, AllocError>
         requires { planned.IsWellTold plan }
         ensures ok { (h : List Input) (context text : List ℕ) (level : Level) → IsShort h → AgreeWith self.old (deeds h)
-            → planned.Plans (Ok plan) (acts (deeds h)) (moment (deeds h)) (Log context level text) → IfOk result (λ sent. Takes self.new (map sent_of sent.items) h (PageStep (Log context level text))) }
+            → planned.Plans (Ok plan) (acts (deeds h)) (moment (deeds h)) (Log context level text)
+            → IfOk result (λ sent. Takes self.new (map sent_of sent.items) h (PageStep (Log context level text))) }
         ensures err { OnErr result (Keeps self.old self.new) }
     {
         let (told, change) = told_by(plan);
@@ -308,9 +314,11 @@ impl Tables {
     // Takes a turn that was decided: makes the texts, makes room for the change, and puts it in place.
     fn take_turn(&mut self, alloc: Global, decided: Turn) -> Result<Vec<Sent>, AllocError>
         requires { IsWellTold decided.telling }
-        ensures ok { (h : List Input) (i : Input) (act : Act) → IsShort h → AgreeWith self.old (deeds h) → turn (deeds h) i ≡ Ok (deed_of decided.change act) → IsMade decided.change (acts (deeds h)) act
+        ensures ok { (h : List Input) (i : Input) (act : Act) → IsShort h
+            → AgreeWith self.old (deeds h) → turn (deeds h) i ≡ Ok (deed_of decided.change act) → IsMade decided.change (acts (deeds h)) act
             → AreMessages (written_in decided.telling.announced.items)
-            → IfOk result (λ sent. (map sent_of sent.items ≡ sent_for (deeds h) (asker_in decided.telling.reply) (deed_of decided.change act) (written_in decided.telling.announced.items) (items_in decided.telling))
+            → IfOk result (λ sent. (map sent_of sent.items ≡ sent_for (deeds h) (asker_in decided.telling.reply) (deed_of decided.change act)
+            (written_in decided.telling.announced.items) (items_in decided.telling))
             × AllReadBack (map sent_of sent.items) × AgreeWith self.new (deed_of decided.change act ∷ deeds h)) }
         ensures err { OnErr result (Keeps self.old self.new) }
         ensures reads { IfSome decided.telling.reply (λ r. OnOk result (ReadsAs r.to.id.value (result_tree r.outcome))) }
@@ -338,7 +346,8 @@ impl Tables {
     // Puts a change in place. Takes no memory.
     fn apply(&mut self, change: Change)
         requires { HasRoom self.now change }
-        ensures { (h : List Input) (i : Input) (act : Act) → IsShort h → AgreeWith self.old (deeds h) → turn (deeds h) i ≡ Ok (deed_of change act) → IsMade change (acts (deeds h)) act
+        ensures { (h : List Input) (i : Input) (act : Act)
+            → IsShort h → AgreeWith self.old (deeds h) → turn (deeds h) i ≡ Ok (deed_of change act) → IsMade change (acts (deeds h)) act
             → AgreeWith self.new (deed_of change act ∷ deeds h) }
     {
         match change {

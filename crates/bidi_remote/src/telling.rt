@@ -68,7 +68,8 @@ pub(crate) fn tell_entry(
     tables: &Tables,
     entry: &EventText,
 ) -> Result<Vec<Sent>, AllocError>
-    ensures told { (past : List Deed) (o : heard.Occurrence) → AgreeWith tables.now past → o.event ≡ EntryAdded → written_of entry.now ≡ written o → IfOk result (λ sent. map sent_of sent.items ≡ to_hearers past o) }
+    ensures told { (past : List Deed) (o : heard.Occurrence) → AgreeWith tables.now past
+        → o.event ≡ EntryAdded → written_of entry.now ≡ written o → IfOk result (λ sent. map sent_of sent.items ≡ to_hearers past o) }
     ensures reads_back { IsMessageText ⟦<Message as Shape>⟧.shape (string_bytes entry.now.text) → IfOk result (λ sent. AllReadBack (map sent_of sent.items)) }
 {
     let mut sent = Vec::new(alloc);
@@ -96,7 +97,8 @@ fn all_sent(
 ) -> Result<Vec<Sent>, AllocError>
     requires before { AllByRecursion (λ o. ⟦<EventData as Subject<EventName>>⟧.subject.well o.event) before.now }
     requires after { AllByRecursion (λ o. ⟦<EventData as Subject<EventName>>⟧.subject.well o.event) after.now }
-    ensures sent { (act : Act) → IfOk result (λ sent. map sent_of sent.items ≡ to_subscriber_in (rows_in tables.now.connections) (deed_of change.now act) (written_in announced.now)
+    ensures sent { (act : Act) → IfOk result
+        (λ sent. map sent_of sent.items ≡ to_subscriber_in (rows_in tables.now.connections) (deed_of change.now act) (written_in announced.now)
         ++ ((flat_map (to_all (sessions.rows_in tables.now.sessions) (rows_in tables.now.connections)) (seen before.now)
         ++ (sent_if reply ++ flat_map (to_all (sessions.rows_in tables.now.sessions) (rows_in tables.now.connections)) (seen after.now)))
         ++ closed_in (rows_in tables.now.connections) (deed_of change.now act))) }
@@ -145,7 +147,8 @@ fn push_announced(
     announced: &[Rc<EventText>],
     sent: &mut Vec<Sent>,
 ) -> Result<(), AllocError>
-    ensures { (act : Act) → IfOk result (λ _. map sent_of sent.new.items ≡ map sent_of sent.old.items ++ to_subscriber_in (rows_in connections.now) (deed_of change.now act) (written_in announced.now)) }
+    ensures { (act : Act) → IfOk result (λ _. map sent_of sent.new.items
+        ≡ map sent_of sent.old.items ++ to_subscriber_in (rows_in connections.now) (deed_of change.now act) (written_in announced.now)) }
 {
     match change {
         Change::Subscribe(session, _, _) => {
@@ -163,7 +166,8 @@ fn push_to_session(
     texts: &[Rc<EventText>],
     sent: &mut Vec<Sent>,
 ) -> Result<(), AllocError>
-    ensures { IfOk result (λ _. map sent_of sent.new.items ≡ map sent_of sent.old.items ++ flat_map (λ w. to_one (rows_in connections.now) session w.text) (written_in texts.now)) }
+    ensures { IfOk result (λ _. map sent_of sent.new.items
+        ≡ map sent_of sent.old.items ++ flat_map (λ w. to_one (rows_in connections.now) session w.text) (written_in texts.now)) }
 {
     for event in texts {
         connections.push_text(alloc, session, &event.text, sent)?;
@@ -205,7 +209,8 @@ fn push_event(
 ) -> Result<(), AllocError>
     requires { ⟦<EventData as Subject<EventName>>⟧.subject.well occurrence.now.event }
     ensures sent { IfOk result (λ _. map sent_of sent.new.items
-        ≡ map sent_of sent.old.items ++ to_all (map session_row_of sessions.now) (rows_in connections.now) (occurrence_of ⟦<EventData as Subject<EventName>>⟧.subject occurrence.now)) }
+        ≡ map sent_of sent.old.items ++ to_all (map session_row_of sessions.now) (rows_in connections.now)
+        (occurrence_of ⟦<EventData as Subject<EventName>>⟧.subject occurrence.now)) }
     ensures reads_back { AllReadBack (map sent_of sent.old.items) → IfOk result (λ _. AllReadBack (map sent_of sent.new.items)) }
 {
     let event = occurrence.event.kind();
@@ -242,7 +247,8 @@ fn push_heard(
     sent: &mut Vec<Sent>,
 ) -> Result<(), AllocError>
     ensures { IfOk result (λ _. map sent_of sent.new.items ≡ map sent_of sent.old.items
-        ++ flat_map (λ r. to_each (λ c. Text c text.now) r.number (rows_in connections.now)) (filter (λ r. any_covers r.subscriptions event top) (map session_row_of sessions.now))) }
+        ++ flat_map (λ r. to_each (λ c. Text c text.now) r.number (rows_in connections.now))
+        (filter (λ r. any_covers r.subscriptions event top) (map session_row_of sessions.now))) }
 {
     for session in sessions {
         if session.hears(event, top) {
@@ -258,7 +264,8 @@ fn push_closes(
     change: &Change,
     sent: &mut Vec<Sent>,
 ) -> Result<(), AllocError>
-    ensures { (act : Act) → IfOk result (λ _. map sent_of sent.new.items ≡ map sent_of sent.old.items ++ closed_in (rows_in connections.now) (deed_of change.now act)) }
+    ensures { (act : Act)
+        → IfOk result (λ _. map sent_of sent.new.items ≡ map sent_of sent.old.items ++ closed_in (rows_in connections.now) (deed_of change.now act)) }
 {
     match change {
         Change::End(session) => connections.push_closes(*session, sent),

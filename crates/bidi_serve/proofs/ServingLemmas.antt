@@ -1,5 +1,6 @@
 -- Texts that are sent one after another, and exchanges.
-use Rattle.std.proofs.Common.{◌≡◌, ℕ, Bool, true, false, true≢false, not, List, [], ◌∷◌, ◌++◌, Option, Result, Ok, Err, refl, sym, ap, subst, rules, tests, arith, suc, ◌<◌, ◌-◌}
+use Rattle.std.proofs.Common.{◌≡◌, ℕ, Bool, true, false, true≢false, not, List, [], ◌∷◌, ◌++◌, Option, Result}
+use Rattle.std.proofs.Common.{Ok, Err, refl, sym, ap, subst, rules, tests, arith, suc, ◌<◌, ◌-◌}
 use Rattle.std.specs.Prelude.{◌==◌, ◌&&◌, ◌||◌, if◌then◌else◌, is_ok, IfOk, IfErr, OnOk}
 use Rattle.bidi_tree.specs.declared.number.JsUint.{JsUint}
 use Rattle.bidi_remote.specs.declared.step.Sent.{Sent}
@@ -13,7 +14,8 @@ use Rattle.bidi_serve.specs.Serving.{AreSent, all, next, stop}
 
 module _ {S K : Type 0} (contents : S → Option (List ℕ)) where
   -- further texts are sent behind those that were
-  pub sent-more : (l m n : Link S K) (xs ys : List (List ℕ)) (b w : Bool) → b ≡ true → AreSent contents l xs m b → AreSent contents m ys n w → AreSent contents l (xs ++ ys) n w
+  pub sent-more : (l m n : Link S K) (xs ys : List (List ℕ)) (b w : Bool)
+      → b ≡ true → AreSent contents l xs m b → AreSent contents m ys n w → AreSent contents l (xs ++ ys) n w
   sent-more l m n xs ys b w whole (all _) rest = rest
   sent-more l m n xs ys b w whole (next _ k _ s ss _ sends more) rest = next l k n s (ss ++ ys) w sends (sent-more k m n ss ys b w whole more rest)
   sent-more l m n xs ys b w whole (stop _ _ s ss fault sends) rest = absurd (true≢false (sym whole))
@@ -25,9 +27,12 @@ module _ {S K : Type 0} (contents : S → Option (List ℕ)) where
   sent-stop l m xs ys b stopped (stop _ _ s ss fault sends) = stop l m s (ss ++ ys) fault sends
 
   -- a text for the connection was sent, or could not be
-  pub sent-here : (l m : Link S K) (conn to : ℕ) (s : List ℕ) (r : Result (Unit {0}) LinkFault) → (conn == to) ≡ true → SendsText contents s l m r → AreSent contents l (text_on conn (Text to s)) m (is_ok r)
-  sent-here l m conn to s (Ok tt) here sends = subst (λ xs. AreSent contents l xs m true) (sym (ap (λ b. if b then s ∷ [] else []) here)) (next l m m s [] true sends (all m))
-  sent-here l m conn to s (Err fault) here sends = subst (λ xs. AreSent contents l xs m false) (sym (ap (λ b. if b then s ∷ [] else []) here)) (stop l m s [] fault sends)
+  pub sent-here : (l m : Link S K) (conn to : ℕ) (s : List ℕ) (r : Result (Unit {0}) LinkFault)
+      → (conn == to) ≡ true → SendsText contents s l m r → AreSent contents l (text_on conn (Text to s)) m (is_ok r)
+  sent-here l m conn to s (Ok tt) here sends =
+      subst (λ xs. AreSent contents l xs m true) (sym (ap (λ b. if b then s ∷ [] else []) here)) (next l m m s [] true sends (all m))
+  sent-here l m conn to s (Err fault) here sends =
+      subst (λ xs. AreSent contents l xs m false) (sym (ap (λ b. if b then s ∷ [] else []) here)) (stop l m s [] fault sends)
 
   -- one for another connection is not
   pub sent-apart : (l : Link S K) (conn to : ℕ) (s : List ℕ) → (conn == to) ≡ false → AreSent contents l (text_on conn (Text to s)) l true

@@ -46,7 +46,8 @@ IsRefused end fault h = StandsFor end h × (fault ≡ WornOut → 1000000000 ≤
 -- Texts are sent on a link one after another, up to the first that cannot be. Whether all were is said last.
 pub data AreSent {S K : Type 0} (contents : S → Option (List ℕ)) : Link S K → List (List ℕ) → Link S K → Bool → Type 0 where
   all : (l : Link S K) → AreSent contents l [] l true
-  next : (l m n : Link S K) (s : List ℕ) (ss : List (List ℕ)) (whole : Bool) → SendsText contents s l m (Ok tt) → AreSent contents m ss n whole → AreSent contents l (s ∷ ss) n whole
+  next : (l m n : Link S K) (s : List ℕ) (ss : List (List ℕ)) (whole : Bool)
+      → SendsText contents s l m (Ok tt) → AreSent contents m ss n whole → AreSent contents l (s ∷ ss) n whole
   stop : (l m : Link S K) (s : List ℕ) (ss : List (List ℕ)) (fault : LinkFault) → SendsText contents s l m (Err fault) → AreSent contents l (s ∷ ss) m false
 
 module _ {S K : Type 0} (remaining contents : S → Option (List ℕ)) (conn : ℕ) where
@@ -55,7 +56,8 @@ module _ {S K : Type 0} (remaining contents : S → Option (List ℕ)) (conn : �
     -- a ping or a pong asks for nothing
     control : (l m : Link S K) (h : List Input) → IsTaken remaining contents l m (Ok Control) → Exchange l h m h true
     -- a message is handed on, and the texts that the remote end sends on the connection are sent in their order
-    message : (l m n : Link S K) (h : List Input) (t : Taken) (i : Input) (whole : Bool) → IsTaken remaining contents l m (Ok t) → IsHandedOn conn t i → AreSent contents m (texts_on conn (out h i)) n whole
+    message : (l m n : Link S K) (h : List Input) (t : Taken) (i : Input) (whole : Bool)
+        → IsTaken remaining contents l m (Ok t) → IsHandedOn conn t i → AreSent contents m (texts_on conn (out h i)) n whole
         → Exchange l h n (i ∷ h) (whole && is_served (i ∷ h) conn)
     end : (l m : Link S K) (h : List Input) (r : Result Taken LinkFault) → IsTaken remaining contents l m r → IsEnd r → Exchange l h m h false
 
@@ -79,4 +81,5 @@ module _ {S K : Type 0} (remaining contents : S → Option (List ℕ)) (conn : �
   -- dropped where it is still open, and the link is closed.
   pub data Served (resource : List ℕ) (messages : ℕ) : Link S K → List Input → Link S K → List Input → Type 0 where
     denied : (l m : Link S K) (h : List Input) → is_denied h conn resource ≡ true → IsClosed l m → Served resource messages l h m (Open conn resource ∷ h)
-    served : (l o : Link S K) (h k : List Input) → is_denied h conn resource ≡ false → Exchanged messages l (Open conn resource ∷ h) o k → Served resource messages l h o (dropped k conn)
+    served : (l o : Link S K) (h k : List Input) → is_denied h conn resource ≡ false
+        → Exchanged messages l (Open conn resource ∷ h) o k → Served resource messages l h o (dropped k conn)

@@ -138,7 +138,8 @@ fn hand_on<S: Read + Write + Drop, K: MaskKeys + Drop>(
     conn: JsUint,
     step: Step,
 ) -> Result<bool, RemoteFault>
-    ensures ok { (h : List Input) → StandsFor end.old h → IfOk result (λ goes_on. (i : Input) × (whole : Bool) × IsHeardAs (step_of step) i × StandsFor end.new (i ∷ h)
+    ensures ok { (h : List Input) → StandsFor end.old h
+        → IfOk result (λ goes_on. (i : Input) × (whole : Bool) × IsHeardAs (step_of step) i × StandsFor end.new (i ∷ h)
         × AreSent S.contents link.old (texts_on conn.value (out h i)) link.new whole × (goes_on ≡ whole && is_served (i ∷ h) conn.value)) }
     ensures err { (h : List Input) → StandsFor end.old h → IfErr result (λ fault. IsRefused end.new fault h) }
 {

@@ -3,11 +3,15 @@ use Rattle.std.proofs.Common.{◌≡◌, ◌≤◌, ◌⊎◌, ℕ, max, ℤ, po
 use Rattle.std.proofs.lemmas.Bool.{or_parts, or_from}
 use Rattle.bidi_tree.specs.Number.{IsJsUint, IsJsInt}
 use Rattle.bidi_tree.specs.Node as node
-use Rattle.bidi_tree.specs.Node.{Node, Items, no_items, item, Members, no_members, member, get_member, levels, members_levels, has_odd, members_have_odd, IsWhole}
+use Rattle.bidi_tree.specs.Node.{Node, Items, no_items, item, Members, no_members, member, get_member}
+use Rattle.bidi_tree.specs.Node.{levels, members_levels, has_odd, members_have_odd, IsWhole}
 use Rattle.bidi_shape.specs.Name.{Name}
-use Rattle.bidi_shape.specs.Term.{Need, required, optional, Openness, extensible, Term, exactly, text, bool, null, js_uint, js_int, any, list_of, pair_of, map_of, either, rule, capped, Rows, row, names_of}
+use Rattle.bidi_shape.specs.Term.{Need, required, optional, Openness, extensible, Term, exactly, text, bool, null, js_uint}
+use Rattle.bidi_shape.specs.Term.{js_int, any, list_of, pair_of, map_of, either, rule, capped, Rows, row, names_of}
 use Rattle.bidi_shape.specs.Profile.{term_of}
-use Rattle.bidi_shape.specs.Fits.{count, without, OthersFit, Fits, fits_exactly, fits_text, fits_bool, fits_null, fits_js_uint, fits_js_int, fits_any, fits_list, fits_pair, fits_map, fits_first, fits_second, fits_rule, fits_capped, AllFit, an_item, RowsFit, there, absent}
+use Rattle.bidi_shape.specs.Fits.{count, without, OthersFit, Fits, fits_exactly, fits_text, fits_bool, fits_null}
+use Rattle.bidi_shape.specs.Fits.{fits_js_uint, fits_js_int, fits_any, fits_list, fits_pair, fits_map, fits_first}
+use Rattle.bidi_shape.specs.Fits.{fits_second, fits_rule, fits_capped, AllFit, an_item, RowsFit, there, absent}
 
 -- ---- the kind of tree that fits
 
@@ -99,12 +103,14 @@ RowFits-None τ (Some u) e = cc
 RowFits-None τ None e = tt
 
 -- where rows fit, the first does and so do the others
-pub row_inside : {ms : Members} {k : List ℕ} {need : Need} {τ : Term} {rows : Rows} → RowsFit ms (row k need τ rows) → RowFits need τ (get_member k ms) × RowsFit ms rows
+pub row_inside : {ms : Members} {k : List ℕ} {need : Need} {τ : Term} {rows : Rows}
+    → RowsFit ms (row k need τ rows) → RowFits need τ (get_member k ms) × RowsFit ms rows
 row_inside (there ms k need τ rows t e f more) = (RowFits-Some need τ (get_member k ms) t e f, more)
 row_inside (absent ms k τ rows e more) = (RowFits-None τ (get_member k ms) e, more)
 
 -- a row that fits may stand before rows that fit
-pub row_fits : (ms : Members) (k : List ℕ) (need : Need) (τ : Term) (rows : Rows) → RowFits need τ (get_member k ms) → RowsFit ms rows → RowsFit ms (row k need τ rows)
+pub row_fits : (ms : Members) (k : List ℕ) (need : Need) (τ : Term) (rows : Rows)
+    → RowFits need τ (get_member k ms) → RowsFit ms rows → RowsFit ms (row k need τ rows)
 row_fits ms k need τ rows f more = go need (get_member k ms) refl f
   where
     go : (n : Need) (o : Option Node) → get_member k ms ≡ o → RowFits n τ o → RowsFit ms (row k n τ rows)

@@ -1,15 +1,22 @@
 -- A test of whether a tree fits a term, taken so many steps deep, and that it answers right. The facts of the profile are computed by it.
-use Rattle.std.proofs.Common.{◌≡◌, ◌⊎◌, ℕ, zero, suc, pos, List, Bool, true, false, not, nat_lt, nat_le, Option, Some, None, bytes_eq, refl, inl, inr, subst, sym, leb-true, le-leb, ltb-true, lt-ltb}
+use Rattle.std.proofs.Common.{◌≡◌, ◌⊎◌, ℕ, zero, suc, pos, List, Bool, true, false, not, nat_lt, nat_le, Option, Some}
+use Rattle.std.proofs.Common.{None, bytes_eq, refl, inl, inr, subst, sym, leb-true, le-leb, ltb-true, lt-ltb}
 use Rattle.std.proofs.lemmas.Bool.{and_parts, and_from, not-true, not_from_false, true≢false}
 use Rattle.std.proofs.lemmas.Slice.Eq.{bytes_eq-Decides}
 use Rattle.std.specs.Prelude.{◌^◌}
 use Rattle.bidi_tree.specs.Number.{is_js_int}
 use Rattle.bidi_tree.specs.Node as node
-use Rattle.bidi_tree.specs.Node.{Node, Items, no_items, item, Members, no_members, member, get_member, levels, has_odd, members_levels, members_have_odd, is_whole, members_are_whole, IsWhole, MembersAreWhole}
-use Rattle.bidi_shape.specs.Term.{Need, required, optional, Openness, extensible, closed, Term, exactly, text, bool, null, js_uint, js_int, any, list_of, pair_of, map_of, either, rule, capped, Rows, no_more, row, names_of}
+use Rattle.bidi_tree.specs.Node.{Node, Items, no_items, item, Members, no_members, member, get_member, levels, has_odd}
+use Rattle.bidi_tree.specs.Node.{members_levels, members_have_odd, is_whole, members_are_whole, IsWhole, MembersAreWhole}
+use Rattle.bidi_shape.specs.Term.{Need, required, optional, Openness, extensible, closed, Term, exactly, text, bool, null, js_uint}
+use Rattle.bidi_shape.specs.Term.{js_int, any, list_of, pair_of, map_of, either, rule, capped, Rows, no_more, row, names_of}
 use Rattle.bidi_shape.specs.Profile.{term_of}
-use Rattle.bidi_shape.specs.Fits.{count, without, OthersFit, Fits, fits_exactly, fits_text, fits_bool, fits_null, fits_js_uint, fits_js_int, fits_any, fits_list, fits_pair, fits_map, fits_first, fits_second, fits_rule, fits_capped, AllFit, no_item, an_item, RowsFit, no_row}
-use Rattle.bidi_shape.proofs.FitsLemmas.{exactly_kind, text_kind, bool_kind, null_kind, js_uint_kind, js_int_kind, list_kind, pair_kind, map_kind, exactly_inside, js_uint_inside, js_int_inside, any_inside, list_inside, item_inside, pair_inside, map_inside, RowFits, row_inside, row_fits, either_inside, rule_inside, capped_inside}
+use Rattle.bidi_shape.specs.Fits.{count, without, OthersFit, Fits, fits_exactly, fits_text, fits_bool, fits_null}
+use Rattle.bidi_shape.specs.Fits.{fits_js_uint, fits_js_int, fits_any, fits_list, fits_pair, fits_map, fits_first}
+use Rattle.bidi_shape.specs.Fits.{fits_second, fits_rule, fits_capped, AllFit, no_item, an_item, RowsFit, no_row}
+use Rattle.bidi_shape.proofs.FitsLemmas.{exactly_kind, text_kind, bool_kind, null_kind, js_uint_kind, js_int_kind, list_kind, pair_kind}
+use Rattle.bidi_shape.proofs.FitsLemmas.{map_kind, exactly_inside, js_uint_inside, js_int_inside, any_inside, list_inside, item_inside}
+use Rattle.bidi_shape.proofs.FitsLemmas.{pair_inside, map_inside, RowFits, row_inside, row_fits, either_inside, rule_inside, capped_inside}
 
 -- what the test answers
 pub data Answer : Type 0 where
@@ -136,7 +143,9 @@ test (suc n) t (capped τ) = also (of_test (nat_le (levels t) 60)) (λ u. test n
 -- ---- it answers right
 
 right-exactly : (u : List ℕ) (t : Node) → IsRight (Fits t (exactly u)) (test_exactly u t)
-right-exactly u (node.text s) = right-of_test (bytes_eq s u) (λ e. subst (λ x. Fits (node.text s) (exactly x)) ((bytes_eq-Decides s u).0 e) (fits_exactly s)) (λ f. (bytes_eq-Decides s u).1 (exactly_inside f))
+right-exactly u (node.text s) =
+    right-of_test (bytes_eq s u) (λ e. subst (λ x. Fits (node.text s) (exactly x)) ((bytes_eq-Decides s u).0 e) (fits_exactly s))
+    (λ f. (bytes_eq-Decides s u).1 (exactly_inside f))
 right-exactly u t = fails (λ x. let e : t ≡ node.text u = exactly_kind x in cc)
 
 right-text : (t : Node) → IsRight (Fits t text) (test_text t)
@@ -168,23 +177,27 @@ right-items : (f : Node → Answer) (τ : Term) → ((t : Node) → IsRight (Fit
 right-items f τ r no_items = holds (no_item τ)
 right-items f τ r (item t ts) = right-iff (λ p. an_item t ts τ p.0 p.1) (λ a. item_inside a) (right-also (λ u. test_items f ts) (r t) (right-items f τ r ts))
 
-right-list : (f : Node → Answer) (least : ℕ) (τ : Term) → ((t : Node) → IsRight (Fits t τ) (f t)) → (t : Node) → IsRight (Fits t (list_of least τ)) (test_list f least t)
+right-list : (f : Node → Answer) (least : ℕ) (τ : Term)
+    → ((t : Node) → IsRight (Fits t τ) (f t)) → (t : Node) → IsRight (Fits t (list_of least τ)) (test_list f least t)
 right-list f least τ r (node.list ts) =
     right-iff (λ p. fits_list ts least τ p.0 p.1) (λ a. list_inside a)
     (right-also (λ u. test_items f ts) (right-of_test (nat_le least (count ts)) (leb-true least (count ts)) (le-leb least (count ts))) (right-items f τ r ts))
 right-list f least τ r t = fails (λ x. let p = list_kind x in let e : t ≡ node.list p.0 = p.1 in cc)
 
-right-pair : (f g : Node → Answer) (σ τ : Term) → ((t : Node) → IsRight (Fits t σ) (f t)) → ((t : Node) → IsRight (Fits t τ) (g t)) → (t : Node) → IsRight (Fits t (pair_of σ τ)) (test_pair f g t)
+right-pair : (f g : Node → Answer) (σ τ : Term) → ((t : Node) → IsRight (Fits t σ) (f t))
+    → ((t : Node) → IsRight (Fits t τ) (g t)) → (t : Node) → IsRight (Fits t (pair_of σ τ)) (test_pair f g t)
 right-pair f g σ τ r s (node.list (item t (item u no_items))) =
     right-iff (λ p. fits_pair t u σ τ p.0 p.1) (λ a. pair_inside a) (right-also (λ x. g u) (r t) (s u))
 right-pair f g σ τ r s t = fails (λ x. let p = pair_kind x in let e : t ≡ node.list (item p.0 (item p.1.0 no_items)) = p.1.1 in cc)
 
-right-row : (f : Node → Answer) (need : Need) (τ : Term) → ((t : Node) → IsRight (Fits t τ) (f t)) → (o : Option Node) → IsRight (RowFits need τ o) (test_row f need o)
+right-row : (f : Node → Answer) (need : Need) (τ : Term)
+    → ((t : Node) → IsRight (Fits t τ) (f t)) → (o : Option Node) → IsRight (RowFits need τ o) (test_row f need o)
 right-row f need τ r (Some t) = r t
 right-row f required τ r None = fails (λ x. x)
 right-row f optional τ r None = holds tt
 
-right-rows : (f : Node → Term → Answer) → ((t : Node) (τ : Term) → IsRight (Fits t τ) (f t τ)) → (ms : Members) (rows : Rows) → IsRight (RowsFit ms rows) (test_rows f ms rows)
+right-rows : (f : Node → Term → Answer)
+    → ((t : Node) (τ : Term) → IsRight (Fits t τ) (f t τ)) → (ms : Members) (rows : Rows) → IsRight (RowsFit ms rows) (test_rows f ms rows)
 right-rows f r ms no_more = holds (no_row ms)
 right-rows f r ms (row k need τ rows) =
     right-iff (λ p. row_fits ms k need τ rows p.0 p.1) (λ a. row_inside a)
@@ -192,12 +205,14 @@ right-rows f r ms (row k need τ rows) =
 
 right-others : (o : Openness) (ms : Members) → IsRight (OthersFit o ms) (test_others o ms)
 right-others extensible ms = right-of_test (members_are_whole ms 60)
-    (λ e. let p = and_parts (not (members_have_odd ms)) (nat_le (members_levels ms) 60) e in (not-true (members_have_odd ms) p.0, leb-true (members_levels ms) 60 p.1))
+    (λ e. let p = and_parts (not (members_have_odd ms)) (nat_le (members_levels ms) 60) e in
+    (not-true (members_have_odd ms) p.0, leb-true (members_levels ms) 60 p.1))
     (λ w. and_from (not (members_have_odd ms)) (nat_le (members_levels ms) 60) (not_from_false (members_have_odd ms) w.0) (le-leb (members_levels ms) 60 w.1))
 right-others closed no_members = holds refl
 right-others closed (member k t ms) = fails (λ e. cc)
 
-right-map : (f : Node → Term → Answer) → ((t : Node) (τ : Term) → IsRight (Fits t τ) (f t τ)) → (rows : Rows) (o : Openness) (t : Node) → IsRight (Fits t (map_of rows o)) (test_map f rows o t)
+right-map : (f : Node → Term → Answer) → ((t : Node) (τ : Term) → IsRight (Fits t τ) (f t τ))
+    → (rows : Rows) (o : Openness) (t : Node) → IsRight (Fits t (map_of rows o)) (test_map f rows o t)
 right-map f r rows o (node.map ms) =
     right-iff (λ p. fits_map ms rows o p.0 p.1) (λ a. map_inside a)
     (right-also (λ u. test_others o (without (names_of rows) ms)) (right-rows f r ms rows) (right-others o (without (names_of rows) ms)))

@@ -11,8 +11,10 @@ use Rattle.bidi_tree.proofs.MemberLemmas.{get_member-put, get_member-put_other}
 use Rattle.bidi_shape.specs.Fits.{without}
 use Rattle.bidi_shape.specs.MapLaws.{same_from_tie}
 
-kept_or : (o : Ordering) (b : Bool) (ks : List (List ℕ)) (k l : List ℕ) (n t : Node) (ms : Members) → slice_cmp nat_cmp k l ≡ o → list_any (bytes_eq l) ks ≡ b → list_any (bytes_eq k) ks ≡ false
-    → match_ordering o (get_member k ms) (Some n) (get_member k ms) ≡ Some t → (get_member k ms ≡ Some t → without ks ms ≡ no_members → ⊥) → cond b (without ks ms) (member l n (without ks ms)) ≡ no_members → ⊥
+kept_or : (o : Ordering) (b : Bool) (ks : List (List ℕ)) (k l : List ℕ) (n t : Node) (ms : Members)
+    → slice_cmp nat_cmp k l ≡ o → list_any (bytes_eq l) ks ≡ b → list_any (bytes_eq k) ks ≡ false
+    → match_ordering o (get_member k ms) (Some n) (get_member k ms) ≡ Some t
+    → (get_member k ms ≡ Some t → without ks ms ≡ no_members → ⊥) → cond b (without ks ms) (member l n (without ks ms)) ≡ no_members → ⊥
 kept_or Less true ks k l n t ms o y f g later e = later g e
 kept_or Greater true ks k l n t ms o y f g later e = later g e
 kept_or Equal true ks k l n t ms o y f g later e = true≢false (sym y ∙ ap (λ x. list_any (bytes_eq x) ks) (sym (same_from_tie k l o)) ∙ f)
@@ -21,11 +23,13 @@ kept_or Equal false ks k l n t ms o y f g later e = cc
 kept_or Greater false ks k l n t ms o y f g later e = cc
 
 -- where an unlisted member stands, not all are listed
-some_member : (ks : List (List ℕ)) (k : List ℕ) (t : Node) (ms : Members) → list_any (bytes_eq k) ks ≡ false → get_member k ms ≡ Some t → without ks ms ≡ no_members → ⊥
+some_member : (ks : List (List ℕ)) (k : List ℕ) (t : Node) (ms : Members)
+    → list_any (bytes_eq k) ks ≡ false → get_member k ms ≡ Some t → without ks ms ≡ no_members → ⊥
 some_member ks k t no_members f g e = cc
 some_member ks k t (member l n ms) f g e = kept_or _ _ ks k l n t ms refl refl f g (some_member ks k t ms f) e
 
-stays_at : (b : Bool) (q k : List ℕ) (n t : Node) (ms : Members) → bytes_eq q k ≡ b → get_member q ms ≡ Some t → (u : Node) × (get_member q (put k n ms) ≡ Some u)
+stays_at : (b : Bool) (q k : List ℕ) (n t : Node) (ms : Members)
+    → bytes_eq q k ≡ b → get_member q ms ≡ Some t → (u : Node) × (get_member q (put k n ms) ≡ Some u)
 stays_at true q k n t ms e g = (n, subst (λ x. get_member x (put k n ms) ≡ Some n) (sym ((bytes_eq-Decides q k).0 e)) (get_member-put k n ms))
 stays_at false q k n t ms e g = (t, get_member-put_other q k n ms (λ h. true≢false (sym ((bytes_eq-Decides q k).1 h) ∙ e)) ∙ g)
 
@@ -36,7 +40,8 @@ all_stay q (json.member k j js) t found g =
     all_stay q js next.0 (put k (json_node j) found) next.1
 
 -- once an unlisted member was put in, not all are listed
-pub one_left : (ks : List (List ℕ)) (k : List ℕ) (n : Node) (js : json.Members) (found : Members) → list_any (bytes_eq k) ks ≡ false → without ks (put_all js (put k n found)) ≡ no_members → ⊥
+pub one_left : (ks : List (List ℕ)) (k : List ℕ) (n : Node) (js : json.Members) (found : Members)
+    → list_any (bytes_eq k) ks ≡ false → without ks (put_all js (put k n found)) ≡ no_members → ⊥
 one_left ks k n js found f e =
     let stays = all_stay k js n (put k n found) (get_member-put k n found) in
     some_member ks k stays.0 (put_all js (put k n found)) f stays.1 e

@@ -27,13 +27,15 @@ pub text_or_null_well : {X : Type 0} {P : X → Type 0} → ((x : X) → P x) �
 text_or_null_well all None = misfits_by 1 refl
 text_or_null_well all (Some x) = all x
 
-pub item_levels : {X : Type 0} (tree_of : X → Node) (xs : List X) (i : ℕ) (d : X) → i < length xs → levels (tree_of (get_or xs i d)) ≤ items_levels (items_of (map tree_of xs))
+pub item_levels : {X : Type 0} (tree_of : X → Node) (xs : List X) (i : ℕ) (d : X)
+    → i < length xs → levels (tree_of (get_or xs i d)) ≤ items_levels (items_of (map tree_of xs))
 item_levels tree_of [] i d h = absurd (omega arith)
 item_levels tree_of (x ∷ xs) zero d h = omega arith
 item_levels tree_of (x ∷ xs) (suc i) d h = let rest = item_levels tree_of xs i d (omega arith) in omega (arith, rest)
 
 -- what is put into a sound map leaves it sound
-pub sound-put : {U E : Type 0} (r : Result U E) (k : List ℕ) (n : Node) (old new : Members) → IsSound n → OnOk r (new ≡ put k n old) → IsSound (tree.map old) → OnOk r (IsSound (tree.map new))
+pub sound-put : {U E : Type 0} (r : Result U E) (k : List ℕ) (n : Node) (old new : Members)
+    → IsSound n → OnOk r (new ≡ put k n old) → IsSound (tree.map old) → OnOk r (IsSound (tree.map new))
 sound-put (Ok u) k n old new s is h = subst (λ ms. IsSound (tree.map ms)) (sym is) (AreAscending-put k n old h.0, MembersAreSound-put k n old s h.1)
 sound-put (Err e) k n old new s is h = tt
 

@@ -5,7 +5,12 @@ use Rattle.bidi_tree.specs.Node as node
 use Rattle.bidi_tree.specs.Node.{Node, no_items, item, Members, no_members, put, levels}
 use Rattle.bidi_tree.specs.View.{items_of}
 use Rattle.bidi_tree.proofs.TextFacts.{nested, status_tree}
-use Rattle.bidi_shape.specs.Name.{command, command_response, console_entry, context_target, create_parameters, empty_params, error_response, generic_log_entry, get_tree_parameters, info, javascript_entry, local_pair, local_value, log_entry, message, navigate_result, primitive, realm_target, reference, remote_object_reference, remote_value, shared_reference, stack_trace, subscribe_parameters, table_row, target, traverse_history_parameters, unsubscribe_by_events, unsubscribe_by_id, unsubscribe_parameters, wait}
+use Rattle.bidi_shape.specs.Name.{command, command_response, console_entry, context_target, create_parameters, empty_params}
+use Rattle.bidi_shape.specs.Name.{error_response, generic_log_entry, get_tree_parameters, info, javascript_entry, local_pair}
+use Rattle.bidi_shape.specs.Name.{local_value, log_entry, message, navigate_result, primitive, realm_target, reference}
+use Rattle.bidi_shape.specs.Name.{remote_object_reference, remote_value, shared_reference, stack_trace, subscribe_parameters, table_row}
+use Rattle.bidi_shape.specs.Name.{target, traverse_history_parameters, unsubscribe_by_events, unsubscribe_by_id, unsubscribe_parameters}
+use Rattle.bidi_shape.specs.Name.{wait}
 use Rattle.bidi_shape.specs.Term.{text, js_uint, js_int, any, rule, any_number_of, at_least_one}
 use Rattle.bidi_shape.specs.Fits.{Fits}
 use Rattle.bidi_shape.proofs.FitsTest.{fits_by, misfits_by}
@@ -110,15 +115,18 @@ pub odd_misfits_js_int : Fits node.odd js_int → ⊥
 odd_misfits_js_int = misfits_by 1000 refl
 
 -- `{"x":[{"y":[1]}]}` fits EmptyParams
-pub whole_number_deep_in_an_extension_fits : Fits (mapped ("x" being listed (mapped ("y" being listed (number 1 ∷ []) and no_members) ∷ []) and no_members)) (rule empty_params)
+pub whole_number_deep_in_an_extension_fits : Fits
+    (mapped ("x" being listed (mapped ("y" being listed (number 1 ∷ []) and no_members) ∷ []) and no_members)) (rule empty_params)
 whole_number_deep_in_an_extension_fits = fits_by 1000 refl
 
 -- with Odd in place of 1 it does not
-pub odd_deep_in_an_extension_misfits : Fits (mapped ("x" being listed (mapped ("y" being listed (node.odd ∷ []) and no_members) ∷ []) and no_members)) (rule empty_params) → ⊥
+pub odd_deep_in_an_extension_misfits : Fits
+    (mapped ("x" being listed (mapped ("y" being listed (node.odd ∷ []) and no_members) ∷ []) and no_members)) (rule empty_params) → ⊥
 odd_deep_in_an_extension_misfits = misfits_by 1000 refl
 
 -- a response whose result holds Odd does not fit CommandResponse
-pub odd_in_a_result_misfits : Fits (mapped ("type" being word "success" and "id" being number 1 and "result" being mapped ("x" being node.odd and no_members) and no_members)) (rule command_response) → ⊥
+pub odd_in_a_result_misfits : Fits (mapped ("type" being word "success" and "id" being number 1 and "result" being mapped
+    ("x" being node.odd and no_members) and no_members)) (rule command_response) → ⊥
 odd_in_a_result_misfits = misfits_by 1000 refl
 
 -- ---- the range of js-uint and of js-int
@@ -170,7 +178,8 @@ pub subscribe_to_no_event_misfits : Fits (mapped ("events" being listed [] and n
 subscribe_to_no_event_misfits = misfits_by 1000 refl
 
 -- nor does `{"events":["log"],"contexts":[]}`
-pub subscribe_to_no_context_misfits : Fits (mapped ("events" being listed (word "log" ∷ []) and "contexts" being listed [] and no_members)) (rule subscribe_parameters) → ⊥
+pub subscribe_to_no_context_misfits : Fits (mapped ("events" being listed (word "log" ∷ []) and "contexts" being listed [] and no_members))
+    (rule subscribe_parameters) → ⊥
 subscribe_to_no_context_misfits = misfits_by 1000 refl
 
 -- a text and a value fit LocalPair
@@ -182,7 +191,8 @@ pub pair_of_one_misfits : Fits (listed (mapped ("type" being word "undefined" an
 pair_of_one_misfits = misfits_by 1000 refl
 
 -- nor do three
-pub pair_of_three_misfits : Fits (listed (mapped ("type" being word "undefined" and no_members) ∷ mapped ("type" being word "undefined" and no_members) ∷ mapped ("type" being word "undefined" and no_members) ∷ [])) (rule local_pair) → ⊥
+pub pair_of_three_misfits : Fits (listed (mapped ("type" being word "undefined" and no_members)
+    ∷ mapped ("type" being word "undefined" and no_members) ∷ mapped ("type" being word "undefined" and no_members) ∷ [])) (rule local_pair) → ⊥
 pair_of_three_misfits = misfits_by 1000 refl
 
 -- nor a value and a text
@@ -208,27 +218,33 @@ pub reference_context_null_misfits : Fits (mapped ("type" being word "tab" and "
 reference_context_null_misfits = misfits_by 1000 refl
 
 -- the parent of an Info may be absent
-pub parent_absent_fits : Fits (mapped ("children" being node.null and "clientWindow" being word "w" and "context" being word "c" and "originalOpener" being node.null and "url" being word "u" and "userContext" being word "default" and no_members)) (rule info)
+pub parent_absent_fits : Fits (mapped ("children" being node.null and "clientWindow" being word "w" and "context" being word "c" and
+    "originalOpener" being node.null and "url" being word "u" and "userContext" being word "default" and no_members)) (rule info)
 parent_absent_fits = fits_by 1000 refl
 
 -- and it may be null
-pub parent_null_fits : Fits (mapped ("children" being node.null and "clientWindow" being word "w" and "context" being word "c" and "originalOpener" being node.null and "url" being word "u" and "userContext" being word "default" and "parent" being node.null and no_members)) (rule info)
+pub parent_null_fits : Fits (mapped ("children" being node.null and "clientWindow" being word "w" and "context" being word "c" and "originalOpener"
+    being node.null and "url" being word "u" and "userContext" being word "default" and "parent" being node.null and no_members)) (rule info)
 parent_null_fits = fits_by 1000 refl
 
 -- it may not be a number
-pub parent_number_misfits : Fits (mapped ("children" being node.null and "clientWindow" being word "w" and "context" being word "c" and "originalOpener" being node.null and "url" being word "u" and "userContext" being word "default" and "parent" being number 1 and no_members)) (rule info) → ⊥
+pub parent_number_misfits : Fits (mapped ("children" being node.null and "clientWindow" being word "w" and "context" being word "c" and "originalOpener"
+    being node.null and "url" being word "u" and "userContext" being word "default" and "parent" being number 1 and no_members)) (rule info) → ⊥
 parent_number_misfits = misfits_by 1000 refl
 
 -- an error with `"id":null` fits ErrorResponse
-pub error_with_id_null_fits : Fits (mapped ("type" being word "error" and "error" being word "unknown error" and "message" being word "m" and "id" being node.null and no_members)) (rule error_response)
+pub error_with_id_null_fits : Fits (mapped ("type" being word "error" and "error" being word "unknown error" and "message" being word "m"
+    and "id" being node.null and no_members)) (rule error_response)
 error_with_id_null_fits = fits_by 1000 refl
 
 -- one without id does not
-pub error_without_id_misfits : Fits (mapped ("type" being word "error" and "error" being word "unknown error" and "message" being word "m" and no_members)) (rule error_response) → ⊥
+pub error_without_id_misfits : Fits
+    (mapped ("type" being word "error" and "error" being word "unknown error" and "message" being word "m" and no_members)) (rule error_response) → ⊥
 error_without_id_misfits = misfits_by 1000 refl
 
 -- nor does one with a code outside the list
-pub error_of_another_code_misfits : Fits (mapped ("type" being word "error" and "id" being number 1 and "error" being word "unknown" and "message" being word "m" and no_members)) (rule error_response) → ⊥
+pub error_of_another_code_misfits : Fits (mapped ("type" being word "error" and "id" being number 1 and "error" being word "unknown" and
+    "message" being word "m" and no_members)) (rule error_response) → ⊥
 error_of_another_code_misfits = misfits_by 1000 refl
 
 -- ---- one exact text of several
@@ -274,15 +290,18 @@ neither_member_misfits_target = misfits_by 1000 refl
 -- ---- UnsubscribeParameters
 
 -- `{"subscriptions":["a"],"events":["b"]}` fits UnsubscribeById
-pub both_lists_fit_by_id : Fits (mapped ("subscriptions" being listed (word "a" ∷ []) and "events" being listed (word "b" ∷ []) and no_members)) (rule unsubscribe_by_id)
+pub both_lists_fit_by_id : Fits
+    (mapped ("subscriptions" being listed (word "a" ∷ []) and "events" being listed (word "b" ∷ []) and no_members)) (rule unsubscribe_by_id)
 both_lists_fit_by_id = fits_by 1000 refl
 
 -- and UnsubscribeByEvents
-pub both_lists_fit_by_events : Fits (mapped ("subscriptions" being listed (word "a" ∷ []) and "events" being listed (word "b" ∷ []) and no_members)) (rule unsubscribe_by_events)
+pub both_lists_fit_by_events : Fits
+    (mapped ("subscriptions" being listed (word "a" ∷ []) and "events" being listed (word "b" ∷ []) and no_members)) (rule unsubscribe_by_events)
 both_lists_fit_by_events = fits_by 1000 refl
 
 -- so it fits UnsubscribeParameters
-pub both_lists_fit_unsubscribe : Fits (mapped ("subscriptions" being listed (word "a" ∷ []) and "events" being listed (word "b" ∷ []) and no_members)) (rule unsubscribe_parameters)
+pub both_lists_fit_unsubscribe : Fits
+    (mapped ("subscriptions" being listed (word "a" ∷ []) and "events" being listed (word "b" ∷ []) and no_members)) (rule unsubscribe_parameters)
 both_lists_fit_unsubscribe = fits_by 1000 refl
 
 -- `{"subscriptions":[],"events":["b"]}` does not fit UnsubscribeById
@@ -294,7 +313,8 @@ pub no_id_fits_by_events : Fits (mapped ("subscriptions" being listed [] and "ev
 no_id_fits_by_events = fits_by 1000 refl
 
 -- so it fits UnsubscribeParameters
-pub no_id_fits_unsubscribe : Fits (mapped ("subscriptions" being listed [] and "events" being listed (word "b" ∷ []) and no_members)) (rule unsubscribe_parameters)
+pub no_id_fits_unsubscribe : Fits (mapped ("subscriptions" being listed [] and "events" being listed (word "b" ∷ []) and no_members))
+    (rule unsubscribe_parameters)
 no_id_fits_unsubscribe = fits_by 1000 refl
 
 -- `{"subscriptions":[],"events":[]}` does not fit UnsubscribeById
@@ -306,14 +326,17 @@ pub empty_lists_misfit_by_events : Fits (mapped ("subscriptions" being listed []
 empty_lists_misfit_by_events = misfits_by 1000 refl
 
 -- so it does not fit UnsubscribeParameters
-pub empty_lists_misfit_unsubscribe : Fits (mapped ("subscriptions" being listed [] and "events" being listed [] and no_members)) (rule unsubscribe_parameters) → ⊥
+pub empty_lists_misfit_unsubscribe : Fits (mapped ("subscriptions" being listed [] and "events" being listed [] and no_members))
+    (rule unsubscribe_parameters) → ⊥
 empty_lists_misfit_unsubscribe = misfits_by 1000 refl
 
 -- ---- log entries
 
 -- a log entry of that type, with the members of Base and those further ones
 abbrev pub entry : String → Members → Node
-entry kind more = mapped ("level" being word "info" and "source" being mapped ("realm" being word "r" and no_members) and "text" being node.null and "timestamp" being number 0 and "type" being word kind and more)
+entry kind more =
+    mapped ("level" being word "info" and "source" being mapped ("realm" being word "r" and no_members) and "text" being node.null and
+    "timestamp" being number 0 and "type" being word kind and more)
 
 -- an entry of type console with method and args fits ConsoleEntry
 pub console_entry_fits : Fits (entry "console" ("method" being word "log" and "args" being listed [] and no_members)) (rule console_entry)
@@ -344,25 +367,30 @@ pub javascript_with_a_further_member_is_generic : Fits (entry "javascript" ("x" 
 javascript_with_a_further_member_is_generic = fits_by 1000 refl
 
 -- an entry whose stackTrace is null fits no LogEntry
-pub wrong_stack_trace_misfits_log_entry : Fits (entry "console" ("method" being word "log" and "args" being listed [] and "stackTrace" being node.null and no_members)) (rule log_entry) → ⊥
+pub wrong_stack_trace_misfits_log_entry : Fits
+    (entry "console" ("method" being word "log" and "args" being listed [] and "stackTrace" being node.null and no_members)) (rule log_entry) → ⊥
 wrong_stack_trace_misfits_log_entry = misfits_by 1000 refl
 
 -- ---- LocalValue and RemoteValue
 
 -- `{"type":"array","value":[],"handle":"h"}` fits RemoteObjectReference, with type and value as extensions
-pub array_with_a_handle_fits_reference : Fits (mapped ("type" being word "array" and "value" being listed [] and "handle" being word "h" and no_members)) (rule remote_object_reference)
+pub array_with_a_handle_fits_reference : Fits (mapped ("type" being word "array" and "value" being listed [] and "handle" being word "h" and no_members))
+    (rule remote_object_reference)
 array_with_a_handle_fits_reference = fits_by 1000 refl
 
 -- it does not fit SharedReference, which has to have a sharedId
-pub array_with_a_handle_misfits_shared_reference : Fits (mapped ("type" being word "array" and "value" being listed [] and "handle" being word "h" and no_members)) (rule shared_reference) → ⊥
+pub array_with_a_handle_misfits_shared_reference : Fits
+    (mapped ("type" being word "array" and "value" being listed [] and "handle" being word "h" and no_members)) (rule shared_reference) → ⊥
 array_with_a_handle_misfits_shared_reference = misfits_by 1000 refl
 
 -- so it fits LocalValue, as a Reference
-pub array_with_a_handle_fits_local_value : Fits (mapped ("type" being word "array" and "value" being listed [] and "handle" being word "h" and no_members)) (rule local_value)
+pub array_with_a_handle_fits_local_value : Fits
+    (mapped ("type" being word "array" and "value" being listed [] and "handle" being word "h" and no_members)) (rule local_value)
 array_with_a_handle_fits_local_value = fits_by 1000 refl
 
 -- with `"handle":5` it fits no LocalValue: that is no reference, and the array is closed
-pub array_with_a_wrong_handle_misfits_local_value : Fits (mapped ("type" being word "array" and "value" being listed [] and "handle" being number 5 and no_members)) (rule local_value) → ⊥
+pub array_with_a_wrong_handle_misfits_local_value : Fits
+    (mapped ("type" being word "array" and "value" being listed [] and "handle" being number 5 and no_members)) (rule local_value) → ⊥
 array_with_a_wrong_handle_misfits_local_value = misfits_by 1000 refl
 
 -- `{"type":"undefined"}` fits Primitive
@@ -378,7 +406,8 @@ pub undefined_with_a_handle_fits_reference : Fits (mapped ("type" being word "un
 undefined_with_a_handle_fits_reference = fits_by 1000 refl
 
 -- it does not fit RemoteValue, which knows no references
-pub undefined_with_a_handle_misfits_remote_value : Fits (mapped ("type" being word "undefined" and "handle" being word "h" and no_members)) (rule remote_value) → ⊥
+pub undefined_with_a_handle_misfits_remote_value : Fits (mapped ("type" being word "undefined" and "handle" being word "h" and no_members))
+    (rule remote_value) → ⊥
 undefined_with_a_handle_misfits_remote_value = misfits_by 1000 refl
 
 -- `{"type":"symbol","handle":"h"}` fits RemoteValue
@@ -386,7 +415,8 @@ pub symbol_with_a_handle_fits_remote_value : Fits (mapped ("type" being word "sy
 symbol_with_a_handle_fits_remote_value = fits_by 1000 refl
 
 -- with a further member it does not
-pub symbol_with_a_further_member_misfits_remote_value : Fits (mapped ("type" being word "symbol" and "handle" being word "h" and "x" being node.null and no_members)) (rule remote_value) → ⊥
+pub symbol_with_a_further_member_misfits_remote_value : Fits
+    (mapped ("type" being word "symbol" and "handle" being word "h" and "x" being node.null and no_members)) (rule remote_value) → ⊥
 symbol_with_a_further_member_misfits_remote_value = misfits_by 1000 refl
 
 -- `{"type":"number","value":"NaN"}` fits Primitive
@@ -465,21 +495,25 @@ pub params_of_another_command_misfit : Fits (command_of (number 1) "script.getRe
 params_of_another_command_misfit = misfits_by 1000 refl
 
 -- a command may have a further member
-pub command_with_a_further_member_fits : Fits (mapped ("id" being number 1 and "method" being word "session.end" and "params" being mapped no_members and "x" being node.null and no_members)) (rule command)
+pub command_with_a_further_member_fits : Fits (mapped ("id" being number 1 and "method" being word "session.end" and "params" being mapped
+    no_members and "x" being node.null and no_members)) (rule command)
 command_with_a_further_member_fits = fits_by 1000 refl
 
 -- ---- messages
 
 -- a response fits Message
-pub response_fits_message : Fits (mapped ("type" being word "success" and "id" being number 1 and "result" being mapped no_members and no_members)) (rule message)
+pub response_fits_message : Fits
+    (mapped ("type" being word "success" and "id" being number 1 and "result" being mapped no_members and no_members)) (rule message)
 response_fits_message = fits_by 1000 refl
 
 -- so does an event
-pub event_fits_message : Fits (mapped ("type" being word "event" and "method" being word "script.realmDestroyed" and "params" being mapped ("realm" being word "r" and no_members) and no_members)) (rule message)
+pub event_fits_message : Fits (mapped ("type" being word "event" and "method" being word "script.realmDestroyed" and "params" being mapped
+    ("realm" being word "r" and no_members) and no_members)) (rule message)
 event_fits_message = fits_by 1000 refl
 
 -- an event of another name does not
-pub event_of_another_name_misfits_message : Fits (mapped ("type" being word "event" and "method" being word "browsingContext.navigationFailed" and "params" being mapped ("realm" being word "r" and no_members) and no_members)) (rule message) → ⊥
+pub event_of_another_name_misfits_message : Fits (mapped ("type" being word "event" and "method" being word
+    "browsingContext.navigationFailed" and "params" being mapped ("realm" being word "r" and no_members) and no_members)) (rule message) → ⊥
 event_of_another_name_misfits_message = misfits_by 1000 refl
 
 -- `{"text":"o","argument":0}` fits TableRow
@@ -487,5 +521,6 @@ pub table_row_fits : Fits (mapped ("text" being word "o" and "argument" being nu
 table_row_fits = fits_by 1000 refl
 
 -- with returns beside it does not
-pub table_row_of_two_kinds_misfits : Fits (mapped ("text" being word "o" and "argument" being number 0 and "returns" being mapped ("type" being word "undefined" and no_members) and no_members)) (rule table_row) → ⊥
+pub table_row_of_two_kinds_misfits : Fits (mapped ("text" being word "o" and "argument" being number 0 and "returns" being mapped
+    ("type" being word "undefined" and no_members) and no_members)) (rule table_row) → ⊥
 table_row_of_two_kinds_misfits = misfits_by 1000 refl

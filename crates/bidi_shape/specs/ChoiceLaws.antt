@@ -68,7 +68,8 @@ EitherSame s t (First a) (Second b) = ⊥
 EitherSame s t (Second a) (First b) = ⊥
 EitherSame s t (Second a) (Second b) = t.same a b
 
-pub either_fits : {A B : Type 0} (s : ShapeOf A) (t : ShapeOf B) (v : Either A B) → EitherWell s t v → Fits (either_tree s.tree_of t.tree_of v) (either s.rule t.rule)
+pub either_fits : {A B : Type 0} (s : ShapeOf A) (t : ShapeOf B) (v : Either A B)
+    → EitherWell s t v → Fits (either_tree s.tree_of t.tree_of v) (either s.rule t.rule)
 either_fits s t (First a) w = fits_first (s.tree_of a) s.rule t.rule (s.fits a w)
 either_fits s t (Second b) w = fits_second (t.tree_of b) s.rule t.rule (t.fits b w.0)
 
@@ -79,7 +80,8 @@ either_one s t (First a) (Second b) v w e = w.1 (subst (λ x. Fits x s.rule) e (
 either_one s t (Second a) (First b) v w e = v.1 (subst (λ x. Fits x s.rule) (sym e) (s.fits b w))
 either_one s t (Second a) (Second b) v w e = t.one_value a b v.0 w.0 e
 
-pub either_whole : {A B : Type 0} (s : ShapeOf A) (t : ShapeOf B) (v : Either A B) → EitherWell s t v → IsWhole (either_tree s.tree_of t.tree_of v) (max s.deepest t.deepest)
+pub either_whole : {A B : Type 0} (s : ShapeOf A) (t : ShapeOf B) (v : Either A B)
+    → EitherWell s t v → IsWhole (either_tree s.tree_of t.tree_of v) (max s.deepest t.deepest)
 either_whole s t (First a) w = whole_within (s.tree_of a) s.deepest (max s.deepest t.deepest) (omega arith) (s.whole a w)
 either_whole s t (Second b) w = whole_within (t.tree_of b) t.deepest (max s.deepest t.deepest) (omega arith) (t.whole b w.0)
 

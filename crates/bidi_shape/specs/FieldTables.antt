@@ -27,7 +27,11 @@ required_table s t = record {
   parts_fit = λ ks ws f w. (s.fits f.0 w.0, t.parts_fit (tail ks) ws f.1 w.1);
   one = λ ws f g a b e o. (s.one_value f.0 g.0 a.0 b.0 (same_some (same_head e)), t.one ws f.1 g.1 a.1 b.1 (same_tail e) o);
   deepest = max s.deepest t.deepest;
-  whole = λ ws f w. (whole_within (s.tree_of f.0) s.deepest (max s.deepest t.deepest) (omega arith) (s.whole f.0 w.0), parts_within (t.parts ws f.1) t.deepest (max s.deepest t.deepest) (omega arith) (t.whole ws f.1 w.1));
+  whole =
+      λ ws f w. (
+        whole_within (s.tree_of f.0) s.deepest (max s.deepest t.deepest) (omega arith) (s.whole f.0 w.0),
+        parts_within (t.parts ws f.1) t.deepest (max s.deepest t.deepest) (omega arith) (t.whole ws f.1 w.1),
+      );
 }
 
 -- a member that may be there
@@ -42,7 +46,10 @@ optional_table s t = record {
   parts_fit = λ ks ws f w. (optional_fits s.tree_of s.well s.rule s.fits f.0 w.0, t.parts_fit (tail ks) ws f.1 w.1);
   one = λ ws f g a b e o. (optional_one s.tree_of s.well s.same s.one_value f.0 g.0 a.0 b.0 (same_head e), t.one ws f.1 g.1 a.1 b.1 (same_tail e) o);
   deepest = max s.deepest t.deepest;
-  whole = λ ws f w. optional_whole s.tree_of s.well (max s.deepest t.deepest) (λ v x. whole_within (s.tree_of v) s.deepest (max s.deepest t.deepest) (omega arith) (s.whole v x)) f.0 w.0 (t.parts ws f.1) (parts_within (t.parts ws f.1) t.deepest (max s.deepest t.deepest) (omega arith) (t.whole ws f.1 w.1));
+  whole =
+      λ ws f w. optional_whole s.tree_of s.well (max s.deepest t.deepest)
+      (λ v x. whole_within (s.tree_of v) s.deepest (max s.deepest t.deepest) (omega arith) (s.whole v x)) f.0 w.0 (t.parts ws f.1)
+      (parts_within (t.parts ws f.1) t.deepest (max s.deepest t.deepest) (omega arith) (t.whole ws f.1 w.1));
 }
 
 -- a member that is a given text

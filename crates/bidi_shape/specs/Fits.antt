@@ -6,7 +6,8 @@ use Rattle.bidi_tree.specs.Number.{IsJsUint, IsJsInt}
 use Rattle.bidi_tree.specs.Node as node
 use Rattle.bidi_tree.specs.Node.{Node, Items, no_items, item, Members, no_members, member, get_member, levels, IsWhole, MembersAreWhole}
 use Rattle.bidi_shape.specs.Name.{Name}
-use Rattle.bidi_shape.specs.Term.{Need, optional, Openness, extensible, closed, Term, exactly, text, bool, null, js_uint, js_int, any, list_of, pair_of, map_of, either, rule, capped, Rows, no_more, row, names_of}
+use Rattle.bidi_shape.specs.Term.{Need, optional, Openness, extensible, closed, Term, exactly, text, bool, null, js_uint, js_int}
+use Rattle.bidi_shape.specs.Term.{any, list_of, pair_of, map_of, either, rule, capped, Rows, no_more, row, names_of}
 use Rattle.bidi_shape.specs.Profile.{term_of}
 
 -- how many items
@@ -50,5 +51,6 @@ mutual
   -- each required name is there, and each row's name that is there has a value that fits: that is the cut
   pub data RowsFit : Members → Rows → Type 0 where
     no_row : (ms : Members) → RowsFit ms no_more
-    there : (ms : Members) (k : List ℕ) (need : Need) (τ : Term) (rows : Rows) (t : Node) → get_member k ms ≡ Some t → Fits t τ → RowsFit ms rows → RowsFit ms (row k need τ rows)
+    there : (ms : Members) (k : List ℕ) (need : Need) (τ : Term) (rows : Rows) (t : Node)
+        → get_member k ms ≡ Some t → Fits t τ → RowsFit ms rows → RowsFit ms (row k need τ rows)
     absent : (ms : Members) (k : List ℕ) (τ : Term) (rows : Rows) → get_member k ms ≡ None → RowsFit ms rows → RowsFit ms (row k optional τ rows)

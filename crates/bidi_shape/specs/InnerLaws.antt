@@ -20,7 +20,8 @@ RowsFit-more (there m l n ρ rest u e f more) = more
 RowsFit-more (absent m l ρ rest e more) = more
 
 -- what follows of the rows behind a row follows of all
-pub RowsFit-row : {k : List ℕ} {need : Need} {σ : Term} {rs qs : Rows} {ms : Members} → (RowsFit ms qs → RowsFit ms rs) → RowsFit ms (row k need σ qs) → RowsFit ms (row k need σ rs)
+pub RowsFit-row : {k : List ℕ} {need : Need} {σ : Term} {rs qs : Rows} {ms : Members}
+    → (RowsFit ms qs → RowsFit ms rs) → RowsFit ms (row k need σ qs) → RowsFit ms (row k need σ rs)
 RowsFit-row {rs} go (there m l n ρ rest u e f more) = there m l n ρ rs u e f (go more)
 RowsFit-row {rs} go (absent m l ρ rest e more) = absent m l ρ rs e (go more)
 
@@ -31,7 +32,8 @@ pub member_levels : (k : List ℕ) (t : Node) (ms : Members) → get_member k ms
 member_levels k t no_members e = cc
 member_levels k t (member l u ms) e = go (slice_cmp nat_cmp k l) (member_levels k t ms) e
   where
-    go : (o : Ordering) → (get_member k ms ≡ Some t → levels t ≤ members_levels ms) → match_ordering o (get_member k ms) (Some u) (get_member k ms) ≡ Some t → levels t ≤ max (levels u) (members_levels ms)
+    go : (o : Ordering) → (get_member k ms ≡ Some t → levels t ≤ members_levels ms)
+        → match_ordering o (get_member k ms) (Some u) (get_member k ms) ≡ Some t → levels t ≤ max (levels u) (members_levels ms)
     go Less ih e = omega (arith, ih e)
     go Equal ih e = let same : u ≡ t = cc in rw (← same) (omega arith)
     go Greater ih e = omega (arith, ih e)

@@ -20,7 +20,8 @@ SameEach same [] (y ∷ ys) = ⊥
 SameEach same (x ∷ xs) [] = ⊥
 SameEach same (x ∷ xs) (y ∷ ys) = same x y × SameEach same xs ys
 
-all_fit : {X : Type 0} (tree_of : X → Node) (well : X → Type 0) (τ : Term) → ((v : X) → well v → Fits (tree_of v) τ) → (xs : List X) → AllByRecursion well xs → AllFit (items_of (map tree_of xs)) τ
+all_fit : {X : Type 0} (tree_of : X → Node) (well : X → Type 0) (τ : Term)
+    → ((v : X) → well v → Fits (tree_of v) τ) → (xs : List X) → AllByRecursion well xs → AllFit (items_of (map tree_of xs)) τ
 all_fit tree_of well τ fits [] w = no_item τ
 all_fit tree_of well τ fits (x ∷ xs) w = an_item (tree_of x) (items_of (map tree_of xs)) τ (fits x w.0) (all_fit tree_of well τ fits xs w.1)
 
@@ -33,7 +34,8 @@ pub list_fits : {X : Type 0} (tree_of : X → Node) (well : X → Type 0) (τ : 
 list_fits tree_of well τ fits least xs h w =
     fits_list (items_of (map tree_of xs)) least τ (subst (λ n. least ≤ n) (sym (count-items_of tree_of xs)) h) (all_fit tree_of well τ fits xs w)
 
-same_each : {X : Type 0} (tree_of : X → Node) (well : X → Type 0) (same : X → X → Type 0) (one : (v w : X) → well v → well w → tree_of v ≡ tree_of w → same v w) (xs ys : List X)
+same_each : {X : Type 0} (tree_of : X → Node) (well : X → Type 0) (same : X → X → Type 0)
+    (one : (v w : X) → well v → well w → tree_of v ≡ tree_of w → same v w) (xs ys : List X)
     → AllByRecursion well xs → AllByRecursion well ys → items_of (map tree_of xs) ≡ items_of (map tree_of ys) → SameEach same xs ys
 same_each tree_of well same one [] [] v w e = tt
 same_each tree_of well same one [] (y ∷ ys) v w e = cc
@@ -43,7 +45,8 @@ same_each tree_of well same one (x ∷ xs) (y ∷ ys) v w e =
     let rest : items_of (map tree_of xs) ≡ items_of (map tree_of ys) = cc in
     (one x y v.0 w.0 first, same_each tree_of well same one xs ys v.1 w.1 rest)
 
-pub list_one : {X : Type 0} (tree_of : X → Node) (well : X → Type 0) (same : X → X → Type 0) (one : (v w : X) → well v → well w → tree_of v ≡ tree_of w → same v w) (xs ys : List X)
+pub list_one : {X : Type 0} (tree_of : X → Node) (well : X → Type 0) (same : X → X → Type 0)
+    (one : (v w : X) → well v → well w → tree_of v ≡ tree_of w → same v w) (xs ys : List X)
     → AllByRecursion well xs → AllByRecursion well ys → list_tree tree_of xs ≡ list_tree tree_of ys → SameEach same xs ys
 list_one tree_of well same one xs ys v w e =
     let inside : items_of (map tree_of xs) ≡ items_of (map tree_of ys) = cc in
@@ -67,7 +70,8 @@ second_same t u x y e = cc
 -- ---- for readers
 
 -- a tree that fits a pair is a list of two
-pub pair_fitting : {t : Node} {σ τ : Term} → Fits t (pair_of σ τ) → (u : Node) × (v : Node) × (list_in t ≡ Some (item u (item v no_items))) × Fits u σ × Fits v τ
+pub pair_fitting : {t : Node} {σ τ : Term}
+    → Fits t (pair_of σ τ) → (u : Node) × (v : Node) × (list_in t ≡ Some (item u (item v no_items))) × Fits u σ × Fits v τ
 pair_fitting (fits_pair t u σ τ f g) = (t, u, refl, f, g)
 
 pub two_items : {X : Type 0} (tree_of : X → Node) (xs : List X) (u v : Node) → items_of (map tree_of xs) ≡ item u (item v no_items) → length xs ≡ 2
@@ -77,7 +81,8 @@ two_items tree_of (a ∷ b ∷ []) u v e = refl
 two_items tree_of (a ∷ b ∷ c ∷ xs) u v e = cc
 
 -- a pair's items are the first and the second
-pub pair_at : {X : Type 0} (tree_of : X → Node) (xs : List X) (u v : Node) (d : X) → items_of (map tree_of xs) ≡ item u (item v no_items) → (tree_of (get_or xs 0 d) ≡ u) × (tree_of (get_or xs 1 d) ≡ v)
+pub pair_at : {X : Type 0} (tree_of : X → Node) (xs : List X) (u v : Node) (d : X)
+    → items_of (map tree_of xs) ≡ item u (item v no_items) → (tree_of (get_or xs 0 d) ≡ u) × (tree_of (get_or xs 1 d) ≡ v)
 pair_at tree_of [] u v d e = cc
 pair_at tree_of (a ∷ []) u v d e = cc
 pair_at tree_of (a ∷ b ∷ []) u v d e =
@@ -86,7 +91,8 @@ pair_at tree_of (a ∷ b ∷ []) u v d e =
     (first, second)
 pair_at tree_of (a ∷ b ∷ c ∷ xs) u v d e = cc
 
-pub AllFit-at : {X : Type 0} (tree_of : X → Node) (τ : Term) (xs : List X) (i : ℕ) (d : X) → i < length xs → AllFit (items_of (map tree_of xs)) τ → Fits (tree_of (get_or xs i d)) τ
+pub AllFit-at : {X : Type 0} (tree_of : X → Node) (τ : Term) (xs : List X) (i : ℕ) (d : X)
+    → i < length xs → AllFit (items_of (map tree_of xs)) τ → Fits (tree_of (get_or xs i d)) τ
 AllFit-at tree_of τ [] i d h a = absurd (omega arith)
 AllFit-at tree_of τ (x ∷ xs) zero d h (an_item n m σ f a) = f
 AllFit-at tree_of τ (x ∷ xs) (suc i) d h (an_item n m σ f a) = AllFit-at tree_of τ xs i d (omega arith) a

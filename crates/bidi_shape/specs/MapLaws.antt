@@ -1,5 +1,6 @@
 -- Laws of maps: members, the parts that rows name, and the others.
-use Rattle.std.proofs.Common.{◌≡◌, ◌≢◌, ℕ, List, [], ◌∷◌, Bool, true, false, ◌&&◌, ◌||◌, not, Option, Some, None, Ordering, Less, Equal, Greater, nat_cmp, is_eq, cond, bytes_eq, true≢false, refl, sym, ap, ◌∙◌, subst, ◌⊎◌, inl, inr}
+use Rattle.std.proofs.Common.{◌≡◌, ◌≢◌, ℕ, List, [], ◌∷◌, Bool, true, false, ◌&&◌, ◌||◌, not, Option, Some, None, Ordering, Less, Equal}
+use Rattle.std.proofs.Common.{Greater, nat_cmp, is_eq, cond, bytes_eq, true≢false, refl, sym, ap, ◌∙◌, subst, ◌⊎◌, inl, inr}
 use Rattle.std.proofs.lemmas.Bool.{or_parts}
 use Rattle.std.proofs.lemmas.Cmp.{nat_list_cmp_total}
 use Rattle.std.proofs.lemmas.Map.Text.{is_eq-slice_cmp}
@@ -66,7 +67,8 @@ pub at-without_named : (ks : List (List ℕ)) (q : List ℕ) (ms : Members) → 
 at-without_named ks q no_members y = refl
 at-without_named ks q (member l t ms) y = at_left_out ks q l t (without ks ms) (is_named ks l) refl y (at-without_named ks q ms y)
 
-without_put_at : (ks : List (List ℕ)) (k l : List ℕ) (t u : Node) (ms ns : Members) (o : Ordering) → slice_cmp nat_cmp k l ≡ o → is_named ks k ≡ true → without ks ns ≡ without ks ms
+without_put_at : (ks : List (List ℕ)) (k l : List ℕ) (t u : Node) (ms ns : Members) (o : Ordering)
+    → slice_cmp nat_cmp k l ≡ o → is_named ks k ≡ true → without ks ns ≡ without ks ms
     → without ks (match_ordering o (member k t (member l u ms)) (member l t ms) (member l u ns)) ≡ without ks (member l u ms)
 without_put_at ks k l t u ms ns Less e y ih = rw y
 without_put_at ks k l t u ms ns Equal e y ih =
@@ -119,7 +121,8 @@ Sorted-joined no_more ps others s = s
 Sorted-joined (row k need τ rs) [] others s = s
 Sorted-joined (row k need τ rs) (p ∷ ps) others s = AreAscending-put_part k p (joined rs ps others) (Sorted-joined rs ps others s)
 
-pub at-joined_other : (rs : Rows) (ps : List (Option Node)) (others : Members) (q : List ℕ) → is_named (names_of rs) q ≡ false → get_member q (joined rs ps others) ≡ get_member q others
+pub at-joined_other : (rs : Rows) (ps : List (Option Node)) (others : Members) (q : List ℕ)
+    → is_named (names_of rs) q ≡ false → get_member q (joined rs ps others) ≡ get_member q others
 at-joined_other no_more ps others q n = refl
 at-joined_other (row k need τ rs) [] others q n = refl
 at-joined_other (row k need τ rs) (p ∷ ps) others q n =
@@ -145,7 +148,8 @@ Aligned-PartsAt no_more (p ∷ ps) ms f = f
 Aligned-PartsAt (row k need τ rs) [] ms f = f
 Aligned-PartsAt (row k need τ rs) (p ∷ ps) ms f = Aligned-PartsAt rs ps ms f.1
 
-PartsAt-put_part : (rs : Rows) (ps : List (Option Node)) (k : List ℕ) (p : Option Node) (ms : Members) → is_named (names_of rs) k ≡ false → PartsAt rs ps ms → PartsAt rs ps (put_part k p ms)
+PartsAt-put_part : (rs : Rows) (ps : List (Option Node)) (k : List ℕ) (p : Option Node) (ms : Members)
+    → is_named (names_of rs) k ≡ false → PartsAt rs ps ms → PartsAt rs ps (put_part k p ms)
 PartsAt-put_part no_more [] k p ms n f = tt
 PartsAt-put_part no_more (x ∷ ps) k p ms n f = f
 PartsAt-put_part (row l need τ rs) [] k p ms n f = f
@@ -176,12 +180,14 @@ PartsAt-joined (row k need τ rs) (p ∷ ps) others d a n =
       PartsAt-put_part rs ps k p (joined rs ps others) ds.0 ih,
     )
 
-pub without_joined_among : (ks : List (List ℕ)) (rs : Rows) (ps : List (Option Node)) (others : Members) → ((q : List ℕ) → is_named (names_of rs) q ≡ true → is_named ks q ≡ true)
+pub without_joined_among : (ks : List (List ℕ)) (rs : Rows) (ps : List (Option Node)) (others : Members)
+    → ((q : List ℕ) → is_named (names_of rs) q ≡ true → is_named ks q ≡ true)
     → without ks (joined rs ps others) ≡ without ks others
 without_joined_among ks no_more ps others h = refl
 without_joined_among ks (row k need τ rs) [] others h = refl
 without_joined_among ks (row k need τ rs) (p ∷ ps) others h =
-    without-put_part ks k p (joined rs ps others) (h k (named_first (names_of rs) k)) ∙ without_joined_among ks rs ps others (λ q y. h q (named_later k (names_of rs) q y))
+    without-put_part ks k p (joined rs ps others) (h k (named_first (names_of rs) k))
+    ∙ without_joined_among ks rs ps others (λ q y. h q (named_later k (names_of rs) q y))
 
 pub without-joined : (rs : Rows) (ps : List (Option Node)) (others : Members) → without (names_of rs) (joined rs ps others) ≡ without (names_of rs) others
 without-joined rs ps others = without_joined_among (names_of rs) rs ps others (λ q y. y)
@@ -207,12 +213,16 @@ map_fits rs o ps others d f e h =
     let a = PartsAt-joined rs ps others d (Aligned-PartsFit rs ps f) (unnamed (names_of rs) others e) in
     fits_map (joined rs ps others) rs o (RowsFit-PartsAt rs ps (joined rs ps others) a f) (subst (OthersFit o) (sym (without-joined rs ps others ∙ e)) h)
 
-agree_at : (k q : List ℕ) (p : Option Node) (xs ys : Members) (rest : Bool) → get_member k xs ≡ p → get_member k ys ≡ p → (c : Bool) → bytes_eq q k ≡ c → (c || rest) ≡ true
+agree_at : (k q : List ℕ) (p : Option Node) (xs ys : Members) (rest : Bool)
+    → get_member k xs ≡ p → get_member k ys ≡ p → (c : Bool) → bytes_eq q k ≡ c → (c || rest) ≡ true
     → (rest ≡ true → get_member q xs ≡ get_member q ys) → get_member q xs ≡ get_member q ys
-agree_at k q p xs ys rest a b true e y more = let s : q ≡ k = (bytes_eq-Decides q k).0 e in ap (λ x. get_member x xs) s ∙ a ∙ sym b ∙ sym (ap (λ x. get_member x ys) s)
+agree_at k q p xs ys rest a b true e y more =
+    let s : q ≡ k = (bytes_eq-Decides q k).0 e in
+    ap (λ x. get_member x xs) s ∙ a ∙ sym b ∙ sym (ap (λ x. get_member x ys) s)
 agree_at k q p xs ys rest a b false e y more = more y
 
-PartsAt-agree : (rs : Rows) (ps : List (Option Node)) (xs ys : Members) (q : List ℕ) → PartsAt rs ps xs → PartsAt rs ps ys → is_named (names_of rs) q ≡ true → get_member q xs ≡ get_member q ys
+PartsAt-agree : (rs : Rows) (ps : List (Option Node)) (xs ys : Members) (q : List ℕ)
+    → PartsAt rs ps xs → PartsAt rs ps ys → is_named (names_of rs) q ≡ true → get_member q xs ≡ get_member q ys
 PartsAt-agree no_more ps xs ys q a b y = absurd (true≢false (sym y))
 PartsAt-agree (row k need τ rs) [] xs ys q a b y = absurd a
 PartsAt-agree (row k need τ rs) (p ∷ ps) xs ys q a b y =
@@ -223,11 +233,13 @@ pub map_again : (rs : Rows) (ps : List (Option Node)) (ms others : Members) → 
     → others ≡ without (names_of rs) ms → joined rs ps others ≡ ms
 map_again rs ps ms others d a s e =
     let left : AreAscending others = subst AreAscending (sym e) (Sorted-without (names_of rs) ms s) in
-    let none : (q : List ℕ) → is_named (names_of rs) q ≡ true → get_member q others ≡ None = λ q y. ap (get_member q) e ∙ at-without_named (names_of rs) q ms y in
+    let none : (q : List ℕ) → is_named (names_of rs) q ≡ true → get_member q others ≡ None =
+    λ q y. ap (get_member q) e ∙ at-without_named (names_of rs) q ms y in
     let b = PartsAt-joined rs ps others d (Aligned-PartsAt rs ps ms a) none in
     same_members (joined rs ps others) ms (Sorted-joined rs ps others left) s (λ q. by_name q (is_named (names_of rs) q) refl b)
   where
-    by_name : (q : List ℕ) (c : Bool) → is_named (names_of rs) q ≡ c → PartsAt rs ps (joined rs ps others) → get_member q (joined rs ps others) ≡ get_member q ms
+    by_name : (q : List ℕ) (c : Bool)
+        → is_named (names_of rs) q ≡ c → PartsAt rs ps (joined rs ps others) → get_member q (joined rs ps others) ≡ get_member q ms
     by_name q true y b = PartsAt-agree rs ps (joined rs ps others) ms q b a y
     by_name q false n b = at-joined_other rs ps others q n ∙ ap (get_member q) e ∙ at-without_other (names_of rs) q ms n
 
@@ -256,7 +268,8 @@ map_one rs ps qs xs ys d x y ea eb e =
 pub map_inside : {rs : Rows} {o : Openness} {ms : Members} → Fits (tree.map ms) (map_of rs o) → RowsFit ms rs × OthersFit o (without (names_of rs) ms)
 map_inside (fits_map m r p x h) = (x, h)
 
-twice_at : (ks : List (List ℕ)) (l : List ℕ) (t : Node) (ns : Members) (b : Bool) → is_named ks l ≡ b → without ks ns ≡ ns → without ks (cond b ns (member l t ns)) ≡ cond b ns (member l t ns)
+twice_at : (ks : List (List ℕ)) (l : List ℕ) (t : Node) (ns : Members) (b : Bool)
+    → is_named ks l ≡ b → without ks ns ≡ ns → without ks (cond b ns (member l t ns)) ≡ cond b ns (member l t ns)
 twice_at ks l t ns true e ih = ih
 twice_at ks l t ns false e ih = rw (e, ih)
 

@@ -2,8 +2,19 @@
 -- After WebDriver BiDi, "Protocol" and the CDDL of its modules; the profile is this project's own.
 use Prim.Native.String.{String}
 use Rattle.std.specs.Prelude.{List, [], ◌∷◌}
-use Rattle.bidi_shape.specs.Name.{Name, empty_params, empty_result, command, message, command_response, error_response, event, error_code, status_result, new_parameters, capabilities_request, capability_request, new_result, capabilities, subscribe_parameters, subscribe_result, unsubscribe_parameters, unsubscribe_by_id, unsubscribe_by_events, info, navigation_info, wait, activate_parameters, close_parameters, create_parameters, create_result, get_tree_parameters, get_tree_result, navigate_parameters, reload_parameters, navigate_result, traverse_history_parameters, target, context_target, realm_target, ownership, evaluate_parameters, call_function_parameters, disown_parameters, get_realms_parameters, realm_type, get_realms_result, realm_info, realm_destroyed_parameters, primitive, reg_exp_value, reference, shared_reference, remote_object_reference, local_value, local_pair, remote_value, remote_pair, opaque, evaluate_result, exception_details, stack_trace, stack_frame, source, table_row, log_entry, console_entry, javascript_entry, generic_log_entry}
-use Rattle.bidi_shape.specs.Term.{Term, Rows, no_more, text, bool, null, js_uint, js_int, pair_of, rule, capped, ◌is◌and◌, ◌may_be◌and◌, ◌or◌, the, any_number_of, at_least_one, open_map, closed_map}
+use Rattle.bidi_shape.specs.Name.{Name, empty_params, empty_result, command, message, command_response, error_response, event, error_code}
+use Rattle.bidi_shape.specs.Name.{status_result, new_parameters, capabilities_request, capability_request, new_result, capabilities}
+use Rattle.bidi_shape.specs.Name.{subscribe_parameters, subscribe_result, unsubscribe_parameters, unsubscribe_by_id, unsubscribe_by_events}
+use Rattle.bidi_shape.specs.Name.{info, navigation_info, wait, activate_parameters, close_parameters, create_parameters, create_result}
+use Rattle.bidi_shape.specs.Name.{get_tree_parameters, get_tree_result, navigate_parameters, reload_parameters, navigate_result}
+use Rattle.bidi_shape.specs.Name.{traverse_history_parameters, target, context_target, realm_target, ownership, evaluate_parameters}
+use Rattle.bidi_shape.specs.Name.{call_function_parameters, disown_parameters, get_realms_parameters, realm_type, get_realms_result}
+use Rattle.bidi_shape.specs.Name.{realm_info, realm_destroyed_parameters, primitive, reg_exp_value, reference, shared_reference}
+use Rattle.bidi_shape.specs.Name.{remote_object_reference, local_value, local_pair, remote_value, remote_pair, opaque, evaluate_result}
+use Rattle.bidi_shape.specs.Name.{exception_details, stack_trace, stack_frame, source, table_row, log_entry, console_entry}
+use Rattle.bidi_shape.specs.Name.{javascript_entry, generic_log_entry}
+use Rattle.bidi_shape.specs.Term.{Term, Rows, no_more, text, bool, null, js_uint, js_int, pair_of, rule, capped, ◌is◌and◌}
+use Rattle.bidi_shape.specs.Term.{◌may_be◌and◌, ◌or◌, the, any_number_of, at_least_one, open_map, closed_map}
 
 -- ---- commands and events
 

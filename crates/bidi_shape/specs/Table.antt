@@ -5,7 +5,8 @@ use Rattle.std.specs.Result.{IsErrAnd}
 use Rattle.bidi_tree.specs.Node as tree
 use Rattle.bidi_tree.specs.Node.{Node, Members, get_member, AreAscending}
 use Rattle.bidi_shape.specs.Name.{Name}
-use Rattle.bidi_shape.specs.Term.{Term, Openness, Rows, no_more, names_of, map_of, rule, exactly, text, bool, null, js_uint, js_int, any, list_of, pair_of, either, capped}
+use Rattle.bidi_shape.specs.Term.{Term, Openness, Rows, no_more, names_of, map_of, rule, exactly, text, bool}
+use Rattle.bidi_shape.specs.Term.{null, js_uint, js_int, any, list_of, pair_of, either, capped}
 use Rattle.bidi_shape.specs.Value.{ShapeOf}
 use Rattle.bidi_shape.specs.Profile.{term_of}
 use Rattle.bidi_shape.specs.Fits.{Fits, fits_rule, RowsFit, OthersFit, without}
@@ -120,10 +121,12 @@ tree_by t ks ws f = table_tree (t.rows ks ws) (t.parts ws f) (t.others f)
 abbrev pub good_by : {F : Type 0} → Table F → List (List ℕ) → List (List ℕ) → F → Type 0
 good_by t ks ws f = t.well f × TableWell (t.rows ks ws) t.openness (t.others f)
 
-pub fits_by : {F : Type 0} (t : Table F) (τ : Term) (ks ws : List (List ℕ)) → unfolded τ ≡ map_of (t.rows ks ws) t.openness → distinct (names_of (t.rows ks ws)) ≡ true
+pub fits_by : {F : Type 0} (t : Table F) (τ : Term) (ks ws : List (List ℕ))
+    → unfolded τ ≡ map_of (t.rows ks ws) t.openness → distinct (names_of (t.rows ks ws)) ≡ true
     → (f : F) → good_by t ks ws f → Fits (tree_by t ks ws f) τ
 fits_by t τ ks ws is d f w =
-    fits_unfolded (tree_by t ks ws f) τ (subst (λ σ. Fits (tree_by t ks ws f) σ) (sym is) (map_fits (t.rows ks ws) t.openness (t.parts ws f) (t.others f) d (t.parts_fit ks ws f w.0) w.1.no_known w.1.may))
+    fits_unfolded (tree_by t ks ws f) τ (subst (λ σ. Fits (tree_by t ks ws f) σ) (sym is)
+    (map_fits (t.rows ks ws) t.openness (t.parts ws f) (t.others f) d (t.parts_fit ks ws f w.0) w.1.no_known w.1.may))
 
 pub one_by : {F : Type 0} (t : Table F) (ks ws : List (List ℕ)) → distinct (names_of (t.rows ks ws)) ≡ true
     → (f g : F) → good_by t ks ws f → good_by t ks ws g → tree_by t ks ws f ≡ tree_by t ks ws g → t.same f g
@@ -136,7 +139,8 @@ one_by t ks ws d f g a b e =
 -- ---- for readers
 
 -- a table that was read
-pub table_read : (ks : List (List ℕ)) (rs : Rows) (o : Openness) (ps : List (Option Node)) (ms others : Members) (t : Node) → IsTable ks rs → tree.map ms ≡ t → PartsAt rs ps ms → AreAscending ms
+pub table_read : (ks : List (List ℕ)) (rs : Rows) (o : Openness) (ps : List (Option Node)) (ms others : Members) (t : Node)
+    → IsTable ks rs → tree.map ms ≡ t → PartsAt rs ps ms → AreAscending ms
     → others ≡ without ks ms → OthersFit o others → (table_tree rs ps others ≡ t) × TableWell rs o others
 table_read ks rs o ps ms others t h is parts sorted rest may =
     let left : others ≡ without (names_of rs) ms = rest ∙ ap (λ x. without x ms) (sym h.names) in (
@@ -152,13 +156,16 @@ table_misfit ks rs o ms t h is bad f =
     bad p.0 (subst (λ x. OthersFit o (without x ms)) h.names p.1)
 
 -- the exits of a map's reader
-pub members_exit : {Y : Type 0} (t : Node) (τ : Term) (rs : Rows) (o : Openness) → unfolded τ ≡ map_of rs o → (e : ShapeFault) (r : Result Y ShapeFault) → IsErrAnd r (λ y. y ≡ e)
+pub members_exit : {Y : Type 0} (t : Node) (τ : Term) (rs : Rows) (o : Openness)
+    → unfolded τ ≡ map_of rs o → (e : ShapeFault) (r : Result Y ShapeFault) → IsErrAnd r (λ y. y ≡ e)
     → WhenNoFit e ((ss : Rows) (p : Openness) → Fits t (map_of ss p) → ⊥) → IfNoFit r (Fits t τ → ⊥)
 members_exit t τ rs o says e r was bad = handed_on e r was bad (λ f fit. f rs o (subst (λ σ. Fits t σ) says (unfolded_fits t τ fit)))
 
-pub fields_exit : {Y : Type 0} (ks : List (List ℕ)) (t : Node) (τ : Term) (rs : Rows) (o : Openness) (ms : Members) → IsTable ks rs → tree.map ms ≡ t → unfolded τ ≡ map_of rs o → (e : ShapeFault) (r : Result Y ShapeFault)
+pub fields_exit : {Y : Type 0} (ks : List (List ℕ)) (t : Node) (τ : Term) (rs : Rows) (o : Openness) (ms : Members)
+    → IsTable ks rs → tree.map ms ≡ t → unfolded τ ≡ map_of rs o → (e : ShapeFault) (r : Result Y ShapeFault)
     → IsErrAnd r (λ y. y ≡ e) → WhenNoFit e (RowsFit ms rs → OthersFit o (without ks ms) → ⊥) → IfNoFit r (Fits t τ → ⊥)
-fields_exit ks t τ rs o ms h is says e r was bad = handed_on e r was bad (λ f fit. table_misfit ks rs o ms t h is f (subst (λ σ. Fits t σ) says (unfolded_fits t τ fit)))
+fields_exit ks t τ rs o ms h is says e r was bad =
+    handed_on e r was bad (λ f fit. table_misfit ks rs o ms t h is f (subst (λ σ. Fits t σ) says (unfolded_fits t τ fit)))
 
 -- the rows of a map's term
 abbrev pub rows_in : Term → Rows
@@ -180,7 +187,8 @@ abbrev pub names_in : Term → List (List ℕ)
 names_in τ = names_of (rows_in (unfolded τ))
 
 -- the shape of a type whose values are a map's
-abbrev pub map_shape : {V F : Type 0} (τ : Term) (t : Table F) (ws : List (List ℕ)) (m : V → F) → unfolded τ ≡ map_of (t.rows (names_in τ) ws) t.openness → distinct (names_of (t.rows (names_in τ) ws)) ≡ true → ShapeOf V
+abbrev pub map_shape : {V F : Type 0} (τ : Term) (t : Table F) (ws : List (List ℕ)) (m : V → F)
+    → unfolded τ ≡ map_of (t.rows (names_in τ) ws) t.openness → distinct (names_of (t.rows (names_in τ) ws)) ≡ true → ShapeOf V
 map_shape τ t ws m is d = record {
   rule = τ;
   tree_of = λ v. tree_by t (names_in τ) ws (m v);

@@ -19,11 +19,13 @@ SameOption same None (Some y) = ⊥
 SameOption same (Some x) None = ⊥
 SameOption same (Some x) (Some y) = same x y
 
-pub optional_fits : {X : Type 0} (tree_of : X → Node) (well : X → Type 0) (τ : Term) → ((v : X) → well v → Fits (tree_of v) τ) → (o : Option X) → IfSome o well → PartFits optional τ (option_map tree_of o)
+pub optional_fits : {X : Type 0} (tree_of : X → Node) (well : X → Type 0) (τ : Term)
+    → ((v : X) → well v → Fits (tree_of v) τ) → (o : Option X) → IfSome o well → PartFits optional τ (option_map tree_of o)
 optional_fits tree_of well τ fits None w = tt
 optional_fits tree_of well τ fits (Some v) w = fits v w
 
-pub optional_one : {X : Type 0} (tree_of : X → Node) (well : X → Type 0) (same : X → X → Type 0) → ((v w : X) → well v → well w → tree_of v ≡ tree_of w → same v w)
+pub optional_one : {X : Type 0} (tree_of : X → Node) (well : X → Type 0) (same : X → X → Type 0)
+    → ((v w : X) → well v → well w → tree_of v ≡ tree_of w → same v w)
     → (o p : Option X) → IfSome o well → IfSome p well → option_map tree_of o ≡ option_map tree_of p → SameOption same o p
 optional_one tree_of well same one None None v w e = tt
 optional_one tree_of well same one None (Some y) v w e = cc

@@ -1,12 +1,14 @@
 -- No Odd stands in the trees of values, and how many levels they have at most.
-use Rattle.std.proofs.Common.{◌≡◌, ◌≤◌, ℕ, suc, max, List, [], ◌∷◌, Option, Some, None, Ordering, Less, Equal, Greater, nat_cmp, ◌||◌, false, refl, map, option_map, sym, subst, arith}
+use Rattle.std.proofs.Common.{◌≡◌, ◌≤◌, ℕ, suc, max, List, [], ◌∷◌, Option, Some, None, Ordering, Less, Equal}
+use Rattle.std.proofs.Common.{Greater, nat_cmp, ◌||◌, false, refl, map, option_map, sym, subst, arith}
 use Rattle.std.proofs.lemmas.Bool.{or_parts, or_from}
 use Rattle.std.specs.Prelude.{IfSome}
 use Rattle.std.specs.Cmp.Lexicographic.{slice_cmp}
 use Rattle.std.specs.Ordering.{match_ordering}
 use Rattle.std.specs.List.{AllByRecursion}
 use Rattle.bidi_tree.specs.Node as tree
-use Rattle.bidi_tree.specs.Node.{Node, Members, no_members, member, put, levels, items_levels, members_levels, has_odd, items_have_odd, members_have_odd, IsWhole, MembersAreWhole}
+use Rattle.bidi_tree.specs.Node.{Node, Members, no_members, member, put, levels, items_levels, members_levels}
+use Rattle.bidi_tree.specs.Node.{has_odd, items_have_odd, members_have_odd, IsWhole, MembersAreWhole}
 use Rattle.bidi_tree.specs.View.{items_of}
 use Rattle.bidi_shape.specs.Term.{Openness, extensible, closed, Rows, no_more, row}
 use Rattle.bidi_shape.specs.Fits.{OthersFit}
@@ -35,7 +37,8 @@ parts_within (Some t ∷ ps) m n h w = (whole_within t m n h w.0, parts_within p
 
 -- ---- members
 
-no_odd_at : (o : Ordering) (k l : List ℕ) (t u : Node) (ms ns : Members) → has_odd t ≡ false → has_odd u ≡ false → members_have_odd ms ≡ false → members_have_odd ns ≡ false
+no_odd_at : (o : Ordering) (k l : List ℕ) (t u : Node) (ms ns : Members)
+    → has_odd t ≡ false → has_odd u ≡ false → members_have_odd ms ≡ false → members_have_odd ns ≡ false
     → members_have_odd (match_ordering o (member k t (member l u ms)) (member l t ms) (member l u ns)) ≡ false
 no_odd_at Less k l t u ms ns a b c d = or_from (has_odd t) (members_have_odd (member l u ms)) a (or_from (has_odd u) (members_have_odd ms) b c)
 no_odd_at Equal k l t u ms ns a b c d = or_from (has_odd t) (members_have_odd ms) a c
@@ -60,13 +63,15 @@ levels-put k t (member l u ms) n a b =
     levels_at (slice_cmp nat_cmp k l) k l t u ms (put k t ms) n a (omega arith) (omega arith) (levels-put k t ms n a (omega arith))
 
 -- a map of parts and others that have no Odd has none
-pub no_odd-joined : (rs : Rows) (ps : List (Option Node)) (others : Members) (n : ℕ) → PartsAreWhole ps n → members_have_odd others ≡ false → members_have_odd (joined rs ps others) ≡ false
+pub no_odd-joined : (rs : Rows) (ps : List (Option Node)) (others : Members) (n : ℕ)
+    → PartsAreWhole ps n → members_have_odd others ≡ false → members_have_odd (joined rs ps others) ≡ false
 no_odd-joined no_more ps others n w o = o
 no_odd-joined (row k need τ rs) [] others n w o = o
 no_odd-joined (row k need τ rs) (None ∷ ps) others n w o = no_odd-joined rs ps others n w o
 no_odd-joined (row k need τ rs) (Some t ∷ ps) others n w o = no_odd-put k t (joined rs ps others) w.0.0 (no_odd-joined rs ps others n w.1 o)
 
-levels-joined : (rs : Rows) (ps : List (Option Node)) (others : Members) (n : ℕ) → PartsAreWhole ps n → members_levels others ≤ n → members_levels (joined rs ps others) ≤ n
+levels-joined : (rs : Rows) (ps : List (Option Node)) (others : Members) (n : ℕ)
+    → PartsAreWhole ps n → members_levels others ≤ n → members_levels (joined rs ps others) ≤ n
 levels-joined no_more ps others n w o = o
 levels-joined (row k need τ rs) [] others n w o = o
 levels-joined (row k need τ rs) (None ∷ ps) others n w o = levels-joined rs ps others n w o
@@ -95,7 +100,8 @@ optional_whole tree_of well n whole (Some v) w ps more = (whole v w, more)
 
 -- ---- lists and pairs
 
-items_no_odd : {X : Type 0} (tree_of : X → Node) (well : X → Type 0) (n : ℕ) → ((v : X) → well v → IsWhole (tree_of v) n) → (xs : List X) → AllByRecursion well xs
+items_no_odd : {X : Type 0} (tree_of : X → Node) (well : X → Type 0) (n : ℕ)
+    → ((v : X) → well v → IsWhole (tree_of v) n) → (xs : List X) → AllByRecursion well xs
     → items_have_odd (items_of (map tree_of xs)) ≡ false
 items_no_odd tree_of well n whole [] w = refl
 items_no_odd tree_of well n whole (x ∷ xs) w =
@@ -110,7 +116,8 @@ items_deep tree_of well n whole (x ∷ xs) w =
     omega arith
 
 -- a list is whole within one level more than its items
-pub list_whole : {X : Type 0} (tree_of : X → Node) (well : X → Type 0) (n : ℕ) → ((v : X) → well v → IsWhole (tree_of v) n) → (xs : List X) → AllByRecursion well xs
+pub list_whole : {X : Type 0} (tree_of : X → Node) (well : X → Type 0) (n : ℕ)
+    → ((v : X) → well v → IsWhole (tree_of v) n) → (xs : List X) → AllByRecursion well xs
     → IsWhole (list_tree tree_of xs) (suc n)
 list_whole tree_of well n whole xs w =
     let deep : items_levels (items_of (map tree_of xs)) ≤ n = items_deep tree_of well n whole xs w in

@@ -29,12 +29,15 @@ abbrev pub value_named : {V : Type 0} → Word V → List (Word V) → List ℕ 
 value_named w [] s = if bytes_eq s w.text then Some w.value else None
 value_named w (x ∷ xs) s = if bytes_eq s w.text then Some w.value else value_named x xs s
 
-fits_at : {V : Type 0} (b : Bool) (s : List ℕ) (w : Word V) (rest : Option V) (σ : Term) (v : V) → bytes_eq s w.text ≡ b → (if b then Some w.value else rest) ≡ Some v
+fits_at : {V : Type 0} (b : Bool) (s : List ℕ) (w : Word V) (rest : Option V) (σ : Term) (v : V)
+    → bytes_eq s w.text ≡ b → (if b then Some w.value else rest) ≡ Some v
     → (rest ≡ Some v → Fits (tree.text s) σ) → Fits (tree.text s) (either (exactly w.text) σ)
-fits_at true s w rest σ v same e later = fits_first (tree.text s) (exactly w.text) σ (subst (λ x. Fits (tree.text s) (exactly x)) ((bytes_eq-Decides s w.text).0 same) (fits_exactly s))
+fits_at true s w rest σ v same e later =
+    fits_first (tree.text s) (exactly w.text) σ (subst (λ x. Fits (tree.text s) (exactly x)) ((bytes_eq-Decides s w.text).0 same) (fits_exactly s))
 fits_at false s w rest σ v same e later = fits_second (tree.text s) (exactly w.text) σ (later e)
 
-last_fits : {V : Type 0} (b : Bool) (s : List ℕ) (w : Word V) (v : V) → bytes_eq s w.text ≡ b → (if b then Some w.value else None) ≡ Some v → Fits (tree.text s) (exactly w.text)
+last_fits : {V : Type 0} (b : Bool) (s : List ℕ) (w : Word V) (v : V)
+    → bytes_eq s w.text ≡ b → (if b then Some w.value else None) ≡ Some v → Fits (tree.text s) (exactly w.text)
 last_fits true s w v same e = subst (λ x. Fits (tree.text s) (exactly x)) ((bytes_eq-Decides s w.text).0 same) (fits_exactly s)
 last_fits false s w v same e = cc
 
@@ -53,7 +56,8 @@ split : {t : Node} {σ τ : Term} (P : Type 0) → (Fits t σ → P) → (Fits t
 split P f g (fits_first t σ τ h) = f h
 split P f g (fits_second t σ τ h) = g h
 
-none_at : {V : Type 0} (b : Bool) (s : List ℕ) (w : Word V) (rest : Option V) → bytes_eq s w.text ≡ b → (if b then Some w.value else rest) ≡ None → (s ≡ w.text → ⊥) × (rest ≡ None)
+none_at : {V : Type 0} (b : Bool) (s : List ℕ) (w : Word V) (rest : Option V)
+    → bytes_eq s w.text ≡ b → (if b then Some w.value else rest) ≡ None → (s ≡ w.text → ⊥) × (rest ≡ None)
 none_at true s w rest same e = cc
 none_at false s w rest same e = (λ is. true≢false (sym ((bytes_eq-Decides s w.text).1 is) ∙ same), e)
 
@@ -92,7 +96,8 @@ pub record Words (V : Type 0) : Type 1 where
 
 pub word_fits : {V : Type 0} (w : Words V) (v : V) → Fits (tree.text (w.text_of v)) w.rule
 word_fits w v =
-    fits_unfolded (tree.text (w.text_of v)) w.rule (subst (λ σ. Fits (tree.text (w.text_of v)) σ) (sym w.is_rule) (named_fits w.first w.rest (w.text_of v) v (w.names_it v)))
+    fits_unfolded (tree.text (w.text_of v)) w.rule
+    (subst (λ σ. Fits (tree.text (w.text_of v)) σ) (sym w.is_rule) (named_fits w.first w.rest (w.text_of v) v (w.names_it v)))
 
 pub word_one : {V : Type 0} (w : Words V) (v u : V) → tree.text (w.text_of v) ≡ tree.text (w.text_of u) → v ≡ u
 word_one w v u e = same_some (sym (w.names_it v) ∙ ap (value_named w.first w.rest) (text_one (w.text_of v) (w.text_of u) e) ∙ w.names_it u)
@@ -121,9 +126,11 @@ none_v : {V : Type 0} {v : V} {P : Type 0} → None ≡ Some v → P
 none_v e = cc
 
 -- the value that a text names has that text
-pub text_of-value_named : {V : Type 0} (text_of : V → List ℕ) (w : Word V) (xs : List (Word V)) (s : List ℕ) (v : V) → HasTexts text_of w xs → value_named w xs s ≡ Some v → text_of v ≡ s
+pub text_of-value_named : {V : Type 0} (text_of : V → List ℕ) (w : Word V) (xs : List (Word V)) (s : List ℕ) (v : V)
+    → HasTexts text_of w xs → value_named w xs s ≡ Some v → text_of v ≡ s
 text_of-value_named text_of w [] s v h e = named_at (bytes_eq s w.text) s w None text_of v refl h none_v e
-text_of-value_named text_of w (x ∷ xs) s v h e = named_at (bytes_eq s w.text) s w (value_named x xs s) text_of v refl h.0 (text_of-value_named text_of x xs s v h.1) e
+text_of-value_named text_of w (x ∷ xs) s v h e =
+    named_at (bytes_eq s w.text) s w (value_named x xs s) text_of v refl h.0 (text_of-value_named text_of x xs s v h.1) e
 
 -- a tree that is no such text does not fit
 pub word_misfit : {V : Type 0} (w : Words V) (s : List ℕ) → value_named w.first w.rest s ≡ None → Fits (tree.text s) w.rule → ⊥

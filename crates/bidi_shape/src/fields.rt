@@ -28,9 +28,12 @@ pub trait Fields: Drop {
         known: &'a [&'a str],
     ) -> Result<Self, ShapeFault>
         ensures sorted { OnOk result (AreAscending (members_in (S.tree map.now))) }
-        ensures ok { IfOk result (λ f. PartsAt (table.rows (texts_in names.now) (texts_in texts.now)) (table.parts (texts_in texts.now) f) (members_in (S.tree map.now)) × table.well f) }
-        ensures rest { IfOk result (λ f. (table.others f ≡ without (texts_in known.now) (members_in (S.tree map.now))) × OthersFit table.openness (table.others f)) }
-        ensures no_fit { IfNoFit result (RowsFit (members_in (S.tree map.now)) (table.rows (texts_in names.now) (texts_in texts.now)) → OthersFit table.openness (without (texts_in known.now) (members_in (S.tree map.now))) → ⊥) };
+        ensures ok { IfOk result (λ f. PartsAt (table.rows (texts_in names.now) (texts_in texts.now)) (table.parts (texts_in texts.now) f)
+            (members_in (S.tree map.now)) × table.well f) }
+        ensures rest { IfOk result (λ f. (table.others f ≡ without (texts_in known.now) (members_in (S.tree map.now)))
+            × OthersFit table.openness (table.others f)) }
+        ensures no_fit { IfNoFit result (RowsFit (members_in (S.tree map.now)) (table.rows (texts_in names.now) (texts_in texts.now))
+            → OthersFit table.openness (without (texts_in known.now) (members_in (S.tree map.now))) → ⊥) };
 }
 
 /// The first text of a list, and the texts after it.

@@ -17,7 +17,10 @@ pub trait Lent<'a>: Drop {
     // The members of that map, by their names and the texts of its literal members.
     ghost listed: { List (List ℕ) → List (List ℕ) → Self → Listed };
 
-    /// Makes the drafts of the members, with room for so many.
+    /// Makes the drafts of the members, with room for so many beside those of a `Rest`.
+    ///
+    /// # Errors
+    /// No memory: an allocation failed.
     fn draft(
         &self,
         alloc: Global,

@@ -2,9 +2,9 @@
 //!
 //! `specs/Profile.antt` is the table of rules, `specs/Fits.antt` says which trees fit a term. A [`Shape`] is a
 //! type whose values are the trees that fit a rule: it reads exactly these, of a [`Tree`](bidi_tree::Tree)
-//! or of a JSON value that borrows its text ([`Parsed`]), and writes them again. A map type
-//! is a list of its members, as `Required<JsUint, Literal<Required<EmptyParams, Ext>>>`, from which
-//! [`read_fields`] reads the whole map.
+//! or of a JSON value that borrows its text ([`Parsed`]), and makes a draft of each, of which its text is
+//! written. A map type is a list of its members, as `Required<JsUint, Literal<Required<EmptyParams, Ext>>>`,
+//! from which [`read_fields`] reads the whole map, and [`draft_fields`] drafts it from references to them.
 #![tactic(auto)]
 
 mod choice;

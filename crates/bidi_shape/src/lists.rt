@@ -29,8 +29,8 @@ fn read_items<X: Shape, S: Parsed>(alloc: Global, items: &[S]) -> Result<Vec<X>,
     Ok(values)
 }
 
-/// The list of the items.
-fn draft_items<'a, X: Shape>(alloc: Global, items: &'a [X]) -> Result<Draft<'a>, AllocError>
+/// The draft of the list of the items.
+fn draft_list<'a, X: Shape>(alloc: Global, items: &'a [X]) -> Result<Draft<'a>, AllocError>
     ensures tree { IfOk result (λ d. draft_node d ≡ list_tree X.shape.tree_of items.now) }
     ensures sound { IfOk result (λ d. IsSound (draft_node d)) }
 {
@@ -62,7 +62,7 @@ impl<X: Shape> Shape for Vec<X> {
     }
 
     fn draft<'a>(&'a self, alloc: Global) -> Result<Draft<'a>, AllocError> {
-        draft_items(alloc, self)
+        draft_list(alloc, self)
     }
 }
 
@@ -96,7 +96,7 @@ impl<X: Shape> Shape for OneOrMore<X> {
     }
 
     fn draft<'a>(&'a self, alloc: Global) -> Result<Draft<'a>, AllocError> {
-        draft_items(alloc, &self.items)
+        draft_list(alloc, &self.items)
     }
 }
 

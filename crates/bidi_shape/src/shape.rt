@@ -28,7 +28,7 @@ pub trait Shape: Drop {
         ensures ok { IfOk result (λ v. (shape.tree_of v ≡ S.tree tree.now) × shape.well v) }
         ensures no_fit { IfNoFit result (Fits (S.tree tree.now) shape.rule → ⊥) };
 
-    /// Makes the draft of the value's tree, to be written. No text is copied.
+    /// Makes the draft of the value's tree, to be written. No text is copied; each list and map takes a block.
     ///
     /// # Errors
     /// No memory: an allocation failed.
@@ -36,7 +36,7 @@ pub trait Shape: Drop {
         ensures tree { IfOk result (λ d. draft_node d ≡ shape.tree_of self.now) }
         ensures sound { IfOk result (λ d. IsSound (draft_node d)) };
 
-    /// Makes the tree of the value.
+    /// Makes the tree of the value. Costs a draft, and a copy of each text.
     ///
     /// # Errors
     /// No memory: an allocation failed.

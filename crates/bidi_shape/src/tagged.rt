@@ -76,7 +76,8 @@ impl<T: Tag, X: Shape> Shape for Typed<T, X> {
     ghost use Rattle.bidi_shape.specs.TagLaws.{typed_term};
     ghost use Rattle.bidi_shape.specs.Table.{map_shape};
 
-    ghost shape = { map_shape (typed_term T.tag X.shape.rule) ⟦<Literal<Required<X, Closed>> as crate::Fields>⟧.table (T.tag ∷ []) (λ v. record { 0 = (v.value, record {}) }) refl refl };
+    ghost shape = { map_shape (typed_term T.tag X.shape.rule) ⟦<Literal<Required<X, Closed>> as crate::Fields>⟧.table (T.tag ∷ [])
+        (λ v. record { 0 = (v.value, record {}) }) refl refl };
 
     fn from_tree<S: Parsed>(alloc: Global, tree: &S) -> Result<Typed<T, X>, ShapeFault> {
         let Literal(Required(value, Closed)) = read_fields::<
@@ -96,7 +97,7 @@ impl<T: Tag, X: Shape> Shape for Typed<T, X> {
     }
 }
 
-/// Makes the map with its type alone.
+/// Makes the draft of the map with its type alone.
 ///
 /// # Errors
 /// No memory: an allocation failed.
@@ -109,7 +110,7 @@ pub fn draft_of_type<'a>(alloc: Global, tag: &'a str) -> Result<Draft<'a>, Alloc
     Ok(Draft::Map(members))
 }
 
-/// Makes the map with its type and a value.
+/// Makes the draft of the map with its type and a value.
 ///
 /// # Errors
 /// No memory: an allocation failed.

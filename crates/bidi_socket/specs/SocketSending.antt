@@ -41,7 +41,8 @@ module _ {S : Type 0} where
 
 module _ {S K : Type 0} where
   -- One step of a link's socket: refused where the link is closed. A fault of the stream or of the protocol closes it.
-  pub record Steps (contents : S → Option (List ℕ)) (sends : Bool) (step : Result Effect Error) (old new : Link S K) (r : Result (Unit {0}) LinkFault) : Type 0 where
+  pub record Steps (contents : S → Option (List ℕ)) (sends : Bool) (step : Result Effect Error) (old new : Link S K) (r : Result (Unit {0}) LinkFault) : Type
+      0 where
     pub from_closed : old.is_closed ≡ true → (r ≡ Err fault.Closed) × (new ≡ old)
     pub ok : OnOk r (IsSent sends contents step old.socket new.socket × (old.is_closed ≡ false) × (new.is_closed ≡ false))
     pub err : old.is_closed ≡ false → IfErr r (λ f. SendFails contents step old.socket new.socket f × (new.is_closed ≡ closes f))

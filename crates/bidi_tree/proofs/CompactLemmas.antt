@@ -4,7 +4,8 @@ use Rattle.std.proofs.lemmas.Bool.{or_parts}
 use Rattle.json.specs.Print.{quoted}
 use Rattle.serde_json.specs.Data.{depth, items_depth, members_depth}
 use Rattle.serde_json.specs.Written as json
-use Rattle.bidi_tree.specs.Node.{Node, null, boolean, whole, odd, text, list, map, Items, no_items, item, Members, no_members, member, levels, items_levels, members_levels, has_odd, items_have_odd, members_have_odd}
+use Rattle.bidi_tree.specs.Node.{Node, null, boolean, whole, odd, text, list, map, Items, no_items, item, Members, no_members}
+use Rattle.bidi_tree.specs.Node.{member, levels, items_levels, members_levels, has_odd, items_have_odd, members_have_odd}
 use Rattle.bidi_tree.specs.Data.{to_data, to_items, to_members}
 use Rattle.bidi_tree.specs.Text.{comma_if, compact_text, items_text, members_text}
 

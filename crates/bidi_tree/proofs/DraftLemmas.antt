@@ -1,5 +1,6 @@
 -- Drafts, beside the trees that they stand for.
-use Rattle.std.proofs.Common.{◌≡◌, ◌≤◌, ◌<◌, ◌+◌, ℕ, zero, suc, length, List, [], ◌∷◌, take, drop, slice_index_or, slice_set, ◌++◌, Ordering, Less, Equal, Greater, Bor, Vec, Global, rules, refl, ap, ◌∙◌, subst, sym, arith}
+use Rattle.std.proofs.Common.{◌≡◌, ◌≤◌, ◌<◌, ◌+◌, ℕ, zero, suc, length, List, [], ◌∷◌, take, drop, slice_index_or, slice_set, ◌++◌}
+use Rattle.std.proofs.Common.{Ordering, Less, Equal, Greater, Bor, Vec, Global, rules, refl, ap, ◌∙◌, subst, sym, arith}
 use Rattle.std.proofs.Math.Seq.{take-suc, drop-cons}
 use Rattle.std.proofs.lemmas.List.{take-append-drop}
 use Rattle.std.proofs.lemmas.Cmp.{nat_list_cmp_total}
@@ -28,31 +29,38 @@ IsPast k (suc i) (m ∷ ms) = (slice_cmp nat_cmp k m.0.now ≡ Greater) × IsPas
 abbrev Stands : List ℕ → DraftMember → Ordering → Type 0
 Stands k m o = slice_cmp nat_cmp k m.0.now ≡ o
 
-next_past : (k : List ℕ) (i : ℕ) (ms : List DraftMember) (m : DraftMember) → IsPast k i ms → m ≡ slice_index_or ms i m → Stands k m Greater → IsPast k (suc i) ms
+next_past : (k : List ℕ) (i : ℕ) (ms : List DraftMember) (m : DraftMember)
+    → IsPast k i ms → m ≡ slice_index_or ms i m → Stands k m Greater → IsPast k (suc i) ms
 next_past k i [] m h at above = tt
 next_past k zero (x ∷ ms) m h at above = (subst (λ y. Stands k y Greater) at above, tt)
 next_past k (suc i) (x ∷ ms) m h at above = (h.0, next_past k i ms m h.1 at above)
 
-pub past_next : (k : List ℕ) (i : ℕ) (ms : List DraftMember) (m : DraftMember) → IsPast k i ms → m ≡ slice_index_or ms i m → Stands k m Greater → IsPast k (i + 1) ms
+pub past_next : (k : List ℕ) (i : ℕ) (ms : List DraftMember) (m : DraftMember)
+    → IsPast k i ms → m ≡ slice_index_or ms i m → Stands k m Greater → IsPast k (i + 1) ms
 past_next k i ms m h at above = let one : suc i ≡ i + 1 = omega arith in subst (λ j. IsPast k j ms) one (next_past k i ms m h at above)
 
-pub put_over : (k : List ℕ) (i : ℕ) (ms : List DraftMember) (new : Draft) (m n : DraftMember) → IsPast k i ms → i < length ms → m ≡ slice_index_or ms i m → n ≡ slice_index_or ms i n → Stands k m Equal
+pub put_over : (k : List ℕ) (i : ℕ) (ms : List DraftMember) (new : Draft) (m n : DraftMember)
+    → IsPast k i ms → i < length ms → m ≡ slice_index_or ms i m → n ≡ slice_index_or ms i n → Stands k m Equal
     → draft_members (slice_set ms i (n.0, new)) ≡ put k (draft_node new) (draft_members ms)
 put_over k i [] new m n h few at again same = absurd (omega (arith, few))
 put_over k zero (x ∷ ms) new m n h few at again same =
     let here : Stands k x Equal = subst (λ y. Stands k y Equal) at same in
     subst (λ (y : DraftMember). draft_members ((y.0, new) ∷ ms) ≡ put k (draft_node new) (draft_members (x ∷ ms))) (sym again) (rw here)
-put_over k (suc i) (x ∷ ms) new m n h few at again same = rw h.0 (ap (member x.0.now (draft_node x.1)) (put_over k i ms new m n h.1 (omega (arith, few)) at again same))
+put_over k (suc i) (x ∷ ms) new m n h few at again same =
+    rw h.0 (ap (member x.0.now (draft_node x.1)) (put_over k i ms new m n h.1 (omega (arith, few)) at again same))
 
-pub put_before : (name : Bor (List ℕ)) (i : ℕ) (ms : List DraftMember) (new : Draft) (m : DraftMember) → IsPast name.now i ms → i < length ms → m ≡ slice_index_or ms i m → Stands name.now m Less
+pub put_before : (name : Bor (List ℕ)) (i : ℕ) (ms : List DraftMember) (new : Draft) (m : DraftMember)
+    → IsPast name.now i ms → i < length ms → m ≡ slice_index_or ms i m → Stands name.now m Less
     → draft_members (insert ms i (name, new)) ≡ put name.now (draft_node new) (draft_members ms)
 put_before name i [] new m h few at less = absurd (omega (arith, few))
 put_before name zero (x ∷ ms) new m h few at less =
     let here : Stands name.now x Less = subst (λ y. Stands name.now y Less) at less in
     rw here
-put_before name (suc i) (x ∷ ms) new m h few at less = rw h.0 (ap (member x.0.now (draft_node x.1)) (put_before name i ms new m h.1 (omega (arith, few)) at less))
+put_before name (suc i) (x ∷ ms) new m h few at less =
+    rw h.0 (ap (member x.0.now (draft_node x.1)) (put_before name i ms new m h.1 (omega (arith, few)) at less))
 
-pub put_behind : (name : Bor (List ℕ)) (i : ℕ) (ms : List DraftMember) (new : Draft) → IsPast name.now i ms → length ms ≤ i → draft_members (insert ms i (name, new)) ≡ put name.now (draft_node new) (draft_members ms)
+pub put_behind : (name : Bor (List ℕ)) (i : ℕ) (ms : List DraftMember) (new : Draft)
+    → IsPast name.now i ms → length ms ≤ i → draft_members (insert ms i (name, new)) ≡ put name.now (draft_node new) (draft_members ms)
 put_behind name zero [] new h all = refl
 put_behind name (suc i) [] new h all = refl
 put_behind name zero (x ∷ ms) new h all = absurd (omega (arith, all))
@@ -60,12 +68,14 @@ put_behind name (suc i) (x ∷ ms) new h all = rw h.0 (ap (member x.0.now (draft
 
 -- ---- members that ascend, one after the other
 
-name_above : (x : DraftMember) (done : List DraftMember) (m : DraftMember) (left : List DraftMember) → IsBelow x.0.now (draft_members (done ++ m ∷ left)) → Stands m.0.now x Greater
+name_above : (x : DraftMember) (done : List DraftMember) (m : DraftMember) (left : List DraftMember)
+    → IsBelow x.0.now (draft_members (done ++ m ∷ left)) → Stands m.0.now x Greater
 name_above x [] m left h = nat_list_cmp_total.antisymm m.0.now x.0.now ∙ ap ordering_reverse h.0
 name_above x (y ∷ done) m left h = name_above x done m left h.1
 
 -- a name that is above those before it goes last
-put_next : (done : List DraftMember) (m : DraftMember) (left : List DraftMember) → AreAscending (draft_members (done ++ m ∷ left)) → put m.0.now (draft_node m.1) (draft_members done) ≡ draft_members (done ++ m ∷ [])
+put_next : (done : List DraftMember) (m : DraftMember) (left : List DraftMember)
+    → AreAscending (draft_members (done ++ m ∷ left)) → put m.0.now (draft_node m.1) (draft_members done) ≡ draft_members (done ++ m ∷ [])
 put_next [] m left h = refl
 put_next (x ∷ done) m left h = rw (name_above x done m left h.0) (ap (member x.0.now (draft_node x.1)) (put_next done m left h.1))
 
@@ -75,15 +85,18 @@ nth ms i m few at =
     drop-cons ms i m few ∙ ap (λ x. x ∷ drop (suc i) ms) (sym at) ∙ ap (λ j. m ∷ drop j ms) one
 
 -- the next of a list's members
-pub put_nth : (ms : List DraftMember) (i : ℕ) (m : DraftMember) → AreAscending (draft_members ms) → i < length ms → m ≡ slice_index_or ms i m → put m.0.now (draft_node m.1) (draft_members (take i ms)) ≡ draft_members (take (i + 1) ms)
+pub put_nth : (ms : List DraftMember) (i : ℕ) (m : DraftMember) → AreAscending (draft_members ms)
+    → i < length ms → m ≡ slice_index_or ms i m → put m.0.now (draft_node m.1) (draft_members (take i ms)) ≡ draft_members (take (i + 1) ms)
 put_nth ms i m h few at =
     let all : ms ≡ take i ms ++ m ∷ drop (i + 1) ms = sym (take-append-drop i ms) ∙ ap (λ xs. take i ms ++ xs) (nth ms i m few at) in
     let more : take (suc i) ms ≡ take i ms ++ m ∷ [] = take-suc ms i m few ∙ ap (λ x. take i ms ++ x ∷ []) (sym at) in
     let one : suc i ≡ i + 1 = omega arith in
-    put_next (take i ms) m (drop (i + 1) ms) (subst (λ xs. AreAscending (draft_members xs)) all h) ∙ ap draft_members (sym more) ∙ ap (λ j. draft_members (take j ms)) one
+    put_next (take i ms) m (drop (i + 1) ms) (subst (λ xs. AreAscending (draft_members xs)) all h)
+    ∙ ap draft_members (sym more) ∙ ap (λ j. draft_members (take j ms)) one
 
 -- a draft of one member more, beside the tree of one entry more
-pub one_more : (ds : List DraftMember) (es : List Entry) (d : DraftMember) (e : Entry) → draft_members ds ≡ members_node es → d.0.now ≡ string_bytes e.0 → draft_node d.1 ≡ node e.1
+pub one_more : (ds : List DraftMember) (es : List Entry) (d : DraftMember) (e : Entry)
+    → draft_members ds ≡ members_node es → d.0.now ≡ string_bytes e.0 → draft_node d.1 ≡ node e.1
     → draft_members (ds ++ d ∷ []) ≡ members_node (es ++ e ∷ [])
 one_more [] [] d e same name is = rw (name, is)
 one_more [] (f ∷ es) d e same name is = cc

@@ -1,5 +1,7 @@
 -- The trees of values that borrow their text, beside the trees of texts.
-use Rattle.std.proofs.Common.{◌≡◌, ◌≤◌, ℕ, ℤ, pos, max, List, [], ◌∷◌, Bool, true, false, ◌&&◌, is_some, cond, Option, Some, None, Ordering, Less, Equal, Greater, option_map, option_and_then, Bor, Vec, bytes_eq, true≢false, refl, sym, ap, ◌∙◌, subst, rules, map, arith}
+use Rattle.std.proofs.Common.{◌≡◌, ◌≤◌, ℕ, ℤ, pos, max, List, [], ◌∷◌, Bool, true, false, ◌&&◌, is_some, cond}
+use Rattle.std.proofs.Common.{Option, Some, None, Ordering, Less, Equal, Greater, option_map, option_and_then, Bor}
+use Rattle.std.proofs.Common.{Vec, bytes_eq, true≢false, refl, sym, ap, ◌∙◌, subst, rules, map, arith}
 use Rattle.std.proofs.lemmas.Slice.Eq.{bytes_eq-Decides}
 use Rattle.std.specs.Prelude.{◌==◌, slice_index}
 use Rattle.std.specs.Cmp.Lexicographic.{slice_cmp}
@@ -16,7 +18,8 @@ use Rattle.json.specs.declared.token.Token.{Token}
 use Rattle.json.specs.declared.value.Value.{Value, Array, Object, the_lemmas}
 use Rattle.serde_json.specs.Data as serde
 use Rattle.serde_json.specs.Read.{of_json, of_items, of_members, number_of, number_from, max_depth}
-use Rattle.bidi_tree.specs.Node.{Node, list, Items, no_items, item, Members, no_members, member, put, get_member, levels, items_levels, members_levels, AreAscending}
+use Rattle.bidi_tree.specs.Node.{Node, list, Items, no_items, item, Members, no_members, member, put}
+use Rattle.bidi_tree.specs.Node.{get_member, levels, items_levels, members_levels, AreAscending}
 use Rattle.bidi_tree.specs.Node as tree
 use Rattle.bidi_tree.specs.Number.{is_js_int}
 use Rattle.bidi_tree.specs.Kind.{members_in}
@@ -96,13 +99,16 @@ mutual
   items_read json.no_items = refl
   items_read (json.item j js) = item_read _ _ _ _ _ _ (json_read j) (items_read js)
 
-  members_read : (ms : json.Members) (found : serde.Members) (seen : Members) → text.of_members found ≡ seen → Reads text.of_members (put_all ms seen) (members_are_readable ms) (of_members ms found)
+  members_read : (ms : json.Members) (found : serde.Members) (seen : Members)
+      → text.of_members found ≡ seen → Reads text.of_members (put_all ms seen) (members_are_readable ms) (of_members ms found)
   members_read json.no_members found seen e = ap Some e
   members_read (json.member k j ms) found seen e =
       member_read (of_json j) (json_node j) (λ d. of_members ms (serde.put k d found)) _ _ _ (json_read j)
-      (λ d h. members_read ms (serde.put k d found) (put k (json_node j) seen) (of_members-put k d found ∙ ap (λ x. put k x (text.of_members found)) h ∙ ap (put k (json_node j)) e))
+      (λ d h. members_read ms (serde.put k d found) (put k (json_node j) seen)
+      (of_members-put k d found ∙ ap (λ x. put k x (text.of_members found)) h ∙ ap (put k (json_node j)) e))
 
-read_at : (s : List ℕ) (j : json.Json) → option_and_then (λ p. json.if_last p.0 p.1) (json.value max_depth (tokens s)) ≡ Some j → tree_of s ≡ option_map of_data (of_json j)
+read_at : (s : List ℕ) (j : json.Json)
+    → option_and_then (λ p. json.if_last p.0 p.1) (json.value max_depth (tokens s)) ≡ Some j → tree_of s ≡ option_map of_data (of_json j)
 read_at s j e = ap (λ o. option_map of_data (option_and_then of_json o)) e
 
 reads_at : (o : Option serde.Data) (n : Node) (b : Bool) → Reads of_data n b o → b ≡ true → option_map of_data o ≡ Some n
@@ -114,21 +120,25 @@ reads_none o n true h e = absurd (let no : true ≡ false = e in cc)
 reads_none o n false h e = ap (option_map of_data) h
 
 -- a text whose value is readable has that value's tree
-pub tree_of-parsed : (s : List ℕ) (j : json.Json) → option_and_then (λ p. json.if_last p.0 p.1) (json.value max_depth (tokens s)) ≡ Some j → is_readable j ≡ true → tree_of s ≡ Some (json_node j)
+pub tree_of-parsed : (s : List ℕ) (j : json.Json) → option_and_then (λ p. json.if_last p.0 p.1) (json.value max_depth (tokens s)) ≡ Some j
+    → is_readable j ≡ true → tree_of s ≡ Some (json_node j)
 tree_of-parsed s j e r = read_at s j e ∙ reads_at (of_json j) (json_node j) _ (json_read j) r
 
 -- one whose value is not has none
-pub tree_of-unreadable : (s : List ℕ) (j : json.Json) → option_and_then (λ p. json.if_last p.0 p.1) (json.value max_depth (tokens s)) ≡ Some j → is_readable j ≡ false → tree_of s ≡ None
+pub tree_of-unreadable : (s : List ℕ) (j : json.Json)
+    → option_and_then (λ p. json.if_last p.0 p.1) (json.value max_depth (tokens s)) ≡ Some j → is_readable j ≡ false → tree_of s ≡ None
 tree_of-unreadable s j e r = read_at s j e ∙ reads_none (of_json j) (json_node j) _ (json_read j) r
 
 -- nothing stands behind the value
-pub ended : (s : List ℕ) (j : json.Json) (left new : List spec.Token) (r : Option Token) → json.value max_depth (tokens s) ≡ Some (j, left) → Yields left r new → is_some r ≡ false
+pub ended : (s : List ℕ) (j : json.Json) (left new : List spec.Token) (r : Option Token)
+    → json.value max_depth (tokens s) ≡ Some (j, left) → Yields left r new → is_some r ≡ false
     → option_and_then (λ p. json.if_last p.0 p.1) (json.value max_depth (tokens s)) ≡ Some j
 ended s j left new None e h n = ap (option_and_then (λ p. json.if_last p.0 p.1)) e ∙ ap (json.if_last j) h.0
 ended s j left new (Some t) e h n = absurd (let no : true ≡ false = n in cc)
 
 -- something stands behind it, so the text is no JSON
-pub behind : (s : List ℕ) (j : json.Json) (left new : List spec.Token) (r : Option Token) → json.value max_depth (tokens s) ≡ Some (j, left) → Yields left r new → is_some r ≡ true
+pub behind : (s : List ℕ) (j : json.Json) (left new : List spec.Token) (r : Option Token)
+    → json.value max_depth (tokens s) ≡ Some (j, left) → Yields left r new → is_some r ≡ true
     → tree_of s ≡ None
 behind s j left new None e h n = absurd (let no : false ≡ true = n in cc)
 behind s j left new (Some t) e h n =
@@ -158,7 +168,8 @@ some_of f (Some a) b e = let same : Some (f a) ≡ Some b = e in (a, refl, cc)
 -- ---- a value nests as deep as it stands, or less, since a member may be put in place of another
 
 levels_at : (c : Ordering) (k l : List ℕ) (n m : Node) (ms : Members) → members_levels (put k n ms) ≤ max (levels n) (members_levels ms)
-    → members_levels (match_ordering c (member k n (member l m ms)) (member l n ms) (member l m (put k n ms))) ≤ max (levels n) (max (levels m) (members_levels ms))
+    → members_levels (match_ordering c (member k n (member l m ms)) (member l n ms) (member l m (put k n ms)))
+    ≤ max (levels n) (max (levels m) (members_levels ms))
 levels_at Less k l n m ms h = omega arith
 levels_at Equal k l n m ms h = omega arith
 levels_at Greater k l n m ms h = omega (arith, h)
@@ -203,7 +214,8 @@ abbrev found_or : Option json.Json → Option Node → Option Node
 found_or None o = o
 found_or (Some j) o = Some (json_node j)
 
-named_or : (b : Bool) (q k : List ℕ) (j : json.Json) (found : Members) → bytes_eq k q ≡ b → get_member q (put k (json_node j) found) ≡ found_or (cond b (Some j) None) (get_member q found)
+named_or : (b : Bool) (q k : List ℕ) (j : json.Json) (found : Members)
+    → bytes_eq k q ≡ b → get_member q (put k (json_node j) found) ≡ found_or (cond b (Some j) None) (get_member q found)
 named_or true q k j found e =
     let same : k ≡ q = (bytes_eq-Decides k q).0 e in
     subst (λ x. get_member x (put k (json_node j) found) ≡ Some (json_node j)) same (get_member-put k (json_node j) found)

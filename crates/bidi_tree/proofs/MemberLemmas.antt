@@ -1,12 +1,14 @@
 -- Maps of trees, by their members.
-use Rattle.std.proofs.Common.{◌≡◌, ℕ, List, Option, Some, None, Ordering, Less, Equal, Greater, is_eq, Bool, true, false, bytes_eq, true≢false, refl, sym, ap, ◌∙◌, subst}
+use Rattle.std.proofs.Common.{◌≡◌, ℕ, List, Option, Some, None, Ordering, Less, Equal, Greater, is_eq}
+use Rattle.std.proofs.Common.{Bool, true, false, bytes_eq, true≢false, refl, sym, ap, ◌∙◌, subst}
 use Rattle.std.proofs.lemmas.Cmp.{nat_list_cmp_total, tied_itself}
 use Rattle.std.proofs.lemmas.Map.Text.{is_eq-slice_cmp}
 use Rattle.std.proofs.lemmas.Slice.Eq.{bytes_eq-Decides}
 use Rattle.std.specs.Cmp.Lexicographic.{slice_cmp}
 use Rattle.std.specs.Ordering.{match_ordering, ordering_reverse, nat_cmp}
 use Rattle.bidi_tree.specs.Kind.{members_in}
-use Rattle.bidi_tree.specs.Node.{Node, null, boolean, whole, odd, text, list, map, Members, no_members, member, put, get_member, get_of, IsBelow, AreAscending, IsSound, MembersAreSound}
+use Rattle.bidi_tree.specs.Node.{Node, null, boolean, whole, odd, text, list, map, Members, no_members, member}
+use Rattle.bidi_tree.specs.Node.{put, get_member, get_of, IsBelow, AreAscending, IsSound, MembersAreSound}
 use Rattle.bidi_tree.proofs.SoundLemmas.{IsBelow-below}
 
 pub same_text : (xs : List ℕ) → slice_cmp nat_cmp xs xs ≡ Equal
@@ -38,7 +40,8 @@ differ xs ys false e other = refl
 pub skips : (q k : List ℕ) (n : Node) (ms : Members) → (q ≡ k → ⊥) → get_member q (member k n ms) ≡ get_member q ms
 skips q k n ms other = either (slice_cmp nat_cmp q k) _ _ (is_eq-slice_cmp q k ∙ differ q k _ refl other)
 
-get_member-put_other_at : (o : Ordering) (q k l : List ℕ) (n m : Node) (ms : Members) → slice_cmp nat_cmp k l ≡ o → (q ≡ k → ⊥) → get_member q (put k n ms) ≡ get_member q ms
+get_member-put_other_at : (o : Ordering) (q k l : List ℕ) (n m : Node) (ms : Members)
+    → slice_cmp nat_cmp k l ≡ o → (q ≡ k → ⊥) → get_member q (put k n ms) ≡ get_member q ms
     → get_member q (match_ordering o (member k n (member l m ms)) (member l n ms) (member l m (put k n ms))) ≡ get_member q (member l m ms)
 get_member-put_other_at Less q k l n m ms is other later = skips q k n (member l m ms) other
 get_member-put_other_at Equal q k l n m ms is other later =
@@ -58,15 +61,18 @@ get_below k no_members h = refl
 get_below k (member l n ms) h = rw h.0 (get_below k ms h.1)
 
 same_tail : (o : Ordering) (q k : List ℕ) (n m : Node) (left right : Members) → slice_cmp nat_cmp q k ≡ o → IsBelow k left → IsBelow k right
-    → match_ordering o (get_member q left) (Some n) (get_member q left) ≡ match_ordering o (get_member q right) (Some m) (get_member q right) → get_member q left ≡ get_member q right
+    → match_ordering o (get_member q left) (Some n) (get_member q left) ≡ match_ordering o (get_member q right) (Some m) (get_member q right)
+    → get_member q left ≡ get_member q right
 same_tail Less q k n m left right is a b h = h
 same_tail Equal q k n m left right is a b h =
     let e = same_name q k is in
     ap (λ x. get_member x left) e ∙ get_below k left a ∙ sym (get_below k right b) ∙ sym (ap (λ x. get_member x right) e)
 same_tail Greater q k n m left right is a b h = h
 
-same_head : (o : Ordering) (k l : List ℕ) (n m : Node) (left right : Members) → slice_cmp nat_cmp k l ≡ o → AreAscending (member k n left) → AreAscending (member l m right)
-    → ((q : List ℕ) → get_member q (member k n left) ≡ get_member q (member l m right)) → (((q : List ℕ) → get_member q left ≡ get_member q right) → left ≡ right) → member k n left ≡ member l m right
+same_head : (o : Ordering) (k l : List ℕ) (n m : Node) (left right : Members)
+    → slice_cmp nat_cmp k l ≡ o → AreAscending (member k n left) → AreAscending (member l m right)
+    → ((q : List ℕ) → get_member q (member k n left) ≡ get_member q (member l m right))
+    → (((q : List ℕ) → get_member q left ≡ get_member q right) → left ≡ right) → member k n left ≡ member l m right
 same_head Less k l n m left right is a b h later =
     let here : get_member k (member k n left) ≡ Some n = rw same_text in
     let none : get_member k (member l m right) ≡ None = rw is (get_below k right (IsBelow-below k l right is b.0)) in
@@ -97,7 +103,8 @@ same_members (member k n left) (member l m right) a b h = same_head _ k l n m le
 
 -- ---- what is found in a map
 
-found_sound : (o : Ordering) (rest : Option Node) (n m : Node) → IsSound n → (rest ≡ Some m → IsSound m) → match_ordering o rest (Some n) rest ≡ Some m → IsSound m
+found_sound : (o : Ordering) (rest : Option Node) (n m : Node)
+    → IsSound n → (rest ≡ Some m → IsSound m) → match_ordering o rest (Some n) rest ≡ Some m → IsSound m
 found_sound Less rest n m s later e = later e
 found_sound Equal rest n m s later e = let same : n ≡ m = cc in subst IsSound same s
 found_sound Greater rest n m s later e = later e

@@ -26,8 +26,10 @@ no_minus : (s : List ℕ) → 0 < length s → AllDigits 10 s → (slice_index s
 no_minus [] few h = absurd (omega (arith, few))
 no_minus (d ∷ ds) few h = let r = digit_from_value d h.0 in ne_eqb d 45 (λ same. let is : d ≡ 45 = same in absurd (omega (arith, r.0, is)))
 
-integer : (p : Parts) (bs : List ℕ) (n : ℕ) → p.whole ≡ bs → p.point ≡ false → p.fraction ≡ [] → p.exponent ≡ [] → 0 < length bs → digits_value 10 bs ≡ n → n < 2 ^ 64 → number_from false p ≡ Some (unsigned n)
-integer p bs n whole point fraction exponent few is fits = rw (whole, point, fraction, exponent, append-nil bs, is, lt-ltb 0 (length bs) few, lt-ltb n (2 ^ 64) fits) refl
+integer : (p : Parts) (bs : List ℕ) (n : ℕ) → p.whole ≡ bs → p.point ≡ false
+    → p.fraction ≡ [] → p.exponent ≡ [] → 0 < length bs → digits_value 10 bs ≡ n → n < 2 ^ 64 → number_from false p ≡ Some (unsigned n)
+integer p bs n whole point fraction exponent few is fits =
+    rw (whole, point, fraction, exponent, append-nil bs, is, lt-ltb 0 (length bs) few, lt-ltb n (2 ^ 64) fits) refl
 
 -- where they are few enough, they write a whole number
 pub number_of-digits : (s : List ℕ) (n : ℕ) → 0 < length s → AllDigits 10 s → digits_value 10 s ≡ n → n < 2 ^ 64 → number_of s ≡ Some (unsigned n)

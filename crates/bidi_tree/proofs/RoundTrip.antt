@@ -1,5 +1,6 @@
 -- The compact text of a tree reads back as that tree.
-use Rattle.std.proofs.Common.{◌≡◌, ℕ, suc, max, pos, negsuc, List, [], false, Some, option_map, option_and_then, Greater, refl, sym, ap, ap₂, ◌∙◌, arith, append-nil, lt-ltb}
+use Rattle.std.proofs.Common.{◌≡◌, ℕ, suc, max, pos, negsuc, List, [], false, Some, option_map}
+use Rattle.std.proofs.Common.{option_and_then, Greater, refl, sym, ap, ap₂, ◌∙◌, arith, append-nil, lt-ltb}
 use Rattle.std.proofs.lemmas.Bool.{or_parts}
 use Rattle.std.proofs.lemmas.Cmp.{nat_list_cmp_total}
 use Rattle.std.specs.Cmp.Lexicographic.{slice_cmp}
@@ -18,7 +19,8 @@ use Rattle.serde_json.specs.Written.{outline, items_outline, members_outline}
 use Rattle.serde_json.proofs.Numbers.{number_of-decimal, number_of-negative}
 use Rattle.serde_json.proofs.Texts.{print-outline}
 use Rattle.bidi_tree.specs.Node as node
-use Rattle.bidi_tree.specs.Node.{Node, Items, Members, levels, has_odd, items_have_odd, members_have_odd, IsBelow, AreAscending, IsSound, ItemsAreSound, MembersAreSound, IsWritable}
+use Rattle.bidi_tree.specs.Node.{Node, Items, Members, levels, has_odd, items_have_odd, members_have_odd}
+use Rattle.bidi_tree.specs.Node.{IsBelow, AreAscending, IsSound, ItemsAreSound, MembersAreSound, IsWritable}
 use Rattle.bidi_tree.specs.Text as text
 use Rattle.bidi_tree.specs.Data.{to_data, to_items, to_members, tokens_of}
 use Rattle.bidi_tree.specs.Text.{of_data, tree_of, compact_text}
@@ -95,7 +97,8 @@ joined : json.Members → json.Members → json.Members
 joined json.no_members ms = ms
 joined (json.member k d es) ms = json.member k d (joined es ms)
 
-joined-last : (es : json.Members) (k : List ℕ) (d : json.Data) (ms : json.Members) → joined (joined es (json.member k d json.no_members)) ms ≡ joined es (json.member k d ms)
+joined-last : (es : json.Members) (k : List ℕ) (d : json.Data) (ms : json.Members)
+    → joined (joined es (json.member k d json.no_members)) ms ≡ joined es (json.member k d ms)
 unfolding joined
 joined-last json.no_members k d ms = refl
 joined-last (json.member l e es) k d ms = ap (json.member l e) (joined-last es k d ms)
@@ -115,7 +118,8 @@ unfolding joined IsAbove
 put-joined k d json.no_members h = refl
 put-joined k d (json.member l e es) h = rw h.0 (ap (json.member l e) (put-joined k d es h.1))
 
-IsAbove-joined : (k : List ℕ) (es : json.Members) (l : List ℕ) (d : json.Data) → IsAbove k es → slice_cmp nat_cmp k l ≡ Greater → IsAbove k (joined es (json.member l d json.no_members))
+IsAbove-joined : (k : List ℕ) (es : json.Members) (l : List ℕ) (d : json.Data)
+    → IsAbove k es → slice_cmp nat_cmp k l ≡ Greater → IsAbove k (joined es (json.member l d json.no_members))
 unfolding joined IsAbove
 IsAbove-joined k json.no_members l d h g = (g, tt)
 IsAbove-joined k (json.member m e es) l d h g = (h.0, IsAbove-joined k es l d h.1 g)
@@ -125,7 +129,8 @@ AreAbove : json.Members → Members → Type 0
 AreAbove es node.no_members = ⊤
 AreAbove es (node.member k n ms) = IsAbove k es × AreAbove es ms
 
-AreAbove-joined : (es : json.Members) (k : List ℕ) (d : json.Data) (ms : Members) → AreAbove es ms → IsBelow k ms → AreAbove (joined es (json.member k d json.no_members)) ms
+AreAbove-joined : (es : json.Members) (k : List ℕ) (d : json.Data) (ms : Members)
+    → AreAbove es ms → IsBelow k ms → AreAbove (joined es (json.member k d json.no_members)) ms
 unfolding AreAbove
 AreAbove-joined es k d node.no_members h b = tt
 AreAbove-joined es k d (node.member l n ms) h b =
@@ -156,11 +161,13 @@ mutual
   of_items-outline node.no_items s = refl
   of_items-outline (node.item n ns) s = rw (of_json-outline n s.0, of_items-outline ns s.1)
 
-  of_members-outline : (ms : Members) (es : json.Members) → AreAscending ms → MembersAreSound ms → AreAbove es ms → of_members (members_outline (to_members ms)) es ≡ Some (joined es (to_members ms))
+  of_members-outline : (ms : Members) (es : json.Members) → AreAscending ms
+      → MembersAreSound ms → AreAbove es ms → of_members (members_outline (to_members ms)) es ≡ Some (joined es (to_members ms))
   of_members-outline node.no_members es a s h = ap Some (sym (joined-none es))
   of_members-outline (node.member k n ms) es a s h =
       let d = to_data n in
-      rw (of_json-outline n s.0) (ap (of_members (members_outline (to_members ms))) (put-joined k d es h.0) ∙ of_members-outline ms (joined es (json.member k d json.no_members)) a.1 s.1 (AreAbove-joined es k d ms h.1 a.0)
+      rw (of_json-outline n s.0) (ap (of_members (members_outline (to_members ms))) (put-joined k d es h.0)
+      ∙ of_members-outline ms (joined es (json.member k d json.no_members)) a.1 s.1 (AreAbove-joined es k d ms h.1 a.0)
       ∙ ap Some (joined-last es k d (to_members ms)))
 
 -- the tokens of a tree print as its compact text
@@ -172,8 +179,10 @@ pub tree_of-compact_text : (n : Node) → IsSound n → IsWritable n → tree_of
 tree_of-compact_text n s w =
     let j = outline (to_data n) in
     let printed : print (json_tokens j) ≡ compact_text n = print-tokens_of n w.0 in
-    let lexed : tokens (compact_text n) ≡ json_tokens j = ap tokens (sym printed) ∙ tokens-print (json_tokens j) (ArePrintable-json_tokens j (HasNumbers-to_data n s)) in
+    let lexed : tokens (compact_text n) ≡ json_tokens j =
+    ap tokens (sym printed) ∙ tokens-print (json_tokens j) (ArePrintable-json_tokens j (HasNumbers-to_data n s)) in
     let deep = depth-outline (to_data n) ∙ depth-to_data n in
     let parsed = ap (tree.value max_depth) (lexed ∙ sym (append-nil (json_tokens j))) ∙ value-json_tokens j max_depth [] (omega (arith, deep, w.1)) in
-    let back : read (compact_text n) ≡ Some (to_data n) = ap (option_and_then of_json) (ap (option_and_then (λ p. tree.if_last p.0 p.1)) parsed) ∙ of_json-outline n s in
+    let back : read (compact_text n) ≡ Some (to_data n) =
+    ap (option_and_then of_json) (ap (option_and_then (λ p. tree.if_last p.0 p.1)) parsed) ∙ of_json-outline n s in
     ap (option_map of_data) back ∙ ap Some (of_data-to_data n s w.0)

@@ -1,5 +1,6 @@
 -- What holds of each tree in hand and of each text's tree.
-use Rattle.std.proofs.Common.{◌≡◌, ℕ, ◌^◌, ℤ, pos, List, [], ◌∷◌, String, Global, Bool, true, false, cond, Option, Some, None, option_map, option_and_then, Ordering, Less, Equal, Greater, string_bytes, string_cmp, refl, ap, ◌∙◌, subst, unsigned_abs}
+use Rattle.std.proofs.Common.{◌≡◌, ℕ, ◌^◌, ℤ, pos, List, [], ◌∷◌, String, Global, Bool, true, false, cond, Option, Some, None, option_map}
+use Rattle.std.proofs.Common.{option_and_then, Ordering, Less, Equal, Greater, string_bytes, string_cmp, refl, ap, ◌∙◌, subst, unsigned_abs}
 use Rattle.std.proofs.lemmas.Cmp.{nat_list_cmp_total}
 use Rattle.std.specs.Cmp.Lexicographic.{slice_cmp}
 use Rattle.std.specs.List.{AllByRecursion}
@@ -21,7 +22,8 @@ use Rattle.bidi_tree.proofs.TreeLemmas.{Entry, of_members-put}
 
 -- ---- a `BTreeMap` has its names in order
 
-IsBelow-members_node : (k : String Global) (es : List Entry) → AllByRecursion (λ y. string_cmp k y ≡ Less) (keys_of es) → IsBelow (string_bytes k) (members_node es)
+IsBelow-members_node : (k : String Global) (es : List Entry)
+    → AllByRecursion (λ y. string_cmp k y ≡ Less) (keys_of es) → IsBelow (string_bytes k) (members_node es)
 IsBelow-members_node k [] h = tt
 IsBelow-members_node k (e ∷ es) h = (h.0, IsBelow-members_node k es h.1)
 
@@ -32,7 +34,8 @@ AreAscending-members_node (e ∷ es) h = (IsBelow-members_node e.0 es h.0, AreAs
 
 -- ---- `put` keeps the order, and what holds of each member
 
-below_at : (c : Ordering) (l k m : List ℕ) (n o : Node) (ms : Members) → slice_cmp nat_cmp l k ≡ Less → (slice_cmp nat_cmp l m ≡ Less) × IsBelow l ms → IsBelow l (put k n ms)
+below_at : (c : Ordering) (l k m : List ℕ) (n o : Node) (ms : Members)
+    → slice_cmp nat_cmp l k ≡ Less → (slice_cmp nat_cmp l m ≡ Less) × IsBelow l ms → IsBelow l (put k n ms)
     → IsBelow l (match_ordering c (member k n (member m o ms)) (member m n ms) (member m o (put k n ms)))
 below_at Less l k m n o ms b h later = (b, h)
 below_at Equal l k m n o ms b h later = h
@@ -47,7 +50,8 @@ pub IsBelow-below : (k l : List ℕ) (ms : Members) → slice_cmp nat_cmp k l �
 IsBelow-below k l no_members b h = tt
 IsBelow-below k l (member m n ms) b h = (nat_list_cmp_total.trans k l m b h.0, IsBelow-below k l ms b h.1)
 
-ascending_at : (c : Ordering) (k m : List ℕ) (n o : Node) (ms : Members) → slice_cmp nat_cmp k m ≡ c → IsBelow m ms × AreAscending ms → AreAscending (put k n ms)
+ascending_at : (c : Ordering) (k m : List ℕ) (n o : Node) (ms : Members)
+    → slice_cmp nat_cmp k m ≡ c → IsBelow m ms × AreAscending ms → AreAscending (put k n ms)
     → AreAscending (match_ordering c (member k n (member m o ms)) (member m n ms) (member m o (put k n ms)))
 ascending_at Less k m n o ms is h later = ((is, IsBelow-below k m ms is h.0), h)
 ascending_at Equal k m n o ms is h later = h
@@ -91,7 +95,8 @@ Holds-map : {A B : Type 0} (P : A → Type 0) (Q : B → Type 0) (f : A → B) �
 Holds-map P Q f k None h = tt
 Holds-map P Q f k (Some a) h = k a h
 
-Holds-and_then : {A B : Type 0} (P : A → Type 0) (Q : B → Type 0) (f : A → Option B) → ((a : A) → P a → Holds Q (f a)) → (o : Option A) → Holds P o → Holds Q (option_and_then f o)
+Holds-and_then : {A B : Type 0} (P : A → Type 0) (Q : B → Type 0) (f : A → Option B)
+    → ((a : A) → P a → Holds Q (f a)) → (o : Option A) → Holds P o → Holds Q (option_and_then f o)
 Holds-and_then P Q f k None h = tt
 Holds-and_then P Q f k (Some a) h = k a h
 
@@ -109,7 +114,8 @@ abbrev MembersFit : json.Members → Type 0
 MembersFit ms = AreAscending (text.of_members ms) × MembersAreSound (text.of_members ms)
 
 MembersFit-put : (k : List ℕ) (d : json.Data) (ms : json.Members) → DataIsSound d → MembersFit ms → MembersFit (json.put k d ms)
-MembersFit-put k d ms s h = rw of_members-put (AreAscending-put k (of_data d) (text.of_members ms) h.0, MembersAreSound-put k (of_data d) (text.of_members ms) s h.1)
+MembersFit-put k d ms s h =
+    rw of_members-put (AreAscending-put k (of_data d) (text.of_members ms) h.0, MembersAreSound-put k (of_data d) (text.of_members ms) s h.1)
 
 mutual
   sound_json : (j : tree.Json) → Holds DataIsSound (of_json j)
@@ -133,7 +139,8 @@ mutual
 pub Holds-tree_of : (s : List ℕ) → Holds IsSound (tree_of s)
 Holds-tree_of s =
     let o : Option tree.Json = option_and_then (λ p. tree.if_last p.0 p.1) (tree.value max_depth (tokens s)) in
-    Holds-map DataIsSound IsSound of_data (λ d h. h) (read s) (Holds-and_then (λ _. ⊤) DataIsSound of_json (λ j h. sound_json j) o (always (λ _. ⊤) (λ _. tt) o))
+    Holds-map DataIsSound IsSound of_data (λ d h. h) (read s)
+    (Holds-and_then (λ _. ⊤) DataIsSound of_json (λ j h. sound_json j) o (always (λ _. ⊤) (λ _. tt) o))
 
 pub IsSound-tree_of : (s : List ℕ) (n : Node) → tree_of s ≡ Some n → IsSound n
 IsSound-tree_of s n e = subst (Holds IsSound) e (Holds-tree_of s)

@@ -91,7 +91,8 @@ unfolding serde_json_on_literals
 names_are_escaped = refl
 
 -- each kind of tree, with no blank
-pub every_kind : compact_text (list (item null (item (boolean true) (item (whole (negsuc 6)) (item (text (codes "t")) (item (list no_items) (item (map no_members) no_items)))))))
+pub every_kind : compact_text (list
+    (item null (item (boolean true) (item (whole (negsuc 6)) (item (text (codes "t")) (item (list no_items) (item (map no_members) no_items)))))))
     ≡ codes "[null,true,-7,\"t\",[],{}]"
 unfolding serde_json_on_literals digits
 every_kind = refl
@@ -117,7 +118,8 @@ unfolding serde_json_on_literals
 last_value_stays = refl
 
 -- the members are sorted as they are read
-pub names_are_sorted : tree_of_text None (codes "{\"b\":1,\"a\":2}") ≡ Some (map (member (codes "a") (whole (pos 2)) (member (codes "b") (whole (pos 1)) no_members)))
+pub names_are_sorted : tree_of_text None (codes "{\"b\":1,\"a\":2}")
+    ≡ Some (map (member (codes "a") (whole (pos 2)) (member (codes "b") (whole (pos 1)) no_members)))
 unfolding serde_json_on_literals
 names_are_sorted = refl
 
@@ -236,7 +238,8 @@ one_level_too_deep = refl
 
 -- the tree of the shortest command for session.status
 abbrev pub status_tree : Node
-status_tree = map (member (codes "id") (whole (pos 1)) (member (codes "method") (text (codes "session.status")) (member (codes "params") (map no_members) no_members)))
+status_tree =
+    map (member (codes "id") (whole (pos 1)) (member (codes "method") (text (codes "session.status")) (member (codes "params") (map no_members) no_members)))
 
 -- its text has 46 bytes, and is that tree where 46 are allowed
 pub status_command : tree_of_text (Some 46) (codes "{\"id\":1,\"method\":\"session.status\",\"params\":{}}") ≡ Some status_tree

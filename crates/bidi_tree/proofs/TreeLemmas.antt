@@ -1,5 +1,6 @@
 -- Trees beside the values that they were read from.
-use Rattle.std.proofs.Common.{◌≡◌, ℕ, List, [], ◌∷◌, ◌++◌, String, Global, Ordering, Less, Equal, Greater, string_bytes, string_cmp, map, Option, Some, None, option_map, cond, is_eq, Bor, BTreeMap, Vec, rules, refl, ap, ◌∙◌}
+use Rattle.std.proofs.Common.{◌≡◌, ℕ, List, [], ◌∷◌, ◌++◌, String, Global, Ordering, Less, Equal, Greater, string_bytes, string_cmp}
+use Rattle.std.proofs.Common.{map, Option, Some, None, option_map, cond, is_eq, Bor, BTreeMap, Vec, rules, refl, ap, ◌∙◌}
 use Rattle.std.proofs.lemmas.Cmp.{nat_list_cmp_total}
 use Rattle.std.specs.List.{AllByRecursion}
 use Rattle.std.specs.List.Sorted.{IsStrictlySortedBy}
@@ -19,16 +20,19 @@ use Rattle.bidi_tree.specs.declared.tree.Tree.{Tree, List as ListOf, Map, the_le
 abbrev pub Entry : Type 0
 Entry = String Global × Tree
 
-members_node-match_ordering : (o : Ordering) (a b c : List Entry) → members_node (match_ordering o a b c) ≡ match_ordering o (members_node a) (members_node b) (members_node c)
+members_node-match_ordering : (o : Ordering) (a b c : List Entry)
+    → members_node (match_ordering o a b c) ≡ match_ordering o (members_node a) (members_node b) (members_node c)
 members_node-match_ordering Less a b c = refl
 members_node-match_ordering Equal a b c = refl
 members_node-match_ordering Greater a b c = refl
 
-pub members_node-insert_entry : (es : List Entry) (k : String Global) (t : Tree) → members_node (insert_entry string_cmp es k t) ≡ put (string_bytes k) (node t) (members_node es)
+pub members_node-insert_entry : (es : List Entry) (k : String Global) (t : Tree)
+    → members_node (insert_entry string_cmp es k t) ≡ put (string_bytes k) (node t) (members_node es)
 members_node-insert_entry [] k t = refl
 members_node-insert_entry (e ∷ es) k t = members_node-match_ordering (string_cmp k e.0) _ _ _ ∙ rw (members_node-insert_entry es k t)
 
-of_members-match_ordering : (o : Ordering) (a b c : json.Members) → of_members (match_ordering o a b c) ≡ match_ordering o (of_members a) (of_members b) (of_members c)
+of_members-match_ordering : (o : Ordering) (a b c : json.Members)
+    → of_members (match_ordering o a b c) ≡ match_ordering o (of_members a) (of_members b) (of_members c)
 of_members-match_ordering Less a b c = refl
 of_members-match_ordering Equal a b c = refl
 of_members-match_ordering Greater a b c = refl
@@ -42,7 +46,8 @@ pub of_items-items_view : (vs : List Value) → items_of (map (λ v. of_data (vi
 of_items-items_view [] = refl
 of_items-items_view (v ∷ vs) = ap (item (of_data (view v))) (of_items-items_view vs)
 
-below_middle : (first : Entry) (es : List Entry) (e : Entry) (more : List Entry) → AllByRecursion (λ y. string_cmp first.0 y ≡ Less) (keys_of (es ++ e ∷ more)) → string_cmp first.0 e.0 ≡ Less
+below_middle : (first : Entry) (es : List Entry) (e : Entry) (more : List Entry)
+    → AllByRecursion (λ y. string_cmp first.0 y ≡ Less) (keys_of (es ++ e ∷ more)) → string_cmp first.0 e.0 ≡ Less
 below_middle first [] e more h = h.0
 below_middle first (x ∷ es) e more h = below_middle first es e more h.1
 
@@ -56,12 +61,14 @@ put_last (first ∷ done) e more h =
     nat_list_cmp_total.antisymm (string_bytes e.0) (string_bytes first.0) ∙ ap ordering_reverse (below_middle first done e more h.0) in
     rw above (ap (member (string_bytes first.0) (node first.1)) (put_last done e more h.1))
 
-found_or : (o : Ordering) (t : Tree) (rest : Option Tree) (n : Option Node) → option_map node rest ≡ n → option_map node (cond (is_eq o) (Some t) rest) ≡ match_ordering o n (Some (node t)) n
+found_or : (o : Ordering) (t : Tree) (rest : Option Tree) (n : Option Node)
+    → option_map node rest ≡ n → option_map node (cond (is_eq o) (Some t) rest) ≡ match_ordering o n (Some (node t)) n
 found_or Less t rest n e = e
 found_or Equal t rest n e = refl
 found_or Greater t rest n e = e
 
-pub node-lookup : (name : List ℕ) (es : List Entry) → option_map node (lookup (is_at (λ k. slice_cmp nat_cmp name (string_bytes k))) es) ≡ get_member name (members_node es)
+pub node-lookup : (name : List ℕ) (es : List Entry)
+    → option_map node (lookup (is_at (λ k. slice_cmp nat_cmp name (string_bytes k))) es) ≡ get_member name (members_node es)
 node-lookup name [] = refl
 node-lookup name (e ∷ es) = found_or (slice_cmp nat_cmp name (string_bytes e.0)) e.1 _ _ (node-lookup name es)
 

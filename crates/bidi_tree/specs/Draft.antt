@@ -7,6 +7,7 @@ use Rattle.bidi_tree.specs.View.{items_of}
 use Rattle.bidi_tree.specs.declared.draft.Draft.{Draft, fold-Draft}
 use Rattle.bidi_tree.specs.declared.draft.Draft.TheOpen.{Draft-F}
 
+-- members by their names, as those of a tree
 abbrev pub named : List (Bor (List ℕ) × Node) → Members
 named [] = no_members
 named (m ∷ ms) = member m.0.now m.1 (named ms)
@@ -21,6 +22,7 @@ draft_step (Draft-F.Text s) = tree.text s.now
 draft_step (Draft-F.List v) = tree.list (items_of v.items)
 draft_step (Draft-F.Map v) = tree.map (named v.items)
 
+-- the tree of a draft; the trees of some; the members of drafts by name, in the order of the list
 abbrev pub draft_node : Draft → Node
 draft_node = fold-Draft Node draft_step
 

@@ -1,4 +1,4 @@
-//! A tree that borrows its texts, as it is made of a value to be written.
+//! Trees that borrow their texts, made of values to be written.
 ghost use Rattle.std.specs.Prelude.{◌≡◌, IfOk, OnOk, OnErr};
 ghost use Rattle.bidi_tree.specs.Node.{IsSound, ItemsAreSound, MembersAreSound, AreAscending, put};
 ghost use Rattle.bidi_tree.specs.Draft.{draft_node, draft_items, draft_members};
@@ -46,9 +46,9 @@ impl<'a> Draft<'a> {
 /// The members of a draft of a map, in the order in which they are written.
 pub type DraftMembers<'a> = Vec<(&'a str, Draft<'a>)>;
 
-/// Puts a member in, in place of one of that name, before the first member whose name is above its own.
+/// Puts a member in: in place of the one of that name, or else before the first whose name is above its own.
 ///
-/// The members before it are looked at, and those behind it moved: a map of a value has few.
+/// Looks at the members before it, and moves those behind it: a map of a value has few.
 ///
 /// # Errors
 /// No memory: the members are as they were.

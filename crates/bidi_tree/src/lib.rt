@@ -4,6 +4,9 @@
 //! exactly, `Odd` for any other number, a text, a list, or a map with distinct names. [`read`] gives the tree
 //! of a text, [`write`] the compact text of a tree, and what is written reads back as the tree.
 //!
+//! A [`Draft`] is such a tree with texts that stand elsewhere: it is made of a value to be written
+//! ([`write_draft`]), and costs a block for each list and map.
+//!
 //! After RFC 8259, as `serde_json` reads it: of two members of one name the last stays, 127 levels are
 //! read, and a number too large for a float is not JSON.
 #![tactic(auto)]

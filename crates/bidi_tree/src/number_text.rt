@@ -31,7 +31,7 @@ pub(crate) fn number_tree(text: &str) -> Option<Tree>
     }
 }
 
-/// The number that these bytes write, where they are digits alone, as most are, and it fits.
+/// The number that these bytes write, where all are digits and it is below 2^64. Most numbers are such.
 fn digits_alone(bytes: &[u8]) -> Option<u64>
     ensures digits { IfSome result (λ n. (0 < length bytes.now) × AllDigits 10 bytes.now × (digits_value 10 bytes.now ≡ n)) }
     ensures fits { IfSome result (λ n. n < 2 ^ 64) }
@@ -47,7 +47,7 @@ fn digits_alone(bytes: &[u8]) -> Option<u64>
     Some(value)
 }
 
-/// The same of any text.
+/// The tree of a number's text, which may have a sign, a fraction or an exponent.
 fn any_number(text: &str) -> Option<Tree>
     ensures { option_map node result ≡ option_map number_node (number_of text.now) }
 {

@@ -1,4 +1,4 @@
-//! From a tree to its text.
+//! From a tree or a draft to its text.
 ghost use Rattle.std.specs.Prelude.{◌≡◌, ◌++◌, Some, false, IfOk, OnOk, string_bytes};
 ghost use Rattle.bidi_tree.specs.Node.{Node, whole, has_odd, items_have_odd, members_have_odd, IsWritable, IsSound};
 ghost use Rattle.bidi_tree.specs.Data.{tokens_of, items_tokens, members_tokens};
@@ -17,7 +17,8 @@ const ROOM: usize = 256;
 
 /// Writes the compact text of a tree: no blank, the members in byte order of their names.
 ///
-/// What is written reads back as the tree. No text is copied but into the one that is written.
+/// What is written reads back as the tree. A draft is made first, a block for each list and map; no text is copied
+/// but into the one that is written.
 ///
 /// # Errors
 /// No memory: an allocation failed.

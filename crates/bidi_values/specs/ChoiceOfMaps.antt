@@ -6,25 +6,30 @@ use Rattle.bidi_shape.specs.Term.{required, Term, Openness, either, map_of, Rows
 use Rattle.bidi_shape.specs.Fits.{Fits, fits_map, fits_first, fits_second, RowsFit, there}
 
 -- a map fits where the term of a member is wider
-pub wider : {k : List ℕ} {σ τ : Term} {rs : Rows} {o : Openness} {t : Node} → ((u : Node) → Fits u σ → Fits u τ) → Fits t (map_of (row k required σ rs) o) → Fits t (map_of (row k required τ rs) o)
+pub wider : {k : List ℕ} {σ τ : Term} {rs : Rows} {o : Openness} {t : Node}
+    → ((u : Node) → Fits u σ → Fits u τ) → Fits t (map_of (row k required σ rs) o) → Fits t (map_of (row k required τ rs) o)
 wider {k} {σ} {τ} {rs} go (fits_map ms rows o f h) = fits_map ms (row k required τ rs) o (rows_wider f) h
   where
     rows_wider : {ms : Members} → RowsFit ms (row k required σ rs) → RowsFit ms (row k required τ rs)
     rows_wider (there m l n ρ rest u e f more) = there m k required τ rs u e (go u f) more
 
 -- a choice under a row's name is one of the two
-pub one_of_two : {k : List ℕ} {σ τ : Term} {rs : Rows} {o : Openness} {t : Node} → Fits t (map_of (row k required (either σ τ) rs) o) → Fits t (map_of (row k required σ rs) o) ⊎ Fits t (map_of (row k required τ rs) o)
+pub one_of_two : {k : List ℕ} {σ τ : Term} {rs : Rows} {o : Openness} {t : Node}
+    → Fits t (map_of (row k required (either σ τ) rs) o) → Fits t (map_of (row k required σ rs) o) ⊎ Fits t (map_of (row k required τ rs) o)
 one_of_two {k} {σ} {τ} {rs} (fits_map ms rows o f h) = by_row f
   where
-    by_value : (m : Members) (u : Node) → get_member k m ≡ Some u → Fits u (either σ τ) → RowsFit m rs → RowsFit m (row k required σ rs) ⊎ RowsFit m (row k required τ rs)
+    by_value : (m : Members) (u : Node)
+        → get_member k m ≡ Some u → Fits u (either σ τ) → RowsFit m rs → RowsFit m (row k required σ rs) ⊎ RowsFit m (row k required τ rs)
     by_value m u e (fits_first v a b f) more = inl (there m k required σ rs u e f more)
     by_value m u e (fits_second v a b f) more = inr (there m k required τ rs u e f more)
 
-    both : RowsFit ms (row k required σ rs) ⊎ RowsFit ms (row k required τ rs) → Fits (node.map ms) (map_of (row k required σ rs) o) ⊎ Fits (node.map ms) (map_of (row k required τ rs) o)
+    both : RowsFit ms (row k required σ rs) ⊎ RowsFit ms (row k required τ rs)
+        → Fits (node.map ms) (map_of (row k required σ rs) o) ⊎ Fits (node.map ms) (map_of (row k required τ rs) o)
     both (inl f) = inl (fits_map ms (row k required σ rs) o f h)
     both (inr f) = inr (fits_map ms (row k required τ rs) o f h)
 
-    by_row : RowsFit ms (row k required (either σ τ) rs) → Fits (node.map ms) (map_of (row k required σ rs) o) ⊎ Fits (node.map ms) (map_of (row k required τ rs) o)
+    by_row : RowsFit ms (row k required (either σ τ) rs)
+        → Fits (node.map ms) (map_of (row k required σ rs) o) ⊎ Fits (node.map ms) (map_of (row k required τ rs) o)
     by_row (there m l n ρ rest u e f more) = both (by_value m u e f more)
 
 pub to_first : {σ τ : Term} (u : Node) → Fits u σ → Fits u (either σ τ)

@@ -53,14 +53,17 @@ plain_local t (fits_second u a b (fits_second v c d (fits_second w x y f))) =
 pub list_local : (t : Node) → Fits t local_list → Fits t local_alternatives
 list_local t f = by_kind (one_of_two f)
   where
-    by_kind : Fits t (typed_value "array" (any_number_of (rule local_value))) ⊎ Fits t (typed_value "set" (any_number_of (rule local_value))) → Fits t local_alternatives
+    by_kind : Fits t (typed_value "array" (any_number_of (rule local_value)))
+        ⊎ Fits t (typed_value "set" (any_number_of (rule local_value))) → Fits t local_alternatives
     by_kind (inl f) = fits_second t _ _ (fits_second t _ _ (fits_first t _ _ f))
-    by_kind (inr f) = fits_second t _ _ (fits_second t _ _ (fits_second t _ _ (fits_second t _ _ (fits_second t _ _ (fits_second t _ _ (fits_second t _ _ f))))))
+    by_kind (inr f) =
+        fits_second t _ _ (fits_second t _ _ (fits_second t _ _ (fits_second t _ _ (fits_second t _ _ (fits_second t _ _ (fits_second t _ _ f))))))
 
 pub pairs_local : (t : Node) → Fits t local_pairs → Fits t local_alternatives
 pairs_local t f = by_kind (one_of_two f)
   where
-    by_kind : Fits t (typed_value "object" (any_number_of (rule local_pair))) ⊎ Fits t (typed_value "map" (any_number_of (rule local_pair))) → Fits t local_alternatives
+    by_kind : Fits t (typed_value "object" (any_number_of (rule local_pair))) ⊎ Fits t (typed_value "map" (any_number_of (rule local_pair)))
+        → Fits t local_alternatives
     by_kind (inl f) = fits_second t _ _ (fits_second t _ _ (fits_second t _ _ (fits_second t _ _ (fits_second t _ _ (fits_first t _ _ f)))))
     by_kind (inr f) = fits_second t _ _ (fits_second t _ _ (fits_second t _ _ (fits_second t _ _ (fits_first t _ _ f))))
 
@@ -68,11 +71,15 @@ pub one_of_local : (t : Node) → Fits t local_alternatives → Fits t local_pla
 one_of_local t (fits_first a σ τ f) = inl (fits_first a _ _ f)
 one_of_local t (fits_second a σ τ (fits_first b u v f)) = inl (fits_second b _ _ (fits_first b _ _ f))
 one_of_local t (fits_second a σ τ (fits_second b u v (fits_first c w x f))) = inr (inl (wider to_first f))
-one_of_local t (fits_second a σ τ (fits_second b u v (fits_second c w x (fits_first d y z f)))) = inl (fits_second d _ _ (fits_second d _ _ (fits_first d _ _ f)))
+one_of_local t (fits_second a σ τ (fits_second b u v (fits_second c w x (fits_first d y z f)))) =
+    inl (fits_second d _ _ (fits_second d _ _ (fits_first d _ _ f)))
 one_of_local t (fits_second a σ τ (fits_second b u v (fits_second c w x (fits_second d y z (fits_first e p q f))))) = inr (inr (wider to_second f))
-one_of_local t (fits_second a σ τ (fits_second b u v (fits_second c w x (fits_second d y z (fits_second e p q (fits_first g r s f)))))) = inr (inr (wider to_first f))
-one_of_local t (fits_second a σ τ (fits_second b u v (fits_second c w x (fits_second d y z (fits_second e p q (fits_second g r s (fits_first h i j f))))))) = inl (fits_second h _ _ (fits_second h _ _ (fits_second h _ _ f)))
-one_of_local t (fits_second a σ τ (fits_second b u v (fits_second c w x (fits_second d y z (fits_second e p q (fits_second g r s (fits_second h i j f))))))) = inr (inl (wider to_second f))
+one_of_local t (fits_second a σ τ (fits_second b u v (fits_second c w x (fits_second d y z (fits_second e p q (fits_first g r s f)))))) =
+    inr (inr (wider to_first f))
+one_of_local t (fits_second a σ τ (fits_second b u v (fits_second c w x (fits_second d y z (fits_second e p q (fits_second g r s (fits_first h i j f))))))) =
+    inl (fits_second h _ _ (fits_second h _ _ (fits_second h _ _ f)))
+one_of_local t (fits_second a σ τ (fits_second b u v (fits_second c w x (fits_second d y z (fits_second e p q (fits_second g r s (fits_second h i j f))))))) =
+    inr (inl (wider to_second f))
 
 -- ---- no tree is of two of them
 

@@ -2,7 +2,8 @@
 use Rattle.std.proofs.Common.{◌≡◌, ◌≤◌, ◌⊎◌, inl, inr, ℕ, List, false, ◌||◌, refl, sym, subst, arith}
 use Rattle.std.proofs.lemmas.Bool.{or_from}
 use Rattle.bidi_tree.specs.Node as node
-use Rattle.bidi_tree.specs.Node.{Node, Items, no_items, item, Members, no_members, member, get_member, levels, items_levels, members_levels, has_odd, items_have_odd}
+use Rattle.bidi_tree.specs.Node.{Node, Items, no_items, item, Members, no_members, member, get_member}
+use Rattle.bidi_tree.specs.Node.{levels, items_levels, members_levels, has_odd, items_have_odd}
 use Rattle.bidi_shape.specs.Name.{Name}
 use Rattle.bidi_shape.specs.Term.{Term, Rows, Openness, map_of, text, either, rule, capped, list_of, pair_of}
 use Rattle.bidi_shape.specs.Profile.{term_of}
@@ -31,7 +32,8 @@ pub record NestingOf (P L M : Type 0) : Type 1 where
   pub plain_fits : (t : Node) → Fits t plain.rule → Fits t inside
   pub list_fits : (t : Node) → Fits t (holding list (list_of 0 (rule values))) → Fits t inside
   pub pairs_fit : (t : Node) → Fits t (holding pairs (list_of 0 (rule pair_rule))) → Fits t inside
-  pub one_of : (t : Node) → Fits t inside → Fits t plain.rule ⊎ (Fits t (holding list (list_of 0 (rule values))) ⊎ Fits t (holding pairs (list_of 0 (rule pair_rule))))
+  pub one_of : (t : Node) → Fits t inside
+      → Fits t plain.rule ⊎ (Fits t (holding list (list_of 0 (rule values))) ⊎ Fits t (holding pairs (list_of 0 (rule pair_rule))))
   -- and no tree is of two of them, nor a text
   pub list_not_plain : (h : L) (t : Node) → list.well h → Fits (around list h t) plain.rule → ⊥
   pub pairs_not_plain : (h : M) (t : Node) → pairs.well h → Fits (around pairs h t) plain.rule → ⊥
@@ -138,11 +140,13 @@ module _ {P L M : Type 0} (n : NestingOf P L M) where
     value_fits (plain p) w h = value_fits_rule (n.plain.tree_of p) h (n.plain_fits (n.plain.tree_of p) (n.plain.fits p w))
     value_fits (list i vs) w h =
         let below = value_levels n.list i (node.list (values_tree n vs)) in
-        value_fits_rule (value_tree n (list i vs)) h (n.list_fits (value_tree n (list i vs)) (around_fits n.list i (node.list (values_tree n vs)) (list_of 0 (rule n.values)) w.0
+        value_fits_rule (value_tree n (list i vs)) h
+        (n.list_fits (value_tree n (list i vs)) (around_fits n.list i (node.list (values_tree n vs)) (list_of 0 (rule n.values)) w.0
         (fits_list (values_tree n vs) 0 (rule n.values) (omega arith) (values_fit vs w.1 (omega (arith, below, h))))))
     value_fits (pairs i ps) w h =
         let below = value_levels n.pairs i (node.list (pairs_tree n ps)) in
-        value_fits_rule (value_tree n (pairs i ps)) h (n.pairs_fit (value_tree n (pairs i ps)) (around_fits n.pairs i (node.list (pairs_tree n ps)) (list_of 0 (rule n.pair_rule)) w.0
+        value_fits_rule (value_tree n (pairs i ps)) h
+        (n.pairs_fit (value_tree n (pairs i ps)) (around_fits n.pairs i (node.list (pairs_tree n ps)) (list_of 0 (rule n.pair_rule)) w.0
         (fits_list (pairs_tree n ps) 0 (rule n.pair_rule) (omega arith) (all_pairs_fit ps w.1 (omega (arith, below, h))))))
 
     pub values_fit : (vs : Contents P L M) → ValuesAreWell n vs → items_levels (values_tree n vs) ≤ 60 → AllFit (values_tree n vs) (rule n.values)
@@ -155,24 +159,28 @@ module _ {P L M : Type 0} (n : NestingOf P L M) where
         let t = pair_node (key_tree n k) (value_tree n v) in
         an_item t (pairs_tree n ps) (rule n.pair_rule)
         (fits_rule t n.pair_rule (subst (Fits t) (sym n.is_pair)
-        (fits_pair (key_tree n k) (value_tree n v) (either (rule n.values) text) (rule n.values) (key_fits k w.0.0 (omega arith)) (value_fits v w.0.1 (omega arith)))))
+        (fits_pair (key_tree n k) (value_tree n v) (either (rule n.values) text) (rule n.values) (key_fits k w.0.0 (omega arith))
+        (value_fits v w.0.1 (omega arith)))))
         (all_pairs_fit ps w.1 (omega arith))
 
     pub key_fits : (k : Key P L M) → KeyIsWell n k → levels (key_tree n k) ≤ 60 → Fits (key_tree n k) (either (rule n.values) text)
     key_fits (value_key v) w h = fits_first (value_tree n v) (rule n.values) text (value_fits v w h)
     key_fits (text_key k) w h = fits_second (node.text k) (rule n.values) text (fits_text k)
 
-  list_fits_holding : (i : L) (vs : Contents P L M) → PartsAreWell n (list i vs) → levels (value_tree n (list i vs)) ≤ 60 → Fits (value_tree n (list i vs)) (holding n.list (list_of 0 (rule n.values)))
+  list_fits_holding : (i : L) (vs : Contents P L M) → PartsAreWell n (list i vs)
+      → levels (value_tree n (list i vs)) ≤ 60 → Fits (value_tree n (list i vs)) (holding n.list (list_of 0 (rule n.values)))
   list_fits_holding i vs w h =
       let below = value_levels n.list i (node.list (values_tree n vs)) in
-      around_fits n.list i (node.list (values_tree n vs)) (list_of 0 (rule n.values)) w.0 (fits_list (values_tree n vs) 0 (rule n.values) (omega arith) (values_fit vs w.1 (omega (arith, below, h))))
+      around_fits n.list i (node.list (values_tree n vs)) (list_of 0 (rule n.values)) w.0
+      (fits_list (values_tree n vs) 0 (rule n.values) (omega arith) (values_fit vs w.1 (omega (arith, below, h))))
 
   -- ---- one tree, one value
 
   text_not_value : (k : List ℕ) → Fits (node.text k) (rule n.values) → ⊥
   text_not_value k f = text_of_none (n.one_of (node.text k) (value_fits_inside (node.text k) f))
     where
-      text_of_none : Fits (node.text k) n.plain.rule ⊎ (Fits (node.text k) (holding n.list (list_of 0 (rule n.values))) ⊎ Fits (node.text k) (holding n.pairs (list_of 0 (rule n.pair_rule)))) → ⊥
+      text_of_none : Fits (node.text k) n.plain.rule
+          ⊎ (Fits (node.text k) (holding n.list (list_of 0 (rule n.values))) ⊎ Fits (node.text k) (holding n.pairs (list_of 0 (rule n.pair_rule)))) → ⊥
       text_of_none (inl f) = n.text_not_plain k f
       text_of_none (inr (inl f)) = text_no_map f
       text_of_none (inr (inr f)) = text_no_map f
@@ -183,7 +191,8 @@ module _ {P L M : Type 0} (n : NestingOf P L M) where
     value_one (plain p) (plain q) a b g h e = n.plain.one_value p q a b e
     value_one (plain p) (list i ws) a b g h e = n.list_not_plain i (node.list (values_tree n ws)) b.0 (subst (λ t. Fits t n.plain.rule) e (n.plain.fits p a))
     value_one (plain p) (pairs i qs) a b g h e = n.pairs_not_plain i (node.list (pairs_tree n qs)) b.0 (subst (λ t. Fits t n.plain.rule) e (n.plain.fits p a))
-    value_one (list i vs) (plain q) a b g h e = n.list_not_plain i (node.list (values_tree n vs)) a.0 (subst (λ t. Fits t n.plain.rule) (sym e) (n.plain.fits q b))
+    value_one (list i vs) (plain q) a b g h e =
+        n.list_not_plain i (node.list (values_tree n vs)) a.0 (subst (λ t. Fits t n.plain.rule) (sym e) (n.plain.fits q b))
     value_one (list i vs) (list j ws) a b g h e =
         let one = around_one n.list i j (node.list (values_tree n vs)) (node.list (values_tree n ws)) a.0 b.0 e in
         let inside : values_tree n vs ≡ values_tree n ws = same_items one.1 in
@@ -192,9 +201,11 @@ module _ {P L M : Type 0} (n : NestingOf P L M) where
         (one.0, values_one vs ws a.1 b.1 (omega (arith, c, g)) (omega (arith, d, h)) inside)
     value_one (list i vs) (pairs j qs) a b g h e =
         n.pairs_not_list j (node.list (pairs_tree n qs)) b.0 (subst (λ t. Fits t (holding n.list (list_of 0 (rule n.values)))) e (list_fits_holding i vs a g))
-    value_one (pairs i ps) (plain q) a b g h e = n.pairs_not_plain i (node.list (pairs_tree n ps)) a.0 (subst (λ t. Fits t n.plain.rule) (sym e) (n.plain.fits q b))
+    value_one (pairs i ps) (plain q) a b g h e =
+        n.pairs_not_plain i (node.list (pairs_tree n ps)) a.0 (subst (λ t. Fits t n.plain.rule) (sym e) (n.plain.fits q b))
     value_one (pairs i ps) (list j ws) a b g h e =
-        n.pairs_not_list i (node.list (pairs_tree n ps)) a.0 (subst (λ t. Fits t (holding n.list (list_of 0 (rule n.values)))) (sym e) (list_fits_holding j ws b h))
+        n.pairs_not_list i (node.list (pairs_tree n ps)) a.0
+        (subst (λ t. Fits t (holding n.list (list_of 0 (rule n.values)))) (sym e) (list_fits_holding j ws b h))
     value_one (pairs i ps) (pairs j qs) a b g h e =
         let one = around_one n.pairs i j (node.list (pairs_tree n ps)) (node.list (pairs_tree n qs)) a.0 b.0 e in
         let inside : pairs_tree n ps ≡ pairs_tree n qs = same_items one.1 in
@@ -202,7 +213,8 @@ module _ {P L M : Type 0} (n : NestingOf P L M) where
         let d = value_levels n.pairs j (node.list (pairs_tree n qs)) in
         (one.0, all_pairs_one ps qs a.1 b.1 (omega (arith, c, g)) (omega (arith, d, h)) inside)
 
-    pub values_one : (vs ws : Contents P L M) → ValuesAreWell n vs → ValuesAreWell n ws → items_levels (values_tree n vs) ≤ 60 → items_levels (values_tree n ws) ≤ 60
+    pub values_one : (vs ws : Contents P L M)
+        → ValuesAreWell n vs → ValuesAreWell n ws → items_levels (values_tree n vs) ≤ 60 → items_levels (values_tree n ws) ≤ 60
         → values_tree n vs ≡ values_tree n ws → SameValues n vs ws
     values_one no_values no_values a b g h e = tt
     values_one no_values (value w ws) a b g h e = cc
@@ -210,7 +222,8 @@ module _ {P L M : Type 0} (n : NestingOf P L M) where
     values_one (value v vs) (value w ws) a b g h e =
         (value_one v w a.0 b.0 (omega arith) (omega arith) (first_item e), values_one vs ws a.1 b.1 (omega arith) (omega arith) (other_items e))
 
-    pub all_pairs_one : (ps qs : Pairs P L M) → PairsAreWell n ps → PairsAreWell n qs → items_levels (pairs_tree n ps) ≤ 60 → items_levels (pairs_tree n qs) ≤ 60
+    pub all_pairs_one : (ps qs : Pairs P L M)
+        → PairsAreWell n ps → PairsAreWell n qs → items_levels (pairs_tree n ps) ≤ 60 → items_levels (pairs_tree n qs) ≤ 60
         → pairs_tree n ps ≡ pairs_tree n qs → SamePairs n ps qs
     all_pairs_one no_pairs no_pairs a b g h e = tt
     all_pairs_one no_pairs (pair k w qs) a b g h e = cc

@@ -22,7 +22,8 @@ opaque_text ArrayBuffer = codes "arraybuffer"
 -- those after the first
 abbrev pub opaque_rest : List (Word Opaque)
 opaque_rest =
-    word opaque_text Function ∷ word opaque_text WeakMap ∷ word opaque_text WeakSet ∷ word opaque_text Generator ∷ word opaque_text Error ∷ word opaque_text Proxy ∷ word opaque_text Promise ∷ word opaque_text TypedArray ∷ word opaque_text ArrayBuffer ∷ []
+    word opaque_text Function ∷ word opaque_text WeakMap ∷ word opaque_text WeakSet ∷ word opaque_text Generator ∷ word opaque_text Error
+    ∷ word opaque_text Proxy ∷ word opaque_text Promise ∷ word opaque_text TypedArray ∷ word opaque_text ArrayBuffer ∷ []
 
 -- each text names its value
 pub opaque_named : (v : Opaque) → value_named (word opaque_text Symbol) opaque_rest (opaque_text v) ≡ Some v

@@ -1,5 +1,6 @@
 -- A closed map that may have a `value`: it is the map without it, or the map that has it.
-use Rattle.std.proofs.Common.{◌≡◌, ◌⊎◌, inl, inr, ℕ, List, ◌∷◌, codes, Bool, true, false, ◌||◌, cond, Option, Some, None, Ordering, Less, Equal, Greater, nat_cmp, bytes_eq, true≢false, refl, sym, ap, ◌∙◌, subst}
+use Rattle.std.proofs.Common.{◌≡◌, ◌⊎◌, inl, inr, ℕ, List, ◌∷◌, codes, Bool, true, false, ◌||◌, cond, Option, Some, None}
+use Rattle.std.proofs.Common.{Ordering, Less, Equal, Greater, nat_cmp, bytes_eq, true≢false, refl, sym, ap, ◌∙◌, subst}
 use Rattle.std.proofs.lemmas.Slice.Eq.{bytes_eq-Decides}
 use Rattle.std.specs.Cmp.Lexicographic.{slice_cmp}
 use Rattle.std.specs.Ordering.{match_ordering}
@@ -28,7 +29,8 @@ same_names no_more τ = refl
 same_names (row k need σ rs) τ = ap (◌∷◌ k) (same_names rs τ)
 
 -- a name of both is `value`, or one of the others
-other_name : (rs : Rows) (τ : Term) (q : List ℕ) → bytes_eq q (codes "value") ≡ false → is_named (names_of (and_value_or_not rs τ)) q ≡ true → is_named (names_of rs) q ≡ true
+other_name : (rs : Rows) (τ : Term) (q : List ℕ)
+    → bytes_eq q (codes "value") ≡ false → is_named (names_of (and_value_or_not rs τ)) q ≡ true → is_named (names_of rs) q ≡ true
 other_name no_more τ q d e = absurd (true≢false (sym e ∙ or_none (bytes_eq q (codes "value")) d))
   where
     or_none : (b : Bool) → b ≡ false → (b || false) ≡ false
@@ -45,7 +47,8 @@ left_out_still : (b : Bool) (l : List ℕ) (t : Node) (ns : Members) → b ≡ t
 left_out_still b l t ns e f = rw e f
 
 -- where no member is left, none is left of fewer
-none_left : (ks qs : List (List ℕ)) → ((q : List ℕ) → is_named ks q ≡ true → is_named qs q ≡ true) → (ms : Members) → without ks ms ≡ no_members → without qs ms ≡ no_members
+none_left : (ks qs : List (List ℕ)) → ((q : List ℕ) → is_named ks q ≡ true → is_named qs q ≡ true)
+    → (ms : Members) → without ks ms ≡ no_members → without qs ms ≡ no_members
 none_left ks qs more no_members e = refl
 none_left ks qs more (member l t ms) e =
     let p = left_out (is_named ks l) l t (without ks ms) e in
@@ -57,7 +60,8 @@ not_there Equal t r e = cc
 not_there Greater t r e = e
 
 -- where no member is called `value`, each is one of the others
-none_left_but : (rs : Rows) (τ : Term) (ms : Members) → get_member (codes "value") ms ≡ None → without (names_of (and_value_or_not rs τ)) ms ≡ no_members → without (names_of rs) ms ≡ no_members
+none_left_but : (rs : Rows) (τ : Term) (ms : Members) → get_member (codes "value") ms ≡ None
+    → without (names_of (and_value_or_not rs τ)) ms ≡ no_members → without (names_of rs) ms ≡ no_members
 none_left_but rs τ no_members n e = refl
 none_left_but rs τ (member l t ms) n e =
     let p = left_out (is_named (names_of (and_value_or_not rs τ)) l) l t (without (names_of (and_value_or_not rs τ)) ms) e in
@@ -92,33 +96,40 @@ rows_head : (rs : Rows) (τ : Term) (ms : Members) → RowsFit ms (and_value_or_
 rows_head no_more τ ms f = no_row ms
 rows_head (row k need σ rs) τ ms f = RowsFit-row (rows_head rs τ ms) f
 
-value_row : {τ : Term} {ms : Members} {t : Node} → get_member (codes "value") ms ≡ Some t → RowsFit ms (row (codes "value") optional τ no_more) → RowsFit ms (row (codes "value") required τ no_more)
+value_row : {τ : Term} {ms : Members} {t : Node} → get_member (codes "value") ms ≡ Some t
+    → RowsFit ms (row (codes "value") optional τ no_more) → RowsFit ms (row (codes "value") required τ no_more)
 value_row here (there m l x ρ rest u e f more) = there m l required ρ rest u e f more
 value_row here (absent m l ρ rest e more) = absurd (none_some (sym e ∙ here))
   where
     none_some : {u : Node} → None ≡ Some u → ⊥
     none_some e = cc
 
-rows_full : (rs : Rows) (τ : Term) (ms : Members) (t : Node) → get_member (codes "value") ms ≡ Some t → RowsFit ms (and_value_or_not rs τ) → RowsFit ms (and_value rs τ)
+rows_full : (rs : Rows) (τ : Term) (ms : Members) (t : Node)
+    → get_member (codes "value") ms ≡ Some t → RowsFit ms (and_value_or_not rs τ) → RowsFit ms (and_value rs τ)
 rows_full no_more τ ms t here f = value_row here f
 rows_full (row k need σ rs) τ ms t here f = RowsFit-row (rows_full rs τ ms t here) f
 
 -- ---- the maps
 
 -- the map without it fits
-pub fits_bare : (rs : Rows) (τ : Term) (t : Node) → list_any (bytes_eq (codes "value")) (names_of rs) ≡ false → Fits t (map_of rs closed) → Fits t (map_of (and_value_or_not rs τ) closed)
+pub fits_bare : (rs : Rows) (τ : Term) (t : Node)
+    → list_any (bytes_eq (codes "value")) (names_of rs) ≡ false → Fits t (map_of rs closed) → Fits t (map_of (and_value_or_not rs τ) closed)
 fits_bare rs τ t free (fits_map ms rows o f h) =
     let none : get_member (codes "value") ms ≡ None = sym (at-without_other (names_of rows) (codes "value") ms free) ∙ ap (get_member (codes "value")) h in
-    fits_map ms (and_value_or_not rows τ) closed (rows_without rows τ ms none f) (none_left (names_of rows) (names_of (and_value_or_not rows τ)) (more_names rows τ) ms h)
+    fits_map ms (and_value_or_not rows τ) closed (rows_without rows τ ms none f)
+    (none_left (names_of rows) (names_of (and_value_or_not rows τ)) (more_names rows τ) ms h)
 
 -- and so does the map that has it
 pub fits_full : (rs : Rows) (τ : Term) (t : Node) → Fits t (map_of (and_value rs τ) closed) → Fits t (map_of (and_value_or_not rs τ) closed)
-fits_full rs τ t (fits_map ms rows o f h) = fits_map ms (and_value_or_not rs τ) closed (rows_with rs τ ms f) (ap (λ ks. without ks ms) (sym (same_names rs τ)) ∙ h)
+fits_full rs τ t (fits_map ms rows o f h) =
+    fits_map ms (and_value_or_not rs τ) closed (rows_with rs τ ms f) (ap (λ ks. without ks ms) (sym (same_names rs τ)) ∙ h)
 
 -- it is one of the two
-pub bare_or_full : (rs : Rows) (τ : Term) (t : Node) → Fits t (map_of (and_value_or_not rs τ) closed) → Fits t (map_of rs closed) ⊎ Fits t (map_of (and_value rs τ) closed)
+pub bare_or_full : (rs : Rows) (τ : Term) (t : Node)
+    → Fits t (map_of (and_value_or_not rs τ) closed) → Fits t (map_of rs closed) ⊎ Fits t (map_of (and_value rs τ) closed)
 bare_or_full rs τ t (fits_map ms rows o f h) = by_value (get_member (codes "value") ms) refl
   where
-    by_value : (p : Option Node) → get_member (codes "value") ms ≡ p → Fits (node.map ms) (map_of rs closed) ⊎ Fits (node.map ms) (map_of (and_value rs τ) closed)
+    by_value : (p : Option Node) → get_member (codes "value") ms ≡ p
+        → Fits (node.map ms) (map_of rs closed) ⊎ Fits (node.map ms) (map_of (and_value rs τ) closed)
     by_value None e = inl (fits_map ms rs closed (rows_head rs τ ms f) (none_left_but rs τ ms e h))
     by_value (Some u) e = inr (fits_map ms (and_value rs τ) closed (rows_full rs τ ms u e f) (ap (λ ks. without ks ms) (same_names rs τ) ∙ h))

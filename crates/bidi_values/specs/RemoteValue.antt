@@ -69,8 +69,10 @@ beside_pairs = "type" is pairs_kind and held no_more
 
 pub plain_remote : (t : Node) → Fits t remote_plain → Fits t remote_alternatives
 plain_remote t (fits_first a σ τ f) = fits_first a _ _ f
-plain_remote t (fits_second a σ τ (fits_first b u v f)) = fits_second b _ _ (fits_first b _ _ (fits_bare beside_list (any_number_of (rule remote_value)) b refl f))
-plain_remote t (fits_second a σ τ (fits_second b u v (fits_first c w x f))) = fits_second c _ _ (fits_second c _ _ (fits_first c _ _ (fits_bare beside_pairs (any_number_of (rule remote_pair)) c refl f)))
+plain_remote t (fits_second a σ τ (fits_first b u v f)) =
+    fits_second b _ _ (fits_first b _ _ (fits_bare beside_list (any_number_of (rule remote_value)) b refl f))
+plain_remote t (fits_second a σ τ (fits_second b u v (fits_first c w x f))) =
+    fits_second c _ _ (fits_second c _ _ (fits_first c _ _ (fits_bare beside_pairs (any_number_of (rule remote_pair)) c refl f)))
 plain_remote t (fits_second a σ τ (fits_second b u v (fits_second c w x f))) = fits_second c _ _ (fits_second c _ _ (fits_second c _ _ f))
 
 pub list_remote : (t : Node) → Fits t remote_list → Fits t remote_alternatives

@@ -46,9 +46,11 @@ around s h t = node.map (joined s.rows (s.parts h) (member (codes "value") t no_
 
 -- ---- rows and names
 
-pub RowsFit-and_value : (rs : Rows) (τ : Term) (ms : Members) (t : Node) → RowsFit ms rs → get_member (codes "value") ms ≡ Some t → Fits t τ → RowsFit ms (and_value rs τ)
+pub RowsFit-and_value : (rs : Rows) (τ : Term) (ms : Members) (t : Node)
+    → RowsFit ms rs → get_member (codes "value") ms ≡ Some t → Fits t τ → RowsFit ms (and_value rs τ)
 RowsFit-and_value no_more τ ms t f e h = there ms (codes "value") required τ no_more t e h (no_row ms)
-RowsFit-and_value (row k need σ rs) τ ms t (there m l n ρ rest u e f more) is h = there m l n ρ (and_value rest τ) u e f (RowsFit-and_value rest τ m t more is h)
+RowsFit-and_value (row k need σ rs) τ ms t (there m l n ρ rest u e f more) is h =
+    there m l n ρ (and_value rest τ) u e f (RowsFit-and_value rest τ m t more is h)
 RowsFit-and_value (row k need σ rs) τ ms t (absent m l ρ rest e more) is h = absent m l ρ (and_value rest τ) e (RowsFit-and_value rest τ m t more is h)
 
 pub RowsFit-head : (rs : Rows) (τ : Term) (ms : Members) → RowsFit ms (and_value rs τ) → RowsFit ms rs
@@ -79,7 +81,8 @@ value_named : (rs : Rows) (τ : Term) → is_named (names_of (and_value rs τ)) 
 value_named no_more τ = refl
 value_named (row k need σ rs) τ = or_later (bytes_eq (codes "value") k) (is_named (names_of (and_value rs τ)) (codes "value")) (value_named rs τ)
 
-pub unnamed-and_value : (rs : Rows) (τ : Term) (q : List ℕ) → is_named (names_of rs) q ≡ false → bytes_eq q (codes "value") ≡ false → is_named (names_of (and_value rs τ)) q ≡ false
+pub unnamed-and_value : (rs : Rows) (τ : Term) (q : List ℕ)
+    → is_named (names_of rs) q ≡ false → bytes_eq q (codes "value") ≡ false → is_named (names_of (and_value rs τ)) q ≡ false
 unnamed-and_value no_more τ q e f = neither (bytes_eq q (codes "value")) false f refl
 unnamed-and_value (row k need σ rs) τ q e f =
     let both = or_parts (bytes_eq q k) (is_named (names_of rs) q) e in
@@ -133,7 +136,9 @@ module _ {H : Type 0} (s : SiblingsOf H) where
 
   -- and fewer levels than the map
   pub value_levels : (h : H) (t : Node) → levels t < levels (around s h t)
-  value_levels h t = let inside = member_levels (codes "value") t (joined s.rows (s.parts h) (member (codes "value") t no_members)) (value_at h t) in omega (arith, inside)
+  value_levels h t =
+      let inside = member_levels (codes "value") t (joined s.rows (s.parts h) (member (codes "value") t no_members)) (value_at h t) in
+      omega (arith, inside)
 
 -- members read by a list of fields that is closed
 abbrev pub siblings_by : {F H : Type 0} (t : Table F) (ks : List (List ℕ)) (m : H → F) → ((f g : F) → t.others f ≡ t.others g)

@@ -76,7 +76,9 @@ impl CallFunctionParameters {
             (has_named (names_in (named call_function_parameters)) (members_node ext.entries) ≡ true)
             ⊥
             (¬ MembersAreWhole (members_node ext.entries) 60)
-            (λ v. (v.function_declaration ≡ function_declaration) × (v.await_promise ≡ await_promise) × (v.target ≡ target) × (v.arguments ≡ arguments) × (v.result_ownership ≡ result_ownership) × (v.this ≡ this) × (v.user_activation ≡ user_activation) × (others_of v.ext ≡ members_node ext.entries)) }
+            (λ v. (v.function_declaration ≡ function_declaration) × (v.await_promise ≡ await_promise)
+            × (v.target ≡ target) × (v.arguments ≡ arguments) × (v.result_ownership ≡ result_ownership)
+            × (v.this ≡ this) × (v.user_activation ≡ user_activation) × (others_of v.ext ≡ members_node ext.entries)) }
         ensures well { IfOk result (λ v. ⟦<CallFunctionParameters as Shape>⟧.shape.well v) }
     {
         let ext = further(ext, Self::NAMES)?;
@@ -114,7 +116,8 @@ impl Ruled for CallFunctionParameters {
 }
 
 impl Shape for CallFunctionParameters {
-    ghost shape = { map_shape ⟦<CallFunctionParameters as Ruled>⟧.rule ⟦<CallParts as Fields>⟧.table [] (λ v. (v.function_declaration, (v.await_promise, (v.target, (v.arguments, (v.result_ownership, (v.this, (v.user_activation, v.ext)))))))) refl refl };
+    ghost shape = { map_shape ⟦<CallFunctionParameters as Ruled>⟧.rule ⟦<CallParts as Fields>⟧.table []
+        (λ v. (v.function_declaration, (v.await_promise, (v.target, (v.arguments, (v.result_ownership, (v.this, (v.user_activation, v.ext)))))))) refl refl };
 
     fn from_tree<S: Parsed>(alloc: Global, tree: &S) -> Result<CallFunctionParameters, ShapeFault> {
         let Required(

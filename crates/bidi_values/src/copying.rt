@@ -50,7 +50,8 @@ fn copy_values<P: Nests<L, M>, L: Siblings, M: Siblings>(
     values: &Vec<Nested<P, L, M>>,
 ) -> Result<Vec<Nested<P, L, M>>, AllocError>
     requires { AllByRecursion (NestedIsWell P.nesting) values.now.items }
-    ensures { IfOk result (λ v. (map (nested_tree P.nesting) v.items ≡ map (nested_tree P.nesting) values.now.items) × AllByRecursion (NestedIsWell P.nesting) v.items) }
+    ensures { IfOk result (λ v. (map (nested_tree P.nesting) v.items ≡ map (nested_tree P.nesting) values.now.items)
+        × AllByRecursion (NestedIsWell P.nesting) v.items) }
 {
     let mut copies = Vec::with_capacity(alloc, values.len())?;
     for value in values {
@@ -65,7 +66,8 @@ fn copy_pairs<P: Nests<L, M>, L: Siblings, M: Siblings>(
     pairs: &Vec<NestedPair<P, L, M>>,
 ) -> Result<Vec<NestedPair<P, L, M>>, AllocError>
     requires { AllByRecursion (NestedPairIsWell P.nesting) pairs.now.items }
-    ensures { IfOk result (λ v. (map (nested_pair_tree P.nesting) v.items ≡ map (nested_pair_tree P.nesting) pairs.now.items) × AllByRecursion (NestedPairIsWell P.nesting) v.items) }
+    ensures { IfOk result (λ v. (map (nested_pair_tree P.nesting) v.items ≡ map (nested_pair_tree P.nesting) pairs.now.items)
+        × AllByRecursion (NestedPairIsWell P.nesting) v.items) }
 {
     let mut copies = Vec::with_capacity(alloc, pairs.len())?;
     for pair in pairs {

@@ -101,7 +101,8 @@ impl EvaluateParameters {
             (has_named (names_in (named evaluate_parameters)) (members_node ext.entries) ≡ true)
             ⊥
             (¬ MembersAreWhole (members_node ext.entries) 60)
-            (λ v. (v.expression ≡ expression) × (v.target ≡ target) × (v.await_promise ≡ await_promise) × (v.result_ownership ≡ result_ownership) × (v.user_activation ≡ user_activation) × (others_of v.ext ≡ members_node ext.entries)) }
+            (λ v. (v.expression ≡ expression) × (v.target ≡ target) × (v.await_promise ≡ await_promise) × (v.result_ownership ≡ result_ownership)
+            × (v.user_activation ≡ user_activation) × (others_of v.ext ≡ members_node ext.entries)) }
         ensures well { IfOk result (λ v. ⟦<EvaluateParameters as Shape>⟧.shape.well v) }
     {
         let ext = further(ext, Self::NAMES)?;
@@ -128,7 +129,8 @@ impl Ruled for EvaluateParameters {
 }
 
 impl Shape for EvaluateParameters {
-    ghost shape = { map_shape ⟦<EvaluateParameters as Ruled>⟧.rule ⟦<EvaluateParts as Fields>⟧.table [] (λ v. (v.expression, (v.target, (v.await_promise, (v.result_ownership, (v.user_activation, v.ext)))))) refl refl };
+    ghost shape = { map_shape ⟦<EvaluateParameters as Ruled>⟧.rule ⟦<EvaluateParts as Fields>⟧.table []
+        (λ v. (v.expression, (v.target, (v.await_promise, (v.result_ownership, (v.user_activation, v.ext)))))) refl refl };
 
     fn from_tree<S: Parsed>(alloc: Global, tree: &S) -> Result<EvaluateParameters, ShapeFault> {
         let Required(

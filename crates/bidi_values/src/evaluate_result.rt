@@ -36,7 +36,8 @@ impl Shape for EvaluateSuccess {
     ghost use Rattle.std.specs.Prelude.{refl, [], ◌∷◌, codes};
     ghost use Rattle.bidi_shape.specs.Table.{map_shape};
 
-    ghost shape = { map_shape ⟦<EvaluateSuccess as Ruled>⟧.rule ⟦<SuccessParts as Fields>⟧.table (codes "success" ∷ []) (λ v. record { 0 = (v.result, (v.realm, record {})) }) refl refl };
+    ghost shape = { map_shape ⟦<EvaluateSuccess as Ruled>⟧.rule ⟦<SuccessParts as Fields>⟧.table (codes "success" ∷ [])
+        (λ v. record { 0 = (v.result, (v.realm, record {})) }) refl refl };
 
     fn from_tree<S: Parsed>(alloc: Global, tree: &S) -> Result<EvaluateSuccess, ShapeFault> {
         let Literal(Required(result, Required(realm, Closed))) = read_fields::<
@@ -81,7 +82,8 @@ impl Shape for EvaluateException {
     ghost use Rattle.std.specs.Prelude.{refl, [], ◌∷◌, codes};
     ghost use Rattle.bidi_shape.specs.Table.{map_shape};
 
-    ghost shape = { map_shape ⟦<EvaluateException as Ruled>⟧.rule ⟦<ExceptionParts as Fields>⟧.table (codes "exception" ∷ []) (λ v. record { 0 = (v.exception_details, (v.realm, record {})) }) refl refl };
+    ghost shape = { map_shape ⟦<EvaluateException as Ruled>⟧.rule ⟦<ExceptionParts as Fields>⟧.table (codes "exception" ∷ [])
+        (λ v. record { 0 = (v.exception_details, (v.realm, record {})) }) refl refl };
 
     fn from_tree<S: Parsed>(alloc: Global, tree: &S) -> Result<EvaluateException, ShapeFault> {
         let Literal(Required(exception_details, Required(realm, Closed))) = read_fields::<

@@ -48,7 +48,8 @@ impl Shape for ExceptionDetails {
     ghost use Rattle.std.specs.Prelude.{refl, []};
     ghost use Rattle.bidi_shape.specs.Table.{map_shape};
 
-    ghost shape = { map_shape ⟦<ExceptionDetails as Ruled>⟧.rule ⟦<Parts as Fields>⟧.table [] (λ v. (v.column_number, (v.exception, (v.line_number, (v.stack_trace, (v.text, record {})))))) refl refl };
+    ghost shape = { map_shape ⟦<ExceptionDetails as Ruled>⟧.rule ⟦<Parts as Fields>⟧.table []
+        (λ v. (v.column_number, (v.exception, (v.line_number, (v.stack_trace, (v.text, record {})))))) refl refl };
 
     fn from_tree<S: Parsed>(alloc: Global, tree: &S) -> Result<ExceptionDetails, ShapeFault> {
         let Required(

@@ -78,7 +78,8 @@ impl<K: Shape + Copy> Siblings for Held<K> {
     ghost use Rattle.std.specs.Prelude.{refl, [], ◌∷◌, codes};
     ghost use Rattle.bidi_values.specs.SiblingLaws.{siblings_by};
 
-    ghost siblings = { siblings_by ⟦<HeldParts<K> as Fields>⟧.table (codes "type" ∷ codes "handle" ∷ codes "internalId" ∷ []) (λ v. (v.kind, (v.handle, (v.internal_id, record {})))) (λ f g. refl) refl refl };
+    ghost siblings = { siblings_by ⟦<HeldParts<K> as Fields>⟧.table (codes "type" ∷ codes "handle" ∷ codes "internalId" ∷ [])
+        (λ v. (v.kind, (v.handle, (v.internal_id, record {})))) (λ f g. refl) refl refl };
 
     fn read<S: Parsed>(alloc: Global, map: &S) -> Result<Held<K>, ShapeFault> {
         let Required(kind, Optional(handle, Optional(internal_id, Closed))) = HeldParts::<K>::read(
@@ -162,7 +163,8 @@ impl Shape for RemoteRegExp {
     ghost use Rattle.std.specs.Prelude.{refl, [], ◌∷◌, codes};
     ghost use Rattle.bidi_shape.specs.Table.{map_shape};
 
-    ghost shape = { map_shape ⟦<RemoteRegExp as Ruled>⟧.rule ⟦<RegExpParts as Fields>⟧.table (codes "regexp" ∷ []) (λ v. record { 0 = (v.value, (v.handle, (v.internal_id, record {}))) }) refl refl };
+    ghost shape = { map_shape ⟦<RemoteRegExp as Ruled>⟧.rule ⟦<RegExpParts as Fields>⟧.table (codes "regexp" ∷ [])
+        (λ v. record { 0 = (v.value, (v.handle, (v.internal_id, record {}))) }) refl refl };
 
     fn from_tree<S: Parsed>(alloc: Global, tree: &S) -> Result<RemoteRegExp, ShapeFault> {
         let Literal(Required(value, Optional(handle, Optional(internal_id, Closed)))) =
@@ -231,7 +233,8 @@ impl Shape for RemoteDate {
     ghost use Rattle.std.specs.Prelude.{refl, [], ◌∷◌, codes};
     ghost use Rattle.bidi_shape.specs.Table.{map_shape};
 
-    ghost shape = { map_shape ⟦<RemoteDate as Ruled>⟧.rule ⟦<DateParts as Fields>⟧.table (codes "date" ∷ []) (λ v. record { 0 = (v.value, (v.handle, (v.internal_id, record {}))) }) refl refl };
+    ghost shape = { map_shape ⟦<RemoteDate as Ruled>⟧.rule ⟦<DateParts as Fields>⟧.table (codes "date" ∷ [])
+        (λ v. record { 0 = (v.value, (v.handle, (v.internal_id, record {}))) }) refl refl };
 
     fn from_tree<S: Parsed>(alloc: Global, tree: &S) -> Result<RemoteDate, ShapeFault> {
         let Literal(Required(value, Optional(handle, Optional(internal_id, Closed)))) =

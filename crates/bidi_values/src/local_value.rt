@@ -90,7 +90,9 @@ impl Shape for LocalPlain {
 impl Nests<ListKind, PairsKind> for LocalPlain {
     ghost use Rattle.std.specs.Prelude.{refl};
     ghost use Rattle.bidi_shape.specs.Name.{local_value, local_pair};
-    ghost use Rattle.bidi_values.specs.LocalValue.{local_alternatives, plain_local, list_local, pairs_local, one_of_local, local_list_not_plain, local_pairs_not_plain, local_list_not_pairs, local_pairs_not_list, text_not_plain};
+    ghost use Rattle.bidi_values.specs.LocalValue.{local_alternatives, plain_local, list_local, pairs_local};
+    ghost use Rattle.bidi_values.specs.LocalValue.{one_of_local, local_list_not_plain, local_pairs_not_plain};
+    ghost use Rattle.bidi_values.specs.LocalValue.{local_list_not_pairs, local_pairs_not_list, text_not_plain};
 
     ghost nesting = { record {
       plain = ⟦<LocalPlain as Shape>⟧.shape;

@@ -213,7 +213,8 @@ impl Shape for ConsoleEntry {
     ghost use Rattle.std.specs.Prelude.{refl, [], ◌∷◌, codes};
     ghost use Rattle.bidi_shape.specs.Table.{map_shape};
 
-    ghost shape = { map_shape ⟦<ConsoleEntry as Ruled>⟧.rule ⟦<ConsoleParts as Fields>⟧.table (codes "console" ∷ []) (λ v. (v.base, record { 0 = (v.method, (v.args, record {})) })) refl refl };
+    ghost shape = { map_shape ⟦<ConsoleEntry as Ruled>⟧.rule ⟦<ConsoleParts as Fields>⟧.table (codes "console" ∷ [])
+        (λ v. (v.base, record { 0 = (v.method, (v.args, record {})) })) refl refl };
 
     fn from_tree<S: Parsed>(alloc: Global, tree: &S) -> Result<ConsoleEntry, ShapeFault> {
         let WithBase(base, Literal(Required(method, Required(args, Closed)))) = read_fields::<
@@ -269,7 +270,8 @@ impl Shape for JavascriptEntry {
     ghost use Rattle.std.specs.Prelude.{refl, [], ◌∷◌, codes};
     ghost use Rattle.bidi_shape.specs.Table.{map_shape};
 
-    ghost shape = { map_shape ⟦<JavascriptEntry as Ruled>⟧.rule ⟦<JavascriptParts as Fields>⟧.table (codes "javascript" ∷ []) (λ v. (v.base, record { 0 = record {} })) refl refl };
+    ghost shape = { map_shape ⟦<JavascriptEntry as Ruled>⟧.rule ⟦<JavascriptParts as Fields>⟧.table (codes "javascript" ∷ [])
+        (λ v. (v.base, record { 0 = record {} })) refl refl };
 
     fn from_tree<S: Parsed>(alloc: Global, tree: &S) -> Result<JavascriptEntry, ShapeFault> {
         let WithBase(base, Literal(Closed)) = read_fields::<JavascriptEntry, JavascriptParts, S>(

@@ -93,6 +93,7 @@ impl<P: Nests<L, M>, L: Siblings, M: Siblings> Nested<P, L, M> {
     ghost use Rattle.bidi_values.specs.View.{nested_tree, NestedIsWell};
 
     /// The value, where its tree has at most 60 levels. To make a value of many levels, ask this once, at its top.
+    /// Costs the making of its draft.
     ///
     /// # Errors
     /// - `TooDeep`: it has more.

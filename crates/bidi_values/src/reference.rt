@@ -168,7 +168,8 @@ impl Shape for RemoteObjectReference {
     ghost use Rattle.std.specs.Prelude.{refl, []};
     ghost use Rattle.bidi_shape.specs.Table.{map_shape};
 
-    ghost shape = { map_shape ⟦<RemoteObjectReference as Ruled>⟧.rule ⟦<RemoteObjectParts as Fields>⟧.table [] (λ v. (v.handle, (v.shared_id, v.ext))) refl refl };
+    ghost shape = { map_shape ⟦<RemoteObjectReference as Ruled>⟧.rule ⟦<RemoteObjectParts as Fields>⟧.table []
+        (λ v. (v.handle, (v.shared_id, v.ext))) refl refl };
 
     fn from_tree<S: Parsed>(alloc: Global, tree: &S) -> Result<RemoteObjectReference, ShapeFault> {
         let Required(handle, Optional(shared_id, ext)) = read_fields::<

@@ -99,7 +99,9 @@ impl Shape for RemotePlain {
 impl Nests<RemoteList, RemotePairs> for RemotePlain {
     ghost use Rattle.std.specs.Prelude.{refl};
     ghost use Rattle.bidi_shape.specs.Name.{remote_value, remote_pair};
-    ghost use Rattle.bidi_values.specs.RemoteValue.{remote_alternatives, plain_remote, list_remote, pairs_remote, one_of_remote, remote_list_not_plain, remote_pairs_not_plain, remote_list_not_pairs, remote_pairs_not_list, text_not_plain};
+    ghost use Rattle.bidi_values.specs.RemoteValue.{remote_alternatives, plain_remote, list_remote, pairs_remote};
+    ghost use Rattle.bidi_values.specs.RemoteValue.{one_of_remote, remote_list_not_plain, remote_pairs_not_plain};
+    ghost use Rattle.bidi_values.specs.RemoteValue.{remote_list_not_pairs, remote_pairs_not_list, text_not_plain};
 
     ghost nesting = { record {
       plain = ⟦<RemotePlain as Shape>⟧.shape;

@@ -15,7 +15,7 @@ use bidi_shape::{Parsed, ShapeFault};
 use bidi_tree::{Draft, DraftMembers};
 use std::alloc::{AllocError, Global};
 
-/// The most members of such a map: its value, its type and its two names.
+/// The most members of such a map: `value`, `type`, `handle` and `internalId`.
 const ROOM: usize = 4;
 
 /// What stands in a closed map beside its member `value`.
@@ -32,7 +32,8 @@ pub trait Siblings: Drop {
         ensures sorted { OnOk result (AreAscending (members_in (S.tree map.now))) }
         ensures ok { IfOk result (λ h. PartsAt siblings.rows (siblings.parts h) (members_in (S.tree map.now)) × siblings.well h) }
         ensures rest { OnOk result (without (names_of (and_value siblings.rows null)) (members_in (S.tree map.now)) ≡ no_members) }
-        ensures no_fit { IfNoFit result (RowsFit (members_in (S.tree map.now)) siblings.rows → without (names_of (and_value siblings.rows null)) (members_in (S.tree map.now)) ≡ no_members → ⊥) };
+        ensures no_fit { IfNoFit result (RowsFit (members_in (S.tree map.now)) siblings.rows
+            → without (names_of (and_value siblings.rows null)) (members_in (S.tree map.now)) ≡ no_members → ⊥) };
 
     /// Puts their drafts among the members of a map.
     ///

@@ -36,7 +36,8 @@ impl Shape for StackFrame {
     ghost use Rattle.std.specs.Prelude.{refl, []};
     ghost use Rattle.bidi_shape.specs.Table.{map_shape};
 
-    ghost shape = { map_shape ⟦<StackFrame as Ruled>⟧.rule ⟦<FrameParts as Fields>⟧.table [] (λ v. (v.column_number, (v.function_name, (v.line_number, (v.url, record {}))))) refl refl };
+    ghost shape = { map_shape ⟦<StackFrame as Ruled>⟧.rule ⟦<FrameParts as Fields>⟧.table []
+        (λ v. (v.column_number, (v.function_name, (v.line_number, (v.url, record {}))))) refl refl };
 
     fn from_tree<S: Parsed>(alloc: Global, tree: &S) -> Result<StackFrame, ShapeFault> {
         let Required(

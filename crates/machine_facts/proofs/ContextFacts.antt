@@ -12,7 +12,9 @@ use Rattle.machine_facts.proofs.Rows.{after, ask, begun, event, frame, machine_o
 pub depth_0_shows_no_children :
     after (begun ++ frame "$c1" "about:blank" ∷ frame "$c2" "about:blank" ∷ [])
     (ask "{'id':1,'method':'browsingContext.getTree','params':{'maxDepth':0}}")
-    ≡ success 1 1 "{'contexts':[{'children':null,'clientWindow':'$w1','context':'$c1','originalOpener':null,'parent':null,'url':'about:blank','userContext':'default'}]}" ∷ []
+    ≡ success 1 1
+    "{'contexts':[{'children':null,'clientWindow':'$w1','context':'$c1','originalOpener':null,'parent':null,'url':'about:blank','userContext':'default'}]}"
+    ∷ []
 unfolding machine_on_literals
 depth_0_shows_no_children = refl
 
@@ -113,7 +115,8 @@ pub creation_is_told_with_its_realm :
     after (begun
     ++ ask "{'id':1,'method':'session.subscribe','params':{'events':['browsingContext','script']}}" ∷ [])
     (ask "{'id':2,'method':'browsingContext.create','params':{'type':'window'}}")
-    ≡ event 1 "browsingContext.contextCreated" "{'children':null,'clientWindow':'$w2','context':'$c2','originalOpener':null,'parent':null,'url':'about:blank','userContext':'default'}"
+    ≡ event 1 "browsingContext.contextCreated"
+    "{'children':null,'clientWindow':'$w2','context':'$c2','originalOpener':null,'parent':null,'url':'about:blank','userContext':'default'}"
     ∷ event 1 "script.realmCreated" "{'context':'$c2','origin':'null','realm':'$r2','type':'window'}"
     ∷ success 1 2 "{'context':'$c2'}" ∷ []
 unfolding machine_on_literals
@@ -124,7 +127,8 @@ pub tab_takes_the_window_of_its_reference :
     ++ ask "{'id':1,'method':'session.subscribe','params':{'events':['browsingContext.contextCreated']}}"
     ∷ ask "{'id':2,'method':'browsingContext.create','params':{'type':'window'}}" ∷ [])
     (ask "{'id':3,'method':'browsingContext.create','params':{'type':'tab','referenceContext':'$c2'}}")
-    ≡ event 1 "browsingContext.contextCreated" "{'children':null,'clientWindow':'$w2','context':'$c3','originalOpener':null,'parent':null,'url':'about:blank','userContext':'default'}"
+    ≡ event 1 "browsingContext.contextCreated"
+    "{'children':null,'clientWindow':'$w2','context':'$c3','originalOpener':null,'parent':null,'url':'about:blank','userContext':'default'}"
     ∷ success 1 3 "{'context':'$c3'}" ∷ []
 unfolding machine_on_literals
 tab_takes_the_window_of_its_reference = refl
@@ -134,7 +138,8 @@ pub tab_takes_the_window_of_the_oldest_context :
     ++ ask "{'id':1,'method':'session.subscribe','params':{'events':['browsingContext.contextCreated']}}"
     ∷ ask "{'id':2,'method':'browsingContext.create','params':{'type':'window'}}" ∷ [])
     (ask "{'id':3,'method':'browsingContext.create','params':{'type':'tab'}}")
-    ≡ event 1 "browsingContext.contextCreated" "{'children':null,'clientWindow':'$w1','context':'$c3','originalOpener':null,'parent':null,'url':'about:blank','userContext':'default'}"
+    ≡ event 1 "browsingContext.contextCreated"
+    "{'children':null,'clientWindow':'$w1','context':'$c3','originalOpener':null,'parent':null,'url':'about:blank','userContext':'default'}"
     ∷ success 1 3 "{'context':'$c3'}" ∷ []
 unfolding machine_on_literals
 tab_takes_the_window_of_the_oldest_context = refl
@@ -145,7 +150,8 @@ pub oldest_context_is_one_that_is_alive :
     ∷ ask "{'id':2,'method':'browsingContext.create','params':{'type':'window'}}"
     ∷ ask "{'id':3,'method':'browsingContext.close','params':{'context':'$c1'}}" ∷ [])
     (ask "{'id':4,'method':'browsingContext.create','params':{'type':'tab'}}")
-    ≡ event 1 "browsingContext.contextCreated" "{'children':null,'clientWindow':'$w2','context':'$c3','originalOpener':null,'parent':null,'url':'about:blank','userContext':'default'}"
+    ≡ event 1 "browsingContext.contextCreated"
+    "{'children':null,'clientWindow':'$w2','context':'$c3','originalOpener':null,'parent':null,'url':'about:blank','userContext':'default'}"
     ∷ success 1 4 "{'context':'$c3'}" ∷ []
 unfolding machine_on_literals
 oldest_context_is_one_that_is_alive = refl
@@ -154,7 +160,8 @@ pub window_is_new_even_with_a_reference :
     after (begun
     ++ ask "{'id':1,'method':'session.subscribe','params':{'events':['browsingContext.contextCreated']}}" ∷ [])
     (ask "{'id':2,'method':'browsingContext.create','params':{'type':'window','referenceContext':'$c1'}}")
-    ≡ event 1 "browsingContext.contextCreated" "{'children':null,'clientWindow':'$w2','context':'$c2','originalOpener':null,'parent':null,'url':'about:blank','userContext':'default'}"
+    ≡ event 1 "browsingContext.contextCreated"
+    "{'children':null,'clientWindow':'$w2','context':'$c2','originalOpener':null,'parent':null,'url':'about:blank','userContext':'default'}"
     ∷ success 1 2 "{'context':'$c2'}" ∷ []
 unfolding machine_on_literals
 window_is_new_even_with_a_reference = refl
@@ -164,7 +171,8 @@ pub number_of_a_window_is_used_only_for_a_new_one :
     ++ ask "{'id':1,'method':'session.subscribe','params':{'events':['browsingContext.contextCreated']}}"
     ∷ ask "{'id':2,'method':'browsingContext.create','params':{'type':'tab'}}" ∷ [])
     (ask "{'id':3,'method':'browsingContext.create','params':{'type':'window'}}")
-    ≡ event 1 "browsingContext.contextCreated" "{'children':null,'clientWindow':'$w2','context':'$c3','originalOpener':null,'parent':null,'url':'about:blank','userContext':'default'}"
+    ≡ event 1 "browsingContext.contextCreated"
+    "{'children':null,'clientWindow':'$w2','context':'$c3','originalOpener':null,'parent':null,'url':'about:blank','userContext':'default'}"
     ∷ success 1 3 "{'context':'$c3'}" ∷ []
 unfolding machine_on_literals
 number_of_a_window_is_used_only_for_a_new_one = refl
@@ -187,7 +195,8 @@ pub frame_is_told_with_its_realm :
     after (begun
     ++ ask "{'id':1,'method':'session.subscribe','params':{'events':['browsingContext','script']}}" ∷ [])
     (frame "$c1" "http://a.test")
-    ≡ event 1 "browsingContext.contextCreated" "{'children':null,'clientWindow':'$w1','context':'$c2','originalOpener':null,'parent':'$c1','url':'http://a.test/','userContext':'default'}"
+    ≡ event 1 "browsingContext.contextCreated"
+    "{'children':null,'clientWindow':'$w1','context':'$c2','originalOpener':null,'parent':'$c1','url':'http://a.test/','userContext':'default'}"
     ∷ event 1 "script.realmCreated" "{'context':'$c2','origin':'http://a.test','realm':'$r2','type':'window'}" ∷ []
 unfolding machine_on_literals
 frame_is_told_with_its_realm = refl
@@ -197,7 +206,8 @@ pub frame_is_in_the_window_of_its_parent :
     ++ ask "{'id':1,'method':'browsingContext.create','params':{'type':'window'}}"
     ∷ ask "{'id':2,'method':'session.subscribe','params':{'events':['browsingContext.contextCreated'],'contexts':['$c2']}}" ∷ [])
     (frame "$c2" "about:blank")
-    ≡ event 1 "browsingContext.contextCreated" "{'children':null,'clientWindow':'$w2','context':'$c3','originalOpener':null,'parent':'$c2','url':'about:blank','userContext':'default'}" ∷ []
+    ≡ event 1 "browsingContext.contextCreated"
+    "{'children':null,'clientWindow':'$w2','context':'$c3','originalOpener':null,'parent':'$c2','url':'about:blank','userContext':'default'}" ∷ []
 unfolding machine_on_literals
 frame_is_in_the_window_of_its_parent = refl
 
@@ -243,7 +253,8 @@ pub realms_end_in_tree_order_before_the_context :
     ∷ event 1 "script.realmDestroyed" "{'realm':'$r2'}"
     ∷ event 1 "script.realmDestroyed" "{'realm':'$r4'}"
     ∷ event 1 "script.realmDestroyed" "{'realm':'$r3'}"
-    ∷ event 1 "browsingContext.contextDestroyed" "{'children':[{'children':[{'children':[],'clientWindow':'$w1','context':'$c4','originalOpener':null,'url':'http://a.test/','userContext':'default'}],'clientWindow':'$w1','context':'$c2','originalOpener':null,'url':'about:blank','userContext':'default'},{'children':[],'clientWindow':'$w1','context':'$c3','originalOpener':null,'url':'about:blank','userContext':'default'}],'clientWindow':'$w1','context':'$c1','originalOpener':null,'parent':null,'url':'about:blank','userContext':'default'}"
+    ∷ event 1 "browsingContext.contextDestroyed"
+    "{'children':[{'children':[{'children':[],'clientWindow':'$w1','context':'$c4','originalOpener':null,'url':'http://a.test/','userContext':'default'}],'clientWindow':'$w1','context':'$c2','originalOpener':null,'url':'about:blank','userContext':'default'},{'children':[],'clientWindow':'$w1','context':'$c3','originalOpener':null,'url':'about:blank','userContext':'default'}],'clientWindow':'$w1','context':'$c1','originalOpener':null,'parent':null,'url':'about:blank','userContext':'default'}"
     ∷ success 1 2 "{}" ∷ []
 unfolding machine_on_literals
 realms_end_in_tree_order_before_the_context = refl
@@ -257,7 +268,8 @@ pub unframe_is_a_removal :
     (unframe "$c2")
     ≡ event 1 "script.realmDestroyed" "{'realm':'$r2'}"
     ∷ event 1 "script.realmDestroyed" "{'realm':'$r4'}"
-    ∷ event 1 "browsingContext.contextDestroyed" "{'children':[{'children':[],'clientWindow':'$w1','context':'$c4','originalOpener':null,'url':'http://a.test/','userContext':'default'}],'clientWindow':'$w1','context':'$c2','originalOpener':null,'parent':'$c1','url':'about:blank','userContext':'default'}" ∷ []
+    ∷ event 1 "browsingContext.contextDestroyed"
+    "{'children':[{'children':[],'clientWindow':'$w1','context':'$c4','originalOpener':null,'url':'http://a.test/','userContext':'default'}],'clientWindow':'$w1','context':'$c2','originalOpener':null,'parent':'$c1','url':'about:blank','userContext':'default'}" ∷ []
 unfolding machine_on_literals
 unframe_is_a_removal = refl
 
@@ -288,7 +300,9 @@ pub tab_after_the_last_close_has_a_new_window :
     ∷ ask "{'id':1,'method':'browsingContext.close','params':{'context':'$c1'}}"
     ∷ ask "{'id':2,'method':'browsingContext.create','params':{'type':'tab'}}" ∷ [])
     (ask "{'id':3,'method':'browsingContext.getTree','params':{}}")
-    ≡ success 1 3 "{'contexts':[{'children':[],'clientWindow':'$w2','context':'$c3','originalOpener':null,'parent':null,'url':'about:blank','userContext':'default'}]}" ∷ []
+    ≡ success 1 3
+    "{'contexts':[{'children':[],'clientWindow':'$w2','context':'$c3','originalOpener':null,'parent':null,'url':'about:blank','userContext':'default'}]}"
+    ∷ []
 unfolding machine_on_literals
 tab_after_the_last_close_has_a_new_window = refl
 

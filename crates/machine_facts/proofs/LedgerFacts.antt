@@ -43,18 +43,23 @@ refused_command = refl
 
 -- the announcement is carried down before the reply, which waits
 pub event_before_a_reply_that_waits :
-    ledger (open_link 1 ∷ send 1 "session.new" "{'capabilities':{}}" ∷ Up 1 ∷ send 1 "session.subscribe" "{'events':['browsingContext.contextCreated']}" ∷ Up 1 ∷ Down 1 ∷ Down 1 ∷ [])
+    ledger (open_link 1 ∷ send 1 "session.new" "{'capabilities':{}}"
+    ∷ Up 1 ∷ send 1 "session.subscribe" "{'events':['browsingContext.contextCreated']}" ∷ Up 1 ∷ Down 1 ∷ Down 1 ∷ [])
     ≡ page 1
-    (entry 1 "session.new" (Answered (tree "{'capabilities':{'acceptInsecureCerts':false,'browserName':'memory-browser','browserVersion':'1.0','platformName':'none','setWindowRect':false,'userAgent':'memory-browser/1.0'},'sessionId':'$s1'}"))
+    (entry 1 "session.new" (Answered
+    (tree "{'capabilities':{'acceptInsecureCerts':false,'browserName':'memory-browser','browserVersion':'1.0','platformName':'none','setWindowRect':false,'userAgent':'memory-browser/1.0'},'sessionId':'$s1'}"))
     ∷ entry 2 "session.subscribe" Waiting ∷ [])
-    (event "browsingContext.contextCreated" "{'children':null,'clientWindow':'$w1','context':'$c1','originalOpener':null,'parent':null,'url':'about:blank','userContext':'default'}" ∷ []) 0 ∷ []
+    (event "browsingContext.contextCreated"
+    "{'children':null,'clientWindow':'$w1','context':'$c1','originalOpener':null,'parent':null,'url':'about:blank','userContext':'default'}" ∷ []) 0 ∷ []
 unfolding machine_on_literals
 event_before_a_reply_that_waits = refl
 
 pub text_on_a_closed_connection_leaves_its_command_waiting :
-    ledger (open_link 1 ∷ send 1 "session.new" "{'capabilities':{}}" ∷ send 1 "session.end" "{}" ∷ send 1 "session.status" "{}" ∷ Up 1 ∷ Up 1 ∷ Up 1 ∷ Down 1 ∷ Down 1 ∷ Down 1 ∷ [])
+    ledger (open_link 1 ∷ send 1 "session.new" "{'capabilities':{}}"
+    ∷ send 1 "session.end" "{}" ∷ send 1 "session.status" "{}" ∷ Up 1 ∷ Up 1 ∷ Up 1 ∷ Down 1 ∷ Down 1 ∷ Down 1 ∷ [])
     ≡ page 1
-    (entry 1 "session.new" (Answered (tree "{'capabilities':{'acceptInsecureCerts':false,'browserName':'memory-browser','browserVersion':'1.0','platformName':'none','setWindowRect':false,'userAgent':'memory-browser/1.0'},'sessionId':'$s1'}"))
+    (entry 1 "session.new" (Answered
+    (tree "{'capabilities':{'acceptInsecureCerts':false,'browserName':'memory-browser','browserVersion':'1.0','platformName':'none','setWindowRect':false,'userAgent':'memory-browser/1.0'},'sessionId':'$s1'}"))
     ∷ entry 2 "session.end" (Answered (tree "{}"))
     ∷ entry 3 "session.status" Waiting ∷ []) [] 0 ∷ []
 unfolding machine_on_literals

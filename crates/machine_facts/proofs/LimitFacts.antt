@@ -32,7 +32,9 @@ empty = mapped ("type" being word "object" and no_members)
 
 -- so many handles were given, for the object of a row
 abbrev pub handles : ℕ → List Deed
-handles n = replicate n (Did (Ran 1 (Returned empty) true)) ++ Did (Tabled (codes "o") (EndsIn (Returned empty))) ∷ Did (Tabled (codes "p") (EndsIn (Returned undefined))) ∷ []
+handles n =
+    replicate n (Did (Ran 1 (Returned empty) true))
+    ++ Did (Tabled (codes "o") (EndsIn (Returned empty))) ∷ Did (Tabled (codes "p") (EndsIn (Returned undefined))) ∷ []
 
 -- so many global subscriptions to log entries
 abbrev pub subscribed : ℕ → List Deed

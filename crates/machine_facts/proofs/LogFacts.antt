@@ -86,7 +86,8 @@ pub entry_waits_for_each_session :
     ∷ log "$c1" Info "hi"
     ∷ ask "{'id':1,'method':'session.subscribe','params':{'events':['log']}}" ∷ [])
     (ask_on 2 "{'id':1,'method':'session.subscribe','params':{'events':['log']}}")
-    ≡ event 2 "log.entryAdded" "{'args':[{'type':'string','value':'hi'}],'level':'info','method':'info','source':{'context':'$c1','realm':'$r1'},'text':'hi','timestamp':0,'type':'console'}"
+    ≡ event 2 "log.entryAdded"
+    "{'args':[{'type':'string','value':'hi'}],'level':'info','method':'info','source':{'context':'$c1','realm':'$r1'},'text':'hi','timestamp':0,'type':'console'}"
     ∷ success 2 1 "{'subscription':'$v1'}" ∷ []
 unfolding machine_on_literals
 entry_waits_for_each_session = refl
@@ -96,7 +97,8 @@ entry_waits_for_each_session = refl
 pub entry_of_a_removed_frame_belongs_to_its_top_level_context :
     after (begun ++ frame "$c1" "about:blank" ∷ log "$c2" Info "hi" ∷ unframe "$c2" ∷ [])
     (ask "{'id':1,'method':'session.subscribe','params':{'events':['log']}}")
-    ≡ event 1 "log.entryAdded" "{'args':[{'type':'string','value':'hi'}],'level':'info','method':'info','source':{'context':'$c2','realm':'$r2'},'text':'hi','timestamp':0,'type':'console'}"
+    ≡ event 1 "log.entryAdded"
+    "{'args':[{'type':'string','value':'hi'}],'level':'info','method':'info','source':{'context':'$c2','realm':'$r2'},'text':'hi','timestamp':0,'type':'console'}"
     ∷ success 1 1 "{'subscription':'$u1'}" ∷ []
 unfolding machine_on_literals
 entry_of_a_removed_frame_belongs_to_its_top_level_context = refl
@@ -118,7 +120,8 @@ pub entries_of_other_contexts_wait_on :
     ∷ log "$c2" Info "b"
     ∷ ask "{'id':1,'method':'session.subscribe','params':{'events':['log'],'contexts':['$c2']}}" ∷ [])
     (ask "{'id':2,'method':'session.subscribe','params':{'events':['log']}}")
-    ≡ event 1 "log.entryAdded" "{'args':[{'type':'string','value':'a'}],'level':'info','method':'info','source':{'context':'$c1','realm':'$r1'},'text':'a','timestamp':0,'type':'console'}"
+    ≡ event 1 "log.entryAdded"
+    "{'args':[{'type':'string','value':'a'}],'level':'info','method':'info','source':{'context':'$c1','realm':'$r1'},'text':'a','timestamp':0,'type':'console'}"
     ∷ success 1 2 "{'subscription':'$u2'}" ∷ []
 unfolding machine_on_literals
 entries_of_other_contexts_wait_on = refl
@@ -130,9 +133,12 @@ pub entries_are_announced_oldest_first_over_all_contexts :
     ∷ log "$c1" Info "b"
     ∷ log "$c2" Info "c" ∷ [])
     (ask "{'id':1,'method':'session.subscribe','params':{'events':['log'],'contexts':['$c1','$c2']}}")
-    ≡ event 1 "log.entryAdded" "{'args':[{'type':'string','value':'a'}],'level':'info','method':'info','source':{'context':'$c2','realm':'$r2'},'text':'a','timestamp':0,'type':'console'}"
-    ∷ event 1 "log.entryAdded" "{'args':[{'type':'string','value':'b'}],'level':'info','method':'info','source':{'context':'$c1','realm':'$r1'},'text':'b','timestamp':0,'type':'console'}"
-    ∷ event 1 "log.entryAdded" "{'args':[{'type':'string','value':'c'}],'level':'info','method':'info','source':{'context':'$c2','realm':'$r2'},'text':'c','timestamp':0,'type':'console'}"
+    ≡ event 1 "log.entryAdded"
+    "{'args':[{'type':'string','value':'a'}],'level':'info','method':'info','source':{'context':'$c2','realm':'$r2'},'text':'a','timestamp':0,'type':'console'}"
+    ∷ event 1 "log.entryAdded"
+    "{'args':[{'type':'string','value':'b'}],'level':'info','method':'info','source':{'context':'$c1','realm':'$r1'},'text':'b','timestamp':0,'type':'console'}"
+    ∷ event 1 "log.entryAdded"
+    "{'args':[{'type':'string','value':'c'}],'level':'info','method':'info','source':{'context':'$c2','realm':'$r2'},'text':'c','timestamp':0,'type':'console'}"
     ∷ success 1 1 "{'subscription':'$u1'}" ∷ []
 unfolding machine_on_literals
 entries_are_announced_oldest_first_over_all_contexts = refl
@@ -145,7 +151,10 @@ entries c n = map (λ k. Log (id_of Context c) Info (decimal k)) (up_to n)
 
 -- an entry of the first context, as it is announced
 abbrev pub announced : ℕ → Sent
-announced k = sent.Text 1 (said "{'method':'log.entryAdded','params':{'args':[{'type':'string','value':'" ++ decimal k ++ said "'}],'level':'info','method':'info','source':{'context':'$c1','realm':'$r1'},'text':'" ++ decimal k ++ said "','timestamp':0,'type':'console'},'type':'event'}")
+announced k =
+    sent.Text 1 (said "{'method':'log.entryAdded','params':{'args':[{'type':'string','value':'"
+    ++ decimal k ++ said "'}],'level':'info','method':'info','source':{'context':'$c1','realm':'$r1'},'text':'"
+    ++ decimal k ++ said "','timestamp':0,'type':'console'},'type':'event'}")
 
 pub first_of_a_hundred_and_one_entries_does_not_come :
     after (begun ++ entries 1 101) (ask "{'id':1,'method':'session.subscribe','params':{'events':['log']}}")
@@ -155,14 +164,17 @@ first_of_a_hundred_and_one_entries_does_not_come = refl
 
 -- the old entry is the hundred and first, though sixty after it were announced
 pub announced_entries_count_among_the_hundred :
-    after (begun ++ ask "{'id':9,'method':'browsingContext.create','params':{'type':'tab'}}" ∷ log "$c1" Info "old" ∷ entries 2 60 ++ ask "{'id':1,'method':'session.subscribe','params':{'events':['log'],'contexts':['$c2']}}" ∷ ask "{'id':2,'method':'session.unsubscribe','params':{'subscriptions':['$u1']}}" ∷ entries 2 40)
+    after (begun ++ ask "{'id':9,'method':'browsingContext.create','params':{'type':'tab'}}"
+    ∷ log "$c1" Info "old" ∷ entries 2 60 ++ ask "{'id':1,'method':'session.subscribe','params':{'events':['log'],'contexts':['$c2']}}"
+    ∷ ask "{'id':2,'method':'session.unsubscribe','params':{'subscriptions':['$u1']}}" ∷ entries 2 40)
     (ask "{'id':3,'method':'session.subscribe','params':{'events':['log'],'contexts':['$c1']}}")
     ≡ success 1 3 "{'subscription':'$u2'}" ∷ []
 unfolding machine_on_literals
 announced_entries_count_among_the_hundred = refl
 
 pub entry_of_a_closed_context_keeps_its_place :
-    after (begun ++ ask "{'id':9,'method':'browsingContext.create','params':{'type':'tab'}}" ∷ log "$c1" Info "old" ∷ entries 2 100 ++ ask "{'id':8,'method':'browsingContext.close','params':{'context':'$c2'}}" ∷ [])
+    after (begun ++ ask "{'id':9,'method':'browsingContext.create','params':{'type':'tab'}}"
+    ∷ log "$c1" Info "old" ∷ entries 2 100 ++ ask "{'id':8,'method':'browsingContext.close','params':{'context':'$c2'}}" ∷ [])
     (ask "{'id':3,'method':'session.subscribe','params':{'events':['log']}}")
     ≡ success 1 3 "{'subscription':'$u1'}" ∷ []
 unfolding machine_on_literals

@@ -14,12 +14,14 @@ pub navigation_tells_its_start_the_removals_the_new_realm_and_its_end :
     ∷ frame "$c1" "about:blank"
     ∷ At 5 ∷ [])
     (ask "{'id':2,'method':'browsingContext.navigate','params':{'context':'$c1','url':'http://a.test','wait':'complete'}}")
-    ≡ sent.Text 1 (said "{'method':'browsingContext.navigationStarted','params':{'context':'$c1','navigation':'$n1','timestamp':5,'url':'http://a.test/'},'type':'event'}")
+    ≡ sent.Text 1 (said
+    "{'method':'browsingContext.navigationStarted','params':{'context':'$c1','navigation':'$n1','timestamp':5,'url':'http://a.test/'},'type':'event'}")
     ∷ sent.Text 1 (said "{'method':'script.realmDestroyed','params':{'realm':'$r2'},'type':'event'}")
     ∷ sent.Text 1 (said "{'method':'browsingContext.contextDestroyed','params':{'children':[],'clientWindow':'$w1','context':'$c2','originalOpener':null,'parent':'$c1','url':'about:blank','userContext':'default'},'type':'event'}")
     ∷ sent.Text 1 (said "{'method':'script.realmDestroyed','params':{'realm':'$r1'},'type':'event'}")
     ∷ sent.Text 1 (said "{'method':'script.realmCreated','params':{'context':'$c1','origin':'http://a.test','realm':'$r3','type':'window'},'type':'event'}")
-    ∷ sent.Text 1 (said "{'method':'browsingContext.domContentLoaded','params':{'context':'$c1','navigation':'$n1','timestamp':5,'url':'http://a.test/'},'type':'event'}")
+    ∷ sent.Text 1
+    (said "{'method':'browsingContext.domContentLoaded','params':{'context':'$c1','navigation':'$n1','timestamp':5,'url':'http://a.test/'},'type':'event'}")
     ∷ sent.Text 1 (said "{'method':'browsingContext.load','params':{'context':'$c1','navigation':'$n1','timestamp':5,'url':'http://a.test/'},'type':'event'}")
     ∷ sent.Text 1 (said "{'id':2,'result':{'navigation':'$n1','url':'http://a.test/'},'type':'success'}") ∷ []
 unfolding machine_on_literals
@@ -54,7 +56,8 @@ pub it_stands_before_the_removal_of_children :
     (ask "{'id':2,'method':'browsingContext.navigate','params':{'context':'$c1','url':'about:blank','wait':'none'}}")
     ≡ event 1 "browsingContext.navigationStarted" "{'context':'$c1','navigation':'$n1','timestamp':0,'url':'about:blank'}"
     ∷ success 1 2 "{'navigation':'$n1','url':'about:blank'}"
-    ∷ event 1 "browsingContext.contextDestroyed" "{'children':[],'clientWindow':'$w1','context':'$c2','originalOpener':null,'parent':'$c1','url':'http://a.test/','userContext':'default'}"
+    ∷ event 1 "browsingContext.contextDestroyed"
+    "{'children':[],'clientWindow':'$w1','context':'$c2','originalOpener':null,'parent':'$c1','url':'http://a.test/','userContext':'default'}"
     ∷ event 1 "browsingContext.domContentLoaded" "{'context':'$c1','navigation':'$n1','timestamp':0,'url':'about:blank'}"
     ∷ event 1 "browsingContext.load" "{'context':'$c1','navigation':'$n1','timestamp':0,'url':'about:blank'}" ∷ []
 unfolding machine_on_literals
@@ -66,7 +69,8 @@ pub interactive_reply_follows_dom_content_loaded :
     ∷ frame "$c1" "http://a.test" ∷ [])
     (ask "{'id':2,'method':'browsingContext.navigate','params':{'context':'$c1','url':'about:blank','wait':'interactive'}}")
     ≡ event 1 "browsingContext.navigationStarted" "{'context':'$c1','navigation':'$n1','timestamp':0,'url':'about:blank'}"
-    ∷ event 1 "browsingContext.contextDestroyed" "{'children':[],'clientWindow':'$w1','context':'$c2','originalOpener':null,'parent':'$c1','url':'http://a.test/','userContext':'default'}"
+    ∷ event 1 "browsingContext.contextDestroyed"
+    "{'children':[],'clientWindow':'$w1','context':'$c2','originalOpener':null,'parent':'$c1','url':'http://a.test/','userContext':'default'}"
     ∷ event 1 "browsingContext.domContentLoaded" "{'context':'$c1','navigation':'$n1','timestamp':0,'url':'about:blank'}"
     ∷ success 1 2 "{'navigation':'$n1','url':'about:blank'}"
     ∷ event 1 "browsingContext.load" "{'context':'$c1','navigation':'$n1','timestamp':0,'url':'about:blank'}" ∷ []
@@ -82,9 +86,11 @@ pub children_are_removed_one_by_one :
     (ask "{'id':2,'method':'browsingContext.reload','params':{'context':'$c1','wait':'complete'}}")
     ≡ event 1 "script.realmDestroyed" "{'realm':'$r2'}"
     ∷ event 1 "script.realmDestroyed" "{'realm':'$r4'}"
-    ∷ event 1 "browsingContext.contextDestroyed" "{'children':[{'children':[],'clientWindow':'$w1','context':'$c4','originalOpener':null,'url':'about:blank','userContext':'default'}],'clientWindow':'$w1','context':'$c2','originalOpener':null,'parent':'$c1','url':'about:blank','userContext':'default'}"
+    ∷ event 1 "browsingContext.contextDestroyed"
+    "{'children':[{'children':[],'clientWindow':'$w1','context':'$c4','originalOpener':null,'url':'about:blank','userContext':'default'}],'clientWindow':'$w1','context':'$c2','originalOpener':null,'parent':'$c1','url':'about:blank','userContext':'default'}"
     ∷ event 1 "script.realmDestroyed" "{'realm':'$r3'}"
-    ∷ event 1 "browsingContext.contextDestroyed" "{'children':[],'clientWindow':'$w1','context':'$c3','originalOpener':null,'parent':'$c1','url':'about:blank','userContext':'default'}"
+    ∷ event 1 "browsingContext.contextDestroyed"
+    "{'children':[],'clientWindow':'$w1','context':'$c3','originalOpener':null,'parent':'$c1','url':'about:blank','userContext':'default'}"
     ∷ event 1 "script.realmDestroyed" "{'realm':'$r1'}"
     ∷ event 1 "script.realmCreated" "{'context':'$c1','origin':'null','realm':'$r5','type':'window'}"
     ∷ success 1 2 "{'navigation':'$n1','url':'about:blank'}" ∷ []
@@ -97,7 +103,9 @@ pub children_are_gone_after_a_navigation :
     ∷ frame "$c1" "http://a.test"
     ∷ ask "{'id':2,'method':'browsingContext.reload','params':{'context':'$c1'}}" ∷ [])
     (ask "{'id':3,'method':'browsingContext.getTree','params':{}}")
-    ≡ success 1 3 "{'contexts':[{'children':[],'clientWindow':'$w1','context':'$c1','originalOpener':null,'parent':null,'url':'about:blank','userContext':'default'}]}" ∷ []
+    ≡ success 1 3
+    "{'contexts':[{'children':[],'clientWindow':'$w1','context':'$c1','originalOpener':null,'parent':null,'url':'about:blank','userContext':'default'}]}"
+    ∷ []
 unfolding machine_on_literals
 children_are_gone_after_a_navigation = refl
 
@@ -264,7 +272,8 @@ unknown_context_is_not_traversed = refl
 
 -- so many navigations of the first context, each to a URL with its number
 abbrev pub navigations : ℕ → List Step
-navigations n = map (λ k. Text 1 (said "{'id':1,'method':'browsingContext.navigate','params':{'context':'$c1','url':'http://a.test/" ++ decimal k ++ said "'}}")) (up_to n)
+navigations n =
+    map (λ k. Text 1 (said "{'id':1,'method':'browsingContext.navigate','params':{'context':'$c1','url':'http://a.test/" ++ decimal k ++ said "'}}")) (up_to n)
 
 pub fifty_navigations_leave_the_first_as_the_oldest :
     after (begun ++ navigations 50 ++ ask "{'id':2,'method':'session.subscribe','params':{'events':['browsingContext.load']}}" ∷ [])

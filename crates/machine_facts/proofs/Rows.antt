@@ -56,7 +56,8 @@ abbrev pub success : ℕ → ℕ → String → Sent
 success c id result = sent.Text c (said "{'id':" ++ decimal id ++ said ",'result':" ++ said result ++ said ",'type':'success'}")
 
 abbrev pub refusal : ℕ → ℕ → String → Sent
-refusal c id code = sent.Text c (said "{'error':'" ++ codes code ++ said "','id':" ++ decimal id ++ said ",'message':'" ++ codes code ++ said "','type':'error'}")
+refusal c id code =
+    sent.Text c (said "{'error':'" ++ codes code ++ said "','id':" ++ decimal id ++ said ",'message':'" ++ codes code ++ said "','type':'error'}")
 
 abbrev pub event : ℕ → String → String → Sent
 event c method params = sent.Text c (said "{'method':'" ++ codes method ++ said "','params':" ++ said params ++ said ",'type':'event'}")

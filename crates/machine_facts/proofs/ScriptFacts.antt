@@ -321,7 +321,9 @@ pub value_of_a_handle_stands_inside_a_list :
     ∷ value "{'text':'f','argument':0}"
     ∷ ask "{'id':1,'method':'script.evaluate','params':{'awaitPromise':false,'expression':'o','resultOwnership':'root','target':{'context':'$c1'}}}" ∷ [])
     (ask "{'id':2,'method':'script.callFunction','params':{'arguments':[{'type':'array','value':[{'type':'null'},{'handle':'$h1'}]}],'awaitPromise':false,'functionDeclaration':'f','target':{'context':'$c1'}}}")
-    ≡ success 1 2 "{'realm':'$r1','result':{'type':'array','value':[{'type':'null'},{'type':'object','value':[['a',{'type':'number','value':1}]]}]},'type':'success'}" ∷ []
+    ≡ success 1 2
+    "{'realm':'$r1','result':{'type':'array','value':[{'type':'null'},{'type':'object','value':[['a',{'type':'number','value':1}]]}]},'type':'success'}"
+    ∷ []
 unfolding machine_on_literals
 value_of_a_handle_stands_inside_a_list = refl
 
@@ -331,7 +333,9 @@ pub value_of_a_handle_stands_as_a_key :
     ∷ value "{'text':'f','argument':0}"
     ∷ ask "{'id':1,'method':'script.evaluate','params':{'awaitPromise':false,'expression':'o','resultOwnership':'root','target':{'context':'$c1'}}}" ∷ [])
     (ask "{'id':2,'method':'script.callFunction','params':{'arguments':[{'type':'map','value':[[{'handle':'$h1'},{'type':'null'}]]}],'awaitPromise':false,'functionDeclaration':'f','target':{'context':'$c1'}}}")
-    ≡ success 1 2 "{'realm':'$r1','result':{'type':'map','value':[[{'type':'object','value':[['a',{'type':'number','value':1}]]},{'type':'null'}]]},'type':'success'}" ∷ []
+    ≡ success 1 2
+    "{'realm':'$r1','result':{'type':'map','value':[[{'type':'object','value':[['a',{'type':'number','value':1}]]},{'type':'null'}]]},'type':'success'}"
+    ∷ []
 unfolding machine_on_literals
 value_of_a_handle_stands_as_a_key = refl
 
@@ -494,16 +498,19 @@ arrays (suc n) inner = said "{'type':'array','value':[" ++ arrays n inner ++ sai
 abbrev pub deep : List Step
 deep =
     begun ++ TableRow (said "{'text':'o','returns':" ++ arrays 28 (said "{'type':'array','value':[]}") ++ said "}")
-    ∷ value "{'text':'f','argument':0}" ∷ ask "{'id':1,'method':'script.evaluate','params':{'awaitPromise':false,'expression':'o','resultOwnership':'root','target':{'context':'$c1'}}}" ∷ []
+    ∷ value "{'text':'f','argument':0}"
+    ∷ ask "{'id':1,'method':'script.evaluate','params':{'awaitPromise':false,'expression':'o','resultOwnership':'root','target':{'context':'$c1'}}}" ∷ []
 
 -- a call with these arguments
 abbrev pub call_with : String → List ℕ → Step
 call_with declaration arguments =
-    Text 1 (said "{'id':2,'method':'script.callFunction','params':{'arguments':[" ++ arguments ++ said "],'awaitPromise':false,'functionDeclaration':'" ++ codes declaration ++ said "','target':{'context':'$c1'}}}")
+    Text 1 (said "{'id':2,'method':'script.callFunction','params':{'arguments':["
+    ++ arguments ++ said "],'awaitPromise':false,'functionDeclaration':'" ++ codes declaration ++ said "','target':{'context':'$c1'}}}")
 
 pub sixty_levels_are_taken :
     after (deep) (call_with "f" (arrays 1 (said "{'handle':'$h1'}")))
-    ≡ sent.Text 1 (said "{'id':2,'result':{'realm':'$r1','result':" ++ arrays 29 (said "{'type':'array','value':[]}") ++ said ",'type':'success'},'type':'success'}") ∷ []
+    ≡ sent.Text 1 (said "{'id':2,'result':{'realm':'$r1','result':"
+    ++ arrays 29 (said "{'type':'array','value':[]}") ++ said ",'type':'success'},'type':'success'}") ∷ []
 unfolding machine_on_literals
 sixty_levels_are_taken = refl
 

@@ -169,7 +169,9 @@ second_session_is_refused_before_its_capabilities = refl
 
 -- what the first session is told
 abbrev pub first_session_made : sent.Sent
-first_session_made = success 1 0 "{'capabilities':{'acceptInsecureCerts':false,'browserName':'memory-browser','browserVersion':'1.0','platformName':'none','setWindowRect':false,'userAgent':'memory-browser/1.0'},'sessionId':'$s1'}"
+first_session_made =
+    success 1 0
+    "{'capabilities':{'acceptInsecureCerts':false,'browserName':'memory-browser','browserVersion':'1.0','platformName':'none','setWindowRect':false,'userAgent':'memory-browser/1.0'},'sessionId':'$s1'}"
 
 pub entry_after_one_that_does_not_match_matches :
     after (open_session ∷ [])

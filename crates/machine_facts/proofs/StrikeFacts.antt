@@ -47,15 +47,19 @@ pub message_that_is_no_text_is_kept : kept (begun ++ NotText 1 ∷ []) 2 ≡ beg
 unfolding machine_on_literals
 message_that_is_no_text_is_kept = refl
 
-pub quiet_command_is_struck : kept (begun ++ ask "{'id':1,'method':'session.status','params':{}}" ∷ ask "{'id':2,'method':'browsingContext.getTree','params':{}}" ∷ ask "{'id':3,'method':'script.getRealms','params':{}}" ∷ ask "{'id':4,'method':'browsingContext.activate','params':{'context':'$c1'}}" ∷ []) 2 ≡ begun
+pub quiet_command_is_struck : kept (begun ++ ask "{'id':1,'method':'session.status','params':{}}"
+    ∷ ask "{'id':2,'method':'browsingContext.getTree','params':{}}" ∷ ask "{'id':3,'method':'script.getRealms','params':{}}"
+    ∷ ask "{'id':4,'method':'browsingContext.activate','params':{'context':'$c1'}}" ∷ []) 2 ≡ begun
 unfolding machine_on_literals
 quiet_command_is_struck = refl
 
-pub command_that_others_see_is_kept : kept (begun ++ ask "{'id':1,'method':'browsingContext.navigate','params':{'context':'$c1','url':'http://a.test'}}" ∷ []) 2 ≡ begun ++ ask "{'id':1,'method':'browsingContext.navigate','params':{'context':'$c1','url':'http://a.test'}}" ∷ []
+pub command_that_others_see_is_kept : kept (begun ++ ask "{'id':1,'method':'browsingContext.navigate','params':{'context':'$c1','url':'http://a.test'}}" ∷ []) 2
+    ≡ begun ++ ask "{'id':1,'method':'browsingContext.navigate','params':{'context':'$c1','url':'http://a.test'}}" ∷ []
 unfolding machine_on_literals
 command_that_others_see_is_kept = refl
 
-pub first_session_sees_its_own_connection : sees (map heard two_sessions) 1 ≡ success 1 1 "{'capabilities':{'acceptInsecureCerts':false,'browserName':'memory-browser','browserVersion':'1.0','platformName':'none','setWindowRect':false,'userAgent':'memory-browser/1.0'},'sessionId':'$s1'}" ∷ []
+pub first_session_sees_its_own_connection : sees (map heard two_sessions) 1 ≡ success 1 1
+    "{'capabilities':{'acceptInsecureCerts':false,'browserName':'memory-browser','browserVersion':'1.0','platformName':'none','setWindowRect':false,'userAgent':'memory-browser/1.0'},'sessionId':'$s1'}" ∷ []
 unfolding machine_on_literals
 first_session_sees_its_own_connection = refl
 
@@ -63,6 +67,8 @@ pub first_session_sees_the_same_of_what_is_kept : sees (strike (map heard two_se
 unfolding machine_on_literals
 first_session_sees_the_same_of_what_is_kept = refl
 
-pub session_sees_itself_end : sees (map heard (begun ++ Open 2 (said "/session/$s1") ∷ ask_on 2 "{'id':5,'method':'session.end','params':{}}" ∷ [])) 1 ≡ success 1 0 "{'capabilities':{'acceptInsecureCerts':false,'browserName':'memory-browser','browserVersion':'1.0','platformName':'none','setWindowRect':false,'userAgent':'memory-browser/1.0'},'sessionId':'$s1'}" ∷ sent.Opened 2 ∷ success 2 5 "{}" ∷ sent.Close 1 ∷ sent.Close 2 ∷ []
+pub session_sees_itself_end : sees (map heard (begun ++ Open 2 (said "/session/$s1") ∷ ask_on 2 "{'id':5,'method':'session.end','params':{}}" ∷ [])) 1
+    ≡ success 1 0 "{'capabilities':{'acceptInsecureCerts':false,'browserName':'memory-browser','browserVersion':'1.0','platformName':'none','setWindowRect':false,'userAgent':'memory-browser/1.0'},'sessionId':'$s1'}"
+    ∷ sent.Opened 2 ∷ success 2 5 "{}" ∷ sent.Close 1 ∷ sent.Close 2 ∷ []
 unfolding machine_on_literals
 session_sees_itself_end = refl

@@ -28,7 +28,8 @@ pub event_comes_once_however_many_subscriptions_hold :
     ++ ask "{'id':1,'method':'session.subscribe','params':{'events':['browsingContext']}}"
     ∷ ask "{'id':2,'method':'session.subscribe','params':{'events':['browsingContext']}}" ∷ [])
     (ask "{'id':3,'method':'browsingContext.create','params':{'type':'tab'}}")
-    ≡ event 1 "browsingContext.contextCreated" "{'children':null,'clientWindow':'$w1','context':'$c2','originalOpener':null,'parent':null,'url':'about:blank','userContext':'default'}"
+    ≡ event 1 "browsingContext.contextCreated"
+    "{'children':null,'clientWindow':'$w1','context':'$c2','originalOpener':null,'parent':null,'url':'about:blank','userContext':'default'}"
     ∷ success 1 3 "{'context':'$c2'}" ∷ []
 unfolding machine_on_literals
 event_comes_once_however_many_subscriptions_hold = refl
@@ -46,9 +47,12 @@ pub contexts_come_before_realms_in_tree_order :
     ++ ask "{'id':9,'method':'browsingContext.create','params':{'type':'tab'}}"
     ∷ frame "$c1" "about:blank" ∷ [])
     (ask "{'id':1,'method':'session.subscribe','params':{'events':['script.realmCreated','browsingContext.contextCreated']}}")
-    ≡ event 1 "browsingContext.contextCreated" "{'children':null,'clientWindow':'$w1','context':'$c1','originalOpener':null,'parent':null,'url':'about:blank','userContext':'default'}"
-    ∷ event 1 "browsingContext.contextCreated" "{'children':null,'clientWindow':'$w1','context':'$c3','originalOpener':null,'parent':'$c1','url':'about:blank','userContext':'default'}"
-    ∷ event 1 "browsingContext.contextCreated" "{'children':null,'clientWindow':'$w1','context':'$c2','originalOpener':null,'parent':null,'url':'about:blank','userContext':'default'}"
+    ≡ event 1 "browsingContext.contextCreated"
+    "{'children':null,'clientWindow':'$w1','context':'$c1','originalOpener':null,'parent':null,'url':'about:blank','userContext':'default'}"
+    ∷ event 1 "browsingContext.contextCreated"
+    "{'children':null,'clientWindow':'$w1','context':'$c3','originalOpener':null,'parent':'$c1','url':'about:blank','userContext':'default'}"
+    ∷ event 1 "browsingContext.contextCreated"
+    "{'children':null,'clientWindow':'$w1','context':'$c2','originalOpener':null,'parent':null,'url':'about:blank','userContext':'default'}"
     ∷ event 1 "script.realmCreated" "{'context':'$c1','origin':'null','realm':'$r1','type':'window'}"
     ∷ event 1 "script.realmCreated" "{'context':'$c3','origin':'null','realm':'$r3','type':'window'}"
     ∷ event 1 "script.realmCreated" "{'context':'$c2','origin':'null','realm':'$r2','type':'window'}"
@@ -60,8 +64,10 @@ contexts_come_before_realms_in_tree_order = refl
 pub top_level_contexts_are_announced_by_creation :
     after (begun ++ ask "{'id':9,'method':'browsingContext.create','params':{'type':'tab'}}" ∷ [])
     (ask "{'id':1,'method':'session.subscribe','params':{'events':['browsingContext.contextCreated'],'contexts':['$c2','$c1']}}")
-    ≡ event 1 "browsingContext.contextCreated" "{'children':null,'clientWindow':'$w1','context':'$c1','originalOpener':null,'parent':null,'url':'about:blank','userContext':'default'}"
-    ∷ event 1 "browsingContext.contextCreated" "{'children':null,'clientWindow':'$w1','context':'$c2','originalOpener':null,'parent':null,'url':'about:blank','userContext':'default'}"
+    ≡ event 1 "browsingContext.contextCreated"
+    "{'children':null,'clientWindow':'$w1','context':'$c1','originalOpener':null,'parent':null,'url':'about:blank','userContext':'default'}"
+    ∷ event 1 "browsingContext.contextCreated"
+    "{'children':null,'clientWindow':'$w1','context':'$c2','originalOpener':null,'parent':null,'url':'about:blank','userContext':'default'}"
     ∷ success 1 1 "{'subscription':'$u1'}" ∷ []
 unfolding machine_on_literals
 top_level_contexts_are_announced_by_creation = refl
@@ -69,7 +75,8 @@ top_level_contexts_are_announced_by_creation = refl
 pub scoped_subscription_announces_its_contexts_alone :
     after (begun ++ ask "{'id':9,'method':'browsingContext.create','params':{'type':'tab'}}" ∷ [])
     (ask "{'id':1,'method':'session.subscribe','params':{'events':['browsingContext.contextCreated'],'contexts':['$c2']}}")
-    ≡ event 1 "browsingContext.contextCreated" "{'children':null,'clientWindow':'$w1','context':'$c2','originalOpener':null,'parent':null,'url':'about:blank','userContext':'default'}"
+    ≡ event 1 "browsingContext.contextCreated"
+    "{'children':null,'clientWindow':'$w1','context':'$c2','originalOpener':null,'parent':null,'url':'about:blank','userContext':'default'}"
     ∷ success 1 1 "{'subscription':'$u1'}" ∷ []
 unfolding machine_on_literals
 scoped_subscription_announces_its_contexts_alone = refl
@@ -77,8 +84,10 @@ scoped_subscription_announces_its_contexts_alone = refl
 pub announcement_goes_to_the_connections_of_the_session :
     after (begun ++ Open 2 (said "/session/$s1") ∷ [])
     (ask_on 2 "{'id':1,'method':'session.subscribe','params':{'events':['browsingContext.contextCreated']}}")
-    ≡ event 1 "browsingContext.contextCreated" "{'children':null,'clientWindow':'$w1','context':'$c1','originalOpener':null,'parent':null,'url':'about:blank','userContext':'default'}"
-    ∷ event 2 "browsingContext.contextCreated" "{'children':null,'clientWindow':'$w1','context':'$c1','originalOpener':null,'parent':null,'url':'about:blank','userContext':'default'}"
+    ≡ event 1 "browsingContext.contextCreated"
+    "{'children':null,'clientWindow':'$w1','context':'$c1','originalOpener':null,'parent':null,'url':'about:blank','userContext':'default'}"
+    ∷ event 2 "browsingContext.contextCreated"
+    "{'children':null,'clientWindow':'$w1','context':'$c1','originalOpener':null,'parent':null,'url':'about:blank','userContext':'default'}"
     ∷ success 2 1 "{'subscription':'$u1'}" ∷ []
 unfolding machine_on_literals
 announcement_goes_to_the_connections_of_the_session = refl
@@ -90,7 +99,8 @@ pub announcement_goes_to_no_other_session :
     ∷ ask_on 2 "{'id':0,'method':'session.new','params':{'capabilities':{}}}"
     ∷ ask "{'id':1,'method':'session.subscribe','params':{'events':['browsingContext.contextCreated']}}" ∷ [])
     (ask_on 2 "{'id':1,'method':'session.subscribe','params':{'events':['browsingContext.contextCreated']}}")
-    ≡ event 2 "browsingContext.contextCreated" "{'children':null,'clientWindow':'$w1','context':'$c1','originalOpener':null,'parent':null,'url':'about:blank','userContext':'default'}"
+    ≡ event 2 "browsingContext.contextCreated"
+    "{'children':null,'clientWindow':'$w1','context':'$c1','originalOpener':null,'parent':null,'url':'about:blank','userContext':'default'}"
     ∷ success 2 1 "{'subscription':'$v1'}" ∷ []
 unfolding machine_on_literals
 announcement_goes_to_no_other_session = refl
@@ -191,7 +201,8 @@ pub scope_covers_a_new_frame :
     after (begun
     ++ ask "{'id':1,'method':'session.subscribe','params':{'events':['browsingContext.contextCreated'],'contexts':['$c1']}}" ∷ [])
     (frame "$c1" "about:blank")
-    ≡ event 1 "browsingContext.contextCreated" "{'children':null,'clientWindow':'$w1','context':'$c2','originalOpener':null,'parent':'$c1','url':'about:blank','userContext':'default'}" ∷ []
+    ≡ event 1 "browsingContext.contextCreated"
+    "{'children':null,'clientWindow':'$w1','context':'$c2','originalOpener':null,'parent':'$c1','url':'about:blank','userContext':'default'}" ∷ []
 unfolding machine_on_literals
 scope_covers_a_new_frame = refl
 
@@ -387,8 +398,11 @@ pub each_connection_of_the_session_hears_it :
     ++ Open 2 (said "/session/$s1")
     ∷ ask "{'id':1,'method':'session.subscribe','params':{'events':['log.entryAdded']}}" ∷ [])
     (log "$c1" Info "x")
-    ≡ event 1 "log.entryAdded" "{'args':[{'type':'string','value':'x'}],'level':'info','method':'info','source':{'context':'$c1','realm':'$r1'},'text':'x','timestamp':0,'type':'console'}"
-    ∷ event 2 "log.entryAdded" "{'args':[{'type':'string','value':'x'}],'level':'info','method':'info','source':{'context':'$c1','realm':'$r1'},'text':'x','timestamp':0,'type':'console'}" ∷ []
+    ≡ event 1 "log.entryAdded"
+    "{'args':[{'type':'string','value':'x'}],'level':'info','method':'info','source':{'context':'$c1','realm':'$r1'},'text':'x','timestamp':0,'type':'console'}"
+    ∷ event 2 "log.entryAdded"
+    "{'args':[{'type':'string','value':'x'}],'level':'info','method':'info','source':{'context':'$c1','realm':'$r1'},'text':'x','timestamp':0,'type':'console'}"
+    ∷ []
 unfolding machine_on_literals
 each_connection_of_the_session_hears_it = refl
 
@@ -399,8 +413,11 @@ pub reopened_connection_hears_it_last :
     ∷ Drop 1
     ∷ Open 1 (said "/session/$s1") ∷ [])
     (log "$c1" Info "x")
-    ≡ event 2 "log.entryAdded" "{'args':[{'type':'string','value':'x'}],'level':'info','method':'info','source':{'context':'$c1','realm':'$r1'},'text':'x','timestamp':0,'type':'console'}"
-    ∷ event 1 "log.entryAdded" "{'args':[{'type':'string','value':'x'}],'level':'info','method':'info','source':{'context':'$c1','realm':'$r1'},'text':'x','timestamp':0,'type':'console'}" ∷ []
+    ≡ event 2 "log.entryAdded"
+    "{'args':[{'type':'string','value':'x'}],'level':'info','method':'info','source':{'context':'$c1','realm':'$r1'},'text':'x','timestamp':0,'type':'console'}"
+    ∷ event 1 "log.entryAdded"
+    "{'args':[{'type':'string','value':'x'}],'level':'info','method':'info','source':{'context':'$c1','realm':'$r1'},'text':'x','timestamp':0,'type':'console'}"
+    ∷ []
 unfolding machine_on_literals
 reopened_connection_hears_it_last = refl
 
@@ -413,8 +430,11 @@ pub sessions_hear_it_in_order_of_making :
     ∷ ask "{'id':1,'method':'session.subscribe','params':{'events':['log.entryAdded']}}"
     ∷ ask_on 2 "{'id':1,'method':'session.subscribe','params':{'events':['log.entryAdded']}}" ∷ [])
     (log "$c1" Info "x")
-    ≡ event 2 "log.entryAdded" "{'args':[{'type':'string','value':'x'}],'level':'info','method':'info','source':{'context':'$c1','realm':'$r1'},'text':'x','timestamp':0,'type':'console'}"
-    ∷ event 1 "log.entryAdded" "{'args':[{'type':'string','value':'x'}],'level':'info','method':'info','source':{'context':'$c1','realm':'$r1'},'text':'x','timestamp':0,'type':'console'}" ∷ []
+    ≡ event 2 "log.entryAdded"
+    "{'args':[{'type':'string','value':'x'}],'level':'info','method':'info','source':{'context':'$c1','realm':'$r1'},'text':'x','timestamp':0,'type':'console'}"
+    ∷ event 1 "log.entryAdded"
+    "{'args':[{'type':'string','value':'x'}],'level':'info','method':'info','source':{'context':'$c1','realm':'$r1'},'text':'x','timestamp':0,'type':'console'}"
+    ∷ []
 unfolding machine_on_literals
 sessions_hear_it_in_order_of_making = refl
 
@@ -434,7 +454,8 @@ pub event_precedes_the_reply_on_all_connections :
     ∷ ask_on 2 "{'id':0,'method':'session.new','params':{'capabilities':{}}}"
     ∷ ask_on 2 "{'id':1,'method':'session.subscribe','params':{'events':['browsingContext.contextCreated']}}" ∷ [])
     (ask "{'id':1,'method':'browsingContext.create','params':{'type':'tab'}}")
-    ≡ event 2 "browsingContext.contextCreated" "{'children':null,'clientWindow':'$w1','context':'$c2','originalOpener':null,'parent':null,'url':'about:blank','userContext':'default'}"
+    ≡ event 2 "browsingContext.contextCreated"
+    "{'children':null,'clientWindow':'$w1','context':'$c2','originalOpener':null,'parent':null,'url':'about:blank','userContext':'default'}"
     ∷ success 1 1 "{'context':'$c2'}" ∷ []
 unfolding machine_on_literals
 event_precedes_the_reply_on_all_connections = refl

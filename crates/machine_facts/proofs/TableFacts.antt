@@ -127,6 +127,7 @@ returned_value_of_sixty_one_levels_does_not_fit = refl
 pub thrown_value_of_fifty_nine_levels_is_told :
     after (begun ++ thirty (codes "throws") "{'type':'array'}" ∷ [])
     (ask "{'id':1,'method':'script.evaluate','params':{'awaitPromise':false,'expression':'t','target':{'context':'$c1'}}}")
-    ≡ sent.Text 1 (said "{'id':1,'result':{'exceptionDetails':{'columnNumber':0,'exception':" ++ arrays 29 (said "{'type':'array'}") ++ said ",'lineNumber':0,'stackTrace':{'callFrames':[]},'text':'thrown'},'realm':'$r1','type':'exception'},'type':'success'}") ∷ []
+    ≡ sent.Text 1 (said "{'id':1,'result':{'exceptionDetails':{'columnNumber':0,'exception':" ++ arrays 29 (said "{'type':'array'}")
+    ++ said ",'lineNumber':0,'stackTrace':{'callFrames':[]},'text':'thrown'},'realm':'$r1','type':'exception'},'type':'success'}") ∷ []
 unfolding machine_on_literals
 thrown_value_of_fifty_nine_levels_is_told = refl

@@ -93,7 +93,8 @@ impl CreateParameters {
             (has_named (names_in (named create_parameters)) (members_node ext.entries) ≡ true)
             ⊥
             (¬ MembersAreWhole (members_node ext.entries) 60)
-            (λ v. (v.kind ≡ kind) × (v.reference_context ≡ reference_context) × (v.background ≡ background) × (v.user_context ≡ user_context) × (others_of v.ext ≡ members_node ext.entries)) }
+            (λ v. (v.kind ≡ kind) × (v.reference_context ≡ reference_context)
+            × (v.background ≡ background) × (v.user_context ≡ user_context) × (others_of v.ext ≡ members_node ext.entries)) }
         ensures well { IfOk result (λ v. ⟦<CreateParameters as Shape>⟧.shape.well v) }
     {
         let ext = further(ext, Self::NAMES)?;
@@ -116,7 +117,8 @@ impl Ruled for CreateParameters {
 }
 
 impl Shape for CreateParameters {
-    ghost shape = { map_shape ⟦<CreateParameters as Ruled>⟧.rule ⟦<CreateParts as Fields>⟧.table [] (λ v. (v.kind, (v.reference_context, (v.background, (v.user_context, v.ext))))) refl refl };
+    ghost shape = { map_shape ⟦<CreateParameters as Ruled>⟧.rule ⟦<CreateParts as Fields>⟧.table []
+        (λ v. (v.kind, (v.reference_context, (v.background, (v.user_context, v.ext))))) refl refl };
 
     fn from_tree<S: Parsed>(alloc: Global, tree: &S) -> Result<CreateParameters, ShapeFault> {
         let Required(

@@ -119,6 +119,7 @@ const NAMES: &[&str] = &[
     "parent",
 ];
 
+/// The same without `children`.
 const OWN_NAMES: &[&str] = &[
     "clientWindow",
     "context",
@@ -202,8 +203,10 @@ fn read_beside<'a, S: Parsed>(
 
 /// The items of the children, or none where null stands in their place.
 fn children_in<S: Parsed>(tree: &S) -> Result<Option<&[S]>, ShapeFault>
-    ensures ok { IfOk result (λ c. get_member (codes "children") (members_in (S.tree tree.now)) ≡ Some (children_node (option_map (λ x. items_of (map S.tree x.now)) c))) }
-    ensures no_fit { IfNoFit result ((τ : Term) → PartFits required (either (list_of 0 τ) null) (get_member (codes "children") (members_in (S.tree tree.now))) → ⊥) }
+    ensures ok { IfOk result (λ c. get_member (codes "children") (members_in (S.tree tree.now))
+        ≡ Some (children_node (option_map (λ x. items_of (map S.tree x.now)) c))) }
+    ensures no_fit { IfNoFit result
+        ((τ : Term) → PartFits required (either (list_of 0 τ) null) (get_member (codes "children") (members_in (S.tree tree.now))) → ⊥) }
 {
     match tree.member("children") {
         Some(children) => items_or_null(children),

@@ -111,7 +111,8 @@ impl Ruled for NavigateParameters {
 }
 
 impl Shape for NavigateParameters {
-    ghost shape = { map_shape ⟦<NavigateParameters as Ruled>⟧.rule ⟦<NavigateParts as Fields>⟧.table [] (λ v. (v.context, (v.url, (v.wait, v.ext)))) refl refl };
+    ghost shape = { map_shape ⟦<NavigateParameters as Ruled>⟧.rule ⟦<NavigateParts as Fields>⟧.table []
+        (λ v. (v.context, (v.url, (v.wait, v.ext)))) refl refl };
 
     fn from_tree<S: Parsed>(alloc: Global, tree: &S) -> Result<NavigateParameters, ShapeFault> {
         let Required(context, Required(url, Optional(wait, ext))) = read_fields::<
@@ -194,7 +195,8 @@ impl Ruled for ReloadParameters {
 }
 
 impl Shape for ReloadParameters {
-    ghost shape = { map_shape ⟦<ReloadParameters as Ruled>⟧.rule ⟦<ReloadParts as Fields>⟧.table [] (λ v. (v.context, (v.ignore_cache, (v.wait, v.ext)))) refl refl };
+    ghost shape = { map_shape ⟦<ReloadParameters as Ruled>⟧.rule ⟦<ReloadParts as Fields>⟧.table []
+        (λ v. (v.context, (v.ignore_cache, (v.wait, v.ext)))) refl refl };
 
     fn from_tree<S: Parsed>(alloc: Global, tree: &S) -> Result<ReloadParameters, ShapeFault> {
         let Required(context, Optional(ignore_cache, Optional(wait, ext))) = read_fields::<
@@ -416,7 +418,8 @@ impl NavigationInfo {
             (has_named (names_in (named navigation_info)) (members_node ext.entries) ≡ true)
             ⊥
             (¬ MembersAreWhole (members_node ext.entries) 60)
-            (λ v. (v.context ≡ context) × (v.navigation ≡ navigation) × (v.timestamp ≡ timestamp) × (v.url ≡ url) × (others_of v.ext ≡ members_node ext.entries)) }
+            (λ v. (v.context ≡ context) × (v.navigation ≡ navigation)
+            × (v.timestamp ≡ timestamp) × (v.url ≡ url) × (others_of v.ext ≡ members_node ext.entries)) }
         ensures well { IfOk result (λ v. ⟦<NavigationInfo as Shape>⟧.shape.well v) }
     {
         let ext = further(ext, Self::NAMES)?;
@@ -442,7 +445,8 @@ impl Ruled for NavigationInfo {
 }
 
 impl Shape for NavigationInfo {
-    ghost shape = { map_shape ⟦<NavigationInfo as Ruled>⟧.rule ⟦<InfoParts as Fields>⟧.table [] (λ v. (v.context, (v.navigation, (v.timestamp, (v.url, v.ext))))) refl refl };
+    ghost shape = { map_shape ⟦<NavigationInfo as Ruled>⟧.rule ⟦<InfoParts as Fields>⟧.table []
+        (λ v. (v.context, (v.navigation, (v.timestamp, (v.url, v.ext))))) refl refl };
 
     fn from_tree<S: Parsed>(alloc: Global, tree: &S) -> Result<NavigationInfo, ShapeFault> {
         let Required(context, Required(navigation, Required(timestamp, Required(url, ext)))) =

@@ -200,7 +200,8 @@ impl Ruled for RealmInfo {
 }
 
 impl Shape for RealmInfo {
-    ghost shape = { map_shape ⟦<RealmInfo as Ruled>⟧.rule ⟦<InfoParts as Fields>⟧.table (codes "window" ∷ []) (λ v. (v.realm, (v.origin, record { 0 = (v.context, v.ext) }))) refl refl };
+    ghost shape = { map_shape ⟦<RealmInfo as Ruled>⟧.rule ⟦<InfoParts as Fields>⟧.table (codes "window" ∷ [])
+        (λ v. (v.realm, (v.origin, record { 0 = (v.context, v.ext) }))) refl refl };
 
     fn from_tree<S: Parsed>(alloc: Global, tree: &S) -> Result<RealmInfo, ShapeFault> {
         let Required(realm, Required(origin, Literal(Required(context, ext)))) = read_fields::<

@@ -150,7 +150,8 @@ impl Shape for CapabilitiesRequest {
     ghost use Rattle.std.specs.Prelude.{refl, []};
     ghost use Rattle.bidi_shape.specs.Table.{map_shape};
 
-    ghost shape = { map_shape ⟦<CapabilitiesRequest as Ruled>⟧.rule ⟦<RequestParts as Fields>⟧.table [] (λ v. (v.always_match, (v.first_match, v.ext))) refl refl };
+    ghost shape = { map_shape ⟦<CapabilitiesRequest as Ruled>⟧.rule ⟦<RequestParts as Fields>⟧.table []
+        (λ v. (v.always_match, (v.first_match, v.ext))) refl refl };
 
     fn from_tree<S: Parsed>(alloc: Global, tree: &S) -> Result<CapabilitiesRequest, ShapeFault> {
         let Optional(always_match, Optional(first_match, ext)) = read_fields::<
@@ -227,7 +228,8 @@ impl CapabilityRequest {
             (has_named (names_in (named capability_request)) (members_node ext.entries) ≡ true)
             ⊥
             (¬ MembersAreWhole (members_node ext.entries) 60)
-            (λ v. (v.accept_insecure_certs ≡ accept_insecure_certs) × (v.browser_name ≡ browser_name) × (v.browser_version ≡ browser_version) × (v.platform_name ≡ platform_name) × (others_of v.ext ≡ members_node ext.entries)) }
+            (λ v. (v.accept_insecure_certs ≡ accept_insecure_certs) × (v.browser_name ≡ browser_name)
+            × (v.browser_version ≡ browser_version) × (v.platform_name ≡ platform_name) × (others_of v.ext ≡ members_node ext.entries)) }
         ensures well { IfOk result (λ v. ⟦<CapabilityRequest as Shape>⟧.shape.well v) }
     {
         let ext = further(ext, Self::NAMES)?;
@@ -254,7 +256,8 @@ impl Shape for CapabilityRequest {
     ghost use Rattle.std.specs.Prelude.{refl, []};
     ghost use Rattle.bidi_shape.specs.Table.{map_shape};
 
-    ghost shape = { map_shape ⟦<CapabilityRequest as Ruled>⟧.rule ⟦<CapabilityParts as Fields>⟧.table [] (λ v. (v.accept_insecure_certs, (v.browser_name, (v.browser_version, (v.platform_name, v.ext))))) refl refl };
+    ghost shape = { map_shape ⟦<CapabilityRequest as Ruled>⟧.rule ⟦<CapabilityParts as Fields>⟧.table []
+        (λ v. (v.accept_insecure_certs, (v.browser_name, (v.browser_version, (v.platform_name, v.ext))))) refl refl };
 
     fn from_tree<S: Parsed>(alloc: Global, tree: &S) -> Result<CapabilityRequest, ShapeFault> {
         let Optional(
@@ -429,7 +432,9 @@ impl Capabilities {
             (has_named (names_in (named capabilities)) (members_node ext.entries) ≡ true)
             ⊥
             (¬ MembersAreWhole (members_node ext.entries) 60)
-            (λ v. (v.accept_insecure_certs ≡ accept_insecure_certs) × (v.browser_name ≡ browser_name) × (v.browser_version ≡ browser_version) × (v.platform_name ≡ platform_name) × (v.set_window_rect ≡ set_window_rect) × (v.user_agent ≡ user_agent) × (others_of v.ext ≡ members_node ext.entries)) }
+            (λ v. (v.accept_insecure_certs ≡ accept_insecure_certs)
+            × (v.browser_name ≡ browser_name) × (v.browser_version ≡ browser_version) × (v.platform_name ≡ platform_name)
+            × (v.set_window_rect ≡ set_window_rect) × (v.user_agent ≡ user_agent) × (others_of v.ext ≡ members_node ext.entries)) }
         ensures well { IfOk result (λ v. ⟦<Capabilities as Shape>⟧.shape.well v) }
     {
         let ext = further(ext, Self::NAMES)?;
@@ -461,7 +466,8 @@ impl Shape for Capabilities {
     ghost use Rattle.std.specs.Prelude.{refl, []};
     ghost use Rattle.bidi_shape.specs.Table.{map_shape};
 
-    ghost shape = { map_shape ⟦<Capabilities as Ruled>⟧.rule ⟦<CapabilitiesParts as Fields>⟧.table [] (λ v. (v.accept_insecure_certs, (v.browser_name, (v.browser_version, (v.platform_name, (v.set_window_rect, (v.user_agent, v.ext))))))) refl refl };
+    ghost shape = { map_shape ⟦<Capabilities as Ruled>⟧.rule ⟦<CapabilitiesParts as Fields>⟧.table []
+        (λ v. (v.accept_insecure_certs, (v.browser_name, (v.browser_version, (v.platform_name, (v.set_window_rect, (v.user_agent, v.ext))))))) refl refl };
 
     fn from_tree<S: Parsed>(alloc: Global, tree: &S) -> Result<Capabilities, ShapeFault> {
         let Required(

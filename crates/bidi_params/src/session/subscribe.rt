@@ -83,7 +83,8 @@ impl Shape for SubscribeParameters {
     ghost use Rattle.std.specs.Prelude.{refl, []};
     ghost use Rattle.bidi_shape.specs.Table.{map_shape};
 
-    ghost shape = { map_shape ⟦<SubscribeParameters as Ruled>⟧.rule ⟦<SubscribeParts as Fields>⟧.table [] (λ v. (v.events, (v.contexts, (v.user_contexts, v.ext)))) refl refl };
+    ghost shape = { map_shape ⟦<SubscribeParameters as Ruled>⟧.rule ⟦<SubscribeParts as Fields>⟧.table []
+        (λ v. (v.events, (v.contexts, (v.user_contexts, v.ext)))) refl refl };
 
     fn from_tree<S: Parsed>(alloc: Global, tree: &S) -> Result<SubscribeParameters, ShapeFault> {
         let Required(events, Optional(contexts, Optional(user_contexts, ext))) = read_fields::<

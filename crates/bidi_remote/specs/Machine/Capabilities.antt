@@ -1,6 +1,7 @@
 -- Which requested capabilities are well formed, and which match. After WebDriver BiDi, "The session.CapabilitiesRequest Type"; the browser's are this project's own.
 use Prim.Native.String.{String}
-use Rattle.std.specs.Prelude.{ℕ, ◌==◌, Bool, true, false, not, ◌&&◌, if◌then◌else◌, List, [], ◌∷◌, length, map, codes, bytes_eq, Option, unwrap_or, Result, nat_lt}
+use Rattle.std.specs.Prelude.{ℕ, ◌==◌, Bool, true, false, not, ◌&&◌, if◌then◌else◌, List, [], ◌∷◌}
+use Rattle.std.specs.Prelude.{length, map, codes, bytes_eq, Option, unwrap_or, Result, nat_lt}
 use Rattle.std.specs.List.{list_any, list_all}
 use Rattle.bidi_tree.specs.Node as node
 use Rattle.bidi_tree.specs.Node.{Node, null, boolean, whole, odd, text, Items, Members, no_members, member}

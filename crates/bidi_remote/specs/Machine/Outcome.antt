@@ -1,21 +1,25 @@
 -- What a remote end does at each input: the checks of each command in order, and the deed where none fails. After WebDriver BiDi, "Transport" and the commands of "The session Module".
-use Rattle.std.specs.Prelude.{ℕ, nat_lt, Bool, not, ◌&&◌, if◌then◌else◌, List, [], ◌∷◌, ◌++◌, length, find, codes, bytes_eq, Option, Some, None, option_map, Result, Ok, Err}
+use Rattle.std.specs.Prelude.{ℕ, nat_lt, Bool, not, ◌&&◌, if◌then◌else◌, List, [], ◌∷◌, ◌++◌, length, find}
+use Rattle.std.specs.Prelude.{codes, bytes_eq, Option, Some, None, option_map, Result, Ok, Err}
 use Rattle.std.specs.List.{list_all}
 use Rattle.bidi_codes.specs.declared.error_code.ErrorCode.{ErrorCode}
-use Rattle.bidi_codes.specs.declared.error_code.ErrorCode.TheVariants.{InvalidArgument, InvalidSessionId, SessionNotCreated, UnknownCommand, UnknownError, UnsupportedOperation}
+use Rattle.bidi_codes.specs.declared.error_code.ErrorCode.TheVariants.{InvalidArgument, InvalidSessionId, SessionNotCreated}
+use Rattle.bidi_codes.specs.declared.error_code.ErrorCode.TheVariants.{UnknownCommand, UnknownError, UnsupportedOperation}
 use Rattle.bidi_handles.specs.declared.id.IdKind.TheVariants.{Session, Subscription}
 use Rattle.bidi_handles.specs.Ids.{id_of, id_text}
 use Rattle.bidi_browser.specs.Acts.{Act}
 use Rattle.bidi_browser.specs.Contexts.{top_of}
 use Rattle.bidi_codes.specs.Checks.{◌>>=◌, need, found}
 use Rattle.bidi_messages.specs.declared.event.EventName.{EventName}
-use Rattle.bidi_messages.specs.declared.event.EventName.TheVariants.{ContextCreated, ContextDestroyed, NavigationStarted, DomContentLoaded, Load, RealmCreated, RealmDestroyed, EntryAdded}
+use Rattle.bidi_messages.specs.declared.event.EventName.TheVariants.{ContextCreated, ContextDestroyed, NavigationStarted}
+use Rattle.bidi_messages.specs.declared.event.EventName.TheVariants.{DomContentLoaded, Load, RealmCreated, RealmDestroyed, EntryAdded}
 use Rattle.bidi_messages.specs.EventName.{event_name_text as name_of, events as all_events}
 use Rattle.bidi_browser.specs.Outcome as browser
 use Rattle.bidi_messages.specs.Verdict.{Verdict, Accepted, Refused}
 use Rattle.bidi_remote.specs.Machine.Capabilities.{Request, matching}
 use Rattle.bidi_remote.specs.Machine.Commands.{Command, Status, New, End, Subscribe, UnsubscribeById, UnsubscribeByEvents, OfBrowser, command_of, id_of_command}
-use Rattle.bidi_remote.specs.Machine.History.{Input, At, Open, Drop, Heard, NotText, PageStep, Deed, Time, Opened, Dropped, Began, Ended, Subscribed, Cancelled, Dismissed, Did, Told, Scope, All, Below, acts}
+use Rattle.bidi_remote.specs.Machine.History.{Input, At, Open, Drop, Heard, NotText, PageStep, Deed, Time, Opened, Dropped, Began}
+use Rattle.bidi_remote.specs.Machine.History.{Ended, Subscribed, Cancelled, Dismissed, Did, Told, Scope, All, Below, acts}
 use Rattle.bidi_remote.specs.Machine.Sessions.{sessions}
 use Rattle.bidi_remote.specs.Machine.Connections.{Standing, Shut, Alone, SpeaksFor, is_open, standing_of, open_connections}
 use Rattle.bidi_remote.specs.Machine.Subscriptions.{subscriptions, holds_globally}

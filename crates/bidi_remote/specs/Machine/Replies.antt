@@ -40,5 +40,6 @@ HasOneReply id method all =
 -- where a command of that method does something, it gets one reply; of other inputs nothing is said
 abbrev pub IsAnsweredOnce : List Deed → Input → Type 0
 IsAnsweredOnce past (Heard c (Accepted t)) =
-    (method : Method) → method_in t ≡ method_text method → IfOk (turn past (Heard c (Accepted t))) (λ d. HasOneReply (id_of_command t) method (items past (action_in (command_of t)) d))
+    (method : Method) → method_in t ≡ method_text method
+    → IfOk (turn past (Heard c (Accepted t))) (λ d. HasOneReply (id_of_command t) method (items past (action_in (command_of t)) d))
 IsAnsweredOnce past i = ⊤

@@ -9,7 +9,8 @@ use Rattle.bidi_params.specs.declared.session.subscribe.UnsubscribeParameters.{U
 use Rattle.bidi_params.specs.declared.session.subscribe.UnsubscribeParameters.TheVariants.{ById, ByEvents}
 use Rattle.bidi_messages.specs.declared.command.CommandData.{CommandData}
 use Rattle.bidi_messages.specs.declared.command.CommandData.TheVariants as Of
-use Rattle.bidi_browser.specs.Asked.{activate_asked, close_asked, create_asked, get_tree_asked, navigate_asked, reload_asked, traverse_asked, evaluate_asked, call_function_asked, disown_asked, get_realms_asked}
+use Rattle.bidi_browser.specs.Asked.{activate_asked, close_asked, create_asked, get_tree_asked, navigate_asked, reload_asked}
+use Rattle.bidi_browser.specs.Asked.{traverse_asked, evaluate_asked, call_function_asked, disown_asked, get_realms_asked}
 use Rattle.bidi_remote.specs.Machine.Capabilities.{request_of}
 use Rattle.bidi_remote.specs.Machine.Commands.{Command, Status, New, End, Subscribe, UnsubscribeById, UnsubscribeByEvents, OfBrowser, command_of, id_of_command}
 
@@ -19,7 +20,9 @@ texts ss = map string_bytes ss
 
 -- what the params of a subscribe and of an unsubscribe ask
 abbrev pub subscribe_asked : SubscribeParameters → Command
-subscribe_asked p = Subscribe (texts p.events.items.items) (option_map (λ ids. texts ids.items.items) p.contexts) (option_map (λ ids. texts ids.items.items) p.user_contexts)
+subscribe_asked p =
+    Subscribe (texts p.events.items.items) (option_map (λ ids. texts ids.items.items) p.contexts)
+    (option_map (λ ids. texts ids.items.items) p.user_contexts)
 
 abbrev pub unsubscribe_asked : UnsubscribeParameters → Command
 unsubscribe_asked (ById p) = UnsubscribeById (texts p.subscriptions.items.items)

@@ -41,4 +41,5 @@ HasRoomForOne sessions = vec_len sessions.active < vec_capacity sessions.active
 
 -- for one more subscription of the session of that number, where it is there
 abbrev pub HasRoomIn : ℕ → Sessions → Type 0
-HasRoomIn number sessions = (i : ℕ) (d : Session) → position (λ s. s.number == number) sessions.active.items ≡ Some i → HasRoom (get_or sessions.active.items i d)
+HasRoomIn number sessions =
+    (i : ℕ) (d : Session) → position (λ s. s.number == number) sessions.active.items ≡ Some i → HasRoom (get_or sessions.active.items i d)

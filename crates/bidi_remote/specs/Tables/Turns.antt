@@ -109,7 +109,8 @@ pub record IsWellTold (t : Telling) : Type 0 where
 -- a turn in hand, or a code, is what a command comes to after this past, and its reply goes to who asked
 abbrev pub Decides : Result Turn Refusal → List Deed → Asker → Command → Result Deed ErrorCode → Type 0
 Decides (Ok turn) past asker asked answer =
-    (act : Act) × (answer ≡ Ok (deed_of turn.change act)) × IsMade turn.change (acts past) act × Tells turn.telling past (action_in (Some asked)) (deed_of turn.change act)
+    (act : Act) × (answer ≡ Ok (deed_of turn.change act))
+    × IsMade turn.change (acts past) act × Tells turn.telling past (action_in (Some asked)) (deed_of turn.change act)
     × (asker_in turn.telling.reply ≡ Some (asker.conn.value, asker.id.value))
 Decides (Err (Code code)) past asker asked answer = answer ≡ Err code
 Decides (Err NoMemory) past asker asked answer = ⊤

@@ -131,7 +131,8 @@ fn are_apart(always: &CapabilityRequest, choice: &CapabilityRequest) -> bool
     requires choice { ⟦<CapabilityRequest as Shape>⟧.shape.well choice.now }
     requires always_known { list_all is_known (requested_in (⟦<CapabilityRequest as Shape>⟧.shape.tree_of always.now)) ≡ true }
     requires choice_known { list_all is_known (requested_in (⟦<CapabilityRequest as Shape>⟧.shape.tree_of choice.now)) ≡ true }
-    ensures { result ≡ are_apart (requested_in (⟦<CapabilityRequest as Shape>⟧.shape.tree_of always.now)) (requested_in (⟦<CapabilityRequest as Shape>⟧.shape.tree_of choice.now)) }
+    ensures { result ≡ are_apart (requested_in (⟦<CapabilityRequest as Shape>⟧.shape.tree_of always.now))
+        (requested_in (⟦<CapabilityRequest as Shape>⟧.shape.tree_of choice.now)) }
 {
     is_one_absent(&always.accept_insecure_certs, &choice.accept_insecure_certs)
         && is_one_absent(&always.browser_name, &choice.browser_name)

@@ -41,7 +41,8 @@ pub(crate) fn decide_new(
 ) -> Result<Turn, Refusal>
     requires { ⟦<NewParameters as Shape>⟧.shape.well params.now }
     ensures ok { (past : List Deed) → AgreeWith tables.now past → sessions_made past < 4294967295
-        → (let request = request_of (⟦<NewParameters as Shape>⟧.shape.tree_of params.now) in Decides result past asker (New request) (new_outcome past asker.conn.value request)) }
+        → (let request = request_of (⟦<NewParameters as Shape>⟧.shape.tree_of params.now) in
+        Decides result past asker (New request) (new_outcome past asker.conn.value request)) }
     ensures well { IsWellDecided result }
     ensures of_method { HasResultOf Method.SessionNew result }
 {

@@ -86,7 +86,8 @@ fn newly_enabled(
     scope: &Scope,
 ) -> Result<Vec<Rc<EventText>>, AllocError>
     ensures { (past : List Deed) → AgreeWith tables.now past → is_active past session ≡ true
-        → IfOk result (λ all. (written_in all.items ≡ map written (announcements past (Subscribed session events.now (scope_of scope.now)) session)) × AreMessages (written_in all.items)) }
+        → IfOk result (λ all. (written_in all.items ≡ map written (announcements past (Subscribed session events.now (scope_of scope.now)) session))
+        × AreMessages (written_in all.items)) }
 {
     let held = tables.sessions.subscriptions_of(session);
     let mut all = standing(alloc, &tables.browser, held, events, scope)?;
@@ -114,7 +115,8 @@ fn standing(
     scope: &Scope,
 ) -> Result<Vec<Rc<EventText>>, AllocError>
     ensures ok { (past : List Act) → StandsFor browser.now past
-        → IfOk result (λ all. written_in all.items ≡ map written (filter (λ o. is_new past (map row_of held.now) events.now (scope_of scope.now) o.event o.top) (tree_events past))) }
+        → IfOk result (λ all. written_in all.items
+        ≡ map written (filter (λ o. is_new past (map row_of held.now) events.now (scope_of scope.now) o.event o.top) (tree_events past))) }
     ensures reads_back { IfOk result (λ all. AreMessages (written_in all.items)) }
 {
     let mut all = browser.tree_events()?;

@@ -5,7 +5,9 @@ use Rattle.bidi_browser.proofs.births.oldest_window.Goals as goal
 
 pub returns-in-Some-clause-window : goal.returns-in-Some-clause-window
 returns-in-Some-clause-window c = λ past table.
-    window-stands past c.oldest.result (Some c.in-Some.context.now.window) (sym (ap (option_map (λ x. x.now.window)) c.in-Some.is)) (c.oldest.ensures past table)
+    window-stands past c.oldest.result (Some c.in-Some.context.now.window)
+    (sym (ap (option_map (λ x. x.now.window)) c.in-Some.is)) (c.oldest.ensures past table)
 
 pub returns-in-None-clause-window : goal.returns-in-None-clause-window
-returns-in-None-clause-window c = λ past table. window-stands past c.oldest.result None (sym (ap (option_map (λ x. x.now.window)) c.in-None.is)) (c.oldest.ensures past table)
+returns-in-None-clause-window c =
+    λ past table. window-stands past c.oldest.result None (sym (ap (option_map (λ x. x.now.window)) c.in-None.is)) (c.oldest.ensures past table)

@@ -13,16 +13,19 @@ pub returns-clause-plans : goal.returns-clause-plans
 returns-clause-plans c = λ past moment stands ids.
     let w = c.in_ok-window.window in
     let context = c.in_ok-context.context in
-    let row = made-row past w (row_of context) _ _ _ _ stands.contexts.accepted stands.next_context stands.next_realm stands.next_window c.unwrap_or.ensures c.in_ok-context.ensures in
+    let row = made-row past w (row_of context) _ _ _ _ stands.contexts.accepted stands.next_context stands.next_realm stands.next_window
+    c.unwrap_or.ensures c.in_ok-context.ensures in
     let number = ap (λ r. r.number) c.in_ok-context.ensures ∙ stands.next_context in (
       Made w,
       c.in_ok-window.ensures.checked past stands ids,
       asked-birth past (Made w) (row_of context) c.in_ok-before.before.items _ (Some c.in_ok-result.result) _ row c.in_ok-before.ensures.told
-          (ap (λ t. Replies t ∷ []) (c.in_ok-result.ensures.tree ∙ ap (λ n. mapped ("context" being id_tree Context n and no_members)) number)) c.new.ensures.items,
+          (ap (λ t. Replies t ∷ []) (c.in_ok-result.ensures.tree ∙ ap (λ n. mapped ("context" being id_tree Context n and no_members)) number))
+          c.new.ensures.items,
       refl,
       (refl, row, none-is w c.is_none-opens_window.result c.is_none-opens_window.ensures),
       λ unasked. c.new.ensures.items,
     )
 
 pub returns-clause-well : goal.returns-clause-well
-returns-clause-well c = record { before = c.in_ok-before.ensures.well; result = c.in_ok-result.ensures.well; after = subst AreWell (sym c.new.ensures.items) tt }
+returns-clause-well c =
+    record { before = c.in_ok-before.ensures.well; result = c.in_ok-result.ensures.well; after = subst AreWell (sym c.new.ensures.items) tt }

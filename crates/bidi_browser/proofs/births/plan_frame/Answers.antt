@@ -17,9 +17,11 @@ returns-clause-plans c = λ past moment stands ids.
     let low = c.if-parent-ge-LOWEST_LEVEL.false in
     let less : parent.level < 16 = omega (arith, low) in
     let high : nat_lt (level_of past p) 16 ≡ true = grind (arith, nat_tests, less, level) in
-    let room : has_room past ≡ true = let some = c.if-not-has_room.false in let same = c.has_room.ensures.room past stands ids in grind (arith, nat_tests, some, same) in
+    let room : has_room past ≡ true = let some = c.if-not-has_room.false in
+    let same = c.has_room.ensures.room past stands ids in grind (arith, nat_tests, some, same) in
     let context = c.in_ok-context.context in
-    let row = framed-row past p url (row_of parent) (row_of context) _ _ stands.contexts.accepted stands.next_context stands.next_realm found.2 (c.in_ok-context.ensures less) in (
+    let row = framed-row past p url (row_of parent) (row_of context) _ _ stands.contexts.accepted stands.next_context stands.next_realm
+    found.2 (c.in_ok-context.ensures less) in (
       Framed p url,
       frame-passes past _ _ p url found.1 c.in_ok-url.ensures room high,
       unasked-birth past (Framed p url) (row_of context) _ _ row c.in_ok-before.ensures.told c.new.ensures.items,

@@ -21,8 +21,10 @@ returns-in_err-ending-clause-plans c = λ past moment stands ids.
     let owned = is_owned p.result_ownership in
     let ends = call_ending past (realm_of past at.0) (string_bytes p.function_declaration) (arguments_asked p) (option_map local_tree p.this) in
     refused-plans c.from_residual-in_err-ending.result c.in_err-ending.field-0.0 past moment (call_function_asked p) c.from_residual-in_err-ending.ensures.1
-    (λ code is. call-outcome past (string_bytes p.function_declaration) (target_of p.target) (arguments_asked p) (option_map local_tree p.this) owned (realm_of past at.0) at.2
-    ∙ ap (λ r. r >>= λ ending. ending_outcome past (realm_of past at.0) owned ending) (gives-code ending_seen c.in_err-ending.field-0.0 ends (c.in_err-ending.ensures past at.0 stands at.3) code is))
+    (λ code is. call-outcome past (string_bytes p.function_declaration) (target_of p.target) (arguments_asked p)
+    (option_map local_tree p.this) owned (realm_of past at.0) at.2
+    ∙ ap (λ r. r >>= λ ending. ending_outcome past (realm_of past at.0) owned ending)
+    (gives-code ending_seen c.in_err-ending.field-0.0 ends (c.in_err-ending.ensures past at.0 stands at.3) code is))
 
 pub returns-in_err-result-clause-plans : goal.returns-in_err-result-clause-plans
 returns-in_err-result-clause-plans c = λ past moment stands ids.
@@ -31,10 +33,12 @@ returns-in_err-result-clause-plans c = λ past moment stands ids.
     let owned = is_owned p.result_ownership in
     let ended = c.in_ok-ending.ensures past at.0 stands at.3 in
     refused-plans c.from_residual-in_err-result.result c.in_err-result.field-0.0 past moment (call_function_asked p) c.from_residual-in_err-result.ensures.1
-    (λ code is. call-outcome past (string_bytes p.function_declaration) (target_of p.target) (arguments_asked p) (option_map local_tree p.this) owned (realm_of past at.0) at.2
+    (λ code is. call-outcome past (string_bytes p.function_declaration) (target_of p.target) (arguments_asked p)
+    (option_map local_tree p.this) owned (realm_of past at.0) at.2
     ∙ (ap (λ r. r >>= λ ending. ending_outcome past (realm_of past at.0) owned ending) ended
     ∙ (ap (λ b. ending_outcome past (realm_of past at.0) b (ending_seen c.in_ok-ending.ending)) (sym c.is_owned.ensures)
-    ∙ run-code c.in_err-result.field-0.0 past at.0 c.is_owned.result (ending_seen c.in_ok-ending.ending) (c.in_err-result.ensures.ran past at.0 stands ids at.1 at.3) code is)))
+    ∙ run-code c.in_err-result.field-0.0 past at.0 c.is_owned.result (ending_seen c.in_ok-ending.ending)
+    (c.in_err-result.ensures.ran past at.0 stands ids at.1 at.3) code is)))
 
 pub returns-clause-plans : goal.returns-clause-plans
 returns-clause-plans c = λ past moment stands ids.
@@ -46,6 +50,8 @@ returns-clause-plans c = λ past moment stands ids.
     let ran = c.in_ok-result.ensures.ran past at.0 stands ids at.1 at.3 in
     let act = Ran (realm_of past at.0) ending (c.is_owned.result && takes_handle (value_of ending)) in
     answered-plans c.answered.result past moment (call_function_asked p) act (ScriptCallFunction c.in_ok-result.field-0.result) c.in_ok-result.field-0.edit refl
-    (call-outcome past (string_bytes p.function_declaration) (target_of p.target) (arguments_asked p) (option_map local_tree p.this) owned (realm_of past at.0) at.2
-    ∙ (ap (λ r. r >>= λ e. ending_outcome past (realm_of past at.0) owned e) ended ∙ (ap (λ b. ending_outcome past (realm_of past at.0) b ending) (sym c.is_owned.ensures) ∙ ran.0)))
+    (call-outcome past (string_bytes p.function_declaration) (target_of p.target) (arguments_asked p) (option_map local_tree p.this)
+    owned (realm_of past at.0) at.2
+    ∙ (ap (λ r. r >>= λ e. ending_outcome past (realm_of past at.0) owned e) ended
+    ∙ (ap (λ b. ending_outcome past (realm_of past at.0) b ending) (sym c.is_owned.ensures) ∙ ran.0)))
     (ap (λ t. Replies t ∷ []) ran.1) c.answered.ensures.before c.answered.ensures.outcome c.answered.ensures.after c.answered.ensures.change ran.2

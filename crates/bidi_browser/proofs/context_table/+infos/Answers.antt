@@ -18,10 +18,14 @@ infos-loop-context-preserved t c =
     elim c.if-eq.branch [
       | infos-then-eq+in_ok-children+in_ok-info+in_ok-push w ↦
           let one = ap (λ (v : Vec Info Global). v.items) w.all-is ∙ w.in_ok-push.ensures.items in record {
-            tree = infos-more ghosts.shape.tree_of f (row_of x) (children_in (map row_of (take i all)) (Some c.args.parent)) _ held.all.items c.if-eq.all.items w.in_ok-info.field-0
+            tree =
+                infos-more ghosts.shape.tree_of f (row_of x) (children_in (map row_of (take i all)) (Some c.args.parent)) _ held.all.items
+                c.if-eq.all.items w.in_ok-info.field-0
                 (child-more (Some c.args.parent) all i x c.loop-context-test.true c.context-item.is (sym c.eq.ensures ∙ w.if-eq.true)) held.invariant.tree one
                 (w.in_ok-info.ensures.tree ∙ ap (inner_info (row_of x)) w.in_ok-children.ensures.tree);
-            well = λ few. AllByRecursion-more (IsWithin ghosts.shape (2 * c.args.levels)) held.all.items c.if-eq.all.items w.in_ok-info.field-0 one (held.invariant.well few)
+            well =
+                λ few. AllByRecursion-more (IsWithin ghosts.shape (2 * c.args.levels)) held.all.items c.if-eq.all.items
+                w.in_ok-info.field-0 one (held.invariant.well few)
                 (subst (λ n. IsWithin ghosts.shape n w.in_ok-info.field-0) (two-more c.args.levels c.if-levels-eq0.false)
                 (w.in_ok-info.ensures.well (2 * (c.args.levels - 1)) (w.in_ok-children.ensures.well (omega (arith, few))) (omega (arith, few))));
           }

@@ -13,6 +13,7 @@ decreases-infos l = 2 * l.levels
 
 abbrev pub invariant-infos-loop-context : goal.invariant-infos-loop-context
 invariant-infos-loop-context l = record {
-  tree : map ghosts.shape.tree_of l.all.items ≡ map (child_info (l.levels - 1) (map row_of l.contexts) l.depth) (children_in (map row_of (take l.context-index l.contexts)) (Some l.parent));
+  tree : map ghosts.shape.tree_of l.all.items
+      ≡ map (child_info (l.levels - 1) (map row_of l.contexts) l.depth) (children_in (map row_of (take l.context-index l.contexts)) (Some l.parent));
   well : l.levels ≤ 29 → AreWithin ghosts.shape (2 * l.levels) l.all.items;
 }

@@ -9,4 +9,5 @@ decreases-push_below l = l.levels
 
 abbrev pub invariant-loop-context : goal.invariant-loop-context
 invariant-loop-context l =
-    map (λ c. row_of c.now) l.all.items ≡ map (λ c. row_of c.now) l.initial.all.items ++ flat_map (walked (l.levels - 1) (map row_of l.contexts)) (children_in (map row_of (take l.context-index l.contexts)) l.parent)
+    map (λ c. row_of c.now) l.all.items ≡ map (λ c. row_of c.now) l.initial.all.items
+    ++ flat_map (walked (l.levels - 1) (map row_of l.contexts)) (children_in (map row_of (take l.context-index l.contexts)) l.parent)

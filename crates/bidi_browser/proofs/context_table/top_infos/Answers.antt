@@ -18,14 +18,20 @@ loop-context-preserved c =
     elim c.if-is_none.branch [
       | then-is_none+in_ok-whole_info+in_ok-push w ↦
           let one = ap (λ (v : Vec Info Global). v.items) w.all-is ∙ w.in_ok-push.ensures.items in record {
-            tree = infos-more ghosts.shape.tree_of f (row_of x) (children_in (map row_of (take i all)) None) _ held.all.items c.if-is_none.all.items w.in_ok-whole_info.field-0
-                (child-more None all i x c.loop-context-test.true c.context-item.is (is-none x.parent c.is_none.result c.is_none.ensures ∙ w.if-is_none.true)) held.invariant.tree one w.in_ok-whole_info.ensures.tree;
-            well = AllByRecursion-more (IsWithin ghosts.shape 34) held.all.items c.if-is_none.all.items w.in_ok-whole_info.field-0 one held.invariant.well w.in_ok-whole_info.ensures.well;
+            tree =
+                infos-more ghosts.shape.tree_of f (row_of x) (children_in (map row_of (take i all)) None) _ held.all.items
+                c.if-is_none.all.items w.in_ok-whole_info.field-0
+                (child-more None all i x c.loop-context-test.true c.context-item.is (is-none x.parent c.is_none.result c.is_none.ensures ∙ w.if-is_none.true))
+                held.invariant.tree one w.in_ok-whole_info.ensures.tree;
+            well =
+                AllByRecursion-more (IsWithin ghosts.shape 34) held.all.items c.if-is_none.all.items w.in_ok-whole_info.field-0 one
+                held.invariant.well w.in_ok-whole_info.ensures.well;
           }
       | else-is_none w ↦
           let same = ap (λ (v : Vec Info Global). v.items) w.all-is in record {
             tree = ap (map ghosts.shape.tree_of) same ∙ (held.invariant.tree
-                ∙ ap (map f) (sym (no-child-more None all i x c.loop-context-test.true c.context-item.is (is-none x.parent c.is_none.result c.is_none.ensures ∙ w.if-is_none.false))));
+                ∙ ap (map f) (sym (no-child-more None all i x c.loop-context-test.true c.context-item.is
+                (is-none x.parent c.is_none.result c.is_none.ensures ∙ w.if-is_none.false))));
             well = subst (λ is. AreWithin ghosts.shape 34 is) (sym same) held.invariant.well;
           }
     ]

@@ -9,7 +9,8 @@ use Rattle.bidi_browser.proofs.looking.plan_activate.Goals as goal
 pub returns-clause-plans : goal.returns-clause-plans
 returns-clause-plans c = λ past moment stands.
     let found = c.in_ok-top_named.ensures past stands.contexts in
-    looked-plans c.looked.result past moment (Activate c.args.context.now) (BrowsingContextActivate c.nothing.result) refl (ap looked found.1) (ap (λ t. Replies t ∷ []) c.nothing.ensures.tree)
+    looked-plans c.looked.result past moment (Activate c.args.context.now) (BrowsingContextActivate c.nothing.result) refl
+    (ap looked found.1) (ap (λ t. Replies t ∷ []) c.nothing.ensures.tree)
     c.looked.ensures.before c.looked.ensures.outcome c.looked.ensures.after c.looked.ensures.change
 
 pub returns-clause-well : goal.returns-clause-well

@@ -29,7 +29,9 @@ pub returns-clause-well : goal.returns-clause-well
 returns-clause-well c =
     let realms = c.in_ok-realms.realms in
     let flat : items_levels (items_of (map ghosts.shape.tree_of realms.items)) ≤ 1 =
-    subst (λ ts. items_levels (items_of ts) ≤ 1) (sym c.in_ok-realms.ensures.tree) (windows-flat (λ x. row_of x.now) (takes_windows (option_map realm_type_text c.args.params.now.kind)) c.deref.result.now) in
+    subst (λ ts. items_levels (items_of ts) ≤ 1) (sym c.in_ok-realms.ensures.tree)
+    (windows-flat (λ x. row_of x.now) (takes_windows (option_map realm_type_text c.args.params.now.kind)) c.deref.result.now) in
     told-well c.looked.result _ c.looked.ensures.before c.looked.ensures.outcome c.looked.ensures.after
-    (result-well (ScriptGetRealms (record { realms = realms; ext = c.empty.result })) (mapped ("realms" being listed (map ghosts.shape.tree_of realms.items) and no_members))
+    (result-well (ScriptGetRealms (record { realms = realms; ext = c.empty.result }))
+    (mapped ("realms" being listed (map ghosts.shape.tree_of realms.items) and no_members))
     ((c.in_ok-realms.ensures.well, tt), none-further _ (others_of c.empty.result) c.empty.ensures) (rw (c.empty.ensures) refl) (omega (arith, flat)))

@@ -15,12 +15,14 @@ use Rattle.bidi_browser.proofs.looking.plan_get_tree.Goals as goal
 
 pub returns-in_err-infos-clause-plans : goal.returns-in_err-infos-clause-plans
 returns-in_err-infos-clause-plans c = λ past moment stands.
-    refused-looks ghosts.shape.tree_of c.roots.result c.from_residual.result c.in_err-infos.field-0.0 past moment (get_tree_asked c.args.params.now) _ (c.roots.ensures.infos past stands) c.in_err-infos.was c.from_residual.ensures.1
+    refused-looks ghosts.shape.tree_of c.roots.result c.from_residual.result c.in_err-infos.field-0.0 past moment
+    (get_tree_asked c.args.params.now) _ (c.roots.ensures.infos past stands) c.in_err-infos.was c.from_residual.ensures.1
 
 pub returns-clause-plans : goal.returns-clause-plans
 returns-clause-plans c = λ past moment stands.
     let told = c.in_ok-infos.ensures.infos past stands in
-    looked-plans c.looked.result past moment (GetTree (option_map (λ n. n.value) c.args.params.now.max_depth) (option_map string_bytes c.args.params.now.root)) _ refl told.0
+    looked-plans c.looked.result past moment
+    (GetTree (option_map (λ n. n.value) c.args.params.now.max_depth) (option_map string_bytes c.args.params.now.root)) _ refl told.0
     (rw (c.empty.ensures) (ap (λ ts. Replies (mapped ("contexts" being listed ts and no_members)) ∷ [])
     (told.1 ∙ ap (λ d. map (info_of past d) (roots past (option_map string_bytes c.args.params.now.root))) c.depth_in.ensures)))
     c.looked.ensures.before c.looked.ensures.outcome c.looked.ensures.after c.looked.ensures.change
@@ -30,5 +32,7 @@ returns-clause-well c =
     let infos = c.in_ok-infos.infos.items in
     let below = items-below 34 infos c.in_ok-infos.ensures.well in
     told-well c.looked.result _ c.looked.ensures.before c.looked.ensures.outcome c.looked.ensures.after
-    (result-well (BrowsingContextGetTree (record { contexts = c.in_ok-infos.infos; ext = c.empty.result })) (mapped ("contexts" being listed (map ghosts.shape.tree_of infos) and no_members))
-    ((all-well 34 infos c.in_ok-infos.ensures.well, tt), none-further _ (others_of c.empty.result) c.empty.ensures) (rw (c.empty.ensures) refl) (omega (arith, below)))
+    (result-well (BrowsingContextGetTree (record { contexts = c.in_ok-infos.infos; ext = c.empty.result }))
+    (mapped ("contexts" being listed (map ghosts.shape.tree_of infos) and no_members))
+    ((all-well 34 infos c.in_ok-infos.ensures.well, tt), none-further _ (others_of c.empty.result) c.empty.ensures)
+    (rw (c.empty.ensures) refl) (omega (arith, below)))

@@ -7,7 +7,11 @@ pub loop-context-preserved : goal.loop-context-preserved
 loop-context-preserved c =
     let held = c.loop-context in
     let one = c.in_ok-own_realm in record {
-      tree = seen-more ghosts.shape.tree_of (λ x. realm_info_in (row_of x.now)) c.args.contexts.now held.context-index c.context-item.result held.all.items c.push.new.self.items one.field-0
+      tree =
+          seen-more ghosts.shape.tree_of (λ x. realm_info_in (row_of x.now)) c.args.contexts.now held.context-index c.context-item.result
+          held.all.items c.push.new.self.items one.field-0
           c.loop-context-test.true c.context-item.is held.invariant.tree c.in_ok-push.ensures.items one.ensures.tree;
-      well = AllByRecursion-more (λ r. ghosts.shape.well r) held.all.items c.push.new.self.items one.field-0 c.in_ok-push.ensures.items held.invariant.well one.ensures.well;
+      well =
+          AllByRecursion-more (λ r. ghosts.shape.well r) held.all.items c.push.new.self.items one.field-0 c.in_ok-push.ensures.items
+          held.invariant.well one.ensures.well;
     }

@@ -9,8 +9,10 @@ use Rattle.bidi_browser.proofs.looking.roots.Goals as goal
 pub returns-in_ok-push-in-Some-clause-infos : goal.returns-in_ok-push-in-Some-clause-infos
 returns-in_ok-push-in-Some-clause-infos c = λ past stands.
     let found = c.in_ok-context-in-Some.ensures past stands.contexts in
-    let root = root-found past (string_bytes c.in-Some.id) found.0 _ (ap (option_map string_bytes) c.in-Some.is) (ap (context_named past) (sym c.deref.ensures) ∙ found.1) in (
+    let root = root-found past (string_bytes c.in-Some.id) found.0 _ (ap (option_map string_bytes) c.in-Some.is)
+    (ap (context_named past) (sym c.deref.ensures) ∙ found.1) in (
       root.0,
-      one-shown ghosts.shape.tree_of (info_of past c.args.depth) found.0 _ _ _ c.in_ok-push-in-Some.ensures.items c.new-all.ensures.items (c.in_ok-info-in-Some.ensures.tree past found.0 stands.contexts found.2)
+      one-shown ghosts.shape.tree_of (info_of past c.args.depth) found.0 _ _ _ c.in_ok-push-in-Some.ensures.items c.new-all.ensures.items
+          (c.in_ok-info-in-Some.ensures.tree past found.0 stands.contexts found.2)
           ∙ ap (map (info_of past c.args.depth)) (sym root.1),
     )

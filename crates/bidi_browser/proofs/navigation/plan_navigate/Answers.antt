@@ -24,9 +24,12 @@ returns-clause-plans c = λ past stands ids.
     let few = history.few in
     let there = history.stands in
     let leads : led_to past k (To url) ≡ url =
-    ap (λ r. present (with_entry r.entries url)) (sym found.2) ∙ new-entry-present (entries_in history) url (omega (arith, size, few)) (omega (arith, size, there)) in
+    ap (λ r. present (with_entry r.entries url)) (sym found.2)
+    ∙ new-entry-present (entries_in history) url (omega (arith, size, few)) (omega (arith, size, there)) in
     let told = c.in_ok-told.ensures.told past k (To url) stands next found.2 leads in
-    navigation-plans c.planned.result c.in_ok-told.told _ (BrowsingContextNavigate c.in_ok-result.result) past c.args.moment.value k (To url) (navigate_asked c.args.params.now) refl
+    navigation-plans c.planned.result c.in_ok-told.told _ (BrowsingContextNavigate c.in_ok-result.result) past c.args.moment.value k
+    (To url) (navigate_asked c.args.params.now) refl
     (rw (ap (context_named past) (sym c.deref.ensures) ∙ found.1, ap parsed (sym c.deref-2.ensures) ∙ c.in_ok-url.ensures) refl) told.0
-    (c.in_ok-result.ensures.tree ∙ ap₂ (λ n u. mapped ("navigation" being id_tree Navigation n and "url" being text (url_text u) and no_members)) next.navigation (sym leads))
+    (c.in_ok-result.ensures.tree
+    ∙ ap₂ (λ n u. mapped ("navigation" being id_tree Navigation n and "url" being text (url_text u) and no_members)) next.navigation (sym leads))
     (ap (λ r. r.number) found.2) refl next.realm tt told.1 c.planned.ensures.before c.planned.ensures.outcome c.planned.ensures.after c.planned.ensures.change

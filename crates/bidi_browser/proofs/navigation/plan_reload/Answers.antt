@@ -20,7 +20,9 @@ returns-clause-plans c = λ past stands ids.
     let next = c.in_ok-numbers.ensures.next past stands in
     let leads : led_to past k Again ≡ url = sym (c.present-url.ensures ∙ ap (λ r. present r.entries) found.2) in
     let told = c.in_ok-told.ensures.told past k Again stands next found.2 leads in
-    navigation-plans c.planned.result c.in_ok-told.told _ (BrowsingContextReload c.in_ok-result.result) past c.args.moment.value k Again (reload_asked c.args.params.now) refl
+    navigation-plans c.planned.result c.in_ok-told.told _ (BrowsingContextReload c.in_ok-result.result) past c.args.moment.value k Again
+    (reload_asked c.args.params.now) refl
     (rw (ap (context_named past) (sym c.deref.ensures) ∙ found.1) refl) told.0
-    (c.in_ok-result.ensures.tree ∙ ap₂ (λ n u. mapped ("navigation" being id_tree Navigation n and "url" being text (url_text u) and no_members)) next.navigation (sym leads))
+    (c.in_ok-result.ensures.tree
+    ∙ ap₂ (λ n u. mapped ("navigation" being id_tree Navigation n and "url" being text (url_text u) and no_members)) next.navigation (sym leads))
     (ap (λ r. r.number) found.2) refl next.realm tt told.1 c.planned.ensures.before c.planned.ensures.outcome c.planned.ensures.after c.planned.ensures.change

@@ -12,7 +12,8 @@ returns-clause-told c = λ past k move stands next is leads.
     let all = c.in_ok-before.before in
     let wait = wait_of c.args.wait in
     let told = c.in_ok-before.ensures.told past k move stands next is leads in (
-      told-parted past c.args.moment.value k move wait (record { before = c.split_off.new.self; after = c.in_ok-after.after }) all.items c.place_of_reply-place.result told.0 (c.place_of_reply-place.ensures.place ∙ ap (before_reply wait) (c.len.ensures ∙ all.ok.0))
+      told-parted past c.args.moment.value k move wait (record { before = c.split_off.new.self; after = c.in_ok-after.after }) all.items
+          c.place_of_reply-place.result told.0 (c.place_of_reply-place.ensures.place ∙ ap (before_reply wait) (c.len.ensures ∙ all.ok.0))
           c.in_ok-after.ensures.items c.in_ok-after.ensures.tail,
       told.1 ∙ ap (λ ns. ns ++ flat_map (subtree_of past) (children_of past k)) c.new-gone.ensures.items,
     )
@@ -21,4 +22,5 @@ pub returns-clause-well : goal.returns-clause-well
 returns-clause-well c =
     let all = c.in_ok-before.before.items in
     let n = c.place_of_reply-place.result in
-    let well = c.in_ok-before.ensures.well in (subst AreWell (sym c.in_ok-after.ensures.items) (take-well n all well), subst AreWell (sym c.in_ok-after.ensures.tail) (drop-well n all well))
+    let well = c.in_ok-before.ensures.well in
+    (subst AreWell (sym c.in_ok-after.ensures.items) (take-well n all well), subst AreWell (sym c.in_ok-after.ensures.tail) (drop-well n all well))

@@ -17,7 +17,8 @@ loop-context-preserved c =
           let at = rows-at past c.args.contexts.now cs i c.context-item.result same c.loop-context-test.true c.context-item.is in
           let before = held.invariant.told past cs stands same in
           let one = c.in_ok-push_removal.ensures.told past (get_or cs i 0) stands at.1 in (
-            joined-more (removal past) cs i 0 (seen c.args.events.now.items) (seen held.events.items) (seen c.push_removal.new.events.items) at.0 before.0 one.0,
+            joined-more (removal past) cs i 0 (seen c.args.events.now.items) (seen held.events.items)
+                (seen c.push_removal.new.events.items) at.0 before.0 one.0,
             joined-more (subtree_of past) cs i 0 c.args.numbers.now.items held.numbers.items c.push_removal.new.numbers.items at.0 before.1 one.1,
           );
       well = λ w. c.in_ok-push_removal.ensures.well (held.invariant.well w);

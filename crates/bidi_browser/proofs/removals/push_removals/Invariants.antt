@@ -12,6 +12,7 @@ use Rattle.bidi_browser.proofs.removals.push_removals.Given as goal
 abbrev pub invariant-loop-context : goal.invariant-loop-context
 invariant-loop-context l = record {
   told : (past : List Act) (cs : List ℕ) → StandsFor l.browser past → map (λ c. row_of c.now) l.contexts ≡ map (row_at past) cs
-      → (seen l.events.items ≡ seen l.initial.events.items ++ flat_map (removal past) (take l.context-index cs)) × (l.numbers.items ≡ l.initial.numbers.items ++ flat_map (subtree_of past) (take l.context-index cs));
+      → (seen l.events.items ≡ seen l.initial.events.items ++ flat_map (removal past) (take l.context-index cs))
+      × (l.numbers.items ≡ l.initial.numbers.items ++ flat_map (subtree_of past) (take l.context-index cs));
   well : AreWell l.initial.events.items → AreWell l.events.items;
 }

@@ -7,4 +7,5 @@ use Rattle.bidi_browser.proofs.scripts.ending_of.Goals as goal
 pub returns-in-Some-GivesBack : goal.returns-in-Some-GivesBack
 returns-in-Some-GivesBack c = λ past vs stands all.
     gives-ending c.returned.result past (string_bytes c.args.script.now) vs _
-    (sym (c.get.ensures past stands.table) ∙ (ap (option_map (λ row. row_seen row.now)) c.in-Some-GivesBack.is ∙ ap (λ row. Some (row_seen row)) c.in-Some-GivesBack.field-0-is)) (c.returned.ensures vs all)
+    (sym (c.get.ensures past stands.table) ∙ (ap (option_map (λ row. row_seen row.now)) c.in-Some-GivesBack.is
+    ∙ ap (λ row. Some (row_seen row)) c.in-Some-GivesBack.field-0-is)) (c.returned.ensures vs all)

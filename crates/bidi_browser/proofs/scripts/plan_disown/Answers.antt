@@ -13,9 +13,11 @@ pub returns-clause-plans : goal.returns-clause-plans
 returns-clause-plans c = λ past moment stands.
     let found = c.in_ok-context.ensures past stands.contexts in
     let ids = map string_bytes c.args.params.now.handles.items in
-    disown-plans c.answered.result past moment (disown_asked c.args.params.now) found.0 ids (ScriptDisown c.nothing.result) _ c.in_ok-numbers.numbers refl found.1 (rw found.2 refl)
+    disown-plans c.answered.result past moment (disown_asked c.args.params.now) found.0 ids (ScriptDisown c.nothing.result) _
+    c.in_ok-numbers.numbers refl found.1 (rw found.2 refl)
     (ap (λ t. Replies t ∷ []) c.nothing.ensures.tree) (ap (λ (r : ContextRow). r.number) found.3)
-    (c.in_ok-numbers.ensures ∙ ap (λ (r : ContextRow). map (λ h. h.0) (filter (λ h. has_id ids h.0) r.handles)) found.3) c.answered.ensures.before c.answered.ensures.outcome c.answered.ensures.after c.answered.ensures.change
+    (c.in_ok-numbers.ensures ∙ ap (λ (r : ContextRow). map (λ h. h.0) (filter (λ h. has_id ids h.0) r.handles)) found.3) c.answered.ensures.before
+    c.answered.ensures.outcome c.answered.ensures.after c.answered.ensures.change
 
 pub returns-clause-well : goal.returns-clause-well
 returns-clause-well c =

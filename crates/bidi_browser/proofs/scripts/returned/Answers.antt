@@ -13,21 +13,26 @@ pub returns-in_err-given_back-in-Some : goal.returns-in_err-given_back-in-Some
 returns-in_err-given_back-in-Some c = λ vs all.
     let held = held_in_row (row_of c.args.context.now) in
     let ts = map local_tree c.args.values.now in
-    let there : slice_get ts c.args.place ≡ Some (local_tree c.in-Some.value.now) = slice_get-map local_tree c.args.values.now c.args.place ∙ ap (option_map local_tree) (sym c.at.ensures ∙ ap (option_map (λ v. v.now)) c.in-Some.is) in
+    let there : slice_get ts c.args.place ≡ Some (local_tree c.in-Some.value.now) = slice_get-map local_tree c.args.values.now c.args.place
+    ∙ ap (option_map local_tree) (sym c.at.ensures ∙ ap (option_map (λ v. v.now)) c.in-Some.is) in
     let passed = passed-argument held ts vs c.args.place (local_tree c.in-Some.value.now) all there in
-    not-returned shared_tree c.from_residual.result c.in_err-given_back-in-Some.field-0.0 (argument held (local_tree c.in-Some.value.now)) passed.0 (unwrap_or (slice_get vs c.args.place) undefined) c.from_residual.ensures.1
+    not-returned shared_tree c.from_residual.result c.in_err-given_back-in-Some.field-0.0 (argument held (local_tree c.in-Some.value.now))
+    passed.0 (unwrap_or (slice_get vs c.args.place) undefined) c.from_residual.ensures.1
     c.in_err-given_back-in-Some.ensures passed.1
 
 pub returns-in_ok-given_back-in-Some : goal.returns-in_ok-given_back-in-Some
 returns-in_ok-given_back-in-Some c = λ vs all.
     let held = held_in_row (row_of c.args.context.now) in
     let ts = map local_tree c.args.values.now in
-    let there : slice_get ts c.args.place ≡ Some (local_tree c.in-Some.value.now) = slice_get-map local_tree c.args.values.now c.args.place ∙ ap (option_map local_tree) (sym c.at.ensures ∙ ap (option_map (λ v. v.now)) c.in-Some.is) in
-    ap Returned (returned-value held ts vs c.args.place (local_tree c.in-Some.value.now) (shared_tree c.in_ok-given_back-in-Some.field-0) all there c.in_ok-given_back-in-Some.ensures)
+    let there : slice_get ts c.args.place ≡ Some (local_tree c.in-Some.value.now) = slice_get-map local_tree c.args.values.now c.args.place
+    ∙ ap (option_map local_tree) (sym c.at.ensures ∙ ap (option_map (λ v. v.now)) c.in-Some.is) in
+    ap Returned (returned-value held ts vs c.args.place (local_tree c.in-Some.value.now) (shared_tree c.in_ok-given_back-in-Some.field-0)
+    all there c.in_ok-given_back-in-Some.ensures)
 
 pub returns-in_ok-undefined-in-None : goal.returns-in_ok-undefined-in-None
 returns-in_ok-undefined-in-None c = λ vs all.
     let held = held_in_row (row_of c.args.context.now) in
     let ts = map local_tree c.args.values.now in
-    let there : slice_get ts c.args.place ≡ None = slice_get-map local_tree c.args.values.now c.args.place ∙ ap (option_map local_tree) (sym c.at.ensures ∙ ap (option_map (λ v. v.now)) c.in-None.is) in
+    let there : slice_get ts c.args.place ≡ None = slice_get-map local_tree c.args.values.now c.args.place
+    ∙ ap (option_map local_tree) (sym c.at.ensures ∙ ap (option_map (λ v. v.now)) c.in-None.is) in
     ap Returned (c.in_ok-undefined-in-None.ensures.ok ∙ returned-none held ts vs c.args.place all there)

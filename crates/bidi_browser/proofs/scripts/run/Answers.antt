@@ -14,7 +14,10 @@ returns-then-not-owned-clause-ran c = λ past k stands ids alive is.
     let value = value_of (ending_seen c.args.ending) in
     let held : (c.args.owned && takes_handle value) ≡ false = elim c.then-not-owned.branch [
       | then-not-owned-via-then-not-owned w ↦ let no = w.if-not-owned.true in grind (rules, nat_tests, no)
-      | then-not-owned-via-else-not-owned+then-not-takes_handle w ↦ let no = w.if-not-takes_handle.true in let same = w.takes_handle.ensures in let of = ap takes_handle w.value_of.ensures in grind (rules, nat_tests, no, same, of)
+      | then-not-owned-via-else-not-owned+then-not-takes_handle w ↦ let no = w.if-not-takes_handle.true in
+          let same = w.takes_handle.ensures in
+          let of = ap takes_handle w.value_of.ensures in
+          grind (rules, nat_tests, no, same, of)
     ] in
     ran-unheld past k c.args.owned (ending_seen c.args.ending) c.args.context.now.realm _ held (ap (λ (r : ContextRow). r.realm) is) c.in_ok-result.ensures.tree
 
@@ -22,7 +25,12 @@ pub returns-clause-ran : goal.returns-clause-ran
 returns-clause-ran c = λ past k stands ids alive is.
     let value = value_of (ending_seen c.args.ending) in
     let held : (c.args.owned && takes_handle value) ≡ true =
-    let a = c.if-not-owned.false in let b = c.if-not-takes_handle.false in let same = c.takes_handle.ensures in let of = ap takes_handle c.value_of.ensures in grind (rules, nat_tests, a, b, same, of) in
+    let a = c.if-not-owned.false in
+    let b = c.if-not-takes_handle.false in
+    let same = c.takes_handle.ensures in
+    let of = ap takes_handle c.value_of.ensures in
+    grind (rules, nat_tests, a, b, same, of) in
     let next = c.in_ok-number.ensures.next past k stands ids is in
-    ran-held past k c.args.owned (ending_seen c.args.ending) c.args.context.now.realm _ c.in_ok-number.number _ c.args.context.now.number held next.0 next.1 alive (ap (λ (r : ContextRow). r.realm) is) (ap (λ (r : ContextRow). r.number) is) c.in_ok-result-2.ensures.tree
+    ran-held past k c.args.owned (ending_seen c.args.ending) c.args.context.now.realm _ c.in_ok-number.number _ c.args.context.now.number
+    held next.0 next.1 alive (ap (λ (r : ContextRow). r.realm) is) (ap (λ (r : ContextRow). r.number) is) c.in_ok-result-2.ensures.tree
     (ap (λ t. (c.in_ok-number.number, t)) c.into_value.ensures)

@@ -41,13 +41,15 @@ pub returns-clause-err : goal.returns-clause-err
 returns-clause-err c =
     let line = line_of c.args.words.now in
     let app = c.in-Ok.ensures in
-    refused line c.in-Err.error _ (subst (λ a. HasKind (fault_of a line) c.in-Err.error) app (c.in-Err.ensures.kinds (ap is_simple_and_free app ∙ is_listed))) c.fault.ensures
+    refused line c.in-Err.error _ (subst (λ a. HasKind (fault_of a line) c.in-Err.error) app
+    (c.in-Err.ensures.kinds (ap is_simple_and_free app ∙ is_listed))) c.fault.ensures
 
 pub returns-clause-asked : goal.returns-clause-asked
 returns-clause-asked c = λ run asked.
     let line = line_of c.args.words.now in
     let app = c.in-Ok.ensures in
-    no_memory _ c.in-Err.error _ (asked_read line run asked).0 (subst (λ a. HasKind (fault_of a line) c.in-Err.error) app (c.in-Err.ensures.kinds (ap is_simple_and_free app ∙ is_listed))) c.fault.ensures
+    no_memory _ c.in-Err.error _ (asked_read line run asked).0
+    (subst (λ a. HasKind (fault_of a line) c.in-Err.error) app (c.in-Err.ensures.kinds (ap is_simple_and_free app ∙ is_listed))) c.fault.ensures
 
 pub returns-in_default-clause-said : goal.returns-in_default-clause-said
 returns-in_default-clause-said c = λ run said. said_asks _ run said
@@ -66,4 +68,5 @@ returns-in-Some-clause-bounds c =
     let line = line_of c.args.words.now in
     let app = c.in-Ok.ensures in
     let rows = (c.in-Ok-try_get_matches_from.ensures.matches (ap is_simple app ∙ is_read)).1 in
-    within_bounds (subcommand_of bidi_app line) c.in-Some.run' (ap (λ a. run_in (subcommand_of a line)) (sym app) ∙ (ap run_in (sym rows) ∙ sym c.in-Some.ensures))
+    within_bounds (subcommand_of bidi_app line) c.in-Some.run'
+    (ap (λ a. run_in (subcommand_of a line)) (sym app) ∙ (ap run_in (sym rows) ∙ sym c.in-Some.ensures))

@@ -11,4 +11,5 @@ pub returns-in-Ok : goal.returns-in-Ok
 returns-in-Ok c =
     let most : c.in-Ok.port ≤ 65535 = omega (arith, c.in-Ok.ensures.value) in
     let within : (nat_le 0 c.in-Ok.port && nat_le c.in-Ok.port 65535) ≡ true = grind (arith, nat_tests, most) in
-    sym (number-parsed 16 0 65535 c.in-Ok.port c.args.text.now c.parse.result c.in-Ok.is c.parse.ensures.value.0 ∙ ap (λ b. if b then Some c.in-Ok.port else None) within)
+    sym (number-parsed 16 0 65535 c.in-Ok.port c.args.text.now c.parse.result c.in-Ok.is c.parse.ensures.value.0
+    ∙ ap (λ b. if b then Some c.in-Ok.port else None) within)

@@ -11,4 +11,5 @@ returns c =
     let name = c.in_ok-name.name.now in
     let found = found_of c.in_ok-name.inner.now in
     let side = c.side_of.ensures ∙ ap (option_and_then side_named) (first_value-rows found (codes "from")) in
-    c.run_named.ensures ∙ (ap₂ (run_named name) side c.serving_of.ensures ∙ sym (ap run_in (met _ name (rows_of found) c.in_ok-name.ensures.name c.in_ok-name.ensures.rows)))
+    c.run_named.ensures ∙ (ap₂ (run_named name) side c.serving_of.ensures
+    ∙ sym (ap run_in (met _ name (rows_of found) c.in_ok-name.ensures.name c.in_ok-name.ensures.rows)))

@@ -6,4 +6,5 @@ use Rattle.bidi_console.proofs.arguments.with_pair.Goals as goal
 pub returns : goal.returns
 returns c =
     let pair_is : app_of c.after_help.result ≡ new_app (codes "pair") = search rules in
-    IfOk-weaker c.subcommand.result _ _ (λ command adds. adds.shape (search rules) ∙ ap₂ with_subcommand c.in_ok-command.ensures (ap (λ (a : App). a.top) pair_is)) c.subcommand.ensures
+    IfOk-weaker c.subcommand.result _ _
+    (λ command adds. adds.shape (search rules) ∙ ap₂ with_subcommand c.in_ok-command.ensures (ap (λ (a : App). a.top) pair_is)) c.subcommand.ensures

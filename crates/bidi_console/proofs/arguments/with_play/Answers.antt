@@ -8,4 +8,5 @@ pub returns : goal.returns
 returns c =
     let bare_is : app_of c.subcommand_required.result ≡ bare_app = search rules in
     let play_is : app_of c.after_help-2.result ≡ new_app (codes "play") = search rules in
-    IfOk-weaker c.subcommand.result _ _ (λ command adds. adds.shape (search rules) ∙ ap₂ with_subcommand bare_is (ap (λ (a : App). a.top) play_is)) c.subcommand.ensures
+    IfOk-weaker c.subcommand.result _ _
+    (λ command adds. adds.shape (search rules) ∙ ap₂ with_subcommand bare_is (ap (λ (a : App). a.top) play_is)) c.subcommand.ensures

@@ -10,10 +10,13 @@ in_rest bs n = ap (position (λ b. b == 10)) (rest_whole bs n)
 
 pub returns-in_err-i-clause-none : goal.returns-in_err-i-clause-none
 returns-in_err-i-clause-none c =
-    on_none c.from_residual.result _ (feed_behind_none c.args.bytes.now c.args.seen c.requires.none_seen (c.in_err-i.ensures ∙ in_rest c.args.bytes.now c.args.seen))
+    on_none c.from_residual.result _
+    (feed_behind_none c.args.bytes.now c.args.seen c.requires.none_seen (c.in_err-i.ensures ∙ in_rest c.args.bytes.now c.args.seen))
 
 pub returns-clause-some : goal.returns-clause-some
-returns-clause-some c = (feed_behind_some c.args.bytes.now c.args.seen c.in_ok-i.i c.requires.none_seen (c.in_ok-i.ensures ∙ in_rest c.args.bytes.now c.args.seen)).0
+returns-clause-some c =
+    (feed_behind_some c.args.bytes.now c.args.seen c.in_ok-i.i c.requires.none_seen (c.in_ok-i.ensures ∙ in_rest c.args.bytes.now c.args.seen)).0
 
 pub returns-clause-line : goal.returns-clause-line
-returns-clause-line c = (feed_behind_some c.args.bytes.now c.args.seen c.in_ok-i.i c.requires.none_seen (c.in_ok-i.ensures ∙ in_rest c.args.bytes.now c.args.seen)).1
+returns-clause-line c =
+    (feed_behind_some c.args.bytes.now c.args.seen c.in_ok-i.i c.requires.none_seen (c.in_ok-i.ensures ∙ in_rest c.args.bytes.now c.args.seen)).1

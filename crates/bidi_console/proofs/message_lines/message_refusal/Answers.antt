@@ -6,9 +6,11 @@ use Rattle.bidi_console.proofs.message_lines.message_refusal.Goals as goal
 
 pub returns-in-None : goal.returns-in-None
 returns-in-None c =
-    subst (λ o. Refuses Remote c.args.line.now (option_map (λ s. s.now) o)) (sym c.err.ensures.value ∙ c.in-None.is) (reason_refused c.args.line.now c.in_ok-message_in.field-0 c.in_ok-message_in.ensures)
+    subst (λ o. Refuses Remote c.args.line.now (option_map (λ s. s.now) o)) (sym c.err.ensures.value ∙ c.in-None.is)
+    (reason_refused c.args.line.now c.in_ok-message_in.field-0 c.in_ok-message_in.ensures)
 
 pub returns-in_ok-from_str-in-Some : goal.returns-in_ok-from_str-in-Some
 returns-in_ok-from_str-in-Some c =
-    let known = subst (λ o. Refuses Remote c.args.line.now (option_map (λ s. s.now) o)) (sym c.err.ensures.value ∙ c.in-Some.is) (reason_refused c.args.line.now c.in_ok-message_in.field-0 c.in_ok-message_in.ensures) in
+    let known = subst (λ o. Refuses Remote c.args.line.now (option_map (λ s. s.now) o)) (sym c.err.ensures.value ∙ c.in-Some.is)
+    (reason_refused c.args.line.now c.in_ok-message_in.field-0 c.in_ok-message_in.ensures) in
     subst (λ t. Refuses Remote c.args.line.now (Some t)) (sym c.in_ok-from_str-in-Some.ensures.ok) known

@@ -7,4 +7,5 @@ use Rattle.bidi_console.proofs.message_lines.show_verdict.Goals as goal
 
 pub returns-in_ok-accepted_line-in-Accepted : goal.returns-in_ok-accepted_line-in-Accepted
 returns-in_ok-accepted_line-in-Accepted c =
-    accepted_shown c.in-Accepted.command _ c.in_ok-accepted_line-in-Accepted.ensures ∙ ap (λ v. verdict_shown (verdict_of ghosts.shape v)) (sym c.in-Accepted.is)
+    accepted_shown c.in-Accepted.command _ c.in_ok-accepted_line-in-Accepted.ensures
+    ∙ ap (λ v. verdict_shown (verdict_of ghosts.shape v)) (sym c.in-Accepted.is)

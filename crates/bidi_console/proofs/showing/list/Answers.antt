@@ -31,7 +31,8 @@ returns-in-Err-clause-err g c =
       wrote,
       Consumes-trans _ _ _ _ _ s.reads consumes,
       s.writes,
-      input_stop c.args.listing c.args.side c.in-Err.fault c.show_fault.result c.lines.count (g.R.Source.has_ended c.next.new.source) (read ++ bytes) c.next.new.self wrote lines c.show_fault.ensures s.count
+      input_stop c.args.listing c.args.side c.in-Err.fault c.show_fault.result c.lines.count (g.R.Source.has_ended c.next.new.source)
+          (read ++ bytes) c.next.new.self wrote lines c.show_fault.ensures s.count
           (listed_read c.args.listing c.args.side read bytes c.lines.reader c.next.new.self wrote lines s.listed more) next.says,
     )
 
@@ -39,12 +40,20 @@ pub returns-in-Ok-None-clause-ok : goal.returns-in-Ok-None-clause-ok
 returns-in-Ok-None-clause-ok g c =
     let (read, lines, wrote, s) = c.lines.invariant in
     let next = c.in-Ok-None.ensures in
-    let (bytes, more, consumes, none) = given_none _ _ c.lines.reader c.next.new.self _ c.in-Ok-None.field-0 c.in-Ok-None.field-0-is (next.bytes, next.says) in (
+    let (bytes, more, consumes, none) =
+    given_none _ _ c.lines.reader c.next.new.self _ c.in-Ok-None.field-0 c.in-Ok-None.field-0-is (next.bytes, next.says) in (
       read ++ bytes,
       wrote,
       Consumes-trans _ _ _ _ _ s.reads consumes,
       s.writes,
-      ((lines, listed_all c.args.listing c.args.side (read ++ bytes) c.next.new.self wrote lines (listed_read c.args.listing c.args.side read bytes c.lines.reader c.next.new.self wrote lines s.listed more) none), s.some),
+      (
+        (
+          lines,
+          listed_all c.args.listing c.args.side (read ++ bytes) c.next.new.self wrote lines
+              (listed_read c.args.listing c.args.side read bytes c.lines.reader c.next.new.self wrote lines s.listed more) none,
+        ),
+        s.some,
+      ),
     )
 
 pub returns-in_err-text-in-Ok-Some-clause-err : goal.returns-in_err-text-in-Ok-Some-clause-err
@@ -52,13 +61,18 @@ returns-in_err-text-in-Ok-Some-clause-err g c =
     let (read, lines, wrote, s) = c.lines.invariant in
     let next = c.in-Ok-Some.ensures in
     let line = c.in-Ok-Some.line in
-    let (bytes, more, consumes, is) = given_line _ _ c.lines.reader c.next.new.self _ c.in-Ok-Some.field-0 line c.in-Ok-Some.field-0-is (next.bytes, next.says) in
+    let (bytes, more, consumes, is) =
+    given_line _ _ c.lines.reader c.next.new.self _ c.in-Ok-Some.field-0 line c.in-Ok-Some.field-0-is (next.bytes, next.says) in
     by_fault c.from_residual.result NoMemory _ c.from_residual.ensures (
       read ++ bytes,
       wrote,
       Consumes-trans _ _ _ _ _ s.reads consumes,
       s.writes,
-      (lines, ended line.items ++ c.next.new.self, listed_read c.args.listing c.args.side read bytes c.lines.reader (ended line.items ++ c.next.new.self) wrote lines s.listed more),
+      (
+        lines,
+        ended line.items ++ c.next.new.self,
+        listed_read c.args.listing c.args.side read bytes c.lines.reader (ended line.items ++ c.next.new.self) wrote lines s.listed more,
+      ),
     )
 
 pub returns-in_err-write_all-in-Ok-Some-clause-err : goal.returns-in_err-write_all-in-Ok-Some-clause-err
@@ -66,7 +80,8 @@ returns-in_err-write_all-in-Ok-Some-clause-err g c =
     let (read, lines, wrote, s) = c.lines.invariant in
     let next = c.in-Ok-Some.ensures in
     let line = c.in-Ok-Some.line in
-    let (bytes, more, consumes, is) = given_line _ _ c.lines.reader c.next.new.self _ c.in-Ok-Some.field-0 line c.in-Ok-Some.field-0-is (next.bytes, next.says) in
+    let (bytes, more, consumes, is) =
+    given_line _ _ c.lines.reader c.next.new.self _ c.in-Ok-Some.field-0 line c.in-Ok-Some.field-0-is (next.bytes, next.says) in
     let text = c.as_bytes-bytes.result.now in
     let front = c.in_err-write_all-in-Ok-Some.ensures.err in
     by_fault c.from_residual-in_err-write_all-in-Ok-Some.result Write _ c.from_residual-in_err-write_all-in-Ok-Some.ensures (
@@ -74,8 +89,10 @@ returns-in_err-write_all-in-Ok-Some-clause-err g c =
       wrote ++ take front.0 text,
       Consumes-trans _ _ _ _ _ s.reads consumes,
       Appends-trans _ _ _ _ _ s.writes front.2,
-      write_stop c.args.listing c.args.side (g.R.Source.has_ended c.next.new.source) (read ++ bytes) c.next.new.self wrote text (lines ++ line.items ∷ []) front.0
-          (listed_next c.args.listing c.args.side read bytes c.lines.reader c.next.new.self wrote _ text line.items c.deref.result.now lines c.lines.count s.listed more is
+      write_stop c.args.listing c.args.side (g.R.Source.has_ended c.next.new.source) (read ++ bytes) c.next.new.self wrote text
+          (lines ++ line.items ∷ []) front.0
+          (listed_next c.args.listing c.args.side read bytes c.lines.reader c.next.new.self wrote _ text line.items c.deref.result.now lines
+          c.lines.count s.listed more is
           c.in_ok-text-in-Ok-Some.ensures c.deref.ensures.value c.as_bytes-bytes.ensures.value s.count (omega arith)),
     )
 
@@ -84,7 +101,8 @@ lines-preserved g c =
     let (read, lines, wrote, s) = c.lines.invariant in
     let next = c.in-Ok-Some.ensures in
     let line = c.in-Ok-Some.line in
-    let (bytes, more, consumes, is) = given_line _ _ c.lines.reader c.next.new.self _ c.in-Ok-Some.field-0 line c.in-Ok-Some.field-0-is (next.bytes, next.says) in
+    let (bytes, more, consumes, is) =
+    given_line _ _ c.lines.reader c.next.new.self _ c.in-Ok-Some.field-0 line c.in-Ok-Some.field-0-is (next.bytes, next.says) in
     let text = c.as_bytes-bytes.result.now in
     let long = length-append lines (line.items ∷ []) in
     let before = s.count in (
@@ -92,7 +110,9 @@ lines-preserved g c =
       lines ++ line.items ∷ [],
       wrote ++ text,
       record {
-        listed = listed_next c.args.listing c.args.side read bytes c.lines.reader c.next.new.self wrote _ text line.items c.deref.result.now lines c.lines.count s.listed more is
+        listed =
+            listed_next c.args.listing c.args.side read bytes c.lines.reader c.next.new.self wrote _ text line.items c.deref.result.now
+            lines c.lines.count s.listed more is
             c.in_ok-text-in-Ok-Some.ensures c.deref.ensures.value c.as_bytes-bytes.ensures.value s.count (omega arith);
         reads = Consumes-trans _ _ _ _ _ s.reads consumes;
         writes = Appends-trans _ _ _ _ _ s.writes c.in_ok-write_all-in-Ok-Some.ensures.ok;
@@ -112,8 +132,10 @@ returns-in-Err-goes_on-clause-err g c =
       wrote,
       Consumes-trans _ _ _ _ _ s.reads consumes,
       s.writes,
-      last_stop c.args.listing c.args.side c.in-Err-goes_on.fault c.show_fault-in-Err-goes_on.result c.lines.count (g.R.Source.has_ended c.goes_on.new.source) (read ++ bytes) wrote lines c.show_fault-in-Err-goes_on.ensures
-          (listed_all c.args.listing c.args.side (read ++ bytes) c.goes_on.new.self wrote lines (listed_read c.args.listing c.args.side read bytes c.lines.reader c.goes_on.new.self wrote lines s.listed more) next.err.1) next.err.0,
+      last_stop c.args.listing c.args.side c.in-Err-goes_on.fault c.show_fault-in-Err-goes_on.result c.lines.count
+          (g.R.Source.has_ended c.goes_on.new.source) (read ++ bytes) wrote lines c.show_fault-in-Err-goes_on.ensures
+          (listed_all c.args.listing c.args.side (read ++ bytes) c.goes_on.new.self wrote lines
+          (listed_read c.args.listing c.args.side read bytes c.lines.reader c.goes_on.new.self wrote lines s.listed more) next.err.1) next.err.0,
     )
 
 pub returns-in-Ok-true-clause-err : goal.returns-in-Ok-true-clause-err
@@ -126,7 +148,13 @@ returns-in-Ok-true-clause-err g c =
       wrote,
       Consumes-trans _ _ _ _ _ s.reads consumes,
       s.writes,
-      (lines, c.goes_on.new.self, listed_read c.args.listing c.args.side read bytes c.lines.reader c.goes_on.new.self wrote lines s.listed more, omega (arith, counted, few), next.more c.in-Ok-true.field-0-test),
+      (
+        lines,
+        c.goes_on.new.self,
+        listed_read c.args.listing c.args.side read bytes c.lines.reader c.goes_on.new.self wrote lines s.listed more,
+        omega (arith, counted, few),
+        next.more c.in-Ok-true.field-0-test,
+      ),
     )
 
 pub returns-clause-ok : goal.returns-clause-ok
@@ -142,7 +170,8 @@ returns-clause-ok g c =
         (
           lines,
           listed_all c.args.listing c.args.side (read ++ bytes) c.goes_on.new.self wrote lines
-              (listed_read c.args.listing c.args.side read bytes c.lines.reader c.goes_on.new.self wrote lines s.listed more) (next.end c.in-Ok-false.field-0-test).0,
+              (listed_read c.args.listing c.args.side read bytes c.lines.reader c.goes_on.new.self wrote lines s.listed more)
+              (next.end c.in-Ok-false.field-0-test).0,
         ),
         s.some,
       ),

@@ -14,11 +14,15 @@ loop-id-preserved c =
     let now = c.loop-id.numbers.items in
     let r = c.handle_number.result in
     let some = subst (λ (text : List ℕ). IfSome r (λ n. (n < 2 ^ 48) × (bytes_eq text (id_of Handle n) ≡ true))) c.deref.ensures c.handle_number.ensures.some in
-    let every = subst (λ (text : List ℕ). (n : ℕ) → n < 2 ^ 48 → bytes_eq text (id_of Handle n) ≡ true → r ≡ Some n) c.deref.ensures c.handle_number.ensures.every in
-    numbers-more c.args.ids.now c.loop-id.id-index c.id-item.result r now c.match-handle_number.numbers.items c.loop-id-test.true c.id-item.is some every c.loop-id.invariant
+    let every = subst (λ (text : List ℕ). (n : ℕ) → n < 2 ^ 48 → bytes_eq text (id_of Handle n) ≡ true → r ≡ Some n) c.deref.ensures
+    c.handle_number.ensures.every in
+    numbers-more c.args.ids.now c.loop-id.id-index c.id-item.result r now c.match-handle_number.numbers.items c.loop-id-test.true
+    c.id-item.is some every c.loop-id.invariant
     (elim c.match-handle_number.branch [
-      | in-Some+in_ok-push w ↦ ap (λ (v : Vec ℕ Global). v.items) w.numbers-is ∙ (w.in_ok-push.ensures.items ∙ ap (λ o. now ++ option_to_list o) (sym w.in-Some.is))
-      | in_default w ↦ ap (λ (v : Vec ℕ Global). v.items) w.numbers-is ∙ (sym (append-nil now) ∙ ap (λ o. now ++ option_to_list o) (sym (no_value r w.in_default.not-Some)))
+      | in-Some+in_ok-push w ↦ ap (λ (v : Vec ℕ Global). v.items) w.numbers-is
+          ∙ (w.in_ok-push.ensures.items ∙ ap (λ o. now ++ option_to_list o) (sym w.in-Some.is))
+      | in_default w ↦ ap (λ (v : Vec ℕ Global). v.items) w.numbers-is
+          ∙ (sym (append-nil now) ∙ ap (λ o. now ++ option_to_list o) (sym (no_value r w.in_default.not-Some)))
     ])
 
 pub returns-clause-order : goal.returns-clause-order

@@ -15,7 +15,8 @@ measured_members-loop-name-preserved t c =
     let before = c.saturating_add-before.result in
     sym (one-member s c.and-size.result c.loop-name.comma before (string_bytes c.in-Some.name.now) found.0
     (c.and-size.ensures.levels ∙ ap (λ (i : Size). max s.levels i.levels) found.2)
-    (c.saturating_add-before.ensures ∙ ap (λ x. counted (x + 1)) (c.saturating_add.ensures ∙ ap (λ x. counted (x + c.loop-name.comma)) (c.quoted_bytes.ensures ∙ ap (λ name. counted (length (quoted name))) c.deref.ensures)))
+    (c.saturating_add-before.ensures ∙ ap (λ x. counted (x + 1)) (c.saturating_add.ensures
+    ∙ ap (λ x. counted (x + c.loop-name.comma)) (c.quoted_bytes.ensures ∙ ap (λ name. counted (length (quoted name))) c.deref.ensures)))
     (c.and-size.ensures.bytes ∙ ap (λ (i : Size). counted (counted (s.bytes + before) + i.bytes)) found.2)
     h (node c.in-Some.member.now) (members_node c.next.new.self) found.1)
     ∙ (sym (ap (λ it. with_members s c.loop-name.comma (seen_members h (members_node it))) c.in-Some.ensures.steps) ∙ c.loop-name.invariant)

@@ -13,6 +13,8 @@ use Rattle.bidi_handles.proofs.resolving.held_by.Goals as goal
 pub returns : goal.returns
 returns c =
     let held = values_in c.args.handles.now in
-    let none = none-there (λ t. node t.now) c.get.result (get_of (codes "sharedId") (node c.in_ok-to_tree.field-0)) (sym c.is_some.ensures ∙ c.if-is_some.false) c.get.ensures in
-    by-handle remote_tree held c.copy_held.result (objects.ghosts.shape.tree_of c.args.object.now) (string_bytes c.args.object.now.handle) (sym (ap (get_of (codes "sharedId")) c.in_ok-to_tree.ensures) ∙ none) (handle-there c.args.object.now)
+    let none = none-there (λ t. node t.now) c.get.result (get_of (codes "sharedId") (node c.in_ok-to_tree.field-0))
+    (sym c.is_some.ensures ∙ c.if-is_some.false) c.get.ensures in
+    by-handle remote_tree held c.copy_held.result (objects.ghosts.shape.tree_of c.args.object.now) (string_bytes c.args.object.now.handle)
+    (sym (ap (get_of (codes "sharedId")) c.in_ok-to_tree.ensures) ∙ none) (handle-there c.args.object.now)
     (subst (λ id. Gives remote_tree c.copy_held.result (found (held id) NoSuchHandle)) c.deref.ensures c.copy_held.ensures)

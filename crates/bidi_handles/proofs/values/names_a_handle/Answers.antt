@@ -8,4 +8,5 @@ returns-else-eq c =
     let name = string_bytes c.args.name.now in
     let other = same-either (codes "handle") name ∙ (sym (ap (λ s. bytes_eq s (codes "handle")) c.as_str.ensures.value) ∙ (sym c.eq.ensures ∙ c.if-eq.false)) in
     c.eq-else-eq.ensures
-    ∙ (ap (λ s. bytes_eq s (codes "internalId")) c.as_str-else-eq.ensures.value ∙ (same-either name (codes "internalId") ∙ or-second (bytes_eq (codes "handle") name) (bytes_eq (codes "internalId") name) other))
+    ∙ (ap (λ s. bytes_eq s (codes "internalId")) c.as_str-else-eq.ensures.value
+    ∙ (same-either name (codes "internalId") ∙ or-second (bytes_eq (codes "handle") name) (bytes_eq (codes "internalId") name) other))

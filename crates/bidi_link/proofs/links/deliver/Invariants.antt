@@ -8,4 +8,5 @@ use Rattle.bidi_link.proofs.links.deliver.Given as goal
 
 abbrev pub invariant-loop-sent : goal.invariant-loop-sent
 invariant-loop-sent l =
-    ((f : ℕ → Link) → RowsAgree l.fn.links.entries f → RowsAgree l.links.entries (λ k. with_texts (f k) (texts_on k (map sent_of l.yielded)))) × (numbers l.links.entries ≡ numbers l.fn.links.entries)
+    ((f : ℕ → Link) → RowsAgree l.fn.links.entries f → RowsAgree l.links.entries (λ k. with_texts (f k) (texts_on k (map sent_of l.yielded))))
+    × (numbers l.links.entries ≡ numbers l.fn.links.entries)

@@ -6,9 +6,11 @@ use Rattle.bidi_link.proofs.links.deliver_one.Goals as goal
 
 pub returns-in-Some-clause-rows : goal.returns-in-Some-clause-rows
 returns-in-Some-clause-rows c =
-    delivered-some c.push_down.result c.in-Text.conn.value (string_bytes c.in-Text.text) (sent_of c.args.sent) c.push_down.new.self c.in-Some.link.now c.args.links.now.entries (c.get_mut.follows.lender c.push_down.new.self).entries (ap sent_of c.in-Text.is)
+    delivered-some c.push_down.result c.in-Text.conn.value (string_bytes c.in-Text.text) (sent_of c.args.sent) c.push_down.new.self
+    c.in-Some.link.now c.args.links.now.entries (c.get_mut.follows.lender c.push_down.new.self).entries (ap sent_of c.in-Text.is)
     c.in-Some.ensures.value (c.get_mut.follows.holds c.push_down.new.self).0 c.in-Some.ensures.unique c.push_down.ensures
 
 pub returns-in-None-clause-rows : goal.returns-in-None-clause-rows
 returns-in-None-clause-rows c =
-    delivered-none c.in-Text.conn.value (string_bytes c.in-Text.text) (sent_of c.args.sent) c.args.links.now.entries c.get_mut.follows.lender-at-none.entries (ap sent_of c.in-Text.is) c.in-None.ensures.value (ap (λ m. m.entries) c.get_mut.follows.holds-at-none)
+    delivered-none c.in-Text.conn.value (string_bytes c.in-Text.text) (sent_of c.args.sent) c.args.links.now.entries
+    c.get_mut.follows.lender-at-none.entries (ap sent_of c.in-Text.is) c.in-None.ensures.value (ap (λ m. m.entries) c.get_mut.follows.holds-at-none)

@@ -17,7 +17,8 @@ pub loop-step-preserved : goal.loop-step-preserved
 loop-step-preserved c =
     let gives = c.into_iter-step-iterator.ensures.into_iter_gives in
     let n : vec_len c.args.steps ≡ length c.args.steps.items = omega arith in
-    let turn = YieldsList-turn (YieldsList-from_vec c.args.steps.items gives.0 (gives.1 ∙ n)) c.loop-step.yielded c.loop-step.step-iterator c.loop-step.yielded_by c.next.result c.next.new.self c.in-Some.step c.in-Some.is c.next.ensures.steps in
+    let turn = YieldsList-turn (YieldsList-from_vec c.args.steps.items gives.0 (gives.1 ∙ n)) c.loop-step.yielded c.loop-step.step-iterator
+    c.loop-step.yielded_by c.next.result c.next.new.self c.in-Some.step c.in-Some.is c.next.ensures.steps in
     let few : length c.loop-step.yielded < 2 ^ 63 = omega (arith, turn.0, n, c.args.steps.small) in
     let inv = c.loop-step.invariant in
     let taken = c.in_ok-take.ensures.ok in
@@ -35,7 +36,8 @@ pub returns-clause-ok : goal.returns-clause-ok
 returns-clause-ok c =
     let gives = c.into_iter-step-iterator.ensures.into_iter_gives in
     let n : vec_len c.args.steps ≡ length c.args.steps.items = omega arith in
-    let end = YieldsList-end (YieldsList-from_vec c.args.steps.items gives.0 (gives.1 ∙ n)) c.loop-step.yielded c.loop-step.step-iterator c.loop-step.yielded_by c.next.result c.next.new.self c.in-None.is c.next.ensures.steps in
+    let end = YieldsList-end (YieldsList-from_vec c.args.steps.items gives.0 (gives.1 ∙ n)) c.loop-step.yielded c.loop-step.step-iterator
+    c.loop-step.yielded_by c.next.result c.next.new.self c.in-None.is c.next.ensures.steps in
     let inv = c.loop-step.invariant in
     let past = past_after [] inv.0 in (
       inv.0,

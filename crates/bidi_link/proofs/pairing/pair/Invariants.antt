@@ -6,4 +6,6 @@ use Rattle.bidi_link.specs.Steps.{AreHeardAs}
 use Rattle.bidi_link.proofs.pairing.pair.Given as goal
 
 abbrev pub invariant-loop-step : goal.invariant-loop-step
-invariant-loop-step l = (inputs : List PairInput) × AreHeardAs l.yielded inputs × StandsFor l.ends (past_after [] inputs) × IsSane (past_after [] inputs) × (take (length l.yielded) l.fn.steps.items ≡ l.yielded)
+invariant-loop-step l =
+    (inputs : List PairInput) × AreHeardAs l.yielded inputs
+    × StandsFor l.ends (past_after [] inputs) × IsSane (past_after [] inputs) × (take (length l.yielded) l.fn.steps.items ≡ l.yielded)

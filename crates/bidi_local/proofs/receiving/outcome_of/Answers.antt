@@ -16,7 +16,8 @@ returns-in-Ok-clause-outcome c =
     let read = c.in-Ok.ensures.ok in
     let id = c.args.id.value in
     subst (λ m. IsOutcome id c.args.method (map (others_of c.args.contents)) m) (ap₂ (λ k t. Answer id k t) (sym read.0) (sym read.1))
-    (is_good (subst (λ t. Fits t (rule (result_of c.args.method))) read.1 (subst (λ k. Fits (ghosts.subject.tree_of d) (rule (result_of k))) read.0 (ghosts.subject.fits d read.2))))
+    (is_good (subst (λ t. Fits t (rule (result_of c.args.method))) read.1
+    (subst (λ k. Fits (ghosts.subject.tree_of d) (rule (result_of k))) read.0 (ghosts.subject.fits d read.2))))
 
 pub returns-in-Err-NoFit-clause-outcome : goal.returns-in-Err-NoFit-clause-outcome
 returns-in-Err-NoFit-clause-outcome c = is_bad (known_misfit c.in-Err-NoFit.field-0 c.in-Err-NoFit.field-0-is c.in-Err-NoFit.ensures.no_fit)

@@ -8,10 +8,15 @@ pub contents-requires : goal.contents-requires
 contents-requires c = result_is_map (ghosts.subject.kind c.args.result_data) _ (ghosts.subject.fits c.args.result_data c.requires.well)
 
 pub text_of-requires : goal.text_of-requires
-text_of-requires c = response_well c.args.id c.in_ok-members.members c.empty.result _ 70 c.in_ok-members.ensures (ghosts.subject.whole c.args.result_data c.requires.well) c.requires.small c.empty.ensures
+text_of-requires c =
+    response_well c.args.id c.in_ok-members.members c.empty.result _ 70 c.in_ok-members.ensures
+    (ghosts.subject.whole c.args.result_data c.requires.well) c.requires.small c.empty.ensures
 
 pub returns-clause-reads_back : goal.returns-clause-reads_back
 returns-clause-reads_back c =
-    let well = response_well c.args.id c.in_ok-members.members c.empty.result _ 70 c.in_ok-members.ensures (ghosts.subject.whole c.args.result_data c.requires.well) c.requires.small c.empty.ensures in
+    let well = response_well c.args.id c.in_ok-members.members c.empty.result _ 70 c.in_ok-members.ensures
+    (ghosts.subject.whole c.args.result_data c.requires.well) c.requires.small c.empty.ensures in
     is_text message.ghosts.shape (a_response c.args.id c.in_ok-members.members c.empty.result) _ well refl
-    (no_event-response c.args.id.value (ghosts.subject.tree_of c.args.result_data) _ (response-tree c.args.id c.in_ok-members.members c.empty.result _ _ c.in_ok-members.ensures c.empty.ensures refl)) c.text_of.result c.text_of.ensures.text c.text_of.ensures.reads_back
+    (no_event-response c.args.id.value (ghosts.subject.tree_of c.args.result_data) _
+    (response-tree c.args.id c.in_ok-members.members c.empty.result _ _ c.in_ok-members.ensures c.empty.ensures refl)) c.text_of.result
+    c.text_of.ensures.text c.text_of.ensures.reads_back

@@ -7,7 +7,8 @@ use Rattle.bidi_messages.proofs.subject.read_about.Goals as goal
 
 pub returns-in_err-check_map-clause-no_fit : goal.returns-in_err-check_map-clause-no_fit
 returns-in_err-check_map-clause-no_fit g c =
-    handed_on _ _ c.from_residual.ensures.1 c.in_err-check_map.ensures.no_fit (no_map c.args.name.now g.X.Shape.shape g.K.Named.words g.D.Subject.subject _ c.requires.says _)
+    handed_on _ _ c.from_residual.ensures.1 c.in_err-check_map.ensures.no_fit
+    (no_map c.args.name.now g.X.Shape.shape g.K.Named.words g.D.Subject.subject _ c.requires.says _)
 
 pub returns-in_err-head-clause-no_fit : goal.returns-in_err-head-clause-no_fit
 returns-in_err-head-clause-no_fit g c =
@@ -22,12 +23,14 @@ returns-in_err-kind-clause-no_fit g c =
 pub returns-in_err-subject-clause-no_fit : goal.returns-in_err-subject-clause-no_fit
 returns-in_err-subject-clause-no_fit g c =
     handed_on _ _ c.from_residual-in_err-subject.ensures.1 c.in_err-subject.ensures.no_fit
-    (no_params c.args.name.now g.X.Shape.shape g.K.Named.words g.D.Subject.subject _ c.requires.says _ _ c.in_ok-kind.kind c.in_ok-check_map.ensures.ok c.in_ok-kind.ensures.ok)
+    (no_params c.args.name.now g.X.Shape.shape g.K.Named.words g.D.Subject.subject _ c.requires.says _ _ c.in_ok-kind.kind
+    c.in_ok-check_map.ensures.ok c.in_ok-kind.ensures.ok)
 
 pub returns-clause-ok : goal.returns-clause-ok
 returns-clause-ok g c =
     let head = c.in_ok-head.ensures in
     let v = c.in_ok-subject in
     let method = c.in_ok-kind.ensures.ok ∙ ap (λ k. Some (tree.text (g.K.Named.words.text_of k))) (sym v.ensures.ok.0) in
-    about_read c.args.name.now g.X.Shape.shape g.K.Named.words g.D.Subject.subject c.in_ok-head.field-0.0 v.subject c.in_ok-head.field-0.1 _ _ c.requires.once c.in_ok-check_map.ensures.ok head.sorted
+    about_read c.args.name.now g.X.Shape.shape g.K.Named.words g.D.Subject.subject c.in_ok-head.field-0.0 v.subject c.in_ok-head.field-0.1 _
+    _ c.requires.once c.in_ok-check_map.ensures.ok head.sorted
     head.ok.0.0 head.ok.1.0 method v.ensures.ok.1 v.ensures.ok.2 head.rest.0 head.rest.1

@@ -4,4 +4,5 @@ use Rattle.bidi_messages.proofs.ReadingLemmas.{reads_as}
 use Rattle.bidi_messages.proofs.text.read_message_with.Goals as goal
 
 pub returns-in-Ok-clause-again : goal.returns-in-Ok-clause-again
-returns-in-Ok-clause-again c = reads_as ghosts.shape c.args.text.now _ c.message_of.result refl c.in-Ok.ensures.ok c.message_of.ensures.ok c.message_of.ensures.err
+returns-in-Ok-clause-again c =
+    reads_as ghosts.shape c.args.text.now _ c.message_of.result refl c.in-Ok.ensures.ok c.message_of.ensures.ok c.message_of.ensures.err

@@ -9,4 +9,5 @@ use Rattle.bidi_pair.proofs.ledger_lines.entry_lines.Given as goal
 abbrev pub invariant-entries : goal.invariant-entries
 invariant-entries l =
     AllByRecursion (λ e. FateIsWell e.fate) l.entry-iterator.rest.items
-    × (entries_text l.link.value (map entry_seen l.fn.commands.items) ≡ string_bytes l.lines ++ entries_text l.link.value (map entry_seen l.entry-iterator.rest.items))
+    × (entries_text l.link.value (map entry_seen l.fn.commands.items)
+    ≡ string_bytes l.lines ++ entries_text l.link.value (map entry_seen l.entry-iterator.rest.items))

@@ -11,5 +11,6 @@ pub returns : goal.returns
 returns c =
     let d = c.args.event in
     IfOk-weaker c.told_event.result _ _
-    (λ line e. event_grouped c.args.link.value (event_name_text (ghosts.subject.kind d)) (compact_text (ghosts.subject.tree_of d)) c.name.result.now c.as_str.result.now (string_bytes line) e
+    (λ line e. event_grouped c.args.link.value (event_name_text (ghosts.subject.kind d)) (compact_text (ghosts.subject.tree_of d))
+    c.name.result.now c.as_str.result.now (string_bytes line) e
     (c.name.ensures ∙ ap event_name_text c.event-event_name.ensures) (c.as_str.ensures.value ∙ c.in_ok-text.ensures)) c.told_event.ensures

@@ -10,4 +10,5 @@ use Rattle.bidi_pair.proofs.ledger_lines.event_lines.Given as goal
 abbrev pub invariant-events : goal.invariant-events
 invariant-events l =
     AllByRecursion (λ d. ghosts.subject.well d) l.event-iterator.rest.items
-    × (events_text l.link.value (map event_seen l.fn.events.items) ≡ string_bytes l.lines ++ events_text l.link.value (map event_seen l.event-iterator.rest.items))
+    × (events_text l.link.value (map event_seen l.fn.events.items)
+    ≡ string_bytes l.lines ++ events_text l.link.value (map event_seen l.event-iterator.rest.items))

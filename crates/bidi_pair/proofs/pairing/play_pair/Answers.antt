@@ -11,8 +11,14 @@ pub returns-in_err-ledger-clause-err : goal.returns-in_err-ledger-clause-err
 returns-in_err-ledger-clause-err g c =
     let (read, consumes, schedule) = c.in_ok-steps.ensures.ok in
     let e = c.in_err-ledger.field-0.0 in
-    by_fault c.from_residual-in_err-ledger.result (remote_fault_of e) _ c.from_residual-in_err-ledger.ensures
-    (read, [], consumes, Appends-nil _, remote_stop e (g.R.Source.has_ended c.read_steps.new.source) read c.in_ok-steps.steps.items schedule (λ worn. c.in_err-ledger.ensures.worn_out (ap Err worn)))
+    by_fault c.from_residual-in_err-ledger.result (remote_fault_of e) _ c.from_residual-in_err-ledger.ensures (
+      read,
+      [],
+      consumes,
+      Appends-nil _,
+      remote_stop e (g.R.Source.has_ended c.read_steps.new.source) read c.in_ok-steps.steps.items schedule
+          (λ worn. c.in_err-ledger.ensures.worn_out (ap Err worn)),
+    )
 
 pub returns-in_err-text-clause-err : goal.returns-in_err-text-clause-err
 returns-in_err-text-clause-err g c =
@@ -26,5 +32,10 @@ returns-in_err-write_all-clause-err g c =
     let text = c.as_bytes.result.now in
     let front = c.in_err-write_all.ensures.err in
     let same = c.as_bytes.ensures.value ∙ (c.in_ok-text.ensures ∙ ap ledger_text pages) in
-    by_fault c.from_residual-in_err-write_all.result Write _ c.from_residual-in_err-write_all.ensures
-    (read, take front.0 text, consumes, front.2, write_stop (g.R.Source.has_ended c.read_steps.new.source) read text front.0 (c.in_ok-steps.steps.items, inputs, schedule, heard, same))
+    by_fault c.from_residual-in_err-write_all.result Write _ c.from_residual-in_err-write_all.ensures (
+      read,
+      take front.0 text,
+      consumes,
+      front.2,
+      write_stop (g.R.Source.has_ended c.read_steps.new.source) read text front.0 (c.in_ok-steps.steps.items, inputs, schedule, heard, same),
+    )

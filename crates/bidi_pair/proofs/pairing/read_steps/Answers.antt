@@ -15,7 +15,8 @@ returns-in-Err-clause-err g c =
     let (bytes, more, consumes) = next.bytes in (
       read ++ bytes,
       Consumes-trans _ _ _ _ _ s.reads consumes,
-      input_stop c.in-Err.fault c.pair_fault.result c.lines.count (g.R.Source.has_ended c.next.new.source) (read ++ bytes) c.next.new.self c.lines.steps.items c.pair_fault.ensures s.count
+      input_stop c.in-Err.fault c.pair_fault.result c.lines.count (g.R.Source.has_ended c.next.new.source) (read ++ bytes) c.next.new.self
+          c.lines.steps.items c.pair_fault.ensures s.count
           (schedule_read read bytes c.lines.reader c.next.new.self c.lines.steps.items s.schedule more) next.says,
     )
 
@@ -23,10 +24,12 @@ pub returns-in-Ok-None-clause-ok : goal.returns-in-Ok-None-clause-ok
 returns-in-Ok-None-clause-ok g c =
     let (read, s) = c.lines.invariant in
     let next = c.in-Ok-None.ensures in
-    let (bytes, more, consumes, none) = given_none _ _ c.lines.reader c.next.new.self _ c.in-Ok-None.field-0 c.in-Ok-None.field-0-is (next.bytes, next.says) in (
+    let (bytes, more, consumes, none) =
+    given_none _ _ c.lines.reader c.next.new.self _ c.in-Ok-None.field-0 c.in-Ok-None.field-0-is (next.bytes, next.says) in (
       read ++ bytes,
       Consumes-trans _ _ _ _ _ s.reads consumes,
-      schedule_all (read ++ bytes) c.next.new.self c.lines.steps.items (schedule_read read bytes c.lines.reader c.next.new.self c.lines.steps.items s.schedule more) none,
+      schedule_all (read ++ bytes) c.next.new.self c.lines.steps.items
+          (schedule_read read bytes c.lines.reader c.next.new.self c.lines.steps.items s.schedule more) none,
     )
 
 pub returns-in_err-step-in-Ok-Some-clause-err : goal.returns-in_err-step-in-Ok-Some-clause-err
@@ -34,7 +37,8 @@ returns-in_err-step-in-Ok-Some-clause-err g c =
     let (read, s) = c.lines.invariant in
     let next = c.in-Ok-Some.ensures in
     let line = c.in-Ok-Some.line in
-    let (bytes, more, consumes, is) = given_line _ _ c.lines.reader c.next.new.self _ c.in-Ok-Some.field-0 line c.in-Ok-Some.field-0-is (next.bytes, next.says) in
+    let (bytes, more, consumes, is) =
+    given_line _ _ c.lines.reader c.next.new.self _ c.in-Ok-Some.field-0 line c.in-Ok-Some.field-0-is (next.bytes, next.says) in
     by_fault c.from_residual.result NoMemory _ c.from_residual.ensures (read ++ bytes, Consumes-trans _ _ _ _ _ s.reads consumes, refl)
 
 pub returns-in_default-clause-err : goal.returns-in_default-clause-err
@@ -42,10 +46,12 @@ returns-in_default-clause-err g c =
     let (read, s) = c.lines.invariant in
     let next = c.in-Ok-Some.ensures in
     let line = c.in-Ok-Some.line in
-    let (bytes, more, consumes, is) = given_line _ _ c.lines.reader c.next.new.self _ c.in-Ok-Some.field-0 line c.in-Ok-Some.field-0-is (next.bytes, next.says) in (
+    let (bytes, more, consumes, is) =
+    given_line _ _ c.lines.reader c.next.new.self _ c.in-Ok-Some.field-0 line c.in-Ok-Some.field-0-is (next.bytes, next.says) in (
       read ++ bytes,
       Consumes-trans _ _ _ _ _ s.reads consumes,
-      line_stop c.lines.count (g.R.Source.has_ended c.next.new.source) read bytes line.items c.lines.reader c.next.new.self c.lines.steps.items s.schedule more s.count,
+      line_stop c.lines.count (g.R.Source.has_ended c.next.new.source) read bytes line.items c.lines.reader c.next.new.self
+          c.lines.steps.items s.schedule more s.count,
     )
 
 pub returns-in_err-add_step-in-Ok-Some-clause-err : goal.returns-in_err-add_step-in-Ok-Some-clause-err
@@ -53,15 +59,18 @@ returns-in_err-add_step-in-Ok-Some-clause-err g c =
     let (read, s) = c.lines.invariant in
     let next = c.in-Ok-Some.ensures in
     let line = c.in-Ok-Some.line in
-    let (bytes, more, consumes, is) = given_line _ _ c.lines.reader c.next.new.self _ c.in-Ok-Some.field-0 line c.in-Ok-Some.field-0-is (next.bytes, next.says) in
-    by_fault c.from_residual-in_err-add_step-in-Ok-Some.result NoMemory _ c.from_residual-in_err-add_step-in-Ok-Some.ensures (read ++ bytes, Consumes-trans _ _ _ _ _ s.reads consumes, refl)
+    let (bytes, more, consumes, is) =
+    given_line _ _ c.lines.reader c.next.new.self _ c.in-Ok-Some.field-0 line c.in-Ok-Some.field-0-is (next.bytes, next.says) in
+    by_fault c.from_residual-in_err-add_step-in-Ok-Some.result NoMemory _ c.from_residual-in_err-add_step-in-Ok-Some.ensures
+    (read ++ bytes, Consumes-trans _ _ _ _ _ s.reads consumes, refl)
 
 pub lines-preserved : goal.lines-preserved
 lines-preserved g c =
     let (read, s) = c.lines.invariant in
     let next = c.in-Ok-Some.ensures in
     let line = c.in-Ok-Some.line in
-    let (bytes, more, consumes, is) = given_line _ _ c.lines.reader c.next.new.self _ c.in-Ok-Some.field-0 line c.in-Ok-Some.field-0-is (next.bytes, next.says) in
+    let (bytes, more, consumes, is) =
+    given_line _ _ c.lines.reader c.next.new.self _ c.in-Ok-Some.field-0 line c.in-Ok-Some.field-0-is (next.bytes, next.says) in
     let x = c.in-Some.step in
     let said = if_some_at c.in_ok-step-in-Ok-Some.field-0 x _ c.in_ok-step-in-Ok-Some.ensures.some c.in-Some.is in
     let steps = c.lines.steps.items in
@@ -69,7 +78,9 @@ lines-preserved g c =
     let grown = c.in_ok-add_step-in-Ok-Some.ensures in (
       read ++ bytes,
       record {
-        schedule = schedule_more read bytes line.items c.deref.result.now c.lines.reader c.next.new.self steps after x c.lines.count s.schedule more is said.0 c.deref.ensures.value grown s.count (omega arith);
+        schedule =
+            schedule_more read bytes line.items c.deref.result.now c.lines.reader c.next.new.self steps after x c.lines.count s.schedule
+            more is said.0 c.deref.ensures.value grown s.count (omega arith);
         reads = Consumes-trans _ _ _ _ _ s.reads consumes;
         failed_reads = next.failures ∙ s.failed_reads;
         count = count_more steps after x c.lines.count grown s.count;
@@ -84,8 +95,10 @@ returns-in-Err-goes_on-clause-err g c =
     let (bytes, more, consumes) = next.bytes in (
       read ++ bytes,
       Consumes-trans _ _ _ _ _ s.reads consumes,
-      last_stop c.in-Err-goes_on.fault c.pair_fault-in-Err-goes_on.result c.lines.count (g.R.Source.has_ended c.goes_on.new.source) (read ++ bytes) c.lines.steps.items c.pair_fault-in-Err-goes_on.ensures
-          (schedule_all (read ++ bytes) c.goes_on.new.self c.lines.steps.items (schedule_read read bytes c.lines.reader c.goes_on.new.self c.lines.steps.items s.schedule more) next.err.1) next.err.0,
+      last_stop c.in-Err-goes_on.fault c.pair_fault-in-Err-goes_on.result c.lines.count (g.R.Source.has_ended c.goes_on.new.source)
+          (read ++ bytes) c.lines.steps.items c.pair_fault-in-Err-goes_on.ensures
+          (schedule_all (read ++ bytes) c.goes_on.new.self c.lines.steps.items
+          (schedule_read read bytes c.lines.reader c.goes_on.new.self c.lines.steps.items s.schedule more) next.err.1) next.err.0,
     )
 
 pub returns-in-Ok-true-clause-err : goal.returns-in-Ok-true-clause-err
@@ -97,7 +110,14 @@ returns-in-Ok-true-clause-err g c =
     let counted = s.count in let few = s.schedule.few in let same = length-say s.schedule.lines steps s.schedule.say in (
       read ++ bytes,
       Consumes-trans _ _ _ _ _ s.reads consumes,
-      (steps, c.goes_on.new.self, schedule_read read bytes c.lines.reader c.goes_on.new.self steps s.schedule more, omega (arith, counted, few, same), next.more c.in-Ok-true.field-0-test, refl),
+      (
+        steps,
+        c.goes_on.new.self,
+        schedule_read read bytes c.lines.reader c.goes_on.new.self steps s.schedule more,
+        omega (arith, counted, few, same),
+        next.more c.in-Ok-true.field-0-test,
+        refl,
+      ),
     )
 
 pub returns-clause-ok : goal.returns-clause-ok
@@ -108,5 +128,6 @@ returns-clause-ok g c =
     let steps = c.lines.steps.items in (
       read ++ bytes,
       Consumes-trans _ _ _ _ _ s.reads consumes,
-      schedule_all (read ++ bytes) c.goes_on.new.self steps (schedule_read read bytes c.lines.reader c.goes_on.new.self steps s.schedule more) (next.end c.in-Ok-false.field-0-test).0,
+      schedule_all (read ++ bytes) c.goes_on.new.self steps (schedule_read read bytes c.lines.reader c.goes_on.new.self steps s.schedule more)
+          (next.end c.in-Ok-false.field-0-test).0,
     )

@@ -7,7 +7,8 @@ use Rattle.bidi_programs.proofs.TellingLemmas.{begins_first, begins_second, on_e
 use Rattle.bidi_programs.proofs.faults.write_numbered.Goals as goal
 
 pub returns-in_err-write_all-clause-err : goal.returns-in_err-write_all-clause-err
-returns-in_err-write_all-clause-err g c = OnErr-anyhow _ (begins_first _ _ (codes "bidi: line ") (decimal c.args.number ++ c.args.rest.now) c.in_err-write_all.ensures.err)
+returns-in_err-write_all-clause-err g c =
+    OnErr-anyhow _ (begins_first _ _ (codes "bidi: line ") (decimal c.args.number ++ c.args.rest.now) c.in_err-write_all.ensures.err)
 
 pub returns-in_err-write_all-2-clause-err : goal.returns-in_err-write_all-2-clause-err
 returns-in_err-write_all-2-clause-err g c =

@@ -6,5 +6,10 @@ use Rattle.bidi_programs.specs.Runs.{Stops}
 use Rattle.bidi_programs.proofs.running.finish.Goals as goal
 
 pub returns-in-Serve-clause-err : goal.returns-in-Serve-clause-err
-returns-in-Serve-clause-err g c =
-    ([], [], Consumes-nil _, Appends-nil _, subst (λ r. Stops r (fault.Serve Listen) (g.R.Source.has_ended c.args.source.now) [] []) (sym c.in-Serve.is) (refl, refl))
+returns-in-Serve-clause-err g c = (
+  [],
+  [],
+  Consumes-nil _,
+  Appends-nil _,
+  subst (λ r. Stops r (fault.Serve Listen) (g.R.Source.has_ended c.args.source.now) [] []) (sym c.in-Serve.is) (refl, refl),
+)

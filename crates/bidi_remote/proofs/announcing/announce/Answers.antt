@@ -18,13 +18,15 @@ loop-at-preserved-in-None c =
     let items = c.loop-at.places.items in
     let x = c.index.result.now in
     let rows = map place_row c.args.places.now.items in
-    let less : i < length rows = let test = c.loop-at-test.true in let end = c.len-at-end.ensures in let ok = c.args.places.now.ok.0 in let long = length-map c.args.places.now.items place_row in omega (arith, test, end, ok, long) in
+    let less : i < length rows = let test = c.loop-at-test.true in let end = c.len-at-end.ensures in
+    let ok = c.args.places.now.ok.0 in let long = length-map c.args.places.now.items place_row in omega (arith, test, end, ok, long) in
     let at = get_or-map place_row items i x ∙ ap place_row (sym c.index.ensures) in (
       c.loop-at.invariant.0,
       c.loop-at.invariant.1,
       λ past stands.
           let p = is_new past (map row_of c.args.held.now) c.args.events.now (scope_of c.args.scope.now) EntryAdded in
-          over-kept (left p) i rows (map place_row items) (place_row x) less (c.loop-at.invariant.2 past stands) at (left-empty p (place_row x) (ap place_row c.in-None.is)),
+          over-kept (left p) i rows (map place_row items) (place_row x) less (c.loop-at.invariant.2 past stands) at
+          (left-empty p (place_row x) (ap place_row c.in-None.is)),
     )
 
 pub loop-at-preserved : goal.loop-at-preserved
@@ -33,7 +35,8 @@ loop-at-preserved c =
     let items = c.loop-at.places.items in
     let x = c.index.result.now in
     let rows = map place_row c.args.places.now.items in
-    let less : i < length rows = let test = c.loop-at-test.true in let end = c.len-at-end.ensures in let ok = c.args.places.now.ok.0 in let long = length-map c.args.places.now.items place_row in omega (arith, test, end, ok, long) in
+    let less : i < length rows = let test = c.loop-at-test.true in let end = c.len-at-end.ensures in
+    let ok = c.args.places.now.ok.0 in let long = length-map c.args.places.now.items place_row in omega (arith, test, end, ok, long) in
     let at = get_or-map place_row items i x ∙ ap place_row (sym c.index.ensures) in
     let entry = written_of c.in-Some.entry.value in
     let is = ap place_row c.in-Some.is in
@@ -63,7 +66,8 @@ loop-at-preserved c =
         λ past stands.
             let p = is_new past (map row_of c.args.held.now) c.args.events.now (scope_of c.args.scope.now) EntryAdded in
             ap (λ q. map place_row q.items) w.places-is
-            ∙ over-kept (left p) i rows (map place_row items) (place_row x) less (c.loop-at.invariant.2 past stands) at (left-old p (place_row x) entry is (ap p (sym top) ∙ (sym (c.is_new.ensures past stands) ∙ w.if-is_new.false))),
+            ∙ over-kept (left p) i rows (map place_row items) (place_row x) less (c.loop-at.invariant.2 past stands) at
+            (left-old p (place_row x) entry is (ap p (sym top) ∙ (sym (c.is_new.ensures past stands) ∙ w.if-is_new.false))),
       )
     ]
 
@@ -74,4 +78,5 @@ returns-clause-places c = λ past stands.
     let end = c.len-at-end.ensures in
     let ok = c.args.places.now.ok.0 in
     c.loop-at.invariant.2 past stands
-    ∙ over-all (left (is_new past (map row_of c.args.held.now) c.args.events.now (scope_of c.args.scope.now) EntryAdded)) c.loop-at.at (map place_row c.args.places.now.items) (omega (arith, all, end, ok, long))
+    ∙ over-all (left (is_new past (map row_of c.args.held.now) c.args.events.now (scope_of c.args.scope.now) EntryAdded)) c.loop-at.at
+    (map place_row c.args.places.now.items) (omega (arith, all, end, ok, long))

@@ -14,4 +14,5 @@ abbrev pub invariant-loop-at : goal.invariant-loop-at
 invariant-loop-at l =
     (deque_len l.places ≡ deque_len l.fn.places) × (deque_capacity l.places ≡ deque_capacity l.fn.places)
     × ((past : List Act) → StandsFor l.browser past
-    → map place_row l.places.items ≡ over (left (is_new past (map row_of l.held) l.events (scope_of l.scope) EntryAdded)) l.at (map place_row l.fn.places.items))
+    → map place_row l.places.items
+    ≡ over (left (is_new past (map row_of l.held) l.events (scope_of l.scope) EntryAdded)) l.at (map place_row l.fn.places.items))

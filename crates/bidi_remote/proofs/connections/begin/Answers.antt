@@ -27,9 +27,11 @@ loop-connection-preserved c =
     elim c.if-connection-number.branch [
       | then-connection-number w ↦
           ap (map row_of) w.connections-is ∙ (map-set row_of items i _
-          ∙ (ap (set (map row_of items) i) (ap (λ z. (z.number.value, SpeaksFor s)) (sym c.connection-item.is) ∙ sym (begun-same n s (row_of x) (ap (λ z. z.number.value) c.connection-item.is ∙ w.if-connection-number.true))) ∙ changed))
+          ∙ (ap (set (map row_of items) i) (ap (λ z. (z.number.value, SpeaksFor s)) (sym c.connection-item.is)
+          ∙ sym (begun-same n s (row_of x) (ap (λ z. z.number.value) c.connection-item.is ∙ w.if-connection-number.true))) ∙ changed))
       | else-connection-number w ↦
-          let other : (x.number.value == n) ≡ false = let apart = w.if-connection-number.false in let is = ap (λ z. z.number.value) c.connection-item.is in grind (arith, nat_tests, apart, is) in
+          let other : (x.number.value == n) ≡ false = let apart = w.if-connection-number.false in
+          let is = ap (λ z. z.number.value) c.connection-item.is in grind (arith, nat_tests, apart, is) in
           ap (map row_of) w.connections-is ∙ (map-set row_of items i _
           ∙ (ap (set (map row_of items) i) (ap row_of (sym c.connection-item.is) ∙ sym (begun-other n s (row_of x) other)) ∙ changed))
     ]
@@ -37,4 +39,5 @@ loop-connection-preserved c =
 pub returns : goal.returns
 returns c =
     let long = length-map c.args.connections.now row_of in
-    c.loop-connection.invariant ∙ over-all (begun c.args.number.value c.args.session) c.loop-connection.connection-index (map row_of c.args.connections.now) (let all = c.loop-connection-test.false in omega (arith, all, long))
+    c.loop-connection.invariant ∙ over-all (begun c.args.number.value c.args.session) c.loop-connection.connection-index
+    (map row_of c.args.connections.now) (let all = c.loop-connection-test.false in omega (arith, all, long))

@@ -26,4 +26,5 @@ loop-connection-preserved c =
 
 pub returns : goal.returns
 returns c =
-    sym (find-end (λ x. x.number.value == c.args.number.value) c.args.connections.now c.loop-connection.connection-index (omega arith)) ∙ c.loop-connection.invariant
+    sym (find-end (λ x. x.number.value == c.args.number.value) c.args.connections.now c.loop-connection.connection-index (omega arith))
+    ∙ c.loop-connection.invariant

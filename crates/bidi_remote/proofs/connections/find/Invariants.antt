@@ -4,4 +4,6 @@ use Rattle.bidi_remote.proofs.connections.find.Given as goal
 
 -- the connections that were looked at have another number
 abbrev pub invariant-loop-connection : goal.invariant-loop-connection
-invariant-loop-connection l = find (λ c. c.number.value == l.number.value) (drop l.connection-index l.connections) ≡ find (λ c. c.number.value == l.number.value) l.connections
+invariant-loop-connection l =
+    find (λ c. c.number.value == l.number.value) (drop l.connection-index l.connections)
+    ≡ find (λ c. c.number.value == l.number.value) l.connections

@@ -37,5 +37,6 @@ loop-connection-preserved c =
 pub returns : goal.returns
 returns c =
     sym (append-nil (map sent_of c.loop-connection.sent.items))
-    ∙ (ap (λ xs. map sent_of c.loop-connection.sent.items ++ to_each (λ n. Text n c.args.text.now) c.args.session (map row_of xs)) (sym (drop_all c.loop-connection.connection-index c.args.connections.now c.loop-connection-test.false))
+    ∙ (ap (λ xs. map sent_of c.loop-connection.sent.items ++ to_each (λ n. Text n c.args.text.now) c.args.session (map row_of xs))
+    (sym (drop_all c.loop-connection.connection-index c.args.connections.now c.loop-connection-test.false))
     ∙ c.loop-connection.invariant)

@@ -11,7 +11,8 @@ use Rattle.bidi_remote.proofs.deciding.decide_alone.Goals as goal
 pub returns-in-SessionNew-clause-ok : goal.returns-in-SessionNew-clause-ok
 returns-in-SessionNew-clause-ok c = λ h short a.
     let few = few-sessions h in
-    subst (λ asked. Decides c.decide_new.result (deeds h) c.args.asker asked (outcome (deeds h) c.args.asker.conn.value Alone asked)) (sym (ap (asked_of ghosts.shape) c.in-SessionNew.is))
+    subst (λ asked. Decides c.decide_new.result (deeds h) c.args.asker asked (outcome (deeds h) c.args.asker.conn.value Alone asked))
+    (sym (ap (asked_of ghosts.shape) c.in-SessionNew.is))
     (c.decide_new.ensures.ok (deeds h) a (omega (arith, few, short)))
 
 pub returns-in-SessionStatus-clause-of_method : goal.returns-in-SessionStatus-clause-of_method

@@ -13,4 +13,6 @@ returns-clause-ok c = λ past a ids asked.
     c.planned.ensures.change c.planned.ensures.announced c.planned.ensures.before c.planned.ensures.reply c.planned.ensures.after
 
 pub returns-clause-of_method : goal.returns-clause-of_method
-returns-clause-of_method c = λ method asked. planned-of method c.planned.result c.args.asker c.in_ok-plan.plan.result c.planned.ensures.reply (c.in_ok-plan.ensures.of_method method asked)
+returns-clause-of_method c =
+    λ method asked. planned-of method c.planned.result c.args.asker c.in_ok-plan.plan.result c.planned.ensures.reply
+    (c.in_ok-plan.ensures.of_method method asked)

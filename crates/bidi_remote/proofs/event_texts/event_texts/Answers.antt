@@ -11,7 +11,8 @@ use Rattle.bidi_remote.proofs.event_texts.event_texts.Goals as goal
 
 pub event_text_of-requires : goal.event_text_of-requires
 event_text_of-requires c =
-    (subst (AllByRecursion (λ o. ghosts.subject.well o.event)) (from-item c.args.occurrences.now c.loop-occurrence.occurrence-index c.occurrence-item.result (omega arith) c.occurrence-item.is) c.loop-occurrence.invariant.0).0
+    (subst (AllByRecursion (λ o. ghosts.subject.well o.event)) (from-item c.args.occurrences.now c.loop-occurrence.occurrence-index
+    c.occurrence-item.result (omega arith) c.occurrence-item.is) c.loop-occurrence.invariant.0).0
 
 pub loop-occurrence-preserved : goal.loop-occurrence-preserved
 loop-occurrence-preserved c =
@@ -29,13 +30,15 @@ loop-occurrence-preserved c =
           ∙ (ap (λ y. written_in done ++ y ∷ rest) (sym c.in_ok-event_text_of.ensures.written)
           ∙ (sym (append_assoc (written_in done) (written_of e.value ∷ []) rest) ∙ ap (λ ys. ys ++ rest) (sym more)))),
       subst AreMessages (sym more)
-          (all-append (λ y. IsMessageText message.ghosts.shape y.text) (written_in done) (written_of e.value ∷ []) c.loop-occurrence.invariant.2 (c.in_ok-event_text_of.ensures.reads_back, tt)),
+          (all-append (λ y. IsMessageText message.ghosts.shape y.text) (written_in done) (written_of e.value ∷ [])
+          c.loop-occurrence.invariant.2 (c.in_ok-event_text_of.ensures.reads_back, tt)),
     )
 
 pub returns-clause-written : goal.returns-clause-written
 returns-clause-written c =
     sym (c.loop-occurrence.invariant.1
-    ∙ (ap (λ left. written_in c.loop-occurrence.all.items ++ map written (seen left)) (drop_all c.loop-occurrence.occurrence-index c.args.occurrences.now c.loop-occurrence-test.false)
+    ∙ (ap (λ left. written_in c.loop-occurrence.all.items ++ map written (seen left))
+    (drop_all c.loop-occurrence.occurrence-index c.args.occurrences.now c.loop-occurrence-test.false)
     ∙ append-nil (written_in c.loop-occurrence.all.items)))
 
 pub returns-clause-reads_back : goal.returns-clause-reads_back

@@ -43,7 +43,8 @@ loop-session-preserved c = λ w same.
                 ∙ sym (over-next (logged w) i rows (map session_row_of items) (session_row_of x) less inv.2 at))),
           )
       | in_default v ↦
-          let none = subst (λ o. MatchOption o ((vec_len copies ≡ 0) × (vec_len c.pop.new.self ≡ 0)) (λ y. vec_len c.pop.new.self + 1 ≡ vec_len copies)) (no_value c.pop.result v.in_default.not-Some) c.pop.ensures.cases in
+          let none = subst (λ o. MatchOption o ((vec_len copies ≡ 0) × (vec_len c.pop.new.self ≡ 0)) (λ y. vec_len c.pop.new.self + 1 ≡ vec_len copies))
+          (no_value c.pop.result v.in_default.not-Some) c.pop.ensures.cases in
           let empty = none.0 in
           let ok = copies.ok.0 in
           absurd (omega (arith, count, more, empty, ok))

@@ -15,6 +15,9 @@ returns c =
     let all = c.strip.ensures in
     let items : (with_items c.retain.new.self after).items ≡ after =
     let e = ap length all in let la = length-map after row_of in let lb = length-map (map row_of c.deref_mut.result.now) (stripped es) in
-    let lc = length-map c.deref_mut.result.now row_of in let d = c.deref_mut.ensures.len in with_items_is c.retain.new.self after (omega (arith, e, la, lb, lc, d)) in
+    let lc = length-map c.deref_mut.result.now row_of in
+    let d = c.deref_mut.ensures.len in
+    with_items_is c.retain.new.self after (omega (arith, e, la, lb, lc, d)) in
     ap (map row_of) items
-    ∙ (all ∙ ap (map (stripped es)) (ap (map row_of) (c.deref_mut.ensures.value ∙ kept) ∙ map-filter row_of (λ r. not (loses_all es r)) c.args.subscriptions.now.items))
+    ∙ (all ∙ ap (map (stripped es))
+    (ap (map row_of) (c.deref_mut.ensures.value ∙ kept) ∙ map-filter row_of (λ r. not (loses_all es r)) c.args.subscriptions.now.items))

@@ -20,7 +20,9 @@ loop-id-preserved c =
     let x = c.id-item.result in
     let held = c.loop-id.numbers.items in
     let is = from-item ids i x (omega arith) c.id-item.is in
-    let named = ap (λ t. number_named s rows t) (sym c.deref.ensures) ∙ (find-map row_of (λ r. r.number) (λ r. bytes_eq c.deref.result.now (id_text Subscription s r.number)) c.args.subscriptions.now ∙ (sym c.number_of.ensures ∙ c.in-Some.is)) in
+    let named = ap (λ t. number_named s rows t) (sym c.deref.ensures)
+    ∙ (find-map row_of (λ r. r.number) (λ r. bytes_eq c.deref.result.now (id_text Subscription s r.number)) c.args.subscriptions.now
+    ∙ (sym c.number_of.ensures ∙ c.in-Some.is)) in
     c.loop-id.invariant
     ∙ (ap (λ left. behind held (numbers_named s rows (map string_bytes left))) is
     ∙ (joined-ok (λ n. n ∷ []) held _ (numbers_named s rows (map string_bytes (drop (i + 1) ids))) _ (ap (λ o. found o InvalidArgument) named)
@@ -35,7 +37,9 @@ returns-in-None c =
     let x = c.id-item.result in
     let held = c.loop-id.numbers.items in
     let is = from-item ids i x (omega arith) c.id-item.is in
-    let named = ap (λ t. number_named s rows t) (sym c.deref.ensures) ∙ (find-map row_of (λ r. r.number) (λ r. bytes_eq c.deref.result.now (id_text Subscription s r.number)) c.args.subscriptions.now ∙ (sym c.number_of.ensures ∙ c.in-None.is)) in
+    let named = ap (λ t. number_named s rows t) (sym c.deref.ensures)
+    ∙ (find-map row_of (λ r. r.number) (λ r. bytes_eq c.deref.result.now (id_text Subscription s r.number)) c.args.subscriptions.now
+    ∙ (sym c.number_of.ensures ∙ c.in-None.is)) in
     c.loop-id.invariant
     ∙ (ap (λ left. behind held (numbers_named s rows (map string_bytes left))) is
     ∙ joined-err (λ n. n ∷ []) held _ (numbers_named s rows (map string_bytes (drop (i + 1) ids))) InvalidArgument (ap (λ o. found o InvalidArgument) named))

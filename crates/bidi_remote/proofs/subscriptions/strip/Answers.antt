@@ -25,13 +25,16 @@ loop-subscription-preserved c =
       | then-is_global w ↦
           let left = filter_same _ _ _ (λ e b f' k. search rules) _ _ w.retain.ensures.filtered in
           ap (map row_of) w.subscriptions-is ∙ (map-set row_of items i _
-          ∙ (ap (set (map row_of items) i) (stripped-global es (row_of (get_or items i x)) _ (sym c.is_global.ensures ∙ w.if-is_global.true) left ∙ ap (λ z. stripped es (row_of z)) (sym c.subscription-item.is)) ∙ changed))
+          ∙ (ap (set (map row_of items) i) (stripped-global es (row_of (get_or items i x)) _ (sym c.is_global.ensures ∙ w.if-is_global.true) left
+          ∙ ap (λ z. stripped es (row_of z)) (sym c.subscription-item.is)) ∙ changed))
       | else-is_global w ↦
           ap (map row_of) w.subscriptions-is ∙ (map-set row_of items i _
-          ∙ (ap (set (map row_of items) i) (ap row_of (sym c.subscription-item.is) ∙ sym (stripped-other es (row_of x) (ap (λ z. is_global (row_of z).scope) c.subscription-item.is ∙ (sym c.is_global.ensures ∙ w.if-is_global.false)))) ∙ changed))
+          ∙ (ap (set (map row_of items) i) (ap row_of (sym c.subscription-item.is) ∙ sym (stripped-other es (row_of x)
+          (ap (λ z. is_global (row_of z).scope) c.subscription-item.is ∙ (sym c.is_global.ensures ∙ w.if-is_global.false)))) ∙ changed))
     ]
 
 pub returns : goal.returns
 returns c =
     let long = length-map c.args.subscriptions.now row_of in
-    c.loop-subscription.invariant ∙ over-all (stripped c.args.events.now) c.loop-subscription.subscription-index (map row_of c.args.subscriptions.now) (let all = c.loop-subscription-test.false in omega (arith, all, long))
+    c.loop-subscription.invariant ∙ over-all (stripped c.args.events.now) c.loop-subscription.subscription-index
+    (map row_of c.args.subscriptions.now) (let all = c.loop-subscription-test.false in omega (arith, all, long))

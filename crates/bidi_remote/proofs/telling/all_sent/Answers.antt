@@ -39,4 +39,5 @@ returns-clause-reads_back c = λ announced replied.
     (c.in_ok-push_events-2.ensures.reads_back
     (more-read _ _ c.in_ok-push_if.ensures replied
     (c.in_ok-push_events.ensures.reads_back
-    (more-read _ _ (c.in_ok-push_announced.ensures Looked) (subscriber-read (rows_in c.args.tables.now.connections) (deed_of c.args.change.now Looked) (written_in c.args.announced.now) announced) none))))
+    (more-read _ _ (c.in_ok-push_announced.ensures Looked)
+    (subscriber-read (rows_in c.args.tables.now.connections) (deed_of c.args.change.now Looked) (written_in c.args.announced.now) announced) none))))

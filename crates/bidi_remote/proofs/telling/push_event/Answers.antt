@@ -17,8 +17,10 @@ returns-then-not-is_heard-clause-sent c =
     let all = c.args.sessions.now in
     let top = c.args.occurrence.now.top in
     let e = ghosts.subject.kind c.args.occurrence.now.event in
-    let none = ap (λ f. list_any (λ s. any_covers (session_row_of s).subscriptions f top) all) (sym c.kind-event.ensures) ∙ (sym c.is_heard.ensures ∙ c.if-not-is_heard.true) in
-    sym (ap (λ xs. map sent_of c.args.sent.now.items ++ xs) (heard-none (rows_in c.args.connections.now) _ e top session_row_of all none) ∙ append-nil (map sent_of c.args.sent.now.items))
+    let none = ap (λ f. list_any (λ s. any_covers (session_row_of s).subscriptions f top) all) (sym c.kind-event.ensures)
+    ∙ (sym c.is_heard.ensures ∙ c.if-not-is_heard.true) in
+    sym (ap (λ xs. map sent_of c.args.sent.now.items ++ xs) (heard-none (rows_in c.args.connections.now) _ e top session_row_of all none)
+    ∙ append-nil (map sent_of c.args.sent.now.items))
 
 pub returns-clause-sent : goal.returns-clause-sent
 returns-clause-sent c =
@@ -27,9 +29,11 @@ returns-clause-sent c =
     let top = c.args.occurrence.now.top in
     subst (λ xs. IfOk c.push_heard.result (λ done. map sent_of c.push_heard.new.sent.items ≡ xs))
     (ap (λ text. map sent_of c.args.sent.now.items ++ heard rows text c.kind-event.result top all) (c.deref.ensures ∙ c.in_ok-text.ensures.text)
-    ∙ ap (λ e. map sent_of c.args.sent.now.items ++ heard rows (event_text (ghosts.subject.kind c.args.occurrence.now.event) (ghosts.subject.tree_of c.args.occurrence.now.event)) e top all) c.kind-event.ensures) c.push_heard.ensures
+    ∙ ap (λ e. map sent_of c.args.sent.now.items ++ heard rows (event_text (ghosts.subject.kind c.args.occurrence.now.event)
+    (ghosts.subject.tree_of c.args.occurrence.now.event)) e top all) c.kind-event.ensures) c.push_heard.ensures
 
 pub returns-clause-reads_back : goal.returns-clause-reads_back
 returns-clause-reads_back c =
     if-more-read c.push_heard.result _ _ _ c.push_heard.ensures
-    (heard-read (rows_in c.args.connections.now) _ (subst (IsMessageText message.ghosts.shape) (sym c.deref.ensures) c.in_ok-text.ensures.reads_back) c.kind-event.result c.args.occurrence.now.top (map session_row_of c.args.sessions.now))
+    (heard-read (rows_in c.args.connections.now) _ (subst (IsMessageText message.ghosts.shape) (sym c.deref.ensures) c.in_ok-text.ensures.reads_back)
+    c.kind-event.result c.args.occurrence.now.top (map session_row_of c.args.sessions.now))

@@ -13,7 +13,8 @@ use Rattle.bidi_remote.proofs.telling.push_events.Goals as goal
 
 pub push_event-requires : goal.push_event-requires
 push_event-requires c =
-    (subst (AllByRecursion (λ o. ghosts.subject.well o.event)) (from-item c.args.occurrences.now c.loop-occurrence.occurrence-index c.occurrence-item.result (omega arith) c.occurrence-item.is) c.loop-occurrence.invariant.0).0
+    (subst (AllByRecursion (λ o. ghosts.subject.well o.event)) (from-item c.args.occurrences.now c.loop-occurrence.occurrence-index
+    c.occurrence-item.result (omega arith) c.occurrence-item.is) c.loop-occurrence.invariant.0).0
 
 pub loop-occurrence-preserved : goal.loop-occurrence-preserved
 loop-occurrence-preserved c =
@@ -37,7 +38,8 @@ loop-occurrence-preserved c =
 pub returns-clause-sent : goal.returns-clause-sent
 returns-clause-sent c =
     sym (c.loop-occurrence.invariant.1
-    ∙ (ap (λ left. map sent_of c.loop-occurrence.sent.items ++ flat_map (to_all (sessions.rows_in c.args.tables.now.sessions) (rows_in c.args.tables.now.connections)) (seen left))
+    ∙ (ap (λ left. map sent_of c.loop-occurrence.sent.items
+    ++ flat_map (to_all (sessions.rows_in c.args.tables.now.sessions) (rows_in c.args.tables.now.connections)) (seen left))
     (drop_all c.loop-occurrence.occurrence-index c.args.occurrences.now c.loop-occurrence-test.false)
     ∙ append-nil (map sent_of c.loop-occurrence.sent.items)))
 

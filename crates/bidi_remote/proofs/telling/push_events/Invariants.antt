@@ -14,5 +14,6 @@ use Rattle.bidi_remote.proofs.telling.push_events.Given as goal
 abbrev pub invariant-loop-occurrence : goal.invariant-loop-occurrence
 invariant-loop-occurrence l = AllByRecursion (λ o. ghosts.subject.well o.event) (drop l.occurrence-index l.occurrences) × (
     map sent_of l.initial.sent.items ++ flat_map (to_all (sessions.rows_in l.tables.sessions) (rows_in l.tables.connections)) (seen l.occurrences)
-    ≡ map sent_of l.sent.items ++ flat_map (to_all (sessions.rows_in l.tables.sessions) (rows_in l.tables.connections)) (seen (drop l.occurrence-index l.occurrences)))
+    ≡ map sent_of l.sent.items ++ flat_map (to_all (sessions.rows_in l.tables.sessions) (rows_in l.tables.connections))
+    (seen (drop l.occurrence-index l.occurrences)))
     × (AllReadBack (map sent_of l.initial.sent.items) → AllReadBack (map sent_of l.sent.items))

@@ -21,22 +21,26 @@ loop-session-preserved c =
     let rows = rows_in c.args.connections.now in
     let text = c.args.text.now in
     let sent = map sent_of c.loop-session.sent.items in
-    let rest = flat_map (λ r. to_each (λ n. Text n text) r.number rows) (filter (λ r. any_covers r.subscriptions e top) (map session_row_of (drop (i + 1) all))) in
+    let rest = flat_map (λ r. to_each (λ n. Text n text) r.number rows)
+    (filter (λ r. any_covers r.subscriptions e top) (map session_row_of (drop (i + 1) all))) in
     let is = from-item all i x (omega arith) c.session-item.is in
     c.loop-session.invariant
-    ∙ (ap (λ left. sent ++ flat_map (λ r. to_each (λ n. Text n text) r.number rows) (filter (λ r. any_covers r.subscriptions e top) (map session_row_of left))) is
+    ∙ (ap (λ left. sent ++ flat_map (λ r. to_each (λ n. Text n text) r.number rows) (filter (λ r. any_covers r.subscriptions e top) (map session_row_of left)))
+    is
     ∙ elim c.if-hears.branch [
       | then-hears+in_ok-push_text w ↦
           heard-next rows text e top (session_row_of x) (map session_row_of (drop (i + 1) all)) sent (sym c.hears.ensures ∙ w.if-hears.true)
           ∙ (ap (λ zs. zs ++ rest) (sym w.in_ok-push_text.ensures) ∙ ap (λ v. map sent_of v.items ++ rest) (sym w.sent-is))
       | else-hears w ↦
-          ap (λ later. sent ++ later) (heard-other rows text e top (session_row_of x) (map session_row_of (drop (i + 1) all)) (sym c.hears.ensures ∙ w.if-hears.false))
+          ap (λ later. sent ++ later) (heard-other rows text e top (session_row_of x) (map session_row_of (drop (i + 1) all))
+          (sym c.hears.ensures ∙ w.if-hears.false))
           ∙ ap (λ v. map sent_of v.items ++ rest) (sym w.sent-is)
     ])
 
 pub returns : goal.returns
 returns c =
     sym (c.loop-session.invariant
-    ∙ (ap (λ left. map sent_of c.loop-session.sent.items ++ flat_map (λ r. to_each (λ n. Text n c.args.text.now) r.number (rows_in c.args.connections.now)) (filter (λ r. any_covers r.subscriptions c.args.event c.args.top) (map session_row_of left)))
+    ∙ (ap (λ left. map sent_of c.loop-session.sent.items ++ flat_map (λ r. to_each (λ n. Text n c.args.text.now) r.number (rows_in c.args.connections.now))
+    (filter (λ r. any_covers r.subscriptions c.args.event c.args.top) (map session_row_of left)))
     (drop_all c.loop-session.session-index c.args.sessions.now c.loop-session-test.false)
     ∙ append-nil (map sent_of c.loop-session.sent.items)))

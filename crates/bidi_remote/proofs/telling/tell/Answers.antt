@@ -20,7 +20,10 @@ returns-clause-told c = λ past act a.
     (ap (λ es. sent (written_in es) (seen c.deref-2.result.now) (seen c.deref-3.result.now)) c.deref.ensures.value
     ∙ (ap₂ (λ before after. sent (written_in told.announced.items) (seen before) (seen after)) c.deref-2.ensures.value c.deref-3.ensures.value
     ∙ (ap₂ (λ ss cs. sent_in ss cs change replied (written_in told.announced.items) (seen told.before.items) (seen told.after.items)) a.sessions a.connections
-    ∙ sent_in-past past change (asker_in told.reply) (written_in told.announced.items) (seen told.before.items) (seen told.after.items) (reply_in told.reply) replied (c.in_ok-reply.ensures.reply past)))) (c.all_sent.ensures.sent act)
+    ∙ sent_in-past past change (asker_in told.reply) (written_in told.announced.items) (seen told.before.items) (seen told.after.items)
+    (reply_in told.reply) replied (c.in_ok-reply.ensures.reply past)))) (c.all_sent.ensures.sent act)
 
 pub returns-clause-reads_back : goal.returns-clause-reads_back
-returns-clause-reads_back c = λ announced. c.all_sent.ensures.reads_back (subst (λ es. AreMessages (written_in es)) (sym c.deref.ensures.value) announced) c.in_ok-reply.ensures.reads_back
+returns-clause-reads_back c =
+    λ announced. c.all_sent.ensures.reads_back (subst (λ es. AreMessages (written_in es)) (sym c.deref.ensures.value) announced)
+    c.in_ok-reply.ensures.reads_back

@@ -26,5 +26,6 @@ returns-clause-told c = λ past o a event is.
 pub returns-clause-reads_back : goal.returns-clause-reads_back
 returns-clause-reads_back c = λ text.
     more-read _ _ c.in_ok-push_heard.ensures
-    (heard-read (rows_in c.args.tables.now.connections) c.deref.result.now (subst (IsMessageText ghosts.shape) (sym c.deref.ensures) text) EntryAdded c.args.entry.now.top (map session_row_of c.all.result.now))
+    (heard-read (rows_in c.args.tables.now.connections) c.deref.result.now (subst (IsMessageText ghosts.shape) (sym c.deref.ensures) text)
+    EntryAdded c.args.entry.now.top (map session_row_of c.all.result.now))
     (subst AllReadBack (sym (ap (map sent_of) c.new-sent.ensures.items)) tt)

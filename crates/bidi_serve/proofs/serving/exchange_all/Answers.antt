@@ -12,8 +12,10 @@ returns-then-not-branch-clause-ok g c = λ h stands.
       e.0,
       e.1,
       inv.2 c.exchange.new.link e.0
-          (subst (λ n. Exchanges g.S.Read.remaining g.S.Write.contents c.args.conn.value n c.exchanges.link inv.0 c.exchange.new.link e.0) (sym (one-left left some))
-          (last (left - 1) c.exchanges.link c.exchange.new.link inv.0 e.0 (subst (Exchange g.S.Read.remaining g.S.Write.contents c.args.conn.value c.exchanges.link inv.0 c.exchange.new.link e.0) c.if-not-branch.true e.2))),
+          (subst (λ n. Exchanges g.S.Read.remaining g.S.Write.contents c.args.conn.value n c.exchanges.link inv.0 c.exchange.new.link e.0)
+          (sym (one-left left some))
+          (last (left - 1) c.exchanges.link c.exchange.new.link inv.0 e.0 (subst (Exchange g.S.Read.remaining g.S.Write.contents
+          c.args.conn.value c.exchanges.link inv.0 c.exchange.new.link e.0) c.if-not-branch.true e.2))),
     )
 
 pub exchanges-preserved : goal.exchanges-preserved
@@ -26,11 +28,16 @@ exchanges-preserved g c = λ h stands.
       e.1,
       λ m j rest. inv.2 m j
           (subst (λ n. Exchanges g.S.Read.remaining g.S.Write.contents c.args.conn.value n c.exchanges.link inv.0 m j) (sym (one-left left some))
-          (more (left - 1) c.exchanges.link c.exchange.new.link m inv.0 e.0 j (subst (Exchange g.S.Read.remaining g.S.Write.contents c.args.conn.value c.exchanges.link inv.0 c.exchange.new.link e.0) c.if-not-branch.false e.2) rest)),
+          (more (left - 1) c.exchanges.link c.exchange.new.link m inv.0 e.0 j (subst (Exchange g.S.Read.remaining g.S.Write.contents
+          c.args.conn.value c.exchanges.link inv.0 c.exchange.new.link e.0) c.if-not-branch.false e.2) rest)),
     )
 
 pub returns-clause-ok : goal.returns-clause-ok
 returns-clause-ok g c = λ h stands.
     let none : c.exchanges.left ≡ 0 = search (rules, tests, arith, c.exchanges-test.false) in
-    let inv = c.exchanges.invariant h stands in
-    (inv.0, inv.1, inv.2 c.exchanges.link inv.0 (subst (λ n. Exchanges g.S.Read.remaining g.S.Write.contents c.args.conn.value n c.exchanges.link inv.0 c.exchanges.link inv.0) (sym none) (used_up c.exchanges.link inv.0)))
+    let inv = c.exchanges.invariant h stands in (
+      inv.0,
+      inv.1,
+      inv.2 c.exchanges.link inv.0 (subst (λ n. Exchanges g.S.Read.remaining g.S.Write.contents c.args.conn.value n c.exchanges.link inv.0
+          c.exchanges.link inv.0) (sym none) (used_up c.exchanges.link inv.0)),
+    )

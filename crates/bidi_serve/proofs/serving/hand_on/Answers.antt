@@ -12,6 +12,7 @@ returns-then-whole-clause-ok g c = λ h stands.
       c.send_all-whole.result,
       ok.1,
       does.1,
-      subst (λ xs. AreSent g.S.Write.contents c.args.link.now (texts_on c.args.conn.value xs) c.send_all-whole.new.link c.send_all-whole.result) does.0 c.send_all-whole.ensures,
+      subst (λ xs. AreSent g.S.Write.contents c.args.link.now (texts_on c.args.conn.value xs) c.send_all-whole.new.link c.send_all-whole.result)
+          does.0 c.send_all-whole.ensures,
       c.is_open.ensures (ok.0 ∷ h) does.1 ∙ sym (ap (λ b. b && is_served (ok.0 ∷ h) c.args.conn.value) c.if-whole.true),
     )

@@ -9,16 +9,20 @@ use Rattle.bidi_serve.proofs.serving.send_all.Goals as goal
 pub returns-then-not-send_one : goal.returns-then-not-send_one
 returns-then-not-send_one g c =
     c.texts.invariant c.send_one.new.link false
-    (subst (λ xs. AreSent g.S.Write.contents c.texts.link (texts_on c.args.conn.value (map sent_of xs)) c.send_one.new.link false) (sym c.in-Some.ensures.steps.0)
-    (sent-stop g.S.Write.contents c.texts.link c.send_one.new.link (text_on c.args.conn.value (sent_of c.in-Some.one)) (texts_on c.args.conn.value (map sent_of c.next.new.self.rest.items)) c.send_one.result c.if-not-send_one.true c.send_one.ensures))
+    (subst (λ xs. AreSent g.S.Write.contents c.texts.link (texts_on c.args.conn.value (map sent_of xs)) c.send_one.new.link false)
+    (sym c.in-Some.ensures.steps.0)
+    (sent-stop g.S.Write.contents c.texts.link c.send_one.new.link (text_on c.args.conn.value (sent_of c.in-Some.one))
+    (texts_on c.args.conn.value (map sent_of c.next.new.self.rest.items)) c.send_one.result c.if-not-send_one.true c.send_one.ensures))
 
 pub texts-preserved : goal.texts-preserved
 texts-preserved g c = λ n w rest.
     c.texts.invariant n w
     (subst (λ xs. AreSent g.S.Write.contents c.texts.link (texts_on c.args.conn.value (map sent_of xs)) n w) (sym c.in-Some.ensures.steps.0)
-    (sent-more g.S.Write.contents c.texts.link c.send_one.new.link n (text_on c.args.conn.value (sent_of c.in-Some.one)) (texts_on c.args.conn.value (map sent_of c.next.new.self.rest.items)) c.send_one.result w c.if-not-send_one.false c.send_one.ensures rest))
+    (sent-more g.S.Write.contents c.texts.link c.send_one.new.link n (text_on c.args.conn.value (sent_of c.in-Some.one))
+    (texts_on c.args.conn.value (map sent_of c.next.new.self.rest.items)) c.send_one.result w c.if-not-send_one.false c.send_one.ensures rest))
 
 pub returns : goal.returns
 returns g c =
     let none = nil_from_length c.texts.one-iterator.rest.items (omega (arith, c.in-None.ensures.steps.0, c.texts.one-iterator.rest.ok)) in
-    c.texts.invariant c.texts.link true (subst (λ xs. AreSent g.S.Write.contents c.texts.link (texts_on c.args.conn.value (map sent_of xs)) c.texts.link true) (sym none) (all c.texts.link))
+    c.texts.invariant c.texts.link true
+    (subst (λ xs. AreSent g.S.Write.contents c.texts.link (texts_on c.args.conn.value (map sent_of xs)) c.texts.link true) (sym none) (all c.texts.link))

@@ -8,7 +8,8 @@ use Rattle.bidi_serve.proofs.serving.send_text.Goals as goal
 pub returns-then-conn-to : goal.returns-then-conn-to
 returns-then-conn-to g c =
     let here : (c.args.conn.value == c.args.to.value) ≡ true = search (rules, tests, c.if-conn-to.true) in
-    subst (AreSent g.S.Write.contents c.args.link.now (text_on c.args.conn.value (Text c.args.to.value c.args.text.now)) c.send.new.self) (sym c.is_ok.ensures.value)
+    subst (AreSent g.S.Write.contents c.args.link.now (text_on c.args.conn.value (Text c.args.to.value c.args.text.now)) c.send.new.self)
+    (sym c.is_ok.ensures.value)
     (sent-here g.S.Write.contents c.args.link.now c.send.new.self c.args.conn.value c.args.to.value c.args.text.now c.send.result here c.send.ensures)
 
 pub returns-else-conn-to : goal.returns-else-conn-to

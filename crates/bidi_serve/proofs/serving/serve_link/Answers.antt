@@ -14,8 +14,11 @@ returns-then-made-clause-ok g c = λ h stands.
 pub returns-else-made-clause-ok : goal.returns-else-made-clause-ok
 returns-else-made-clause-ok g c = λ h stands.
     let l = c.args.conn.value in
-    let opened = c.in_ok-made.ensures.ok h stands in
-    (Open l c.args.resource.now ∷ h, opened.1, denied c.args.link.now c.close.new.self h (sym opened.0 ∙ ap not c.if-made.false) (c.close.result, c.close.ensures))
+    let opened = c.in_ok-made.ensures.ok h stands in (
+      Open l c.args.resource.now ∷ h,
+      opened.1,
+      denied c.args.link.now c.close.new.self h (sym opened.0 ∙ ap not c.if-made.false) (c.close.result, c.close.ensures),
+    )
 
 pub returns-then-made-clause-err : goal.returns-then-made-clause-err
 returns-then-made-clause-err g c = λ h stands. c.serve_open.ensures.err (Open c.args.conn.value c.args.resource.now ∷ h) (c.in_ok-made.ensures.ok h stands).1

@@ -8,4 +8,5 @@ pub returns-in_err-from_tree-clause-no_fit : goal.returns-in_err-from_tree-claus
 returns-in_err-from_tree-clause-no_fit g c =
     handed_on _ _ c.from_residual-in_err-from_tree.ensures.1 (c.in_err-from_tree.ensures.no_fit) (λ bad a.
     let τ = g.X.Shape.shape.rule in
-    bad (subst (λ t. Fits (g.S.Parsed.tree t) τ) (sym c.item-item.is) (AllFit-at g.S.Parsed.tree τ c.args.items.now c.loop-item.item-index c.item-item.result (omega arith) a)))
+    bad (subst (λ t. Fits (g.S.Parsed.tree t) τ) (sym c.item-item.is)
+    (AllFit-at g.S.Parsed.tree τ c.args.items.now c.loop-item.item-index c.item-item.result (omega arith) a)))

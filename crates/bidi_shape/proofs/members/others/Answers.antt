@@ -54,7 +54,8 @@ loop-name-preserved c =
     let listed : list_any (bytes_eq (string_bytes e.0)) ks ≡ false = rw (← c.as_str.ensures.value) (sym c.if-is_listed.ensures) in
     let same = c.in_ok-clone-2.ensures.cases.0 in
     let whole : IsWhole (node e.1) 60 = c.fits_any.ensures.0 c.if-not-fits_any.false in
-    let added : members_node c.put_member.new.members.entries ≡ put (string_bytes e.0) (node e.1) (members_node c.loop-name.rest.entries) = c.in_ok-put_member.ensures.ok ∙ rw (c.in_ok-clone.ensures.cases, same) refl in (
+    let added : members_node c.put_member.new.members.entries ≡ put (string_bytes e.0) (node e.1) (members_node c.loop-name.rest.entries) =
+    c.in_ok-put_member.ensures.ok ∙ rw (c.in_ok-clone.ensures.cases, same) refl in (
       done ++ e ∷ [],
       all ∙ sym (append_assoc done (e ∷ []) left),
       added ∙ ap (put (string_bytes e.0) (node e.1)) inv.2 ∙ gathered_keep ks done e left sorted listed,

@@ -7,4 +7,6 @@ use Rattle.bidi_shape.proofs.members.others.Given as goal
 
 abbrev pub invariant-loop-name : goal.invariant-loop-name
 invariant-loop-name l =
-    (done : List Entry) × (l.members.entries ≡ done ++ l.name-iterator) × (members_node l.rest.entries ≡ without (map (λ s. s.now) l.names) (members_node done)) × (MembersAreWhole (members_node l.rest.entries) 60)
+    (done : List Entry) × (l.members.entries ≡ done ++ l.name-iterator)
+    × (members_node l.rest.entries ≡ without (map (λ s. s.now) l.names) (members_node done))
+    × (MembersAreWhole (members_node l.rest.entries) 60)

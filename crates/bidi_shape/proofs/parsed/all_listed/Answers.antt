@@ -23,7 +23,8 @@ loop-member-preserved c =
     let e = c.member-item.result in
     let ks = map (λ s. s.now) c.args.names.now in
     let at : e ≡ get_or xs i e = c.member-item.is ∙ ap (λ ys. get_or ys i e) c.deref-member-items.ensures.value in
-    let step : members_view (drop i xs) ≡ json.member e.0.now (value_view e.1) (members_view (drop (i + 1) xs)) = at_drop_more members_view xs i e (omega arith) ∙ ap (λ y. members_view (y ∷ drop (i + 1) xs)) (sym at) in
+    let step : members_view (drop i xs) ≡ json.member e.0.now (value_view e.1) (members_view (drop (i + 1) xs)) =
+    at_drop_more members_view xs i e (omega arith) ∙ ap (λ y. members_view (y ∷ drop (i + 1) xs)) (sym at) in
     let listed : list_any (bytes_eq e.0.now) ks ≡ true = sym c.is_listed.ensures ∙ c.if-not-is_listed.false in (
       put e.0.now (parsed e.1) found,
       AreAscending-put e.0.now (parsed e.1) found inv.1,
@@ -40,6 +41,7 @@ returns-then-not-is_listed-clause-no_fit c = λ none.
     let e = c.member-item.result in
     let ks = map (λ s. s.now) c.args.names.now in
     let at : e ≡ get_or xs i e = c.member-item.is ∙ ap (λ ys. get_or ys i e) c.deref-member-items.ensures.value in
-    let step : members_view (drop i xs) ≡ json.member e.0.now (value_view e.1) (members_view (drop (i + 1) xs)) = at_drop_more members_view xs i e (omega arith) ∙ ap (λ y. members_view (y ∷ drop (i + 1) xs)) (sym at) in
+    let step : members_view (drop i xs) ≡ json.member e.0.now (value_view e.1) (members_view (drop (i + 1) xs)) =
+    at_drop_more members_view xs i e (omega arith) ∙ ap (λ y. members_view (y ∷ drop (i + 1) xs)) (sym at) in
     let unlisted : list_any (bytes_eq e.0.now) ks ≡ false = sym c.is_listed.ensures ∙ c.if-not-is_listed.true in
     one_left ks e.0.now (parsed e.1) (members_view (drop (i + 1) xs)) found unlisted (ap (without ks) (sym (ap (λ js. put_all js found) step) ∙ inv.3) ∙ none)

@@ -23,7 +23,8 @@ loop-member-preserved-then-is_listed c =
     let e = c.member-item.result in
     let ks = map (λ s. s.now) c.args.names.now in
     let at : e ≡ get_or xs i e = c.member-item.is ∙ ap (λ ys. get_or ys i e) c.deref-member-items.ensures.value in
-    let step : members_view (drop i xs) ≡ json.member e.0.now (value_view e.1) (members_view (drop (i + 1) xs)) = at_drop_more members_view xs i e (omega arith) ∙ ap (λ y. members_view (y ∷ drop (i + 1) xs)) (sym at) in
+    let step : members_view (drop i xs) ≡ json.member e.0.now (value_view e.1) (members_view (drop (i + 1) xs)) =
+    at_drop_more members_view xs i e (omega arith) ∙ ap (λ y. members_view (y ∷ drop (i + 1) xs)) (sym at) in
     let listed : list_any (bytes_eq e.0.now) ks ≡ true = sym c.is_listed.ensures ∙ c.if-is_listed.true in (
       put e.0.now (parsed e.1) found,
       AreAscending-put e.0.now (parsed e.1) found inv.1,
@@ -40,9 +41,11 @@ loop-member-preserved c =
     let e = c.member-item.result in
     let ks = map (λ s. s.now) c.args.names.now in
     let at : e ≡ get_or xs i e = c.member-item.is ∙ ap (λ ys. get_or ys i e) c.deref-member-items.ensures.value in
-    let step : members_view (drop i xs) ≡ json.member e.0.now (value_view e.1) (members_view (drop (i + 1) xs)) = at_drop_more members_view xs i e (omega arith) ∙ ap (λ y. members_view (y ∷ drop (i + 1) xs)) (sym at) in
+    let step : members_view (drop i xs) ≡ json.member e.0.now (value_view e.1) (members_view (drop (i + 1) xs)) =
+    at_drop_more members_view xs i e (omega arith) ∙ ap (λ y. members_view (y ∷ drop (i + 1) xs)) (sym at) in
     let listed : list_any (bytes_eq e.0.now) ks ≡ false = sym c.is_listed.ensures ∙ c.if-is_listed.false in
-    let added : members_node c.put_member.new.members.entries ≡ put e.0.now (parsed e.1) (members_node c.loop-member.rest.entries) = c.in_ok-put_member.ensures.ok ∙ rw (c.in_ok-from_str.ensures.ok, c.in_ok-tree.ensures) refl in (
+    let added : members_node c.put_member.new.members.entries ≡ put e.0.now (parsed e.1) (members_node c.loop-member.rest.entries) =
+    c.in_ok-put_member.ensures.ok ∙ rw (c.in_ok-from_str.ensures.ok, c.in_ok-tree.ensures) refl in (
       put e.0.now (parsed e.1) found,
       AreAscending-put e.0.now (parsed e.1) found inv.1,
       added ∙ ap (put e.0.now (parsed e.1)) inv.2 ∙ sym (without-put_other ks e.0.now (parsed e.1) found inv.1 listed),

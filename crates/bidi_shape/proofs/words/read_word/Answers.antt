@@ -18,4 +18,5 @@ returns-in-None-named-clause-no_fit g c = λ f.
     word_misfit w c.in-Some.text.now (sym c.in-None-named.ensures) (subst (λ t. Fits t w.rule) (sym text) f)
 
 pub returns-in-None-clause-no_fit : goal.returns-in-None-clause-no_fit
-returns-in-None-clause-no_fit g c = λ f. no_text (g.S.Parsed.tree c.args.tree.now) c.in-None.ensures (word_is_text g.W.Named.words (g.S.Parsed.tree c.args.tree.now) f)
+returns-in-None-clause-no_fit g c =
+    λ f. no_text (g.S.Parsed.tree c.args.tree.now) c.in-None.ensures (word_is_text g.W.Named.words (g.S.Parsed.tree c.args.tree.now) f)

@@ -12,4 +12,5 @@ invariant-copy_trees-loop-tree l = record {
 
 abbrev pub invariant-copy_members-loop-key : goal.invariant-copy_members-loop-key
 invariant-copy_members-loop-key l =
-    (done : List Entry) × (l.members.entries ≡ done ++ l.key-iterator) × (members_node l.copies.entries ≡ members_node done) × (MembersAreSound (members_node l.key-iterator) → MembersAreSound (members_node l.members.entries))
+    (done : List Entry) × (l.members.entries ≡ done ++ l.key-iterator) × (members_node l.copies.entries ≡ members_node done)
+    × (MembersAreSound (members_node l.key-iterator) → MembersAreSound (members_node l.members.entries))

@@ -10,7 +10,8 @@ pub returns-in-Equal-clause-ok : goal.returns-in-Equal-clause-ok
 returns-in-Equal-clause-ok c =
     let l = c.loop-place in
     let few : l.place < length l.members.items = omega (arith, c.loop-place-test.true, c.len.ensures) in
-    put_over c.args.name.now l.place l.members.items c.args.draft c.index.result.now c.index_mut.result.now l.invariant.past few c.index.ensures c.index_mut.ensures.value (sym c.cmp.ensures ∙ c.in-Equal.is)
+    put_over c.args.name.now l.place l.members.items c.args.draft c.index.result.now c.index_mut.result.now l.invariant.past few
+    c.index.ensures c.index_mut.ensures.value (sym c.cmp.ensures ∙ c.in-Equal.is)
     ∙ ap (λ ms. put c.args.name.now (draft_node c.args.draft) (draft_members ms)) l.invariant.same
 
 pub loop-place-preserved : goal.loop-place-preserved
@@ -25,10 +26,13 @@ loop-place-preserved c =
 pub returns-clause-ok : goal.returns-clause-ok
 returns-clause-ok c =
     let l = c.loop-place in
-    let placed : draft_members (insert l.members.items l.place (c.args.name, c.args.draft)) ≡ put c.args.name.now (draft_node c.args.draft) (draft_members l.members.items) =
+    let placed : draft_members (insert l.members.items l.place (c.args.name, c.args.draft))
+    ≡ put c.args.name.now (draft_node c.args.draft) (draft_members l.members.items) =
     elim c.loop-place-test.branch [
-      | else-loop-place-test w ↦ put_behind c.args.name l.place l.members.items c.args.draft l.invariant.past (omega (arith, w.loop-place-test.false, c.len.ensures))
+      | else-loop-place-test w ↦ put_behind c.args.name l.place l.members.items c.args.draft l.invariant.past
+          (omega (arith, w.loop-place-test.false, c.len.ensures))
       | then-loop-place-test+in-Less w ↦
-          put_before c.args.name l.place l.members.items c.args.draft w.index.result.now l.invariant.past (omega (arith, w.loop-place-test.true, c.len.ensures)) w.index.ensures (sym w.cmp.ensures ∙ w.in-Less.is)
+          put_before c.args.name l.place l.members.items c.args.draft w.index.result.now l.invariant.past
+          (omega (arith, w.loop-place-test.true, c.len.ensures)) w.index.ensures (sym w.cmp.ensures ∙ w.in-Less.is)
     ] in
     ap draft_members c.in_ok-insert.ensures.items ∙ placed ∙ ap (λ ms. put c.args.name.now (draft_node c.args.draft) (draft_members ms)) l.invariant.same

@@ -17,7 +17,8 @@ draft_members_of-loop-name-preserved t c =
     let all : c.args.members.now.entries ≡ done ++ e ∷ left = l.invariant.1 ∙ ap (λ es. done ++ es) next in (
       done ++ e ∷ [],
       all ∙ sym (append_assoc done (e ∷ []) left),
-      ap draft_members c.in_ok-push.ensures.items ∙ one_more l.drafts.items done (c.as_str.result, c.in_ok-draft_of.field-0) e l.invariant.2 c.as_str.ensures.value c.in_ok-draft_of.ensures.same,
+      ap draft_members c.in_ok-push.ensures.items ∙ one_more l.drafts.items done (c.as_str.result, c.in_ok-draft_of.field-0) e l.invariant.2
+          c.as_str.ensures.value c.in_ok-draft_of.ensures.same,
       λ s. l.invariant.3 (subst (λ es. MembersAreSound (members_node es)) (sym next) (c.in_ok-draft_of.ensures.sound, s)),
     )
 

@@ -13,4 +13,5 @@ invariant-drafts_of-loop-item l = record {
 
 abbrev pub invariant-draft_members_of-loop-name : goal.invariant-draft_members_of-loop-name
 invariant-draft_members_of-loop-name l =
-    (done : List Entry) × (l.members.entries ≡ done ++ l.name-iterator) × (draft_members l.drafts.items ≡ members_node done) × (MembersAreSound (members_node l.name-iterator) → MembersAreSound (members_node l.members.entries))
+    (done : List Entry) × (l.members.entries ≡ done ++ l.name-iterator) × (draft_members l.drafts.items ≡ members_node done)
+    × (MembersAreSound (members_node l.name-iterator) → MembersAreSound (members_node l.members.entries))

@@ -9,4 +9,5 @@ abbrev pub invariant-own_items-loop-item : goal.invariant-own_items-loop-item
 invariant-own_items-loop-item l = map node l.trees.items ≡ map parsed (take l.item-index l.items.items)
 
 abbrev pub invariant-own_members-loop-member : goal.invariant-own_members-loop-member
-invariant-own_members-loop-member l = put_all (members_view (drop l.member-index l.members.items)) (members_node l.owned.entries) ≡ put_all (members_view l.members.items) no_members
+invariant-own_members-loop-member l =
+    put_all (members_view (drop l.member-index l.members.items)) (members_node l.owned.entries) ≡ put_all (members_view l.members.items) no_members

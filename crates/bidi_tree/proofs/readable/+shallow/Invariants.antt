@@ -7,4 +7,5 @@ abbrev pub invariant-are_shallow-loop-item : goal.invariant-are_shallow-loop-ite
 invariant-are_shallow-loop-item l = items_depth (items_view (drop l.item-index l.items.items)) ≤ l.limit → items_depth (items_view l.items.items) ≤ l.limit
 
 abbrev pub invariant-members_are_shallow-loop-member : goal.invariant-members_are_shallow-loop-member
-invariant-members_are_shallow-loop-member l = members_depth (members_view (drop l.member-index l.members.items)) ≤ l.limit → members_depth (members_view l.members.items) ≤ l.limit
+invariant-members_are_shallow-loop-member l =
+    members_depth (members_view (drop l.member-index l.members.items)) ≤ l.limit → members_depth (members_view l.members.items) ≤ l.limit

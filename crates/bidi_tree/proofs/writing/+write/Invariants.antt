@@ -14,6 +14,7 @@ invariant-write_items-loop-item l = record {
 abbrev pub invariant-write_members-loop-member : goal.invariant-write_members-loop-member
 invariant-write_members-loop-member l = record {
   before : l.out.before ≡ l.fn.out.before;
-  tokens : l.fn.out.tokens ++ members_tokens (draft_members l.members.items) ≡ l.out.tokens ++ members_tokens (draft_members (drop l.member-index l.members.items));
+  tokens : l.fn.out.tokens ++ members_tokens (draft_members l.members.items)
+      ≡ l.out.tokens ++ members_tokens (draft_members (drop l.member-index l.members.items));
   no_odd : members_have_odd (draft_members (drop l.member-index l.members.items)) ≡ false;
 }

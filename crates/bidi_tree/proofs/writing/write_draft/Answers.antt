@@ -11,7 +11,8 @@ returns-clause-text c =
     let n = draft_node c.args.draft.now in
     let before = c.in_ok-write_value.ensures.before ∙ (c.new-out.ensures.before ∙ c.in_ok-with_capacity.ensures.items) in
     let tokens = c.in_ok-write_value.ensures.tokens ∙ ap (λ ts. ts ++ tokens_of n) c.new-out.ensures.tokens in
-    ap (λ v. v.items) c.from_utf8_unchecked.ensures.value ∙ (c.into_inner.ensures.items ∙ (ap₂ (λ (a b : List ℕ). a ++ b) before (ap print tokens) ∙ print-tokens_of n c.requires.writable.0))
+    ap (λ v. v.items) c.from_utf8_unchecked.ensures.value
+    ∙ (c.into_inner.ensures.items ∙ (ap₂ (λ (a b : List ℕ). a ++ b) before (ap print tokens) ∙ print-tokens_of n c.requires.writable.0))
 
 pub returns-clause-reads_back : goal.returns-clause-reads_back
 returns-clause-reads_back c =

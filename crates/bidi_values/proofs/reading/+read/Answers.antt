@@ -13,32 +13,38 @@ use Rattle.bidi_values.proofs.reading.+read.Goals as goal
 
 pub read_value-read_values-requires : goal.read_value-read_values-requires
 read_value-read_values-requires g t c κs within =
-    let below = list_levels g.L.Siblings.siblings c.in-Ok.siblings (items_of (map g.S.Parsed.tree c.in-Ok.items.now)) (g.S.Parsed.tree c.args.tree.now) c.in-Ok.ensures.ok.0 in
+    let below = list_levels g.L.Siblings.siblings c.in-Ok.siblings (items_of (map g.S.Parsed.tree c.in-Ok.items.now))
+    (g.S.Parsed.tree c.args.tree.now) c.in-Ok.ensures.ok.0 in
     (omega (arith, below), within)
 
 pub read_value-returns-in_err-values-in-Ok-clause-no_fit : goal.read_value-returns-in_err-values-in-Ok-clause-no_fit
 read_value-returns-in_err-values-in-Ok-clause-no_fit g t c =
     handed_on _ _ c.from_residual.ensures.1 c.in_err-values-in-Ok.ensures.no_fit
-    (list_misfit g.P.Nests.nesting g.met.P.Nests.agrees c.in-Ok.siblings (items_of (map g.S.Parsed.tree c.in-Ok.items.now)) (g.S.Parsed.tree c.args.tree.now) c.in-Ok.ensures.ok.0 c.in-Ok.ensures.ok.1)
+    (list_misfit g.P.Nests.nesting g.met.P.Nests.agrees c.in-Ok.siblings (items_of (map g.S.Parsed.tree c.in-Ok.items.now))
+    (g.S.Parsed.tree c.args.tree.now) c.in-Ok.ensures.ok.0 c.in-Ok.ensures.ok.1)
 
 pub read_value-returns-in-Ok-clause-ok : goal.read_value-returns-in-Ok-clause-ok
 read_value-returns-in-Ok-clause-ok g t c =
-    list_read g.P.Nests.nesting g.met.P.Nests.agrees g.S.Parsed.tree c.in-Ok.siblings c.in_ok-values-in-Ok.values c.in-Ok.items.now (g.S.Parsed.tree c.args.tree.now) c.in-Ok.ensures.ok.0 c.in-Ok.ensures.ok.1
+    list_read g.P.Nests.nesting g.met.P.Nests.agrees g.S.Parsed.tree c.in-Ok.siblings c.in_ok-values-in-Ok.values c.in-Ok.items.now
+    (g.S.Parsed.tree c.args.tree.now) c.in-Ok.ensures.ok.0 c.in-Ok.ensures.ok.1
     c.in_ok-values-in-Ok.ensures.ok.0 c.in_ok-values-in-Ok.ensures.ok.1
 
 pub read_value-read_pairs-requires : goal.read_value-read_pairs-requires
 read_value-read_pairs-requires g t c κs within =
-    let below = list_levels g.M.Siblings.siblings c.in-Ok-read_around.siblings (items_of (map g.S.Parsed.tree c.in-Ok-read_around.items.now)) (g.S.Parsed.tree c.args.tree.now) c.in-Ok-read_around.ensures.ok.0 in
+    let below = list_levels g.M.Siblings.siblings c.in-Ok-read_around.siblings (items_of (map g.S.Parsed.tree c.in-Ok-read_around.items.now))
+    (g.S.Parsed.tree c.args.tree.now) c.in-Ok-read_around.ensures.ok.0 in
     (omega (arith, below), within)
 
 pub read_value-returns-in_err-pairs-in-Ok-read_around-clause-no_fit : goal.read_value-returns-in_err-pairs-in-Ok-read_around-clause-no_fit
 read_value-returns-in_err-pairs-in-Ok-read_around-clause-no_fit g t c =
     handed_on _ _ c.from_residual-in_err-pairs-in-Ok-read_around.ensures.1 c.in_err-pairs-in-Ok-read_around.ensures.no_fit
-    (pairs_misfit g.P.Nests.nesting g.met.P.Nests.agrees c.in-Ok-read_around.siblings (items_of (map g.S.Parsed.tree c.in-Ok-read_around.items.now)) (g.S.Parsed.tree c.args.tree.now) c.in-Ok-read_around.ensures.ok.0 c.in-Ok-read_around.ensures.ok.1)
+    (pairs_misfit g.P.Nests.nesting g.met.P.Nests.agrees c.in-Ok-read_around.siblings (items_of (map g.S.Parsed.tree c.in-Ok-read_around.items.now))
+    (g.S.Parsed.tree c.args.tree.now) c.in-Ok-read_around.ensures.ok.0 c.in-Ok-read_around.ensures.ok.1)
 
 pub read_value-returns-in_ok-pairs-in-Ok-read_around-clause-ok : goal.read_value-returns-in_ok-pairs-in-Ok-read_around-clause-ok
 read_value-returns-in_ok-pairs-in-Ok-read_around-clause-ok g t c =
-    pairs_read g.P.Nests.nesting g.met.P.Nests.agrees g.S.Parsed.tree c.in-Ok-read_around.siblings c.in_ok-pairs-in-Ok-read_around.pairs c.in-Ok-read_around.items.now (g.S.Parsed.tree c.args.tree.now) c.in-Ok-read_around.ensures.ok.0 c.in-Ok-read_around.ensures.ok.1
+    pairs_read g.P.Nests.nesting g.met.P.Nests.agrees g.S.Parsed.tree c.in-Ok-read_around.siblings c.in_ok-pairs-in-Ok-read_around.pairs
+    c.in-Ok-read_around.items.now (g.S.Parsed.tree c.args.tree.now) c.in-Ok-read_around.ensures.ok.0 c.in-Ok-read_around.ensures.ok.1
     c.in_ok-pairs-in-Ok-read_around.ensures.ok.0 c.in_ok-pairs-in-Ok-read_around.ensures.ok.1
 
 pub read_value-returns-in_err-plain-in-Err-NoFit-read_around-clause-no_fit : goal.read_value-returns-in_err-plain-in-Err-NoFit-read_around-clause-no_fit
@@ -60,7 +66,8 @@ pub read_values-returns-in_err-read_value-clause-no_fit : goal.read_values-retur
 read_values-returns-in_err-read_value-clause-no_fit g t c =
     handed_on _ _ c.from_residual-in_err-read_value.ensures.1 c.in_err-read_value.ensures.no_fit (λ bad a.
     let τ = rule g.P.Nests.nesting.values in
-    bad (subst (λ x. Fits (g.S.Parsed.tree x) τ) (sym c.item-item.is) (AllFit-at g.S.Parsed.tree τ c.args.items.now c.loop-item.item-index c.item-item.result (omega arith) a)))
+    bad (subst (λ x. Fits (g.S.Parsed.tree x) τ) (sym c.item-item.is)
+    (AllFit-at g.S.Parsed.tree τ c.args.items.now c.loop-item.item-index c.item-item.result (omega arith) a)))
 
 pub read_pairs-read_pair-requires : goal.read_pairs-read_pair-requires
 read_pairs-read_pair-requires g t c κs within =
@@ -72,14 +79,17 @@ pub read_pairs-returns-in_err-read_pair-clause-no_fit : goal.read_pairs-returns-
 read_pairs-returns-in_err-read_pair-clause-no_fit g t c =
     handed_on _ _ c.from_residual-in_err-read_pair.ensures.1 c.in_err-read_pair.ensures.no_fit (λ bad a.
     let τ = rule g.P.Nests.nesting.pair_rule in
-    bad (subst (λ x. Fits (g.S.Parsed.tree x) τ) (sym c.item-item.is) (AllFit-at g.S.Parsed.tree τ c.args.items.now c.loop-item.item-index c.item-item.result (omega arith) a)))
+    bad (subst (λ x. Fits (g.S.Parsed.tree x) τ) (sym c.item-item.is)
+    (AllFit-at g.S.Parsed.tree τ c.args.items.now c.loop-item.item-index c.item-item.result (omega arith) a)))
 
 -- ---- a pair
 
 pub read_pair-returns-in_err-key-in-Some-clause-no_fit : goal.read_pair-returns-in_err-key-in-Some-clause-no_fit
 read_pair-returns-in_err-key-in-Some-clause-no_fit g t c =
-    handed_on _ _ c.from_residual.ensures.1 c.in_err-key-in-Some.ensures.no_fit (key_misfit g.P.Nests.nesting (g.S.Parsed.tree c.args.tree.now) (g.S.Parsed.tree c.in-Some.key.now) (g.S.Parsed.tree c.in-Some.value.now) c.in-Some.ensures)
+    handed_on _ _ c.from_residual.ensures.1 c.in_err-key-in-Some.ensures.no_fit (key_misfit g.P.Nests.nesting
+    (g.S.Parsed.tree c.args.tree.now) (g.S.Parsed.tree c.in-Some.key.now) (g.S.Parsed.tree c.in-Some.value.now) c.in-Some.ensures)
 
 pub read_pair-returns-in_err-value-in-Some-clause-no_fit : goal.read_pair-returns-in_err-value-in-Some-clause-no_fit
 read_pair-returns-in_err-value-in-Some-clause-no_fit g t c =
-    handed_on _ _ c.from_residual-in_err-value-in-Some.ensures.1 c.in_err-value-in-Some.ensures.no_fit (value_misfit g.P.Nests.nesting (g.S.Parsed.tree c.args.tree.now) (g.S.Parsed.tree c.in-Some.key.now) (g.S.Parsed.tree c.in-Some.value.now) c.in-Some.ensures)
+    handed_on _ _ c.from_residual-in_err-value-in-Some.ensures.1 c.in_err-value-in-Some.ensures.no_fit (value_misfit g.P.Nests.nesting
+    (g.S.Parsed.tree c.args.tree.now) (g.S.Parsed.tree c.in-Some.key.now) (g.S.Parsed.tree c.in-Some.value.now) c.in-Some.ensures)

@@ -18,7 +18,8 @@ returns-in_err-items-clause-no_fit g c =
 
 pub returns-clause-ok : goal.returns-clause-ok
 returns-clause-ok g c = (
-  around_again g.H.Siblings.siblings (g.S.Parsed.tree c.args.tree.now) (members_in (g.S.Parsed.tree c.args.tree.now)) c.in_ok-siblings.siblings (kind.list (items_of (map g.S.Parsed.tree c.in_ok-items.items.now)))
+  around_again g.H.Siblings.siblings (g.S.Parsed.tree c.args.tree.now) (members_in (g.S.Parsed.tree c.args.tree.now))
+      c.in_ok-siblings.siblings (kind.list (items_of (map g.S.Parsed.tree c.in_ok-items.items.now)))
       c.in_ok-check_map.ensures.ok c.in_ok-siblings.ensures.sorted c.in_ok-siblings.ensures.ok.0 c.in_ok-siblings.ensures.rest c.in_ok-items.ensures.ok,
   c.in_ok-siblings.ensures.ok.1,
 )

@@ -16,24 +16,32 @@ returns-in-Keep c = λ past action act stands ids accepted makes.
     kept-stands c.args.self.now past action act (subst (λ e. EditMakes e past act) c.in-Keep.is makes) accepted stands
 
 pub navigate-requires : goal.navigate-requires
-navigate-requires c = subst (λ (n : Navigation). HasRoomIn c.args.self.now.contexts n.context n.to) (sym c.in-Navigate.navigation-is) (subst (EditHasRoom c.args.self.now) c.in-Navigate.is c.requires)
+navigate-requires c =
+    subst (λ (n : Navigation). HasRoomIn c.args.self.now.contexts n.context n.to) (sym c.in-Navigate.navigation-is)
+    (subst (EditHasRoom c.args.self.now) c.in-Navigate.is c.requires)
 
 pub returns-in-SetRow : goal.returns-in-SetRow
 returns-in-SetRow c = λ past action act stands ids accepted makes.
     let is = subst (λ e. EditMakes e past act) c.in-SetRow.is makes in
-    row-stands c.args.self.now c.set.new.self past action act _ _ (is ∙ ap₂ (λ t r. Tabled (string_bytes t) (row_seen r)) (sym c.in-SetRow.text-is) (sym c.in-SetRow.row-is)) accepted (c.set.ensures past stands.table) stands
+    row-stands c.args.self.now c.set.new.self past action act _ _
+    (is ∙ ap₂ (λ t r. Tabled (string_bytes t) (row_seen r)) (sym c.in-SetRow.text-is) (sym c.in-SetRow.row-is)) accepted
+    (c.set.ensures past stands.table) stands
 
 pub hold-requires : goal.hold-requires
-hold-requires c = subst (λ number. HasRoomForHandle c.args.self.now.contexts number) (sym c.in-Hold.number-is) (subst (EditHasRoom c.args.self.now) c.in-Hold.is c.requires)
+hold-requires c =
+    subst (λ number. HasRoomForHandle c.args.self.now.contexts number) (sym c.in-Hold.number-is)
+    (subst (EditHasRoom c.args.self.now) c.in-Hold.is c.requires)
 
 pub returns-in-Hold : goal.returns-in-Hold
 returns-in-Hold c = λ past action act stands ids accepted makes.
     let is = subst (λ e. EditMakes e past act) c.in-Hold.is makes in
     let number = ap (λ (held : ℕ × Node). held.0) is.3 in
-    handle-stands c.args.self.now c.hold.new.self _ past action c.in-Hold.number is.0 act _ (handle_seen c.in-Hold.handle) (c.hold.ensures past stands.contexts (rw c.in-Hold.is (omega (arith, number)))) (rw c.in-Hold.is refl) is.3 is.2 is.1 accepted stands
+    handle-stands c.args.self.now c.hold.new.self _ past action c.in-Hold.number is.0 act _ (handle_seen c.in-Hold.handle)
+    (c.hold.ensures past stands.contexts (rw c.in-Hold.is (omega (arith, number)))) (rw c.in-Hold.is refl) is.3 is.2 is.1 accepted stands
     (let fits = ids Handle in let next = stands.next_handle in omega (arith, fits, next))
 
 pub returns-in-Disown : goal.returns-in-Disown
 returns-in-Disown c = λ past action act stands ids accepted makes.
     let is = subst (λ e. EditMakes e past act) c.in-Disown.is makes in
-    disowned-stands c.args.self.now c.disown.new.self past action c.in-Disown.number is.0 act _ is.2 is.1 (search (rules, c.in-Disown.handles-is, c.in-Disown.is, is.3)) accepted stands c.disown.ensures
+    disowned-stands c.args.self.now c.disown.new.self past action c.in-Disown.number is.0 act _ is.2 is.1
+    (search (rules, c.in-Disown.handles-is, c.in-Disown.is, is.3)) accepted stands c.disown.ensures

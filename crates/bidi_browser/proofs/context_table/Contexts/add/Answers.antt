@@ -6,6 +6,8 @@ use Rattle.bidi_browser.proofs.context_table.Contexts.add.Goals as goal
 
 pub returns : goal.returns
 returns c = λ past act table accepted born is. record {
-  rows = ap (map row_of) c.push_reserved.ensures.items ∙ (map-append row_of c.args.self.now.live.items (c.args.context ∷ []) ∙ (ap₂ (λ rs r. rs ++ r ∷ []) table.rows is ∙ sym (rows-born past act table.accepted born)));
+  rows =
+      ap (map row_of) c.push_reserved.ensures.items ∙ (map-append row_of c.args.self.now.live.items (c.args.context ∷ [])
+      ∙ (ap₂ (λ rs r. rs ++ r ∷ []) table.rows is ∙ sym (rows-born past act table.accepted born)));
   accepted = accepted;
 }

@@ -12,11 +12,14 @@ returns-in-Some c =
     let items = c.args.self.now.live.items in
     let number = c.args.number in
     let at = ap (position (λ (x : Context). x.number == number)) (sym c.deref.ensures.value) ∙ (sym c.place_of.ensures ∙ c.in-Some.is) in
-    changed-at row_of (without_in c.args.numbers.items) number items c.in-Some.place c.disown.new.self c.index_mut.result.now at (c.disown.ensures ∙ (ap (λ ns. without_in ns (row_of c.index_mut.result.now)) c.deref-in-Some.ensures.value ∙ ap (λ x. without_in c.args.numbers.items (row_of x)) c.index_mut.ensures.value))
+    changed-at row_of (without_in c.args.numbers.items) number items c.in-Some.place c.disown.new.self c.index_mut.result.now at
+    (c.disown.ensures ∙ (ap (λ ns. without_in ns (row_of c.index_mut.result.now)) c.deref-in-Some.ensures.value
+    ∙ ap (λ x. without_in c.args.numbers.items (row_of x)) c.index_mut.ensures.value))
 
 pub returns : goal.returns
 returns c =
     let items = c.args.self.now.live.items in
     let number = c.args.number in
-    let at = ap (position (λ (x : Context). x.number == number)) (sym c.deref.ensures.value) ∙ (sym c.place_of.ensures ∙ no_value c.place_of.result c.in_default.not-Some) in
+    let at = ap (position (λ (x : Context). x.number == number)) (sym c.deref.ensures.value)
+    ∙ (sym c.place_of.ensures ∙ no_value c.place_of.result c.in_default.not-Some) in
     changed-none row_of (without_in c.args.numbers.items) number items at

@@ -17,7 +17,8 @@ returns c = λ past table accepted is.
     record {
       rows = ap (map row_of) c.take_out.ensures
           ∙ (kept-rows c.deref.result.now c.lead.new.self.live.items
-          ∙ (ap₂ (λ (ns : List ℕ) (rs : List ContextRow). filter (λ r. not (list_any (λ k. k == r.number) ns)) rs) (c.deref.ensures.value ∙ is.gone) (c.lead.ensures past table is.leads ∙ ap (λ r. changed n.context (moved_in r move) (rows past)) is.realm)
+          ∙ (ap₂ (λ (ns : List ℕ) (rs : List ContextRow). filter (λ r. not (list_any (λ k. k == r.number) ns)) rs) (c.deref.ensures.value ∙ is.gone)
+          (c.lead.ensures past table is.leads ∙ ap (λ r. changed n.context (moved_in r move) (rows past)) is.realm)
           ∙ sym (rows-moved past n.context move table.accepted alive)));
       accepted = accepted;
     }

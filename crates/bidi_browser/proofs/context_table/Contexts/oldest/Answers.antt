@@ -7,4 +7,5 @@ use Rattle.bidi_browser.proofs.context_table.Contexts.oldest.Goals as goal
 
 pub returns : goal.returns
 returns c = λ past table.
-    row-now c.oldest.result ∙ (ap (option_map row_of) c.oldest.ensures ∙ oldest-stands past c.deref.result.now (ap (map row_of) c.deref.ensures.value ∙ table.rows))
+    row-now c.oldest.result ∙ (ap (option_map row_of) c.oldest.ensures
+    ∙ oldest-stands past c.deref.result.now (ap (map row_of) c.deref.ensures.value ∙ table.rows))

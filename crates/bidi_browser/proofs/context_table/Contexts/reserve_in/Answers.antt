@@ -13,6 +13,9 @@ returns-in-Some-clause-kept c = λ past table.
     let at = ap (position (λ (x : Context). x.number == number)) (sym c.deref.ensures.value) ∙ (sym c.place_of.ensures ∙ c.in-Some.is) in
     let old = c.index_mut.result.now in
     record {
-      rows = changed-at row_of (λ r. r) number items c.in-Some.place _ old at (ap (λ e. record (row_of old) { entries = e }) c.reserve.ensures.kept ∙ ap row_of c.index_mut.ensures.value) ∙ (changed-self number _ ∙ table.rows);
+      rows =
+          changed-at row_of (λ r. r) number items c.in-Some.place _ old at
+          (ap (λ e. record (row_of old) { entries = e }) c.reserve.ensures.kept ∙ ap row_of c.index_mut.ensures.value)
+          ∙ (changed-self number _ ∙ table.rows);
       accepted = table.accepted;
     }

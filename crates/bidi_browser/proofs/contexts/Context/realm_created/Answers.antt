@@ -7,4 +7,5 @@ use Rattle.bidi_browser.proofs.contexts.Context.realm_created.Goals as goal
 pub returns-clause-told : goal.returns-clause-told
 returns-clause-told c =
     let row = row_of c.args.self.now in
-    subst (λ url. IfOk c.realm_began.result (λ o. occurrence_of ghosts.subject o ≡ realm_began_in row row.realm url)) c.present.ensures c.realm_began.ensures.told
+    subst (λ url. IfOk c.realm_began.result (λ o. occurrence_of ghosts.subject o ≡ realm_began_in row row.realm url))
+    c.present.ensures c.realm_began.ensures.told

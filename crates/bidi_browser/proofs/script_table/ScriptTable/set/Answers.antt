@@ -10,8 +10,13 @@ returns c = λ past tabled.
     let m = c.args.self.now.rows in
     let n = c.insert.new.self in
     let key = c.args.text in
-    let done = inserted m n key c.args.row c.insert.result (c.insert.ensures.succeeds c.requires) c.insert.ensures.old c.insert.ensures.updates c.insert.ensures.len in
+    let done = inserted m n key c.args.row c.insert.result (c.insert.ensures.succeeds c.requires) c.insert.ensures.old
+    c.insert.ensures.updates c.insert.ensures.len in
     record {
-      rows = λ t. row-set row_seen past c.args.row (bytes_eq (string_bytes key) (string_bytes t)) (string_bytes t) (get string_eq m t) (get string_eq n t) (done.0.0 t) (tabled.rows t);
-      count = count-set row_seen past c.args.row (string_bytes key) (get string_eq m key) (hash_map_len m) (hash_map_len n) done.1 (tabled.rows key) tabled.count;
+      rows =
+          λ t. row-set row_seen past c.args.row (bytes_eq (string_bytes key) (string_bytes t)) (string_bytes t) (get string_eq m t)
+          (get string_eq n t) (done.0.0 t) (tabled.rows t);
+      count =
+          count-set row_seen past c.args.row (string_bytes key) (get string_eq m key) (hash_map_len m) (hash_map_len n) done.1
+          (tabled.rows key) tabled.count;
     }

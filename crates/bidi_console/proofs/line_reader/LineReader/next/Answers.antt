@@ -19,7 +19,8 @@ returns-in_err-read_more-clause-says g c =
     let e = c.in_err-read_more.ensures.err in
     let held = e.1 ∙ sym c.held-held.ensures in
     let same = ap length held in
-    says_fault c.from_residual.result c.in_err-read_more.field-0.0 _ _ c.from_residual.ensures e.0 (ap has_feed held ∙ c.in_default.ensures.none) (omega (arith, same))
+    says_fault c.from_residual.result c.in_err-read_more.field-0.0 _ _ c.from_residual.ensures e.0
+    (ap has_feed held ∙ c.in_default.ensures.none) (omega (arith, same))
 
 pub returns-else-seen-eq0-clause-says : goal.returns-else-seen-eq0-clause-says
 returns-else-seen-eq0-clause-says g c =

@@ -9,7 +9,9 @@ use Rattle.bidi_handles.proofs.SearchLemmas.{ascend-filter}
 use Rattle.bidi_handles.proofs.handles.Handles.disown.Goals as goal
 
 pub returns : goal.returns
-returns c = ap (map handle_seen) c.take_out.ensures ∙ sym (filter-map handle_seen (λ held. not (list_any (λ n. n == held.0) c.args.numbers.now)) c.args.self.now.items.items)
+returns c =
+    ap (map handle_seen) c.take_out.ensures
+    ∙ sym (filter-map handle_seen (λ held. not (list_any (λ n. n == held.0) c.args.numbers.now)) c.args.self.now.items.items)
 
 pub invariant_of-self : goal.invariant_of-self
 invariant_of-self c = record {

@@ -26,8 +26,10 @@ seen id hs all o same ascend is =
 pub returns-in_err-handle : goal.returns-in_err-handle
 returns-in_err-handle c =
     ap (option_map (λ h. held_tree h.now.value)) c.from_residual.ensures
-    ∙ (sym (ap value c.in_err-handle.was) ∙ seen c.args.id.now c.args.self.now.items.items c.deref.result.now c.handle_of_id.result c.deref.ensures.value c.args.self.now.ascend c.handle_of_id.ensures)
+    ∙ (sym (ap value c.in_err-handle.was) ∙ seen c.args.id.now c.args.self.now.items.items c.deref.result.now c.handle_of_id.result
+    c.deref.ensures.value c.args.self.now.ascend c.handle_of_id.ensures)
 
 pub returns : goal.returns
 returns c =
-    sym (ap value c.in_ok-handle.was) ∙ seen c.args.id.now c.args.self.now.items.items c.deref.result.now c.handle_of_id.result c.deref.ensures.value c.args.self.now.ascend c.handle_of_id.ensures
+    sym (ap value c.in_ok-handle.was) ∙ seen c.args.id.now c.args.self.now.items.items c.deref.result.now c.handle_of_id.result
+    c.deref.ensures.value c.args.self.now.ascend c.handle_of_id.ensures

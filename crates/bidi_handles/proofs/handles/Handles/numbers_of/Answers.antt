@@ -15,9 +15,13 @@ loop-handle-preserved c =
     let n = c.handle-item.result.number in
     let all = c.deref-in-loop-handle.ensures.value in
     let among = c.is_among.ensures (subst IsNonDecreasing (sym all) c.in_ok-named.ensures.order) ∙ ap (list_any (λ m. m == n)) all in
-    let named = ap (λ ss. has_id (map string_bytes ss) n) (sym c.deref.ensures.value) ∙ (sym (c.in_ok-named.ensures.ids n c.handle-item.result.number_fits) ∙ sym among) in
-    let picked = picked-more handle_seen (λ h. has_id (map string_bytes c.args.ids.now.items) h.0) (λ h. h.0) c.deref-handle-items.result.now held.handle-index c.handle-item.result in
+    let named = ap (λ ss. has_id (map string_bytes ss) n) (sym c.deref.ensures.value)
+    ∙ (sym (c.in_ok-named.ensures.ids n c.handle-item.result.number_fits) ∙ sym among) in
+    let picked = picked-more handle_seen (λ h. has_id (map string_bytes c.args.ids.now.items) h.0) (λ h. h.0) c.deref-handle-items.result.now
+    held.handle-index c.handle-item.result in
     elim c.if-is_among.branch [
-      | then-is_among+in_ok-push w ↦ picked true held.numbers.items c.if-is_among.numbers.items c.loop-handle-test.true c.handle-item.is (named ∙ w.if-is_among.true) held.invariant (ap (λ (v : Vec ℕ Global). v.items) w.numbers-is ∙ w.in_ok-push.ensures.items)
-      | else-is_among w ↦ picked false held.numbers.items c.if-is_among.numbers.items c.loop-handle-test.true c.handle-item.is (named ∙ w.if-is_among.false) held.invariant (ap (λ (v : Vec ℕ Global). v.items) w.numbers-is)
+      | then-is_among+in_ok-push w ↦ picked true held.numbers.items c.if-is_among.numbers.items c.loop-handle-test.true c.handle-item.is
+          (named ∙ w.if-is_among.true) held.invariant (ap (λ (v : Vec ℕ Global). v.items) w.numbers-is ∙ w.in_ok-push.ensures.items)
+      | else-is_among w ↦ picked false held.numbers.items c.if-is_among.numbers.items c.loop-handle-test.true c.handle-item.is
+          (named ∙ w.if-is_among.false) held.invariant (ap (λ (v : Vec ℕ Global). v.items) w.numbers-is)
     ]

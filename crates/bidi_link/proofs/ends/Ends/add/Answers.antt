@@ -8,5 +8,6 @@ returns-in-Ok c = record {
   rows = λ past s none nothing.
       let ends = c.args.self.now in
       let l = c.args.number.value in
-      stands-linked ends _ past l c.new.result s refl (c.in-Ok.ensures.entries ∙ insert_entry-new nat_eq ends.links l c.new.result (not-there ends past l s none)) nothing c.new.ensures;
+      stands-linked ends _ past l c.new.result s refl
+      (c.in-Ok.ensures.entries ∙ insert_entry-new nat_eq ends.links l c.new.result (not-there ends past l s none)) nothing c.new.ensures;
 }

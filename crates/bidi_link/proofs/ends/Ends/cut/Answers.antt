@@ -9,4 +9,5 @@ returns-then-not-is_whole-clause-ok c = λ past stands sane.
 
 pub returns-clause-ok : goal.returns-clause-ok
 returns-clause-ok c = λ past stands sane.
-    cut-done {E = Unit {0}} (Ok tt) c.drop_connection.new.self c.end_link.new.self past c.args.number.value (sym (c.is_whole.ensures past stands) ∙ c.if-not-is_whole.false) (c.in_ok-drop_connection.ensures.ok past stands sane) c.in_ok-end_link.ensures
+    cut-done {E = Unit {0}} (Ok tt) c.drop_connection.new.self c.end_link.new.self past c.args.number.value
+    (sym (c.is_whole.ensures past stands) ∙ c.if-not-is_whole.false) (c.in_ok-drop_connection.ensures.ok past stands sane) c.in_ok-end_link.ensures

@@ -13,7 +13,8 @@ returns-clause-ok c =
       taken.1,
       λ past s.
           let t = taken.2 (history past) s.remote in (
-            stands-handed c.args.self.now _ past taken.0 (map sent_of c.in_ok-all.all.items) s t.1 t.0 c.in_ok-deliver.ensures.numbers (c.in_ok-deliver.ensures.rows (link past) s.rows),
+            stands-handed c.args.self.now _ past taken.0 (map sent_of c.in_ok-all.all.items) s t.1 t.0 c.in_ok-deliver.ensures.numbers
+                (c.in_ok-deliver.ensures.rows (link past) s.rows),
             c.in_ok-all.ensures.answered (history past) taken.0 s.remote taken.1,
             subst AllReadBack t.0 (c.in_ok-all.ensures.reads_back (history past) s.remote),
           ),

@@ -22,7 +22,8 @@ loop-link-preserved c =
       λ agree.
           let so_far = c.loop-link.invariant.1 agree in
           let left = subst (AllByRecursion AgreesWithSome) more so_far.1 in (
-            subst (AllByRecursion PageIsWell) (sym c.in_ok-push.ensures.items) (all-append PageIsWell c.loop-link.pages.items (p ∷ []) so_far.0 (c.into_page.ensures.well left.0.0 left.0.1 left.0.2, tt)),
+            subst (AllByRecursion PageIsWell) (sym c.in_ok-push.ensures.items)
+                (all-append PageIsWell c.loop-link.pages.items (p ∷ []) so_far.0 (c.into_page.ensures.well left.0.0 left.0.1 left.0.2, tt)),
             left.1,
           ),
     )

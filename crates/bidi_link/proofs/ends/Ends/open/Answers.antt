@@ -18,7 +18,8 @@ returns-in_ok-add-clause-ok c = λ past s sane.
     let none = sym (found-link c.args.self.now past l s) ∙ (sym c.contains_key.ensures ∙ c.if-contains_key.false) in
     let handed = c.in_ok-hand.ensures.ok in
     let t = handed.2 past s in
-    open-linked c.hand.new.self _ past l (string_bytes c.args.resource) handed.0 handed.1 none t.0 t.2 sane (sym (c.is_open.ensures (handed.0 ∷ history past) t.0.remote) ∙ c.if-is_open.true) c.in_ok-add.ensures.rows
+    open-linked c.hand.new.self _ past l (string_bytes c.args.resource) handed.0 handed.1 none t.0 t.2 sane
+    (sym (c.is_open.ensures (handed.0 ∷ history past) t.0.remote) ∙ c.if-is_open.true) c.in_ok-add.ensures.rows
 
 pub returns-else-is_open-clause-ok : goal.returns-else-is_open-clause-ok
 returns-else-is_open-clause-ok c = λ past s sane.
@@ -26,4 +27,5 @@ returns-else-is_open-clause-ok c = λ past s sane.
     let none = sym (found-link c.args.self.now past l s) ∙ (sym c.contains_key.ensures ∙ c.if-contains_key.false) in
     let handed = c.in_ok-hand.ensures.ok in
     let t = handed.2 past s in
-    open-denied c.hand.new.self past l (string_bytes c.args.resource) handed.0 handed.1 none t.0 t.2 sane (sym (c.is_open.ensures (handed.0 ∷ history past) t.0.remote) ∙ c.if-is_open.false)
+    open-denied c.hand.new.self past l (string_bytes c.args.resource) handed.0 handed.1 none t.0 t.2 sane
+    (sym (c.is_open.ensures (handed.0 ∷ history past) t.0.remote) ∙ c.if-is_open.false)

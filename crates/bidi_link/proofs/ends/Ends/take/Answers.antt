@@ -12,39 +12,53 @@ pub returns-in-Open-clause-ok : goal.returns-in-Open-clause-ok
 returns-in-Open-clause-ok c =
     let x = in_hand.Open c.in-Open.link c.in-Open.resource in
     let q = Opens c.in-Open.link.value (string_bytes c.in-Open.resource) in
-    of-step c.open.result c.args.step x (Does c.args.self.now c.open.new.self) c.in-Open.is (step-done c.open.result c.args.self.now c.open.new.self x q refl (λ p stands sane count. c.open.ensures.ok p stands sane))
+    of-step c.open.result c.args.step x (Does c.args.self.now c.open.new.self) c.in-Open.is
+    (step-done c.open.result c.args.self.now c.open.new.self x q refl (λ p stands sane count. c.open.ensures.ok p stands sane))
 
 pub returns-in-Up-clause-ok : goal.returns-in-Up-clause-ok
 returns-in-Up-clause-ok c =
     let x = in_hand.Up c.in-Up.link in
     let q = Up c.in-Up.link.value in
-    of-step c.carry_up.result c.args.step x (Does c.args.self.now c.carry_up.new.self) c.in-Up.is (step-done c.carry_up.result c.args.self.now c.carry_up.new.self x q refl (λ p stands sane count. c.carry_up.ensures.ok p stands sane))
+    of-step c.carry_up.result c.args.step x (Does c.args.self.now c.carry_up.new.self) c.in-Up.is
+    (step-done c.carry_up.result c.args.self.now c.carry_up.new.self x q refl (λ p stands sane count. c.carry_up.ensures.ok p stands sane))
 
 pub returns-in-Cut-clause-ok : goal.returns-in-Cut-clause-ok
 returns-in-Cut-clause-ok c =
     let x = in_hand.Cut c.in-Cut.link in
     let q = Cuts c.in-Cut.link.value in
-    of-step c.cut.result c.args.step x (Does c.args.self.now c.cut.new.self) c.in-Cut.is (step-done c.cut.result c.args.self.now c.cut.new.self x q refl (λ p stands sane count. c.cut.ensures.ok p stands sane))
+    of-step c.cut.result c.args.step x (Does c.args.self.now c.cut.new.self) c.in-Cut.is
+    (step-done c.cut.result c.args.self.now c.cut.new.self x q refl (λ p stands sane count. c.cut.ensures.ok p stands sane))
 
 pub returns-in-At-clause-ok : goal.returns-in-At-clause-ok
 returns-in-At-clause-ok c =
-    of-step c.hand.result c.args.step (in_hand.At c.in-At.moment) (Does c.args.self.now c.hand.new.self) c.in-At.is (beside-done c.hand.result c.args.self.now c.hand.new.self (steps.At c.in-At.moment.value) (at-quiet c.in-At.moment.value) c.hand.ensures.ok)
+    of-step c.hand.result c.args.step (in_hand.At c.in-At.moment) (Does c.args.self.now c.hand.new.self) c.in-At.is
+    (beside-done c.hand.result c.args.self.now c.hand.new.self (steps.At c.in-At.moment.value) (at-quiet c.in-At.moment.value) c.hand.ensures.ok)
 
 pub returns-in-Frame-clause-ok : goal.returns-in-Frame-clause-ok
 returns-in-Frame-clause-ok c =
-    of-step c.hand-in-Frame.result c.args.step (in_hand.Frame c.in-Frame.context c.in-Frame.url) (Does c.args.self.now c.hand-in-Frame.new.self) c.in-Frame.is (beside-done c.hand-in-Frame.result c.args.self.now c.hand-in-Frame.new.self (steps.Frame (string_bytes c.in-Frame.context) (string_bytes c.in-Frame.url)) (frame-quiet (string_bytes c.in-Frame.context) (string_bytes c.in-Frame.url)) c.hand-in-Frame.ensures.ok)
+    of-step c.hand-in-Frame.result c.args.step (in_hand.Frame c.in-Frame.context c.in-Frame.url)
+    (Does c.args.self.now c.hand-in-Frame.new.self) c.in-Frame.is (beside-done c.hand-in-Frame.result
+    c.args.self.now c.hand-in-Frame.new.self (steps.Frame (string_bytes c.in-Frame.context) (string_bytes c.in-Frame.url))
+    (frame-quiet (string_bytes c.in-Frame.context) (string_bytes c.in-Frame.url)) c.hand-in-Frame.ensures.ok)
 
 pub returns-in-Unframe-clause-ok : goal.returns-in-Unframe-clause-ok
 returns-in-Unframe-clause-ok c =
-    of-step c.hand-in-Unframe.result c.args.step (in_hand.Unframe c.in-Unframe.context) (Does c.args.self.now c.hand-in-Unframe.new.self) c.in-Unframe.is (beside-done c.hand-in-Unframe.result c.args.self.now c.hand-in-Unframe.new.self (steps.Unframe (string_bytes c.in-Unframe.context)) (unframe-quiet (string_bytes c.in-Unframe.context)) c.hand-in-Unframe.ensures.ok)
+    of-step c.hand-in-Unframe.result c.args.step (in_hand.Unframe c.in-Unframe.context) (Does c.args.self.now c.hand-in-Unframe.new.self)
+    c.in-Unframe.is (beside-done c.hand-in-Unframe.result c.args.self.now c.hand-in-Unframe.new.self
+    (steps.Unframe (string_bytes c.in-Unframe.context)) (unframe-quiet (string_bytes c.in-Unframe.context)) c.hand-in-Unframe.ensures.ok)
 
 pub returns-in-Log-clause-ok : goal.returns-in-Log-clause-ok
 returns-in-Log-clause-ok c =
-    of-step c.hand-in-Log.result c.args.step (in_hand.Log c.in-Log.context c.in-Log.level c.in-Log.text) (Does c.args.self.now c.hand-in-Log.new.self) c.in-Log.is (beside-done c.hand-in-Log.result c.args.self.now c.hand-in-Log.new.self (steps.Log (string_bytes c.in-Log.context) c.in-Log.level (string_bytes c.in-Log.text)) (log-quiet (string_bytes c.in-Log.context) c.in-Log.level (string_bytes c.in-Log.text)) c.hand-in-Log.ensures.ok)
+    of-step c.hand-in-Log.result c.args.step (in_hand.Log c.in-Log.context c.in-Log.level c.in-Log.text)
+    (Does c.args.self.now c.hand-in-Log.new.self) c.in-Log.is (beside-done c.hand-in-Log.result c.args.self.now c.hand-in-Log.new.self
+    (steps.Log (string_bytes c.in-Log.context) c.in-Log.level (string_bytes c.in-Log.text))
+    (log-quiet (string_bytes c.in-Log.context) c.in-Log.level (string_bytes c.in-Log.text)) c.hand-in-Log.ensures.ok)
 
 pub returns-in-TableRow-clause-ok : goal.returns-in-TableRow-clause-ok
 returns-in-TableRow-clause-ok c =
-    of-step c.hand-in-TableRow.result c.args.step (in_hand.TableRow c.in-TableRow.text) (Does c.args.self.now c.hand-in-TableRow.new.self) c.in-TableRow.is (beside-done c.hand-in-TableRow.result c.args.self.now c.hand-in-TableRow.new.self (steps.TableRow (string_bytes c.in-TableRow.text)) (row-quiet (string_bytes c.in-TableRow.text)) c.hand-in-TableRow.ensures.ok)
+    of-step c.hand-in-TableRow.result c.args.step (in_hand.TableRow c.in-TableRow.text) (Does c.args.self.now c.hand-in-TableRow.new.self)
+    c.in-TableRow.is (beside-done c.hand-in-TableRow.result c.args.self.now c.hand-in-TableRow.new.self
+    (steps.TableRow (string_bytes c.in-TableRow.text)) (row-quiet (string_bytes c.in-TableRow.text)) c.hand-in-TableRow.ensures.ok)
 
 pub returns-in_ok-send-in-Send-clause-ok : goal.returns-in_ok-send-in-Send-clause-ok
 returns-in_ok-send-in-Send-clause-ok c =

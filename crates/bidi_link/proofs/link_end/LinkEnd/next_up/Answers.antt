@@ -17,7 +17,12 @@ returns-clause-none c = λ l v a. if_none c.pop_front.result (λ is.
         not_sent = a.not_sent;
         is_cut = a.is_cut;
         within = a.within;
-        carries = λ u. record { local = (a.carries u).local; up = subst (AreUpward (suc v.ups) (drop v.ups v.commands)) still (a.carries u).up; down = (a.carries u).down };
+        carries =
+            λ u. record {
+              local = (a.carries u).local;
+              up = subst (AreUpward (suc v.ups) (drop v.ups v.commands)) still (a.carries u).up;
+              down = (a.carries u).down;
+            };
         empty = λ u. record { up = empty.1; down = (a.empty u).down };
       },
     ))
@@ -26,7 +31,8 @@ pub returns-clause-some : goal.returns-clause-some
 returns-clause-some c = λ l v a. if_some c.pop_front.result (λ s is.
     let old = one_taken c.pop_front.result c.args.self.now.up.items c.pop_front.new.self.items s c.pop_front.ensures.items is in
     let whole = uncut v.is_cut s c.pop_front.new.self.items (λ u. sym old ∙ (a.empty u).up) in
-    let p = next_up-some v (string_bytes s) (map string_bytes c.pop_front.new.self.items) whole (subst (λ ss. AreUpward (suc v.ups) (drop v.ups v.commands) (map string_bytes ss)) old (a.carries whole).up) in (
+    let p = next_up-some v (string_bytes s) (map string_bytes c.pop_front.new.self.items) whole
+    (subst (λ ss. AreUpward (suc v.ups) (drop v.ups v.commands) (map string_bytes ss)) old (a.carries whole).up) in (
       p.0,
       p.1,
       p.2,

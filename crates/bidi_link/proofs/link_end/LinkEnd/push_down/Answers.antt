@@ -20,7 +20,9 @@ returns-in_ok-push_back c = λ l v a.
       carries = λ u. record {
         local = (a.carries u).local;
         up = (a.carries u).up;
-        down = ap (map string_bytes) c.in_ok-push_back.ensures.items ∙ map-append string_bytes c.args.self.now.down.items (c.args.text ∷ []) ∙ ap (λ ss. ss ++ s ∷ []) (a.carries u).down ∙ sym (drop-append v.downs v.texts (s ∷ []) a.within);
+        down =
+            ap (map string_bytes) c.in_ok-push_back.ensures.items ∙ map-append string_bytes c.args.self.now.down.items (c.args.text ∷ [])
+            ∙ ap (λ ss. ss ++ s ∷ []) (a.carries u).down ∙ sym (drop-append v.downs v.texts (s ∷ []) a.within);
       };
       empty = λ u. absurd (true≢false (sym u ∙ whole));
     }

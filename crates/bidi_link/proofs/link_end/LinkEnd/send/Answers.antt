@@ -17,7 +17,8 @@ returns-in-Ok c = λ l v a sound short.
     both_ok c.push_up.result c.push_up.ensures.commands c.push_up.ensures.up (λ commands up.
     subst (Agrees _ l) (sym (sent_on-true v (sending_of d) whole may))
     (sends end _ l v d (record { id = c.in-Ok.id; method = c.method-method.result; fate = in_hand.Waiting }) (string_bytes c.in-Ok.text) a sound whole
-    (record { number = refl; down = refl; is_cut = refl; events = refl }) refl commands (ap (map string_bytes) up ∙ map-append string_bytes end.up.items (c.in-Ok.text ∷ []))
+    (record { number = refl; down = refl; is_cut = refl; events = refl }) refl commands
+    (ap (map string_bytes) up ∙ map-append string_bytes end.up.items (c.in-Ok.text ∷ []))
     c.in-Ok.ensures.ok.0 c.method-method.ensures refl tt c.in-Ok.ensures.ok.1 c.in-Ok.ensures.accepted c.in-Ok.ensures.waits))
 
 pub returns-in-Err : goal.returns-in-Err
@@ -30,4 +31,5 @@ returns-in-Err c = λ l v a sound short.
     let fault = refused_for c.in-Err.fault _ counted.0 c.in-Err.ensures.refusal in
     let may = may_send-fault v end.commands.items d end.local.sent end.local.pending.entries c.in-Err.fault a.entries local.sent local.waiting fault in
     subst (Agrees _ l) (sym (sent_on-false v (sending_of d) whole may))
-    (counts end _ l v a whole (record { number = refl; down = refl; is_cut = refl; events = refl }) refl refl (counted_on end.unsent v.not_sent _ a.not_sent short counted.1) c.in-Err.ensures.err))
+    (counts end _ l v a whole (record { number = refl; down = refl; is_cut = refl; events = refl }) refl refl
+    (counted_on end.unsent v.not_sent _ a.not_sent short counted.1) c.in-Err.ensures.err))

@@ -15,7 +15,12 @@ returns-in_ok-received-in-Some c = λ l v a sound.
     let whole = uncut v.is_cut c.in-Some.text left (λ u. sym old ∙ (a.empty u).down) in
     taken end _ l v s (map string_bytes left) c.in_ok-received-in-Some.received c.note.result a sound whole
     (record { number = refl; up = refl; down = refl; is_cut = refl; unsent = refl })
-    (record { answer = c.note.ensures.answer; refusal = c.note.ensures.refusal; event = c.note.ensures.event; well = c.note.ensures.well c.in_ok-received-in-Some.ensures.well })
+    (record {
+      answer = c.note.ensures.answer;
+      refusal = c.note.ensures.refusal;
+      event = c.note.ensures.event;
+      well = c.note.ensures.well c.in_ok-received-in-Some.ensures.well;
+    })
     (sym (a.carries whole).down ∙ ap (map string_bytes) old)
     (λ m means. c.in_ok-received-in-Some.ensures.no_other m (subst (λ x. Means (waiting_in end.local) x m) (sym c.as_str.ensures.value) means))
     c.in_ok-received-in-Some.ensures.settles

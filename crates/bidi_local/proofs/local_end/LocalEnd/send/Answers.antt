@@ -30,5 +30,6 @@ pub returns-in-Ok-clause-accepted : goal.returns-in-Ok-clause-accepted
 returns-in-Ok-clause-accepted c =
     let id = suc c.args.self.now.sent in
     let fits : length (string_bytes c.in_ok-method.text) ≤ 1048576 = omega (arith, c.if-len-gt-MOST_BYTES.false, c.len-2.ensures) in
-    subst (λ n. IsVerdict (string_bytes c.in_ok-method.text) (Accepted (command_tree n (asks.ghosts.subject.kind c.args.«data») (asks.ghosts.subject.tree_of c.args.«data»)))) (omega arith)
+    subst (λ n. IsVerdict (string_bytes c.in_ok-method.text)
+    (Accepted (command_tree n (asks.ghosts.subject.kind c.args.«data») (asks.ghosts.subject.tree_of c.args.«data»)))) (omega arith)
     (text_accepted (string_bytes c.in_ok-method.text) _ fits c.in_ok-method.ensures.reads_back c.in_ok-method.ensures.fits)

@@ -9,7 +9,9 @@ invariant_of-self c =
     let end = c.args.self.now in
     record {
       in_range = end.in_range;
-      were_sent = received_holds (λ w. w.0 ≤ end.sent) end.pending.entries c.receive.new.pending.entries c.receive.result c.receive.ensures.settles c.receive.ensures.err end.were_sent;
+      were_sent =
+          received_holds (λ w. w.0 ≤ end.sent) end.pending.entries c.receive.new.pending.entries c.receive.result c.receive.ensures.settles
+          c.receive.ensures.err end.were_sent;
     }
 
 pub returns-in-Err-NotJson-clause-means : goal.returns-in-Err-NotJson-clause-means
@@ -27,7 +29,9 @@ pub returns-in-Ok-clause-no_other : goal.returns-in-Ok-clause-no_other
 returns-in-Ok-clause-no_other c = λ m means. no_other c.args.self.now.pending.entries c.args.text.now c.receive.result (returns-in-Ok-clause-means c) m means
 
 pub returns-in-Err-NotJson-clause-no_other : goal.returns-in-Err-NotJson-clause-no_other
-returns-in-Err-NotJson-clause-no_other c = λ m means. one_meaning c.args.self.now.pending.entries c.args.text.now m NotJson means (returns-in-Err-NotJson-clause-means c)
+returns-in-Err-NotJson-clause-no_other c =
+    λ m means. one_meaning c.args.self.now.pending.entries c.args.text.now m NotJson means (returns-in-Err-NotJson-clause-means c)
 
 pub returns-in-Err-NoFit-clause-no_other : goal.returns-in-Err-NoFit-clause-no_other
-returns-in-Err-NoFit-clause-no_other c = λ m means. one_meaning c.args.self.now.pending.entries c.args.text.now m NotInProfile means (returns-in-Err-NoFit-clause-means c)
+returns-in-Err-NoFit-clause-no_other c =
+    λ m means. one_meaning c.args.self.now.pending.entries c.args.text.now m NotInProfile means (returns-in-Err-NoFit-clause-means c)

@@ -13,4 +13,6 @@ abbrev pub decreases-read_infos : goal.decreases-read_infos
 decreases-read_infos g l = 2 * items_levels (items_of (map g.S.Parsed.tree l.items.now)) + 2
 
 abbrev pub invariant-read_infos-loop-item : goal.invariant-read_infos-loop-item
-invariant-read_infos-loop-item g l = (map (tree_of_info info_parts) l.infos.items ≡ map g.S.Parsed.tree (take l.item-index l.items)) × AllByRecursion (InfoIsWell info_parts) l.infos.items
+invariant-read_infos-loop-item g l =
+    (map (tree_of_info info_parts) l.infos.items ≡ map g.S.Parsed.tree (take l.item-index l.items))
+    × AllByRecursion (InfoIsWell info_parts) l.infos.items

@@ -8,7 +8,10 @@ use Rattle.bidi_params.proofs.browsing_context.info.draft_beside.Goals as goal
 
 pub returns-clause-sound : goal.returns-clause-sound
 returns-clause-sound c =
-    let ext : IsSound (kind.map (draft_members c.in_ok-members.members.items)) = subst (λ ms. IsSound (kind.map ms)) (sym c.in_ok-members.ensures.same) (c.in_ok-members.ensures.ascending, c.in_ok-members.ensures.sound) in
-    let own = c.in_ok-add_member-5.ensures.sound (c.in_ok-add_member-4.ensures.sound (c.in_ok-add_member-3.ensures.sound (c.in_ok-add_member-2.ensures.sound (c.in_ok-add_member.ensures.sound (c.in_ok-add_optional.ensures.sound ext))))) in
-    let all = subst (λ ms. IsSound (kind.map ms)) (sym c.in_ok-put_draft.ensures.ok) (AreAscending-put _ (draft_node c.args.children) _ own.0, MembersAreSound-put _ (draft_node c.args.children) _ c.requires own.1) in
+    let ext : IsSound (kind.map (draft_members c.in_ok-members.members.items)) = subst (λ ms. IsSound (kind.map ms))
+    (sym c.in_ok-members.ensures.same) (c.in_ok-members.ensures.ascending, c.in_ok-members.ensures.sound) in
+    let own = c.in_ok-add_member-5.ensures.sound (c.in_ok-add_member-4.ensures.sound (c.in_ok-add_member-3.ensures.sound
+    (c.in_ok-add_member-2.ensures.sound (c.in_ok-add_member.ensures.sound (c.in_ok-add_optional.ensures.sound ext))))) in
+    let all = subst (λ ms. IsSound (kind.map ms)) (sym c.in_ok-put_draft.ensures.ok)
+    (AreAscending-put _ (draft_node c.args.children) _ own.0, MembersAreSound-put _ (draft_node c.args.children) _ c.requires own.1) in
     subst IsSound (sym (draft_node-Map c.put_draft.new.members)) all

@@ -24,6 +24,8 @@ pub returns-clause-ok : goal.returns-clause-ok
 returns-clause-ok g c =
     let f = c.in_ok-beside.beside in
     let part = children_node (option_map (λ x. items_of (map g.S.Parsed.tree x.now)) c.in_ok-children.children) in
-    let p = table_read (codes "children" ∷ names) (rows_with info_parts.table (rule info)) info_parts.table.openness (Some part ∷ info_parts.table.parts [] f) (members_in (g.S.Parsed.tree c.args.tree.now)) (info_parts.table.others f) (g.S.Parsed.tree c.args.tree.now)
-    (record { names = refl; once = refl }) c.in_ok-check_map.ensures.ok (c.in_ok-children.ensures.ok, c.in_ok-beside.ensures.ok.0) c.in_ok-beside.ensures.sorted c.in_ok-beside.ensures.rest.0 c.in_ok-beside.ensures.rest.1 in
+    let p = table_read (codes "children" ∷ names) (rows_with info_parts.table (rule info)) info_parts.table.openness (Some part ∷ info_parts.table.parts [] f)
+    (members_in (g.S.Parsed.tree c.args.tree.now)) (info_parts.table.others f) (g.S.Parsed.tree c.args.tree.now)
+    (record { names = refl; once = refl }) c.in_ok-check_map.ensures.ok (c.in_ok-children.ensures.ok, c.in_ok-beside.ensures.ok.0)
+    c.in_ok-beside.ensures.sorted c.in_ok-beside.ensures.rest.0 c.in_ok-beside.ensures.rest.1 in
     (p.0, (c.in_ok-beside.ensures.ok.1, p.1))

@@ -6,4 +6,6 @@ use Rattle.bidi_remote.proofs.ListLemmas.{map-filter}
 use Rattle.bidi_remote.proofs.connections.Connections.close.Goals as goal
 
 pub returns : goal.returns
-returns c = ap (map row_of) (filter_same _ _ _ (λ x b f' k. search rules) _ _ c.retain.ensures.filtered) ∙ map-filter row_of (λ row. not (row.0 == c.args.number.value)) c.args.self.now.«open».items
+returns c =
+    ap (map row_of) (filter_same _ _ _ (λ x b f' k. search rules) _ _ c.retain.ensures.filtered)
+    ∙ map-filter row_of (λ row. not (row.0 == c.args.number.value)) c.args.self.now.«open».items

@@ -7,4 +7,6 @@ use Rattle.bidi_remote.proofs.ListLemmas.{map-filter}
 use Rattle.bidi_remote.proofs.connections.Connections.close_all.Goals as goal
 
 pub returns : goal.returns
-returns c = ap (map row_of) (filter_same _ _ _ (λ x b f' k. search rules) _ _ c.retain.ensures.filtered) ∙ map-filter row_of (λ row. not (is_for c.args.session row.1)) c.args.self.now.«open».items
+returns c =
+    ap (map row_of) (filter_same _ _ _ (λ x b f' k. search rules) _ _ c.retain.ensures.filtered)
+    ∙ map-filter row_of (λ row. not (is_for c.args.session row.1)) c.args.self.now.«open».items

@@ -7,14 +7,19 @@ use Rattle.bidi_remote.proofs.connections.Connections.standing_of.Goals as goal
 pub returns-in-None : goal.returns-in-None
 returns-in-None c =
     let n = c.args.number.value in
-    ap standing_found (sym c.in-None.is ∙ (c.find.ensures ∙ ap (find (λ x. x.number.value == n)) c.deref.ensures.value)) ∙ found-row n c.args.self.now.«open».items
+    ap standing_found (sym c.in-None.is ∙ (c.find.ensures ∙ ap (find (λ x. x.number.value == n)) c.deref.ensures.value))
+    ∙ found-row n c.args.self.now.«open».items
 
 pub returns-in-None-session : goal.returns-in-None-session
 returns-in-None-session c =
     let n = c.args.number.value in
-    ap opened_for (sym c.in-None-session.is) ∙ (ap standing_found (sym c.in-Some.is ∙ (c.find.ensures ∙ ap (find (λ x. x.number.value == n)) c.deref.ensures.value)) ∙ found-row n c.args.self.now.«open».items)
+    ap opened_for (sym c.in-None-session.is)
+    ∙ (ap standing_found (sym c.in-Some.is ∙ (c.find.ensures ∙ ap (find (λ x. x.number.value == n)) c.deref.ensures.value))
+    ∙ found-row n c.args.self.now.«open».items)
 
 pub returns-in-Some-session : goal.returns-in-Some-session
 returns-in-Some-session c =
     let n = c.args.number.value in
-    ap opened_for (sym c.in-Some-session.is) ∙ (ap standing_found (sym c.in-Some.is ∙ (c.find.ensures ∙ ap (find (λ x. x.number.value == n)) c.deref.ensures.value)) ∙ found-row n c.args.self.now.«open».items)
+    ap opened_for (sym c.in-Some-session.is)
+    ∙ (ap standing_found (sym c.in-Some.is ∙ (c.find.ensures ∙ ap (find (λ x. x.number.value == n)) c.deref.ensures.value))
+    ∙ found-row n c.args.self.now.«open».items)

@@ -13,7 +13,8 @@ loop-at-preserved c =
     let x = c.index.result.now in
     let done = c.loop-at.all.items in
     let rest = waiting (map place_row (drop (i + 1) items)) in
-    let less : i < length items = let test = c.loop-at-test.true in let end = c.len-at-end.ensures in let ok = c.args.self.now.places.ok.0 in omega (arith, test, end, ok) in
+    let less : i < length items = let test = c.loop-at-test.true in
+    let end = c.len-at-end.ensures in let ok = c.args.self.now.places.ok.0 in omega (arith, test, end, ok) in
     let next = c.loop-at.invariant ∙ ap (λ left. written_in done ++ waiting (map place_row left)) (from-item items i x less c.index.ensures) in
     elim c.match-index.branch [
       | in-Some+in_ok-clone+in_ok-push w ↦

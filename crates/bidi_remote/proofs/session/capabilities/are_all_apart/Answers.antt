@@ -11,7 +11,8 @@ rest_true true c e = e
 rest_true false c e = absurd (true≢false (sym e))
 
 -- what is so of the items from i on is so of those behind
-rest_pass : {X Y : Type 0} (f : Y → Bool) (g : X → Y) (xs : List X) (i : ℕ) (x : X) → drop i xs ≡ x ∷ drop (i + 1) xs → list_all f (map g (drop i xs)) ≡ true → list_all f (map g (drop (i + 1) xs)) ≡ true
+rest_pass : {X Y : Type 0} (f : Y → Bool) (g : X → Y) (xs : List X) (i : ℕ) (x : X)
+    → drop i xs ≡ x ∷ drop (i + 1) xs → list_all f (map g (drop i xs)) ≡ true → list_all f (map g (drop (i + 1) xs)) ≡ true
 rest_pass f g xs i x is h = rest_true (f (g x)) (list_all f (map g (drop (i + 1) xs))) (ap (λ ys. list_all f (map g ys)) (sym is) ∙ h)
 
 -- the test of the items from i on

@@ -9,4 +9,5 @@ abbrev pub invariant-loop-choice : goal.invariant-loop-choice
 invariant-loop-choice l =
     let test = is_match (asked_if_any l.always) in
     let left = drop l.choice-index l.choices in
-    AllByRecursion ghosts.shape.well left × (list_all (list_all is_known) (map asked left) ≡ true) × (list_any test (map asked l.choices) ≡ list_any test (map asked left))
+    AllByRecursion ghosts.shape.well left
+    × (list_all (list_all is_known) (map asked left) ≡ true) × (list_any test (map asked l.choices) ≡ list_any test (map asked left))

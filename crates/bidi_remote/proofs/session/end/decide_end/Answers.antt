@@ -8,4 +8,5 @@ use Rattle.bidi_remote.proofs.session.end.decide_end.Goals as goal
 pub returns-clause-ok : goal.returns-clause-ok
 returns-clause-ok c = λ past.
     replied-decides c.replied.result past c.args.asker End _ (change.End c.args.session) c.end_result.result tt
-    c.replied.ensures.change c.replied.ensures.before c.replied.ensures.reply c.replied.ensures.after refl (ap (λ t. Replies t ∷ []) c.end_result.ensures.tree) c.replied.ensures.announced refl
+    c.replied.ensures.change c.replied.ensures.before c.replied.ensures.reply c.replied.ensures.after refl
+    (ap (λ t. Replies t ∷ []) c.end_result.ensures.tree) c.replied.ensures.announced refl

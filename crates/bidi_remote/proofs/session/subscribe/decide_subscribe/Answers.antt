@@ -19,7 +19,9 @@ returns-then-held-ge-MOST_SUBSCRIPTIONS-clause-ok c = λ past a active few.
     let full = c.if-held-ge-MOST_SUBSCRIPTIONS.true in
     let none : nat_lt (length held) 256 ≡ false = grind (arith, nat_tests, full) in
     let row = row-active c.args.tables.now past s a active in
-    subscribe-checked past s (length held) (texts c.args.params.now.events.items.items) (option_map (λ l. texts l.items.items) c.args.params.now.contexts) (option_map (λ l. texts l.items.items) c.args.params.now.user_contexts) c.in_ok-events.events.items (scope_of c.in_ok-scope.scope) false (ap (λ xs. all_named (texts xs)) (sym c.deref.ensures.value) ∙ c.in_ok-events.ensures) (c.in_ok-scope.ensures (acts past) a.browser)
+    subscribe-checked past s (length held) (texts c.args.params.now.events.items.items) (option_map (λ l. texts l.items.items) c.args.params.now.contexts)
+    (option_map (λ l. texts l.items.items) c.args.params.now.user_contexts) c.in_ok-events.events.items (scope_of c.in_ok-scope.scope) false
+    (ap (λ xs. all_named (texts xs)) (sym c.deref.ensures.value) ∙ c.in_ok-events.ensures) (c.in_ok-scope.ensures (acts past) a.browser)
     (held-length past s held (c.subscriptions_of-held.ensures ∙ ap (λ r. r.subscriptions) row)) none
 
 pub returns-clause-ok : goal.returns-clause-ok
@@ -33,11 +35,16 @@ returns-clause-ok c = λ past a active few.
     let row = row-active c.args.tables.now past s a active in
     let rows = c.subscriptions_of-held.ensures ∙ ap (λ r. r.subscriptions) row in
     let made = ap (λ r. r.made) row in
-    let next : c.next_subscription.result ≡ next_subscription past s = let n = c.next_subscription.ensures (omega (arith, made, few)) in omega (arith, n, made) in
+    let next : c.next_subscription.result ≡ next_subscription past s =
+    let n = c.next_subscription.ensures (omega (arith, made, few)) in omega (arith, n, made) in
     let newly = c.in_ok-announced.ensures past a active in
     announced-decides c.announced.result past c.args.asker (subscribe_asked c.args.params.now) _ (change.Subscribe s es scope) c.in_ok-reply.reply tt
     c.announced.ensures.change c.announced.ensures.before c.announced.ensures.reply c.announced.ensures.after
-    (subscribe-checked past s (length held) (texts c.args.params.now.events.items.items) (option_map (λ l. texts l.items.items) c.args.params.now.contexts) (option_map (λ l. texts l.items.items) c.args.params.now.user_contexts) es.items (scope_of scope) true (ap (λ xs. all_named (texts xs)) (sym c.deref.ensures.value) ∙ c.in_ok-events.ensures) (c.in_ok-scope.ensures (acts past) a.browser) (held-length past s held rows) room)
+    (subscribe-checked past s (length held) (texts c.args.params.now.events.items.items)
+    (option_map (λ l. texts l.items.items) c.args.params.now.contexts) (option_map (λ l. texts l.items.items) c.args.params.now.user_contexts)
+    es.items (scope_of scope) true (ap (λ xs. all_named (texts xs)) (sym c.deref.ensures.value) ∙ c.in_ok-events.ensures)
+    (c.in_ok-scope.ensures (acts past) a.browser) (held-length past s held rows) room)
     (ap (λ t. Replies t ∷ []) (c.in_ok-reply.ensures.tree ∙ ap (subscription_tree s) next))
-    (ap (λ v. written_in v.items) c.announced.ensures.announced ∙ (newly.0 ∙ ap (λ events. map written (announcements past (Subscribed s events (scope_of scope)) s)) c.deref-2.ensures.value))
+    (ap (λ v. written_in v.items) c.announced.ensures.announced
+    ∙ (newly.0 ∙ ap (λ events. map written (announcements past (Subscribed s events (scope_of scope)) s)) c.deref-2.ensures.value))
     (subst (λ v. AreMessages (written_in v.items)) (sym c.announced.ensures.announced) newly.1)

@@ -28,9 +28,13 @@ returns c = λ past a active.
     let kept = c.retain.new.self.items in
     let stands = a.browser in
     let later = ap written_in (filter_same _ (λ e. test EntryAdded e.value.top) _ (λ x b f' k. search (rules, stands)) _ _ c.retain.ensures.filtered)
-    ∙ (map-filter (λ e. written_of e.value) (λ w. test EntryAdded w.top) c.in_ok-waiting.waiting.items ∙ ap (filter (λ w. test EntryAdded w.top)) (c.in_ok-waiting.ensures ∙ ap (λ r. waiting r.missed) row)) in
+    ∙ (map-filter (λ e. written_of e.value) (λ w. test EntryAdded w.top) c.in_ok-waiting.waiting.items
+    ∙ ap (filter (λ w. test EntryAdded w.top)) (c.in_ok-waiting.ensures ∙ ap (λ r. waiting r.missed) row)) in
     let split = ap written_in c.in_ok-append.ensures.items ∙ map-append (λ e. written_of e.value) standing kept in
-    let messages = all-filtered (λ w. IsMessageText ghosts.shape w.text) (λ w. test EntryAdded w.top) (waiting (places past s)) (subst AreMessages (sym (waiting-places past s)) (waiting-messages past s (a.entries s))) in (
-      split ∙ new-announced past s held es scope (written_in standing) (written_in kept) active (a.entries s) rows (c.in_ok-all.ensures.ok (acts past) a.browser) later,
-      subst AreMessages (sym split) (all-append (λ w. IsMessageText ghosts.shape w.text) (written_in standing) (written_in kept) c.in_ok-all.ensures.reads_back (subst AreMessages (sym later) messages)),
+    let messages = all-filtered (λ w. IsMessageText ghosts.shape w.text) (λ w. test EntryAdded w.top) (waiting (places past s))
+    (subst AreMessages (sym (waiting-places past s)) (waiting-messages past s (a.entries s))) in (
+      split ∙ new-announced past s held es scope (written_in standing) (written_in kept) active (a.entries s) rows
+          (c.in_ok-all.ensures.ok (acts past) a.browser) later,
+      subst AreMessages (sym split) (all-append (λ w. IsMessageText ghosts.shape w.text) (written_in standing) (written_in kept)
+          c.in_ok-all.ensures.reads_back (subst AreMessages (sym later) messages)),
     )

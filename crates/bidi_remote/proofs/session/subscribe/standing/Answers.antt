@@ -14,11 +14,14 @@ use Rattle.bidi_remote.proofs.session.subscribe.standing.Goals as goal
 pub event_texts-requires : goal.event_texts-requires
 event_texts-requires c =
     let k = c.retain.ensures.filtered in
-    subst (AllByRecursion (λ o. ghosts.subject.well o.event)) (sym (c.deref.ensures.value ∙ k.4)) (all-kept (λ o. ghosts.subject.well o.event) k.0 c.in_ok-all.all.items c.in_ok-all.ensures.well)
+    subst (AllByRecursion (λ o. ghosts.subject.well o.event)) (sym (c.deref.ensures.value ∙ k.4))
+    (all-kept (λ o. ghosts.subject.well o.event) k.0 c.in_ok-all.all.items c.in_ok-all.ensures.well)
 
 pub returns-clause-ok : goal.returns-clause-ok
 returns-clause-ok c = λ past stands.
     let test = is_new past (map row_of c.args.held.now) c.args.events.now (scope_of c.args.scope.now) in
-    let left = ap seen (c.deref.ensures.value ∙ filter_same _ (λ o. test (occurrence_of ghosts.subject o).event o.top) _ (λ x b f' k. search (rules, stands)) _ _ c.retain.ensures.filtered)
-    ∙ (map-filter (occurrence_of ghosts.subject) (λ o. test o.event o.top) c.in_ok-all.all.items ∙ ap (filter (λ o. test o.event o.top)) (c.in_ok-all.ensures.ok past stands)) in
+    let left = ap seen (c.deref.ensures.value
+    ∙ filter_same _ (λ o. test (occurrence_of ghosts.subject o).event o.top) _ (λ x b f' k. search (rules, stands)) _ _ c.retain.ensures.filtered)
+    ∙ (map-filter (occurrence_of ghosts.subject) (λ o. test o.event o.top) c.in_ok-all.all.items
+    ∙ ap (filter (λ o. test o.event o.top)) (c.in_ok-all.ensures.ok past stands)) in
     subst (λ os. IfOk c.event_texts.result (λ all. written_in all.items ≡ map written os)) left c.event_texts.ensures.written

@@ -18,10 +18,12 @@ loop-id-preserved c = λ past stands.
     let x = c.id-item.result in
     let held = c.loop-id.tops.items in
     let is = from-item ids i x (omega arith) c.id-item.is in
-    let live = found-some (top_of past) (find (λ n. bytes_eq c.deref.result.now (id_of Context n)) (contexts past)) c.in-Some.top NoSuchFrame (sym (c.top_of.ensures past stands) ∙ c.in-Some.is) in
+    let live = found-some (top_of past) (find (λ n. bytes_eq c.deref.result.now (id_of Context n)) (contexts past)) c.in-Some.top NoSuchFrame
+    (sym (c.top_of.ensures past stands) ∙ c.in-Some.is) in
     c.loop-id.invariant past stands
     ∙ (ap (λ left. behind held (tops_named past (map string_bytes left))) is
-    ∙ (joined-ok (λ n. top_of past n ∷ []) held _ (tops_named past (map string_bytes (drop (i + 1) ids))) live.0 (ap (context_named past) (sym c.deref.ensures) ∙ live.1.0)
+    ∙ (joined-ok (λ n. top_of past n ∷ []) held _ (tops_named past (map string_bytes (drop (i + 1) ids))) live.0
+    (ap (context_named past) (sym c.deref.ensures) ∙ live.1.0)
     ∙ (ap (λ top. behind (held ++ top ∷ []) (tops_named past (map string_bytes (drop (i + 1) ids)))) live.1.1
     ∙ ap (λ more. behind more (tops_named past (map string_bytes (drop (i + 1) ids)))) (sym c.in_ok-push-in-Some.ensures.items))))
 
@@ -32,7 +34,9 @@ returns-in-None c = λ past stands.
     let x = c.id-item.result in
     let held = c.loop-id.tops.items in
     let is = from-item ids i x (omega arith) c.id-item.is in
-    let gone = found-none (top_of past) (find (λ n. bytes_eq c.deref.result.now (id_of Context n)) (contexts past)) NoSuchFrame (sym (c.top_of.ensures past stands) ∙ c.in-None.is) in
+    let gone = found-none (top_of past) (find (λ n. bytes_eq c.deref.result.now (id_of Context n)) (contexts past)) NoSuchFrame
+    (sym (c.top_of.ensures past stands) ∙ c.in-None.is) in
     c.loop-id.invariant past stands
     ∙ (ap (λ left. behind held (tops_named past (map string_bytes left))) is
-    ∙ joined-err (λ n. top_of past n ∷ []) held _ (tops_named past (map string_bytes (drop (i + 1) ids))) NoSuchFrame (ap (context_named past) (sym c.deref.ensures) ∙ gone))
+    ∙ joined-err (λ n. top_of past n ∷ []) held _ (tops_named past (map string_bytes (drop (i + 1) ids))) NoSuchFrame
+    (ap (context_named past) (sym c.deref.ensures) ∙ gone))

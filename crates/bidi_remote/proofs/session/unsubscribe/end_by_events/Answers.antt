@@ -13,7 +13,8 @@ returns-then-not-all_global-clause-checked c = λ past a active.
     let es = c.in_ok-events.events.items in
     let rows = c.subscriptions_of.ensures ∙ ap (λ r. r.subscriptions) (row-active c.args.tables.now past s a active) in
     dismiss-checked past s (texts c.args.names.now) es false c.in_ok-events.ensures
-    (sym (all-held past s held es rows) ∙ (ap (list_all (λ e. list_any (λ x. row_holds e (row_of x)) held)) (sym c.deref.ensures.value) ∙ (sym c.all_global.ensures ∙ c.if-not-all_global.true)))
+    (sym (all-held past s held es rows) ∙ (ap (list_all (λ e. list_any (λ x. row_holds e (row_of x)) held)) (sym c.deref.ensures.value)
+    ∙ (sym c.all_global.ensures ∙ c.if-not-all_global.true)))
 
 pub returns-clause-checked : goal.returns-clause-checked
 returns-clause-checked c = λ past a active.
@@ -22,4 +23,5 @@ returns-clause-checked c = λ past a active.
     let es = c.in_ok-events.events.items in
     let rows = c.subscriptions_of.ensures ∙ ap (λ r. r.subscriptions) (row-active c.args.tables.now past s a active) in
     dismiss-checked past s (texts c.args.names.now) es true c.in_ok-events.ensures
-    (sym (all-held past s held es rows) ∙ (ap (list_all (λ e. list_any (λ x. row_holds e (row_of x)) held)) (sym c.deref.ensures.value) ∙ (sym c.all_global.ensures ∙ c.if-not-all_global.false)))
+    (sym (all-held past s held es rows) ∙ (ap (list_all (λ e. list_any (λ x. row_holds e (row_of x)) held)) (sym c.deref.ensures.value)
+    ∙ (sym c.all_global.ensures ∙ c.if-not-all_global.false)))

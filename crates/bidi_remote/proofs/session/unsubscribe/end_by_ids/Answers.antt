@@ -17,10 +17,12 @@ returns-in_err-numbers-clause-checked c = λ past a active.
     let s = c.args.session in
     let rows = c.subscriptions_of-held.ensures ∙ ap (λ r. r.subscriptions) (row-active c.args.tables.now past s a active) in
     carried c.numbers_of.result c.from_residual.result c.in_err-numbers.field-0.0 _ _ _ _ c.numbers_of.ensures c.in_err-numbers.was c.from_residual.ensures.1
-    (λ code failed. ap (then_cancelled s) (sym (numbers-named past s (texts c.args.ids.now)) ∙ (ap (λ all. numbers_named s all (texts c.args.ids.now)) (sym rows) ∙ failed)))
+    (λ code failed. ap (then_cancelled s)
+    (sym (numbers-named past s (texts c.args.ids.now)) ∙ (ap (λ all. numbers_named s all (texts c.args.ids.now)) (sym rows) ∙ failed)))
 
 pub returns-clause-checked : goal.returns-clause-checked
 returns-clause-checked c = λ past a active.
     let s = c.args.session in
     let rows = c.subscriptions_of-held.ensures ∙ ap (λ r. r.subscriptions) (row-active c.args.tables.now past s a active) in
-    ap (then_cancelled s) (sym (numbers-named past s (texts c.args.ids.now)) ∙ (ap (λ all. numbers_named s all (texts c.args.ids.now)) (sym rows) ∙ c.in_ok-numbers.ensures))
+    ap (then_cancelled s) (sym (numbers-named past s (texts c.args.ids.now))
+    ∙ (ap (λ all. numbers_named s all (texts c.args.ids.now)) (sym rows) ∙ c.in_ok-numbers.ensures))

@@ -8,4 +8,5 @@ use Rattle.bidi_remote.proofs.sessions.Session.hears.Goals as goal
 pub returns : goal.returns
 returns c =
     c.any_covers.ensures
-    ∙ (ap (list_any (λ s. row_covers c.args.event c.args.top (row_of s))) c.deref.ensures.value ∙ sym (any-map row_of (row_covers c.args.event c.args.top) c.args.self.now.subscriptions.items))
+    ∙ (ap (list_any (λ s. row_covers c.args.event c.args.top (row_of s))) c.deref.ensures.value
+    ∙ sym (any-map row_of (row_covers c.args.event c.args.top) c.args.self.now.subscriptions.items))

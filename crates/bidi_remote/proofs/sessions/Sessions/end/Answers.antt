@@ -6,4 +6,6 @@ use Rattle.bidi_remote.proofs.ListLemmas.{map-filter}
 use Rattle.bidi_remote.proofs.sessions.Sessions.end.Goals as goal
 
 pub returns-clause-rows : goal.returns-clause-rows
-returns-clause-rows c = ap (map session_row_of) (filter_same _ _ _ (λ x b f' k. search rules) _ _ c.retain.ensures.filtered) ∙ map-filter session_row_of (λ r. not (r.number == c.args.number)) c.args.self.now.active.items
+returns-clause-rows c =
+    ap (map session_row_of) (filter_same _ _ _ (λ x b f' k. search rules) _ _ c.retain.ensures.filtered)
+    ∙ map-filter session_row_of (λ r. not (r.number == c.args.number)) c.args.self.now.active.items

@@ -4,12 +4,14 @@ use Rattle.bidi_remote.proofs.sessions.Sessions.next_subscription.Goals as goal
 
 pub returns-in-Some : goal.returns-in-Some
 returns-in-Some c =
-    let row = row-in-hand c.args.number c.args.self.now.active.items c.deref.result.now (Some c.in-Some.session.now) c.deref.ensures.value (ap (option_map (λ s. s.now)) (sym c.in-Some.is) ∙ c.find.ensures) in
+    let row = row-in-hand c.args.number c.args.self.now.active.items c.deref.result.now (Some c.in-Some.session.now) c.deref.ensures.value
+    (ap (option_map (λ s. s.now)) (sym c.in-Some.is) ∙ c.find.ensures) in
     let made = ap (λ r. r.made) row in
     λ few. omega (arith, made, few)
 
 pub returns-in-None : goal.returns-in-None
 returns-in-None c =
-    let row = row-in-hand c.args.number c.args.self.now.active.items c.deref.result.now None c.deref.ensures.value (ap (option_map (λ s. s.now)) (sym c.in-None.is) ∙ c.find.ensures) in
+    let row = row-in-hand c.args.number c.args.self.now.active.items c.deref.result.now None c.deref.ensures.value
+    (ap (option_map (λ s. s.now)) (sym c.in-None.is) ∙ c.find.ensures) in
     let made = ap (λ r. r.made) row in
     λ few. omega (arith, made)

@@ -16,7 +16,9 @@ use Rattle.bidi_remote.proofs.ChangeLemmas.{agree-told, agree-did, agree-began, 
 use Rattle.bidi_remote.proofs.tables.Tables.apply.Goals as goal
 
 pub returns-in-Nothing : goal.returns-in-Nothing
-returns-in-Nothing c = λ h i act short a is made. subst (λ x. AgreeWith (c.args.self.now) (deed_of x act ∷ deeds h)) (sym c.in-Nothing.is) (agree-told c.args.self.now (deeds h) a)
+returns-in-Nothing c =
+    λ h i act short a is made.
+    subst (λ x. AgreeWith (c.args.self.now) (deed_of x act ∷ deeds h)) (sym c.in-Nothing.is) (agree-told c.args.self.now (deeds h) a)
 
 pub returns-in-Begin : goal.returns-in-Begin
 returns-in-Begin c = λ h i act short a is made_so.
@@ -25,13 +27,17 @@ returns-in-Begin c = λ h i act short a is made_so.
     let alone = subst (IsFairIfDone past) (is ∙ ap (λ x. Ok (deed_of x act)) c.in-Begin.is) (turn_fair past i) in
     let made = a.made in
     let few = few-sessions h in
-    subst (λ x. AgreeWith (record c.args.self.now { connections = c.begin.new.self; sessions = c.begin-session.new.self }) (deed_of x act ∷ past)) (sym c.in-Begin.is)
-    (agree-began c.args.self.now past conn c.begin-session.result c.begin.new.self c.begin-session.new.self a (ap is_shut alone) (made-none h (next_session past) (omega arith))
-    (c.begin-session.ensures.number (omega (arith, made, few, short))) c.begin-session.ensures.made (c.begin-session.ensures.rows (subst (λ x. IsMade x (acts past) act) c.in-Begin.is made_so)) c.begin.ensures)
+    subst (λ x. AgreeWith (record c.args.self.now { connections = c.begin.new.self; sessions = c.begin-session.new.self }) (deed_of x act ∷ past))
+    (sym c.in-Begin.is)
+    (agree-began c.args.self.now past conn c.begin-session.result c.begin.new.self c.begin-session.new.self a (ap is_shut alone)
+    (made-none h (next_session past) (omega arith))
+    (c.begin-session.ensures.number (omega (arith, made, few, short))) c.begin-session.ensures.made
+    (c.begin-session.ensures.rows (subst (λ x. IsMade x (acts past) act) c.in-Begin.is made_so)) c.begin.ensures)
 
 pub returns-in-End : goal.returns-in-End
 returns-in-End c = λ h i act short a is made.
-    subst (λ x. AgreeWith (record c.args.self.now { connections = c.close_all.new.self; sessions = c.end.new.self }) (deed_of x act ∷ deeds h)) (sym c.in-End.is)
+    subst (λ x. AgreeWith (record c.args.self.now { connections = c.close_all.new.self; sessions = c.end.new.self }) (deed_of x act ∷ deeds h))
+    (sym c.in-End.is)
     (agree-ended c.args.self.now (deeds h) c.in-End.session c.close_all.new.self c.end.new.self a c.close_all.ensures c.end.ensures.rows c.end.ensures.made)
 
 pub returns-in-Subscribe : goal.returns-in-Subscribe
@@ -43,7 +49,8 @@ returns-in-Subscribe c = λ h i act short a is made.
     let row = ap (λ r. r.made) (row-active c.args.self.now past s a active) in
     let few = few-subscriptions h s in
     subst (λ x. AgreeWith (record c.args.self.now { sessions = c.subscribe.new.self }) (deed_of x act ∷ past)) (sym c.in-Subscribe.is)
-    (agree-subscribed c.args.self.now past s c.subscribe.new.self a c.subscribe.ensures.made c.in-Subscribe.events.items (scope_of c.in-Subscribe.scope) active (c.subscribe.ensures.rows (acts past) a.browser (omega (arith, row, few, short))))
+    (agree-subscribed c.args.self.now past s c.subscribe.new.self a c.subscribe.ensures.made c.in-Subscribe.events.items
+    (scope_of c.in-Subscribe.scope) active (c.subscribe.ensures.rows (acts past) a.browser (omega (arith, row, few, short))))
 
 pub returns-in-Cancel : goal.returns-in-Cancel
 returns-in-Cancel c = λ h i act short a is made.

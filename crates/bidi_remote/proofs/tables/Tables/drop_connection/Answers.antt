@@ -27,9 +27,12 @@ pub returns-in_default : goal.returns-in_default
 returns-in_default c = record {
   ok = λ h a.
       let conn = c.args.conn.value in
-      let opened = ap is_shut (sym (stands c.args.self.now h conn (standing_in_hand c.standing_of.result) a c.standing_of.ensures)) ∙ not_shut c.standing_of.result c.in_default.not-Shut in
-      takes (record c.args.self.now { connections = c.close.new.self }) h (Drop conn) (Ok (Dropped conn)) (map sent_of c.new.result.items) (drop-open (deeds h) conn opened)
-      (ap (map sent_of) c.new.ensures.items) (nothing c.new.result.items c.new.ensures.items) (agree-dropped c.args.self.now (deeds h) conn c.close.new.self a c.close.ensures);
+      let opened = ap is_shut (sym (stands c.args.self.now h conn (standing_in_hand c.standing_of.result) a c.standing_of.ensures))
+      ∙ not_shut c.standing_of.result c.in_default.not-Shut in
+      takes (record c.args.self.now { connections = c.close.new.self }) h (Drop conn) (Ok (Dropped conn)) (map sent_of c.new.result.items)
+      (drop-open (deeds h) conn opened)
+      (ap (map sent_of) c.new.ensures.items) (nothing c.new.result.items c.new.ensures.items)
+      (agree-dropped c.args.self.now (deeds h) conn c.close.new.self a c.close.ensures);
   err = tt;
   quiet = λ h a is. refl;
 }

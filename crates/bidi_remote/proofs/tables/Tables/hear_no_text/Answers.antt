@@ -15,10 +15,13 @@ pub returns-in-Shut : goal.returns-in-Shut
 returns-in-Shut c = λ h a.
     let conn = c.args.conn.value in
     let shut = sym (stands c.args.self.now h conn (standing_in_hand c.standing_of.result) a c.standing_of.ensures) ∙ ap standing_in_hand c.in-Shut.is in
-    only_takes c.only.result (Lost c.args.conn) c.args.self.now h (NotText conn) (Err (outcome.Lost conn)) c.only.ensures (no_text-shut (deeds h) conn shut) refl tt a
+    only_takes c.only.result (Lost c.args.conn) c.args.self.now h (NotText conn) (Err (outcome.Lost conn)) c.only.ensures
+    (no_text-shut (deeds h) conn shut) refl tt a
 
 pub returns-in_default : goal.returns-in_default
 returns-in_default c = λ h a.
     let conn = c.args.conn.value in
-    let opened = ap is_shut (sym (stands c.args.self.now h conn (standing_in_hand c.standing_of.result) a c.standing_of.ensures)) ∙ not_shut c.standing_of.result c.in_default.not-Shut in
-    refused_takes c.refuse.result c.args.self.now h (NotText conn) (Err (outcome.Error conn None InvalidArgument)) _ c.refuse.ensures.sent c.refuse.ensures.reads_back (no_text-open (deeds h) conn opened) refl a
+    let opened = ap is_shut (sym (stands c.args.self.now h conn (standing_in_hand c.standing_of.result) a c.standing_of.ensures))
+    ∙ not_shut c.standing_of.result c.in_default.not-Shut in
+    refused_takes c.refuse.result c.args.self.now h (NotText conn) (Err (outcome.Error conn None InvalidArgument)) _ c.refuse.ensures.sent
+    c.refuse.ensures.reads_back (no_text-open (deeds h) conn opened) refl a

@@ -18,5 +18,6 @@ pub returns-in-Err-Code-clause-ok : goal.returns-in-Err-Code-clause-ok
 returns-in-Err-Code-clause-ok c = λ h short a.
     let action = Log c.args.context.now c.args.level c.args.text.now in
     only_takes c.only.result sent.NoEffect c.args.self.now h (PageStep action) (Err NoEffect) c.only.ensures
-    (ap in_page (subst (λ r. Plans (Err r) (acts (deeds h)) c.args.self.now.moment.value action) c.in-Err-Code.field-0-is (c.in-Err-Code.ensures.plans (acts (deeds h)) a.browser (has-ids h short))))
+    (ap in_page (subst (λ r. Plans (Err r) (acts (deeds h)) c.args.self.now.moment.value action) c.in-Err-Code.field-0-is
+    (c.in-Err-Code.ensures.plans (acts (deeds h)) a.browser (has-ids h short))))
     refl tt a

@@ -17,6 +17,7 @@ returns-in_ok-open-in-Some-clause-ok c = λ h a.
     let d = history.Opened conn s in
     let is = sym (c.session_for.ensures h a) ∙ ap (opening_by conn) c.in-Some.is in
     let shut = opened-shut past conn c.args.resource.now d (is_shut (standing_of past conn)) refl is in
-    takes (record c.args.self.now { connections = c.open.new.self }) h (history.Open conn c.args.resource.now) (Ok d) (map sent_of c.in_ok-sent-in-Some.sent.items) is
+    takes (record c.args.self.now { connections = c.open.new.self }) h (history.Open conn c.args.resource.now) (Ok d)
+    (map sent_of c.in_ok-sent-in-Some.sent.items) is
     (ap (map sent_of) c.in_ok-sent-in-Some.ensures) (one_reads c.in_ok-sent-in-Some.sent.items (Opened c.args.conn) c.in_ok-sent-in-Some.ensures tt)
     (agree-opened c.args.self.now past conn s c.open.new.self a shut c.in_ok-open-in-Some.ensures.ok)

@@ -20,5 +20,6 @@ returns-in-Ok-clause-ok c = λ h short a unasked quiet.
 pub returns-in-Err-Code-clause-ok : goal.returns-in-Err-Code-clause-ok
 returns-in-Err-Code-clause-ok c = λ h short a unasked quiet.
     only_takes c.only.result sent.NoEffect c.args.self.now h (PageStep (action_of c.args.action)) (Err NoEffect) c.only.ensures
-    (ap in_page (subst (λ r. Plans (Err r) (acts (deeds h)) c.args.self.now.moment.value (action_of c.args.action)) c.in-Err-Code.field-0-is (c.in-Err-Code.ensures.plans (acts (deeds h)) a.browser (has-ids h short))))
+    (ap in_page (subst (λ r. Plans (Err r) (acts (deeds h)) c.args.self.now.moment.value (action_of c.args.action)) c.in-Err-Code.field-0-is
+    (c.in-Err-Code.ensures.plans (acts (deeds h)) a.browser (has-ids h short))))
     refl tt a

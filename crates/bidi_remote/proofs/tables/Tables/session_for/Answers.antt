@@ -6,7 +6,8 @@ use Rattle.bidi_remote.proofs.ChangeLemmas.{stands, not_shut, opens, opens-full,
 use Rattle.bidi_remote.proofs.tables.Tables.session_for.Goals as goal
 
 pub returns-then-not-has_room : goal.returns-then-not-has_room
-returns-then-not-has_room c = λ h a. opens-full c.args.self.now (deeds h) c.args.conn.value c.args.resource.now c.has_room.result a c.has_room.ensures c.if-not-has_room.true
+returns-then-not-has_room c =
+    λ h a. opens-full c.args.self.now (deeds h) c.args.conn.value c.args.resource.now c.has_room.result a c.has_room.ensures c.if-not-has_room.true
 
 pub returns-else-not-has_room : goal.returns-else-not-has_room
 returns-else-not-has_room c = λ h a.

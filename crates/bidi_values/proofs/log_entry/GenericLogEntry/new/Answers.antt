@@ -15,7 +15,11 @@ returns-clause-well c = (
         (
           tt,
           (
-            some_well (λ t. ((each_well (λ f. ((tt, (tt, (tt, (tt, tt)))), record { no_known = refl; may = refl })) t.call_frames.items, tt), record { no_known = refl; may = refl })) c.args.base.stack_trace,
+            some_well (λ t. (
+              (each_well (λ f. ((tt, (tt, (tt, (tt, tt)))), record { no_known = refl; may = refl })) t.call_frames.items, tt),
+              record { no_known = refl; may = refl },
+            ))
+                c.args.base.stack_trace,
             (tt, tt),
           ),
         ),

@@ -3,12 +3,14 @@ use Rattle.bidi_tree.specs.Node as kind
 use Rattle.bidi_tree.specs.View.{items_of}
 use Rattle.bidi_tree.proofs.DraftLemmas.{draft_node-List}
 use Rattle.bidi_shape.proofs.PartLemmas.{next-drafted}
-use Rattle.bidi_shape.proofs.lists.draft_items.Goals as goal
+use Rattle.bidi_shape.proofs.lists.draft_list.Goals as goal
 
 pub loop-item-preserved : goal.loop-item-preserved
 loop-item-preserved g c =
     let l = c.loop-item in
-    let p = next-drafted g.X.Shape.shape.tree_of c.args.items.now l.item-index c.item-item.result l.drafts.items c.push.new.self.items c.in_ok-draft.field-0 c.in_ok-push.ensures.items (omega arith) l.invariant.same l.invariant.sound c.in_ok-draft.ensures.tree c.item-item.is c.in_ok-draft.ensures.sound in
+    let p = next-drafted g.X.Shape.shape.tree_of c.args.items.now l.item-index c.item-item.result l.drafts.items c.push.new.self.items
+    c.in_ok-draft.field-0 c.in_ok-push.ensures.items (omega arith) l.invariant.same l.invariant.sound c.in_ok-draft.ensures.tree
+    c.item-item.is c.in_ok-draft.ensures.sound in
     record { same = p.0; sound = p.1 }
 
 pub returns-clause-tree : goal.returns-clause-tree

@@ -1,7 +1,7 @@
 use Rattle.std.proofs.Common.{◌≡◌, take, map}
 use Rattle.bidi_tree.specs.Node.{ItemsAreSound}
 use Rattle.bidi_tree.specs.Draft.{draft_node, draft_items}
-use Rattle.bidi_shape.proofs.lists.draft_items.Given as goal
+use Rattle.bidi_shape.proofs.lists.draft_list.Given as goal
 
 abbrev pub invariant-loop-item : goal.invariant-loop-item
 invariant-loop-item g l = record {
