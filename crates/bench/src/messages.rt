@@ -12,7 +12,9 @@ struct Commands;
 
 impl Subject for Commands {
     fn read(alloc: Global, text: &str, scratch: &mut Scratch) -> Result<()> {
-        let _verdict = judge_with(alloc, text, scratch)?;
+        if judge_with(alloc, text, scratch).is_err() {
+            bail!("an allocation failed");
+        }
         Ok(())
     }
 
@@ -29,7 +31,9 @@ struct Messages;
 
 impl Subject for Messages {
     fn read(alloc: Global, text: &str, scratch: &mut Scratch) -> Result<()> {
-        let _message = read_message_with(alloc, text, scratch)?;
+        if read_message_with(alloc, text, scratch).is_err() {
+            bail!("the text is no message");
+        }
         Ok(())
     }
 

@@ -1,13 +1,24 @@
 -- The line of a message is that of its tree.
 use Rattle.std.proofs.Common.{◌≡◌, ◌∙◌, ℕ, List, ◌∷◌, ◌++◌, codes, decimal, String, Global, string_bytes, Result, Ok, Err, IfOk}
-use Rattle.std.proofs.Common.{MatchResult, Bor, Option, option_map, unwrap_or, Some, None, refl, sym, ap, ap₂, subst}
+use Rattle.std.proofs.Common.{◌⊎◌, inl, inr, true, true≢false, is_some, IfErr, Option, option_map, unwrap_or, Some, None, refl, sym, ap, ap₂, subst}
+use Rattle.std.specs.Prelude.{IfSome}
 use Rattle.std.specs.Result.{result_err}
+use Rattle.bidi_tree.specs.Node.{Node}
+use Rattle.bidi_tree.specs.declared.number.JsUint.{JsUint}
 use Rattle.bidi_tree.specs.Text.{tree_of_text, compact_text}
+use Rattle.bidi_shape.specs.Name.{message as message_name, command_response, error_response, event as event_name}
+use Rattle.bidi_shape.specs.Term.{rule, ◌or◌}
+use Rattle.bidi_shape.specs.Fits.{Fits}
+use Rattle.bidi_shape.proofs.FitsLemmas.{either_inside, rule_inside}
 use Rattle.bidi_messages.specs.Method.{method_text}
 use Rattle.bidi_messages.specs.CommandData.{method_of}
 use Rattle.bidi_messages.specs.EventName.{event_name_text}
 use Rattle.bidi_messages.specs.EventData.{event_of}
+use Rattle.bidi_messages.specs.Reading.{IsMisfit}
+use Rattle.bidi_messages.specs.declared.text.MessageFault.{MessageFault}
+use Rattle.bidi_messages.specs.declared.text.MessageFault.TheVariants.{NoFit}
 use Rattle.bidi_messages.specs.Verdict as judged
+use Rattle.bidi_messages.specs.Verdict.{echoed_id}
 use Rattle.bidi_messages.specs.contracts.command.CommandShape.TheImpl as command
 use Rattle.bidi_messages.specs.contracts.message.ResponseShape.TheImpl as response
 use Rattle.bidi_messages.specs.contracts.message.ErrorResponseShape.TheImpl as error
@@ -21,7 +32,7 @@ use Rattle.bidi_messages.specs.declared.message.ErrorResponse.{ErrorResponse}
 use Rattle.bidi_messages.specs.declared.event.Event.{Event}
 use Rattle.bidi_messages.proofs.CommandLemmas.{id_in-tree, method_in-tree}
 use Rattle.bidi_messages.proofs.MessageLemmas.{echoed_id-response, echoed_id-error, method_in-event}
-use Rattle.bidi_console.specs.MessageLines.{Taken, Refused, HasVerdict, Refuses, ShowsMessage, refused, verdict_shown}
+use Rattle.bidi_console.specs.MessageLines.{Taken, HasVerdict, Refuses, refused, verdict_shown}
 use Rattle.bidi_console.specs.MessageLines.{id_text, IsMessageLine, of_response, of_error, of_event, is_message}
 use Rattle.bidi_console.specs.declared.message_lines.Side.TheVariants.{Local, Remote}
 use Rattle.bidi_console.specs.declared.message_lines.Side.{Side}
@@ -82,37 +93,41 @@ module _ {E : Type 0} (r : Result (String Global) E) (m : Message) (well : messa
       → IfOk r (λ s. IsMessageLine (message.ghosts.shape.tree_of m) (string_bytes s))
   event_told v is h = told r (λ s. event_shown v (string_bytes s) (subst message.ghosts.shape.well is well).0.0) is h
 
--- ---- a well message has a line
+-- ---- a value that fits a message has a line
 
-has_line : (m : Message) → message.ghosts.shape.well m → (text : List ℕ) × IsMessageLine (message.ghosts.shape.tree_of m) text
-has_line (AsResponse v) well = (_, of_response (response.ghosts.shape.fits v well))
-has_line (AsError v) well = (_, of_error (error.ghosts.shape.fits v well.0))
-has_line (AsEvent v) well = (_, of_event (event.ghosts.shape.fits v well.0.0))
+has_line : (t : Node) → Fits t (rule command_response) ⊎ Fits t (rule error_response or rule event_name) → (text : List ℕ) × IsMessageLine t text
+has_line t (inl f) = (_, of_response f)
+has_line t (inr f) = elim (either_inside f) [ inl g ↦ (_, of_error g) | inr g ↦ (_, of_event g) ]
 
 -- so nothing is refused of the text that has its tree
-pub nothing_refused : (line : List ℕ) (m : Message)
-    → tree_of_text None line ≡ Some (message.ghosts.shape.tree_of m) → message.ghosts.shape.well m → Refuses Remote line None
-nothing_refused line m read well =
-    let p = has_line m well in
-    (Taken p.0, is_message (message.ghosts.shape.tree_of m) p.0 read p.1, refl)
+pub nothing_refused : (t : Node) → Fits t (rule message_name) → (line : List ℕ) → tree_of_text None line ≡ Some t → Refuses Remote line None
+nothing_refused t f line read =
+    let p = has_line t (either_inside (rule_inside f)) in
+    (Taken p.0, is_message t p.0 read p.1, refl)
 
--- what is refused of a line that was looked for a message
-pub reason_refused : (line : List ℕ) (found : Result Message (Bor (List ℕ)))
-    → MatchResult found (λ m. (tree_of_text None line ≡ Some (message.ghosts.shape.tree_of m)) × message.ghosts.shape.well m)
-    (λ reason. ShowsMessage line (Refused reason.now))
-    → Refuses Remote line (option_map (λ s. s.now) (result_err found))
-reason_refused line (Ok m) h = nothing_refused line m h.0 h.1
-reason_refused line (Err s) h = (Refused s.now, h, refl)
+-- nor is anything of one that is known as a response
+pub known_refused : (t : Node) (o : Option JsUint) → is_some o ≡ true → IfSome o (λ id. Fits t (rule command_response))
+    → (line : List ℕ) → tree_of_text None line ≡ Some t → Refuses Remote line None
+known_refused t None is f line read = absurd (true≢false (sym is))
+known_refused t (Some id) is f line read = (Taken _, is_message t _ read (of_response f), refl)
 
--- a message that was found is shown by its line
-pub message_shown : (line : List ℕ) (found : Result Message (Bor (List ℕ))) (m : Message) (text : List ℕ)
-    → MatchResult found (λ m. (tree_of_text None line ≡ Some (message.ghosts.shape.tree_of m)) × message.ghosts.shape.well m)
-    (λ reason. ShowsMessage line (Refused reason.now))
-    → found ≡ Ok m → IsMessageLine (message.ghosts.shape.tree_of m) text → ShowsMessage line (Taken text)
-message_shown line (Ok n) m text h is told =
-    let same : m ≡ n = cc in
-    is_message (message.ghosts.shape.tree_of n) text h.0 (subst (λ x. IsMessageLine (message.ghosts.shape.tree_of x) text) same told)
-message_shown line (Err s) m text h is told = absurd cc
+-- nor of one that a message was made of
+pub read_refused : (t : Node) (r : Result Message MessageFault) → IfOk r (λ m. (message.ghosts.shape.tree_of m ≡ t) × message.ghosts.shape.well m)
+    → result_err r ≡ None → (line : List ℕ) → tree_of_text None line ≡ Some t → Refuses Remote line None
+read_refused t (Ok m) h is = nothing_refused t (subst (λ u. Fits u (rule message_name)) h.0 (message.ghosts.shape.fits m h.1))
+read_refused t (Err e) h is = absurd cc
+
+-- where none was made, it fits none
+pub no_message : (t : Node) (r : Result Message MessageFault) (e : MessageFault)
+    → IfErr r (λ f. IsMisfit f t) → result_err r ≡ Some e → e ≡ NoFit → Fits t (rule message_name) → ⊥
+no_message t (Ok m) e h is same = absurd cc
+no_message t (Err f) e h is same = let fault : f ≡ NoFit = cc in subst (λ x. IsMisfit x t) fault h
+
+-- the line of a response by its id
+pub known_shown : (t : Node) (n : ℕ) (line : List ℕ) → Fits t (rule command_response) → echoed_id t ≡ Some n
+    → line ≡ codes "response " ++ decimal n ++ 32 ∷ compact_text t → IsMessageLine t line
+known_shown t n line f id is =
+    subst (IsMessageLine t) (sym (is ∙ ap (λ o. codes "response " ++ decimal (unwrap_or o 0) ++ 32 ∷ compact_text t) (sym id))) (of_response f)
 
 -- what is refused of a verdict is refused of the line that has it
 pub verdict_refused : {E : Type 0} (side : Side) (line : List ℕ) (v : judged.Verdict) (r : Result (Option (String Global)) E) → side ≡ Local → HasVerdict line v

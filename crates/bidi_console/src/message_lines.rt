@@ -1,5 +1,7 @@
 //! The line that is shown for a text of a local or of a remote end.
-ghost use Rattle.std.specs.Prelude.{◌≡◌, ℕ, List, ◌∷◌, ◌++◌, Some, None, IfOk, MatchResult, codes, decimal, option_map, string_bytes};
+ghost use Rattle.std.specs.Prelude.{◌≡◌, ℕ, List, ◌∷◌, ◌++◌, Some, None, IfOk, MatchOption, codes, decimal, option_map, string_bytes};
+ghost use Rattle.bidi_tree.specs.Node.{IsWritable};
+ghost use Rattle.bidi_tree.specs.Json.{parsed};
 ghost use Rattle.bidi_tree.specs.Text.{tree_of_text, compact_text};
 ghost use Rattle.bidi_codes.specs.ErrorCode.{error_code_text};
 ghost use Rattle.bidi_messages.specs.Method.{method_text};
@@ -12,11 +14,11 @@ ghost use Rattle.bidi_console.specs.declared.message_lines.Side.TheVariants.{Rem
 
 use bidi_messages::{
     Command, ErrorCode, ErrorResponse, Event, Message, MessageFault, Method, Named, Response,
-    Sendable, Verdict, judge_with, read_message_with, text_of,
+    Sendable, Verdict, judge_with, message_of, response_id, text_of,
 };
 use bidi_shape::Shape;
-use bidi_tree::JsUint;
-use json::Scratch;
+use bidi_tree::{JsUint, ReadFault, draft_parsed, parse, write_draft};
+use json::{Scratch, Value};
 use std::alloc::{AllocError, Global};
 
 /// The end that sends the texts.
@@ -158,9 +160,9 @@ fn refused_line(alloc: Global, id: Option<JsUint>, code: ErrorCode) -> Result<St
 fn show_message(alloc: Global, line: &[u8], scratch: &mut Scratch) -> Result<Shown, AllocError>
     ensures { IfOk result (λ shown. ShowsMessage line.now (shown_of shown)) }
 {
-    match message_in(alloc, line, scratch)? {
-        Ok(message) => Ok(Shown::Taken(message_line(alloc, message)?)),
-        Err(reason) => Ok(Shown::Refused(String::from_str(alloc, reason)?)),
+    match value_in(alloc, line, scratch)? {
+        Some(value) => show_value(alloc, &value),
+        None => Ok(Shown::Refused(String::from_str(alloc, "not json")?)),
     }
 }
 
@@ -172,31 +174,71 @@ fn message_refusal(
 ) -> Result<Option<String>, AllocError>
     ensures { IfOk result (λ text. Refuses Remote line.now (option_map string_bytes text)) }
 {
-    match message_in(alloc, line, scratch)?.err() {
-        None => Ok(None),
-        Some(reason) => Ok(Some(String::from_str(alloc, reason)?)),
+    match value_in(alloc, line, scratch)? {
+        Some(value) => value_refusal(alloc, &value),
+        None => Ok(Some(String::from_str(alloc, "not json")?)),
     }
 }
 
-// The message that a line is, or why it is none.
-fn message_in(
+// What a line is read as, if it is JSON.
+fn value_in<'a>(
     alloc: Global,
-    line: &[u8],
-    scratch: &mut Scratch,
-) -> Result<Result<Message, &'static str>, AllocError>
-    ensures { IfOk result (λ found. MatchResult found
-        (λ m. (tree_of_text None line.now ≡ Some (⟦<Message as Shape>⟧.shape.tree_of m)) × ⟦<Message as Shape>⟧.shape.well m)
-        (λ reason. ShowsMessage line.now (Refused reason.now))) }
+    line: &'a [u8],
+    scratch: &'a mut Scratch,
+) -> Result<Option<Value<'a>>, AllocError>
+    ensures { IfOk result (λ found. MatchOption found (ShowsMessage line.now (Refused (codes "not json")))
+        (λ v. tree_of_text None line.now ≡ Some (parsed v))) }
 {
     let Ok(text) = std::str::from_utf8(line) else {
-        return Ok(Err("not json"));
+        return Ok(None);
     };
-    match read_message_with(alloc, text, scratch) {
-        Ok(message) => Ok(Ok(message)),
-        Err(MessageFault::NotJson) => Ok(Err("not json")),
-        Err(MessageFault::NoFit) => Ok(Err("no fit")),
+    match parse(alloc, text, None, scratch) {
+        Ok(value) => Ok(Some(value)),
+        Err(ReadFault::NotJson) => Ok(None),
+        Err(ReadFault::TooLong) => unreachable!(),
+        Err(ReadFault::NoMemory) => Err(AllocError),
+    }
+}
+
+// What is shown for a value. Of a response that is known as such where it stands no message is made.
+fn show_value(alloc: Global, value: &Value<'_>) -> Result<Shown, AllocError>
+    ensures { IfOk result (λ shown. (line : List ℕ) → tree_of_text None line ≡ Some (parsed value.now) → ShowsMessage line (shown_of shown)) }
+{
+    if let Some(id) = response_id(value) {
+        return Ok(Shown::Taken(known_response_line(alloc, id, value)?));
+    }
+    match message_of(alloc, value) {
+        Ok(message) => Ok(Shown::Taken(message_line(alloc, message)?)),
+        Err(MessageFault::NoFit) => Ok(Shown::Refused(String::from_str(alloc, "no fit")?)),
+        Err(MessageFault::NotJson) => unreachable!(),
         Err(MessageFault::NoMemory) => Err(AllocError),
     }
+}
+
+// What is refused of a value, which is looked at as it is to be shown.
+fn value_refusal(alloc: Global, value: &Value<'_>) -> Result<Option<String>, AllocError>
+    ensures { IfOk result (λ text. (line : List ℕ) → tree_of_text None line ≡ Some (parsed value.now) → Refuses Remote line (option_map string_bytes text)) }
+{
+    if response_id(value).is_some() {
+        return Ok(None);
+    }
+    match message_of(alloc, value).err() {
+        None => Ok(None),
+        Some(MessageFault::NoFit) => Ok(Some(String::from_str(alloc, "no fit")?)),
+        Some(MessageFault::NotJson) => unreachable!(),
+        Some(MessageFault::NoMemory) => Err(AllocError),
+    }
+}
+
+// `response ID TEXT` of a value
+fn known_response_line(alloc: Global, id: JsUint, value: &Value<'_>) -> Result<String, AllocError>
+    requires { IsWritable (parsed value.now) }
+    ensures { IfOk result (λ line. string_bytes line ≡ codes "response " ++ decimal id.value
+        ++ 32 ∷ compact_text (parsed value.now)) }
+{
+    let draft = draft_parsed(alloc, value)?;
+    let text = write_draft(alloc, &draft)?;
+    format!(in alloc; "response {} {text}", id.value)
 }
 
 // What is shown for a message.

@@ -4,3 +4,4 @@ pub mod VerdictLemmas
 pub mod SendingLemmas
 pub mod CommandLemmas
 pub mod MessageLemmas
+pub mod ResponseLemmas

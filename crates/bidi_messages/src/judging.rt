@@ -96,8 +96,8 @@ fn command_tree<'a>(
     }
 }
 
-/// The id that the refusal of a tree echoes.
-fn echoed_id<S: Parsed>(tree: &S) -> Option<JsUint>
+/// The id of a tree, where that is a js-uint: the one that its refusal echoes.
+pub(crate) fn echoed_id<S: Parsed>(tree: &S) -> Option<JsUint>
     ensures { option_map (λ n. n.value) result ≡ judged.echoed_id (S.tree tree.now) }
 {
     match tree.member("id") {

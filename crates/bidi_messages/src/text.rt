@@ -1,5 +1,5 @@
 //! The texts of commands and messages, and the message of a text.
-ghost use Rattle.std.specs.Prelude.{◌≡◌, ℕ, Some, None, IfOk, IfErr, string_bytes};
+ghost use Rattle.std.specs.Prelude.{◌≡◌, ℕ, Some, None, IfOk, IfErr, string_bytes, nat_le, true, refl};
 ghost use Rattle.bidi_tree.specs.Text.{tree_of, tree_of_text, compact_text};
 ghost use Rattle.bidi_messages.specs.Reading.{IsCause, IsMisfit, ReadsAs};
 
@@ -14,39 +14,27 @@ use thiserror::Error;
 
 /// What is sent over a connection as a text: a command, or a message.
 pub trait Sendable: Shape {
-    ghost use Rattle.std.specs.Prelude.{nat_le, true};
-
     // Its trees have few enough levels to be written.
     ghost writable: { nat_le Self.shape.deepest 100 ≡ true };
 }
 
 impl Sendable for Command {
-    ghost use Rattle.std.specs.Prelude.{refl};
-
     ghost writable = { refl };
 }
 
 impl Sendable for Response {
-    ghost use Rattle.std.specs.Prelude.{refl};
-
     ghost writable = { refl };
 }
 
 impl Sendable for ErrorResponse {
-    ghost use Rattle.std.specs.Prelude.{refl};
-
     ghost writable = { refl };
 }
 
 impl Sendable for Event {
-    ghost use Rattle.std.specs.Prelude.{refl};
-
     ghost writable = { refl };
 }
 
 impl Sendable for Message {
-    ghost use Rattle.std.specs.Prelude.{refl};
-
     ghost writable = { refl };
 }
 
@@ -122,8 +110,12 @@ pub fn read_message_with<'a>(
     }
 }
 
-/// The message of this tree.
-fn message_of<S: Parsed>(alloc: Global, tree: &S) -> Result<Message, MessageFault>
+/// The message of a tree, or of a JSON value that borrows its text.
+///
+/// # Errors
+/// 1. `NoFit`: it fits no message.
+/// 2. `NoMemory`: an allocation failed.
+pub fn message_of<S: Parsed>(alloc: Global, tree: &S) -> Result<Message, MessageFault>
     ensures ok { IfOk result (λ m. (⟦<Message as Shape>⟧.shape.tree_of m ≡ S.tree tree.now) × ⟦<Message as Shape>⟧.shape.well m) }
     ensures err { IfErr result (λ e. IsMisfit e (S.tree tree.now)) }
 {

@@ -4,10 +4,11 @@ use Rattle.std.proofs.Common.{Ordering, Less, Equal, Greater, Bor, Vec, Global, 
 use Rattle.std.proofs.Math.Seq.{take-suc, drop-cons}
 use Rattle.std.proofs.lemmas.List.{take-append-drop}
 use Rattle.std.proofs.lemmas.Cmp.{nat_list_cmp_total}
+use Rattle.std.specs.BTreeMap.{insert_entry}
 use Rattle.std.specs.Prelude.{⊤, string_bytes}
 use Rattle.std.specs.List.{insert}
 use Rattle.std.specs.Cmp.Lexicographic.{slice_cmp}
-use Rattle.std.specs.Ordering.{nat_cmp, ordering_reverse}
+use Rattle.std.specs.Ordering.{nat_cmp, match_ordering, ordering_reverse}
 use Rattle.bidi_tree.specs.Node.{put, member, IsBelow, AreAscending}
 use Rattle.bidi_tree.specs.Draft.{draft_node, draft_items, draft_members}
 use Rattle.bidi_tree.specs.View.{node, members_node}
@@ -79,7 +80,7 @@ put_next : (done : List DraftMember) (m : DraftMember) (left : List DraftMember)
 put_next [] m left h = refl
 put_next (x ∷ done) m left h = rw (name_above x done m left h.0) (ap (member x.0.now (draft_node x.1)) (put_next done m left h.1))
 
-pub nth : (ms : List DraftMember) (i : ℕ) (m : DraftMember) → i < length ms → m ≡ slice_index_or ms i m → drop i ms ≡ m ∷ drop (i + 1) ms
+pub nth : {A : Type 0} (ms : List A) (i : ℕ) (m : A) → i < length ms → m ≡ slice_index_or ms i m → drop i ms ≡ m ∷ drop (i + 1) ms
 nth ms i m few at =
     let one : suc i ≡ i + 1 = omega arith in
     drop-cons ms i m few ∙ ap (λ x. x ∷ drop (suc i) ms) (sym at) ∙ ap (λ j. m ∷ drop j ms) one
@@ -107,6 +108,19 @@ one_more (c ∷ ds) (f ∷ es) d e same name is =
     let first : c.0.now ≡ string_bytes f.0 = cc in
     let value : draft_node c.1 ≡ node f.1 = cc in
     rw (first, value, more)
+
+-- ---- members in a `BTreeMap`
+
+draft_members-match_ordering : (o : Ordering) (a b c : List DraftMember)
+    → draft_members (match_ordering o a b c) ≡ match_ordering o (draft_members a) (draft_members b) (draft_members c)
+draft_members-match_ordering Less a b c = refl
+draft_members-match_ordering Equal a b c = refl
+draft_members-match_ordering Greater a b c = refl
+
+pub draft_members-insert_entry : (ms : List DraftMember) (k : Bor (List ℕ)) (d : Draft)
+    → draft_members (insert_entry (λ (a b : Bor (List ℕ)). slice_cmp nat_cmp a.now b.now) ms k d) ≡ put k.now (draft_node d) (draft_members ms)
+draft_members-insert_entry [] k d = refl
+draft_members-insert_entry (m ∷ ms) k d = draft_members-match_ordering (slice_cmp nat_cmp k.now m.0.now) _ _ _ ∙ rw (draft_members-insert_entry ms k d)
 
 -- ---- one level
 

@@ -7,3 +7,4 @@ pub mod JsonLemmas
 pub mod TextFacts
 pub mod DraftLemmas
 pub mod NumberLemmas
+pub mod WholeLemmas

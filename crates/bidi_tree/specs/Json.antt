@@ -1,11 +1,12 @@
 -- The tree of a JSON value that borrows its text, as the kit's `json` reads it.
-use Rattle.std.specs.Prelude.{Bool, true, ◌&&◌, is_some, Option, Some, None}
+use Rattle.std.specs.Prelude.{ℕ, ◌-◌, nat_lt, Bool, true, ◌&&◌, is_some, Option, Some, None}
 use Rattle.json.specs.Json as json
 use Rattle.json.specs.Value.{value_view}
 use Rattle.json.specs.declared.value.Value.{Value}
 use Rattle.serde_json.specs.Data.{Num}
 use Rattle.serde_json.specs.Read.{number_of}
 use Rattle.bidi_tree.specs.Node.{Node, null, boolean, odd, text, list, map, Items, no_items, item, Members, no_members, put}
+use Rattle.bidi_tree.specs.Kind.{whole_in}
 use Rattle.bidi_tree.specs.Text.{number_node}
 
 -- a number too large for a float is odd here, and its text is refused elsewhere
@@ -49,6 +50,25 @@ abbrev mutual
   pub members_are_readable : json.Members → Bool
   members_are_readable json.no_members = true
   members_are_readable (json.member k j ms) = is_readable j && members_are_readable ms
+
+-- Whether a value is whole as it stands: each number is a whole one in range, and it nests at most so deep. A member counts
+-- even where another of its name takes its place.
+abbrev mutual
+  pub stands_whole : json.Json → ℕ → Bool
+  stands_whole json.null n = true
+  stands_whole (json.boolean b) n = true
+  stands_whole (json.number s) n = is_some (whole_in (number_in (number_of s)))
+  stands_whole (json.string s) n = true
+  stands_whole (json.array js) n = nat_lt 0 n && items_stand_whole js (n - 1)
+  stands_whole (json.object ms) n = nat_lt 0 n && members_stand_whole ms (n - 1)
+
+  pub items_stand_whole : json.Items → ℕ → Bool
+  items_stand_whole json.no_items n = true
+  items_stand_whole (json.item j js) n = stands_whole j n && items_stand_whole js n
+
+  pub members_stand_whole : json.Members → ℕ → Bool
+  members_stand_whole json.no_members n = true
+  members_stand_whole (json.member k j ms) n = stands_whole j n && members_stand_whole ms n
 
 -- the tree of a value in hand
 abbrev pub parsed : {A : Type 0} → Value A → Node

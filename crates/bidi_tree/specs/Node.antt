@@ -90,7 +90,11 @@ IsWhole n limit = (has_odd n ≡ false) × (levels n ≤ limit)
 abbrev pub MembersAreWhole : Members → ℕ → Type 0
 MembersAreWhole ms limit = (members_have_odd ms ≡ false) × (members_levels ms ≤ limit)
 
--- the tests of both, and of a list's items
+-- and of each item's
+abbrev pub ItemsAreWhole : Items → ℕ → Type 0
+ItemsAreWhole ns limit = (items_have_odd ns ≡ false) × (items_levels ns ≤ limit)
+
+-- the tests of these
 abbrev pub is_whole : Node → ℕ → Bool
 is_whole n limit = not (has_odd n) && nat_le (levels n) limit
 

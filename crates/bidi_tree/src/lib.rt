@@ -14,6 +14,7 @@
 mod copying;
 mod draft;
 mod drafting;
+mod drafting_parsed;
 mod levels;
 mod number;
 mod number_text;
@@ -21,16 +22,19 @@ mod owning;
 mod readable;
 mod reading;
 mod tree;
+mod value_whole;
 mod whole;
 mod writing;
 
 pub use copying::copy_members;
 pub use draft::{Draft, DraftMembers, own_draft, put_draft};
 pub use drafting::{draft_members_of, draft_of};
+pub use drafting_parsed::draft_parsed;
 pub use number::{JsInt, JsUint};
 pub use number_text::whole_number;
 pub use owning::{is_parsed_within, own};
 pub use reading::{ReadFault, parse, read};
 pub use tree::{Members, Tree, find_member, put_member};
+pub use value_whole::is_parsed_whole;
 pub use whole::are_whole;
 pub use writing::{write, write_draft};

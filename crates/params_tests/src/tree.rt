@@ -1,8 +1,10 @@
 //! Numbers, trees and JSON text: RFC 8259, and `docs/FORMATS.md` on what is read.
 use bidi_tree::{
-    Draft, DraftMembers, JsInt, JsUint, Members, ReadFault, Tree, are_whole, draft_of, find_member,
-    own_draft, put_draft, put_member, read, write, write_draft,
+    Draft, DraftMembers, JsInt, JsUint, Members, ReadFault, Tree, are_whole, draft_of,
+    draft_parsed, find_member, is_parsed_whole, own_draft, parse, put_draft, put_member, read,
+    write, write_draft,
 };
+use json::Scratch;
 use std::alloc::Global;
 use std::test::Fail;
 use testing::rows::{Asked, check_rows};
@@ -26,6 +28,7 @@ impl Asked for Trees {
             "whole" => whole(alloc, text),
             "copies" => copies(alloc, text),
             "drafted" => drafted(alloc, text),
+            "parsed" => parsed(alloc, text),
             "placed" => placed(alloc, text),
             "draft" => draft_within(alloc, text),
             _ => Err(Fail::from("no such word")),
@@ -304,6 +307,14 @@ a text with a line feed | drafted "a\nb" -> "a\nb"
 an empty list | drafted [] -> []
 an empty map | drafted {} -> {}
 lists and maps in one another | drafted {"b":[1,{"d":2,"c":[]}],"a":"x"} -> {"a":"x","b":[1,{"c":[],"d":2}]}
+null | parsed null -> null
+a text with a line feed | parsed "a\nb" -> "a\nb"
+blanks and members in another order | parsed { "b" : [1,{"d":2,"c":[]}], "a":"x" } -> {"a":"x","b":[1,{"c":[],"d":2}]}
+a name that comes again | parsed {"a":1,"b":2,"a":3} -> {"a":3,"b":2}
+an odd number | parsed [1.5] -> not whole
+an odd number that another takes the place of | parsed {"a":1.5,"a":1} -> not whole
+as many levels | parsed «100 [»«100 ]» -> same
+one level more | parsed «101 [»«101 ]» -> not whole
 a member | placed a=1 -> a=1
 above all others | placed a=1 b=2 -> a=1 b=2
 below all others | placed b=1 a=2 -> a=2 b=1
@@ -333,6 +344,19 @@ fn drafted(alloc: Global, text: &str) -> Result<String, Fail> {
     if own_draft(alloc, &draft)? != tree {
         return Err(Fail::from("another tree"));
     }
+    Ok(write_draft(alloc, &draft)?)
+}
+
+/// The text of the draft of a text's value, where that is known to be whole.
+fn parsed(alloc: Global, text: &str) -> Result<String, Fail> {
+    let mut scratch = Scratch::new(alloc);
+    let Ok(value) = parse(alloc, text, None, &mut scratch) else {
+        return Err(Fail::from("not JSON"));
+    };
+    if !is_parsed_whole(&value, 100) {
+        return Ok(String::from_str(alloc, "not whole")?);
+    }
+    let draft = draft_parsed(alloc, &value)?;
     Ok(write_draft(alloc, &draft)?)
 }
 

@@ -3,11 +3,12 @@ ghost use Rattle.std.specs.Prelude.{IfOk};
 
 use bidi_messages::{
     CommandData, ErrorCode, EventData, EventName, Message, Method, Named, ResultData, Sendable,
-    Subject, Verdict, data_of, error_text, event_text, judge, read_message, response_text,
-    result_of, text_of,
+    Subject, Verdict, data_of, error_text, event_text, judge, read_message, response_id,
+    response_text, result_of, text_of,
 };
 use bidi_params::UnsubscribeParameters;
-use bidi_tree::{JsUint, Tree, are_whole};
+use bidi_tree::{JsUint, Tree, are_whole, parse};
+use json::Scratch;
 use std::alloc::{AllocError, Global};
 use std::test::Fail;
 use testing::rows::{Asked, check_rows};
@@ -24,6 +25,7 @@ impl Asked for Messages {
             "unsubscribe" => unsubscribe(alloc, text),
             "result" => result(alloc, text),
             "message" => message(alloc, text),
+            "known" => known(alloc, text),
             "event" => event(alloc, text),
             "further" => further(alloc, text),
             "response" => response(alloc, text),
@@ -291,10 +293,35 @@ event {"type":"event","method":"script.realmDestroyed","params":{"realm":"r","x"
 further {"type":"event","method":"script.realmDestroyed","params":{"realm":"r","x":1}} -> {"x":1}
 "#;
 
+/// The ids of responses that are known as such where they stand.
+const KNOWN: &str = r#"
+known {"id":3,"result":{},"type":"success"} -> Some(3)
+known { "type":"success", "x":null, "result":{"a":[{"b":1}]}, "id":0 } -> Some(0)
+known {"id":3,"id":4,"result":{},"type":"success"} -> Some(4)
+known {"id":3,"result":{"x":«59 [»«59 ]»},"type":"success"} -> Some(3)
+known {"id":3,"result":{},"type":"error"} -> None
+known {"id":3,"result":[],"type":"success"} -> None
+known {"id":-1,"result":{},"type":"success"} -> None
+known {"id":9007199254740992,"result":{},"type":"success"} -> None
+known {"id":3,"result":{"x":1.5},"type":"success"} -> None
+known {"result":{},"type":"success"} -> None
+known [] -> None
+"#;
+
 #[test]
 fn messages_read_back(rt: HostRuntime) -> Result<(), Fail> {
     check_rows::<Messages>(rt.alloc(), MESSAGES)?;
+    check_rows::<Messages>(rt.alloc(), KNOWN)?;
     check_rows::<Messages>(rt.alloc(), EVENTS)
+}
+
+fn known(alloc: Global, text: &str) -> Result<String, Fail> {
+    let mut scratch = Scratch::new(alloc);
+    let Ok(value) = parse(alloc, text, None, &mut scratch) else {
+        return Err(Fail::from("not JSON"));
+    };
+    let id = response_id(&value).map(|id| id.value);
+    Ok(format!(in alloc; "{id:?}")?)
 }
 
 fn message(alloc: Global, text: &str) -> Result<String, Fail> {
