@@ -61,33 +61,32 @@ impl Named for ErrorCode {
 
     ghost words = { error_code_words };
 
-    fn named(text: &str) -> Option<ErrorCode> {
-        match text {
-            "invalid argument" => Some(ErrorCode::InvalidArgument),
-            "invalid selector" => Some(ErrorCode::InvalidSelector),
-            "invalid session id" => Some(ErrorCode::InvalidSessionId),
-            "move target out of bounds" => Some(ErrorCode::MoveTargetOutOfBounds),
-            "no such alert" => Some(ErrorCode::NoSuchAlert),
-            "no such element" => Some(ErrorCode::NoSuchElement),
-            "no such frame" => Some(ErrorCode::NoSuchFrame),
-            "no such handle" => Some(ErrorCode::NoSuchHandle),
-            "no such history entry" => Some(ErrorCode::NoSuchHistoryEntry),
-            "no such intercept" => Some(ErrorCode::NoSuchIntercept),
-            "no such node" => Some(ErrorCode::NoSuchNode),
-            "no such request" => Some(ErrorCode::NoSuchRequest),
-            "no such script" => Some(ErrorCode::NoSuchScript),
-            "no such storage partition" => Some(ErrorCode::NoSuchStoragePartition),
-            "no such user context" => Some(ErrorCode::NoSuchUserContext),
-            "session not created" => Some(ErrorCode::SessionNotCreated),
-            "unable to capture screen" => Some(ErrorCode::UnableToCaptureScreen),
-            "unable to close browser" => Some(ErrorCode::UnableToCloseBrowser),
-            "unable to set cookie" => Some(ErrorCode::UnableToSetCookie),
-            "unable to set file input" => Some(ErrorCode::UnableToSetFileInput),
-            "unknown command" => Some(ErrorCode::UnknownCommand),
-            "unknown error" => Some(ErrorCode::UnknownError),
-            "unsupported operation" => Some(ErrorCode::UnsupportedOperation),
-            _ => None,
-        }
+    fn all() -> &'static [ErrorCode] {
+        &[
+            ErrorCode::InvalidArgument,
+            ErrorCode::InvalidSelector,
+            ErrorCode::InvalidSessionId,
+            ErrorCode::MoveTargetOutOfBounds,
+            ErrorCode::NoSuchAlert,
+            ErrorCode::NoSuchElement,
+            ErrorCode::NoSuchFrame,
+            ErrorCode::NoSuchHandle,
+            ErrorCode::NoSuchHistoryEntry,
+            ErrorCode::NoSuchIntercept,
+            ErrorCode::NoSuchNode,
+            ErrorCode::NoSuchRequest,
+            ErrorCode::NoSuchScript,
+            ErrorCode::NoSuchStoragePartition,
+            ErrorCode::NoSuchUserContext,
+            ErrorCode::SessionNotCreated,
+            ErrorCode::UnableToCaptureScreen,
+            ErrorCode::UnableToCloseBrowser,
+            ErrorCode::UnableToSetCookie,
+            ErrorCode::UnableToSetFileInput,
+            ErrorCode::UnknownCommand,
+            ErrorCode::UnknownError,
+            ErrorCode::UnsupportedOperation,
+        ]
     }
 
     fn name(&self) -> &'static str {

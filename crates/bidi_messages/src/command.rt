@@ -1,5 +1,5 @@
 //! Commands.
-ghost use Rattle.std.specs.Prelude.{◌≡◌, IfOk};
+ghost use Rattle.std.specs.Prelude.{◌≡◌, IfOk, refl, codes};
 ghost use Rattle.bidi_tree.specs.View.{node};
 ghost use Rattle.bidi_shape.specs.Term.{rule as named};
 ghost use Rattle.bidi_shape.specs.Fits.{Fits};
@@ -14,7 +14,7 @@ use bidi_params::{
     GetTreeParameters, NavigateParameters, ReloadParameters, SubscribeParameters,
     TraverseHistoryParameters, UnsubscribeParameters,
 };
-use bidi_shape::{Ext, Parsed, Ruled, Shape, ShapeFault};
+use bidi_shape::{Ext, Parsed, Shape, ShapeFault};
 use bidi_tree::{Draft, JsUint, Tree};
 use bidi_values::{CallFunctionParameters, DisownParameters, EvaluateParameters};
 use std::alloc::{AllocError, Global};
@@ -73,7 +73,6 @@ pub enum CommandData {
 }
 
 impl Subject<Method> for CommandData {
-    ghost use Rattle.std.specs.Prelude.{refl};
     ghost use Rattle.bidi_messages.specs.CommandData.{ParamShapes, command_subject};
 
     ghost subject = { command_subject
@@ -232,22 +231,15 @@ pub fn data_of(alloc: Global, method: Method, tree: &Tree) -> Result<CommandData
     CommandData::read(alloc, method, tree)
 }
 
-impl Ruled for Command {
-    ghost use Rattle.bidi_shape.specs.Name.{command};
-    ghost use Rattle.bidi_shape.specs.Term.{rule as named};
-
-    ghost rule = { named command };
-}
-
 impl Shape for Command {
-    ghost use Rattle.std.specs.Prelude.{refl, codes};
     ghost use Rattle.bidi_messages.specs.About.{about_shape};
+    ghost use Rattle.bidi_shape.specs.Name.{command};
 
     ghost shape = { about_shape (codes "id") ⟦<JsUint as Shape>⟧.shape ⟦<Method as bidi_shape::Named>⟧.words
-        ⟦<CommandData as Subject<Method>>⟧.subject ⟦<Command as Ruled>⟧.rule (λ c. (c.id, (c.«data», c.ext))) refl refl };
+        ⟦<CommandData as Subject<Method>>⟧.subject (named command) (λ c. (c.id, (c.«data», c.ext))) refl refl };
 
     fn from_tree<S: Parsed>(alloc: Global, tree: &S) -> Result<Command, ShapeFault> {
-        let about = read_about::<Command, JsUint, Method, CommandData, S>(alloc, tree, "id")?;
+        let about = read_about::<JsUint, Method, CommandData, S>(alloc, tree, "id")?;
         Ok(Command {
             id: about.head,
             data: about.subject,

@@ -1,10 +1,10 @@
 //! Events.
-ghost use Rattle.std.specs.Prelude.{◌≡◌, IfOk};
+ghost use Rattle.std.specs.Prelude.{◌≡◌, IfOk, refl, codes};
 ghost use Rattle.bidi_tree.specs.View.{node};
 
 use crate::subject::{Subject, draft_about, read_about};
 use bidi_params::{Info, NavigationInfo, RealmDestroyedParameters, RealmInfo};
-use bidi_shape::{Ext, Named, Parsed, Ruled, Shape, ShapeFault};
+use bidi_shape::{Ext, Named, Parsed, Shape, ShapeFault};
 use bidi_tree::{Draft, Tree};
 use bidi_values::LogEntry;
 use std::alloc::{AllocError, Global};
@@ -37,18 +37,17 @@ impl Named for EventName {
 
     ghost words = { event_words };
 
-    fn named(text: &str) -> Option<EventName> {
-        match text {
-            "browsingContext.contextCreated" => Some(EventName::ContextCreated),
-            "browsingContext.contextDestroyed" => Some(EventName::ContextDestroyed),
-            "browsingContext.navigationStarted" => Some(EventName::NavigationStarted),
-            "browsingContext.domContentLoaded" => Some(EventName::DomContentLoaded),
-            "browsingContext.load" => Some(EventName::Load),
-            "script.realmCreated" => Some(EventName::RealmCreated),
-            "script.realmDestroyed" => Some(EventName::RealmDestroyed),
-            "log.entryAdded" => Some(EventName::EntryAdded),
-            _ => None,
-        }
+    fn all() -> &'static [EventName] {
+        &[
+            EventName::ContextCreated,
+            EventName::ContextDestroyed,
+            EventName::NavigationStarted,
+            EventName::DomContentLoaded,
+            EventName::Load,
+            EventName::RealmCreated,
+            EventName::RealmDestroyed,
+            EventName::EntryAdded,
+        ]
     }
 
     fn name(&self) -> &'static str {
@@ -76,11 +75,8 @@ impl Named for EventType {
 
     ghost words = { event_type_words };
 
-    fn named(text: &str) -> Option<EventType> {
-        match text {
-            "event" => Some(EventType::Event),
-            _ => None,
-        }
+    fn all() -> &'static [EventType] {
+        &[EventType::Event]
     }
 
     fn name(&self) -> &'static str {
@@ -126,7 +122,6 @@ pub enum EventData {
 }
 
 impl Subject<EventName> for EventData {
-    ghost use Rattle.std.specs.Prelude.{refl};
     ghost use Rattle.bidi_messages.specs.EventData.{EventShapes, event_subject};
 
     ghost subject = { event_subject
@@ -216,23 +211,17 @@ impl EventData {
     }
 }
 
-impl Ruled for Event {
+impl Shape for Event {
+    ghost use Rattle.bidi_messages.specs.About.{about_shape};
+    ghost use Rattle.bidi_messages.specs.declared.event.EventType.TheVariants.{Event as event_type};
     ghost use Rattle.bidi_shape.specs.Name.{event};
     ghost use Rattle.bidi_shape.specs.Term.{rule as named};
 
-    ghost rule = { named event };
-}
-
-impl Shape for Event {
-    ghost use Rattle.std.specs.Prelude.{refl, codes};
-    ghost use Rattle.bidi_messages.specs.About.{about_shape};
-    ghost use Rattle.bidi_messages.specs.declared.event.EventType.TheVariants.{Event as event_type};
-
     ghost shape = { about_shape (codes "type") ⟦<EventType as Shape>⟧.shape ⟦<EventName as Named>⟧.words
-        ⟦<EventData as Subject<EventName>>⟧.subject ⟦<Event as Ruled>⟧.rule (λ e. (event_type, (e.«data», e.ext))) refl refl };
+        ⟦<EventData as Subject<EventName>>⟧.subject (named event) (λ e. (event_type, (e.«data», e.ext))) refl refl };
 
     fn from_tree<S: Parsed>(alloc: Global, tree: &S) -> Result<Event, ShapeFault> {
-        let about = read_about::<Event, EventType, EventName, EventData, S>(alloc, tree, "type")?;
+        let about = read_about::<EventType, EventName, EventData, S>(alloc, tree, "type")?;
         Ok(Event {
             data: about.subject,
             ext: about.ext,

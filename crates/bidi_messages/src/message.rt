@@ -1,9 +1,14 @@
 //! The messages of the remote end.
+ghost use Rattle.std.specs.Prelude.{refl, [], ◌∷◌, codes};
+ghost use Rattle.bidi_shape.specs.Table.{map_shape};
+ghost use Rattle.bidi_shape.specs.Name.{command_response, error_response, message};
+ghost use Rattle.bidi_shape.specs.Term.{rule as named};
+
 use crate::event::Event;
 use bidi_codes::ErrorCode;
 use bidi_shape::{
-    Either, Exact, Ext, Fields, Literal, Maybe, One, Optional, Parsed, Required, Rest, Ruled,
-    Shape, ShapeFault, draft_fields, read_choice, read_fields,
+    Either, Exact, Ext, Fields, Literal, Maybe, One, Optional, Parsed, Required, Rest, Shape,
+    ShapeFault, draft_fields, read_choice, read_fields,
 };
 use bidi_tree::{Draft, JsUint};
 use std::alloc::{AllocError, Global};
@@ -31,26 +36,13 @@ impl Response {
 
 type ResponseParts = Literal<Required<JsUint, Required<Ext, Ext>>>;
 
-impl Ruled for Response {
-    ghost use Rattle.bidi_shape.specs.Name.{command_response};
-    ghost use Rattle.bidi_shape.specs.Term.{rule as named};
-
-    ghost rule = { named command_response };
-}
-
 impl Shape for Response {
-    ghost use Rattle.std.specs.Prelude.{refl, [], ◌∷◌, codes};
-    ghost use Rattle.bidi_shape.specs.Table.{map_shape};
-
-    ghost shape = { map_shape ⟦<Response as Ruled>⟧.rule ⟦<ResponseParts as Fields>⟧.table (codes "success" ∷ [])
+    ghost shape = { map_shape (named command_response) ⟦<ResponseParts as Fields>⟧.table (codes "success" ∷ [])
         (λ v. record { 0 = (v.id, (v.«result», v.ext)) }) refl refl };
 
     fn from_tree<S: Parsed>(alloc: Global, tree: &S) -> Result<Response, ShapeFault> {
-        let Literal(Required(id, Required(result, ext))) = read_fields::<
-            Response,
-            ResponseParts,
-            S,
-        >(alloc, tree, Self::NAMES, &["success"])?;
+        let parts = read_fields(alloc, tree, Self::NAMES, &["success"])?;
+        let Literal(Required(id, Required(result, ext))) = parts;
         Ok(Response { id, result, ext })
     }
 
@@ -88,23 +80,14 @@ type ErrorParts = Literal<
     Required<Option<JsUint>, Required<ErrorCode, Required<String, Optional<String, Ext>>>>,
 >;
 
-impl Ruled for ErrorResponse {
-    ghost use Rattle.bidi_shape.specs.Name.{error_response};
-    ghost use Rattle.bidi_shape.specs.Term.{rule as named};
-
-    ghost rule = { named error_response };
-}
-
 impl Shape for ErrorResponse {
-    ghost use Rattle.std.specs.Prelude.{refl, [], ◌∷◌, codes};
-    ghost use Rattle.bidi_shape.specs.Table.{map_shape};
-
-    ghost shape = { map_shape ⟦<ErrorResponse as Ruled>⟧.rule ⟦<ErrorParts as Fields>⟧.table (codes "error" ∷ [])
+    ghost shape = { map_shape (named error_response) ⟦<ErrorParts as Fields>⟧.table (codes "error" ∷ [])
         (λ v. record { 0 = (v.id, (v.error, (v.message, (v.stacktrace, v.ext)))) }) refl refl };
 
     fn from_tree<S: Parsed>(alloc: Global, tree: &S) -> Result<ErrorResponse, ShapeFault> {
+        let parts = read_fields(alloc, tree, Self::NAMES, &["error"])?;
         let Literal(Required(id, Required(error, Required(message, Optional(stacktrace, ext))))) =
-            read_fields::<ErrorResponse, ErrorParts, S>(alloc, tree, Self::NAMES, &["error"])?;
+            parts;
         Ok(ErrorResponse {
             id,
             error,
@@ -143,26 +126,18 @@ pub enum Message {
 
 type Alternatives = Either<Response, Either<ErrorResponse, Event>>;
 
-impl Ruled for Message {
-    ghost use Rattle.bidi_shape.specs.Name.{message};
-    ghost use Rattle.bidi_shape.specs.Term.{rule as named};
-
-    ghost rule = { named message };
-}
-
 impl Shape for Message {
-    ghost use Rattle.std.specs.Prelude.{refl};
     ghost use Rattle.bidi_shape.specs.ThroughLaws.{shape_through};
     ghost use Rattle.bidi_shape.specs.declared.choice.Either.TheVariants.{First, Second};
     ghost use Rattle.bidi_messages.specs.declared.message.Message.TheVariants.{Response, Error, Event};
 
-    ghost shape = { shape_through ⟦<Message as Ruled>⟧.rule ⟦<Alternatives as Shape>⟧.shape
+    ghost shape = { shape_through (named message) ⟦<Alternatives as Shape>⟧.shape
         (λ v. elim v [ Response r ↦ First r | Error e ↦ Second (First e) | Event e ↦ Second (Second e) ]) refl };
 
     fn from_tree<S: Parsed>(alloc: Global, tree: &S) -> Result<Message, ShapeFault> {
         use Either::{First, Second};
 
-        match read_choice::<Message, Alternatives, S>(alloc, tree)? {
+        match read_choice(alloc, tree)? {
             First(response) => Ok(Message::Response(response)),
             Second(First(error)) => Ok(Message::Error(error)),
             Second(Second(event)) => Ok(Message::Event(event)),

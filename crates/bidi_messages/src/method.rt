@@ -45,26 +45,25 @@ impl Named for Method {
 
     ghost words = { method_words };
 
-    fn named(text: &str) -> Option<Method> {
-        match text {
-            "session.status" => Some(Method::SessionStatus),
-            "session.new" => Some(Method::SessionNew),
-            "session.end" => Some(Method::SessionEnd),
-            "session.subscribe" => Some(Method::SessionSubscribe),
-            "session.unsubscribe" => Some(Method::SessionUnsubscribe),
-            "browsingContext.activate" => Some(Method::BrowsingContextActivate),
-            "browsingContext.close" => Some(Method::BrowsingContextClose),
-            "browsingContext.create" => Some(Method::BrowsingContextCreate),
-            "browsingContext.getTree" => Some(Method::BrowsingContextGetTree),
-            "browsingContext.navigate" => Some(Method::BrowsingContextNavigate),
-            "browsingContext.reload" => Some(Method::BrowsingContextReload),
-            "browsingContext.traverseHistory" => Some(Method::BrowsingContextTraverseHistory),
-            "script.evaluate" => Some(Method::ScriptEvaluate),
-            "script.callFunction" => Some(Method::ScriptCallFunction),
-            "script.disown" => Some(Method::ScriptDisown),
-            "script.getRealms" => Some(Method::ScriptGetRealms),
-            _ => None,
-        }
+    fn all() -> &'static [Method] {
+        &[
+            Method::SessionStatus,
+            Method::SessionNew,
+            Method::SessionEnd,
+            Method::SessionSubscribe,
+            Method::SessionUnsubscribe,
+            Method::BrowsingContextActivate,
+            Method::BrowsingContextClose,
+            Method::BrowsingContextCreate,
+            Method::BrowsingContextGetTree,
+            Method::BrowsingContextNavigate,
+            Method::BrowsingContextReload,
+            Method::BrowsingContextTraverseHistory,
+            Method::ScriptEvaluate,
+            Method::ScriptCallFunction,
+            Method::ScriptDisown,
+            Method::ScriptGetRealms,
+        ]
     }
 
     fn name(&self) -> &'static str {

@@ -1,5 +1,5 @@
 //! The results of commands.
-ghost use Rattle.std.specs.Prelude.{◌≡◌, IfOk};
+ghost use Rattle.std.specs.Prelude.{◌≡◌, IfOk, refl};
 ghost use Rattle.bidi_tree.specs.Node as kind;
 ghost use Rattle.bidi_tree.specs.View.{node, members_node};
 ghost use Rattle.bidi_shape.specs.Term.{rule as named};
@@ -59,7 +59,6 @@ pub enum ResultData {
 }
 
 impl Subject<Method> for ResultData {
-    ghost use Rattle.std.specs.Prelude.{refl};
     ghost use Rattle.bidi_messages.specs.ResultData.{ResultShapes, result_subject};
 
     ghost subject = { result_subject

@@ -5,7 +5,7 @@ ghost use Rattle.bidi_tree.specs.Node.{put, get_member, IsSound};
 ghost use Rattle.bidi_tree.specs.Kind.{members_in};
 ghost use Rattle.bidi_tree.specs.Draft.{draft_node};
 ghost use Rattle.bidi_tree.specs.View.{node};
-ghost use Rattle.bidi_shape.specs.Term.{required};
+ghost use Rattle.bidi_shape.specs.Term.{required, Term};
 ghost use Rattle.bidi_shape.specs.Fits.{Fits};
 ghost use Rattle.bidi_shape.specs.Parts.{PartFits, distinct};
 ghost use Rattle.bidi_shape.specs.Outcome.{IfNoFit};
@@ -14,8 +14,7 @@ ghost use Rattle.bidi_messages.specs.Subject.{SubjectOf};
 ghost use Rattle.bidi_messages.specs.About.{about_term, about_tree, AboutIsWell, names_about};
 
 use bidi_shape::{
-    Ext, Fields, Named, Parsed, Required, Ruled, Shape, ShapeFault, add_literal, add_member,
-    read_word,
+    Ext, Fields, Named, Parsed, Required, Shape, ShapeFault, add_literal, add_member, read_word,
 };
 use bidi_tree::{Draft, Tree, draft_members_of, own_draft, put_draft};
 use std::alloc::{AllocError, Global};
@@ -72,18 +71,17 @@ pub(crate) struct About<X: Drop, D: Drop> {
 /// Reads `{ NAME: X, method: "M", params: P, Extensible }`, where the params are those of the method.
 ///
 /// # Errors
-/// - `NoFit`: the tree does not fit the rule.
+/// - `NoFit`: the tree does not fit the rule of these members, under whatever name.
 /// - `NoMemory`: an allocation failed.
-pub(crate) fn read_about<V: Ruled, X: Shape, K: Named, D: Subject<K>, S: Parsed>(
+pub(crate) fn read_about<X: Shape, K: Named, D: Subject<K>, S: Parsed>(
     alloc: Global,
     tree: &S,
     name: &str,
 ) -> Result<About<X, D>, ShapeFault>
-    requires says { unfolded V.rule ≡ about_term name.now X.shape K.words D.subject }
     requires once { distinct (names_about name.now) ≡ true }
     ensures ok { IfOk result (λ a. (about_tree name.now X.shape K.words D.subject a.head a.subject a.ext ≡ S.tree tree.now)
         × AboutIsWell name.now X.shape K.words D.subject a.head a.subject a.ext) }
-    ensures no_fit { IfNoFit result (Fits (S.tree tree.now) V.rule → ⊥) }
+    ensures no_fit { (τ : Term) → unfolded τ ≡ about_term name.now X.shape K.words D.subject → IfNoFit result (Fits (S.tree tree.now) τ → ⊥) }
 {
     tree.check_map()?;
     let Required(head, ext) = Required::<X, Ext>::read(

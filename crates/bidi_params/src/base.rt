@@ -1,5 +1,10 @@
 //! Maps with no member that has a meaning.
-use bidi_shape::{Ext, Fields, MakeFault, Parsed, Ruled, Shape, ShapeFault, read_fields};
+ghost use Rattle.std.specs.Prelude.{◌≡◌, IfOk, true, refl, []};
+ghost use Rattle.bidi_shape.specs.Name.{empty_params, empty_result};
+ghost use Rattle.bidi_shape.specs.Table.{map_shape};
+ghost use Rattle.bidi_shape.specs.Made.{Makes, named, MembersAreWhole, members_node, has_named, names_in, others_of};
+
+use bidi_shape::{Ext, Fields, MakeFault, Parsed, Shape, ShapeFault, further, read_fields};
 use bidi_tree::{Draft, Members, draft_members_of};
 use std::alloc::{AllocError, Global};
 
@@ -14,16 +19,6 @@ pub struct EmptyParams {
 }
 
 impl EmptyParams {
-    ghost use Rattle.std.specs.Prelude.{◌≡◌, IfOk, true};
-    ghost use Rattle.bidi_tree.specs.Node.{MembersAreWhole};
-    ghost use Rattle.bidi_tree.specs.View.{members_node};
-    ghost use Rattle.bidi_shape.specs.Name.{empty_params};
-    ghost use Rattle.bidi_shape.specs.Term.{rule as named};
-    ghost use Rattle.bidi_shape.specs.Parts.{has_named};
-    ghost use Rattle.bidi_shape.specs.Table.{names_in};
-    ghost use Rattle.bidi_shape.specs.Made.{Makes};
-    ghost use Rattle.bidi_shape.specs.ValueLaws.{others_of};
-
     /// The parameters, with further members. Takes no memory.
     ///
     /// # Errors
@@ -36,29 +31,16 @@ impl EmptyParams {
             (λ v. others_of v.ext ≡ members_node ext.entries) }
         ensures well { IfOk result (λ v. ⟦<EmptyParams as Shape>⟧.shape.well v) }
     {
-        let ext = Ext::new(ext, &[])?;
-        if !ext.is_whole() {
-            return Err(MakeFault::TooDeep);
-        }
+        let ext = further(ext, &[])?;
         Ok(EmptyParams { ext })
     }
 }
 
-impl Ruled for EmptyParams {
-    ghost use Rattle.bidi_shape.specs.Name.{empty_params};
-    ghost use Rattle.bidi_shape.specs.Term.{rule as named};
-
-    ghost rule = { named empty_params };
-}
-
 impl Shape for EmptyParams {
-    ghost use Rattle.std.specs.Prelude.{refl, []};
-    ghost use Rattle.bidi_shape.specs.Table.{map_shape};
-
-    ghost shape = { map_shape ⟦<EmptyParams as Ruled>⟧.rule ⟦<Ext as Fields>⟧.table [] (λ v. v.ext) refl refl };
+    ghost shape = { map_shape (named empty_params) ⟦<Ext as Fields>⟧.table [] (λ v. v.ext) refl refl };
 
     fn from_tree<S: Parsed>(alloc: Global, tree: &S) -> Result<EmptyParams, ShapeFault> {
-        let ext = read_fields::<EmptyParams, Ext, S>(alloc, tree, &[], &[])?;
+        let ext = read_fields(alloc, tree, &[], &[])?;
         Ok(EmptyParams { ext })
     }
 
@@ -78,16 +60,6 @@ pub struct EmptyResult {
 }
 
 impl EmptyResult {
-    ghost use Rattle.std.specs.Prelude.{◌≡◌, IfOk, true};
-    ghost use Rattle.bidi_tree.specs.Node.{MembersAreWhole};
-    ghost use Rattle.bidi_tree.specs.View.{members_node};
-    ghost use Rattle.bidi_shape.specs.Name.{empty_result};
-    ghost use Rattle.bidi_shape.specs.Term.{rule as named};
-    ghost use Rattle.bidi_shape.specs.Parts.{has_named};
-    ghost use Rattle.bidi_shape.specs.Table.{names_in};
-    ghost use Rattle.bidi_shape.specs.Made.{Makes};
-    ghost use Rattle.bidi_shape.specs.ValueLaws.{others_of};
-
     /// The result, with further members. Takes no memory.
     ///
     /// # Errors
@@ -100,29 +72,16 @@ impl EmptyResult {
             (λ v. others_of v.ext ≡ members_node ext.entries) }
         ensures well { IfOk result (λ v. ⟦<EmptyResult as Shape>⟧.shape.well v) }
     {
-        let ext = Ext::new(ext, &[])?;
-        if !ext.is_whole() {
-            return Err(MakeFault::TooDeep);
-        }
+        let ext = further(ext, &[])?;
         Ok(EmptyResult { ext })
     }
 }
 
-impl Ruled for EmptyResult {
-    ghost use Rattle.bidi_shape.specs.Name.{empty_result};
-    ghost use Rattle.bidi_shape.specs.Term.{rule as named};
-
-    ghost rule = { named empty_result };
-}
-
 impl Shape for EmptyResult {
-    ghost use Rattle.std.specs.Prelude.{refl, []};
-    ghost use Rattle.bidi_shape.specs.Table.{map_shape};
-
-    ghost shape = { map_shape ⟦<EmptyResult as Ruled>⟧.rule ⟦<Ext as Fields>⟧.table [] (λ v. v.ext) refl refl };
+    ghost shape = { map_shape (named empty_result) ⟦<Ext as Fields>⟧.table [] (λ v. v.ext) refl refl };
 
     fn from_tree<S: Parsed>(alloc: Global, tree: &S) -> Result<EmptyResult, ShapeFault> {
-        let ext = read_fields::<EmptyResult, Ext, S>(alloc, tree, &[], &[])?;
+        let ext = read_fields(alloc, tree, &[], &[])?;
         Ok(EmptyResult { ext })
     }
 

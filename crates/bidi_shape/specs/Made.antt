@@ -1,5 +1,11 @@
--- What a constructor answers.
+-- What a constructor answers, with the words that its contract needs beside.
 use Rattle.std.specs.Prelude.{Result, Ok, Err}
+pub use Rattle.bidi_tree.specs.Node.{MembersAreWhole}
+pub use Rattle.bidi_tree.specs.View.{members_node}
+pub use Rattle.bidi_shape.specs.Term.{rule as named}
+pub use Rattle.bidi_shape.specs.Parts.{has_named}
+pub use Rattle.bidi_shape.specs.Table.{names_in}
+pub use Rattle.bidi_shape.specs.ValueLaws.{others_of}
 use Rattle.bidi_shape.specs.declared.making.MakeFault.{MakeFault}
 use Rattle.bidi_shape.specs.declared.making.MakeFault.TheVariants.{Clash, Shadowed, TooDeep, NoMemory}
 

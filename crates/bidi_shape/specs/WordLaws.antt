@@ -1,5 +1,5 @@
 -- Types whose values are a few texts: a table of the texts and values, and the laws that it gives.
-use Rattle.std.specs.Prelude.{◌≡◌, ℕ, List, [], ◌∷◌, Bool, true, false, Option, Some, None, if◌then◌else◌, refl}
+use Rattle.std.specs.Prelude.{◌≡◌, ℕ, List, [], ◌∷◌, map, Bool, true, false, Option, Some, None, if◌then◌else◌, refl}
 use Rattle.std.proofs.Common.{sym, ap, ◌∙◌, subst, bytes_eq, true≢false, zero-le}
 use Rattle.std.proofs.lemmas.Slice.Eq.{bytes_eq-Decides}
 use Rattle.bidi_tree.specs.Node as tree
@@ -124,6 +124,26 @@ named_at false s w rest text_of v same is later e = later e
 
 none_v : {V : Type 0} {v : V} {P : Type 0} → None ≡ Some v → P
 none_v e = cc
+
+-- the first of some values that has the text
+abbrev pub value_among : {V : Type 0} → (V → List ℕ) → List V → List ℕ → Option V
+value_among text_of [] s = None
+value_among text_of (v ∷ vs) s = if bytes_eq s (text_of v) then Some v else value_among text_of vs s
+
+among_words : {V : Type 0} (text_of : V → List ℕ) (v : V) (vs : List V) (s : List ℕ)
+    → value_named (word text_of v) (map (word text_of) vs) s ≡ value_among text_of (v ∷ vs) s
+among_words text_of v [] s = refl
+among_words text_of v (u ∷ us) s = ap (λ o. if bytes_eq s (text_of v) then Some v else o) (among_words text_of u us s)
+
+-- the value of a text among all of the table
+pub value_named-all : {V : Type 0} (text_of : V → List ℕ) (w : Word V) (ws : List (Word V)) (vs : List V) (s : List ℕ)
+    → map (word text_of) vs ≡ w ∷ ws → value_named w ws s ≡ value_among text_of vs s
+value_named-all text_of w ws [] s e = cc
+value_named-all text_of w ws (v ∷ vs) s e =
+    let first = among_words text_of v vs s in
+    let head : word text_of v ≡ w = cc in
+    let rest : map (word text_of) vs ≡ ws = cc in
+    cc
 
 -- the value that a text names has that text
 pub text_of-value_named : {V : Type 0} (text_of : V → List ℕ) (w : Word V) (xs : List (Word V)) (s : List ℕ) (v : V)

@@ -1,5 +1,6 @@
 //! A value or null, and the first of two types that fits.
 ghost use Rattle.std.specs.Prelude.{◌≡◌, IfOk};
+ghost use Rattle.bidi_shape.specs.Term.{Term};
 ghost use Rattle.bidi_shape.specs.Fits.{Fits};
 ghost use Rattle.bidi_shape.specs.Outcome.{IfNoFit};
 ghost use Rattle.bidi_shape.specs.Table.{unfolded};
@@ -7,7 +8,6 @@ ghost use Rattle.bidi_shape.specs.Table.{unfolded};
 use crate::fault::ShapeFault;
 use crate::parsed::Parsed;
 use crate::shape::Shape;
-use crate::table::Ruled;
 use bidi_tree::Draft;
 use std::alloc::{AllocError, Global};
 
@@ -47,12 +47,11 @@ impl<A: Shape, B: Shape> Shape for Either<A, B> {
 /// Reads the alternatives of a rule, as `Either<A, Either<B, C>>`.
 ///
 /// # Errors
-/// - `NoFit`: the tree does not fit the rule.
+/// - `NoFit`: the tree does not fit the rule of these alternatives, under whatever name.
 /// - `NoMemory`: an allocation failed.
-pub fn read_choice<V: Ruled, E: Shape, S: Parsed>(alloc: Global, tree: &S) -> Result<E, ShapeFault>
-    requires says { unfolded V.rule ≡ E.shape.rule }
+pub fn read_choice<E: Shape, S: Parsed>(alloc: Global, tree: &S) -> Result<E, ShapeFault>
     ensures ok { IfOk result (λ e. (E.shape.tree_of e ≡ S.tree tree.now) × E.shape.well e) }
-    ensures no_fit { IfNoFit result (Fits (S.tree tree.now) V.rule → ⊥) }
+    ensures no_fit { (τ : Term) → unfolded τ ≡ E.shape.rule → IfNoFit result (Fits (S.tree tree.now) τ → ⊥) }
 {
     E::from_tree(alloc, tree)
 }

@@ -34,6 +34,6 @@ pub use making::{MakeFault, further, not_shadowed};
 pub use members::{add_literal, add_member, add_optional};
 pub use parsed::Parsed;
 pub use shape::Shape;
-pub use table::{Ruled, read_fields};
+pub use table::read_fields;
 pub use tagged::{Bare, Tag, Typed, draft_of_type, draft_of_typed};
 pub use words::{Named, read_word};

@@ -1,5 +1,5 @@
 //! The members of a map, one by one.
-ghost use Rattle.std.specs.Prelude.{◌≡◌, IfOk, OnOk, IsTrue, ◌↔◌, option_map, Some, IfSome};
+ghost use Rattle.std.specs.Prelude.{◌≡◌, IfOk, OnOk, OnErr, IsTrue, ◌↔◌, option_map, Some, IfSome};
 ghost use Rattle.bidi_tree.specs.Node.{put, get_member, IsSound, IsWhole, MembersAreWhole, AreAscending, no_members};
 ghost use Rattle.bidi_tree.specs.Kind.{members_in};
 ghost use Rattle.bidi_tree.specs.Draft.{draft_members};
@@ -58,7 +58,7 @@ pub(crate) fn optional<X: Shape, S: Parsed>(
 /// Puts a value's draft at a name, in place of a member of that name.
 ///
 /// # Errors
-/// No memory: an allocation failed.
+/// No memory: an allocation failed, and the members are as they were.
 pub fn add_member<'a, X: Shape>(
     alloc: Global,
     members: &mut DraftMembers<'a>,
@@ -67,6 +67,7 @@ pub fn add_member<'a, X: Shape>(
 ) -> Result<(), AllocError>
     ensures ok { OnOk result (draft_members members.new.items ≡ put name.now (X.shape.tree_of value.now) (draft_members members.old.items)) }
     ensures sound { IsSound (kind.map (draft_members members.old.items)) → OnOk result (IsSound (kind.map (draft_members members.new.items))) }
+    ensures err { OnErr result (draft_members members.new.items ≡ draft_members members.old.items) }
 {
     let draft = value.draft(alloc)?;
     put_draft(members, name, draft)
@@ -75,7 +76,7 @@ pub fn add_member<'a, X: Shape>(
 /// Puts a value's draft at a name, if there is a value.
 ///
 /// # Errors
-/// No memory: an allocation failed.
+/// No memory: an allocation failed, and the members are as they were.
 pub fn add_optional<'a, X: Shape>(
     alloc: Global,
     members: &mut DraftMembers<'a>,
@@ -84,6 +85,7 @@ pub fn add_optional<'a, X: Shape>(
 ) -> Result<(), AllocError>
     ensures ok { OnOk result (draft_members members.new.items ≡ put_part name.now (option_map X.shape.tree_of value.now) (draft_members members.old.items)) }
     ensures sound { IsSound (kind.map (draft_members members.old.items)) → OnOk result (IsSound (kind.map (draft_members members.new.items))) }
+    ensures err { OnErr result (draft_members members.new.items ≡ draft_members members.old.items) }
 {
     match value {
         Some(value) => add_member(alloc, members, name, value),
@@ -94,7 +96,7 @@ pub fn add_optional<'a, X: Shape>(
 /// Puts a text at a name, in place of a member of that name.
 ///
 /// # Errors
-/// No memory: an allocation failed.
+/// No memory: an allocation failed, and the members are as they were.
 pub fn add_literal<'a>(
     members: &mut DraftMembers<'a>,
     name: &'a str,
@@ -102,6 +104,7 @@ pub fn add_literal<'a>(
 ) -> Result<(), AllocError>
     ensures ok { OnOk result (draft_members members.new.items ≡ put name.now (kind.text text.now) (draft_members members.old.items)) }
     ensures sound { IsSound (kind.map (draft_members members.old.items)) → OnOk result (IsSound (kind.map (draft_members members.new.items))) }
+    ensures err { OnErr result (draft_members members.new.items ≡ draft_members members.old.items) }
 {
     put_draft(members, name, Draft::Text(text))
 }

@@ -246,7 +246,7 @@ fn unlisted(
         let tree = own(alloc, &member.1)?;
         put_member(&mut rest, String::from_str(alloc, member.0)?, tree)?;
     }
-    if !are_whole(&rest, MAX_LEVELS) {
+    if !rest.is_empty() && !are_whole(&rest, MAX_LEVELS) {
         return Err(ShapeFault::NoFit);
     }
     // The contract of `len` has the order of the names, which an `Ext` keeps.

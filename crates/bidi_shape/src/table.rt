@@ -15,48 +15,38 @@ use crate::shape::Shape;
 use bidi_tree::{Draft, draft_members_of};
 use std::alloc::{AllocError, Global};
 
-/// A type whose values are maps, by its rule.
-pub trait Ruled {
-    ghost rule: { Term };
-}
-
 /// Reads a whole map: its members by their names, and the texts of its literal members, in order.
 ///
 /// # Errors
-/// - `NoFit`: the tree does not fit the rule.
+/// - `NoFit`: the tree does not fit the rule of these members, under whatever name.
 /// - `NoMemory`: an allocation failed.
-pub fn read_fields<'a, V: Ruled, F: Fields, S: Parsed>(
+pub fn read_fields<'a, F: Fields, S: Parsed>(
     alloc: Global,
     tree: &S,
     names: &'a [&'a str],
     texts: &'a [&'a str],
 ) -> Result<F, ShapeFault>
-    requires says { unfolded V.rule ≡ map_of (F.table.rows (texts_in names.now) (texts_in texts.now)) F.table.openness }
     requires table { IsTable (texts_in names.now) (F.table.rows (texts_in names.now) (texts_in texts.now)) }
     ensures ok { IfOk result (λ f. (tree_by F.table (texts_in names.now) (texts_in texts.now) f ≡ S.tree tree.now)
         × good_by F.table (texts_in names.now) (texts_in texts.now) f) }
-    ensures no_fit { IfNoFit result (Fits (S.tree tree.now) V.rule → ⊥) }
+    ensures no_fit { (τ : Term) → unfolded τ ≡ map_of (F.table.rows (texts_in names.now) (texts_in texts.now)) F.table.openness
+        → IfNoFit result (Fits (S.tree tree.now) τ → ⊥) }
 {
     tree.check_map()?;
     let fields = F::read(alloc, tree, names, texts, names)?;
     Ok(fields)
 }
 
-impl Ruled for Ext {
-    ghost use Rattle.bidi_shape.specs.Term.{open_map, no_more};
-
-    ghost rule = { open_map no_more };
-}
-
 /// Any map: `{ Extensible }`.
 impl Shape for Ext {
     ghost use Rattle.std.specs.Prelude.{refl, []};
+    ghost use Rattle.bidi_shape.specs.Term.{open_map, no_more};
     ghost use Rattle.bidi_shape.specs.Table.{map_shape};
 
-    ghost shape = { map_shape ⟦<Ext as Ruled>⟧.rule ⟦<Ext as Fields>⟧.table [] (λ e. e) refl refl };
+    ghost shape = { map_shape (open_map no_more) ⟦<Ext as Fields>⟧.table [] (λ e. e) refl refl };
 
     fn from_tree<S: Parsed>(alloc: Global, tree: &S) -> Result<Ext, ShapeFault> {
-        read_fields::<Ext, Ext, S>(alloc, tree, &[], &[])
+        read_fields(alloc, tree, &[], &[])
     }
 
     fn draft<'a>(&'a self, alloc: Global) -> Result<Draft<'a>, AllocError> {

@@ -9,7 +9,7 @@ use crate::fields::{Closed, Literal, Required};
 use crate::members::{add_literal, add_member};
 use crate::parsed::Parsed;
 use crate::shape::Shape;
-use crate::table::{Ruled, read_fields};
+use crate::table::read_fields;
 use bidi_tree::Draft;
 use std::alloc::{AllocError, Global};
 use std::marker::PhantomData;
@@ -36,18 +36,6 @@ pub struct Typed<T, X: Drop> {
     of: PhantomData<T>,
 }
 
-impl<T: Tag> Ruled for Bare<T> {
-    ghost use Rattle.bidi_shape.specs.TagLaws.{bare_term};
-
-    ghost rule = { bare_term T.tag };
-}
-
-impl<T: Tag, X: Shape> Ruled for Typed<T, X> {
-    ghost use Rattle.bidi_shape.specs.TagLaws.{typed_term};
-
-    ghost rule = { typed_term T.tag X.shape.rule };
-}
-
 impl<T: Tag> Shape for Bare<T> {
     ghost use Rattle.std.specs.Prelude.{refl, [], ◌∷◌};
     ghost use Rattle.bidi_shape.specs.TagLaws.{bare_term};
@@ -56,12 +44,7 @@ impl<T: Tag> Shape for Bare<T> {
     ghost shape = { map_shape (bare_term T.tag) ⟦<Literal<Closed> as crate::Fields>⟧.table (T.tag ∷ []) (λ v. record { 0 = record {} }) refl refl };
 
     fn from_tree<S: Parsed>(alloc: Global, tree: &S) -> Result<Bare<T>, ShapeFault> {
-        let Literal(Closed) = read_fields::<Bare<T>, Literal<Closed>, S>(
-            alloc,
-            tree,
-            &["type"],
-            &[T::tag()],
-        )?;
+        let Literal(Closed) = read_fields(alloc, tree, &["type"], &[T::tag()])?;
         Ok(Bare { of: PhantomData })
     }
 
@@ -80,11 +63,12 @@ impl<T: Tag, X: Shape> Shape for Typed<T, X> {
         (λ v. record { 0 = (v.value, record {}) }) refl refl };
 
     fn from_tree<S: Parsed>(alloc: Global, tree: &S) -> Result<Typed<T, X>, ShapeFault> {
-        let Literal(Required(value, Closed)) = read_fields::<
-            Typed<T, X>,
-            Literal<Required<X, Closed>>,
-            S,
-        >(alloc, tree, &["type", "value"], &[T::tag()])?;
+        let Literal(Required(value, Closed)) = read_fields(
+            alloc,
+            tree,
+            &["type", "value"],
+            &[T::tag()],
+        )?;
         Ok(Typed {
             value,
             of: PhantomData,

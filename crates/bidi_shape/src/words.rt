@@ -1,9 +1,9 @@
 //! Types whose values are a few texts.
-ghost use Rattle.std.specs.Prelude.{◌≡◌, IfOk};
+ghost use Rattle.std.specs.Prelude.{◌≡◌, ◌∷◌, map, IfOk};
 ghost use Rattle.bidi_tree.specs.Node as kind;
 ghost use Rattle.bidi_shape.specs.Fits.{Fits};
 ghost use Rattle.bidi_shape.specs.Outcome.{IfNoFit};
-ghost use Rattle.bidi_shape.specs.WordLaws.{Words, value_named};
+ghost use Rattle.bidi_shape.specs.WordLaws.{Words, word, value_named};
 
 use crate::fault::ShapeFault;
 use crate::parsed::Parsed;
@@ -12,17 +12,29 @@ use bidi_tree::Draft;
 use std::alloc::{AllocError, Global};
 
 /// A type whose values are a few texts: `"a" / "b" / ..`.
-pub trait Named: Drop {
+pub trait Named: Copy + Drop + 'static {
     // The rule, the table of texts and values, and that each value's text names it.
     ghost words: { Words Self };
 
-    /// The value of that text. Takes no memory.
-    fn named(text: &str) -> Option<Self>
-        ensures { result ≡ value_named words.first words.rest text.now };
+    /// Its values, in the order of the rule. Takes no memory.
+    fn all() -> &'static [Self]
+        ensures { map (word words.text_of) result.now ≡ words.first ∷ words.rest };
 
     /// Its text. Takes no memory.
     fn name(&self) -> &'static str
         ensures { result.now ≡ words.text_of self.now };
+
+    /// The value of that text. Takes no memory; the text is compared with each in turn.
+    final fn named(text: &str) -> Option<Self>
+        ensures { result ≡ value_named words.first words.rest text.now }
+    {
+        for value in Self::all() {
+            if text == value.name() {
+                return Some(*value);
+            }
+        }
+        None
+    }
 }
 
 /// A value is the text that it has.

@@ -1,18 +1,14 @@
 //! Calling a function, and letting go of its results.
 ghost use Rattle.std.specs.Prelude.{◌≡◌, IfOk, refl, true, [], IfSome};
-ghost use Rattle.bidi_tree.specs.Node.{MembersAreWhole};
-ghost use Rattle.bidi_tree.specs.View.{members_node};
-ghost use Rattle.bidi_shape.specs.Term.{rule as named};
-ghost use Rattle.bidi_shape.specs.Parts.{has_named};
-ghost use Rattle.bidi_shape.specs.Table.{map_shape, names_in};
-ghost use Rattle.bidi_shape.specs.Made.{Makes};
-ghost use Rattle.bidi_shape.specs.ValueLaws.{others_of};
+ghost use Rattle.bidi_shape.specs.Table.{map_shape};
+ghost use Rattle.bidi_shape.specs.Made.{Makes, named, MembersAreWhole, members_node, has_named, names_in, others_of};
+ghost use Rattle.bidi_shape.specs.Name.{call_function_parameters, disown_parameters};
 
 use crate::evaluate::Ownership;
 use crate::local_value::LocalValue;
 use crate::target::Target;
 use bidi_shape::{
-    Ext, Fields, MakeFault, Maybe, One, Optional, Parsed, Required, Rest, Ruled, Shape, ShapeFault,
+    Ext, Fields, MakeFault, Maybe, One, Optional, Parsed, Required, Rest, Shape, ShapeFault,
     draft_fields, further, read_fields,
 };
 use bidi_tree::{Draft, Members};
@@ -40,8 +36,6 @@ pub struct CallFunctionParameters {
 }
 
 impl CallFunctionParameters {
-    ghost use Rattle.bidi_shape.specs.Name.{call_function_parameters};
-
     // In the order of the rule.
     const NAMES: &'static [&'static str] = &[
         "functionDeclaration",
@@ -109,14 +103,8 @@ type CallParts = Required<
     >,
 >;
 
-impl Ruled for CallFunctionParameters {
-    ghost use Rattle.bidi_shape.specs.Name.{call_function_parameters};
-
-    ghost rule = { named call_function_parameters };
-}
-
 impl Shape for CallFunctionParameters {
-    ghost shape = { map_shape ⟦<CallFunctionParameters as Ruled>⟧.rule ⟦<CallParts as Fields>⟧.table []
+    ghost shape = { map_shape (named call_function_parameters) ⟦<CallParts as Fields>⟧.table []
         (λ v. (v.function_declaration, (v.await_promise, (v.target, (v.arguments, (v.result_ownership, (v.this, (v.user_activation, v.ext)))))))) refl refl };
 
     fn from_tree<S: Parsed>(alloc: Global, tree: &S) -> Result<CallFunctionParameters, ShapeFault> {
@@ -132,7 +120,7 @@ impl Shape for CallFunctionParameters {
                     ),
                 ),
             ),
-        ) = read_fields::<CallFunctionParameters, CallParts, S>(alloc, tree, Self::NAMES, &[])?;
+        ) = read_fields(alloc, tree, Self::NAMES, &[])?;
         Ok(CallFunctionParameters {
             function_declaration,
             await_promise,
@@ -181,8 +169,6 @@ pub struct DisownParameters {
 }
 
 impl DisownParameters {
-    ghost use Rattle.bidi_shape.specs.Name.{disown_parameters};
-
     // In the order of the rule.
     const NAMES: &'static [&'static str] = &["handles", "target"];
 
@@ -216,21 +202,11 @@ impl DisownParameters {
 
 type DisownParts = Required<Vec<String>, Required<Target, Ext>>;
 
-impl Ruled for DisownParameters {
-    ghost use Rattle.bidi_shape.specs.Name.{disown_parameters};
-
-    ghost rule = { named disown_parameters };
-}
-
 impl Shape for DisownParameters {
-    ghost shape = { map_shape ⟦<DisownParameters as Ruled>⟧.rule ⟦<DisownParts as Fields>⟧.table [] (λ v. (v.handles, (v.target, v.ext))) refl refl };
+    ghost shape = { map_shape (named disown_parameters) ⟦<DisownParts as Fields>⟧.table [] (λ v. (v.handles, (v.target, v.ext))) refl refl };
 
     fn from_tree<S: Parsed>(alloc: Global, tree: &S) -> Result<DisownParameters, ShapeFault> {
-        let Required(handles, Required(target, ext)) = read_fields::<
-            DisownParameters,
-            DisownParts,
-            S,
-        >(alloc, tree, Self::NAMES, &[])?;
+        let Required(handles, Required(target, ext)) = read_fields(alloc, tree, Self::NAMES, &[])?;
         Ok(DisownParameters {
             handles,
             target,

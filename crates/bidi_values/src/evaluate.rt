@@ -1,17 +1,13 @@
 //! Evaluating an expression.
 ghost use Rattle.std.specs.Prelude.{◌≡◌, IfOk, refl, true, []};
-ghost use Rattle.bidi_tree.specs.Node.{MembersAreWhole};
-ghost use Rattle.bidi_tree.specs.View.{members_node};
-ghost use Rattle.bidi_shape.specs.Term.{rule as named};
-ghost use Rattle.bidi_shape.specs.Parts.{has_named};
-ghost use Rattle.bidi_shape.specs.Table.{map_shape, names_in};
-ghost use Rattle.bidi_shape.specs.Made.{Makes};
-ghost use Rattle.bidi_shape.specs.ValueLaws.{others_of};
+ghost use Rattle.bidi_shape.specs.Table.{map_shape};
+ghost use Rattle.bidi_shape.specs.Made.{Makes, named, MembersAreWhole, members_node, has_named, names_in, others_of};
+ghost use Rattle.bidi_shape.specs.Name.{evaluate_parameters};
 
 use crate::target::Target;
 use bidi_shape::{
-    Ext, Fields, MakeFault, Maybe, Named, One, Optional, Parsed, Required, Rest, Ruled, Shape,
-    ShapeFault, draft_fields, further, read_fields,
+    Ext, Fields, MakeFault, Maybe, Named, One, Optional, Parsed, Required, Rest, Shape, ShapeFault,
+    draft_fields, further, read_fields,
 };
 use bidi_tree::{Draft, Members};
 use std::alloc::{AllocError, Global};
@@ -35,12 +31,8 @@ impl Named for Ownership {
 
     ghost words = { ownership_words };
 
-    fn named(text: &str) -> Option<Ownership> {
-        match text {
-            "root" => Some(Ownership::Root),
-            "none" => Some(Ownership::None),
-            _ => None,
-        }
+    fn all() -> &'static [Ownership] {
+        &[Ownership::Root, Ownership::None]
     }
 
     fn name(&self) -> &'static str {
@@ -71,8 +63,6 @@ pub struct EvaluateParameters {
 }
 
 impl EvaluateParameters {
-    ghost use Rattle.bidi_shape.specs.Name.{evaluate_parameters};
-
     // In the order of the rule.
     const NAMES: &'static [&'static str] = &[
         "expression",
@@ -122,14 +112,8 @@ type EvaluateParts = Required<
     Required<Target, Required<bool, Optional<Ownership, Optional<bool, Ext>>>>,
 >;
 
-impl Ruled for EvaluateParameters {
-    ghost use Rattle.bidi_shape.specs.Name.{evaluate_parameters};
-
-    ghost rule = { named evaluate_parameters };
-}
-
 impl Shape for EvaluateParameters {
-    ghost shape = { map_shape ⟦<EvaluateParameters as Ruled>⟧.rule ⟦<EvaluateParts as Fields>⟧.table []
+    ghost shape = { map_shape (named evaluate_parameters) ⟦<EvaluateParts as Fields>⟧.table []
         (λ v. (v.expression, (v.target, (v.await_promise, (v.result_ownership, (v.user_activation, v.ext)))))) refl refl };
 
     fn from_tree<S: Parsed>(alloc: Global, tree: &S) -> Result<EvaluateParameters, ShapeFault> {
@@ -139,7 +123,7 @@ impl Shape for EvaluateParameters {
                 target,
                 Required(await_promise, Optional(result_ownership, Optional(user_activation, ext))),
             ),
-        ) = read_fields::<EvaluateParameters, EvaluateParts, S>(alloc, tree, Self::NAMES, &[])?;
+        ) = read_fields(alloc, tree, Self::NAMES, &[])?;
         Ok(EvaluateParameters {
             expression,
             target,

@@ -1,8 +1,12 @@
 //! What a script that was run gives.
+ghost use Rattle.std.specs.Prelude.{refl, [], ◌∷◌, codes};
+ghost use Rattle.bidi_shape.specs.Table.{map_shape};
+ghost use Rattle.bidi_values.specs.Outcomes.{evaluate_success, evaluate_exception};
+
 use crate::exception::ExceptionDetails;
 use crate::remote_value::RemoteValue;
 use bidi_shape::{
-    Closed, Either, End, Exact, Fields, Literal, One, Parsed, Required, Ruled, Shape, ShapeFault,
+    Closed, Either, End, Exact, Fields, Literal, One, Parsed, Required, Shape, ShapeFault,
     draft_fields, read_choice, read_fields,
 };
 use bidi_tree::Draft;
@@ -24,27 +28,13 @@ impl EvaluateSuccess {
     const NAMES: &'static [&'static str] = &["type", "result", "realm"];
 }
 
-type SuccessParts = Literal<Required<RemoteValue, Required<String, Closed>>>;
-
-impl Ruled for EvaluateSuccess {
-    ghost use Rattle.bidi_values.specs.Outcomes.{evaluate_success};
-
-    ghost rule = { evaluate_success };
-}
-
 impl Shape for EvaluateSuccess {
-    ghost use Rattle.std.specs.Prelude.{refl, [], ◌∷◌, codes};
-    ghost use Rattle.bidi_shape.specs.Table.{map_shape};
-
-    ghost shape = { map_shape ⟦<EvaluateSuccess as Ruled>⟧.rule ⟦<SuccessParts as Fields>⟧.table (codes "success" ∷ [])
+    ghost shape = { map_shape evaluate_success ⟦<Literal<Required<RemoteValue, Required<String, Closed>>> as Fields>⟧.table (codes "success" ∷ [])
         (λ v. record { 0 = (v.result, (v.realm, record {})) }) refl refl };
 
     fn from_tree<S: Parsed>(alloc: Global, tree: &S) -> Result<EvaluateSuccess, ShapeFault> {
-        let Literal(Required(result, Required(realm, Closed))) = read_fields::<
-            EvaluateSuccess,
-            SuccessParts,
-            S,
-        >(alloc, tree, Self::NAMES, &["success"])?;
+        let parts = read_fields(alloc, tree, Self::NAMES, &["success"])?;
+        let Literal(Required(result, Required(realm, Closed))) = parts;
         Ok(EvaluateSuccess { result, realm })
     }
 
@@ -70,27 +60,13 @@ impl EvaluateException {
     const NAMES: &'static [&'static str] = &["type", "exceptionDetails", "realm"];
 }
 
-type ExceptionParts = Literal<Required<ExceptionDetails, Required<String, Closed>>>;
-
-impl Ruled for EvaluateException {
-    ghost use Rattle.bidi_values.specs.Outcomes.{evaluate_exception};
-
-    ghost rule = { evaluate_exception };
-}
-
 impl Shape for EvaluateException {
-    ghost use Rattle.std.specs.Prelude.{refl, [], ◌∷◌, codes};
-    ghost use Rattle.bidi_shape.specs.Table.{map_shape};
-
-    ghost shape = { map_shape ⟦<EvaluateException as Ruled>⟧.rule ⟦<ExceptionParts as Fields>⟧.table (codes "exception" ∷ [])
+    ghost shape = { map_shape evaluate_exception ⟦<Literal<Required<ExceptionDetails, Required<String, Closed>>> as Fields>⟧.table (codes "exception" ∷ [])
         (λ v. record { 0 = (v.exception_details, (v.realm, record {})) }) refl refl };
 
     fn from_tree<S: Parsed>(alloc: Global, tree: &S) -> Result<EvaluateException, ShapeFault> {
-        let Literal(Required(exception_details, Required(realm, Closed))) = read_fields::<
-            EvaluateException,
-            ExceptionParts,
-            S,
-        >(alloc, tree, Self::NAMES, &["exception"])?;
+        let parts = read_fields(alloc, tree, Self::NAMES, &["exception"])?;
+        let Literal(Required(exception_details, Required(realm, Closed))) = parts;
         Ok(EvaluateException {
             exception_details,
             realm,
@@ -116,26 +92,18 @@ pub enum EvaluateResult {
     Exception(EvaluateException),
 }
 
-type Alternatives = Either<EvaluateSuccess, EvaluateException>;
-
-impl Ruled for EvaluateResult {
-    ghost use Rattle.bidi_shape.specs.Name.{evaluate_result};
-    ghost use Rattle.bidi_shape.specs.Term.{rule as named};
-
-    ghost rule = { named evaluate_result };
-}
-
 impl Shape for EvaluateResult {
-    ghost use Rattle.std.specs.Prelude.{refl};
     ghost use Rattle.bidi_shape.specs.ThroughLaws.{shape_through};
     ghost use Rattle.bidi_shape.specs.declared.choice.Either.TheVariants.{First, Second};
     ghost use Rattle.bidi_values.specs.declared.evaluate_result.EvaluateResult.TheVariants.{Success, Exception};
+    ghost use Rattle.bidi_shape.specs.Name.{evaluate_result};
+    ghost use Rattle.bidi_shape.specs.Term.{rule as named};
 
-    ghost shape = { shape_through ⟦<EvaluateResult as Ruled>⟧.rule ⟦<Alternatives as Shape>⟧.shape
+    ghost shape = { shape_through (named evaluate_result) ⟦<Either<EvaluateSuccess, EvaluateException> as Shape>⟧.shape
         (λ v. elim v [ Success s ↦ First s | Exception e ↦ Second e ]) refl };
 
     fn from_tree<S: Parsed>(alloc: Global, tree: &S) -> Result<EvaluateResult, ShapeFault> {
-        match read_choice::<EvaluateResult, Alternatives, S>(alloc, tree)? {
+        match read_choice(alloc, tree)? {
             Either::First(success) => Ok(EvaluateResult::Success(success)),
             Either::Second(exception) => Ok(EvaluateResult::Exception(exception)),
         }

@@ -2,7 +2,7 @@
 use crate::remote_value::RemoteValue;
 use crate::stack_trace::StackTrace;
 use bidi_shape::{
-    Closed, End, Fields, One, Parsed, Required, Ruled, Shape, ShapeFault, draft_fields, read_fields,
+    Closed, End, Fields, One, Parsed, Required, Shape, ShapeFault, draft_fields, read_fields,
 };
 use bidi_tree::{Draft, JsUint};
 use std::alloc::{AllocError, Global};
@@ -37,18 +37,13 @@ type Parts = Required<
     Required<RemoteValue, Required<JsUint, Required<StackTrace, Required<String, Closed>>>>,
 >;
 
-impl Ruled for ExceptionDetails {
-    ghost use Rattle.bidi_shape.specs.Name.{exception_details};
-    ghost use Rattle.bidi_shape.specs.Term.{rule as named};
-
-    ghost rule = { named exception_details };
-}
-
 impl Shape for ExceptionDetails {
     ghost use Rattle.std.specs.Prelude.{refl, []};
     ghost use Rattle.bidi_shape.specs.Table.{map_shape};
+    ghost use Rattle.bidi_shape.specs.Name.{exception_details};
+    ghost use Rattle.bidi_shape.specs.Term.{rule as named};
 
-    ghost shape = { map_shape ⟦<ExceptionDetails as Ruled>⟧.rule ⟦<Parts as Fields>⟧.table []
+    ghost shape = { map_shape (named exception_details) ⟦<Parts as Fields>⟧.table []
         (λ v. (v.column_number, (v.exception, (v.line_number, (v.stack_trace, (v.text, record {})))))) refl refl };
 
     fn from_tree<S: Parsed>(alloc: Global, tree: &S) -> Result<ExceptionDetails, ShapeFault> {
@@ -58,7 +53,7 @@ impl Shape for ExceptionDetails {
                 exception,
                 Required(line_number, Required(stack_trace, Required(text, Closed))),
             ),
-        ) = read_fields::<ExceptionDetails, Parts, S>(alloc, tree, Self::NAMES, &[])?;
+        ) = read_fields(alloc, tree, Self::NAMES, &[])?;
         Ok(ExceptionDetails {
             column_number,
             exception,

@@ -1,12 +1,16 @@
 //! Values that a remote end holds, as it names them: by a handle, or by an id within one message.
+ghost use Rattle.std.specs.Prelude.{refl, [], ◌∷◌, codes, ◌≡◌, IfOk};
+ghost use Rattle.bidi_shape.specs.Table.{map_shape};
+ghost use Rattle.bidi_values.specs.RemoteValue.{held_by, remote_reg_exp, remote_date};
+
 use crate::copying::copy_text;
 use crate::kinds::{ListKind, PairsKind};
 use crate::opaque::Opaque;
 use crate::reg_exp::RegExpValue;
 use crate::siblings::Siblings;
 use bidi_shape::{
-    Closed, End, Exact, Fields, Literal, Maybe, One, Optional, Parsed, Required, Ruled, Shape,
-    ShapeFault, add_member, add_optional, draft_fields, read_fields,
+    Closed, End, Exact, Fields, Literal, Maybe, One, Optional, Parsed, Required, Shape, ShapeFault,
+    add_member, add_optional, draft_fields, read_fields,
 };
 use bidi_tree::{Draft, DraftMembers};
 use std::alloc::{AllocError, Global};
@@ -39,25 +43,12 @@ type HeldParts<K> = Required<K, Optional<String, Optional<String, Closed>>>;
 /// In the order of the rule.
 const NAMES: &[&str] = &["type", "handle", "internalId"];
 
-impl<K: Shape> Ruled for Held<K> {
-    ghost use Rattle.bidi_values.specs.RemoteValue.{held_by};
-
-    ghost rule = { held_by K.shape.rule };
-}
-
 impl<K: Shape> Shape for Held<K> {
-    ghost use Rattle.std.specs.Prelude.{refl, []};
-    ghost use Rattle.bidi_shape.specs.Table.{map_shape};
-    ghost use Rattle.bidi_values.specs.RemoteValue.{held_by};
-
     ghost shape = { map_shape (held_by K.shape.rule) ⟦<HeldParts<K> as Fields>⟧.table [] (λ v. (v.kind, (v.handle, (v.internal_id, record {})))) refl refl };
 
     fn from_tree<S: Parsed>(alloc: Global, tree: &S) -> Result<Held<K>, ShapeFault> {
-        let Required(kind, Optional(handle, Optional(internal_id, Closed))) = read_fields::<
-            Held<K>,
-            HeldParts<K>,
-            S,
-        >(alloc, tree, NAMES, &[])?;
+        let parts = read_fields(alloc, tree, NAMES, &[])?;
+        let Required(kind, Optional(handle, Optional(internal_id, Closed))) = parts;
         Ok(Held {
             kind,
             handle,
@@ -75,7 +66,6 @@ impl<K: Shape> Shape for Held<K> {
 }
 
 impl<K: Shape + Copy> Siblings for Held<K> {
-    ghost use Rattle.std.specs.Prelude.{refl, [], ◌∷◌, codes};
     ghost use Rattle.bidi_values.specs.SiblingLaws.{siblings_by};
 
     ghost siblings = { siblings_by ⟦<HeldParts<K> as Fields>⟧.table (codes "type" ∷ codes "handle" ∷ codes "internalId" ∷ [])
@@ -128,8 +118,6 @@ pub struct RemoteRegExp {
 }
 
 impl RemoteRegExp {
-    ghost use Rattle.std.specs.Prelude.{◌≡◌, IfOk};
-
     /// The same value, in room of its own.
     ///
     /// # Errors
@@ -151,24 +139,13 @@ impl RemoteRegExp {
     const NAMES: &'static [&'static str] = &["type", "value", "handle", "internalId"];
 }
 
-type RegExpParts = Literal<Required<RegExpValue, Optional<String, Optional<String, Closed>>>>;
-
-impl Ruled for RemoteRegExp {
-    ghost use Rattle.bidi_values.specs.RemoteValue.{remote_reg_exp};
-
-    ghost rule = { remote_reg_exp };
-}
-
 impl Shape for RemoteRegExp {
-    ghost use Rattle.std.specs.Prelude.{refl, [], ◌∷◌, codes};
-    ghost use Rattle.bidi_shape.specs.Table.{map_shape};
-
-    ghost shape = { map_shape ⟦<RemoteRegExp as Ruled>⟧.rule ⟦<RegExpParts as Fields>⟧.table (codes "regexp" ∷ [])
+    ghost shape = { map_shape remote_reg_exp ⟦<Literal<Required<RegExpValue, Optional<String, Optional<String, Closed>>>> as Fields>⟧.table (codes "regexp" ∷ [])
         (λ v. record { 0 = (v.value, (v.handle, (v.internal_id, record {}))) }) refl refl };
 
     fn from_tree<S: Parsed>(alloc: Global, tree: &S) -> Result<RemoteRegExp, ShapeFault> {
-        let Literal(Required(value, Optional(handle, Optional(internal_id, Closed)))) =
-            read_fields::<RemoteRegExp, RegExpParts, S>(alloc, tree, Self::NAMES, &["regexp"])?;
+        let parts = read_fields(alloc, tree, Self::NAMES, &["regexp"])?;
+        let Literal(Required(value, Optional(handle, Optional(internal_id, Closed)))) = parts;
         Ok(RemoteRegExp {
             value,
             handle,
@@ -198,8 +175,6 @@ pub struct RemoteDate {
 }
 
 impl RemoteDate {
-    ghost use Rattle.std.specs.Prelude.{◌≡◌, IfOk};
-
     /// The same value, in room of its own.
     ///
     /// # Errors
@@ -221,24 +196,13 @@ impl RemoteDate {
     const NAMES: &'static [&'static str] = &["type", "value", "handle", "internalId"];
 }
 
-type DateParts = Literal<Required<String, Optional<String, Optional<String, Closed>>>>;
-
-impl Ruled for RemoteDate {
-    ghost use Rattle.bidi_values.specs.RemoteValue.{remote_date};
-
-    ghost rule = { remote_date };
-}
-
 impl Shape for RemoteDate {
-    ghost use Rattle.std.specs.Prelude.{refl, [], ◌∷◌, codes};
-    ghost use Rattle.bidi_shape.specs.Table.{map_shape};
-
-    ghost shape = { map_shape ⟦<RemoteDate as Ruled>⟧.rule ⟦<DateParts as Fields>⟧.table (codes "date" ∷ [])
+    ghost shape = { map_shape remote_date ⟦<Literal<Required<String, Optional<String, Optional<String, Closed>>>> as Fields>⟧.table (codes "date" ∷ [])
         (λ v. record { 0 = (v.value, (v.handle, (v.internal_id, record {}))) }) refl refl };
 
     fn from_tree<S: Parsed>(alloc: Global, tree: &S) -> Result<RemoteDate, ShapeFault> {
-        let Literal(Required(value, Optional(handle, Optional(internal_id, Closed)))) =
-            read_fields::<RemoteDate, DateParts, S>(alloc, tree, Self::NAMES, &["date"])?;
+        let parts = read_fields(alloc, tree, Self::NAMES, &["date"])?;
+        let Literal(Required(value, Optional(handle, Optional(internal_id, Closed)))) = parts;
         Ok(RemoteDate {
             value,
             handle,

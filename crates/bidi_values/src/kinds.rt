@@ -1,4 +1,6 @@
 //! What holds a list of values, and what holds a list of pairs.
+ghost use Rattle.bidi_values.specs.Kinds.{list_words, pairs_words};
+
 use crate::siblings::Siblings;
 use bidi_shape::{Closed, Fields, Named, Parsed, Required, ShapeFault, add_member};
 use bidi_tree::DraftMembers;
@@ -18,16 +20,10 @@ pub enum ListKind {
 }
 
 impl Named for ListKind {
-    ghost use Rattle.bidi_values.specs.Kinds.{list_words};
-
     ghost words = { list_words };
 
-    fn named(text: &str) -> Option<ListKind> {
-        match text {
-            "array" => Some(ListKind::Array),
-            "set" => Some(ListKind::Set),
-            _ => None,
-        }
+    fn all() -> &'static [ListKind] {
+        &[ListKind::Array, ListKind::Set]
     }
 
     fn name(&self) -> &'static str {
@@ -52,16 +48,10 @@ pub enum PairsKind {
 }
 
 impl Named for PairsKind {
-    ghost use Rattle.bidi_values.specs.Kinds.{pairs_words};
-
     ghost words = { pairs_words };
 
-    fn named(text: &str) -> Option<PairsKind> {
-        match text {
-            "object" => Some(PairsKind::Object),
-            "map" => Some(PairsKind::Map),
-            _ => None,
-        }
+    fn all() -> &'static [PairsKind] {
+        &[PairsKind::Object, PairsKind::Map]
     }
 
     fn name(&self) -> &'static str {

@@ -1,11 +1,14 @@
 //! Values that a client sends to a script.
+ghost use Rattle.std.specs.Prelude.{refl, codes};
+ghost use Rattle.bidi_values.specs.LocalValue.{local_plain, local_alternatives, plain_local, list_local, pairs_local, one_of_local, local_list_not_plain, local_pairs_not_plain, local_list_not_pairs, local_pairs_not_list, text_not_plain};
+
 use crate::kinds::{ListKind, PairsKind};
 use crate::nested::{Nested, NestedKey, NestedPair, Nests};
 use crate::primitive::Primitive;
 use crate::reference::Reference;
 use crate::reg_exp::RegExpValue;
 use bidi_shape::{
-    Either, Parsed, Ruled, Shape, ShapeFault, Tag, Typed, copied, draft_of_typed, read_choice,
+    Either, Parsed, Shape, ShapeFault, Tag, Typed, copied, draft_of_typed, read_choice,
 };
 use bidi_tree::Draft;
 use std::alloc::{AllocError, Global};
@@ -45,20 +48,13 @@ type Alternatives = Either<
     Either<Primitive, Either<Typed<DateTag, String>, Typed<RegExpTag, RegExpValue>>>,
 >;
 
-impl Ruled for LocalPlain {
-    ghost use Rattle.bidi_values.specs.LocalValue.{local_plain};
-
-    ghost rule = { local_plain };
-}
-
 impl Shape for LocalPlain {
-    ghost use Rattle.std.specs.Prelude.{refl};
     ghost use Rattle.bidi_shape.specs.TagLaws.{typed};
     ghost use Rattle.bidi_shape.specs.ThroughLaws.{shape_through};
     ghost use Rattle.bidi_shape.specs.declared.choice.Either.TheVariants.{First, Second};
     ghost use Rattle.bidi_values.specs.declared.local_value.LocalPlain.TheVariants.{Reference, Primitive, Date, RegExp};
 
-    ghost shape = { shape_through ⟦<LocalPlain as Ruled>⟧.rule ⟦<Alternatives as Shape>⟧.shape
+    ghost shape = { shape_through local_plain ⟦<Alternatives as Shape>⟧.shape
         (λ v. elim v [
           | Reference r ↦ First r
           | Primitive p ↦ Second (First p)
@@ -69,7 +65,7 @@ impl Shape for LocalPlain {
     fn from_tree<S: Parsed>(alloc: Global, tree: &S) -> Result<LocalPlain, ShapeFault> {
         use Either::{First, Second};
 
-        match read_choice::<LocalPlain, Alternatives, S>(alloc, tree)? {
+        match read_choice::<Alternatives, S>(alloc, tree)? {
             First(reference) => Ok(LocalPlain::Reference(reference)),
             Second(First(primitive)) => Ok(LocalPlain::Primitive(primitive)),
             Second(Second(First(date))) => Ok(LocalPlain::Date(date.value)),
@@ -88,11 +84,7 @@ impl Shape for LocalPlain {
 }
 
 impl Nests<ListKind, PairsKind> for LocalPlain {
-    ghost use Rattle.std.specs.Prelude.{refl};
     ghost use Rattle.bidi_shape.specs.Name.{local_value, local_pair};
-    ghost use Rattle.bidi_values.specs.LocalValue.{local_alternatives, plain_local, list_local, pairs_local};
-    ghost use Rattle.bidi_values.specs.LocalValue.{one_of_local, local_list_not_plain, local_pairs_not_plain};
-    ghost use Rattle.bidi_values.specs.LocalValue.{local_list_not_pairs, local_pairs_not_list, text_not_plain};
 
     ghost nesting = { record {
       plain = ⟦<LocalPlain as Shape>⟧.shape;
@@ -135,8 +127,6 @@ impl Nests<ListKind, PairsKind> for LocalPlain {
 struct DateTag;
 
 impl Tag for DateTag {
-    ghost use Rattle.std.specs.Prelude.{codes};
-
     ghost tag = { codes "date" };
 
     fn tag() -> &'static str {
@@ -147,8 +137,6 @@ impl Tag for DateTag {
 struct RegExpTag;
 
 impl Tag for RegExpTag {
-    ghost use Rattle.std.specs.Prelude.{codes};
-
     ghost tag = { codes "regexp" };
 
     fn tag() -> &'static str {

@@ -1,17 +1,20 @@
 //! Log entries, their levels and their sources.
-ghost use Rattle.std.specs.Prelude.{◌≡◌, OnOk};
+ghost use Rattle.std.specs.Prelude.{◌≡◌, OnOk, refl, [], ◌∷◌, codes, IfOk, true};
 ghost use Rattle.bidi_tree.specs.Node as kind;
-ghost use Rattle.bidi_tree.specs.Node.{IsSound};
+ghost use Rattle.bidi_tree.specs.Node.{IsSound, MembersAreWhole};
 ghost use Rattle.bidi_tree.specs.Draft.{draft_members};
 ghost use Rattle.bidi_tree.specs.View.{members_node};
-ghost use Rattle.bidi_values.specs.LogEntry.{and_base};
+ghost use Rattle.bidi_shape.specs.Table.{map_shape, names_in};
+ghost use Rattle.bidi_shape.specs.Name.{source, console_entry, javascript_entry, generic_log_entry, log_entry};
+ghost use Rattle.bidi_shape.specs.Term.{rule as named, either};
+ghost use Rattle.bidi_values.specs.LogEntry.{and_base, table_through, generic_map};
 
 use crate::remote_value::RemoteValue;
 use crate::stack_trace::StackTrace;
 use bidi_shape::{
     Closed, Either, End, Ext, Fields, Literal, MakeFault, Maybe, Named, One, Optional, Parsed,
-    Required, Ruled, Shape, ShapeFault, add_literal, add_member, add_optional, draft_fields,
-    not_shadowed, read_choice, read_fields,
+    Required, Shape, ShapeFault, add_literal, add_member, add_optional, draft_fields, not_shadowed,
+    read_choice, read_fields,
 };
 use bidi_tree::{Draft, DraftMembers, JsUint, Members, draft_members_of};
 use std::alloc::{AllocError, Global};
@@ -38,14 +41,8 @@ impl Named for Level {
 
     ghost words = { level_words };
 
-    fn named(text: &str) -> Option<Level> {
-        match text {
-            "debug" => Some(Level::Debug),
-            "info" => Some(Level::Info),
-            "warn" => Some(Level::Warn),
-            "error" => Some(Level::Error),
-            _ => None,
-        }
+    fn all() -> &'static [Level] {
+        &[Level::Debug, Level::Info, Level::Warn, Level::Error]
     }
 
     fn name(&self) -> &'static str {
@@ -74,28 +71,12 @@ impl Source {
     const NAMES: &'static [&'static str] = &["realm", "context"];
 }
 
-type SourceParts = Required<String, Optional<String, Closed>>;
-
-impl Ruled for Source {
-    ghost use Rattle.bidi_shape.specs.Name.{source};
-    ghost use Rattle.bidi_shape.specs.Term.{rule as named};
-
-    ghost rule = { named source };
-}
-
 impl Shape for Source {
-    ghost use Rattle.std.specs.Prelude.{refl, []};
-    ghost use Rattle.bidi_shape.specs.Table.{map_shape};
-
-    ghost shape = { map_shape ⟦<Source as Ruled>⟧.rule ⟦<SourceParts as Fields>⟧.table [] (λ v. (v.realm, (v.context, record {}))) refl refl };
+    ghost shape = { map_shape (named source) ⟦<Required<String, Optional<String, Closed>> as Fields>⟧.table [] (λ v. (v.realm, (v.context, record {}))) refl refl };
 
     fn from_tree<S: Parsed>(alloc: Global, tree: &S) -> Result<Source, ShapeFault> {
-        let Required(realm, Optional(context, Closed)) = read_fields::<Source, SourceParts, S>(
-            alloc,
-            tree,
-            Self::NAMES,
-            &[],
-        )?;
+        let parts = read_fields(alloc, tree, Self::NAMES, &[])?;
+        let Required(realm, Optional(context, Closed)) = parts;
         Ok(Source { realm, context })
     }
 
@@ -132,8 +113,6 @@ type BaseParts<F> = Required<
 >;
 
 impl<F: Fields> Fields for WithBase<F> {
-    ghost use Rattle.bidi_values.specs.LogEntry.{table_through};
-
     ghost table = { table_through ⟦<BaseParts<F> as Fields>⟧.table (λ w. (w.0.level, (w.0.source, (w.0.text, (w.0.timestamp, (w.0.stack_trace, w.1)))))) };
 
     fn read<'a, S: Parsed>(
@@ -200,28 +179,13 @@ impl ConsoleEntry {
     ];
 }
 
-type ConsoleParts = WithBase<Literal<Required<String, Required<Vec<RemoteValue>, Closed>>>>;
-
-impl Ruled for ConsoleEntry {
-    ghost use Rattle.bidi_shape.specs.Name.{console_entry};
-    ghost use Rattle.bidi_shape.specs.Term.{rule as named};
-
-    ghost rule = { named console_entry };
-}
-
 impl Shape for ConsoleEntry {
-    ghost use Rattle.std.specs.Prelude.{refl, [], ◌∷◌, codes};
-    ghost use Rattle.bidi_shape.specs.Table.{map_shape};
-
-    ghost shape = { map_shape ⟦<ConsoleEntry as Ruled>⟧.rule ⟦<ConsoleParts as Fields>⟧.table (codes "console" ∷ [])
+    ghost shape = { map_shape (named console_entry) ⟦<WithBase<Literal<Required<String, Required<Vec<RemoteValue>, Closed>>>> as Fields>⟧.table (codes "console" ∷ [])
         (λ v. (v.base, record { 0 = (v.method, (v.args, record {})) })) refl refl };
 
     fn from_tree<S: Parsed>(alloc: Global, tree: &S) -> Result<ConsoleEntry, ShapeFault> {
-        let WithBase(base, Literal(Required(method, Required(args, Closed)))) = read_fields::<
-            ConsoleEntry,
-            ConsoleParts,
-            S,
-        >(alloc, tree, Self::NAMES, &["console"])?;
+        let parts = read_fields(alloc, tree, Self::NAMES, &["console"])?;
+        let WithBase(base, Literal(Required(method, Required(args, Closed)))) = parts;
         Ok(ConsoleEntry { base, method, args })
     }
 
@@ -257,29 +221,13 @@ impl JavascriptEntry {
     ];
 }
 
-type JavascriptParts = WithBase<Literal<Closed>>;
-
-impl Ruled for JavascriptEntry {
-    ghost use Rattle.bidi_shape.specs.Name.{javascript_entry};
-    ghost use Rattle.bidi_shape.specs.Term.{rule as named};
-
-    ghost rule = { named javascript_entry };
-}
-
 impl Shape for JavascriptEntry {
-    ghost use Rattle.std.specs.Prelude.{refl, [], ◌∷◌, codes};
-    ghost use Rattle.bidi_shape.specs.Table.{map_shape};
-
-    ghost shape = { map_shape ⟦<JavascriptEntry as Ruled>⟧.rule ⟦<JavascriptParts as Fields>⟧.table (codes "javascript" ∷ [])
+    ghost shape = { map_shape (named javascript_entry) ⟦<WithBase<Literal<Closed>> as Fields>⟧.table (codes "javascript" ∷ [])
         (λ v. (v.base, record { 0 = record {} })) refl refl };
 
     fn from_tree<S: Parsed>(alloc: Global, tree: &S) -> Result<JavascriptEntry, ShapeFault> {
-        let WithBase(base, Literal(Closed)) = read_fields::<JavascriptEntry, JavascriptParts, S>(
-            alloc,
-            tree,
-            Self::NAMES,
-            &["javascript"],
-        )?;
+        let parts = read_fields(alloc, tree, Self::NAMES, &["javascript"])?;
+        let WithBase(base, Literal(Closed)) = parts;
         Ok(JavascriptEntry { base })
     }
 
@@ -305,16 +253,8 @@ pub struct GenericLogEntry {
 }
 
 impl GenericLogEntry {
-    ghost use Rattle.std.specs.Prelude.{IfOk, true};
-    ghost use Rattle.bidi_tree.specs.Node.{MembersAreWhole};
-    ghost use Rattle.bidi_shape.specs.Name.{console_entry, javascript_entry, generic_log_entry};
-    ghost use Rattle.bidi_shape.specs.Term.{rule as named, either};
     ghost use Rattle.bidi_shape.specs.Fits.{Fits};
-    ghost use Rattle.bidi_shape.specs.Parts.{has_named};
-    ghost use Rattle.bidi_shape.specs.Table.{names_in};
-    ghost use Rattle.bidi_shape.specs.Made.{Makes};
-    ghost use Rattle.bidi_shape.specs.ValueLaws.{others_of};
-    ghost use Rattle.bidi_values.specs.LogEntry.{generic_map};
+    ghost use Rattle.bidi_shape.specs.Made.{Makes, has_named, others_of};
 
     // In the order of the rule.
     const NAMES: &'static [&'static str] = &[
@@ -356,28 +296,11 @@ impl GenericLogEntry {
     }
 }
 
-type GenericParts = WithBase<Required<String, Ext>>;
-
-impl Ruled for GenericLogEntry {
-    ghost use Rattle.bidi_shape.specs.Name.{generic_log_entry};
-    ghost use Rattle.bidi_shape.specs.Term.{rule as named};
-
-    ghost rule = { named generic_log_entry };
-}
-
 impl Shape for GenericLogEntry {
-    ghost use Rattle.std.specs.Prelude.{refl, []};
-    ghost use Rattle.bidi_shape.specs.Table.{map_shape};
-
-    ghost shape = { map_shape ⟦<GenericLogEntry as Ruled>⟧.rule ⟦<GenericParts as Fields>⟧.table [] (λ v. (v.base, (v.kind, v.ext))) refl refl };
+    ghost shape = { map_shape (named generic_log_entry) ⟦<WithBase<Required<String, Ext>> as Fields>⟧.table [] (λ v. (v.base, (v.kind, v.ext))) refl refl };
 
     fn from_tree<S: Parsed>(alloc: Global, tree: &S) -> Result<GenericLogEntry, ShapeFault> {
-        let WithBase(base, Required(kind, ext)) = read_fields::<GenericLogEntry, GenericParts, S>(
-            alloc,
-            tree,
-            Self::NAMES,
-            &[],
-        )?;
+        let WithBase(base, Required(kind, ext)) = read_fields(alloc, tree, Self::NAMES, &[])?;
         Ok(GenericLogEntry { base, kind, ext })
     }
 
@@ -404,28 +327,18 @@ pub enum LogEntry {
     Generic(GenericLogEntry),
 }
 
-type Alternatives = Either<ConsoleEntry, Either<JavascriptEntry, GenericLogEntry>>;
-
-impl Ruled for LogEntry {
-    ghost use Rattle.bidi_shape.specs.Name.{log_entry};
-    ghost use Rattle.bidi_shape.specs.Term.{rule as named};
-
-    ghost rule = { named log_entry };
-}
-
 impl Shape for LogEntry {
-    ghost use Rattle.std.specs.Prelude.{refl};
     ghost use Rattle.bidi_shape.specs.ThroughLaws.{shape_through};
     ghost use Rattle.bidi_shape.specs.declared.choice.Either.TheVariants.{First, Second};
     ghost use Rattle.bidi_values.specs.declared.log_entry.LogEntry.TheVariants.{Console, Javascript, Generic};
 
-    ghost shape = { shape_through ⟦<LogEntry as Ruled>⟧.rule ⟦<Alternatives as Shape>⟧.shape
+    ghost shape = { shape_through (named log_entry) ⟦<Either<ConsoleEntry, Either<JavascriptEntry, GenericLogEntry>> as Shape>⟧.shape
         (λ v. elim v [ Console c ↦ First c | Javascript j ↦ Second (First j) | Generic g ↦ Second (Second g) ]) refl };
 
     fn from_tree<S: Parsed>(alloc: Global, tree: &S) -> Result<LogEntry, ShapeFault> {
         use Either::{First, Second};
 
-        match read_choice::<LogEntry, Alternatives, S>(alloc, tree)? {
+        match read_choice(alloc, tree)? {
             First(console) => Ok(LogEntry::Console(console)),
             Second(First(javascript)) => Ok(LogEntry::Javascript(javascript)),
             Second(Second(generic)) => Ok(LogEntry::Generic(generic)),

@@ -1,7 +1,7 @@
 //! Values that may hold others of their kind.
-ghost use Rattle.std.specs.Prelude.{◌≡◌, IfOk};
+ghost use Rattle.std.specs.Prelude.{◌≡◌, IfOk, ◌≤◌};
 ghost use Rattle.bidi_values.specs.Content.{content, plain};
-ghost use Rattle.bidi_values.specs.NestedLaws.{NestingOf, Agrees};
+ghost use Rattle.bidi_values.specs.NestedLaws.{NestingOf, Agrees, nested_shape, IsWell, Same};
 
 use crate::copying::copy_value;
 use crate::reading::read_value;
@@ -67,8 +67,6 @@ pub trait Nests<L: Siblings, M: Siblings>: Shape {
 const MAX_LEVELS: usize = 60;
 
 impl<P: Nests<L, M>, L: Siblings, M: Siblings> Shape for Nested<P, L, M> {
-    ghost use Rattle.bidi_values.specs.NestedLaws.{nested_shape};
-
     ghost shape = { nested_shape P.nesting content };
 
     fn from_tree<S: Parsed>(alloc: Global, tree: &S) -> Result<Nested<P, L, M>, ShapeFault> {
@@ -85,11 +83,8 @@ impl<P: Nests<L, M>, L: Siblings, M: Siblings> Shape for Nested<P, L, M> {
 }
 
 impl<P: Nests<L, M>, L: Siblings, M: Siblings> Nested<P, L, M> {
-    ghost use Rattle.std.specs.Prelude.{◌≡◌, ◌≤◌, IfOk};
     ghost use Rattle.bidi_tree.specs.Node.{levels};
     ghost use Rattle.bidi_shape.specs.Made.{Makes};
-    ghost use Rattle.bidi_values.specs.Content.{content};
-    ghost use Rattle.bidi_values.specs.NestedLaws.{IsWell, Same};
     ghost use Rattle.bidi_values.specs.View.{nested_tree, NestedIsWell};
 
     /// The value, where its tree has at most 60 levels. To make a value of many levels, ask this once, at its top.

@@ -36,20 +36,19 @@ impl Named for Opaque {
 
     ghost words = { opaque_words };
 
-    fn named(text: &str) -> Option<Opaque> {
-        match text {
-            "symbol" => Some(Opaque::Symbol),
-            "function" => Some(Opaque::Function),
-            "weakmap" => Some(Opaque::WeakMap),
-            "weakset" => Some(Opaque::WeakSet),
-            "generator" => Some(Opaque::Generator),
-            "error" => Some(Opaque::Error),
-            "proxy" => Some(Opaque::Proxy),
-            "promise" => Some(Opaque::Promise),
-            "typedarray" => Some(Opaque::TypedArray),
-            "arraybuffer" => Some(Opaque::ArrayBuffer),
-            _ => None,
-        }
+    fn all() -> &'static [Opaque] {
+        &[
+            Opaque::Symbol,
+            Opaque::Function,
+            Opaque::WeakMap,
+            Opaque::WeakSet,
+            Opaque::Generator,
+            Opaque::Error,
+            Opaque::Proxy,
+            Opaque::Promise,
+            Opaque::TypedArray,
+            Opaque::ArrayBuffer,
+        ]
     }
 
     fn name(&self) -> &'static str {

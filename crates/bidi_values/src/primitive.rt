@@ -1,7 +1,12 @@
 //! Primitive values.
+ghost use Rattle.std.specs.Prelude.{refl, ◌≡◌, IfOk, codes};
+ghost use Rattle.bidi_shape.specs.ThroughLaws.{shape_through};
+ghost use Rattle.bidi_shape.specs.declared.choice.Either.TheVariants.{First, Second};
+ghost use Rattle.bidi_values.specs.Number.{special_number_words, number};
+
 use bidi_shape::{
-    Bare, Either, Named, Parsed, Ruled, Shape, ShapeFault, Tag, Typed, draft_of_type,
-    draft_of_typed, read_choice,
+    Bare, Either, Named, Parsed, Shape, ShapeFault, Tag, Typed, draft_of_type, draft_of_typed,
+    read_choice,
 };
 use bidi_tree::{Draft, JsInt};
 use std::alloc::{AllocError, Global};
@@ -24,18 +29,15 @@ pub enum SpecialNumber {
 }
 
 impl Named for SpecialNumber {
-    ghost use Rattle.bidi_values.specs.Number.{special_number_words};
-
     ghost words = { special_number_words };
 
-    fn named(text: &str) -> Option<SpecialNumber> {
-        match text {
-            "NaN" => Some(SpecialNumber::NaN),
-            "-0" => Some(SpecialNumber::NegativeZero),
-            "Infinity" => Some(SpecialNumber::Infinity),
-            "-Infinity" => Some(SpecialNumber::NegativeInfinity),
-            _ => None,
-        }
+    fn all() -> &'static [SpecialNumber] {
+        &[
+            SpecialNumber::NaN,
+            SpecialNumber::NegativeZero,
+            SpecialNumber::Infinity,
+            SpecialNumber::NegativeInfinity,
+        ]
     }
 
     fn name(&self) -> &'static str {
@@ -61,23 +63,14 @@ pub enum Number {
     Special(SpecialNumber),
 }
 
-impl Ruled for Number {
-    ghost use Rattle.bidi_values.specs.Number.{number};
-
-    ghost rule = { number };
-}
-
 impl Shape for Number {
-    ghost use Rattle.std.specs.Prelude.{refl};
-    ghost use Rattle.bidi_shape.specs.ThroughLaws.{shape_through};
-    ghost use Rattle.bidi_shape.specs.declared.choice.Either.TheVariants.{First, Second};
     ghost use Rattle.bidi_values.specs.declared.primitive.Number.TheVariants.{Whole, Special};
 
-    ghost shape = { shape_through ⟦<Number as Ruled>⟧.rule ⟦<Either<JsInt, SpecialNumber> as Shape>⟧.shape
+    ghost shape = { shape_through number ⟦<Either<JsInt, SpecialNumber> as Shape>⟧.shape
         (λ v. elim v [ Whole n ↦ First n | Special s ↦ Second s ]) refl };
 
     fn from_tree<S: Parsed>(alloc: Global, tree: &S) -> Result<Number, ShapeFault> {
-        match read_choice::<Number, Either<JsInt, SpecialNumber>, S>(alloc, tree)? {
+        match read_choice(alloc, tree)? {
             Either::First(whole) => Ok(Number::Whole(whole)),
             Either::Second(special) => Ok(Number::Special(special)),
         }
@@ -115,8 +108,6 @@ pub enum Primitive {
 }
 
 impl Primitive {
-    ghost use Rattle.std.specs.Prelude.{◌≡◌, IfOk};
-
     /// The same value, in room of its own.
     ///
     /// # Errors
@@ -150,21 +141,13 @@ type Alternatives = Either<
     >,
 >;
 
-impl Ruled for Primitive {
+impl Shape for Primitive {
+    ghost use Rattle.bidi_shape.specs.TagLaws.{bare, typed};
+    ghost use Rattle.bidi_values.specs.declared.primitive.Primitive.TheVariants.{Undefined, Null, String, Number, Boolean, BigInt};
     ghost use Rattle.bidi_shape.specs.Name.{primitive};
     ghost use Rattle.bidi_shape.specs.Term.{rule as named};
 
-    ghost rule = { named primitive };
-}
-
-impl Shape for Primitive {
-    ghost use Rattle.std.specs.Prelude.{refl};
-    ghost use Rattle.bidi_shape.specs.TagLaws.{bare, typed};
-    ghost use Rattle.bidi_shape.specs.ThroughLaws.{shape_through};
-    ghost use Rattle.bidi_shape.specs.declared.choice.Either.TheVariants.{First, Second};
-    ghost use Rattle.bidi_values.specs.declared.primitive.Primitive.TheVariants.{Undefined, Null, String, Number, Boolean, BigInt};
-
-    ghost shape = { shape_through ⟦<Primitive as Ruled>⟧.rule ⟦<Alternatives as Shape>⟧.shape
+    ghost shape = { shape_through (named primitive) ⟦<Alternatives as Shape>⟧.shape
         (λ v. elim v [
           | Undefined ↦ First bare
           | Null ↦ Second (First bare)
@@ -177,7 +160,7 @@ impl Shape for Primitive {
     fn from_tree<S: Parsed>(alloc: Global, tree: &S) -> Result<Primitive, ShapeFault> {
         use Either::{First, Second};
 
-        match read_choice::<Primitive, Alternatives, S>(alloc, tree)? {
+        match read_choice::<Alternatives, S>(alloc, tree)? {
             First(_) => Ok(Primitive::Undefined),
             Second(First(_)) => Ok(Primitive::Null),
             Second(Second(First(text))) => Ok(Primitive::String(text.value)),
@@ -204,8 +187,6 @@ impl Shape for Primitive {
 struct UndefinedTag;
 
 impl Tag for UndefinedTag {
-    ghost use Rattle.std.specs.Prelude.{codes};
-
     ghost tag = { codes "undefined" };
 
     fn tag() -> &'static str {
@@ -216,8 +197,6 @@ impl Tag for UndefinedTag {
 struct NullTag;
 
 impl Tag for NullTag {
-    ghost use Rattle.std.specs.Prelude.{codes};
-
     ghost tag = { codes "null" };
 
     fn tag() -> &'static str {
@@ -228,8 +207,6 @@ impl Tag for NullTag {
 struct StringTag;
 
 impl Tag for StringTag {
-    ghost use Rattle.std.specs.Prelude.{codes};
-
     ghost tag = { codes "string" };
 
     fn tag() -> &'static str {
@@ -240,8 +217,6 @@ impl Tag for StringTag {
 struct NumberTag;
 
 impl Tag for NumberTag {
-    ghost use Rattle.std.specs.Prelude.{codes};
-
     ghost tag = { codes "number" };
 
     fn tag() -> &'static str {
@@ -252,8 +227,6 @@ impl Tag for NumberTag {
 struct BooleanTag;
 
 impl Tag for BooleanTag {
-    ghost use Rattle.std.specs.Prelude.{codes};
-
     ghost tag = { codes "boolean" };
 
     fn tag() -> &'static str {
@@ -264,8 +237,6 @@ impl Tag for BooleanTag {
 struct BigIntTag;
 
 impl Tag for BigIntTag {
-    ghost use Rattle.std.specs.Prelude.{codes};
-
     ghost tag = { codes "bigint" };
 
     fn tag() -> &'static str {

@@ -1,6 +1,11 @@
 //! References to values that a remote end holds.
+ghost use Rattle.std.specs.Prelude.{◌≡◌, IfOk, true, refl, []};
+ghost use Rattle.bidi_shape.specs.Name.{shared_reference, remote_object_reference, reference};
+ghost use Rattle.bidi_shape.specs.Table.{map_shape};
+ghost use Rattle.bidi_shape.specs.Made.{Makes, named, MembersAreWhole, members_node, has_named, names_in, others_of};
+
 use bidi_shape::{
-    Either, Ext, Fields, MakeFault, Maybe, One, Optional, Parsed, Required, Rest, Ruled, Shape,
+    Either, Ext, Fields, MakeFault, Maybe, One, Optional, Parsed, Required, Rest, Shape,
     ShapeFault, draft_fields, further, not_shadowed, read_choice, read_fields,
 };
 use bidi_tree::{Draft, Members};
@@ -19,16 +24,6 @@ pub struct SharedReference {
 }
 
 impl SharedReference {
-    ghost use Rattle.std.specs.Prelude.{◌≡◌, IfOk, true};
-    ghost use Rattle.bidi_tree.specs.Node.{MembersAreWhole};
-    ghost use Rattle.bidi_tree.specs.View.{members_node};
-    ghost use Rattle.bidi_shape.specs.Name.{shared_reference};
-    ghost use Rattle.bidi_shape.specs.Term.{rule as named};
-    ghost use Rattle.bidi_shape.specs.Parts.{has_named};
-    ghost use Rattle.bidi_shape.specs.Table.{names_in};
-    ghost use Rattle.bidi_shape.specs.Made.{Makes};
-    ghost use Rattle.bidi_shape.specs.ValueLaws.{others_of};
-
     // In the order of the rule.
     const NAMES: &'static [&'static str] = &["sharedId", "handle"];
 
@@ -60,25 +55,12 @@ impl SharedReference {
 
 type SharedParts = Required<String, Optional<String, Ext>>;
 
-impl Ruled for SharedReference {
-    ghost use Rattle.bidi_shape.specs.Name.{shared_reference};
-    ghost use Rattle.bidi_shape.specs.Term.{rule as named};
-
-    ghost rule = { named shared_reference };
-}
-
 impl Shape for SharedReference {
-    ghost use Rattle.std.specs.Prelude.{refl, []};
-    ghost use Rattle.bidi_shape.specs.Table.{map_shape};
-
-    ghost shape = { map_shape ⟦<SharedReference as Ruled>⟧.rule ⟦<SharedParts as Fields>⟧.table [] (λ v. (v.shared_id, (v.handle, v.ext))) refl refl };
+    ghost shape = { map_shape (named shared_reference) ⟦<SharedParts as Fields>⟧.table [] (λ v. (v.shared_id, (v.handle, v.ext))) refl refl };
 
     fn from_tree<S: Parsed>(alloc: Global, tree: &S) -> Result<SharedReference, ShapeFault> {
-        let Required(shared_id, Optional(handle, ext)) = read_fields::<
-            SharedReference,
-            SharedParts,
-            S,
-        >(alloc, tree, Self::NAMES, &[])?;
+        let parts = read_fields(alloc, tree, Self::NAMES, &[])?;
+        let Required(shared_id, Optional(handle, ext)) = parts;
         Ok(SharedReference {
             shared_id,
             handle,
@@ -105,16 +87,7 @@ pub struct RemoteObjectReference {
 }
 
 impl RemoteObjectReference {
-    ghost use Rattle.std.specs.Prelude.{◌≡◌, IfOk, true};
-    ghost use Rattle.bidi_tree.specs.Node.{MembersAreWhole};
-    ghost use Rattle.bidi_tree.specs.View.{members_node};
-    ghost use Rattle.bidi_shape.specs.Name.{shared_reference, remote_object_reference};
-    ghost use Rattle.bidi_shape.specs.Term.{rule as named};
     ghost use Rattle.bidi_shape.specs.Fits.{Fits};
-    ghost use Rattle.bidi_shape.specs.Parts.{has_named};
-    ghost use Rattle.bidi_shape.specs.Table.{names_in};
-    ghost use Rattle.bidi_shape.specs.Made.{Makes};
-    ghost use Rattle.bidi_shape.specs.ValueLaws.{others_of};
     ghost use Rattle.bidi_values.specs.Maps.{remote_object_map};
 
     // In the order of the rule.
@@ -155,28 +128,13 @@ impl RemoteObjectReference {
     }
 }
 
-type RemoteObjectParts = Required<String, Optional<String, Ext>>;
-
-impl Ruled for RemoteObjectReference {
-    ghost use Rattle.bidi_shape.specs.Name.{remote_object_reference};
-    ghost use Rattle.bidi_shape.specs.Term.{rule as named};
-
-    ghost rule = { named remote_object_reference };
-}
-
 impl Shape for RemoteObjectReference {
-    ghost use Rattle.std.specs.Prelude.{refl, []};
-    ghost use Rattle.bidi_shape.specs.Table.{map_shape};
-
-    ghost shape = { map_shape ⟦<RemoteObjectReference as Ruled>⟧.rule ⟦<RemoteObjectParts as Fields>⟧.table []
+    ghost shape = { map_shape (named remote_object_reference) ⟦<Required<String, Optional<String, Ext>> as Fields>⟧.table []
         (λ v. (v.handle, (v.shared_id, v.ext))) refl refl };
 
     fn from_tree<S: Parsed>(alloc: Global, tree: &S) -> Result<RemoteObjectReference, ShapeFault> {
-        let Required(handle, Optional(shared_id, ext)) = read_fields::<
-            RemoteObjectReference,
-            RemoteObjectParts,
-            S,
-        >(alloc, tree, Self::NAMES, &[])?;
+        let parts = read_fields(alloc, tree, Self::NAMES, &[])?;
+        let Required(handle, Optional(shared_id, ext)) = parts;
         Ok(RemoteObjectReference {
             handle,
             shared_id,
@@ -203,26 +161,16 @@ pub enum Reference {
     RemoteObject(RemoteObjectReference),
 }
 
-type Alternatives = Either<SharedReference, RemoteObjectReference>;
-
-impl Ruled for Reference {
-    ghost use Rattle.bidi_shape.specs.Name.{reference};
-    ghost use Rattle.bidi_shape.specs.Term.{rule as named};
-
-    ghost rule = { named reference };
-}
-
 impl Shape for Reference {
-    ghost use Rattle.std.specs.Prelude.{refl};
     ghost use Rattle.bidi_shape.specs.ThroughLaws.{shape_through};
     ghost use Rattle.bidi_shape.specs.declared.choice.Either.TheVariants.{First, Second};
     ghost use Rattle.bidi_values.specs.declared.reference.Reference.TheVariants.{Shared, RemoteObject};
 
-    ghost shape = { shape_through ⟦<Reference as Ruled>⟧.rule ⟦<Alternatives as Shape>⟧.shape
+    ghost shape = { shape_through (named reference) ⟦<Either<SharedReference, RemoteObjectReference> as Shape>⟧.shape
         (λ v. elim v [ Shared s ↦ First s | RemoteObject r ↦ Second r ]) refl };
 
     fn from_tree<S: Parsed>(alloc: Global, tree: &S) -> Result<Reference, ShapeFault> {
-        match read_choice::<Reference, Alternatives, S>(alloc, tree)? {
+        match read_choice(alloc, tree)? {
             Either::First(shared) => Ok(Reference::Shared(shared)),
             Either::Second(object) => Ok(Reference::RemoteObject(object)),
         }

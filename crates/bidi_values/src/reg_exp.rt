@@ -1,8 +1,10 @@
 //! Regular expressions.
+ghost use Rattle.std.specs.Prelude.{◌≡◌, IfOk, refl, []};
+
 use crate::copying::copy_text;
 use bidi_shape::{
-    Closed, End, Fields, Maybe, One, Optional, Parsed, Required, Ruled, Shape, ShapeFault,
-    draft_fields, read_fields,
+    Closed, End, Fields, Maybe, One, Optional, Parsed, Required, Shape, ShapeFault, draft_fields,
+    read_fields,
 };
 use bidi_tree::Draft;
 use std::alloc::{AllocError, Global};
@@ -19,8 +21,6 @@ pub struct RegExpValue {
 }
 
 impl RegExpValue {
-    ghost use Rattle.std.specs.Prelude.{◌≡◌, IfOk};
-
     /// The same value, in room of its own.
     ///
     /// # Errors
@@ -43,26 +43,16 @@ impl RegExpValue {
 
 type Parts = Required<String, Optional<String, Closed>>;
 
-impl Ruled for RegExpValue {
+impl Shape for RegExpValue {
+    ghost use Rattle.bidi_shape.specs.Table.{map_shape};
     ghost use Rattle.bidi_shape.specs.Name.{reg_exp_value};
     ghost use Rattle.bidi_shape.specs.Term.{rule as named};
 
-    ghost rule = { named reg_exp_value };
-}
-
-impl Shape for RegExpValue {
-    ghost use Rattle.std.specs.Prelude.{refl, []};
-    ghost use Rattle.bidi_shape.specs.Table.{map_shape};
-
-    ghost shape = { map_shape ⟦<RegExpValue as Ruled>⟧.rule ⟦<Parts as Fields>⟧.table [] (λ v. (v.pattern, (v.flags, record {}))) refl refl };
+    ghost shape = { map_shape (named reg_exp_value) ⟦<Parts as Fields>⟧.table [] (λ v. (v.pattern, (v.flags, record {}))) refl refl };
 
     fn from_tree<S: Parsed>(alloc: Global, tree: &S) -> Result<RegExpValue, ShapeFault> {
-        let Required(pattern, Optional(flags, Closed)) = read_fields::<RegExpValue, Parts, S>(
-            alloc,
-            tree,
-            Self::NAMES,
-            &[],
-        )?;
+        let parts = read_fields(alloc, tree, Self::NAMES, &[])?;
+        let Required(pattern, Optional(flags, Closed)) = parts;
         Ok(RegExpValue { pattern, flags })
     }
 

@@ -1,9 +1,12 @@
 //! Values that a script gives back.
+ghost use Rattle.std.specs.Prelude.{refl};
+ghost use Rattle.bidi_values.specs.RemoteValue.{remote_plain, remote_alternatives, plain_remote, list_remote, pairs_remote, one_of_remote, remote_list_not_plain, remote_pairs_not_plain, remote_list_not_pairs, remote_pairs_not_list, text_not_plain};
+
 use crate::held::{RemoteDate, RemoteList, RemoteOpaque, RemotePairs, RemoteRegExp};
 use crate::nested::{Nested, NestedKey, NestedPair, Nests};
 use crate::primitive::Primitive;
 use crate::siblings::Siblings;
-use bidi_shape::{Either, Parsed, Ruled, Shape, ShapeFault, read_choice};
+use bidi_shape::{Either, Parsed, Shape, ShapeFault, read_choice};
 use bidi_tree::Draft;
 use std::alloc::{AllocError, Global};
 
@@ -49,19 +52,12 @@ type Alternatives = Either<
     Either<RemoteList, Either<RemotePairs, Either<RemoteRegExp, Either<RemoteDate, RemoteOpaque>>>>,
 >;
 
-impl Ruled for RemotePlain {
-    ghost use Rattle.bidi_values.specs.RemoteValue.{remote_plain};
-
-    ghost rule = { remote_plain };
-}
-
 impl Shape for RemotePlain {
-    ghost use Rattle.std.specs.Prelude.{refl};
     ghost use Rattle.bidi_shape.specs.ThroughLaws.{shape_through};
     ghost use Rattle.bidi_shape.specs.declared.choice.Either.TheVariants.{First, Second};
     ghost use Rattle.bidi_values.specs.declared.remote_value.RemotePlain.TheVariants.{Primitive, List, Pairs, RegExp, Date, Opaque};
 
-    ghost shape = { shape_through ⟦<RemotePlain as Ruled>⟧.rule ⟦<Alternatives as Shape>⟧.shape
+    ghost shape = { shape_through remote_plain ⟦<Alternatives as Shape>⟧.shape
         (λ v. elim v [
           | Primitive p ↦ First p
           | List l ↦ Second (First l)
@@ -74,7 +70,7 @@ impl Shape for RemotePlain {
     fn from_tree<S: Parsed>(alloc: Global, tree: &S) -> Result<RemotePlain, ShapeFault> {
         use Either::{First, Second};
 
-        match read_choice::<RemotePlain, Alternatives, S>(alloc, tree)? {
+        match read_choice(alloc, tree)? {
             First(primitive) => Ok(RemotePlain::Primitive(primitive)),
             Second(First(list)) => Ok(RemotePlain::List(list)),
             Second(Second(First(pairs))) => Ok(RemotePlain::Pairs(pairs)),
@@ -97,11 +93,7 @@ impl Shape for RemotePlain {
 }
 
 impl Nests<RemoteList, RemotePairs> for RemotePlain {
-    ghost use Rattle.std.specs.Prelude.{refl};
     ghost use Rattle.bidi_shape.specs.Name.{remote_value, remote_pair};
-    ghost use Rattle.bidi_values.specs.RemoteValue.{remote_alternatives, plain_remote, list_remote, pairs_remote};
-    ghost use Rattle.bidi_values.specs.RemoteValue.{one_of_remote, remote_list_not_plain, remote_pairs_not_plain};
-    ghost use Rattle.bidi_values.specs.RemoteValue.{remote_list_not_pairs, remote_pairs_not_list, text_not_plain};
 
     ghost nesting = { record {
       plain = ⟦<RemotePlain as Shape>⟧.shape;

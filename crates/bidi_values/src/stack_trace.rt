@@ -1,6 +1,11 @@
 //! Stack traces.
+ghost use Rattle.std.specs.Prelude.{refl, []};
+ghost use Rattle.bidi_shape.specs.Table.{map_shape};
+ghost use Rattle.bidi_shape.specs.Name.{stack_frame, stack_trace};
+ghost use Rattle.bidi_shape.specs.Term.{rule as named};
+
 use bidi_shape::{
-    Closed, End, Fields, One, Parsed, Required, Ruled, Shape, ShapeFault, draft_fields, read_fields,
+    Closed, End, Fields, One, Parsed, Required, Shape, ShapeFault, draft_fields, read_fields,
 };
 use bidi_tree::{Draft, JsUint};
 use std::alloc::{AllocError, Global};
@@ -23,27 +28,15 @@ impl StackFrame {
     const NAMES: &'static [&'static str] = &["columnNumber", "functionName", "lineNumber", "url"];
 }
 
-type FrameParts = Required<JsUint, Required<String, Required<JsUint, Required<String, Closed>>>>;
-
-impl Ruled for StackFrame {
-    ghost use Rattle.bidi_shape.specs.Name.{stack_frame};
-    ghost use Rattle.bidi_shape.specs.Term.{rule as named};
-
-    ghost rule = { named stack_frame };
-}
-
 impl Shape for StackFrame {
-    ghost use Rattle.std.specs.Prelude.{refl, []};
-    ghost use Rattle.bidi_shape.specs.Table.{map_shape};
-
-    ghost shape = { map_shape ⟦<StackFrame as Ruled>⟧.rule ⟦<FrameParts as Fields>⟧.table []
+    ghost shape = { map_shape (named stack_frame) ⟦<Required<JsUint, Required<String, Required<JsUint, Required<String, Closed>>>> as Fields>⟧.table []
         (λ v. (v.column_number, (v.function_name, (v.line_number, (v.url, record {}))))) refl refl };
 
     fn from_tree<S: Parsed>(alloc: Global, tree: &S) -> Result<StackFrame, ShapeFault> {
         let Required(
             column_number,
             Required(function_name, Required(line_number, Required(url, Closed))),
-        ) = read_fields::<StackFrame, FrameParts, S>(alloc, tree, Self::NAMES, &[])?;
+        ) = read_fields(alloc, tree, Self::NAMES, &[])?;
         Ok(StackFrame {
             column_number,
             function_name,
@@ -79,28 +72,11 @@ impl StackTrace {
     const NAMES: &'static [&'static str] = &["callFrames"];
 }
 
-type TraceParts = Required<Vec<StackFrame>, Closed>;
-
-impl Ruled for StackTrace {
-    ghost use Rattle.bidi_shape.specs.Name.{stack_trace};
-    ghost use Rattle.bidi_shape.specs.Term.{rule as named};
-
-    ghost rule = { named stack_trace };
-}
-
 impl Shape for StackTrace {
-    ghost use Rattle.std.specs.Prelude.{refl, []};
-    ghost use Rattle.bidi_shape.specs.Table.{map_shape};
-
-    ghost shape = { map_shape ⟦<StackTrace as Ruled>⟧.rule ⟦<TraceParts as Fields>⟧.table [] (λ v. (v.call_frames, record {})) refl refl };
+    ghost shape = { map_shape (named stack_trace) ⟦<Required<Vec<StackFrame>, Closed> as Fields>⟧.table [] (λ v. (v.call_frames, record {})) refl refl };
 
     fn from_tree<S: Parsed>(alloc: Global, tree: &S) -> Result<StackTrace, ShapeFault> {
-        let Required(call_frames, Closed) = read_fields::<StackTrace, TraceParts, S>(
-            alloc,
-            tree,
-            Self::NAMES,
-            &[],
-        )?;
+        let Required(call_frames, Closed) = read_fields(alloc, tree, Self::NAMES, &[])?;
         Ok(StackTrace { call_frames })
     }
 

@@ -1,7 +1,11 @@
 //! The table of a play: what each script does.
+ghost use Rattle.std.specs.Prelude.{refl, []};
+ghost use Rattle.bidi_shape.specs.Table.{map_shape};
+ghost use Rattle.bidi_values.specs.Outcomes.{returns_row, throws_row, argument_row};
+
 use crate::remote_value::RemoteValue;
 use bidi_shape::{
-    Closed, Either, End, Fields, One, Parsed, Required, Ruled, Shape, ShapeFault, draft_fields,
+    Closed, Either, End, Fields, One, Parsed, Required, Shape, ShapeFault, draft_fields,
     read_choice, read_fields,
 };
 use bidi_tree::{Draft, JsUint};
@@ -23,27 +27,11 @@ impl ReturnsRow {
     const NAMES: &'static [&'static str] = &["text", "returns"];
 }
 
-type ReturnsParts = Required<String, Required<RemoteValue, Closed>>;
-
-impl Ruled for ReturnsRow {
-    ghost use Rattle.bidi_values.specs.Outcomes.{returns_row};
-
-    ghost rule = { returns_row };
-}
-
 impl Shape for ReturnsRow {
-    ghost use Rattle.std.specs.Prelude.{refl, []};
-    ghost use Rattle.bidi_shape.specs.Table.{map_shape};
-
-    ghost shape = { map_shape ⟦<ReturnsRow as Ruled>⟧.rule ⟦<ReturnsParts as Fields>⟧.table [] (λ v. (v.text, (v.value, record {}))) refl refl };
+    ghost shape = { map_shape returns_row ⟦<Required<String, Required<RemoteValue, Closed>> as Fields>⟧.table [] (λ v. (v.text, (v.value, record {}))) refl refl };
 
     fn from_tree<S: Parsed>(alloc: Global, tree: &S) -> Result<ReturnsRow, ShapeFault> {
-        let Required(text, Required(value, Closed)) = read_fields::<ReturnsRow, ReturnsParts, S>(
-            alloc,
-            tree,
-            Self::NAMES,
-            &[],
-        )?;
+        let Required(text, Required(value, Closed)) = read_fields(alloc, tree, Self::NAMES, &[])?;
         Ok(ReturnsRow { text, value })
     }
 
@@ -69,27 +57,11 @@ impl ThrowsRow {
     const NAMES: &'static [&'static str] = &["text", "throws"];
 }
 
-type ThrowsParts = Required<String, Required<RemoteValue, Closed>>;
-
-impl Ruled for ThrowsRow {
-    ghost use Rattle.bidi_values.specs.Outcomes.{throws_row};
-
-    ghost rule = { throws_row };
-}
-
 impl Shape for ThrowsRow {
-    ghost use Rattle.std.specs.Prelude.{refl, []};
-    ghost use Rattle.bidi_shape.specs.Table.{map_shape};
-
-    ghost shape = { map_shape ⟦<ThrowsRow as Ruled>⟧.rule ⟦<ThrowsParts as Fields>⟧.table [] (λ v. (v.text, (v.value, record {}))) refl refl };
+    ghost shape = { map_shape throws_row ⟦<Required<String, Required<RemoteValue, Closed>> as Fields>⟧.table [] (λ v. (v.text, (v.value, record {}))) refl refl };
 
     fn from_tree<S: Parsed>(alloc: Global, tree: &S) -> Result<ThrowsRow, ShapeFault> {
-        let Required(text, Required(value, Closed)) = read_fields::<ThrowsRow, ThrowsParts, S>(
-            alloc,
-            tree,
-            Self::NAMES,
-            &[],
-        )?;
+        let Required(text, Required(value, Closed)) = read_fields(alloc, tree, Self::NAMES, &[])?;
         Ok(ThrowsRow { text, value })
     }
 
@@ -115,27 +87,11 @@ impl ArgumentRow {
     const NAMES: &'static [&'static str] = &["text", "argument"];
 }
 
-type ArgumentParts = Required<String, Required<JsUint, Closed>>;
-
-impl Ruled for ArgumentRow {
-    ghost use Rattle.bidi_values.specs.Outcomes.{argument_row};
-
-    ghost rule = { argument_row };
-}
-
 impl Shape for ArgumentRow {
-    ghost use Rattle.std.specs.Prelude.{refl, []};
-    ghost use Rattle.bidi_shape.specs.Table.{map_shape};
-
-    ghost shape = { map_shape ⟦<ArgumentRow as Ruled>⟧.rule ⟦<ArgumentParts as Fields>⟧.table [] (λ v. (v.text, (v.index, record {}))) refl refl };
+    ghost shape = { map_shape argument_row ⟦<Required<String, Required<JsUint, Closed>> as Fields>⟧.table [] (λ v. (v.text, (v.index, record {}))) refl refl };
 
     fn from_tree<S: Parsed>(alloc: Global, tree: &S) -> Result<ArgumentRow, ShapeFault> {
-        let Required(text, Required(index, Closed)) = read_fields::<ArgumentRow, ArgumentParts, S>(
-            alloc,
-            tree,
-            Self::NAMES,
-            &[],
-        )?;
+        let Required(text, Required(index, Closed)) = read_fields(alloc, tree, Self::NAMES, &[])?;
         Ok(ArgumentRow { text, index })
     }
 
@@ -160,28 +116,20 @@ pub enum TableRow {
     Argument(ArgumentRow),
 }
 
-type Alternatives = Either<ReturnsRow, Either<ThrowsRow, ArgumentRow>>;
-
-impl Ruled for TableRow {
-    ghost use Rattle.bidi_shape.specs.Name.{table_row};
-    ghost use Rattle.bidi_shape.specs.Term.{rule as named};
-
-    ghost rule = { named table_row };
-}
-
 impl Shape for TableRow {
-    ghost use Rattle.std.specs.Prelude.{refl};
     ghost use Rattle.bidi_shape.specs.ThroughLaws.{shape_through};
     ghost use Rattle.bidi_shape.specs.declared.choice.Either.TheVariants.{First, Second};
     ghost use Rattle.bidi_values.specs.declared.table_row.TableRow.TheVariants.{Returns, Throws, Argument};
+    ghost use Rattle.bidi_shape.specs.Name.{table_row};
+    ghost use Rattle.bidi_shape.specs.Term.{rule as named};
 
-    ghost shape = { shape_through ⟦<TableRow as Ruled>⟧.rule ⟦<Alternatives as Shape>⟧.shape
+    ghost shape = { shape_through (named table_row) ⟦<Either<ReturnsRow, Either<ThrowsRow, ArgumentRow>> as Shape>⟧.shape
         (λ v. elim v [ Returns r ↦ First r | Throws t ↦ Second (First t) | Argument a ↦ Second (Second a) ]) refl };
 
     fn from_tree<S: Parsed>(alloc: Global, tree: &S) -> Result<TableRow, ShapeFault> {
         use Either::{First, Second};
 
-        match read_choice::<TableRow, Alternatives, S>(alloc, tree)? {
+        match read_choice(alloc, tree)? {
             First(returns) => Ok(TableRow::Returns(returns)),
             Second(First(throws)) => Ok(TableRow::Throws(throws)),
             Second(Second(argument)) => Ok(TableRow::Argument(argument)),

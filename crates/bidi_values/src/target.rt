@@ -1,6 +1,11 @@
 //! Where a script is run.
+ghost use Rattle.std.specs.Prelude.{◌≡◌, IfOk, true, refl, []};
+ghost use Rattle.bidi_shape.specs.Name.{context_target, realm_target, target};
+ghost use Rattle.bidi_shape.specs.Table.{map_shape};
+ghost use Rattle.bidi_shape.specs.Made.{Makes, named, MembersAreWhole, members_node, has_named, names_in, others_of};
+
 use bidi_shape::{
-    Either, Ext, Fields, MakeFault, Maybe, One, Optional, Parsed, Required, Rest, Ruled, Shape,
+    Either, Ext, Fields, MakeFault, Maybe, One, Optional, Parsed, Required, Rest, Shape,
     ShapeFault, draft_fields, further, not_shadowed, read_choice, read_fields,
 };
 use bidi_tree::{Draft, Members};
@@ -21,16 +26,6 @@ pub struct ContextTarget {
 }
 
 impl ContextTarget {
-    ghost use Rattle.std.specs.Prelude.{◌≡◌, IfOk, true};
-    ghost use Rattle.bidi_tree.specs.Node.{MembersAreWhole};
-    ghost use Rattle.bidi_tree.specs.View.{members_node};
-    ghost use Rattle.bidi_shape.specs.Name.{context_target};
-    ghost use Rattle.bidi_shape.specs.Term.{rule as named};
-    ghost use Rattle.bidi_shape.specs.Parts.{has_named};
-    ghost use Rattle.bidi_shape.specs.Table.{names_in};
-    ghost use Rattle.bidi_shape.specs.Made.{Makes};
-    ghost use Rattle.bidi_shape.specs.ValueLaws.{others_of};
-
     // In the order of the rule.
     const NAMES: &'static [&'static str] = &["context", "sandbox"];
 
@@ -60,27 +55,11 @@ impl ContextTarget {
     }
 }
 
-type ContextParts = Required<String, Optional<String, Ext>>;
-
-impl Ruled for ContextTarget {
-    ghost use Rattle.bidi_shape.specs.Name.{context_target};
-    ghost use Rattle.bidi_shape.specs.Term.{rule as named};
-
-    ghost rule = { named context_target };
-}
-
 impl Shape for ContextTarget {
-    ghost use Rattle.std.specs.Prelude.{refl, []};
-    ghost use Rattle.bidi_shape.specs.Table.{map_shape};
-
-    ghost shape = { map_shape ⟦<ContextTarget as Ruled>⟧.rule ⟦<ContextParts as Fields>⟧.table [] (λ v. (v.context, (v.sandbox, v.ext))) refl refl };
+    ghost shape = { map_shape (named context_target) ⟦<Required<String, Optional<String, Ext>> as Fields>⟧.table [] (λ v. (v.context, (v.sandbox, v.ext))) refl refl };
 
     fn from_tree<S: Parsed>(alloc: Global, tree: &S) -> Result<ContextTarget, ShapeFault> {
-        let Required(context, Optional(sandbox, ext)) = read_fields::<
-            ContextTarget,
-            ContextParts,
-            S,
-        >(alloc, tree, Self::NAMES, &[])?;
+        let Required(context, Optional(sandbox, ext)) = read_fields(alloc, tree, Self::NAMES, &[])?;
         Ok(ContextTarget {
             context,
             sandbox,
@@ -106,16 +85,7 @@ pub struct RealmTarget {
 }
 
 impl RealmTarget {
-    ghost use Rattle.std.specs.Prelude.{◌≡◌, IfOk, true};
-    ghost use Rattle.bidi_tree.specs.Node.{MembersAreWhole};
-    ghost use Rattle.bidi_tree.specs.View.{members_node};
-    ghost use Rattle.bidi_shape.specs.Name.{context_target, realm_target};
-    ghost use Rattle.bidi_shape.specs.Term.{rule as named};
     ghost use Rattle.bidi_shape.specs.Fits.{Fits};
-    ghost use Rattle.bidi_shape.specs.Parts.{has_named};
-    ghost use Rattle.bidi_shape.specs.Table.{names_in};
-    ghost use Rattle.bidi_shape.specs.Made.{Makes};
-    ghost use Rattle.bidi_shape.specs.ValueLaws.{others_of};
     ghost use Rattle.bidi_values.specs.Maps.{realm_map};
 
     // In the order of the rule.
@@ -146,28 +116,11 @@ impl RealmTarget {
     }
 }
 
-type RealmParts = Required<String, Ext>;
-
-impl Ruled for RealmTarget {
-    ghost use Rattle.bidi_shape.specs.Name.{realm_target};
-    ghost use Rattle.bidi_shape.specs.Term.{rule as named};
-
-    ghost rule = { named realm_target };
-}
-
 impl Shape for RealmTarget {
-    ghost use Rattle.std.specs.Prelude.{refl, []};
-    ghost use Rattle.bidi_shape.specs.Table.{map_shape};
-
-    ghost shape = { map_shape ⟦<RealmTarget as Ruled>⟧.rule ⟦<RealmParts as Fields>⟧.table [] (λ v. (v.realm, v.ext)) refl refl };
+    ghost shape = { map_shape (named realm_target) ⟦<Required<String, Ext> as Fields>⟧.table [] (λ v. (v.realm, v.ext)) refl refl };
 
     fn from_tree<S: Parsed>(alloc: Global, tree: &S) -> Result<RealmTarget, ShapeFault> {
-        let Required(realm, ext) = read_fields::<RealmTarget, RealmParts, S>(
-            alloc,
-            tree,
-            Self::NAMES,
-            &[],
-        )?;
+        let Required(realm, ext) = read_fields(alloc, tree, Self::NAMES, &[])?;
         Ok(RealmTarget { realm, ext })
     }
 
@@ -190,26 +143,16 @@ pub enum Target {
     Realm(RealmTarget),
 }
 
-type Alternatives = Either<ContextTarget, RealmTarget>;
-
-impl Ruled for Target {
-    ghost use Rattle.bidi_shape.specs.Name.{target};
-    ghost use Rattle.bidi_shape.specs.Term.{rule as named};
-
-    ghost rule = { named target };
-}
-
 impl Shape for Target {
-    ghost use Rattle.std.specs.Prelude.{refl};
     ghost use Rattle.bidi_shape.specs.ThroughLaws.{shape_through};
     ghost use Rattle.bidi_shape.specs.declared.choice.Either.TheVariants.{First, Second};
     ghost use Rattle.bidi_values.specs.declared.target.Target.TheVariants.{Context, Realm};
 
-    ghost shape = { shape_through ⟦<Target as Ruled>⟧.rule ⟦<Alternatives as Shape>⟧.shape
+    ghost shape = { shape_through (named target) ⟦<Either<ContextTarget, RealmTarget> as Shape>⟧.shape
         (λ v. elim v [ Context c ↦ First c | Realm r ↦ Second r ]) refl };
 
     fn from_tree<S: Parsed>(alloc: Global, tree: &S) -> Result<Target, ShapeFault> {
-        match read_choice::<Target, Alternatives, S>(alloc, tree)? {
+        match read_choice(alloc, tree)? {
             Either::First(context) => Ok(Target::Context(context)),
             Either::Second(realm) => Ok(Target::Realm(realm)),
         }

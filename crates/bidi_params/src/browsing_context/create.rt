@@ -1,16 +1,12 @@
 //! Making, activating and closing browsing contexts.
 ghost use Rattle.std.specs.Prelude.{◌≡◌, IfOk, refl, true, []};
-ghost use Rattle.bidi_tree.specs.Node.{MembersAreWhole};
-ghost use Rattle.bidi_tree.specs.View.{members_node};
-ghost use Rattle.bidi_shape.specs.Term.{rule as named};
-ghost use Rattle.bidi_shape.specs.Parts.{has_named};
-ghost use Rattle.bidi_shape.specs.Table.{map_shape, names_in};
-ghost use Rattle.bidi_shape.specs.Made.{Makes};
-ghost use Rattle.bidi_shape.specs.ValueLaws.{others_of};
+ghost use Rattle.bidi_shape.specs.Table.{map_shape};
+ghost use Rattle.bidi_shape.specs.Made.{Makes, named, MembersAreWhole, members_node, has_named, names_in, others_of};
+ghost use Rattle.bidi_shape.specs.Name.{create_parameters, create_result, activate_parameters, close_parameters};
 
 use bidi_shape::{
-    Ext, Fields, MakeFault, Maybe, Named, One, Optional, Parsed, Required, Rest, Ruled, Shape,
-    ShapeFault, draft_fields, further, read_fields,
+    Ext, Fields, MakeFault, Maybe, Named, One, Optional, Parsed, Required, Rest, Shape, ShapeFault,
+    draft_fields, further, read_fields,
 };
 use bidi_tree::{Draft, Members};
 use std::alloc::{AllocError, Global};
@@ -33,12 +29,8 @@ impl Named for ContextType {
 
     ghost words = { context_type_words };
 
-    fn named(text: &str) -> Option<ContextType> {
-        match text {
-            "tab" => Some(ContextType::Tab),
-            "window" => Some(ContextType::Window),
-            _ => None,
-        }
+    fn all() -> &'static [ContextType] {
+        &[ContextType::Tab, ContextType::Window]
     }
 
     fn name(&self) -> &'static str {
@@ -67,8 +59,6 @@ pub struct CreateParameters {
 }
 
 impl CreateParameters {
-    ghost use Rattle.bidi_shape.specs.Name.{create_parameters};
-
     // In the order of the rule.
     const NAMES: &'static [&'static str] = &[
         "type",
@@ -108,23 +98,15 @@ impl CreateParameters {
     }
 }
 
-type CreateParts = Required<ContextType, Optional<String, Optional<bool, Optional<String, Ext>>>>;
-
-impl Ruled for CreateParameters {
-    ghost use Rattle.bidi_shape.specs.Name.{create_parameters};
-
-    ghost rule = { named create_parameters };
-}
-
 impl Shape for CreateParameters {
-    ghost shape = { map_shape ⟦<CreateParameters as Ruled>⟧.rule ⟦<CreateParts as Fields>⟧.table []
+    ghost shape = { map_shape (named create_parameters) ⟦<Required<ContextType, Optional<String, Optional<bool, Optional<String, Ext>>>> as Fields>⟧.table []
         (λ v. (v.kind, (v.reference_context, (v.background, (v.user_context, v.ext))))) refl refl };
 
     fn from_tree<S: Parsed>(alloc: Global, tree: &S) -> Result<CreateParameters, ShapeFault> {
         let Required(
             kind,
             Optional(reference_context, Optional(background, Optional(user_context, ext))),
-        ) = read_fields::<CreateParameters, CreateParts, S>(alloc, tree, Self::NAMES, &[])?;
+        ) = read_fields(alloc, tree, Self::NAMES, &[])?;
         Ok(CreateParameters {
             kind,
             reference_context,
@@ -158,8 +140,6 @@ pub struct CreateResult {
 }
 
 impl CreateResult {
-    ghost use Rattle.bidi_shape.specs.Name.{create_result};
-
     // In the order of the rule.
     const NAMES: &'static [&'static str] = &["context"];
 
@@ -181,24 +161,11 @@ impl CreateResult {
     }
 }
 
-type CreatedParts = Required<String, Ext>;
-
-impl Ruled for CreateResult {
-    ghost use Rattle.bidi_shape.specs.Name.{create_result};
-
-    ghost rule = { named create_result };
-}
-
 impl Shape for CreateResult {
-    ghost shape = { map_shape ⟦<CreateResult as Ruled>⟧.rule ⟦<CreatedParts as Fields>⟧.table [] (λ v. (v.context, v.ext)) refl refl };
+    ghost shape = { map_shape (named create_result) ⟦<Required<String, Ext> as Fields>⟧.table [] (λ v. (v.context, v.ext)) refl refl };
 
     fn from_tree<S: Parsed>(alloc: Global, tree: &S) -> Result<CreateResult, ShapeFault> {
-        let Required(context, ext) = read_fields::<CreateResult, CreatedParts, S>(
-            alloc,
-            tree,
-            Self::NAMES,
-            &[],
-        )?;
+        let Required(context, ext) = read_fields(alloc, tree, Self::NAMES, &[])?;
         Ok(CreateResult { context, ext })
     }
 
@@ -220,8 +187,6 @@ pub struct ActivateParameters {
 }
 
 impl ActivateParameters {
-    ghost use Rattle.bidi_shape.specs.Name.{activate_parameters};
-
     // In the order of the rule.
     const NAMES: &'static [&'static str] = &["context"];
 
@@ -243,24 +208,11 @@ impl ActivateParameters {
     }
 }
 
-type ActivateParts = Required<String, Ext>;
-
-impl Ruled for ActivateParameters {
-    ghost use Rattle.bidi_shape.specs.Name.{activate_parameters};
-
-    ghost rule = { named activate_parameters };
-}
-
 impl Shape for ActivateParameters {
-    ghost shape = { map_shape ⟦<ActivateParameters as Ruled>⟧.rule ⟦<ActivateParts as Fields>⟧.table [] (λ v. (v.context, v.ext)) refl refl };
+    ghost shape = { map_shape (named activate_parameters) ⟦<Required<String, Ext> as Fields>⟧.table [] (λ v. (v.context, v.ext)) refl refl };
 
     fn from_tree<S: Parsed>(alloc: Global, tree: &S) -> Result<ActivateParameters, ShapeFault> {
-        let Required(context, ext) = read_fields::<ActivateParameters, ActivateParts, S>(
-            alloc,
-            tree,
-            Self::NAMES,
-            &[],
-        )?;
+        let Required(context, ext) = read_fields(alloc, tree, Self::NAMES, &[])?;
         Ok(ActivateParameters { context, ext })
     }
 
@@ -285,8 +237,6 @@ pub struct CloseParameters {
 }
 
 impl CloseParameters {
-    ghost use Rattle.bidi_shape.specs.Name.{close_parameters};
-
     // In the order of the rule.
     const NAMES: &'static [&'static str] = &["context", "promptUnload"];
 
@@ -318,21 +268,12 @@ impl CloseParameters {
 
 type CloseParts = Required<String, Optional<bool, Ext>>;
 
-impl Ruled for CloseParameters {
-    ghost use Rattle.bidi_shape.specs.Name.{close_parameters};
-
-    ghost rule = { named close_parameters };
-}
-
 impl Shape for CloseParameters {
-    ghost shape = { map_shape ⟦<CloseParameters as Ruled>⟧.rule ⟦<CloseParts as Fields>⟧.table [] (λ v. (v.context, (v.prompt_unload, v.ext))) refl refl };
+    ghost shape = { map_shape (named close_parameters) ⟦<CloseParts as Fields>⟧.table [] (λ v. (v.context, (v.prompt_unload, v.ext))) refl refl };
 
     fn from_tree<S: Parsed>(alloc: Global, tree: &S) -> Result<CloseParameters, ShapeFault> {
-        let Required(context, Optional(prompt_unload, ext)) = read_fields::<
-            CloseParameters,
-            CloseParts,
-            S,
-        >(alloc, tree, Self::NAMES, &[])?;
+        let parts = read_fields(alloc, tree, Self::NAMES, &[])?;
+        let Required(context, Optional(prompt_unload, ext)) = parts;
         Ok(CloseParameters {
             context,
             prompt_unload,

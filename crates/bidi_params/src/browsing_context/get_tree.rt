@@ -1,16 +1,12 @@
 //! Asking for browsing contexts.
 ghost use Rattle.std.specs.Prelude.{◌≡◌, IfOk, refl, true, []};
-ghost use Rattle.bidi_tree.specs.Node.{MembersAreWhole};
-ghost use Rattle.bidi_tree.specs.View.{members_node};
-ghost use Rattle.bidi_shape.specs.Term.{rule as named};
-ghost use Rattle.bidi_shape.specs.Parts.{has_named};
-ghost use Rattle.bidi_shape.specs.Table.{map_shape, names_in};
-ghost use Rattle.bidi_shape.specs.Made.{Makes};
-ghost use Rattle.bidi_shape.specs.ValueLaws.{others_of};
+ghost use Rattle.bidi_shape.specs.Table.{map_shape};
+ghost use Rattle.bidi_shape.specs.Made.{Makes, named, MembersAreWhole, members_node, has_named, names_in, others_of};
+ghost use Rattle.bidi_shape.specs.Name.{get_tree_parameters, get_tree_result};
 
 use crate::browsing_context::info::Info;
 use bidi_shape::{
-    Ext, Fields, MakeFault, Maybe, One, Optional, Parsed, Required, Rest, Ruled, Shape, ShapeFault,
+    Ext, Fields, MakeFault, Maybe, One, Optional, Parsed, Required, Rest, Shape, ShapeFault,
     draft_fields, further, read_fields,
 };
 use bidi_tree::{Draft, JsUint, Members};
@@ -31,8 +27,6 @@ pub struct GetTreeParameters {
 }
 
 impl GetTreeParameters {
-    ghost use Rattle.bidi_shape.specs.Name.{get_tree_parameters};
-
     // In the order of the rule.
     const NAMES: &'static [&'static str] = &["maxDepth", "root"];
 
@@ -64,21 +58,11 @@ impl GetTreeParameters {
 
 type GetTreeParts = Optional<JsUint, Optional<String, Ext>>;
 
-impl Ruled for GetTreeParameters {
-    ghost use Rattle.bidi_shape.specs.Name.{get_tree_parameters};
-
-    ghost rule = { named get_tree_parameters };
-}
-
 impl Shape for GetTreeParameters {
-    ghost shape = { map_shape ⟦<GetTreeParameters as Ruled>⟧.rule ⟦<GetTreeParts as Fields>⟧.table [] (λ v. (v.max_depth, (v.root, v.ext))) refl refl };
+    ghost shape = { map_shape (named get_tree_parameters) ⟦<GetTreeParts as Fields>⟧.table [] (λ v. (v.max_depth, (v.root, v.ext))) refl refl };
 
     fn from_tree<S: Parsed>(alloc: Global, tree: &S) -> Result<GetTreeParameters, ShapeFault> {
-        let Optional(max_depth, Optional(root, ext)) = read_fields::<
-            GetTreeParameters,
-            GetTreeParts,
-            S,
-        >(alloc, tree, Self::NAMES, &[])?;
+        let Optional(max_depth, Optional(root, ext)) = read_fields(alloc, tree, Self::NAMES, &[])?;
         Ok(GetTreeParameters {
             max_depth,
             root,
@@ -104,8 +88,6 @@ pub struct GetTreeResult {
 }
 
 impl GetTreeResult {
-    ghost use Rattle.bidi_shape.specs.Name.{get_tree_result};
-
     // In the order of the rule.
     const NAMES: &'static [&'static str] = &["contexts"];
 
@@ -128,24 +110,11 @@ impl GetTreeResult {
     }
 }
 
-type ResultParts = Required<Vec<Info>, Ext>;
-
-impl Ruled for GetTreeResult {
-    ghost use Rattle.bidi_shape.specs.Name.{get_tree_result};
-
-    ghost rule = { named get_tree_result };
-}
-
 impl Shape for GetTreeResult {
-    ghost shape = { map_shape ⟦<GetTreeResult as Ruled>⟧.rule ⟦<ResultParts as Fields>⟧.table [] (λ v. (v.contexts, v.ext)) refl refl };
+    ghost shape = { map_shape (named get_tree_result) ⟦<Required<Vec<Info>, Ext> as Fields>⟧.table [] (λ v. (v.contexts, v.ext)) refl refl };
 
     fn from_tree<S: Parsed>(alloc: Global, tree: &S) -> Result<GetTreeResult, ShapeFault> {
-        let Required(contexts, ext) = read_fields::<GetTreeResult, ResultParts, S>(
-            alloc,
-            tree,
-            Self::NAMES,
-            &[],
-        )?;
+        let Required(contexts, ext) = read_fields(alloc, tree, Self::NAMES, &[])?;
         Ok(GetTreeResult { contexts, ext })
     }
 

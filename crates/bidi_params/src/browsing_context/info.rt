@@ -1,18 +1,18 @@
 //! What is told of a browsing context and of those below it.
-ghost use Rattle.std.specs.Prelude.{◌≡◌, IfOk, Some, codes, map, option_map};
+ghost use Rattle.std.specs.Prelude.{◌≡◌, IfOk, Some, codes, map, option_map, ◌≤◌, ◌⊎◌, ◌∷◌, IfSome, true};
 ghost use Rattle.std.specs.List.{AllByRecursion};
-ghost use Rattle.bidi_tree.specs.Node.{get_member, IsSound, ItemsAreSound};
+ghost use Rattle.bidi_tree.specs.Node.{get_member, IsSound, ItemsAreSound, MembersAreWhole, levels};
 ghost use Rattle.bidi_tree.specs.Kind.{members_in};
 ghost use Rattle.bidi_tree.specs.Draft.{draft_node, draft_items};
-ghost use Rattle.bidi_tree.specs.View.{items_of};
+ghost use Rattle.bidi_tree.specs.View.{items_of, members_node};
 ghost use Rattle.bidi_shape.specs.Name.{info};
 ghost use Rattle.bidi_shape.specs.Term.{Term, required, either, list_of, map_of, null, rule as named};
 ghost use Rattle.bidi_shape.specs.Fits.{Fits, AllFit};
-ghost use Rattle.bidi_shape.specs.Parts.{PartFits};
+ghost use Rattle.bidi_shape.specs.Parts.{PartFits, has_named};
 ghost use Rattle.bidi_shape.specs.Outcome.{IfNoFit};
 ghost use Rattle.bidi_params.specs.InfoContent.{told};
-ghost use Rattle.bidi_params.specs.InfoParts.{info_parts};
-ghost use Rattle.bidi_params.specs.InfoLaws.{info_map, rows_with, children_node, OwnMembersAreWell, info_shape};
+ghost use Rattle.bidi_params.specs.InfoParts.{info_parts, map_of_parts};
+ghost use Rattle.bidi_params.specs.InfoLaws.{info_map, rows_with, children_node, OwnMembersAreWell, info_shape, names};
 ghost use Rattle.bidi_params.specs.declared.browsing_context.info.Info.{out-Info};
 ghost use Rattle.bidi_params.specs.InfoView.{beside_of, content, children_content, tree_of_info, InfoIsWell};
 
@@ -46,15 +46,7 @@ pub struct Info {
 }
 
 impl Info {
-    ghost use Rattle.std.specs.Prelude.{◌≡◌, ◌≤◌, ◌⊎◌, ◌∷◌, IfOk, IfSome, true, codes};
-    ghost use Rattle.bidi_tree.specs.Node.{MembersAreWhole, levels};
-    ghost use Rattle.bidi_tree.specs.View.{members_node};
-    ghost use Rattle.bidi_shape.specs.Parts.{has_named};
-    ghost use Rattle.bidi_shape.specs.Made.{Makes};
-    ghost use Rattle.bidi_shape.specs.ValueLaws.{others_of};
-    ghost use Rattle.bidi_params.specs.InfoLaws.{names};
-    ghost use Rattle.bidi_params.specs.InfoParts.{map_of_parts};
-    ghost use Rattle.bidi_params.specs.declared.browsing_context.info.Info.{out-Info};
+    ghost use Rattle.bidi_shape.specs.Made.{Makes, others_of};
 
     /// The Info of these parts, with further members. Costs the making of its draft.
     ///

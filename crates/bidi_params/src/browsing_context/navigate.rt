@@ -1,16 +1,12 @@
 //! Navigations of browsing contexts.
 ghost use Rattle.std.specs.Prelude.{◌≡◌, IfOk, refl, true, []};
-ghost use Rattle.bidi_tree.specs.Node.{MembersAreWhole};
-ghost use Rattle.bidi_tree.specs.View.{members_node};
-ghost use Rattle.bidi_shape.specs.Term.{rule as named};
-ghost use Rattle.bidi_shape.specs.Parts.{has_named};
-ghost use Rattle.bidi_shape.specs.Table.{map_shape, names_in};
-ghost use Rattle.bidi_shape.specs.Made.{Makes};
-ghost use Rattle.bidi_shape.specs.ValueLaws.{others_of};
+ghost use Rattle.bidi_shape.specs.Table.{map_shape};
+ghost use Rattle.bidi_shape.specs.Made.{Makes, named, MembersAreWhole, members_node, has_named, names_in, others_of};
+ghost use Rattle.bidi_shape.specs.Name.{navigate_parameters, reload_parameters, navigate_result, traverse_history_parameters, navigation_info};
 
 use bidi_shape::{
-    Ext, Fields, MakeFault, Maybe, Named, One, Optional, Parsed, Required, Rest, Ruled, Shape,
-    ShapeFault, draft_fields, further, read_fields,
+    Ext, Fields, MakeFault, Maybe, Named, One, Optional, Parsed, Required, Rest, Shape, ShapeFault,
+    draft_fields, further, read_fields,
 };
 use bidi_tree::{Draft, JsInt, JsUint, Members};
 use std::alloc::{AllocError, Global};
@@ -35,13 +31,8 @@ impl Named for Wait {
 
     ghost words = { wait_words };
 
-    fn named(text: &str) -> Option<Wait> {
-        match text {
-            "none" => Some(Wait::None),
-            "interactive" => Some(Wait::Interactive),
-            "complete" => Some(Wait::Complete),
-            _ => None,
-        }
+    fn all() -> &'static [Wait] {
+        &[Wait::None, Wait::Interactive, Wait::Complete]
     }
 
     fn name(&self) -> &'static str {
@@ -69,8 +60,6 @@ pub struct NavigateParameters {
 }
 
 impl NavigateParameters {
-    ghost use Rattle.bidi_shape.specs.Name.{navigate_parameters};
-
     // In the order of the rule.
     const NAMES: &'static [&'static str] = &["context", "url", "wait"];
 
@@ -102,24 +91,13 @@ impl NavigateParameters {
     }
 }
 
-type NavigateParts = Required<String, Required<String, Optional<Wait, Ext>>>;
-
-impl Ruled for NavigateParameters {
-    ghost use Rattle.bidi_shape.specs.Name.{navigate_parameters};
-
-    ghost rule = { named navigate_parameters };
-}
-
 impl Shape for NavigateParameters {
-    ghost shape = { map_shape ⟦<NavigateParameters as Ruled>⟧.rule ⟦<NavigateParts as Fields>⟧.table []
+    ghost shape = { map_shape (named navigate_parameters) ⟦<Required<String, Required<String, Optional<Wait, Ext>>> as Fields>⟧.table []
         (λ v. (v.context, (v.url, (v.wait, v.ext)))) refl refl };
 
     fn from_tree<S: Parsed>(alloc: Global, tree: &S) -> Result<NavigateParameters, ShapeFault> {
-        let Required(context, Required(url, Optional(wait, ext))) = read_fields::<
-            NavigateParameters,
-            NavigateParts,
-            S,
-        >(alloc, tree, Self::NAMES, &[])?;
+        let parts = read_fields(alloc, tree, Self::NAMES, &[])?;
+        let Required(context, Required(url, Optional(wait, ext))) = parts;
         Ok(NavigateParameters {
             context,
             url,
@@ -153,8 +131,6 @@ pub struct ReloadParameters {
 }
 
 impl ReloadParameters {
-    ghost use Rattle.bidi_shape.specs.Name.{reload_parameters};
-
     // In the order of the rule.
     const NAMES: &'static [&'static str] = &["context", "ignoreCache", "wait"];
 
@@ -186,24 +162,13 @@ impl ReloadParameters {
     }
 }
 
-type ReloadParts = Required<String, Optional<bool, Optional<Wait, Ext>>>;
-
-impl Ruled for ReloadParameters {
-    ghost use Rattle.bidi_shape.specs.Name.{reload_parameters};
-
-    ghost rule = { named reload_parameters };
-}
-
 impl Shape for ReloadParameters {
-    ghost shape = { map_shape ⟦<ReloadParameters as Ruled>⟧.rule ⟦<ReloadParts as Fields>⟧.table []
+    ghost shape = { map_shape (named reload_parameters) ⟦<Required<String, Optional<bool, Optional<Wait, Ext>>> as Fields>⟧.table []
         (λ v. (v.context, (v.ignore_cache, (v.wait, v.ext)))) refl refl };
 
     fn from_tree<S: Parsed>(alloc: Global, tree: &S) -> Result<ReloadParameters, ShapeFault> {
-        let Required(context, Optional(ignore_cache, Optional(wait, ext))) = read_fields::<
-            ReloadParameters,
-            ReloadParts,
-            S,
-        >(alloc, tree, Self::NAMES, &[])?;
+        let parts = read_fields(alloc, tree, Self::NAMES, &[])?;
+        let Required(context, Optional(ignore_cache, Optional(wait, ext))) = parts;
         Ok(ReloadParameters {
             context,
             ignore_cache,
@@ -237,8 +202,6 @@ pub struct NavigateResult {
 }
 
 impl NavigateResult {
-    ghost use Rattle.bidi_shape.specs.Name.{navigate_result};
-
     // In the order of the rule.
     const NAMES: &'static [&'static str] = &["navigation", "url"];
 
@@ -271,21 +234,11 @@ impl NavigateResult {
 
 type NavigatedParts = Required<Option<String>, Required<String, Ext>>;
 
-impl Ruled for NavigateResult {
-    ghost use Rattle.bidi_shape.specs.Name.{navigate_result};
-
-    ghost rule = { named navigate_result };
-}
-
 impl Shape for NavigateResult {
-    ghost shape = { map_shape ⟦<NavigateResult as Ruled>⟧.rule ⟦<NavigatedParts as Fields>⟧.table [] (λ v. (v.navigation, (v.url, v.ext))) refl refl };
+    ghost shape = { map_shape (named navigate_result) ⟦<NavigatedParts as Fields>⟧.table [] (λ v. (v.navigation, (v.url, v.ext))) refl refl };
 
     fn from_tree<S: Parsed>(alloc: Global, tree: &S) -> Result<NavigateResult, ShapeFault> {
-        let Required(navigation, Required(url, ext)) = read_fields::<
-            NavigateResult,
-            NavigatedParts,
-            S,
-        >(alloc, tree, Self::NAMES, &[])?;
+        let Required(navigation, Required(url, ext)) = read_fields(alloc, tree, Self::NAMES, &[])?;
         Ok(NavigateResult {
             navigation,
             url,
@@ -314,8 +267,6 @@ pub struct TraverseHistoryParameters {
 }
 
 impl TraverseHistoryParameters {
-    ghost use Rattle.bidi_shape.specs.Name.{traverse_history_parameters};
-
     // In the order of the rule.
     const NAMES: &'static [&'static str] = &["context", "delta"];
 
@@ -347,24 +298,14 @@ impl TraverseHistoryParameters {
 
 type TraverseParts = Required<String, Required<JsInt, Ext>>;
 
-impl Ruled for TraverseHistoryParameters {
-    ghost use Rattle.bidi_shape.specs.Name.{traverse_history_parameters};
-
-    ghost rule = { named traverse_history_parameters };
-}
-
 impl Shape for TraverseHistoryParameters {
-    ghost shape = { map_shape ⟦<TraverseHistoryParameters as Ruled>⟧.rule ⟦<TraverseParts as Fields>⟧.table [] (λ v. (v.context, (v.delta, v.ext))) refl refl };
+    ghost shape = { map_shape (named traverse_history_parameters) ⟦<TraverseParts as Fields>⟧.table [] (λ v. (v.context, (v.delta, v.ext))) refl refl };
 
     fn from_tree<S: Parsed>(
         alloc: Global,
         tree: &S,
     ) -> Result<TraverseHistoryParameters, ShapeFault> {
-        let Required(context, Required(delta, ext)) = read_fields::<
-            TraverseHistoryParameters,
-            TraverseParts,
-            S,
-        >(alloc, tree, Self::NAMES, &[])?;
+        let Required(context, Required(delta, ext)) = read_fields(alloc, tree, Self::NAMES, &[])?;
         Ok(TraverseHistoryParameters {
             context,
             delta,
@@ -396,8 +337,6 @@ pub struct NavigationInfo {
 }
 
 impl NavigationInfo {
-    ghost use Rattle.bidi_shape.specs.Name.{navigation_info};
-
     // In the order of the rule.
     const NAMES: &'static [&'static str] = &["context", "navigation", "timestamp", "url"];
 
@@ -433,24 +372,14 @@ impl NavigationInfo {
     }
 }
 
-type InfoParts = Required<
-    String,
-    Required<Option<String>, Required<JsUint, Required<String, Ext>>>,
->;
-
-impl Ruled for NavigationInfo {
-    ghost use Rattle.bidi_shape.specs.Name.{navigation_info};
-
-    ghost rule = { named navigation_info };
-}
-
 impl Shape for NavigationInfo {
-    ghost shape = { map_shape ⟦<NavigationInfo as Ruled>⟧.rule ⟦<InfoParts as Fields>⟧.table []
+    ghost shape = { map_shape (named navigation_info) ⟦<Required<String, Required<Option<String>, Required<JsUint, Required<String, Ext>>>> as Fields>⟧.table []
         (λ v. (v.context, (v.navigation, (v.timestamp, (v.url, v.ext))))) refl refl };
 
     fn from_tree<S: Parsed>(alloc: Global, tree: &S) -> Result<NavigationInfo, ShapeFault> {
+        let parts = read_fields(alloc, tree, Self::NAMES, &[])?;
         let Required(context, Required(navigation, Required(timestamp, Required(url, ext)))) =
-            read_fields::<NavigationInfo, InfoParts, S>(alloc, tree, Self::NAMES, &[])?;
+            parts;
         Ok(NavigationInfo {
             context,
             navigation,

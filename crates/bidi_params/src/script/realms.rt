@@ -1,16 +1,12 @@
 //! Realms.
 ghost use Rattle.std.specs.Prelude.{◌≡◌, IfOk, refl, true, [], ◌∷◌, codes};
-ghost use Rattle.bidi_tree.specs.Node.{MembersAreWhole};
-ghost use Rattle.bidi_tree.specs.View.{members_node};
-ghost use Rattle.bidi_shape.specs.Term.{rule as named};
-ghost use Rattle.bidi_shape.specs.Parts.{has_named};
-ghost use Rattle.bidi_shape.specs.Table.{map_shape, names_in};
-ghost use Rattle.bidi_shape.specs.Made.{Makes};
-ghost use Rattle.bidi_shape.specs.ValueLaws.{others_of};
+ghost use Rattle.bidi_shape.specs.Table.{map_shape};
+ghost use Rattle.bidi_shape.specs.Made.{Makes, named, MembersAreWhole, members_node, has_named, names_in, others_of};
+ghost use Rattle.bidi_shape.specs.Name.{get_realms_parameters, realm_info, get_realms_result, realm_destroyed_parameters};
 
 use bidi_shape::{
     Exact, Ext, Fields, Literal, MakeFault, Maybe, Named, One, Optional, Parsed, Required, Rest,
-    Ruled, Shape, ShapeFault, draft_fields, further, read_fields,
+    Shape, ShapeFault, draft_fields, further, read_fields,
 };
 use bidi_tree::{Draft, Members};
 use std::alloc::{AllocError, Global};
@@ -46,18 +42,17 @@ impl Named for RealmType {
 
     ghost words = { realm_type_words };
 
-    fn named(text: &str) -> Option<RealmType> {
-        match text {
-            "window" => Some(RealmType::Window),
-            "dedicated-worker" => Some(RealmType::DedicatedWorker),
-            "shared-worker" => Some(RealmType::SharedWorker),
-            "service-worker" => Some(RealmType::ServiceWorker),
-            "worker" => Some(RealmType::Worker),
-            "paint-worklet" => Some(RealmType::PaintWorklet),
-            "audio-worklet" => Some(RealmType::AudioWorklet),
-            "worklet" => Some(RealmType::Worklet),
-            _ => None,
-        }
+    fn all() -> &'static [RealmType] {
+        &[
+            RealmType::Window,
+            RealmType::DedicatedWorker,
+            RealmType::SharedWorker,
+            RealmType::ServiceWorker,
+            RealmType::Worker,
+            RealmType::PaintWorklet,
+            RealmType::AudioWorklet,
+            RealmType::Worklet,
+        ]
     }
 
     fn name(&self) -> &'static str {
@@ -89,8 +84,6 @@ pub struct GetRealmsParameters {
 }
 
 impl GetRealmsParameters {
-    ghost use Rattle.bidi_shape.specs.Name.{get_realms_parameters};
-
     // In the order of the rule.
     const NAMES: &'static [&'static str] = &["context", "type"];
 
@@ -118,21 +111,11 @@ impl GetRealmsParameters {
 
 type GetRealmsParts = Optional<String, Optional<RealmType, Ext>>;
 
-impl Ruled for GetRealmsParameters {
-    ghost use Rattle.bidi_shape.specs.Name.{get_realms_parameters};
-
-    ghost rule = { named get_realms_parameters };
-}
-
 impl Shape for GetRealmsParameters {
-    ghost shape = { map_shape ⟦<GetRealmsParameters as Ruled>⟧.rule ⟦<GetRealmsParts as Fields>⟧.table [] (λ v. (v.context, (v.kind, v.ext))) refl refl };
+    ghost shape = { map_shape (named get_realms_parameters) ⟦<GetRealmsParts as Fields>⟧.table [] (λ v. (v.context, (v.kind, v.ext))) refl refl };
 
     fn from_tree<S: Parsed>(alloc: Global, tree: &S) -> Result<GetRealmsParameters, ShapeFault> {
-        let Optional(context, Optional(kind, ext)) = read_fields::<
-            GetRealmsParameters,
-            GetRealmsParts,
-            S,
-        >(alloc, tree, Self::NAMES, &[])?;
+        let Optional(context, Optional(kind, ext)) = read_fields(alloc, tree, Self::NAMES, &[])?;
         Ok(GetRealmsParameters { context, kind, ext })
     }
 
@@ -158,8 +141,6 @@ pub struct RealmInfo {
 }
 
 impl RealmInfo {
-    ghost use Rattle.bidi_shape.specs.Name.{realm_info};
-
     // In the order of the rule.
     const NAMES: &'static [&'static str] = &["realm", "origin", "type", "context"];
 
@@ -191,24 +172,13 @@ impl RealmInfo {
     }
 }
 
-type InfoParts = Required<String, Required<String, Literal<Required<String, Ext>>>>;
-
-impl Ruled for RealmInfo {
-    ghost use Rattle.bidi_shape.specs.Name.{realm_info};
-
-    ghost rule = { named realm_info };
-}
-
 impl Shape for RealmInfo {
-    ghost shape = { map_shape ⟦<RealmInfo as Ruled>⟧.rule ⟦<InfoParts as Fields>⟧.table (codes "window" ∷ [])
+    ghost shape = { map_shape (named realm_info) ⟦<Required<String, Required<String, Literal<Required<String, Ext>>>> as Fields>⟧.table (codes "window" ∷ [])
         (λ v. (v.realm, (v.origin, record { 0 = (v.context, v.ext) }))) refl refl };
 
     fn from_tree<S: Parsed>(alloc: Global, tree: &S) -> Result<RealmInfo, ShapeFault> {
-        let Required(realm, Required(origin, Literal(Required(context, ext)))) = read_fields::<
-            RealmInfo,
-            InfoParts,
-            S,
-        >(alloc, tree, Self::NAMES, &["window"])?;
+        let parts = read_fields(alloc, tree, Self::NAMES, &["window"])?;
+        let Required(realm, Required(origin, Literal(Required(context, ext)))) = parts;
         Ok(RealmInfo {
             realm,
             origin,
@@ -238,8 +208,6 @@ pub struct GetRealmsResult {
 }
 
 impl GetRealmsResult {
-    ghost use Rattle.bidi_shape.specs.Name.{get_realms_result};
-
     // In the order of the rule.
     const NAMES: &'static [&'static str] = &["realms"];
 
@@ -262,24 +230,11 @@ impl GetRealmsResult {
     }
 }
 
-type RealmsParts = Required<Vec<RealmInfo>, Ext>;
-
-impl Ruled for GetRealmsResult {
-    ghost use Rattle.bidi_shape.specs.Name.{get_realms_result};
-
-    ghost rule = { named get_realms_result };
-}
-
 impl Shape for GetRealmsResult {
-    ghost shape = { map_shape ⟦<GetRealmsResult as Ruled>⟧.rule ⟦<RealmsParts as Fields>⟧.table [] (λ v. (v.realms, v.ext)) refl refl };
+    ghost shape = { map_shape (named get_realms_result) ⟦<Required<Vec<RealmInfo>, Ext> as Fields>⟧.table [] (λ v. (v.realms, v.ext)) refl refl };
 
     fn from_tree<S: Parsed>(alloc: Global, tree: &S) -> Result<GetRealmsResult, ShapeFault> {
-        let Required(realms, ext) = read_fields::<GetRealmsResult, RealmsParts, S>(
-            alloc,
-            tree,
-            Self::NAMES,
-            &[],
-        )?;
+        let Required(realms, ext) = read_fields(alloc, tree, Self::NAMES, &[])?;
         Ok(GetRealmsResult { realms, ext })
     }
 
@@ -301,8 +256,6 @@ pub struct RealmDestroyedParameters {
 }
 
 impl RealmDestroyedParameters {
-    ghost use Rattle.bidi_shape.specs.Name.{realm_destroyed_parameters};
-
     // In the order of the rule.
     const NAMES: &'static [&'static str] = &["realm"];
 
@@ -324,27 +277,14 @@ impl RealmDestroyedParameters {
     }
 }
 
-type DestroyedParts = Required<String, Ext>;
-
-impl Ruled for RealmDestroyedParameters {
-    ghost use Rattle.bidi_shape.specs.Name.{realm_destroyed_parameters};
-
-    ghost rule = { named realm_destroyed_parameters };
-}
-
 impl Shape for RealmDestroyedParameters {
-    ghost shape = { map_shape ⟦<RealmDestroyedParameters as Ruled>⟧.rule ⟦<DestroyedParts as Fields>⟧.table [] (λ v. (v.realm, v.ext)) refl refl };
+    ghost shape = { map_shape (named realm_destroyed_parameters) ⟦<Required<String, Ext> as Fields>⟧.table [] (λ v. (v.realm, v.ext)) refl refl };
 
     fn from_tree<S: Parsed>(
         alloc: Global,
         tree: &S,
     ) -> Result<RealmDestroyedParameters, ShapeFault> {
-        let Required(realm, ext) = read_fields::<RealmDestroyedParameters, DestroyedParts, S>(
-            alloc,
-            tree,
-            Self::NAMES,
-            &[],
-        )?;
+        let Required(realm, ext) = read_fields(alloc, tree, Self::NAMES, &[])?;
         Ok(RealmDestroyedParameters { realm, ext })
     }
 

@@ -1,6 +1,11 @@
 //! What a session can do.
+ghost use Rattle.std.specs.Prelude.{◌≡◌, IfOk, true, refl, [], IfSome};
+ghost use Rattle.bidi_shape.specs.Name.{new_parameters, capabilities_request, capability_request, new_result, capabilities};
+ghost use Rattle.bidi_shape.specs.Table.{map_shape};
+ghost use Rattle.bidi_shape.specs.Made.{Makes, named, MembersAreWhole, members_node, has_named, names_in, others_of};
+
 use bidi_shape::{
-    Ext, Fields, MakeFault, Maybe, One, Optional, Parsed, Required, Rest, Ruled, Shape, ShapeFault,
+    Ext, Fields, MakeFault, Maybe, One, Optional, Parsed, Required, Rest, Shape, ShapeFault,
     draft_fields, further, read_fields,
 };
 use bidi_tree::{Draft, Members};
@@ -18,16 +23,6 @@ pub struct NewParameters {
 }
 
 impl NewParameters {
-    ghost use Rattle.std.specs.Prelude.{◌≡◌, IfOk, true};
-    ghost use Rattle.bidi_tree.specs.Node.{MembersAreWhole};
-    ghost use Rattle.bidi_tree.specs.View.{members_node};
-    ghost use Rattle.bidi_shape.specs.Name.{new_parameters};
-    ghost use Rattle.bidi_shape.specs.Term.{rule as named};
-    ghost use Rattle.bidi_shape.specs.Parts.{has_named};
-    ghost use Rattle.bidi_shape.specs.Table.{names_in};
-    ghost use Rattle.bidi_shape.specs.Made.{Makes};
-    ghost use Rattle.bidi_shape.specs.ValueLaws.{others_of};
-
     // In the order of the rule.
     const NAMES: &'static [&'static str] = &["capabilities"];
 
@@ -50,28 +45,11 @@ impl NewParameters {
     }
 }
 
-type NewParts = Required<CapabilitiesRequest, Ext>;
-
-impl Ruled for NewParameters {
-    ghost use Rattle.bidi_shape.specs.Name.{new_parameters};
-    ghost use Rattle.bidi_shape.specs.Term.{rule as named};
-
-    ghost rule = { named new_parameters };
-}
-
 impl Shape for NewParameters {
-    ghost use Rattle.std.specs.Prelude.{refl, []};
-    ghost use Rattle.bidi_shape.specs.Table.{map_shape};
-
-    ghost shape = { map_shape ⟦<NewParameters as Ruled>⟧.rule ⟦<NewParts as Fields>⟧.table [] (λ v. (v.capabilities, v.ext)) refl refl };
+    ghost shape = { map_shape (named new_parameters) ⟦<Required<CapabilitiesRequest, Ext> as Fields>⟧.table [] (λ v. (v.capabilities, v.ext)) refl refl };
 
     fn from_tree<S: Parsed>(alloc: Global, tree: &S) -> Result<NewParameters, ShapeFault> {
-        let Required(capabilities, ext) = read_fields::<NewParameters, NewParts, S>(
-            alloc,
-            tree,
-            Self::NAMES,
-            &[],
-        )?;
+        let Required(capabilities, ext) = read_fields(alloc, tree, Self::NAMES, &[])?;
         Ok(NewParameters { capabilities, ext })
     }
 
@@ -96,16 +74,6 @@ pub struct CapabilitiesRequest {
 }
 
 impl CapabilitiesRequest {
-    ghost use Rattle.std.specs.Prelude.{◌≡◌, IfOk, IfSome, true};
-    ghost use Rattle.bidi_tree.specs.Node.{MembersAreWhole};
-    ghost use Rattle.bidi_tree.specs.View.{members_node};
-    ghost use Rattle.bidi_shape.specs.Name.{capabilities_request};
-    ghost use Rattle.bidi_shape.specs.Term.{rule as named};
-    ghost use Rattle.bidi_shape.specs.Parts.{has_named};
-    ghost use Rattle.bidi_shape.specs.Table.{names_in};
-    ghost use Rattle.bidi_shape.specs.Made.{Makes};
-    ghost use Rattle.bidi_shape.specs.ValueLaws.{others_of};
-
     // In the order of the rule.
     const NAMES: &'static [&'static str] = &["alwaysMatch", "firstMatch"];
 
@@ -137,28 +105,13 @@ impl CapabilitiesRequest {
     }
 }
 
-type RequestParts = Optional<CapabilityRequest, Optional<Vec<CapabilityRequest>, Ext>>;
-
-impl Ruled for CapabilitiesRequest {
-    ghost use Rattle.bidi_shape.specs.Name.{capabilities_request};
-    ghost use Rattle.bidi_shape.specs.Term.{rule as named};
-
-    ghost rule = { named capabilities_request };
-}
-
 impl Shape for CapabilitiesRequest {
-    ghost use Rattle.std.specs.Prelude.{refl, []};
-    ghost use Rattle.bidi_shape.specs.Table.{map_shape};
-
-    ghost shape = { map_shape ⟦<CapabilitiesRequest as Ruled>⟧.rule ⟦<RequestParts as Fields>⟧.table []
+    ghost shape = { map_shape (named capabilities_request) ⟦<Optional<CapabilityRequest, Optional<Vec<CapabilityRequest>, Ext>> as Fields>⟧.table []
         (λ v. (v.always_match, (v.first_match, v.ext))) refl refl };
 
     fn from_tree<S: Parsed>(alloc: Global, tree: &S) -> Result<CapabilitiesRequest, ShapeFault> {
-        let Optional(always_match, Optional(first_match, ext)) = read_fields::<
-            CapabilitiesRequest,
-            RequestParts,
-            S,
-        >(alloc, tree, Self::NAMES, &[])?;
+        let parts = read_fields(alloc, tree, Self::NAMES, &[])?;
+        let Optional(always_match, Optional(first_match, ext)) = parts;
         Ok(CapabilitiesRequest {
             always_match,
             first_match,
@@ -193,16 +146,6 @@ pub struct CapabilityRequest {
 }
 
 impl CapabilityRequest {
-    ghost use Rattle.std.specs.Prelude.{◌≡◌, IfOk, true};
-    ghost use Rattle.bidi_tree.specs.Node.{MembersAreWhole};
-    ghost use Rattle.bidi_tree.specs.View.{members_node};
-    ghost use Rattle.bidi_shape.specs.Name.{capability_request};
-    ghost use Rattle.bidi_shape.specs.Term.{rule as named};
-    ghost use Rattle.bidi_shape.specs.Parts.{has_named};
-    ghost use Rattle.bidi_shape.specs.Table.{names_in};
-    ghost use Rattle.bidi_shape.specs.Made.{Makes};
-    ghost use Rattle.bidi_shape.specs.ValueLaws.{others_of};
-
     // In the order of the rule.
     const NAMES: &'static [&'static str] = &[
         "acceptInsecureCerts",
@@ -243,27 +186,15 @@ impl CapabilityRequest {
     }
 }
 
-type CapabilityParts = Optional<bool, Optional<String, Optional<String, Optional<String, Ext>>>>;
-
-impl Ruled for CapabilityRequest {
-    ghost use Rattle.bidi_shape.specs.Name.{capability_request};
-    ghost use Rattle.bidi_shape.specs.Term.{rule as named};
-
-    ghost rule = { named capability_request };
-}
-
 impl Shape for CapabilityRequest {
-    ghost use Rattle.std.specs.Prelude.{refl, []};
-    ghost use Rattle.bidi_shape.specs.Table.{map_shape};
-
-    ghost shape = { map_shape ⟦<CapabilityRequest as Ruled>⟧.rule ⟦<CapabilityParts as Fields>⟧.table []
+    ghost shape = { map_shape (named capability_request) ⟦<Optional<bool, Optional<String, Optional<String, Optional<String, Ext>>>> as Fields>⟧.table []
         (λ v. (v.accept_insecure_certs, (v.browser_name, (v.browser_version, (v.platform_name, v.ext))))) refl refl };
 
     fn from_tree<S: Parsed>(alloc: Global, tree: &S) -> Result<CapabilityRequest, ShapeFault> {
         let Optional(
             accept_insecure_certs,
             Optional(browser_name, Optional(browser_version, Optional(platform_name, ext))),
-        ) = read_fields::<CapabilityRequest, CapabilityParts, S>(alloc, tree, Self::NAMES, &[])?;
+        ) = read_fields(alloc, tree, Self::NAMES, &[])?;
         Ok(CapabilityRequest {
             accept_insecure_certs,
             browser_name,
@@ -301,16 +232,6 @@ pub struct NewResult {
 }
 
 impl NewResult {
-    ghost use Rattle.std.specs.Prelude.{◌≡◌, IfOk, true};
-    ghost use Rattle.bidi_tree.specs.Node.{MembersAreWhole};
-    ghost use Rattle.bidi_tree.specs.View.{members_node};
-    ghost use Rattle.bidi_shape.specs.Name.{new_result};
-    ghost use Rattle.bidi_shape.specs.Term.{rule as named};
-    ghost use Rattle.bidi_shape.specs.Parts.{has_named};
-    ghost use Rattle.bidi_shape.specs.Table.{names_in};
-    ghost use Rattle.bidi_shape.specs.Made.{Makes};
-    ghost use Rattle.bidi_shape.specs.ValueLaws.{others_of};
-
     // In the order of the rule.
     const NAMES: &'static [&'static str] = &["sessionId", "capabilities"];
 
@@ -343,25 +264,12 @@ impl NewResult {
 
 type ResultParts = Required<String, Required<Capabilities, Ext>>;
 
-impl Ruled for NewResult {
-    ghost use Rattle.bidi_shape.specs.Name.{new_result};
-    ghost use Rattle.bidi_shape.specs.Term.{rule as named};
-
-    ghost rule = { named new_result };
-}
-
 impl Shape for NewResult {
-    ghost use Rattle.std.specs.Prelude.{refl, []};
-    ghost use Rattle.bidi_shape.specs.Table.{map_shape};
-
-    ghost shape = { map_shape ⟦<NewResult as Ruled>⟧.rule ⟦<ResultParts as Fields>⟧.table [] (λ v. (v.session_id, (v.capabilities, v.ext))) refl refl };
+    ghost shape = { map_shape (named new_result) ⟦<ResultParts as Fields>⟧.table [] (λ v. (v.session_id, (v.capabilities, v.ext))) refl refl };
 
     fn from_tree<S: Parsed>(alloc: Global, tree: &S) -> Result<NewResult, ShapeFault> {
-        let Required(session_id, Required(capabilities, ext)) = read_fields::<
-            NewResult,
-            ResultParts,
-            S,
-        >(alloc, tree, Self::NAMES, &[])?;
+        let parts = read_fields(alloc, tree, Self::NAMES, &[])?;
+        let Required(session_id, Required(capabilities, ext)) = parts;
         Ok(NewResult {
             session_id,
             capabilities,
@@ -393,16 +301,6 @@ pub struct Capabilities {
 }
 
 impl Capabilities {
-    ghost use Rattle.std.specs.Prelude.{◌≡◌, IfOk, true};
-    ghost use Rattle.bidi_tree.specs.Node.{MembersAreWhole};
-    ghost use Rattle.bidi_tree.specs.View.{members_node};
-    ghost use Rattle.bidi_shape.specs.Name.{capabilities};
-    ghost use Rattle.bidi_shape.specs.Term.{rule as named};
-    ghost use Rattle.bidi_shape.specs.Parts.{has_named};
-    ghost use Rattle.bidi_shape.specs.Table.{names_in};
-    ghost use Rattle.bidi_shape.specs.Made.{Makes};
-    ghost use Rattle.bidi_shape.specs.ValueLaws.{others_of};
-
     // In the order of the rule.
     const NAMES: &'static [&'static str] = &[
         "acceptInsecureCerts",
@@ -455,18 +353,8 @@ type CapabilitiesParts = Required<
     Required<String, Required<String, Required<String, Required<bool, Required<String, Ext>>>>>,
 >;
 
-impl Ruled for Capabilities {
-    ghost use Rattle.bidi_shape.specs.Name.{capabilities};
-    ghost use Rattle.bidi_shape.specs.Term.{rule as named};
-
-    ghost rule = { named capabilities };
-}
-
 impl Shape for Capabilities {
-    ghost use Rattle.std.specs.Prelude.{refl, []};
-    ghost use Rattle.bidi_shape.specs.Table.{map_shape};
-
-    ghost shape = { map_shape ⟦<Capabilities as Ruled>⟧.rule ⟦<CapabilitiesParts as Fields>⟧.table []
+    ghost shape = { map_shape (named capabilities) ⟦<CapabilitiesParts as Fields>⟧.table []
         (λ v. (v.accept_insecure_certs, (v.browser_name, (v.browser_version, (v.platform_name, (v.set_window_rect, (v.user_agent, v.ext))))))) refl refl };
 
     fn from_tree<S: Parsed>(alloc: Global, tree: &S) -> Result<Capabilities, ShapeFault> {
@@ -479,7 +367,7 @@ impl Shape for Capabilities {
                     Required(platform_name, Required(set_window_rect, Required(user_agent, ext))),
                 ),
             ),
-        ) = read_fields::<Capabilities, CapabilitiesParts, S>(alloc, tree, Self::NAMES, &[])?;
+        ) = read_fields(alloc, tree, Self::NAMES, &[])?;
         Ok(Capabilities {
             accept_insecure_certs,
             browser_name,

@@ -1,7 +1,12 @@
 //! Whether a remote end is ready.
+ghost use Rattle.std.specs.Prelude.{◌≡◌, IfOk, true, refl, []};
+ghost use Rattle.bidi_shape.specs.Name.{status_result};
+ghost use Rattle.bidi_shape.specs.Table.{map_shape};
+ghost use Rattle.bidi_shape.specs.Made.{Makes, named, MembersAreWhole, members_node, has_named, names_in, others_of};
+
 use bidi_shape::{
-    Ext, Fields, MakeFault, One, Parsed, Required, Rest, Ruled, Shape, ShapeFault, draft_fields,
-    further, read_fields,
+    Ext, Fields, MakeFault, One, Parsed, Required, Rest, Shape, ShapeFault, draft_fields, further,
+    read_fields,
 };
 use bidi_tree::{Draft, Members};
 use std::alloc::{AllocError, Global};
@@ -19,16 +24,6 @@ pub struct StatusResult {
 }
 
 impl StatusResult {
-    ghost use Rattle.std.specs.Prelude.{◌≡◌, IfOk, true};
-    ghost use Rattle.bidi_tree.specs.Node.{MembersAreWhole};
-    ghost use Rattle.bidi_tree.specs.View.{members_node};
-    ghost use Rattle.bidi_shape.specs.Name.{status_result};
-    ghost use Rattle.bidi_shape.specs.Term.{rule as named};
-    ghost use Rattle.bidi_shape.specs.Parts.{has_named};
-    ghost use Rattle.bidi_shape.specs.Table.{names_in};
-    ghost use Rattle.bidi_shape.specs.Made.{Makes};
-    ghost use Rattle.bidi_shape.specs.ValueLaws.{others_of};
-
     // In the order of the rule.
     const NAMES: &'static [&'static str] = &["ready", "message"];
 
@@ -54,28 +49,11 @@ impl StatusResult {
     }
 }
 
-type Parts = Required<bool, Required<String, Ext>>;
-
-impl Ruled for StatusResult {
-    ghost use Rattle.bidi_shape.specs.Name.{status_result};
-    ghost use Rattle.bidi_shape.specs.Term.{rule as named};
-
-    ghost rule = { named status_result };
-}
-
 impl Shape for StatusResult {
-    ghost use Rattle.std.specs.Prelude.{refl, []};
-    ghost use Rattle.bidi_shape.specs.Table.{map_shape};
-
-    ghost shape = { map_shape ⟦<StatusResult as Ruled>⟧.rule ⟦<Parts as Fields>⟧.table [] (λ v. (v.ready, (v.message, v.ext))) refl refl };
+    ghost shape = { map_shape (named status_result) ⟦<Required<bool, Required<String, Ext>> as Fields>⟧.table [] (λ v. (v.ready, (v.message, v.ext))) refl refl };
 
     fn from_tree<S: Parsed>(alloc: Global, tree: &S) -> Result<StatusResult, ShapeFault> {
-        let Required(ready, Required(message, ext)) = read_fields::<StatusResult, Parts, S>(
-            alloc,
-            tree,
-            Self::NAMES,
-            &[],
-        )?;
+        let Required(ready, Required(message, ext)) = read_fields(alloc, tree, Self::NAMES, &[])?;
         Ok(StatusResult {
             ready,
             message,

@@ -1,7 +1,12 @@
 //! Subscriptions to events.
+ghost use Rattle.std.specs.Prelude.{◌≡◌, IfOk, IfSome, true, refl, []};
+ghost use Rattle.bidi_shape.specs.Name.{subscribe_parameters, subscribe_result, unsubscribe_by_id, unsubscribe_by_events, unsubscribe_parameters};
+ghost use Rattle.bidi_shape.specs.Table.{map_shape};
+ghost use Rattle.bidi_shape.specs.Made.{Makes, named, MembersAreWhole, members_node, has_named, names_in, others_of};
+
 use bidi_shape::{
-    Either, Ext, Fields, MakeFault, Maybe, One, OneOrMore, Optional, Parsed, Required, Rest, Ruled,
-    Shape, ShapeFault, draft_fields, further, not_shadowed, read_choice, read_fields,
+    Either, Ext, Fields, MakeFault, Maybe, One, OneOrMore, Optional, Parsed, Required, Rest, Shape,
+    ShapeFault, draft_fields, further, not_shadowed, read_choice, read_fields,
 };
 use bidi_tree::{Draft, Members};
 use std::alloc::{AllocError, Global};
@@ -23,16 +28,6 @@ pub struct SubscribeParameters {
 }
 
 impl SubscribeParameters {
-    ghost use Rattle.std.specs.Prelude.{◌≡◌, IfOk, IfSome, true};
-    ghost use Rattle.bidi_tree.specs.Node.{MembersAreWhole};
-    ghost use Rattle.bidi_tree.specs.View.{members_node};
-    ghost use Rattle.bidi_shape.specs.Name.{subscribe_parameters};
-    ghost use Rattle.bidi_shape.specs.Term.{rule as named};
-    ghost use Rattle.bidi_shape.specs.Parts.{has_named};
-    ghost use Rattle.bidi_shape.specs.Table.{names_in};
-    ghost use Rattle.bidi_shape.specs.Made.{Makes};
-    ghost use Rattle.bidi_shape.specs.ValueLaws.{others_of};
-
     // In the order of the rule.
     const NAMES: &'static [&'static str] = &["events", "contexts", "userContexts"];
 
@@ -72,26 +67,13 @@ type SubscribeParts = Required<
     Optional<OneOrMore<String>, Optional<OneOrMore<String>, Ext>>,
 >;
 
-impl Ruled for SubscribeParameters {
-    ghost use Rattle.bidi_shape.specs.Name.{subscribe_parameters};
-    ghost use Rattle.bidi_shape.specs.Term.{rule as named};
-
-    ghost rule = { named subscribe_parameters };
-}
-
 impl Shape for SubscribeParameters {
-    ghost use Rattle.std.specs.Prelude.{refl, []};
-    ghost use Rattle.bidi_shape.specs.Table.{map_shape};
-
-    ghost shape = { map_shape ⟦<SubscribeParameters as Ruled>⟧.rule ⟦<SubscribeParts as Fields>⟧.table []
+    ghost shape = { map_shape (named subscribe_parameters) ⟦<SubscribeParts as Fields>⟧.table []
         (λ v. (v.events, (v.contexts, (v.user_contexts, v.ext)))) refl refl };
 
     fn from_tree<S: Parsed>(alloc: Global, tree: &S) -> Result<SubscribeParameters, ShapeFault> {
-        let Required(events, Optional(contexts, Optional(user_contexts, ext))) = read_fields::<
-            SubscribeParameters,
-            SubscribeParts,
-            S,
-        >(alloc, tree, Self::NAMES, &[])?;
+        let parts = read_fields(alloc, tree, Self::NAMES, &[])?;
+        let Required(events, Optional(contexts, Optional(user_contexts, ext))) = parts;
         Ok(SubscribeParameters {
             events,
             contexts,
@@ -121,16 +103,6 @@ pub struct SubscribeResult {
 }
 
 impl SubscribeResult {
-    ghost use Rattle.std.specs.Prelude.{◌≡◌, IfOk, true};
-    ghost use Rattle.bidi_tree.specs.Node.{MembersAreWhole};
-    ghost use Rattle.bidi_tree.specs.View.{members_node};
-    ghost use Rattle.bidi_shape.specs.Name.{subscribe_result};
-    ghost use Rattle.bidi_shape.specs.Term.{rule as named};
-    ghost use Rattle.bidi_shape.specs.Parts.{has_named};
-    ghost use Rattle.bidi_shape.specs.Table.{names_in};
-    ghost use Rattle.bidi_shape.specs.Made.{Makes};
-    ghost use Rattle.bidi_shape.specs.ValueLaws.{others_of};
-
     // In the order of the rule.
     const NAMES: &'static [&'static str] = &["subscription"];
 
@@ -152,28 +124,11 @@ impl SubscribeResult {
     }
 }
 
-type SubscriptionParts = Required<String, Ext>;
-
-impl Ruled for SubscribeResult {
-    ghost use Rattle.bidi_shape.specs.Name.{subscribe_result};
-    ghost use Rattle.bidi_shape.specs.Term.{rule as named};
-
-    ghost rule = { named subscribe_result };
-}
-
 impl Shape for SubscribeResult {
-    ghost use Rattle.std.specs.Prelude.{refl, []};
-    ghost use Rattle.bidi_shape.specs.Table.{map_shape};
-
-    ghost shape = { map_shape ⟦<SubscribeResult as Ruled>⟧.rule ⟦<SubscriptionParts as Fields>⟧.table [] (λ v. (v.subscription, v.ext)) refl refl };
+    ghost shape = { map_shape (named subscribe_result) ⟦<Required<String, Ext> as Fields>⟧.table [] (λ v. (v.subscription, v.ext)) refl refl };
 
     fn from_tree<S: Parsed>(alloc: Global, tree: &S) -> Result<SubscribeResult, ShapeFault> {
-        let Required(subscription, ext) = read_fields::<SubscribeResult, SubscriptionParts, S>(
-            alloc,
-            tree,
-            Self::NAMES,
-            &[],
-        )?;
+        let Required(subscription, ext) = read_fields(alloc, tree, Self::NAMES, &[])?;
         Ok(SubscribeResult { subscription, ext })
     }
 
@@ -195,16 +150,6 @@ pub struct UnsubscribeById {
 }
 
 impl UnsubscribeById {
-    ghost use Rattle.std.specs.Prelude.{◌≡◌, IfOk, true};
-    ghost use Rattle.bidi_tree.specs.Node.{MembersAreWhole};
-    ghost use Rattle.bidi_tree.specs.View.{members_node};
-    ghost use Rattle.bidi_shape.specs.Name.{unsubscribe_by_id};
-    ghost use Rattle.bidi_shape.specs.Term.{rule as named};
-    ghost use Rattle.bidi_shape.specs.Parts.{has_named};
-    ghost use Rattle.bidi_shape.specs.Table.{names_in};
-    ghost use Rattle.bidi_shape.specs.Made.{Makes};
-    ghost use Rattle.bidi_shape.specs.ValueLaws.{others_of};
-
     // In the order of the rule.
     const NAMES: &'static [&'static str] = &["subscriptions"];
 
@@ -227,28 +172,11 @@ impl UnsubscribeById {
     }
 }
 
-type ByIdParts = Required<OneOrMore<String>, Ext>;
-
-impl Ruled for UnsubscribeById {
-    ghost use Rattle.bidi_shape.specs.Name.{unsubscribe_by_id};
-    ghost use Rattle.bidi_shape.specs.Term.{rule as named};
-
-    ghost rule = { named unsubscribe_by_id };
-}
-
 impl Shape for UnsubscribeById {
-    ghost use Rattle.std.specs.Prelude.{refl, []};
-    ghost use Rattle.bidi_shape.specs.Table.{map_shape};
-
-    ghost shape = { map_shape ⟦<UnsubscribeById as Ruled>⟧.rule ⟦<ByIdParts as Fields>⟧.table [] (λ v. (v.subscriptions, v.ext)) refl refl };
+    ghost shape = { map_shape (named unsubscribe_by_id) ⟦<Required<OneOrMore<String>, Ext> as Fields>⟧.table [] (λ v. (v.subscriptions, v.ext)) refl refl };
 
     fn from_tree<S: Parsed>(alloc: Global, tree: &S) -> Result<UnsubscribeById, ShapeFault> {
-        let Required(subscriptions, ext) = read_fields::<UnsubscribeById, ByIdParts, S>(
-            alloc,
-            tree,
-            Self::NAMES,
-            &[],
-        )?;
+        let Required(subscriptions, ext) = read_fields(alloc, tree, Self::NAMES, &[])?;
         Ok(UnsubscribeById { subscriptions, ext })
     }
 
@@ -270,16 +198,7 @@ pub struct UnsubscribeByEvents {
 }
 
 impl UnsubscribeByEvents {
-    ghost use Rattle.std.specs.Prelude.{◌≡◌, IfOk, true};
-    ghost use Rattle.bidi_tree.specs.Node.{MembersAreWhole};
-    ghost use Rattle.bidi_tree.specs.View.{members_node};
-    ghost use Rattle.bidi_shape.specs.Name.{unsubscribe_by_id, unsubscribe_by_events};
-    ghost use Rattle.bidi_shape.specs.Term.{rule as named};
     ghost use Rattle.bidi_shape.specs.Fits.{Fits};
-    ghost use Rattle.bidi_shape.specs.Parts.{has_named};
-    ghost use Rattle.bidi_shape.specs.Table.{names_in};
-    ghost use Rattle.bidi_shape.specs.Made.{Makes};
-    ghost use Rattle.bidi_shape.specs.ValueLaws.{others_of};
     ghost use Rattle.bidi_params.specs.Session.{by_events_map};
 
     // In the order of the rule.
@@ -315,28 +234,11 @@ impl UnsubscribeByEvents {
     }
 }
 
-type ByEventsParts = Required<OneOrMore<String>, Ext>;
-
-impl Ruled for UnsubscribeByEvents {
-    ghost use Rattle.bidi_shape.specs.Name.{unsubscribe_by_events};
-    ghost use Rattle.bidi_shape.specs.Term.{rule as named};
-
-    ghost rule = { named unsubscribe_by_events };
-}
-
 impl Shape for UnsubscribeByEvents {
-    ghost use Rattle.std.specs.Prelude.{refl, []};
-    ghost use Rattle.bidi_shape.specs.Table.{map_shape};
-
-    ghost shape = { map_shape ⟦<UnsubscribeByEvents as Ruled>⟧.rule ⟦<ByEventsParts as Fields>⟧.table [] (λ v. (v.events, v.ext)) refl refl };
+    ghost shape = { map_shape (named unsubscribe_by_events) ⟦<Required<OneOrMore<String>, Ext> as Fields>⟧.table [] (λ v. (v.events, v.ext)) refl refl };
 
     fn from_tree<S: Parsed>(alloc: Global, tree: &S) -> Result<UnsubscribeByEvents, ShapeFault> {
-        let Required(events, ext) = read_fields::<UnsubscribeByEvents, ByEventsParts, S>(
-            alloc,
-            tree,
-            Self::NAMES,
-            &[],
-        )?;
+        let Required(events, ext) = read_fields(alloc, tree, Self::NAMES, &[])?;
         Ok(UnsubscribeByEvents { events, ext })
     }
 
@@ -359,26 +261,16 @@ pub enum UnsubscribeParameters {
     ByEvents(UnsubscribeByEvents),
 }
 
-type Alternatives = Either<UnsubscribeById, UnsubscribeByEvents>;
-
-impl Ruled for UnsubscribeParameters {
-    ghost use Rattle.bidi_shape.specs.Name.{unsubscribe_parameters};
-    ghost use Rattle.bidi_shape.specs.Term.{rule as named};
-
-    ghost rule = { named unsubscribe_parameters };
-}
-
 impl Shape for UnsubscribeParameters {
-    ghost use Rattle.std.specs.Prelude.{refl};
     ghost use Rattle.bidi_shape.specs.ThroughLaws.{shape_through};
     ghost use Rattle.bidi_shape.specs.declared.choice.Either.TheVariants.{First, Second};
     ghost use Rattle.bidi_params.specs.declared.session.subscribe.UnsubscribeParameters.TheVariants.{ById, ByEvents};
 
-    ghost shape = { shape_through ⟦<UnsubscribeParameters as Ruled>⟧.rule ⟦<Alternatives as Shape>⟧.shape
+    ghost shape = { shape_through (named unsubscribe_parameters) ⟦<Either<UnsubscribeById, UnsubscribeByEvents> as Shape>⟧.shape
         (λ v. elim v [ ById i ↦ First i | ByEvents e ↦ Second e ]) refl };
 
     fn from_tree<S: Parsed>(alloc: Global, tree: &S) -> Result<UnsubscribeParameters, ShapeFault> {
-        match read_choice::<UnsubscribeParameters, Alternatives, S>(alloc, tree)? {
+        match read_choice(alloc, tree)? {
             Either::First(by_id) => Ok(UnsubscribeParameters::ById(by_id)),
             Either::Second(by_events) => Ok(UnsubscribeParameters::ByEvents(by_events)),
         }

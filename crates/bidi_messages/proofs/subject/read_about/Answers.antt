@@ -7,23 +7,23 @@ use Rattle.bidi_messages.proofs.subject.read_about.Goals as goal
 
 pub returns-in_err-check_map-clause-no_fit : goal.returns-in_err-check_map-clause-no_fit
 returns-in_err-check_map-clause-no_fit g c =
-    handed_on _ _ c.from_residual.ensures.1 c.in_err-check_map.ensures.no_fit
-    (no_map c.args.name.now g.X.Shape.shape g.K.Named.words g.D.Subject.subject _ c.requires.says _)
+    λ τ says. handed_on _ _ c.from_residual.ensures.1 c.in_err-check_map.ensures.no_fit
+    (no_map c.args.name.now g.X.Shape.shape g.K.Named.words g.D.Subject.subject τ says _)
 
 pub returns-in_err-head-clause-no_fit : goal.returns-in_err-head-clause-no_fit
 returns-in_err-head-clause-no_fit g c =
-    handed_on _ _ c.from_residual-in_err-head.ensures.1 c.in_err-head.ensures.no_fit
-    (no_head c.args.name.now g.X.Shape.shape g.K.Named.words g.D.Subject.subject _ c.requires.says _ _ c.in_ok-check_map.ensures.ok)
+    λ τ says. handed_on _ _ c.from_residual-in_err-head.ensures.1 c.in_err-head.ensures.no_fit
+    (no_head c.args.name.now g.X.Shape.shape g.K.Named.words g.D.Subject.subject τ says _ _ c.in_ok-check_map.ensures.ok)
 
 pub returns-in_err-kind-clause-no_fit : goal.returns-in_err-kind-clause-no_fit
 returns-in_err-kind-clause-no_fit g c =
-    handed_on _ _ c.from_residual-in_err-kind.ensures.1 c.in_err-kind.ensures.no_fit
-    (no_method c.args.name.now g.X.Shape.shape g.K.Named.words g.D.Subject.subject _ c.requires.says _ _ c.in_ok-check_map.ensures.ok)
+    λ τ says. handed_on _ _ c.from_residual-in_err-kind.ensures.1 c.in_err-kind.ensures.no_fit
+    (no_method c.args.name.now g.X.Shape.shape g.K.Named.words g.D.Subject.subject τ says _ _ c.in_ok-check_map.ensures.ok)
 
 pub returns-in_err-subject-clause-no_fit : goal.returns-in_err-subject-clause-no_fit
 returns-in_err-subject-clause-no_fit g c =
-    handed_on _ _ c.from_residual-in_err-subject.ensures.1 c.in_err-subject.ensures.no_fit
-    (no_params c.args.name.now g.X.Shape.shape g.K.Named.words g.D.Subject.subject _ c.requires.says _ _ c.in_ok-kind.kind
+    λ τ says. handed_on _ _ c.from_residual-in_err-subject.ensures.1 c.in_err-subject.ensures.no_fit
+    (no_params c.args.name.now g.X.Shape.shape g.K.Named.words g.D.Subject.subject τ says _ _ c.in_ok-kind.kind
     c.in_ok-check_map.ensures.ok c.in_ok-kind.ensures.ok)
 
 pub returns-clause-ok : goal.returns-clause-ok

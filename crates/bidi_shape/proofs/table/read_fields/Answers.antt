@@ -2,11 +2,11 @@ use Rattle.bidi_shape.specs.Table.{table_read, members_exit, fields_exit}
 use Rattle.bidi_shape.proofs.table.read_fields.Goals as goal
 
 pub returns-in_err-check_map-clause-no_fit : goal.returns-in_err-check_map-clause-no_fit
-returns-in_err-check_map-clause-no_fit g c = members_exit _ _ _ _ c.requires.says _ _ c.from_residual.ensures.1 c.in_err-check_map.ensures.no_fit
+returns-in_err-check_map-clause-no_fit g c = λ τ says. members_exit _ τ _ _ says _ _ c.from_residual.ensures.1 c.in_err-check_map.ensures.no_fit
 
 pub returns-in_err-fields-clause-no_fit : goal.returns-in_err-fields-clause-no_fit
 returns-in_err-fields-clause-no_fit g c =
-    fields_exit _ _ _ _ _ _ c.requires.table c.in_ok-check_map.ensures.ok c.requires.says _ _ c.from_residual-in_err-fields.ensures.1
+    λ τ says. fields_exit _ _ τ _ _ _ c.requires.table c.in_ok-check_map.ensures.ok says _ _ c.from_residual-in_err-fields.ensures.1
     c.in_err-fields.ensures.no_fit
 
 pub returns-clause-ok : goal.returns-clause-ok
