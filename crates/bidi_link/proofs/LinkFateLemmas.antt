@@ -10,14 +10,14 @@ use Rattle.bidi_tree.specs.declared.number.JsUint.{JsUint}
 use Rattle.bidi_messages.specs.declared.method.Method.{Method}
 use Rattle.bidi_messages.specs.Method.{method_text}
 use Rattle.bidi_local.specs.Pending.{Pending, ids, method_of, without}
-use Rattle.bidi_link.specs.declared.ledger.Entry.{Entry}
-use Rattle.bidi_link.specs.declared.ledger.Fate.{Fate}
-use Rattle.bidi_link.specs.declared.ledger.Fate.TheVariants as in_hand
-use Rattle.bidi_link.specs.Pairing.{Sending}
-use Rattle.bidi_link.specs.Link as seen
-use Rattle.bidi_link.specs.Link.{Link, is_waiting, is_reply_to, messages, fate_with, fate_of, entries_from}
+use Rattle.bidi_ledger.specs.declared.ledger.Entry.{Entry}
+use Rattle.bidi_ledger.specs.declared.ledger.Fate.{Fate}
+use Rattle.bidi_ledger.specs.declared.ledger.Fate.TheVariants as in_hand
+use Rattle.bidi_ledger.specs.Pairing.{Sending}
+use Rattle.bidi_ledger.specs.Link as seen
+use Rattle.bidi_ledger.specs.Link.{Link, is_waiting, is_reply_to, messages, fate_with, fate_of, entries_from}
 use Rattle.bidi_link.specs.Rows.{waiting_among, with_cut}
-use Rattle.bidi_link.specs.Steps.{fate_seen, entry_seen}
+use Rattle.bidi_ledger.specs.Steps.{fate_seen, entry_seen}
 
 -- ---- ids
 

@@ -2,11 +2,11 @@
 use Rattle.std.proofs.Common.{◌≡◌, ◌∙◌, ◌≤◌, ℕ, suc, zero, Bool, true, false, List, [], ◌∷◌, ◌++◌, map, length, take, drop, filter, find}
 use Rattle.std.proofs.Common.{Option, Some, None, option_to_list, unwrap_or, Result, Ok, Err, refl, sym, ap, ap₂, subst, arith}
 use Rattle.std.specs.Prelude.{slice_get, if◌then◌else◌, IfNone, IfSome, OnOk}
-use Rattle.bidi_link.specs.Pairing.{Sending}
+use Rattle.bidi_ledger.specs.Pairing.{Sending}
 use Rattle.std.proofs.lemmas.List.{take-append-le}
 use Rattle.bidi_tree.specs.Node.{null}
 use Rattle.bidi_tree.specs.Text.{tree_of}
-use Rattle.bidi_link.specs.Link.{Link, Fate, Entry, Received, is_event, is_reply_to, event_in, fate_with, fate_of, entries_from, events}
+use Rattle.bidi_ledger.specs.Link.{Link, Fate, Entry, Received, is_event, is_reply_to, event_in, fate_with, fate_of, entries_from, events}
 use Rattle.bidi_link.specs.Rows.{IsUpward, AreUpward, next_up, with_texts}
 
 -- ---- cases

@@ -30,8 +30,8 @@ use Rattle.bidi_messages.specs.Reading.{IsMessageText, IsEvent}
 use Rattle.bidi_browser.specs.Actions.{is_text}
 use Rattle.bidi_handles.specs.Params.{number_if_at}
 use Rattle.bidi_remote.specs.Machine.Replies.{IsEventText, IsReply, is_result, is_code}
-use Rattle.bidi_link.specs.Pairing.{Sending}
-use Rattle.bidi_link.specs.Link.{is_event, is_reply_to}
+use Rattle.bidi_ledger.specs.Pairing.{Sending}
+use Rattle.bidi_ledger.specs.Link.{is_event, is_reply_to}
 use Rattle.bidi_link.specs.Spoken.{AreSpoken, nothing, an_event, a_reply}
 
 -- the tree of a text that is taken down

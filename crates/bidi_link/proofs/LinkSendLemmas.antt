@@ -14,14 +14,14 @@ use Rattle.bidi_messages.specs.Verdict.{IsVerdict, Accepted}
 use Rattle.bidi_messages.specs.contracts.command.CommandDataSubjectMethod.TheImpl as asks
 use Rattle.bidi_tree.specs.declared.number.JsUint.{JsUint}
 use Rattle.bidi_browser.specs.Contexts.{up_to}
-use Rattle.bidi_link.specs.declared.ledger.Entry.{Entry}
+use Rattle.bidi_ledger.specs.declared.ledger.Entry.{Entry}
 use Rattle.bidi_link.specs.declared.link_end.LinkEnd.{LinkEnd}
 use Rattle.bidi_link.specs.Spoken.{IsSound}
-use Rattle.bidi_link.specs.Pairing.{Sending}
-use Rattle.bidi_link.specs.Link as seen
-use Rattle.bidi_link.specs.Link.{Link, is_waiting, is_reply_to, messages, fate_with, fate_of, unsettled, entries_from, may_send}
+use Rattle.bidi_ledger.specs.Pairing.{Sending}
+use Rattle.bidi_ledger.specs.Link as seen
+use Rattle.bidi_ledger.specs.Link.{Link, is_waiting, is_reply_to, messages, fate_with, fate_of, unsettled, entries_from, may_send}
 use Rattle.bidi_link.specs.Rows.{Agrees, waiting_among, IsUpward, AreUpward, with_sending, sent_on}
-use Rattle.bidi_link.specs.Steps.{fate_seen, entry_seen, event_seen, sending_of, FateIsWell, EntriesAreWell, EventsAreWell}
+use Rattle.bidi_ledger.specs.Steps.{fate_seen, entry_seen, event_seen, sending_of, FateIsWell, EntriesAreWell, EventsAreWell}
 use Rattle.bidi_remote.proofs.ListLemmas.{all-append}
 use Rattle.bidi_link.proofs.LinkFateLemmas.{row, waits, same_head, same_tail}
 use Rattle.bidi_link.proofs.LinkLemmas.{drop-append, entries-same}

@@ -43,16 +43,16 @@ use Rattle.bidi_local.specs.declared.received.Received.{Received}
 use Rattle.bidi_local.specs.declared.received.Received.TheVariants as received
 use Rattle.bidi_remote.specs.Machine.Replies.{IsEventText}
 use Rattle.bidi_remote.proofs.ReplyLemmas.{one-method}
-use Rattle.bidi_link.specs.declared.ledger.Entry.{Entry}
-use Rattle.bidi_link.specs.declared.ledger.Fate.{Fate}
-use Rattle.bidi_link.specs.declared.ledger.Fate.TheVariants as in_hand
+use Rattle.bidi_ledger.specs.declared.ledger.Entry.{Entry}
+use Rattle.bidi_ledger.specs.declared.ledger.Fate.{Fate}
+use Rattle.bidi_ledger.specs.declared.ledger.Fate.TheVariants as in_hand
 use Rattle.bidi_link.specs.declared.link_end.LinkEnd.{LinkEnd}
 use Rattle.bidi_link.specs.Spoken.{IsSound}
-use Rattle.bidi_link.specs.Pairing.{Sending}
-use Rattle.bidi_link.specs.Link as seen
-use Rattle.bidi_link.specs.Link.{Link, is_event, is_reply_to, is_waiting, messages, event_in, events, fate_by, fate_with, fate_of, entries_from}
+use Rattle.bidi_ledger.specs.Pairing.{Sending}
+use Rattle.bidi_ledger.specs.Link as seen
+use Rattle.bidi_ledger.specs.Link.{Link, is_event, is_reply_to, is_waiting, messages, event_in, events, fate_by, fate_with, fate_of, entries_from}
 use Rattle.bidi_link.specs.Rows.{Agrees, waiting_among, AreUpward, with_down}
-use Rattle.bidi_link.specs.Steps.{fate_seen, entry_seen, event_seen, EntriesAreWell, EventsAreWell}
+use Rattle.bidi_ledger.specs.Steps.{fate_seen, entry_seen, event_seen, EntriesAreWell, EventsAreWell}
 use Rattle.bidi_link.proofs.LinkLemmas.{both_ok, entries-same, dropped, all_dropped}
 use Rattle.bidi_link.proofs.LinkFateLemmas.{are_numbered, IsEntry, entry_at, entries-set, waiting-set, method_of-waiting}
 use Rattle.bidi_link.proofs.LinkReplyLemmas.{tree_in, ResultOf, CodeOf, result_or_code, Replies, replies_alone}

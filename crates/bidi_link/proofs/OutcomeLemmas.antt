@@ -12,8 +12,8 @@ use Rattle.bidi_messages.specs.contracts.message.MessageShape.TheImpl.{ghosts}
 use Rattle.bidi_remote.specs.Machine.History.{Input, Heard}
 use Rattle.bidi_remote.specs.Machine.Replies.{IsEventText}
 use Rattle.bidi_remote.specs.Machine.Sent.{out, answers, texts_on}
-use Rattle.bidi_link.specs.Pairing.{Sending, Deed, Handed, TakenUp, history, is_cut, commands, ups, downs, texts}
-use Rattle.bidi_link.specs.Link.{Link, Fate, link, messages, is_reply_to, fate_by, fate_with, tree_of_sending}
+use Rattle.bidi_ledger.specs.Pairing.{Sending, Deed, Handed, TakenUp, history, is_cut, commands, ups, downs, texts}
+use Rattle.bidi_ledger.specs.Link.{Link, Fate, link, messages, is_reply_to, fate_by, fate_with, tree_of_sending}
 use Rattle.bidi_link.specs.Spoken.{IsSound, AreSpoken}
 use Rattle.bidi_link.specs.Stands.{IsFrom, AreFrom}
 use Rattle.bidi_link.specs.Outcomes.{is_reply, IsOutcome, AreOutcomes}

@@ -6,9 +6,9 @@ use Rattle.std.proofs.lemmas.List.{reverse-append, reverse-reverse}
 use Rattle.bidi_remote.specs.Machine.History.{Input}
 use Rattle.bidi_remote.specs.Machine.Sent.{out, answers, texts_on}
 use Rattle.bidi_remote.proofs.RouteLemmas.{texts_on-append}
-use Rattle.bidi_link.specs.Pairing.{Sending, Deed, Handed, Linked, Sent as SentOn, Unsent, TakenUp, TakenDown}
-use Rattle.bidi_link.specs.Pairing.{Cut, history, links, is_link, commands, unsent, downs, texts}
-use Rattle.bidi_link.specs.Link.{Link, link}
+use Rattle.bidi_ledger.specs.Pairing.{Sending, Deed, Handed, Linked, Sent as SentOn, Unsent, TakenUp, TakenDown}
+use Rattle.bidi_ledger.specs.Pairing.{Cut, history, links, is_link, commands, unsent, downs, texts}
+use Rattle.bidi_ledger.specs.Link.{Link, link}
 use Rattle.bidi_link.specs.Rows.{with_texts, with_up, with_cut}
 use Rattle.bidi_remote.proofs.AnswerLemmas.{answers_more}
 

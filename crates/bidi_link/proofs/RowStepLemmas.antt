@@ -8,9 +8,9 @@ use Rattle.std.proofs.lemmas.Bool.{ltb-true}
 use Rattle.bidi_tree.specs.Text.{compact_text}
 use Rattle.bidi_link.specs.declared.ends.Ends.{Ends}
 use Rattle.bidi_link.specs.declared.link_end.LinkEnd.{LinkEnd}
-use Rattle.bidi_link.specs.Pairing.{Sending, Deed, Sent, Unsent, TakenUp, TakenDown, Cut, is_link, is_cut, commands, downs, texts}
-use Rattle.bidi_link.specs.Link.{Link, link, may_send, unsettled, tree_of_sending}
-use Rattle.bidi_link.specs.Ledger.{Sends, Up, Down, with_step, is_whole}
+use Rattle.bidi_ledger.specs.Pairing.{Sending, Deed, Sent, Unsent, TakenUp, TakenDown, Cut, is_link, is_cut, commands, downs, texts}
+use Rattle.bidi_ledger.specs.Link.{Link, link, may_send, unsettled, tree_of_sending}
+use Rattle.bidi_ledger.specs.Ledger.{Sends, Up, Down, with_step, is_whole}
 use Rattle.bidi_link.specs.Spoken.{IsSound}
 use Rattle.bidi_link.specs.Rows.{Agrees, IsUpward, sent_on, next_up, with_up, with_down, with_cut}
 use Rattle.bidi_link.specs.Stands.{StandsFor, IsSane, Both, CanCount, IsNextUp, numbers}

@@ -17,9 +17,9 @@ use Rattle.bidi_remote.specs.Machine.Sent.{out, texts_on}
 use Rattle.bidi_remote.specs.Tables.Messages.{AllReadBack}
 use Rattle.bidi_remote.proofs.ListLemmas.{all-append}
 use Rattle.bidi_remote.proofs.RouteLemmas.{AreEvents, Answers, answers-heard, IsUnheard, events-unheard, IsApart, stays-shut}
-use Rattle.bidi_link.specs.Pairing.{Sending, Deed, Handed, Linked, TakenUp, history, is_link, commands, ups, texts}
-use Rattle.bidi_link.specs.Link.{Link, link, tree_of_sending}
-use Rattle.bidi_link.specs.Ledger.{is_connected}
+use Rattle.bidi_ledger.specs.Pairing.{Sending, Deed, Handed, Linked, TakenUp, history, is_link, commands, ups, texts}
+use Rattle.bidi_ledger.specs.Link.{Link, link, tree_of_sending}
+use Rattle.bidi_ledger.specs.Ledger.{is_connected}
 use Rattle.bidi_link.specs.Spoken.{IsSound, AreSpoken}
 use Rattle.bidi_link.specs.Rows.{blank, with_texts}
 use Rattle.bidi_link.specs.Stands.{IsSane, AreFrom}

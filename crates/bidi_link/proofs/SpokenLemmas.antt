@@ -13,7 +13,7 @@ use Rattle.bidi_remote.proofs.ListLemmas.{all-append}
 use Rattle.bidi_remote.proofs.RouteLemmas.{AreEvents, MayReply, no_reply, one_reply, Answers, events-append}
 use Rattle.bidi_remote.specs.Machine.History.{Deed}
 use Rattle.bidi_remote.specs.Machine.Connections.{is_open}
-use Rattle.bidi_link.specs.Pairing.{Sending}
+use Rattle.bidi_ledger.specs.Pairing.{Sending}
 use Rattle.bidi_link.specs.Spoken.{AreSpoken, nothing, an_event, a_reply}
 
 get-before : (cs ds : List Sending) (p : ℕ) (c : Sending) → slice_get cs p ≡ Some c → slice_get (cs ++ ds) p ≡ Some c

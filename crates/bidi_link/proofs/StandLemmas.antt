@@ -8,9 +8,9 @@ use Rattle.bidi_remote.specs.Machine.History.{Input}
 use Rattle.bidi_remote.specs.Machine.Sent.{Sent, out, texts_on}
 use Rattle.bidi_link.specs.declared.ends.Ends.{Ends}
 use Rattle.bidi_link.specs.declared.link_end.LinkEnd.{LinkEnd}
-use Rattle.bidi_link.specs.Pairing.{Sending, Deed, Handed, Linked, history, is_link, is_cut, commands, ups}
-use Rattle.bidi_link.specs.Link.{Link, link}
-use Rattle.bidi_link.specs.Ledger.{is_whole, with_step, taken_up, Up}
+use Rattle.bidi_ledger.specs.Pairing.{Sending, Deed, Handed, Linked, history, is_link, is_cut, commands, ups}
+use Rattle.bidi_ledger.specs.Link.{Link, link}
+use Rattle.bidi_ledger.specs.Ledger.{is_whole, with_step, taken_up, Up}
 use Rattle.bidi_link.specs.Rows.{Agrees, blank, with_texts, next_up}
 use Rattle.bidi_link.specs.Stands.{StandsFor, RowsAgree, numbers}
 use Rattle.bidi_link.proofs.PastLemmas.{IsOf, link-handed, is_link-links, other}

@@ -21,12 +21,12 @@ use Rattle.std.specs.Result.{IsErrAnd}
 use Rattle.bidi_remote.specs.declared.remote_end.RemoteFault.{RemoteFault}
 use Rattle.bidi_remote.specs.declared.remote_end.RemoteFault.TheVariants.{WornOut}
 use Rattle.bidi_link.specs.declared.ends.Ends.{Ends}
-use Rattle.bidi_link.specs.Pairing.{Sending, Deed, Handed, Linked, Sent, Unsent, TakenUp, TakenDown, Cut}
-use Rattle.bidi_link.specs.Pairing.{history, is_link, is_cut, commands, ups, downs, texts, unsent}
-use Rattle.bidi_link.specs.Link.{Link, link, may_send, tree_of_sending, page}
-use Rattle.bidi_link.specs.Ledger.{PairInput, Opens, Sends, Up, Down, Cuts, Direct, with_step, past_after, is_whole, is_connected, taken_up, dropped}
-use Rattle.bidi_link.specs.declared.pairing.PairStep.{PairStep}
-use Rattle.bidi_link.specs.Steps.{IsDirect, IsHeardAs as IsHeardAsPair, AreHeardAs}
+use Rattle.bidi_ledger.specs.Pairing.{Sending, Deed, Handed, Linked, Sent, Unsent, TakenUp, TakenDown, Cut}
+use Rattle.bidi_ledger.specs.Pairing.{history, is_link, is_cut, commands, ups, downs, texts, unsent}
+use Rattle.bidi_ledger.specs.Link.{Link, link, may_send, tree_of_sending, page}
+use Rattle.bidi_ledger.specs.Ledger.{PairInput, Opens, Sends, Up, Down, Cuts, Direct, with_step, past_after, is_whole, is_connected, taken_up, dropped}
+use Rattle.bidi_ledger.specs.declared.pair_step.PairStep.{PairStep}
+use Rattle.bidi_ledger.specs.Steps.{IsDirect, IsHeardAs as IsHeardAsPair, AreHeardAs}
 use Rattle.bidi_link.specs.declared.link_end.LinkEnd.{LinkEnd}
 use Rattle.bidi_link.specs.Rows.{Agrees, page_in_hand, blank, with_cut}
 use Rattle.bidi_link.specs.Stands.{StandsFor, IsSane, Both, CanCount, IsNextUp, RowsAgree, numbers}

@@ -8,7 +8,7 @@ use Rattle.bidi_remote.specs.Machine.Sent.{Sent, Text, text_on, texts_on}
 use Rattle.bidi_remote.proofs.ListLemmas.{all-append}
 use Rattle.bidi_remote.proofs.RouteLemmas.{texts_on-append}
 use Rattle.bidi_link.specs.declared.link_end.LinkEnd.{LinkEnd}
-use Rattle.bidi_link.specs.Link.{Link}
+use Rattle.bidi_ledger.specs.Link.{Link}
 use Rattle.bidi_link.specs.Rows.{Agrees, with_texts}
 use Rattle.bidi_link.specs.Stands.{RowsAgree, numbers}
 use Rattle.bidi_link.proofs.PastLemmas.{same, other}

@@ -2,7 +2,7 @@
 use Rattle.std.proofs.Common.{ℕ, List, [], ◌∷◌, map}
 use Rattle.std.specs.List.{AllByRecursion}
 use Rattle.bidi_link.specs.declared.link_end.LinkEnd.{LinkEnd}
-use Rattle.bidi_link.specs.Link.{Link}
+use Rattle.bidi_ledger.specs.Link.{Link}
 use Rattle.bidi_link.specs.Rows.{Agrees}
 use Rattle.bidi_link.specs.Stands.{RowsAgree}
 

@@ -5,8 +5,8 @@ use Rattle.bidi_tree.specs.Text.{tree_of}
 use Rattle.bidi_messages.specs.Verdict.{Accepted}
 use Rattle.bidi_remote.specs.Machine.History.{Heard}
 use Rattle.bidi_remote.specs.Machine.Sent.{out, texts_on}
-use Rattle.bidi_link.specs.Pairing.{Sending, Deed, Handed, history, commands}
-use Rattle.bidi_link.specs.Link.{Fate, Answered, Refused, Lost, Waiting, link, tree_of_sending, is_reply_to, fate_by, fate_of}
+use Rattle.bidi_ledger.specs.Pairing.{Sending, Deed, Handed, history, commands}
+use Rattle.bidi_ledger.specs.Link.{Fate, Answered, Refused, Lost, Waiting, link, tree_of_sending, is_reply_to, fate_by, fate_of}
 
 -- a reply has come: an answer or a refusal
 abbrev pub is_reply : Fate → Bool

@@ -7,11 +7,11 @@ use Rattle.bidi_messages.specs.Method.{method_text}
 use Rattle.bidi_messages.specs.declared.method.Method.{Method}
 use Rattle.bidi_local.specs.Pending.{Pending}
 use Rattle.bidi_local.specs.View.{Stands}
-use Rattle.bidi_link.specs.declared.ledger.Entry as declared_entry
+use Rattle.bidi_ledger.specs.declared.ledger.Entry as declared_entry
 use Rattle.bidi_link.specs.declared.link_end.LinkEnd.{LinkEnd}
-use Rattle.bidi_link.specs.Pairing.{Sending}
-use Rattle.bidi_link.specs.Link.{Link, is_waiting, tree_of_sending, may_send, entries_from, events, Page}
-use Rattle.bidi_link.specs.Steps.{fate_seen, entry_seen, event_seen, EntriesAreWell, EventsAreWell}
+use Rattle.bidi_ledger.specs.Pairing.{Sending}
+use Rattle.bidi_ledger.specs.Link.{Link, is_waiting, tree_of_sending, may_send, entries_from, events, Page}
+use Rattle.bidi_ledger.specs.Steps.{fate_seen, entry_seen, event_seen, EntriesAreWell, EventsAreWell}
 
 -- ---- what a step makes of a link
 

@@ -6,8 +6,8 @@ use Rattle.bidi_messages.specs.Method.{method_text}
 use Rattle.bidi_messages.specs.Reading.{IsMessageText}
 use Rattle.bidi_messages.specs.contracts.message.MessageShape.TheImpl.{ghosts}
 use Rattle.bidi_remote.specs.Machine.Replies.{IsEventText, IsReply}
-use Rattle.bidi_link.specs.Pairing.{Sending}
-use Rattle.bidi_link.specs.Link.{Link}
+use Rattle.bidi_ledger.specs.Pairing.{Sending}
+use Rattle.bidi_ledger.specs.Link.{Link}
 
 -- The texts are those of events, and of replies to some of these commands, in the order of the commands: behind the first
 -- so many, and up to the last of so many. A result fits the rule of its command's method.

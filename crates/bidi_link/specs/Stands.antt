@@ -9,9 +9,9 @@ use Rattle.bidi_remote.specs.Machine.Sent.{out, texts_on}
 use Rattle.bidi_remote.specs.Tables.Stands as remote
 use Rattle.bidi_link.specs.declared.ends.Ends.{Ends}
 use Rattle.bidi_link.specs.declared.link_end.LinkEnd.{LinkEnd}
-use Rattle.bidi_link.specs.Pairing.{Sending, Deed, Handed, history, links, is_link, commands, ups, unsent, texts}
-use Rattle.bidi_link.specs.Link.{Link, link, tree_of_sending, is_reply_to}
-use Rattle.bidi_link.specs.Ledger.{is_connected, is_whole}
+use Rattle.bidi_ledger.specs.Pairing.{Sending, Deed, Handed, history, links, is_link, commands, ups, unsent, texts}
+use Rattle.bidi_ledger.specs.Link.{Link, link, tree_of_sending, is_reply_to}
+use Rattle.bidi_ledger.specs.Ledger.{is_connected, is_whole}
 use Rattle.bidi_link.specs.Spoken.{IsSound}
 use Rattle.bidi_link.specs.Rows.{Agrees, IsUpward, blank}
 

@@ -7,18 +7,18 @@ use Rattle.std.specs.List.{AllByRecursion}
 use Rattle.std.proofs.lemmas.Grind.{flat_map-append}
 use Rattle.bidi_remote.specs.declared.remote_end.RemoteFault.{RemoteFault}
 use Rattle.bidi_remote.specs.declared.remote_end.RemoteFault.TheVariants as remote
-use Rattle.bidi_link.specs.declared.pairing.PairStep.{PairStep}
-use Rattle.bidi_link.specs.Ledger.{PairInput, past_after}
-use Rattle.bidi_link.specs.Pairing.{history}
-use Rattle.bidi_link.specs.Steps.{AreHeardAs}
+use Rattle.bidi_ledger.specs.declared.pair_step.PairStep.{PairStep}
+use Rattle.bidi_ledger.specs.Ledger.{PairInput, past_after}
+use Rattle.bidi_ledger.specs.Pairing.{history}
+use Rattle.bidi_ledger.specs.Steps.{AreHeardAs}
 use Rattle.bidi_console.specs.Feeds.{ended}
 use Rattle.bidi_console.specs.InputLines.{IsLine}
 use Rattle.bidi_console.specs.InputLines as input
 use Rattle.bidi_console.specs.Listings.{joined}
 use Rattle.bidi_pair.specs.PairLines as said
 use Rattle.bidi_pair.specs.Pairs.{AllSay, PairsAll, Schedule, StopsAt, pair_fault_of, remote_fault_of}
-use Rattle.bidi_pair.specs.declared.pairing.PairFault.{PairFault}
-use Rattle.bidi_pair.specs.declared.pairing.PairFault.TheVariants.{BadLine, Write}
+use Rattle.bidi_pair.specs.declared.reading.PairFault.{PairFault}
+use Rattle.bidi_pair.specs.declared.reading.PairFault.TheVariants.{BadLine, Write}
 use Rattle.bidi_console.specs.declared.line_reader.InputFault.{InputFault}
 use Rattle.bidi_console.specs.declared.line_reader.InputFault.TheVariants as fault
 use Rattle.bidi_console.proofs.FeedLemmas.{feed_there}

@@ -3,10 +3,10 @@ use Rattle.std.specs.Prelude.{◌≡◌, ℕ, ◌==◌, if◌then◌else◌, Lis
 use Rattle.std.specs.List.{flat_map}
 use Rattle.bidi_tree.specs.Text.{tree_of_text, compact_text}
 use Rattle.bidi_remote.specs.Machine.Step as play
-use Rattle.bidi_link.specs.declared.pairing.PairStep.{PairStep}
-use Rattle.bidi_link.specs.declared.pairing.PairStep.TheVariants.{Open, Send, Up, Down, Cut, At, Frame, Unframe, Log, TableRow}
-use Rattle.bidi_link.specs.Steps.{sending_of}
-use Rattle.bidi_link.specs.Link.{Fate, Answered, Refused, Lost, Waiting, Entry, Received, Page}
+use Rattle.bidi_ledger.specs.declared.pair_step.PairStep.{PairStep}
+use Rattle.bidi_ledger.specs.declared.pair_step.PairStep.TheVariants.{Open, Send, Up, Down, Cut, At, Frame, Unframe, Log, TableRow}
+use Rattle.bidi_ledger.specs.Steps.{sending_of}
+use Rattle.bidi_ledger.specs.Link.{Fate, Answered, Refused, Lost, Waiting, Entry, Received, Page}
 use Rattle.bidi_console.specs.Feeds.{ended}
 use Rattle.bidi_play.specs.Lines.{line_of, IsSayable}
 

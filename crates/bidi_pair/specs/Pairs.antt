@@ -4,12 +4,12 @@ use Rattle.std.specs.List.{AllByRecursion}
 use Rattle.std.specs.Io.KnownBytes.{Consumes}
 use Rattle.bidi_remote.specs.declared.remote_end.RemoteFault.{RemoteFault}
 use Rattle.bidi_remote.specs.declared.remote_end.RemoteFault.TheVariants as remote
-use Rattle.bidi_link.specs.declared.pairing.PairStep.{PairStep}
-use Rattle.bidi_link.specs.Ledger.{PairInput, past_after, ledger}
-use Rattle.bidi_link.specs.Pairing.{history}
-use Rattle.bidi_link.specs.Steps.{AreHeardAs}
-use Rattle.bidi_pair.specs.declared.pairing.PairFault.{PairFault}
-use Rattle.bidi_pair.specs.declared.pairing.PairFault.TheVariants.{Read, Write, BadLine, NoMemory, TooManyLines, WornOut}
+use Rattle.bidi_ledger.specs.declared.pair_step.PairStep.{PairStep}
+use Rattle.bidi_ledger.specs.Ledger.{PairInput, past_after, ledger}
+use Rattle.bidi_ledger.specs.Pairing.{history}
+use Rattle.bidi_ledger.specs.Steps.{AreHeardAs}
+use Rattle.bidi_pair.specs.declared.reading.PairFault.{PairFault}
+use Rattle.bidi_pair.specs.declared.reading.PairFault.TheVariants.{Read, Write, BadLine, NoMemory, TooManyLines, WornOut}
 use Rattle.bidi_console.specs.declared.line_reader.InputFault.{InputFault}
 use Rattle.bidi_console.specs.declared.line_reader.InputFault.TheVariants as input
 use Rattle.bidi_console.specs.InputLines.{IsLine}

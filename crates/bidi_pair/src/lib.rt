@@ -1,8 +1,11 @@
-//! Both ends of WebDriver BiDi by lines: lines of their steps in, and what became of each command out.
+//! The lines of both ends: lines of their steps, read, and the lines of a ledger, written.
+//!
+//! What plays the steps between is `bidi_link`; `bidi_programs` puts the three together.
 #![tactic(auto)]
 
-mod ledger_lines;
 mod pair_lines;
-mod pairing;
+mod reading;
+mod writing;
 
-pub use pairing::{PairFault, play_pair};
+pub use reading::{PairFault, read_steps};
+pub use writing::ledger_lines;

@@ -4,10 +4,10 @@ ghost use Rattle.bidi_tree.specs.Text.{tree_of_text};
 ghost use Rattle.bidi_tree.specs.View.{node};
 ghost use Rattle.bidi_messages.specs.Method.{method_text};
 ghost use Rattle.bidi_remote.specs.Tables.View.{step_of};
-ghost use Rattle.bidi_link.specs.Steps.{IsWell};
+ghost use Rattle.bidi_ledger.specs.Steps.{IsWell};
 ghost use Rattle.bidi_pair.specs.PairLines.{IsPlayLine, Says, sending_line};
 
-use bidi_link::PairStep;
+use bidi_ledger::PairStep;
 use bidi_messages::{Method, Named, data_of};
 use bidi_play::{is_same_text, read_number, read_step_text, split_at_space};
 use bidi_remote::Step;

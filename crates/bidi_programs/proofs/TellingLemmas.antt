@@ -13,8 +13,8 @@ use Rattle.bidi_play.specs.Plays as plays
 use Rattle.bidi_play.specs.declared.playing.PlayFault.{PlayFault}
 use Rattle.bidi_play.specs.declared.playing.PlayFault.TheVariants as play
 use Rattle.bidi_pair.specs.Pairs as pairs
-use Rattle.bidi_pair.specs.declared.pairing.PairFault.{PairFault}
-use Rattle.bidi_pair.specs.declared.pairing.PairFault.TheVariants as pair
+use Rattle.bidi_pair.specs.declared.reading.PairFault.{PairFault}
+use Rattle.bidi_pair.specs.declared.reading.PairFault.TheVariants as pair
 use Rattle.bidi_programs.specs.Runs.{Tells, status_of}
 use Rattle.bidi_programs.specs.declared.faults.RunFault.{RunFault}
 use Rattle.bidi_programs.specs.declared.faults.RunFault.TheVariants.{Play, Pair, Listing, Serve}

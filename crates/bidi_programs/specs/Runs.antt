@@ -13,7 +13,7 @@ use Rattle.bidi_play.specs.Plays.{PlaysAll}
 use Rattle.bidi_play.specs.declared.playing.PlayFault.TheVariants as play
 use Rattle.bidi_pair.specs.Pairs as pairs
 use Rattle.bidi_pair.specs.Pairs.{PairsAll}
-use Rattle.bidi_pair.specs.declared.pairing.PairFault.TheVariants as pair
+use Rattle.bidi_pair.specs.declared.reading.PairFault.TheVariants as pair
 use Rattle.bidi_serve.specs.declared.listening.ServeFault.TheVariants as serve
 use Rattle.bidi_programs.specs.declared.faults.RunFault.{RunFault}
 use Rattle.bidi_programs.specs.declared.faults.RunFault.TheVariants.{Play, Pair, Listing, Serve}

@@ -1,12 +1,14 @@
 //! The programs over the two ends of WebDriver BiDi, as one call over readers and writers.
 //!
 //! [`run`] does what a command line asks for: it reads a source and writes a sink, and writes a fault to
-//! another sink. The programs stand in `bidi_play`, `bidi_pair` and `bidi_serve`, and `show` and `check` in
-//! `bidi_console`; the crate `bidi` runs them over the standard streams.
+//! another sink. The programs stand in `bidi_play` and `bidi_serve`, `show` and `check` in `bidi_console`, and [`play_pair`]
+//! here, over the lines of `bidi_pair`; the crate `bidi` runs them over the standard streams.
 #![tactic(auto)]
 
 mod faults;
+mod pairing;
 mod running;
 
 pub use faults::RunFault;
+pub use pairing::play_pair;
 pub use running::{run, serving_status};

@@ -7,8 +7,8 @@ ghost use Rattle.bidi_programs.specs.declared.faults.RunFault.TheVariants as fau
 ghost use Rattle.bidi_programs.specs.Runs.{Completes, Stops, Tells, failed_reads, failed_writes, line_of, status_of};
 
 use super::faults::RunFault;
+use super::pairing::play_pair;
 use bidi_console::{Listing, Run, Sink, Source, list};
-use bidi_pair::play_pair;
 use bidi_play::play;
 use bidi_serve::ServeFault;
 use std::alloc::Global;

@@ -1,6 +1,6 @@
 //! Both ends over schedules: what becomes of each command, in whatever order texts are carried and links are cut.
 ghost use Rattle.std.specs.Prelude.{IfOk, OnOk};
-ghost use Rattle.bidi_link.specs.Steps.{AreWell, IsWell};
+ghost use Rattle.bidi_ledger.specs.Steps.{AreWell, IsWell};
 
 use bidi_link::{Fate, Ledger, PairStep, pair};
 use bidi_messages::{ErrorCode, Method, Named, ResultData, data_of};

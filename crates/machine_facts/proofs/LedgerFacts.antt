@@ -5,8 +5,8 @@ use Rattle.bidi_tree.specs.Node.{Node, null}
 use Rattle.bidi_tree.specs.Text.{tree_of}
 use Rattle.bidi_handles.proofs.Spelling.{said}
 use Rattle.machine_facts.proofs.Rows.{machine_on_literals}
-use Rattle.bidi_link.specs.Link.{Fate, Answered, Refused, Lost, Waiting, Entry, Received, Page}
-use Rattle.bidi_link.specs.Ledger.{PairInput, Opens, Sends, Up, Down, Cuts, ledger}
+use Rattle.bidi_ledger.specs.Link.{Fate, Answered, Refused, Lost, Waiting, Entry, Received, Page}
+use Rattle.bidi_ledger.specs.Ledger.{PairInput, Opens, Sends, Up, Down, Cuts, ledger}
 
 -- the tree of a JSON text
 abbrev pub tree : String → Node

@@ -1,7 +1,7 @@
 use Rattle.std.proofs.Common.{◌≡◌, map}
 use Rattle.bidi_local.specs.Pending.{ids}
 use Rattle.bidi_link.specs.Rows.{waiting_among}
-use Rattle.bidi_link.specs.Steps.{EntriesAreWell}
+use Rattle.bidi_ledger.specs.Steps.{EntriesAreWell}
 use Rattle.bidi_link.proofs.LinkFateLemmas.{AreNumbered, AreLost}
 use Rattle.bidi_link.proofs.link_end.lose.Given as goal
 

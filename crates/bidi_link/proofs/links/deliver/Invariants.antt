@@ -1,7 +1,7 @@
 use Rattle.std.proofs.Common.{◌≡◌, ℕ, map}
 use Rattle.bidi_remote.specs.Machine.Sent.{texts_on}
 use Rattle.bidi_remote.specs.Tables.View.{sent_of}
-use Rattle.bidi_link.specs.Link.{Link}
+use Rattle.bidi_ledger.specs.Link.{Link}
 use Rattle.bidi_link.specs.Rows.{with_texts}
 use Rattle.bidi_link.specs.Stands.{RowsAgree, numbers}
 use Rattle.bidi_link.proofs.links.deliver.Given as goal

@@ -2,9 +2,9 @@ use Rattle.std.proofs.Common.{◌≡◌, ◌∙◌, ◌<◌, ◌^◌, ◌∷◌,
 use Rattle.std.proofs.lemmas.List.{map-id}
 use Rattle.std.proofs.lemmas.Iterator.Consumers.{YieldsList-turn, YieldsList-end}
 use Rattle.std.proofs.lemmas.Iterator.Adapters.{YieldsList-from_vec}
-use Rattle.bidi_link.specs.Ledger.{past_after}
+use Rattle.bidi_ledger.specs.Ledger.{past_after}
 use Rattle.bidi_link.specs.Stands.{StandsFor, IsSane}
-use Rattle.bidi_link.specs.Steps.{AreHeardAs}
+use Rattle.bidi_ledger.specs.Steps.{AreHeardAs}
 use Rattle.bidi_link.proofs.OutcomeLemmas.{outcomes}
 use Rattle.bidi_link.proofs.SaneLemmas.{sane-nothing}
 use Rattle.bidi_link.proofs.StepLemmas.{heard-more, past_after-more, can-count, front-more, worn-is}

@@ -1,8 +1,8 @@
 use Rattle.std.proofs.Common.{◌≡◌, [], length, take}
 use Rattle.std.specs.Prelude.{List}
-use Rattle.bidi_link.specs.Ledger.{PairInput, past_after}
+use Rattle.bidi_ledger.specs.Ledger.{PairInput, past_after}
 use Rattle.bidi_link.specs.Stands.{StandsFor, IsSane}
-use Rattle.bidi_link.specs.Steps.{AreHeardAs}
+use Rattle.bidi_ledger.specs.Steps.{AreHeardAs}
 use Rattle.bidi_link.proofs.pairing.pair.Given as goal
 
 abbrev pub invariant-loop-step : goal.invariant-loop-step

@@ -1,6 +1,6 @@
 use Rattle.std.proofs.Common.{List, [], ◌∷◌, ◌++◌, sym, subst}
 use Rattle.std.specs.List.{AllByRecursion}
-use Rattle.bidi_link.specs.Steps.{AreWell, IsWell}
+use Rattle.bidi_ledger.specs.Steps.{AreWell, IsWell}
 use Rattle.end_tests.proofs.link.add.Goals as goal
 
 -- what holds of all, and of one more

@@ -1,4 +1,4 @@
-use Rattle.bidi_link.specs.Steps.{AreWell}
+use Rattle.bidi_ledger.specs.Steps.{AreWell}
 use Rattle.end_tests.proofs.link.steps.Given as goal
 
 -- each step so far is well

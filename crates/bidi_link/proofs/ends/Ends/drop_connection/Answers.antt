@@ -1,5 +1,5 @@
 use Rattle.std.proofs.Common.{◌∙◌, sym}
-use Rattle.bidi_link.specs.Pairing.{history}
+use Rattle.bidi_ledger.specs.Pairing.{history}
 use Rattle.bidi_link.proofs.StepLemmas.{drop-done, drop-not}
 use Rattle.bidi_link.proofs.ends.Ends.drop_connection.Goals as goal
 

@@ -1,8 +1,8 @@
 use Rattle.std.proofs.Common.{map, subst}
 use Rattle.bidi_remote.specs.Tables.Messages.{AllReadBack}
 use Rattle.bidi_remote.specs.Tables.View.{sent_of}
-use Rattle.bidi_link.specs.Pairing.{history}
-use Rattle.bidi_link.specs.Link.{link}
+use Rattle.bidi_ledger.specs.Pairing.{history}
+use Rattle.bidi_ledger.specs.Link.{link}
 use Rattle.bidi_link.proofs.StandLemmas.{stands-handed}
 use Rattle.bidi_link.proofs.ends.Ends.hand.Goals as goal
 

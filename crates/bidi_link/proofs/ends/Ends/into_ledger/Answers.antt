@@ -3,9 +3,9 @@ use Rattle.std.proofs.lemmas.Map.Iter.{rest_all, rest_more}
 use Rattle.std.proofs.lemmas.List.{map-append, append_assoc}
 use Rattle.std.specs.List.{AllByRecursion}
 use Rattle.bidi_remote.proofs.ListLemmas.{all-append}
-use Rattle.bidi_link.specs.Link.{link, page}
+use Rattle.bidi_ledger.specs.Link.{link, page}
 use Rattle.bidi_link.specs.Rows.{page_in_hand}
-use Rattle.bidi_link.specs.Steps.{page_seen, PageIsWell}
+use Rattle.bidi_ledger.specs.Steps.{page_seen, PageIsWell}
 use Rattle.bidi_link.proofs.StepLemmas.{rows-pages}
 use Rattle.bidi_link.proofs.WellLemmas.{AgreesWithSome, rows-agree}
 use Rattle.bidi_link.proofs.ends.Ends.into_ledger.Goals as goal

@@ -2,7 +2,7 @@ use Rattle.std.proofs.Common.{◌≡◌, ◌++◌, map}
 use Rattle.std.specs.List.{AllByRecursion}
 use Rattle.indexmap.specs.IndexMap.{values}
 use Rattle.bidi_link.specs.Rows.{page_in_hand}
-use Rattle.bidi_link.specs.Steps.{page_seen, PageIsWell}
+use Rattle.bidi_ledger.specs.Steps.{page_seen, PageIsWell}
 use Rattle.bidi_link.proofs.WellLemmas.{AgreesWithSome}
 use Rattle.bidi_link.proofs.ends.Ends.into_ledger.Given as goal
 

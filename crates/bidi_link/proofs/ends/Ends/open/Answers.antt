@@ -1,6 +1,6 @@
 use Rattle.std.proofs.Common.{◌∙◌, ◌∷◌, sym, subst}
 use Rattle.std.specs.Prelude.{string_bytes}
-use Rattle.bidi_link.specs.Pairing.{history}
+use Rattle.bidi_ledger.specs.Pairing.{history}
 use Rattle.bidi_link.specs.Stands.{Both}
 use Rattle.bidi_link.proofs.StandLemmas.{found-link}
 use Rattle.bidi_link.proofs.StepLemmas.{opens-known, open-linked, open-denied}

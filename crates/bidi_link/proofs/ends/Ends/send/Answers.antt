@@ -1,5 +1,5 @@
 use Rattle.std.proofs.Common.{refl, ap}
-use Rattle.bidi_link.specs.Steps.{sending_of}
+use Rattle.bidi_ledger.specs.Steps.{sending_of}
 use Rattle.bidi_link.proofs.RowStepLemmas.{send-row, send-none}
 use Rattle.bidi_link.proofs.ends.Ends.send.Goals as goal
 

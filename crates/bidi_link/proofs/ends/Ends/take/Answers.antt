@@ -1,10 +1,10 @@
 use Rattle.std.proofs.Common.{refl, sym, subst}
 use Rattle.std.specs.Prelude.{string_bytes}
 use Rattle.bidi_remote.specs.Machine.Step as steps
-use Rattle.bidi_link.specs.declared.pairing.PairStep.TheVariants as in_hand
-use Rattle.bidi_link.specs.Ledger.{Opens, Sends, Up, Down, Cuts}
-use Rattle.bidi_link.specs.Steps.{IsHeardAs, sending_of}
-use Rattle.bidi_link.specs.declared.pairing.PairStep.{PairStep}
+use Rattle.bidi_ledger.specs.declared.pair_step.PairStep.TheVariants as in_hand
+use Rattle.bidi_ledger.specs.Ledger.{Opens, Sends, Up, Down, Cuts}
+use Rattle.bidi_ledger.specs.Steps.{IsHeardAs, sending_of}
+use Rattle.bidi_ledger.specs.declared.pair_step.PairStep.{PairStep}
 use Rattle.bidi_link.proofs.StepLemmas.{Does, step-done, of-step, beside-done, at-quiet, frame-quiet, unframe-quiet, log-quiet, row-quiet}
 use Rattle.bidi_link.proofs.ends.Ends.take.Goals as goal
 

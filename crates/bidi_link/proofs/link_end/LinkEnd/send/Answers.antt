@@ -1,8 +1,8 @@
 use Rattle.std.proofs.Common.{◌≡◌, ◌∙◌, ◌∷◌, [], false, sym, subst, ap, map, string_bytes, refl}
 use Rattle.std.proofs.lemmas.List.{map-append}
-use Rattle.bidi_link.specs.declared.ledger.Fate.TheVariants as in_hand
+use Rattle.bidi_ledger.specs.declared.ledger.Fate.TheVariants as in_hand
 use Rattle.bidi_link.specs.Rows.{Agrees}
-use Rattle.bidi_link.specs.Steps.{sending_of}
+use Rattle.bidi_ledger.specs.Steps.{sending_of}
 use Rattle.bidi_link.proofs.LinkLemmas.{both_ok, one_ok}
 use Rattle.bidi_link.proofs.LinkSendLemmas.{refused_for, may_send-none, may_send-fault, sent_on-true, sent_on-false, sends, counts, counted_on}
 use Rattle.bidi_link.proofs.link_end.LinkEnd.send.Goals as goal

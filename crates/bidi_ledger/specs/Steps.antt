@@ -12,16 +12,16 @@ use Rattle.bidi_messages.specs.Method.{method_text}
 use Rattle.bidi_remote.specs.Machine.Step as step
 use Rattle.bidi_remote.specs.Machine.History as remote
 use Rattle.bidi_remote.specs.Machine.History.{Input}
-use Rattle.bidi_link.specs.declared.pairing.PairStep.{PairStep}
-use Rattle.bidi_link.specs.declared.pairing.PairStep.TheVariants as in_hand
-use Rattle.bidi_link.specs.declared.ledger.Ledger as declared_ledger
-use Rattle.bidi_link.specs.declared.ledger.Page as declared_page
-use Rattle.bidi_link.specs.declared.ledger.Entry as declared_entry
-use Rattle.bidi_link.specs.declared.ledger.Fate as declared_fate
-use Rattle.bidi_link.specs.declared.ledger.Fate.TheVariants as fate_in_hand
-use Rattle.bidi_link.specs.Pairing.{Sending}
-use Rattle.bidi_link.specs.Link.{Fate, Answered, Refused, Lost, Waiting, Entry, Received, Page}
-use Rattle.bidi_link.specs.Ledger.{PairInput, Opens, Sends, Up, Down, Cuts, Direct}
+use Rattle.bidi_ledger.specs.declared.pair_step.PairStep.{PairStep}
+use Rattle.bidi_ledger.specs.declared.pair_step.PairStep.TheVariants as in_hand
+use Rattle.bidi_ledger.specs.declared.ledger.Ledger as declared_ledger
+use Rattle.bidi_ledger.specs.declared.ledger.Page as declared_page
+use Rattle.bidi_ledger.specs.declared.ledger.Entry as declared_entry
+use Rattle.bidi_ledger.specs.declared.ledger.Fate as declared_fate
+use Rattle.bidi_ledger.specs.declared.ledger.Fate.TheVariants as fate_in_hand
+use Rattle.bidi_ledger.specs.Pairing.{Sending}
+use Rattle.bidi_ledger.specs.Link.{Fate, Answered, Refused, Lost, Waiting, Entry, Received, Page}
+use Rattle.bidi_ledger.specs.Ledger.{PairInput, Opens, Sends, Up, Down, Cuts, Direct}
 
 -- ---- steps
 

@@ -1,7 +1,7 @@
 use Rattle.std.proofs.Common.{◌∙◌, sym}
 use Rattle.std.proofs.lemmas.Result.{IfOk-weaker}
 use Rattle.bidi_pair.proofs.LedgerLemmas.{unsent_grouped}
-use Rattle.bidi_pair.proofs.ledger_lines.unsent_line.Goals as goal
+use Rattle.bidi_pair.proofs.writing.unsent_line.Goals as goal
 
 pub returns-else-unsent-eq0 : goal.returns-else-unsent-eq0
 returns-else-unsent-eq0 c =

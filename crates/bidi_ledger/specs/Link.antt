@@ -8,8 +8,8 @@ use Rattle.bidi_browser.specs.Contexts.{up_to}
 use Rattle.bidi_browser.specs.Actions.{is_text}
 use Rattle.bidi_handles.specs.Params.{tree_if_at, text_if_at, number_if_at, text_at}
 use Rattle.bidi_handles.specs.Maps.{◌being◌and◌, mapped, number}
-use Rattle.bidi_link.specs.Pairing as past
-use Rattle.bidi_link.specs.Pairing.{Sending, Deed}
+use Rattle.bidi_ledger.specs.Pairing as past
+use Rattle.bidi_ledger.specs.Pairing.{Sending, Deed}
 
 -- what was sent on a link, what was carried on it, and whether it was cut
 pub record Link : Type 0 where

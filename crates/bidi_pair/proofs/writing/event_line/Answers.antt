@@ -5,7 +5,7 @@ use Rattle.bidi_tree.specs.Text.{compact_text}
 use Rattle.bidi_messages.specs.EventName.{event_name_text}
 use Rattle.bidi_messages.specs.contracts.event.EventDataSubjectEventName.TheImpl.{ghosts}
 use Rattle.bidi_pair.proofs.LedgerLemmas.{event_grouped}
-use Rattle.bidi_pair.proofs.ledger_lines.event_line.Goals as goal
+use Rattle.bidi_pair.proofs.writing.event_line.Goals as goal
 
 pub returns : goal.returns
 returns c =

@@ -1,9 +1,9 @@
 -- The lines before what the reader holds say the steps, and no read has failed.
 use Rattle.std.proofs.Common.{◌≡◌, ℕ, ◌-◌, List, length}
 use Rattle.std.specs.Io.KnownBytes.{Consumes}
-use Rattle.bidi_link.specs.Steps.{AreWell}
+use Rattle.bidi_ledger.specs.Steps.{AreWell}
 use Rattle.bidi_pair.specs.Pairs.{Schedule}
-use Rattle.bidi_pair.proofs.pairing.read_steps.Given as goal
+use Rattle.bidi_pair.proofs.reading.read_steps.Given as goal
 
 abbrev pub invariant-lines : goal.invariant-lines
 invariant-lines g l = (read : List ℕ) × (record {

@@ -1,9 +1,9 @@
 use Rattle.std.proofs.Common.{◌≡◌, ◌++◌, map}
 use Rattle.std.specs.Prelude.{string_bytes}
 use Rattle.std.specs.List.{AllByRecursion}
-use Rattle.bidi_link.specs.Steps.{PageIsWell, page_seen, pages_of}
+use Rattle.bidi_ledger.specs.Steps.{PageIsWell, page_seen, pages_of}
 use Rattle.bidi_pair.specs.PairLines.{ledger_text}
-use Rattle.bidi_pair.proofs.ledger_lines.ledger_lines.Given as goal
+use Rattle.bidi_pair.proofs.writing.ledger_lines.Given as goal
 
 -- the pages that are left are well, and their lines make the whole
 abbrev pub invariant-pages : goal.invariant-pages

@@ -4,9 +4,9 @@ use Rattle.bidi_messages.specs.Verdict.{Accepted}
 use Rattle.bidi_remote.specs.Machine.History.{Input, Open, Drop, Heard}
 use Rattle.bidi_remote.specs.Machine.Connections.{is_open}
 use Rattle.bidi_remote.specs.Machine.Outcome.{deeds}
-use Rattle.bidi_link.specs.Pairing.{Sending, Deed, Handed, Linked, Sent, Unsent, TakenUp, TakenDown, Cut}
-use Rattle.bidi_link.specs.Pairing.{history, links, is_link, is_cut, commands, ups, downs, texts}
-use Rattle.bidi_link.specs.Link.{link, tree_of_sending, may_send, Page, page}
+use Rattle.bidi_ledger.specs.Pairing.{Sending, Deed, Handed, Linked, Sent, Unsent, TakenUp, TakenDown, Cut}
+use Rattle.bidi_ledger.specs.Pairing.{history, links, is_link, is_cut, commands, ups, downs, texts}
+use Rattle.bidi_ledger.specs.Link.{link, tree_of_sending, may_send, Page, page}
 
 -- a step of both ends, as it is heard
 pub data PairInput : Type 0 where

@@ -1,9 +1,9 @@
 use Rattle.std.proofs.Common.{◌≡◌, ◌++◌, map}
 use Rattle.std.specs.Prelude.{string_bytes}
 use Rattle.std.specs.List.{AllByRecursion}
-use Rattle.bidi_link.specs.Steps.{FateIsWell, entry_seen}
+use Rattle.bidi_ledger.specs.Steps.{FateIsWell, entry_seen}
 use Rattle.bidi_pair.specs.PairLines.{entries_text}
-use Rattle.bidi_pair.proofs.ledger_lines.entry_lines.Given as goal
+use Rattle.bidi_pair.proofs.writing.entry_lines.Given as goal
 
 -- the entries that are left are well, and their lines make the whole
 abbrev pub invariant-entries : goal.invariant-entries

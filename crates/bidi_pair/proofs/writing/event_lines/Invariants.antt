@@ -2,9 +2,9 @@ use Rattle.std.proofs.Common.{◌≡◌, ◌++◌, map}
 use Rattle.std.specs.Prelude.{string_bytes}
 use Rattle.std.specs.List.{AllByRecursion}
 use Rattle.bidi_messages.specs.contracts.event.EventDataSubjectEventName.TheImpl.{ghosts}
-use Rattle.bidi_link.specs.Steps.{event_seen}
+use Rattle.bidi_ledger.specs.Steps.{event_seen}
 use Rattle.bidi_pair.specs.PairLines.{events_text}
-use Rattle.bidi_pair.proofs.ledger_lines.event_lines.Given as goal
+use Rattle.bidi_pair.proofs.writing.event_lines.Given as goal
 
 -- the events that are left are well, and their lines make the whole
 abbrev pub invariant-events : goal.invariant-events

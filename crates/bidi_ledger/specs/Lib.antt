@@ -1,0 +1,4 @@
+pub mod Pairing
+pub mod Link
+pub mod Ledger
+pub mod Steps
