@@ -5,7 +5,7 @@ use crate::fault::ShapeFault;
 use crate::shape::Shape;
 use std::alloc::{AllocError, Global};
 
-/// An equal value, in room of its own. Costs the making of its draft and of its tree, and the reading of that.
+/// A copy of the value, which is equal and shares no memory with it. Costs the making of its draft and of its tree, and the reading of that.
 ///
 /// # Errors
 /// No memory: an allocation failed.

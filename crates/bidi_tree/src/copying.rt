@@ -1,4 +1,4 @@
-//! A tree once more.
+//! Copies of trees.
 ghost use Rattle.std.specs.Prelude.{◌≡◌, IfOk, OnOk};
 ghost use Rattle.bidi_tree.specs.Node.{IsSound, ItemsAreSound, MembersAreSound, AreAscending};
 ghost use Rattle.bidi_tree.specs.View.{node, items_node, members_node};

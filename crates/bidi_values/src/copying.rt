@@ -1,4 +1,4 @@
-//! Equal values, in room of their own.
+//! Copies of values: equal, and sharing no memory with them.
 ghost use Rattle.std.specs.Prelude.{◌≡◌, IfOk, map, option_map, string_bytes};
 ghost use Rattle.std.specs.List.{AllByRecursion};
 ghost use Rattle.bidi_values.specs.View.{nested_tree, nested_pair_tree, nested_key_tree, NestedIsWell, NestedPairIsWell, NestedKeyIsWell};

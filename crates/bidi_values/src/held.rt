@@ -118,7 +118,7 @@ pub struct RemoteRegExp {
 }
 
 impl RemoteRegExp {
-    /// The same value, in room of its own.
+    /// A copy of the value, which shares no memory with it.
     ///
     /// # Errors
     /// No memory: an allocation failed.
@@ -175,7 +175,7 @@ pub struct RemoteDate {
 }
 
 impl RemoteDate {
-    /// The same value, in room of its own.
+    /// A copy of the value, which shares no memory with it.
     ///
     /// # Errors
     /// No memory: an allocation failed.

@@ -50,7 +50,7 @@ pub trait Nests<L: Siblings, M: Siblings>: Shape {
     fn into_value(self) -> Nested<Self, L, M>
         ensures { content result ≡ plain self };
 
-    /// The same plain value, in room of its own.
+    /// A copy of the plain value, which shares no memory with it.
     ///
     /// # Errors
     /// No memory: an allocation failed.
@@ -106,7 +106,7 @@ impl<P: Nests<L, M>, L: Siblings, M: Siblings> Nested<P, L, M> {
         }
     }
 
-    /// An equal value, in room of its own. Costs one walk through it.
+    /// A copy of the value, which is equal and shares no memory with it. Costs one walk through it.
     ///
     /// # Errors
     /// No memory: an allocation failed.

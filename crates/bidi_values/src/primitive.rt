@@ -108,7 +108,7 @@ pub enum Primitive {
 }
 
 impl Primitive {
-    /// The same value, in room of its own.
+    /// A copy of the value, which shares no memory with it.
     ///
     /// # Errors
     /// No memory: an allocation failed.

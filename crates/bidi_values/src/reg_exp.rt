@@ -21,7 +21,7 @@ pub struct RegExpValue {
 }
 
 impl RegExpValue {
-    /// The same value, in room of its own.
+    /// A copy of the value, which shares no memory with it.
     ///
     /// # Errors
     /// No memory: an allocation failed.

@@ -43,7 +43,7 @@ pub trait Siblings: Drop {
         ensures ok { OnOk result (draft_members members.new.items ≡ joined siblings.rows (siblings.parts self.now) (draft_members members.old.items)) }
         ensures sound { IsSound (kind.map (draft_members members.old.items)) → OnOk result (IsSound (kind.map (draft_members members.new.items))) };
 
-    /// The same members, in room of their own.
+    /// A copy of the members, which shares no memory with them.
     ///
     /// # Errors
     /// No memory: an allocation failed.
