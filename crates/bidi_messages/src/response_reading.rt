@@ -20,8 +20,8 @@ const MAX_LEVELS: usize = 61;
 
 /// The id of a response, where the value is one and is whole as it stands. Takes no memory.
 ///
-/// `None` may also come of a response in which a member stands that is not whole, where another of its name takes its
-/// place, or that nests deeper than most: [`message_of`](crate::message_of) reads all.
+/// `None` may also come of a response that nests past 61 levels, or in which a member stands that is not whole and that
+/// another of its name takes the place of: [`message_of`](crate::message_of) reads these, too.
 pub fn response_id(value: &Value<'_>) -> Option<JsUint>
     ensures fits { IfSome result (λ id. Fits (parsed value.now) (rule command_response)) }
     ensures id { IfSome result (λ id. echoed_id (parsed value.now) ≡ Some id.value) }
