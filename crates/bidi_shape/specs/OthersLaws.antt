@@ -1,17 +1,18 @@
 -- The members that no row names, as a reader gathers them one by one.
-use Rattle.std.proofs.Common.{◌≡◌, ℕ, List, [], ◌∷◌, ◌++◌, Bool, true, false, ◌||◌, cond, max, ◌≤◌, Ordering, Less, Equal}
-use Rattle.std.proofs.Common.{Greater, string_bytes, string_cmp, nat_cmp, bytes_eq, true≢false, refl, sym, ap, ◌∙◌, arith}
+use Rattle.std.proofs.Common.{◌≡◌, ℕ, List, [], ◌∷◌, ◌++◌, Bool, true, false, ◌||◌, cond, Ordering, Less, Equal}
+use Rattle.std.proofs.Common.{Greater, string_bytes, string_cmp, nat_cmp, bytes_eq, true≢false, refl, sym, ap, ◌∙◌}
 use Rattle.std.proofs.lemmas.Bool.{or_parts}
 use Rattle.std.specs.List.{list_any, AllByRecursion}
 use Rattle.std.specs.List.Sorted.{IsStrictlySortedBy}
 use Rattle.std.specs.Map.{keys_of}
 use Rattle.std.specs.Cmp.Lexicographic.{slice_cmp}
 use Rattle.std.specs.Ordering.{match_ordering}
-use Rattle.bidi_tree.specs.Node.{Node, Members, no_members, member, put, levels, members_levels, has_odd}
-use Rattle.bidi_tree.specs.Node.{members_have_odd, IsWhole, MembersAreWhole, IsBelow, AreAscending}
+use Rattle.bidi_tree.specs.Node.{Node, Members, no_members, member, put}
+use Rattle.bidi_tree.specs.Node.{IsWhole, MembersAreWhole, IsBelow, AreAscending}
 use Rattle.bidi_tree.specs.View.{node, members_node}
 use Rattle.bidi_tree.proofs.TreeLemmas.{Entry, put_last}
 use Rattle.bidi_tree.proofs.SoundLemmas.{AreAscending-members_node, IsBelow-below}
+use Rattle.bidi_tree.proofs.WholeLemmas.{whole-head, whole-rest}
 use Rattle.bidi_shape.specs.Fits.{without}
 use Rattle.bidi_shape.specs.Parts.{has_named}
 use Rattle.bidi_shape.specs.MapLaws.{without-put, same_from_tie, Below-without}
@@ -41,46 +42,14 @@ without-put_other ks k t (member l u ms) s n =
 
 -- ---- members that are whole
 
-highest : (a b n : ℕ) → max a b ≤ n → (a ≤ n) × (b ≤ n)
-highest a b n h = (omega arith, omega arith)
-
-no_higher : (a b n : ℕ) → a ≤ n → b ≤ n → max a b ≤ n
-no_higher a b n h k = omega arith
-
-neither : (a b : Bool) → a ≡ false → b ≡ false → (a || b) ≡ false
-neither a b e f = rw (e, f) refl
-
--- a member that is whole, before members that are
-joined_whole : (n : ℕ) (l : List ℕ) (u : Node) (ms : Members) → IsWhole u n → MembersAreWhole ms n → MembersAreWhole (member l u ms) n
-joined_whole n l u ms a c = (neither (has_odd u) (members_have_odd ms) a.0 c.0, no_higher (levels u) (members_levels ms) n a.1 c.1)
-
-first_whole : (n : ℕ) (l : List ℕ) (u : Node) (ms : Members) → MembersAreWhole (member l u ms) n → IsWhole u n
-first_whole n l u ms c = ((or_parts (has_odd u) (members_have_odd ms) c.0).0, (highest (levels u) (members_levels ms) n c.1).0)
-
-rest_whole : (n : ℕ) (l : List ℕ) (u : Node) (ms : Members) → MembersAreWhole (member l u ms) n → MembersAreWhole ms n
-rest_whole n l u ms c = ((or_parts (has_odd u) (members_have_odd ms) c.0).1, (highest (levels u) (members_levels ms) n c.1).1)
-
-whole_put_at : (n : ℕ) (k l : List ℕ) (t u : Node) (ms ns : Members) (o : Ordering) → IsWhole t n → IsWhole u n → MembersAreWhole ms n → MembersAreWhole ns n
-    → MembersAreWhole (match_ordering o (member k t (member l u ms)) (member l t ms) (member l u ns)) n
-whole_put_at n k l t u ms ns Less a b c d = joined_whole n k t (member l u ms) a (joined_whole n l u ms b c)
-whole_put_at n k l t u ms ns Equal a b c d = joined_whole n l t ms a c
-whole_put_at n k l t u ms ns Greater a b c d = joined_whole n l u ns b d
-
-pub whole-put : (n : ℕ) (k : List ℕ) (t : Node) (ms : Members) → IsWhole t n → MembersAreWhole ms n → MembersAreWhole (put k t ms) n
-whole-put n k t no_members a c = joined_whole n k t no_members a c
-whole-put n k t (member l u ms) a c =
-    let first = first_whole n l u ms c in
-    let rest = rest_whole n l u ms c in
-    whole_put_at n k l t u ms (put k t ms) (slice_cmp nat_cmp k l) a first rest (whole-put n k t ms a rest)
-
 whole_inside : (n : ℕ) (l : List ℕ) (u : Node) (ns : Members) (b : Bool) → MembersAreWhole (cond b ns (member l u ns)) n → MembersAreWhole ns n
 whole_inside n l u ns true e = e
-whole_inside n l u ns false e = rest_whole n l u ns e
+whole_inside n l u ns false e = whole-rest l u ns n e
 
 -- a kept member is whole where all of them are
 pub whole_each : (n : ℕ) (ks : List (List ℕ)) (done : List Entry) (e : Entry) (left : List Entry) → list_any (bytes_eq (string_bytes e.0)) ks ≡ false
     → MembersAreWhole (without ks (members_node (done ++ e ∷ left))) n → IsWhole (node e.1) n
-whole_each n ks [] e left h w = first_whole n (string_bytes e.0) (node e.1) (without ks (members_node left)) (rw h at w)
+whole_each n ks [] e left h w = whole-head (string_bytes e.0) (node e.1) (without ks (members_node left)) n (rw h at w)
 whole_each n ks (d ∷ done) e left h w =
     whole_each n ks done e left h (whole_inside n (string_bytes d.0) (node d.1) (without ks (members_node (done ++ e ∷ left)))
     (list_any (bytes_eq (string_bytes d.0)) ks) w)

@@ -7,7 +7,8 @@ use Rattle.bidi_tree.specs.View.{node, members_node}
 use Rattle.bidi_tree.proofs.TreeLemmas.{Entry}
 use Rattle.bidi_shape.specs.Fits.{without}
 use Rattle.bidi_tree.proofs.SoundLemmas.{AreAscending-members_node}
-use Rattle.bidi_shape.specs.OthersLaws.{whole-put, whole_each, gathered_skip, gathered_keep}
+use Rattle.bidi_tree.proofs.WholeLemmas.{whole-put}
+use Rattle.bidi_shape.specs.OthersLaws.{whole_each, gathered_skip, gathered_keep}
 use Rattle.bidi_shape.proofs.members.others.Goals as goal
 use Rattle.bidi_shape.proofs.members.others.Goals.{In-Some}
 
@@ -59,5 +60,5 @@ loop-name-preserved c =
       done ++ e ∷ [],
       all ∙ sym (append_assoc done (e ∷ []) left),
       added ∙ ap (put (string_bytes e.0) (node e.1)) inv.2 ∙ gathered_keep ks done e left sorted listed,
-      subst (λ ms. MembersAreWhole ms 60) (sym added) (whole-put 60 (string_bytes e.0) (node e.1) (members_node c.loop-name.rest.entries) whole inv.3),
+      subst (λ ms. MembersAreWhole ms 60) (sym added) (whole-put (string_bytes e.0) (node e.1) (members_node c.loop-name.rest.entries) 60 inv.3 whole),
     )
