@@ -6,7 +6,8 @@
 //! `bidi serve` serves WebSocket connections on 127.0.0.1.
 #![tactic(auto)]
 
-use bidi_console::{Device, LineFault, Run, ServeOptions, Sink, command_line, write_all};
+use bidi_arguments::{LineFault, Run, ServeOptions, command_line};
+use bidi_lines::{Device, Sink, write_all};
 use bidi_programs::{run, serving_status};
 use bidi_serve::{ServeFault, serve};
 use std::net::{Ipv4Addr, SocketAddr, SocketAddrV4, TcpListener};

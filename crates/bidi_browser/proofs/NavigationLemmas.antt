@@ -8,10 +8,10 @@ use Rattle.std.proofs.Math.Seq.{take-append_seam, drop-append_seam}
 use Rattle.std.proofs.lemmas.Bool.Decides.{Decides-ltb}
 use Rattle.url.specs.Parts.{Parts}
 use Rattle.bidi_tree.specs.Node.{Node}
-use Rattle.bidi_messages.specs.declared.event.EventName.{EventName}
-use Rattle.bidi_messages.specs.declared.event.EventName.TheVariants.{NavigationStarted, DomContentLoaded, Load}
-use Rattle.bidi_messages.specs.contracts.event.EventDataSubjectEventName.TheImpl.{ghosts}
-use Rattle.bidi_messages.specs.declared.result_data.ResultData.{ResultData}
+use Rattle.bidi_subjects.specs.declared.event_data.EventName.{EventName}
+use Rattle.bidi_subjects.specs.declared.event_data.EventName.TheVariants.{NavigationStarted, DomContentLoaded, Load}
+use Rattle.bidi_subjects.specs.contracts.event_data.EventDataSubjectEventName.TheImpl.{ghosts}
+use Rattle.bidi_subjects.specs.declared.result_data.ResultData.{ResultData}
 use Rattle.bidi_handles.specs.declared.id.IdKind.TheVariants.{Realm, Navigation}
 use Rattle.bidi_browser.specs.declared.occurrence.Occurrence as in_hand
 use Rattle.bidi_browser.specs.declared.navigation.Told.{Told}

@@ -10,9 +10,9 @@ use Rattle.std.proofs.lemmas.Simd.{map-map}
 use Rattle.url.specs.Parts.{Parts}
 use Rattle.bidi_tree.specs.Node.{Node, levels, items_levels}
 use Rattle.bidi_tree.specs.View.{items_of}
-use Rattle.bidi_messages.specs.declared.result_data.ResultData.{ResultData}
+use Rattle.bidi_subjects.specs.declared.result_data.ResultData.{ResultData}
 use Rattle.bidi_codes.specs.declared.error_code.ErrorCode.TheVariants.{NoSuchFrame}
-use Rattle.bidi_messages.specs.contracts.result_data.ResultDataSubjectMethod.TheImpl as results
+use Rattle.bidi_subjects.specs.contracts.result_data.ResultDataSubjectMethod.TheImpl as results
 use Rattle.bidi_values.specs.declared.log_entry.Level.{Level}
 use Rattle.bidi_codes.specs.declared.refusal.Refusal.{Refusal}
 use Rattle.bidi_codes.specs.declared.refusal.Refusal.TheVariants.{Code, NoMemory}

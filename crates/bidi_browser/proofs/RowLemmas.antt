@@ -12,7 +12,7 @@ use Rattle.bidi_browser.specs.Contexts.{contexts, tops, children_of, subtree_wit
 use Rattle.bidi_browser.specs.Realms.{realm_of, realms}
 use Rattle.bidi_browser.specs.Info.{children_tree, depth_below, info_within, info_of}
 use Rattle.bidi_browser.specs.Occurrences.{occurrence, context_created, context_destroyed, realm_created, realm_destroyed}
-use Rattle.bidi_messages.specs.declared.event.EventName.TheVariants.{ContextDestroyed}
+use Rattle.bidi_subjects.specs.declared.event_data.EventName.TheVariants.{ContextDestroyed}
 use Rattle.bidi_browser.specs.Outcome.{oldest_window}
 use Rattle.bidi_browser.specs.Accepted.{AreAccepted}
 use Rattle.bidi_browser.specs.ContextRows.{ContextRow, row_of, row_at, rows, children_in, below, inner_info, infos_below}

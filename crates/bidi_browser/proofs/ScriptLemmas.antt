@@ -9,7 +9,7 @@ use Rattle.bidi_codes.specs.Checks.{found}
 use Rattle.std.specs.Prelude.{map, filter, bytes_eq, ◌∷◌, Vec}
 use Rattle.std.specs.declared.alloc.Global.{Global}
 use Rattle.std.proofs.Common.{subst}
-use Rattle.bidi_messages.specs.declared.result_data.ResultData.{ResultData}
+use Rattle.bidi_subjects.specs.declared.result_data.ResultData.{ResultData}
 use Rattle.bidi_handles.specs.declared.id.IdKind.TheVariants as kind
 use Rattle.bidi_browser.specs.declared.plan.Plan.{Plan}
 use Rattle.bidi_browser.specs.declared.plan.Edit.TheVariants.{Disown}

@@ -1,7 +1,7 @@
 -- An occurrence in hand by its event, its context and its top-level context.
 use Rattle.std.proofs.Common.{◌≡◌, ℕ, refl, sym, subst}
-use Rattle.bidi_messages.specs.declared.event.EventData.{EventData}
-use Rattle.bidi_messages.specs.contracts.event.EventDataSubjectEventName.TheImpl.{ghosts}
+use Rattle.bidi_subjects.specs.declared.event_data.EventData.{EventData}
+use Rattle.bidi_subjects.specs.contracts.event_data.EventDataSubjectEventName.TheImpl.{ghosts}
 use Rattle.bidi_browser.specs.declared.occurrence.Occurrence as in_hand
 use Rattle.bidi_browser.specs.View.{occurrence_of}
 

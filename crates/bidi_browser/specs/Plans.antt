@@ -3,10 +3,10 @@ use Rattle.std.specs.Prelude.{◌≡◌, ◌≤◌, ◌<◌, ◌^◌, ◌==◌, 
 use Rattle.std.specs.Prelude.{Option, Some, None, Result, Ok, Err, is_some, IfSome, ⊤, string_bytes, vec_len, vec_capacity}
 use Rattle.std.specs.List.{AllByRecursion, position}
 use Rattle.bidi_tree.specs.Node.{levels}
-use Rattle.bidi_messages.specs.declared.method.Method.{Method}
-use Rattle.bidi_messages.specs.declared.result_data.ResultData.{ResultData}
-use Rattle.bidi_messages.specs.contracts.event.EventDataSubjectEventName.TheImpl as events
-use Rattle.bidi_messages.specs.contracts.result_data.ResultDataSubjectMethod.TheImpl as results
+use Rattle.bidi_subjects.specs.declared.method.Method.{Method}
+use Rattle.bidi_subjects.specs.declared.result_data.ResultData.{ResultData}
+use Rattle.bidi_subjects.specs.contracts.event_data.EventDataSubjectEventName.TheImpl as events
+use Rattle.bidi_subjects.specs.contracts.result_data.ResultDataSubjectMethod.TheImpl as results
 use Rattle.bidi_handles.specs.declared.id.IdKind.{IdKind}
 use Rattle.bidi_handles.specs.declared.id.IdKind.TheVariants.{Context, Realm, Handle, Window}
 use Rattle.bidi_browser.specs.declared.browser.Browser.{Browser}

@@ -1,12 +1,12 @@
 -- What contracts see of occurrences and results in hand: the name of an event, and the trees of params and of a result.
 use Rattle.std.specs.Prelude.{List, map}
 use Rattle.bidi_tree.specs.Node.{Node}
-use Rattle.bidi_messages.specs.Subject.{SubjectOf}
-use Rattle.bidi_messages.specs.declared.event.EventData.{EventData}
-use Rattle.bidi_messages.specs.declared.event.EventName.{EventName}
-use Rattle.bidi_messages.specs.declared.result_data.ResultData.{ResultData}
-use Rattle.bidi_messages.specs.contracts.event.EventDataSubjectEventName.TheImpl as events
-use Rattle.bidi_messages.specs.contracts.result_data.ResultDataSubjectMethod.TheImpl as results
+use Rattle.bidi_subjects.specs.Subject.{SubjectOf}
+use Rattle.bidi_subjects.specs.declared.event_data.EventData.{EventData}
+use Rattle.bidi_subjects.specs.declared.event_data.EventName.{EventName}
+use Rattle.bidi_subjects.specs.declared.result_data.ResultData.{ResultData}
+use Rattle.bidi_subjects.specs.contracts.event_data.EventDataSubjectEventName.TheImpl as events
+use Rattle.bidi_subjects.specs.contracts.result_data.ResultDataSubjectMethod.TheImpl as results
 use Rattle.bidi_browser.specs.declared.occurrence.Occurrence as in_code
 use Rattle.bidi_browser.specs.Occurrences.{Occurrence}
 

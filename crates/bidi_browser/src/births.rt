@@ -20,11 +20,11 @@ use crate::looking::{context_named, top_if_named};
 use crate::occurrence::Occurrence;
 use crate::plan::{Change, Edit, Plan};
 use crate::urls::parsed;
-use bidi_codes::Refusal;
+use bidi_codes::{ErrorCode, Refusal};
 use bidi_handles::{IdKind, id_text};
-use bidi_messages::{ErrorCode, Method, ResultData, Subject};
 use bidi_params::{ContextType, CreateParameters, CreateResult};
 use bidi_shape::Ext;
+use bidi_subjects::{Method, ResultData, Subject};
 use std::alloc::{AllocError, Global};
 
 /// The deepest level of a context. A top-level context is at level 1.

@@ -24,8 +24,8 @@ use crate::script_table::ScriptTable;
 use crate::scripts::{plan_disown, plan_evaluate};
 use crate::tabling::plan_row;
 use crate::telling::{push_created, push_realms};
-use bidi_codes::Refusal;
-use bidi_messages::{ErrorCode, EventData, EventName, Method, Subject};
+use bidi_codes::{ErrorCode, Refusal};
+use bidi_subjects::{EventData, EventName, Method, Subject};
 use bidi_tree::JsUint;
 use std::alloc::{AllocError, Global};
 
@@ -41,7 +41,6 @@ pub(crate) const NO_ID: u64 = 1 << 48;
 /// An action takes three calls: [`Browser::plan`] changes nothing and gives the events, the result and the
 /// change; [`Browser::reserve`] makes room for the change; [`Browser::apply`] puts it in place without
 /// allocating. Before the last call a caller can still give up, and leave the browser as it was.
-#[derive(Drop)]
 pub struct Browser {
     /// The allocator that the browser was made with.
     pub(crate) alloc: Global,
@@ -59,6 +58,22 @@ pub struct Browser {
     pub(crate) next_handle: u64,
     /// The number of the next client window.
     pub(crate) next_window: u64,
+}
+
+// Not derived, so that it is proved here alone.
+impl Drop for Browser {
+    fn drop(self) {
+        let Browser {
+            alloc: _,
+            contexts: _,
+            table: _,
+            next_context: _,
+            next_realm: _,
+            next_navigation: _,
+            next_handle: _,
+            next_window: _,
+        } = self;
+    }
 }
 
 impl Browser {

@@ -18,7 +18,7 @@ use crate::plan::Plan;
 use crate::scripts::{Ran, ending_of, is_owned, run, targeted};
 use bidi_codes::Refusal;
 use bidi_handles::{Ending, check_arguments, check_this};
-use bidi_messages::{Method, ResultData};
+use bidi_subjects::{Method, ResultData};
 use bidi_values::{CallFunctionParameters, LocalValue};
 
 /// Plans the call of a function in the realm of a target. The script table has its outcome.

@@ -9,9 +9,9 @@ use crate::occurrence::Occurrence;
 use crate::session_history::{Move, SessionHistory};
 use crate::urls::{about_blank, origin_text};
 use bidi_handles::{Handle, Handles, IdKind, id_text, is_id};
-use bidi_messages::{EventData, EventName, Subject};
 use bidi_params::{Info, NavigationInfo, RealmDestroyedParameters, RealmInfo};
 use bidi_shape::{Ext, Shape};
+use bidi_subjects::{EventData, EventName, Subject};
 use bidi_tree::JsUint;
 use bidi_values::LogEntry;
 use std::alloc::{AllocError, Global};
@@ -53,7 +53,7 @@ impl Context {
     ghost use Rattle.bidi_handles.specs.ValuesInHand.{handle_seen};
     ghost use Rattle.bidi_browser.specs.Info.{parent_tree};
     ghost use Rattle.bidi_browser.specs.InfosInHand.{children_node, parent_node, AreWithinIfTold, IsWithin};
-    ghost use Rattle.bidi_messages.specs.declared.event.EventName.TheVariants.{ContextDestroyed, NavigationStarted, DomContentLoaded, Load, EntryAdded};
+    ghost use Rattle.bidi_subjects.specs.declared.event_data.EventName.TheVariants.{ContextDestroyed, NavigationStarted, DomContentLoaded, Load, EntryAdded};
 
     /// A new top-level context at `about:blank`.
     pub(crate) fn top_level(

@@ -20,13 +20,13 @@ use crate::browser::Browser;
 use crate::context_table::Contexts;
 use crate::contexts::Context;
 use crate::plan::{Change, Edit, Plan};
-use bidi_codes::Refusal;
-use bidi_messages::{ErrorCode, Method, ResultData, Subject};
+use bidi_codes::{ErrorCode, Refusal};
 use bidi_params::{
     EmptyResult, GetRealmsParameters, GetRealmsResult, GetTreeParameters, GetTreeResult, Info,
     RealmInfo, RealmType,
 };
 use bidi_shape::{Ext, Shape};
+use bidi_subjects::{Method, ResultData, Subject};
 use std::alloc::{AllocError, Global};
 
 // ---- checks

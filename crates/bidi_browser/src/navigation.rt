@@ -21,13 +21,13 @@ use crate::plan::{Change, Edit, Navigation, Numbers, Plan};
 use crate::removals::push_removals;
 use crate::session_history::Move;
 use crate::urls::parsed;
-use bidi_codes::Refusal;
+use bidi_codes::{ErrorCode, Refusal};
 use bidi_handles::{IdKind, id_text};
-use bidi_messages::{ErrorCode, Method, ResultData};
 use bidi_params::{
     NavigateParameters, NavigateResult, ReloadParameters, TraverseHistoryParameters, Wait,
 };
 use bidi_shape::{Ext, Shape};
+use bidi_subjects::{Method, ResultData};
 use bidi_tree::JsUint;
 use std::alloc::{AllocError, Global};
 use url::Url;

@@ -6,7 +6,7 @@ use crate::occurrence::Occurrence;
 use crate::script_table::ScriptRow;
 use crate::session_history::Move;
 use bidi_handles::Handle;
-use bidi_messages::ResultData;
+use bidi_subjects::ResultData;
 
 /// What an accepted action does: its events, its result and its change. Nothing has changed until the change
 /// is given to `Browser::apply`; a plan that is dropped has no effect.

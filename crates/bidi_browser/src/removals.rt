@@ -15,8 +15,8 @@ use crate::looking::{context_named, nothing, top_named};
 use crate::occurrence::Occurrence;
 use crate::plan::{Change, Edit, Plan};
 use crate::telling::push_realms_gone;
-use bidi_codes::Refusal;
-use bidi_messages::{ErrorCode, Method, ResultData};
+use bidi_codes::{ErrorCode, Refusal};
+use bidi_subjects::{Method, ResultData};
 use std::alloc::{AllocError, Global};
 
 /// Plans the close of a top-level context with all its descendants.

@@ -24,10 +24,10 @@ use crate::looking::{answered, context_named, nothing};
 use crate::plan::{Edit, Plan};
 use crate::script_table::ScriptRow;
 use crate::showing::told;
-use bidi_codes::Refusal;
+use bidi_codes::{ErrorCode, Refusal};
 use bidi_handles::{Ending, Handle, HeldValue, ThrownValue, given_back, held, takes_handle};
-use bidi_messages::{ErrorCode, Method, ResultData};
 use bidi_shape::Shape;
+use bidi_subjects::{Method, ResultData};
 use bidi_values::{
     DisownParameters, EvaluateParameters, EvaluateResult, LocalValue, Ownership, Primitive,
     RemotePlain, RemoteValue, Target,

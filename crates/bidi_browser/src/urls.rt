@@ -4,8 +4,7 @@ ghost use Rattle.url.specs.Origin as spec;
 ghost use Rattle.bidi_browser.specs.Found.{IsUrlOf};
 ghost use Rattle.bidi_browser.specs.Urls.{about_blank, origin_text, parsed};
 
-use bidi_codes::Refusal;
-use bidi_messages::ErrorCode;
+use bidi_codes::{ErrorCode, Refusal};
 use std::alloc::{AllocError, Global};
 use url::{ParseError, Url};
 

@@ -1,14 +1,14 @@
 -- What contracts see of a step of both ends, and of a ledger.
 use Rattle.std.specs.Prelude.{◌≡◌, List, [], ◌∷◌, map, string_bytes, ⊤}
 use Rattle.std.specs.List.{AllByRecursion}
-use Rattle.bidi_messages.specs.declared.command.CommandData.{CommandData}
-use Rattle.bidi_messages.specs.declared.event.EventData.{EventData}
-use Rattle.bidi_messages.specs.contracts.command.CommandDataSubjectMethod.TheImpl as asks
-use Rattle.bidi_messages.specs.contracts.event.EventDataSubjectEventName.TheImpl as told
-use Rattle.bidi_messages.specs.contracts.result_data.ResultDataSubjectMethod.TheImpl as results
+use Rattle.bidi_subjects.specs.declared.command_data.CommandData.{CommandData}
+use Rattle.bidi_subjects.specs.declared.event_data.EventData.{EventData}
+use Rattle.bidi_subjects.specs.contracts.command_data.CommandDataSubjectMethod.TheImpl as asks
+use Rattle.bidi_subjects.specs.contracts.event_data.EventDataSubjectEventName.TheImpl as told
+use Rattle.bidi_subjects.specs.contracts.result_data.ResultDataSubjectMethod.TheImpl as results
 use Rattle.bidi_codes.specs.ErrorCode.{error_code_text}
-use Rattle.bidi_messages.specs.EventName.{event_name_text}
-use Rattle.bidi_messages.specs.Method.{method_text}
+use Rattle.bidi_subjects.specs.EventName.{event_name_text}
+use Rattle.bidi_subjects.specs.Method.{method_text}
 use Rattle.bidi_remote.specs.Machine.Step as step
 use Rattle.bidi_remote.specs.Machine.History as remote
 use Rattle.bidi_remote.specs.Machine.History.{Input}

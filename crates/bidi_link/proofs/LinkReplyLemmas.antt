@@ -15,17 +15,17 @@ use Rattle.bidi_shape.specs.Term.{rule}
 use Rattle.bidi_shape.specs.Fits.{Fits}
 use Rattle.bidi_shape.specs.ValueLaws.{others_of}
 use Rattle.bidi_codes.specs.declared.error_code.ErrorCode.{ErrorCode}
-use Rattle.bidi_messages.specs.declared.method.Method.{Method}
+use Rattle.bidi_subjects.specs.declared.method.Method.{Method}
 use Rattle.bidi_messages.specs.declared.message.Message.{Message}
 use Rattle.bidi_messages.specs.declared.message.Message.TheVariants as message
 use Rattle.bidi_messages.specs.declared.event.Event.{Event}
 use Rattle.bidi_messages.specs.contracts.message.MessageShape.TheImpl.{ghosts}
 use Rattle.bidi_messages.specs.contracts.event.EventShape.TheImpl as event
-use Rattle.bidi_messages.specs.contracts.event.EventDataSubjectEventName.TheImpl as told
-use Rattle.bidi_messages.specs.EventName as names
-use Rattle.bidi_messages.specs.EventData.{event_of}
+use Rattle.bidi_subjects.specs.contracts.event_data.EventDataSubjectEventName.TheImpl as told
+use Rattle.bidi_subjects.specs.EventName as names
+use Rattle.bidi_subjects.specs.EventData.{event_of}
 use Rattle.bidi_messages.specs.Message.{response_tree, error_tree, error_text}
-use Rattle.bidi_messages.specs.Method.{method_text, result_of}
+use Rattle.bidi_subjects.specs.Method.{method_text, result_of}
 use Rattle.bidi_messages.specs.Reading.{IsMessageText, IsEvent}
 use Rattle.bidi_browser.specs.Actions.{is_text}
 use Rattle.bidi_handles.specs.Params.{number_if_at}

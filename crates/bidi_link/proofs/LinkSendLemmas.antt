@@ -7,11 +7,11 @@ use Rattle.bidi_local.specs.declared.local_end.LocalFault.{LocalFault}
 use Rattle.bidi_local.specs.declared.local_end.LocalFault.TheVariants.{NoMemory, IdsUsedUp, TooManyPending, TooLong}
 use Rattle.bidi_local.specs.Pending.{Pending, command_tree, command_text, refusal_of, IsAnswered}
 use Rattle.bidi_local.specs.View.{Stands, sent_by, waiting_in}
-use Rattle.bidi_messages.specs.declared.command.CommandData.{CommandData}
-use Rattle.bidi_messages.specs.declared.method.Method.{Method}
-use Rattle.bidi_messages.specs.Method.{method_text}
+use Rattle.bidi_subjects.specs.declared.command_data.CommandData.{CommandData}
+use Rattle.bidi_subjects.specs.declared.method.Method.{Method}
+use Rattle.bidi_subjects.specs.Method.{method_text}
 use Rattle.bidi_messages.specs.Verdict.{IsVerdict, Accepted}
-use Rattle.bidi_messages.specs.contracts.command.CommandDataSubjectMethod.TheImpl as asks
+use Rattle.bidi_subjects.specs.contracts.command_data.CommandDataSubjectMethod.TheImpl as asks
 use Rattle.bidi_tree.specs.declared.number.JsUint.{JsUint}
 use Rattle.bidi_browser.specs.Contexts.{up_to}
 use Rattle.bidi_ledger.specs.declared.ledger.Entry.{Entry}

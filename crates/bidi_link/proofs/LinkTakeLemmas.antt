@@ -18,19 +18,19 @@ use Rattle.bidi_shape.specs.Fits.{Fits}
 use Rattle.bidi_shape.proofs.FitsLemmas.{exactly_kind, map_kind, map_inside, RowFits, row_inside, rule_inside, either_inside}
 use Rattle.bidi_messages.specs.Event.{event_type_words}
 use Rattle.bidi_messages.specs.About.{about_inside}
-use Rattle.bidi_messages.specs.EventName.{event_words, event_name_text}
-use Rattle.bidi_messages.specs.EventData.{event_of}
+use Rattle.bidi_subjects.specs.EventName.{event_words, event_name_text}
+use Rattle.bidi_subjects.specs.EventData.{event_of}
 use Rattle.bidi_codes.specs.declared.error_code.ErrorCode.{ErrorCode}
-use Rattle.bidi_messages.specs.declared.event.EventName.{EventName}
-use Rattle.bidi_messages.specs.declared.event.EventData.{EventData}
+use Rattle.bidi_subjects.specs.declared.event_data.EventName.{EventName}
+use Rattle.bidi_subjects.specs.declared.event_data.EventData.{EventData}
 use Rattle.bidi_messages.specs.declared.event.Event.{Event}
-use Rattle.bidi_messages.specs.declared.result_data.ResultData.{ResultData}
-use Rattle.bidi_messages.specs.declared.method.Method.{Method}
+use Rattle.bidi_subjects.specs.declared.result_data.ResultData.{ResultData}
+use Rattle.bidi_subjects.specs.declared.method.Method.{Method}
 use Rattle.bidi_messages.specs.contracts.message.MessageShape.TheImpl.{ghosts}
 use Rattle.bidi_messages.specs.contracts.event.EventShape.TheImpl as event
-use Rattle.bidi_messages.specs.contracts.event.EventDataSubjectEventName.TheImpl as told
-use Rattle.bidi_messages.specs.contracts.result_data.ResultDataSubjectMethod.TheImpl as results
-use Rattle.bidi_messages.specs.Method.{result_of}
+use Rattle.bidi_subjects.specs.contracts.event_data.EventDataSubjectEventName.TheImpl as told
+use Rattle.bidi_subjects.specs.contracts.result_data.ResultDataSubjectMethod.TheImpl as results
+use Rattle.bidi_subjects.specs.Method.{result_of}
 use Rattle.bidi_messages.specs.Message.{response_tree, error_tree}
 use Rattle.bidi_messages.specs.Command.{id_in, method_in, params_in}
 use Rattle.bidi_messages.specs.Reading.{IsMessageText}

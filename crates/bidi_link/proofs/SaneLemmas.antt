@@ -4,8 +4,8 @@ use Rattle.std.proofs.Common.{length, Some, refl, sym, ap, subst, length-append,
 use Rattle.std.specs.Prelude.{◌==◌, ◌||◌, slice_get}
 use Rattle.std.specs.List.{AllByRecursion}
 use Rattle.std.proofs.lemmas.Option.{slice_get_within}
-use Rattle.bidi_messages.specs.declared.method.Method.{Method}
-use Rattle.bidi_messages.specs.Method.{method_text}
+use Rattle.bidi_subjects.specs.declared.method.Method.{Method}
+use Rattle.bidi_subjects.specs.Method.{method_text}
 use Rattle.bidi_messages.specs.Reading.{IsMessageText}
 use Rattle.bidi_messages.specs.contracts.message.MessageShape.TheImpl.{ghosts}
 use Rattle.bidi_messages.specs.Verdict.{Accepted}

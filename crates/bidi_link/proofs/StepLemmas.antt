@@ -3,8 +3,8 @@ use Rattle.std.proofs.Common.{◌≡◌, ◌∙◌, ◌<◌, ◌≤◌, ◌+◌,
 use Rattle.std.proofs.Common.{Option, Some, None, Result, Ok, Err, append-nil, refl, sym, ap, ap₂, subst, arith}
 use Rattle.std.specs.Prelude.{◌==◌, ◌&&◌, take, get_or, IsErrOf, not, slice_get, if◌then◌else◌, nat_lt, OnOk, IfOk}
 use Rattle.bidi_messages.specs.Verdict.{Verdict, Accepted}
-use Rattle.bidi_messages.specs.declared.method.Method.{Method}
-use Rattle.bidi_messages.specs.Method.{method_text}
+use Rattle.bidi_subjects.specs.declared.method.Method.{Method}
+use Rattle.bidi_subjects.specs.Method.{method_text}
 use Rattle.bidi_values.specs.declared.log_entry.Level.{Level}
 use Rattle.bidi_browser.specs.Actions.{Frame, Unframe, Log, TableRow}
 use Rattle.bidi_remote.specs.Machine.Step as steps

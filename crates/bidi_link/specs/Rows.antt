@@ -3,8 +3,8 @@ use Rattle.std.specs.Prelude.{◌≡◌, ℕ, suc, ◌≤◌, nat_lt, true, fals
 use Rattle.std.specs.Prelude.{◌++◌, map, filter, drop, length, slice_get, Option, None, string_bytes, ⊤}
 use Rattle.bidi_tree.specs.Text.{compact_text}
 use Rattle.bidi_messages.specs.Verdict.{IsVerdict, Accepted}
-use Rattle.bidi_messages.specs.Method.{method_text}
-use Rattle.bidi_messages.specs.declared.method.Method.{Method}
+use Rattle.bidi_subjects.specs.Method.{method_text}
+use Rattle.bidi_subjects.specs.declared.method.Method.{Method}
 use Rattle.bidi_local.specs.Pending.{Pending}
 use Rattle.bidi_local.specs.View.{Stands}
 use Rattle.bidi_ledger.specs.declared.ledger.Entry as declared_entry

@@ -3,8 +3,8 @@ ghost use Rattle.std.specs.Prelude.{◌≡◌, ◌+◌, ◌-◌, ◌<◌, ◌^�
 ghost use Rattle.std.specs.Prelude.{slice_set, Some, None, false, OnOk, IfSome, IfNone, string_bytes};
 ghost use Rattle.bidi_tree.specs.declared.number.JsUint as declared_number;
 ghost use Rattle.bidi_codes.specs.declared.error_code.ErrorCode.{ErrorCode};
-ghost use Rattle.bidi_messages.specs.declared.event.EventData as declared_event;
-ghost use Rattle.bidi_messages.specs.declared.result_data.ResultData.{ResultData};
+ghost use Rattle.bidi_subjects.specs.declared.event_data.EventData as declared_event;
+ghost use Rattle.bidi_subjects.specs.declared.result_data.ResultData.{ResultData};
 ghost use Rattle.bidi_local.specs.Pending.{ids};
 ghost use Rattle.bidi_local.specs.View.{IsWell};
 ghost use Rattle.bidi_ledger.specs.declared.ledger.Entry as declared_entry;

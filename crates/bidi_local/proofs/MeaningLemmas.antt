@@ -12,7 +12,7 @@ use Rattle.bidi_shape.specs.Fits.{Fits}
 use Rattle.bidi_shape.specs.Parts.{put_part}
 use Rattle.bidi_shape.specs.ChoiceLaws.{nullable_tree}
 use Rattle.bidi_shape.specs.ValueLaws.{others_of}
-use Rattle.bidi_messages.specs.declared.method.Method.{Method}
+use Rattle.bidi_subjects.specs.declared.method.Method.{Method}
 use Rattle.bidi_codes.specs.declared.error_code.ErrorCode.{ErrorCode}
 use Rattle.bidi_messages.specs.declared.message.Response.{Response}
 use Rattle.bidi_messages.specs.declared.message.ErrorResponse.{ErrorResponse}
@@ -20,11 +20,11 @@ use Rattle.bidi_messages.specs.declared.event.Event.{Event as AnEvent}
 use Rattle.bidi_messages.specs.contracts.message.ResponseShape.TheImpl as response
 use Rattle.bidi_messages.specs.contracts.message.ErrorResponseShape.TheImpl as error
 use Rattle.bidi_messages.specs.contracts.event.EventShape.TheImpl as event
-use Rattle.bidi_messages.specs.contracts.event.EventDataSubjectEventName.TheImpl as told
-use Rattle.bidi_messages.specs.Method.{result_of}
+use Rattle.bidi_subjects.specs.contracts.event_data.EventDataSubjectEventName.TheImpl as told
+use Rattle.bidi_subjects.specs.Method.{result_of}
 use Rattle.bidi_codes.specs.ErrorCode.{error_code_text}
-use Rattle.bidi_messages.specs.EventData.{event_of}
-use Rattle.bidi_messages.specs.EventName.{event_name_text}
+use Rattle.bidi_subjects.specs.EventData.{event_of}
+use Rattle.bidi_subjects.specs.EventName.{event_name_text}
 use Rattle.bidi_messages.specs.Verdict.{echoed_id}
 use Rattle.bidi_messages.specs.Command.{id_in, params_in}
 use Rattle.bidi_messages.proofs.CommandLemmas.{apart}

@@ -12,14 +12,14 @@ use Rattle.bidi_shape.specs.WordLaws.{word_shape, value_named}
 use Rattle.bidi_shape.proofs.FitsLemmas.{exactly_kind, map_kind, map_inside, RowFits, row_inside, rule_inside}
 use Rattle.bidi_messages.specs.Event.{event_type_words}
 use Rattle.bidi_messages.specs.About.{about_inside}
-use Rattle.bidi_messages.specs.declared.method.Method.{Method}
+use Rattle.bidi_subjects.specs.declared.method.Method.{Method}
 use Rattle.bidi_codes.specs.declared.error_code.ErrorCode.{ErrorCode}
-use Rattle.bidi_messages.specs.declared.event.EventName.{EventName}
-use Rattle.bidi_messages.specs.Method.{result_of}
+use Rattle.bidi_subjects.specs.declared.event_data.EventName.{EventName}
+use Rattle.bidi_subjects.specs.Method.{result_of}
 use Rattle.bidi_codes.specs.ErrorCode.{error_code_words}
-use Rattle.bidi_messages.specs.EventName.{event_words}
+use Rattle.bidi_subjects.specs.EventName.{event_words}
 use Rattle.bidi_messages.specs.Command.{id_in, method_in, params_in}
-use Rattle.bidi_messages.specs.contracts.event.EventDataSubjectEventName.TheImpl as told
+use Rattle.bidi_subjects.specs.contracts.event_data.EventDataSubjectEventName.TheImpl as told
 use Rattle.bidi_messages.proofs.CommandLemmas.{apart}
 use Rattle.bidi_local.specs.Pending.{Pending}
 use Rattle.bidi_local.specs.Received.{Meaning, Answer, BadResult, Refusal, Event, Stray, NotInProfile, NotJson, Means}

@@ -10,8 +10,8 @@ use Rattle.bidi_shape.specs.Fits.{Fits, without}
 use Rattle.bidi_shape.specs.Table.{TableWell}
 use Rattle.bidi_shape.specs.ValueLaws.{others_of}
 use Rattle.bidi_shape.specs.declared.ext.Ext.{Ext}
-use Rattle.bidi_messages.specs.declared.command.CommandData.{CommandData}
-use Rattle.bidi_messages.specs.contracts.command.CommandDataSubjectMethod.TheImpl as asks
+use Rattle.bidi_subjects.specs.declared.command_data.CommandData.{CommandData}
+use Rattle.bidi_subjects.specs.contracts.command_data.CommandDataSubjectMethod.TheImpl as asks
 use Rattle.bidi_messages.specs.contracts.command.CommandShape.TheImpl as command
 use Rattle.bidi_messages.specs.Verdict.{IsVerdict, is_command, Accepted}
 use Rattle.bidi_local.specs.Pending.{command_tree}

@@ -1,7 +1,7 @@
 -- What contracts see of a local end, and of what it received.
 use Rattle.std.specs.Prelude.{◌≡◌, ℕ, ⊤}
-use Rattle.bidi_messages.specs.contracts.event.EventDataSubjectEventName.TheImpl as told
-use Rattle.bidi_messages.specs.contracts.result_data.ResultDataSubjectMethod.TheImpl as results
+use Rattle.bidi_subjects.specs.contracts.event_data.EventDataSubjectEventName.TheImpl as told
+use Rattle.bidi_subjects.specs.contracts.result_data.ResultDataSubjectMethod.TheImpl as results
 use Rattle.bidi_local.specs.declared.local_end.LocalEnd.{LocalEnd}
 use Rattle.bidi_local.specs.declared.received.Received.{Received}
 use Rattle.bidi_local.specs.declared.received.Received.TheVariants as in_hand

@@ -11,7 +11,7 @@ use Rattle.bidi_shape.specs.Table.{unfolded, table_read}
 use Rattle.bidi_shape.specs.WordLaws.{Words, word_fits, word_one}
 use Rattle.bidi_shape.specs.declared.ext.Ext.{Ext}
 use Rattle.bidi_shape.proofs.FitsLemmas.{exactly_kind, exactly_inside, map_inside, RowFits, row_inside, row_fits}
-use Rattle.bidi_messages.specs.Subject.{SubjectOf}
+use Rattle.bidi_subjects.specs.Subject.{SubjectOf}
 use Rattle.bidi_messages.specs.About.{names_about, rows_of, parts_of, about_term, about_tree, AboutIsWell, about_inside}
 
 module _ {X D K : Type 0} (name : List ℕ) (s : ShapeOf X) (w : Words K) (d : SubjectOf D K) where

@@ -9,10 +9,10 @@ use Rattle.bidi_tree.specs.Kind.{text_in}
 use Rattle.bidi_tree.proofs.MemberLemmas.{get_member-put, get_member-put_other}
 use Rattle.bidi_messages.specs.Verdict.{js_uint_in}
 use Rattle.bidi_messages.specs.Command.{id_in, method_in, params_in}
-use Rattle.bidi_messages.specs.Method.{method_text}
-use Rattle.bidi_messages.specs.CommandData.{method_of}
+use Rattle.bidi_subjects.specs.Method.{method_text}
+use Rattle.bidi_subjects.specs.CommandData.{method_of}
 use Rattle.bidi_messages.specs.contracts.command.CommandShape.TheImpl.{ghosts}
-use Rattle.bidi_messages.specs.contracts.command.CommandDataSubjectMethod.TheImpl as asks
+use Rattle.bidi_subjects.specs.contracts.command_data.CommandDataSubjectMethod.TheImpl as asks
 use Rattle.bidi_messages.specs.declared.command.Command.{Command}
 
 pub apart : (j k : List ℕ) → bytes_eq j k ≡ false → j ≢ k

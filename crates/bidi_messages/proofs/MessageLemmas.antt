@@ -10,12 +10,12 @@ use Rattle.bidi_shape.specs.ChoiceLaws.{nullable_tree}
 use Rattle.bidi_shape.specs.ValueLaws.{others_of}
 use Rattle.bidi_messages.specs.Verdict.{js_uint_in, echoed_id}
 use Rattle.bidi_messages.specs.Command.{method_in}
-use Rattle.bidi_messages.specs.EventName.{event_name_text}
-use Rattle.bidi_messages.specs.EventData.{event_of}
+use Rattle.bidi_subjects.specs.EventName.{event_name_text}
+use Rattle.bidi_subjects.specs.EventData.{event_of}
 use Rattle.bidi_messages.specs.contracts.message.ResponseShape.TheImpl as response
 use Rattle.bidi_messages.specs.contracts.message.ErrorResponseShape.TheImpl as error
 use Rattle.bidi_messages.specs.contracts.event.EventShape.TheImpl as event
-use Rattle.bidi_messages.specs.contracts.event.EventDataSubjectEventName.TheImpl as told
+use Rattle.bidi_subjects.specs.contracts.event_data.EventDataSubjectEventName.TheImpl as told
 use Rattle.bidi_messages.specs.declared.message.Response.{Response}
 use Rattle.bidi_messages.specs.declared.message.ErrorResponse.{ErrorResponse}
 use Rattle.bidi_messages.specs.declared.event.Event.{Event}

@@ -21,20 +21,20 @@ use Rattle.bidi_shape.specs.Table.{TableWell}
 use Rattle.bidi_shape.specs.Value.{ShapeOf}
 use Rattle.bidi_shape.specs.declared.ext.Ext.{Ext}
 use Rattle.bidi_shape.proofs.FitsLemmas.{exactly_kind, js_uint_kind, map_kind, map_inside, RowFits, row_inside, either_inside, rule_inside}
-use Rattle.bidi_messages.specs.Method.{result_of}
+use Rattle.bidi_subjects.specs.Method.{result_of}
 use Rattle.bidi_codes.specs.ErrorCode.{error_code_text}
-use Rattle.bidi_messages.specs.EventData.{event_of}
-use Rattle.bidi_messages.specs.EventName.{event_name_text}
+use Rattle.bidi_subjects.specs.EventData.{event_of}
+use Rattle.bidi_subjects.specs.EventName.{event_name_text}
 use Rattle.bidi_messages.specs.Reading.{IsEvent, IsMessageText}
 use Rattle.bidi_messages.specs.Message.{response_tree, error_tree, event_text as told_text}
-use Rattle.bidi_messages.specs.declared.event.EventName.{EventName}
-use Rattle.bidi_messages.specs.declared.method.Method.{Method}
-use Rattle.bidi_messages.specs.declared.method.Method.TheVariants.{ScriptEvaluate, ScriptCallFunction}
+use Rattle.bidi_subjects.specs.declared.event_data.EventName.{EventName}
+use Rattle.bidi_subjects.specs.declared.method.Method.{Method}
+use Rattle.bidi_subjects.specs.declared.method.Method.TheVariants.{ScriptEvaluate, ScriptCallFunction}
 use Rattle.bidi_codes.specs.declared.error_code.ErrorCode.{ErrorCode}
-use Rattle.bidi_messages.specs.declared.event.EventData.{EventData}
+use Rattle.bidi_subjects.specs.declared.event_data.EventData.{EventData}
 use Rattle.bidi_messages.specs.declared.message.Message.{Message}
 use Rattle.bidi_messages.specs.declared.message.Message.TheVariants.{Response as AsResponse, Error as AsError, Event as AsEvent}
-use Rattle.bidi_messages.specs.contracts.event.EventDataSubjectEventName.TheImpl as told
+use Rattle.bidi_subjects.specs.contracts.event_data.EventDataSubjectEventName.TheImpl as told
 use Rattle.bidi_messages.specs.contracts.message.MessageShape.TheImpl as message
 
 -- the text of a well message's tree is that of a well message

@@ -15,7 +15,7 @@ use Rattle.bidi_shape.specs.Table.{TableWell, unfolded, unfolded_fits, same_head
 use Rattle.bidi_shape.specs.ThroughLaws.{fits_named}
 use Rattle.bidi_shape.specs.WordLaws.{Word, Words, value_named, word_one}
 use Rattle.bidi_shape.specs.declared.ext.Ext.{Ext}
-use Rattle.bidi_messages.specs.Subject.{SubjectOf}
+use Rattle.bidi_subjects.specs.Subject.{SubjectOf}
 
 -- ---- one alternative for each of some values
 

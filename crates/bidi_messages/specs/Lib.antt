@@ -1,10 +1,4 @@
-pub mod Method
-pub mod EventName
-pub mod Subject
 pub mod About
-pub mod CommandData
-pub mod ResultData
-pub mod EventData
 pub mod Event
 pub mod Reading
 pub mod Verdict

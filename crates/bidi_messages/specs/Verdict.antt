@@ -7,7 +7,7 @@ use Rattle.bidi_shape.specs.Name.{command}
 use Rattle.bidi_shape.specs.Term.{rule}
 use Rattle.bidi_shape.specs.Fits.{Fits}
 use Rattle.bidi_shape.specs.WordLaws.{value_named}
-use Rattle.bidi_messages.specs.Method.{method_words}
+use Rattle.bidi_subjects.specs.Method.{method_words}
 use Rattle.bidi_codes.specs.declared.error_code.ErrorCode.{ErrorCode}
 use Rattle.bidi_codes.specs.declared.error_code.ErrorCode.TheVariants.{InvalidArgument, UnknownCommand}
 

@@ -7,9 +7,9 @@ ghost use Rattle.bidi_messages.specs.View.{verdict_of, IsWell, AcceptsAs};
 ghost use Rattle.bidi_messages.specs.declared.command.Command.{Command};
 
 use crate::command::Command;
-use crate::method::Method;
 use bidi_codes::ErrorCode;
 use bidi_shape::{Named, Parsed, Shape, ShapeFault};
+use bidi_subjects::Method;
 use bidi_tree::{JsUint, ReadFault, parse};
 use json::{Scratch, Value};
 use std::alloc::{AllocError, Global};

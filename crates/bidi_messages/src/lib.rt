@@ -5,26 +5,24 @@
 //! the command that it answers. [`text_of`] gives the text of any of them, which reads back as the same.
 #![tactic(auto)]
 
+mod about;
 mod command;
 mod event;
 mod judging;
 mod message;
-mod method;
 mod response_reading;
-mod result_data;
 mod sending;
-mod subject;
 mod text;
 
 pub use bidi_codes::ErrorCode;
 pub use bidi_shape::Named;
-pub use command::{Command, CommandData, data_of};
-pub use event::{Event, EventData, EventName};
+pub use bidi_subjects::{
+    CommandData, EventData, EventName, Method, ResultData, Subject, data_of, result_of,
+};
+pub use command::Command;
+pub use event::Event;
 pub use judging::{Verdict, judge, judge_with};
 pub use message::{ErrorResponse, Message, Response};
-pub use method::Method;
 pub use response_reading::response_id;
-pub use result_data::{ResultData, result_of};
 pub use sending::{error_text, event_text, response_text};
-pub use subject::Subject;
 pub use text::{MessageFault, Sendable, message_of, read_message, read_message_with, text_of};

@@ -7,14 +7,13 @@ ghost use Rattle.bidi_shape.specs.ValueLaws.{others_of};
 ghost use Rattle.bidi_messages.specs.Message.{response_tree, response_text, error_text, event_text};
 ghost use Rattle.bidi_messages.specs.Reading.{IsMessageText};
 
-use crate::event::{EventData, EventName, EventType};
+use crate::about::draft_about;
+use crate::event::EventType;
 use crate::message::{ErrorResponse, Message, Response};
-use crate::method::Method;
-use crate::result_data::ResultData;
-use crate::subject::{Subject, draft_about};
 use crate::text::text_of;
 use bidi_codes::ErrorCode;
 use bidi_shape::{Ext, Named, Shape};
+use bidi_subjects::{EventData, EventName, Method, ResultData, Subject};
 use bidi_tree::{JsUint, Tree, write_draft};
 use std::alloc::{AllocError, Global};
 

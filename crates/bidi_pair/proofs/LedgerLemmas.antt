@@ -4,7 +4,7 @@ use Rattle.std.specs.Prelude.{decimal, ◌==◌, if◌then◌else◌}
 use Rattle.std.proofs.lemmas.Bool.Decides.{nat_tests}
 use Rattle.bidi_tree.specs.Node.{Node, IsWhole, IsWritable}
 use Rattle.bidi_shape.specs.WholeLaws.{whole_within}
-use Rattle.bidi_console.specs.Feeds.{ended}
+use Rattle.bidi_lines.specs.Feeds.{ended}
 use Rattle.bidi_pair.specs.PairLines.{unsent_text}
 
 -- a tree of at most 70 levels may be written

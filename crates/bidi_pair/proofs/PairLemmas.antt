@@ -11,18 +11,18 @@ use Rattle.bidi_ledger.specs.declared.pair_step.PairStep.{PairStep}
 use Rattle.bidi_ledger.specs.Ledger.{PairInput, past_after}
 use Rattle.bidi_ledger.specs.Pairing.{history}
 use Rattle.bidi_ledger.specs.Steps.{AreHeardAs}
-use Rattle.bidi_console.specs.Feeds.{ended}
-use Rattle.bidi_console.specs.InputLines.{IsLine}
-use Rattle.bidi_console.specs.InputLines as input
-use Rattle.bidi_console.specs.Listings.{joined}
+use Rattle.bidi_lines.specs.Feeds.{ended}
+use Rattle.bidi_lines.specs.InputLines.{IsLine}
+use Rattle.bidi_lines.specs.InputLines as input
+use Rattle.bidi_lines.specs.InputLines.{joined}
 use Rattle.bidi_pair.specs.PairLines as said
 use Rattle.bidi_pair.specs.Pairs.{AllSay, PairsAll, Schedule, StopsAt, pair_fault_of, remote_fault_of}
 use Rattle.bidi_pair.specs.declared.reading.PairFault.{PairFault}
 use Rattle.bidi_pair.specs.declared.reading.PairFault.TheVariants.{BadLine, Write}
-use Rattle.bidi_console.specs.declared.line_reader.InputFault.{InputFault}
-use Rattle.bidi_console.specs.declared.line_reader.InputFault.TheVariants as fault
-use Rattle.bidi_console.proofs.FeedLemmas.{feed_there}
-use Rattle.bidi_console.proofs.FeedLemmas.{regroup}
+use Rattle.bidi_lines.specs.declared.line_reader.InputFault.{InputFault}
+use Rattle.bidi_lines.specs.declared.line_reader.InputFault.TheVariants as fault
+use Rattle.bidi_lines.proofs.FeedLemmas.{feed_there}
+use Rattle.bidi_lines.proofs.FeedLemmas.{regroup}
 
 all_more : {X : Type 0} (P : X → Type 0) (xs : List X) (x : X) → AllByRecursion P xs → P x → AllByRecursion P (xs ++ x ∷ [])
 all_more P [] x a p = (p, tt)

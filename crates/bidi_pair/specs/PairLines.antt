@@ -7,7 +7,7 @@ use Rattle.bidi_ledger.specs.declared.pair_step.PairStep.{PairStep}
 use Rattle.bidi_ledger.specs.declared.pair_step.PairStep.TheVariants.{Open, Send, Up, Down, Cut, At, Frame, Unframe, Log, TableRow}
 use Rattle.bidi_ledger.specs.Steps.{sending_of}
 use Rattle.bidi_ledger.specs.Link.{Fate, Answered, Refused, Lost, Waiting, Entry, Received, Page}
-use Rattle.bidi_console.specs.Feeds.{ended}
+use Rattle.bidi_lines.specs.Feeds.{ended}
 use Rattle.bidi_play.specs.Lines.{line_of, IsSayable}
 
 -- ---- what is read

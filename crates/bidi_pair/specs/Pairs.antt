@@ -10,10 +10,10 @@ use Rattle.bidi_ledger.specs.Pairing.{history}
 use Rattle.bidi_ledger.specs.Steps.{AreHeardAs}
 use Rattle.bidi_pair.specs.declared.reading.PairFault.{PairFault}
 use Rattle.bidi_pair.specs.declared.reading.PairFault.TheVariants.{Read, Write, BadLine, NoMemory, TooManyLines, WornOut}
-use Rattle.bidi_console.specs.declared.line_reader.InputFault.{InputFault}
-use Rattle.bidi_console.specs.declared.line_reader.InputFault.TheVariants as input
-use Rattle.bidi_console.specs.InputLines.{IsLine}
-use Rattle.bidi_console.specs.Listings.{joined}
+use Rattle.bidi_lines.specs.declared.line_reader.InputFault.{InputFault}
+use Rattle.bidi_lines.specs.declared.line_reader.InputFault.TheVariants as input
+use Rattle.bidi_lines.specs.InputLines.{IsLine}
+use Rattle.bidi_lines.specs.InputLines.{joined}
 use Rattle.bidi_pair.specs.PairLines.{Says, ledger_text}
 use Rattle.bidi_play.specs.Plays.{HasLine}
 

@@ -2,7 +2,7 @@
 ghost use Rattle.std.specs.Prelude.{◌≡◌, ℕ, List, ◌∷◌, ◌++◌, Some, None, codes, IfOk, IfSome};
 ghost use Rattle.bidi_tree.specs.Text.{tree_of_text};
 ghost use Rattle.bidi_tree.specs.View.{node};
-ghost use Rattle.bidi_messages.specs.Method.{method_text};
+ghost use Rattle.bidi_subjects.specs.Method.{method_text};
 ghost use Rattle.bidi_remote.specs.Tables.View.{step_of};
 ghost use Rattle.bidi_ledger.specs.Steps.{IsWell};
 ghost use Rattle.bidi_pair.specs.PairLines.{IsPlayLine, Says, sending_line};

@@ -6,8 +6,8 @@ ghost use Rattle.bidi_pair.specs.Pairs.{Reads, Schedule, StopsAt, failed_reads, 
 ghost use Rattle.bidi_pair.specs.declared.reading.PairFault.TheVariants.{Write, NoMemory};
 
 use super::pair_lines::read_pair_step;
-use bidi_console::{DeviceFault, InputFault, LineReader, Source};
 use bidi_ledger::PairStep;
+use bidi_lines::{DeviceFault, InputFault, LineReader, Source};
 use bidi_remote::RemoteFault;
 use std::alloc::{AllocError, Global};
 use thiserror::Error;

@@ -5,7 +5,7 @@ ghost use Rattle.bidi_tree.specs.Node.{IsWritable};
 ghost use Rattle.bidi_tree.specs.Text.{compact_text};
 ghost use Rattle.bidi_tree.specs.View.{node};
 ghost use Rattle.bidi_ledger.specs.Steps.{FateIsWell, LedgerIsWell, PageIsWell, entry_seen, event_seen, fate_seen, page_seen, pages_of};
-ghost use Rattle.bidi_console.specs.Feeds.{ended};
+ghost use Rattle.bidi_lines.specs.Feeds.{ended};
 ghost use Rattle.bidi_pair.specs.PairLines.{entries_text, entry_line, event_line, events_text, fate_text, ledger_text, page_text, unsent_text};
 
 use bidi_ledger::{Entry, Fate, Ledger, Page};

@@ -7,7 +7,7 @@ use Rattle.bidi_shape.specs.WordLaws.{word_one}
 use Rattle.bidi_values.specs.Level.{level_text, level_words}
 use Rattle.bidi_values.specs.declared.log_entry.Level.{Level}
 use Rattle.bidi_values.specs.declared.log_entry.Level.TheVariants.{Debug, Info, Warn, Error}
-use Rattle.bidi_console.proofs.FeedLemmas.{one_front}
+use Rattle.bidi_lines.proofs.FeedLemmas.{one_front}
 
 -- the text of a level holds no space
 pub no_space_in : (level : Level) → list_any (λ b. b == 32) (level_text level) ≡ false

@@ -13,7 +13,7 @@ use Rattle.bidi_remote.specs.Machine.Step as step
 use Rattle.bidi_remote.specs.Machine.Step.{Step}
 use Rattle.bidi_remote.specs.Machine.History.{Input, Heard, PageStep, IsRow, is_row, is_not_json, is_no_row, IsHeardAs, AreHeardAs}
 use Rattle.bidi_remote.specs.Machine.Sent.{Sent, answers, answers_after}
-use Rattle.bidi_console.specs.Feeds.{ended}
+use Rattle.bidi_lines.specs.Feeds.{ended}
 use Rattle.bidi_play.specs.Lines.{sent_line, written}
 use Rattle.bidi_play.specs.Plays.{Plays, PlaysPart}
 use Rattle.bidi_remote.proofs.AnswerLemmas.{answers_append}

@@ -10,18 +10,18 @@ use Rattle.bidi_remote.specs.Machine.Step.{Step}
 use Rattle.bidi_remote.specs.Machine.History.{Input, IsHeardAs, AreHeardAs}
 use Rattle.bidi_remote.specs.Machine.Sent.{Sent, answers, out}
 use Rattle.bidi_remote.specs.Tables.Messages.{AllReadBack}
-use Rattle.bidi_console.specs.Feeds.{ended, has_feed}
+use Rattle.bidi_lines.specs.Feeds.{ended, has_feed}
 use Rattle.bidi_play.specs.Lines.{line_of, said, CanBeSaid, written, sent_line}
 use Rattle.bidi_play.specs.Plays.{Play, PlaysPart, HasPlayLine, HasNoPlayLine, StopsAt, play_fault_of, remote_fault_of}
 use Rattle.bidi_play.specs.declared.playing.PlayFault.{PlayFault}
 use Rattle.bidi_play.specs.declared.playing.PlayFault.TheVariants.{BadLine}
-use Rattle.bidi_console.specs.InputLines.{IsLine, BeginsBadly, Says}
-use Rattle.bidi_console.specs.declared.line_reader.InputFault.{InputFault}
-use Rattle.bidi_console.specs.declared.line_reader.InputFault.TheVariants as fault
+use Rattle.bidi_lines.specs.InputLines.{IsLine, BeginsBadly, Says}
+use Rattle.bidi_lines.specs.declared.line_reader.InputFault.{InputFault}
+use Rattle.bidi_lines.specs.declared.line_reader.InputFault.TheVariants as fault
 use Rattle.bidi_remote.specs.declared.remote_end.RemoteFault.{RemoteFault}
 use Rattle.bidi_remote.specs.declared.remote_end.RemoteFault.TheVariants as remote
 use Rattle.bidi_remote.proofs.AnswerLemmas.{answers_more}
-use Rattle.bidi_console.proofs.FeedLemmas.{feed_there, no_feed_front, one_front, regroup}
+use Rattle.bidi_lines.proofs.FeedLemmas.{feed_there, no_feed_front, one_front, regroup}
 
 pub all_more : (steps : List Step) (s : Step) → AllByRecursion CanBeSaid steps → CanBeSaid s → AllByRecursion CanBeSaid (steps ++ s ∷ [])
 all_more [] s a c = (c, tt)

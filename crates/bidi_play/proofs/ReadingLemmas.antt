@@ -7,12 +7,12 @@ use Rattle.std.proofs.lemmas.Fmt.{decimal_injective}
 use Rattle.bidi_values.specs.Level.{level_text}
 use Rattle.bidi_values.specs.declared.log_entry.Level.{Level}
 use Rattle.bidi_remote.specs.Machine.Step.{Step, At, Open, Drop, Text, NotText, Frame, Unframe, Log, TableRow}
-use Rattle.bidi_console.specs.Feeds.{ended}
+use Rattle.bidi_lines.specs.Feeds.{ended}
 use Rattle.bidi_play.specs.Lines.{line_of, said, IsContext, IsSayable, CanBeSaid}
 use Rattle.bidi_play.specs.Plays.{HasNoPlayLine}
-use Rattle.bidi_console.proofs.ResultLemmas.{no_truth}
+use Rattle.bidi_lines.proofs.ResultLemmas.{no_truth}
 use Rattle.bidi_play.proofs.DigitLemmas.{no_space}
-use Rattle.bidi_console.proofs.FeedLemmas.{one_front}
+use Rattle.bidi_lines.proofs.FeedLemmas.{one_front}
 use Rattle.bidi_play.proofs.LevelLemmas.{graded}
 
 abbrev first : List ℕ → ℕ

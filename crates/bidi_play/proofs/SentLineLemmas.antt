@@ -2,7 +2,7 @@
 use Rattle.std.proofs.Common.{◌≡◌, ℕ, List, [], ◌∷◌, ◌++◌, append_assoc}
 use Rattle.std.specs.Prelude.{decimal}
 use Rattle.bidi_remote.specs.Machine.Sent.{Text}
-use Rattle.bidi_console.specs.Feeds.{ended}
+use Rattle.bidi_lines.specs.Feeds.{ended}
 use Rattle.bidi_play.specs.Lines.{sent_line}
 
 -- the line of a text, grouped to the left

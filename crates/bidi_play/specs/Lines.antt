@@ -2,7 +2,7 @@
 use Rattle.std.specs.Prelude.{◌≡◌, ◌≢◌, IfSome, Option, Some, None, ℕ, ◌<◌, ◌≤◌, ◌^◌, ◌==◌, List, [], ◌∷◌, ◌++◌, length, codes, decimal, IsUtf8, false}
 use Rattle.std.specs.List.{flat_map, list_any}
 use Rattle.bidi_values.specs.Level.{level_text}
-use Rattle.bidi_console.specs.Feeds.{has_feed, ended}
+use Rattle.bidi_lines.specs.Feeds.{has_feed, ended}
 use Rattle.bidi_remote.specs.Machine.Step.{Step, At, Open, Drop, Text, NotText, Frame, Unframe, Log, TableRow}
 use Rattle.bidi_remote.specs.Machine.Sent as sent
 use Rattle.bidi_remote.specs.Machine.Sent.{Sent}

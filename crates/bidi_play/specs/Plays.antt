@@ -9,10 +9,10 @@ use Rattle.bidi_remote.specs.Machine.Step.{Step}
 use Rattle.bidi_remote.specs.Machine.History.{Input, AreHeardAs}
 use Rattle.bidi_remote.specs.Machine.Sent.{answers}
 use Rattle.bidi_remote.specs.Tables.Messages.{AllReadBack}
-use Rattle.bidi_console.specs.Feeds.{has_feed, ended}
-use Rattle.bidi_console.specs.InputLines.{IsLine}
-use Rattle.bidi_console.specs.declared.line_reader.InputFault.{InputFault}
-use Rattle.bidi_console.specs.declared.line_reader.InputFault.TheVariants as input
+use Rattle.bidi_lines.specs.Feeds.{has_feed, ended}
+use Rattle.bidi_lines.specs.InputLines.{IsLine}
+use Rattle.bidi_lines.specs.declared.line_reader.InputFault.{InputFault}
+use Rattle.bidi_lines.specs.declared.line_reader.InputFault.TheVariants as input
 use Rattle.bidi_play.specs.Lines.{line_of, CanBeSaid, said, written}
 
 -- The bytes begin with the lines of these steps, with this rest behind them, and the text is the lines of what the machine answers to the steps.

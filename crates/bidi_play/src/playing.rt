@@ -1,12 +1,12 @@
 //! Plays: lines of steps in, lines of what is sent out.
 ghost use Rattle.std.specs.Prelude.{◌≡◌, ◌+◌, IfErr, OnOk, IsTrue, MatchResult};
 ghost use Rattle.std.specs.Io.KnownBytes.{IsAtEnd};
-ghost use Rattle.bidi_console.specs.Devices.{Moves};
+ghost use Rattle.bidi_lines.specs.Devices.{Moves};
 ghost use Rattle.bidi_play.specs.Plays.{PlaysAll, StopsAt, failed_reads, failed_writes, play_fault_of, remote_fault_of};
 ghost use Rattle.bidi_play.specs.declared.playing.PlayFault.TheVariants.{Write, NoMemory};
 
 use super::lines::{lines_of, read_step};
-use bidi_console::{DeviceFault, InputFault, LineReader, Sink, Source, write_all};
+use bidi_lines::{DeviceFault, InputFault, LineReader, Sink, Source, write_all};
 use bidi_remote::{RemoteEnd, RemoteFault};
 use std::alloc::{AllocError, Global};
 use thiserror::Error;

@@ -5,10 +5,10 @@ use Rattle.std.proofs.Math.Seq.{take-append-add}
 use Rattle.std.proofs.lemmas.List.{take-append-le}
 use Rattle.std.specs.Io.KnownBytes.{Appends}
 use Rattle.std.proofs.KnownBytes.{Appends-trans}
-use Rattle.bidi_console.specs.Devices.{AppendsBeginning, CountsFailure}
-use Rattle.bidi_console.specs.Listings as lists
-use Rattle.bidi_console.specs.declared.showing.ShowFault.{ShowFault}
-use Rattle.bidi_console.specs.declared.showing.ShowFault.TheVariants as list
+use Rattle.bidi_lines.specs.Devices.{AppendsBeginning, CountsFailure}
+use Rattle.bidi_show.specs.Listings as lists
+use Rattle.bidi_show.specs.declared.showing.ShowFault.{ShowFault}
+use Rattle.bidi_show.specs.declared.showing.ShowFault.TheVariants as list
 use Rattle.bidi_play.specs.Plays as plays
 use Rattle.bidi_play.specs.declared.playing.PlayFault.{PlayFault}
 use Rattle.bidi_play.specs.declared.playing.PlayFault.TheVariants as play

@@ -1,13 +1,13 @@
 -- What a run writes for the bytes that it reads, the status that it ends with, and what it tells of a fault.
 use Rattle.std.specs.Prelude.{◌≡◌, ℕ, ◌+◌, ◌⊎◌, List, [], ◌++◌, Option, Some, None, Bool, codes, decimal, length, nat_lt, if◌then◌else◌}
 use Rattle.std.specs.Io.KnownBytes.{Appends}
-use Rattle.bidi_console.specs.Devices.{AppendsBeginning}
-use Rattle.bidi_console.specs.Listings as lists
-use Rattle.bidi_console.specs.Listings.{ListsAll}
-use Rattle.bidi_console.specs.declared.arguments.Run.{Run}
-use Rattle.bidi_console.specs.declared.arguments.Run.TheVariants as asked
-use Rattle.bidi_console.specs.declared.showing.Listing.TheVariants.{All, RefusedAlone}
-use Rattle.bidi_console.specs.declared.showing.ShowFault.TheVariants as list
+use Rattle.bidi_lines.specs.Devices.{AppendsBeginning}
+use Rattle.bidi_show.specs.Listings as lists
+use Rattle.bidi_show.specs.Listings.{ListsAll}
+use Rattle.bidi_arguments.specs.declared.arguments.Run.{Run}
+use Rattle.bidi_arguments.specs.declared.arguments.Run.TheVariants as asked
+use Rattle.bidi_show.specs.declared.showing.Listing.TheVariants.{All, RefusedAlone}
+use Rattle.bidi_show.specs.declared.showing.ShowFault.TheVariants as list
 use Rattle.bidi_play.specs.Plays as plays
 use Rattle.bidi_play.specs.Plays.{PlaysAll}
 use Rattle.bidi_play.specs.declared.playing.PlayFault.TheVariants as play

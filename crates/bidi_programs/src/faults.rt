@@ -1,13 +1,14 @@
 //! The faults that end a run: the status of each, and the line that tells it.
 ghost use Rattle.std.specs.Prelude.{◌≡◌, ◌++◌, codes, decimal, OnOk, OnErr};
 ghost use Rattle.std.specs.Io.KnownBytes.{Appends};
-ghost use Rattle.bidi_console.specs.Devices.{AppendsBeginning, CountsFailure};
+ghost use Rattle.bidi_lines.specs.Devices.{AppendsBeginning, CountsFailure};
 ghost use Rattle.bidi_programs.specs.Runs.{Tells, line_of, status_of, with_number};
 
-use bidi_console::{DeviceFault, ShowFault, Sink, write_all};
+use bidi_lines::{DeviceFault, Sink, write_all};
 use bidi_pair::PairFault;
 use bidi_play::PlayFault;
 use bidi_serve::ServeFault;
+use bidi_show::ShowFault;
 use itoa::Buffer;
 
 /// Why a run ended before all was done. `status` and `tell` are what a program does about it.

@@ -1,10 +1,10 @@
 //! Playing pair lines: lines of steps of both ends in, and what became of each command out.
 ghost use Rattle.std.specs.Prelude.{◌≡◌, ◌+◌, IfErr, OnOk, IsTrue, MatchResult};
 ghost use Rattle.std.specs.Io.KnownBytes.{IsAtEnd};
-ghost use Rattle.bidi_console.specs.Devices.{Moves};
+ghost use Rattle.bidi_lines.specs.Devices.{Moves};
 ghost use Rattle.bidi_pair.specs.Pairs.{PairsAll, StopsAt, failed_reads, failed_writes};
 
-use bidi_console::{Sink, Source, write_all};
+use bidi_lines::{Sink, Source, write_all};
 use bidi_link::pair;
 use bidi_pair::{PairFault, ledger_lines, read_steps};
 use std::alloc::Global;

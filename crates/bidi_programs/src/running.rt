@@ -1,6 +1,6 @@
 //! Runs: what a command line asks for, over the devices of a program.
 ghost use Rattle.std.specs.Prelude.{◌≡◌, ℕ, ◌+◌, ◌<◌, ◌≤◌, List, IsTrue, IfOk, IfErr, MatchResult};
-ghost use Rattle.bidi_console.specs.Devices.{Moves};
+ghost use Rattle.bidi_lines.specs.Devices.{Moves};
 ghost use Rattle.bidi_play.specs.Plays.{Plays};
 ghost use Rattle.bidi_programs.specs.declared.faults.RunFault.{RunFault as Fault};
 ghost use Rattle.bidi_programs.specs.declared.faults.RunFault.TheVariants as fault;
@@ -8,9 +8,11 @@ ghost use Rattle.bidi_programs.specs.Runs.{Completes, Stops, Tells, failed_reads
 
 use super::faults::RunFault;
 use super::pairing::play_pair;
-use bidi_console::{Listing, Run, Sink, Source, list};
+use bidi_arguments::Run;
+use bidi_lines::{Sink, Source};
 use bidi_play::play;
 use bidi_serve::ServeFault;
+use bidi_show::{Listing, list};
 use std::alloc::Global;
 
 /// Runs what was asked for, and returns the status of the program.

@@ -6,13 +6,13 @@ use Rattle.bidi_tree.specs.Node.{Node, whole, text, put}
 use Rattle.bidi_tree.specs.Kind.{whole_in}
 use Rattle.bidi_tree.proofs.MemberLemmas.{get_member-put}
 use Rattle.bidi_params.specs.contracts.session.capabilities.NewParametersShape.TheImpl as params
-use Rattle.bidi_messages.specs.Method.{method_text}
-use Rattle.bidi_messages.specs.CommandData.{method_of}
+use Rattle.bidi_subjects.specs.Method.{method_text}
+use Rattle.bidi_subjects.specs.CommandData.{method_of}
 use Rattle.bidi_messages.specs.contracts.command.CommandShape.TheImpl.{ghosts}
-use Rattle.bidi_messages.specs.contracts.command.CommandDataSubjectMethod.TheImpl as asks
+use Rattle.bidi_subjects.specs.contracts.command_data.CommandDataSubjectMethod.TheImpl as asks
 use Rattle.bidi_messages.specs.declared.command.Command as declared_command
-use Rattle.bidi_messages.specs.declared.command.CommandData.{CommandData}
-use Rattle.bidi_messages.specs.declared.command.CommandData.TheVariants as Of
+use Rattle.bidi_subjects.specs.declared.command_data.CommandData.{CommandData}
+use Rattle.bidi_subjects.specs.declared.command_data.CommandData.TheVariants as Of
 use Rattle.bidi_messages.proofs.CommandLemmas.{method_in-tree, params_in-tree}
 use Rattle.bidi_handles.specs.Params.{natural}
 use Rattle.bidi_remote.specs.Machine.Commands.{command_in, id_of_command}
@@ -32,7 +32,7 @@ what : (d : CommandData) → asks.ghosts.subject.well d
 what (Of.SessionStatus p) w = refl
 what (Of.SessionNew p) w = refl
 what (Of.SessionEnd p) w = refl
-what (Of.SessionSubscribe p) w = subscribe-asks p w
+what (Of.SessionSubscribe p) w = subscribe-asks p.value w
 what (Of.SessionUnsubscribe p) w = unsubscribe-asks p w
 what (Of.BrowsingContextActivate p) w = activate-asks p w
 what (Of.BrowsingContextClose p) w = close-asks p w
@@ -41,9 +41,9 @@ what (Of.BrowsingContextGetTree p) w = get_tree-asks p w
 what (Of.BrowsingContextNavigate p) w = navigate-asks p w
 what (Of.BrowsingContextReload p) w = reload-asks p w
 what (Of.BrowsingContextTraverseHistory p) w = traverse-asks p w
-what (Of.ScriptEvaluate p) w = evaluate-asks p w
-what (Of.ScriptCallFunction p) w = call-asks p w
-what (Of.ScriptDisown p) w = disown-asks p w
+what (Of.ScriptEvaluate p) w = evaluate-asks p.value w
+what (Of.ScriptCallFunction p) w = call-asks p.value w
+what (Of.ScriptDisown p) w = disown-asks p.value w
 what (Of.ScriptGetRealms p) w = get_realms-asks p w
 
 -- its id

@@ -14,8 +14,8 @@ use Rattle.bidi_tree.specs.declared.number.JsUint.{JsUint}
 use Rattle.bidi_values.specs.declared.log_entry.Level.{Level}
 use Rattle.bidi_messages.specs.contracts.message.MessageShape.TheImpl.{ghosts}
 use Rattle.bidi_messages.specs.Reading.{IsMessageText}
-use Rattle.bidi_messages.specs.declared.event.EventName.{EventName}
-use Rattle.bidi_messages.specs.declared.event.EventName.TheVariants.{EntryAdded}
+use Rattle.bidi_subjects.specs.declared.event_data.EventName.{EventName}
+use Rattle.bidi_subjects.specs.declared.event_data.EventName.TheVariants.{EntryAdded}
 use Rattle.bidi_remote.specs.declared.connections.Connections.{Connections}
 use Rattle.bidi_remote.specs.declared.sessions.Sessions.{Sessions}
 use Rattle.bidi_remote.specs.declared.tables.Tables.{Tables}

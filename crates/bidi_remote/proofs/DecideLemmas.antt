@@ -7,9 +7,9 @@ use Rattle.std.proofs.lemmas.List.{length-map, map-append}
 use Rattle.std.proofs.lemmas.List.Elements.{filter-append}
 use Rattle.bidi_codes.specs.declared.error_code.ErrorCode.{ErrorCode}
 use Rattle.bidi_codes.specs.declared.error_code.ErrorCode.TheVariants.{InvalidArgument, UnknownError}
-use Rattle.bidi_messages.specs.declared.event.EventName.{EventName}
-use Rattle.bidi_messages.specs.declared.event.EventName.TheVariants.{EntryAdded}
-use Rattle.bidi_messages.specs.declared.result_data.ResultData.{ResultData}
+use Rattle.bidi_subjects.specs.declared.event_data.EventName.{EventName}
+use Rattle.bidi_subjects.specs.declared.event_data.EventName.TheVariants.{EntryAdded}
+use Rattle.bidi_subjects.specs.declared.result_data.ResultData.{ResultData}
 use Rattle.bidi_codes.specs.Checks.{◌>>=◌, need, found}
 use Rattle.bidi_browser.specs.Acts.{Act, Looked}
 use Rattle.bidi_browser.specs.Contexts.{is_alive}

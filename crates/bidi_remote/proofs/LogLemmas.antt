@@ -1,7 +1,7 @@
 -- The table of sessions, where an entry was logged.
 use Rattle.std.proofs.Common.{◌≡◌, ◌∙◌, ℕ, Bool, true, false, ◌&&◌, List, ◌∷◌, map, refl, sym, ap}
 use Rattle.bidi_values.specs.declared.log_entry.Level.{Level}
-use Rattle.bidi_messages.specs.declared.event.EventName.TheVariants.{EntryAdded}
+use Rattle.bidi_subjects.specs.declared.event_data.EventName.TheVariants.{EntryAdded}
 use Rattle.bidi_browser.specs.Acts.{Logged}
 use Rattle.bidi_browser.specs.Contexts.{up_to}
 use Rattle.bidi_browser.specs.Occurrences.{Occurrence, entry_added}

@@ -6,8 +6,8 @@ use Rattle.std.specs.List.{AllByRecursion, list_all}
 use Rattle.std.proofs.lemmas.Grind.{flat_map-append}
 use Rattle.bidi_tree.specs.Node.{Node}
 use Rattle.bidi_codes.specs.declared.error_code.ErrorCode.{ErrorCode}
-use Rattle.bidi_messages.specs.declared.method.Method.{Method}
-use Rattle.bidi_messages.specs.Method.{method_text}
+use Rattle.bidi_subjects.specs.declared.method.Method.{Method}
+use Rattle.bidi_subjects.specs.Method.{method_text}
 use Rattle.bidi_messages.specs.Command.{method_in}
 use Rattle.bidi_messages.specs.Message.{response_text, error_text}
 use Rattle.bidi_messages.specs.Verdict.{Verdict, Accepted, Refused}

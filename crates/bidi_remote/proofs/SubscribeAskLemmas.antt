@@ -20,17 +20,15 @@ use Rattle.bidi_shape.specs.Table.{rows_in}
 use Rattle.bidi_shape.specs.ValueLaws.{others_of}
 use Rattle.bidi_shape.specs.declared.lists.OneOrMore.{OneOrMore}
 use Rattle.bidi_shape.proofs.FitsLemmas.{row_fits, RowFits, others_inside, others_fit}
-use Rattle.bidi_params.specs.contracts.session.capabilities.NewParametersShape.TheImpl as params
 use Rattle.bidi_params.specs.contracts.session.subscribe.SubscribeParametersShape.TheImpl as subscribe
 use Rattle.bidi_params.specs.contracts.session.subscribe.UnsubscribeByEventsShape.TheImpl as by_events
 use Rattle.bidi_params.specs.contracts.session.subscribe.UnsubscribeParametersShape.TheImpl as unsubscribe
 use Rattle.bidi_params.specs.declared.session.subscribe.SubscribeParameters.{SubscribeParameters}
 use Rattle.bidi_params.specs.declared.session.subscribe.UnsubscribeParameters.{UnsubscribeParameters}
 use Rattle.bidi_params.specs.declared.session.subscribe.UnsubscribeParameters.TheVariants.{ById, ByEvents}
-use Rattle.bidi_messages.specs.declared.command.CommandData.TheVariants.{SessionSubscribe, SessionUnsubscribe}
 use Rattle.bidi_handles.specs.Params.{items_in, texts_among, has_texts_at}
 use Rattle.bidi_remote.specs.Machine.Commands.{command_in}
-use Rattle.bidi_remote.specs.Tables.Asked.{texts, asked_of}
+use Rattle.bidi_remote.specs.Tables.Asked.{texts, subscribe_asked, unsubscribe_asked}
 
 -- ---- lists of texts
 
@@ -121,7 +119,7 @@ by_id-fits ms fit has =
 
 -- a `session.subscribe` asks for its events, its contexts and its user contexts
 pub subscribe-asks : (p : SubscribeParameters) → subscribe.ghosts.shape.well p
-    → command_in (codes "session.subscribe") (subscribe.ghosts.shape.tree_of p) ≡ Some (asked_of params.ghosts.shape (SessionSubscribe p))
+    → command_in (codes "session.subscribe") (subscribe.ghosts.shape.tree_of p) ≡ Some (subscribe_asked p)
 subscribe-asks p w =
     let rs = rows_in (term_of subscribe_parameters) in
     let others = others_of p.ext in
@@ -131,7 +129,7 @@ subscribe-asks p w =
 
 -- a `session.unsubscribe` asks by its ids, or else by its events
 pub unsubscribe-asks : (p : UnsubscribeParameters) → unsubscribe.ghosts.shape.well p
-    → command_in (codes "session.unsubscribe") (unsubscribe.ghosts.shape.tree_of p) ≡ Some (asked_of params.ghosts.shape (SessionUnsubscribe p))
+    → command_in (codes "session.unsubscribe") (unsubscribe.ghosts.shape.tree_of p) ≡ Some (unsubscribe_asked p)
 unsubscribe-asks (ById p) w =
     rw (
       get_member-put (codes "subscriptions") (texts_tree p.subscriptions) (others_of p.ext),

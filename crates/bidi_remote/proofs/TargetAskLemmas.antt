@@ -25,7 +25,6 @@ use Rattle.bidi_values.specs.declared.nested.Nested.{Nested}
 use Rattle.bidi_values.specs.declared.kinds.ListKind.{ListKind}
 use Rattle.bidi_values.specs.declared.kinds.PairsKind.{PairsKind}
 use Rattle.bidi_values.specs.declared.local_value.LocalPlain.{LocalPlain}
-use Rattle.bidi_params.specs.contracts.session.capabilities.NewParametersShape.TheImpl as params
 use Rattle.bidi_values.specs.contracts.call_function.CallFunctionParametersShape.TheImpl as call
 use Rattle.bidi_values.specs.contracts.call_function.DisownParametersShape.TheImpl as disown
 use Rattle.bidi_values.specs.Ownership.{ownership_text}
@@ -35,13 +34,11 @@ use Rattle.bidi_values.specs.declared.evaluate.Ownership.{Ownership}
 use Rattle.bidi_values.specs.declared.evaluate.Ownership.TheVariants as ownership
 use Rattle.bidi_values.specs.declared.call_function.CallFunctionParameters.{CallFunctionParameters}
 use Rattle.bidi_values.specs.declared.call_function.DisownParameters.{DisownParameters}
-use Rattle.bidi_messages.specs.declared.command.CommandData.TheVariants.{ScriptCallFunction, ScriptDisown, ScriptEvaluate}
 use Rattle.bidi_handles.specs.Params.{items_in, text_if_at}
 use Rattle.bidi_browser.specs.Actions.{ContextTarget, RealmTarget, target_in, is_text, is_well_at}
-use Rattle.bidi_browser.specs.Asked.{is_owned, target_of}
+use Rattle.bidi_browser.specs.Asked.{is_owned, target_of, evaluate_asked, call_function_asked, disown_asked}
 use Rattle.bidi_handles.specs.ValuesInHand.{local_tree}
-use Rattle.bidi_remote.specs.Machine.Commands.{command_in}
-use Rattle.bidi_remote.specs.Tables.Asked.{asked_of}
+use Rattle.bidi_remote.specs.Machine.Commands.{command_in, OfBrowser}
 use Rattle.bidi_remote.proofs.SubscribeAskLemmas.{text_tree, texts-list, text-fits, others_fit-without, inside_whole}
 
 -- ---- targets
@@ -113,7 +110,7 @@ values-read (Some vs) = ap Some (items-read (map local_tree vs.items))
 
 -- a `script.evaluate` asks for its expression in the realm of its target, and whether its value is to be owned
 pub evaluate-asks : (p : EvaluateParameters) → evaluate.ghosts.shape.well p
-    → command_in (codes "script.evaluate") (evaluate.ghosts.shape.tree_of p) ≡ Some (asked_of params.ghosts.shape (ScriptEvaluate p))
+    → command_in (codes "script.evaluate") (evaluate.ghosts.shape.tree_of p) ≡ Some (OfBrowser (evaluate_asked p))
 evaluate-asks p w =
     let rs = rows_in (term_of evaluate_parameters) in
     let others = others_of p.ext in
@@ -124,7 +121,7 @@ evaluate-asks p w =
 
 -- a `script.callFunction` asks for its function in the realm of its target, its arguments, its `this`, and whether its value is to be owned
 pub call-asks : (p : CallFunctionParameters) → call.ghosts.shape.well p
-    → command_in (codes "script.callFunction") (call.ghosts.shape.tree_of p) ≡ Some (asked_of params.ghosts.shape (ScriptCallFunction p))
+    → command_in (codes "script.callFunction") (call.ghosts.shape.tree_of p) ≡ Some (OfBrowser (call_function_asked p))
 call-asks p w =
     let rs = rows_in (term_of call_function_parameters) in
     let others = others_of p.ext in
@@ -136,7 +133,7 @@ call-asks p w =
 
 -- a `script.disown` asks for its handles in the realm of its target
 pub disown-asks : (p : DisownParameters) → disown.ghosts.shape.well p
-    → command_in (codes "script.disown") (disown.ghosts.shape.tree_of p) ≡ Some (asked_of params.ghosts.shape (ScriptDisown p))
+    → command_in (codes "script.disown") (disown.ghosts.shape.tree_of p) ≡ Some (OfBrowser (disown_asked p))
 disown-asks p w =
     let rs = rows_in (term_of disown_parameters) in
     let others = others_of p.ext in

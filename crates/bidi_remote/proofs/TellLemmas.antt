@@ -5,7 +5,7 @@ use Rattle.std.specs.Prelude.{filter, IfOk}
 use Rattle.std.specs.List.{AllByRecursion, list_any}
 use Rattle.std.proofs.lemmas.Bool.Decides.{nat_tests}
 use Rattle.std.proofs.lemmas.Grind.{flat_map-append}
-use Rattle.bidi_messages.specs.declared.event.EventName.{EventName}
+use Rattle.bidi_subjects.specs.declared.event_data.EventName.{EventName}
 use Rattle.bidi_messages.specs.contracts.message.MessageShape.TheImpl.{ghosts}
 use Rattle.bidi_messages.specs.Reading.{IsMessageText}
 use Rattle.bidi_browser.specs.Contexts.{up_to}

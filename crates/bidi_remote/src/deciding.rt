@@ -68,7 +68,7 @@ fn decide_alone(
 {
     match asked {
         CommandData::SessionStatus(_) => decide_status(alloc, tables, asker),
-        CommandData::SessionNew(params) => decide_new(alloc, tables, asker, params),
+        CommandData::SessionNew(params) => decide_new(alloc, tables, asker, params.as_ref()),
         _ => Err(Refusal::Code(ErrorCode::InvalidSessionId)),
     }
 }
@@ -92,7 +92,7 @@ fn decide_in(
         CommandData::SessionNew(_) => Err(Refusal::Code(ErrorCode::SessionNotCreated)),
         CommandData::SessionEnd(_) => decide_end(alloc, asker, session),
         CommandData::SessionSubscribe(params) => {
-            decide_subscribe(alloc, tables, asker, session, params)
+            decide_subscribe(alloc, tables, asker, session, params.as_ref())
         }
         CommandData::SessionUnsubscribe(params) => {
             decide_unsubscribe(alloc, tables, asker, session, params)
@@ -119,13 +119,13 @@ fn decide_in(
             decide_browsing(alloc, tables, asker, Action::TraverseHistory(params))
         }
         CommandData::ScriptEvaluate(params) => {
-            decide_browsing(alloc, tables, asker, Action::Evaluate(params))
+            decide_browsing(alloc, tables, asker, Action::Evaluate(params.as_ref()))
         }
         CommandData::ScriptCallFunction(params) => {
-            decide_browsing(alloc, tables, asker, Action::CallFunction(params))
+            decide_browsing(alloc, tables, asker, Action::CallFunction(params.as_ref()))
         }
         CommandData::ScriptDisown(params) => {
-            decide_browsing(alloc, tables, asker, Action::Disown(params))
+            decide_browsing(alloc, tables, asker, Action::Disown(params.as_ref()))
         }
         CommandData::ScriptGetRealms(params) => {
             decide_browsing(alloc, tables, asker, Action::GetRealms(params))

@@ -26,7 +26,7 @@ pub(crate) struct LogBuffer {
 impl LogBuffer {
     ghost use Rattle.bidi_browser.specs.Acts.{Act};
     ghost use Rattle.bidi_browser.specs.Stands.{StandsFor};
-    ghost use Rattle.bidi_messages.specs.declared.event.EventName.TheVariants.{EntryAdded};
+    ghost use Rattle.bidi_subjects.specs.declared.event_data.EventName.TheVariants.{EntryAdded};
     ghost use Rattle.bidi_remote.specs.Tables.EventTexts.{written_of, written_in};
     ghost use Rattle.bidi_remote.specs.Tables.MissedRows.{waiting, with_missed, all_left};
     ghost use Rattle.bidi_remote.specs.Tables.SubscriptionRows.{is_new};

@@ -41,7 +41,6 @@ impl From<AllocError> for RemoteFault {
 
 /// The remote end of WebDriver BiDi, over a browser in memory. Each step is answered by the call that takes
 /// it.
-#[derive(Drop)]
 pub struct RemoteEnd {
     alloc: Global,
     tables: Tables,
@@ -49,6 +48,18 @@ pub struct RemoteEnd {
     count: u64,
     /// What the texts are read in.
     scratch: Scratch,
+}
+
+// Not derived, so that it is proved here alone.
+impl Drop for RemoteEnd {
+    fn drop(self) {
+        let RemoteEnd {
+            alloc: _,
+            tables: _,
+            count: _,
+            scratch: _,
+        } = self;
+    }
 }
 
 impl RemoteEnd {

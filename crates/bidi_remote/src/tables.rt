@@ -3,7 +3,7 @@ ghost use Rattle.std.specs.Prelude.{◌≡◌, ℕ, List, [], ◌∷◌, map, So
 ghost use Rattle.bidi_tree.specs.Node.{Node};
 ghost use Rattle.bidi_messages.specs.Command.{method_in};
 ghost use Rattle.bidi_messages.specs.Message.{error_text};
-ghost use Rattle.bidi_messages.specs.Method.{method_text};
+ghost use Rattle.bidi_subjects.specs.Method.{method_text};
 ghost use Rattle.bidi_messages.specs.Verdict.{IsVerdict, Accepted};
 ghost use Rattle.bidi_messages.specs.Verdict as judged;
 ghost use Rattle.bidi_messages.specs.View.{verdict_of, IsWell};

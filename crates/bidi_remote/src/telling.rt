@@ -6,7 +6,7 @@ ghost use Rattle.bidi_browser.specs.Acts.{Act};
 ghost use Rattle.bidi_browser.specs.View.{occurrence_of, result_tree, seen};
 ghost use Rattle.bidi_remote.specs.Machine.History.{Deed};
 ghost use Rattle.bidi_browser.specs.Occurrences as heard;
-ghost use Rattle.bidi_messages.specs.declared.event.EventName.TheVariants.{EntryAdded};
+ghost use Rattle.bidi_subjects.specs.declared.event_data.EventName.TheVariants.{EntryAdded};
 ghost use Rattle.bidi_messages.specs.Reading.{IsMessageText};
 ghost use Rattle.bidi_remote.specs.Machine.Replies.{ReadsAs};
 ghost use Rattle.bidi_remote.specs.Machine.Sent.{Text, to_hearers};

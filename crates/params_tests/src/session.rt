@@ -109,11 +109,11 @@ fn texts_fit_or_not(rt: HostRuntime) -> Result<(), Fail> {
 /// The name of the alternative, and its further members.
 fn alternative(alloc: Global, text: &str) -> Result<String, Fail> {
     match value_of(alloc, text)? {
-        UnsubscribeParameters::ById(by_id) => with_further(alloc, "by id", by_id.ext),
+        UnsubscribeParameters::ById(by_id) => with_further(alloc, "by id", &by_id.ext),
         UnsubscribeParameters::ByEvents(by_events) => with_further(
             alloc,
             "by events",
-            by_events.ext,
+            &by_events.ext,
         ),
     }
 }

@@ -1,5 +1,6 @@
 //! Runs over a reader or a writer that fails.
-use bidi_console::{Device, Run, Side};
+use bidi_arguments::Run;
+use bidi_lines::{Device, Side};
 use bidi_programs::run;
 use std::alloc::{AllocError, Global};
 use std::io;

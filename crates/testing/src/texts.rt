@@ -82,7 +82,7 @@ pub fn owned(alloc: Global, text: &str) -> Result<String, Fail> {
 }
 
 /// A name, and further members.
-pub fn with_further(alloc: Global, name: &str, ext: Ext) -> Result<String, Fail> {
+pub fn with_further(alloc: Global, name: &str, ext: &Ext) -> Result<String, Fail> {
     let ext = written(alloc, Tree::Map(ext.copy_members()?))?;
     Ok(format!(in alloc; "{name} {ext}")?)
 }

@@ -1,10 +1,8 @@
-//! The tests of values, messages, the local end and what the programs share, through their public calls.
+//! The tests of values, messages and the local end, through their public calls.
 //!
 //! A file for each library, or a folder. What is asked stands in tables, which are texts of rows.
 #![tactic(auto)]
 
-#[cfg(test)]
-mod console;
 #[cfg(test)]
 mod faults;
 #[cfg(test)]

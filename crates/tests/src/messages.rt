@@ -175,12 +175,12 @@ fn again<M: Sendable>(alloc: Global, value: M) -> Result<String, Fail>
 }
 
 fn unsubscribe(alloc: Global, text: &str) -> Result<String, Fail> {
-    match data_of(alloc, Method::SessionUnsubscribe, &tree_of(alloc, text)?) {
+    match &data_of(alloc, Method::SessionUnsubscribe, &tree_of(alloc, text)?) {
         Ok(CommandData::SessionUnsubscribe(UnsubscribeParameters::ById(by_id))) => {
-            with_further(alloc, "by id", by_id.ext)
+            with_further(alloc, "by id", &by_id.ext)
         }
         Ok(CommandData::SessionUnsubscribe(UnsubscribeParameters::ByEvents(by_events))) => {
-            with_further(alloc, "by events", by_events.ext)
+            with_further(alloc, "by events", &by_events.ext)
         }
         Ok(_) => Err(Fail::from("another command")),
         Err(fault) => Ok(format!(in alloc; "{fault:?}")?),

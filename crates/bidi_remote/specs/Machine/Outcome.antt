@@ -10,10 +10,10 @@ use Rattle.bidi_handles.specs.Ids.{id_of, id_text}
 use Rattle.bidi_browser.specs.Acts.{Act}
 use Rattle.bidi_browser.specs.Contexts.{top_of}
 use Rattle.bidi_codes.specs.Checks.{◌>>=◌, need, found}
-use Rattle.bidi_messages.specs.declared.event.EventName.{EventName}
-use Rattle.bidi_messages.specs.declared.event.EventName.TheVariants.{ContextCreated, ContextDestroyed, NavigationStarted}
-use Rattle.bidi_messages.specs.declared.event.EventName.TheVariants.{DomContentLoaded, Load, RealmCreated, RealmDestroyed, EntryAdded}
-use Rattle.bidi_messages.specs.EventName.{event_name_text as name_of, events as all_events}
+use Rattle.bidi_subjects.specs.declared.event_data.EventName.{EventName}
+use Rattle.bidi_subjects.specs.declared.event_data.EventName.TheVariants.{ContextCreated, ContextDestroyed, NavigationStarted}
+use Rattle.bidi_subjects.specs.declared.event_data.EventName.TheVariants.{DomContentLoaded, Load, RealmCreated, RealmDestroyed, EntryAdded}
+use Rattle.bidi_subjects.specs.EventName.{event_name_text as name_of, events as all_events}
 use Rattle.bidi_browser.specs.Outcome as browser
 use Rattle.bidi_messages.specs.Verdict.{Verdict, Accepted, Refused}
 use Rattle.bidi_remote.specs.Machine.Capabilities.{Request, matching}

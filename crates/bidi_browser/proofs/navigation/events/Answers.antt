@@ -1,6 +1,6 @@
 use Rattle.std.proofs.Common.{◌∙◌, ◌∷◌, [], map, ap, sym, subst}
-use Rattle.bidi_messages.specs.contracts.event.EventDataSubjectEventName.TheImpl.{ghosts}
-use Rattle.bidi_messages.specs.declared.event.EventName.TheVariants.{NavigationStarted, DomContentLoaded, Load}
+use Rattle.bidi_subjects.specs.contracts.event_data.EventDataSubjectEventName.TheImpl.{ghosts}
+use Rattle.bidi_subjects.specs.declared.event_data.EventName.TheVariants.{NavigationStarted, DomContentLoaded, Load}
 use Rattle.bidi_browser.specs.ContextRows.{row_of, realm_destroyed_in}
 use Rattle.bidi_browser.specs.Contexts.{children_of}
 use Rattle.bidi_browser.specs.Occurs.{led_to}

@@ -1,7 +1,7 @@
 use Rattle.std.proofs.Common.{◌∙◌, ◌++◌, ◌∷◌, [], map, ap}
 use Rattle.std.proofs.lemmas.List.{map-append}
-use Rattle.bidi_messages.specs.contracts.event.EventDataSubjectEventName.TheImpl.{ghosts}
-use Rattle.bidi_messages.specs.declared.event.EventName.TheVariants.{ContextDestroyed}
+use Rattle.bidi_subjects.specs.contracts.event_data.EventDataSubjectEventName.TheImpl.{ghosts}
+use Rattle.bidi_subjects.specs.declared.event_data.EventName.TheVariants.{ContextDestroyed}
 use Rattle.bidi_browser.specs.ContextRows.{row_of, occurrence_in}
 use Rattle.bidi_browser.specs.Contexts.{subtree_of}
 use Rattle.bidi_browser.specs.Info.{info_of}

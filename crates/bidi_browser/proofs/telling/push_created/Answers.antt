@@ -1,4 +1,4 @@
-use Rattle.bidi_messages.specs.contracts.event.EventDataSubjectEventName.TheImpl.{ghosts}
+use Rattle.bidi_subjects.specs.contracts.event_data.EventDataSubjectEventName.TheImpl.{ghosts}
 use Rattle.bidi_browser.specs.View.{occurrence_of}
 use Rattle.bidi_browser.specs.ContextRows.{row_of, created_in}
 use Rattle.bidi_browser.proofs.PushLemmas.{told-more, AllByRecursion-more}

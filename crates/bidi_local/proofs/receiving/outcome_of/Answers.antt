@@ -4,8 +4,8 @@ use Rattle.bidi_shape.specs.Fits.{Fits}
 use Rattle.bidi_shape.specs.Outcome.{known_misfit}
 use Rattle.bidi_shape.specs.ValueLaws.{others_of}
 use Rattle.bidi_tree.specs.Node.{map}
-use Rattle.bidi_messages.specs.Method.{result_of}
-use Rattle.bidi_messages.specs.contracts.result_data.ResultDataSubjectMethod.TheImpl.{ghosts}
+use Rattle.bidi_subjects.specs.Method.{result_of}
+use Rattle.bidi_subjects.specs.contracts.result_data.ResultDataSubjectMethod.TheImpl.{ghosts}
 use Rattle.bidi_local.specs.Received.{Answer}
 use Rattle.bidi_local.specs.Receiving.{IsOutcome, is_good, is_bad}
 use Rattle.bidi_local.proofs.receiving.outcome_of.Goals as goal

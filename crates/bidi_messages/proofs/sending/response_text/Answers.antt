@@ -1,5 +1,5 @@
 use Rattle.std.proofs.Common.{refl}
-use Rattle.bidi_messages.specs.contracts.result_data.ResultDataSubjectMethod.TheImpl.{ghosts}
+use Rattle.bidi_subjects.specs.contracts.result_data.ResultDataSubjectMethod.TheImpl.{ghosts}
 use Rattle.bidi_messages.specs.contracts.message.MessageShape.TheImpl as message
 use Rattle.bidi_messages.proofs.SendingLemmas.{is_text, result_is_map, a_response, response_well, response-tree, no_event-response}
 use Rattle.bidi_messages.proofs.sending.response_text.Goals as goal

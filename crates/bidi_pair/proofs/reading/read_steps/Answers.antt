@@ -2,10 +2,10 @@ use Rattle.std.proofs.Common.{◌++◌, refl, ◌∙◌, arith}
 use Rattle.std.proofs.KnownBytes.{Consumes-trans}
 use Rattle.bidi_ledger.specs.Steps.{IsWell}
 use Rattle.bidi_pair.specs.declared.reading.PairFault.TheVariants.{NoMemory}
-use Rattle.bidi_console.proofs.ListingLemmas.{given_line, given_none}
+use Rattle.bidi_lines.proofs.InputLineLemmas.{given_line, given_none}
 use Rattle.bidi_pair.proofs.PairLemmas.{count_more, input_stop, last_stop, length-say, line_stop, schedule_all, schedule_more, schedule_read, well_more}
-use Rattle.bidi_console.proofs.ResultLemmas.{by_fault}
-use Rattle.bidi_console.proofs.ResultLemmas.{if_some_at}
+use Rattle.bidi_lines.proofs.ResultLemmas.{by_fault}
+use Rattle.bidi_lines.proofs.ResultLemmas.{if_some_at}
 use Rattle.bidi_pair.proofs.reading.read_steps.Goals as goal
 
 pub returns-in-Err-clause-err : goal.returns-in-Err-clause-err

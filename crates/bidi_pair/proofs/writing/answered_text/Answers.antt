@@ -1,4 +1,4 @@
-use Rattle.bidi_messages.specs.contracts.result_data.ResultDataSubjectMethod.TheImpl.{ghosts}
+use Rattle.bidi_subjects.specs.contracts.result_data.ResultDataSubjectMethod.TheImpl.{ghosts}
 use Rattle.bidi_pair.proofs.LedgerLemmas.{writable}
 use Rattle.bidi_pair.proofs.writing.answered_text.Goals as goal
 

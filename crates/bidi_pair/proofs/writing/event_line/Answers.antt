@@ -2,8 +2,8 @@ use Rattle.std.proofs.Common.{◌∙◌, ap}
 use Rattle.std.specs.Prelude.{string_bytes}
 use Rattle.std.proofs.lemmas.Result.{IfOk-weaker}
 use Rattle.bidi_tree.specs.Text.{compact_text}
-use Rattle.bidi_messages.specs.EventName.{event_name_text}
-use Rattle.bidi_messages.specs.contracts.event.EventDataSubjectEventName.TheImpl.{ghosts}
+use Rattle.bidi_subjects.specs.EventName.{event_name_text}
+use Rattle.bidi_subjects.specs.contracts.event_data.EventDataSubjectEventName.TheImpl.{ghosts}
 use Rattle.bidi_pair.proofs.LedgerLemmas.{event_grouped}
 use Rattle.bidi_pair.proofs.writing.event_line.Goals as goal
 

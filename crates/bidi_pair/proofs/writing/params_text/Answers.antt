@@ -1,4 +1,4 @@
-use Rattle.bidi_messages.specs.contracts.event.EventDataSubjectEventName.TheImpl.{ghosts}
+use Rattle.bidi_subjects.specs.contracts.event_data.EventDataSubjectEventName.TheImpl.{ghosts}
 use Rattle.bidi_pair.proofs.LedgerLemmas.{writable}
 use Rattle.bidi_pair.proofs.writing.params_text.Goals as goal
 

@@ -1,7 +1,7 @@
 use Rattle.std.proofs.Common.{◌≡◌, arith, ◌∙◌, sym, ap}
 use Rattle.std.specs.Prelude.{decimal}
 use Rattle.std.proofs.lemmas.Fmt.{parse-decimal}
-use Rattle.bidi_console.proofs.ResultLemmas.{err_not_ok, ok_same, no_truth, if_none_when}
+use Rattle.bidi_lines.proofs.ResultLemmas.{err_not_ok, ok_same, no_truth, if_none_when}
 use Rattle.bidi_play.proofs.lines.read_number.Goals as goal
 
 pub returns-in_default-clause-none : goal.returns-in_default-clause-none

@@ -1,7 +1,7 @@
 use Rattle.std.proofs.Common.{arith}
 use Rattle.std.specs.Prelude.{decimal}
 use Rattle.bidi_play.proofs.DigitLemmas.{no_space}
-use Rattle.bidi_console.proofs.ResultLemmas.{if_none_at}
+use Rattle.bidi_lines.proofs.ResultLemmas.{if_none_at}
 use Rattle.bidi_play.proofs.lines.read_number_and_text.Goals as goal
 
 pub returns-in_default-clause-none : goal.returns-in_default-clause-none

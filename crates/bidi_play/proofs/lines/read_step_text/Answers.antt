@@ -1,4 +1,4 @@
-use Rattle.bidi_console.proofs.ResultLemmas.{no_truth}
+use Rattle.bidi_lines.proofs.ResultLemmas.{no_truth}
 use Rattle.bidi_play.proofs.WordLemmas.{has_space, known_word}
 use Rattle.bidi_play.proofs.lines.read_step_text.Goals as goal
 

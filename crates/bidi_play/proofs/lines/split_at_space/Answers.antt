@@ -1,7 +1,7 @@
 use Rattle.std.proofs.Common.{arith}
 use Rattle.std.proofs.lemmas.Str.Pattern.{split_after, split_parts}
 use Rattle.bidi_play.proofs.DigitLemmas.{no_space_at}
-use Rattle.bidi_console.proofs.ResultLemmas.{some_and, if_some_first}
+use Rattle.bidi_lines.proofs.ResultLemmas.{some_and, if_some_first}
 use Rattle.bidi_play.proofs.lines.split_at_space.Goals as goal
 
 pub returns-clause-first : goal.returns-clause-first

@@ -8,9 +8,9 @@ use Rattle.bidi_remote.specs.Machine.History.{Input}
 use Rattle.bidi_remote.specs.Machine.Sent.{out}
 use Rattle.bidi_remote.specs.Tables.Messages.{AllReadBack}
 use Rattle.bidi_remote.specs.Tables.Stands.{StandsFor}
-use Rattle.bidi_console.specs.Feeds.{ended}
-use Rattle.bidi_console.proofs.ListingLemmas.{given_line, given_none}
-use Rattle.bidi_console.proofs.ResultLemmas.{by_fault, err_not_ok, if_none_at, if_some_at}
+use Rattle.bidi_lines.specs.Feeds.{ended}
+use Rattle.bidi_lines.proofs.InputLineLemmas.{given_line, given_none}
+use Rattle.bidi_lines.proofs.ResultLemmas.{by_fault, err_not_ok, if_none_at, if_some_at}
 use Rattle.bidi_play.specs.Lines.{line_of, written}
 use Rattle.bidi_play.specs.declared.playing.PlayFault.TheVariants.{NoMemory, Write}
 use Rattle.bidi_play.specs.Plays.{remote_fault_of}

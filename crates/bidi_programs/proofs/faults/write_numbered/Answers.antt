@@ -1,8 +1,8 @@
 use Rattle.std.proofs.Common.{ℕ, List, ◌++◌, codes, decimal, subst, ◌∙◌}
 use Rattle.std.specs.Io.KnownBytes.{Appends}
 use Rattle.std.proofs.KnownBytes.{Appends-trans}
-use Rattle.bidi_console.specs.Devices.{AppendsBeginning}
-use Rattle.bidi_console.proofs.DeviceLemmas.{OnErr-anyhow}
+use Rattle.bidi_lines.specs.Devices.{AppendsBeginning}
+use Rattle.bidi_lines.proofs.DeviceLemmas.{OnErr-anyhow}
 use Rattle.bidi_programs.proofs.TellingLemmas.{begins_first, begins_second, on_err, on_ok}
 use Rattle.bidi_programs.proofs.faults.write_numbered.Goals as goal
 

@@ -4,7 +4,7 @@ use Rattle.bidi_pair.specs.PairLines.{ledger_text}
 use Rattle.bidi_pair.specs.declared.reading.PairFault.TheVariants.{NoMemory, Write}
 use Rattle.bidi_pair.specs.Pairs.{remote_fault_of}
 use Rattle.bidi_pair.proofs.PairLemmas.{remote_stop, write_stop}
-use Rattle.bidi_console.proofs.ResultLemmas.{by_fault}
+use Rattle.bidi_lines.proofs.ResultLemmas.{by_fault}
 use Rattle.bidi_programs.proofs.pairing.play_pair.Goals as goal
 
 pub returns-in_err-ledger-clause-err : goal.returns-in_err-ledger-clause-err

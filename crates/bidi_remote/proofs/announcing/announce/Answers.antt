@@ -2,7 +2,7 @@ use Rattle.std.proofs.Common.{◌∙◌, ◌<◌, length, map, set, sym, ap, ari
 use Rattle.std.specs.Prelude.{None}
 use Rattle.std.proofs.lemmas.List.{map-set, length-map}
 use Rattle.std.proofs.Math.ListN.{get_or-map}
-use Rattle.bidi_messages.specs.declared.event.EventName.TheVariants.{EntryAdded}
+use Rattle.bidi_subjects.specs.declared.event_data.EventName.TheVariants.{EntryAdded}
 use Rattle.bidi_remote.specs.Tables.EventTexts.{place_row, written_of}
 use Rattle.bidi_remote.specs.Tables.MissedRows.{left}
 use Rattle.bidi_remote.specs.Tables.SessionView.{scope_of, row_of}

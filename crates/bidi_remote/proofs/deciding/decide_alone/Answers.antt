@@ -1,5 +1,7 @@
-use Rattle.std.proofs.Common.{sym, ap, subst, arith}
+use Rattle.std.proofs.Common.{◌∙◌, sym, ap, subst, arith}
 use Rattle.bidi_params.specs.contracts.session.capabilities.NewParametersShape.TheImpl.{ghosts}
+use Rattle.bidi_remote.specs.Machine.Capabilities.{request_of}
+use Rattle.bidi_remote.specs.Machine.Commands.{New}
 use Rattle.bidi_remote.specs.Machine.Connections.{Alone}
 use Rattle.bidi_remote.specs.Machine.Outcome.{deeds, outcome}
 use Rattle.bidi_remote.specs.Tables.Asked.{asked_of}
@@ -12,7 +14,7 @@ pub returns-in-SessionNew-clause-ok : goal.returns-in-SessionNew-clause-ok
 returns-in-SessionNew-clause-ok c = λ h short a.
     let few = few-sessions h in
     subst (λ asked. Decides c.decide_new.result (deeds h) c.args.asker asked (outcome (deeds h) c.args.asker.conn.value Alone asked))
-    (sym (ap (asked_of ghosts.shape) c.in-SessionNew.is))
+    (sym (ap (asked_of ghosts.shape) c.in-SessionNew.is ∙ ap (λ p. New (request_of (ghosts.shape.tree_of p))) (sym c.as_ref.ensures)))
     (c.decide_new.ensures.ok (deeds h) a (omega (arith, few, short)))
 
 pub returns-in-SessionStatus-clause-of_method : goal.returns-in-SessionStatus-clause-of_method

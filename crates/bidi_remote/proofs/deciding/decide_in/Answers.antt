@@ -1,15 +1,17 @@
-use Rattle.std.proofs.Common.{refl, sym, ap, subst, arith}
+use Rattle.std.proofs.Common.{◌∙◌, refl, sym, ap, subst, arith}
 use Rattle.bidi_params.specs.contracts.session.capabilities.NewParametersShape.TheImpl.{ghosts}
+use Rattle.bidi_browser.specs.Asked.{evaluate_asked, call_function_asked, disown_asked}
+use Rattle.bidi_remote.specs.Machine.Commands.{OfBrowser}
 use Rattle.bidi_remote.specs.Machine.Connections.{SpeaksFor}
 use Rattle.bidi_remote.specs.Machine.Outcome.{deeds, outcome}
-use Rattle.bidi_remote.specs.Tables.Asked.{asked_of}
+use Rattle.bidi_remote.specs.Tables.Asked.{asked_of, subscribe_asked}
 use Rattle.bidi_remote.specs.Tables.Turns.{Decides}
 use Rattle.bidi_remote.proofs.SpeakingLemmas.{speaks-active, few-subscriptions, has-ids}
-use Rattle.bidi_messages.specs.declared.method.Method.TheVariants.{BrowsingContextActivate, BrowsingContextClose}
-use Rattle.bidi_messages.specs.declared.method.Method.TheVariants.{BrowsingContextCreate, BrowsingContextGetTree}
-use Rattle.bidi_messages.specs.declared.method.Method.TheVariants.{BrowsingContextNavigate, BrowsingContextReload}
-use Rattle.bidi_messages.specs.declared.method.Method.TheVariants.{BrowsingContextTraverseHistory, ScriptEvaluate, ScriptCallFunction}
-use Rattle.bidi_messages.specs.declared.method.Method.TheVariants.{ScriptDisown, ScriptGetRealms}
+use Rattle.bidi_subjects.specs.declared.method.Method.TheVariants.{BrowsingContextActivate, BrowsingContextClose}
+use Rattle.bidi_subjects.specs.declared.method.Method.TheVariants.{BrowsingContextCreate, BrowsingContextGetTree}
+use Rattle.bidi_subjects.specs.declared.method.Method.TheVariants.{BrowsingContextNavigate, BrowsingContextReload}
+use Rattle.bidi_subjects.specs.declared.method.Method.TheVariants.{BrowsingContextTraverseHistory, ScriptEvaluate, ScriptCallFunction}
+use Rattle.bidi_subjects.specs.declared.method.Method.TheVariants.{ScriptDisown, ScriptGetRealms}
 use Rattle.bidi_remote.proofs.ReplyLemmas.{asked-of}
 use Rattle.bidi_remote.proofs.deciding.decide_in.Goals as goal
 
@@ -19,7 +21,7 @@ returns-in-SessionSubscribe-clause-ok c = λ h short a speaks.
     let s = c.args.session in
     let few = few-subscriptions h s in
     subst (λ asked. Decides c.decide_subscribe.result (deeds h) c.args.asker asked (outcome (deeds h) conn (SpeaksFor s) asked))
-    (sym (ap (asked_of ghosts.shape) c.in-SessionSubscribe.is))
+    (sym (ap (asked_of ghosts.shape) c.in-SessionSubscribe.is ∙ ap subscribe_asked (sym c.as_ref.ensures)))
     (c.decide_subscribe.ensures.ok (deeds h) a (speaks-active h conn s speaks) (omega (arith, few, short)))
 
 pub returns-in-SessionUnsubscribe-clause-ok : goal.returns-in-SessionUnsubscribe-clause-ok
@@ -91,7 +93,7 @@ returns-in-ScriptEvaluate-clause-ok c = λ h short a speaks.
     let conn = c.args.asker.conn.value in
     let s = c.args.session in
     subst (λ asked. Decides c.decide_browsing-in-ScriptEvaluate.result (deeds h) c.args.asker asked (outcome (deeds h) conn (SpeaksFor s) asked))
-    (sym (ap (asked_of ghosts.shape) c.in-ScriptEvaluate.is))
+    (sym (ap (asked_of ghosts.shape) c.in-ScriptEvaluate.is ∙ ap (λ p. OfBrowser (evaluate_asked p)) (sym c.as_ref-in-ScriptEvaluate.ensures)))
     (c.decide_browsing-in-ScriptEvaluate.ensures.ok (deeds h) a (has-ids h short) refl)
 
 pub returns-in-ScriptCallFunction-clause-ok : goal.returns-in-ScriptCallFunction-clause-ok
@@ -99,7 +101,7 @@ returns-in-ScriptCallFunction-clause-ok c = λ h short a speaks.
     let conn = c.args.asker.conn.value in
     let s = c.args.session in
     subst (λ asked. Decides c.decide_browsing-in-ScriptCallFunction.result (deeds h) c.args.asker asked (outcome (deeds h) conn (SpeaksFor s) asked))
-    (sym (ap (asked_of ghosts.shape) c.in-ScriptCallFunction.is))
+    (sym (ap (asked_of ghosts.shape) c.in-ScriptCallFunction.is ∙ ap (λ p. OfBrowser (call_function_asked p)) (sym c.as_ref-in-ScriptCallFunction.ensures)))
     (c.decide_browsing-in-ScriptCallFunction.ensures.ok (deeds h) a (has-ids h short) refl)
 
 pub returns-in-ScriptDisown-clause-ok : goal.returns-in-ScriptDisown-clause-ok
@@ -107,7 +109,7 @@ returns-in-ScriptDisown-clause-ok c = λ h short a speaks.
     let conn = c.args.asker.conn.value in
     let s = c.args.session in
     subst (λ asked. Decides c.decide_browsing-in-ScriptDisown.result (deeds h) c.args.asker asked (outcome (deeds h) conn (SpeaksFor s) asked))
-    (sym (ap (asked_of ghosts.shape) c.in-ScriptDisown.is))
+    (sym (ap (asked_of ghosts.shape) c.in-ScriptDisown.is ∙ ap (λ p. OfBrowser (disown_asked p)) (sym c.as_ref-in-ScriptDisown.ensures)))
     (c.decide_browsing-in-ScriptDisown.ensures.ok (deeds h) a (has-ids h short) refl)
 
 pub returns-in-ScriptGetRealms-clause-ok : goal.returns-in-ScriptGetRealms-clause-ok

@@ -1,7 +1,7 @@
 use Rattle.std.proofs.Common.{◌∙◌, ◌∷◌, [], ◌++◌, ◌+◌, append_assoc, append-nil, map, drop, sym, ap, subst, arith}
 use Rattle.std.specs.List.{AllByRecursion}
 use Rattle.std.proofs.lemmas.List.{drop_all, map-append}
-use Rattle.bidi_messages.specs.contracts.event.EventDataSubjectEventName.TheImpl.{ghosts}
+use Rattle.bidi_subjects.specs.contracts.event_data.EventDataSubjectEventName.TheImpl.{ghosts}
 use Rattle.bidi_messages.specs.contracts.message.MessageShape.TheImpl as message
 use Rattle.bidi_messages.specs.Reading.{IsMessageText}
 use Rattle.bidi_browser.specs.View.{seen}

@@ -1,6 +1,6 @@
 use Rattle.std.proofs.Common.{◌≡◌, ◌++◌, map, drop}
 use Rattle.std.specs.List.{AllByRecursion}
-use Rattle.bidi_messages.specs.contracts.event.EventDataSubjectEventName.TheImpl.{ghosts}
+use Rattle.bidi_subjects.specs.contracts.event_data.EventDataSubjectEventName.TheImpl.{ghosts}
 use Rattle.bidi_browser.specs.View.{seen}
 use Rattle.bidi_remote.specs.Tables.EventTexts.{written, written_in, AreMessages}
 use Rattle.bidi_remote.proofs.event_texts.event_texts.Given as goal

@@ -1,6 +1,6 @@
 use Rattle.std.proofs.Common.{◌∙◌, ◌++◌, map, sym, ap, ap₂, subst}
 use Rattle.bidi_messages.specs.contracts.message.MessageShape.TheImpl.{ghosts}
-use Rattle.bidi_messages.specs.declared.event.EventName.TheVariants.{EntryAdded}
+use Rattle.bidi_subjects.specs.declared.event_data.EventName.TheVariants.{EntryAdded}
 use Rattle.bidi_messages.specs.Reading.{IsMessageText}
 use Rattle.bidi_remote.specs.Machine.Sent.{occurrence_text}
 use Rattle.bidi_remote.specs.Tables.ConnectionRows.{rows, rows_in}

@@ -1,5 +1,5 @@
 use Rattle.std.proofs.Common.{◌≡◌, IfOk, subst}
-use Rattle.bidi_messages.specs.contracts.event.EventDataSubjectEventName.TheImpl.{ghosts}
+use Rattle.bidi_subjects.specs.contracts.event_data.EventDataSubjectEventName.TheImpl.{ghosts}
 use Rattle.bidi_browser.specs.ContextRows.{row_of, realm_began_in}
 use Rattle.bidi_browser.specs.View.{occurrence_of}
 use Rattle.bidi_browser.proofs.contexts.Context.realm_created.Goals as goal

@@ -3,7 +3,7 @@ use Rattle.std.specs.List.{AllByRecursion}
 use Rattle.bidi_local.proofs.PendingLemmas.{insert_entry-next, were_sent-next}
 use Rattle.std.specs.Prelude.{length, string_bytes}
 use Rattle.bidi_messages.specs.Verdict.{IsVerdict, Accepted}
-use Rattle.bidi_messages.specs.contracts.command.CommandDataSubjectMethod.TheImpl as asks
+use Rattle.bidi_subjects.specs.contracts.command_data.CommandDataSubjectMethod.TheImpl as asks
 use Rattle.bidi_local.specs.Pending.{command_tree}
 use Rattle.bidi_local.proofs.SendingLemmas.{text_accepted}
 use Rattle.bidi_local.proofs.local_end.LocalEnd.send.Goals as goal

@@ -3,7 +3,7 @@ use Rattle.std.specs.Prelude.{filter}
 use Rattle.std.proofs.lemmas.Fn.{filter_same}
 use Rattle.std.proofs.lemmas.List.{map-append}
 use Rattle.bidi_messages.specs.contracts.message.MessageShape.TheImpl.{ghosts}
-use Rattle.bidi_messages.specs.declared.event.EventName.TheVariants.{EntryAdded}
+use Rattle.bidi_subjects.specs.declared.event_data.EventName.TheVariants.{EntryAdded}
 use Rattle.bidi_messages.specs.Reading.{IsMessageText}
 use Rattle.bidi_remote.specs.Machine.History.{acts}
 use Rattle.bidi_remote.specs.Tables.EventTexts.{written_of, written_in, AreMessages}

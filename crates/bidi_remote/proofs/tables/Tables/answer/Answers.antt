@@ -5,7 +5,7 @@ use Rattle.bidi_remote.specs.Tables.Asked.{asked_of}
 use Rattle.bidi_remote.specs.Tables.ConnectionRows.{standing_in_hand}
 use Rattle.bidi_remote.specs.Tables.Turns.{Decides}
 use Rattle.bidi_remote.proofs.TakeLemmas.{turn_takes, code_takes}
-use Rattle.bidi_messages.specs.contracts.command.CommandDataSubjectMethod.TheImpl as asked
+use Rattle.bidi_subjects.specs.contracts.command_data.CommandDataSubjectMethod.TheImpl as asked
 use Rattle.bidi_remote.proofs.ReplyLemmas.{turn_answered, code_answered}
 use Rattle.bidi_remote.proofs.tables.Tables.answer.Goals as goal
 

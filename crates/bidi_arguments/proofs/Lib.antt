@@ -1,0 +1,4 @@
+mod CommandLineFacts
+mod CommandLineLemmas
+mod PlayLines
+mod NumberLemmas

@@ -1,0 +1,58 @@
+-- Why an answer of a line reader holds.
+use Rattle.std.proofs.Common.{◌≡◌, ◌≢◌, ℕ, ◌+◌, ◌<◌, ◌≤◌, Bool, true, false, List, [], ◌++◌, length, take}
+use Rattle.std.proofs.Common.{take_all, length-append, append-nil, sym, ◌∙◌, ap, arith, inl, inr, subst, Ok, Err, Some, None}
+use Rattle.std.specs.Prelude.{Option, Result, IsErr, IsErrAnd}
+use Rattle.std.specs.Global.{Vec}
+use Rattle.std.specs.Io.KnownBytes.{Consumes}
+use Rattle.bidi_lines.specs.Devices.{ReadsOn}
+use Rattle.bidi_lines.specs.Feeds.{has_feed, ended}
+use Rattle.bidi_lines.specs.declared.line_reader.InputFault.{InputFault}
+use Rattle.bidi_lines.specs.declared.line_reader.InputFault.TheVariants.{Read, BadLine, NoMemory}
+use Rattle.bidi_lines.specs.InputLines.{IsLine, BeginsBadly, Says, given}
+use Rattle.bidi_lines.proofs.FeedLemmas.{no_feed_front}
+use Rattle.bidi_lines.proofs.ResultLemmas.{no_truth}
+
+-- a first line feed past the limit comes too late
+pub feed_too_late : (at_end : Bool) (bs : List ℕ) (i : ℕ) → has_feed (take i bs) ≡ false → 2097152 < i → i + 1 ≤ length bs → BeginsBadly at_end bs
+feed_too_late at_end bs i none late within =
+    record { no_feed = no_feed_front bs 2097153 i (omega arith) none; enough = inl (omega arith) }
+
+no_feed_whole : (bs : List ℕ) → has_feed bs ≡ false → has_feed (take 2097153 bs) ≡ false
+no_feed_whole bs none =
+    no_feed_front bs 2097153 (2097153 + length bs) (omega arith) (ap has_feed (take_all (2097153 + length bs) bs (omega arith)) ∙ none)
+
+pub too_long : (at_end : Bool) (bs : List ℕ) → has_feed bs ≡ false → 2097152 < length bs → BeginsBadly at_end bs
+too_long at_end bs none long = record { no_feed = no_feed_whole bs none; enough = inl long }
+
+pub no_feed_at_end : (at_end : Bool) (bs : List ℕ) → has_feed bs ≡ false → at_end ≡ true → 0 < length bs → BeginsBadly at_end bs
+no_feed_at_end at_end bs none ended some =
+    record { no_feed = no_feed_whole bs none; enough = inr (ended, λ e. let n = ap length e in absurd (omega (arith, n))) }
+
+-- a list that is no longer than its beginning is that beginning
+pub no_more : (old new more : List ℕ) → new ≡ old ++ more → length new ≡ length old + 0 → new ≡ old
+no_more old new [] e same = e ∙ append-nil old
+no_more old new more e same = let l = ap length e in absurd (omega (arith, l, length-append old more))
+
+-- a fault of a read says that what is held may be the beginning of a line
+pub says_fault : (r : Result (Option (Vec ℕ)) InputFault) (fault : InputFault) (at_end : Bool) (held : List ℕ) → IsErr r × IsErrAnd r (λ x. x ≡ fault)
+    → fault ≢ BadLine → has_feed held ≡ false → length held ≤ 2097152 → Says r at_end held
+says_fault (Ok x) fault at_end held e good none short = absurd (no_truth e.0)
+says_fault (Err Read) fault at_end held e good none short = record { one_line = none; short = short }
+says_fault (Err BadLine) fault at_end held e good none short = absurd (good (sym e.1))
+says_fault (Err NoMemory) fault at_end held e good none short = tt
+
+-- the line that an answer gives
+pub given_line : (a b : Option (List ℕ)) (rest rest' : List ℕ) (at_end : Bool) (found : Option (Vec ℕ)) (line : Vec ℕ) → found ≡ Some line
+    → (let r : Result (Option (Vec ℕ)) InputFault = Ok found in ReadsOn a b rest (given r ++ rest') × Says r at_end rest')
+    → (bytes : List ℕ) × (ended line.items ++ rest' ≡ rest ++ bytes) × Consumes a b bytes × IsLine line.items
+given_line a b rest rest' at_end None line e (read, says) = absurd cc
+given_line a b rest rest' at_end (Some v) line e (read, says) =
+    let same : v ≡ line = cc in
+    subst (λ (w : Vec ℕ). (bytes : List ℕ) × (ended w.items ++ rest' ≡ rest ++ bytes) × Consumes a b bytes × IsLine w.items) same (read.0, read.1, read.2, says)
+
+-- nothing is left at the end of the input
+pub given_none : (a b : Option (List ℕ)) (rest rest' : List ℕ) (at_end : Bool) (found : Option (Vec ℕ)) → found ≡ None
+    → (let r : Result (Option (Vec ℕ)) InputFault = Ok found in ReadsOn a b rest (given r ++ rest') × Says r at_end rest')
+    → (bytes : List ℕ) × (rest' ≡ rest ++ bytes) × Consumes a b bytes × (rest' ≡ [])
+given_none a b rest rest' at_end None e (read, says) = (read.0, read.1, read.2, says.1)
+given_none a b rest rest' at_end (Some v) e (read, says) = absurd cc

@@ -1,0 +1,4 @@
+pub mod ResultLemmas
+pub mod FeedLemmas
+pub mod DeviceLemmas
+pub mod InputLineLemmas

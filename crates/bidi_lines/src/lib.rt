@@ -1,0 +1,17 @@
+//! What reads and writes an input of lines: devices, and the lines one by one.
+//!
+//! A program reads a [`Source`] and writes a [`Sink`], whose bytes contracts can name; a [`Device`] is either of
+//! them over any reader or writer. A [`LineReader`] gives the lines of a source one by one. [`Side`] says whose
+//! texts they are.
+#![tactic(auto)]
+
+mod device;
+mod feeds;
+mod line_reader;
+mod side;
+mod tally;
+
+pub use device::{Device, DeviceFault, Sink, Source, write_all};
+pub use feeds::LONGEST_LINE;
+pub use line_reader::{InputFault, LineReader};
+pub use side::Side;

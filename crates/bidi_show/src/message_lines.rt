@@ -1,0 +1,293 @@
+//! The line that is shown for a text of a local or of a remote end.
+ghost use Rattle.std.specs.Prelude.{◌≡◌, ℕ, List, ◌∷◌, ◌++◌, Some, None, IfOk, MatchOption, codes, decimal, option_map, string_bytes};
+ghost use Rattle.bidi_tree.specs.Node.{IsWritable};
+ghost use Rattle.bidi_tree.specs.Json.{parsed};
+ghost use Rattle.bidi_tree.specs.Text.{tree_of_text, compact_text};
+ghost use Rattle.bidi_codes.specs.ErrorCode.{error_code_text};
+ghost use Rattle.bidi_subjects.specs.Method.{method_text};
+ghost use Rattle.bidi_subjects.specs.CommandData.{method_of};
+ghost use Rattle.bidi_subjects.specs.EventName.{event_name_text};
+ghost use Rattle.bidi_subjects.specs.EventData.{event_of};
+ghost use Rattle.bidi_messages.specs.View.{verdict_of, IsWell};
+ghost use Rattle.bidi_show.specs.MessageLines.{HasVerdict, IsMessageLine, Refused, Refuses, Shows, ShowsMessage, id_text, refused, shown_of, verdict_shown};
+ghost use Rattle.bidi_lines.specs.declared.side.Side.TheVariants.{Remote};
+
+use bidi_lines::Side;
+use bidi_messages::{
+    Command, ErrorCode, ErrorResponse, Event, Message, MessageFault, Method, Named, Response,
+    Sendable, Verdict, judge_with, message_of, response_id, text_of,
+};
+use bidi_shape::Shape;
+use bidi_tree::{JsUint, ReadFault, draft_parsed, parse, write_draft};
+use json::{Scratch, Value};
+use std::alloc::{AllocError, Global};
+
+/// What is shown for a line, without a line feed. `show` writes both, `check` what is refused.
+#[derive(Drop)]
+pub enum Shown {
+    /// The line is a message of its end: the kind, the id or the method, and the message as compact JSON.
+    Taken(String),
+    /// The line is no message of its end: why not, or the id and code of the error that answers a command.
+    Refused(String),
+}
+
+/// What is shown for a line. A line that is not UTF-8 counts as a text that is not JSON.
+///
+/// It is read in a scratch that the caller keeps from line to line.
+///
+/// # Errors
+/// No memory: an allocation failed.
+pub fn show_line(
+    alloc: Global,
+    side: Side,
+    line: &[u8],
+    scratch: &mut Scratch,
+) -> Result<Shown, AllocError>
+    ensures { IfOk result (λ shown. Shows side line.now (shown_of shown)) }
+{
+    match side {
+        Side::Local => {
+            let verdict = verdict(alloc, line, scratch)?;
+            show_verdict(alloc, verdict)
+        }
+        Side::Remote => show_message(alloc, line, scratch),
+    }
+}
+
+/// Why a line is no message of its end, as [`show_line`] shows it; `None` for a line that is one.
+///
+/// The line is read and judged, and a message that it holds is not written.
+///
+/// # Errors
+/// No memory: an allocation failed.
+pub fn refusal(
+    alloc: Global,
+    side: Side,
+    line: &[u8],
+    scratch: &mut Scratch,
+) -> Result<Option<String>, AllocError>
+    ensures { IfOk result (λ text. Refuses side line.now (option_map string_bytes text)) }
+{
+    match side {
+        Side::Local => {
+            let verdict = verdict(alloc, line, scratch)?;
+            verdict_refusal(alloc, verdict)
+        }
+        Side::Remote => message_refusal(alloc, line, scratch),
+    }
+}
+
+// ---- texts of a local end
+
+// The verdict on a line.
+fn verdict(alloc: Global, line: &[u8], scratch: &mut Scratch) -> Result<Verdict, AllocError>
+    ensures verdict { IfOk result (λ v. HasVerdict line.now (verdict_of ⟦<Command as Shape>⟧.shape v)) }
+    ensures well { IfOk result (IsWell ⟦<Command as Shape>⟧.shape) }
+{
+    match std::str::from_utf8(line) {
+        Ok(text) => judge_with(alloc, text, scratch),
+        Err(_) => Ok(Verdict::Refused {
+            id: None,
+            code: ErrorCode::InvalidArgument,
+        }),
+    }
+}
+
+// What is shown for a verdict.
+fn show_verdict(alloc: Global, verdict: Verdict) -> Result<Shown, AllocError>
+    requires { IsWell ⟦<Command as Shape>⟧.shape verdict }
+    ensures { IfOk result (λ shown. shown_of shown ≡ verdict_shown (verdict_of ⟦<Command as Shape>⟧.shape verdict)) }
+{
+    match verdict {
+        Verdict::Accepted(command) => Ok(Shown::Taken(accepted_line(alloc, command)?)),
+        Verdict::Refused { id, code } => Ok(Shown::Refused(refused_line(alloc, id, code)?)),
+    }
+}
+
+// What is refused of a verdict.
+fn verdict_refusal(alloc: Global, verdict: Verdict) -> Result<Option<String>, AllocError>
+    ensures { IfOk result (λ text. option_map string_bytes text ≡ refused (verdict_shown (verdict_of ⟦<Command as Shape>⟧.shape verdict))) }
+{
+    match verdict {
+        Verdict::Accepted(_) => Ok(None),
+        Verdict::Refused { id, code } => Ok(Some(refused_line(alloc, id, code)?)),
+    }
+}
+
+// `accepted ID METHOD TEXT`
+fn accepted_line(alloc: Global, command: Command) -> Result<String, AllocError>
+    requires { ⟦<Command as Shape>⟧.shape.well command }
+    ensures { IfOk result (λ line. string_bytes line ≡ codes "accepted " ++ decimal command.id.value
+        ++ 32 ∷ method_text (method_of command.«data») ++ 32 ∷ compact_text (⟦<Command as Shape>⟧.shape.tree_of command)) }
+{
+    let id = command.id;
+    let method = command.data.method();
+    let text = text_for(alloc, command)?;
+    let head = accepted_head(alloc, id, method)?;
+    format!(in alloc; "{head} {text}")
+}
+
+// `accepted ID METHOD`
+fn accepted_head(alloc: Global, id: JsUint, method: Method) -> Result<String, AllocError>
+    ensures { IfOk result (λ head. string_bytes head ≡ codes "accepted " ++ decimal id.value ++ 32 ∷ method_text method) }
+{
+    let name = method.name();
+    format!(in alloc; "accepted {} {name}", id.value)
+}
+
+// `refused ID CODE`
+fn refused_line(alloc: Global, id: Option<JsUint>, code: ErrorCode) -> Result<String, AllocError>
+    ensures { IfOk result (λ line. string_bytes line ≡ codes "refused " ++ id_text (option_map (λ n. n.value) id) ++ 32 ∷ error_code_text code) }
+{
+    let code = code.name();
+    match id {
+        None => format!(in alloc; "refused null {code}"),
+        Some(id) => format!(in alloc; "refused {} {code}", id.value),
+    }
+}
+
+// ---- texts of a remote end
+
+// What is shown for a line of a remote end.
+fn show_message(alloc: Global, line: &[u8], scratch: &mut Scratch) -> Result<Shown, AllocError>
+    ensures { IfOk result (λ shown. ShowsMessage line.now (shown_of shown)) }
+{
+    match value_in(alloc, line, scratch)? {
+        Some(value) => show_value(alloc, &value),
+        None => Ok(Shown::Refused(String::from_str(alloc, "not json")?)),
+    }
+}
+
+// What is refused of a line of a remote end.
+fn message_refusal(
+    alloc: Global,
+    line: &[u8],
+    scratch: &mut Scratch,
+) -> Result<Option<String>, AllocError>
+    ensures { IfOk result (λ text. Refuses Remote line.now (option_map string_bytes text)) }
+{
+    match value_in(alloc, line, scratch)? {
+        Some(value) => value_refusal(alloc, &value),
+        None => Ok(Some(String::from_str(alloc, "not json")?)),
+    }
+}
+
+// What a line is read as, if it is JSON.
+fn value_in<'a>(
+    alloc: Global,
+    line: &'a [u8],
+    scratch: &'a mut Scratch,
+) -> Result<Option<Value<'a>>, AllocError>
+    ensures { IfOk result (λ found. MatchOption found (ShowsMessage line.now (Refused (codes "not json")))
+        (λ v. tree_of_text None line.now ≡ Some (parsed v))) }
+{
+    let Ok(text) = std::str::from_utf8(line) else {
+        return Ok(None);
+    };
+    match parse(alloc, text, None, scratch) {
+        Ok(value) => Ok(Some(value)),
+        Err(ReadFault::NotJson) => Ok(None),
+        Err(ReadFault::TooLong) => unreachable!(),
+        Err(ReadFault::NoMemory) => Err(AllocError),
+    }
+}
+
+// What is shown for a value. Of a response that is known as such where it stands no message is made.
+fn show_value(alloc: Global, value: &Value<'_>) -> Result<Shown, AllocError>
+    ensures { IfOk result (λ shown. (line : List ℕ) → tree_of_text None line ≡ Some (parsed value.now) → ShowsMessage line (shown_of shown)) }
+{
+    if let Some(id) = response_id(value) {
+        return Ok(Shown::Taken(known_response_line(alloc, id, value)?));
+    }
+    match message_of(alloc, value) {
+        Ok(message) => Ok(Shown::Taken(message_line(alloc, message)?)),
+        Err(MessageFault::NoFit) => Ok(Shown::Refused(String::from_str(alloc, "no fit")?)),
+        Err(MessageFault::NotJson) => unreachable!(),
+        Err(MessageFault::NoMemory) => Err(AllocError),
+    }
+}
+
+// What is refused of a value, which is looked at as it is to be shown.
+fn value_refusal(alloc: Global, value: &Value<'_>) -> Result<Option<String>, AllocError>
+    ensures { IfOk result (λ text. (line : List ℕ) → tree_of_text None line ≡ Some (parsed value.now) → Refuses Remote line (option_map string_bytes text)) }
+{
+    if response_id(value).is_some() {
+        return Ok(None);
+    }
+    match message_of(alloc, value).err() {
+        None => Ok(None),
+        Some(MessageFault::NoFit) => Ok(Some(String::from_str(alloc, "no fit")?)),
+        Some(MessageFault::NotJson) => unreachable!(),
+        Some(MessageFault::NoMemory) => Err(AllocError),
+    }
+}
+
+// `response ID TEXT` of a value
+fn known_response_line(alloc: Global, id: JsUint, value: &Value<'_>) -> Result<String, AllocError>
+    requires { IsWritable (parsed value.now) }
+    ensures { IfOk result (λ line. string_bytes line ≡ codes "response " ++ decimal id.value
+        ++ 32 ∷ compact_text (parsed value.now)) }
+{
+    let draft = draft_parsed(alloc, value)?;
+    let text = write_draft(alloc, &draft)?;
+    format!(in alloc; "response {} {text}", id.value)
+}
+
+// What is shown for a message.
+fn message_line(alloc: Global, message: Message) -> Result<String, AllocError>
+    requires { ⟦<Message as Shape>⟧.shape.well message }
+    ensures { IfOk result (λ line. IsMessageLine (⟦<Message as Shape>⟧.shape.tree_of message) (string_bytes line)) }
+{
+    match message {
+        Message::Response(response) => response_line(alloc, response),
+        Message::Error(error) => error_line(alloc, error),
+        Message::Event(event) => event_line(alloc, event),
+    }
+}
+
+// `response ID TEXT`
+fn response_line(alloc: Global, response: Response) -> Result<String, AllocError>
+    requires { ⟦<Response as Shape>⟧.shape.well response }
+    ensures { IfOk result (λ line. string_bytes line ≡ codes "response " ++ decimal response.id.value
+        ++ 32 ∷ compact_text (⟦<Response as Shape>⟧.shape.tree_of response)) }
+{
+    let id = response.id;
+    let text = text_for(alloc, response)?;
+    format!(in alloc; "response {} {text}", id.value)
+}
+
+// `error ID TEXT`
+fn error_line(alloc: Global, error: ErrorResponse) -> Result<String, AllocError>
+    requires { ⟦<ErrorResponse as Shape>⟧.shape.well error }
+    ensures { IfOk result (λ line. string_bytes line ≡ codes "error " ++ id_text (option_map (λ n. n.value) error.id)
+        ++ 32 ∷ compact_text (⟦<ErrorResponse as Shape>⟧.shape.tree_of error)) }
+{
+    let id = error.id;
+    let text = text_for(alloc, error)?;
+    match id {
+        None => format!(in alloc; "error null {text}"),
+        Some(id) => format!(in alloc; "error {} {text}", id.value),
+    }
+}
+
+// `event METHOD TEXT`
+fn event_line(alloc: Global, event: Event) -> Result<String, AllocError>
+    requires { ⟦<Event as Shape>⟧.shape.well event }
+    ensures { IfOk result (λ line. string_bytes line ≡ codes "event " ++ event_name_text (event_of event.«data»)
+        ++ 32 ∷ compact_text (⟦<Event as Shape>⟧.shape.tree_of event)) }
+{
+    let event_name = event.data.event();
+    let text = text_for(alloc, event)?;
+    let name = event_name.name();
+    format!(in alloc; "event {name} {text}")
+}
+
+// ---- of both
+
+// The text of a command or a message, which is used up.
+fn text_for<M: Sendable>(alloc: Global, message: M) -> Result<String, AllocError>
+    requires { M.shape.well message }
+    ensures { IfOk result (λ s. string_bytes s ≡ compact_text (M.shape.tree_of message)) }
+{
+    text_of(alloc, &message)
+}

@@ -1,0 +1,185 @@
+//! Listings of an input: a line for each text, or one for each text that is refused.
+ghost use Rattle.std.specs.Prelude.{◌≡◌, ◌+◌, ◌==◌, ◌||◌, not, [], ◌∷◌, ◌++◌, length, nat_lt, decimal};
+ghost use Rattle.std.specs.Prelude.{option_map, string_bytes, IfOk, IfErr, OnOk, IsTrue, MatchResult};
+ghost use Rattle.std.specs.Io.KnownBytes.{IsAtEnd};
+ghost use Rattle.bidi_lines.specs.Devices.{Moves};
+ghost use Rattle.bidi_lines.specs.Feeds.{ended};
+ghost use Rattle.bidi_show.specs.MessageLines.{shown_of, text_of};
+ghost use Rattle.bidi_show.specs.Listings.{Lists, ListsAll, StopsAt, failed_reads, failed_writes, numbered, show_fault_of};
+ghost use Rattle.bidi_show.specs.declared.showing.ShowFault.TheVariants.{Write, NoMemory};
+
+use super::message_lines::{Shown, refusal, show_line};
+use bidi_lines::{DeviceFault, InputFault, LineReader, Side, Sink, Source, write_all};
+use json::Scratch;
+use std::alloc::{AllocError, Global};
+use thiserror::Error;
+
+/// How many lines an input may have.
+const MOST_LINES: u64 = 1_000_000_000;
+
+/// Which lines are listed.
+#[derive(Clone, Copy, Debug, PartialEq, Eq)]
+pub enum Listing {
+    /// All lines.
+    All,
+    /// Only the refused lines, each with its number.
+    RefusedAlone,
+}
+
+/// Why a listing stopped before the end of its input. What was written for the lines before stays written.
+#[derive(Clone, Copy, Debug, PartialEq, Eq, Error)]
+pub enum ShowFault {
+    /// A read of the source failed. The beginning of a line may be lost with it, so list the input anew.
+    #[error("input cannot be read")]
+    Read,
+    /// A write of the sink failed. The line of the listing may be written in part.
+    #[error("output cannot be written")]
+    Write,
+    /// This line, counted from 1, has more than 2,097,152 bytes or no line feed. Mend it, and list again.
+    #[error("line {0} is no text line")]
+    BadLine(u64),
+    /// An allocation failed. Nothing is written for the line at hand.
+    #[error("out of memory")]
+    NoMemory,
+    /// The input goes on after 1,000,000,000 lines, which are listed. List the rest as an input of its own.
+    #[error("too many steps")]
+    TooManyLines,
+}
+
+impl From<AllocError> for ShowFault {
+    ghost from_gives = { λ _ fault. fault ≡ NoMemory };
+
+    fn from(_error: AllocError) -> ShowFault {
+        ShowFault::NoMemory
+    }
+}
+
+impl From<DeviceFault> for ShowFault {
+    ghost from_gives = { λ _ fault. fault ≡ Write };
+
+    fn from(_error: DeviceFault) -> ShowFault {
+        ShowFault::Write
+    }
+}
+
+/// Writes a line for each line of the source, or for each that is refused. Returns whether it wrote any.
+///
+/// What is written for a line is written before the next line is read.
+///
+/// # Errors
+/// The first of these in the order of the input ends the listing:
+/// 1. `Read`: a read of the source failed.
+/// 2. `Write`: a write of the sink failed.
+/// 3. `BadLine`: a line is too long, or the input ends without its line feed.
+/// 4. `NoMemory`: an allocation failed.
+/// 5. `TooManyLines`: the input goes on after 1,000,000,000 lines.
+pub fn list<R: Source, W: Sink>(
+    alloc: Global,
+    listing: Listing,
+    side: Side,
+    source: &mut R,
+    sink: &mut W,
+) -> Result<bool, ShowFault>
+    // All that the source had was lines, and what is written for them was written.
+    ensures ok { IfOk result (λ some. Moves (R.left source.old) (R.left source.new) (W.contents sink.old) (W.contents sink.new)
+        (λ read wrote. ListsAll listing side read wrote × (some ≡ nat_lt 0 (length wrote)))) }
+    ensures end { OnOk result (IsTrue (R.has_ended source.new) × IsAtEnd (R.left source.new)) }
+
+    // A fault says what was read and written before it.
+    ensures err { IfErr result (λ fault. Moves (R.left source.old) (R.left source.new) (W.contents sink.old) (W.contents sink.new)
+        (StopsAt listing side fault (R.has_ended source.new))) }
+
+    // A device is blamed where it failed, and no listing succeeds after a failure.
+    ensures reads { MatchResult result (λ _. R.failures source.new ≡ R.failures source.old)
+        (λ fault. R.failures source.new ≡ R.failures source.old + failed_reads fault) }
+    ensures writes { MatchResult result (λ _. W.failures sink.new ≡ W.failures sink.old)
+        (λ fault. W.failures sink.new ≡ W.failures sink.old + failed_writes fault) }
+{
+    let mut reader = LineReader::new(alloc);
+    let mut scratch = Scratch::new(alloc);
+    let mut count: u64 = 0;
+    let mut some = false;
+    'lines: while count < MOST_LINES {
+        match reader.next(alloc, source) {
+            Err(fault) => return Err(show_fault(fault, count + 1)),
+            Ok(None) => return Ok(some),
+            Ok(Some(line)) => {
+                count += 1;
+                let text = text_for(alloc, listing, side, count, &line, &mut scratch)?;
+                let bytes = text.as_bytes();
+                write_all(sink, bytes)?;
+                some = or_some(some, bytes);
+            }
+        }
+    }
+    match reader.goes_on(source) {
+        Err(fault) => Err(show_fault(fault, count)),
+        Ok(true) => Err(ShowFault::TooManyLines),
+        Ok(false) => Ok(some),
+    }
+}
+
+// Whether something was written before, or these bytes are not empty.
+fn or_some(some: bool, bytes: &[u8]) -> bool
+    ensures { result ≡ (some || not (length bytes.now == 0)) }
+{
+    some || !bytes.is_empty()
+}
+
+// What is written for the line of this number.
+fn text_for(
+    alloc: Global,
+    listing: Listing,
+    side: Side,
+    number: u64,
+    line: &[u8],
+    scratch: &mut Scratch,
+) -> Result<String, AllocError>
+    ensures { IfOk result (λ text. Lists listing side number line.now (string_bytes text)) }
+{
+    match listing {
+        Listing::All => with_feed(show_line(alloc, side, line, scratch)?),
+        Listing::RefusedAlone => numbered(alloc, number, refusal(alloc, side, line, scratch)?),
+    }
+}
+
+// A line that is shown, with its line feed.
+fn with_feed(shown: Shown) -> Result<String, AllocError>
+    ensures { IfOk result (λ text. string_bytes text ≡ ended (text_of (shown_of shown))) }
+{
+    let mut text = match shown {
+        Shown::Taken(text) => text,
+        Shown::Refused(text) => text,
+    };
+    text.push_str("\n")?;
+    Ok(text)
+}
+
+// The line of what is refused, with its number; nothing for a text that is taken.
+#[tactic(auto, using(crate::proofs::ListingLemmas::numbered_grouped))]
+fn numbered(alloc: Global, number: u64, refused: Option<String>) -> Result<String, AllocError>
+    ensures { IfOk result (λ text. string_bytes text ≡ numbered number (option_map string_bytes refused)) }
+{
+    match refused {
+        None => Ok(String::new(alloc)),
+        Some(text) => numbered_line(alloc, number, text.as_str()),
+    }
+}
+
+// `line N: TEXT`
+fn numbered_line(alloc: Global, number: u64, text: &str) -> Result<String, AllocError>
+    ensures { IfOk result (λ line. string_bytes line ≡ 108 ∷ 105 ∷ 110 ∷ 101 ∷ 32 ∷ (decimal number ++ 58 ∷ 32 ∷ (text.now ++ 10 ∷ []))) }
+{
+    format!(in alloc; "line {number}: {text}\n")
+}
+
+// The fault of a listing for a fault of its input, at the line of this number.
+fn show_fault(fault: InputFault, number: u64) -> ShowFault
+    ensures { result ≡ show_fault_of fault number }
+{
+    match fault {
+        InputFault::Read => ShowFault::Read,
+        InputFault::BadLine => ShowFault::BadLine(number),
+        InputFault::NoMemory => ShowFault::NoMemory,
+    }
+}
