@@ -2,6 +2,7 @@
 //!
 //! `bidi play` reads a play from standard input, a step a line, and writes what the remote end sends.
 //! `bidi pair` reads steps of both ends, and writes what became of each command and which events each link received.
+//! `bidi reduce` writes the lines of a play that are kept for a session.
 //! `bidi show` writes a line for each text of a local or a remote end, and `bidi check` one for each that is refused.
 //! `bidi serve` serves WebSocket connections on 127.0.0.1.
 #![tactic(auto)]

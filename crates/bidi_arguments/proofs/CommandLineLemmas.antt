@@ -1,5 +1,5 @@
 -- What `clap`'s faults of a line, and its reading, say of the answer to it.
-use Rattle.std.proofs.Common.{◌≡◌, true, List, [], ◌∷◌, codes, refl, sym, subst, inl, inr, Some, None}
+use Rattle.std.proofs.Common.{◌≡◌, ℕ, true, List, [], ◌∷◌, codes, refl, sym, subst, inl, inr, Some, None}
 use Rattle.std.specs.Prelude.{Box, Option, option_map}
 use Rattle.std.specs.Box.{box_value}
 use Rattle.clap.specs.Words.{HasKind, Kinds, Row, Text, is_simple, is_simple_and_free, kind_of, subcommand_of, subcommand_rows}
@@ -12,9 +12,11 @@ use Rattle.clap.proofs.OnLiterals.{clap_on_literals}
 use Rattle.bidi_arguments.specs.declared.arguments.LineFault.{LineFault}
 use Rattle.bidi_arguments.specs.declared.arguments.LineFault.TheVariants.{Help, Usage, NoMemory}
 use Rattle.bidi_arguments.specs.declared.arguments.Run.{Run}
-use Rattle.bidi_arguments.specs.declared.arguments.Run.TheVariants.{Play, Pair, Show, Check, Serve}
+use Rattle.bidi_arguments.specs.declared.arguments.Run.TheVariants.{Play, Pair, Reduce, Show, Check, Serve}
+use Rattle.bidi_arguments.specs.declared.arguments.ServeOptions.{ServeOptions}
+use Rattle.bidi_lines.specs.declared.side.Side.{Side}
 use Rattle.bidi_lines.specs.declared.side.Side.TheVariants.{Local, Remote}
-use Rattle.bidi_arguments.specs.CommandLine.{AsksFor, Causes, IsReadAs, IsRefusedFor, IsRequest, IsSaidBy, bidi_app, faults_of, run_in}
+use Rattle.bidi_arguments.specs.CommandLine.{AsksFor, Causes, IsReadAs, IsRefusedFor, IsRequest, IsSaidBy, bidi_app, faults_of, run_in, run_named}
 use Rattle.bidi_arguments.proofs.PlayLines.{play_lines, pair_lines}
 
 -- the command is one whose faults clap lists, and whose reading it states
@@ -48,6 +50,7 @@ asked_read line Play (inl e) = subst (λ l. IsReadAs l Play) (sym e) reads_name
 asked_read line Play (inr e) = subst (λ l. IsReadAs l Play) (sym e) reads_mark
 asked_read line Pair (inl e) = subst (λ l. IsReadAs l Pair) (sym e) reads_pair
 asked_read line Pair (inr e) = subst (λ l. IsReadAs l Pair) (sym e) reads_pair_mark
+asked_read line (Reduce session) asks = asks
 asked_read line (Show side) asks = asks
 asked_read line (Check side) asks = asks
 asked_read line (Serve s) asks = asks
@@ -56,6 +59,7 @@ asked_read line (Serve s) asks = asks
 pub read_asked : (line : List Text) (run : Run) → IsReadAs line run → AsksFor line run
 read_asked line Play read = play_lines line read.0 read.1
 read_asked line Pair read = pair_lines line read.0 read.1
+read_asked line (Reduce session) read = read
 read_asked line (Show side) read = read
 read_asked line (Check side) read = read
 read_asked line (Serve s) read = read
@@ -105,6 +109,11 @@ pub met : {Z : Type 0} (sub : Option (Box SubCommand Z)) (name : Text) (rows : L
 met None name rows named found = absurd cc
 met (Some b) name rows named found = cc
 
+-- the run of the same name and options
+pub named-same : (name : Text) (side side' : Option Side) (session session' : Option ℕ) (serving serving' : Option ServeOptions)
+    → side ≡ side' → session ≡ session' → serving ≡ serving' → run_named name side session serving ≡ run_named name side' session' serving'
+named-same name side side' session session' serving serving' p q r = λ i. run_named name (p i) (q i) (r i)
+
 -- clap reads the words that are given for a run as that run
 show_local : IsReadAs (codes "show" ∷ codes "--from" ∷ codes "local" ∷ []) (Show Local)
 unfolding clap_on_literals
@@ -141,6 +150,7 @@ check_remote_attached = (refl, refl)
 pub said_asks : (line : List Text) (run : Run) → IsSaidBy run line → AsksFor line run
 said_asks line Play e = inl e
 said_asks line Pair e = inl e
+said_asks line (Reduce session) e = absurd e
 said_asks line (Show Local) (inl e) = subst (λ l. IsReadAs l (Show Local)) (sym e) show_local
 said_asks line (Show Local) (inr e) = subst (λ l. IsReadAs l (Show Local)) (sym e) show_local_attached
 said_asks line (Show Remote) (inl e) = subst (λ l. IsReadAs l (Show Remote)) (sym e) show_remote

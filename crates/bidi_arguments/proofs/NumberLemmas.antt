@@ -9,10 +9,10 @@ use Rattle.std.specs.Prelude.{codes}
 use Rattle.std.specs.Str.{bytes_eq}
 use Rattle.clap.specs.Words.{Row, Text, first_of}
 use Rattle.bidi_arguments.specs.declared.arguments.Run.{Run}
-use Rattle.bidi_arguments.specs.declared.arguments.Run.TheVariants.{Play, Pair, Show, Check, Serve}
+use Rattle.bidi_arguments.specs.declared.arguments.Run.TheVariants.{Play, Pair, Reduce, Show, Check, Serve}
 use Rattle.bidi_arguments.specs.declared.arguments.ServeOptions.{ServeOptions}
 use Rattle.bidi_lines.specs.declared.side.Side.{Side}
-use Rattle.bidi_arguments.specs.CommandLine.{IsWithinBounds, all_digits, is_numeral, number_in, number_within, run_in, served, serving_in, side_in}
+use Rattle.bidi_arguments.specs.CommandLine.{IsWithinBounds, all_digits, is_numeral, number_in, number_within, run_in, served, serving_in, session_in, side_in}
 
 -- what both hold
 both : (a b : Bool) → (a && b) ≡ true → (a ≡ true) × (b ≡ true)
@@ -100,20 +100,41 @@ served-from None b m s e = cc
 served-from (Some p) None m s e = cc
 served-from (Some p) (Some k) None s e = cc
 
+-- the run by the names that a subcommand has
+abbrev run_by : Bool → Bool → Bool → Bool → Bool → Bool → Option Side → Option ℕ → Option ServeOptions → Option Run
+run_by is_play is_pair is_reduce is_show is_check is_serve side session serving =
+    if is_play then Some Play else (if is_pair then Some Pair else (if is_reduce then option_map Reduce session
+    else (if is_show then option_map Show side else (if is_check then option_map Check side else (if is_serve then option_map Serve serving else None)))))
+
 -- no other subcommand is one that serves
-serve-from : (is_play is_pair is_show is_check is_serve : Bool) (side : Option Side) (serving : Option ServeOptions) (s : ServeOptions)
-    → (if is_play then Some Play else (if is_pair then Some Pair else (if is_show then option_map Show side
-    else (if is_check then option_map Check side else (if is_serve then option_map Serve serving else None))))) ≡ Some (Serve s)
-    → serving ≡ Some s
-serve-from true q r t u side serving s e = cc
-serve-from false true r t u side serving s e = cc
-serve-from false false true t u None serving s e = cc
-serve-from false false true t u (Some x) serving s e = cc
-serve-from false false false true u None serving s e = cc
-serve-from false false false true u (Some x) serving s e = cc
-serve-from false false false false true side None s e = cc
-serve-from false false false false true side (Some x) s e = cc
-serve-from false false false false false side serving s e = cc
+serve-from : (p q d r t u : Bool) (side : Option Side) (session : Option ℕ) (serving : Option ServeOptions) (s : ServeOptions)
+    → run_by p q d r t u side session serving ≡ Some (Serve s) → serving ≡ Some s
+serve-from true q d r t u side session serving s e = cc
+serve-from false true d r t u side session serving s e = cc
+serve-from false false true r t u side None serving s e = cc
+serve-from false false true r t u side (Some x) serving s e = cc
+serve-from false false false true t u None session serving s e = cc
+serve-from false false false true t u (Some x) session serving s e = cc
+serve-from false false false false true u None session serving s e = cc
+serve-from false false false false true u (Some x) session serving s e = cc
+serve-from false false false false false true side session None s e = cc
+serve-from false false false false false true side session (Some x) s e = cc
+serve-from false false false false false false side session serving s e = cc
+
+-- nor one that reduces
+reduce-from : (p q d r t u : Bool) (side : Option Side) (session : Option ℕ) (serving : Option ServeOptions) (n : ℕ)
+    → run_by p q d r t u side session serving ≡ Some (Reduce n) → session ≡ Some n
+reduce-from true q d r t u side session serving n e = cc
+reduce-from false true d r t u side session serving n e = cc
+reduce-from false false true r t u side None serving n e = cc
+reduce-from false false true r t u side (Some x) serving n e = cc
+reduce-from false false false true t u None session serving n e = cc
+reduce-from false false false true t u (Some x) session serving n e = cc
+reduce-from false false false false true u None session serving n e = cc
+reduce-from false false false false true u (Some x) session serving n e = cc
+reduce-from false false false false false true side session None n e = cc
+reduce-from false false false false false true side session (Some x) n e = cc
+reduce-from false false false false false false side session serving n e = cc
 
 -- the numbers of a run that was found are within their bounds
 pub within_bounds : (met : Option (Text × List Row)) (run : Run) → run_in met ≡ Some run → IsWithinBounds run
@@ -121,11 +142,17 @@ within_bounds met Play e = tt
 within_bounds met Pair e = tt
 within_bounds met (Show side) e = tt
 within_bounds met (Check side) e = tt
+within_bounds None (Reduce n) e = cc
+within_bounds (Some (name, rows)) (Reduce n) e =
+    let is : Text → Bool = λ other. bytes_eq name other in
+    let session = reduce-from (is (codes "play")) (is (codes "pair")) (is (codes "reduce")) (is (codes "show")) (is (codes "check")) (is (codes "serve"))
+    (side_in rows) (session_in rows) (serving_in rows) n e in
+    (within_found 0 4294967295 n (first_of (codes "session") rows) session).1
 within_bounds None (Serve s) e = cc
 within_bounds (Some (name, rows)) (Serve s) e =
     let is : Text → Bool = λ other. bytes_eq name other in
-    let serves = serve-from (is (codes "play")) (is (codes "pair")) (is (codes "show")) (is (codes "check")) (is (codes "serve"))
-    (side_in rows) (serving_in rows) s e in
+    let serves = serve-from (is (codes "play")) (is (codes "pair")) (is (codes "reduce")) (is (codes "show")) (is (codes "check")) (is (codes "serve"))
+    (side_in rows) (session_in rows) (serving_in rows) s e in
     let from = served-from (number_in (codes "port") 0 65535 rows) (number_in (codes "connections") 1 1000 rows)
     (number_in (codes "messages") 1 100000 rows) s serves in
     let port = within_found 0 65535 s.port (first_of (codes "port") rows) from.0 in

@@ -17,7 +17,7 @@ use Rattle.std.specs.Option.{option_map_or}
 use Rattle.std.proofs.lemmas.Slice.Eq.{bytes_eq-Decides}
 use Rattle.clap.proofs.OnLiterals.{clap_on_literals}
 use Rattle.bidi_arguments.specs.declared.arguments.Run.{Run}
-use Rattle.bidi_arguments.specs.declared.arguments.Run.TheVariants.{Play, Pair, Show, Check, Serve}
+use Rattle.bidi_arguments.specs.declared.arguments.Run.TheVariants.{Play, Pair, Reduce, Show, Check, Serve}
 use Rattle.bidi_arguments.specs.declared.arguments.ServeOptions.{ServeOptions}
 use Rattle.bidi_lines.specs.declared.side.Side.{Side}
 use Rattle.bidi_arguments.specs.CommandLine.{AsksFor, bare_app, bidi_app, faults_of, run_in}
@@ -152,6 +152,9 @@ module _ (name : Text) where
 abbrev pair : Text
 pair = codes "pair"
 
+abbrev reduce : Text
+reduce = codes "reduce"
+
 abbrev show : Text
 show = codes "show"
 
@@ -162,11 +165,12 @@ abbrev serve : Text
 serve = codes "serve"
 
 -- the subcommand that the first word names
-abbrev named : Bool → Bool → Bool → Bool → Bool → Option Text
-named is_play is_pair is_show is_check is_serve =
+abbrev named : Bool → Bool → Bool → Bool → Bool → Bool → Option Text
+named is_play is_pair is_reduce is_show is_check is_serve =
     option_map {T = Text × List Text} (λ s. s.0)
     (cond is_play (Some (play, []))
-    (cond is_pair (Some (pair, [])) (cond is_show (Some (show, [])) (cond is_check (Some (check, [])) (cond is_serve (Some (serve, [])) None)))))
+    (cond is_pair (Some (pair, [])) (cond is_reduce (Some (reduce, []))
+    (cond is_show (Some (show, [])) (cond is_check (Some (check, [])) (cond is_serve (Some (serve, [])) None))))))
 
 abbrev top_met : Option Text → Text → Held × Step
 top_met name word = subcommand_or_other rules name walk.idle 1 word nothing_held
@@ -175,22 +179,25 @@ abbrev first_fault : Option Text → Text → Kinds
 first_fault name word = or_else (other_fault top name word nothing_held) (step_fault top 1 (top_met name word).0 (top_met name word).1)
 
 -- a word that passes names a subcommand, or is the mark
-data Passes (is_play is_pair is_show is_check is_serve is_mark : Bool) : Type 0 where
-  as_play : is_play ≡ true → Passes is_play is_pair is_show is_check is_serve is_mark
-  as_pair : is_pair ≡ true → Passes is_play is_pair is_show is_check is_serve is_mark
-  as_show : is_show ≡ true → Passes is_play is_pair is_show is_check is_serve is_mark
-  as_check : is_check ≡ true → Passes is_play is_pair is_show is_check is_serve is_mark
-  as_serve : is_serve ≡ true → Passes is_play is_pair is_show is_check is_serve is_mark
-  as_mark : is_mark ≡ true → Passes is_play is_pair is_show is_check is_serve is_mark
+data Passes (is_play is_pair is_reduce is_show is_check is_serve is_mark : Bool) : Type 0 where
+  as_play : is_play ≡ true → Passes is_play is_pair is_reduce is_show is_check is_serve is_mark
+  as_pair : is_pair ≡ true → Passes is_play is_pair is_reduce is_show is_check is_serve is_mark
+  as_reduce : is_reduce ≡ true → Passes is_play is_pair is_reduce is_show is_check is_serve is_mark
+  as_show : is_show ≡ true → Passes is_play is_pair is_reduce is_show is_check is_serve is_mark
+  as_check : is_check ≡ true → Passes is_play is_pair is_reduce is_show is_check is_serve is_mark
+  as_serve : is_serve ≡ true → Passes is_play is_pair is_reduce is_show is_check is_serve is_mark
+  as_mark : is_mark ≡ true → Passes is_play is_pair is_reduce is_show is_check is_serve is_mark
 
-top_turn : (is_play is_pair is_show is_check is_serve : Bool) (word : Text) → first_fault (named is_play is_pair is_show is_check is_serve) word ≡ []
-    → Passes is_play is_pair is_show is_check is_serve (bytes_eq word dashes)
-top_turn true is_pair is_show is_check is_serve word none = as_play refl
-top_turn false true is_show is_check is_serve word none = as_pair refl
-top_turn false false true is_check is_serve word none = as_show refl
-top_turn false false false true is_serve word none = as_check refl
-top_turn false false false false true word none = as_serve refl
-top_turn false false false false false word none = as_mark (turn_refused (stray_fault top) (λ e. cc) word (bytes_eq word dashes) (long_of word) none)
+top_turn : (is_play is_pair is_reduce is_show is_check is_serve : Bool) (word : Text) → first_fault (named is_play is_pair is_reduce is_show is_check is_serve) word ≡ []
+    → Passes is_play is_pair is_reduce is_show is_check is_serve (bytes_eq word dashes)
+top_turn true is_pair is_reduce is_show is_check is_serve word none = as_play refl
+top_turn false true is_reduce is_show is_check is_serve word none = as_pair refl
+top_turn false false true is_show is_check is_serve word none = as_reduce refl
+top_turn false false false true is_check is_serve word none = as_show refl
+top_turn false false false false true is_serve word none = as_check refl
+top_turn false false false false false true word none = as_serve refl
+top_turn false false false false false false word none =
+    as_mark (turn_refused (stray_fault top) (λ e. cc) word (bytes_eq word dashes) (long_of word) none)
 
 -- the walk has met a subcommand, and these words after it
 abbrev after : Text → List Text → Walk
@@ -211,6 +218,10 @@ stop_play line = ap (λ (w : Walk). w.stopped) (stays play line [])
 stop_pair : (line : List Text) → stop_of (pair ∷ line) ≡ Some (pair, line)
 unfolding clap_on_literals
 stop_pair line = ap (λ (w : Walk). w.stopped) (stays pair line [])
+
+stop_reduce : (line : List Text) → stop_of (reduce ∷ line) ≡ Some (reduce, line)
+unfolding clap_on_literals
+stop_reduce line = ap (λ (w : Walk). w.stopped) (stays reduce line [])
 
 stop_show : (line : List Text) → stop_of (show ∷ line) ≡ Some (show, line)
 unfolding clap_on_literals
@@ -267,6 +278,13 @@ no_other : {A : Type 0} (f : A → Run) (run : Run) → ((x : A) → f x ≡ run
 no_other f run differs None e = cc
 no_other f run differs (Some x) e = differs x (same_some e)
 
+entered_reduce : (run : Run) → ((n : ℕ) → Reduce n ≡ run → ⊥) → (line : List Text) → run_in (entered app (Some (reduce, line))) ≡ Some run → ⊥
+unfolding clap_on_literals
+entered_reduce run differs line e = no_other Reduce run differs _ e
+
+read_reduce : (run : Run) → ((n : ℕ) → Reduce n ≡ run → ⊥) → (line : List Text) → run_in (subcommand_of bidi_app (reduce ∷ line)) ≡ Some run → ⊥
+read_reduce run differs line e = entered_reduce run differs line (subst (λ s. run_in (entered app s) ≡ Some run) (stop_reduce line) e)
+
 entered_show : (run : Run) → ((side : Side) → Show side ≡ run → ⊥) → (line : List Text) → run_in (entered app (Some (show, line))) ≡ Some run → ⊥
 unfolding clap_on_literals
 entered_show run differs line e = no_other Show run differs _ e
@@ -293,6 +311,12 @@ serve_is_no_play s e = cc
 
 serve_is_no_pair : (s : ServeOptions) → Serve s ≡ Pair → ⊥
 serve_is_no_pair s e = cc
+
+reduce_is_no_play : (n : ℕ) → Reduce n ≡ Play → ⊥
+reduce_is_no_play n e = cc
+
+reduce_is_no_pair : (n : ℕ) → Reduce n ≡ Pair → ⊥
+reduce_is_no_pair n e = cc
 
 show_is_no_play : (side : Side) → Show side ≡ Play → ⊥
 show_is_no_play side e = cc
@@ -327,15 +351,17 @@ same_word name word e = (bytes_eq-Decides name word).0 (or_false _ e)
 data Begins (word : Text) : Type 0 where
   with_play : play ≡ word → Begins word
   with_pair : pair ≡ word → Begins word
+  with_reduce : reduce ≡ word → Begins word
   with_show : show ≡ word → Begins word
   with_check : check ≡ word → Begins word
   with_serve : serve ≡ word → Begins word
 
 begins_as : (word : Text) (line : List Text) → faults_of (word ∷ line) ≡ []
-    → Passes (bytes_eq play word || false) (bytes_eq pair word || false) (bytes_eq show word || false) (bytes_eq check word || false)
-    (bytes_eq serve word || false) (bytes_eq word dashes) → Begins word
+    → Passes (bytes_eq play word || false) (bytes_eq pair word || false) (bytes_eq reduce word || false) (bytes_eq show word || false)
+    (bytes_eq check word || false) (bytes_eq serve word || false) (bytes_eq word dashes) → Begins word
 begins_as word line none (as_play e) = with_play (same_word play word e)
 begins_as word line none (as_pair e) = with_pair (same_word pair word e)
+begins_as word line none (as_reduce e) = with_reduce (same_word reduce word e)
 begins_as word line none (as_show e) = with_show (same_word show word e)
 begins_as word line none (as_check e) = with_check (same_word check word e)
 begins_as word line none (as_serve e) = with_serve (same_word serve word e)
@@ -350,8 +376,8 @@ begins word line none =
     (or_else (entered_fault app stop) (later top names (word ∷ line) (is_some (entered app stop)))) none in
     let turn = or_else-nil (turn_fault top names (walk_from nothing_held) word)
     (walk_fault top names (walked top.rules names (walk_from nothing_held) word) line) part.0 in
-    begins_as word line none (top_turn (bytes_eq play word || false) (bytes_eq pair word || false) (bytes_eq show word || false)
-    (bytes_eq check word || false) (bytes_eq serve word || false) word turn.0)
+    begins_as word line none (top_turn (bytes_eq play word || false) (bytes_eq pair word || false) (bytes_eq reduce word || false)
+    (bytes_eq show word || false) (bytes_eq check word || false) (bytes_eq serve word || false) word turn.0)
 
 abbrev IsRead : Run → List Text → Text → Type 0
 IsRead run line word = run_in (subcommand_of bidi_app (word ∷ line)) ≡ Some run
@@ -359,6 +385,7 @@ IsRead run line word = run_in (subcommand_of bidi_app (word ∷ line)) ≡ Some 
 play_from : (word : Text) (line : List Text) → Begins word → faults_of (word ∷ line) ≡ [] → IsRead Play line word → AsksFor (word ∷ line) Play
 play_from word line (with_play e) none read = subst (λ w. AsksFor (w ∷ line) Play) e (entered_play line (subst (λ w. faults_of (w ∷ line) ≡ []) (sym e) none))
 play_from word line (with_pair e) none read = absurd (pair_is_no_play (same_some (sym (read_pair line) ∙ subst (IsRead Play line) (sym e) read)))
+play_from word line (with_reduce e) none read = absurd (read_reduce Play reduce_is_no_play line (subst (IsRead Play line) (sym e) read))
 play_from word line (with_show e) none read = absurd (read_show Play show_is_no_play line (subst (IsRead Play line) (sym e) read))
 play_from word line (with_check e) none read = absurd (read_check Play check_is_no_play line (subst (IsRead Play line) (sym e) read))
 play_from word line (with_serve e) none read = absurd (read_serve Play serve_is_no_play line (subst (IsRead Play line) (sym e) read))
@@ -366,6 +393,7 @@ play_from word line (with_serve e) none read = absurd (read_serve Play serve_is_
 pair_from : (word : Text) (line : List Text) → Begins word → faults_of (word ∷ line) ≡ [] → IsRead Pair line word → AsksFor (word ∷ line) Pair
 pair_from word line (with_play e) none read = absurd (pair_is_no_play (sym (same_some (sym (read_play line) ∙ subst (IsRead Pair line) (sym e) read))))
 pair_from word line (with_pair e) none read = subst (λ w. AsksFor (w ∷ line) Pair) e (entered_pair line (subst (λ w. faults_of (w ∷ line) ≡ []) (sym e) none))
+pair_from word line (with_reduce e) none read = absurd (read_reduce Pair reduce_is_no_pair line (subst (IsRead Pair line) (sym e) read))
 pair_from word line (with_show e) none read = absurd (read_show Pair show_is_no_pair line (subst (IsRead Pair line) (sym e) read))
 pair_from word line (with_check e) none read = absurd (read_check Pair check_is_no_pair line (subst (IsRead Pair line) (sym e) read))
 pair_from word line (with_serve e) none read = absurd (read_serve Pair serve_is_no_pair line (subst (IsRead Pair line) (sym e) read))

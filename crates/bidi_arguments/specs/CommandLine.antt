@@ -11,7 +11,7 @@ use Rattle.clap.specs.declared.error.kind.ErrorKind.TheVariants.{DisplayHelp, Di
 use Rattle.bidi_arguments.specs.declared.arguments.LineFault.{LineFault}
 use Rattle.bidi_arguments.specs.declared.arguments.LineFault.TheVariants.{Help, Usage, NoMemory}
 use Rattle.bidi_arguments.specs.declared.arguments.Run.{Run}
-use Rattle.bidi_arguments.specs.declared.arguments.Run.TheVariants.{Play, Pair, Show, Check, Serve}
+use Rattle.bidi_arguments.specs.declared.arguments.Run.TheVariants.{Play, Pair, Reduce, Show, Check, Serve}
 use Rattle.bidi_arguments.specs.declared.arguments.ServeOptions.{ServeOptions}
 use Rattle.bidi_lines.specs.declared.side.Side.{Side}
 use Rattle.bidi_lines.specs.declared.side.Side.TheVariants.{Local, Remote}
@@ -31,6 +31,10 @@ pair_shape = (new_app (codes "pair")).top
 -- the option of this name with one value, which is required
 abbrev pub option_rule : Text → Rule
 option_rule name = record (new_rule name) { long = Some name; value_names = 1; required = true }
+
+-- the subcommand `reduce`, with its option
+abbrev pub reduce_shape : Shape
+reduce_shape = (with_rule (new_app (codes "reduce")) (option_rule (codes "session"))).top
 
 -- the option `--from`
 abbrev pub from_rule : Rule
@@ -53,8 +57,8 @@ bare_app = record { top = with_settings (new_app (codes "bidi")).top; subs = [] 
 -- the program's command, which wants one of its subcommands
 abbrev pub bidi_app : App
 bidi_app =
-    with_subcommand (with_subcommand (with_subcommand (with_subcommand (with_subcommand bare_app play_shape) pair_shape) (from_shape (codes "show")))
-    (from_shape (codes "check"))) serve_shape
+    with_subcommand (with_subcommand (with_subcommand (with_subcommand (with_subcommand (with_subcommand bare_app play_shape) pair_shape) reduce_shape)
+    (from_shape (codes "show"))) (from_shape (codes "check"))) serve_shape
 
 -- the words as texts
 abbrev pub line_of : List (Bor (List ℕ)) → List Text
@@ -92,6 +96,10 @@ number_within least most text =
 abbrev pub number_in : Text → ℕ → ℕ → List Row → Option ℕ
 number_in name least most rows = option_and_then (number_within least most) (first_of name rows)
 
+-- the number of the session that a subcommand's option names
+abbrev pub session_in : List Row → Option ℕ
+session_in rows = number_in (codes "session") 0 4294967295 rows
+
 -- what is to be served, where all three numbers are there
 abbrev pub served : Option ℕ → Option ℕ → Option ℕ → Option ServeOptions
 served (Some port) (Some connections) (Some messages) = Some (record { port = port; connections = connections; messages = messages })
@@ -101,19 +109,20 @@ served port connections messages = None
 abbrev pub serving_in : List Row → Option ServeOptions
 serving_in rows = served (number_in (codes "port") 0 65535 rows) (number_in (codes "connections") 1 1000 rows) (number_in (codes "messages") 1 100000 rows)
 
--- the run of the subcommand of this name, whose options name this end, or say what is to be served
-abbrev pub run_named : Text → Option Side → Option ServeOptions → Option Run
-run_named name side serving =
+-- the run of the subcommand of this name, whose options name this end or this session, or say what is to be served
+abbrev pub run_named : Text → Option Side → Option ℕ → Option ServeOptions → Option Run
+run_named name side session serving =
     if bytes_eq name (codes "play") then Some Play
     else (if bytes_eq name (codes "pair") then Some Pair
+    else (if bytes_eq name (codes "reduce") then option_map Reduce session
     else (if bytes_eq name (codes "show") then option_map Show side
     else (if bytes_eq name (codes "check") then option_map Check side
-    else (if bytes_eq name (codes "serve") then option_map Serve serving else None))))
+    else (if bytes_eq name (codes "serve") then option_map Serve serving else None)))))
 
 -- the run of a subcommand, by its name and what was found for its options
 abbrev pub run_in : Option (Text × List Row) → Option Run
 run_in None = None
-run_in (Some (name, rows)) = run_named name (side_in rows) (serving_in rows)
+run_in (Some (name, rows)) = run_named name (side_in rows) (session_in rows) (serving_in rows)
 
 -- clap takes the line, and reads it as the run
 abbrev pub IsReadAs : List Text → Run → Type 0
@@ -123,6 +132,7 @@ IsReadAs line run = (faults_of line ≡ []) × (run_in (subcommand_of bidi_app l
 abbrev pub AsksFor : List Text → Run → Type 0
 AsksFor line Play = (line ≡ codes "play" ∷ []) ⊎ (line ≡ codes "play" ∷ codes "--" ∷ [])
 AsksFor line Pair = (line ≡ codes "pair" ∷ []) ⊎ (line ≡ codes "pair" ∷ codes "--" ∷ [])
+AsksFor line (Reduce session) = IsReadAs line (Reduce session)
 AsksFor line (Show side) = IsReadAs line (Show side)
 AsksFor line (Check side) = IsReadAs line (Check side)
 AsksFor line (Serve serving) = IsReadAs line (Serve serving)
@@ -132,16 +142,18 @@ abbrev pub side_text : Side → Text
 side_text Local = codes "local"
 side_text Remote = codes "remote"
 
--- the words that are given for a run; those for `serve` hold numbers, and are not stated
+-- the words that are given for a run; those for `reduce` and `serve` hold numbers, and are not stated
 abbrev pub IsSaidBy : Run → List Text → Type 0
 IsSaidBy Play line = line ≡ codes "play" ∷ []
 IsSaidBy Pair line = line ≡ codes "pair" ∷ []
+IsSaidBy (Reduce session) line = ⊥
 IsSaidBy (Show side) line = (line ≡ codes "show" ∷ codes "--from" ∷ side_text side ∷ []) ⊎ (line ≡ codes "show" ∷ (codes "--from=" ++ side_text side) ∷ [])
 IsSaidBy (Check side) line = (line ≡ codes "check" ∷ codes "--from" ∷ side_text side ∷ []) ⊎ (line ≡ codes "check" ∷ (codes "--from=" ++ side_text side) ∷ [])
 IsSaidBy (Serve serving) line = ⊥
 
 -- the numbers of a run are within their bounds
 abbrev pub IsWithinBounds : Run → Type 0
+IsWithinBounds (Reduce session) = session ≤ 4294967295
 IsWithinBounds (Serve s) = (s.port ≤ 65535) × (1 ≤ s.connections) × (s.connections ≤ 1000) × (1 ≤ s.messages) × (s.messages ≤ 100000)
 IsWithinBounds run = ⊤
 

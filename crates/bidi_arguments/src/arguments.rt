@@ -6,7 +6,7 @@ ghost use Rattle.clap.specs.declared.error.kind.ErrorKind.TheVariants.{InvalidVa
 ghost use Rattle.bidi_arguments.specs.declared.arguments.Run.{Run};
 ghost use Rattle.bidi_arguments.specs.CommandLine.{AsksFor, Causes, IsRefusedFor, IsSaidBy, IsWithinBounds, bare_app, bidi_app};
 ghost use Rattle.bidi_arguments.specs.CommandLine.{from_rule, from_shape, line_of, number_within, option_rule, pair_shape};
-ghost use Rattle.bidi_arguments.specs.CommandLine.{play_shape, run_in, run_named, serve_shape, served, serving_in, side_named};
+ghost use Rattle.bidi_arguments.specs.CommandLine.{play_shape, reduce_shape, run_in, run_named, serve_shape, served, serving_in, side_named};
 
 use bidi_lines::Side;
 use clap::error::ErrorKind;
@@ -21,6 +21,8 @@ pub enum Run {
     Play,
     /// `pair`: plays the lines of the standard input over both ends.
     Pair,
+    /// `reduce`: writes the lines of the standard input that are kept for the session of this number.
+    Reduce(u32),
     /// `show`: writes a line for each line of the standard input, read as a text of this end.
     Show(Side),
     /// `check`: writes a line for each line of the standard input that is no text of this end.
@@ -61,6 +63,9 @@ const PLAY_HELP: &str =
 
 const PAIR_HELP: &str =
     "Lines in: `open L /session` opens link L, `send L METHOD PARAMS` sends a command,\n`up L` and `down L` carry a text, `cut L` drops the link, and lines of a play.\nLines out: what became of each command, and which events each link received.\nStatus: 0 where all was played, 2 at a bad line, 3 where input, output or memory failed.\nThe rest stands in docs/FORMATS.md.";
+
+const REDUCE_HELP: &str =
+    "Lines in: those of a play. Lines out: the same, byte for byte, but for texts on connections that speak for another session\nwhich are refused, or whose command is session.status, session.subscribe, session.unsubscribe,\nbrowsingContext.activate, browsingContext.getTree or script.getRealms. The session is sent the same by both plays.\nStatus: 0 where all was read and written, 2 at a bad line, 3 where input, output or memory failed.\nThe rest stands in docs/FORMATS.md.";
 
 const SHOW_HELP: &str =
     "Lines in: a text each, as it was sent.\nLines out: `accepted ID METHOD TEXT` or `refused ID CODE` of a local end;\n`response ID TEXT`, `error ID TEXT`, `event METHOD TEXT`, `no fit` or `not json` of a remote end.\nStatus: 0 where all was shown, 2 at a bad line, 3 where input, output or memory failed.\nThe rest stands in docs/FORMATS.md.";
@@ -116,10 +121,10 @@ fn command<'a>(alloc: Global) -> Result<Command<'a>, AllocError>
 
 // The program's command with all subcommands but `serve`.
 fn with_listings<'a>(alloc: Global) -> Result<Command<'a>, AllocError>
-    ensures { IfOk result (λ command. app_of command ≡ with_subcommand
-        (with_subcommand (with_subcommand (with_subcommand bare_app play_shape) pair_shape) (from_shape (codes "show"))) (from_shape (codes "check"))) }
+    ensures { IfOk result (λ command. app_of command ≡ with_subcommand (with_subcommand
+        (with_subcommand (with_subcommand (with_subcommand bare_app play_shape) pair_shape) reduce_shape) (from_shape (codes "show"))) (from_shape (codes "check"))) }
 {
-    let command = with_pair(alloc)?;
+    let command = with_reduce(alloc)?;
     let command = with_listing(
         alloc,
         command,
@@ -196,6 +201,32 @@ fn with_pair<'a>(alloc: Global) -> Result<Command<'a>, AllocError>
     )
 }
 
+// The program's command with the subcommands `play`, `pair` and `reduce` alone.
+fn with_reduce<'a>(alloc: Global) -> Result<Command<'a>, AllocError>
+    ensures { IfOk result (λ command. app_of command ≡ with_subcommand (with_subcommand (with_subcommand bare_app play_shape) pair_shape) reduce_shape) }
+{
+    let command = with_pair(alloc)?;
+    let reduce = reduce_command(alloc)?;
+    command.subcommand(reduce)
+}
+
+// The subcommand `reduce`, with its option.
+fn reduce_command<'a>(alloc: Global) -> Result<Command<'a>, AllocError>
+    ensures app { IfOk result (λ command. (app_of command).top ≡ reduce_shape) }
+    ensures local { IfOk result (λ command. (out-Command command).has_globals ≡ false) }
+{
+    let session = value_option(
+        alloc,
+        "session",
+        "NUMBER",
+        "The number of the session: 0 to 4294967295",
+    );
+    Command::new(alloc, "reduce")
+        .about("Writes the lines of a play without what other sessions only asked or subscribed")
+        .after_help(REDUCE_HELP)
+        .arg(session)
+}
+
 // The command with one more subcommand, of this name, with the option `--from`.
 fn with_listing<'a>(
     alloc: Global,
@@ -248,7 +279,14 @@ fn run_of(matches: &ArgMatches<'_>) -> Option<Run>
     ensures { result ≡ run_in (subcommand_rows_of matches.now) }
 {
     let (name, inner) = matches.subcommand()?;
-    run_named(name, side_of(inner), serving_of(inner))
+    run_named(name, side_of(inner), session_of(inner), serving_of(inner))
+}
+
+// The number of the session that `--session` names.
+fn session_of(matches: &ArgMatches<'_>) -> Option<u32>
+    ensures { result ≡ option_and_then (number_within 0 4294967295) (first_value (found_of matches.now) (codes "session")) }
+{
+    number_of(matches, "session", 0, u32::MAX)
 }
 
 // What the three options of `serve` ask for.
@@ -314,13 +352,19 @@ fn number_within(text: &str, least: u32, most: u32) -> Option<u32>
     }
 }
 
-// The run of the subcommand of this name, with the end that its option names or the options of `serve`.
-fn run_named(name: &str, side: Option<Side>, serving: Option<ServeOptions>) -> Option<Run>
-    ensures { result ≡ run_named name.now side serving }
+// The run of the subcommand of this name, with the end or the session that its option names, or the options of `serve`.
+fn run_named(
+    name: &str,
+    side: Option<Side>,
+    session: Option<u32>,
+    serving: Option<ServeOptions>,
+) -> Option<Run>
+    ensures { result ≡ run_named name.now side session serving }
 {
     match name {
         "play" => Some(Run::Play),
         "pair" => Some(Run::Pair),
+        "reduce" => Some(Run::Reduce(session?)),
         "show" => Some(Run::Show(side?)),
         "check" => Some(Run::Check(side?)),
         "serve" => Some(Run::Serve(serving?)),
@@ -369,6 +413,8 @@ fn bad_value(alloc: Global, matches: &ArgMatches<'_>) -> Result<String, AllocErr
 fn bad_option(matches: &ArgMatches<'_>) -> (&'static str, &'static str) {
     if matches.get_str("from").is_some() {
         ("from", "`local` or `remote`")
+    } else if matches.get_str("session").is_some() {
+        ("session", "0 to 4294967295")
     } else if port_of(matches).is_none() {
         ("port", "0 to 65535")
     } else if number_of(matches, "connections", 1, 1_000).is_none() {

@@ -2,3 +2,4 @@ pub mod ResultLemmas
 pub mod FeedLemmas
 pub mod DeviceLemmas
 pub mod InputLineLemmas
+pub mod AnsweringLemmas

@@ -20,6 +20,10 @@ pub record BeginsBadly (at_end : Bool) (bytes : List ℕ) : Type 0 where
   pub no_feed : has_feed (take 2097153 bytes) ≡ false
   pub enough : (2097152 < length bytes) ⊎ ((at_end ≡ true) × (bytes ≢ []))
 
+-- A line stands at the front of the bytes: one that has its line feed, one that is too long whatever follows, or a last one without a line feed.
+abbrev pub HasLine : Bool → List ℕ → Type 0
+HasLine at_end bytes = (has_feed bytes ≡ true) ⊎ ((2097152 < length bytes) ⊎ ((at_end ≡ true) × (bytes ≢ [])))
+
 -- the bytes that an answer gives: a line with its line feed, or none
 abbrev pub given : Result (Option (Vec ℕ)) InputFault → List ℕ
 given (Ok (Some line)) = ended line.items

@@ -1,3 +1,4 @@
 pub mod Feeds
 pub mod Devices
 pub mod InputLines
+pub mod Answering

@@ -5,12 +5,14 @@
 //! texts they are.
 #![tactic(auto)]
 
+mod answering;
 mod device;
 mod feeds;
 mod line_reader;
 mod side;
 mod tally;
 
+pub use answering::{AnswerFault, Answerer, LinesFault, answer_lines};
 pub use device::{Device, DeviceFault, Sink, Source, write_all};
 pub use feeds::LONGEST_LINE;
 pub use line_reader::{InputFault, LineReader};

@@ -12,10 +12,9 @@ use Rattle.bidi_pair.specs.declared.reading.PairFault.{PairFault}
 use Rattle.bidi_pair.specs.declared.reading.PairFault.TheVariants.{Read, Write, BadLine, NoMemory, TooManyLines, WornOut}
 use Rattle.bidi_lines.specs.declared.line_reader.InputFault.{InputFault}
 use Rattle.bidi_lines.specs.declared.line_reader.InputFault.TheVariants as input
-use Rattle.bidi_lines.specs.InputLines.{IsLine}
+use Rattle.bidi_lines.specs.InputLines.{IsLine, HasLine}
 use Rattle.bidi_lines.specs.InputLines.{joined}
 use Rattle.bidi_pair.specs.PairLines.{Says, ledger_text}
-use Rattle.bidi_play.specs.Plays.{HasLine}
 
 -- each line says the step at its place
 abbrev pub AllSay : List (List ℕ) → List PairStep → Type 0

@@ -1,18 +1,16 @@
 -- What `play` writes for the bytes that it reads, and why it may stop before their end.
-use Rattle.std.specs.Prelude.{◌≡◌, ◌≢◌, ℕ, ◌+◌, ◌<◌, ◌⊎◌, Bool, true, List, [], ◌++◌, length}
+use Rattle.std.specs.Prelude.{◌≡◌, ℕ, ◌+◌, Bool, List, [], ◌++◌, length}
 use Rattle.std.specs.List.{AllByRecursion}
 use Rattle.bidi_play.specs.declared.playing.PlayFault.{PlayFault}
 use Rattle.bidi_play.specs.declared.playing.PlayFault.TheVariants.{Read, Write, BadLine, NoMemory, WornOut}
-use Rattle.bidi_remote.specs.declared.remote_end.RemoteFault.{RemoteFault}
-use Rattle.bidi_remote.specs.declared.remote_end.RemoteFault.TheVariants as remote
 use Rattle.bidi_remote.specs.Machine.Step.{Step}
 use Rattle.bidi_remote.specs.Machine.History.{Input, AreHeardAs}
 use Rattle.bidi_remote.specs.Machine.Sent.{answers}
 use Rattle.bidi_remote.specs.Tables.Messages.{AllReadBack}
-use Rattle.bidi_lines.specs.Feeds.{has_feed, ended}
-use Rattle.bidi_lines.specs.InputLines.{IsLine}
-use Rattle.bidi_lines.specs.declared.line_reader.InputFault.{InputFault}
-use Rattle.bidi_lines.specs.declared.line_reader.InputFault.TheVariants as input
+use Rattle.bidi_lines.specs.Feeds.{ended}
+use Rattle.bidi_lines.specs.InputLines.{IsLine, HasLine}
+use Rattle.bidi_lines.specs.declared.answering.LinesFault.{LinesFault}
+use Rattle.bidi_lines.specs.declared.answering.LinesFault.TheVariants as lines
 use Rattle.bidi_play.specs.Lines.{line_of, CanBeSaid, said, written}
 
 -- The bytes begin with the lines of these steps, with this rest behind them, and the text is the lines of what the machine answers to the steps.
@@ -45,10 +43,6 @@ PlaysAll bytes text = (steps : List Step) × Play bytes steps [] text
 abbrev pub PlaysPart : List ℕ → List ℕ → Type 0
 PlaysPart bytes wrote = (steps : List Step) × (rest : List ℕ) × (text : List ℕ) × (more : List ℕ) × Play bytes steps rest text × (text ≡ wrote ++ more)
 
--- A line stands at the front of the bytes: one that has its line feed, one that is too long whatever follows, or a last one without a line feed.
-abbrev pub HasLine : Bool → List ℕ → Type 0
-HasLine at_end bytes = (has_feed bytes ≡ true) ⊎ ((2097152 < length bytes) ⊎ ((at_end ≡ true) × (bytes ≢ [])))
-
 -- What a fault says of the bytes that were read, the last of them or not, and of what was written.
 abbrev pub StopsAt : PlayFault → Bool → List ℕ → List ℕ → Type 0
 -- each whole line that was read was played, and what is left may be the beginning of a line
@@ -71,16 +65,14 @@ abbrev pub failed_writes : PlayFault → ℕ
 failed_writes Write = 1
 failed_writes fault = 0
 
--- the fault that a fault of the input is, at the line of this number
-abbrev pub play_fault_of : InputFault → ℕ → PlayFault
-play_fault_of input.Read n = Read
-play_fault_of input.BadLine n = BadLine n
-play_fault_of input.NoMemory n = NoMemory
-
--- the fault that a fault of the remote end is
-abbrev pub remote_fault_of : RemoteFault → PlayFault
-remote_fault_of remote.NoMemory = NoMemory
-remote_fault_of remote.WornOut = WornOut
+-- the fault that a fault of its lines is
+abbrev pub play_fault_of : LinesFault → PlayFault
+play_fault_of lines.Read = Read
+play_fault_of lines.Write = Write
+play_fault_of (lines.BadLine n) = BadLine n
+play_fault_of lines.NoMemory = NoMemory
+play_fault_of lines.TooManyLines = WornOut
+play_fault_of lines.WornOut = WornOut
 
 -- the status of a program whose run stopped at the fault
 abbrev pub status_of : PlayFault → ℕ

@@ -2,11 +2,12 @@
 ghost use Rattle.std.specs.Prelude.{◌≡◌, ◌+◌, IfErr, OnOk, IsTrue, MatchResult};
 ghost use Rattle.std.specs.Io.KnownBytes.{IsAtEnd};
 ghost use Rattle.bidi_lines.specs.Devices.{Moves};
-ghost use Rattle.bidi_play.specs.Plays.{PlaysAll, StopsAt, failed_reads, failed_writes, play_fault_of, remote_fault_of};
+ghost use Rattle.bidi_play.specs.Plays.{PlaysAll, StopsAt, failed_reads, failed_writes, play_fault_of};
+ghost use Rattle.bidi_play.specs.Players.{player_answers};
 ghost use Rattle.bidi_play.specs.declared.playing.PlayFault.TheVariants.{Write, NoMemory};
 
 use super::lines::{lines_of, read_step};
-use bidi_lines::{DeviceFault, InputFault, LineReader, Sink, Source, write_all};
+use bidi_lines::{AnswerFault, Answerer, DeviceFault, LinesFault, Sink, Source, answer_lines};
 use bidi_remote::{RemoteEnd, RemoteFault};
 use std::alloc::{AllocError, Global};
 use thiserror::Error;
@@ -48,13 +49,16 @@ impl From<DeviceFault> for PlayFault {
     }
 }
 
-impl From<RemoteFault> for PlayFault {
-    ghost from_gives = { λ error fault. fault ≡ remote_fault_of error };
+impl From<LinesFault> for PlayFault {
+    ghost from_gives = { λ error fault. fault ≡ play_fault_of error };
 
-    fn from(error: RemoteFault) -> PlayFault {
+    fn from(error: LinesFault) -> PlayFault {
         match error {
-            RemoteFault::NoMemory => PlayFault::NoMemory,
-            RemoteFault::WornOut => PlayFault::WornOut,
+            LinesFault::Read => PlayFault::Read,
+            LinesFault::Write => PlayFault::Write,
+            LinesFault::BadLine(number) => PlayFault::BadLine(number),
+            LinesFault::NoMemory => PlayFault::NoMemory,
+            LinesFault::TooManyLines | LinesFault::WornOut => PlayFault::WornOut,
         }
     }
 }
@@ -91,33 +95,30 @@ pub fn play<R: Source, W: Sink>(
     ensures writes { MatchResult result (λ _. W.failures sink.new ≡ W.failures sink.old)
         (λ fault. W.failures sink.new ≡ W.failures sink.old + failed_writes fault) }
 {
-    let mut end = RemoteEnd::new(alloc)?;
-    let mut reader = LineReader::new(alloc);
-    let mut lines: u64 = 0;
-    'lines: loop {
-        match reader.next(alloc, source) {
-            Err(fault) => return Err(play_fault(fault, lines + 1)),
-            Ok(None) => return Ok(()),
-            Ok(Some(line)) => {
-                let Some(step) = read_step(alloc, &line)? else {
-                    return Err(PlayFault::BadLine(lines + 1));
-                };
-                let sent = end.step(step)?;
-                let text = lines_of(alloc, sent)?;
-                write_all(sink, &text)?;
-                lines += 1;
-            }
-        }
-    }
+    let mut player = Player {
+        end: RemoteEnd::new(alloc)?,
+    };
+    answer_lines(alloc, &mut player, u64::MAX, source, sink)?;
+    Ok(())
 }
 
-// The fault of a play for a fault of its input, at the line of this number.
-fn play_fault(fault: InputFault, number: u64) -> PlayFault
-    ensures { result ≡ play_fault_of fault number }
-{
-    match fault {
-        InputFault::Read => PlayFault::Read,
-        InputFault::BadLine => PlayFault::BadLine(number),
-        InputFault::NoMemory => PlayFault::NoMemory,
+// A remote end, which answers play lines.
+#[derive(Drop)]
+struct Player {
+    end: RemoteEnd,
+}
+
+impl Answerer for Player {
+    ghost answers = { player_answers };
+
+    fn answer(&mut self, alloc: Global, line: &[u8]) -> Result<Option<Vec<u8>>, AnswerFault> {
+        let Some(step) = read_step(alloc, line)? else {
+            return Ok(None);
+        };
+        match self.end.step(step) {
+            Ok(sent) => Ok(Some(lines_of(alloc, sent)?)),
+            Err(RemoteFault::NoMemory) => Err(AnswerFault::NoMemory),
+            Err(RemoteFault::WornOut) => Err(AnswerFault::WornOut),
+        }
     }
 }

@@ -11,6 +11,8 @@ use Rattle.bidi_show.specs.declared.showing.ShowFault.TheVariants as list
 use Rattle.bidi_play.specs.Plays as plays
 use Rattle.bidi_play.specs.Plays.{PlaysAll}
 use Rattle.bidi_play.specs.declared.playing.PlayFault.TheVariants as play
+use Rattle.bidi_reduce.specs.Reduces as reduces
+use Rattle.bidi_reduce.specs.Reduces.{ReducesAll}
 use Rattle.bidi_pair.specs.Pairs as pairs
 use Rattle.bidi_pair.specs.Pairs.{PairsAll}
 use Rattle.bidi_pair.specs.declared.reading.PairFault.TheVariants as pair
@@ -22,6 +24,7 @@ use Rattle.bidi_programs.specs.declared.faults.RunFault.TheVariants.{Play, Pair,
 abbrev pub Completes : Run → ℕ → List ℕ → List ℕ → Type 0
 Completes asked.Play status read wrote = (status ≡ 0) × PlaysAll read wrote
 Completes asked.Pair status read wrote = (status ≡ 0) × PairsAll read wrote
+Completes (asked.Reduce session) status read wrote = (status ≡ 0) × ReducesAll session read wrote
 Completes (asked.Show side) status read wrote = (status ≡ 0) × ListsAll All side read wrote
 Completes (asked.Check side) status read wrote = (status ≡ (if nat_lt 0 (length wrote) then 1 else 0)) × ListsAll RefusedAlone side read wrote
 -- nothing is served over streams alone
@@ -31,6 +34,7 @@ Completes (asked.Serve serving) status read wrote = ⊥
 abbrev pub Stops : Run → RunFault → Bool → List ℕ → List ℕ → Type 0
 Stops asked.Play (Play fault) at_end read wrote = plays.StopsAt fault at_end read wrote
 Stops asked.Pair (Pair fault) at_end read wrote = pairs.StopsAt fault at_end read wrote
+Stops (asked.Reduce session) (Play fault) at_end read wrote = reduces.StopsAt session fault at_end read wrote
 Stops (asked.Show side) (Listing fault) at_end read wrote = lists.StopsAt All side fault at_end read wrote
 Stops (asked.Check side) (Listing fault) at_end read wrote = lists.StopsAt RefusedAlone side fault at_end read wrote
 Stops (asked.Serve serving) (Serve serve.Listen) at_end read wrote = (read ≡ []) × (wrote ≡ [])

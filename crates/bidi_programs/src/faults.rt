@@ -14,7 +14,7 @@ use itoa::Buffer;
 /// Why a run ended before all was done. `status` and `tell` are what a program does about it.
 #[derive(Clone, Copy, Debug, PartialEq, Eq)]
 pub enum RunFault {
-    /// `play` stopped, for this cause.
+    /// `play` or `reduce` stopped, for this cause.
     Play(PlayFault),
     /// `pair` stopped, for this cause.
     Pair(PairFault),

@@ -11,6 +11,7 @@ use super::pairing::play_pair;
 use bidi_arguments::Run;
 use bidi_lines::{Sink, Source};
 use bidi_play::play;
+use bidi_reduce::reduce;
 use bidi_serve::ServeFault;
 use bidi_show::{Listing, list};
 use std::alloc::Global;
@@ -75,6 +76,10 @@ fn finish<R: Source, W: Sink>(
         Run::Pair => match play_pair(alloc, source, sink) {
             Ok(()) => Ok(0),
             Err(fault) => Err(RunFault::Pair(fault)),
+        },
+        Run::Reduce(session) => match reduce(alloc, *session, source, sink) {
+            Ok(()) => Ok(0),
+            Err(fault) => Err(RunFault::Play(fault)),
         },
         Run::Show(side) => match list(alloc, Listing::All, *side, source, sink) {
             Ok(_) => Ok(0),

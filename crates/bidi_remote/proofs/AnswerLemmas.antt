@@ -5,7 +5,7 @@ use Rattle.bidi_remote.specs.Machine.History.{Input}
 use Rattle.bidi_remote.specs.Machine.Sent.{answers_after, answers, out}
 
 -- what comes before more inputs is newest first
-reverse_behind : (i : Input) (inputs h : List Input) → reverse inputs ++ i ∷ h ≡ reverse (i ∷ inputs) ++ h
+pub reverse_behind : (i : Input) (inputs h : List Input) → reverse inputs ++ i ∷ h ≡ reverse (i ∷ inputs) ++ h
 reverse_behind i inputs h = sym (ap (λ r. r ++ h) (reverse-append (i ∷ []) inputs) ∙ append_assoc (reverse inputs) (i ∷ []) h)
 
 after_append : (h inputs more : List Input) → answers_after h (inputs ++ more) ≡ answers_after h inputs ++ answers_after (reverse inputs ++ h) more

@@ -27,3 +27,5 @@ pub mod AskLemmas
 pub mod RouteLemmas
 pub mod ReplyLemmas
 pub mod AnswerLemmas
+pub mod StrikeLemmas
+pub mod HeardLemmas

@@ -19,6 +19,7 @@ mod rows;
 mod session;
 mod sessions;
 mod step;
+mod striking;
 mod subscriptions;
 mod tables;
 mod telling;

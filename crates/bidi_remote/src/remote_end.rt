@@ -1,5 +1,5 @@
 //! The remote end, with its public calls.
-ghost use Rattle.std.specs.Prelude.{◌≡◌, ℕ, ◌<◌, ◌≤◌, ◌↔◌, List, [], ◌∷◌, map, IsTrue, IfOk, OnOk, OnErr, IsOk, IsErrOf, length};
+ghost use Rattle.std.specs.Prelude.{◌≡◌, ℕ, ◌<◌, ◌≤◌, ◌↔◌, List, [], ◌∷◌, map, true, IsTrue, IfOk, OnOk, OnErr, IsOk, IsErrOf, length};
 ghost use Rattle.bidi_remote.specs.Machine.Step as steps;
 ghost use Rattle.bidi_remote.specs.Tables.Messages.{AllReadBack};
 ghost use Rattle.bidi_remote.specs.Tables.View.{step_of, sent_of};
@@ -8,6 +8,7 @@ ghost use Rattle.bidi_remote.specs.Machine.Connections.{is_open};
 ghost use Rattle.bidi_remote.specs.Machine.Outcome.{deeds};
 ghost use Rattle.bidi_remote.specs.Machine.Replies.{IsAnsweredOnce};
 ghost use Rattle.bidi_remote.specs.Machine.Sent.{out};
+ghost use Rattle.bidi_remote.specs.Machine.Strike as strike;
 ghost use Rattle.bidi_remote.specs.declared.remote_end.RemoteFault.TheVariants.{NoMemory};
 
 use crate::step::{Sent, Step};
@@ -117,6 +118,30 @@ impl RemoteEnd {
         let sent = self.tables.take(self.alloc, step, &mut self.scratch)?;
         self.count += 1;
         Ok(sent)
+    }
+
+    /// Whether a step is struck for a session: it is an idle text of another session, one that is refused or
+    /// that only asks or subscribes. Such a step changes nothing for this session, so it need not be taken.
+    ///
+    /// The end stays as it is. A text of another session is judged and decided.
+    ///
+    /// # Errors
+    /// 1. `NoMemory`: an allocation failed.
+    /// 2. `WornOut`: 1,000,000,000 steps were accepted.
+    pub fn is_struck(&mut self, session: u32, step: &Step) -> Result<bool, RemoteFault>
+        ensures struck { (h : List Input) (i : Input) → StandsFor self.old h → IsHeardAs (step_of step.now) i
+            → IfOk result (λ found. found ≡ strike.is_struck (deeds h) session i) }
+        ensures heard { IfOk result (λ found. found ≡ true → (i : Input) × IsHeardAs (step_of step.now) i) }
+        ensures kept { (h : List Input) → StandsFor self.old h → StandsFor self.new h }
+        ensures worn_out { (h : List Input) → StandsFor self.old h → IsErrOf result RemoteFault.WornOut → 1000000000 ≤ length h }
+    {
+        if self.count >= MOST_STEPS {
+            return Err(RemoteFault::WornOut);
+        }
+        Ok(
+            self.tables
+                .is_struck(self.alloc, session, step, &mut self.scratch)?,
+        )
     }
 
     /// Whether the connection of this number is open. Takes no memory.

@@ -1,6 +1,10 @@
 //! The steps that a remote end takes, and what it sends.
+ghost use Rattle.std.specs.Prelude.{◌≡◌, IfOk, string_bytes};
+ghost use Rattle.bidi_remote.specs.Tables.View.{step_of};
+
 use bidi_tree::JsUint;
 use bidi_values::Level;
+use std::alloc::{AllocError, Global};
 
 /// What happens to a remote end. A connection is named by a number that the caller chooses.
 #[derive(Drop)]
@@ -23,6 +27,41 @@ pub enum Step {
     Log(String, Level, String),
     /// A row of the script table is set. The text is the row in JSON; a text that is no row has no effect.
     TableRow(String),
+}
+
+impl Step {
+    /// An equal step. Costs a copy of each of its texts.
+    ///
+    /// # Errors
+    /// No memory: an allocation failed.
+    pub fn copy(&self, alloc: Global) -> Result<Step, AllocError>
+        ensures { IfOk result (λ step. step_of step ≡ step_of self.now) }
+    {
+        match self {
+            Step::At(moment) => Ok(Step::At(*moment)),
+            Step::Open(conn, resource) => Ok(Step::Open(*conn, copy(alloc, resource)?)),
+            Step::Drop(conn) => Ok(Step::Drop(*conn)),
+            Step::Text(conn, text) => Ok(Step::Text(*conn, copy(alloc, text)?)),
+            Step::NotText(conn) => Ok(Step::NotText(*conn)),
+            Step::Frame(context, url) => {
+                let context = copy(alloc, context)?;
+                Ok(Step::Frame(context, copy(alloc, url)?))
+            }
+            Step::Unframe(context) => Ok(Step::Unframe(copy(alloc, context)?)),
+            Step::Log(context, level, text) => {
+                let context = copy(alloc, context)?;
+                Ok(Step::Log(context, *level, copy(alloc, text)?))
+            }
+            Step::TableRow(text) => Ok(Step::TableRow(copy(alloc, text)?)),
+        }
+    }
+}
+
+// A text with the same bytes.
+fn copy(alloc: Global, text: &String) -> Result<String, AllocError>
+    ensures { IfOk result (λ copied. string_bytes copied ≡ string_bytes text.now) }
+{
+    String::from_str(alloc, text.as_str())
 }
 
 /// What a remote end sends for a step, or tells of it. A connection is named by its number.

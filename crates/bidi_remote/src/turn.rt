@@ -41,6 +41,7 @@ pub(crate) struct Asker {
 }
 
 /// The reply to a command that succeeded.
+#[derive(Drop)]
 pub(crate) struct Reply {
     /// The command that it answers.
     pub to: Asker,
@@ -49,6 +50,7 @@ pub(crate) struct Reply {
 }
 
 /// What is sent for a change, in this order.
+#[derive(Drop)]
 pub(crate) struct Telling {
     /// Events for the session that subscribed, and for no other.
     pub announced: Vec<Rc<EventText>>,
@@ -61,6 +63,7 @@ pub(crate) struct Telling {
 }
 
 /// A change, and what is sent for it. Nothing has changed yet.
+#[derive(Drop)]
 pub(crate) struct Turn {
     /// The change.
     pub change: Change,

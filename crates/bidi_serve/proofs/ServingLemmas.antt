@@ -1,7 +1,7 @@
 -- Texts that are sent one after another, and exchanges.
 use Rattle.std.proofs.Common.{◌≡◌, ℕ, Bool, true, false, true≢false, not, List, [], ◌∷◌, ◌++◌, Option, Result}
 use Rattle.std.proofs.Common.{Ok, Err, refl, sym, ap, subst, rules, tests, arith, suc, ◌<◌, ◌-◌}
-use Rattle.std.specs.Prelude.{◌==◌, ◌&&◌, ◌||◌, if◌then◌else◌, is_ok, IfOk, IfErr, OnOk}
+use Rattle.std.specs.Prelude.{◌==◌, ◌&&◌, ◌||◌, if◌then◌else◌, is_ok, IfOk, IfErr, IsErr, IsErrAnd, OnOk}
 use Rattle.bidi_tree.specs.declared.number.JsUint.{JsUint}
 use Rattle.bidi_remote.specs.declared.step.Sent.{Sent}
 use Rattle.bidi_remote.specs.declared.step.Sent.TheVariants as in_hand
@@ -64,6 +64,11 @@ gives (Err e) a f = tt
 pub fails : {T E : Type 0} {A B : E → Type 0} (r : Result T E) → IfErr r A → ((e : E) → A e → B e) → IfErr r B
 fails (Ok x) a f = tt
 fails (Err e) a f = f e a
+
+-- what holds of the fault that a call gives holds of its result
+pub by_fault : {T F : Type 0} (r : Result T F) (f : F) (P : F → Type 0) → IsErr r × IsErrAnd r (λ x. x ≡ f) → P f → IfErr r P
+by_fault (Ok x) f P e p = tt
+by_fault (Err x) f P e p = subst P (sym e.1) p
 
 -- the number of exchanges that are left, where there is one
 pub one-left : (n : ℕ) → 0 < n → n ≡ suc (n - 1)

@@ -8,7 +8,10 @@ use Rattle.bidi_remote.specs.Machine.Sent.{out, texts_on}
 use Rattle.bidi_remote.specs.Tables.Stands.{StandsFor}
 use Rattle.bidi_remote.specs.declared.remote_end.RemoteEnd.{RemoteEnd}
 use Rattle.bidi_remote.specs.declared.remote_end.RemoteFault.{RemoteFault}
+use Rattle.bidi_remote.specs.declared.remote_end.RemoteFault.TheVariants as remote
 use Rattle.bidi_remote.specs.declared.remote_end.RemoteFault.TheVariants.{WornOut}
+use Rattle.bidi_serve.specs.declared.listening.ServeFault.{ServeFault}
+use Rattle.bidi_serve.specs.declared.listening.ServeFault.TheVariants as serve
 use Rattle.bidi_socket.specs.declared.link.Link.{Link}
 use Rattle.bidi_socket.specs.declared.link.LinkFault.{LinkFault}
 use Rattle.bidi_socket.specs.SocketTaking as link
@@ -43,6 +46,11 @@ IsEnd (Err fault) = ⊤
 abbrev pub IsRefused : RemoteEnd → RemoteFault → List Input → Type 0
 IsRefused end fault h = StandsFor end h × (fault ≡ WornOut → 1000000000 ≤ length h)
 
+-- the fault of serving that a fault of the remote end is
+abbrev pub serve_fault_of : RemoteFault → ServeFault
+serve_fault_of remote.NoMemory = serve.NoMemory
+serve_fault_of remote.WornOut = serve.WornOut
+
 -- Texts are sent on a link one after another, up to the first that cannot be. Whether all were is said last.
 pub data AreSent {S K : Type 0} (contents : S → Option (List ℕ)) : Link S K → List (List ℕ) → Link S K → Bool → Type 0 where
   all : (l : Link S K) → AreSent contents l [] l true
@@ -66,6 +74,15 @@ module _ {S K : Type 0} (remaining contents : S → Option (List ℕ)) (conn : �
     used_up : (l : Link S K) (h : List Input) → Exchanges 0 l h l h
     more : (n : ℕ) (l m o : Link S K) (h k j : List Input) → Exchange l h m k true → Exchanges n m k o j → Exchanges (suc n) l h o j
     last : (n : ℕ) (l m : Link S K) (h k : List Input) → Exchange l h m k false → Exchanges (suc n) l h m k
+
+  -- some messages were exchanged, so many at most
+  abbrev pub ExchangedSome : ℕ → Link S K → List Input → List Input → Type 0
+  ExchangedSome messages l h k = (n : ℕ) × (m : Link S K) × (n ≤ messages) × Exchanges n l h m k
+
+  -- what was done of a connection before a step was refused: nothing, or it was opened, and some messages were exchanged
+  pub data Began (resource : List ℕ) (messages : ℕ) (l : Link S K) (h : List Input) : List Input → Type 0 where
+    nothing : Began resource messages l h h
+    opened : (k : List Input) → ExchangedSome messages l (Open conn resource ∷ h) k → Began resource messages l h k
 
   -- a link is closed, where it still is open
   abbrev pub IsClosed : Link S K → Link S K → Type 0

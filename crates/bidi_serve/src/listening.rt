@@ -1,4 +1,8 @@
 //! Serving over a listener: the remote end behind WebSocket connections, one after another.
+ghost use Rattle.std.specs.Prelude.{◌≡◌};
+ghost use Rattle.bidi_serve.specs.Serving.{serve_fault_of};
+ghost use Rattle.bidi_serve.specs.declared.listening.ServeFault.TheVariants.{NoMemory};
+
 use super::serving::serve_link;
 use bidi_remote::{RemoteEnd, RemoteFault};
 use bidi_socket::Link;
@@ -26,14 +30,18 @@ pub enum ServeFault {
 }
 
 impl From<AllocError> for ServeFault {
+    ghost from_gives = { λ _ fault. fault ≡ NoMemory };
+
     fn from(_: AllocError) -> ServeFault {
         ServeFault::NoMemory
     }
 }
 
 impl From<RemoteFault> for ServeFault {
-    fn from(fault: RemoteFault) -> ServeFault {
-        match fault {
+    ghost from_gives = { λ error fault. fault ≡ serve_fault_of error };
+
+    fn from(error: RemoteFault) -> ServeFault {
+        match error {
             RemoteFault::NoMemory => ServeFault::NoMemory,
             RemoteFault::WornOut => ServeFault::WornOut,
         }

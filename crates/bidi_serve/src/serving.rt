@@ -4,7 +4,7 @@ ghost use Rattle.bidi_remote.specs.Machine.History.{Input, Open, IsHeardAs};
 ghost use Rattle.bidi_remote.specs.Machine.Sent.{Text, out, text_on, texts_on};
 ghost use Rattle.bidi_remote.specs.Tables.Stands.{StandsFor};
 ghost use Rattle.bidi_remote.specs.Tables.View.{step_of, sent_of};
-ghost use Rattle.bidi_serve.specs.Serving.{AreSent, Exchange, Exchanged, Exchanges, IsRefused, Served, dropped, is_denied, is_served};
+ghost use Rattle.bidi_serve.specs.Serving.{AreSent, Began, Exchange, Exchanged, ExchangedSome, Exchanges, IsRefused, Served, dropped, is_denied, is_served};
 
 use bidi_remote::{RemoteEnd, RemoteFault, Sent, Step};
 use bidi_socket::{Incoming, Link};
@@ -35,7 +35,10 @@ pub fn serve_link<S: Read + Write + Drop, K: MaskKeys + Drop>(
 ) -> Result<(), RemoteFault>
     ensures ok { (h : List Input) → StandsFor end.old h → OnOk result ((k : List Input) × StandsFor end.new k
         × Served S.remaining S.contents conn.value resource.now messages link.old h link.new k) }
-    ensures err { (h : List Input) → StandsFor end.old h → IfErr result (λ fault. (k : List Input) × IsRefused end.new fault k) }
+    // A step that is refused was not taken, and all before it were: whatever history the end stood for, it stands for that with
+    // what was done of the connection.
+    ensures err { (h : List Input) → StandsFor end.old h → IfErr result (λ fault. (k : List Input) × IsRefused end.new fault k
+        × Began S.remaining S.contents conn.value resource.now messages link.old h k) }
 {
     let made = open(alloc, end, conn, resource)?;
     if made {
@@ -55,7 +58,8 @@ fn serve_open<S: Read + Write + Drop, K: MaskKeys + Drop>(
 ) -> Result<(), RemoteFault>
     ensures ok { (h : List Input) → StandsFor end.old h → OnOk result ((k : List Input) × StandsFor end.new (dropped k conn.value)
         × Exchanged S.remaining S.contents conn.value messages link.old h link.new k) }
-    ensures err { (h : List Input) → StandsFor end.old h → IfErr result (λ fault. (k : List Input) × IsRefused end.new fault k) }
+    ensures err { (h : List Input) → StandsFor end.old h → IfErr result (λ fault. (k : List Input) × IsRefused end.new fault k
+        × ExchangedSome S.remaining S.contents conn.value messages link.old h k) }
 {
     let exchanged = exchange_all(end, link, conn, messages);
     let _ = link.close();
@@ -100,7 +104,8 @@ fn exchange_all<S: Read + Write + Drop, K: MaskKeys + Drop>(
 ) -> Result<(), RemoteFault>
     ensures ok { (h : List Input) → StandsFor end.old h → OnOk result ((k : List Input) × StandsFor end.new k
         × Exchanges S.remaining S.contents conn.value messages link.old h link.new k) }
-    ensures err { (h : List Input) → StandsFor end.old h → IfErr result (λ fault. (k : List Input) × IsRefused end.new fault k) }
+    ensures err { (h : List Input) → StandsFor end.old h → IfErr result (λ fault. (k : List Input) × IsRefused end.new fault k
+        × ExchangedSome S.remaining S.contents conn.value messages link.old h k) }
 {
     let mut left = messages;
     'exchanges: while left > 0 {

@@ -5,7 +5,7 @@ use Rattle.std.specs.Prelude.{IfSome}
 use Rattle.std.specs.Result.{result_err}
 use Rattle.bidi_tree.specs.Node.{Node}
 use Rattle.bidi_tree.specs.declared.number.JsUint.{JsUint}
-use Rattle.bidi_tree.specs.Text.{tree_of_text, compact_text}
+use Rattle.bidi_tree.specs.Text.{compact_text}
 use Rattle.bidi_shape.specs.Name.{message as message_name, command_response, error_response, event as event_name}
 use Rattle.bidi_shape.specs.Term.{rule, ◌or◌}
 use Rattle.bidi_shape.specs.Fits.{Fits}
@@ -32,7 +32,7 @@ use Rattle.bidi_messages.specs.declared.message.ErrorResponse.{ErrorResponse}
 use Rattle.bidi_messages.specs.declared.event.Event.{Event}
 use Rattle.bidi_messages.proofs.CommandLemmas.{id_in-tree, method_in-tree}
 use Rattle.bidi_messages.proofs.MessageLemmas.{echoed_id-response, echoed_id-error, method_in-event}
-use Rattle.bidi_show.specs.MessageLines.{Taken, HasVerdict, Refuses, refused, verdict_shown}
+use Rattle.bidi_show.specs.MessageLines.{Taken, HasTree, HasVerdict, Refuses, refused, verdict_shown}
 use Rattle.bidi_show.specs.MessageLines.{id_text, IsMessageLine, of_response, of_error, of_event, is_message}
 use Rattle.bidi_lines.specs.declared.side.Side.TheVariants.{Local, Remote}
 use Rattle.bidi_lines.specs.declared.side.Side.{Side}
@@ -100,20 +100,20 @@ has_line t (inl f) = (_, of_response f)
 has_line t (inr f) = elim (either_inside f) [ inl g ↦ (_, of_error g) | inr g ↦ (_, of_event g) ]
 
 -- so nothing is refused of the text that has its tree
-pub nothing_refused : (t : Node) → Fits t (rule message_name) → (line : List ℕ) → tree_of_text None line ≡ Some t → Refuses Remote line None
+pub nothing_refused : (t : Node) → Fits t (rule message_name) → (line : List ℕ) → HasTree line t → Refuses Remote line None
 nothing_refused t f line read =
     let p = has_line t (either_inside (rule_inside f)) in
     (Taken p.0, is_message t p.0 read p.1, refl)
 
 -- nor is anything of one that is known as a response
 pub known_refused : (t : Node) (o : Option JsUint) → is_some o ≡ true → IfSome o (λ id. Fits t (rule command_response))
-    → (line : List ℕ) → tree_of_text None line ≡ Some t → Refuses Remote line None
+    → (line : List ℕ) → HasTree line t → Refuses Remote line None
 known_refused t None is f line read = absurd (true≢false (sym is))
 known_refused t (Some id) is f line read = (Taken _, is_message t _ read (of_response f), refl)
 
 -- nor of one that a message was made of
 pub read_refused : (t : Node) (r : Result Message MessageFault) → IfOk r (λ m. (message.ghosts.shape.tree_of m ≡ t) × message.ghosts.shape.well m)
-    → result_err r ≡ None → (line : List ℕ) → tree_of_text None line ≡ Some t → Refuses Remote line None
+    → result_err r ≡ None → (line : List ℕ) → HasTree line t → Refuses Remote line None
 read_refused t (Ok m) h is = nothing_refused t (subst (λ u. Fits u (rule message_name)) h.0 (message.ghosts.shape.fits m h.1))
 read_refused t (Err e) h is = absurd cc
 

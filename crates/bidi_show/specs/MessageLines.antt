@@ -54,12 +54,16 @@ pub data IsMessageLine (t : Node) : List ℕ → Type 0 where
   of_error : Fits t (rule error_response) → IsMessageLine t (codes "error " ++ id_text (echoed_id t) ++ 32 ∷ compact_text t)
   of_event : Fits t (rule event) → IsMessageLine t (codes "event " ++ method_in t ++ 32 ∷ compact_text t)
 
+-- the line is a text that has this tree
+abbrev pub HasTree : List ℕ → Node → Type 0
+HasTree line t = IsUtf8 line × (tree_of_text None line ≡ Some t)
+
 -- What a line of a remote end is shown as: the line of the message that its text's tree is, or why it is none.
 pub data ShowsMessage (line : List ℕ) : Shown → Type 0 where
-  is_message : (t : Node) (text : List ℕ) → tree_of_text None line ≡ Some t → IsMessageLine t text → ShowsMessage line (Taken text)
+  is_message : (t : Node) (text : List ℕ) → HasTree line t → IsMessageLine t text → ShowsMessage line (Taken text)
   is_no_text : (IsUtf8 line → ⊥) → ShowsMessage line (Refused (codes "not json"))
-  is_not_json : tree_of_text None line ≡ None → ShowsMessage line (Refused (codes "not json"))
-  fits_none : (t : Node) → tree_of_text None line ≡ Some t → (Fits t (rule message) → ⊥) → ShowsMessage line (Refused (codes "no fit"))
+  is_not_json : IsUtf8 line → tree_of_text None line ≡ None → ShowsMessage line (Refused (codes "not json"))
+  fits_none : (t : Node) → HasTree line t → (Fits t (rule message) → ⊥) → ShowsMessage line (Refused (codes "no fit"))
 
 -- what a line of the end is shown as
 abbrev pub Shows : Side → List ℕ → Shown → Type 0

@@ -1,15 +1,15 @@
 //! The line that is shown for a text of a local or of a remote end.
-ghost use Rattle.std.specs.Prelude.{◌≡◌, ℕ, List, ◌∷◌, ◌++◌, Some, None, IfOk, MatchOption, codes, decimal, option_map, string_bytes};
+ghost use Rattle.std.specs.Prelude.{◌≡◌, ℕ, List, ◌∷◌, ◌++◌, IfOk, MatchOption, codes, decimal, option_map, string_bytes};
 ghost use Rattle.bidi_tree.specs.Node.{IsWritable};
 ghost use Rattle.bidi_tree.specs.Json.{parsed};
-ghost use Rattle.bidi_tree.specs.Text.{tree_of_text, compact_text};
+ghost use Rattle.bidi_tree.specs.Text.{compact_text};
 ghost use Rattle.bidi_codes.specs.ErrorCode.{error_code_text};
 ghost use Rattle.bidi_subjects.specs.Method.{method_text};
 ghost use Rattle.bidi_subjects.specs.CommandData.{method_of};
 ghost use Rattle.bidi_subjects.specs.EventName.{event_name_text};
 ghost use Rattle.bidi_subjects.specs.EventData.{event_of};
 ghost use Rattle.bidi_messages.specs.View.{verdict_of, IsWell};
-ghost use Rattle.bidi_show.specs.MessageLines.{HasVerdict, IsMessageLine, Refused, Refuses, Shows, ShowsMessage, id_text, refused, shown_of, verdict_shown};
+ghost use Rattle.bidi_show.specs.MessageLines.{HasTree, HasVerdict, IsMessageLine, Refused, Refuses, Shows, ShowsMessage, id_text, refused, shown_of, verdict_shown};
 ghost use Rattle.bidi_lines.specs.declared.side.Side.TheVariants.{Remote};
 
 use bidi_lines::Side;
@@ -179,7 +179,7 @@ fn value_in<'a>(
     scratch: &'a mut Scratch,
 ) -> Result<Option<Value<'a>>, AllocError>
     ensures { IfOk result (λ found. MatchOption found (ShowsMessage line.now (Refused (codes "not json")))
-        (λ v. tree_of_text None line.now ≡ Some (parsed v))) }
+        (λ v. HasTree line.now (parsed v))) }
 {
     let Ok(text) = std::str::from_utf8(line) else {
         return Ok(None);
@@ -194,7 +194,7 @@ fn value_in<'a>(
 
 // What is shown for a value. Of a response that is known as such where it stands no message is made.
 fn show_value(alloc: Global, value: &Value<'_>) -> Result<Shown, AllocError>
-    ensures { IfOk result (λ shown. (line : List ℕ) → tree_of_text None line ≡ Some (parsed value.now) → ShowsMessage line (shown_of shown)) }
+    ensures { IfOk result (λ shown. (line : List ℕ) → HasTree line (parsed value.now) → ShowsMessage line (shown_of shown)) }
 {
     if let Some(id) = response_id(value) {
         return Ok(Shown::Taken(known_response_line(alloc, id, value)?));
@@ -209,7 +209,7 @@ fn show_value(alloc: Global, value: &Value<'_>) -> Result<Shown, AllocError>
 
 // What is refused of a value, which is looked at as it is to be shown.
 fn value_refusal(alloc: Global, value: &Value<'_>) -> Result<Option<String>, AllocError>
-    ensures { IfOk result (λ text. (line : List ℕ) → tree_of_text None line ≡ Some (parsed value.now) → Refuses Remote line (option_map string_bytes text)) }
+    ensures { IfOk result (λ text. (line : List ℕ) → HasTree line (parsed value.now) → Refuses Remote line (option_map string_bytes text)) }
 {
     if response_id(value).is_some() {
         return Ok(None);

@@ -1,5 +1,6 @@
 //! One end of a WebSocket connection.
-ghost use Rattle.std.specs.Prelude.{◌≡◌, ◌⊎◌, false, IfOk, IfErr, OnOk, IsOk, Ok, Err};
+ghost use Rattle.std.specs.Prelude.{◌≡◌, ◌⊎◌, false, IfOk, IfErr, OnOk, IsOk, Ok, Err, None};
+ghost use Rattle.tungstenite.specs.Config.{HasLimitsOf};
 ghost use Rattle.tungstenite.specs.Socket.{Flushed, IsFresh};
 ghost use Rattle.websocket.specs.declared.protocol.config.Role.TheVariants as role;
 ghost use Rattle.bidi_socket.specs.SocketTaking.{IsTaken, Settles, seen, told, told_fault, fault_of, is_last, IsFaultOfTaking};
@@ -63,6 +64,7 @@ impl<S: Read + Write + Drop> Link<S, NoMask> {
     /// No memory: an allocation failed. Today nothing is allocated, so it always succeeds.
     pub fn server(alloc: Global, stream: S) -> Result<Link<S, NoMask>, AllocError>
         ensures fresh { IfOk result (λ link. IsFresh link.socket stream role.Server × (link.is_closed ≡ false)) }
+        ensures limits { IfOk result (λ link. HasLimitsOf link.socket.conn.config None) }
     {
         Ok(Link::over(
             alloc,
@@ -76,6 +78,7 @@ impl<S: Read + Write + Drop, K: MaskKeys + Drop> Link<S, K> {
     /// [`Link::server`].
     pub fn client(alloc: Global, stream: S, keys: K) -> Result<Link<S, K>, AllocError>
         ensures fresh { IfOk result (λ link. IsFresh link.socket stream role.Client × (link.is_closed ≡ false)) }
+        ensures limits { IfOk result (λ link. HasLimitsOf link.socket.conn.config None) }
     {
         Ok(Link::over(
             alloc,

@@ -66,7 +66,24 @@ usage: serve --port 0 --connections 1 --messages 0
 usage: serve --port 0 --connections 1 --messages 100001
 usage: serve --port 0 --port 1 --connections 1 --messages 1
 usage: serve play --port 0 --connections 1 --messages 1
+reduce 1: reduce --session 1
+reduce 0: reduce --session=0
+reduce 4294967295: reduce --session 4294967295 --
+help: reduce --help
+usage: reduce
+usage: reduce 1
+usage: reduce --session
+usage: reduce --session ''
+usage: reduce --session=
+usage: reduce --session -1
+usage: reduce --session=-1
+usage: reduce --session 4294967296
+usage: reduce --session x
+usage: reduce --session 1 2
+usage: reduce --session 1 --session 1
+usage: reduce --from local
 usage: play --port 0
+usage: play --session 1
 usage: play --from local"#;
 
 const HELP: &str = "help
@@ -75,11 +92,12 @@ The two ends of WebDriver BiDi
 Usage: bidi <COMMAND>
 
 Commands:
-  play   Plays steps from the standard input and writes what is sent
-  pair   Plays steps of both ends from the standard input and writes what became of each command
-  show   Writes a line for each text of the standard input
-  check  Writes a line for each text of the standard input that is refused
-  serve  Serves WebSocket connections, one after another
+  play    Plays steps from the standard input and writes what is sent
+  pair    Plays steps of both ends from the standard input and writes what became of each command
+  reduce  Writes the lines of a play without what other sessions only asked or subscribed
+  show    Writes a line for each text of the standard input
+  check   Writes a line for each text of the standard input that is refused
+  serve   Serves WebSocket connections, one after another
 
 Options:
   -h, --help  Print help
@@ -133,6 +151,7 @@ fn run_text(alloc: Global, run: Run) -> Result<String, AllocError> {
     match run {
         Run::Play => String::from_str(alloc, "play"),
         Run::Pair => String::from_str(alloc, "pair"),
+        Run::Reduce(session) => format!(in alloc; "reduce {session}"),
         Run::Show(side) => format!(in alloc; "show {}", side_name(side)),
         Run::Check(side) => format!(in alloc; "check {}", side_name(side)),
         Run::Serve(asked) => {

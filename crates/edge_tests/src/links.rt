@@ -35,6 +35,7 @@ client 81 02 7b 7d / take send -> {} Ok / 81 82 12 34 56 78 69 49
 to-server / send send -> {} {} /
 to-client / send send -> {} {} /
 more than may wait | narrow 81 82 00 00 00 00 7b 7d / send take send -> Err(Full) {} Err(Full) /
+a megabyte | server 81 ff 00 00 00 00 00 10 00 00 00 00 00 00 «1048576 7b »/ take -> «1048576 {» /
 ";
 
 #[test]

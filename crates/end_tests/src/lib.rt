@@ -1,4 +1,4 @@
-//! The tests of the browser, the remote end and both ends together, through their public calls.
+//! The tests of the browser, the remote end, what is struck, and both ends together, through their public calls.
 #![tactic(auto)]
 
 #[cfg(test)]
@@ -7,3 +7,5 @@ mod browser;
 mod link;
 #[cfg(test)]
 mod remote;
+#[cfg(test)]
+mod strike;

@@ -129,7 +129,7 @@ fn played(alloc: Global, play: &str) -> Result<String, Fail> {
     Ok(told)
 }
 
-fn step(alloc: Global, line: &str) -> Result<Step, Fail> {
+pub(crate) fn step(alloc: Global, line: &str) -> Result<Step, Fail> {
     let (word, rest) = line.split_once(' ').ok_or("no number")?;
     if let Some(step) = page_step(alloc, word, rest)? {
         return Ok(step);

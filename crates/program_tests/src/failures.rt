@@ -31,8 +31,9 @@ fn each_line_before_a_failed_read_is_answered(rt: HostRuntime) -> Result<(), Fai
     check_reads(&rt, &Run::Play, PLAY, PLAYED)?;
     check_reads(&rt, &Run::Show(Side::Local), TWO, SHOWN)?;
     check_reads(&rt, &Run::Check(Side::Local), TWO, CHECKED)?;
-    // What became of a command is known at the end alone.
-    check_reads(&rt, &Run::Pair, PAIR, "")
+    // What became of a command is known at the end alone, and what is kept of a play is written then.
+    check_reads(&rt, &Run::Pair, PAIR, "")?;
+    check_reads(&rt, &Run::Reduce(1), PLAY, "")
 }
 
 #[test]
@@ -40,7 +41,8 @@ fn a_failed_write_ends_the_run(rt: HostRuntime) -> Result<(), Fail> {
     check_writes(&rt, &Run::Play, PLAY, PLAYED)?;
     check_writes(&rt, &Run::Show(Side::Local), TWO, SHOWN)?;
     check_writes(&rt, &Run::Check(Side::Local), TWO, CHECKED)?;
-    check_writes(&rt, &Run::Pair, PAIR, PAIRED)
+    check_writes(&rt, &Run::Pair, PAIR, PAIRED)?;
+    check_writes(&rt, &Run::Reduce(1), PLAY, PLAY)
 }
 
 #[test]

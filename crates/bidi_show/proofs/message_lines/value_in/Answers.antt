@@ -9,4 +9,4 @@ returns-in_default c = is_no_text c.in_default.ensures.cases.0
 pub returns-in-Err-NotJson : goal.returns-in-Err-NotJson
 returns-in-Err-NotJson c =
     let refused = c.in-Err-NotJson.ensures.not_json (ap Err c.in-Err-NotJson.field-0-is) in
-    is_not_json (subst (λ s. tree_of_text None s ≡ None) c.in-Ok.ensures.cases.0 refused.1)
+    is_not_json c.in-Ok.ensures.cases.1 (subst (λ s. tree_of_text None s ≡ None) c.in-Ok.ensures.cases.0 refused.1)

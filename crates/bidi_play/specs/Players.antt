@@ -1,0 +1,40 @@
+-- What a remote end has done that answers play lines one by one.
+use Rattle.std.specs.Prelude.{◌≡◌, ℕ, ◌≤◌, List, length, map, reverse}
+use Rattle.std.specs.List.{AllByRecursion}
+use Rattle.bidi_lines.specs.Answering.{AnswersOf}
+use Rattle.bidi_remote.specs.declared.remote_end.RemoteEnd.{RemoteEnd}
+use Rattle.bidi_remote.specs.Machine.Step.{Step}
+use Rattle.bidi_remote.specs.Machine.History.{Input, AreHeardAs}
+use Rattle.bidi_remote.specs.Machine.Sent.{answers}
+use Rattle.bidi_remote.specs.Tables.Messages.{AllReadBack}
+use Rattle.bidi_remote.specs.Tables.Stands.{StandsFor}
+use Rattle.bidi_play.specs.Lines.{line_of, CanBeSaid, written}
+use Rattle.bidi_play.specs.declared.playing.Player.{Player}
+
+-- the line is that of a step
+abbrev pub SaysAStep : List ℕ → Type 0
+SaysAStep line = (s : Step) × CanBeSaid s × (line ≡ line_of s)
+
+-- the line is that of no step
+abbrev pub SaysNoStep : List ℕ → Type 0
+SaysNoStep line = (s : Step) → CanBeSaid s → line ≡ line_of s → ⊥
+
+-- The end has taken the steps that these lines say, and the text is the lines of what the machine answers to them.
+pub record HasPlayed (end : RemoteEnd) (lines : List (List ℕ)) (text : List ℕ) : Type 0 where
+  pub steps : List Step
+  pub say : lines ≡ map line_of steps
+  pub each : AllByRecursion CanBeSaid steps
+  pub inputs : List Input
+  pub heard : AreHeardAs steps inputs
+  pub answer : text ≡ written (answers inputs)
+  pub reads_back : AllReadBack (answers inputs)
+  pub stands : StandsFor end (reverse inputs)
+  pub few : length steps ≤ 1000000000
+
+-- a player answers play lines, refuses all others, and takes 1,000,000,000
+abbrev pub player_answers : AnswersOf Player
+player_answers = record {
+  has_answered = λ first player lines text. HasPlayed player.end lines text;
+  refuses = SaysNoStep;
+  is_worn_out = λ lines line. (length lines ≡ 1000000000) × SaysAStep line;
+}

@@ -1,0 +1,80 @@
+use Rattle.std.proofs.Common.{[], refl, subst, take}
+use Rattle.std.specs.Io.KnownBytes.{Appends}
+use Rattle.std.proofs.KnownBytes.{Appends-trans}
+use Rattle.bidi_lines.proofs.ResultLemmas.{by_fault}
+use Rattle.bidi_play.specs.declared.playing.PlayFault.TheVariants.{Write}
+use Rattle.bidi_play.specs.Plays.{play_fault_of}
+use Rattle.bidi_strike.proofs.AlikeLemmas.{sees-strike}
+use Rattle.bidi_strike.proofs.StrikeLemmas.{follows_none}
+use Rattle.bidi_reduce.specs.declared.reducing.Reducer.{Reducer}
+use Rattle.bidi_reduce.proofs.ReduceLemmas.{reduce_stop, reduces_all, write_stop}
+use Rattle.bidi_reduce.proofs.reducing.reduce.Goals as goal
+
+pub returns-in_err-new-clause-sees_same : goal.returns-in_err-new-clause-sees_same
+returns-in_err-new-clause-sees_same g c = sees-strike
+
+pub answer_lines-requires : goal.answer_lines-requires
+answer_lines-requires g c = record {
+  steps = [];
+  say = refl;
+  each = tt;
+  inputs = [];
+  heard = tt;
+  session = refl;
+  follows = follows_none c.in_ok-new.field-0 c.args.session c.in_ok-new.ensures;
+  kept = c.new-2.ensures.items;
+  none = refl;
+}
+
+pub returns-in_err-answer_lines-clause-err : goal.returns-in_err-answer_lines-clause-err
+returns-in_err-answer_lines-clause-err g c =
+    let first : Reducer = record { end = c.in_ok-new.field-0; session = c.args.session; kept = c.new-2.result } in
+    let f = c.in_err-answer_lines.field-0.0 in
+    let (read, wrote, consumes, appends, stops) = c.in_err-answer_lines.ensures.err in
+    by_fault c.from_residual-in_err-answer_lines.result (play_fault_of f) _ c.from_residual-in_err-answer_lines.ensures (
+      read,
+      wrote,
+      consumes,
+      appends,
+      reduce_stop first f (g.R.Source.has_ended c.answer_lines.new.source) read wrote stops,
+    )
+
+pub returns-in_err-answer_lines-clause-sees_same : goal.returns-in_err-answer_lines-clause-sees_same
+returns-in_err-answer_lines-clause-sees_same g c = sees-strike
+
+pub returns-in_err-write_all-clause-err : goal.returns-in_err-write_all-clause-err
+returns-in_err-write_all-clause-err g c =
+    let first : Reducer = record { end = c.in_ok-new.field-0; session = c.args.session; kept = c.new-2.result } in
+    let reducer = c.answer_lines.new.answerer in
+    let (read, wrote, consumes, appends, answered) = c.in_ok-answer_lines.ensures.ok in
+    let (all, none) = reduces_all first reducer read wrote answered in
+    let (n, few, part) = c.in_err-write_all.ensures.err in
+    by_fault c.from_residual-in_err-write_all.result Write _ c.from_residual-in_err-write_all.ensures (
+      read,
+      take n reducer.kept.items,
+      consumes,
+      Appends-trans _ _ _ _ _ (subst (Appends (g.W.Sink.contents c.args.sink.now) (g.W.Sink.contents c.answer_lines.new.sink)) none appends)
+          (subst (λ t. Appends (g.W.Sink.contents c.answer_lines.new.sink) (g.W.Sink.contents c.write_all.new.sink) (take n t)) c.deref.ensures.value part),
+      write_stop c.args.session n (g.R.Source.has_ended c.answer_lines.new.source) read reducer.kept.items all,
+    )
+
+pub returns-in_err-write_all-clause-sees_same : goal.returns-in_err-write_all-clause-sees_same
+returns-in_err-write_all-clause-sees_same g c = sees-strike
+
+pub returns-clause-ok : goal.returns-clause-ok
+returns-clause-ok g c =
+    let first : Reducer = record { end = c.in_ok-new.field-0; session = c.args.session; kept = c.new-2.result } in
+    let reducer = c.answer_lines.new.answerer in
+    let (read, wrote, consumes, appends, answered) = c.in_ok-answer_lines.ensures.ok in
+    let (all, none) = reduces_all first reducer read wrote answered in (
+      read,
+      reducer.kept.items,
+      consumes,
+      Appends-trans _ _ _ _ _ (subst (Appends (g.W.Sink.contents c.args.sink.now) (g.W.Sink.contents c.answer_lines.new.sink)) none appends)
+          (subst (Appends (g.W.Sink.contents c.answer_lines.new.sink) (g.W.Sink.contents c.write_all.new.sink)) c.deref.ensures.value
+          c.in_ok-write_all.ensures.ok),
+      all,
+    )
+
+pub returns-clause-sees_same : goal.returns-clause-sees_same
+returns-clause-sees_same g c = sees-strike

@@ -1,0 +1,2 @@
+pub mod Reduces
+pub mod Reducers
