@@ -19,7 +19,6 @@ use Rattle.bidi_lines.specs.declared.answering.LinesFault.{LinesFault}
 use Rattle.bidi_lines.specs.declared.answering.LinesFault.TheVariants as fault
 use Rattle.bidi_lines.proofs.AnsweringLemmas.{all_more}
 use Rattle.bidi_play.specs.Lines.{line_of, said, CanBeSaid, written, sent_line}
-use Rattle.bidi_play.specs.Plays as play
 use Rattle.bidi_play.specs.Plays.{Play, PlaysAll, HasNoPlayLine, StopsAt, play_fault_of}
 use Rattle.bidi_play.specs.Players.{HasPlayed, SaysNoStep, player_answers}
 use Rattle.bidi_play.specs.declared.playing.Player.{Player}
@@ -108,20 +107,3 @@ play_stop first fault.NoMemory most at_end read wrote many (t, lines, rest, b, p
     (p.steps, rest, wrote, [], play_of t.end read rest wrote lines b p, sym (append-nil wrote))
 play_stop first fault.Write most at_end read wrote many (text, more, (t, lines, rest, b, p, any), e, left) =
     (p.steps, rest, text, more, play_of t.end read rest text lines b p, e)
-
--- it is blamed on the same device
-pub same_reads : (f : LinesFault) → lines.failed_reads f ≡ play.failed_reads (play_fault_of f)
-same_reads fault.Read = refl
-same_reads fault.Write = refl
-same_reads (fault.BadLine n) = refl
-same_reads fault.NoMemory = refl
-same_reads fault.TooManyLines = refl
-same_reads fault.WornOut = refl
-
-pub same_writes : (f : LinesFault) → lines.failed_writes f ≡ play.failed_writes (play_fault_of f)
-same_writes fault.Read = refl
-same_writes fault.Write = refl
-same_writes (fault.BadLine n) = refl
-same_writes fault.NoMemory = refl
-same_writes fault.TooManyLines = refl
-same_writes fault.WornOut = refl

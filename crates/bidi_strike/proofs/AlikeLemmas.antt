@@ -47,3 +47,26 @@ sees-alike s h g (i ∷ inputs) alike = step (is_struck (deeds h) s i) refl (λ 
 -- a session sees the same of a play and of what is kept of it
 pub sees-strike : (inputs : List Input) (s : ℕ) → sees inputs s ≡ sees (strike inputs s) s
 sees-strike inputs s = sees-alike s [] [] inputs refl
+
+-- ---- what is kept is kept again
+
+-- after histories that are alike nothing is struck of what was kept
+kept-again : (s : ℕ) (h g : List Input) (inputs : List Input) → Alike s (deeds h) (deeds g)
+    → (let left = items_where_true (keeps_after h s inputs) inputs in items_where_true (keeps_after g s left) left ≡ left)
+kept-again s h g [] alike = refl
+kept-again s h g (i ∷ inputs) alike = step (is_struck (deeds h) s i) refl (λ k. kept-again s (i ∷ h) k inputs)
+  where
+    rest : List Input
+    rest = items_where_true (keeps_after (i ∷ h) s inputs) inputs
+
+    step : (b : Bool) → is_struck (deeds h) s i ≡ b
+        → ((k : List Input) → Alike s (deeds (i ∷ h)) (deeds k) → items_where_true (keeps_after k s rest) rest ≡ rest)
+        → (let left = items_where_true (not b ∷ keeps_after (i ∷ h) s inputs) (i ∷ inputs) in items_where_true (keeps_after g s left) left ≡ left)
+    step true struck ih = ih g (alike-struck s (deeds h) (deeds g) i alike struck)
+    step false kept ih =
+        ap (λ b. items_where_true (not b ∷ keeps_after (i ∷ g) s rest) (i ∷ rest)) (sym (struck-alike s (deeds h) (deeds g) i alike) ∙ kept)
+        ∙ ap (λ xs. i ∷ xs) (ih (i ∷ g) (alike-kept s (deeds h) (deeds g) i alike kept))
+
+-- of what is kept of a play all is kept
+pub strike-strike : (inputs : List Input) (s : ℕ) → strike (strike inputs s) s ≡ strike inputs s
+strike-strike inputs s = kept-again s [] [] inputs refl

@@ -18,7 +18,7 @@ use Rattle.bidi_remote.proofs.HeardLemmas.{heard-kept, length-heard}
 use Rattle.bidi_strike.specs.Own.{Alike}
 use Rattle.bidi_strike.specs.Follows.{Follows, is_kept}
 use Rattle.bidi_strike.specs.Strikes.{Strikes}
-use Rattle.bidi_strike.proofs.AlikeLemmas.{alike-kept, alike-struck, sees-strike, struck-alike}
+use Rattle.bidi_strike.proofs.AlikeLemmas.{alike-kept, alike-struck, sees-strike, strike-strike, struck-alike}
 
 -- ---- what is kept
 
@@ -60,6 +60,7 @@ strikes s steps kept inputs heard left = record {
   left = left;
   heard_left = subst (λ xs. AreHeardAs xs (items_where_true (keeps_after [] s inputs) inputs)) (sym left) (heard-kept (keeps_after [] s inputs) steps inputs heard);
   same = sees-strike inputs s;
+  again = strike-strike inputs s;
 }
 
 -- ---- steps in hand
@@ -138,8 +139,3 @@ follows_kept end after s inputs i f takes kept =
         few = omega (arith, long, few);
       },
     )
-
--- the same of an end that stands for the same
-pub follows_same : (end after : RemoteEnd) (s : ℕ) (inputs : List Input)
-    → ((h : List Input) → StandsFor end h → StandsFor after h) → Follows end s inputs → Follows after s inputs
-follows_same end after s inputs stays f = record { taken = f.taken; stands = stays f.taken f.stands; alike = f.alike; few = f.few }
