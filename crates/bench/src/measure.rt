@@ -10,7 +10,7 @@ use std::time::{Duration, Instant};
 const PARTS: u32 = 10;
 
 /// What a text is read as.
-pub trait Subject {
+pub trait Payload {
     /// Reads the text, in a scratch that is kept.
     fn read(alloc: Global, text: &str, scratch: &mut Scratch) -> Result<()>;
 
@@ -36,7 +36,7 @@ struct Measure {
 }
 
 /// Does the task once, and gives the bytes written, or 1 where nothing is written.
-fn once<S: Subject>(alloc: Global, task: Task, text: &str, scratch: &mut Scratch) -> Result<usize> {
+fn once<S: Payload>(alloc: Global, task: Task, text: &str, scratch: &mut Scratch) -> Result<usize> {
     match task {
         Task::Parse => {
             if Value::from_str(alloc, text).is_err() {
@@ -67,7 +67,7 @@ impl Measure {
     }
 
     /// Does the task so often, as one part.
-    fn part<S: Subject, R: Clock + AllocGlobal>(
+    fn part<S: Payload, R: Clock + AllocGlobal>(
         &mut self,
         rt: &R,
         text: &str,
@@ -95,7 +95,7 @@ impl Measure {
 }
 
 /// Measures one text, the tasks by turns.
-pub fn measure_text<S: Subject, R: Clock + Print + Eprint + AllocGlobal>(
+pub fn measure_text<S: Payload, R: Clock + Print + Eprint + AllocGlobal>(
     rt: &R,
     name: &str,
     text: &str,

@@ -1,5 +1,5 @@
 //! Judging command texts, and reading and writing events, beside `serde_json` alone.
-use crate::measure::{Subject, measure_text};
+use crate::measure::{Payload, measure_text};
 use crate::texts;
 use anyhow::{Result, bail};
 use bidi_messages::{Sendable, Verdict, judge_with, read_message_with, text_of};
@@ -10,7 +10,7 @@ use std::rt::Clock;
 /// Texts that are judged.
 struct Commands;
 
-impl Subject for Commands {
+impl Payload for Commands {
     fn read(alloc: Global, text: &str, scratch: &mut Scratch) -> Result<()> {
         if judge_with(alloc, text, scratch).is_err() {
             bail!("an allocation failed");
@@ -29,7 +29,7 @@ impl Subject for Commands {
 /// Texts of the remote end.
 struct Messages;
 
-impl Subject for Messages {
+impl Payload for Messages {
     fn read(alloc: Global, text: &str, scratch: &mut Scratch) -> Result<()> {
         if read_message_with(alloc, text, scratch).is_err() {
             bail!("the text is no message");

@@ -1,5 +1,5 @@
 //! Reading and writing trees, beside `serde_json` alone.
-use crate::measure::{Subject, measure_text};
+use crate::measure::{Payload, measure_text};
 use crate::texts;
 use anyhow::{Result, bail};
 use bidi_tree::{read, write};
@@ -12,7 +12,7 @@ const LONG: u32 = 10_000;
 
 struct Trees;
 
-impl Subject for Trees {
+impl Payload for Trees {
     fn read(alloc: Global, text: &str, _scratch: &mut Scratch) -> Result<()> {
         let _tree = read(alloc, text, None)?;
         Ok(())

@@ -1,4 +1,4 @@
-//! `bidi`: the programs over the two ends of WebDriver BiDi.
+//! The program `bidi`, over the standard streams and a listener.
 //!
 //! `bidi play` reads a play from standard input, a step a line, and writes what the remote end sends.
 //! `bidi pair` reads steps of both ends, and writes what became of each command and which events each link received.
@@ -7,7 +7,7 @@
 //! `bidi serve` serves WebSocket connections on 127.0.0.1.
 #![tactic(auto)]
 
-use bidi_arguments::{LineFault, Run, ServeOptions, command_line};
+use bidi_command_line::{LineFault, Run, ServeOptions, command_line};
 use bidi_lines::{Device, Sink, write_all};
 use bidi_programs::{run, serving_status};
 use bidi_serve::{ServeFault, serve};

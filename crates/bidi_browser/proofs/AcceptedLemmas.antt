@@ -2,8 +2,8 @@
 use Rattle.std.proofs.Common.{◌≡◌, ap, ◌≤◌, ◌<◌, ℕ, suc, Bool, true, false, List, [], ◌∷◌, refl, subst, arith}
 use Rattle.std.specs.Prelude.{◌==◌, not, ◌&&◌, ◌||◌, nat_lt, if◌then◌else◌, bytes_eq, filter, find, Option, Some, None, is_none, Result, Ok, Err}
 use Rattle.std.proofs.lemmas.Bool.Decides.{nat_tests, Decides-eqb, Decides-ltb}
-use Rattle.bidi_codes.specs.declared.error_code.ErrorCode.{ErrorCode}
-use Rattle.bidi_codes.specs.declared.error_code.ErrorCode.TheVariants.{InvalidArgument, NoSuchFrame, UnknownError, UnsupportedOperation}
+use Rattle.bidi_params.specs.declared.error_code.ErrorCode.{ErrorCode}
+use Rattle.bidi_params.specs.declared.error_code.ErrorCode.TheVariants.{InvalidArgument, NoSuchFrame, UnknownError, UnsupportedOperation}
 use Rattle.bidi_handles.specs.declared.id.IdKind.TheVariants.{Context, Realm}
 use Rattle.bidi_handles.specs.Ids.{id_of}
 use Rattle.bidi_browser.specs.Urls.{parsed}
@@ -11,7 +11,7 @@ use Rattle.bidi_browser.specs.Acts.{Act, Made, Framed, Removed, Moved, Ran, Look
 use Rattle.bidi_browser.specs.Contexts.{parent_of, level_of, is_under, is_born, is_gone, is_alive, up_to}
 use Rattle.bidi_browser.specs.Actions.{Action, Activate, Close, Create, GetTree, Navigate, Reload, TraverseHistory}
 use Rattle.bidi_browser.specs.Actions.{Evaluate, CallFunction, Disown, GetRealms, Frame, Unframe, Log, TableRow}
-use Rattle.bidi_codes.specs.Checks.{◌>>=◌, need, found}
+use Rattle.bidi_handles.specs.Checks.{◌>>=◌, need, found}
 use Rattle.bidi_browser.specs.Outcome.{context_named, top_named, looked, looked_at, has_room, realm_targeted, this_resolved, ending_of, ending_outcome, outcome}
 use Rattle.bidi_browser.specs.Accepted.{AreAccepted}
 use Rattle.bidi_browser.specs.Realms.{row_of, held_value}

@@ -3,17 +3,17 @@ use Rattle.std.proofs.Common.{◌≡◌, ◌∙◌, ℕ, zero, suc, Bool, true, 
 use Rattle.std.specs.Prelude.{option_map, slice_get, unwrap_or}
 use Rattle.std.specs.Result.{IsErrAnd}
 use Rattle.bidi_tree.specs.Node.{Node}
-use Rattle.bidi_codes.specs.declared.error_code.ErrorCode.{ErrorCode}
-use Rattle.bidi_codes.specs.declared.error_code.ErrorCode.TheVariants.{UnsupportedOperation}
-use Rattle.bidi_subjects.specs.declared.result_data.ResultData.{ResultData}
+use Rattle.bidi_params.specs.declared.error_code.ErrorCode.{ErrorCode}
+use Rattle.bidi_params.specs.declared.error_code.ErrorCode.TheVariants.{UnsupportedOperation}
+use Rattle.bidi_methods.specs.declared.result_data.ResultData.{ResultData}
 use Rattle.bidi_handles.specs.declared.handle.Ending as declared_ending
 use Rattle.bidi_browser.specs.declared.plan.Edit.{Edit}
 use Rattle.bidi_browser.specs.declared.plan.Plan.{Plan}
-use Rattle.bidi_codes.specs.declared.refusal.Refusal.{Refusal}
-use Rattle.bidi_codes.specs.declared.refusal.Refusal.TheVariants.{Code, NoMemory}
+use Rattle.bidi_handles.specs.declared.refusal.Refusal.{Refusal}
+use Rattle.bidi_handles.specs.declared.refusal.Refusal.TheVariants.{Code, NoMemory}
 use Rattle.bidi_browser.specs.Acts.{Act, Ending, ScriptEffect, GivesBack}
 use Rattle.bidi_browser.specs.Actions.{Action, Target, is_asked}
-use Rattle.bidi_codes.specs.Checks.{◌>>=◌, found}
+use Rattle.bidi_handles.specs.Checks.{◌>>=◌, found}
 use Rattle.bidi_browser.specs.Occurs.{Replies, occurs}
 use Rattle.bidi_browser.specs.Outcome.{call_outcome, ending_of, ending_outcome, outcome, realm_targeted, this_resolved, undefined}
 use Rattle.bidi_browser.specs.Plans.{Plans, EditMakes}

@@ -8,10 +8,9 @@ use Rattle.std.proofs.Math.Seq.{take-append_seam, drop-append_seam}
 use Rattle.std.proofs.lemmas.Bool.Decides.{Decides-ltb}
 use Rattle.url.specs.Parts.{Parts}
 use Rattle.bidi_tree.specs.Node.{Node}
-use Rattle.bidi_subjects.specs.declared.event_data.EventName.{EventName}
-use Rattle.bidi_subjects.specs.declared.event_data.EventName.TheVariants.{NavigationStarted, DomContentLoaded, Load}
-use Rattle.bidi_subjects.specs.contracts.event_data.EventDataSubjectEventName.TheImpl.{ghosts}
-use Rattle.bidi_subjects.specs.declared.result_data.ResultData.{ResultData}
+use Rattle.bidi_methods.specs.declared.event_data.EventName.{EventName}
+use Rattle.bidi_methods.specs.declared.event_data.EventName.TheVariants.{NavigationStarted, DomContentLoaded, Load}
+use Rattle.bidi_methods.specs.declared.result_data.ResultData.{ResultData}
 use Rattle.bidi_handles.specs.declared.id.IdKind.TheVariants.{Realm, Navigation}
 use Rattle.bidi_browser.specs.declared.occurrence.Occurrence as in_hand
 use Rattle.bidi_browser.specs.declared.navigation.Told.{Told}
@@ -173,9 +172,9 @@ told-parted past moment c move wait told xs n all at before after = λ reply.
     (Happens (navigation_event past moment c url Load)) (unloading past (Moved c move) c)
     (happened xs) n (ap (map Happens) all ∙ all-happen past moment c move) (at ∙ ap (before_reply wait) (sym (ap length (seen-map xs) ∙ length-map xs _))))
   where
-    seen-map : (os : List in_hand.Occurrence) → map Happens (seen os) ≡ map (λ o. Happens (occurrence_of ghosts.subject o)) os
+    seen-map : (os : List in_hand.Occurrence) → map Happens (seen os) ≡ map (λ o. Happens (occurrence_of o)) os
     seen-map [] = refl
-    seen-map (o ∷ os) = ap (λ is. Happens (occurrence_of ghosts.subject o) ∷ is) (seen-map os)
+    seen-map (o ∷ os) = ap (λ is. Happens (occurrence_of o) ∷ is) (seen-map os)
 
 -- ---- plans
 

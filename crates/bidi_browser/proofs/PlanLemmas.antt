@@ -10,14 +10,14 @@ use Rattle.std.proofs.lemmas.Simd.{map-map}
 use Rattle.url.specs.Parts.{Parts}
 use Rattle.bidi_tree.specs.Node.{Node, levels, items_levels}
 use Rattle.bidi_tree.specs.View.{items_of}
-use Rattle.bidi_subjects.specs.declared.result_data.ResultData.{ResultData}
-use Rattle.bidi_codes.specs.declared.error_code.ErrorCode.TheVariants.{NoSuchFrame}
-use Rattle.bidi_subjects.specs.contracts.result_data.ResultDataSubjectMethod.TheImpl as results
+use Rattle.bidi_methods.specs.declared.result_data.ResultData.{ResultData}
+use Rattle.bidi_params.specs.declared.error_code.ErrorCode.TheVariants.{NoSuchFrame}
+use Rattle.bidi_methods.specs.contracts.result_data.ResultDataPayloadMethod.TheImpl as results
 use Rattle.bidi_values.specs.declared.log_entry.Level.{Level}
-use Rattle.bidi_codes.specs.declared.refusal.Refusal.{Refusal}
-use Rattle.bidi_codes.specs.declared.refusal.Refusal.TheVariants.{Code, NoMemory}
+use Rattle.bidi_handles.specs.declared.refusal.Refusal.{Refusal}
+use Rattle.bidi_handles.specs.declared.refusal.Refusal.TheVariants.{Code, NoMemory}
 use Rattle.bidi_browser.specs.declared.occurrence.Occurrence as in_hand
-use Rattle.bidi_browser.specs.declared.contexts.Context as declared_context
+use Rattle.bidi_browser.specs.declared.context.Context as declared_context
 use Rattle.bidi_browser.specs.declared.plan.Plan.{Plan}
 use Rattle.bidi_browser.specs.declared.plan.Edit.TheVariants.{Keep}
 use Rattle.bidi_handles.specs.declared.id.IdKind.TheVariants.{Context, Realm, Window}
@@ -29,7 +29,7 @@ use Rattle.bidi_browser.specs.Actions.{Action, Log, TableRow, is_asked}
 use Rattle.bidi_browser.specs.Found.{AreTold}
 use Rattle.bidi_handles.specs.Maps.{nothing}
 use Rattle.bidi_browser.specs.Contexts.{parent_of, top_of, level_of, window_of, contexts, context_of, tops, subtree_of, tree_order}
-use Rattle.bidi_codes.specs.Checks.{found}
+use Rattle.bidi_handles.specs.Checks.{found}
 use Rattle.bidi_browser.specs.Outcome.{outcome, context_named, looked, looked_at, has_room, frame_outcome, log_outcome, oldest_window, row_in, row_checked}
 use Rattle.bidi_browser.specs.Occurrences.{Occurrence, realm_info, realm_destroyed, context_destroyed, removal, tree_events}
 use Rattle.bidi_browser.specs.Occurs.{Happens, Replies, roots, realm_holders, birth, occurs}
@@ -119,7 +119,7 @@ windows-flat see true (x ∷ xs) =
     omega (arith, flat, rest)
 
 -- a result of which a message can be made
-pub result-well : (r : ResultData) (t : Node) → results.ghosts.subject.well r → result_tree r ≡ t → levels t ≤ 61 → IsWellResult r
+pub result-well : (r : ResultData) (t : Node) → results.ghosts.payload.well r → result_tree r ≡ t → levels t ≤ 61 → IsWellResult r
 result-well r t well is few = (well, subst (λ u. levels u ≤ 61) (sym is) few)
 
 -- a plan without events, with such a result

@@ -6,13 +6,13 @@ use Rattle.std.specs.List.{list_any}
 use Rattle.std.proofs.lemmas.Bool.Decides.{Decides-eqb}
 use Rattle.std.proofs.lemmas.List.Folds.{flat_map-map}
 use Rattle.std.proofs.lemmas.Simd.{map-map}
-use Rattle.bidi_browser.specs.declared.contexts.Context.{Context}
+use Rattle.bidi_browser.specs.declared.context.Context.{Context}
 use Rattle.bidi_browser.specs.Acts.{Act}
 use Rattle.bidi_browser.specs.Contexts.{contexts, tops, children_of, subtree_within, subtree_of, tree_order, is_alive, parent_of, level_of, window_of}
 use Rattle.bidi_browser.specs.Realms.{realm_of, realms}
 use Rattle.bidi_browser.specs.Info.{children_tree, depth_below, info_within, info_of}
 use Rattle.bidi_browser.specs.Occurrences.{occurrence, context_created, context_destroyed, realm_created, realm_destroyed}
-use Rattle.bidi_subjects.specs.declared.event_data.EventName.TheVariants.{ContextDestroyed}
+use Rattle.bidi_methods.specs.declared.event_data.EventName.TheVariants.{ContextDestroyed}
 use Rattle.bidi_browser.specs.Outcome.{oldest_window}
 use Rattle.bidi_browser.specs.Accepted.{AreAccepted}
 use Rattle.bidi_browser.specs.ContextRows.{ContextRow, row_of, row_at, rows, children_in, below, inner_info, infos_below}

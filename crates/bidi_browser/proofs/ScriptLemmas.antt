@@ -2,14 +2,14 @@
 use Rattle.std.proofs.Common.{◌≡◌, ◌∙◌, ℕ, Bool, true, false, List, [], Option, Some, None, Ok, refl, sym, ap}
 use Rattle.std.specs.Prelude.{find, option_map}
 use Rattle.std.specs.Borrow.{Bor}
-use Rattle.bidi_codes.specs.declared.error_code.ErrorCode.TheVariants.{NoSuchFrame}
-use Rattle.bidi_browser.specs.declared.contexts.Context.{Context}
+use Rattle.bidi_params.specs.declared.error_code.ErrorCode.TheVariants.{NoSuchFrame}
+use Rattle.bidi_browser.specs.declared.context.Context.{Context}
 use Rattle.bidi_browser.specs.Acts.{Act}
-use Rattle.bidi_codes.specs.Checks.{found}
+use Rattle.bidi_handles.specs.Checks.{found}
 use Rattle.std.specs.Prelude.{map, filter, bytes_eq, ◌∷◌, Vec}
 use Rattle.std.specs.declared.alloc.Global.{Global}
 use Rattle.std.proofs.Common.{subst}
-use Rattle.bidi_subjects.specs.declared.result_data.ResultData.{ResultData}
+use Rattle.bidi_methods.specs.declared.result_data.ResultData.{ResultData}
 use Rattle.bidi_handles.specs.declared.id.IdKind.TheVariants as kind
 use Rattle.bidi_browser.specs.declared.plan.Plan.{Plan}
 use Rattle.bidi_browser.specs.declared.plan.Edit.TheVariants.{Disown}

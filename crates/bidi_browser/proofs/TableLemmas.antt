@@ -4,7 +4,7 @@ use Rattle.std.proofs.Common.{Option, Some, None, Result, Ok, Err, IfOk, refl, s
 use Rattle.std.specs.Prelude.{◌==◌, not, filter, option_map}
 use Rattle.std.specs.Borrow.{Bor}
 use Rattle.std.specs.List.{list_any}
-use Rattle.bidi_browser.specs.declared.contexts.Context.{Context}
+use Rattle.bidi_browser.specs.declared.context.Context.{Context}
 use Rattle.bidi_browser.specs.declared.browser.Browser.{Browser}
 use Rattle.bidi_browser.specs.Accepted.{AreAccepted}
 use Rattle.bidi_browser.specs.Actions.{Action}
@@ -16,7 +16,7 @@ use Rattle.bidi_browser.specs.Stands.{StandsFor}
 use Rattle.bidi_browser.specs.Acts.{Act, Removed, Tabled, Ran, Disowned, Logged, Looked, Ending, next_number, ScriptEffect as Said}
 use Rattle.bidi_tree.specs.Node.{Node}
 use Rattle.bidi_handles.specs.declared.id.IdKind.TheVariants.{Handle}
-use Rattle.bidi_browser.specs.declared.context_table.Contexts.{Contexts}
+use Rattle.bidi_browser.specs.declared.contexts.Contexts.{Contexts}
 use Rattle.bidi_handles.specs.Ids.{has_id}
 use Rattle.bidi_browser.specs.Realms.{realm_of, value_of, handles_of}
 use Rattle.bidi_browser.specs.ContextRows.{changed, held_in, without_in}

@@ -7,7 +7,7 @@ use Rattle.std.proofs.lemmas.List.{map-append, append_assoc, take_more}
 use Rattle.std.proofs.lemmas.List.Elements.{filter-append}
 use Rattle.std.proofs.lemmas.Grind.{flat_map-append}
 use Rattle.bidi_tree.specs.Node.{Node}
-use Rattle.bidi_browser.specs.declared.contexts.Context.{Context}
+use Rattle.bidi_browser.specs.declared.context.Context.{Context}
 use Rattle.bidi_browser.specs.Info.{children_tree, depth_below}
 use Rattle.bidi_browser.specs.ContextRows.{ContextRow, row_of, children_in, below, inner_info, infos_below}
 

@@ -4,12 +4,12 @@ use Rattle.std.specs.Prelude.{ℕ, ℤ, Bool, true, false, List, [], ◌∷◌, 
 use Rattle.std.specs.Prelude.{unwrap_or, option_map, is_some, is_none, ◌&&◌, ◌||◌, if◌then◌else◌}
 use Rattle.bidi_tree.specs.Node.{Node, null}
 use Rattle.bidi_values.specs.declared.log_entry.Level.{Level}
-use Rattle.bidi_subjects.specs.declared.method.Method.{Method}
-use Rattle.bidi_subjects.specs.declared.method.Method.TheVariants.{BrowsingContextActivate, BrowsingContextClose}
-use Rattle.bidi_subjects.specs.declared.method.Method.TheVariants.{BrowsingContextCreate, BrowsingContextGetTree}
-use Rattle.bidi_subjects.specs.declared.method.Method.TheVariants.{BrowsingContextNavigate, BrowsingContextReload}
-use Rattle.bidi_subjects.specs.declared.method.Method.TheVariants.{BrowsingContextTraverseHistory, ScriptEvaluate, ScriptCallFunction}
-use Rattle.bidi_subjects.specs.declared.method.Method.TheVariants.{ScriptDisown, ScriptGetRealms}
+use Rattle.bidi_methods.specs.declared.method.Method.{Method}
+use Rattle.bidi_methods.specs.declared.method.Method.TheVariants.{BrowsingContextActivate, BrowsingContextClose}
+use Rattle.bidi_methods.specs.declared.method.Method.TheVariants.{BrowsingContextCreate, BrowsingContextGetTree}
+use Rattle.bidi_methods.specs.declared.method.Method.TheVariants.{BrowsingContextNavigate, BrowsingContextReload}
+use Rattle.bidi_methods.specs.declared.method.Method.TheVariants.{BrowsingContextTraverseHistory, ScriptEvaluate, ScriptCallFunction}
+use Rattle.bidi_methods.specs.declared.method.Method.TheVariants.{ScriptDisown, ScriptGetRealms}
 use Rattle.bidi_handles.specs.Params.{tree_if_at, text_if_at, number_if_at, trees_if_at, text_at, texts_at, whole_at, entry_at}
 
 -- a tab of a window, or a window of its own

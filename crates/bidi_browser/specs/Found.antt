@@ -1,13 +1,13 @@
--- What a look-up or a check in code comes to, held against that of the definitions.
+-- That a look-up or a check of the code answers as its definition does.
 use Rattle.std.specs.Prelude.{true, ◌≡◌, ℕ, List, map, Vec, Option, Some, None, Result, Ok, Err, ⊤}
 use Rattle.std.specs.Borrow.{Bor}
-use Rattle.bidi_codes.specs.declared.error_code.ErrorCode.{ErrorCode}
-use Rattle.bidi_codes.specs.declared.error_code.ErrorCode.TheVariants.{InvalidArgument}
+use Rattle.bidi_params.specs.declared.error_code.ErrorCode.{ErrorCode}
+use Rattle.bidi_params.specs.declared.error_code.ErrorCode.TheVariants.{InvalidArgument}
 use Rattle.std.specs.declared.alloc.Global.{Global}
 use Rattle.url.specs.Parts.{Parts}
-use Rattle.bidi_codes.specs.declared.refusal.Refusal.{Refusal}
-use Rattle.bidi_codes.specs.declared.refusal.Refusal.TheVariants.{Code, NoMemory}
-use Rattle.bidi_browser.specs.declared.contexts.Context.{Context}
+use Rattle.bidi_handles.specs.declared.refusal.Refusal.{Refusal}
+use Rattle.bidi_handles.specs.declared.refusal.Refusal.TheVariants.{Code, NoMemory}
+use Rattle.bidi_browser.specs.declared.context.Context.{Context}
 use Rattle.bidi_browser.specs.Acts.{Act, Looked}
 use Rattle.bidi_browser.specs.Contexts.{is_alive}
 use Rattle.bidi_browser.specs.Realms.{realm_of}

@@ -1,6 +1,6 @@
 -- What is told of a navigation in hand.
 use Rattle.std.specs.Prelude.{◌≡◌, ℕ, ◌-◌, ◌∷◌, [], ◌++◌, List, map, flat_map}
-use Rattle.bidi_subjects.specs.declared.event_data.EventName.TheVariants.{NavigationStarted, DomContentLoaded, Load}
+use Rattle.bidi_methods.specs.declared.event_data.EventName.TheVariants.{NavigationStarted, DomContentLoaded, Load}
 use Rattle.bidi_handles.specs.declared.id.IdKind.TheVariants.{Realm, Navigation}
 use Rattle.bidi_browser.specs.declared.navigation.Told.{Told}
 use Rattle.bidi_browser.specs.declared.plan.Numbers.{Numbers}

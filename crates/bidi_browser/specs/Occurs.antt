@@ -12,7 +12,7 @@ use Rattle.bidi_browser.specs.Actions.{Wait, Started, Interactive, Complete, Act
 use Rattle.bidi_handles.specs.Values.{with_member}
 use Rattle.bidi_handles.specs.Maps.{◌being◌and◌, mapped, listed, nothing, word, number, id_tree}
 use Rattle.bidi_browser.specs.Info.{info_of}
-use Rattle.bidi_subjects.specs.declared.event_data.EventName.TheVariants.{NavigationStarted, DomContentLoaded, Load}
+use Rattle.bidi_methods.specs.declared.event_data.EventName.TheVariants.{NavigationStarted, DomContentLoaded, Load}
 use Rattle.bidi_browser.specs.Occurrences.{Occurrence, context_created, realm_created, realm_destroyed, realm_info, removal, navigation_event, entry_added}
 
 -- an event occurs, or the reply is given

@@ -2,9 +2,9 @@
 use Rattle.std.specs.Prelude.{ℕ, nat_lt, nat_le, ℤ, Bool, true, not, ◌&&◌, ◌||◌, List, [], ◌∷◌, length, find, slice_get}
 use Rattle.std.specs.Prelude.{codes, bytes_eq, Option, Some, None, is_none, is_some, unwrap_or, Result, Ok, Err}
 use Rattle.bidi_tree.specs.Node.{Node, levels, no_members}
-use Rattle.bidi_codes.specs.declared.error_code.ErrorCode.{ErrorCode}
-use Rattle.bidi_codes.specs.declared.error_code.ErrorCode.TheVariants.{InvalidArgument, NoSuchFrame, NoSuchHistoryEntry}
-use Rattle.bidi_codes.specs.declared.error_code.ErrorCode.TheVariants.{NoSuchUserContext, UnknownError, UnsupportedOperation}
+use Rattle.bidi_params.specs.declared.error_code.ErrorCode.{ErrorCode}
+use Rattle.bidi_params.specs.declared.error_code.ErrorCode.TheVariants.{InvalidArgument, NoSuchFrame, NoSuchHistoryEntry}
+use Rattle.bidi_params.specs.declared.error_code.ErrorCode.TheVariants.{NoSuchUserContext, UnknownError, UnsupportedOperation}
 use Rattle.bidi_handles.specs.declared.id.IdKind.TheVariants.{Realm}
 use Rattle.bidi_handles.specs.Ids.{id_of}
 use Rattle.bidi_browser.specs.Urls.{parsed}
@@ -18,7 +18,7 @@ use Rattle.bidi_handles.specs.Params.{text_at, tree_if_at, number_if_at}
 use Rattle.bidi_browser.specs.Actions.{CreateType, Tab, OwnWindow, Target, ContextTarget, RealmTarget, Action}
 use Rattle.bidi_browser.specs.Actions.{Activate, Close, Create, GetTree, Navigate, Reload, TraverseHistory, Evaluate}
 use Rattle.bidi_browser.specs.Actions.{CallFunction, Disown, GetRealms, Frame, Unframe, Log, TableRow}
-use Rattle.bidi_codes.specs.Checks.{◌>>=◌, need, found}
+use Rattle.bidi_handles.specs.Checks.{◌>>=◌, need, found}
 use Rattle.bidi_handles.specs.Values.{argument, arguments, takes_handle, has_handle}
 use Rattle.bidi_handles.specs.Maps.{◌being◌and◌, mapped, word}
 

@@ -3,15 +3,15 @@ use Rattle.std.specs.Prelude.{◌≡◌, ◌≤◌, ◌<◌, ◌^◌, ◌==◌, 
 use Rattle.std.specs.Prelude.{Option, Some, None, Result, Ok, Err, is_some, IfSome, ⊤, string_bytes, vec_len, vec_capacity}
 use Rattle.std.specs.List.{AllByRecursion, position}
 use Rattle.bidi_tree.specs.Node.{levels}
-use Rattle.bidi_subjects.specs.declared.method.Method.{Method}
-use Rattle.bidi_subjects.specs.declared.result_data.ResultData.{ResultData}
-use Rattle.bidi_subjects.specs.contracts.event_data.EventDataSubjectEventName.TheImpl as events
-use Rattle.bidi_subjects.specs.contracts.result_data.ResultDataSubjectMethod.TheImpl as results
+use Rattle.bidi_methods.specs.declared.method.Method.{Method}
+use Rattle.bidi_methods.specs.declared.result_data.ResultData.{ResultData}
+use Rattle.bidi_methods.specs.contracts.event_data.EventDataPayloadEventName.TheImpl as events
+use Rattle.bidi_methods.specs.contracts.result_data.ResultDataPayloadMethod.TheImpl as results
 use Rattle.bidi_handles.specs.declared.id.IdKind.{IdKind}
 use Rattle.bidi_handles.specs.declared.id.IdKind.TheVariants.{Context, Realm, Handle, Window}
 use Rattle.bidi_browser.specs.declared.browser.Browser.{Browser}
-use Rattle.bidi_browser.specs.declared.context_table.Contexts.{Contexts}
-use Rattle.bidi_browser.specs.declared.contexts.Context as declared_context
+use Rattle.bidi_browser.specs.declared.contexts.Contexts.{Contexts}
+use Rattle.bidi_browser.specs.declared.context.Context as declared_context
 use Rattle.bidi_browser.specs.declared.occurrence.Occurrence.{Occurrence}
 use Rattle.bidi_browser.specs.declared.session_history.Move.{Move}
 use Rattle.bidi_browser.specs.declared.plan.Plan.{Plan}
@@ -19,8 +19,8 @@ use Rattle.bidi_browser.specs.declared.plan.Navigation.{Navigation}
 use Rattle.bidi_browser.specs.declared.plan.Change.{Change}
 use Rattle.bidi_browser.specs.declared.plan.Edit.{Edit}
 use Rattle.bidi_browser.specs.declared.plan.Edit.TheVariants.{Keep, Add, Remove, Navigate, SetRow, Hold, Disown}
-use Rattle.bidi_codes.specs.declared.refusal.Refusal.{Refusal}
-use Rattle.bidi_codes.specs.declared.refusal.Refusal.TheVariants.{Code, NoMemory}
+use Rattle.bidi_handles.specs.declared.refusal.Refusal.{Refusal}
+use Rattle.bidi_handles.specs.declared.refusal.Refusal.TheVariants.{Code, NoMemory}
 use Rattle.bidi_browser.specs.Acts.{Act, Removed, Moved, Tabled, Ran, Disowned, Logged, Looked, Ending, gives, next_number}
 use Rattle.bidi_handles.specs.Handles.{HasSpare}
 use Rattle.bidi_handles.specs.Ids.{has_id}
@@ -82,11 +82,11 @@ items_in p = map Happens (seen p.before.items) ++ (reply_in p.result ++ map Happ
 
 -- events of which a message can be made
 abbrev pub AreWell : List Occurrence → Type 0
-AreWell os = AllByRecursion (λ o. events.ghosts.subject.well o.event) os
+AreWell os = AllByRecursion (λ o. events.ghosts.payload.well o.event) os
 
 -- a result of which a message can be made: a response holds members of at most 60 levels, so a result has at most 61
 abbrev pub IsWellResult : ResultData → Type 0
-IsWellResult r = results.ghosts.subject.well r × (levels (result_tree r) ≤ 61)
+IsWellResult r = results.ghosts.payload.well r × (levels (result_tree r) ≤ 61)
 
 -- a message can be made of each event and of the result
 pub record IsWellTold (p : Plan) : Type 0 where
@@ -145,5 +145,5 @@ IsWellPlanned (Err refusal) = ⊤
 
 -- the result of a plan, where somebody asked, is of that method
 abbrev pub HasResultOf : Method → Result Plan Refusal → Type 0
-HasResultOf method (Ok plan) = IfSome plan.result (λ r. results.ghosts.subject.kind r ≡ method)
+HasResultOf method (Ok plan) = IfSome plan.result (λ r. results.ghosts.payload.kind r ≡ method)
 HasResultOf method (Err refusal) = ⊤

@@ -1,16 +1,16 @@
--- What running a script in hand comes to.
+-- That a script ends in the code as in the definitions, is told of as there, and changes the same.
 use Rattle.std.specs.Prelude.{◌≡◌, ℕ, Bool, true, false, ◌&&◌, nat_lt, List, length, Option, Some, None, Result, Ok, Err, ⊤}
 use Rattle.bidi_tree.specs.Node.{Node, no_members}
-use Rattle.bidi_codes.specs.declared.error_code.ErrorCode.{ErrorCode}
-use Rattle.bidi_codes.specs.declared.error_code.ErrorCode.TheVariants.{UnsupportedOperation, UnknownError}
+use Rattle.bidi_params.specs.declared.error_code.ErrorCode.{ErrorCode}
+use Rattle.bidi_params.specs.declared.error_code.ErrorCode.TheVariants.{UnsupportedOperation, UnknownError}
 use Rattle.bidi_values.specs.contracts.evaluate_result.EvaluateResultShape.TheImpl as results
 use Rattle.bidi_handles.specs.declared.handle.Ending as declared_ending
 use Rattle.bidi_handles.specs.declared.id.IdKind.TheVariants.{Handle, Realm}
-use Rattle.bidi_codes.specs.declared.refusal.Refusal.{Refusal}
-use Rattle.bidi_codes.specs.declared.refusal.Refusal.TheVariants.{Code, NoMemory}
+use Rattle.bidi_handles.specs.declared.refusal.Refusal.{Refusal}
+use Rattle.bidi_handles.specs.declared.refusal.Refusal.TheVariants.{Code, NoMemory}
 use Rattle.bidi_browser.specs.declared.scripts.Ran.{Ran as RanInHand}
 use Rattle.bidi_browser.specs.Acts.{Act, Ran, Ending, Returned, Threw, ScriptEffect, next_number}
-use Rattle.bidi_codes.specs.Checks.{◌>>=◌, found}
+use Rattle.bidi_handles.specs.Checks.{◌>>=◌, found}
 use Rattle.bidi_handles.specs.Maps.{◌being◌and◌, mapped, word, id_tree}
 use Rattle.bidi_browser.specs.Occurs.{exception_details, script_result}
 use Rattle.bidi_browser.specs.Outcome.{ending_of, ending_outcome, this_resolved}

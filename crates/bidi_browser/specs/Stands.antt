@@ -2,7 +2,7 @@
 use Rattle.std.specs.Prelude.{◌≡◌, List, map}
 use Rattle.bidi_handles.specs.declared.id.IdKind.TheVariants.{Context, Realm, Navigation, Handle, Window}
 use Rattle.bidi_browser.specs.declared.browser.Browser.{Browser}
-use Rattle.bidi_browser.specs.declared.context_table.Contexts.{Contexts}
+use Rattle.bidi_browser.specs.declared.contexts.Contexts.{Contexts}
 use Rattle.bidi_browser.specs.Acts.{Act, next_number}
 use Rattle.bidi_browser.specs.Accepted.{AreAccepted}
 use Rattle.bidi_browser.specs.ContextRows.{row_of, rows}

@@ -7,8 +7,8 @@ use Rattle.bidi_tree.specs.Node.{Node, levels}
 use Rattle.bidi_values.specs.declared.table_row.TableRow.{TableRow}
 use Rattle.bidi_values.specs.declared.table_row.TableRow.TheVariants as read
 use Rattle.bidi_values.specs.contracts.table_row.TableRowShape.TheImpl as rows
-use Rattle.bidi_codes.specs.declared.refusal.Refusal.{Refusal}
-use Rattle.bidi_codes.specs.declared.refusal.Refusal.TheVariants.{Code, NoMemory}
+use Rattle.bidi_handles.specs.declared.refusal.Refusal.{Refusal}
+use Rattle.bidi_handles.specs.declared.refusal.Refusal.TheVariants.{Code, NoMemory}
 use Rattle.bidi_handles.specs.declared.handle.Ending as declared_ending
 use Rattle.bidi_handles.specs.declared.handle.Ending.TheVariants as ends
 use Rattle.bidi_browser.specs.declared.script_table.ScriptRow as declared_row

@@ -11,20 +11,19 @@ ghost use Rattle.bidi_handles.specs.Maps.{◌being◌and◌, mapped, id_tree};
 ghost use Rattle.bidi_browser.specs.Outcome.{create_outcome, is_user, oldest_window, window_for};
 ghost use Rattle.bidi_browser.specs.Plans.{AreWell, HasIds, Plans, HasResultOf, IsWellPlanned, IsWellResult};
 ghost use Rattle.bidi_browser.specs.Stands.{IsTableOf, StandsFor};
-ghost use Rattle.bidi_browser.specs.View.{result_tree, seen};
+ghost use Rattle.bidi_browser.specs.View.{result_method, result_tree, seen};
 
 use crate::browser::Browser;
-use crate::context_table::Contexts;
-use crate::contexts::Context;
+use crate::context::Context;
+use crate::contexts::Contexts;
 use crate::looking::{context_named, top_if_named};
 use crate::occurrence::Occurrence;
 use crate::plan::{Change, Edit, Plan};
 use crate::urls::parsed;
-use bidi_codes::{ErrorCode, Refusal};
-use bidi_handles::{IdKind, id_text};
-use bidi_params::{ContextType, CreateParameters, CreateResult};
+use bidi_handles::{IdKind, Refusal, id_text};
+use bidi_methods::{Method, Payload, ResultData};
+use bidi_params::{ContextType, CreateParameters, CreateResult, ErrorCode};
 use bidi_shape::Ext;
-use bidi_subjects::{Method, ResultData, Subject};
 use std::alloc::{AllocError, Global};
 
 /// The deepest level of a context. A top-level context is at level 1.
@@ -171,7 +170,7 @@ fn created(alloc: Global, number: u64) -> Result<ResultData, AllocError>
     requires { number < 2 ^ 48 }
     ensures tree { IfOk result (λ r. result_tree r ≡ mapped ("context" being id_tree IdKind.Context number and no_members)) }
     ensures well { IfOk result IsWellResult }
-    ensures of_method { IfOk result (λ r. ⟦<ResultData as Subject<Method>>⟧.subject.kind r ≡ Method.BrowsingContextCreate) }
+    ensures of_method { IfOk result (λ r. result_method r ≡ Method.BrowsingContextCreate) }
 {
     let context = id_text(alloc, IdKind::Context, 0, number)?;
     Ok(ResultData::BrowsingContextCreate(CreateResult {

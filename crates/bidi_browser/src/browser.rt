@@ -8,12 +8,12 @@ ghost use Rattle.bidi_browser.specs.Asked.{action_of};
 ghost use Rattle.bidi_browser.specs.Contexts.{context_of, is_alive, top_of};
 ghost use Rattle.bidi_browser.specs.Occurrences.{tree_events};
 ghost use Rattle.bidi_browser.specs.Outcome.{has_room, outcome};
-ghost use Rattle.bidi_browser.specs.View.{occurrence_of};
+ghost use Rattle.bidi_browser.specs.View.{EventIsWell, occurrence_of};
 
 use crate::action::Action;
 use crate::births::{plan_create, plan_frame};
 use crate::calling::plan_call_function;
-use crate::context_table::Contexts;
+use crate::contexts::Contexts;
 use crate::logging::plan_log;
 use crate::looking::{plan_activate, plan_get_realms, plan_get_tree};
 use crate::navigation::{plan_navigate, plan_reload, plan_traverse_history};
@@ -24,8 +24,9 @@ use crate::script_table::ScriptTable;
 use crate::scripts::{plan_disown, plan_evaluate};
 use crate::tabling::plan_row;
 use crate::telling::{push_created, push_realms};
-use bidi_codes::{ErrorCode, Refusal};
-use bidi_subjects::{EventData, EventName, Method, Subject};
+use bidi_handles::Refusal;
+use bidi_methods::{EventData, EventName, Method, Payload};
+use bidi_params::ErrorCode;
 use bidi_tree::JsUint;
 use std::alloc::{AllocError, Global};
 
@@ -225,8 +226,8 @@ impl Browser {
     /// After WebDriver BiDi, "The browsingContext.contextCreated Event" and "The script.realmCreated Event".
     pub fn tree_events(&self) -> Result<Vec<Occurrence>, AllocError>
         ensures ok { (past : List Act) → StandsFor self.now past
-            → IfOk result (λ all. map (occurrence_of ⟦<EventData as Subject<EventName>>⟧.subject) all.items ≡ tree_events past) }
-        ensures well { IfOk result (λ all. AllByRecursion (λ o. ⟦<EventData as Subject<EventName>>⟧.subject.well o.event) all.items) }
+            → IfOk result (λ all. map (occurrence_of) all.items ≡ tree_events past) }
+        ensures well { IfOk result (λ all. AllByRecursion (λ o. EventIsWell o.event) all.items) }
     {
         let contexts = self.contexts.in_tree_order()?;
         let mut all = Vec::new(self.alloc);

@@ -12,13 +12,12 @@ ghost use Rattle.bidi_browser.specs.TableInHand.{ending_seen};
 ghost use Rattle.bidi_handles.specs.ValuesInHand.{local_tree};
 
 use crate::browser::Browser;
-use crate::contexts::Context;
+use crate::context::Context;
 use crate::looking::answered;
 use crate::plan::Plan;
 use crate::scripts::{Ran, ending_of, is_owned, run, targeted};
-use bidi_codes::Refusal;
-use bidi_handles::{Ending, check_arguments, check_this};
-use bidi_subjects::{Method, ResultData};
+use bidi_handles::{Ending, Refusal, check_arguments, check_this};
+use bidi_methods::{Method, ResultData};
 use bidi_values::{CallFunctionParameters, LocalValue};
 
 /// Plans the call of a function in the realm of a target. The script table has its outcome.

@@ -1,373 +1,398 @@
-//! A live context, with the Infos and events that describe it.
-ghost use Rattle.std.specs.Prelude.{◌≡◌, ℕ, ◌≤◌, ◌<◌, ◌+◌, ◌^◌, [], None, Some, IfOk, IfSome, bytes_eq, option_map};
-ghost use Rattle.std.specs.List.{All};
-ghost use Rattle.std.proofs.Props.{props};
+//! The table of live contexts. Only this file knows how they are kept; the rest of the crate asks it.
+ghost use Rattle.std.specs.Prelude.{◌≡◌, ◌≤◌, ◌<◌, ◌^◌, ◌==◌, ◌*◌, ◌++◌, ℕ, List, ◌∷◌, [], true, nat_eq, None, Some};
+ghost use Rattle.std.specs.Prelude.{IfOk, OnOk, map, find, filter, not, length, bytes_eq, is_none, option_map};
+ghost use Rattle.std.specs.List.{list_any, position};
+ghost use Rattle.std.specs.Option.{option_eq};
 ghost use Rattle.bidi_handles.specs.Ids.{id_of};
-ghost use Rattle.bidi_browser.specs.View.{occurrence_of};
+ghost use Rattle.bidi_browser.specs.Acts.{Act, Removed, Moved, gives, next_number};
+ghost use Rattle.bidi_browser.specs.Contexts.{contexts, context_of, is_alive, parent_of, tops, children_of, subtree_of, tree_order};
+ghost use Rattle.bidi_browser.specs.Info.{info_of, depth_below, children_tree};
+ghost use Rattle.bidi_browser.specs.ContextRows.{row_of, row_at, rows, children_in, below, infos_below, info_in, moved_in, changed};
+ghost use Rattle.bidi_browser.specs.Realms.{realm_of};
+ghost use Rattle.bidi_browser.specs.InfosInHand.{AreWithin, AreWithinIfTold, IsWithin, children_node};
 
-use crate::occurrence::Occurrence;
-use crate::session_history::{Move, SessionHistory};
-use crate::urls::{about_blank, origin_text};
-use bidi_handles::{Handle, Handles, IdKind, id_text, is_id};
-use bidi_params::{Info, NavigationInfo, RealmDestroyedParameters, RealmInfo};
-use bidi_shape::{Ext, Shape};
-use bidi_subjects::{EventData, EventName, Subject};
-use bidi_tree::JsUint;
-use bidi_values::LogEntry;
+use crate::context::Context;
+use crate::plan::Navigation;
+use crate::session_history::Move;
+use bidi_handles::{Handle, IdKind};
+use bidi_params::Info;
+use bidi_shape::Shape;
 use std::alloc::{AllocError, Global};
-use url::Url;
 
-/// A live context.
+/// The most levels of nested contexts.
+const MOST_LEVELS: u64 = 16;
+
+/// The live contexts, in order of creation.
 #[derive(Drop)]
-pub(crate) struct Context {
-    /// The number of the context, from which its id is made.
-    pub number: u64,
-    /// The number of its parent; a top-level context has none.
-    pub parent: Option<u64>,
-    /// The number of its top-level context, which may be itself.
-    pub top: u64,
-    /// Its level in the tree, 1 for a top-level context.
-    pub level: u64,
-    /// The number of its client window.
-    pub window: u64,
-    /// The number of its realm.
-    pub realm: u64,
-    /// Its session history, which has its URL.
-    pub history: SessionHistory,
-    /// The handles of its realm, in order of number.
-    pub handles: Handles,
-    ghost number_fits: { number < 2 ^ 48 },
-    ghost parent_fits: { IfSome parent (λ p. p < 2 ^ 48) } by { Prim.hlevel props },
-    ghost window_fits: { window < 2 ^ 48 },
-    ghost realm_fits: { realm < 2 ^ 48 },
+pub(crate) struct Contexts {
+    alloc: Global,
+    live: Vec<Context>,
 }
 
-impl Context {
-    ghost use Rattle.bidi_browser.specs.Urls.{about_blank};
-    ghost use Rattle.bidi_browser.specs.HistoryInHand.{entries_in, move_of, HasRoomFor, Leads};
-    ghost use Rattle.bidi_browser.specs.Places.{begun_at};
-    ghost use Rattle.bidi_browser.specs.ContextRows.{row_of, inner_info, root_info, shown_info, created_in, realm_info_at};
-    ghost use Rattle.bidi_browser.specs.ContextRows.{realm_info_in, realm_began_in, realm_created_in, realm_destroyed_in};
-    ghost use Rattle.bidi_browser.specs.ContextRows.{navigation_info_in, occurrence_in, moved_in, held_in, without_in};
-    ghost use Rattle.bidi_handles.specs.Handles.{HasSpare};
+impl Contexts {
+    ghost use Rattle.bidi_browser.specs.Stands.{IsTableOf};
+    ghost use Rattle.bidi_browser.specs.Accepted.{AreAccepted};
+    ghost use Rattle.bidi_browser.specs.Plans.{HasRoomForOne, HasRoomForHandle, HasRoomIn, IsNavigation};
+    ghost use Rattle.bidi_browser.specs.ContextRows.{held_in, without_in};
     ghost use Rattle.bidi_handles.specs.ValuesInHand.{handle_seen};
-    ghost use Rattle.bidi_browser.specs.Info.{parent_tree};
-    ghost use Rattle.bidi_browser.specs.InfosInHand.{children_node, parent_node, AreWithinIfTold, IsWithin};
-    ghost use Rattle.bidi_subjects.specs.declared.event_data.EventName.TheVariants.{ContextDestroyed, NavigationStarted, DomContentLoaded, Load, EntryAdded};
+    ghost use Rattle.bidi_browser.specs.Places.{entries_of};
+    ghost use Rattle.bidi_browser.specs.HistoryInHand.{move_of, Leads};
 
-    /// A new top-level context at `about:blank`.
-    pub(crate) fn top_level(
-        alloc: Global,
-        number: u64,
-        window: u64,
-        realm: u64,
-    ) -> Result<Context, AllocError>
-        requires number { number < 2 ^ 48 }
-        requires window { window < 2 ^ 48 }
-        requires realm { realm < 2 ^ 48 }
-        ensures { IfOk result (λ c. row_of c
-            ≡ record {
-              number = number;
-              parent = None;
-              top = number;
-              level = 1;
-              window = window;
-              realm = realm;
-              entries = begun_at about_blank;
-              handles = [];
-            }) }
+    /// The table of a new browser: one top-level context.
+    pub(crate) fn new(alloc: Global) -> Result<Contexts, AllocError>
+        ensures { IfOk result (λ contexts. IsTableOf contexts []) }
     {
-        let url = about_blank(alloc)?;
-        Ok(Context {
-            number,
-            parent: None,
-            top: number,
-            level: 1,
-            window,
-            realm,
-            history: SessionHistory::begun_at(alloc, url)?,
-            handles: Handles::new(alloc),
-        })
+        let first = Context::top_level(alloc, 1, 1, 1)?;
+        let mut live = Vec::new(alloc);
+        live.push(first)?;
+        Ok(Contexts { alloc, live })
     }
 
-    /// A new child of this context, at a URL.
-    pub(crate) fn child(
-        &self,
-        alloc: Global,
-        number: u64,
-        realm: u64,
-        url: Url,
-    ) -> Result<Context, AllocError>
-        requires number { number < 2 ^ 48 }
-        requires realm { realm < 2 ^ 48 }
-        ensures { self.now.level < 16
-            → IfOk result (λ c. row_of c
-            ≡ record {
-              number = number;
-              parent = Some self.now.number;
-              top = self.now.top;
-              level = self.now.level + 1;
-              window = self.now.window;
-              realm = realm;
-              entries = begun_at url;
-              handles = [];
-            }) }
+    /// How many contexts are live.
+    pub(crate) fn len(&self) -> usize
+        ensures { (past : List Act) → IsTableOf self.now past → result ≡ length (contexts past) }
     {
-        Ok(Context {
-            number,
-            parent: Some(self.number),
-            top: self.top,
-            level: self.level.wrapping_add(1),
-            window: self.window,
-            realm,
-            history: SessionHistory::begun_at(alloc, url)?,
-            handles: Handles::new(alloc),
-        })
+        self.live.len()
     }
 
-    /// Moves it in its session history and gives it this new realm, which has no handles. Takes no memory.
-    pub(crate) fn navigate(&mut self, realm: u64, to: Move)
-        requires realm { realm < 2 ^ 48 }
-        requires room { HasRoomFor self.now.history to }
-        ensures { Leads (entries_in self.old.history) (move_of to) → row_of self.new ≡ moved_in realm (move_of to) (row_of self.old) }
+    /// Whether the context of this number is live. Passes over the contexts.
+    pub(crate) fn has(&self, number: u64) -> bool
+        ensures { (past : List Act) → IsTableOf self.now past → result ≡ is_alive past number }
     {
-        self.realm = realm;
-        self.handles.clear();
-        self.history.go(to);
+        has_number(&self.live, number)
     }
 
-    /// Adds a handle to its realm, if the number is above those of all handles there. Takes no memory.
-    pub(crate) fn hold(&mut self, handle: Handle)
-        requires { HasSpare self.now.handles }
-        ensures { All (λ held. held.0 < handle.number) (row_of self.old).handles → row_of self.new ≡ held_in (handle_seen handle) (row_of self.old) }
+    /// The live context of this id. Passes over the contexts.
+    pub(crate) fn named(&self, id: &str) -> Option<&Context>
+        ensures { (past : List Act) → IsTableOf self.now past → option_map (λ c. row_of c.now) result ≡ option_map (row_at past) (context_of past id.now) }
     {
-        self.handles.hold(handle);
+        named(&self.live, id)
     }
 
-    /// Releases the handles of these numbers in its realm. Takes no memory.
-    pub(crate) fn disown(&mut self, numbers: &[u64])
-        ensures { row_of self.new ≡ without_in numbers.now (row_of self.old) }
+    /// The live context whose realm has this id. Passes over the contexts.
+    pub(crate) fn in_realm(&self, id: &str) -> Option<&Context>
+        ensures { (past : List Act) → IsTableOf self.now past → option_map (λ c. row_of c.now) result
+            ≡ option_map (row_at past) (find (λ c. bytes_eq id.now (id_of IdKind.Realm (realm_of past c))) (contexts past)) }
     {
-        self.handles.disown(numbers);
+        in_realm(&self.live, id)
     }
 
-    /// Whether a text is its id.
-    pub(crate) fn is_named(&self, id: &str) -> bool
-        ensures { result ≡ bytes_eq id.now (id_of IdKind.Context self.now.number) }
+    /// The top-level context that was created first, if any is live.
+    pub(crate) fn oldest(&self) -> Option<&Context>
+        ensures { (past : List Act) → IsTableOf self.now past
+            → option_map (λ c. row_of c.now) result ≡ option_map (row_at past) (find (λ c. is_none (parent_of past c)) (contexts past)) }
     {
-        is_id(id, IdKind::Context, 0, self.number)
+        oldest(&self.live)
     }
 
-    /// Whether a text is the id of its realm.
-    pub(crate) fn is_in_realm(&self, id: &str) -> bool
-        ensures { result ≡ bytes_eq id.now (id_of IdKind.Realm self.now.realm) }
+    /// A context and all its descendants in tree order: a parent before its children, each subtree whole.
+    pub(crate) fn subtree<'a>(
+        &'a self,
+        context: &'a Context,
+    ) -> Result<Vec<&'a Context>, AllocError>
+        ensures { (past : List Act) (c : ℕ) → IsTableOf self.now past → row_of context.now ≡ row_at past c
+            → IfOk result (λ all. map (λ c. row_of c.now) all.items ≡ map (row_at past) (subtree_of past c)) }
     {
-        is_id(id, IdKind::Realm, 0, self.realm)
+        let mut all = Vec::new(self.alloc);
+        all.push(context)?;
+        push_below(&self.live, Some(context.number), MOST_LEVELS - 1, &mut all)?;
+        Ok(all)
     }
 
-    /// Its Info as one of its parent's children: these children, and no member `parent`.
-    pub(crate) fn info(
-        &self,
-        alloc: Global,
-        children: Option<Vec<Info>>,
-    ) -> Result<Info, AllocError>
-        ensures tree { IfOk result (λ i. ⟦<Info as Shape>⟧.shape.tree_of i
-            ≡ inner_info (row_of self.now) (children_node ⟦<Info as Shape>⟧.shape.tree_of children)) }
-        ensures well { (n : ℕ) → AreWithinIfTold ⟦<Info as Shape>⟧.shape n children → n ≤ 58 → IfOk result (IsWithin ⟦<Info as Shape>⟧.shape (n + 2)) }
+    /// The children of a context, in order of creation. Passes over the contexts.
+    pub(crate) fn children_of(&self, context: &Context) -> Result<Vec<&Context>, AllocError>
+        ensures { (past : List Act) (c : ℕ) → IsTableOf self.now past → row_of context.now ≡ row_at past c
+            → IfOk result (λ all. map (λ c. row_of c.now) all.items ≡ map (row_at past) (children_of past c)) }
     {
-        self.shown(alloc, None, children)
+        children_of(self.alloc, &self.live, context.number)
     }
 
-    /// Its Info as the root of a tree: these children, and a member `parent`, null for a top-level context.
-    pub(crate) fn root_info(
-        &self,
-        alloc: Global,
-        children: Option<Vec<Info>>,
-    ) -> Result<Info, AllocError>
-        ensures tree { IfOk result (λ i. ⟦<Info as Shape>⟧.shape.tree_of i
-            ≡ root_info (row_of self.now) (children_node ⟦<Info as Shape>⟧.shape.tree_of children)) }
-        ensures well { (n : ℕ) → AreWithinIfTold ⟦<Info as Shape>⟧.shape n children → n ≤ 58 → IfOk result (IsWithin ⟦<Info as Shape>⟧.shape (n + 2)) }
+    /// All live contexts in tree order.
+    pub(crate) fn in_tree_order(&self) -> Result<Vec<&Context>, AllocError>
+        ensures { (past : List Act) → IsTableOf self.now past → IfOk result (λ all. map (λ c. row_of c.now) all.items ≡ map (row_at past) (tree_order past)) }
     {
-        let parent = self.parent_id(alloc)?;
-        self.shown(alloc, Some(parent), children)
+        let mut all = Vec::new(self.alloc);
+        push_below(&self.live, None, MOST_LEVELS, &mut all)?;
+        Ok(all)
     }
 
-    // The id of its parent; `None` for a top-level context.
-    fn parent_id(&self, alloc: Global) -> Result<Option<String>, AllocError>
-        ensures { IfOk result (λ id. parent_node id ≡ parent_tree self.now.parent) }
+    /// The Info of a context with its parent, to this depth. `None` is the whole depth.
+    pub(crate) fn info(&self, context: &Context, depth: Option<u64>) -> Result<Info, AllocError>
+        ensures tree { (past : List Act) (c : ℕ) → IsTableOf self.now past
+            → row_of context.now ≡ row_at past c → IfOk result (λ i. ⟦<Info as Shape>⟧.shape.tree_of i ≡ info_of past depth c) }
+        ensures well { IfOk result (IsWithin ⟦<Info as Shape>⟧.shape 34) }
     {
-        match self.parent {
-            Some(parent) => Ok(Some(id_text(alloc, IdKind::Context, 0, parent)?)),
-            None => Ok(None),
+        whole_info(self.alloc, &self.live, context, depth)
+    }
+
+    /// The Info of each top-level context, to this depth. `None` is the whole depth.
+    pub(crate) fn top_infos(&self, depth: Option<u64>) -> Result<Vec<Info>, AllocError>
+        ensures tree { (past : List Act) → IsTableOf self.now past
+            → IfOk result (λ all. map ⟦<Info as Shape>⟧.shape.tree_of all.items ≡ map (info_of past depth) (tops past)) }
+        ensures well { IfOk result (λ all. AreWithin ⟦<Info as Shape>⟧.shape 34 all.items) }
+    {
+        top_infos(self.alloc, &self.live, depth)
+    }
+
+    /// Makes room for one more context.
+    pub(crate) fn reserve(&mut self) -> Result<(), AllocError>
+        ensures kept { (past : List Act) → IsTableOf self.old past → IsTableOf self.new past }
+        ensures room { OnOk result (HasRoomForOne self.new) }
+    {
+        self.live.reserve(1)
+    }
+
+    /// Makes room for what a navigation adds to the session history of its context.
+    pub(crate) fn reserve_in(&mut self, navigation: &Navigation) -> Result<(), AllocError>
+        ensures kept { (past : List Act) → IsTableOf self.old past → IsTableOf self.new past }
+        ensures room { OnOk result (HasRoomIn self.new navigation.now.context navigation.now.to) }
+    {
+        match place_of(&self.live, navigation.context) {
+            Some(place) => self.live[place].history.reserve(&navigation.to),
+            None => Ok(()),
         }
     }
 
-    // Its Info with these children; it has a member `parent` only where one is given.
-    fn shown(
-        &self,
-        alloc: Global,
-        parent: Option<Option<String>>,
-        children: Option<Vec<Info>>,
-    ) -> Result<Info, AllocError>
-        ensures tree { IfOk result (λ i. ⟦<Info as Shape>⟧.shape.tree_of i
-            ≡ shown_info (option_map parent_node parent) (row_of self.now) (children_node ⟦<Info as Shape>⟧.shape.tree_of children)) }
-        ensures well { (n : ℕ) → AreWithinIfTold ⟦<Info as Shape>⟧.shape n children → n ≤ 58 → IfOk result (IsWithin ⟦<Info as Shape>⟧.shape (n + 2)) }
+    /// Adds a new context, for which room was made. Takes no memory.
+    pub(crate) fn add(&mut self, context: Context)
+        requires { HasRoomForOne self.now }
+        ensures { (past : List Act) (act : Act) → IsTableOf self.old past → AreAccepted (act ∷ past) → gives IdKind.Context act ≡ true
+            → row_of context ≡ row_at (act ∷ past) (next_number past IdKind.Context) → IsTableOf self.new (act ∷ past) }
     {
-        Ok(Info {
-            children,
-            client_window: id_text(alloc, IdKind::Window, 0, self.window)?,
-            context: id_text(alloc, IdKind::Context, 0, self.number)?,
-            original_opener: None,
-            url: String::from_str(alloc, self.history.present().as_str())?,
-            user_context: String::from_str(alloc, "default")?,
-            parent,
-            ext: Ext::empty(alloc),
-        })
+        self.live.push_reserved(context);
     }
 
-    /// The RealmInfo of its realm.
-    pub(crate) fn own_realm(&self, alloc: Global) -> Result<RealmInfo, AllocError>
-        ensures tree { IfOk result (λ r. ⟦<RealmInfo as Shape>⟧.shape.tree_of r ≡ realm_info_in (row_of self.now)) }
-        ensures well { IfOk result ⟦<RealmInfo as Shape>⟧.shape.well }
+    /// Removes the contexts of these numbers, which are a context and all its descendants.
+    pub(crate) fn remove(&mut self, numbers: &[u64])
+        ensures { (past : List Act) (c : ℕ) → IsTableOf self.old past
+            → AreAccepted (Removed c ∷ past) → numbers.now ≡ subtree_of past c → IsTableOf self.new (Removed c ∷ past) }
     {
-        self.realm_info(alloc, self.realm, self.history.present())
+        take_out(&mut self.live, numbers);
     }
 
-    // The RealmInfo of a realm of this context whose document is at this URL.
-    fn realm_info(&self, alloc: Global, realm: u64, url: &Url) -> Result<RealmInfo, AllocError>
-        requires { realm < 2 ^ 48 }
-        ensures tree { IfOk result (λ r. ⟦<RealmInfo as Shape>⟧.shape.tree_of r ≡ realm_info_at (row_of self.now) realm url.now) }
-        ensures well { IfOk result ⟦<RealmInfo as Shape>⟧.shape.well }
+    /// Carries out a navigation: its context moves in the session history and gets a new realm, and all
+    /// descendants of the context are removed. Takes no memory.
+    pub(crate) fn navigate(&mut self, navigation: Navigation)
+        requires { HasRoomIn self.now navigation.context navigation.to }
+        ensures { (past : List Act) → (let act = Moved navigation.context (move_of navigation.to) in
+            IsTableOf self.old past → AreAccepted (act ∷ past) → IsNavigation navigation past → IsTableOf self.new (act ∷ past)) }
     {
-        Ok(RealmInfo {
-            realm: id_text(alloc, IdKind::Realm, 0, realm)?,
-            origin: origin_text(alloc, url)?,
-            context: id_text(alloc, IdKind::Context, 0, self.number)?,
-            ext: Ext::empty(alloc),
-        })
-    }
-
-    /// The contextCreated event of this context.
-    pub(crate) fn created(&self, alloc: Global) -> Result<Occurrence, AllocError>
-        ensures told { IfOk result (λ o. occurrence_of ⟦<EventData as Subject<EventName>>⟧.subject o ≡ created_in (row_of self.now)) }
-        ensures well { IfOk result (λ o. ⟦<EventData as Subject<EventName>>⟧.subject.well o.event) }
-    {
-        let info = self.root_info(alloc, None)?;
-        Ok(self.occurrence(EventData::ContextCreated(info)))
-    }
-
-    /// The contextDestroyed event of this context, with its Info to the whole depth. Takes no memory.
-    pub(crate) fn destroyed(&self, info: Info) -> Occurrence
-        ensures told { occurrence_of ⟦<EventData as Subject<EventName>>⟧.subject result
-            ≡ occurrence_in (row_of self.now) ContextDestroyed (⟦<Info as Shape>⟧.shape.tree_of info) }
-        ensures well { ⟦<Info as Shape>⟧.shape.well info → ⟦<EventData as Subject<EventName>>⟧.subject.well result.event }
-    {
-        self.occurrence(EventData::ContextDestroyed(info))
-    }
-
-    /// The realmCreated event of its realm.
-    pub(crate) fn realm_created(&self, alloc: Global) -> Result<Occurrence, AllocError>
-        ensures told { IfOk result (λ o. occurrence_of ⟦<EventData as Subject<EventName>>⟧.subject o ≡ realm_created_in (row_of self.now)) }
-        ensures well { IfOk result (λ o. ⟦<EventData as Subject<EventName>>⟧.subject.well o.event) }
-    {
-        self.realm_began(alloc, self.realm, self.history.present())
-    }
-
-    /// The realmCreated event of a realm that this context gets at a URL.
-    pub(crate) fn realm_began(
-        &self,
-        alloc: Global,
-        realm: u64,
-        url: &Url,
-    ) -> Result<Occurrence, AllocError>
-        requires { realm < 2 ^ 48 }
-        ensures told { IfOk result (λ o. occurrence_of ⟦<EventData as Subject<EventName>>⟧.subject o ≡ realm_began_in (row_of self.now) realm url.now) }
-        ensures well { IfOk result (λ o. ⟦<EventData as Subject<EventName>>⟧.subject.well o.event) }
-    {
-        let info = self.realm_info(alloc, realm, url)?;
-        Ok(self.occurrence(EventData::RealmCreated(info)))
-    }
-
-    /// The realmDestroyed event of its realm.
-    pub(crate) fn realm_destroyed(&self, alloc: Global) -> Result<Occurrence, AllocError>
-        ensures told { IfOk result (λ o. occurrence_of ⟦<EventData as Subject<EventName>>⟧.subject o ≡ realm_destroyed_in (row_of self.now)) }
-        ensures well { IfOk result (λ o. ⟦<EventData as Subject<EventName>>⟧.subject.well o.event) }
-    {
-        let realm = id_text(alloc, IdKind::Realm, 0, self.realm)?;
-        let params = RealmDestroyedParameters {
+        let Navigation {
+            context,
             realm,
-            ext: Ext::empty(alloc),
-        };
-        Ok(self.occurrence(EventData::RealmDestroyed(params)))
+            to,
+            gone,
+        } = navigation;
+        self.lead(context, realm, to);
+        take_out(&mut self.live, &gone);
     }
 
-    /// The params of the events of a navigation of this context to a URL.
-    pub(crate) fn navigation_info(
-        &self,
-        alloc: Global,
-        moment: JsUint,
-        navigation: u64,
-        url: &Url,
-    ) -> Result<NavigationInfo, AllocError>
-        requires { navigation < 2 ^ 48 }
-        ensures tree { IfOk result (λ i. ⟦<NavigationInfo as Shape>⟧.shape.tree_of i ≡ navigation_info_in (row_of self.now) moment.value navigation url.now) }
-        ensures well { IfOk result ⟦<NavigationInfo as Shape>⟧.shape.well }
+    /// Makes room for one more handle in the realm of the context of this number.
+    pub(crate) fn reserve_handle(&mut self, number: u64) -> Result<(), AllocError>
+        ensures kept { (past : List Act) → IsTableOf self.old past → IsTableOf self.new past }
+        ensures room { OnOk result (HasRoomForHandle self.new number) }
     {
-        Ok(NavigationInfo {
-            context: id_text(alloc, IdKind::Context, 0, self.number)?,
-            navigation: Some(id_text(alloc, IdKind::Navigation, 0, navigation)?),
-            timestamp: moment,
-            url: String::from_str(alloc, url.as_str())?,
-            ext: Ext::empty(alloc),
-        })
-    }
-
-    /// The navigationStarted event of this context. Takes no memory.
-    pub(crate) fn navigation_started(&self, info: NavigationInfo) -> Occurrence
-        ensures told { occurrence_of ⟦<EventData as Subject<EventName>>⟧.subject result
-            ≡ occurrence_in (row_of self.now) NavigationStarted (⟦<NavigationInfo as Shape>⟧.shape.tree_of info) }
-        ensures well { ⟦<NavigationInfo as Shape>⟧.shape.well info → ⟦<EventData as Subject<EventName>>⟧.subject.well result.event }
-    {
-        self.occurrence(EventData::NavigationStarted(info))
-    }
-
-    /// The domContentLoaded event of this context. Takes no memory.
-    pub(crate) fn dom_content_loaded(&self, info: NavigationInfo) -> Occurrence
-        ensures told { occurrence_of ⟦<EventData as Subject<EventName>>⟧.subject result
-            ≡ occurrence_in (row_of self.now) DomContentLoaded (⟦<NavigationInfo as Shape>⟧.shape.tree_of info) }
-        ensures well { ⟦<NavigationInfo as Shape>⟧.shape.well info → ⟦<EventData as Subject<EventName>>⟧.subject.well result.event }
-    {
-        self.occurrence(EventData::DomContentLoaded(info))
-    }
-
-    /// The load event of this context. Takes no memory.
-    pub(crate) fn loaded(&self, info: NavigationInfo) -> Occurrence
-        ensures told { occurrence_of ⟦<EventData as Subject<EventName>>⟧.subject result
-            ≡ occurrence_in (row_of self.now) Load (⟦<NavigationInfo as Shape>⟧.shape.tree_of info) }
-        ensures well { ⟦<NavigationInfo as Shape>⟧.shape.well info → ⟦<EventData as Subject<EventName>>⟧.subject.well result.event }
-    {
-        self.occurrence(EventData::Load(info))
-    }
-
-    /// The log.entryAdded event of an entry that was logged in this context. Takes no memory.
-    pub(crate) fn logged(&self, entry: LogEntry) -> Occurrence
-        ensures told { occurrence_of ⟦<EventData as Subject<EventName>>⟧.subject result
-            ≡ occurrence_in (row_of self.now) EntryAdded (⟦<LogEntry as Shape>⟧.shape.tree_of entry) }
-        ensures well { ⟦<LogEntry as Shape>⟧.shape.well entry → ⟦<EventData as Subject<EventName>>⟧.subject.well result.event }
-    {
-        self.occurrence(EventData::EntryAdded(entry))
-    }
-
-    // An event that occurred in this context.
-    fn occurrence(&self, event: EventData) -> Occurrence
-        ensures event { result.event ≡ event }
-        ensures context { result.context ≡ self.now.number }
-        ensures top { result.top ≡ self.now.top }
-    {
-        Occurrence {
-            event,
-            context: self.number,
-            top: self.top,
+        match place_of(&self.live, number) {
+            Some(place) => self.live[place].handles.reserve(),
+            None => Ok(()),
         }
     }
+
+    /// Adds a handle, newer than all others, to the realm of the context of this number. Takes no memory.
+    pub(crate) fn hold(&mut self, number: u64, handle: Handle)
+        requires { HasRoomForHandle self.now number }
+        ensures { (past : List Act) → IsTableOf self.old past → next_number past IdKind.Handle ≤ handle.number
+            → map row_of self.new.live.items ≡ changed number (held_in (handle_seen handle)) (map row_of self.old.live.items) }
+    {
+        if let Some(place) = place_of(&self.live, number) {
+            self.live[place].hold(handle);
+        }
+    }
+
+    /// Releases the handles of these numbers in the realm of the context of this number. Takes no memory.
+    pub(crate) fn disown(&mut self, number: u64, numbers: Vec<u64>)
+        ensures { map row_of self.new.live.items ≡ changed number (without_in numbers.items) (map row_of self.old.live.items) }
+    {
+        if let Some(place) = place_of(&self.live, number) {
+            self.live[place].disown(&numbers);
+        }
+    }
+
+    // Moves the context of this number in its session history, and gives it this new realm.
+    fn lead(&mut self, number: u64, realm: u64, to: Move)
+        requires realm { realm < 2 ^ 48 }
+        requires room { HasRoomIn self.now number to }
+        ensures { (past : List Act) → IsTableOf self.old past → Leads (entries_of past number) (move_of to)
+            → map row_of self.new.live.items ≡ changed number (moved_in realm (move_of to)) (rows past) }
+    {
+        if let Some(place) = place_of(&self.live, number) {
+            self.live[place].navigate(realm, to);
+        }
+    }
+}
+
+// Removes the contexts of these numbers.
+fn take_out(contexts: &mut Vec<Context>, numbers: &[u64])
+    ensures { contexts.new.items ≡ filter (λ c. not (list_any (λ n. n == c.number) numbers.now)) contexts.old.items }
+{
+    contexts.retain(|context| !is_listed(numbers, context.number));
+}
+
+// Whether a number is among these.
+fn is_listed(numbers: &[u64], number: u64) -> bool
+    ensures { result ≡ list_any (λ n. n == number) numbers.now }
+{
+    numbers.iter().any(|n| *n == number)
+}
+
+// Whether one of the contexts has this number.
+fn has_number(contexts: &[Context], number: u64) -> bool
+    ensures { result ≡ list_any (λ c. c.number == number) contexts.now }
+{
+    contexts.iter().any(|context| context.number == number)
+}
+
+// The place of the context of this number.
+fn place_of(contexts: &[Context], number: u64) -> Option<usize>
+    ensures { result ≡ position (λ c. c.number == number) contexts.now }
+{
+    contexts.iter().position(|context| context.number == number)
+}
+
+// The context of this id.
+fn named<'a>(contexts: &'a [Context], id: &str) -> Option<&'a Context>
+    ensures { option_map (λ c. c.now) result ≡ find (λ c. bytes_eq id.now (id_of IdKind.Context c.number)) contexts.now }
+{
+    contexts.iter().find(|context| context.is_named(id))
+}
+
+// The context whose realm has this id.
+fn in_realm<'a>(contexts: &'a [Context], id: &str) -> Option<&'a Context>
+    ensures { option_map (λ c. c.now) result ≡ find (λ c. bytes_eq id.now (id_of IdKind.Realm c.realm)) contexts.now }
+{
+    contexts.iter().find(|context| context.is_in_realm(id))
+}
+
+// The oldest top-level context.
+fn oldest(contexts: &[Context]) -> Option<&Context>
+    ensures { option_map (λ c. c.now) result ≡ find (λ c. option_eq nat_eq c.parent None) contexts.now }
+{
+    contexts.iter().find(|context| context.parent.is_none())
+}
+
+// The contexts that have this parent, in order of creation.
+fn children_of(
+    alloc: Global,
+    contexts: &[Context],
+    parent: u64,
+) -> Result<Vec<&Context>, AllocError>
+    ensures { IfOk result (λ all. map (λ c. row_of c.now) all.items ≡ children_in (map row_of contexts.now) (Some parent)) }
+{
+    let mut all = Vec::new(alloc);
+    for child in contexts {
+        if child.parent == Some(parent) {
+            all.push(child)?;
+        }
+    }
+    Ok(all)
+}
+
+// Adds the descendants of a parent in tree order, down to so many levels; without a parent, all contexts.
+fn push_below<'a>(
+    contexts: &'a [Context],
+    parent: Option<u64>,
+    levels: u64,
+    all: &mut Vec<&'a Context>,
+) -> Result<(), AllocError>
+    ensures { IfOk result (λ _. map (λ c. row_of c.now) all.new.items
+        ≡ map (λ c. row_of c.now) all.old.items ++ below levels (map row_of contexts.now) parent) }
+{
+    if levels == 0 {
+        return Ok(());
+    }
+    for context in contexts {
+        if context.parent == parent {
+            all.push(context)?;
+            push_below(contexts, Some(context.number), levels - 1, all)?;
+        }
+    }
+    Ok(())
+}
+
+// The Info of each top-level context.
+fn top_infos(
+    alloc: Global,
+    contexts: &[Context],
+    depth: Option<u64>,
+) -> Result<Vec<Info>, AllocError>
+    ensures tree { IfOk result (λ all. map ⟦<Info as Shape>⟧.shape.tree_of all.items
+        ≡ map (info_in (map row_of contexts.now) depth) (children_in (map row_of contexts.now) None)) }
+    ensures well { IfOk result (λ all. AreWithin ⟦<Info as Shape>⟧.shape 34 all.items) }
+{
+    let mut all = Vec::new(alloc);
+    for context in contexts {
+        if context.parent.is_none() {
+            all.push(whole_info(alloc, contexts, context, depth)?)?;
+        }
+    }
+    Ok(all)
+}
+
+// The Info of a context with its parent, to this depth.
+fn whole_info(
+    alloc: Global,
+    contexts: &[Context],
+    context: &Context,
+    depth: Option<u64>,
+) -> Result<Info, AllocError>
+    ensures tree { IfOk result (λ i. ⟦<Info as Shape>⟧.shape.tree_of i ≡ info_in (map row_of contexts.now) depth (row_of context.now)) }
+    ensures well { IfOk result (IsWithin ⟦<Info as Shape>⟧.shape 34) }
+{
+    let children = children(alloc, contexts, context.number, depth, MOST_LEVELS)?;
+    context.root_info(alloc, children)
+}
+
+// The Infos of a context's children, down to so many levels. `None` at depth 0, which asks for no children.
+#[cycle(infos)]
+fn children(
+    alloc: Global,
+    contexts: &[Context],
+    parent: u64,
+    depth: Option<u64>,
+    levels: u64,
+) -> Result<Option<Vec<Info>>, AllocError>
+    ensures tree { IfOk result (λ told. children_node ⟦<Info as Shape>⟧.shape.tree_of told
+        ≡ children_tree depth (infos_below levels (map row_of contexts.now) (depth_below depth) parent)) }
+    ensures well { levels ≤ 29 → IfOk result (AreWithinIfTold ⟦<Info as Shape>⟧.shape (2 * levels)) }
+{
+    match depth {
+        Some(0) => Ok(None),
+        Some(depth) => Ok(Some(infos(alloc, contexts, parent, Some(depth - 1), levels)?)),
+        None => Ok(Some(infos(alloc, contexts, parent, None, levels)?)),
+    }
+}
+
+// The Infos of a context's children, down to so many levels.
+#[cycle(infos)]
+fn infos(
+    alloc: Global,
+    contexts: &[Context],
+    parent: u64,
+    depth: Option<u64>,
+    levels: u64,
+) -> Result<Vec<Info>, AllocError>
+    ensures tree { IfOk result (λ all. map ⟦<Info as Shape>⟧.shape.tree_of all.items ≡ infos_below levels (map row_of contexts.now) depth parent) }
+    ensures well { levels ≤ 29 → IfOk result (λ all. AreWithin ⟦<Info as Shape>⟧.shape (2 * levels) all.items) }
+{
+    let mut all = Vec::new(alloc);
+    if levels == 0 {
+        return Ok(all);
+    }
+    for context in contexts {
+        if context.parent == Some(parent) {
+            let children = children(alloc, contexts, context.number, depth, levels - 1)?;
+            all.push(context.info(alloc, children)?)?;
+        }
+    }
+    Ok(all)
 }

@@ -1,4 +1,4 @@
-//! A browser held in memory: browsing contexts, session history, realms, and a table of script outcomes.
+//! A browser in memory: contexts, session histories, realms, and a table of scripts.
 //!
 //! [`Browser::plan`] works out what an [`Action`] does, and changes nothing. It answers with a [`Plan`],
 //! which has the events, the result of the command and a [`Change`], or with a [`Refusal`].
@@ -18,7 +18,7 @@ mod action;
 mod births;
 mod browser;
 mod calling;
-mod context_table;
+mod context;
 mod contexts;
 mod logging;
 mod looking;
@@ -35,8 +35,7 @@ mod telling;
 mod urls;
 
 pub use action::Action;
-pub use bidi_codes::Refusal;
-pub use bidi_handles::{IdKind, id_text, is_id};
+pub use bidi_handles::{IdKind, Refusal, id_text, is_id};
 pub use browser::Browser;
 pub use occurrence::Occurrence;
 pub use plan::{Change, Plan};

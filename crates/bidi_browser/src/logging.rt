@@ -11,12 +11,11 @@ ghost use Rattle.bidi_browser.specs.Stands.{StandsFor};
 ghost use Rattle.bidi_browser.specs.View.{seen};
 
 use crate::browser::Browser;
-use crate::contexts::Context;
+use crate::context::Context;
 use crate::looking::context_named;
 use crate::occurrence::Occurrence;
 use crate::plan::{Change, Edit, Plan};
-use bidi_codes::Refusal;
-use bidi_handles::{IdKind, id_text};
+use bidi_handles::{IdKind, Refusal, id_text};
 use bidi_shape::{Named, Shape};
 use bidi_tree::JsUint;
 use bidi_values::{

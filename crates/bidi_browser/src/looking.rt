@@ -17,16 +17,16 @@ ghost use Rattle.bidi_browser.specs.Plans.{Plans, HasResultOf, IsWellPlanned};
 ghost use Rattle.bidi_browser.specs.Stands.{IsTableOf, StandsFor};
 
 use crate::browser::Browser;
-use crate::context_table::Contexts;
-use crate::contexts::Context;
+use crate::context::Context;
+use crate::contexts::Contexts;
 use crate::plan::{Change, Edit, Plan};
-use bidi_codes::{ErrorCode, Refusal};
+use bidi_handles::Refusal;
+use bidi_methods::{Method, Payload, ResultData};
 use bidi_params::{
-    EmptyResult, GetRealmsParameters, GetRealmsResult, GetTreeParameters, GetTreeResult, Info,
-    RealmInfo, RealmType,
+    EmptyResult, ErrorCode, GetRealmsParameters, GetRealmsResult, GetTreeParameters, GetTreeResult,
+    Info, RealmInfo, RealmType,
 };
 use bidi_shape::{Ext, Shape};
-use bidi_subjects::{Method, ResultData, Subject};
 use std::alloc::{AllocError, Global};
 
 // ---- checks

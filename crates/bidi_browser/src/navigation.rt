@@ -14,20 +14,20 @@ ghost use Rattle.bidi_browser.specs.Urls.{url_text};
 ghost use Rattle.bidi_browser.specs.View.{seen};
 
 use crate::browser::Browser;
-use crate::contexts::Context;
+use crate::context::Context;
 use crate::looking::{context_named, nothing, top_named};
 use crate::occurrence::Occurrence;
 use crate::plan::{Change, Edit, Navigation, Numbers, Plan};
 use crate::removals::push_removals;
 use crate::session_history::Move;
 use crate::urls::parsed;
-use bidi_codes::{ErrorCode, Refusal};
-use bidi_handles::{IdKind, id_text};
+use bidi_handles::{IdKind, Refusal, id_text};
+use bidi_methods::{Method, ResultData};
 use bidi_params::{
-    NavigateParameters, NavigateResult, ReloadParameters, TraverseHistoryParameters, Wait,
+    ErrorCode, NavigateParameters, NavigateResult, ReloadParameters, TraverseHistoryParameters,
+    Wait,
 };
 use bidi_shape::{Ext, Shape};
-use bidi_subjects::{Method, ResultData};
 use bidi_tree::JsUint;
 use std::alloc::{AllocError, Global};
 use url::Url;
@@ -59,7 +59,7 @@ pub(crate) fn plan_navigate(
     let url = parsed(browser.alloc, &params.url)?;
     let numbers = browser.numbers()?;
     let result = navigated(browser.alloc, numbers.navigation, &url)?;
-    let (told, gone) = tell(browser, numbers, moment, context, &url, params.wait)?;
+    let (told, gone) = parted_events(browser, numbers, moment, context, &url, params.wait)?;
     let navigation = Navigation {
         context: context.number,
         realm: numbers.realm,
@@ -93,7 +93,7 @@ pub(crate) fn plan_reload(
     let url = context.history.present();
     let numbers = browser.numbers()?;
     let result = navigated(browser.alloc, numbers.navigation, url)?;
-    let (told, gone) = tell(browser, numbers, moment, context, url, params.wait)?;
+    let (told, gone) = parted_events(browser, numbers, moment, context, url, params.wait)?;
     let navigation = Navigation {
         context: context.number,
         realm: numbers.realm,
@@ -126,7 +126,7 @@ pub(crate) fn plan_traverse_history(
         return Err(Refusal::Code(ErrorCode::NoSuchHistoryEntry));
     };
     let numbers = browser.numbers()?;
-    let (told, gone) = tell(browser, numbers, moment, context, url, Some(Wait::Complete))?;
+    let (told, gone) = parted_events(browser, numbers, moment, context, url, Some(Wait::Complete))?;
     let result = nothing(browser.alloc);
     let navigation = Navigation {
         context: context.number,
@@ -160,7 +160,7 @@ fn planned(told: Told, navigation: Navigation, outcome: ResultData) -> Plan
 }
 
 // The events of a navigation, parted where its reply stands, and the numbers of the contexts that it removes.
-fn tell(
+fn parted_events(
     browser: &Browser,
     numbers: Numbers,
     moment: JsUint,

@@ -1,5 +1,5 @@
 //! Events with the contexts in which they occurred.
-use bidi_subjects::EventData;
+use bidi_methods::EventData;
 
 /// An event that occurred in a context.
 #[derive(Drop)]

@@ -1,12 +1,12 @@
 //! What an action does, worked out before anything is changed.
 ghost use Rattle.std.specs.Prelude.{◌<◌, ◌^◌};
 
-use crate::contexts::Context;
+use crate::context::Context;
 use crate::occurrence::Occurrence;
 use crate::script_table::ScriptRow;
 use crate::session_history::Move;
 use bidi_handles::Handle;
-use bidi_subjects::ResultData;
+use bidi_methods::ResultData;
 
 /// What an accepted action does: its events, its result and its change. Nothing has changed until the change
 /// is given to `Browser::apply`; a plan that is dropped has no effect.

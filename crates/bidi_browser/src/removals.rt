@@ -10,13 +10,14 @@ ghost use Rattle.bidi_browser.specs.Stands.{StandsFor};
 ghost use Rattle.bidi_browser.specs.View.{seen};
 
 use crate::browser::Browser;
-use crate::contexts::Context;
+use crate::context::Context;
 use crate::looking::{context_named, nothing, top_named};
 use crate::occurrence::Occurrence;
 use crate::plan::{Change, Edit, Plan};
 use crate::telling::push_realms_gone;
-use bidi_codes::{ErrorCode, Refusal};
-use bidi_subjects::{Method, ResultData};
+use bidi_handles::Refusal;
+use bidi_methods::{Method, ResultData};
+use bidi_params::ErrorCode;
 use std::alloc::{AllocError, Global};
 
 /// Plans the close of a top-level context with all its descendants.

@@ -10,7 +10,7 @@ ghost use Rattle.bidi_browser.specs.Runs.{HasReturned, HasRun, IsEnding, IsNextH
 ghost use Rattle.bidi_browser.specs.TableInHand.{ending_seen};
 ghost use Rattle.bidi_handles.specs.Values.{arguments};
 ghost use Rattle.bidi_handles.specs.ValuesInHand.{held_tree, local_tree};
-ghost use Rattle.bidi_codes.specs.declared.refusal.Refusal.TheVariants as refused;
+ghost use Rattle.bidi_handles.specs.declared.refusal.Refusal.TheVariants as refused;
 ghost use Rattle.bidi_tree.specs.Node.{Node, levels};
 ghost use Rattle.bidi_browser.specs.Found.{IsTargeted};
 ghost use Rattle.bidi_browser.specs.Outcome.{realm_targeted, undefined};
@@ -18,16 +18,18 @@ ghost use Rattle.bidi_browser.specs.Plans.{HasIds, Plans, HasResultOf, IsWellPla
 ghost use Rattle.bidi_browser.specs.Stands.{IsTableOf, StandsFor};
 
 use crate::browser::{Browser, NO_ID};
-use crate::context_table::Contexts;
-use crate::contexts::Context;
+use crate::context::Context;
+use crate::contexts::Contexts;
 use crate::looking::{answered, context_named, nothing};
 use crate::plan::{Edit, Plan};
 use crate::script_table::ScriptRow;
-use crate::showing::told;
-use bidi_codes::{ErrorCode, Refusal};
-use bidi_handles::{Ending, Handle, HeldValue, ThrownValue, given_back, held, takes_handle};
+use crate::showing::result_of_ending;
+use bidi_handles::{
+    Ending, Handle, HeldValue, Refusal, ThrownValue, given_back, held, takes_handle,
+};
+use bidi_methods::{Method, ResultData};
+use bidi_params::ErrorCode;
 use bidi_shape::Shape;
-use bidi_subjects::{Method, ResultData};
 use bidi_values::{
     DisownParameters, EvaluateParameters, EvaluateResult, LocalValue, Ownership, Primitive,
     RemotePlain, RemoteValue, Target,
@@ -167,14 +169,14 @@ pub(crate) fn run(
         × (levels (⟦<EvaluateResult as Shape>⟧.shape.tree_of ran.result) ≤ 61)) }
 {
     if !owned || !takes_handle(&value_of(&ending).value) {
-        let result = told(browser.alloc, context.realm, &ending, None)?;
+        let result = result_of_ending(browser.alloc, context.realm, &ending, None)?;
         return Ok(Ran {
             result,
             edit: Edit::Keep,
         });
     }
     let number = next_handle(browser, context)?;
-    let result = told(browser.alloc, context.realm, &ending, Some(number))?;
+    let result = result_of_ending(browser.alloc, context.realm, &ending, Some(number))?;
     let handle = Handle {
         number,
         value: into_value(ending),

@@ -23,7 +23,7 @@ use std::alloc::{AllocError, Global};
 /// The result of a script that ended in a realm. Its value shows this handle, if it got one.
 ///
 /// Copies the value.
-pub(crate) fn told(
+pub(crate) fn result_of_ending(
     alloc: Global,
     realm: u64,
     ending: &Ending,

@@ -8,20 +8,20 @@ ghost use Rattle.bidi_browser.specs.Plans.{Makes, Plans, IsWellPlanned};
 ghost use Rattle.bidi_browser.specs.Stands.{StandsFor};
 ghost use Rattle.bidi_browser.specs.TableInHand.{IsFew, IsRowChecked, row_tree, throws};
 ghost use Rattle.bidi_handles.specs.ValuesInHand.{remote_tree};
-ghost use Rattle.bidi_codes.specs.declared.refusal.Refusal.TheVariants as Refusal;
+ghost use Rattle.bidi_handles.specs.declared.refusal.Refusal.TheVariants as Refusal;
 ghost use Rattle.bidi_tree.specs.Node.{levels};
 
 use crate::browser::Browser;
 use crate::plan::{Change, Edit, Plan};
 use crate::script_table::ScriptRow;
-use bidi_codes::{ErrorCode, Refusal};
-use bidi_handles::{Ending, ThrownValue, has_handle, held};
-use bidi_shape::Shape;
+use bidi_handles::{Ending, Refusal, ThrownValue, has_handle, held};
+use bidi_params::ErrorCode;
+use bidi_shape::{MAX_LEVELS, Shape};
 use bidi_values::TableRow;
 use std::alloc::Global;
 
 /// The most levels of the tree of a row; its value has one fewer.
-const MOST_LEVELS: usize = 61;
+const MOST_LEVELS: usize = MAX_LEVELS + 1;
 
 /// Plans a row of the script table. `None` stands for a text that is no row.
 ///

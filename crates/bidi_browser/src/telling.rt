@@ -4,7 +4,7 @@ ghost use Rattle.bidi_browser.specs.ContextRows.{row_of, created_in, realm_creat
 ghost use Rattle.bidi_browser.specs.Plans.{AreWell};
 ghost use Rattle.bidi_browser.specs.View.{seen};
 
-use crate::contexts::Context;
+use crate::context::Context;
 use crate::occurrence::Occurrence;
 use std::alloc::{AllocError, Global};
 

@@ -4,7 +4,8 @@ ghost use Rattle.url.specs.Origin as spec;
 ghost use Rattle.bidi_browser.specs.Found.{IsUrlOf};
 ghost use Rattle.bidi_browser.specs.Urls.{about_blank, origin_text, parsed};
 
-use bidi_codes::{ErrorCode, Refusal};
+use bidi_handles::Refusal;
+use bidi_params::ErrorCode;
 use std::alloc::{AllocError, Global};
 use url::{ParseError, Url};
 

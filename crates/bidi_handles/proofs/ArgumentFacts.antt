@@ -5,7 +5,7 @@ use Rattle.std.proofs.lemmas.Bool.Decides.{leb_tells}
 use Rattle.json.specs.Print.{escape_byte, escape}
 use Rattle.bidi_tree.specs.Node.{Node, text, no_members}
 use Rattle.bidi_tree.specs.Text.{compact_text}
-use Rattle.bidi_codes.specs.declared.error_code.ErrorCode.TheVariants.{UnknownError}
+use Rattle.bidi_params.specs.declared.error_code.ErrorCode.TheVariants.{UnknownError}
 use Rattle.bidi_handles.specs.Maps.{◌being◌and◌, mapped, word}
 use Rattle.bidi_handles.specs.Values.{Held, argument}
 

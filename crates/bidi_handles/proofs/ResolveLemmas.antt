@@ -9,8 +9,8 @@ use Rattle.bidi_tree.specs.View.{items_of}
 use Rattle.bidi_tree.proofs.MemberLemmas.{get_member-put}
 use Rattle.bidi_shape.specs.Parts.{put_part}
 use Rattle.bidi_shape.specs.ValueLaws.{others_of}
-use Rattle.bidi_codes.specs.declared.error_code.ErrorCode.{ErrorCode}
-use Rattle.bidi_codes.specs.declared.error_code.ErrorCode.TheVariants.{NoSuchHandle, NoSuchNode}
+use Rattle.bidi_params.specs.declared.error_code.ErrorCode.{ErrorCode}
+use Rattle.bidi_params.specs.declared.error_code.ErrorCode.TheVariants.{NoSuchHandle, NoSuchNode}
 use Rattle.bidi_values.specs.SiblingLaws.{around}
 use Rattle.bidi_values.specs.Content.{content, pair_content, contents_of, pairs_of, content-List, content-Pairs}
 use Rattle.bidi_values.specs.Kinds.{list_text, pairs_text}
@@ -34,9 +34,9 @@ use Rattle.bidi_values.specs.declared.nested.Nested.{Nested, List as ListOf, Pai
 use Rattle.bidi_values.specs.declared.nested.NestedPair.{NestedPair}
 use Rattle.bidi_values.specs.contracts.local_value.LocalPlainNestsListKindPairsKind.TheImpl as local
 use Rattle.bidi_values.specs.contracts.remote_value.RemotePlainNestsRemoteListRemotePairs.TheImpl as remote
-use Rattle.bidi_codes.specs.declared.refusal.Refusal.{Refusal}
-use Rattle.bidi_codes.specs.declared.refusal.Refusal.TheVariants.{Code, NoMemory}
-use Rattle.bidi_codes.specs.Checks.{◌>>=◌, found}
+use Rattle.bidi_handles.specs.declared.refusal.Refusal.{Refusal}
+use Rattle.bidi_handles.specs.declared.refusal.Refusal.TheVariants.{Code, NoMemory}
+use Rattle.bidi_handles.specs.Checks.{◌>>=◌, found}
 use Rattle.bidi_handles.specs.Resolves.{Gives, this_argument}
 use Rattle.bidi_handles.specs.Values.{Held, resolved, resolved_items, argument, arguments}
 use Rattle.bidi_handles.specs.ValuesInHand.{local_tree, local_pair_tree, remote_tree, remote_trees, remote_pair_trees}

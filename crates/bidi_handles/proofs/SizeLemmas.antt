@@ -6,8 +6,8 @@ use Rattle.json.specs.Print.{quoted}
 use Rattle.bidi_tree.specs.Node.{Node, Items, no_items, item, Members, no_members, member, levels, items_levels, members_levels}
 use Rattle.bidi_tree.specs.Text.{compact_text, items_text, members_text}
 use Rattle.bidi_handles.specs.declared.size.Size.{Size}
-use Rattle.bidi_codes.specs.declared.error_code.ErrorCode.{ErrorCode}
-use Rattle.bidi_codes.specs.Checks.{◌>>=◌}
+use Rattle.bidi_params.specs.declared.error_code.ErrorCode.{ErrorCode}
+use Rattle.bidi_handles.specs.Checks.{◌>>=◌}
 use Rattle.bidi_handles.specs.Measured.{seen, seen_items, seen_members, sized, items_sized, members_sized}
 use Rattle.bidi_handles.specs.Sizes.{counted, size_of}
 use Rattle.bidi_handles.specs.Values.{Held, resolved_items, resolved_members}

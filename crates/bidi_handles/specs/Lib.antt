@@ -1,3 +1,4 @@
+pub mod Checks
 pub mod Ids
 pub mod Maps
 pub mod Params

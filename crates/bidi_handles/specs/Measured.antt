@@ -2,7 +2,7 @@
 use Rattle.std.specs.Prelude.{Option, Some, None, option_map, Result, Ok, Err}
 use Rattle.std.specs.Borrow.{Bor}
 use Rattle.bidi_tree.specs.Node.{Node, Items, Members}
-use Rattle.bidi_codes.specs.declared.error_code.ErrorCode.{ErrorCode}
+use Rattle.bidi_params.specs.declared.error_code.ErrorCode.{ErrorCode}
 use Rattle.bidi_handles.specs.declared.handles.Handles.{Handles}
 use Rattle.bidi_handles.specs.declared.size.Size.{Size}
 use Rattle.bidi_handles.specs.Handles.{values_in}

@@ -1,11 +1,11 @@
--- What resolving a local value in hand comes to, held against the definitions.
+-- That a local value is resolved, measured and checked in the code as in the definitions.
 use Rattle.std.specs.Prelude.{◌≡◌, Option, Some, None, Result, Ok, Err, ⊤}
 use Rattle.bidi_tree.specs.Node.{Node}
-use Rattle.bidi_codes.specs.declared.error_code.ErrorCode.{ErrorCode}
-use Rattle.bidi_codes.specs.declared.refusal.Refusal.{Refusal}
-use Rattle.bidi_codes.specs.declared.refusal.Refusal.TheVariants.{Code, NoMemory}
+use Rattle.bidi_params.specs.declared.error_code.ErrorCode.{ErrorCode}
+use Rattle.bidi_handles.specs.declared.refusal.Refusal.{Refusal}
+use Rattle.bidi_handles.specs.declared.refusal.Refusal.TheVariants.{Code, NoMemory}
 use Rattle.bidi_handles.specs.declared.size.Size.{Size}
-use Rattle.bidi_codes.specs.Checks.{◌>>=◌}
+use Rattle.bidi_handles.specs.Checks.{◌>>=◌}
 use Rattle.bidi_handles.specs.Sizes.{size_of}
 use Rattle.bidi_handles.specs.Values.{Held, argument}
 

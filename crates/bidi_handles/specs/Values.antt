@@ -4,12 +4,12 @@ use Rattle.std.specs.Prelude.{ℕ, Bool, false, not, ◌&&◌, ◌||◌, nat_le,
 use Rattle.std.specs.List.{list_any}
 use Rattle.bidi_tree.specs.Node.{Node, null, boolean, whole, odd, text, list, map, Items, no_items, item, Members, no_members, member, put, get_member, levels}
 use Rattle.bidi_tree.specs.Text.{compact_text}
-use Rattle.bidi_codes.specs.declared.error_code.ErrorCode.{ErrorCode}
-use Rattle.bidi_codes.specs.declared.error_code.ErrorCode.TheVariants.{NoSuchHandle, NoSuchNode, UnknownError}
+use Rattle.bidi_params.specs.declared.error_code.ErrorCode.{ErrorCode}
+use Rattle.bidi_params.specs.declared.error_code.ErrorCode.TheVariants.{NoSuchHandle, NoSuchNode, UnknownError}
 use Rattle.bidi_handles.specs.declared.id.IdKind.TheVariants.{Handle}
 use Rattle.bidi_handles.specs.Maps.{id_tree}
 use Rattle.bidi_handles.specs.Params.{text_at}
-use Rattle.bidi_codes.specs.Checks.{◌>>=◌, need, found}
+use Rattle.bidi_handles.specs.Checks.{◌>>=◌, need, found}
 
 -- ---- resolving a local value
 

@@ -22,7 +22,7 @@ impl Handles {
     ghost use Rattle.bidi_handles.specs.Handles.{handles_seen, values_in, HasSpare};
     ghost use Rattle.bidi_handles.specs.ValuesInHand.{handle_seen, held_tree};
 
-    /// Those of a new realm: none. Takes no memory.
+    /// No handles, as a new realm has. Takes no memory.
     pub fn new(alloc: Global) -> Handles
         ensures { handles_seen result ≡ [] }
     {
@@ -31,7 +31,7 @@ impl Handles {
         }
     }
 
-    /// How many there are.
+    /// How many handles there are.
     pub fn len(&self) -> usize
         ensures { result ≡ length (handles_seen self.now) }
     {
@@ -46,7 +46,7 @@ impl Handles {
         Some(&handle.value)
     }
 
-    /// The numbers of those that have one of these ids.
+    /// The numbers of the handles whose id is one of these, in ascending order.
     ///
     /// Sorts the numbers of the ids, and does a binary search among them for each handle.
     ///
@@ -65,7 +65,7 @@ impl Handles {
         Ok(numbers)
     }
 
-    /// Makes room for one more.
+    /// Makes room for one more handle.
     ///
     /// # Errors
     /// No memory: an allocation failed. The handles are as they were.
@@ -76,8 +76,8 @@ impl Handles {
         self.items.reserve(1)
     }
 
-    /// Adds a handle whose number is above those of all others. Of any other number it is dropped, and the handles
-    /// stay as they are. Takes no memory.
+    /// Adds a handle whose number is above those of all others. A handle of any other number is dropped, and nothing
+    /// changes. Takes no memory.
     pub fn hold(&mut self, handle: Handle)
         requires { HasSpare self.now }
         ensures added { All (λ held. held.0 < handle.number) (handles_seen self.old)
@@ -89,14 +89,14 @@ impl Handles {
         }
     }
 
-    /// Releases those of these numbers. Takes no memory.
+    /// Releases the handles of these numbers. Takes no memory.
     pub fn disown(&mut self, numbers: &[u64])
         ensures { handles_seen self.new ≡ filter (λ held. not (list_any (λ n. n == held.0) numbers.now)) (handles_seen self.old) }
     {
         take_out(&mut self.items, numbers);
     }
 
-    /// Releases them all. Takes no memory.
+    /// Releases all handles. Takes no memory.
     pub fn clear(&mut self)
         ensures { handles_seen self.new ≡ [] }
     {

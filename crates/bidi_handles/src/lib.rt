@@ -1,9 +1,10 @@
-//! The values that handles hold in a realm, and what references to them come to; and the ids of all things.
+//! Ids, the values that handles hold in a realm, and what references to them stand for.
 //!
 //! [`held`] makes a value that handles and rows of the script table share, and [`Handles`] has those of a realm.
 //! [`check_arguments`] and [`check_this`] measure what a call is given, [`given_back`] builds one argument with the
 //! values of its handles in place of references, and [`shown`] copies a value with its handle. [`id_text`] makes
-//! ids, and [`is_id`] compares a text with one.
+//! ids, and [`is_id`] compares a text with one. A [`Refusal`] says why an action is refused; `specs/Checks.antt` says what
+//! checks made in order come to.
 #![tactic(auto)]
 
 mod handle;
@@ -11,6 +12,7 @@ mod handles;
 mod holding;
 mod id;
 mod measuring;
+mod refusal;
 mod resolving;
 mod showing;
 mod size;
@@ -20,6 +22,7 @@ pub use handle::{Ending, Handle, HeldValue, ThrownValue};
 pub use handles::Handles;
 pub use holding::held;
 pub use id::{IdKind, id_text, is_id};
+pub use refusal::Refusal;
 pub use resolving::{check_arguments, check_this, given_back};
 pub use showing::{shown, takes_handle};
 pub use values::has_handle;

@@ -2,8 +2,8 @@
 ghost use Rattle.std.specs.Prelude.{◌≡◌, Some, option_map};
 ghost use Rattle.bidi_tree.specs.Node.{map};
 ghost use Rattle.bidi_tree.specs.View.{node, items_node, members_node};
-ghost use Rattle.bidi_codes.specs.declared.error_code.ErrorCode.TheVariants.{NoSuchHandle};
-ghost use Rattle.bidi_codes.specs.Checks.{found};
+ghost use Rattle.bidi_params.specs.declared.error_code.ErrorCode.TheVariants.{NoSuchHandle};
+ghost use Rattle.bidi_handles.specs.Checks.{found};
 ghost use Rattle.bidi_handles.specs.Handles.{values_in};
 ghost use Rattle.bidi_handles.specs.Measured.{sized, items_sized, members_sized, seen, seen_items, seen_members, in_realm};
 ghost use Rattle.bidi_handles.specs.Sizes.{size_of};
@@ -11,7 +11,7 @@ ghost use Rattle.bidi_handles.specs.Values.{handle_value};
 
 use crate::handles::Handles;
 use crate::size::{Size, decimal_bytes, quoted_bytes};
-use bidi_codes::ErrorCode;
+use bidi_params::ErrorCode;
 use bidi_tree::{Members, Tree, find_member};
 
 /// The size of a tree as it is.

@@ -2,9 +2,9 @@
 //!
 //! A value is measured before anything of it is built, and is built only where a script returns it.
 ghost use Rattle.std.specs.Prelude.{◌≡◌, IfOk, map, option_map};
-ghost use Rattle.bidi_codes.specs.declared.error_code.ErrorCode.TheVariants.{NoSuchHandle};
+ghost use Rattle.bidi_params.specs.declared.error_code.ErrorCode.TheVariants.{NoSuchHandle};
 ghost use Rattle.bidi_tree.specs.View.{items_of};
-ghost use Rattle.bidi_codes.specs.Checks.{found};
+ghost use Rattle.bidi_handles.specs.Checks.{found};
 ghost use Rattle.bidi_handles.specs.Handles.{values_in};
 ghost use Rattle.bidi_handles.specs.Resolves.{Gives, IsSized, Passes, this_argument};
 ghost use Rattle.bidi_handles.specs.Values.{resolved, resolved_items, argument, arguments};
@@ -14,31 +14,26 @@ ghost use Rattle.bidi_handles.specs.ValuesInHand.{remote_pair_tree, remote_pair_
 use crate::handle::HeldValue;
 use crate::handles::Handles;
 use crate::measuring::measured;
+use crate::refusal::Refusal;
 use crate::size::Size;
-use bidi_codes::{ErrorCode, Refusal};
-use bidi_shape::Shape;
+use bidi_params::ErrorCode;
+use bidi_shape::{MAX_BYTES, MAX_LEVELS, Shape};
 use bidi_values::{
-    LocalKey, LocalPair, LocalPlain, LocalValue, Nested, NestedKey, NestedPair, Primitive,
-    Reference, RegExpValue, RemoteDate, RemoteKey, RemoteList, RemoteObjectReference, RemotePair,
-    RemotePairs, RemotePlain, RemoteRegExp, RemoteValue,
+    LocalKey, LocalPair, LocalPlain, LocalValue, Nested, NestedKey, NestedPair, Reference,
+    RemoteDate, RemoteKey, RemoteList, RemoteObjectReference, RemotePair, RemotePairs, RemotePlain,
+    RemoteRegExp, RemoteValue,
 };
 use std::alloc::{AllocError, Global};
 use std::rc::Rc;
-
-/// The most levels that an argument may have with the values of its handles in place.
-const MOST_LEVELS: u64 = 60;
-
-/// The most bytes that its compact text may have.
-const MOST_BYTES: u64 = 1_048_576;
 
 /// Checks the arguments of a call in the realm of these handles, in their order.
 ///
 /// Builds no value. Costs a tree of each argument, and a look-up of each reference.
 ///
 /// # Errors
-/// That of the first argument that fails; of it, the first of these that holds:
-/// - `no such node`, `no such handle`: a reference in it has a shared id, or a handle that is not of the
-///   realm. The first such reference counts, in the order of lists; in a pair the key comes first.
+/// The error is that of the first argument that fails, and the first of these that holds of this argument:
+/// - `no such node`, `no such handle`: a reference in it has a shared id, or a handle that the realm does not
+///   have. The first such reference counts, in the order of lists; in a pair the key comes first.
 /// - `unknown error`: it has more than 60 levels, or its compact text more than 1,048,576 bytes.
 /// - No memory: an allocation failed.
 pub fn check_arguments(
@@ -93,7 +88,7 @@ fn sized(alloc: Global, handles: &Handles, value: &LocalValue) -> Result<Size, R
 {
     let tree = value.to_tree(alloc)?;
     let size = measured(Some(handles), &tree)?;
-    if size.levels <= MOST_LEVELS && size.bytes <= MOST_BYTES {
+    if size.levels <= MAX_LEVELS as u64 && size.bytes <= MAX_BYTES as u64 {
         Ok(size)
     } else {
         Err(Refusal::Code(ErrorCode::UnknownError))
@@ -195,7 +190,7 @@ fn resolved_plain(
     match plain {
         LocalPlain::Reference(reference) => referred(alloc, handles, reference),
         LocalPlain::Primitive(primitive) => {
-            let copy = copy_primitive(primitive)?;
+            let copy = primitive.copy()?;
             Ok(Nested::Plain(RemotePlain::Primitive(copy)))
         }
         LocalPlain::Date(date) => {
@@ -208,7 +203,7 @@ fn resolved_plain(
         }
         LocalPlain::RegExp(reg_exp) => {
             let reg_exp = RemoteRegExp {
-                value: copy_reg_exp(reg_exp)?,
+                value: reg_exp.copy()?,
                 handle: None,
                 internal_id: None,
             };
@@ -249,29 +244,4 @@ fn copy_held(alloc: Global, handles: &Handles, handle: &str) -> Result<RemoteVal
         Some(held) => Ok(held.value.copy(alloc)?),
         None => Err(Refusal::Code(ErrorCode::NoSuchHandle)),
     }
-}
-
-fn copy_primitive(primitive: &Primitive) -> Result<Primitive, AllocError>
-    ensures { IfOk result (λ p. ⟦<Primitive as Shape>⟧.shape.tree_of p ≡ ⟦<Primitive as Shape>⟧.shape.tree_of primitive.now) }
-{
-    match primitive {
-        Primitive::Undefined => Ok(Primitive::Undefined),
-        Primitive::Null => Ok(Primitive::Null),
-        Primitive::String(text) => Ok(Primitive::String(text.clone()?)),
-        Primitive::Number(number) => Ok(Primitive::Number(*number)),
-        Primitive::Boolean(boolean) => Ok(Primitive::Boolean(*boolean)),
-        Primitive::BigInt(digits) => Ok(Primitive::BigInt(digits.clone()?)),
-    }
-}
-
-fn copy_reg_exp(reg_exp: &RegExpValue) -> Result<RegExpValue, AllocError>
-    ensures { IfOk result (λ r. ⟦<RegExpValue as Shape>⟧.shape.tree_of r ≡ ⟦<RegExpValue as Shape>⟧.shape.tree_of reg_exp.now) }
-{
-    Ok(RegExpValue {
-        pattern: reg_exp.pattern.clone()?,
-        flags: match &reg_exp.flags {
-            Some(flags) => Some(flags.clone()?),
-            None => None,
-        },
-    })
 }

@@ -1,4 +1,4 @@
--- What a step of both ends does, and the ledger: the page of each link. This project's own.
+-- What a step of both ends does, and the ledger: the account of each link. This project's own.
 use Rattle.std.specs.Prelude.{ℕ, suc, Bool, not, ◌&&◌, if◌then◌else◌, nat_lt, List, [], ◌∷◌, map, length, slice_get, Option, Some, None}
 use Rattle.bidi_messages.specs.Verdict.{Accepted}
 use Rattle.bidi_remote.specs.Machine.History.{Input, Open, Drop, Heard}
@@ -6,7 +6,7 @@ use Rattle.bidi_remote.specs.Machine.Connections.{is_open}
 use Rattle.bidi_remote.specs.Machine.Outcome.{deeds}
 use Rattle.bidi_ledger.specs.Pairing.{Sending, Deed, Handed, Linked, Sent, Unsent, TakenUp, TakenDown, Cut}
 use Rattle.bidi_ledger.specs.Pairing.{history, links, is_link, is_cut, commands, ups, downs, texts}
-use Rattle.bidi_ledger.specs.Link.{link, tree_of_sending, may_send, Page, page}
+use Rattle.bidi_ledger.specs.Link.{link, tree_of_sending, may_send, Account, account}
 
 -- a step of both ends, as it is heard
 pub data PairInput : Type 0 where
@@ -60,5 +60,5 @@ past_after past [] = past
 past_after past (x ∷ xs) = past_after (with_step past x) xs
 
 -- each link in order of opening, after these steps
-abbrev pub ledger : List PairInput → List Page
-ledger steps = let past = past_after [] steps in map (λ l. page l (link past l)) (links past)
+abbrev pub ledger : List PairInput → List Account
+ledger steps = let past = past_after [] steps in map (λ l. account l (link past l)) (links past)

@@ -95,7 +95,7 @@ may_send v c =
     let id = suc (length v.commands) in
     nat_lt (length (unsettled v)) 1024 && nat_le (length (compact_text (tree_of_sending id c))) 1048576 && nat_lt id (2 ^ 53)
 
--- ---- its page
+-- ---- its account
 
 -- a command in the ledger
 pub record Entry : Type 0 where
@@ -109,7 +109,7 @@ pub record Received : Type 0 where
   pub params : Node
 
 -- what became of a link
-pub record Page : Type 0 where
+pub record Account : Type 0 where
   pub link : ℕ
   pub entries : List Entry
   pub events : List Received
@@ -128,6 +128,6 @@ event_in t = record { method = text_at "method" t; params = unwrap_or (tree_if_a
 abbrev pub events : Link → List Received
 events v = map event_in (filter is_event (messages v))
 
--- the page of a link
-abbrev pub page : ℕ → Link → Page
-page l v = record { link = l; entries = entries_from 1 v v.commands; events = events v; not_sent = v.not_sent }
+-- the account of a link
+abbrev pub account : ℕ → Link → Account
+account l v = record { link = l; entries = entries_from 1 v v.commands; events = events v; not_sent = v.not_sent }

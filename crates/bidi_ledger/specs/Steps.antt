@@ -1,33 +1,33 @@
 -- What contracts see of a step of both ends, and of a ledger.
 use Rattle.std.specs.Prelude.{◌≡◌, List, [], ◌∷◌, map, string_bytes, ⊤}
 use Rattle.std.specs.List.{AllByRecursion}
-use Rattle.bidi_subjects.specs.declared.command_data.CommandData.{CommandData}
-use Rattle.bidi_subjects.specs.declared.event_data.EventData.{EventData}
-use Rattle.bidi_subjects.specs.contracts.command_data.CommandDataSubjectMethod.TheImpl as asks
-use Rattle.bidi_subjects.specs.contracts.event_data.EventDataSubjectEventName.TheImpl as told
-use Rattle.bidi_subjects.specs.contracts.result_data.ResultDataSubjectMethod.TheImpl as results
-use Rattle.bidi_codes.specs.ErrorCode.{error_code_text}
-use Rattle.bidi_subjects.specs.EventName.{event_name_text}
-use Rattle.bidi_subjects.specs.Method.{method_text}
+use Rattle.bidi_methods.specs.declared.command_data.CommandData.{CommandData}
+use Rattle.bidi_methods.specs.declared.event_data.EventData.{EventData}
+use Rattle.bidi_methods.specs.contracts.command_data.CommandDataPayloadMethod.TheImpl as asks
+use Rattle.bidi_methods.specs.contracts.event_data.EventDataPayloadEventName.TheImpl as told
+use Rattle.bidi_methods.specs.contracts.result_data.ResultDataPayloadMethod.TheImpl as results
+use Rattle.bidi_params.specs.ErrorCode.{error_code_text}
+use Rattle.bidi_methods.specs.EventName.{event_name_text}
+use Rattle.bidi_methods.specs.Method.{method_text}
 use Rattle.bidi_remote.specs.Machine.Step as step
 use Rattle.bidi_remote.specs.Machine.History as remote
 use Rattle.bidi_remote.specs.Machine.History.{Input}
 use Rattle.bidi_ledger.specs.declared.pair_step.PairStep.{PairStep}
 use Rattle.bidi_ledger.specs.declared.pair_step.PairStep.TheVariants as in_hand
 use Rattle.bidi_ledger.specs.declared.ledger.Ledger as declared_ledger
-use Rattle.bidi_ledger.specs.declared.ledger.Page as declared_page
+use Rattle.bidi_ledger.specs.declared.ledger.Account as declared_account
 use Rattle.bidi_ledger.specs.declared.ledger.Entry as declared_entry
 use Rattle.bidi_ledger.specs.declared.ledger.Fate as declared_fate
 use Rattle.bidi_ledger.specs.declared.ledger.Fate.TheVariants as fate_in_hand
 use Rattle.bidi_ledger.specs.Pairing.{Sending}
-use Rattle.bidi_ledger.specs.Link.{Fate, Answered, Refused, Lost, Waiting, Entry, Received, Page}
+use Rattle.bidi_ledger.specs.Link.{Fate, Answered, Refused, Lost, Waiting, Entry, Received, Account}
 use Rattle.bidi_ledger.specs.Ledger.{PairInput, Opens, Sends, Up, Down, Cuts, Direct}
 
 -- ---- steps
 
 -- a command, by its method and its params
 abbrev pub sending_of : CommandData → Sending
-sending_of d = record { method = method_text (asks.ghosts.subject.kind d); params = asks.ghosts.subject.tree_of d }
+sending_of d = record { method = method_text (asks.ghosts.payload.kind d); params = asks.ghosts.payload.tree_of d }
 
 -- a step that the remote end takes by itself is heard as the remote end hears it
 abbrev pub IsDirect : step.Step → PairInput → Type 0
@@ -55,7 +55,7 @@ AreHeardAs (x ∷ steps) (p ∷ inputs) = IsHeardAs x p × AreHeardAs steps inpu
 
 -- a command that is to be sent is well
 abbrev pub IsWell : PairStep → Type 0
-IsWell (in_hand.Send l d) = asks.ghosts.subject.well d
+IsWell (in_hand.Send l d) = asks.ghosts.payload.well d
 IsWell x = ⊤
 
 abbrev pub AreWell : List PairStep → Type 0
@@ -64,7 +64,7 @@ AreWell steps = AllByRecursion IsWell steps
 -- ---- the ledger
 
 abbrev pub fate_seen : declared_fate.Fate → Fate
-fate_seen (fate_in_hand.Answered result) = Answered (results.ghosts.subject.tree_of result)
+fate_seen (fate_in_hand.Answered result) = Answered (results.ghosts.payload.tree_of result)
 fate_seen (fate_in_hand.Refused code) = Refused (error_code_text code)
 fate_seen fate_in_hand.Lost = Lost
 fate_seen fate_in_hand.Waiting = Waiting
@@ -73,18 +73,18 @@ abbrev pub entry_seen : declared_entry.Entry → Entry
 entry_seen e = record { id = e.id.value; method = method_text e.method; fate = fate_seen e.fate }
 
 abbrev pub event_seen : EventData → Received
-event_seen d = record { method = event_name_text (told.ghosts.subject.kind d); params = told.ghosts.subject.tree_of d }
+event_seen d = record { method = event_name_text (told.ghosts.payload.kind d); params = told.ghosts.payload.tree_of d }
 
-abbrev pub page_seen : declared_page.Page → Page
-page_seen p = record { link = p.link.value; entries = map entry_seen p.commands.items; events = map event_seen p.events.items; not_sent = p.unsent }
+abbrev pub account_seen : declared_account.Account → Account
+account_seen p = record { link = p.link.value; entries = map entry_seen p.commands.items; events = map event_seen p.events.items; not_sent = p.unsent }
 
-abbrev pub pages_of : declared_ledger.Ledger → List Page
-pages_of l = map page_seen l.pages.items
+abbrev pub accounts_of : declared_ledger.Ledger → List Account
+accounts_of l = map account_seen l.accounts.items
 
 -- ---- what is in a ledger is well
 
 abbrev pub FateIsWell : declared_fate.Fate → Type 0
-FateIsWell (fate_in_hand.Answered result) = results.ghosts.subject.well result
+FateIsWell (fate_in_hand.Answered result) = results.ghosts.payload.well result
 FateIsWell fate = ⊤
 
 -- each result
@@ -93,10 +93,10 @@ EntriesAreWell entries = AllByRecursion (λ e. FateIsWell e.fate) entries
 
 -- each event
 abbrev pub EventsAreWell : List EventData → Type 0
-EventsAreWell events = AllByRecursion told.ghosts.subject.well events
+EventsAreWell events = AllByRecursion told.ghosts.payload.well events
 
-abbrev pub PageIsWell : declared_page.Page → Type 0
-PageIsWell p = EntriesAreWell p.commands.items × EventsAreWell p.events.items
+abbrev pub AccountIsWell : declared_account.Account → Type 0
+AccountIsWell p = EntriesAreWell p.commands.items × EventsAreWell p.events.items
 
 abbrev pub LedgerIsWell : declared_ledger.Ledger → Type 0
-LedgerIsWell l = AllByRecursion PageIsWell l.pages.items
+LedgerIsWell l = AllByRecursion AccountIsWell l.accounts.items

@@ -2,16 +2,16 @@
 use bidi_messages::{ErrorCode, EventData, Method, ResultData};
 use bidi_tree::JsUint;
 
-/// What became of all links: a page for each, in order of opening.
+/// What became of all links: an account of each, in order of opening.
 #[derive(Drop)]
 pub struct Ledger {
-    /// The pages, in order of opening of their links.
-    pub pages: Vec<Page>,
+    /// The accounts, in order of opening of their links.
+    pub accounts: Vec<Account>,
 }
 
 /// What became of the commands of one link, and what it received.
 #[derive(Drop)]
-pub struct Page {
+pub struct Account {
     /// The number of the link.
     pub link: JsUint,
     /// The commands that its local end sent, in order; their ids count from 1.

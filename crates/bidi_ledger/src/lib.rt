@@ -1,4 +1,4 @@
-//! What both ends do together, and what is told of it: their steps, and the ledger.
+//! The steps of both ends together, and the ledger: what became of each command.
 //!
 //! A [`PairStep`] is what a play of both ends is made of: links are opened and cut, commands are sent, texts are
 //! carried up and down one at a time and in any order, and pages take their steps. A [`Ledger`] tells what became of
@@ -9,5 +9,5 @@
 mod ledger;
 mod pair_step;
 
-pub use ledger::{Entry, Fate, Ledger, Page};
+pub use ledger::{Account, Entry, Fate, Ledger};
 pub use pair_step::PairStep;

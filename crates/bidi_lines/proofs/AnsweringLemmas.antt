@@ -48,7 +48,7 @@ begins_more read bytes line rest rest' lines b e is = record {
 }
 
 -- bytes that begin with no line begin with none of any kind
-no_line : (P : List ℕ → Type 0) (at_end : Bool) (rest : List ℕ) → BeginsBadly at_end rest → LineIs P rest
+pub no_line : (P : List ℕ → Type 0) (at_end : Bool) (rest : List ℕ) → BeginsBadly at_end rest → LineIs P rest
 no_line P at_end rest bad line more is e =
     let whole = ended line in
     let long = length-append line (10 ∷ []) in
@@ -58,7 +58,7 @@ no_line P at_end rest bad line more is e =
     absurd (true≢false (sym (feed_there line [] whole refl) ∙ (ap has_feed (sym front) ∙ none)))
 
 -- the line at the front is the only one there
-the_line : (P : List ℕ → Type 0) (line rest : List ℕ) → IsLine line → P line → LineIs P (ended line ++ rest)
+pub the_line : (P : List ℕ → Type 0) (line rest : List ℕ) → IsLine line → P line → LineIs P (ended line ++ rest)
 the_line P line rest is p other more also e =
     subst P (one_front 10 line rest other more is.one_line also.one_line
     (sym (append_assoc line (10 ∷ []) rest) ∙ (e ∙ append_assoc other (10 ∷ []) more))).0 p

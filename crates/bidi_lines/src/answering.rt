@@ -18,7 +18,7 @@ pub enum AnswerFault {
     /// An allocation failed.
     #[error("out of memory")]
     NoMemory,
-    /// As many lines as can be answered were, and this one is none too many for the input, but for who answers.
+    /// The [`Answerer`] takes no more lines: it has answered as many as it can.
     #[error("too many steps")]
     WornOut,
 }
@@ -46,10 +46,10 @@ pub enum LinesFault {
     /// An allocation failed. Nothing is written for the line at hand.
     #[error("out of memory")]
     NoMemory,
-    /// The input goes on behind as many lines as are taken of it.
+    /// The input has more lines than the caller allowed. Those that are allowed were answered.
     #[error("too many lines")]
     TooManyLines,
-    /// Who answers takes no more lines. Nothing is written for the line at hand.
+    /// The [`Answerer`] answers no more lines. Nothing is written for the line at hand.
     #[error("too many steps")]
     WornOut,
 }
@@ -92,7 +92,7 @@ pub trait Answerer {
             → IsErrOf result refusal.WornOut → answers.is_worn_out lines line.now };
 }
 
-/// Reads the lines of a source, at most so many, and writes the answer to each.
+/// Reads the lines of a source, at most `most`, and writes the answer to each.
 ///
 /// The answer to a line is written before the next line is read. Memory holds one line and its answer.
 ///
@@ -111,7 +111,7 @@ pub fn answer_lines<R: Source, W: Sink, A: Answerer>(
     source: &mut R,
     sink: &mut W,
 ) -> Result<(), LinesFault>
-    // It is fresh: it has answered no line.
+    // The answerer has answered no line yet.
     requires { A.answers.has_answered answerer.old answerer.old [] [] }
 
     // All that the source had was lines that it took, and its answers were written.

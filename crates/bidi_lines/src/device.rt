@@ -7,7 +7,7 @@ use super::tally::Tally;
 use std::io::{Read, Write};
 use thiserror::Error;
 
-/// A read or a write of a device failed. The same call may be made again, unless it says otherwise.
+/// A read or a write of a device failed. The same call may be made again, unless its own docs say otherwise.
 #[derive(Clone, Copy, Debug, PartialEq, Eq, Error)]
 #[error("a device failed")]
 pub struct DeviceFault;

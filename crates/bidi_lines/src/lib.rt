@@ -1,4 +1,4 @@
-//! What reads and writes an input of lines: devices, and the lines one by one.
+//! Devices, and the lines of an input, read and answered one by one.
 //!
 //! A program reads a [`Source`] and writes a [`Sink`], whose bytes contracts can name; a [`Device`] is either of
 //! them over any reader or writer. A [`LineReader`] gives the lines of a source one by one. [`Side`] says whose

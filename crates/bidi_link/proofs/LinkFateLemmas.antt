@@ -7,8 +7,8 @@ use Rattle.bidi_tree.specs.Node.{Node, null}
 use Rattle.bidi_browser.specs.Actions.{is_text}
 use Rattle.bidi_handles.specs.Params.{tree_if_at, text_if_at, text_at}
 use Rattle.bidi_tree.specs.declared.number.JsUint.{JsUint}
-use Rattle.bidi_subjects.specs.declared.method.Method.{Method}
-use Rattle.bidi_subjects.specs.Method.{method_text}
+use Rattle.bidi_methods.specs.declared.method.Method.{Method}
+use Rattle.bidi_methods.specs.Method.{method_text}
 use Rattle.bidi_local.specs.Pending.{Pending, ids, method_of, without}
 use Rattle.bidi_ledger.specs.declared.ledger.Entry.{Entry}
 use Rattle.bidi_ledger.specs.declared.ledger.Fate.{Fate}

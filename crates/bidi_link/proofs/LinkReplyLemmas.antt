@@ -14,18 +14,18 @@ use Rattle.bidi_tree.proofs.RoundTrip.{tree_of-compact_text}
 use Rattle.bidi_shape.specs.Term.{rule}
 use Rattle.bidi_shape.specs.Fits.{Fits}
 use Rattle.bidi_shape.specs.ValueLaws.{others_of}
-use Rattle.bidi_codes.specs.declared.error_code.ErrorCode.{ErrorCode}
-use Rattle.bidi_subjects.specs.declared.method.Method.{Method}
+use Rattle.bidi_params.specs.declared.error_code.ErrorCode.{ErrorCode}
+use Rattle.bidi_methods.specs.declared.method.Method.{Method}
 use Rattle.bidi_messages.specs.declared.message.Message.{Message}
 use Rattle.bidi_messages.specs.declared.message.Message.TheVariants as message
 use Rattle.bidi_messages.specs.declared.event.Event.{Event}
 use Rattle.bidi_messages.specs.contracts.message.MessageShape.TheImpl.{ghosts}
 use Rattle.bidi_messages.specs.contracts.event.EventShape.TheImpl as event
-use Rattle.bidi_subjects.specs.contracts.event_data.EventDataSubjectEventName.TheImpl as told
-use Rattle.bidi_subjects.specs.EventName as names
-use Rattle.bidi_subjects.specs.EventData.{event_of}
+use Rattle.bidi_methods.specs.contracts.event_data.EventDataPayloadEventName.TheImpl as told
+use Rattle.bidi_methods.specs.EventName as names
+use Rattle.bidi_methods.specs.EventData.{event_of}
 use Rattle.bidi_messages.specs.Message.{response_tree, error_tree, error_text}
-use Rattle.bidi_subjects.specs.Method.{method_text, result_of}
+use Rattle.bidi_methods.specs.Method.{method_text, result_of}
 use Rattle.bidi_messages.specs.Reading.{IsMessageText, IsEvent}
 use Rattle.bidi_browser.specs.Actions.{is_text}
 use Rattle.bidi_handles.specs.Params.{number_if_at}
@@ -101,14 +101,14 @@ pub event_typed : (e : Event) → is_event (event.ghosts.shape.tree_of e) ≡ tr
 event_typed e =
     ap (λ o. is_text "event" (option_and_then text_in o))
     (get_member-put (codes "type") (text (codes "event")) (put (codes "method") (text (names.event_name_text (event_of e.«data»)))
-    (put (codes "params") (told.ghosts.subject.tree_of e.«data») (others_of e.ext))))
+    (put (codes "params") (told.ghosts.payload.tree_of e.«data») (others_of e.ext))))
 
 -- its type
 pub event_type_in : (e : Event) → unwrap_or (option_and_then text_in (get_of (codes "type") (event.ghosts.shape.tree_of e))) [] ≡ codes "event"
 event_type_in e =
     ap (λ o. unwrap_or (option_and_then text_in o) [])
     (get_member-put (codes "type") (text (codes "event")) (put (codes "method") (text (names.event_name_text (event_of e.«data»)))
-    (put (codes "params") (told.ghosts.subject.tree_of e.«data») (others_of e.ext))))
+    (put (codes "params") (told.ghosts.payload.tree_of e.«data») (others_of e.ext))))
 
 pub is_event_text : (s : List ℕ) → IsEventText s → IsMessageText ghosts.shape s → is_event (tree_in s) ≡ true
 is_event_text s is reads =

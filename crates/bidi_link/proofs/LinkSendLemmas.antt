@@ -7,11 +7,11 @@ use Rattle.bidi_local.specs.declared.local_end.LocalFault.{LocalFault}
 use Rattle.bidi_local.specs.declared.local_end.LocalFault.TheVariants.{NoMemory, IdsUsedUp, TooManyPending, TooLong}
 use Rattle.bidi_local.specs.Pending.{Pending, command_tree, command_text, refusal_of, IsAnswered}
 use Rattle.bidi_local.specs.View.{Stands, sent_by, waiting_in}
-use Rattle.bidi_subjects.specs.declared.command_data.CommandData.{CommandData}
-use Rattle.bidi_subjects.specs.declared.method.Method.{Method}
-use Rattle.bidi_subjects.specs.Method.{method_text}
+use Rattle.bidi_methods.specs.declared.command_data.CommandData.{CommandData}
+use Rattle.bidi_methods.specs.declared.method.Method.{Method}
+use Rattle.bidi_methods.specs.Method.{method_text}
 use Rattle.bidi_messages.specs.Verdict.{IsVerdict, Accepted}
-use Rattle.bidi_subjects.specs.contracts.command_data.CommandDataSubjectMethod.TheImpl as asks
+use Rattle.bidi_methods.specs.contracts.command_data.CommandDataPayloadMethod.TheImpl as asks
 use Rattle.bidi_tree.specs.declared.number.JsUint.{JsUint}
 use Rattle.bidi_browser.specs.Contexts.{up_to}
 use Rattle.bidi_ledger.specs.declared.ledger.Entry.{Entry}
@@ -142,25 +142,25 @@ waiting-last (x ∷ es) e is = by_case (is_waiting (fate_seen x.fate)) refl (wai
 -- the local end stands for that many commands, and may send this one where the link may
 same_may : (v : Link) (es : List Entry) (d : CommandData) (sent : ℕ) (waiting : Pending)
     → map entry_seen es ≡ entries_from 1 v v.commands → sent ≡ length v.commands → waiting ≡ waiting_among es
-    → may sent (length waiting) (length (command_text sent (asks.ghosts.subject.kind d) (asks.ghosts.subject.tree_of d))) ≡ may_send v (sending_of d)
+    → may sent (length waiting) (length (command_text sent (asks.ghosts.payload.kind d) (asks.ghosts.payload.tree_of d))) ≡ may_send v (sending_of d)
 same_may v es d sent waiting entries count is =
-    ap (λ n. may n (length waiting) (length (command_text n (asks.ghosts.subject.kind d) (asks.ghosts.subject.tree_of d)))) count
-    ∙ ap (λ w. may (length v.commands) w (length (command_text (length v.commands) (asks.ghosts.subject.kind d) (asks.ghosts.subject.tree_of d))))
+    ap (λ n. may n (length waiting) (length (command_text n (asks.ghosts.payload.kind d) (asks.ghosts.payload.tree_of d)))) count
+    ∙ ap (λ w. may (length v.commands) w (length (command_text (length v.commands) (asks.ghosts.payload.kind d) (asks.ghosts.payload.tree_of d))))
     (ap length is ∙ waiting-unsettled v es entries)
 
 pub may_send-none : (v : Link) (es : List Entry) (d : CommandData) (sent : ℕ) (waiting : Pending)
     → map entry_seen es ≡ entries_from 1 v v.commands → sent ≡ length v.commands → waiting ≡ waiting_among es
-    → refusal_of sent waiting (command_text sent (asks.ghosts.subject.kind d) (asks.ghosts.subject.tree_of d)) ≡ None → may_send v (sending_of d) ≡ true
+    → refusal_of sent waiting (command_text sent (asks.ghosts.payload.kind d) (asks.ghosts.payload.tree_of d)) ≡ None → may_send v (sending_of d) ≡ true
 may_send-none v es d sent waiting entries count is none =
     sym (same_may v es d sent waiting entries count is)
-    ∙ may-none sent (length waiting) (length (command_text sent (asks.ghosts.subject.kind d) (asks.ghosts.subject.tree_of d))) none
+    ∙ may-none sent (length waiting) (length (command_text sent (asks.ghosts.payload.kind d) (asks.ghosts.payload.tree_of d))) none
 
 pub may_send-fault : (v : Link) (es : List Entry) (d : CommandData) (sent : ℕ) (waiting : Pending) (f : LocalFault)
     → map entry_seen es ≡ entries_from 1 v v.commands → sent ≡ length v.commands → waiting ≡ waiting_among es
-    → refusal_of sent waiting (command_text sent (asks.ghosts.subject.kind d) (asks.ghosts.subject.tree_of d)) ≡ Some f → may_send v (sending_of d) ≡ false
+    → refusal_of sent waiting (command_text sent (asks.ghosts.payload.kind d) (asks.ghosts.payload.tree_of d)) ≡ Some f → may_send v (sending_of d) ≡ false
 may_send-fault v es d sent waiting f entries count is fault =
     sym (same_may v es d sent waiting entries count is)
-    ∙ may-fault sent (length waiting) (length (command_text sent (asks.ghosts.subject.kind d) (asks.ghosts.subject.tree_of d))) f fault
+    ∙ may-fault sent (length waiting) (length (command_text sent (asks.ghosts.payload.kind d) (asks.ghosts.payload.tree_of d))) f fault
 
 pub sent_on-true : (v : Link) (c : Sending) → v.is_cut ≡ false → may_send v c ≡ true → sent_on v c ≡ record v { commands = v.commands ++ c ∷ [] }
 sent_on-true v c whole sends =
@@ -188,10 +188,10 @@ pub record IsRest (end new : LinkEnd) : Type 0 where
 pub sends : (end new : LinkEnd) (l : ℕ) (v : Link) (d : CommandData) (e : Entry) (s : List ℕ)
     → Agrees end l v → IsSound v → v.is_cut ≡ false → IsRest end new → new.unsent ≡ end.unsent
     → new.commands.items ≡ end.commands.items ++ e ∷ [] → map string_bytes new.up.items ≡ map string_bytes end.up.items ++ s ∷ []
-    → e.id.value ≡ suc (sent_by end.local) → e.method ≡ asks.ghosts.subject.kind d → fate_seen e.fate ≡ seen.Waiting → FateIsWell e.fate
-    → s ≡ command_text (sent_by end.local) (asks.ghosts.subject.kind d) (asks.ghosts.subject.tree_of d)
-    → IsVerdict s (Accepted (command_tree (suc (sent_by end.local)) (asks.ghosts.subject.kind d) (asks.ghosts.subject.tree_of d)))
-    → Stands new.local (suc (sent_by end.local)) (waiting_in end.local ++ (suc (sent_by end.local), asks.ghosts.subject.kind d) ∷ [])
+    → e.id.value ≡ suc (sent_by end.local) → e.method ≡ asks.ghosts.payload.kind d → fate_seen e.fate ≡ seen.Waiting → FateIsWell e.fate
+    → s ≡ command_text (sent_by end.local) (asks.ghosts.payload.kind d) (asks.ghosts.payload.tree_of d)
+    → IsVerdict s (Accepted (command_tree (suc (sent_by end.local)) (asks.ghosts.payload.kind d) (asks.ghosts.payload.tree_of d)))
+    → Stands new.local (suc (sent_by end.local)) (waiting_in end.local ++ (suc (sent_by end.local), asks.ghosts.payload.kind d) ∷ [])
     → Agrees new l (record v { commands = v.commands ++ sending_of d ∷ [] })
 sends end new l v d e s a sound whole rest unsent commands up has_id has_method waiting fate_well written accepted stands =
     let n = length v.commands in
@@ -201,9 +201,9 @@ sends end new l v d e s a sound whole rest unsent commands up has_id has_method 
     let entry : entry_seen e ≡ record { id = suc n; method = c.method; fate = fate_of v (suc n) } =
     three id (ap method_text has_method) (waiting ∙ sym (next_waits v sound whole)) in
     let upward : IsUpward (suc n) c s = record {
-      text = written ∙ ap (λ k. command_text k (asks.ghosts.subject.kind d) (asks.ghosts.subject.tree_of d)) local.sent;
-      accepted = subst (λ k. IsVerdict s (Accepted (command_tree (suc k) (asks.ghosts.subject.kind d) (asks.ghosts.subject.tree_of d)))) local.sent accepted;
-      method = asks.ghosts.subject.kind d;
+      text = written ∙ ap (λ k. command_text k (asks.ghosts.payload.kind d) (asks.ghosts.payload.tree_of d)) local.sent;
+      accepted = subst (λ k. IsVerdict s (Accepted (command_tree (suc k) (asks.ghosts.payload.kind d) (asks.ghosts.payload.tree_of d)))) local.sent accepted;
+      method = asks.ghosts.payload.kind d;
       named = refl;
     } in
     record {

@@ -17,20 +17,20 @@ use Rattle.bidi_shape.specs.Term.{Rows, Openness, required, exactly, map_of, row
 use Rattle.bidi_shape.specs.Fits.{Fits}
 use Rattle.bidi_shape.proofs.FitsLemmas.{exactly_kind, map_kind, map_inside, RowFits, row_inside, rule_inside, either_inside}
 use Rattle.bidi_messages.specs.Event.{event_type_words}
-use Rattle.bidi_messages.specs.About.{about_inside}
-use Rattle.bidi_subjects.specs.EventName.{event_words, event_name_text}
-use Rattle.bidi_subjects.specs.EventData.{event_of}
-use Rattle.bidi_codes.specs.declared.error_code.ErrorCode.{ErrorCode}
-use Rattle.bidi_subjects.specs.declared.event_data.EventName.{EventName}
-use Rattle.bidi_subjects.specs.declared.event_data.EventData.{EventData}
+use Rattle.bidi_messages.specs.Envelope.{envelope_inside}
+use Rattle.bidi_methods.specs.EventName.{event_words, event_name_text}
+use Rattle.bidi_methods.specs.EventData.{event_of}
+use Rattle.bidi_params.specs.declared.error_code.ErrorCode.{ErrorCode}
+use Rattle.bidi_methods.specs.declared.event_data.EventName.{EventName}
+use Rattle.bidi_methods.specs.declared.event_data.EventData.{EventData}
 use Rattle.bidi_messages.specs.declared.event.Event.{Event}
-use Rattle.bidi_subjects.specs.declared.result_data.ResultData.{ResultData}
-use Rattle.bidi_subjects.specs.declared.method.Method.{Method}
+use Rattle.bidi_methods.specs.declared.result_data.ResultData.{ResultData}
+use Rattle.bidi_methods.specs.declared.method.Method.{Method}
 use Rattle.bidi_messages.specs.contracts.message.MessageShape.TheImpl.{ghosts}
 use Rattle.bidi_messages.specs.contracts.event.EventShape.TheImpl as event
-use Rattle.bidi_subjects.specs.contracts.event_data.EventDataSubjectEventName.TheImpl as told
-use Rattle.bidi_subjects.specs.contracts.result_data.ResultDataSubjectMethod.TheImpl as results
-use Rattle.bidi_subjects.specs.Method.{result_of}
+use Rattle.bidi_methods.specs.contracts.event_data.EventDataPayloadEventName.TheImpl as told
+use Rattle.bidi_methods.specs.contracts.result_data.ResultDataPayloadMethod.TheImpl as results
+use Rattle.bidi_methods.specs.Method.{result_of}
 use Rattle.bidi_messages.specs.Message.{response_tree, error_tree}
 use Rattle.bidi_messages.specs.Command.{id_in, method_in, params_in}
 use Rattle.bidi_messages.specs.Reading.{IsMessageText}
@@ -81,7 +81,7 @@ error_type : (t : Node) → Fits t (rule error_response) → type_in t ≡ codes
 error_type t fit = typed_map (rule_inside fit)
 
 event_is_typed : (t : Node) → Fits t (rule event_name) → type_in t ≡ codes "event"
-event_is_typed t fit = typed_map (about_inside (codes "type") (word_shape event_type_words) event_words told.ghosts.subject (rule event_name) refl t fit).1
+event_is_typed t fit = typed_map (envelope_inside (codes "type") (word_shape event_type_words) event_words told.ghosts.payload (rule event_name) refl t fit).1
 
 cases : {A B : Type 0} (P : Type 0) → A ⊎ B → (A → P) → (B → P) → P
 cases P (inl a) f g = f a
@@ -150,8 +150,8 @@ module _ (v : Link) (s : List ℕ) (more : take (suc v.downs) v.texts ≡ take v
 
 record ToldAs (r : Received) (n : EventName) (p : Node) (d : EventData) : Type 0 where
   is : r ≡ received.Event d
-  kind : told.ghosts.subject.kind d ≡ n
-  tree : told.ghosts.subject.tree_of d ≡ p
+  kind : told.ghosts.payload.kind d ≡ n
+  tree : told.ghosts.payload.tree_of d ≡ p
 
 told_as : (r : Received) (n : EventName) (p : Node) → Told n p ≡ meaning_of r → (d : EventData) × ToldAs r n p d
 told_as (received.Event d) n p is = (d, record { is = refl; kind = cc is; tree = cc is })
@@ -165,7 +165,7 @@ told_as received.NotJson n p is = cc is
 record AnsweredAs (r : Received) (n : ℕ) (t : Node) (id : JsUint) (d : ResultData) : Type 0 where
   is : r ≡ received.Answer id d
   id_is : id.value ≡ n
-  tree : results.ghosts.subject.tree_of d ≡ t
+  tree : results.ghosts.payload.tree_of d ≡ t
 
 answered_as : (r : Received) (n : ℕ) (m : Method) (t : Node) → Answer n m t ≡ meaning_of r → (id : JsUint) × (d : ResultData) × AnsweredAs r n t id d
 answered_as (received.Answer id d) n m t is = (id, d, record { is = refl; id_is = cc is; tree = cc is })
@@ -193,8 +193,8 @@ two : {x y : List ℕ} {t u : Node} → x ≡ y → t ≡ u → ◌≡◌ {A = s
 two p q = cc
 
 -- an event in hand is that of its message
-seen_in : (d : EventData) (n : EventName) (t : Node) → told.ghosts.subject.kind d ≡ n
-    → told.ghosts.subject.tree_of d ≡ params_in t → method_in t ≡ event_name_text n → event_seen d ≡ event_in t
+seen_in : (d : EventData) (n : EventName) (t : Node) → told.ghosts.payload.kind d ≡ n
+    → told.ghosts.payload.tree_of d ≡ params_in t → method_in t ≡ event_name_text n → event_seen d ≡ event_in t
 seen_in d n t kind tree method = two (ap event_name_text kind ∙ sym method) tree
 
 -- ---- the link in hand

@@ -4,8 +4,8 @@ use Rattle.std.proofs.Common.{length, Some, refl, sym, ap, subst, length-append,
 use Rattle.std.specs.Prelude.{◌==◌, ◌||◌, slice_get}
 use Rattle.std.specs.List.{AllByRecursion}
 use Rattle.std.proofs.lemmas.Option.{slice_get_within}
-use Rattle.bidi_subjects.specs.declared.method.Method.{Method}
-use Rattle.bidi_subjects.specs.Method.{method_text}
+use Rattle.bidi_methods.specs.declared.method.Method.{Method}
+use Rattle.bidi_methods.specs.Method.{method_text}
 use Rattle.bidi_messages.specs.Reading.{IsMessageText}
 use Rattle.bidi_messages.specs.contracts.message.MessageShape.TheImpl.{ghosts}
 use Rattle.bidi_messages.specs.Verdict.{Accepted}
@@ -14,7 +14,7 @@ use Rattle.bidi_remote.specs.Machine.Connections.{is_open}
 use Rattle.bidi_remote.specs.Machine.Outcome.{deeds}
 use Rattle.bidi_remote.specs.Machine.Replies.{IsAnsweredOnce}
 use Rattle.bidi_remote.specs.Machine.Sent.{out, texts_on}
-use Rattle.bidi_remote.specs.Tables.Messages.{AllReadBack}
+use Rattle.bidi_remote.specs.State.Messages.{AllReadBack}
 use Rattle.bidi_remote.proofs.ListLemmas.{all-append}
 use Rattle.bidi_remote.proofs.RouteLemmas.{AreEvents, Answers, answers-heard, IsUnheard, events-unheard, IsApart, stays-shut}
 use Rattle.bidi_ledger.specs.Pairing.{Sending, Deed, Handed, Linked, TakenUp, history, is_link, commands, ups, texts}

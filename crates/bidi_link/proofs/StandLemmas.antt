@@ -3,7 +3,7 @@ use Rattle.std.proofs.Common.{◌≡◌, ◌∙◌, ℕ, Bool, true, false, nat_
 use Rattle.std.specs.Prelude.{◌==◌, ◌&&◌, not, is_some, slice_get, if◌then◌else◌}
 use Rattle.std.specs.List.{IsDistinct, list_any}
 use Rattle.std.specs.Map.{lookup, set_value}
-use Rattle.bidi_remote.specs.Tables.Stands as remote
+use Rattle.bidi_remote.specs.State.Stands as remote
 use Rattle.bidi_remote.specs.Machine.History.{Input}
 use Rattle.bidi_remote.specs.Machine.Sent.{Sent, out, texts_on}
 use Rattle.bidi_link.specs.declared.ends.Ends.{Ends}

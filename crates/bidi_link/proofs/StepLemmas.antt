@@ -3,8 +3,8 @@ use Rattle.std.proofs.Common.{◌≡◌, ◌∙◌, ◌<◌, ◌≤◌, ◌+◌,
 use Rattle.std.proofs.Common.{Option, Some, None, Result, Ok, Err, append-nil, refl, sym, ap, ap₂, subst, arith}
 use Rattle.std.specs.Prelude.{◌==◌, ◌&&◌, take, get_or, IsErrOf, not, slice_get, if◌then◌else◌, nat_lt, OnOk, IfOk}
 use Rattle.bidi_messages.specs.Verdict.{Verdict, Accepted}
-use Rattle.bidi_subjects.specs.declared.method.Method.{Method}
-use Rattle.bidi_subjects.specs.Method.{method_text}
+use Rattle.bidi_methods.specs.declared.method.Method.{Method}
+use Rattle.bidi_methods.specs.Method.{method_text}
 use Rattle.bidi_values.specs.declared.log_entry.Level.{Level}
 use Rattle.bidi_browser.specs.Actions.{Frame, Unframe, Log, TableRow}
 use Rattle.bidi_remote.specs.Machine.Step as steps
@@ -14,7 +14,7 @@ use Rattle.bidi_remote.specs.Machine.Connections.{is_open}
 use Rattle.bidi_remote.specs.Machine.Outcome.{deeds}
 use Rattle.bidi_remote.specs.Machine.Replies.{IsAnsweredOnce}
 use Rattle.bidi_remote.specs.Machine.Sent.{out}
-use Rattle.bidi_remote.specs.Tables.Messages.{AllReadBack}
+use Rattle.bidi_remote.specs.State.Messages.{AllReadBack}
 use Rattle.bidi_messages.proofs.VerdictLemmas.{one_verdict}
 use Rattle.bidi_remote.proofs.RouteLemmas.{IsUnheard, IsApart, events-unheard}
 use Rattle.std.specs.Result.{IsErrAnd}
@@ -23,12 +23,12 @@ use Rattle.bidi_remote.specs.declared.remote_end.RemoteFault.TheVariants.{WornOu
 use Rattle.bidi_link.specs.declared.ends.Ends.{Ends}
 use Rattle.bidi_ledger.specs.Pairing.{Sending, Deed, Handed, Linked, Sent, Unsent, TakenUp, TakenDown, Cut}
 use Rattle.bidi_ledger.specs.Pairing.{history, is_link, is_cut, commands, ups, downs, texts, unsent}
-use Rattle.bidi_ledger.specs.Link.{Link, link, may_send, tree_of_sending, page}
+use Rattle.bidi_ledger.specs.Link.{Link, link, may_send, tree_of_sending, account}
 use Rattle.bidi_ledger.specs.Ledger.{PairInput, Opens, Sends, Up, Down, Cuts, Direct, with_step, past_after, is_whole, is_connected, taken_up, dropped}
 use Rattle.bidi_ledger.specs.declared.pair_step.PairStep.{PairStep}
 use Rattle.bidi_ledger.specs.Steps.{IsDirect, IsHeardAs as IsHeardAsPair, AreHeardAs}
 use Rattle.bidi_link.specs.declared.link_end.LinkEnd.{LinkEnd}
-use Rattle.bidi_link.specs.Rows.{Agrees, page_in_hand, blank, with_cut}
+use Rattle.bidi_link.specs.Rows.{Agrees, account_in_hand, blank, with_cut}
 use Rattle.bidi_link.specs.Stands.{StandsFor, IsSane, Both, CanCount, IsNextUp, RowsAgree, numbers}
 use Rattle.bidi_link.proofs.PastLemmas.{cut-of}
 use Rattle.bidi_link.proofs.SaneLemmas.{unknown-events, sane-denied, sane-linked, sane-beside, sane-up, sane-of, sound-so}
@@ -232,15 +232,15 @@ pub of-step : {S E : Type 0} (r : Result S E) (x y : PairStep) (P : PairInput �
     → x ≡ y → IfOk r (λ u. (q : PairInput) × IsHeardAsPair y q × P q) → IfOk r (λ u. (q : PairInput) × IsHeardAsPair x q × P q)
 of-step r x y P is done = subst (λ z. IfOk r (λ u. (q : PairInput) × IsHeardAsPair z q × P q)) (sym is) done
 
--- ---- the pages
+-- ---- the accounts
 
--- each link in hand leaves the page of its link
-pub rows-pages : (f : ℕ → Link) (rows : List (ℕ × LinkEnd))
-    → RowsAgree rows f → map page_in_hand (map (λ row. row.1) rows) ≡ map (λ l. page l (f l)) (numbers rows)
-rows-pages f [] agree = refl
-rows-pages f (row ∷ rows) agree = ap₂ (λ p ps. p ∷ ps) (one row.1 row.0 (f row.0) agree.0) (rows-pages f rows agree.1)
+-- each link in hand leaves the account of its link
+pub rows-accounts : (f : ℕ → Link) (rows : List (ℕ × LinkEnd))
+    → RowsAgree rows f → map account_in_hand (map (λ row. row.1) rows) ≡ map (λ l. account l (f l)) (numbers rows)
+rows-accounts f [] agree = refl
+rows-accounts f (row ∷ rows) agree = ap₂ (λ p ps. p ∷ ps) (one row.1 row.0 (f row.0) agree.0) (rows-accounts f rows agree.1)
   where
-    one : (end : LinkEnd) (l : ℕ) (v : Link) → Agrees end l v → page_in_hand end ≡ page l v
+    one : (end : LinkEnd) (l : ℕ) (v : Link) → Agrees end l v → account_in_hand end ≡ account l v
     one end l v a = rw (a.number, a.entries, a.events, a.not_sent) refl
 
 -- ---- a list of steps

@@ -3,14 +3,14 @@ use Rattle.std.specs.Prelude.{◌≡◌, ℕ, suc, ◌≤◌, nat_lt, true, fals
 use Rattle.std.specs.Prelude.{◌++◌, map, filter, drop, length, slice_get, Option, None, string_bytes, ⊤}
 use Rattle.bidi_tree.specs.Text.{compact_text}
 use Rattle.bidi_messages.specs.Verdict.{IsVerdict, Accepted}
-use Rattle.bidi_subjects.specs.Method.{method_text}
-use Rattle.bidi_subjects.specs.declared.method.Method.{Method}
+use Rattle.bidi_methods.specs.Method.{method_text}
+use Rattle.bidi_methods.specs.declared.method.Method.{Method}
 use Rattle.bidi_local.specs.Pending.{Pending}
 use Rattle.bidi_local.specs.View.{Stands}
 use Rattle.bidi_ledger.specs.declared.ledger.Entry as declared_entry
 use Rattle.bidi_link.specs.declared.link_end.LinkEnd.{LinkEnd}
 use Rattle.bidi_ledger.specs.Pairing.{Sending}
-use Rattle.bidi_ledger.specs.Link.{Link, is_waiting, tree_of_sending, may_send, entries_from, events, Page}
+use Rattle.bidi_ledger.specs.Link.{Link, is_waiting, tree_of_sending, may_send, entries_from, events, Account}
 use Rattle.bidi_ledger.specs.Steps.{fate_seen, entry_seen, event_seen, EntriesAreWell, EventsAreWell}
 
 -- ---- what a step makes of a link
@@ -88,7 +88,7 @@ pub record Agrees (end : LinkEnd) (l : ℕ) (v : Link) : Type 0 where
   pub results_well : EntriesAreWell end.commands.items
   pub events_well : EventsAreWell end.events.items
 
--- the page that it would leave
-abbrev pub page_in_hand : LinkEnd → Page
-page_in_hand end =
+-- the account that it would leave
+abbrev pub account_in_hand : LinkEnd → Account
+account_in_hand end =
     record { link = end.number.value; entries = map entry_seen end.commands.items; events = map event_seen end.events.items; not_sent = end.unsent }

@@ -1,8 +1,8 @@
 -- What is carried down on a link: events, and the replies to its commands in order, each once. This project's own.
 use Rattle.std.specs.Prelude.{◌≡◌, ℕ, suc, ◌<◌, ◌≤◌, ◌^◌, List, [], ◌∷◌, slice_get, length, Some}
 use Rattle.std.specs.List.{AllByRecursion}
-use Rattle.bidi_subjects.specs.declared.method.Method.{Method}
-use Rattle.bidi_subjects.specs.Method.{method_text}
+use Rattle.bidi_methods.specs.declared.method.Method.{Method}
+use Rattle.bidi_methods.specs.Method.{method_text}
 use Rattle.bidi_messages.specs.Reading.{IsMessageText}
 use Rattle.bidi_messages.specs.contracts.message.MessageShape.TheImpl.{ghosts}
 use Rattle.bidi_remote.specs.Machine.Replies.{IsEventText, IsReply}

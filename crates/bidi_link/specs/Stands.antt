@@ -6,7 +6,7 @@ use Rattle.bidi_tree.specs.Text.{tree_of}
 use Rattle.bidi_messages.specs.Verdict.{Accepted}
 use Rattle.bidi_remote.specs.Machine.History.{Heard}
 use Rattle.bidi_remote.specs.Machine.Sent.{out, texts_on}
-use Rattle.bidi_remote.specs.Tables.Stands as remote
+use Rattle.bidi_remote.specs.State.Stands as remote
 use Rattle.bidi_link.specs.declared.ends.Ends.{Ends}
 use Rattle.bidi_link.specs.declared.link_end.LinkEnd.{LinkEnd}
 use Rattle.bidi_ledger.specs.Pairing.{Sending, Deed, Handed, history, links, is_link, commands, ups, unsent, texts}

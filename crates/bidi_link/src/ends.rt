@@ -5,18 +5,19 @@ ghost use Rattle.bidi_remote.specs.Machine.History.{Input, IsHeardAs as IsHeardB
 ghost use Rattle.bidi_remote.specs.Machine.Outcome.{deeds};
 ghost use Rattle.bidi_remote.specs.Machine.Replies.{IsAnsweredOnce};
 ghost use Rattle.bidi_remote.specs.Machine.Sent.{out};
-ghost use Rattle.bidi_remote.specs.Tables.Messages.{AllReadBack};
-ghost use Rattle.bidi_remote.specs.Tables.View.{step_of};
+ghost use Rattle.bidi_remote.specs.State.Messages.{AllReadBack};
+ghost use Rattle.bidi_remote.specs.State.View.{step_of};
 ghost use Rattle.bidi_ledger.specs.Ledger.{PairInput, Opens, Sends, Up, Down, Cuts, with_step, is_whole, dropped};
-ghost use Rattle.bidi_ledger.specs.Link.{link, page};
+ghost use Rattle.bidi_ledger.specs.Link.{link, account};
 ghost use Rattle.bidi_ledger.specs.Pairing.{Sending, Deed, Handed, Linked, TakenUp, Cut, history, links, is_link};
 ghost use Rattle.bidi_link.specs.Rows.{blank};
-ghost use Rattle.bidi_ledger.specs.Steps.{IsHeardAs, IsWell, LedgerIsWell, pages_of, sending_of};
+ghost use Rattle.bidi_ledger.specs.Steps.{IsHeardAs, IsWell, LedgerIsWell, accounts_of, sending_of};
+ghost use Rattle.bidi_messages.specs.Payloads.{CommandIsWell};
 
 use crate::link_end::LinkEnd;
 use crate::links::deliver;
 use bidi_ledger::{Ledger, PairStep};
-use bidi_messages::{CommandData, Method, Subject};
+use bidi_messages::{CommandData, Method, Payload};
 use bidi_remote::{RemoteEnd, RemoteFault, Step};
 use bidi_tree::JsUint;
 use indexmap::IndexMap;
@@ -108,7 +109,7 @@ impl Ends {
 
     // Sends a command on a link.
     fn send(&mut self, number: JsUint, command: CommandData) -> Result<(), AllocError>
-        requires { ⟦<CommandData as Subject<Method>>⟧.subject.well command }
+        requires { CommandIsWell command }
         ensures { (past : List Deed) → StandsFor self.old past → IsSane past → CanCount past
             → OnOk result (Both self.new (with_step past (Sends number.value (sending_of command)))) }
     {
@@ -200,13 +201,13 @@ impl Ends {
 
     /// The ledger of all links.
     pub(crate) fn into_ledger(self) -> Result<Ledger, AllocError>
-        ensures pages { (past : List Deed) → StandsFor self past → IfOk result (λ ledger. pages_of ledger ≡ map (λ l. page l (link past l)) (links past)) }
+        ensures accounts { (past : List Deed) → StandsFor self past → IfOk result (λ ledger. accounts_of ledger ≡ map (λ l. account l (link past l)) (links past)) }
         ensures well { (past : List Deed) → StandsFor self past → IfOk result LedgerIsWell }
     {
-        let mut pages = Vec::new(self.alloc);
+        let mut accounts = Vec::new(self.alloc);
         for link in self.links.into_values() {
-            pages.push(link.into_page())?;
+            accounts.push(link.into_account())?;
         }
-        Ok(Ledger { pages })
+        Ok(Ledger { accounts })
     }
 }

@@ -1,4 +1,4 @@
-//! Both ends together in memory.
+//! Both ends together in memory, over queues of texts.
 //!
 //! [`pair`] plays a list of steps over several local ends and one remote end. Its [`Ledger`] tells what became of
 //! each command, and which events each link received.
@@ -12,6 +12,6 @@ mod link_end;
 mod links;
 mod pairing;
 
-pub use bidi_ledger::{Entry, Fate, Ledger, Page, PairStep};
+pub use bidi_ledger::{Account, Entry, Fate, Ledger, PairStep};
 pub use bidi_socket::{Incoming, Link, LinkFault};
 pub use pairing::pair;

@@ -2,21 +2,22 @@
 ghost use Rattle.std.specs.Prelude.{◌≡◌, ◌+◌, ◌-◌, ◌<◌, ◌^◌, min, ℕ, suc, [], ◌∷◌, ◌++◌, map, slice_get};
 ghost use Rattle.std.specs.Prelude.{slice_set, Some, None, false, OnOk, IfSome, IfNone, string_bytes};
 ghost use Rattle.bidi_tree.specs.declared.number.JsUint as declared_number;
-ghost use Rattle.bidi_codes.specs.declared.error_code.ErrorCode.{ErrorCode};
-ghost use Rattle.bidi_subjects.specs.declared.event_data.EventData as declared_event;
-ghost use Rattle.bidi_subjects.specs.declared.result_data.ResultData.{ResultData};
+ghost use Rattle.bidi_params.specs.declared.error_code.ErrorCode.{ErrorCode};
+ghost use Rattle.bidi_methods.specs.declared.event_data.EventData as declared_event;
+ghost use Rattle.bidi_methods.specs.declared.result_data.ResultData.{ResultData};
 ghost use Rattle.bidi_local.specs.Pending.{ids};
 ghost use Rattle.bidi_local.specs.View.{IsWell};
 ghost use Rattle.bidi_ledger.specs.declared.ledger.Entry as declared_entry;
 ghost use Rattle.bidi_ledger.specs.Link.{Link, entries_from};
 ghost use Rattle.bidi_ledger.specs.Pairing.{Sending};
 ghost use Rattle.bidi_link.specs.Spoken.{IsSound};
-ghost use Rattle.bidi_link.specs.Rows.{Agrees, page_in_hand, IsUpward, blank, sent_on, next_up, with_up, with_texts, with_down, with_cut, waiting_among};
-ghost use Rattle.bidi_ledger.specs.Steps.{sending_of, entry_seen, page_seen, FateIsWell, EntriesAreWell, EventsAreWell, PageIsWell};
+ghost use Rattle.bidi_link.specs.Rows.{Agrees, account_in_hand, IsUpward, blank, sent_on, next_up, with_up, with_texts, with_down, with_cut, waiting_among};
+ghost use Rattle.bidi_ledger.specs.Steps.{sending_of, entry_seen, account_seen, FateIsWell, EntriesAreWell, EventsAreWell, AccountIsWell};
+ghost use Rattle.bidi_messages.specs.Payloads.{CommandIsWell};
 
-use bidi_ledger::{Entry, Fate, Page};
+use bidi_ledger::{Account, Entry, Fate};
 use bidi_local::{LocalEnd, LocalFault, Received};
-use bidi_messages::{CommandData, EventData, Method, Subject};
+use bidi_messages::{CommandData, EventData, Method, Payload};
 use bidi_tree::JsUint;
 use std::alloc::{AllocError, Global};
 use std::collections::VecDeque;
@@ -63,7 +64,7 @@ impl LinkEnd {
 
     /// Sends a command, or counts one that the local end refuses. On a link that was cut it does nothing.
     pub(crate) fn send(&mut self, data: CommandData) -> Result<(), AllocError>
-        requires { ⟦<CommandData as Subject<Method>>⟧.subject.well «data» }
+        requires { CommandIsWell «data» }
         ensures { (l : ℕ) (v : Link) → Agrees self.old l v → IsSound v → v.not_sent < 2 ^ 63 → OnOk result (Agrees self.new l (sent_on v (sending_of «data»))) }
     {
         if self.is_cut {
@@ -120,12 +121,12 @@ impl LinkEnd {
         Ok(())
     }
 
-    /// The page of the link in the ledger.
-    pub(crate) fn into_page(self) -> Page
-        ensures page { page_seen result ≡ page_in_hand self }
-        ensures well { (l : ℕ) (v : Link) → Agrees self l v → PageIsWell result }
+    /// The account of the link in the ledger.
+    pub(crate) fn into_account(self) -> Account
+        ensures account { account_seen result ≡ account_in_hand self }
+        ensures well { (l : ℕ) (v : Link) → Agrees self l v → AccountIsWell result }
     {
-        Page {
+        Account {
             link: self.number,
             commands: self.commands,
             events: self.events,

@@ -1,7 +1,7 @@
 //! The links by their numbers, in order of opening.
 ghost use Rattle.std.specs.Prelude.{◌≡◌, ℕ, List, [], if◌then◌else◌, map, string_bytes, OnOk};
 ghost use Rattle.bidi_remote.specs.Machine.Sent.{text_on, texts_on};
-ghost use Rattle.bidi_remote.specs.Tables.View.{sent_of};
+ghost use Rattle.bidi_remote.specs.State.View.{sent_of};
 ghost use Rattle.bidi_ledger.specs.Link.{Link};
 ghost use Rattle.bidi_link.specs.Rows.{with_texts};
 ghost use Rattle.bidi_link.specs.Stands.{RowsAgree, numbers};

@@ -5,7 +5,7 @@ ghost use Rattle.bidi_ledger.specs.Link.{link};
 ghost use Rattle.bidi_link.specs.Outcomes.{AreOutcomes};
 ghost use Rattle.bidi_ledger.specs.Pairing.{history};
 ghost use Rattle.bidi_link.specs.Spoken.{IsSound};
-ghost use Rattle.bidi_ledger.specs.Steps.{AreHeardAs, AreWell, LedgerIsWell, pages_of};
+ghost use Rattle.bidi_ledger.specs.Steps.{AreHeardAs, AreWell, LedgerIsWell, accounts_of};
 
 use crate::ends::Ends;
 use bidi_ledger::{Ledger, PairStep};
@@ -26,7 +26,7 @@ pub fn pair(alloc: Global, steps: Vec<PairStep>) -> Result<Ledger, RemoteFault>
     // the replies to its commands, each once and in their order, with a result of its method's rule, in texts
     // that read back. Each answer and each refusal is what the machine gives that very command, after all
     // inputs before the place where it was taken up.
-    ensures ok { IfOk result (λ l. (inputs : List PairInput) × AreHeardAs steps.items inputs × (pages_of l ≡ ledger inputs)
+    ensures ok { IfOk result (λ l. (inputs : List PairInput) × AreHeardAs steps.items inputs × (accounts_of l ≡ ledger inputs)
         × ((n : ℕ) → IsSound (link (past_after [] inputs) n)) × ((n : ℕ) → AreOutcomes (past_after [] inputs) n)) }
     // Each result and each event in the ledger is well, so it has a tree that can be written.
     ensures well { IfOk result LedgerIsWell }

@@ -12,19 +12,19 @@ use Rattle.bidi_shape.specs.Fits.{Fits}
 use Rattle.bidi_shape.specs.Parts.{put_part}
 use Rattle.bidi_shape.specs.ChoiceLaws.{nullable_tree}
 use Rattle.bidi_shape.specs.ValueLaws.{others_of}
-use Rattle.bidi_subjects.specs.declared.method.Method.{Method}
-use Rattle.bidi_codes.specs.declared.error_code.ErrorCode.{ErrorCode}
+use Rattle.bidi_methods.specs.declared.method.Method.{Method}
+use Rattle.bidi_params.specs.declared.error_code.ErrorCode.{ErrorCode}
 use Rattle.bidi_messages.specs.declared.message.Response.{Response}
 use Rattle.bidi_messages.specs.declared.message.ErrorResponse.{ErrorResponse}
 use Rattle.bidi_messages.specs.declared.event.Event.{Event as AnEvent}
 use Rattle.bidi_messages.specs.contracts.message.ResponseShape.TheImpl as response
 use Rattle.bidi_messages.specs.contracts.message.ErrorResponseShape.TheImpl as error
 use Rattle.bidi_messages.specs.contracts.event.EventShape.TheImpl as event
-use Rattle.bidi_subjects.specs.contracts.event_data.EventDataSubjectEventName.TheImpl as told
-use Rattle.bidi_subjects.specs.Method.{result_of}
-use Rattle.bidi_codes.specs.ErrorCode.{error_code_text}
-use Rattle.bidi_subjects.specs.EventData.{event_of}
-use Rattle.bidi_subjects.specs.EventName.{event_name_text}
+use Rattle.bidi_methods.specs.contracts.event_data.EventDataPayloadEventName.TheImpl as told
+use Rattle.bidi_methods.specs.Method.{result_of}
+use Rattle.bidi_params.specs.ErrorCode.{error_code_text}
+use Rattle.bidi_methods.specs.EventData.{event_of}
+use Rattle.bidi_methods.specs.EventName.{event_name_text}
 use Rattle.bidi_messages.specs.Verdict.{echoed_id}
 use Rattle.bidi_messages.specs.Command.{id_in, params_in}
 use Rattle.bidi_messages.proofs.CommandLemmas.{apart}
@@ -64,11 +64,11 @@ error_in-error e =
     (text (error_code_text e.error)) (after_code e) refl refl)
 
 -- the params of an event
-pub params_in-event : (e : AnEvent) → params_in (event.ghosts.shape.tree_of e) ≡ told.ghosts.subject.tree_of e.«data»
+pub params_in-event : (e : AnEvent) → params_in (event.ghosts.shape.tree_of e) ≡ told.ghosts.payload.tree_of e.«data»
 params_in-event e =
     ap (λ o. unwrap_or o null)
     (third (codes "type") (codes "method") (codes "params") (text (codes "event")) (text (event_name_text (event_of e.«data»)))
-    (told.ghosts.subject.tree_of e.«data») (others_of e.ext) refl refl)
+    (told.ghosts.payload.tree_of e.«data») (others_of e.ext) refl refl)
 
 -- ---- what a tree means
 
@@ -134,7 +134,7 @@ error_stray waiting e well no_id = λ s is.
 
 -- an event
 pub event_means : (waiting : Pending) (e : AnEvent) → event.ghosts.shape.well e
-    → IsMeaningOf waiting (event.ghosts.shape.tree_of e) (Event (event_of e.«data») (told.ghosts.subject.tree_of e.«data»))
+    → IsMeaningOf waiting (event.ghosts.shape.tree_of e) (Event (event_of e.«data») (told.ghosts.payload.tree_of e.«data»))
 event_means waiting e well = λ s is.
     subst (λ p. Means waiting s (Event (event_of e.«data») p)) (params_in-event e)
     (is_event (event.ghosts.shape.tree_of e) (event_of e.«data») is (event.ghosts.shape.fits e well) (method_in-event e))

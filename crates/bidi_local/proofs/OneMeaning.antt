@@ -11,15 +11,15 @@ use Rattle.bidi_shape.specs.Table.{same_some}
 use Rattle.bidi_shape.specs.WordLaws.{word_shape, value_named}
 use Rattle.bidi_shape.proofs.FitsLemmas.{exactly_kind, map_kind, map_inside, RowFits, row_inside, rule_inside}
 use Rattle.bidi_messages.specs.Event.{event_type_words}
-use Rattle.bidi_messages.specs.About.{about_inside}
-use Rattle.bidi_subjects.specs.declared.method.Method.{Method}
-use Rattle.bidi_codes.specs.declared.error_code.ErrorCode.{ErrorCode}
-use Rattle.bidi_subjects.specs.declared.event_data.EventName.{EventName}
-use Rattle.bidi_subjects.specs.Method.{result_of}
-use Rattle.bidi_codes.specs.ErrorCode.{error_code_words}
-use Rattle.bidi_subjects.specs.EventName.{event_words}
+use Rattle.bidi_messages.specs.Envelope.{envelope_inside}
+use Rattle.bidi_methods.specs.declared.method.Method.{Method}
+use Rattle.bidi_params.specs.declared.error_code.ErrorCode.{ErrorCode}
+use Rattle.bidi_methods.specs.declared.event_data.EventName.{EventName}
+use Rattle.bidi_methods.specs.Method.{result_of}
+use Rattle.bidi_params.specs.ErrorCode.{error_code_words}
+use Rattle.bidi_methods.specs.EventName.{event_words}
 use Rattle.bidi_messages.specs.Command.{id_in, method_in, params_in}
-use Rattle.bidi_subjects.specs.contracts.event_data.EventDataSubjectEventName.TheImpl as told
+use Rattle.bidi_methods.specs.contracts.event_data.EventDataPayloadEventName.TheImpl as told
 use Rattle.bidi_messages.proofs.CommandLemmas.{apart}
 use Rattle.bidi_local.specs.Pending.{Pending}
 use Rattle.bidi_local.specs.Received.{Meaning, Answer, BadResult, Refusal, Event, Stray, NotInProfile, NotJson, Means}
@@ -51,7 +51,7 @@ error_type : (t : Node) → Fits t (rule error_response) → type_in t ≡ codes
 error_type t fit = typed_map (rule_inside fit)
 
 event_is_typed : (t : Node) → Fits t (rule event) → type_in t ≡ codes "event"
-event_is_typed t fit = typed_map (about_inside (codes "type") (word_shape event_type_words) event_words told.ghosts.subject (rule event) refl t fit).1
+event_is_typed t fit = typed_map (envelope_inside (codes "type") (word_shape event_type_words) event_words told.ghosts.payload (rule event) refl t fit).1
 
 -- ---- what decides
 

@@ -10,8 +10,8 @@ use Rattle.bidi_shape.specs.Fits.{Fits, without}
 use Rattle.bidi_shape.specs.Table.{TableWell}
 use Rattle.bidi_shape.specs.ValueLaws.{others_of}
 use Rattle.bidi_shape.specs.declared.ext.Ext.{Ext}
-use Rattle.bidi_subjects.specs.declared.command_data.CommandData.{CommandData}
-use Rattle.bidi_subjects.specs.contracts.command_data.CommandDataSubjectMethod.TheImpl as asks
+use Rattle.bidi_methods.specs.declared.command_data.CommandData.{CommandData}
+use Rattle.bidi_methods.specs.contracts.command_data.CommandDataPayloadMethod.TheImpl as asks
 use Rattle.bidi_messages.specs.contracts.command.CommandShape.TheImpl as command
 use Rattle.bidi_messages.specs.Verdict.{IsVerdict, is_command, Accepted}
 use Rattle.bidi_local.specs.Pending.{command_tree}
@@ -21,17 +21,17 @@ none_beside : (rs : Rows) (ms : Members) → ms ≡ no_members → TableWell rs 
 none_beside rs ms none = record { no_known = ap (without (names_of rs)) none ∙ sym none; may = subst (λ x. MembersAreWhole x 60) (sym none) (refl, zero-le) }
 
 pub command_well : (id : JsUint) (d : CommandData) (e : Ext)
-    → asks.ghosts.subject.well d → others_of e ≡ no_members → command.ghosts.shape.well (record { id = id; «data» = d; ext = e })
-command_well id d e well none = record { head = tt; subject = well; others = none_beside _ (others_of e) none }
+    → asks.ghosts.payload.well d → others_of e ≡ no_members → command.ghosts.shape.well (record { id = id; «data» = d; ext = e })
+command_well id d e well none = record { head = tt; payload = well; others = none_beside _ (others_of e) none }
 
 -- its tree
 pub command-tree : (id : JsUint) (d : CommandData) (e : Ext) → others_of e ≡ no_members
     → command.ghosts.shape.tree_of (record { id = id; «data» = d; ext = e })
-    ≡ command_tree id.value (asks.ghosts.subject.kind d) (asks.ghosts.subject.tree_of d)
+    ≡ command_tree id.value (asks.ghosts.payload.kind d) (asks.ghosts.payload.tree_of d)
 command-tree id d e none = rw none refl
 
-pub command_fits : (id : JsUint) (d : CommandData) (e : Ext) → asks.ghosts.subject.well d → others_of e ≡ no_members
-    → Fits (command_tree id.value (asks.ghosts.subject.kind d) (asks.ghosts.subject.tree_of d)) (rule rules.command)
+pub command_fits : (id : JsUint) (d : CommandData) (e : Ext) → asks.ghosts.payload.well d → others_of e ≡ no_members
+    → Fits (command_tree id.value (asks.ghosts.payload.kind d) (asks.ghosts.payload.tree_of d)) (rule rules.command)
 command_fits id d e well none =
     subst (λ t. Fits t (rule rules.command)) (command-tree id d e none)
     (command.ghosts.shape.fits (record { id = id; «data» = d; ext = e }) (command_well id d e well none))

@@ -4,8 +4,8 @@ use Rattle.std.specs.Prelude.{filter, find, length, codes, Option, Some, None, o
 use Rattle.std.specs.Prelude.{◌⊎◌}
 use Rattle.bidi_tree.specs.Node.{Node, whole, text, map as map_of, no_members, member}
 use Rattle.bidi_tree.specs.Text.{compact_text}
-use Rattle.bidi_subjects.specs.declared.method.Method.{Method}
-use Rattle.bidi_subjects.specs.Method.{method_text}
+use Rattle.bidi_methods.specs.declared.method.Method.{Method}
+use Rattle.bidi_methods.specs.Method.{method_text}
 use Rattle.bidi_local.specs.declared.local_end.LocalFault.{LocalFault}
 use Rattle.bidi_local.specs.declared.local_end.LocalFault.TheVariants.{NoMemory, IdsUsedUp, TooManyPending, TooLong}
 

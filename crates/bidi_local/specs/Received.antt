@@ -6,12 +6,12 @@ use Rattle.bidi_tree.specs.Text.{tree_of}
 use Rattle.bidi_shape.specs.Name.{message, command_response, error_response, event}
 use Rattle.bidi_shape.specs.Term.{rule}
 use Rattle.bidi_shape.specs.Fits.{Fits}
-use Rattle.bidi_subjects.specs.declared.method.Method.{Method}
-use Rattle.bidi_codes.specs.declared.error_code.ErrorCode.{ErrorCode}
-use Rattle.bidi_subjects.specs.declared.event_data.EventName.{EventName}
-use Rattle.bidi_subjects.specs.Method.{result_of}
-use Rattle.bidi_codes.specs.ErrorCode.{error_code_text}
-use Rattle.bidi_subjects.specs.EventName.{event_name_text}
+use Rattle.bidi_methods.specs.declared.method.Method.{Method}
+use Rattle.bidi_params.specs.declared.error_code.ErrorCode.{ErrorCode}
+use Rattle.bidi_methods.specs.declared.event_data.EventName.{EventName}
+use Rattle.bidi_methods.specs.Method.{result_of}
+use Rattle.bidi_params.specs.ErrorCode.{error_code_text}
+use Rattle.bidi_methods.specs.EventName.{event_name_text}
 use Rattle.bidi_messages.specs.Verdict.{echoed_id}
 use Rattle.bidi_messages.specs.Command.{id_in, method_in, params_in}
 use Rattle.bidi_local.specs.Pending.{Pending, method_of, without}

@@ -4,9 +4,9 @@ use Rattle.bidi_tree.specs.Node.{Node}
 use Rattle.bidi_tree.specs.Text.{tree_of}
 use Rattle.bidi_shape.specs.Term.{rule}
 use Rattle.bidi_shape.specs.Fits.{Fits}
-use Rattle.bidi_subjects.specs.declared.method.Method.{Method}
-use Rattle.bidi_codes.specs.declared.error_code.ErrorCode.{ErrorCode}
-use Rattle.bidi_subjects.specs.Method.{result_of}
+use Rattle.bidi_methods.specs.declared.method.Method.{Method}
+use Rattle.bidi_params.specs.declared.error_code.ErrorCode.{ErrorCode}
+use Rattle.bidi_methods.specs.Method.{result_of}
 use Rattle.bidi_local.specs.Pending.{Pending, method_of}
 use Rattle.bidi_local.specs.Received.{Meaning, Answer, BadResult, Refusal, Stray, Means}
 

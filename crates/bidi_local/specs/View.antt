@@ -1,7 +1,7 @@
 -- What contracts see of a local end, and of what it received.
 use Rattle.std.specs.Prelude.{◌≡◌, ℕ, ⊤}
-use Rattle.bidi_subjects.specs.contracts.event_data.EventDataSubjectEventName.TheImpl as told
-use Rattle.bidi_subjects.specs.contracts.result_data.ResultDataSubjectMethod.TheImpl as results
+use Rattle.bidi_methods.specs.contracts.event_data.EventDataPayloadEventName.TheImpl as told
+use Rattle.bidi_methods.specs.contracts.result_data.ResultDataPayloadMethod.TheImpl as results
 use Rattle.bidi_local.specs.declared.local_end.LocalEnd.{LocalEnd}
 use Rattle.bidi_local.specs.declared.received.Received.{Received}
 use Rattle.bidi_local.specs.declared.received.Received.TheVariants as in_hand
@@ -23,16 +23,16 @@ pub record Stands (end : LocalEnd) (count : ℕ) (commands : Pending) : Type 0 w
 
 -- what was received
 abbrev pub meaning_of : Received → Meaning
-meaning_of (in_hand.Answer id result) = Answer id.value (results.ghosts.subject.kind result) (results.ghosts.subject.tree_of result)
+meaning_of (in_hand.Answer id result) = Answer id.value (results.ghosts.payload.kind result) (results.ghosts.payload.tree_of result)
 meaning_of (in_hand.BadResult id) = BadResult id.value
 meaning_of (in_hand.Refusal id code) = Refusal id.value code
-meaning_of (in_hand.Event event) = Event (told.ghosts.subject.kind event) (told.ghosts.subject.tree_of event)
+meaning_of (in_hand.Event event) = Event (told.ghosts.payload.kind event) (told.ghosts.payload.tree_of event)
 meaning_of in_hand.Stray = Stray
 meaning_of in_hand.NotInProfile = NotInProfile
 meaning_of in_hand.NotJson = NotJson
 
 -- its result, or its event, is well
 abbrev pub IsWell : Received → Type 0
-IsWell (in_hand.Answer id result) = results.ghosts.subject.well result
-IsWell (in_hand.Event event) = told.ghosts.subject.well event
+IsWell (in_hand.Answer id result) = results.ghosts.payload.well result
+IsWell (in_hand.Event event) = told.ghosts.payload.well event
 IsWell received = ⊤

@@ -1,4 +1,4 @@
-//! The local end: commands that are sent, and what the texts of the remote end mean while some wait.
+//! The local end: commands that are sent, and what the texts that come back mean.
 //!
 //! A [`LocalEnd`] stands for one connection. It does no input or output: whoever owns the connection carries
 //! texts between it and the remote end, each as one message of the connection.

@@ -5,12 +5,14 @@ ghost use Rattle.std.specs.List.{AllByRecursion};
 ghost use Rattle.bidi_messages.specs.Verdict.{IsVerdict, Accepted};
 ghost use Rattle.bidi_local.specs.Pending.{ids, command_tree, command_text, refusal_of, IsAnswered};
 ghost use Rattle.bidi_local.specs.Received.{Meaning, Means, settled};
+ghost use Rattle.bidi_messages.specs.Payloads.{CommandIsWell, command_method, params_tree};
 
 use crate::pending::ids_of;
 use crate::received::Received;
 use crate::receiving::receive;
 use crate::writing::written;
-use bidi_messages::{CommandData, MessageFault, Method, Subject, read_message};
+use bidi_messages::{CommandData, MessageFault, Method, Payload, read_message};
+use bidi_shape::MAX_BYTES;
 use bidi_tree::JsUint;
 use indexmap::IndexMap;
 use std::alloc::{AllocError, Global};
@@ -21,9 +23,6 @@ const LAST_ID: u64 = 9_007_199_254_740_991;
 
 /// How many commands may wait for an answer.
 const MOST_PENDING: usize = 1024;
-
-/// How many bytes a command's text may have.
-const MOST_BYTES: usize = 1_048_576;
 
 /// Why a command was not sent. Nothing has changed, but the command is used up.
 #[derive(Clone, Copy, Debug, PartialEq, Eq, Error)]
@@ -83,7 +82,7 @@ impl LocalEnd {
     /// The text is `{ id: js-uint, method: "M", params: P }`, its members in that order. Ids count from 1, in
     /// order of sending; a command that is not sent takes none. The command is used up.
     ///
-    /// Costs a draft of the command and its text, each once. A command past the first two limits is refused
+    /// Costs an outline of the command and its text, each once. A command past the first two limits is refused
     /// before that.
     ///
     /// # Errors
@@ -96,19 +95,19 @@ impl LocalEnd {
     ///
     /// After WebDriver BiDi, "Transport"; the limits are this project's own.
     pub fn send(&mut self, data: CommandData) -> Result<(JsUint, String), LocalFault>
-        requires { ⟦<CommandData as Subject<Method>>⟧.subject.well «data» }
+        requires { CommandIsWell «data» }
         ensures ok { IfOk result (λ sent. (sent.0.value ≡ suc (sent_by self.old)) × (string_bytes sent.1
-            ≡ command_text (sent_by self.old) (⟦<CommandData as Subject<Method>>⟧.subject.kind «data»)
-            (⟦<CommandData as Subject<Method>>⟧.subject.tree_of «data»))) }
+            ≡ command_text (sent_by self.old) (command_method «data»)
+            (params_tree «data»))) }
         // The remote end accepts the text as that command.
         ensures accepted { IfOk result (λ sent. IsVerdict (string_bytes sent.1) (Accepted
-            (command_tree (suc (sent_by self.old)) (⟦<CommandData as Subject<Method>>⟧.subject.kind «data»)
-            (⟦<CommandData as Subject<Method>>⟧.subject.tree_of «data»)))) }
+            (command_tree (suc (sent_by self.old)) (command_method «data»)
+            (params_tree «data»)))) }
         ensures waits { OnOk result (Stands self.new (suc (sent_by self.old))
-            (waiting_in self.old ++ (suc (sent_by self.old), ⟦<CommandData as Subject<Method>>⟧.subject.kind «data») ∷ [])) }
+            (waiting_in self.old ++ (suc (sent_by self.old), command_method «data») ∷ [])) }
         ensures refusal { IsAnswered result (refusal_of (sent_by self.old) (waiting_in self.old)
-            (command_text (sent_by self.old) (⟦<CommandData as Subject<Method>>⟧.subject.kind «data»)
-            (⟦<CommandData as Subject<Method>>⟧.subject.tree_of «data»))) }
+            (command_text (sent_by self.old) (command_method «data»)
+            (params_tree «data»))) }
         ensures err { OnErr result (Stands self.new (sent_by self.old) (waiting_in self.old)) }
     {
         if self.sent >= LAST_ID {
@@ -121,7 +120,7 @@ impl LocalEnd {
             value: self.sent + 1,
         };
         let (method, text) = written(self.alloc, id, data)?;
-        if text.len() > MOST_BYTES {
+        if text.len() > MAX_BYTES {
             return Err(LocalFault::TooLong);
         }
         match self.pending.insert(id.value, method) {

@@ -5,8 +5,9 @@ ghost use Rattle.bidi_shape.specs.Name.{command};
 ghost use Rattle.bidi_shape.specs.Term.{rule};
 ghost use Rattle.bidi_shape.specs.Fits.{Fits};
 ghost use Rattle.bidi_local.specs.Pending.{command_tree};
+ghost use Rattle.bidi_messages.specs.Payloads.{CommandIsWell, command_method, params_tree};
 
-use bidi_messages::{Command, CommandData, Method, Subject, text_of};
+use bidi_messages::{Command, CommandData, Method, Payload, text_of};
 use bidi_shape::Ext;
 use bidi_tree::JsUint;
 use std::alloc::{AllocError, Global};
@@ -20,15 +21,15 @@ pub(crate) fn written(
     id: JsUint,
     data: CommandData,
 ) -> Result<(Method, String), AllocError>
-    requires { ⟦<CommandData as Subject<Method>>⟧.subject.well «data» }
-    ensures method { IfOk result (λ w. w.0 ≡ ⟦<CommandData as Subject<Method>>⟧.subject.kind «data») }
+    requires { CommandIsWell «data» }
+    ensures method { IfOk result (λ w. w.0 ≡ command_method «data») }
     ensures text { IfOk result (λ w. string_bytes w.1
-        ≡ compact_text (command_tree id.value (⟦<CommandData as Subject<Method>>⟧.subject.kind «data»)
-        (⟦<CommandData as Subject<Method>>⟧.subject.tree_of «data»))) }
-    ensures fits { IfOk result (λ w. Fits (command_tree id.value (⟦<CommandData as Subject<Method>>⟧.subject.kind «data»)
-        (⟦<CommandData as Subject<Method>>⟧.subject.tree_of «data»)) (rule command)) }
+        ≡ compact_text (command_tree id.value (command_method «data»)
+        (params_tree «data»))) }
+    ensures fits { IfOk result (λ w. Fits (command_tree id.value (command_method «data»)
+        (params_tree «data»)) (rule command)) }
     ensures reads_back { IfOk result (λ w. tree_of (string_bytes w.1)
-        ≡ Some (command_tree id.value (⟦<CommandData as Subject<Method>>⟧.subject.kind «data») (⟦<CommandData as Subject<Method>>⟧.subject.tree_of «data»))) }
+        ≡ Some (command_tree id.value (command_method «data») (params_tree «data»))) }
 {
     let method = data.method();
     let command = Command {

@@ -9,10 +9,10 @@ use Rattle.bidi_tree.specs.Kind.{text_in}
 use Rattle.bidi_tree.proofs.MemberLemmas.{get_member-put, get_member-put_other}
 use Rattle.bidi_messages.specs.Verdict.{js_uint_in}
 use Rattle.bidi_messages.specs.Command.{id_in, method_in, params_in}
-use Rattle.bidi_subjects.specs.Method.{method_text}
-use Rattle.bidi_subjects.specs.CommandData.{method_of}
+use Rattle.bidi_methods.specs.Method.{method_text}
+use Rattle.bidi_methods.specs.CommandData.{method_of}
 use Rattle.bidi_messages.specs.contracts.command.CommandShape.TheImpl.{ghosts}
-use Rattle.bidi_subjects.specs.contracts.command_data.CommandDataSubjectMethod.TheImpl as asks
+use Rattle.bidi_methods.specs.contracts.command_data.CommandDataPayloadMethod.TheImpl as asks
 use Rattle.bidi_messages.specs.declared.command.Command.{Command}
 
 pub apart : (j k : List ℕ) → bytes_eq j k ≡ false → j ≢ k
@@ -34,7 +34,7 @@ in_range n h = rw (lt-ltb n (2 ^ 53) h) refl
 
 -- the members after the id, and after the method
 abbrev with_params : Command → Members
-with_params c = put (codes "params") (asks.ghosts.subject.tree_of c.«data») (others_of c.ext)
+with_params c = put (codes "params") (asks.ghosts.payload.tree_of c.«data») (others_of c.ext)
 
 abbrev with_method : Command → Members
 with_method c = put (codes "method") (text (method_text (method_of c.«data»))) (with_params c)
@@ -51,7 +51,7 @@ method_in-tree c =
     ap (λ o. unwrap_or (option_and_then text_in o) []) (at_method (whole (pos c.id.value)) (text (method_text (method_of c.«data»))) (with_params c))
 
 -- its params
-pub params_in-tree : (c : Command) → params_in (ghosts.shape.tree_of c) ≡ asks.ghosts.subject.tree_of c.«data»
+pub params_in-tree : (c : Command) → params_in (ghosts.shape.tree_of c) ≡ asks.ghosts.payload.tree_of c.«data»
 params_in-tree c =
     ap (λ o. unwrap_or o null)
-    (at_params (whole (pos c.id.value)) (text (method_text (method_of c.«data»))) (asks.ghosts.subject.tree_of c.«data») (others_of c.ext))
+    (at_params (whole (pos c.id.value)) (text (method_text (method_of c.«data»))) (asks.ghosts.payload.tree_of c.«data») (others_of c.ext))

@@ -1,4 +1,4 @@
-pub mod AboutLemmas
+pub mod EnvelopeLemmas
 pub mod ReadingLemmas
 pub mod VerdictLemmas
 pub mod SendingLemmas

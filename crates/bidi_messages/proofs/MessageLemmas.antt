@@ -10,16 +10,16 @@ use Rattle.bidi_shape.specs.ChoiceLaws.{nullable_tree}
 use Rattle.bidi_shape.specs.ValueLaws.{others_of}
 use Rattle.bidi_messages.specs.Verdict.{js_uint_in, echoed_id}
 use Rattle.bidi_messages.specs.Command.{method_in}
-use Rattle.bidi_subjects.specs.EventName.{event_name_text}
-use Rattle.bidi_subjects.specs.EventData.{event_of}
+use Rattle.bidi_methods.specs.EventName.{event_name_text}
+use Rattle.bidi_methods.specs.EventData.{event_of}
 use Rattle.bidi_messages.specs.contracts.message.ResponseShape.TheImpl as response
 use Rattle.bidi_messages.specs.contracts.message.ErrorResponseShape.TheImpl as error
 use Rattle.bidi_messages.specs.contracts.event.EventShape.TheImpl as event
-use Rattle.bidi_subjects.specs.contracts.event_data.EventDataSubjectEventName.TheImpl as told
+use Rattle.bidi_methods.specs.contracts.event_data.EventDataPayloadEventName.TheImpl as told
 use Rattle.bidi_messages.specs.declared.message.Response.{Response}
 use Rattle.bidi_messages.specs.declared.message.ErrorResponse.{ErrorResponse}
 use Rattle.bidi_messages.specs.declared.event.Event.{Event}
-use Rattle.bidi_codes.specs.ErrorCode.{error_code_text}
+use Rattle.bidi_params.specs.ErrorCode.{error_code_text}
 use Rattle.bidi_messages.proofs.CommandLemmas.{apart, in_range}
 
 -- a member behind one of another name
@@ -58,4 +58,4 @@ pub method_in-event : (e : Event) → method_in (event.ghosts.shape.tree_of e) �
 method_in-event e =
     ap (λ o. unwrap_or (option_and_then text_in o) [])
     (behind (codes "type") (codes "method") (text (codes "event")) (text (event_name_text (event_of e.«data»)))
-    (put (codes "params") (told.ghosts.subject.tree_of e.«data») (others_of e.ext)) refl)
+    (put (codes "params") (told.ghosts.payload.tree_of e.«data») (others_of e.ext)) refl)

@@ -21,20 +21,20 @@ use Rattle.bidi_shape.specs.Table.{TableWell}
 use Rattle.bidi_shape.specs.Value.{ShapeOf}
 use Rattle.bidi_shape.specs.declared.ext.Ext.{Ext}
 use Rattle.bidi_shape.proofs.FitsLemmas.{exactly_kind, js_uint_kind, map_kind, map_inside, RowFits, row_inside, either_inside, rule_inside}
-use Rattle.bidi_subjects.specs.Method.{result_of}
-use Rattle.bidi_codes.specs.ErrorCode.{error_code_text}
-use Rattle.bidi_subjects.specs.EventData.{event_of}
-use Rattle.bidi_subjects.specs.EventName.{event_name_text}
+use Rattle.bidi_methods.specs.Method.{result_of}
+use Rattle.bidi_params.specs.ErrorCode.{error_code_text}
+use Rattle.bidi_methods.specs.EventData.{event_of}
+use Rattle.bidi_methods.specs.EventName.{event_name_text}
 use Rattle.bidi_messages.specs.Reading.{IsEvent, IsMessageText}
 use Rattle.bidi_messages.specs.Message.{response_tree, error_tree, event_text as told_text}
-use Rattle.bidi_subjects.specs.declared.event_data.EventName.{EventName}
-use Rattle.bidi_subjects.specs.declared.method.Method.{Method}
-use Rattle.bidi_subjects.specs.declared.method.Method.TheVariants.{ScriptEvaluate, ScriptCallFunction}
-use Rattle.bidi_codes.specs.declared.error_code.ErrorCode.{ErrorCode}
-use Rattle.bidi_subjects.specs.declared.event_data.EventData.{EventData}
+use Rattle.bidi_methods.specs.declared.event_data.EventName.{EventName}
+use Rattle.bidi_methods.specs.declared.method.Method.{Method}
+use Rattle.bidi_methods.specs.declared.method.Method.TheVariants.{ScriptEvaluate, ScriptCallFunction}
+use Rattle.bidi_params.specs.declared.error_code.ErrorCode.{ErrorCode}
+use Rattle.bidi_methods.specs.declared.event_data.EventData.{EventData}
 use Rattle.bidi_messages.specs.declared.message.Message.{Message}
 use Rattle.bidi_messages.specs.declared.message.Message.TheVariants.{Response as AsResponse, Error as AsError, Event as AsEvent}
-use Rattle.bidi_subjects.specs.contracts.event_data.EventDataSubjectEventName.TheImpl as told
+use Rattle.bidi_methods.specs.contracts.event_data.EventDataPayloadEventName.TheImpl as told
 use Rattle.bidi_messages.specs.contracts.message.MessageShape.TheImpl as message
 
 -- the text of a well message's tree is that of a well message
@@ -158,12 +158,12 @@ abbrev pub an_event : EventData → Ext → Message
 an_event d e = AsEvent (record { «data» = d; ext = e })
 
 abbrev after_event : EventData → Ext → Members
-after_event d e = put (codes "method") (text (event_name_text (event_of d))) (put (codes "params") (told.ghosts.subject.tree_of d) (others_of e))
+after_event d e = put (codes "method") (text (event_name_text (event_of d))) (put (codes "params") (told.ghosts.payload.tree_of d) (others_of e))
 
-pub event_well : (d : EventData) (e : Ext) → told.ghosts.subject.well d → others_of e ≡ no_members → message.ghosts.shape.well (an_event d e)
+pub event_well : (d : EventData) (e : Ext) → told.ghosts.payload.well d → others_of e ≡ no_members → message.ghosts.shape.well (an_event d e)
 event_well d e well none = (
   (
-    record { head = tt; subject = well; others = none_beside _ (others_of e) none },
+    record { head = tt; payload = well; others = none_beside _ (others_of e) none },
     other_type error_response (codes "error") (codes "event") _ _ (after_event d e) refl refl,
   ),
   other_type command_response (codes "success") (codes "event") _ _ (after_event d e) refl refl,

@@ -3,10 +3,10 @@
 use Rattle.std.specs.Prelude.{ℕ, pos, Bool, List, Option, Some, None, codes}
 use Rattle.bidi_tree.specs.Node.{Node, null, boolean, whole, text, map, no_members, member}
 use Rattle.bidi_tree.specs.Text.{compact_text}
-use Rattle.bidi_codes.specs.declared.error_code.ErrorCode.{ErrorCode}
-use Rattle.bidi_subjects.specs.declared.event_data.EventName.{EventName}
-use Rattle.bidi_codes.specs.ErrorCode.{error_code_text}
-use Rattle.bidi_subjects.specs.EventName.{event_name_text as name_of}
+use Rattle.bidi_params.specs.declared.error_code.ErrorCode.{ErrorCode}
+use Rattle.bidi_methods.specs.declared.event_data.EventName.{EventName}
+use Rattle.bidi_params.specs.ErrorCode.{error_code_text}
+use Rattle.bidi_methods.specs.EventName.{event_name_text as name_of}
 
 -- an id, or null where there is none
 abbrev pub id_tree : Option ℕ → Node

@@ -7,9 +7,9 @@ use Rattle.bidi_shape.specs.Name.{command}
 use Rattle.bidi_shape.specs.Term.{rule}
 use Rattle.bidi_shape.specs.Fits.{Fits}
 use Rattle.bidi_shape.specs.WordLaws.{value_named}
-use Rattle.bidi_subjects.specs.Method.{method_words}
-use Rattle.bidi_codes.specs.declared.error_code.ErrorCode.{ErrorCode}
-use Rattle.bidi_codes.specs.declared.error_code.ErrorCode.TheVariants.{InvalidArgument, UnknownCommand}
+use Rattle.bidi_methods.specs.Method.{method_words}
+use Rattle.bidi_params.specs.declared.error_code.ErrorCode.{ErrorCode}
+use Rattle.bidi_params.specs.declared.error_code.ErrorCode.TheVariants.{InvalidArgument, UnknownCommand}
 
 -- a text is accepted as the command of its tree, or refused with an id and a code
 pub data Verdict : Type 0 where

@@ -2,10 +2,10 @@
 ghost use Rattle.std.specs.Prelude.{refl, codes};
 ghost use Rattle.bidi_shape.specs.Term.{rule as named};
 
-use crate::about::{draft_about, read_about};
+use crate::envelope::{outline_envelope, read_envelope};
+use bidi_methods::{CommandData, Method, Payload};
 use bidi_shape::{Ext, Parsed, Shape, ShapeFault};
-use bidi_subjects::{CommandData, Method, Subject};
-use bidi_tree::{Draft, JsUint};
+use bidi_tree::{JsUint, Outline};
 use std::alloc::{AllocError, Global};
 
 /// A command of the local end.
@@ -23,22 +23,22 @@ pub struct Command {
 }
 
 impl Shape for Command {
-    ghost use Rattle.bidi_messages.specs.About.{about_shape};
+    ghost use Rattle.bidi_messages.specs.Envelope.{envelope_shape};
     ghost use Rattle.bidi_shape.specs.Name.{command};
 
-    ghost shape = { about_shape (codes "id") ⟦<JsUint as Shape>⟧.shape ⟦<Method as bidi_shape::Named>⟧.words
-        ⟦<CommandData as Subject<Method>>⟧.subject (named command) (λ c. (c.id, (c.«data», c.ext))) refl refl };
+    ghost shape = { envelope_shape (codes "id") ⟦<JsUint as Shape>⟧.shape ⟦<Method as bidi_shape::Named>⟧.words
+        ⟦<CommandData as Payload<Method>>⟧.payload (named command) (λ c. (c.id, (c.«data», c.ext))) refl refl };
 
     fn from_tree<S: Parsed>(alloc: Global, tree: &S) -> Result<Command, ShapeFault> {
-        let about = read_about::<JsUint, Method, CommandData, S>(alloc, tree, "id")?;
+        let envelope = read_envelope::<JsUint, Method, CommandData, S>(alloc, tree, "id")?;
         Ok(Command {
-            id: about.head,
-            data: about.subject,
-            ext: about.ext,
+            id: envelope.head,
+            data: envelope.payload,
+            ext: envelope.ext,
         })
     }
 
-    fn draft<'a>(&'a self, alloc: Global) -> Result<Draft<'a>, AllocError> {
-        draft_about(alloc, "id", &self.id, &self.data, &self.ext)
+    fn outline<'a>(&'a self, alloc: Global) -> Result<Outline<'a>, AllocError> {
+        outline_envelope(alloc, "id", &self.id, &self.data, &self.ext)
     }
 }

@@ -1,10 +1,10 @@
 //! Events.
 ghost use Rattle.std.specs.Prelude.{refl, codes};
 
-use crate::about::{draft_about, read_about};
+use crate::envelope::{outline_envelope, read_envelope};
+use bidi_methods::{EventData, EventName, Payload};
 use bidi_shape::{Ext, Named, Parsed, Shape, ShapeFault};
-use bidi_subjects::{EventData, EventName, Subject};
-use bidi_tree::Draft;
+use bidi_tree::Outline;
 use std::alloc::{AllocError, Global};
 
 /// The member `type` of an event.
@@ -42,23 +42,23 @@ pub struct Event {
 }
 
 impl Shape for Event {
-    ghost use Rattle.bidi_messages.specs.About.{about_shape};
+    ghost use Rattle.bidi_messages.specs.Envelope.{envelope_shape};
     ghost use Rattle.bidi_messages.specs.declared.event.EventType.TheVariants.{Event as event_type};
     ghost use Rattle.bidi_shape.specs.Name.{event};
     ghost use Rattle.bidi_shape.specs.Term.{rule as named};
 
-    ghost shape = { about_shape (codes "type") ⟦<EventType as Shape>⟧.shape ⟦<EventName as Named>⟧.words
-        ⟦<EventData as Subject<EventName>>⟧.subject (named event) (λ e. (event_type, (e.«data», e.ext))) refl refl };
+    ghost shape = { envelope_shape (codes "type") ⟦<EventType as Shape>⟧.shape ⟦<EventName as Named>⟧.words
+        ⟦<EventData as Payload<EventName>>⟧.payload (named event) (λ e. (event_type, (e.«data», e.ext))) refl refl };
 
     fn from_tree<S: Parsed>(alloc: Global, tree: &S) -> Result<Event, ShapeFault> {
-        let about = read_about::<EventType, EventName, EventData, S>(alloc, tree, "type")?;
+        let envelope = read_envelope::<EventType, EventName, EventData, S>(alloc, tree, "type")?;
         Ok(Event {
-            data: about.subject,
-            ext: about.ext,
+            data: envelope.payload,
+            ext: envelope.ext,
         })
     }
 
-    fn draft<'a>(&'a self, alloc: Global) -> Result<Draft<'a>, AllocError> {
-        draft_about(alloc, "type", &EventType::Event, &self.data, &self.ext)
+    fn outline<'a>(&'a self, alloc: Global) -> Result<Outline<'a>, AllocError> {
+        outline_envelope(alloc, "type", &EventType::Event, &self.data, &self.ext)
     }
 }

@@ -7,15 +7,12 @@ ghost use Rattle.bidi_messages.specs.View.{verdict_of, IsWell, AcceptsAs};
 ghost use Rattle.bidi_messages.specs.declared.command.Command.{Command};
 
 use crate::command::Command;
-use bidi_codes::ErrorCode;
-use bidi_shape::{Named, Parsed, Shape, ShapeFault};
-use bidi_subjects::Method;
+use bidi_methods::Method;
+use bidi_params::ErrorCode;
+use bidi_shape::{MAX_BYTES, Named, Parsed, Shape, ShapeFault};
 use bidi_tree::{JsUint, ReadFault, parse};
 use json::{Scratch, Value};
 use std::alloc::{AllocError, Global};
-
-/// The most bytes of a command text.
-const MAX_COMMAND_BYTES: usize = 1_048_576;
 
 /// What a text is judged to be: a command, or refused with the id and the code of its error.
 #[derive(Drop)]
@@ -88,7 +85,7 @@ fn command_tree<'a>(
 ) -> Result<Option<Value<'a>>, AllocError>
     ensures { IfOk result (λ o. option_map parsed o ≡ judged.command_tree text.now) }
 {
-    match parse(alloc, text, Some(MAX_COMMAND_BYTES), scratch) {
+    match parse(alloc, text, Some(MAX_BYTES), scratch) {
         Ok(value) => Ok(Some(value)),
         Err(ReadFault::NotJson) => Ok(None),
         Err(ReadFault::TooLong) => Ok(None),

@@ -1,12 +1,12 @@
-//! The messages of WebDriver BiDi: commands, results, events and errors, and the texts of all of them.
+//! Messages: commands, responses, errors and events, and their texts.
 //!
 //! A remote end hands each text to [`judge`], which accepts it as a [`Command`] or says what error it gets. A local
 //! end hands each text to [`read_message`]; the result of a [`Response`] is read by [`result_of`], with the method of
 //! the command that it answers. [`text_of`] gives the text of any of them, which reads back as the same.
 #![tactic(auto)]
 
-mod about;
 mod command;
+mod envelope;
 mod event;
 mod judging;
 mod message;
@@ -14,11 +14,11 @@ mod response_reading;
 mod sending;
 mod text;
 
-pub use bidi_codes::ErrorCode;
-pub use bidi_shape::Named;
-pub use bidi_subjects::{
-    CommandData, EventData, EventName, Method, ResultData, Subject, data_of, result_of,
+pub use bidi_methods::{
+    CommandData, EventData, EventName, Method, Payload, ResultData, data_of, result_of,
 };
+pub use bidi_params::ErrorCode;
+pub use bidi_shape::Named;
 pub use command::Command;
 pub use event::Event;
 pub use judging::{Verdict, judge, judge_with};

@@ -5,12 +5,12 @@ ghost use Rattle.bidi_shape.specs.Name.{command_response, error_response, messag
 ghost use Rattle.bidi_shape.specs.Term.{rule as named};
 
 use crate::event::Event;
-use bidi_codes::ErrorCode;
+use bidi_params::ErrorCode;
 use bidi_shape::{
     Either, Exact, Ext, Fields, Literal, Maybe, One, Optional, Parsed, Required, Rest, Shape,
-    ShapeFault, draft_fields, read_choice, read_fields,
+    ShapeFault, outline_fields, read_choice, read_fields,
 };
-use bidi_tree::{Draft, JsUint};
+use bidi_tree::{JsUint, Outline};
 use std::alloc::{AllocError, Global};
 
 /// The answer to a command that was carried out, with its result.
@@ -46,13 +46,13 @@ impl Shape for Response {
         Ok(Response { id, result, ext })
     }
 
-    fn draft<'a>(&'a self, alloc: Global) -> Result<Draft<'a>, AllocError> {
+    fn outline<'a>(&'a self, alloc: Global) -> Result<Outline<'a>, AllocError> {
         let members = Exact(One(&self.id, One(&self.result, Rest(&self.ext))));
-        draft_fields(alloc, &members, Self::NAMES, &["success"])
+        outline_fields(alloc, &members, Self::NAMES, &["success"])
     }
 }
 
-/// The answer to a command that failed, or to a text that is none.
+/// The answer to a command that failed, or to a text that is no command.
 ///
 /// `ErrorResponse = { type: "error", id: js-uint / null, error: ErrorCode, message: text, ? stacktrace: text, Extensible }`
 ///
@@ -97,7 +97,7 @@ impl Shape for ErrorResponse {
         })
     }
 
-    fn draft<'a>(&'a self, alloc: Global) -> Result<Draft<'a>, AllocError> {
+    fn outline<'a>(&'a self, alloc: Global) -> Result<Outline<'a>, AllocError> {
         let members = Exact(One(
             &self.id,
             One(
@@ -105,7 +105,7 @@ impl Shape for ErrorResponse {
                 One(&self.message, Maybe(&self.stacktrace, Rest(&self.ext))),
             ),
         ));
-        draft_fields(alloc, &members, Self::NAMES, &["error"])
+        outline_fields(alloc, &members, Self::NAMES, &["error"])
     }
 }
 
@@ -144,11 +144,11 @@ impl Shape for Message {
         }
     }
 
-    fn draft<'a>(&'a self, alloc: Global) -> Result<Draft<'a>, AllocError> {
+    fn outline<'a>(&'a self, alloc: Global) -> Result<Outline<'a>, AllocError> {
         match self {
-            Message::Response(response) => response.draft(alloc),
-            Message::Error(error) => error.draft(alloc),
-            Message::Event(event) => event.draft(alloc),
+            Message::Response(response) => response.outline(alloc),
+            Message::Error(error) => error.outline(alloc),
+            Message::Event(event) => event.outline(alloc),
         }
     }
 }

@@ -1,4 +1,4 @@
-//! Responses that are known as such where they stand, with nothing made of them.
+//! Recognising a response in a JSON value that borrows its text, without making a message of it.
 ghost use Rattle.std.specs.Prelude.{◌≡◌, ◌↔◌, Some, None, IsTrue, IfSome, codes};
 ghost use Rattle.json.specs.Value.{value_view};
 ghost use Rattle.bidi_tree.specs.Node as kind;
@@ -11,17 +11,17 @@ ghost use Rattle.bidi_shape.specs.Fits.{Fits};
 ghost use Rattle.bidi_messages.specs.Verdict.{echoed_id};
 
 use crate::judging::echoed_id;
-use bidi_shape::Parsed;
+use bidi_shape::{MAX_LEVELS, Parsed};
 use bidi_tree::{JsUint, is_parsed_whole};
 use json::Value;
 
-/// The most levels of a response that is known as such where it stands: those of its members, and one more.
-const MAX_LEVELS: usize = 61;
+/// The most levels of a response that is recognised here: the 60 of its members, and one more.
+const MOST_LEVELS: usize = MAX_LEVELS + 1;
 
-/// The id of a response, where the value is one and is whole as it stands. Takes no memory.
+/// The id of the response that the value is; `None` where it is none. Takes no memory.
 ///
-/// `None` may also come of a response that nests past 61 levels, or in which a member stands that is not whole and that
-/// another of its name takes the place of: [`message_of`](crate::message_of) reads these, too.
+/// `None` may also come for some responses, which [`message_of`](crate::message_of) reads: those that nest past 61
+/// levels, and those with a member that is not whole but is replaced by a later one of the same name.
 pub fn response_id(value: &Value<'_>) -> Option<JsUint>
     ensures fits { IfSome result (λ id. Fits (parsed value.now) (rule command_response)) }
     ensures id { IfSome result (λ id. echoed_id (parsed value.now) ≡ Some id.value) }
@@ -29,7 +29,7 @@ pub fn response_id(value: &Value<'_>) -> Option<JsUint>
     ensures writable { IfSome result (λ id. IsWritable (parsed value.now)) }
     ensures none { result ≡ None → IsTrue (stands_whole (value_view value.now) 61) → Fits (parsed value.now) (rule command_response) → ⊥ }
 {
-    if !is_success(value) || !has_result(value) || !is_parsed_whole(value, MAX_LEVELS) {
+    if !is_success(value) || !has_result(value) || !is_parsed_whole(value, MOST_LEVELS) {
         return None;
     }
     echoed_id(value)

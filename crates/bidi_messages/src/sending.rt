@@ -6,15 +6,16 @@ ghost use Rattle.bidi_tree.specs.Text.{tree_of};
 ghost use Rattle.bidi_shape.specs.ValueLaws.{others_of};
 ghost use Rattle.bidi_messages.specs.Message.{response_tree, response_text, error_text, event_text};
 ghost use Rattle.bidi_messages.specs.Reading.{IsMessageText};
+ghost use Rattle.bidi_messages.specs.Payloads.{EventIsWell, ResultIsWell, event_of, event_params, result_tree};
 
-use crate::about::draft_about;
+use crate::envelope::outline_envelope;
 use crate::event::EventType;
 use crate::message::{ErrorResponse, Message, Response};
 use crate::text::text_of;
-use bidi_codes::ErrorCode;
+use bidi_methods::{EventData, EventName, Method, Payload, ResultData};
+use bidi_params::ErrorCode;
 use bidi_shape::{Ext, Named, Shape};
-use bidi_subjects::{EventData, EventName, Method, ResultData, Subject};
-use bidi_tree::{JsUint, Tree, write_draft};
+use bidi_tree::{JsUint, Tree, write_outline};
 use std::alloc::{AllocError, Global};
 
 /// The text of the response to a command: compact, its members in byte order of their names.
@@ -27,14 +28,14 @@ pub fn response_text(
     id: JsUint,
     result_data: ResultData,
 ) -> Result<String, AllocError>
-    requires well { ⟦<ResultData as Subject<Method>>⟧.subject.well result_data }
+    requires well { ResultIsWell result_data }
     // A response holds any members of at most 60 levels each, so a result has at most 61: one that is deeper could be
     // written, and nobody could read it.
-    requires small { levels (⟦<ResultData as Subject<Method>>⟧.subject.tree_of result_data) ≤ 61 }
+    requires small { levels (result_tree result_data) ≤ 61 }
     ensures text { IfOk result (λ s. string_bytes s
-        ≡ response_text id.value (⟦<ResultData as Subject<Method>>⟧.subject.tree_of result_data)) }
+        ≡ response_text id.value (result_tree result_data)) }
     ensures tree { IfOk result (λ s. tree_of (string_bytes s)
-        ≡ Some (response_tree id.value (⟦<ResultData as Subject<Method>>⟧.subject.tree_of result_data))) }
+        ≡ Some (response_tree id.value (result_tree result_data))) }
     ensures reads_back { IfOk result (λ s. IsMessageText ⟦<Message as Shape>⟧.shape (string_bytes s)) }
 {
     let members = contents(alloc, result_data)?;
@@ -47,16 +48,14 @@ pub fn response_text(
 }
 
 /// The members of a result. It is used up.
-fn contents<D: Subject<Method>>(alloc: Global, result_data: D) -> Result<Ext, AllocError>
-    requires { IsSome (map_in (D.subject.tree_of result_data)) }
-    ensures { IfOk result (λ e. map (others_of e) ≡ D.subject.tree_of result_data) }
+fn contents<D: Payload<Method>>(alloc: Global, result_data: D) -> Result<Ext, AllocError>
+    requires { IsSome (map_in (D.payload.tree_of result_data)) }
+    ensures { IfOk result (λ e. map (others_of e) ≡ D.payload.tree_of result_data) }
 {
     let Tree::Map(members) = result_data.to_tree(alloc)? else {
         unreachable!()
     };
-    // The contract of `len` has the order of the names, which an `Ext` keeps.
-    let _ = members.len();
-    Ok(Ext { members })
+    Ok(Ext::of(members))
 }
 
 /// The text of an event.
@@ -64,14 +63,14 @@ fn contents<D: Subject<Method>>(alloc: Global, result_data: D) -> Result<Ext, Al
 /// # Errors
 /// No memory: an allocation failed.
 pub fn event_text(alloc: Global, event: &EventData) -> Result<String, AllocError>
-    requires { ⟦<EventData as Subject<EventName>>⟧.subject.well event.now }
+    requires { EventIsWell event.now }
     ensures text { IfOk result (λ s. string_bytes s
-        ≡ event_text (⟦<EventData as Subject<EventName>>⟧.subject.kind event.now) (⟦<EventData as Subject<EventName>>⟧.subject.tree_of event.now)) }
+        ≡ event_text (event_of event.now) (event_params event.now)) }
     ensures reads_back { IfOk result (λ s. IsMessageText ⟦<Message as Shape>⟧.shape (string_bytes s)) }
 {
     let ext = Ext::empty(alloc);
-    let draft = draft_about(alloc, "type", &EventType::Event, event, &ext)?;
-    write_draft(alloc, &draft)
+    let outline = outline_envelope(alloc, "type", &EventType::Event, event, &ext)?;
+    write_outline(alloc, &outline)
 }
 
 /// The text of an error, whose message is the code's text.

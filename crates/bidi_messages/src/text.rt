@@ -7,7 +7,7 @@ use crate::command::Command;
 use crate::event::Event;
 use crate::message::{ErrorResponse, Message, Response};
 use bidi_shape::{Parsed, Shape, ShapeFault};
-use bidi_tree::{ReadFault, parse, write_draft};
+use bidi_tree::{ReadFault, parse, write_outline};
 use json::Scratch;
 use std::alloc::{AllocError, Global};
 use thiserror::Error;
@@ -49,8 +49,8 @@ pub fn text_of<M: Sendable>(alloc: Global, value: &M) -> Result<String, AllocErr
     ensures text { IfOk result (λ s. string_bytes s ≡ compact_text (M.shape.tree_of value.now)) }
     ensures reads_back { IfOk result (λ s. tree_of (string_bytes s) ≡ Some (M.shape.tree_of value.now)) }
 {
-    let draft = value.draft(alloc)?;
-    write_draft(alloc, &draft)
+    let outline = value.outline(alloc)?;
+    write_outline(alloc, &outline)
 }
 
 /// Why a text is no message of the remote end.

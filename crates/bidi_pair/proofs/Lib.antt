@@ -1,2 +1,3 @@
 pub mod LedgerLemmas
 pub mod PairLemmas
+pub mod WordLemmas

@@ -21,12 +21,8 @@ use Rattle.bidi_pair.specs.declared.reading.PairFault.{PairFault}
 use Rattle.bidi_pair.specs.declared.reading.PairFault.TheVariants.{BadLine, Write}
 use Rattle.bidi_lines.specs.declared.line_reader.InputFault.{InputFault}
 use Rattle.bidi_lines.specs.declared.line_reader.InputFault.TheVariants as fault
-use Rattle.bidi_lines.proofs.FeedLemmas.{feed_there}
-use Rattle.bidi_lines.proofs.FeedLemmas.{regroup}
-
-all_more : {X : Type 0} (P : X → Type 0) (xs : List X) (x : X) → AllByRecursion P xs → P x → AllByRecursion P (xs ++ x ∷ [])
-all_more P [] x a p = (p, tt)
-all_more P (y ∷ ys) x a p = (a.0, all_more P ys x a.1 p)
+use Rattle.bidi_lines.proofs.AnsweringLemmas.{all_more, no_line, the_line}
+use Rattle.bidi_lines.proofs.FeedLemmas.{feed_there, regroup}
 
 -- one step more is well
 pub well_more : {X : Type 0} (P : X → Type 0) (xs ys : List X) (x : X) → ys ≡ xs ++ x ∷ [] → AllByRecursion P xs → P x → AllByRecursion P ys
@@ -40,7 +36,7 @@ length-say (line ∷ lines) [] a = absurd a
 length-say (line ∷ lines) (x ∷ steps) a = let ih = length-say lines steps a.1 in omega (arith, ih)
 
 say_more : (lines : List (List ℕ)) (steps : List PairStep) (line : List ℕ) (x : PairStep)
-    → AllSay lines steps → said.Says line x → AllSay (lines ++ line ∷ []) (steps ++ x ∷ [])
+    → AllSay lines steps → said.IsPairLine line x → AllSay (lines ++ line ∷ []) (steps ++ x ∷ [])
 say_more [] [] line x a says = (says, tt)
 say_more [] (y ∷ steps) line x a says = absurd a
 say_more (l ∷ lines) [] line x a says = absurd a
@@ -48,7 +44,7 @@ say_more (l ∷ lines) (y ∷ steps) line x a says = (a.0, say_more lines steps 
 
 -- a schedule goes on by one line, of which the last bytes were just read
 more : (read bytes line rest rest' : List ℕ) (steps : List PairStep) (x : PairStep)
-    → Schedule read steps rest → ended line ++ rest' ≡ rest ++ bytes → IsLine line → said.Says line x
+    → Schedule read steps rest → ended line ++ rest' ≡ rest ++ bytes → IsLine line → said.IsPairLine line x
     → length steps < 1000000000 → Schedule (read ++ bytes) (steps ++ x ∷ []) rest'
 more read bytes line rest rest' steps x s e is says few =
     let lines = s.lines in
@@ -68,10 +64,10 @@ more read bytes line rest rest' steps x s e is says few =
 -- by the line that was read and the steps that were kept, which are known by other names
 pub schedule_more : (read bytes line seen rest rest' : List ℕ) (steps after : List PairStep) (x : PairStep) (count : ℕ)
     → Schedule read steps rest → ended line ++ rest' ≡ rest ++ bytes → IsLine line
-    → said.Says seen x → seen ≡ line → after ≡ steps ++ x ∷ [] → count ≡ length steps → count < 1000000000 → Schedule (read ++ bytes) after rest'
+    → said.IsPairLine seen x → seen ≡ line → after ≡ steps ++ x ∷ [] → count ≡ length steps → count < 1000000000 → Schedule (read ++ bytes) after rest'
 schedule_more read bytes line seen rest rest' steps after x count s e is says same grown counted few =
     subst (λ (z : List PairStep). Schedule (read ++ bytes) z rest') (sym grown)
-    (more read bytes line rest rest' steps x s e is (subst (λ (z : List ℕ). said.Says z x) same says) (omega (arith, counted, few)))
+    (more read bytes line rest rest' steps x s e is (subst (λ (z : List ℕ). said.IsPairLine z x) same says) (omega (arith, counted, few)))
 
 -- the count of the steps, after one more
 pub count_more : (steps after : List PairStep) (x : PairStep) (count : ℕ) → after ≡ steps ++ x ∷ [] → count ≡ length steps → count + 1 ≡ length after
@@ -97,7 +93,7 @@ schedule_all read rest steps s none = subst (λ (r : List ℕ). Schedule read st
 stops_next : (f : InputFault) (at_end : Bool) (read rest : List ℕ) (steps : List PairStep) → Schedule read steps rest
     → (let r : Result (Option (Vec ℕ)) InputFault = Err f in input.Says r at_end rest) → StopsAt (pair_fault_of f (length steps + 1)) at_end read []
 stops_next fault.Read at_end read rest steps s says = (steps, rest, s, says, refl)
-stops_next fault.BadLine at_end read rest steps s says = (steps, rest, s, inr says.enough, refl, refl)
+stops_next fault.BadLine at_end read rest steps s says = (steps, rest, s, inr says.enough, no_line said.SaysNoStep at_end rest says, refl, refl)
 stops_next fault.NoMemory at_end read rest steps s says = refl
 
 pub input_stop : (f : InputFault) (shown : PairFault) (count : ℕ) (at_end : Bool) (read rest : List ℕ) (steps : List PairStep)
@@ -119,16 +115,17 @@ pub last_stop : (f : InputFault) (shown : PairFault) (n : ℕ) (at_end : Bool) (
     → (f ≡ fault.BadLine → ⊥) → StopsAt shown at_end read []
 last_stop f shown n at_end read steps is s good = subst (λ (x : PairFault). StopsAt x at_end read []) (sym is) (stops_last f n at_end read steps s good)
 
--- a line that says no step stops a run
-pub line_stop : (count : ℕ) (at_end : Bool) (read bytes line rest rest' : List ℕ) (steps : List PairStep)
-    → Schedule read steps rest → ended line ++ rest' ≡ rest ++ bytes → count ≡ length steps
+-- a line that says no step stops a run; it is known by another name
+pub line_stop : (count : ℕ) (at_end : Bool) (read bytes line seen rest rest' : List ℕ) (steps : List PairStep)
+    → Schedule read steps rest → ended line ++ rest' ≡ rest ++ bytes → IsLine line → seen ≡ line → said.SaysNoStep seen → count ≡ length steps
     → StopsAt (BadLine (count + 1)) at_end (read ++ bytes) []
-line_stop count at_end read bytes line rest rest' steps s e counted =
+line_stop count at_end read bytes line seen rest rest' steps s e is same none counted =
     let whole = ended line ++ rest' in (
       steps,
       whole,
       schedule_read read bytes rest whole steps s e,
       inl (feed_there line rest' whole (append_assoc line (10 ∷ []) rest')),
+      the_line said.SaysNoStep line rest' is (subst said.SaysNoStep same none),
       ap (λ (n : ℕ). n + 1) counted,
       refl,
     )

@@ -1,12 +1,12 @@
 -- The lines that say steps of both ends, and the lines of a ledger. Their forms are this project's own.
-use Rattle.std.specs.Prelude.{◌≡◌, ℕ, ◌==◌, if◌then◌else◌, List, [], ◌∷◌, ◌++◌, Some, None, codes, decimal, string_bytes}
+use Rattle.std.specs.Prelude.{◌≡◌, ℕ, ◌==◌, if◌then◌else◌, List, [], ◌∷◌, ◌++◌, Some, None, codes, decimal, string_bytes, IsUtf8, ⊤}
 use Rattle.std.specs.List.{flat_map}
 use Rattle.bidi_tree.specs.Text.{tree_of_text, compact_text}
 use Rattle.bidi_remote.specs.Machine.Step as play
 use Rattle.bidi_ledger.specs.declared.pair_step.PairStep.{PairStep}
 use Rattle.bidi_ledger.specs.declared.pair_step.PairStep.TheVariants.{Open, Send, Up, Down, Cut, At, Frame, Unframe, Log, TableRow}
-use Rattle.bidi_ledger.specs.Steps.{sending_of}
-use Rattle.bidi_ledger.specs.Link.{Fate, Answered, Refused, Lost, Waiting, Entry, Received, Page}
+use Rattle.bidi_ledger.specs.Steps.{sending_of, IsWell}
+use Rattle.bidi_ledger.specs.Link.{Fate, Answered, Refused, Lost, Waiting, Entry, Received, Account}
 use Rattle.bidi_lines.specs.Feeds.{ended}
 use Rattle.bidi_play.specs.Lines.{line_of, IsSayable}
 
@@ -32,6 +32,23 @@ Says line (Frame context url) = IsPlayLine line (play.Frame (string_bytes contex
 Says line (Unframe context) = IsPlayLine line (play.Unframe (string_bytes context))
 Says line (Log context level text) = IsPlayLine line (play.Log (string_bytes context) level (string_bytes text))
 Says line (TableRow text) = IsPlayLine line (play.TableRow (string_bytes text))
+
+-- The line is that of a step that can be taken: it is UTF-8, and a command that it sends is well.
+pub record IsPairLine (line : List ℕ) (x : PairStep) : Type 0 where
+  pub utf8 : IsUtf8 line
+  pub says : Says line x
+  pub well : IsWell x
+
+-- the line is that of no step
+abbrev pub SaysNoStep : List ℕ → Type 0
+SaysNoStep line = (x : PairStep) → IsPairLine line x → ⊥
+
+-- a drop and a message on a connection are lines of a play alone
+abbrev pub IsOfPlayAlone : play.Step → Type 0
+IsOfPlayAlone (play.Drop c) = ⊤
+IsOfPlayAlone (play.Text c text) = ⊤
+IsOfPlayAlone (play.NotText c) = ⊤
+IsOfPlayAlone s = ⊥
 
 -- ---- what is written
 
@@ -61,9 +78,9 @@ entries_text l entries = flat_map (λ e. ended (entry_line l e)) entries
 abbrev pub events_text : ℕ → List Received → List ℕ
 events_text l events = flat_map (λ r. ended (event_line l r)) events
 
-abbrev pub page_text : Page → List ℕ
-page_text p = entries_text p.link p.entries ++ events_text p.link p.events ++ unsent_text p.link p.not_sent
+abbrev pub account_text : Account → List ℕ
+account_text p = entries_text p.link p.entries ++ events_text p.link p.events ++ unsent_text p.link p.not_sent
 
 -- the lines of all links
-abbrev pub ledger_text : List Page → List ℕ
-ledger_text pages = flat_map page_text pages
+abbrev pub ledger_text : List Account → List ℕ
+ledger_text accounts = flat_map account_text accounts

@@ -14,14 +14,15 @@ use Rattle.bidi_lines.specs.declared.line_reader.InputFault.{InputFault}
 use Rattle.bidi_lines.specs.declared.line_reader.InputFault.TheVariants as input
 use Rattle.bidi_lines.specs.InputLines.{IsLine, HasLine}
 use Rattle.bidi_lines.specs.InputLines.{joined}
-use Rattle.bidi_pair.specs.PairLines.{Says, ledger_text}
+use Rattle.bidi_lines.specs.Answering.{LineIs}
+use Rattle.bidi_pair.specs.PairLines.{IsPairLine, SaysNoStep, ledger_text}
 
--- each line says the step at its place
+-- each line is that of the step at its place
 abbrev pub AllSay : List (List ℕ) → List PairStep → Type 0
 AllSay [] [] = ⊤
 AllSay [] (x ∷ steps) = ⊥
 AllSay (line ∷ lines) [] = ⊥
-AllSay (line ∷ lines) (x ∷ steps) = Says line x × AllSay lines steps
+AllSay (line ∷ lines) (x ∷ steps) = IsPairLine line x × AllSay lines steps
 
 -- The bytes begin with lines that say these steps, with this rest behind them.
 pub record Schedule (bytes : List ℕ) (steps : List PairStep) (rest : List ℕ) : Type 0 where
@@ -40,9 +41,9 @@ PairsAll bytes text =
 abbrev pub StopsAt : PairFault → Bool → List ℕ → List ℕ → Type 0
 -- each whole line that was read says a step, and what is left may be the beginning of a line
 StopsAt Read at_end read wrote = (steps : List PairStep) × (rest : List ℕ) × Schedule read steps rest × IsLine rest × (wrote ≡ [])
--- line n is there, and all lines before it say a step
+-- line n is there and is no pair line, and all lines before it say a step
 StopsAt (BadLine n) at_end read wrote =
-    (steps : List PairStep) × (rest : List ℕ) × Schedule read steps rest × HasLine at_end rest × (n ≡ length steps + 1) × (wrote ≡ [])
+    (steps : List PairStep) × (rest : List ℕ) × Schedule read steps rest × HasLine at_end rest × LineIs SaysNoStep rest × (n ≡ length steps + 1) × (wrote ≡ [])
 -- as many lines as are taken say a step, and the input goes on
 StopsAt TooManyLines at_end read wrote =
     (steps : List PairStep) × (rest : List ℕ) × Schedule read steps rest × (length steps ≡ 1000000000) × (rest ≢ []) × (wrote ≡ [])

@@ -1,6 +1,6 @@
-//! The lines of both ends: lines of their steps, read, and the lines of a ledger, written.
+//! Lines of both ends: those of their steps, read, and those of a ledger, written.
 //!
-//! What plays the steps between is `bidi_link`; `bidi_programs` puts the three together.
+//! `bidi_link` plays the steps; `bidi_programs` reads them, has them played, and writes the ledger.
 #![tactic(auto)]
 
 mod pair_lines;

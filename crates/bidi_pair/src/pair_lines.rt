@@ -1,11 +1,15 @@
 //! Pair lines: reading one as a step of both ends.
-ghost use Rattle.std.specs.Prelude.{◌≡◌, ℕ, List, ◌∷◌, ◌++◌, Some, None, codes, IfOk, IfSome};
+ghost use Rattle.std.specs.Prelude.{◌≡◌, ℕ, List, ◌∷◌, ◌++◌, Some, None, codes, IfOk, IfSome, IfNone};
 ghost use Rattle.bidi_tree.specs.Text.{tree_of_text};
 ghost use Rattle.bidi_tree.specs.View.{node};
-ghost use Rattle.bidi_subjects.specs.Method.{method_text};
-ghost use Rattle.bidi_remote.specs.Tables.View.{step_of};
+ghost use Rattle.bidi_methods.specs.Method.{method_text};
+ghost use Rattle.bidi_methods.specs.declared.command_data.CommandData.{CommandData};
+ghost use Rattle.bidi_methods.specs.declared.method.Method.{Method};
+ghost use Rattle.bidi_remote.specs.State.View.{step_of};
 ghost use Rattle.bidi_ledger.specs.Steps.{IsWell};
-ghost use Rattle.bidi_pair.specs.PairLines.{IsPlayLine, Says, sending_line};
+ghost use Rattle.bidi_ledger.specs.declared.pair_step.PairStep.{PairStep};
+ghost use Rattle.bidi_ledger.specs.declared.pair_step.PairStep.TheVariants.{Send};
+ghost use Rattle.bidi_pair.specs.PairLines.{IsOfPlayAlone, IsPairLine, IsPlayLine, Says, SaysNoStep, sending_line};
 
 use bidi_ledger::PairStep;
 use bidi_messages::{Method, Named, data_of};
@@ -20,7 +24,8 @@ use std::alloc::{AllocError, Global};
 /// # Errors
 /// No memory: an allocation failed.
 pub fn read_pair_step(alloc: Global, line: &[u8]) -> Result<Option<PairStep>, AllocError>
-    ensures some { IfOk result (λ found. IfSome found (λ x. Says line.now x × IsWell x)) }
+    ensures some { IfOk result (λ found. IfSome found (IsPairLine line.now)) }
+    ensures none { IfOk result (λ found. IfNone found (SaysNoStep line.now)) }
 {
     match std::str::from_utf8(line) {
         Err(_) => Ok(None),
@@ -31,6 +36,7 @@ pub fn read_pair_step(alloc: Global, line: &[u8]) -> Result<Option<PairStep>, Al
 // Reads a text as a step of both ends. A step of a page, an opening and a moment have the lines of a play.
 fn read_pair_words(alloc: Global, line: &str) -> Result<Option<PairStep>, AllocError>
     ensures some { IfOk result (λ found. IfSome found (λ x. Says line.now x × IsWell x)) }
+    ensures none { IfOk result (λ found. IfNone found ((x : PairStep) → IsWell x → Says line.now x → ⊥)) }
 {
     let Some((word, rest)) = split_at_space(line) else {
         return Ok(None);
@@ -63,6 +69,7 @@ fn read_pair_words(alloc: Global, line: &str) -> Result<Option<PairStep>, AllocE
 // A step of a play as a step of both ends; `None` for a drop and for a message on a connection.
 fn pair_step(step: Step) -> Option<PairStep>
     ensures some { IfSome result (λ x. (line : List ℕ) → IsPlayLine line (step_of step) → Says line x × IsWell x) }
+    ensures none { IfNone result (IsOfPlayAlone (step_of step)) }
 {
     match step {
         Step::At(moment) => Some(PairStep::At(moment)),
@@ -78,6 +85,7 @@ fn pair_step(step: Step) -> Option<PairStep>
 // Reads a link, the method behind the first space, and the params behind the next.
 fn read_sending(alloc: Global, rest: &str) -> Result<Option<PairStep>, AllocError>
     ensures some { IfOk result (λ found. IfSome found (λ x. Says (codes "send " ++ rest.now) x × IsWell x)) }
+    ensures none { IfOk result (λ found. IfNone found ((l : JsUint) (d : CommandData) → IsWell (Send l d) → Says (codes "send " ++ rest.now) (Send l d) → ⊥)) }
 {
     let Some((number, command)) = split_at_space(rest) else {
         return Ok(None);
@@ -94,6 +102,7 @@ fn read_sending(alloc: Global, rest: &str) -> Result<Option<PairStep>, AllocErro
 // Reads a method, and the text behind the first space.
 fn method_and_params(command: &str) -> Option<(Method, &str)>
     ensures some { IfSome result (λ x. command.now ≡ method_text x.0 ++ 32 ∷ x.1.now) }
+    ensures none { IfNone result ((m : Method) (params : List ℕ) → command.now ≡ method_text m ++ 32 ∷ params → ⊥) }
 {
     let (name, params) = split_at_space(command)?;
     let method = Method::named(name)?;
@@ -108,11 +117,14 @@ fn read_command(
     params: &str,
 ) -> Result<Option<PairStep>, AllocError>
     ensures some { IfOk result (λ found. IfSome found (λ x. Says (sending_line link.value (method_text method) params.now) x × IsWell x)) }
+    ensures none { IfOk result (λ found. IfNone found
+        ((d : CommandData) → IsWell (Send link d) → Says (sending_line link.value (method_text method) params.now) (Send link d) → ⊥)) }
 {
     match read(alloc, params, None) {
         Ok(tree) => sending(alloc, link, method, &tree),
+        Err(ReadFault::NotJson) => Ok(None),
+        Err(ReadFault::TooLong) => Ok(None),
         Err(ReadFault::NoMemory) => Err(AllocError),
-        Err(_) => Ok(None),
     }
 }
 
@@ -125,6 +137,8 @@ fn sending(
 ) -> Result<Option<PairStep>, AllocError>
     ensures some { (text : List ℕ) → tree_of_text None text ≡ Some (node params.now)
         → IfOk result (λ found. IfSome found (λ x. Says (sending_line link.value (method_text method) text) x × IsWell x)) }
+    ensures none { (text : List ℕ) → tree_of_text None text ≡ Some (node params.now)
+        → IfOk result (λ found. IfNone found ((d : CommandData) → IsWell (Send link d) → Says (sending_line link.value (method_text method) text) (Send link d) → ⊥)) }
 {
     match data_of(alloc, method, params) {
         Ok(data) => Ok(Some(PairStep::Send(link, data))),

@@ -4,12 +4,13 @@ ghost use Rattle.std.specs.List.{AllByRecursion};
 ghost use Rattle.bidi_tree.specs.Node.{IsWritable};
 ghost use Rattle.bidi_tree.specs.Text.{compact_text};
 ghost use Rattle.bidi_tree.specs.View.{node};
-ghost use Rattle.bidi_ledger.specs.Steps.{FateIsWell, LedgerIsWell, PageIsWell, entry_seen, event_seen, fate_seen, page_seen, pages_of};
+ghost use Rattle.bidi_ledger.specs.Steps.{FateIsWell, LedgerIsWell, AccountIsWell, entry_seen, event_seen, fate_seen, account_seen, accounts_of};
 ghost use Rattle.bidi_lines.specs.Feeds.{ended};
-ghost use Rattle.bidi_pair.specs.PairLines.{entries_text, entry_line, event_line, events_text, fate_text, ledger_text, page_text, unsent_text};
+ghost use Rattle.bidi_pair.specs.PairLines.{entries_text, entry_line, event_line, events_text, fate_text, ledger_text, account_text, unsent_text};
+ghost use Rattle.bidi_messages.specs.Payloads.{EventIsWell, ResultIsWell, event_params, result_tree};
 
-use bidi_ledger::{Entry, Fate, Ledger, Page};
-use bidi_messages::{EventData, EventName, Method, Named, ResultData, Subject};
+use bidi_ledger::{Account, Entry, Fate, Ledger};
+use bidi_messages::{EventData, EventName, Method, Named, Payload, ResultData};
 use bidi_tree::{JsUint, Tree, write};
 use std::alloc::{AllocError, Global};
 
@@ -20,25 +21,25 @@ use std::alloc::{AllocError, Global};
 /// No memory: an allocation failed.
 pub fn ledger_lines(alloc: Global, ledger: Ledger) -> Result<String, AllocError>
     requires { LedgerIsWell ledger }
-    ensures { IfOk result (λ lines. string_bytes lines ≡ ledger_text (pages_of ledger)) }
+    ensures { IfOk result (λ lines. string_bytes lines ≡ ledger_text (accounts_of ledger)) }
 {
     let mut lines = String::new(alloc);
-    'pages: for page in ledger.pages {
-        let text = page_lines(alloc, page)?;
+    'accounts: for account in ledger.accounts {
+        let text = account_lines(alloc, account)?;
         lines.push_str(text.as_str())?;
     }
     Ok(lines)
 }
 
 // The lines of one link.
-fn page_lines(alloc: Global, page: Page) -> Result<String, AllocError>
-    requires { PageIsWell page }
-    ensures { IfOk result (λ lines. string_bytes lines ≡ page_text (page_seen page)) }
+fn account_lines(alloc: Global, account: Account) -> Result<String, AllocError>
+    requires { AccountIsWell account }
+    ensures { IfOk result (λ lines. string_bytes lines ≡ account_text (account_seen account)) }
 {
-    let mut lines = entry_lines(alloc, page.link, page.commands)?;
-    let events = event_lines(alloc, page.link, page.events)?;
+    let mut lines = entry_lines(alloc, account.link, account.commands)?;
+    let events = event_lines(alloc, account.link, account.events)?;
     lines.push_str(events.as_str())?;
-    let unsent = unsent_line(alloc, page.link, page.unsent)?;
+    let unsent = unsent_line(alloc, account.link, account.unsent)?;
     lines.push_str(unsent.as_str())?;
     Ok(lines)
 }
@@ -97,8 +98,8 @@ fn fate_text(alloc: Global, fate: Fate) -> Result<String, AllocError>
 
 // `answered RESULT`
 fn answered_text(alloc: Global, result_data: ResultData) -> Result<String, AllocError>
-    requires { ⟦<ResultData as Subject<Method>>⟧.subject.well result_data }
-    ensures { IfOk result (λ text. string_bytes text ≡ codes "answered " ++ compact_text (⟦<ResultData as Subject<Method>>⟧.subject.tree_of result_data)) }
+    requires { ResultIsWell result_data }
+    ensures { IfOk result (λ text. string_bytes text ≡ codes "answered " ++ compact_text (result_tree result_data)) }
 {
     let tree = result_data.tree_of(alloc)?;
     let text = compact(alloc, tree)?;
@@ -107,7 +108,7 @@ fn answered_text(alloc: Global, result_data: ResultData) -> Result<String, Alloc
 
 // The lines of the events that a link received.
 fn event_lines(alloc: Global, link: JsUint, events: Vec<EventData>) -> Result<String, AllocError>
-    requires { AllByRecursion (λ d. ⟦<EventData as Subject<EventName>>⟧.subject.well d) events.items }
+    requires { AllByRecursion EventIsWell events.items }
     ensures { IfOk result (λ lines. string_bytes lines ≡ events_text link.value (map event_seen events.items)) }
 {
     let mut lines = String::new(alloc);
@@ -120,7 +121,7 @@ fn event_lines(alloc: Global, link: JsUint, events: Vec<EventData>) -> Result<St
 
 // `L event METHOD PARAMS`
 fn event_line(alloc: Global, link: JsUint, event: EventData) -> Result<String, AllocError>
-    requires { ⟦<EventData as Subject<EventName>>⟧.subject.well event }
+    requires { EventIsWell event }
     ensures { IfOk result (λ line. string_bytes line ≡ ended (event_line link.value (event_seen event))) }
 {
     let event_name = event.event();
@@ -130,8 +131,8 @@ fn event_line(alloc: Global, link: JsUint, event: EventData) -> Result<String, A
 
 // The compact text of an event's params.
 fn params_text(alloc: Global, event: EventData) -> Result<String, AllocError>
-    requires { ⟦<EventData as Subject<EventName>>⟧.subject.well event }
-    ensures { IfOk result (λ text. string_bytes text ≡ compact_text (⟦<EventData as Subject<EventName>>⟧.subject.tree_of event)) }
+    requires { EventIsWell event }
+    ensures { IfOk result (λ text. string_bytes text ≡ compact_text (event_params event)) }
 {
     let tree = event.tree_of(alloc)?;
     compact(alloc, tree)

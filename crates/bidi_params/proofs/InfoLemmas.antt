@@ -6,9 +6,9 @@ use Rattle.std.specs.declared.alloc.AllocError.{AllocError}
 use Rattle.bidi_tree.specs.Node as kind
 use Rattle.bidi_tree.specs.Node.{Node, Items, item, Members, get_member, put, levels, items_levels}
 use Rattle.bidi_tree.specs.View.{items_of}
-use Rattle.bidi_tree.specs.Draft.{draft_node}
-use Rattle.bidi_tree.specs.declared.draft.Draft.{Draft, List as DraftList}
-use Rattle.bidi_tree.proofs.DraftLemmas.{draft_node-List}
+use Rattle.bidi_tree.specs.Outline.{outline_node}
+use Rattle.bidi_tree.specs.declared.outline.Outline.{Outline, List as OutlineList}
+use Rattle.bidi_tree.proofs.OutlineLemmas.{outline_node-List}
 use Rattle.bidi_tree.proofs.MemberLemmas.{get_member-put}
 use Rattle.bidi_shape.specs.Name.{info}
 use Rattle.bidi_shape.specs.Term.{required, Term, null, list_of, map_of, either, rule, names_of}
@@ -118,15 +118,15 @@ module _ (n : InfoOf OwnMembers) where
       → (out-Info i).children ≡ c → info_map n.table (beside_of (out-Info i)) (tree_of_children n c) ≡ tree_of_info n i
   written i c is = ap (λ x. info_map n.table (beside_of (out-Info i)) (tree_of_children n x)) (sym is) ∙ sym (ap (info_tree n) (content-told i))
 
-  pub children_drafted : (r : Result Draft AllocError) (i : Info) (v : Vec Info Global) (drafts : Vec Draft Global)
-      → (out-Info i).children ≡ Some v → map draft_node drafts.items ≡ map (tree_of_info n) v.items
-      → IfOk r (λ d. draft_node d ≡ info_map n.table (beside_of (out-Info i)) (draft_node (DraftList drafts))) → IfOk r (λ d. draft_node d ≡ tree_of_info n i)
-  children_drafted (Ok t) i v drafts is e p =
-      p ∙ ap (info_map n.table (beside_of (out-Info i))) (draft_node-List drafts ∙ ap kind.list (ap items_of e ∙ sym (infos_tree-of v.items)))
+  pub children_outlined : (r : Result Outline AllocError) (i : Info) (v : Vec Info Global) (outlines : Vec Outline Global)
+      → (out-Info i).children ≡ Some v → map outline_node outlines.items ≡ map (tree_of_info n) v.items
+      → IfOk r (λ d. outline_node d ≡ info_map n.table (beside_of (out-Info i)) (outline_node (OutlineList outlines))) → IfOk r (λ d. outline_node d ≡ tree_of_info n i)
+  children_outlined (Ok t) i v outlines is e p =
+      p ∙ ap (info_map n.table (beside_of (out-Info i))) (outline_node-List outlines ∙ ap kind.list (ap items_of e ∙ sym (infos_tree-of v.items)))
       ∙ written i (Some v) is
-  children_drafted (Err x) i v drafts is e p = tt
+  children_outlined (Err x) i v outlines is e p = tt
 
-  pub none_drafted : (r : Result Draft AllocError) (i : Info) → (out-Info i).children ≡ None
-      → IfOk r (λ d. draft_node d ≡ info_map n.table (beside_of (out-Info i)) kind.null) → IfOk r (λ d. draft_node d ≡ tree_of_info n i)
-  none_drafted (Ok t) i is p = p ∙ written i None is
-  none_drafted (Err x) i is p = tt
+  pub none_outlined : (r : Result Outline AllocError) (i : Info) → (out-Info i).children ≡ None
+      → IfOk r (λ d. outline_node d ≡ info_map n.table (beside_of (out-Info i)) kind.null) → IfOk r (λ d. outline_node d ≡ tree_of_info n i)
+  none_outlined (Ok t) i is p = p ∙ written i None is
+  none_outlined (Err x) i is p = tt

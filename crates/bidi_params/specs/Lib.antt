@@ -1,3 +1,4 @@
+pub mod ErrorCode
 pub mod InfoContent
 pub mod InfoLaws
 pub mod InfoView

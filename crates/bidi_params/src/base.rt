@@ -5,7 +5,7 @@ ghost use Rattle.bidi_shape.specs.Table.{map_shape};
 ghost use Rattle.bidi_shape.specs.Made.{Makes, named, MembersAreWhole, members_node, has_named, names_in, others_of};
 
 use bidi_shape::{Ext, Fields, MakeFault, Parsed, Shape, ShapeFault, further, read_fields};
-use bidi_tree::{Draft, Members, draft_members_of};
+use bidi_tree::{Members, Outline, outline_members_of};
 use std::alloc::{AllocError, Global};
 
 /// Params with no member that has a meaning.
@@ -44,8 +44,8 @@ impl Shape for EmptyParams {
         Ok(EmptyParams { ext })
     }
 
-    fn draft<'a>(&'a self, alloc: Global) -> Result<Draft<'a>, AllocError> {
-        Ok(Draft::Map(draft_members_of(alloc, &self.ext.members, 0)?))
+    fn outline<'a>(&'a self, alloc: Global) -> Result<Outline<'a>, AllocError> {
+        Ok(Outline::Map(outline_members_of(alloc, &self.ext.members, 0)?))
     }
 }
 
@@ -85,7 +85,7 @@ impl Shape for EmptyResult {
         Ok(EmptyResult { ext })
     }
 
-    fn draft<'a>(&'a self, alloc: Global) -> Result<Draft<'a>, AllocError> {
-        Ok(Draft::Map(draft_members_of(alloc, &self.ext.members, 0)?))
+    fn outline<'a>(&'a self, alloc: Global) -> Result<Outline<'a>, AllocError> {
+        Ok(Outline::Map(outline_members_of(alloc, &self.ext.members, 0)?))
     }
 }

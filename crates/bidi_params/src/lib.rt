@@ -1,4 +1,4 @@
-//! The parameters and results of the commands, and the parameters of the events.
+//! The parameters and results of the commands, the parameters of the events, and the error codes.
 //!
 //! A folder for each module of the protocol. The commands whose parameters bear values of a script stand with those, in
 //! `bidi_values`. Each type is a [`Shape`](bidi_shape::Shape): its values are the trees that fit
@@ -9,6 +9,7 @@
 
 mod base;
 mod browsing_context;
+mod error_code;
 mod script;
 pub mod session;
 
@@ -18,6 +19,7 @@ pub use browsing_context::{
     GetTreeParameters, GetTreeResult, Info, NavigateParameters, NavigateResult, NavigationInfo,
     ReloadParameters, TraverseHistoryParameters, Wait,
 };
+pub use error_code::ErrorCode;
 pub use script::{
     GetRealmsParameters, GetRealmsResult, RealmDestroyedParameters, RealmInfo, RealmType,
 };

@@ -7,8 +7,8 @@ use Rattle.bidi_remote.specs.declared.remote_end.RemoteEnd.{RemoteEnd}
 use Rattle.bidi_remote.specs.Machine.Step.{Step}
 use Rattle.bidi_remote.specs.Machine.History.{Input, IsHeardAs}
 use Rattle.bidi_remote.specs.Machine.Sent.{Sent, answers, out}
-use Rattle.bidi_remote.specs.Tables.Messages.{AllReadBack}
-use Rattle.bidi_remote.specs.Tables.Stands.{StandsFor}
+use Rattle.bidi_remote.specs.State.Messages.{AllReadBack}
+use Rattle.bidi_remote.specs.State.Stands.{StandsFor}
 use Rattle.bidi_remote.proofs.AnswerLemmas.{answers_more}
 use Rattle.bidi_remote.proofs.HeardLemmas.{heard_more}
 use Rattle.bidi_lines.specs.Feeds.{ended}

@@ -6,8 +6,8 @@ use Rattle.bidi_remote.specs.declared.remote_end.RemoteEnd.{RemoteEnd}
 use Rattle.bidi_remote.specs.Machine.Step.{Step}
 use Rattle.bidi_remote.specs.Machine.History.{Input, AreHeardAs}
 use Rattle.bidi_remote.specs.Machine.Sent.{answers}
-use Rattle.bidi_remote.specs.Tables.Messages.{AllReadBack}
-use Rattle.bidi_remote.specs.Tables.Stands.{StandsFor}
+use Rattle.bidi_remote.specs.State.Messages.{AllReadBack}
+use Rattle.bidi_remote.specs.State.Stands.{StandsFor}
 use Rattle.bidi_play.specs.Lines.{line_of, CanBeSaid, written}
 use Rattle.bidi_play.specs.declared.playing.Player.{Player}
 

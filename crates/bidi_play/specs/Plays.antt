@@ -6,7 +6,7 @@ use Rattle.bidi_play.specs.declared.playing.PlayFault.TheVariants.{Read, Write, 
 use Rattle.bidi_remote.specs.Machine.Step.{Step}
 use Rattle.bidi_remote.specs.Machine.History.{Input, AreHeardAs}
 use Rattle.bidi_remote.specs.Machine.Sent.{answers}
-use Rattle.bidi_remote.specs.Tables.Messages.{AllReadBack}
+use Rattle.bidi_remote.specs.State.Messages.{AllReadBack}
 use Rattle.bidi_lines.specs.Feeds.{ended}
 use Rattle.bidi_lines.specs.InputLines.{IsLine, HasLine}
 use Rattle.bidi_lines.specs.declared.answering.LinesFault.{LinesFault}

@@ -4,7 +4,7 @@ ghost use Rattle.std.specs.Prelude.{decimal, string_bytes, IsTrue, IfOk, IfSome,
 ghost use Rattle.std.specs.List.{list_any};
 ghost use Rattle.bidi_values.specs.Level.{level_text};
 ghost use Rattle.bidi_remote.specs.Machine.Step as play;
-ghost use Rattle.bidi_remote.specs.Tables.View.{step_of, sent_of};
+ghost use Rattle.bidi_remote.specs.State.View.{step_of, sent_of};
 ghost use Rattle.bidi_lines.specs.Feeds.{has_feed, ended};
 ghost use Rattle.bidi_play.specs.Lines.{line_of, IsContext, IsSayable, CanBeSaid, sent_line, written};
 

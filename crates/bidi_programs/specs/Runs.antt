@@ -4,8 +4,8 @@ use Rattle.std.specs.Io.KnownBytes.{Appends}
 use Rattle.bidi_lines.specs.Devices.{AppendsBeginning}
 use Rattle.bidi_show.specs.Listings as lists
 use Rattle.bidi_show.specs.Listings.{ListsAll}
-use Rattle.bidi_arguments.specs.declared.arguments.Run.{Run}
-use Rattle.bidi_arguments.specs.declared.arguments.Run.TheVariants as asked
+use Rattle.bidi_command_line.specs.declared.asked.Run.{Run}
+use Rattle.bidi_command_line.specs.declared.asked.Run.TheVariants as asked
 use Rattle.bidi_show.specs.declared.showing.Listing.TheVariants.{All, RefusedAlone}
 use Rattle.bidi_show.specs.declared.showing.ShowFault.TheVariants as list
 use Rattle.bidi_play.specs.Plays as plays

@@ -38,7 +38,7 @@ impl RunFault {
     }
 
     /// Writes the fault as one line, or a beginning of it where a write fails. Takes no memory.
-    pub fn tell<F: Sink>(self, faults: &mut F)
+    pub fn report<F: Sink>(self, faults: &mut F)
         ensures { Tells (F.contents faults.old) (F.contents faults.new) (F.failures faults.old) (F.failures faults.new) (line_of self) }
     {
         let _ = match self.words() {

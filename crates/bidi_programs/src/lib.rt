@@ -1,4 +1,4 @@
-//! The programs over the two ends of WebDriver BiDi, as one call over readers and writers.
+//! The programs, as one call over readers and writers.
 //!
 //! [`run`] does what a command line asks for: it reads a source and writes a sink, and writes a fault to
 //! another sink. The programs stand in `bidi_play`, `bidi_reduce` and `bidi_serve`, `show` and `check` in `bidi_show`, and [`play_pair`]

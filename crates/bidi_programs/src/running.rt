@@ -8,7 +8,7 @@ ghost use Rattle.bidi_programs.specs.Runs.{Completes, Stops, Tells, failed_reads
 
 use super::faults::RunFault;
 use super::pairing::play_pair;
-use bidi_arguments::Run;
+use bidi_command_line::Run;
 use bidi_lines::{Sink, Source};
 use bidi_play::play;
 use bidi_reduce::reduce;
@@ -46,7 +46,7 @@ pub fn run<R: Source, W: Sink, F: Sink>(
     match finish(alloc, run, source, sink) {
         Ok(status) => status,
         Err(fault) => {
-            fault.tell(faults);
+            fault.report(faults);
             fault.status()
         }
     }
@@ -103,7 +103,7 @@ pub fn serving_status<F: Sink>(served: Result<(), ServeFault>, faults: &mut F) -
         Ok(()) => 0,
         Err(fault) => {
             let fault = RunFault::Serve(fault);
-            fault.tell(faults);
+            fault.report(faults);
             fault.status()
         }
     }

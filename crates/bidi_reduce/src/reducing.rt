@@ -5,7 +5,7 @@ ghost use Rattle.bidi_lines.specs.Devices.{Moves};
 ghost use Rattle.bidi_lines.specs.Feeds.{ended};
 ghost use Rattle.bidi_remote.specs.Machine.History.{Input};
 ghost use Rattle.bidi_remote.specs.Machine.Strike.{strike, sees};
-ghost use Rattle.bidi_remote.specs.Tables.View.{step_of};
+ghost use Rattle.bidi_remote.specs.State.View.{step_of};
 ghost use Rattle.bidi_play.specs.Lines.{CanBeSaid, line_of};
 ghost use Rattle.bidi_play.specs.Plays.{failed_reads, failed_writes};
 ghost use Rattle.bidi_reduce.specs.Reduces.{ReducesAll, StopsAt};

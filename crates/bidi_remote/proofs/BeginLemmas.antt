@@ -5,7 +5,7 @@ use Rattle.std.specs.Prelude.{◌==◌}
 use Rattle.std.proofs.lemmas.Bool.Decides.{nat_tests}
 use Rattle.bidi_remote.specs.declared.connections.Connection.{Connection}
 use Rattle.bidi_remote.specs.Machine.Connections.{SpeaksFor, is_for}
-use Rattle.bidi_remote.specs.Tables.ConnectionRows.{ConnectionRow, row_of, begun, to_each}
+use Rattle.bidi_remote.specs.State.ConnectionRows.{ConnectionRow, row_of, begun, to_each}
 use Rattle.bidi_remote.specs.Machine.Sent.{Sent}
 
 -- the first of them changed by g

@@ -4,13 +4,13 @@ use Rattle.std.proofs.Common.{Some, None, Result, Ok, Err, Vec, Global, IfOk, re
 use Rattle.std.specs.Prelude.{is_some, option_map}
 use Rattle.std.specs.Option.{option_zip}
 use Rattle.std.specs.declared.rc.Rc.{Rc}
-use Rattle.bidi_codes.specs.declared.error_code.ErrorCode.{ErrorCode}
-use Rattle.bidi_subjects.specs.declared.result_data.ResultData.{ResultData}
+use Rattle.bidi_params.specs.declared.error_code.ErrorCode.{ErrorCode}
+use Rattle.bidi_methods.specs.declared.result_data.ResultData.{ResultData}
 use Rattle.bidi_browser.specs.declared.plan.Plan.{Plan}
 use Rattle.bidi_browser.specs.Acts.{Act, Logged, Looked, Ending}
 use Rattle.bidi_browser.specs.Actions.{Action, Activate, Close, Create, GetTree, Navigate, Reload, TraverseHistory, Evaluate}
 use Rattle.bidi_browser.specs.Actions.{CallFunction, Disown, GetRealms, Frame, Unframe, Log, TableRow, is_asked}
-use Rattle.bidi_codes.specs.Checks.{◌>>=◌}
+use Rattle.bidi_handles.specs.Checks.{◌>>=◌}
 use Rattle.bidi_browser.specs.Outcome as browser
 use Rattle.bidi_browser.specs.Occurrences.{Occurrence, entry_added}
 use Rattle.bidi_browser.specs.Occurs.{Item, Happens, Replies, occurs}
@@ -20,7 +20,7 @@ use Rattle.bidi_browser.specs.View.{seen}
 use Rattle.bidi_values.specs.declared.log_entry.Level.{Level}
 use Rattle.bidi_remote.specs.declared.event_texts.EventText.{EventText}
 use Rattle.bidi_remote.specs.declared.step.Sent as declared_sent
-use Rattle.bidi_remote.specs.declared.tables.Tables.{Tables}
+use Rattle.bidi_remote.specs.declared.state.State.{State}
 use Rattle.bidi_remote.specs.declared.turn.Asker.{Asker}
 use Rattle.bidi_remote.specs.declared.turn.Change.TheVariants.{Browse}
 use Rattle.bidi_remote.specs.declared.turn.Reply.{Reply}
@@ -29,11 +29,11 @@ use Rattle.bidi_remote.specs.Machine.Commands.{OfBrowser}
 use Rattle.bidi_remote.specs.Machine.History.{Input, PageStep, Deed, Did, acts, moment}
 use Rattle.bidi_remote.specs.Machine.Outcome.{deeds, did, in_page, turn}
 use Rattle.bidi_remote.specs.Machine.Sent.{Sent, sent_unasked, to_hearers, items, told}
-use Rattle.bidi_remote.specs.Tables.Messages.{AllReadBack}
-use Rattle.bidi_remote.specs.Tables.EventTexts.{Written, written_of, written_in, AreMessages}
-use Rattle.bidi_remote.specs.Tables.Stands.{AgreeWith, Takes}
-use Rattle.bidi_remote.specs.Tables.Turns.{Decides, IsMade, IsQuiet, is_log, deed_of, reply_in, asker_in, items_in, sent_of_item, sent_for}
-use Rattle.bidi_remote.specs.Tables.View.{sent_of}
+use Rattle.bidi_remote.specs.State.Messages.{AllReadBack}
+use Rattle.bidi_remote.specs.State.EventTexts.{Written, written_of, written_in, AreMessages}
+use Rattle.bidi_remote.specs.State.Stands.{AgreeWith, Takes}
+use Rattle.bidi_remote.specs.State.Turns.{Decides, IsMade, IsQuiet, is_log, deed_of, reply_in, asker_in, items_in, sent_of_item, sent_for}
+use Rattle.bidi_remote.specs.State.View.{sent_of}
 use Rattle.bidi_remote.proofs.ListLemmas.{flat_map-same}
 use Rattle.bidi_remote.proofs.TakeLemmas.{takes, all_taken}
 
@@ -159,7 +159,7 @@ unasked-told past action act ws all none same = append-nil _ ∙ (flat_map-same 
     one (Replies result) = refl
 
 -- a step of a page is taken
-pub page_takes : {E : Type 0} (r : Result (Vec declared_sent.Sent Global) E) (t : Tables) (h : List Input) (turned : Turn) (plan : Plan) (action : Action)
+pub page_takes : {E : Type 0} (r : Result (Vec declared_sent.Sent Global) E) (t : State) (h : List Input) (turned : Turn) (plan : Plan) (action : Action)
     → is_asked action ≡ false → is_log action ≡ false → Plans (Ok plan) (acts (deeds h)) (moment (deeds h)) action
     → turned.change ≡ Browse plan.change → turned.telling.announced.items ≡ [] → turned.telling.before ≡ plan.before
     → turned.telling.reply ≡ option_map reply_of (option_zip None plan.result) → turned.telling.after ≡ plan.after
@@ -222,7 +222,7 @@ last-written (x ∷ []) e w is = absurd (cc)
 last-written (x ∷ y ∷ left) e w is = absurd (cc)
 
 -- an entry is taken
-pub entry_takes : (t : Tables) (h : List Input) (c : ℕ) (id : List ℕ) (level : Level) (line : List ℕ) (sent : List Sent)
+pub entry_takes : (t : State) (h : List Input) (c : ℕ) (id : List ℕ) (level : Level) (line : List ℕ) (sent : List Sent)
     → browser.log_outcome (acts (deeds h)) id level line ≡ Ok (Logged c level line)
     → sent ≡ to_hearers (deeds h) (entry_added (acts (deeds h)) (moment (deeds h)) c level line)
     → AllReadBack sent → AgreeWith t (Did (Logged c level line) ∷ deeds h) → Takes t sent h (PageStep (Log id level line))

@@ -36,15 +36,15 @@ use Rattle.bidi_params.specs.declared.browsing_context.create.ActivateParameters
 use Rattle.bidi_params.specs.declared.browsing_context.create.CloseParameters.{CloseParameters}
 use Rattle.bidi_params.specs.declared.browsing_context.create.CreateParameters.{CreateParameters}
 use Rattle.bidi_params.specs.declared.browsing_context.get_tree.GetTreeParameters.{GetTreeParameters}
-use Rattle.bidi_subjects.specs.declared.command_data.CommandData.TheVariants.{BrowsingContextActivate, BrowsingContextClose}
-use Rattle.bidi_subjects.specs.declared.command_data.CommandData.TheVariants.{BrowsingContextCreate, BrowsingContextGetTree}
-use Rattle.bidi_subjects.specs.declared.command_data.CommandData.TheVariants.{BrowsingContextNavigate, BrowsingContextReload}
-use Rattle.bidi_subjects.specs.declared.command_data.CommandData.TheVariants.{BrowsingContextTraverseHistory, ScriptGetRealms}
+use Rattle.bidi_methods.specs.declared.command_data.CommandData.TheVariants.{BrowsingContextActivate, BrowsingContextClose}
+use Rattle.bidi_methods.specs.declared.command_data.CommandData.TheVariants.{BrowsingContextCreate, BrowsingContextGetTree}
+use Rattle.bidi_methods.specs.declared.command_data.CommandData.TheVariants.{BrowsingContextNavigate, BrowsingContextReload}
+use Rattle.bidi_methods.specs.declared.command_data.CommandData.TheVariants.{BrowsingContextTraverseHistory, ScriptGetRealms}
 use Rattle.bidi_handles.specs.Params.{natural}
 use Rattle.bidi_browser.specs.Actions.{OwnWindow, Tab, Started, Interactive, Complete, is_text}
 use Rattle.bidi_browser.specs.Asked.{create_type_of, wait_of}
 use Rattle.bidi_remote.specs.Machine.Commands.{command_in}
-use Rattle.bidi_remote.specs.Tables.Asked.{asked_of}
+use Rattle.bidi_remote.specs.State.Asked.{asked_of}
 
 -- ---- members that may be there
 

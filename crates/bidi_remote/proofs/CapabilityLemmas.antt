@@ -25,7 +25,7 @@ use Rattle.bidi_params.specs.declared.session.capabilities.NewParameters.{NewPar
 use Rattle.bidi_params.specs.contracts.session.capabilities.CapabilityRequestShape.TheImpl.{ghosts}
 use Rattle.bidi_params.specs.contracts.session.capabilities.CapabilitiesRequestShape.TheImpl as inner
 use Rattle.bidi_params.specs.contracts.session.capabilities.NewParametersShape.TheImpl as whole
-use Rattle.bidi_codes.specs.declared.error_code.ErrorCode.TheVariants.{InvalidArgument, SessionNotCreated}
+use Rattle.bidi_params.specs.declared.error_code.ErrorCode.TheVariants.{InvalidArgument, SessionNotCreated}
 use Rattle.bidi_handles.specs.Params.{items_in}
 use Rattle.bidi_remote.specs.Machine.Capabilities.{Capability, Request, has_colon, requested, requested_in}
 use Rattle.bidi_remote.specs.Machine.Capabilities.{request_in, request_of, is_known, are_apart, is_met, matching}

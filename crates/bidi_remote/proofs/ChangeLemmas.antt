@@ -14,31 +14,31 @@ use Rattle.bidi_tree.specs.declared.number.JsUint.{JsUint}
 use Rattle.bidi_values.specs.declared.log_entry.Level.{Level}
 use Rattle.bidi_messages.specs.contracts.message.MessageShape.TheImpl.{ghosts}
 use Rattle.bidi_messages.specs.Reading.{IsMessageText}
-use Rattle.bidi_subjects.specs.declared.event_data.EventName.{EventName}
-use Rattle.bidi_subjects.specs.declared.event_data.EventName.TheVariants.{EntryAdded}
+use Rattle.bidi_methods.specs.declared.event_data.EventName.{EventName}
+use Rattle.bidi_methods.specs.declared.event_data.EventName.TheVariants.{EntryAdded}
 use Rattle.bidi_remote.specs.declared.connections.Connections.{Connections}
 use Rattle.bidi_remote.specs.declared.sessions.Sessions.{Sessions}
-use Rattle.bidi_remote.specs.declared.tables.Tables.{Tables}
+use Rattle.bidi_remote.specs.declared.state.State.{State}
 use Rattle.bidi_remote.specs.Machine.History.{Input, Open, Deed, Scope, Time, Opened, Dropped, Began, Ended}
 use Rattle.bidi_remote.specs.Machine.History.{Subscribed, Cancelled, Dismissed, Did, Told, acts, moment}
 use Rattle.bidi_remote.specs.Machine.Sessions.{is_active, sessions, next_session}
 use Rattle.bidi_remote.specs.Machine.Subscriptions.{subscriptions_made, is_enabled}
 use Rattle.bidi_remote.specs.Machine.LogBuffer.{Missed, missed, announced_at, last_hundred}
-use Rattle.bidi_remote.specs.Machine.Connections.{Standing, Shut, is_shut, is_open, is_for, opened_for, standing_of, open_connections}
+use Rattle.bidi_remote.specs.Machine.Connections.{Attachment, Shut, is_shut, is_open, is_for, opened_for, attachment_of, open_connections}
 use Rattle.bidi_remote.specs.Machine.Outcome.{Denied, deeds, may_open, opening, session_of_resource, turn}
-use Rattle.bidi_remote.specs.Tables.ConnectionRows as connections
-use Rattle.bidi_remote.specs.Tables.ConnectionRows.{rows, standing_in, standing_in_hand, opening_by}
-use Rattle.bidi_remote.specs.declared.connections.Standing as declared_standing
-use Rattle.bidi_remote.specs.declared.connections.Standing.TheVariants as in_code
-use Rattle.bidi_remote.specs.Tables.SessionView as in_hand
-use Rattle.bidi_remote.specs.Tables.SubscriptionRows.{SessionRow, session_rows, subscription_rows, begun, subscribed, cancelled, lost, logged, updated, changed}
-use Rattle.bidi_remote.specs.Tables.EventTexts.{Written, written}
-use Rattle.bidi_remote.specs.Tables.MissedRows.{place_of, IsEntry}
-use Rattle.bidi_remote.specs.Tables.Stands.{AgreeWith}
-use Rattle.bidi_remote.specs.Tables.Turns.{IsQuiet}
+use Rattle.bidi_remote.specs.State.ConnectionRows as connections
+use Rattle.bidi_remote.specs.State.ConnectionRows.{rows, attachment_in, attachment_in_hand, opening_by}
+use Rattle.bidi_remote.specs.declared.connections.Attachment as declared_attachment
+use Rattle.bidi_remote.specs.declared.connections.Attachment.TheVariants as in_code
+use Rattle.bidi_remote.specs.State.SessionView as in_hand
+use Rattle.bidi_remote.specs.State.SubscriptionRows.{SessionRow, session_rows, subscription_rows, begun, subscribed, cancelled, lost, logged, updated, changed}
+use Rattle.bidi_remote.specs.State.EventTexts.{Written, written}
+use Rattle.bidi_remote.specs.State.MissedRows.{place_of, IsEntry}
+use Rattle.bidi_remote.specs.State.Stands.{AgreeWith}
+use Rattle.bidi_remote.specs.State.Turns.{IsQuiet}
 use Rattle.bidi_remote.proofs.LogLemmas.{rows-logged}
 use Rattle.bidi_remote.proofs.PlaceLemmas.{entries-announced, entries-logged}
-use Rattle.bidi_remote.proofs.ConnectionLemmas.{rows-opened, rows-dropped, rows-began, rows-ended, standing-found}
+use Rattle.bidi_remote.proofs.ConnectionLemmas.{rows-opened, rows-dropped, rows-began, rows-ended, attachment-found}
 use Rattle.bidi_remote.proofs.OpeningLemmas.{was_opened}
 use Rattle.bidi_remote.proofs.SubscriptionLemmas.{session_rows-began, session_rows-ended, session_rows-subscribed}
 use Rattle.bidi_remote.proofs.SubscriptionLemmas.{session_rows-cancelled, session_rows-dismissed, numbers-session_rows}
@@ -48,15 +48,15 @@ use Rattle.bidi_remote.proofs.ListLemmas.{find-map}
 -- ---- the tables after a deed
 
 -- another moment
-pub agree-time : (t : Tables) (past : List Deed) (n : JsUint) → AgreeWith t past → AgreeWith (record t { moment = n }) (Time n.value ∷ past)
+pub agree-time : (t : State) (past : List Deed) (n : JsUint) → AgreeWith t past → AgreeWith (record t { moment = n }) (Time n.value ∷ past)
 agree-time t past n a = record { moment = refl; made = a.made; sessions = a.sessions; connections = a.connections; browser = a.browser; entries = a.entries }
 
 -- the status was told
-pub agree-told : (t : Tables) (past : List Deed) → AgreeWith t past → AgreeWith t (Told ∷ past)
+pub agree-told : (t : State) (past : List Deed) → AgreeWith t past → AgreeWith t (Told ∷ past)
 agree-told t past a = record { moment = a.moment; made = a.made; sessions = a.sessions; connections = a.connections; browser = a.browser; entries = a.entries }
 
 -- another browser that stands for the same
-pub agree-kept : (t : Tables) (past : List Deed) (b : Browser) → AgreeWith t past → StandsFor b (acts past) → AgreeWith (record t { browser = b }) past
+pub agree-kept : (t : State) (past : List Deed) (b : Browser) → AgreeWith t past → StandsFor b (acts past) → AgreeWith (record t { browser = b }) past
 agree-kept t past b a stands =
     record { moment = a.moment; made = a.made; sessions = a.sessions; connections = a.connections; browser = stands; entries = a.entries }
 
@@ -66,7 +66,7 @@ quiet-act past (Logged c level line) quiet s = absurd quiet
 quiet-act past act quiet s = refl
 
 -- the browser did something else than to log
-pub agree-did : (t : Tables) (past : List Deed) (act : Act) (b : Browser)
+pub agree-did : (t : State) (past : List Deed) (act : Act) (b : Browser)
     → AgreeWith t past → IsQuiet act → StandsFor b (act ∷ acts past) → AgreeWith (record t { browser = b }) (Did act ∷ past)
 agree-did t past act b a quiet stands =
     let same = quiet-act past act quiet in record {
@@ -82,7 +82,7 @@ agree-did t past act b a quiet stands =
     }
 
 -- it logged an entry, which each session hears or misses
-pub agree-logged : (t : Tables) (past : List Deed) (c : ℕ) (level : Level) (line : List ℕ) (b : Browser) (s : Sessions) (w : Written)
+pub agree-logged : (t : State) (past : List Deed) (c : ℕ) (level : Level) (line : List ℕ) (b : Browser) (s : Sessions) (w : Written)
     → AgreeWith t past → w ≡ written (entry_added (acts past) (moment past) c level line)
     → IsMessageText ghosts.shape w.text → s.made ≡ t.sessions.made
     → in_hand.rows_in s ≡ map (logged w) (in_hand.rows_in t.sessions) → StandsFor b (Logged c level line ∷ acts past)
@@ -100,7 +100,7 @@ agree-logged t past c level line b s w a is text made rows stands =
     }
 
 -- a connection more
-pub agree-opened : (t : Tables) (past : List Deed) (c : ℕ) (s : Option ℕ) (v : Connections) → AgreeWith t past → is_shut (standing_of past c) ≡ true
+pub agree-opened : (t : State) (past : List Deed) (c : ℕ) (s : Option ℕ) (v : Connections) → AgreeWith t past → is_shut (attachment_of past c) ≡ true
     → connections.rows_in v ≡ connections.rows_in t.connections ++ (c, opened_for s) ∷ [] → AgreeWith (record t { connections = v }) (Opened c s ∷ past)
 agree-opened t past c s v a shut is = record {
   moment = a.moment;
@@ -112,7 +112,7 @@ agree-opened t past c s v a shut is = record {
 }
 
 -- a connection less
-pub agree-dropped : (t : Tables) (past : List Deed) (c : ℕ) (v : Connections)
+pub agree-dropped : (t : State) (past : List Deed) (c : ℕ) (v : Connections)
     → AgreeWith t past → connections.rows_in v ≡ filter (λ row. not (row.0 == c)) (connections.rows_in t.connections)
     → AgreeWith (record t { connections = v }) (Dropped c ∷ past)
 agree-dropped t past c v a is = record {
@@ -134,8 +134,8 @@ if_announced true p ms all = entries-announced p ms all
 if_announced false p ms all = all
 
 -- a session more, which is that of an open connection and has no subscription yet
-pub agree-began : (t : Tables) (past : List Deed) (c n : ℕ) (v : Connections) (s : Sessions)
-    → AgreeWith t past → is_shut (standing_of past c) ≡ false → subscriptions_made past (next_session past) ≡ 0 → n ≡ t.sessions.made + 1
+pub agree-began : (t : State) (past : List Deed) (c n : ℕ) (v : Connections) (s : Sessions)
+    → AgreeWith t past → is_shut (attachment_of past c) ≡ false → subscriptions_made past (next_session past) ≡ 0 → n ≡ t.sessions.made + 1
     → s.made ≡ n → in_hand.rows_in s ≡ in_hand.rows_in t.sessions ++ begun n ∷ []
     → connections.rows_in v ≡ map (connections.begun c n) (connections.rows_in t.connections)
     → AgreeWith (record t { connections = v; sessions = s }) (Began c ∷ past)
@@ -150,7 +150,7 @@ agree-began t past c n v s a opened fresh next made more is =
     }
 
 -- a session less, and its connections
-pub agree-ended : (t : Tables) (past : List Deed) (n : ℕ) (v : Connections) (s : Sessions)
+pub agree-ended : (t : State) (past : List Deed) (n : ℕ) (v : Connections) (s : Sessions)
     → AgreeWith t past → connections.rows_in v ≡ filter (λ row. not (is_for n row.1)) (connections.rows_in t.connections)
     → in_hand.rows_in s ≡ filter (λ r. not (r.number == n)) (in_hand.rows_in t.sessions)
     → s.made ≡ t.sessions.made → AgreeWith (record t { connections = v; sessions = s }) (Ended n ∷ past)
@@ -163,7 +163,7 @@ agree-ended t past n v s a shut less made = record {
   entries = a.entries;
 }
 
-module _ (t : Tables) (past : List Deed) (n : ℕ) (s : Sessions) (a : AgreeWith t past) (made : s.made ≡ t.sessions.made) where
+module _ (t : State) (past : List Deed) (n : ℕ) (s : Sessions) (a : AgreeWith t past) (made : s.made ≡ t.sessions.made) where
   -- the first of that number is the only one
   row-changed : (f : SessionRow → SessionRow)
       → in_hand.rows_in s ≡ changed n f (in_hand.rows_in t.sessions) → in_hand.rows_in s ≡ updated n f (session_rows past)
@@ -209,22 +209,22 @@ module _ (t : Tables) (past : List Deed) (n : ℕ) (s : Sessions) (a : AgreeWith
 -- ---- what the tables say
 
 -- how a connection stands
-pub stands : (t : Tables) (h : List Input) (c : ℕ) (x : Standing)
-    → AgreeWith t (deeds h) → x ≡ standing_in (find (λ row. row.0 == c) (connections.rows_in t.connections)) → x ≡ standing_of (deeds h) c
-stands t h c x a is = is ∙ standing-found (deeds h) c (connections.rows_in t.connections) (was_opened h c) a.connections
+pub stands : (t : State) (h : List Input) (c : ℕ) (x : Attachment)
+    → AgreeWith t (deeds h) → x ≡ attachment_in (find (λ row. row.0 == c) (connections.rows_in t.connections)) → x ≡ attachment_of (deeds h) c
+stands t h c x a is = is ∙ attachment-found (deeds h) c (connections.rows_in t.connections) (was_opened h c) a.connections
 
 -- what is not said to be shut is open
-pub not_shut : (s : declared_standing.Standing) → (s ≡ in_code.Shut → ⊥) → is_shut (standing_in_hand s) ≡ false
+pub not_shut : (s : declared_attachment.Attachment) → (s ≡ in_code.Shut → ⊥) → is_shut (attachment_in_hand s) ≡ false
 not_shut in_code.Shut h = absurd (h refl)
 not_shut in_code.Alone h = refl
 not_shut (in_code.SpeaksFor s) h = refl
 
 -- as many connections are open
-length-open : (t : Tables) (past : List Deed) → AgreeWith t past → length (connections.rows_in t.connections) ≡ length (open_connections past)
-length-open t past a = ap length a.connections ∙ length-map (open_connections past) (λ c. (c, standing_of past c))
+length-open : (t : State) (past : List Deed) → AgreeWith t past → length (connections.rows_in t.connections) ≡ length (open_connections past)
+length-open t past a = ap length a.connections ∙ length-map (open_connections past) (λ c. (c, attachment_of past c))
 
 -- a resource names what it names
-resource-names : (t : Tables) (past : List Deed) (resource : List ℕ) (o : Option (Option ℕ)) → AgreeWith t past
+resource-names : (t : State) (past : List Deed) (resource : List ℕ) (o : Option (Option ℕ)) → AgreeWith t past
     → o ≡ (if bytes_eq resource (codes "/session") then Some None else option_map (λ r. Some r.number)
     (find (λ r. bytes_eq resource (codes "/session/" ++ id_of OfSession r.number)) (in_hand.rows_in t.sessions)))
     → session_of_resource past resource ≡ o
@@ -244,8 +244,8 @@ opening-may past c None room = refl
 opening-may past c (Some s) room = rw room refl
 
 -- a connection that is shut may be opened where there is room
-pub opens : (t : Tables) (past : List Deed) (c : ℕ) (resource : List ℕ) (o : Option (Option ℕ)) (room : Bool)
-    → AgreeWith t past → standing_of past c ≡ Shut → room ≡ nat_lt (length (connections.rows_in t.connections)) 64 → room ≡ true
+pub opens : (t : State) (past : List Deed) (c : ℕ) (resource : List ℕ) (o : Option (Option ℕ)) (room : Bool)
+    → AgreeWith t past → attachment_of past c ≡ Shut → room ≡ nat_lt (length (connections.rows_in t.connections)) 64 → room ≡ true
     → o ≡ (if bytes_eq resource (codes "/session") then Some None else option_map (λ r. Some r.number)
     (find (λ r. bytes_eq resource (codes "/session/" ++ id_of OfSession r.number)) (in_hand.rows_in t.sessions)))
     → opening_by c o ≡ turn past (Open c resource)
@@ -254,7 +254,7 @@ opens t past c resource o room a shut has free is =
     sym (ap (opening past c) (resource-names t past resource o a is) ∙ opening-may past c o may)
 
 -- and is denied where there is none
-pub opens-full : (t : Tables) (past : List Deed) (c : ℕ) (resource : List ℕ) (room : Bool) → AgreeWith t past
+pub opens-full : (t : State) (past : List Deed) (c : ℕ) (resource : List ℕ) (room : Bool) → AgreeWith t past
     → room ≡ nat_lt (length (connections.rows_in t.connections)) 64 → room ≡ false → Err (Denied c) ≡ turn past (Open c resource)
 opens-full t past c resource room a has none =
     let may : may_open past c ≡ false = full (not (is_open past c)) (sym (ap (λ n. nat_lt n 64) (length-open t past a)) ∙ (sym has ∙ none)) in
@@ -265,5 +265,5 @@ opens-full t past c resource room a has none =
     full false none = refl
 
 -- so is one that is open
-pub opens-open : (past : List Deed) (c : ℕ) (resource : List ℕ) → is_shut (standing_of past c) ≡ false → Err (Denied c) ≡ turn past (Open c resource)
+pub opens-open : (past : List Deed) (c : ℕ) (resource : List ℕ) → is_shut (attachment_of past c) ≡ false → Err (Denied c) ≡ turn past (Open c resource)
 opens-open past c resource opened = let may : may_open past c ≡ false = rw opened refl in sym (opening-denied past c (session_of_resource past resource) may)

@@ -1,11 +1,11 @@
 -- Checks of the items of a list, one after another, whose results are joined.
 use Rattle.std.proofs.Common.{◌≡◌, ◌∙◌, List, ◌++◌, append_assoc, refl, sym, ap, subst, Option, Some, None, option_map, Result, Ok, Err}
 use Rattle.std.specs.Result.{IsErrAnd}
-use Rattle.bidi_codes.specs.declared.error_code.ErrorCode.{ErrorCode}
-use Rattle.bidi_codes.specs.Checks.{◌>>=◌, found}
-use Rattle.bidi_codes.specs.declared.refusal.Refusal.{Refusal}
-use Rattle.bidi_codes.specs.declared.refusal.Refusal.TheVariants.{Code, NoMemory}
-use Rattle.bidi_remote.specs.Tables.Checked.{IfChecked, behind}
+use Rattle.bidi_params.specs.declared.error_code.ErrorCode.{ErrorCode}
+use Rattle.bidi_handles.specs.Checks.{◌>>=◌, found}
+use Rattle.bidi_handles.specs.declared.refusal.Refusal.{Refusal}
+use Rattle.bidi_handles.specs.declared.refusal.Refusal.TheVariants.{Code, NoMemory}
+use Rattle.bidi_remote.specs.State.Checked.{IfChecked, behind}
 
 -- one check, then the rest
 abbrev pub joined : {A Y : Type 0} → (A → List Y) → Result A ErrorCode → Result (List Y) ErrorCode → Result (List Y) ErrorCode

@@ -5,17 +5,17 @@ use Rattle.std.specs.Prelude.{filter, nat_lt}
 use Rattle.std.specs.List.{list_any, list_all, AllByRecursion, items_where_true}
 use Rattle.std.proofs.lemmas.List.{length-map, map-append}
 use Rattle.std.proofs.lemmas.List.Elements.{filter-append}
-use Rattle.bidi_codes.specs.declared.error_code.ErrorCode.{ErrorCode}
-use Rattle.bidi_codes.specs.declared.error_code.ErrorCode.TheVariants.{InvalidArgument, UnknownError}
-use Rattle.bidi_subjects.specs.declared.event_data.EventName.{EventName}
-use Rattle.bidi_subjects.specs.declared.event_data.EventName.TheVariants.{EntryAdded}
-use Rattle.bidi_subjects.specs.declared.result_data.ResultData.{ResultData}
-use Rattle.bidi_codes.specs.Checks.{◌>>=◌, need, found}
+use Rattle.bidi_params.specs.declared.error_code.ErrorCode.{ErrorCode}
+use Rattle.bidi_params.specs.declared.error_code.ErrorCode.TheVariants.{InvalidArgument, UnknownError}
+use Rattle.bidi_methods.specs.declared.event_data.EventName.{EventName}
+use Rattle.bidi_methods.specs.declared.event_data.EventName.TheVariants.{EntryAdded}
+use Rattle.bidi_methods.specs.declared.result_data.ResultData.{ResultData}
+use Rattle.bidi_handles.specs.Checks.{◌>>=◌, need, found}
 use Rattle.bidi_browser.specs.Acts.{Act, Looked}
 use Rattle.bidi_browser.specs.Contexts.{is_alive}
 use Rattle.bidi_browser.specs.Occurrences.{Occurrence, tree_events, is_among}
 use Rattle.bidi_browser.specs.Occurs.{Replies}
-use Rattle.bidi_remote.specs.declared.tables.Tables.{Tables}
+use Rattle.bidi_remote.specs.declared.state.State.{State}
 use Rattle.bidi_remote.specs.declared.turn.Asker.{Asker}
 use Rattle.bidi_remote.specs.declared.turn.Change.{Change}
 use Rattle.bidi_remote.specs.declared.turn.Change.TheVariants.{Nothing, Begin, End, Subscribe, Cancel, Dismiss, Browse}
@@ -30,15 +30,15 @@ use Rattle.bidi_remote.specs.Machine.LogBuffer.{missed, waiting_for}
 use Rattle.bidi_remote.specs.Machine.Outcome.{is_ready, new_outcome, all_named, scope_asked, subscribe_outcome}
 use Rattle.bidi_remote.specs.Machine.Outcome.{subscriptions_named, unsubscribe_by_events_outcome}
 use Rattle.bidi_remote.specs.Machine.Sent.{items, action_in, announcements}
-use Rattle.bidi_remote.specs.Tables.EventTexts.{Written, written, written_in, AreMessages}
-use Rattle.bidi_remote.specs.Tables.MissedRows.{places, waiting, IsEntry}
-use Rattle.bidi_remote.specs.Tables.SessionView as in_hand
-use Rattle.bidi_remote.specs.Tables.SessionView.{row_of}
-use Rattle.bidi_remote.specs.Tables.Stands.{AgreeWith}
-use Rattle.bidi_remote.specs.Tables.SubscriptionRows.{session_row, session_rows, row_at, subscription_rows, row_in, begun}
-use Rattle.bidi_remote.specs.Tables.SubscriptionRows.{row_covers, row_holds, any_global, is_new, numbers_named}
+use Rattle.bidi_remote.specs.State.EventTexts.{Written, written, written_in, AreMessages}
+use Rattle.bidi_remote.specs.State.MissedRows.{places, waiting, IsEntry}
+use Rattle.bidi_remote.specs.State.SessionView as in_hand
+use Rattle.bidi_remote.specs.State.SessionView.{row_of}
+use Rattle.bidi_remote.specs.State.Stands.{AgreeWith}
+use Rattle.bidi_remote.specs.State.SubscriptionRows.{session_row, session_rows, row_at, subscription_rows, row_in, begun}
+use Rattle.bidi_remote.specs.State.SubscriptionRows.{row_covers, row_holds, any_global, is_new, numbers_named}
 use Rattle.bidi_browser.specs.View.{result_tree}
-use Rattle.bidi_remote.specs.Tables.Turns.{Decides, IsMade, IsOfSessions, deed_of, announced_by}
+use Rattle.bidi_remote.specs.State.Turns.{Decides, IsMade, IsOfSessions, deed_of, announced_by}
 use Rattle.bidi_remote.proofs.ListLemmas.{filter-same, any-map, all-same}
 use Rattle.bidi_remote.proofs.PlaceLemmas.{waiting-places, waiting-events, new-written}
 use Rattle.bidi_remote.proofs.SubscriptionLemmas.{newly-enabled, numbers-session_rows, find-active, named-subscription_rows, global-held}
@@ -82,12 +82,12 @@ module _ (turn : Turn) (past : List Deed) (asker : Asker) (asked : Command) (ans
 -- ---- the table of sessions
 
 -- whether there is room for a session
-pub is_ready-rows : (t : Tables) (past : List Deed) (b : Bool) → AgreeWith t past → b ≡ nat_lt (length (in_hand.rows_in t.sessions)) 8 → b ≡ is_ready past
+pub is_ready-rows : (t : State) (past : List Deed) (b : Bool) → AgreeWith t past → b ≡ nat_lt (length (in_hand.rows_in t.sessions)) 8 → b ≡ is_ready past
 is_ready-rows t past b a is =
     is ∙ ap (λ n. nat_lt n 8) (ap length a.sessions ∙ (sym (length-map (session_rows past) (λ r. r.number)) ∙ ap length (numbers-session_rows past)))
 
 -- the row of an active session
-pub row-active : (t : Tables) (past : List Deed) (s : ℕ)
+pub row-active : (t : State) (past : List Deed) (s : ℕ)
     → AgreeWith t past → is_active past s ≡ true → row_in s (in_hand.rows_in t.sessions) ≡ session_row past s
 row-active t past s a active = ap (row_in s) a.sessions ∙ ap (λ o. unwrap_or o (begun s)) (find-active past s active)
 

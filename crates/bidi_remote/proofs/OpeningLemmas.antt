@@ -4,21 +4,21 @@ use Rattle.std.specs.Prelude.{◌==◌, ◌++◌, filter, find, ⊤, nat_lt, len
 use Rattle.std.specs.List.{list_any, list_all}
 use Rattle.std.proofs.lemmas.Bool.Decides.{nat_tests}
 use Rattle.std.proofs.lemmas.List.Folds.{list_any-append}
-use Rattle.bidi_codes.specs.declared.error_code.ErrorCode.{ErrorCode}
-use Rattle.bidi_codes.specs.declared.error_code.ErrorCode.TheVariants.{InvalidArgument, SessionNotCreated, UnknownError}
+use Rattle.bidi_params.specs.declared.error_code.ErrorCode.{ErrorCode}
+use Rattle.bidi_params.specs.declared.error_code.ErrorCode.TheVariants.{InvalidArgument, SessionNotCreated, UnknownError}
 use Rattle.bidi_messages.specs.Verdict.{Verdict, Accepted, Refused}
 use Rattle.bidi_handles.specs.declared.id.IdKind.TheVariants.{Session}
 use Rattle.bidi_handles.specs.Ids.{id_of}
 use Rattle.bidi_browser.specs.Acts.{Act}
 use Rattle.bidi_browser.specs.Actions.{Action}
 use Rattle.bidi_browser.specs.Contexts.{up_to}
-use Rattle.bidi_codes.specs.Checks.{◌>>=◌, need}
+use Rattle.bidi_handles.specs.Checks.{◌>>=◌, need}
 use Rattle.bidi_browser.specs.Outcome as browser
 use Rattle.bidi_remote.specs.Machine.Commands.{Command, Status, New, End, Subscribe, UnsubscribeById, UnsubscribeByEvents, OfBrowser, command_of, id_of_command}
 use Rattle.bidi_remote.specs.Machine.History.{Input, At, Open, Drop, Heard, NotText, PageStep, Deed, Time, Opened, Dropped}
 use Rattle.bidi_remote.specs.Machine.History.{Began, Ended, Subscribed, Cancelled, Dismissed, Did, Told, acts}
 use Rattle.bidi_remote.specs.Machine.Sessions.{sessions_made, is_active, sessions}
-use Rattle.bidi_remote.specs.Machine.Connections.{Standing, Shut, Alone, SpeaksFor, is_shut, is_open, standing_of, openings}
+use Rattle.bidi_remote.specs.Machine.Connections.{Attachment, Shut, Alone, SpeaksFor, is_shut, is_open, attachment_of, openings}
 use Rattle.bidi_remote.specs.Machine.Capabilities.{matching}
 use Rattle.bidi_remote.specs.Machine.Subscriptions.{subscriptions, holds_globally}
 use Rattle.bidi_remote.specs.Machine.Outcome.{NotTaken, Lost, outcome, replied, asked, answered, in_page, opening, is_ready}
@@ -31,8 +31,8 @@ use Rattle.bidi_remote.proofs.ConnectionLemmas.{WasOpened}
 -- A connection is opened for an active session, a session begins on an open connection alone, one subscribes that a connection speaks for, and the browser does what an action comes to.
 abbrev pub IsFair : List Deed → Deed → Type 0
 IsFair past (Opened c o) = (s : ℕ) → o ≡ Some s → is_active past s ≡ true
-IsFair past (Began c) = standing_of past c ≡ Alone
-IsFair past (Subscribed s events scope) = (c : ℕ) × (standing_of past c ≡ SpeaksFor s)
+IsFair past (Began c) = attachment_of past c ≡ Alone
+IsFair past (Subscribed s events scope) = (c : ℕ) × (attachment_of past c ≡ SpeaksFor s)
 IsFair past (Did act) = (action : Action) × (browser.outcome (acts past) action ≡ Ok act)
 IsFair past d = ⊤
 
@@ -51,14 +51,14 @@ did_fair : (past : List Deed) (action : Action) (r : Result Act ErrorCode) → b
 did_fair past action (Ok act) is = (action, is)
 did_fair past action (Err code) is = tt
 
-new_fair : (past : List Deed) (c : ℕ) (m : Result (Unit {0}) ErrorCode) (room : Bool) → standing_of past c ≡ Alone
+new_fair : (past : List Deed) (c : ℕ) (m : Result (Unit {0}) ErrorCode) (room : Bool) → attachment_of past c ≡ Alone
     → (let r : Result Deed ErrorCode = m >>= λ fit. need room SessionNotCreated >>= λ few. Ok (Began c) in IsFairIfDone past r)
 new_fair past c (Err code) room e = tt
 new_fair past c (Ok fit) true e = e
 new_fair past c (Ok fit) false e = tt
 
 subscribe_fair : (past : List Deed) (c s : ℕ) (names : List (List ℕ)) (contexts users : Option (List (List ℕ)))
-    → standing_of past c ≡ SpeaksFor s → IsFairIfDone past (subscribe_outcome past s names contexts users)
+    → attachment_of past c ≡ SpeaksFor s → IsFairIfDone past (subscribe_outcome past s names contexts users)
 subscribe_fair past c s names contexts users e =
     let few : Result (Unit {0}) ErrorCode = need (nat_lt (length (subscriptions past s)) 256) UnknownError in
     checked past (all_named names) (λ events. scope_asked (acts past) contexts users >>= λ scope. few >>= λ room. Ok (Subscribed s events scope))
@@ -70,7 +70,7 @@ by_events_fair past s names =
     checked past (all_named names) (λ events. need (list_all (holds_globally past s) events) InvalidArgument >>= λ held. Ok (Dismissed s events))
     (λ events. checked past (need (list_all (holds_globally past s) events) InvalidArgument) (λ held. Ok (Dismissed s events)) (λ held. tt))
 
-outcome_fair : (past : List Deed) (c : ℕ) (s : Standing) (command : Command) → standing_of past c ≡ s → IsFairIfDone past (outcome past c s command)
+outcome_fair : (past : List Deed) (c : ℕ) (s : Attachment) (command : Command) → attachment_of past c ≡ s → IsFairIfDone past (outcome past c s command)
 outcome_fair past c Shut command e = tt
 outcome_fair past c Alone Status e = tt
 outcome_fair past c Alone (New request) e = new_fair past c (matching request) (is_ready past) e
@@ -94,7 +94,7 @@ replied_fair past c id (Err code) h = tt
 asked_fair : (past : List Deed) (c id : ℕ) (command : Option Command) → IsFairIfDone past (asked past c id command)
 asked_fair past c id None = tt
 asked_fair past c id (Some command) =
-    replied_fair past c id (outcome past c (standing_of past c) command) (outcome_fair past c (standing_of past c) command refl)
+    replied_fair past c id (outcome past c (attachment_of past c) command) (outcome_fair past c (attachment_of past c) command refl)
 
 answered_fair : (past : List Deed) (c : ℕ) (v : Verdict) → IsFairIfDone past (answered past c v)
 answered_fair past c (Accepted t) = asked_fair past c (id_of_command t) (command_of t)

@@ -4,15 +4,15 @@ use Rattle.std.specs.Prelude.{filter, Option, None, Some, if◌then◌else◌}
 use Rattle.std.specs.List.{AllByRecursion}
 use Rattle.std.proofs.lemmas.List.{length-map, length-append, length-drop, drop-map, drop-append-le, map-append}
 use Rattle.bidi_messages.specs.contracts.message.MessageShape.TheImpl.{ghosts}
-use Rattle.bidi_subjects.specs.declared.event_data.EventName.{EventName}
-use Rattle.bidi_subjects.specs.declared.event_data.EventName.TheVariants.{EntryAdded}
+use Rattle.bidi_methods.specs.declared.event_data.EventName.{EventName}
+use Rattle.bidi_methods.specs.declared.event_data.EventName.TheVariants.{EntryAdded}
 use Rattle.bidi_messages.specs.Reading.{IsMessageText}
 use Rattle.bidi_browser.specs.Occurrences.{Occurrence}
 use Rattle.bidi_remote.specs.Machine.History.{Deed}
 use Rattle.bidi_remote.specs.Machine.LogBuffer.{Missed, missed, just_missed, announced_at, last_hundred, waiting_for}
 use Rattle.bidi_remote.specs.Machine.Sent.{occurrence_text}
-use Rattle.bidi_remote.specs.Tables.EventTexts.{Written, written, AreMessages}
-use Rattle.bidi_remote.specs.Tables.MissedRows.{place_of, places, waiting, with_missed, left, all_left, IsEntry}
+use Rattle.bidi_remote.specs.State.EventTexts.{Written, written, AreMessages}
+use Rattle.bidi_remote.specs.State.MissedRows.{place_of, places, waiting, with_missed, left, all_left, IsEntry}
 
 -- ---- the last hundred of a list
 

@@ -7,16 +7,16 @@ use Rattle.bidi_tree.specs.Node.{Node}
 use Rattle.bidi_tree.specs.Text.{tree_of}
 use Rattle.bidi_shape.specs.Term.{rule}
 use Rattle.bidi_shape.specs.Fits.{Fits}
-use Rattle.bidi_subjects.specs.declared.command_data.CommandData.{CommandData}
-use Rattle.bidi_subjects.specs.declared.method.Method.{Method}
-use Rattle.bidi_subjects.specs.declared.result_data.ResultData.{ResultData}
-use Rattle.bidi_subjects.specs.contracts.command_data.CommandDataSubjectMethod.TheImpl as asks
-use Rattle.bidi_subjects.specs.contracts.result_data.ResultDataSubjectMethod.TheImpl as results
+use Rattle.bidi_methods.specs.declared.command_data.CommandData.{CommandData}
+use Rattle.bidi_methods.specs.declared.method.Method.{Method}
+use Rattle.bidi_methods.specs.declared.result_data.ResultData.{ResultData}
+use Rattle.bidi_methods.specs.contracts.command_data.CommandDataPayloadMethod.TheImpl as asks
+use Rattle.bidi_methods.specs.contracts.result_data.ResultDataPayloadMethod.TheImpl as results
 use Rattle.bidi_messages.specs.Command.{method_in}
 use Rattle.bidi_messages.specs.Message.{response_text, response_tree}
-use Rattle.bidi_subjects.specs.Method.{method_text, result_of, method_words}
+use Rattle.bidi_methods.specs.Method.{method_text, result_of, method_words}
 use Rattle.bidi_messages.specs.Verdict.{Verdict, Accepted, Refused}
-use Rattle.bidi_codes.specs.declared.error_code.ErrorCode.{ErrorCode}
+use Rattle.bidi_params.specs.declared.error_code.ErrorCode.{ErrorCode}
 use Rattle.bidi_shape.specs.WordLaws.{value_named}
 use Rattle.bidi_browser.specs.Occurrences.{Occurrence}
 use Rattle.bidi_browser.specs.Occurs.{Item, Happens}
@@ -27,21 +27,21 @@ use Rattle.bidi_remote.specs.declared.turn.Asker.{Asker}
 use Rattle.bidi_remote.specs.declared.turn.Reply.{Reply}
 use Rattle.bidi_remote.specs.declared.turn.Telling.{Telling}
 use Rattle.bidi_remote.specs.declared.turn.Turn.{Turn}
-use Rattle.bidi_codes.specs.declared.refusal.Refusal as browser
+use Rattle.bidi_handles.specs.declared.refusal.Refusal as browser
 use Rattle.bidi_remote.specs.Machine.Commands.{Command, command_of, id_of_command}
-use Rattle.bidi_remote.specs.Machine.Connections.{Standing, is_shut, standing_of}
+use Rattle.bidi_remote.specs.Machine.Connections.{Attachment, SpeaksFor, is_shut, attachment_of}
 use Rattle.bidi_remote.specs.Machine.History.{Input, Heard, PageStep, Deed}
 use Rattle.bidi_remote.specs.Machine.Outcome.{NotTaken, Error, deeds, turn, replied, outcome}
 use Rattle.bidi_remote.specs.Machine.Replies.{ReadsAs, HasOneReply, IsAnsweredOnce}
 use Rattle.bidi_remote.specs.Machine.Sent.{action_in, items}
-use Rattle.bidi_remote.specs.Tables.Asked.{Asks}
-use Rattle.bidi_remote.specs.Tables.Turns.{Decides, IsWellTold, HasResultOf, deed_of, asker_in, reply_in, items_in}
+use Rattle.bidi_remote.specs.State.Asked.{Asks}
+use Rattle.bidi_remote.specs.State.Turns.{Decides, IsWellTold, HasResultOf, deed_of, asker_in, reply_in, items_in}
 use Rattle.bidi_remote.proofs.TurnLemmas.{heard-open, asked-is}
 
 -- ---- the method of a result
 
 abbrev kind : ResultData → Method
-kind r = results.ghosts.subject.kind r
+kind r = results.ghosts.payload.kind r
 
 -- a turn of which only a reply tells
 pub replied-of : (method : Method) (turn : Turn) (to : Asker) (r : ResultData)
@@ -55,10 +55,15 @@ pub planned-of : (method : Method) (turn : Turn) (asker : Asker) (o : Option Res
 planned-of method turn asker None is same = subst (λ o. IfSome o (λ x. kind x.outcome ≡ method)) (sym is) tt
 planned-of method turn asker (Some r) is same = subst (λ o. IfSome o (λ x. kind x.outcome ≡ method)) (sym is) same
 
+-- what is decided for a session, of a command that is known by another name
+pub decides-as : (r : Result Turn browser.Refusal) (past : List Deed) (asker : Asker) (c s : ℕ) (asked d : Command) → asked ≡ d
+    → Decides r past asker d (outcome past c (SpeaksFor s) d) → Decides r past asker asked (outcome past c (SpeaksFor s) asked)
+decides-as r past asker c s asked d is decides = subst (λ x. Decides r past asker x (outcome past c (SpeaksFor s) x)) (sym is) decides
+
 -- the method that is asked for
 pub asked-of : (asked d : CommandData) (r : Result Turn browser.Refusal)
-    → asked ≡ d → HasResultOf (asks.ghosts.subject.kind d) r → HasResultOf (asks.ghosts.subject.kind asked) r
-asked-of asked d r is has = subst (λ a. HasResultOf (asks.ghosts.subject.kind a) r) (sym is) has
+    → asked ≡ d → HasResultOf (asks.ghosts.payload.kind d) r → HasResultOf (asks.ghosts.payload.kind asked) r
+asked-of asked d r is has = subst (λ a. HasResultOf (asks.ghosts.payload.kind a) r) (sym is) has
 
 -- ---- the text of a result
 
@@ -103,12 +108,12 @@ reply-in c id method before after (Some r) all well asker same reads is = (
   result_tree r.outcome,
   after,
   sym is,
-  subst (λ m. Fits (result_tree r.outcome) (rule (result_of m))) same (results.ghosts.subject.fits r.outcome well.0),
+  subst (λ m. Fits (result_tree r.outcome) (rule (result_of m))) same (results.ghosts.payload.fits r.outcome well.0),
   subst (λ n. ReadsAs n (result_tree r.outcome)) (same-id (r.to.conn.value, r.to.id.value) (c, id) asker) reads,
 )
 
-module _ {E : Type 0} (q : Result (Vec declared_sent.Sent Global) E) (h : List Input) (asker : Asker) (tree : Node) (s : Standing) (x : Command)
-    (stands : standing_of (deeds h) asker.conn.value ≡ s) (opened : is_shut s ≡ false) (asks : Asks tree asker.id.value x) (method : Method)
+module _ {E : Type 0} (q : Result (Vec declared_sent.Sent Global) E) (h : List Input) (asker : Asker) (tree : Node) (s : Attachment) (x : Command)
+    (stands : attachment_of (deeds h) asker.conn.value ≡ s) (opened : is_shut s ≡ false) (asks : Asks tree asker.id.value x) (method : Method)
     (named : method_in tree ≡ method_text method) where
   abbrev c : ℕ
   c = asker.conn.value

@@ -5,16 +5,16 @@ use Rattle.std.specs.Prelude.{◌==◌, nat_lt, length, not, filter, if◌then�
 use Rattle.std.specs.List.{AllByRecursion, list_all}
 use Rattle.std.proofs.lemmas.Grind.{flat_map-append}
 use Rattle.bidi_tree.specs.Node.{Node}
-use Rattle.bidi_codes.specs.declared.error_code.ErrorCode.{ErrorCode}
-use Rattle.bidi_subjects.specs.declared.method.Method.{Method}
-use Rattle.bidi_subjects.specs.Method.{method_text}
+use Rattle.bidi_params.specs.declared.error_code.ErrorCode.{ErrorCode}
+use Rattle.bidi_methods.specs.declared.method.Method.{Method}
+use Rattle.bidi_methods.specs.Method.{method_text}
 use Rattle.bidi_messages.specs.Command.{method_in}
 use Rattle.bidi_messages.specs.Message.{response_text, error_text}
 use Rattle.bidi_messages.specs.Verdict.{Verdict, Accepted, Refused}
-use Rattle.bidi_codes.specs.declared.error_code.ErrorCode.TheVariants.{InvalidArgument, SessionNotCreated, UnknownError}
+use Rattle.bidi_params.specs.declared.error_code.ErrorCode.TheVariants.{InvalidArgument, SessionNotCreated, UnknownError}
 use Rattle.bidi_browser.specs.Acts.{Act}
 use Rattle.bidi_browser.specs.Actions.{Action}
-use Rattle.bidi_codes.specs.Checks.{◌>>=◌, need}
+use Rattle.bidi_handles.specs.Checks.{◌>>=◌, need}
 use Rattle.bidi_browser.specs.Outcome as browser
 use Rattle.bidi_browser.specs.Occurrences.{Occurrence}
 use Rattle.bidi_browser.specs.Occurs.{Item, Happens, Replies}
@@ -22,7 +22,7 @@ use Rattle.bidi_remote.specs.Machine.Capabilities.{matching}
 use Rattle.bidi_remote.specs.Machine.Commands.{Command, Status, New, End, Subscribe, UnsubscribeById, UnsubscribeByEvents, OfBrowser, command_of, id_of_command}
 use Rattle.bidi_remote.specs.Machine.History.{Input, At, Open, Drop, Heard, NotText, PageStep, Deed, Time, Opened, Dropped}
 use Rattle.bidi_remote.specs.Machine.History.{Began, Ended, Subscribed, Cancelled, Dismissed, Did, Told, acts}
-use Rattle.bidi_remote.specs.Machine.Connections.{Standing, Shut, Alone, SpeaksFor, is_for, is_open, is_shut, standing_of, openings, connections_of}
+use Rattle.bidi_remote.specs.Machine.Connections.{Attachment, Shut, Alone, SpeaksFor, is_for, is_open, is_shut, attachment_of, openings, connections_of}
 use Rattle.bidi_remote.specs.Machine.Outcome.{NotTaken, Denied, Lost, Error, NoEffect, deeds, turn, with_turn, if_open}
 use Rattle.bidi_remote.specs.Machine.Outcome.{in_page, asked, replied, outcome, answered, opening, may_open}
 use Rattle.bidi_remote.specs.Machine.Outcome.{session_of_resource, is_ready, did, all_named, scope_asked, subscriptions_named}
@@ -65,35 +65,35 @@ module _ (past : List Deed) (l : ℕ) where
   abbrev opens : Bool
   opens = is_open past l
 
-  for-open : (s : ℕ) (standing : Standing) → is_for s standing ≡ true → not (is_shut standing) ≡ true
+  for-open : (s : ℕ) (attachment : Attachment) → is_for s attachment ≡ true → not (is_shut attachment) ≡ true
   for-open s Shut e = cc
   for-open s Alone e = refl
   for-open s (SpeaksFor t) e = refl
 
-  one-text : (x : List ℕ) → IsEventText x → (s c : ℕ) (ts : List (List ℕ)) → is_for s (standing_of past c) ≡ true
+  one-text : (x : List ℕ) → IsEventText x → (s c : ℕ) (ts : List (List ℕ)) → is_for s (attachment_of past c) ≡ true
       → (b : Bool) → (l == c) ≡ b → AreEvents opens ts → AreEvents opens ((if b then x ∷ [] else []) ++ ts)
   one-text x is s c ts speaks false e more = more
   one-text x is s c ts speaks true e more = record {
     each = (is, more.each);
-    none = λ shut. absurd (apart (sym (for-open s (standing_of past l) (ap (λ n. is_for s (standing_of past n)) (same-number l c e) ∙ speaks)) ∙ shut));
+    none = λ shut. absurd (apart (sym (for-open s (attachment_of past l) (ap (λ n. is_for s (attachment_of past n)) (same-number l c e) ∙ speaks)) ∙ shut));
   }
     where
       apart : true ≡ false → ⊥
       apart e = cc
 
   abbrev each-of : List ℕ → ℕ → List ℕ → List Sent
-  each-of x s cs = map (λ c. Text c x) (filter (λ c. is_for s (standing_of past c)) cs)
+  each-of x s cs = map (λ c. Text c x) (filter (λ c. is_for s (attachment_of past c)) cs)
 
   one-more : (x : List ℕ) → IsEventText x
-      → (s c : ℕ) (cs : List ℕ) → AreEvents opens (texts_on l (each-of x s cs)) → (m : Bool) → is_for s (standing_of past c) ≡ m
+      → (s c : ℕ) (cs : List ℕ) → AreEvents opens (texts_on l (each-of x s cs)) → (m : Bool) → is_for s (attachment_of past c) ≡ m
       → AreEvents opens (texts_on l (map (λ c. Text c x)
-      (if m then c ∷ filter (λ c. is_for s (standing_of past c)) cs else filter (λ c. is_for s (standing_of past c)) cs)))
+      (if m then c ∷ filter (λ c. is_for s (attachment_of past c)) cs else filter (λ c. is_for s (attachment_of past c)) cs)))
   one-more x is s c cs rest false e = rest
   one-more x is s c cs rest true e = one-text x is s c _ e (l == c) refl rest
 
   to-each : (x : List ℕ) → IsEventText x → (s : ℕ) (cs : List ℕ) → AreEvents opens (texts_on l (each-of x s cs))
   to-each x is s [] = no-events opens
-  to-each x is s (c ∷ cs) = one-more x is s c cs (to-each x is s cs) (is_for s (standing_of past c)) refl
+  to-each x is s (c ∷ cs) = one-more x is s c cs (to-each x is s cs) (is_for s (attachment_of past c)) refl
 
   -- an event, to the connections of a session, and to all that hear it
   pub session-events : (o : Occurrence) (s : ℕ) → AreEvents opens (texts_on l (to_session past o s))
@@ -191,7 +191,7 @@ module _ (past : List Deed) (l : ℕ) where
 
   asked-error : (c id : ℕ) (command : Option Command) → IsErrorFor c id (asked past c id command)
   asked-error c id None = (refl, refl)
-  asked-error c id (Some command) = replied-error c id (outcome past c (standing_of past c) command)
+  asked-error c id (Some command) = replied-error c id (outcome past c (attachment_of past c) command)
 
   open-error : (c id : ℕ) (b : Bool) (turned : Result Deed NotTaken) → IsErrorFor c id turned → IsErrorFor c id (if b then turned else Err (Lost c))
   open-error c id true turned is = is
@@ -283,20 +283,20 @@ module _ (h : List Input) (l : ℕ) where
   NotOpening (Began c) = (l == c) ≡ false
   NotOpening d = ⊤
 
-  closed-still : (s : ℕ) (standing : Standing) → not (is_shut standing) ≡ false → not (is_shut (if is_for s standing then Shut else standing)) ≡ false
+  closed-still : (s : ℕ) (attachment : Attachment) → not (is_shut attachment) ≡ false → not (is_shut (if is_for s attachment then Shut else attachment)) ≡ false
   closed-still s Shut e = refl
   closed-still s Alone e = e
   closed-still s (SpeaksFor t) e = cc
 
-  dropped-still : (standing : Standing) (m : Bool) → not (is_shut standing) ≡ false → not (is_shut (if m then Shut else standing)) ≡ false
-  dropped-still standing true e = refl
-  dropped-still standing false e = e
+  dropped-still : (attachment : Attachment) (m : Bool) → not (is_shut attachment) ≡ false → not (is_shut (if m then Shut else attachment)) ≡ false
+  dropped-still attachment true e = refl
+  dropped-still attachment false e = e
 
   stays : (d : Deed) → NotOpening d → b ≡ false → is_open (d ∷ past) l ≡ false
   stays (Opened c s) apart e = rw apart e
   stays (Began c) apart e = rw apart e
-  stays (Dropped c) apart e = dropped-still (standing_of past l) (l == c) e
-  stays (Ended s) apart e = closed-still s (standing_of past l) e
+  stays (Dropped c) apart e = dropped-still (attachment_of past l) (l == c) e
+  stays (Ended s) apart e = closed-still s (attachment_of past l) e
   stays d apart e = e
 
   stays-turned : (turned : Result Deed NotTaken) → IfOk turned NotOpening → b ≡ false → is_open (with_turn past turned) l ≡ false
@@ -308,7 +308,7 @@ module _ (h : List Input) (l : ℕ) where
   bound P (Err code) f each = tt
 
   -- no command opens another connection than its own
-  outcome-apart : (c : ℕ) → (l == c) ≡ false → (standing : Standing) (command : Command) → IfOk (outcome past c standing command) NotOpening
+  outcome-apart : (c : ℕ) → (l == c) ≡ false → (attachment : Attachment) (command : Command) → IfOk (outcome past c attachment command) NotOpening
   outcome-apart c apart Shut command = tt
   outcome-apart c apart Alone Status = tt
   outcome-apart c apart Alone (New request) =
@@ -335,7 +335,7 @@ module _ (h : List Input) (l : ℕ) where
 
   asked-apart : (c id : ℕ) → (l == c) ≡ false → (command : Option Command) → IfOk (asked past c id command) NotOpening
   asked-apart c id apart None = tt
-  asked-apart c id apart (Some command) = replied-apart c id (outcome past c (standing_of past c) command) (outcome-apart c apart (standing_of past c) command)
+  asked-apart c id apart (Some command) = replied-apart c id (outcome past c (attachment_of past c) command) (outcome-apart c apart (attachment_of past c) command)
 
   answered-apart : (c : ℕ) → (l == c) ≡ false → (v : Verdict) → IfOk (answered past c v) NotOpening
   answered-apart c apart (Accepted t) = asked-apart c (id_of_command t) apart (command_of t)

@@ -8,13 +8,13 @@ use Rattle.std.proofs.lemmas.Bool.Decides.{nat_tests}
 use Rattle.std.proofs.lemmas.List.Elements.{filter-append}
 use Rattle.std.proofs.lemmas.List.{length-append}
 use Rattle.bidi_browser.specs.Contexts.{up_to}
-use Rattle.bidi_subjects.specs.declared.event_data.EventName.{EventName}
+use Rattle.bidi_methods.specs.declared.event_data.EventName.{EventName}
 use Rattle.bidi_browser.specs.Occurrences.{is_among}
 use Rattle.bidi_remote.specs.Machine.History.{Deed}
 use Rattle.bidi_remote.specs.Machine.Sessions.{is_active, sessions, sessions_made}
 use Rattle.bidi_remote.specs.Machine.Subscriptions.{is_global}
-use Rattle.bidi_remote.specs.Tables.SubscriptionRows.{SubscriptionRow, SessionRow, session_row, session_rows, begun, updated, changed, row_in, stripped}
-use Rattle.bidi_remote.specs.Tables.SessionView.{session_row_of}
+use Rattle.bidi_remote.specs.State.SubscriptionRows.{SubscriptionRow, SessionRow, session_row, session_rows, begun, updated, changed, row_in, stripped}
+use Rattle.bidi_remote.specs.State.SessionView.{session_row_of}
 use Rattle.bidi_remote.specs.declared.sessions.Session.{Session}
 use Rattle.bidi_remote.proofs.ListLemmas.{find-seen, position-none}
 

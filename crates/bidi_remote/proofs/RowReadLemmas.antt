@@ -5,7 +5,7 @@ use Rattle.bidi_tree.specs.Node.{Node}
 use Rattle.bidi_values.specs.declared.table_row.TableRow.{TableRow}
 use Rattle.bidi_values.specs.contracts.table_row.TableRowShape.TheImpl.{ghosts}
 use Rattle.bidi_remote.specs.Machine.History.{IsRow, is_row, is_no_row, is_not_json, row_tree}
-use Rattle.bidi_remote.specs.Tables.RowsRead.{IsRowOf}
+use Rattle.bidi_remote.specs.State.RowsRead.{IsRowOf}
 
 -- a text has a tree, and so has the row that it is, or there is none
 pub row-of-text : {E : Type 0} (r : Result (Option TableRow) E) (s : List ℕ) (t : Node)

@@ -4,18 +4,18 @@ use Rattle.std.specs.Prelude.{◌==◌, if◌then◌else◌}
 use Rattle.std.proofs.lemmas.Bool.Decides.{nat_tests}
 use Rattle.bidi_remote.specs.Machine.History.{Input, Deed, Opened, Dropped, Began, Ended, Subscribed, Did, acts}
 use Rattle.bidi_remote.specs.Machine.Sessions.{sessions_made, is_active}
-use Rattle.bidi_remote.specs.Machine.Connections.{Standing, Shut, Alone, SpeaksFor, is_for, opened_for, standing_of}
+use Rattle.bidi_remote.specs.Machine.Connections.{Attachment, Shut, Alone, SpeaksFor, is_for, opened_for, attachment_of}
 use Rattle.bidi_remote.specs.Machine.Subscriptions.{subscriptions_made}
 use Rattle.bidi_remote.specs.Machine.Outcome.{NotTaken, turn, with_turn, deeds}
 use Rattle.bidi_browser.specs.Plans.{HasIds}
 use Rattle.bidi_browser.proofs.BirthLemmas.{given-few}
-use Rattle.bidi_remote.specs.Tables.Stands.{IsShort}
+use Rattle.bidi_remote.specs.State.Stands.{IsShort}
 use Rattle.bidi_remote.proofs.OpeningLemmas.{IsFairIfDone, turn_fair}
 use Rattle.bidi_remote.proofs.SessionLemmas.{active_made}
 
 -- a session is active that a connection speaks for
 abbrev AreActive : List Deed → Type 0
-AreActive past = (c s : ℕ) → standing_of past c ≡ SpeaksFor s → is_active past s ≡ true
+AreActive past = (c s : ℕ) → attachment_of past c ≡ SpeaksFor s → is_active past s ≡ true
 
 -- what was just opened speaks for the session that it was opened for
 opened_speaks : (o : Option ℕ) (s : ℕ) → opened_for o ≡ SpeaksFor s → o ≡ Some s
@@ -23,7 +23,7 @@ opened_speaks None s e = cc
 opened_speaks (Some t) s e = cc
 
 -- what speaks for a session after the end of one spoke for it before, and another ended
-still_for : (t s : ℕ) (x : Standing) → (if is_for t x then Shut else x) ≡ SpeaksFor s → (x ≡ SpeaksFor s) × ((s == t) ≡ false)
+still_for : (t s : ℕ) (x : Attachment) → (if is_for t x then Shut else x) ≡ SpeaksFor s → (x ≡ SpeaksFor s) × ((s == t) ≡ false)
 still_for t s Shut e = cc
 still_for t s Alone e = cc
 still_for t s (SpeaksFor u) e = grind (arith, nat_tests)
@@ -38,11 +38,11 @@ active_more past (Ok (Opened d o)) fair was =
     grind (arith, nat_tests, so, named, opened)
 active_more past (Ok (Dropped d)) fair was = λ c s e. let so = was c s in grind (arith, nat_tests, so)
 active_more past (Ok (Began d)) fair was = λ c s e. let so = was c s in grind (arith, nat_tests, so)
-active_more past (Ok (Ended t)) fair was = λ c s e. let still = still_for t s (standing_of past c) e in rw still.1 (was c s still.0)
+active_more past (Ok (Ended t)) fair was = λ c s e. let still = still_for t s (attachment_of past c) e in rw still.1 (was c s still.0)
 active_more past (Ok d) fair was = was
 
 -- so it is after every history
-pub speaks-active : (h : List Input) (c s : ℕ) → standing_of (deeds h) c ≡ SpeaksFor s → is_active (deeds h) s ≡ true
+pub speaks-active : (h : List Input) (c s : ℕ) → attachment_of (deeds h) c ≡ SpeaksFor s → is_active (deeds h) s ≡ true
 speaks-active [] c s e = cc
 speaks-active (i ∷ h) c s e = active_more (deeds h) (turn (deeds h) i) (turn_fair (deeds h) i) (speaks-active h) c s e
 

@@ -28,7 +28,7 @@ use Rattle.bidi_params.specs.declared.session.subscribe.UnsubscribeParameters.{U
 use Rattle.bidi_params.specs.declared.session.subscribe.UnsubscribeParameters.TheVariants.{ById, ByEvents}
 use Rattle.bidi_handles.specs.Params.{items_in, texts_among, has_texts_at}
 use Rattle.bidi_remote.specs.Machine.Commands.{command_in}
-use Rattle.bidi_remote.specs.Tables.Asked.{texts, subscribe_asked, unsubscribe_asked}
+use Rattle.bidi_remote.specs.State.Asked.{texts, subscribe_asked, unsubscribe_asked}
 
 -- ---- lists of texts
 

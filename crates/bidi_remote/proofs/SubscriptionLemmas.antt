@@ -10,10 +10,10 @@ use Rattle.std.proofs.lemmas.List.{map-append, map-id}
 use Rattle.std.proofs.lemmas.List.Elements.{filter-append}
 use Rattle.std.proofs.lemmas.List.Folds.{list_any-append}
 use Rattle.std.proofs.lemmas.Simd.{map-map}
-use Rattle.bidi_subjects.specs.declared.event_data.EventName.{EventName}
-use Rattle.bidi_subjects.specs.declared.event_data.EventName.TheVariants.{ContextCreated, ContextDestroyed, NavigationStarted}
-use Rattle.bidi_subjects.specs.declared.event_data.EventName.TheVariants.{DomContentLoaded, Load, RealmCreated, RealmDestroyed, EntryAdded}
-use Rattle.bidi_subjects.specs.EventName.{events as all_events}
+use Rattle.bidi_methods.specs.declared.event_data.EventName.{EventName}
+use Rattle.bidi_methods.specs.declared.event_data.EventName.TheVariants.{ContextCreated, ContextDestroyed, NavigationStarted}
+use Rattle.bidi_methods.specs.declared.event_data.EventName.TheVariants.{DomContentLoaded, Load, RealmCreated, RealmDestroyed, EntryAdded}
+use Rattle.bidi_methods.specs.EventName.{events as all_events}
 use Rattle.bidi_handles.specs.declared.id.IdKind.TheVariants.{Subscription}
 use Rattle.bidi_handles.specs.Ids.{id_text}
 use Rattle.bidi_browser.specs.Contexts.{up_to, is_alive}
@@ -23,10 +23,10 @@ use Rattle.bidi_remote.specs.Machine.Sessions.{sessions_made, next_session, is_a
 use Rattle.bidi_remote.specs.Machine.Subscriptions.{subscriptions_made, next_subscription, subscriptions, events_of, scope_of, is_listed}
 use Rattle.bidi_remote.specs.Machine.Subscriptions.{is_global, is_kept, is_live, holds, holds_globally, covers, is_enabled}
 use Rattle.bidi_remote.specs.Machine.Subscriptions.{is_newly_enabled}
-use Rattle.bidi_remote.specs.Tables.SubscriptionRows.{SubscriptionRow, row_at, events_left, subscription_rows, SessionRow}
-use Rattle.bidi_remote.specs.Tables.SubscriptionRows.{session_row, session_rows, any_covers, any_global, row_covers, without}
-use Rattle.bidi_remote.specs.Tables.SubscriptionRows.{loses_all, stripped, dismissed, begun, subscribed, updated, is_new}
-use Rattle.bidi_remote.specs.Tables.MissedRows.{places, all_left}
+use Rattle.bidi_remote.specs.State.SubscriptionRows.{SubscriptionRow, row_at, events_left, subscription_rows, SessionRow}
+use Rattle.bidi_remote.specs.State.SubscriptionRows.{session_row, session_rows, any_covers, any_global, row_covers, without}
+use Rattle.bidi_remote.specs.State.SubscriptionRows.{loses_all, stripped, dismissed, begun, subscribed, updated, is_new}
+use Rattle.bidi_remote.specs.State.MissedRows.{places, all_left}
 use Rattle.bidi_remote.specs.Machine.LogBuffer.{missed}
 use Rattle.bidi_remote.proofs.ListLemmas.{each-passing}
 use Rattle.bidi_remote.proofs.PlaceLemmas.{places-announced}

@@ -6,28 +6,28 @@ use Rattle.bidi_browser.specs.Acts.{Act}
 use Rattle.bidi_browser.specs.Actions.{Action}
 use Rattle.bidi_messages.specs.Message.{error_text}
 use Rattle.bidi_messages.specs.Verdict.{Verdict, IsVerdict, Accepted, Refused}
-use Rattle.bidi_codes.specs.declared.error_code.ErrorCode.{ErrorCode}
+use Rattle.bidi_params.specs.declared.error_code.ErrorCode.{ErrorCode}
 use Rattle.bidi_remote.specs.declared.step.Sent as declared_sent
-use Rattle.bidi_remote.specs.declared.tables.Tables.{Tables}
+use Rattle.bidi_remote.specs.declared.state.State.{State}
 use Rattle.bidi_remote.specs.declared.turn.Asker.{Asker}
 use Rattle.bidi_remote.specs.declared.turn.Turn.{Turn}
 use Rattle.bidi_remote.specs.Machine.Step.{Step, Text}
 use Rattle.bidi_remote.specs.Machine.History.{Input, Open, Heard, PageStep, IsHeardAs, Deed, acts}
 use Rattle.bidi_remote.specs.Machine.Commands.{Command, id_of_command}
-use Rattle.bidi_remote.specs.Machine.Connections.{Standing, is_shut, is_open, standing_of}
+use Rattle.bidi_remote.specs.Machine.Connections.{Attachment, is_shut, is_open, attachment_of}
 use Rattle.bidi_remote.specs.Machine.Outcome.{NotTaken, Error, deeds, turn, with_turn, replied, outcome}
 use Rattle.bidi_remote.specs.Machine.Sent as sent
 use Rattle.bidi_remote.specs.Machine.Sent.{Sent, action_in, items, told}
-use Rattle.bidi_remote.specs.Tables.Messages.{ReadsBack, AllReadBack}
-use Rattle.bidi_remote.specs.Tables.Stands.{AgreeWith, IsShort, Takes}
-use Rattle.bidi_remote.specs.Tables.Asked.{Asks}
-use Rattle.bidi_remote.specs.Tables.EventTexts.{written_in, AreMessages}
-use Rattle.bidi_remote.specs.Tables.Turns.{Decides, IsMade, deed_of, asker_in, items_in, sent_for}
-use Rattle.bidi_remote.specs.Tables.View.{sent_of}
+use Rattle.bidi_remote.specs.State.Messages.{ReadsBack, AllReadBack}
+use Rattle.bidi_remote.specs.State.Stands.{AgreeWith, IsShort, Takes}
+use Rattle.bidi_remote.specs.State.Asked.{Asks}
+use Rattle.bidi_remote.specs.State.EventTexts.{written_in, AreMessages}
+use Rattle.bidi_remote.specs.State.Turns.{Decides, IsMade, deed_of, asker_in, items_in, sent_for}
+use Rattle.bidi_remote.specs.State.View.{sent_of}
 use Rattle.bidi_remote.proofs.ChangeLemmas.{opens-open}
 use Rattle.bidi_remote.proofs.TurnLemmas.{heard-open, asked-is, told-for}
 
-pub takes : (t : Tables) (h : List Input) (i : Input) (r : Result Deed NotTaken) (all : List Sent)
+pub takes : (t : State) (h : List Input) (i : Input) (r : Result Deed NotTaken) (all : List Sent)
     → turn (deeds h) i ≡ r → all ≡ told (deeds h) i r → AllReadBack all → AgreeWith t (with_turn (deeds h) r) → Takes t all h i
 takes t h i r all is sends reads agree = record {
   sends = sends ∙ ap (told (deeds h) i) (sym is);
@@ -36,7 +36,7 @@ takes t h i r all is sends reads agree = record {
 }
 
 -- what was sent for a turn, with the tables after it
-pub all_taken : {E : Type 0} (t : Tables) (h : List Input) (i : Input) (d : Deed) (sends : List Sent) (q : Result (Vec declared_sent.Sent Global) E)
+pub all_taken : {E : Type 0} (t : State) (h : List Input) (i : Input) (d : Deed) (sends : List Sent) (q : Result (Vec declared_sent.Sent Global) E)
     → IfOk q (λ all. (map sent_of all.items ≡ sends) × AllReadBack (map sent_of all.items) × AgreeWith t (d ∷ deeds h))
     → turn (deeds h) i ≡ Ok d → sends ≡ told (deeds h) i (Ok d)
     → IfOk q (λ all. Takes t (map sent_of all.items) h i)
@@ -44,7 +44,7 @@ all_taken t h i d sends (Err e) all is same = tt
 all_taken t h i d sends (Ok v) all is same = takes t h i (Ok d) (map sent_of v.items) is (all.0 ∙ same) all.1 all.2
 
 -- one thing alone is sent, which is no text
-pub only_takes : {E : Type 0} (r : Result (Vec declared_sent.Sent Global) E) (x : declared_sent.Sent) (t : Tables) (h : List Input)
+pub only_takes : {E : Type 0} (r : Result (Vec declared_sent.Sent Global) E) (x : declared_sent.Sent) (t : State) (h : List Input)
     (i : Input) (turned : Result Deed NotTaken) → IfOk r (λ all. all.items ≡ x ∷ [])
     → turn (deeds h) i ≡ turned → sent_of x ∷ [] ≡ told (deeds h) i turned
     → ReadsBack (sent_of x) → AgreeWith t (with_turn (deeds h) turned) → IfOk r (λ all. Takes t (map sent_of all.items) h i)
@@ -66,7 +66,7 @@ pub nothing : (items : List declared_sent.Sent) → items ≡ [] → AllReadBack
 nothing items none = subst (λ all. AllReadBack (map sent_of all)) (sym none) tt
 
 -- a text is refused
-pub refused_takes : {E : Type 0} (r : Result (Vec declared_sent.Sent Global) E) (t : Tables) (h : List Input) (i : Input)
+pub refused_takes : {E : Type 0} (r : Result (Vec declared_sent.Sent Global) E) (t : State) (h : List Input) (i : Input)
     (turned : Result Deed NotTaken) (sends : List Sent) → IfOk r (λ all. map sent_of all.items ≡ sends)
     → IfOk r (λ all. AllReadBack (map sent_of all.items)) → turn (deeds h) i ≡ turned
     → sends ≡ told (deeds h) i turned → AgreeWith t (with_turn (deeds h) turned) → IfOk r (λ all. Takes t (map sent_of all.items) h i)
@@ -78,8 +78,8 @@ pub told-refused : (past : List Deed) (c : ℕ) (v : Verdict) (refusal : NotTake
 told-refused past c (Accepted t) refusal = refl
 told-refused past c (Refused id code) refusal = refl
 
-module _ {E : Type 0} (r : Result (Vec declared_sent.Sent Global) E) (t : Tables) (h : List Input) (asker : Asker) (tree : Node) (s : Standing) (x : Command)
-    (stands : standing_of (deeds h) asker.conn.value ≡ s) (opened : is_shut s ≡ false) (asks : Asks tree asker.id.value x) where
+module _ {E : Type 0} (r : Result (Vec declared_sent.Sent Global) E) (t : State) (h : List Input) (asker : Asker) (tree : Node) (s : Attachment) (x : Command)
+    (stands : attachment_of (deeds h) asker.conn.value ≡ s) (opened : is_shut s ≡ false) (asks : Asks tree asker.id.value x) where
   abbrev pub c : ℕ
   c = asker.conn.value
 
@@ -135,7 +135,7 @@ anyway (Ok x) p = tt
 
 -- what is opened was shut
 pub opened-shut : (past : List Deed) (c : ℕ) (resource : List ℕ) (d : Deed) (b : Bool)
-    → is_shut (standing_of past c) ≡ b → turn past (Open c resource) ≡ Ok d → is_shut (standing_of past c) ≡ true
+    → is_shut (attachment_of past c) ≡ b → turn past (Open c resource) ≡ Ok d → is_shut (attachment_of past c) ≡ true
 opened-shut past c resource d true e is = e
 opened-shut past c resource d false e is = absurd (apart (opens-open past c resource e ∙ is))
   where
@@ -143,38 +143,38 @@ opened-shut past c resource d false e is = absurd (apart (opens-open past c reso
     apart e = cc
 
 -- what is shut is not open
-pub closed_open : (past : List Deed) (c : ℕ) → is_shut (standing_of past c) ≡ true → IsTrue (is_open past c) → ⊥
+pub closed_open : (past : List Deed) (c : ℕ) → is_shut (attachment_of past c) ≡ true → IsTrue (is_open past c) → ⊥
 closed_open past c shut is = let both : is_open past c ≡ false = rw shut refl in search (rules, both)
 
 -- ---- what was heard
 
 -- whatever history the tables stood for, this was sent at the input, and these are the tables after it
-abbrev pub TakesIt : Tables → Tables → List Sent → Input → Type 0
+abbrev pub TakesIt : State → State → List Sent → Input → Type 0
 TakesIt old after all i = (h : List Input) → IsShort h → AgreeWith old (deeds h) → Takes after all h i
 
 -- a text was judged
-pub text_judged : {E : Type 0} (r : Result (Vec declared_sent.Sent Global) E) (text : List ℕ) (old after : Tables) (c : ℕ) (v : Verdict) → IsVerdict text v
+pub text_judged : {E : Type 0} (r : Result (Vec declared_sent.Sent Global) E) (text : List ℕ) (old after : State) (c : ℕ) (v : Verdict) → IsVerdict text v
     → ((h : List Input) → IsShort h → AgreeWith old (deeds h) → IfOk r (λ all. Takes after (map sent_of all.items) h (Heard c v)))
     → IfOk r (λ all. (w : Verdict) × IsVerdict text w × TakesIt old after (map sent_of all.items) (Heard c w))
 text_judged (Err e) text old after c v is f = tt
 text_judged (Ok all) text old after c v is f = (v, is, f)
 
 -- a step is heard as an input
-pub step_heard : {E : Type 0} (r : Result (Vec declared_sent.Sent Global) E) (x : Step) (old after : Tables) (i : Input) → IsHeardAs x i
+pub step_heard : {E : Type 0} (r : Result (Vec declared_sent.Sent Global) E) (x : Step) (old after : State) (i : Input) → IsHeardAs x i
     → ((h : List Input) → AgreeWith old (deeds h) → IfOk r (λ all. Takes after (map sent_of all.items) h i))
     → IfOk r (λ all. (j : Input) × IsHeardAs x j × TakesIt old after (map sent_of all.items) j)
 step_heard (Err e) x old after i is f = tt
 step_heard (Ok all) x old after i is f = (i, is, λ h short. f h)
 
 -- so is a step of a page, while the history is short
-pub page_heard : {E : Type 0} (r : Result (Vec declared_sent.Sent Global) E) (x : Step) (old after : Tables) (action : Action) → IsHeardAs x (PageStep action)
+pub page_heard : {E : Type 0} (r : Result (Vec declared_sent.Sent Global) E) (x : Step) (old after : State) (action : Action) → IsHeardAs x (PageStep action)
     → ((h : List Input) → IsShort h → AgreeWith old (deeds h) → IfOk r (λ all. Takes after (map sent_of all.items) h (PageStep action)))
     → IfOk r (λ all. (j : Input) × IsHeardAs x j × TakesIt old after (map sent_of all.items) j)
 page_heard (Err e) x old after action is f = tt
 page_heard (Ok all) x old after action is f = (PageStep action, is, f)
 
 -- a text is heard as its verdict
-pub text_heard : {E : Type 0} (r : Result (Vec declared_sent.Sent Global) E) (x : Step) (c : ℕ) (text : List ℕ) (old after : Tables) → x ≡ Text c text
+pub text_heard : {E : Type 0} (r : Result (Vec declared_sent.Sent Global) E) (x : Step) (c : ℕ) (text : List ℕ) (old after : State) → x ≡ Text c text
     → IfOk r (λ all. (w : Verdict) × IsVerdict text w × TakesIt old after (map sent_of all.items) (Heard c w))
     → IfOk r (λ all. (j : Input) × IsHeardAs x j × TakesIt old after (map sent_of all.items) j)
 text_heard (Err e) x c text old after is f = tt

@@ -5,7 +5,7 @@ use Rattle.std.specs.Prelude.{filter, IfOk}
 use Rattle.std.specs.List.{AllByRecursion, list_any}
 use Rattle.std.proofs.lemmas.Bool.Decides.{nat_tests}
 use Rattle.std.proofs.lemmas.Grind.{flat_map-append}
-use Rattle.bidi_subjects.specs.declared.event_data.EventName.{EventName}
+use Rattle.bidi_methods.specs.declared.event_data.EventName.{EventName}
 use Rattle.bidi_messages.specs.contracts.message.MessageShape.TheImpl.{ghosts}
 use Rattle.bidi_messages.specs.Reading.{IsMessageText}
 use Rattle.bidi_browser.specs.Contexts.{up_to}
@@ -17,13 +17,13 @@ use Rattle.bidi_remote.specs.Machine.Connections.{is_for}
 use Rattle.bidi_remote.specs.Machine.Sessions.{is_active, sessions, sessions_made}
 use Rattle.bidi_remote.specs.Machine.Subscriptions.{is_enabled}
 use Rattle.bidi_remote.specs.Machine.Sent.{Sent, Text, Close, occurrence_text, to_session, hearers, to_hearers, closed}
-use Rattle.bidi_remote.specs.Tables.ConnectionRows as connections
-use Rattle.bidi_remote.specs.Tables.ConnectionRows.{rows, to_each}
-use Rattle.bidi_remote.specs.Tables.SubscriptionRows.{SessionRow, session_row, session_rows, subscription_rows, any_covers}
-use Rattle.bidi_remote.specs.Tables.Messages.{ReadsBack, AllReadBack}
-use Rattle.bidi_remote.specs.Tables.EventTexts.{Written, AreMessages}
-use Rattle.bidi_remote.specs.Tables.Routes.{to_one, to_all}
-use Rattle.bidi_remote.specs.Tables.Turns.{sent_for, sent_of_item, to_subscriber, to_subscriber_in, closed_in}
+use Rattle.bidi_remote.specs.State.ConnectionRows as connections
+use Rattle.bidi_remote.specs.State.ConnectionRows.{rows, to_each}
+use Rattle.bidi_remote.specs.State.SubscriptionRows.{SessionRow, session_row, session_rows, subscription_rows, any_covers}
+use Rattle.bidi_remote.specs.State.Messages.{ReadsBack, AllReadBack}
+use Rattle.bidi_remote.specs.State.EventTexts.{Written, AreMessages}
+use Rattle.bidi_remote.specs.State.Routes.{to_one, to_all}
+use Rattle.bidi_remote.specs.State.Turns.{sent_for, sent_of_item, to_subscriber, to_subscriber_in, closed_in}
 use Rattle.bidi_remote.proofs.ListLemmas.{all-append, flat_map-same}
 use Rattle.bidi_remote.proofs.ConnectionLemmas.{each-past}
 use Rattle.bidi_remote.proofs.SubscriptionLemmas.{covers-enabled}

@@ -3,11 +3,11 @@ ghost use Rattle.std.specs.Prelude.{◌≡◌, List, map};
 ghost use Rattle.std.specs.VecDeque.{deque_len, deque_capacity};
 ghost use Rattle.bidi_browser.specs.Acts.{Act};
 ghost use Rattle.bidi_browser.specs.Stands.{StandsFor};
-ghost use Rattle.bidi_subjects.specs.declared.event_data.EventName.TheVariants.{EntryAdded};
-ghost use Rattle.bidi_remote.specs.Tables.EventTexts.{place_row};
-ghost use Rattle.bidi_remote.specs.Tables.MissedRows.{all_left};
-ghost use Rattle.bidi_remote.specs.Tables.SessionView.{scope_of, row_of};
-ghost use Rattle.bidi_remote.specs.Tables.SubscriptionRows.{is_new};
+ghost use Rattle.bidi_methods.specs.declared.event_data.EventName.TheVariants.{EntryAdded};
+ghost use Rattle.bidi_remote.specs.State.EventTexts.{place_row};
+ghost use Rattle.bidi_remote.specs.State.MissedRows.{all_left};
+ghost use Rattle.bidi_remote.specs.State.SessionView.{scope_of, row_of};
+ghost use Rattle.bidi_remote.specs.State.SubscriptionRows.{is_new};
 
 use crate::event_texts::EventText;
 use crate::subscriptions::{Scope, Subscription, any_covers, covers};

@@ -2,8 +2,8 @@
 ghost use Rattle.std.specs.Prelude.{◌≡◌, ◌==◌, not, [], ◌∷◌, ◌++◌, find, filter, map, length, nat_lt, IfOk, OnOk, OnErr};
 ghost use Rattle.bidi_remote.specs.Machine.Connections.{is_for};
 ghost use Rattle.bidi_remote.specs.Machine.Sent.{Text, Close};
-ghost use Rattle.bidi_remote.specs.Tables.ConnectionRows.{row_of, begun, to_each};
-ghost use Rattle.bidi_remote.specs.Tables.View.{sent_of};
+ghost use Rattle.bidi_remote.specs.State.ConnectionRows.{row_of, begun, to_each};
+ghost use Rattle.bidi_remote.specs.State.View.{sent_of};
 
 use crate::step::Sent;
 use bidi_tree::JsUint;
@@ -14,7 +14,7 @@ const MOST_CONNECTIONS: usize = 64;
 
 /// The state of a connection number.
 #[derive(Clone, Copy)]
-pub(crate) enum Standing {
+pub(crate) enum Attachment {
     /// No connection of this number is open.
     Shut,
     /// The connection is open, without a session.
@@ -51,7 +51,7 @@ pub(crate) struct Connections {
 }
 
 impl Connections {
-    ghost use Rattle.bidi_remote.specs.Tables.ConnectionRows.{rows_in, standing_in_hand, standing_in};
+    ghost use Rattle.bidi_remote.specs.State.ConnectionRows.{rows_in, attachment_in_hand, attachment_in};
 
     /// A table without connections. Takes no memory.
     pub(crate) fn new(alloc: Global) -> Connections
@@ -63,14 +63,14 @@ impl Connections {
     }
 
     /// The state of this connection number.
-    pub(crate) fn standing_of(&self, number: JsUint) -> Standing
-        ensures { standing_in_hand result ≡ standing_in (find (λ row. row.0 == number.value) (rows_in self.now)) }
+    pub(crate) fn attachment_of(&self, number: JsUint) -> Attachment
+        ensures { attachment_in_hand result ≡ attachment_in (find (λ row. row.0 == number.value) (rows_in self.now)) }
     {
         match find(&self.open, number) {
-            None => Standing::Shut,
+            None => Attachment::Shut,
             Some(connection) => match connection.session {
-                None => Standing::Alone,
-                Some(session) => Standing::SpeaksFor(session),
+                None => Attachment::Alone,
+                Some(session) => Attachment::SpeaksFor(session),
             },
         }
     }

@@ -3,10 +3,11 @@ ghost use Rattle.std.specs.Prelude.{◌≡◌, ◌∷◌, ◌++◌, [], map, str
 ghost use Rattle.std.specs.List.{AllByRecursion};
 ghost use Rattle.bidi_browser.specs.View.{occurrence_of, seen};
 ghost use Rattle.bidi_messages.specs.Reading.{IsMessageText};
-ghost use Rattle.bidi_remote.specs.Tables.EventTexts.{written, written_of, written_in, AreMessages};
+ghost use Rattle.bidi_remote.specs.State.EventTexts.{written, written_of, written_in, AreMessages};
+ghost use Rattle.bidi_messages.specs.Payloads.{EventIsWell};
 
 use bidi_browser::Occurrence;
-use bidi_messages::{EventData, EventName, Message, Subject, event_text};
+use bidi_messages::{EventData, EventName, Message, Payload, event_text};
 use bidi_shape::Shape;
 use std::alloc::{AllocError, Global};
 use std::rc::Rc;
@@ -25,8 +26,8 @@ pub(crate) fn event_text_of(
     alloc: Global,
     occurrence: &Occurrence,
 ) -> Result<Rc<EventText>, AllocError>
-    requires { ⟦<EventData as Subject<EventName>>⟧.subject.well occurrence.now.event }
-    ensures written { IfOk result (λ e. written_of e.value ≡ written (occurrence_of ⟦<EventData as Subject<EventName>>⟧.subject occurrence.now)) }
+    requires { EventIsWell occurrence.now.event }
+    ensures written { IfOk result (λ e. written_of e.value ≡ written (occurrence_of occurrence.now)) }
     ensures reads_back { IfOk result (λ e. IsMessageText ⟦<Message as Shape>⟧.shape (string_bytes e.value.text)) }
 {
     let text = event_text(alloc, &occurrence.event)?;
@@ -39,7 +40,7 @@ pub(crate) fn event_texts(
     alloc: Global,
     occurrences: &[Occurrence],
 ) -> Result<Vec<Rc<EventText>>, AllocError>
-    requires { AllByRecursion (λ o. ⟦<EventData as Subject<EventName>>⟧.subject.well o.event) occurrences.now }
+    requires { AllByRecursion (λ o. EventIsWell o.event) occurrences.now }
     ensures written { IfOk result (λ all. written_in all.items ≡ map written (seen occurrences.now)) }
     ensures reads_back { IfOk result (λ all. AreMessages (written_in all.items)) }
 {

@@ -1,4 +1,4 @@
-//! The remote end: connections, sessions, subscriptions, and which texts are sent on which connection.
+//! The remote end: connections, sessions, subscriptions, and who is sent which text.
 //!
 //! A [`RemoteEnd`] takes one [`Step`] at a time and returns what it sends for it, as a list of [`Sent`]. It
 //! does no input or output. What it sends depends on the steps that it has taken, and on nothing else; the
@@ -18,10 +18,10 @@ mod remote_end;
 mod rows;
 mod session;
 mod sessions;
+mod state;
 mod step;
 mod striking;
 mod subscriptions;
-mod tables;
 mod telling;
 mod turn;
 

@@ -26,11 +26,11 @@ pub(crate) struct LogBuffer {
 impl LogBuffer {
     ghost use Rattle.bidi_browser.specs.Acts.{Act};
     ghost use Rattle.bidi_browser.specs.Stands.{StandsFor};
-    ghost use Rattle.bidi_subjects.specs.declared.event_data.EventName.TheVariants.{EntryAdded};
-    ghost use Rattle.bidi_remote.specs.Tables.EventTexts.{written_of, written_in};
-    ghost use Rattle.bidi_remote.specs.Tables.MissedRows.{waiting, with_missed, all_left};
-    ghost use Rattle.bidi_remote.specs.Tables.SubscriptionRows.{is_new};
-    ghost use Rattle.bidi_remote.specs.Tables.SessionView.{places_in, scope_of, row_of};
+    ghost use Rattle.bidi_methods.specs.declared.event_data.EventName.TheVariants.{EntryAdded};
+    ghost use Rattle.bidi_remote.specs.State.EventTexts.{written_of, written_in};
+    ghost use Rattle.bidi_remote.specs.State.MissedRows.{waiting, with_missed, all_left};
+    ghost use Rattle.bidi_remote.specs.State.SubscriptionRows.{is_new};
+    ghost use Rattle.bidi_remote.specs.State.SessionView.{places_in, scope_of, row_of};
 
     /// An empty buffer. Room for a hundred entries is made here, so that none is needed later.
     pub(crate) fn new(alloc: Global) -> Result<LogBuffer, AllocError>

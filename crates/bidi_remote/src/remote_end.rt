@@ -1,8 +1,8 @@
 //! The remote end, with its public calls.
 ghost use Rattle.std.specs.Prelude.{◌≡◌, ℕ, ◌<◌, ◌≤◌, ◌↔◌, List, [], ◌∷◌, map, true, IsTrue, IfOk, OnOk, OnErr, IsOk, IsErrOf, length};
 ghost use Rattle.bidi_remote.specs.Machine.Step as steps;
-ghost use Rattle.bidi_remote.specs.Tables.Messages.{AllReadBack};
-ghost use Rattle.bidi_remote.specs.Tables.View.{step_of, sent_of};
+ghost use Rattle.bidi_remote.specs.State.Messages.{AllReadBack};
+ghost use Rattle.bidi_remote.specs.State.View.{step_of, sent_of};
 ghost use Rattle.bidi_remote.specs.Machine.History.{Input, IsHeardAs};
 ghost use Rattle.bidi_remote.specs.Machine.Connections.{is_open};
 ghost use Rattle.bidi_remote.specs.Machine.Outcome.{deeds};
@@ -11,8 +11,8 @@ ghost use Rattle.bidi_remote.specs.Machine.Sent.{out};
 ghost use Rattle.bidi_remote.specs.Machine.Strike as strike;
 ghost use Rattle.bidi_remote.specs.declared.remote_end.RemoteFault.TheVariants.{NoMemory};
 
+use crate::state::State;
 use crate::step::{Sent, Step};
-use crate::tables::Tables;
 use bidi_tree::JsUint;
 use json::Scratch;
 use std::alloc::{AllocError, Global};
@@ -44,7 +44,7 @@ impl From<AllocError> for RemoteFault {
 /// it.
 pub struct RemoteEnd {
     alloc: Global,
-    tables: Tables,
+    state: State,
     /// How many steps were accepted.
     count: u64,
     /// What the texts are read in.
@@ -56,7 +56,7 @@ impl Drop for RemoteEnd {
     fn drop(self) {
         let RemoteEnd {
             alloc: _,
-            tables: _,
+            state: _,
             count: _,
             scratch: _,
         } = self;
@@ -64,7 +64,7 @@ impl Drop for RemoteEnd {
 }
 
 impl RemoteEnd {
-    ghost use Rattle.bidi_remote.specs.Tables.Stands.{StandsFor};
+    ghost use Rattle.bidi_remote.specs.State.Stands.{StandsFor};
 
     /// A remote end that has taken no step: no connection, no session, and a browser with one context.
     ///
@@ -75,7 +75,7 @@ impl RemoteEnd {
     {
         Ok(RemoteEnd {
             alloc,
-            tables: Tables::new(alloc)?,
+            state: State::new(alloc)?,
             count: 0,
             scratch: Scratch::new(alloc),
         })
@@ -115,7 +115,7 @@ impl RemoteEnd {
         if self.count >= MOST_STEPS {
             return Err(RemoteFault::WornOut);
         }
-        let sent = self.tables.take(self.alloc, step, &mut self.scratch)?;
+        let sent = self.state.take(self.alloc, step, &mut self.scratch)?;
         self.count += 1;
         Ok(sent)
     }
@@ -139,7 +139,7 @@ impl RemoteEnd {
             return Err(RemoteFault::WornOut);
         }
         Ok(
-            self.tables
+            self.state
                 .is_struck(self.alloc, session, step, &mut self.scratch)?,
         )
     }
@@ -150,6 +150,6 @@ impl RemoteEnd {
     pub fn is_open(&self, conn: JsUint) -> bool
         ensures { (h : List Input) → StandsFor self.now h → result ≡ is_open (deeds h) conn.value }
     {
-        self.tables.is_open(conn)
+        self.state.is_open(conn)
     }
 }

@@ -2,15 +2,12 @@
 ghost use Rattle.std.specs.Prelude.{◌≡◌, Some, option_map, IfOk};
 ghost use Rattle.bidi_tree.specs.View.{node};
 ghost use Rattle.bidi_remote.specs.Machine.History.{IsRow, row_tree};
-ghost use Rattle.bidi_remote.specs.Tables.RowsRead.{IsRowOf};
+ghost use Rattle.bidi_remote.specs.State.RowsRead.{IsRowOf};
 
-use bidi_shape::{Shape, ShapeFault};
+use bidi_shape::{MAX_BYTES, Shape, ShapeFault};
 use bidi_tree::{ReadFault, Tree, read};
 use bidi_values::TableRow;
 use std::alloc::{AllocError, Global};
-
-/// How many bytes the text of a row can have.
-const MOST_BYTES: usize = 1_048_576;
 
 /// Reads a row of the script table; `None` where the text is no row.
 ///
@@ -29,7 +26,7 @@ pub(crate) fn read_row(alloc: Global, text: &str) -> Result<Option<TableRow>, Al
 fn row_tree(alloc: Global, text: &str) -> Result<Option<Tree>, AllocError>
     ensures { IfOk result (λ o. option_map node o ≡ row_tree text.now) }
 {
-    match read(alloc, text, Some(MOST_BYTES)) {
+    match read(alloc, text, Some(MAX_BYTES)) {
         Ok(tree) => Ok(Some(tree)),
         Err(ReadFault::NotJson | ReadFault::TooLong) => Ok(None),
         Err(ReadFault::NoMemory) => Err(AllocError),

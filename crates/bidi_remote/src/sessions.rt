@@ -6,10 +6,10 @@ ghost use Rattle.bidi_handles.specs.declared.id.IdKind.TheVariants.{Session as O
 ghost use Rattle.bidi_handles.specs.Ids.{id_of};
 ghost use Rattle.bidi_browser.specs.Acts.{Act};
 ghost use Rattle.bidi_browser.specs.Stands.{StandsFor};
-ghost use Rattle.bidi_remote.specs.Tables.EventTexts.{Written, written_of, written_in};
-ghost use Rattle.bidi_remote.specs.Tables.MissedRows.{waiting};
-ghost use Rattle.bidi_remote.specs.Tables.SubscriptionRows.{begun, subscribed, cancelled, lost, logged, changed, row_in, any_covers};
-ghost use Rattle.bidi_remote.specs.Tables.SessionView.{scope_of, row_of, session_row_of, places_in};
+ghost use Rattle.bidi_remote.specs.State.EventTexts.{Written, written_of, written_in};
+ghost use Rattle.bidi_remote.specs.State.MissedRows.{waiting};
+ghost use Rattle.bidi_remote.specs.State.SubscriptionRows.{begun, subscribed, cancelled, lost, logged, changed, row_in, any_covers};
+ghost use Rattle.bidi_remote.specs.State.SessionView.{scope_of, row_of, session_row_of, places_in, opened_by};
 
 use crate::event_texts::EventText;
 use crate::log_buffer::LogBuffer;
@@ -21,6 +21,27 @@ use std::rc::Rc;
 
 /// How many sessions can be active at once.
 const MOST_SESSIONS: usize = 8;
+
+/// For whom a resource opens a connection.
+#[derive(Clone, Copy)]
+pub(crate) enum Opening {
+    /// For no session: `/session`.
+    Alone,
+    /// For the active session of this number: `/session/ID`.
+    For(u32),
+}
+
+impl Opening {
+    /// The number of the session, if there is one.
+    pub(crate) fn session(self) -> Option<u32>
+        ensures { result ≡ opened_by self }
+    {
+        match self {
+            Opening::Alone => None,
+            Opening::For(session) => Some(session),
+        }
+    }
+}
 
 /// An active session.
 #[derive(Drop)]
@@ -36,7 +57,7 @@ pub(crate) struct Session {
 }
 
 impl Session {
-    ghost use Rattle.bidi_remote.specs.Tables.SessionView.{HasRoom};
+    ghost use Rattle.bidi_remote.specs.State.SessionView.{HasRoom};
 
     /// Whether the event is enabled for it in the tree of this top-level context.
     pub(crate) fn hears(&self, event: EventName, top: u64) -> bool
@@ -104,7 +125,7 @@ pub(crate) struct Sessions {
 }
 
 impl Sessions {
-    ghost use Rattle.bidi_remote.specs.Tables.SessionView.{rows_in, HasRoomForOne, HasRoomIn};
+    ghost use Rattle.bidi_remote.specs.State.SessionView.{rows_in, HasRoomForOne, HasRoomIn};
 
     /// A table without sessions. Takes no memory.
     pub(crate) fn new(alloc: Global) -> Sessions
@@ -169,13 +190,12 @@ impl Sessions {
         }
     }
 
-    /// What a resource stands for: no session for `/session`, and the number of an active session for
-    /// `/session/ID`. `None` for any other text.
-    pub(crate) fn named(&self, resource: &str) -> Option<Option<u32>>
-        ensures { result ≡ (if bytes_eq resource.now (codes "/session") then Some None
+    /// For whom a resource opens a connection; `None` where it names nothing.
+    pub(crate) fn opening_of(&self, resource: &str) -> Option<Opening>
+        ensures { option_map opened_by result ≡ (if bytes_eq resource.now (codes "/session") then Some None
             else option_map (λ r. Some r.number) (find (λ r. bytes_eq resource.now (codes "/session/" ++ id_of OfSession r.number)) (rows_in self.now))) }
     {
-        named(&self.active, resource)
+        opening_of(&self.active, resource)
     }
 
     /// Makes room for one more session.
@@ -309,16 +329,16 @@ fn place_of(sessions: &[Session], number: u32) -> Option<usize>
     sessions.iter().position(|s| s.number == number)
 }
 
-// What a resource stands for.
-fn named(sessions: &[Session], resource: &str) -> Option<Option<u32>>
-    ensures { result ≡ (if bytes_eq resource.now (codes "/session") then Some None
+// For whom a resource opens a connection.
+fn opening_of(sessions: &[Session], resource: &str) -> Option<Opening>
+    ensures { option_map opened_by result ≡ (if bytes_eq resource.now (codes "/session") then Some None
         else option_map (λ s. Some s.number) (find (λ s. bytes_eq resource.now (codes "/session/" ++ id_of OfSession s.number)) sessions.now)) }
 {
     if resource == "/session" {
-        return Some(None);
+        return Some(Opening::Alone);
     }
     let id = resource.strip_prefix("/session/")?;
-    session_named(sessions, id).map(Some)
+    session_named(sessions, id).map(Opening::For)
 }
 
 // The number of the active session of this id.

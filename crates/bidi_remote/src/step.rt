@@ -1,6 +1,6 @@
 //! The steps that a remote end takes, and what it sends.
 ghost use Rattle.std.specs.Prelude.{◌≡◌, IfOk, string_bytes};
-ghost use Rattle.bidi_remote.specs.Tables.View.{step_of};
+ghost use Rattle.bidi_remote.specs.State.View.{step_of};
 
 use bidi_tree::JsUint;
 use bidi_values::Level;

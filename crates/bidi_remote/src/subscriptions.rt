@@ -2,9 +2,9 @@
 ghost use Rattle.std.specs.Prelude.{◌≡◌, ◌&&◌, map, string_bytes, option_map, find, filter, not, bytes_eq};
 ghost use Rattle.std.specs.List.{list_all, list_any};
 ghost use Rattle.bidi_remote.specs.Machine.Subscriptions.{is_global, is_listed, covers};
-ghost use Rattle.bidi_remote.specs.Tables.SubscriptionRows.{row_covers, row_holds, numbers_named, loses_all, stripped, dismissed};
-ghost use Rattle.bidi_remote.specs.Tables.Checked.{IfChecked};
-ghost use Rattle.bidi_remote.specs.Tables.SessionView.{scope_of, row_of};
+ghost use Rattle.bidi_remote.specs.State.SubscriptionRows.{row_covers, row_holds, numbers_named, loses_all, stripped, dismissed};
+ghost use Rattle.bidi_remote.specs.State.Checked.{IfChecked};
+ghost use Rattle.bidi_remote.specs.State.SessionView.{scope_of, row_of};
 ghost use Rattle.bidi_handles.specs.Ids.{id_text};
 ghost use Rattle.bidi_browser.specs.Occurrences.{is_among};
 

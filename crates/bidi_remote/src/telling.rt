@@ -6,30 +6,31 @@ ghost use Rattle.bidi_browser.specs.Acts.{Act};
 ghost use Rattle.bidi_browser.specs.View.{occurrence_of, result_tree, seen};
 ghost use Rattle.bidi_remote.specs.Machine.History.{Deed};
 ghost use Rattle.bidi_browser.specs.Occurrences as heard;
-ghost use Rattle.bidi_subjects.specs.declared.event_data.EventName.TheVariants.{EntryAdded};
+ghost use Rattle.bidi_methods.specs.declared.event_data.EventName.TheVariants.{EntryAdded};
 ghost use Rattle.bidi_messages.specs.Reading.{IsMessageText};
 ghost use Rattle.bidi_remote.specs.Machine.Replies.{ReadsAs};
 ghost use Rattle.bidi_remote.specs.Machine.Sent.{Text, to_hearers};
-ghost use Rattle.bidi_remote.specs.Tables.EventTexts.{written, written_of, written_in, AreMessages};
-ghost use Rattle.bidi_remote.specs.Tables.ConnectionRows.{rows_in, to_each};
-ghost use Rattle.bidi_remote.specs.Tables.SubscriptionRows.{any_covers};
-ghost use Rattle.bidi_remote.specs.Tables.SessionView as sessions;
-ghost use Rattle.bidi_remote.specs.Tables.SessionView.{session_row_of};
-ghost use Rattle.bidi_remote.specs.Tables.Messages.{AllReadBack};
-ghost use Rattle.bidi_remote.specs.Tables.Routes.{to_one, to_all};
-ghost use Rattle.bidi_remote.specs.Tables.Stands.{AgreeWith};
-ghost use Rattle.bidi_remote.specs.Tables.Turns.{IsWellTold, deed_of, asker_in, reply_in, items_in, sent_of_item, sent_for, to_subscriber_in, closed_in};
-ghost use Rattle.bidi_remote.specs.Tables.View.{sent_of, sent_if};
+ghost use Rattle.bidi_remote.specs.State.EventTexts.{written, written_of, written_in, AreMessages};
+ghost use Rattle.bidi_remote.specs.State.ConnectionRows.{rows_in, to_each};
+ghost use Rattle.bidi_remote.specs.State.SubscriptionRows.{any_covers};
+ghost use Rattle.bidi_remote.specs.State.SessionView as sessions;
+ghost use Rattle.bidi_remote.specs.State.SessionView.{session_row_of};
+ghost use Rattle.bidi_remote.specs.State.Messages.{AllReadBack};
+ghost use Rattle.bidi_remote.specs.State.Routes.{to_one, to_all};
+ghost use Rattle.bidi_remote.specs.State.Stands.{AgreeWith};
+ghost use Rattle.bidi_remote.specs.State.Turns.{IsWellTold, deed_of, asker_in, reply_in, items_in, sent_of_item, sent_for, to_subscriber_in, closed_in};
+ghost use Rattle.bidi_remote.specs.State.View.{sent_of, sent_if};
+ghost use Rattle.bidi_messages.specs.Payloads.{EventIsWell, ResultIsWell};
 
 use crate::connections::Connections;
 use crate::event_texts::EventText;
 use crate::sessions::Session;
+use crate::state::State;
 use crate::step::Sent;
-use crate::tables::Tables;
 use crate::turn::{Change, Reply, Telling};
 use bidi_browser::Occurrence;
 use bidi_messages::{
-    EventData, EventName, Message, Method, ResultData, Subject, event_text, response_text,
+    EventData, EventName, Message, Method, Payload, ResultData, event_text, response_text,
 };
 use bidi_shape::Shape;
 use std::alloc::{AllocError, Global};
@@ -42,12 +43,12 @@ use std::rc::Rc;
 /// order of opening.
 pub(crate) fn tell(
     alloc: Global,
-    tables: &Tables,
+    state: &State,
     change: &Change,
     telling: Telling,
 ) -> Result<Vec<Sent>, AllocError>
     requires { IsWellTold telling }
-    ensures told { (past : List Deed) (act : Act) → AgreeWith tables.now past → IfOk result (λ sent. map sent_of sent.items
+    ensures told { (past : List Deed) (act : Act) → AgreeWith state.now past → IfOk result (λ sent. map sent_of sent.items
         ≡ sent_for past (asker_in telling.reply) (deed_of change.now act) (written_in telling.announced.items) (items_in telling)) }
     ensures reads_back { AreMessages (written_in telling.announced.items) → IfOk result (λ sent. AllReadBack (map sent_of sent.items)) }
     ensures reads { IfSome telling.reply (λ r. OnOk result (ReadsAs r.to.id.value (result_tree r.outcome))) }
@@ -59,24 +60,24 @@ pub(crate) fn tell(
         after,
     } = telling;
     let reply = reply_sent(alloc, reply)?;
-    all_sent(alloc, tables, change, &announced, &before, reply, &after)
+    all_sent(alloc, state, change, &announced, &before, reply, &after)
 }
 
 /// A log entry's text for each connection of the sessions that are subscribed to it.
 pub(crate) fn tell_entry(
     alloc: Global,
-    tables: &Tables,
+    state: &State,
     entry: &EventText,
 ) -> Result<Vec<Sent>, AllocError>
-    ensures told { (past : List Deed) (o : heard.Occurrence) → AgreeWith tables.now past
+    ensures told { (past : List Deed) (o : heard.Occurrence) → AgreeWith state.now past
         → o.event ≡ EntryAdded → written_of entry.now ≡ written o → IfOk result (λ sent. map sent_of sent.items ≡ to_hearers past o) }
     ensures reads_back { IsMessageText ⟦<Message as Shape>⟧.shape (string_bytes entry.now.text) → IfOk result (λ sent. AllReadBack (map sent_of sent.items)) }
 {
     let mut sent = Vec::new(alloc);
     push_heard(
         alloc,
-        tables.sessions.all(),
-        &tables.connections,
+        state.sessions.all(),
+        &state.connections,
         EventName::EntryAdded,
         entry.top,
         &entry.text,
@@ -88,34 +89,34 @@ pub(crate) fn tell_entry(
 // What is sent, one after another.
 fn all_sent(
     alloc: Global,
-    tables: &Tables,
+    state: &State,
     change: &Change,
     announced: &[Rc<EventText>],
     before: &[Occurrence],
     reply: Option<Sent>,
     after: &[Occurrence],
 ) -> Result<Vec<Sent>, AllocError>
-    requires before { AllByRecursion (λ o. ⟦<EventData as Subject<EventName>>⟧.subject.well o.event) before.now }
-    requires after { AllByRecursion (λ o. ⟦<EventData as Subject<EventName>>⟧.subject.well o.event) after.now }
+    requires before { AllByRecursion (λ o. EventIsWell o.event) before.now }
+    requires after { AllByRecursion (λ o. EventIsWell o.event) after.now }
     ensures sent { (act : Act) → IfOk result
-        (λ sent. map sent_of sent.items ≡ to_subscriber_in (rows_in tables.now.connections) (deed_of change.now act) (written_in announced.now)
-        ++ ((flat_map (to_all (sessions.rows_in tables.now.sessions) (rows_in tables.now.connections)) (seen before.now)
-        ++ (sent_if reply ++ flat_map (to_all (sessions.rows_in tables.now.sessions) (rows_in tables.now.connections)) (seen after.now)))
-        ++ closed_in (rows_in tables.now.connections) (deed_of change.now act))) }
+        (λ sent. map sent_of sent.items ≡ to_subscriber_in (rows_in state.now.connections) (deed_of change.now act) (written_in announced.now)
+        ++ ((flat_map (to_all (sessions.rows_in state.now.sessions) (rows_in state.now.connections)) (seen before.now)
+        ++ (sent_if reply ++ flat_map (to_all (sessions.rows_in state.now.sessions) (rows_in state.now.connections)) (seen after.now)))
+        ++ closed_in (rows_in state.now.connections) (deed_of change.now act))) }
     ensures reads_back { AreMessages (written_in announced.now) → AllReadBack (sent_if reply) → IfOk result (λ sent. AllReadBack (map sent_of sent.items)) }
 {
     let mut sent = Vec::new(alloc);
-    push_announced(alloc, &tables.connections, change, announced, &mut sent)?;
-    push_events(alloc, tables, before, &mut sent)?;
+    push_announced(alloc, &state.connections, change, announced, &mut sent)?;
+    push_events(alloc, state, before, &mut sent)?;
     push_if(reply, &mut sent)?;
-    push_events(alloc, tables, after, &mut sent)?;
-    push_closes(&tables.connections, change, &mut sent)?;
+    push_events(alloc, state, after, &mut sent)?;
+    push_closes(&state.connections, change, &mut sent)?;
     Ok(sent)
 }
 
 // The reply with its text, if there is one.
 fn reply_sent(alloc: Global, reply: Option<Reply>) -> Result<Option<Sent>, AllocError>
-    requires { IfSome reply (λ r. ⟦<ResultData as Subject<Method>>⟧.subject.well r.outcome × (levels (result_tree r.outcome) ≤ 61)) }
+    requires { IfSome reply (λ r. ResultIsWell r.outcome × (levels (result_tree r.outcome) ≤ 61)) }
     ensures reply { (past : List Deed) → IfOk result (λ sent. sent_if sent ≡ flat_map (sent_of_item past (asker_in reply)) (reply_in reply)) }
     ensures reads_back { IfOk result (λ sent. AllReadBack (sent_if sent)) }
     ensures reads { IfSome reply (λ r. OnOk result (ReadsAs r.to.id.value (result_tree r.outcome))) }
@@ -178,20 +179,20 @@ fn push_to_session(
 // Adds events for the sessions that are subscribed to them.
 fn push_events(
     alloc: Global,
-    tables: &Tables,
+    state: &State,
     occurrences: &[Occurrence],
     sent: &mut Vec<Sent>,
 ) -> Result<(), AllocError>
-    requires { AllByRecursion (λ o. ⟦<EventData as Subject<EventName>>⟧.subject.well o.event) occurrences.now }
+    requires { AllByRecursion (λ o. EventIsWell o.event) occurrences.now }
     ensures sent { IfOk result (λ _. map sent_of sent.new.items
-        ≡ map sent_of sent.old.items ++ flat_map (to_all (sessions.rows_in tables.now.sessions) (rows_in tables.now.connections)) (seen occurrences.now)) }
+        ≡ map sent_of sent.old.items ++ flat_map (to_all (sessions.rows_in state.now.sessions) (rows_in state.now.connections)) (seen occurrences.now)) }
     ensures reads_back { AllReadBack (map sent_of sent.old.items) → IfOk result (λ _. AllReadBack (map sent_of sent.new.items)) }
 {
     for occurrence in occurrences {
         push_event(
             alloc,
-            tables.sessions.all(),
-            &tables.connections,
+            state.sessions.all(),
+            &state.connections,
             occurrence,
             sent,
         )?;
@@ -207,10 +208,10 @@ fn push_event(
     occurrence: &Occurrence,
     sent: &mut Vec<Sent>,
 ) -> Result<(), AllocError>
-    requires { ⟦<EventData as Subject<EventName>>⟧.subject.well occurrence.now.event }
+    requires { EventIsWell occurrence.now.event }
     ensures sent { IfOk result (λ _. map sent_of sent.new.items
         ≡ map sent_of sent.old.items ++ to_all (map session_row_of sessions.now) (rows_in connections.now)
-        (occurrence_of ⟦<EventData as Subject<EventName>>⟧.subject occurrence.now)) }
+        (occurrence_of occurrence.now)) }
     ensures reads_back { AllReadBack (map sent_of sent.old.items) → IfOk result (λ _. AllReadBack (map sent_of sent.new.items)) }
 {
     let event = occurrence.event.kind();

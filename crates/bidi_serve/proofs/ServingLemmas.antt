@@ -5,7 +5,7 @@ use Rattle.std.specs.Prelude.{◌==◌, ◌&&◌, ◌||◌, if◌then◌else◌,
 use Rattle.bidi_tree.specs.declared.number.JsUint.{JsUint}
 use Rattle.bidi_remote.specs.declared.step.Sent.{Sent}
 use Rattle.bidi_remote.specs.declared.step.Sent.TheVariants as in_hand
-use Rattle.bidi_remote.specs.Tables.View.{sent_of}
+use Rattle.bidi_remote.specs.State.View.{sent_of}
 use Rattle.bidi_remote.specs.Machine.Sent.{Text, text_on}
 use Rattle.bidi_socket.specs.declared.link.LinkFault.{LinkFault}
 use Rattle.bidi_socket.specs.SocketSending.{SendsText}

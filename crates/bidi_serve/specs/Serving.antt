@@ -5,7 +5,7 @@ use Rattle.bidi_remote.specs.Machine.History.{Input, Open, Drop, NotText, IsHear
 use Rattle.bidi_remote.specs.Machine.Connections.{is_open}
 use Rattle.bidi_remote.specs.Machine.Outcome.{deeds}
 use Rattle.bidi_remote.specs.Machine.Sent.{out, texts_on}
-use Rattle.bidi_remote.specs.Tables.Stands.{StandsFor}
+use Rattle.bidi_remote.specs.State.Stands.{StandsFor}
 use Rattle.bidi_remote.specs.declared.remote_end.RemoteEnd.{RemoteEnd}
 use Rattle.bidi_remote.specs.declared.remote_end.RemoteFault.{RemoteFault}
 use Rattle.bidi_remote.specs.declared.remote_end.RemoteFault.TheVariants as remote

@@ -2,8 +2,8 @@
 ghost use Rattle.std.specs.Prelude.{◌≡◌, not, ◌&&◌, Bool, List, [], ◌∷◌, map, IfOk, IfErr, OnOk};
 ghost use Rattle.bidi_remote.specs.Machine.History.{Input, Open, IsHeardAs};
 ghost use Rattle.bidi_remote.specs.Machine.Sent.{Text, out, text_on, texts_on};
-ghost use Rattle.bidi_remote.specs.Tables.Stands.{StandsFor};
-ghost use Rattle.bidi_remote.specs.Tables.View.{step_of, sent_of};
+ghost use Rattle.bidi_remote.specs.State.Stands.{StandsFor};
+ghost use Rattle.bidi_remote.specs.State.View.{step_of, sent_of};
 ghost use Rattle.bidi_serve.specs.Serving.{AreSent, Began, Exchange, Exchanged, ExchangedSome, Exchanges, IsRefused, Served, dropped, is_denied, is_served};
 
 use bidi_remote::{RemoteEnd, RemoteFault, Sent, Step};

@@ -8,8 +8,8 @@ use Rattle.bidi_tree.specs.Node as tree
 use Rattle.bidi_tree.specs.Node.{Node, Members, put, levels, items_levels, IsSound, ItemsAreSound}
 use Rattle.bidi_tree.proofs.SoundLemmas.{AreAscending-put, MembersAreSound-put}
 use Rattle.bidi_tree.specs.View.{items_of}
-use Rattle.bidi_tree.specs.Draft.{draft_node, draft_items}
-use Rattle.bidi_tree.specs.declared.draft.Draft.{Draft}
+use Rattle.bidi_tree.specs.Outline.{outline_node, outline_items}
+use Rattle.bidi_tree.specs.declared.outline.Outline.{Outline}
 use Rattle.bidi_shape.specs.Term.{text}
 use Rattle.bidi_shape.specs.ChoiceLaws.{NullableWell}
 use Rattle.bidi_shape.proofs.FitsTest.{misfits_by}
@@ -39,18 +39,18 @@ pub sound-put : {U E : Type 0} (r : Result U E) (k : List ℕ) (n : Node) (old n
 sound-put (Ok u) k n old new s is h = subst (λ ms. IsSound (tree.map ms)) (sym is) (AreAscending-put k n old h.0, MembersAreSound-put k n old s h.1)
 sound-put (Err e) k n old new s is h = tt
 
--- ---- drafts of the items of a list, made one after the other
+-- ---- outlines of the items of a list, made one after the other
 
-sound-next : (ds : List Draft) (d : Draft) → ItemsAreSound (draft_items ds) → IsSound (draft_node d) → ItemsAreSound (draft_items (ds ++ d ∷ []))
+sound-next : (ds : List Outline) (d : Outline) → ItemsAreSound (outline_items ds) → IsSound (outline_node d) → ItemsAreSound (outline_items (ds ++ d ∷ []))
 sound-next [] d all s = (s, tt)
 sound-next (e ∷ ds) d all s = (all.0, sound-next ds d all.1 s)
 
-pub next-drafted : {X : Type 0} (tree_of : X → Node) (xs : List X) (i : ℕ) (x : X) (ds new : List Draft) (d : Draft) → new ≡ ds ++ d ∷ [] → i < length xs
-    → map draft_node ds ≡ map tree_of (take i xs) → ItemsAreSound (draft_items ds) → draft_node d ≡ tree_of x → x ≡ get_or xs i x → IsSound (draft_node d)
-    → (map draft_node new ≡ map tree_of (take (i + 1) xs)) × ItemsAreSound (draft_items new)
-next-drafted tree_of xs i x ds new d is few same all one at s =
+pub next-outlined : {X : Type 0} (tree_of : X → Node) (xs : List X) (i : ℕ) (x : X) (ds new : List Outline) (d : Outline) → new ≡ ds ++ d ∷ [] → i < length xs
+    → map outline_node ds ≡ map tree_of (take i xs) → ItemsAreSound (outline_items ds) → outline_node d ≡ tree_of x → x ≡ get_or xs i x → IsSound (outline_node d)
+    → (map outline_node new ≡ map tree_of (take (i + 1) xs)) × ItemsAreSound (outline_items new)
+next-outlined tree_of xs i x ds new d is few same all one at s =
     let more : take (i + 1) xs ≡ take i xs ++ x ∷ [] = take_more xs i x few ∙ ap (λ y. take i xs ++ y ∷ []) (sym at) in (
-      ap (map draft_node) is ∙ map-append draft_node ds (d ∷ []) ∙ ap (λ ns. ns ++ draft_node d ∷ []) same ∙ ap (λ n. map tree_of (take i xs) ++ n ∷ []) one
+      ap (map outline_node) is ∙ map-append outline_node ds (d ∷ []) ∙ ap (λ ns. ns ++ outline_node d ∷ []) same ∙ ap (λ n. map tree_of (take i xs) ++ n ∷ []) one
           ∙ sym (map-append tree_of (take i xs) (x ∷ [])) ∙ ap (map tree_of) (sym more),
-      subst (λ es. ItemsAreSound (draft_items es)) (sym is) (sound-next ds d all s),
+      subst (λ es. ItemsAreSound (outline_items es)) (sym is) (sound-next ds d all s),
     )

@@ -8,7 +8,7 @@ ghost use Rattle.bidi_shape.specs.Table.{unfolded};
 use crate::fault::ShapeFault;
 use crate::parsed::Parsed;
 use crate::shape::Shape;
-use bidi_tree::Draft;
+use bidi_tree::Outline;
 use std::alloc::{AllocError, Global};
 
 /// A value of the first type, where the tree fits its rule, or else of the second: `A / B`.
@@ -36,10 +36,10 @@ impl<A: Shape, B: Shape> Shape for Either<A, B> {
         }
     }
 
-    fn draft<'a>(&'a self, alloc: Global) -> Result<Draft<'a>, AllocError> {
+    fn outline<'a>(&'a self, alloc: Global) -> Result<Outline<'a>, AllocError> {
         match self {
-            Either::First(value) => value.draft(alloc),
-            Either::Second(value) => value.draft(alloc),
+            Either::First(value) => value.outline(alloc),
+            Either::Second(value) => value.outline(alloc),
         }
     }
 }
@@ -76,10 +76,10 @@ impl<X: Shape> Shape for Option<X> {
         }
     }
 
-    fn draft<'a>(&'a self, alloc: Global) -> Result<Draft<'a>, AllocError> {
+    fn outline<'a>(&'a self, alloc: Global) -> Result<Outline<'a>, AllocError> {
         match self {
-            Some(value) => value.draft(alloc),
-            None => Ok(Draft::Null),
+            Some(value) => value.outline(alloc),
+            None => Ok(Outline::Null),
         }
     }
 }

@@ -1,11 +1,12 @@
-//! A value once more.
+//! Copies of values.
 ghost use Rattle.std.specs.Prelude.{◌≡◌, IfOk};
 
 use crate::fault::ShapeFault;
 use crate::shape::Shape;
 use std::alloc::{AllocError, Global};
 
-/// A copy of the value, which is equal and shares no memory with it. Costs the making of its draft and of its tree, and the reading of that.
+/// A copy of the value, which is equal and shares no memory with it. Makes the value's tree, by way of an outline, and
+/// reads it.
 ///
 /// # Errors
 /// No memory: an allocation failed.

@@ -53,9 +53,16 @@ impl Ext {
         if has_listed(&members, names) {
             return Err(Clash);
         }
+        Ok(Ext::of(members))
+    }
+
+    /// The members, whatever their names. Takes no memory.
+    pub fn of(members: Members) -> Ext
+        ensures { result.members ≡ members }
+    {
         // The contract of `len` has the order of the names, which an `Ext` keeps.
         let _ = members.len();
-        Ok(Ext { members })
+        Ext { members }
     }
 
     /// Whether each member fits `any`: no `Odd` stands in it, and it has at most 60 levels. Takes no memory.
@@ -65,7 +72,7 @@ impl Ext {
         bidi_tree::are_whole(&self.members, MAX_LEVELS)
     }
 
-    /// The members once more, in a map of their own.
+    /// A copy of the members.
     ///
     /// # Errors
     /// No memory: an allocation failed.

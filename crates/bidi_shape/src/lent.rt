@@ -2,14 +2,14 @@
 ghost use Rattle.std.specs.Prelude.{◌≡◌, ℕ, List, IfOk};
 ghost use Rattle.bidi_tree.specs.Node as kind;
 ghost use Rattle.bidi_tree.specs.Node.{IsSound, Members as Listed};
-ghost use Rattle.bidi_tree.specs.Draft.{draft_node, draft_members};
+ghost use Rattle.bidi_tree.specs.Outline.{outline_node, outline_members};
 ghost use Rattle.bidi_shape.specs.Parts.{texts_in};
 
 use crate::ext::Ext;
 use crate::fields::next_text;
 use crate::members::{add_literal, add_member};
 use crate::shape::Shape;
-use bidi_tree::{Draft, DraftMembers, draft_members_of};
+use bidi_tree::{Outline, OutlineMembers, outline_members_of};
 use std::alloc::{AllocError, Global};
 
 /// The members of a map, one after the other, each by a reference.
@@ -17,19 +17,19 @@ pub trait Lent<'a>: Drop {
     // The members of that map, by their names and the texts of its literal members.
     ghost listed: { List (List ℕ) → List (List ℕ) → Self → Listed };
 
-    /// Makes the drafts of the members, with room for so many beside those of a `Rest`.
+    /// Makes the outlines of the members, with room for so many beside those of a `Rest`.
     ///
     /// # Errors
     /// No memory: an allocation failed.
-    fn draft(
+    fn outline(
         &self,
         alloc: Global,
         names: &'a [&'a str],
         texts: &'a [&'a str],
         room: usize,
-    ) -> Result<DraftMembers<'a>, AllocError>
-        ensures ok { IfOk result (λ ms. draft_members ms.items ≡ listed (texts_in names.now) (texts_in texts.now) self.now) }
-        ensures sound { IfOk result (λ ms. IsSound (kind.map (draft_members ms.items))) };
+    ) -> Result<OutlineMembers<'a>, AllocError>
+        ensures ok { IfOk result (λ ms. outline_members ms.items ≡ listed (texts_in names.now) (texts_in texts.now) self.now) }
+        ensures sound { IfOk result (λ ms. IsSound (kind.map (outline_members ms.items))) };
 }
 
 /// A member that is there.
@@ -42,15 +42,15 @@ impl<'a, X: Shape, L: Lent<'a>> Lent<'a> for One<'a, X, L> {
 
     ghost listed = { λ ks ws l. put (head ks) (X.shape.tree_of l.0.now) (L.listed (tail ks) ws l.1) };
 
-    fn draft(
+    fn outline(
         &self,
         alloc: Global,
         names: &'a [&'a str],
         texts: &'a [&'a str],
         room: usize,
-    ) -> Result<DraftMembers<'a>, AllocError> {
+    ) -> Result<OutlineMembers<'a>, AllocError> {
         let (name, names) = next_text(names);
-        let mut members = self.1.draft(alloc, names, texts, room)?;
+        let mut members = self.1.outline(alloc, names, texts, room)?;
         add_member(alloc, &mut members, name, self.0)?;
         Ok(members)
     }
@@ -67,15 +67,15 @@ impl<'a, X: Shape, L: Lent<'a>> Lent<'a> for Maybe<'a, X, L> {
 
     ghost listed = { λ ks ws l. put_part (head ks) (option_map X.shape.tree_of l.0.now) (L.listed (tail ks) ws l.1) };
 
-    fn draft(
+    fn outline(
         &self,
         alloc: Global,
         names: &'a [&'a str],
         texts: &'a [&'a str],
         room: usize,
-    ) -> Result<DraftMembers<'a>, AllocError> {
+    ) -> Result<OutlineMembers<'a>, AllocError> {
         let (name, names) = next_text(names);
-        let mut members = self.1.draft(alloc, names, texts, room)?;
+        let mut members = self.1.outline(alloc, names, texts, room)?;
         if let Some(value) = self.0 {
             add_member(alloc, &mut members, name, value)?;
         }
@@ -93,16 +93,16 @@ impl<'a, L: Lent<'a>> Lent<'a> for Exact<L> {
 
     ghost listed = { λ ks ws l. put (head ks) (kind.text (head ws)) (L.listed (tail ks) (tail ws) l.0) };
 
-    fn draft(
+    fn outline(
         &self,
         alloc: Global,
         names: &'a [&'a str],
         texts: &'a [&'a str],
         room: usize,
-    ) -> Result<DraftMembers<'a>, AllocError> {
+    ) -> Result<OutlineMembers<'a>, AllocError> {
         let (name, names) = next_text(names);
         let (text, texts) = next_text(texts);
-        let mut members = self.0.draft(alloc, names, texts, room)?;
+        let mut members = self.0.outline(alloc, names, texts, room)?;
         add_literal(&mut members, name, text)?;
         Ok(members)
     }
@@ -117,14 +117,14 @@ impl<'a> Lent<'a> for Rest<'a> {
 
     ghost listed = { λ ks ws l. others_of l.0.now };
 
-    fn draft(
+    fn outline(
         &self,
         alloc: Global,
         _names: &'a [&'a str],
         _texts: &'a [&'a str],
         room: usize,
-    ) -> Result<DraftMembers<'a>, AllocError> {
-        draft_members_of(alloc, &self.0.members, room)
+    ) -> Result<OutlineMembers<'a>, AllocError> {
+        outline_members_of(alloc, &self.0.members, room)
     }
 }
 
@@ -137,29 +137,29 @@ impl<'a> Lent<'a> for End {
 
     ghost listed = { λ ks ws l. no_members };
 
-    fn draft(
+    fn outline(
         &self,
         alloc: Global,
         _names: &'a [&'a str],
         _texts: &'a [&'a str],
         room: usize,
-    ) -> Result<DraftMembers<'a>, AllocError> {
+    ) -> Result<OutlineMembers<'a>, AllocError> {
         Vec::with_capacity(alloc, room)
     }
 }
 
-/// Makes the draft of the map of these members, by their names and the texts of its literal members, in order.
+/// Makes the outline of the map of these members, by their names and the texts of its literal members, in order.
 ///
 /// # Errors
 /// No memory: an allocation failed.
-pub fn draft_fields<'a, L: Lent<'a>>(
+pub fn outline_fields<'a, L: Lent<'a>>(
     alloc: Global,
     members: &L,
     names: &'a [&'a str],
     texts: &'a [&'a str],
-) -> Result<Draft<'a>, AllocError>
-    ensures tree { IfOk result (λ d. draft_node d ≡ kind.map (L.listed (texts_in names.now) (texts_in texts.now) members.now)) }
-    ensures sound { IfOk result (λ d. IsSound (draft_node d)) }
+) -> Result<Outline<'a>, AllocError>
+    ensures tree { IfOk result (λ d. outline_node d ≡ kind.map (L.listed (texts_in names.now) (texts_in texts.now) members.now)) }
+    ensures sound { IfOk result (λ d. IsSound (outline_node d)) }
 {
-    Ok(Draft::Map(members.draft(alloc, names, texts, names.len())?))
+    Ok(Outline::Map(members.outline(alloc, names, texts, names.len())?))
 }

@@ -1,10 +1,10 @@
-//! The grammar of the messages: which trees fit which rule, and values that read and write such trees.
+//! The grammar: which trees fit which rule, and types that read and write such trees.
 //!
 //! `specs/Profile.antt` is the table of rules, `specs/Fits.antt` says which trees fit a term. A [`Shape`] is a
 //! type whose values are the trees that fit a rule: it reads exactly these, of a [`Tree`](bidi_tree::Tree)
-//! or of a JSON value that borrows its text ([`Parsed`]), and makes a draft of each, of which its text is
+//! or of a JSON value that borrows its text ([`Parsed`]), and makes an outline of each, of which its text is
 //! written. A map type is a list of its members, as `Required<JsUint, Literal<Required<EmptyParams, Ext>>>`,
-//! from which [`read_fields`] reads the whole map, and [`draft_fields`] drafts it from references to them.
+//! from which [`read_fields`] reads the whole map, and [`outline_fields`] outlines it from references to them.
 #![tactic(auto)]
 
 mod choice;
@@ -28,12 +28,12 @@ pub use copying::copied;
 pub use ext::{Clash, Ext};
 pub use fault::ShapeFault;
 pub use fields::{Closed, Fields, Literal, Optional, Required};
-pub use lent::{End, Exact, Lent, Maybe, One, Rest, draft_fields};
+pub use lent::{End, Exact, Lent, Maybe, One, Rest, outline_fields};
 pub use lists::OneOrMore;
 pub use making::{MakeFault, further, not_shadowed};
-pub use members::{add_literal, add_member, add_optional};
+pub use members::{MAX_BYTES, MAX_LEVELS, add_literal, add_member, add_optional};
 pub use parsed::Parsed;
 pub use shape::Shape;
 pub use table::read_fields;
-pub use tagged::{Bare, Tag, Typed, draft_of_type, draft_of_typed};
+pub use tagged::{Bare, Tag, Typed, outline_of_type, outline_of_typed};
 pub use words::{Named, read_word};

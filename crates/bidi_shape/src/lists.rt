@@ -3,7 +3,7 @@ ghost use Rattle.std.proofs.Common.{zero-le};
 ghost use Rattle.std.specs.Prelude.{◌≡◌, ◌≤◌, IfOk, length, map, suc, max};
 ghost use Rattle.std.specs.List.{AllByRecursion};
 ghost use Rattle.bidi_tree.specs.Node.{IsSound};
-ghost use Rattle.bidi_tree.specs.Draft.{draft_node};
+ghost use Rattle.bidi_tree.specs.Outline.{outline_node};
 ghost use Rattle.bidi_tree.specs.View.{items_of};
 ghost use Rattle.bidi_shape.specs.Term.{list_of, pair_of};
 ghost use Rattle.bidi_shape.specs.Fits.{AllFit};
@@ -14,7 +14,7 @@ ghost use Rattle.bidi_shape.specs.Outcome.{IfNoFit};
 use crate::fault::ShapeFault;
 use crate::parsed::Parsed;
 use crate::shape::Shape;
-use bidi_tree::Draft;
+use bidi_tree::Outline;
 use std::alloc::{AllocError, Global};
 
 /// The values of the items.
@@ -29,16 +29,16 @@ fn read_items<X: Shape, S: Parsed>(alloc: Global, items: &[S]) -> Result<Vec<X>,
     Ok(values)
 }
 
-/// The draft of the list of the items.
-fn draft_list<'a, X: Shape>(alloc: Global, items: &'a [X]) -> Result<Draft<'a>, AllocError>
-    ensures tree { IfOk result (λ d. draft_node d ≡ list_tree X.shape.tree_of items.now) }
-    ensures sound { IfOk result (λ d. IsSound (draft_node d)) }
+/// The outline of the list of the items.
+fn outline_list<'a, X: Shape>(alloc: Global, items: &'a [X]) -> Result<Outline<'a>, AllocError>
+    ensures tree { IfOk result (λ d. outline_node d ≡ list_tree X.shape.tree_of items.now) }
+    ensures sound { IfOk result (λ d. IsSound (outline_node d)) }
 {
-    let mut drafts = Vec::with_capacity(alloc, items.len())?;
+    let mut outlines = Vec::with_capacity(alloc, items.len())?;
     for item in items {
-        drafts.push(item.draft(alloc)?)?;
+        outlines.push(item.outline(alloc)?)?;
     }
-    Ok(Draft::List(drafts))
+    Ok(Outline::List(outlines))
 }
 
 /// A list of any length: `[*X]`.
@@ -61,8 +61,8 @@ impl<X: Shape> Shape for Vec<X> {
         }
     }
 
-    fn draft<'a>(&'a self, alloc: Global) -> Result<Draft<'a>, AllocError> {
-        draft_list(alloc, self)
+    fn outline<'a>(&'a self, alloc: Global) -> Result<Outline<'a>, AllocError> {
+        outline_list(alloc, self)
     }
 }
 
@@ -95,8 +95,8 @@ impl<X: Shape> Shape for OneOrMore<X> {
         }
     }
 
-    fn draft<'a>(&'a self, alloc: Global) -> Result<Draft<'a>, AllocError> {
-        draft_list(alloc, &self.items)
+    fn outline<'a>(&'a self, alloc: Global) -> Result<Outline<'a>, AllocError> {
+        outline_list(alloc, &self.items)
     }
 }
 
@@ -124,10 +124,10 @@ impl<X: Shape, Y: Shape> Shape for (X, Y) {
         }
     }
 
-    fn draft<'a>(&'a self, alloc: Global) -> Result<Draft<'a>, AllocError> {
-        let mut drafts = Vec::with_capacity(alloc, 2)?;
-        drafts.push(self.0.draft(alloc)?)?;
-        drafts.push(self.1.draft(alloc)?)?;
-        Ok(Draft::List(drafts))
+    fn outline<'a>(&'a self, alloc: Global) -> Result<Outline<'a>, AllocError> {
+        let mut outlines = Vec::with_capacity(alloc, 2)?;
+        outlines.push(self.0.outline(alloc)?)?;
+        outlines.push(self.1.outline(alloc)?)?;
+        Ok(Outline::List(outlines))
     }
 }

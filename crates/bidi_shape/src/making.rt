@@ -74,10 +74,10 @@ pub fn further(members: Members, names: &[&str]) -> Result<Ext, MakeFault>
     Ok(ext)
 }
 
-/// That an earlier alternative does not take the value: its reader is tried on the value's tree.
+/// Checks that an earlier alternative of the choice does not take the value, by trying its reader on the value's tree.
 ///
 /// # Errors
-/// - `Shadowed`: it takes the value.
+/// - `Shadowed`: the earlier alternative takes the value.
 /// - `NoMemory`: an allocation failed.
 pub fn not_shadowed<Earlier: Shape, V: Shape>(alloc: Global, value: &V) -> Result<(), MakeFault>
     ensures { Makes result ⊥ (Fits (V.shape.tree_of value.now) Earlier.shape.rule) ⊥ (λ _. Unit {0}) }

@@ -2,7 +2,7 @@
 ghost use Rattle.std.specs.Prelude.{◌≡◌, IfOk, OnOk, OnErr, IsTrue, ◌↔◌, option_map, Some, IfSome};
 ghost use Rattle.bidi_tree.specs.Node.{put, get_member, IsSound, IsWhole, MembersAreWhole, AreAscending, no_members};
 ghost use Rattle.bidi_tree.specs.Kind.{members_in};
-ghost use Rattle.bidi_tree.specs.Draft.{draft_members};
+ghost use Rattle.bidi_tree.specs.Outline.{outline_members};
 ghost use Rattle.bidi_tree.specs.View.{node, members_node};
 ghost use Rattle.bidi_shape.specs.Term.{required, optional};
 ghost use Rattle.bidi_shape.specs.Fits.{without};
@@ -18,12 +18,15 @@ use crate::ext::Ext;
 use crate::fault::ShapeFault;
 use crate::parsed::Parsed;
 use crate::shape::Shape;
-use bidi_tree::{Draft, DraftMembers, Members, Tree, put_draft, put_member};
+use bidi_tree::{Members, Outline, OutlineMembers, Tree, put_member, put_outline};
 use std::alloc::{AllocError, Global};
 use std::default::Emptied;
 
-/// The most levels of a member that a rule does not name.
-pub(crate) const MAX_LEVELS: usize = 60;
+/// The most levels of a tree that fits `any`, as a member does that no rule names; of a script value and an Info, too.
+pub const MAX_LEVELS: usize = 60;
+
+/// The most bytes of a command's text, of a table row's, and of an argument that is resolved.
+pub const MAX_BYTES: usize = 1_048_576;
 
 /// The value of a required member.
 pub(crate) fn required<X: Shape, S: Parsed>(
@@ -55,37 +58,37 @@ pub(crate) fn optional<X: Shape, S: Parsed>(
     }
 }
 
-/// Puts a value's draft at a name, in place of a member of that name.
+/// Puts a value's outline at a name, in place of a member of that name.
 ///
 /// # Errors
 /// No memory: an allocation failed, and the members are as they were.
 pub fn add_member<'a, X: Shape>(
     alloc: Global,
-    members: &mut DraftMembers<'a>,
+    members: &mut OutlineMembers<'a>,
     name: &'a str,
     value: &'a X,
 ) -> Result<(), AllocError>
-    ensures ok { OnOk result (draft_members members.new.items ≡ put name.now (X.shape.tree_of value.now) (draft_members members.old.items)) }
-    ensures sound { IsSound (kind.map (draft_members members.old.items)) → OnOk result (IsSound (kind.map (draft_members members.new.items))) }
-    ensures err { OnErr result (draft_members members.new.items ≡ draft_members members.old.items) }
+    ensures ok { OnOk result (outline_members members.new.items ≡ put name.now (X.shape.tree_of value.now) (outline_members members.old.items)) }
+    ensures sound { IsSound (kind.map (outline_members members.old.items)) → OnOk result (IsSound (kind.map (outline_members members.new.items))) }
+    ensures err { OnErr result (outline_members members.new.items ≡ outline_members members.old.items) }
 {
-    let draft = value.draft(alloc)?;
-    put_draft(members, name, draft)
+    let outline = value.outline(alloc)?;
+    put_outline(members, name, outline)
 }
 
-/// Puts a value's draft at a name, if there is a value.
+/// Puts a value's outline at a name, if there is a value.
 ///
 /// # Errors
 /// No memory: an allocation failed, and the members are as they were.
 pub fn add_optional<'a, X: Shape>(
     alloc: Global,
-    members: &mut DraftMembers<'a>,
+    members: &mut OutlineMembers<'a>,
     name: &'a str,
     value: &'a Option<X>,
 ) -> Result<(), AllocError>
-    ensures ok { OnOk result (draft_members members.new.items ≡ put_part name.now (option_map X.shape.tree_of value.now) (draft_members members.old.items)) }
-    ensures sound { IsSound (kind.map (draft_members members.old.items)) → OnOk result (IsSound (kind.map (draft_members members.new.items))) }
-    ensures err { OnErr result (draft_members members.new.items ≡ draft_members members.old.items) }
+    ensures ok { OnOk result (outline_members members.new.items ≡ put_part name.now (option_map X.shape.tree_of value.now) (outline_members members.old.items)) }
+    ensures sound { IsSound (kind.map (outline_members members.old.items)) → OnOk result (IsSound (kind.map (outline_members members.new.items))) }
+    ensures err { OnErr result (outline_members members.new.items ≡ outline_members members.old.items) }
 {
     match value {
         Some(value) => add_member(alloc, members, name, value),
@@ -98,15 +101,15 @@ pub fn add_optional<'a, X: Shape>(
 /// # Errors
 /// No memory: an allocation failed, and the members are as they were.
 pub fn add_literal<'a>(
-    members: &mut DraftMembers<'a>,
+    members: &mut OutlineMembers<'a>,
     name: &'a str,
     text: &'a str,
 ) -> Result<(), AllocError>
-    ensures ok { OnOk result (draft_members members.new.items ≡ put name.now (kind.text text.now) (draft_members members.old.items)) }
-    ensures sound { IsSound (kind.map (draft_members members.old.items)) → OnOk result (IsSound (kind.map (draft_members members.new.items))) }
-    ensures err { OnErr result (draft_members members.new.items ≡ draft_members members.old.items) }
+    ensures ok { OnOk result (outline_members members.new.items ≡ put name.now (kind.text text.now) (outline_members members.old.items)) }
+    ensures sound { IsSound (kind.map (outline_members members.old.items)) → OnOk result (IsSound (kind.map (outline_members members.new.items))) }
+    ensures err { OnErr result (outline_members members.new.items ≡ outline_members members.old.items) }
 {
-    put_draft(members, name, Draft::Text(text))
+    put_outline(members, name, Outline::Text(text))
 }
 
 pub(crate) fn is_listed(names: &[&str], name: &str) -> bool
@@ -156,9 +159,7 @@ pub(crate) fn others(members: &Members, names: &[&str]) -> Result<Ext, ShapeFaul
         }
         put_member(&mut rest, name.clone()?, member.clone()?)?;
     }
-    // The contract of `len` has the order of the names, which an `Ext` keeps.
-    let _ = rest.len();
-    Ok(Ext { members: rest })
+    Ok(Ext::of(rest))
 }
 
 /// That all members are listed.

@@ -20,9 +20,9 @@ use bidi_tree::{
 use json::Value;
 use std::alloc::{AllocError, Global};
 
-/// What stands for a tree of JSON, and can be asked for its parts.
+/// A tree of JSON, or a JSON value that borrows its text and has a tree. It is asked for its parts.
 pub trait Parsed: Drop {
-    /// The tree that it stands for.
+    /// The tree that it is or has.
     ghost tree: { Self → Node };
 
     /// Whether it is null.
@@ -45,10 +45,10 @@ pub trait Parsed: Drop {
     fn as_items(&self) -> Option<&[Self]>
         ensures { option_map (λ v. items_of (map tree v.now)) result ≡ list_in (tree self.now) };
 
-    /// That it is a map. Takes no memory.
+    /// Checks that it is a map. Takes no memory.
     ///
     /// # Errors
-    /// `NoFit`: it is none.
+    /// `NoFit`: it is no map.
     fn check_map(&self) -> Result<(), ShapeFault>
         ensures ok { OnOk result (kind.map (members_in (tree self.now)) ≡ tree self.now) }
         ensures no_fit { IfNoFit result ((rs : Rows) (o : Openness) → Fits (tree self.now) (map_of rs o) → ⊥) };
@@ -57,7 +57,7 @@ pub trait Parsed: Drop {
     fn member(&self, name: &str) -> Option<&Self>
         ensures { option_map (λ v. tree v.now) result ≡ get_member name.now (members_in (tree self.now)) };
 
-    /// The members that are not listed.
+    /// The members that are not listed in `names`.
     ///
     /// # Errors
     /// - `NoFit`: one of them does not fit `any`: an `Odd` stands in it, or it has more than 60 levels.
@@ -68,10 +68,10 @@ pub trait Parsed: Drop {
         ensures whole { IfOk result (λ e. MembersAreWhole (members_node e.members.entries) 60) }
         ensures no_fit { IfNoFit result (MembersAreWhole (without (texts_in names.now) (members_in (tree self.now))) 60 → ⊥) };
 
-    /// That all members are listed. Takes no memory.
+    /// Checks that all members are listed in `names`. Takes no memory.
     ///
     /// # Errors
-    /// `NoFit`: one is not.
+    /// `NoFit`: a member is not listed.
     fn no_others(&self, names: &[&str]) -> Result<(), ShapeFault>
         ensures sorted { OnOk result (AreAscending (members_in (tree self.now))) }
         ensures rest { OnOk result (without (texts_in names.now) (members_in (tree self.now)) ≡ no_members) }
@@ -249,9 +249,7 @@ fn unlisted(
     if !rest.is_empty() && !are_whole(&rest, MAX_LEVELS) {
         return Err(ShapeFault::NoFit);
     }
-    // The contract of `len` has the order of the names, which an `Ext` keeps.
-    let _ = rest.len();
-    Ok(Ext { members: rest })
+    Ok(Ext::of(rest))
 }
 
 /// That all members are listed.

@@ -2,7 +2,7 @@
 use crate::fault::ShapeFault;
 use crate::parsed::Parsed;
 use crate::shape::Shape;
-use bidi_tree::{Draft, JsInt, JsUint};
+use bidi_tree::{JsInt, JsUint, Outline};
 use std::alloc::{AllocError, Global};
 
 impl Shape for String {
@@ -17,8 +17,8 @@ impl Shape for String {
         }
     }
 
-    fn draft<'a>(&'a self, alloc: Global) -> Result<Draft<'a>, AllocError> {
-        Ok(Draft::Text(self.as_str()))
+    fn outline<'a>(&'a self, alloc: Global) -> Result<Outline<'a>, AllocError> {
+        Ok(Outline::Text(self.as_str()))
     }
 }
 
@@ -31,8 +31,8 @@ impl Shape for bool {
         tree.as_bool().ok_or(ShapeFault::NoFit)
     }
 
-    fn draft<'a>(&'a self, alloc: Global) -> Result<Draft<'a>, AllocError> {
-        Ok(Draft::Bool(*self))
+    fn outline<'a>(&'a self, alloc: Global) -> Result<Outline<'a>, AllocError> {
+        Ok(Outline::Bool(*self))
     }
 }
 
@@ -48,8 +48,8 @@ impl Shape for JsUint {
         }
     }
 
-    fn draft<'a>(&'a self, alloc: Global) -> Result<Draft<'a>, AllocError> {
-        Ok(Draft::Int(JsInt::new(self.value as i64).unwrap()))
+    fn outline<'a>(&'a self, alloc: Global) -> Result<Outline<'a>, AllocError> {
+        Ok(Outline::Int(JsInt::new(self.value as i64).unwrap()))
     }
 }
 
@@ -62,7 +62,7 @@ impl Shape for JsInt {
         tree.as_int().ok_or(ShapeFault::NoFit)
     }
 
-    fn draft<'a>(&'a self, alloc: Global) -> Result<Draft<'a>, AllocError> {
-        Ok(Draft::Int(*self))
+    fn outline<'a>(&'a self, alloc: Global) -> Result<Outline<'a>, AllocError> {
+        Ok(Outline::Int(*self))
     }
 }

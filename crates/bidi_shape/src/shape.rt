@@ -1,7 +1,7 @@
 //! Types whose values are the trees that fit a rule.
 ghost use Rattle.std.specs.Prelude.{◌≡◌, IfOk};
 ghost use Rattle.bidi_tree.specs.Node.{IsSound};
-ghost use Rattle.bidi_tree.specs.Draft.{draft_node};
+ghost use Rattle.bidi_tree.specs.Outline.{outline_node};
 ghost use Rattle.bidi_tree.specs.View.{node};
 ghost use Rattle.bidi_shape.specs.Value.{ShapeOf};
 ghost use Rattle.bidi_shape.specs.Fits.{Fits};
@@ -9,7 +9,7 @@ ghost use Rattle.bidi_shape.specs.Outcome.{IfNoFit};
 
 use crate::fault::ShapeFault;
 use crate::parsed::Parsed;
-use bidi_tree::{Draft, Tree, own_draft};
+use bidi_tree::{Outline, Tree, own_outline};
 use std::alloc::{AllocError, Global};
 
 /// A type whose values are the trees that fit a rule.
@@ -19,7 +19,7 @@ pub trait Shape: Drop {
     // The rule, the tree of a value, when a value is well, and the laws.
     ghost shape: { ShapeOf Self };
 
-    /// Reads the value of its tree, or of what stands for it.
+    /// Reads a value from a tree, or from a JSON value that borrows its text and has that tree.
     ///
     /// # Errors
     /// - `NoFit`: the tree does not fit the rule.
@@ -28,22 +28,22 @@ pub trait Shape: Drop {
         ensures ok { IfOk result (λ v. (shape.tree_of v ≡ S.tree tree.now) × shape.well v) }
         ensures no_fit { IfNoFit result (Fits (S.tree tree.now) shape.rule → ⊥) };
 
-    /// Makes the draft of the value's tree, to be written. No text is copied; each list and map takes a block.
+    /// Makes the outline of the value's tree, to be written. No text is copied; each list and map takes a block.
     ///
     /// # Errors
     /// No memory: an allocation failed.
-    fn draft<'a>(&'a self, alloc: Global) -> Result<Draft<'a>, AllocError>
-        ensures tree { IfOk result (λ d. draft_node d ≡ shape.tree_of self.now) }
-        ensures sound { IfOk result (λ d. IsSound (draft_node d)) };
+    fn outline<'a>(&'a self, alloc: Global) -> Result<Outline<'a>, AllocError>
+        ensures tree { IfOk result (λ d. outline_node d ≡ shape.tree_of self.now) }
+        ensures sound { IfOk result (λ d. IsSound (outline_node d)) };
 
-    /// Makes the tree of the value. Costs a draft, and a copy of each text.
+    /// Makes the tree of the value. Costs an outline, and a copy of each text.
     ///
     /// # Errors
     /// No memory: an allocation failed.
     final fn to_tree(&self, alloc: Global) -> Result<Tree, AllocError>
         ensures { IfOk result (λ t. node t ≡ shape.tree_of self.now) }
     {
-        let draft = self.draft(alloc)?;
-        own_draft(alloc, &draft)
+        let outline = self.outline(alloc)?;
+        own_outline(alloc, &outline)
     }
 }

@@ -1,4 +1,4 @@
-//! A map, read whole.
+//! Reading a whole map by the list of its members.
 ghost use Rattle.std.specs.Prelude.{◌≡◌, IfOk};
 ghost use Rattle.bidi_shape.specs.Term.{Term};
 ghost use Rattle.bidi_shape.specs.Fits.{Fits};
@@ -12,7 +12,7 @@ use crate::fault::ShapeFault;
 use crate::fields::Fields;
 use crate::parsed::Parsed;
 use crate::shape::Shape;
-use bidi_tree::{Draft, draft_members_of};
+use bidi_tree::{Outline, outline_members_of};
 use std::alloc::{AllocError, Global};
 
 /// Reads a whole map: its members by their names, and the texts of its literal members, in order.
@@ -49,7 +49,7 @@ impl Shape for Ext {
         read_fields(alloc, tree, &[], &[])
     }
 
-    fn draft<'a>(&'a self, alloc: Global) -> Result<Draft<'a>, AllocError> {
-        Ok(Draft::Map(draft_members_of(alloc, &self.members, 0)?))
+    fn outline<'a>(&'a self, alloc: Global) -> Result<Outline<'a>, AllocError> {
+        Ok(Outline::Map(outline_members_of(alloc, &self.members, 0)?))
     }
 }

@@ -1,7 +1,7 @@
 //! Closed maps that a text tells apart.
 ghost use Rattle.std.specs.Prelude.{◌≡◌, IfOk, ℕ, List};
 ghost use Rattle.bidi_tree.specs.Node.{IsSound};
-ghost use Rattle.bidi_tree.specs.Draft.{draft_node};
+ghost use Rattle.bidi_tree.specs.Outline.{outline_node};
 ghost use Rattle.bidi_shape.specs.TagLaws.{bare_tree, typed_tree};
 
 use crate::fault::ShapeFault;
@@ -10,7 +10,7 @@ use crate::members::{add_literal, add_member};
 use crate::parsed::Parsed;
 use crate::shape::Shape;
 use crate::table::read_fields;
-use bidi_tree::Draft;
+use bidi_tree::Outline;
 use std::alloc::{AllocError, Global};
 use std::marker::PhantomData;
 
@@ -48,9 +48,9 @@ impl<T: Tag> Shape for Bare<T> {
         Ok(Bare { of: PhantomData })
     }
 
-    fn draft<'a>(&'a self, alloc: Global) -> Result<Draft<'a>, AllocError> {
+    fn outline<'a>(&'a self, alloc: Global) -> Result<Outline<'a>, AllocError> {
         let tag: &'a str = T::tag();
-        draft_of_type(alloc, tag)
+        outline_of_type(alloc, tag)
     }
 }
 
@@ -75,39 +75,39 @@ impl<T: Tag, X: Shape> Shape for Typed<T, X> {
         })
     }
 
-    fn draft<'a>(&'a self, alloc: Global) -> Result<Draft<'a>, AllocError> {
+    fn outline<'a>(&'a self, alloc: Global) -> Result<Outline<'a>, AllocError> {
         let tag: &'a str = T::tag();
-        draft_of_typed(alloc, tag, &self.value)
+        outline_of_typed(alloc, tag, &self.value)
     }
 }
 
-/// Makes the draft of the map with its type alone.
+/// Makes the outline of the map with its type alone.
 ///
 /// # Errors
 /// No memory: an allocation failed.
-pub fn draft_of_type<'a>(alloc: Global, tag: &'a str) -> Result<Draft<'a>, AllocError>
-    ensures tree { IfOk result (λ d. draft_node d ≡ bare_tree tag.now) }
-    ensures sound { IfOk result (λ d. IsSound (draft_node d)) }
+pub fn outline_of_type<'a>(alloc: Global, tag: &'a str) -> Result<Outline<'a>, AllocError>
+    ensures tree { IfOk result (λ d. outline_node d ≡ bare_tree tag.now) }
+    ensures sound { IfOk result (λ d. IsSound (outline_node d)) }
 {
     let mut members = Vec::with_capacity(alloc, 1)?;
     add_literal(&mut members, "type", tag)?;
-    Ok(Draft::Map(members))
+    Ok(Outline::Map(members))
 }
 
-/// Makes the draft of the map with its type and a value.
+/// Makes the outline of the map with its type and a value.
 ///
 /// # Errors
 /// No memory: an allocation failed.
-pub fn draft_of_typed<'a, X: Shape>(
+pub fn outline_of_typed<'a, X: Shape>(
     alloc: Global,
     tag: &'a str,
     value: &'a X,
-) -> Result<Draft<'a>, AllocError>
-    ensures tree { IfOk result (λ d. draft_node d ≡ typed_tree tag.now (X.shape.tree_of value.now)) }
-    ensures sound { IfOk result (λ d. IsSound (draft_node d)) }
+) -> Result<Outline<'a>, AllocError>
+    ensures tree { IfOk result (λ d. outline_node d ≡ typed_tree tag.now (X.shape.tree_of value.now)) }
+    ensures sound { IfOk result (λ d. IsSound (outline_node d)) }
 {
     let mut members = Vec::with_capacity(alloc, 2)?;
     add_member(alloc, &mut members, "value", value)?;
     add_literal(&mut members, "type", tag)?;
-    Ok(Draft::Map(members))
+    Ok(Outline::Map(members))
 }

@@ -8,7 +8,7 @@ ghost use Rattle.bidi_shape.specs.WordLaws.{Words, word, value_named};
 use crate::fault::ShapeFault;
 use crate::parsed::Parsed;
 use crate::shape::Shape;
-use bidi_tree::Draft;
+use bidi_tree::Outline;
 use std::alloc::{AllocError, Global};
 
 /// A type whose values are a few texts: `"a" / "b" / ..`.
@@ -37,7 +37,7 @@ pub trait Named: Copy + Drop + 'static {
     }
 }
 
-/// A value is the text that it has.
+/// A value is read from its text, and written as it.
 impl<W: Named> Shape for W {
     ghost use Rattle.bidi_shape.specs.WordLaws.{word_shape};
 
@@ -47,8 +47,8 @@ impl<W: Named> Shape for W {
         read_word(tree)
     }
 
-    fn draft<'a>(&'a self, alloc: Global) -> Result<Draft<'a>, AllocError> {
-        Ok(Draft::Text(self.name()))
+    fn outline<'a>(&'a self, alloc: Global) -> Result<Outline<'a>, AllocError> {
+        Ok(Outline::Text(self.name()))
     }
 }
 

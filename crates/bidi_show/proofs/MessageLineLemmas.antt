@@ -10,10 +10,10 @@ use Rattle.bidi_shape.specs.Name.{message as message_name, command_response, err
 use Rattle.bidi_shape.specs.Term.{rule, ◌or◌}
 use Rattle.bidi_shape.specs.Fits.{Fits}
 use Rattle.bidi_shape.proofs.FitsLemmas.{either_inside, rule_inside}
-use Rattle.bidi_subjects.specs.Method.{method_text}
-use Rattle.bidi_subjects.specs.CommandData.{method_of}
-use Rattle.bidi_subjects.specs.EventName.{event_name_text}
-use Rattle.bidi_subjects.specs.EventData.{event_of}
+use Rattle.bidi_methods.specs.Method.{method_text}
+use Rattle.bidi_methods.specs.CommandData.{method_of}
+use Rattle.bidi_methods.specs.EventName.{event_name_text}
+use Rattle.bidi_methods.specs.EventData.{event_of}
 use Rattle.bidi_messages.specs.Reading.{IsMisfit}
 use Rattle.bidi_messages.specs.declared.text.MessageFault.{MessageFault}
 use Rattle.bidi_messages.specs.declared.text.MessageFault.TheVariants.{NoFit}

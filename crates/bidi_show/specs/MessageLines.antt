@@ -5,8 +5,8 @@ use Rattle.bidi_tree.specs.Text.{tree_of_text, compact_text}
 use Rattle.bidi_shape.specs.Name.{message, command_response, error_response, event}
 use Rattle.bidi_shape.specs.Term.{rule}
 use Rattle.bidi_shape.specs.Fits.{Fits}
-use Rattle.bidi_codes.specs.declared.error_code.ErrorCode.TheVariants.{InvalidArgument}
-use Rattle.bidi_codes.specs.ErrorCode.{error_code_text}
+use Rattle.bidi_params.specs.declared.error_code.ErrorCode.TheVariants.{InvalidArgument}
+use Rattle.bidi_params.specs.ErrorCode.{error_code_text}
 use Rattle.bidi_messages.specs.Verdict as judged
 use Rattle.bidi_messages.specs.Verdict.{echoed_id}
 use Rattle.bidi_messages.specs.Command.{id_in, method_in}

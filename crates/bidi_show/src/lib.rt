@@ -1,6 +1,6 @@
-//! What `show` and `check` write: [`list`] writes a line for each text of an input, or for each that is refused.
+//! What `show` and `check` write: a line for each text, or for each that is refused.
 //!
-//! [`show_line`] is what is shown for one text.
+//! [`list`] writes it for the lines of an input, and [`show_line`] is what is shown for one text.
 #![tactic(auto)]
 
 mod message_lines;

@@ -3,11 +3,11 @@ ghost use Rattle.std.specs.Prelude.{◌≡◌, ℕ, List, ◌∷◌, ◌++◌, I
 ghost use Rattle.bidi_tree.specs.Node.{IsWritable};
 ghost use Rattle.bidi_tree.specs.Json.{parsed};
 ghost use Rattle.bidi_tree.specs.Text.{compact_text};
-ghost use Rattle.bidi_codes.specs.ErrorCode.{error_code_text};
-ghost use Rattle.bidi_subjects.specs.Method.{method_text};
-ghost use Rattle.bidi_subjects.specs.CommandData.{method_of};
-ghost use Rattle.bidi_subjects.specs.EventName.{event_name_text};
-ghost use Rattle.bidi_subjects.specs.EventData.{event_of};
+ghost use Rattle.bidi_params.specs.ErrorCode.{error_code_text};
+ghost use Rattle.bidi_methods.specs.Method.{method_text};
+ghost use Rattle.bidi_methods.specs.CommandData.{method_of};
+ghost use Rattle.bidi_methods.specs.EventName.{event_name_text};
+ghost use Rattle.bidi_methods.specs.EventData.{event_of};
 ghost use Rattle.bidi_messages.specs.View.{verdict_of, IsWell};
 ghost use Rattle.bidi_show.specs.MessageLines.{HasTree, HasVerdict, IsMessageLine, Refused, Refuses, Shows, ShowsMessage, id_text, refused, shown_of, verdict_shown};
 ghost use Rattle.bidi_lines.specs.declared.side.Side.TheVariants.{Remote};
@@ -18,7 +18,7 @@ use bidi_messages::{
     Sendable, Verdict, judge_with, message_of, response_id, text_of,
 };
 use bidi_shape::Shape;
-use bidi_tree::{JsUint, ReadFault, draft_parsed, parse, write_draft};
+use bidi_tree::{JsUint, ReadFault, outline_parsed, parse, write_outline};
 use json::{Scratch, Value};
 use std::alloc::{AllocError, Global};
 
@@ -228,8 +228,8 @@ fn known_response_line(alloc: Global, id: JsUint, value: &Value<'_>) -> Result<S
     ensures { IfOk result (λ line. string_bytes line ≡ codes "response " ++ decimal id.value
         ++ 32 ∷ compact_text (parsed value.now)) }
 {
-    let draft = draft_parsed(alloc, value)?;
-    let text = write_draft(alloc, &draft)?;
+    let outline = outline_parsed(alloc, value)?;
+    let text = write_outline(alloc, &outline)?;
     format!(in alloc; "response {} {text}", id.value)
 }
 

@@ -114,13 +114,13 @@ impl<S: Read + Write + Drop, K: MaskKeys + Drop> Link<S, K> {
             return Ok(Incoming::Closed);
         }
         match self.socket.read() {
-            Ok(message) => self.tell(message),
+            Ok(message) => self.receive(message),
             Err(error) => self.fail(error),
         }
     }
 
     // Tells a message. What answers a ping or a close frame goes out at once.
-    fn tell(&mut self, message: Message) -> Result<Incoming, LinkFault>
+    fn receive(&mut self, message: Message) -> Result<Incoming, LinkFault>
         ensures tells { (seen result ≡ Ok (told message)) ⊎ (seen result ≡ Err LinkFault.NoMemory) }
         ensures ends { self.old.is_closed ≡ false → self.new.is_closed ≡ is_last (seen result) }
         ensures settles { Settles S.contents (seen result) self.old.socket self.new.socket }

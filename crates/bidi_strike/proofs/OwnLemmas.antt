@@ -4,9 +4,9 @@ use Rattle.std.proofs.Common.{Some, None, option_map, refl, ap, nat_lt}
 use Rattle.std.specs.Prelude.{◌==◌, if◌then◌else◌, filter, find, bytes_eq, codes}
 use Rattle.std.specs.List.{list_any}
 use Rattle.bidi_values.specs.declared.log_entry.Level.{Level}
-use Rattle.bidi_subjects.specs.declared.event_data.EventName.{EventName}
-use Rattle.bidi_subjects.specs.declared.event_data.EventName.TheVariants.{EntryAdded}
-use Rattle.bidi_subjects.specs.EventName.{events as all_events}
+use Rattle.bidi_methods.specs.declared.event_data.EventName.{EventName}
+use Rattle.bidi_methods.specs.declared.event_data.EventName.TheVariants.{EntryAdded}
+use Rattle.bidi_methods.specs.EventName.{events as all_events}
 use Rattle.bidi_handles.specs.declared.id.IdKind.TheVariants.{Session}
 use Rattle.bidi_handles.specs.Ids.{id_of}
 use Rattle.bidi_browser.specs.Acts.{Act, Logged, Looked}
@@ -18,7 +18,7 @@ use Rattle.bidi_browser.specs.Outcome as browser
 use Rattle.bidi_remote.specs.Machine.History.{Deed, Time, Opened, Dropped, Began, Ended, Subscribed, Cancelled, Dismissed, Did}
 use Rattle.bidi_remote.specs.Machine.History.{Scope, acts, moment}
 use Rattle.bidi_remote.specs.Machine.Sessions.{sessions_made, is_active, sessions}
-use Rattle.bidi_remote.specs.Machine.Connections.{Shut, SpeaksFor, is_shut, is_for, opened_for, standing_of, is_open}
+use Rattle.bidi_remote.specs.Machine.Connections.{Shut, SpeaksFor, is_shut, is_for, opened_for, attachment_of, is_open}
 use Rattle.bidi_remote.specs.Machine.Connections.{openings, open_connections, connections_of}
 use Rattle.bidi_remote.specs.Machine.Subscriptions.{subscriptions_made, events_of, scope_of, is_global, is_listed, is_kept}
 use Rattle.bidi_remote.specs.Machine.Subscriptions.{holds, is_live, subscriptions, holds_globally, covers, is_enabled, is_newly_enabled}
@@ -89,24 +89,24 @@ is_active-own s (d ∷ past) t = is_active-own s past t
 pub sessions-own : (s : ℕ) (past : List Deed) → sessions (own s past) ≡ sessions past
 sessions-own s past = λ i. filter (λ t. is_active-own s past t i) (up_to (sessions_made-own s past i))
 
-pub standing_of-own : (s : ℕ) (past : List Deed) (c : ℕ) → standing_of (own s past) c ≡ standing_of past c
-standing_of-own s [] c = refl
-standing_of-own s (Opened d t ∷ past) c = λ i. if c == d then opened_for t else standing_of-own s past c i
-standing_of-own s (Dropped d ∷ past) c = λ i. if c == d then Shut else standing_of-own s past c i
-standing_of-own s (Began d ∷ past) c = λ i. if c == d then SpeaksFor (suc (sessions_made-own s past i)) else standing_of-own s past c i
-standing_of-own s (Ended t ∷ past) c = λ i. if is_for t (standing_of-own s past c i) then Shut else standing_of-own s past c i
-standing_of-own s (Subscribed u es scope ∷ past) c =
-    either-way (λ p. standing_of p c) (s == u) (Subscribed u es scope) (own s past) (standing_of past c)
-    (standing_of-own s past c) (λ e. standing_of-own s past c)
-standing_of-own s (Cancelled u ns ∷ past) c =
-    either-way (λ p. standing_of p c) (s == u) (Cancelled u ns) (own s past) (standing_of past c) (standing_of-own s past c) (λ e. standing_of-own s past c)
-standing_of-own s (Dismissed u es ∷ past) c =
-    either-way (λ p. standing_of p c) (s == u) (Dismissed u es) (own s past) (standing_of past c) (standing_of-own s past c) (λ e. standing_of-own s past c)
-standing_of-own s (Did Looked ∷ past) c = standing_of-own s past c
-standing_of-own s (d ∷ past) c = standing_of-own s past c
+pub attachment_of-own : (s : ℕ) (past : List Deed) (c : ℕ) → attachment_of (own s past) c ≡ attachment_of past c
+attachment_of-own s [] c = refl
+attachment_of-own s (Opened d t ∷ past) c = λ i. if c == d then opened_for t else attachment_of-own s past c i
+attachment_of-own s (Dropped d ∷ past) c = λ i. if c == d then Shut else attachment_of-own s past c i
+attachment_of-own s (Began d ∷ past) c = λ i. if c == d then SpeaksFor (suc (sessions_made-own s past i)) else attachment_of-own s past c i
+attachment_of-own s (Ended t ∷ past) c = λ i. if is_for t (attachment_of-own s past c i) then Shut else attachment_of-own s past c i
+attachment_of-own s (Subscribed u es scope ∷ past) c =
+    either-way (λ p. attachment_of p c) (s == u) (Subscribed u es scope) (own s past) (attachment_of past c)
+    (attachment_of-own s past c) (λ e. attachment_of-own s past c)
+attachment_of-own s (Cancelled u ns ∷ past) c =
+    either-way (λ p. attachment_of p c) (s == u) (Cancelled u ns) (own s past) (attachment_of past c) (attachment_of-own s past c) (λ e. attachment_of-own s past c)
+attachment_of-own s (Dismissed u es ∷ past) c =
+    either-way (λ p. attachment_of p c) (s == u) (Dismissed u es) (own s past) (attachment_of past c) (attachment_of-own s past c) (λ e. attachment_of-own s past c)
+attachment_of-own s (Did Looked ∷ past) c = attachment_of-own s past c
+attachment_of-own s (d ∷ past) c = attachment_of-own s past c
 
 pub is_open-own : (s : ℕ) (past : List Deed) (c : ℕ) → is_open (own s past) c ≡ is_open past c
-is_open-own s past c = λ i. not (is_shut (standing_of-own s past c i))
+is_open-own s past c = λ i. not (is_shut (attachment_of-own s past c i))
 
 pub openings-own : (s : ℕ) (past : List Deed) → openings (own s past) ≡ openings past
 openings-own s [] = refl
@@ -124,7 +124,7 @@ open_connections-own : (s : ℕ) (past : List Deed) → open_connections (own s 
 open_connections-own s past = λ i. filter (λ c. is_open-own s past c i) (openings-own s past i)
 
 pub connections_of-own : (s : ℕ) (past : List Deed) (t : ℕ) → connections_of (own s past) t ≡ connections_of past t
-connections_of-own s past t = λ i. filter (λ c. is_for t (standing_of-own s past c i)) (openings-own s past i)
+connections_of-own s past t = λ i. filter (λ c. is_for t (attachment_of-own s past c i)) (openings-own s past i)
 
 pub session_of_resource-own : (s : ℕ) (past : List Deed) (resource : List ℕ) → session_of_resource (own s past) resource ≡ session_of_resource past resource
 session_of_resource-own s past resource =

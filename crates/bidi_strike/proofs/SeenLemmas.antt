@@ -6,9 +6,9 @@ use Rattle.std.specs.List.{list_all}
 use Rattle.std.proofs.lemmas.Bool.Decides.{nat_tests}
 use Rattle.std.proofs.lemmas.List.Elements.{filter-append}
 use Rattle.bidi_tree.specs.Node.{Node, text, no_members}
-use Rattle.bidi_codes.specs.declared.error_code.ErrorCode.{ErrorCode}
-use Rattle.bidi_codes.specs.declared.error_code.ErrorCode.TheVariants.{InvalidArgument, SessionNotCreated, UnknownError}
-use Rattle.bidi_codes.specs.Checks.{◌>>=◌, need}
+use Rattle.bidi_params.specs.declared.error_code.ErrorCode.{ErrorCode}
+use Rattle.bidi_params.specs.declared.error_code.ErrorCode.TheVariants.{InvalidArgument, SessionNotCreated, UnknownError}
+use Rattle.bidi_handles.specs.Checks.{◌>>=◌, need}
 use Rattle.bidi_handles.specs.declared.id.IdKind.TheVariants.{Session}
 use Rattle.bidi_handles.specs.Ids.{id_of}
 use Rattle.bidi_handles.specs.Maps.{◌being◌and◌, mapped, nothing}
@@ -23,7 +23,7 @@ use Rattle.bidi_remote.specs.Machine.Commands.{Command, Status, New, End, Subscr
 use Rattle.bidi_remote.specs.Machine.History.{Input, At, Open, Drop, Heard, NotText, PageStep, Deed, Opened, Began, Ended}
 use Rattle.bidi_remote.specs.Machine.History.{Subscribed, Cancelled, Dismissed, Did, Told, acts}
 use Rattle.bidi_remote.specs.Machine.Sessions.{sessions}
-use Rattle.bidi_remote.specs.Machine.Connections.{Standing, Shut, Alone, SpeaksFor, is_for, standing_of, is_open, openings}
+use Rattle.bidi_remote.specs.Machine.Connections.{Attachment, Shut, Alone, SpeaksFor, is_for, attachment_of, is_open, openings}
 use Rattle.bidi_remote.specs.Machine.Subscriptions.{is_enabled, subscriptions_made, subscriptions, holds_globally}
 use Rattle.bidi_remote.specs.Machine.Outcome.{NotTaken, all_named, scope_asked, subscriptions_named, is_ready, did, outcome_in, outcome_alone, outcome, replied, asked, answered}
 use Rattle.bidi_remote.specs.Machine.Outcome.{turn, with_turn}
@@ -34,7 +34,7 @@ use Rattle.bidi_remote.specs.Machine.Strike.{is_for_another, is_quiet, is_struck
 use Rattle.bidi_remote.proofs.ListLemmas.{flat_map-same}
 use Rattle.bidi_strike.proofs.KeptListLemmas.{filter-flat_map, flat_map-filter, none-append, none-flat_map, none-passing}
 use Rattle.bidi_strike.specs.Own.{own}
-use Rattle.bidi_strike.proofs.OwnLemmas.{standing_of-own, connections_of-own, sessions-own, sessions_made-own, is_ready-own}
+use Rattle.bidi_strike.proofs.OwnLemmas.{attachment_of-own, connections_of-own, sessions-own, sessions_made-own, is_ready-own}
 use Rattle.bidi_strike.proofs.OwnLemmas.{occurs-own, is_enabled-own, announcements-own, subscriptions_made-own}
 use Rattle.bidi_strike.proofs.QuietLemmas.{asks_quietly, command-quiet}
 use Rattle.bidi_strike.proofs.TurnLemmas.{turn-own, with_turn-own, with_turn-hidden, is_hidden, hides, struck-hidden, not-quiet}
@@ -46,7 +46,7 @@ seen_at past s i = let r = turn past i in filter (λ x. is_own past (with_turn p
 -- ---- who hears
 
 -- a connection that speaks for another session is none of this one
-for_another : (s u : ℕ) (standing : Standing) → (s == u) ≡ false → is_for u standing ≡ true → is_for s standing ≡ false
+for_another : (s u : ℕ) (attachment : Attachment) → (s == u) ≡ false → is_for u attachment ≡ true → is_for s attachment ≡ false
 for_another s u Shut apart for = refl
 for_another s u Alone apart for = refl
 for_another s u (SpeaksFor t) apart for = grind (arith, nat_tests, apart, for)
@@ -54,7 +54,7 @@ for_another s u (SpeaksFor t) apart for = grind (arith, nat_tests, apart, for)
 either-own : (a b : Bool) → a ≡ false → b ≡ a → (a || b) ≡ false
 either-own a b none same = rw (same, none) refl
 
-module _ (s : ℕ) (past after : List Deed) (same : (c : ℕ) → standing_of after c ≡ standing_of past c) where
+module _ (s : ℕ) (past after : List Deed) (same : (c : ℕ) → attachment_of after c ≡ attachment_of past c) where
   -- what a session sees, where no connection changes
   abbrev pub shows : Sent → Bool
   shows x = is_own past after s (seen_on x)
@@ -62,8 +62,8 @@ module _ (s : ℕ) (past after : List Deed) (same : (c : ℕ) → standing_of af
   -- it sees no text for another session
   unheard : (u : ℕ) (o : Occurrence) → (s == u) ≡ false → filter shows (to_session past o u) ≡ []
   unheard u o apart =
-      none-passing shows (λ c. Text c (occurrence_text o)) (λ c. is_for u (standing_of past c)) (openings past)
-      λ c for. either-own (is_for s (standing_of past c)) (is_for s (standing_of after c)) (for_another s u (standing_of past c) apart for)
+      none-passing shows (λ c. Text c (occurrence_text o)) (λ c. is_for u (attachment_of past c)) (openings past)
+      λ c for. either-own (is_for s (attachment_of past c)) (is_for s (attachment_of after c)) (for_another s u (attachment_of past c) apart for)
       (ap (is_for s) (same c))
 
   -- what a session is sent of an event
@@ -162,8 +162,8 @@ outcome_alone-fine s past c (New request) =
 outcome_alone-fine s past c Status = refl
 outcome_alone-fine s past c command = refl
 
-outcome-fine : (s : ℕ) (past : List Deed) (c : ℕ) (standing : Standing) (command : Command)
-    → (is_for_another s standing && asks_quietly (Some command)) ≡ false → is_fine s (outcome past c standing command) ≡ true
+outcome-fine : (s : ℕ) (past : List Deed) (c : ℕ) (attachment : Attachment) (command : Command)
+    → (is_for_another s attachment && asks_quietly (Some command)) ≡ false → is_fine s (outcome past c attachment command) ≡ true
 outcome-fine s past c Shut command kept = refl
 outcome-fine s past c Alone command kept = outcome_alone-fine s past c command
 outcome-fine s past c (SpeaksFor u) command kept = outcome_in-fine s u past command kept
@@ -177,10 +177,10 @@ replied-fine s c id (Ok d) fine = fine-again d fine
 replied-fine s c id (Err code) fine = refl
 
 asked-fine : (s : ℕ) (past : List Deed) (c id : ℕ) (command : Option Command)
-    → (is_for_another s (standing_of past c) && asks_quietly command) ≡ false → is_fine s (asked past c id command) ≡ true
+    → (is_for_another s (attachment_of past c) && asks_quietly command) ≡ false → is_fine s (asked past c id command) ≡ true
 asked-fine s past c id None kept = refl
 asked-fine s past c id (Some command) kept =
-    replied-fine s c id (outcome past c (standing_of past c) command) (outcome-fine s past c (standing_of past c) command kept)
+    replied-fine s c id (outcome past c (attachment_of past c) command) (outcome-fine s past c (attachment_of past c) command kept)
 
 if_open-fine : (s : ℕ) (b : Bool) (r : Result Deed NotTaken) (lost : NotTaken) → is_fine s r ≡ true → is_fine s (if b then r else Err lost) ≡ true
 if_open-fine s true r lost fine = fine
@@ -300,9 +300,9 @@ kept-shown s past (Open c resource) kept =
 kept-shown s past (Drop c) kept =
     ap (filter (λ x. is_own past (with_turn past (turn past (Drop c))) s (seen_on x))) (told-drop (own s past) past c (turn past (Drop c)))
 kept-shown s past (Heard c (Accepted t)) kept =
-    let loud : (is_for_another s (standing_of past c) && asks_quietly (command_of t)) ≡ false =
-    subst (λ q. (is_for_another s (standing_of past c) && q) ≡ false) (command-quiet t)
-    (not-quiet (is_for_another s (standing_of past c)) (is_quiet t) (is_err (answered past c (Accepted t))) kept) in
+    let loud : (is_for_another s (attachment_of past c) && asks_quietly (command_of t)) ≡ false =
+    subst (λ q. (is_for_another s (attachment_of past c) && q) ≡ false) (command-quiet t)
+    (not-quiet (is_for_another s (attachment_of past c)) (is_quiet t) (is_err (answered past c (Accepted t))) kept) in
     heard-shown s past c t (turn past (Heard c (Accepted t)))
     (if_open-fine s (is_open past c) (answered past c (Accepted t)) (machine.Lost c) (asked-fine s past c (id_of_command t) (command_of t) loud))
 kept-shown s past (Heard c (Refused id code)) kept =
@@ -317,9 +317,9 @@ is_own-own : (s : ℕ) (past : List Deed) (r : Result Deed NotTaken) (c : Option
     → is_own (own s past) (with_turn (own s past) r) s c ≡ is_own past (with_turn past r) s c
 is_own-own s past r None = refl
 is_own-own s past r (Some c) =
-    let after : standing_of (with_turn (own s past) r) c ≡ standing_of (with_turn past r) c =
-    sym (standing_of-own s (with_turn (own s past) r) c) ∙ (ap (λ p. standing_of p c) (with_turn-own s past r) ∙ standing_of-own s (with_turn past r) c) in
-    λ i. is_for s (standing_of-own s past c i) || is_for s (after i)
+    let after : attachment_of (with_turn (own s past) r) c ≡ attachment_of (with_turn past r) c =
+    sym (attachment_of-own s (with_turn (own s past) r) c) ∙ (ap (λ p. attachment_of p c) (with_turn-own s past r) ∙ attachment_of-own s (with_turn past r) c) in
+    λ i. is_for s (attachment_of-own s past c i) || is_for s (after i)
 
 -- of what is told, it shows the same
 shown-own : (s : ℕ) (past : List Deed) (r : Result Deed NotTaken) (all : List Sent)
@@ -338,7 +338,7 @@ not-true : (b : Bool) → not b ≡ true → b ≡ false
 not-true true e = cc
 not-true false e = refl
 
-another-not : (s : ℕ) (standing : Standing) → is_for_another s standing ≡ true → is_for s standing ≡ false
+another-not : (s : ℕ) (attachment : Attachment) → is_for_another s attachment ≡ true → is_for s attachment ≡ false
 another-not s Shut other = refl
 another-not s Alone other = refl
 another-not s (SpeaksFor t) other = not-true (s == t) other
@@ -362,13 +362,13 @@ replied-to c id (Err code) = refl
 
 asked-to : (past : List Deed) (c id : ℕ) (command : Option Command) → IsTo c (asked past c id command)
 asked-to past c id None = refl
-asked-to past c id (Some command) = replied-to c id (outcome past c (standing_of past c) command)
+asked-to past c id (Some command) = replied-to c id (outcome past c (attachment_of past c) command)
 
-module _ (s : ℕ) (past after : List Deed) (same : (c : ℕ) → standing_of after c ≡ standing_of past c) (c : ℕ)
-    (other : is_for_another s (standing_of past c) ≡ true) where
+module _ (s : ℕ) (past after : List Deed) (same : (c : ℕ) → attachment_of after c ≡ attachment_of past c) (c : ℕ)
+    (other : is_for_another s (attachment_of past c) ≡ true) where
   -- it sees nothing on the connection of another session
   not_own : is_own past after s (Some c) ≡ false
-  not_own = either-own (is_for s (standing_of past c)) (is_for s (standing_of after c)) (another-not s (standing_of past c) other) (ap (is_for s) (same c))
+  not_own = either-own (is_for s (attachment_of past c)) (is_for s (attachment_of after c)) (another-not s (attachment_of past c) other) (ap (is_for s) (same c))
 
   pub refusal-unseen : (r : NotTaken) → IsTo c (Err r) → filter (shows s past after same) (refused r) ≡ []
   refusal-unseen (machine.Denied d) to = refl
@@ -412,17 +412,17 @@ module _ (s : ℕ) (past after : List Deed) (same : (c : ℕ) → standing_of af
       (items-unseen (id_of_command t) (action_in (command_of t)) d hidden) (ap (filter (shows s past after same)) (closed-unseen d hidden)))
 
 -- no connection changes where nothing shows
-standing-hidden : (s : ℕ) (past : List Deed) (r : Result Deed NotTaken) → hides s r ≡ true → (c : ℕ) → standing_of (with_turn past r) c ≡ standing_of past c
-standing-hidden s past r hidden c =
-    sym (standing_of-own s (with_turn past r) c) ∙ (ap (λ p. standing_of p c) (with_turn-hidden s past r hidden) ∙ standing_of-own s past c)
+attachment-hidden : (s : ℕ) (past : List Deed) (r : Result Deed NotTaken) → hides s r ≡ true → (c : ℕ) → attachment_of (with_turn past r) c ≡ attachment_of past c
+attachment-hidden s past r hidden c =
+    sym (attachment_of-own s (with_turn past r) c) ∙ (ap (λ p. attachment_of p c) (with_turn-hidden s past r hidden) ∙ attachment_of-own s past c)
 
 text-unseen : (s : ℕ) (past : List Deed) (c : ℕ) (t : Node) (r : Result Deed NotTaken)
-    → is_for_another s (standing_of past c) ≡ true → hides s r ≡ true → IsTo c r
+    → is_for_another s (attachment_of past c) ≡ true → hides s r ≡ true → IsTo c r
     → filter (λ x. is_own past (with_turn past r) s (seen_on x)) (told past (Heard c (Accepted t)) r) ≡ []
-text-unseen s past c t (Ok d) other hidden to = deed-unseen s past (d ∷ past) (standing-hidden s past (Ok d) hidden) c other t d hidden
+text-unseen s past c t (Ok d) other hidden to = deed-unseen s past (d ∷ past) (attachment-hidden s past (Ok d) hidden) c other t d hidden
 text-unseen s past c t (Err refusal) other hidden to = refusal-unseen s past past (λ k. refl) c other refusal to
 
-refused-unseen : (s : ℕ) (past : List Deed) (c : ℕ) (id : Option ℕ) (code : ErrorCode) (b : Bool) → is_for_another s (standing_of past c) ≡ true
+refused-unseen : (s : ℕ) (past : List Deed) (c : ℕ) (id : Option ℕ) (code : ErrorCode) (b : Bool) → is_for_another s (attachment_of past c) ≡ true
     → filter (λ x. is_own past (with_turn past (if b then Err (machine.Error c id code) else Err (machine.Lost c))) s (seen_on x))
     (told past (Heard c (Refused id code)) (if b then Err (machine.Error c id code) else Err (machine.Lost c))) ≡ []
 refused-unseen s past c id code true other = refusal-unseen s past past (λ k. refl) c other (machine.Error c id code) refl
@@ -431,9 +431,9 @@ refused-unseen s past c id code false other = refl
 -- a session sees nothing of a struck input
 pub seen-struck : (s : ℕ) (past : List Deed) (i : Input) → is_struck past s i ≡ true → seen_at past s i ≡ []
 seen-struck s past (Heard c (Accepted t)) struck =
-    text-unseen s past c t (turn past (Heard c (Accepted t))) (struck-another (is_for_another s (standing_of past c)) _ struck)
+    text-unseen s past c t (turn past (Heard c (Accepted t))) (struck-another (is_for_another s (attachment_of past c)) _ struck)
     (struck-hidden s past (Heard c (Accepted t)) struck)
     (if_open-to c (is_open past c) (answered past c (Accepted t)) (asked-to past c (id_of_command t) (command_of t)))
 seen-struck s past (Heard c (Refused id code)) struck =
-    refused-unseen s past c id code (is_open past c) (struck-another (is_for_another s (standing_of past c)) true struck)
+    refused-unseen s past c id code (is_open past c) (struck-another (is_for_another s (attachment_of past c)) true struck)
 seen-struck s past i struck = cc

@@ -11,8 +11,8 @@ use Rattle.bidi_remote.specs.Machine.Step.{Step}
 use Rattle.bidi_remote.specs.Machine.History.{Input, AreHeardAs}
 use Rattle.bidi_remote.specs.Machine.Outcome.{deeds}
 use Rattle.bidi_remote.specs.Machine.Strike.{is_struck, keeps_after, strike_steps}
-use Rattle.bidi_remote.specs.Tables.Stands.{StandsFor}
-use Rattle.bidi_remote.specs.Tables.View.{step_of}
+use Rattle.bidi_remote.specs.State.Stands.{StandsFor}
+use Rattle.bidi_remote.specs.State.View.{step_of}
 use Rattle.bidi_remote.proofs.AnswerLemmas.{reverse_behind}
 use Rattle.bidi_remote.proofs.HeardLemmas.{heard-kept, length-heard}
 use Rattle.bidi_strike.specs.Own.{Alike}

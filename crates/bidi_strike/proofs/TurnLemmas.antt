@@ -4,9 +4,9 @@ use Rattle.std.proofs.Common.{refl, sym, ap, subst, nat_lt, eqb-true, Result, Ok
 use Rattle.std.specs.Prelude.{◌==◌, if◌then◌else◌, find, bytes_eq}
 use Rattle.std.specs.List.{list_all}
 use Rattle.bidi_tree.specs.Node.{Node}
-use Rattle.bidi_codes.specs.declared.error_code.ErrorCode.{ErrorCode}
-use Rattle.bidi_codes.specs.declared.error_code.ErrorCode.TheVariants.{InvalidArgument, SessionNotCreated, UnknownError}
-use Rattle.bidi_codes.specs.Checks.{◌>>=◌, need, found}
+use Rattle.bidi_params.specs.declared.error_code.ErrorCode.{ErrorCode}
+use Rattle.bidi_params.specs.declared.error_code.ErrorCode.TheVariants.{InvalidArgument, SessionNotCreated, UnknownError}
+use Rattle.bidi_handles.specs.Checks.{◌>>=◌, need, found}
 use Rattle.bidi_handles.specs.declared.id.IdKind.TheVariants.{Subscription}
 use Rattle.bidi_handles.specs.Ids.{id_text}
 use Rattle.bidi_browser.specs.Acts.{Act, Looked}
@@ -17,14 +17,14 @@ use Rattle.bidi_remote.specs.Machine.Capabilities.{matching}
 use Rattle.bidi_remote.specs.Machine.Commands.{Command, Status, New, End, Subscribe, UnsubscribeById, UnsubscribeByEvents, OfBrowser, command_of, id_of_command}
 use Rattle.bidi_remote.specs.Machine.History.{Input, At, Open, Drop, Heard, NotText, PageStep, Deed, Opened, Dropped, Began}
 use Rattle.bidi_remote.specs.Machine.History.{Subscribed, Cancelled, Dismissed, Did, Told, Below, acts}
-use Rattle.bidi_remote.specs.Machine.Connections.{Standing, Shut, Alone, SpeaksFor, standing_of, is_open}
+use Rattle.bidi_remote.specs.Machine.Connections.{Attachment, Shut, Alone, SpeaksFor, attachment_of, is_open}
 use Rattle.bidi_remote.specs.Machine.Subscriptions.{subscriptions, holds_globally}
 use Rattle.bidi_remote.specs.Machine.Outcome.{all_named, tops_named, scope_asked, subscriptions_named}
 use Rattle.bidi_remote.specs.Machine.Outcome.{did, outcome_in, outcome_alone, outcome, opening, replied}
 use Rattle.bidi_remote.specs.Machine.Outcome.{NotTaken, Denied, Lost, Error, asked, answered, in_page, turn, with_turn}
 use Rattle.bidi_remote.specs.Machine.Strike.{is_for_another, is_quiet, is_idle, is_struck}
 use Rattle.bidi_strike.specs.Own.{own}
-use Rattle.bidi_strike.proofs.OwnLemmas.{either-way, standing_of-own, is_open-own, session_of_resource-own, may_open-own, is_ready-own, outcome-own}
+use Rattle.bidi_strike.proofs.OwnLemmas.{either-way, attachment_of-own, is_open-own, session_of_resource-own, may_open-own, is_ready-own, outcome-own}
 use Rattle.bidi_strike.proofs.OwnLemmas.{context_named-own, top_of-own, subscriptions-own, holds_globally-own}
 use Rattle.bidi_strike.proofs.QuietLemmas.{asks_quietly, command-quiet}
 
@@ -91,8 +91,8 @@ outcome_alone-own s past c (New request) = λ i. do
 outcome_alone-own s past c command = refl
 
 -- one on a connection, as it stands
-outcome-at : (s : ℕ) (past : List Deed) (c : ℕ) (standing : Standing) (command : Command)
-    → (is_for_another s standing && asks_quietly (Some command)) ≡ false → outcome (own s past) c standing command ≡ outcome past c standing command
+outcome-at : (s : ℕ) (past : List Deed) (c : ℕ) (attachment : Attachment) (command : Command)
+    → (is_for_another s attachment && asks_quietly (Some command)) ≡ false → outcome (own s past) c attachment command ≡ outcome past c attachment command
 outcome-at s past c Shut command kept = refl
 outcome-at s past c Alone command kept = outcome_alone-own s past c command
 outcome-at s past c (SpeaksFor u) command kept = by (s == u) refl
@@ -104,17 +104,17 @@ outcome-at s past c (SpeaksFor u) command kept = by (s == u) refl
 -- ---- inputs
 
 asked-own : (s : ℕ) (past : List Deed) (c id : ℕ) (command : Option Command)
-    → (is_for_another s (standing_of past c) && asks_quietly command) ≡ false → asked (own s past) c id command ≡ asked past c id command
+    → (is_for_another s (attachment_of past c) && asks_quietly command) ≡ false → asked (own s past) c id command ≡ asked past c id command
 asked-own s past c id None kept = refl
 asked-own s past c id (Some command) kept =
-    ap (λ x. replied c id (outcome (own s past) c x command)) (standing_of-own s past c)
-    ∙ ap (replied c id) (outcome-at s past c (standing_of past c) command kept)
+    ap (λ x. replied c id (outcome (own s past) c x command)) (attachment_of-own s past c)
+    ∙ ap (replied c id) (outcome-at s past c (attachment_of past c) command kept)
 
 -- a text that is not a quiet command of another session
 answered-own : (s : ℕ) (past : List Deed) (c : ℕ) (t : Node)
-    → (is_for_another s (standing_of past c) && is_quiet t) ≡ false → answered (own s past) c (Accepted t) ≡ answered past c (Accepted t)
+    → (is_for_another s (attachment_of past c) && is_quiet t) ≡ false → answered (own s past) c (Accepted t) ≡ answered past c (Accepted t)
 answered-own s past c t kept =
-    asked-own s past c (id_of_command t) (command_of t) (subst (λ q. (is_for_another s (standing_of past c) && q) ≡ false) (command-quiet t) kept)
+    asked-own s past c (id_of_command t) (command_of t) (subst (λ q. (is_for_another s (attachment_of past c) && q) ≡ false) (command-quiet t) kept)
 
 opening-own : (s : ℕ) (past : List Deed) (c : ℕ) (session : Option (Option ℕ)) → opening (own s past) c session ≡ opening past c session
 opening-own s past c None = refl
@@ -131,7 +131,7 @@ turn-own s past (At n) kept = refl
 turn-own s past (Open c resource) kept = λ i. opening-own s past c (session_of_resource-own s past resource i) i
 turn-own s past (Drop c) kept = λ i. if is_open-own s past c i then Ok (Dropped c) else Err (Lost c)
 turn-own s past (Heard c (Accepted t)) kept =
-    let same = answered-own s past c t (not-quiet (is_for_another s (standing_of past c)) (is_quiet t) (is_err (answered past c (Accepted t))) kept) in
+    let same = answered-own s past c t (not-quiet (is_for_another s (attachment_of past c)) (is_quiet t) (is_err (answered past c (Accepted t))) kept) in
     λ i. if is_open-own s past c i then same i else Err (Lost c)
 turn-own s past (Heard c (Refused id code)) kept = λ i. if is_open-own s past c i then Err (Error c id code) else Err (Lost c)
 turn-own s past (NotText c) kept = λ i. if is_open-own s past c i then Err (Error c None InvalidArgument) else Err (Lost c)
@@ -147,16 +147,16 @@ and-none true quiet e = e
 and-none false quiet e = refl
 
 idle-own : (s : ℕ) (past : List Deed) (c : ℕ) (t : Node) (b : Bool) → is_quiet t ≡ b
-    → (is_for_another s (standing_of past c) && is_idle (own s past) c (Accepted t)) ≡ (is_for_another s (standing_of past c) && is_idle past c (Accepted t))
-idle-own s past c t true quiet = quiet-idle (is_for_another s (standing_of past c)) (is_quiet t) _ _ quiet
+    → (is_for_another s (attachment_of past c) && is_idle (own s past) c (Accepted t)) ≡ (is_for_another s (attachment_of past c) && is_idle past c (Accepted t))
+idle-own s past c t true quiet = quiet-idle (is_for_another s (attachment_of past c)) (is_quiet t) _ _ quiet
 idle-own s past c t false quiet =
-    ap (λ r. is_for_another s (standing_of past c) && (is_quiet t || is_err r))
-    (answered-own s past c t (and-none (is_for_another s (standing_of past c)) (is_quiet t) quiet))
+    ap (λ r. is_for_another s (attachment_of past c) && (is_quiet t || is_err r))
+    (answered-own s past c t (and-none (is_for_another s (attachment_of past c)) (is_quiet t) quiet))
 
 pub is_struck-own : (s : ℕ) (past : List Deed) (i : Input) → is_struck (own s past) s i ≡ is_struck past s i
 is_struck-own s past (Heard c (Accepted t)) =
-    ap (λ x. is_for_another s x && is_idle (own s past) c (Accepted t)) (standing_of-own s past c) ∙ idle-own s past c t (is_quiet t) refl
-is_struck-own s past (Heard c (Refused id code)) = λ i. is_for_another s (standing_of-own s past c i) && true
+    ap (λ x. is_for_another s x && is_idle (own s past) c (Accepted t)) (attachment_of-own s past c) ∙ idle-own s past c t (is_quiet t) refl
+is_struck-own s past (Heard c (Refused id code)) = λ i. is_for_another s (attachment_of-own s past c i) && true
 is_struck-own s past (At n) = refl
 is_struck-own s past (Open c resource) = refl
 is_struck-own s past (Drop c) = refl
@@ -266,17 +266,17 @@ err-hidden : {E : Type 0} (s : ℕ) (r : Result Deed E) → is_err r ≡ true �
 err-hidden s (Ok d) err = cc
 err-hidden s (Err refusal) err = refl
 
-standing-hidden : (s : ℕ) (past : List Deed) (c : ℕ) (standing : Standing) (command : Command)
-    → is_for_another s standing ≡ true → asks_quietly (Some command) ≡ true → hides s (outcome past c standing command) ≡ true
-standing-hidden s past c Shut command other quiet = cc
-standing-hidden s past c Alone command other quiet = cc
-standing-hidden s past c (SpeaksFor u) command other quiet = outcome-hidden s u past command other quiet
+attachment-hidden : (s : ℕ) (past : List Deed) (c : ℕ) (attachment : Attachment) (command : Command)
+    → is_for_another s attachment ≡ true → asks_quietly (Some command) ≡ true → hides s (outcome past c attachment command) ≡ true
+attachment-hidden s past c Shut command other quiet = cc
+attachment-hidden s past c Alone command other quiet = cc
+attachment-hidden s past c (SpeaksFor u) command other quiet = outcome-hidden s u past command other quiet
 
 asked-hidden : (s : ℕ) (past : List Deed) (c id : ℕ) (command : Option Command)
-    → is_for_another s (standing_of past c) ≡ true → asks_quietly command ≡ true → hides s (asked past c id command) ≡ true
+    → is_for_another s (attachment_of past c) ≡ true → asks_quietly command ≡ true → hides s (asked past c id command) ≡ true
 asked-hidden s past c id None other quiet = refl
 asked-hidden s past c id (Some command) other quiet =
-    replied-hidden s c id (outcome past c (standing_of past c) command) (standing-hidden s past c (standing_of past c) command other quiet)
+    replied-hidden s c id (outcome past c (attachment_of past c) command) (attachment-hidden s past c (attachment_of past c) command other quiet)
 
 either-hidden : (s : ℕ) (b : Bool) (r : Result Deed NotTaken) (lost : NotTaken) → hides s r ≡ true → hides s (if b then r else Err lost) ≡ true
 either-hidden s true r lost hidden = hidden
@@ -291,10 +291,10 @@ struck-parts false quiet err struck = cc
 answered-hidden : (s : ℕ) (past : List Deed) (c : ℕ) (t : Node) (b : Bool) → is_quiet t ≡ b
     → is_struck past s (Heard c (Accepted t)) ≡ true → hides s (answered past c (Accepted t)) ≡ true
 answered-hidden s past c t true quiet struck =
-    let parts = struck-parts (is_for_another s (standing_of past c)) (is_quiet t) (is_err (answered past c (Accepted t))) struck in
+    let parts = struck-parts (is_for_another s (attachment_of past c)) (is_quiet t) (is_err (answered past c (Accepted t))) struck in
     asked-hidden s past c (id_of_command t) (command_of t) parts.0 (sym (command-quiet t) ∙ quiet)
 answered-hidden s past c t false quiet struck =
-    let parts = struck-parts (is_for_another s (standing_of past c)) (is_quiet t) (is_err (answered past c (Accepted t))) struck in
+    let parts = struck-parts (is_for_another s (attachment_of past c)) (is_quiet t) (is_err (answered past c (Accepted t))) struck in
     err-hidden s (answered past c (Accepted t)) (parts.1 quiet)
 
 pub struck-hidden : (s : ℕ) (past : List Deed) (i : Input) → is_struck past s i ≡ true → hides s (turn past i) ≡ true

@@ -4,7 +4,7 @@ use Rattle.bidi_remote.specs.declared.remote_end.RemoteEnd.{RemoteEnd}
 use Rattle.bidi_remote.specs.Machine.History.{Input}
 use Rattle.bidi_remote.specs.Machine.Outcome.{deeds}
 use Rattle.bidi_remote.specs.Machine.Strike.{is_struck}
-use Rattle.bidi_remote.specs.Tables.Stands.{StandsFor}
+use Rattle.bidi_remote.specs.State.Stands.{StandsFor}
 use Rattle.bidi_strike.specs.Own.{Alike}
 
 -- an input is kept for the session after these inputs

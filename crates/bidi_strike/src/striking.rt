@@ -3,7 +3,7 @@ ghost use Rattle.std.specs.Prelude.{◌≡◌, ℕ, ◌<◌, ◌≤◌, List, []
 ghost use Rattle.bidi_remote.specs.Machine.History.{Input, IsHeardAs};
 ghost use Rattle.bidi_remote.specs.Machine.Strike as struck;
 ghost use Rattle.bidi_remote.specs.Machine.Strike.{sees};
-ghost use Rattle.bidi_remote.specs.Tables.View.{step_of};
+ghost use Rattle.bidi_remote.specs.State.View.{step_of};
 ghost use Rattle.bidi_strike.specs.Follows.{Follows, is_kept};
 ghost use Rattle.bidi_strike.specs.Strikes.{Strikes};
 
@@ -15,7 +15,7 @@ use std::alloc::{AllocError, Global};
 /// All are kept but texts on a connection that speaks for another session, where the text is refused, or its
 /// method is `session.status`, `session.subscribe`, `session.unsubscribe`, `browsingContext.activate`,
 /// `browsingContext.getTree` or `script.getRealms`. The session is sent the same by the steps that are kept as
-/// by all; and so is it for a number that is no session's, which is sent nothing.
+/// by all. A number that no session has is sent nothing either way.
 ///
 /// Time grows with the steps: a struck one costs its reading and its decision, a kept one of another session
 /// these and its taking. Memory holds a remote end, and the steps that are kept.
@@ -60,8 +60,8 @@ fn keep_if_kept(
 
 /// Hands a step to the remote end if it is kept for the session of this number; returns whether it is.
 ///
-/// What is struck later is the same without a step that is struck, so an end that gets its steps by this call
-/// alone decides as if it had taken all of them. What it sends is dropped.
+/// A step that is struck does not change which later steps are struck. So an end that gets all its steps by this
+/// call strikes the same ones as an end that has taken every step. What the end sends is dropped.
 ///
 /// # Errors
 /// The remote end is then as it was.

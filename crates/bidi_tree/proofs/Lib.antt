@@ -5,6 +5,6 @@ pub mod SoundLemmas
 pub mod MemberLemmas
 pub mod JsonLemmas
 pub mod TextFacts
-pub mod DraftLemmas
+pub mod OutlineLemmas
 pub mod NumberLemmas
 pub mod WholeLemmas

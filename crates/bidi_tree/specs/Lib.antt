@@ -5,4 +5,4 @@ pub mod Text
 pub mod Data
 pub mod Kind
 pub mod Json
-pub mod Draft
+pub mod Outline

@@ -1,10 +1,10 @@
-//! Whether a tree or a draft has few levels.
+//! Whether a tree or an outline has few levels.
 ghost use Rattle.std.specs.Prelude.{◌≡◌, nat_le};
 ghost use Rattle.bidi_tree.specs.Node.{levels, items_levels, members_levels};
-ghost use Rattle.bidi_tree.specs.Draft.{draft_node, draft_items, draft_members};
+ghost use Rattle.bidi_tree.specs.Outline.{outline_node, outline_items, outline_members};
 ghost use Rattle.bidi_tree.specs.View.{node, items_node, members_node};
 
-use crate::draft::{Draft, DraftMembers};
+use crate::outline::{Outline, OutlineMembers};
 use crate::tree::{Members, Tree};
 
 #[cycle(levels)]
@@ -42,35 +42,36 @@ fn are_within_members(members: &Members, limit: usize) -> bool
     true
 }
 
-#[cycle(draft_levels)]
-pub(crate) fn is_within_draft(draft: &Draft<'_>, limit: usize) -> bool
-    ensures { result ≡ nat_le (levels (draft_node draft.now)) limit }
+#[cycle(outline_levels)]
+pub(crate) fn is_within_outline(outline: &Outline<'_>, limit: usize) -> bool
+    ensures { result ≡ nat_le (levels (outline_node outline.now)) limit }
 {
-    match draft {
-        Draft::Null | Draft::Bool(_) | Draft::Int(_) | Draft::Odd | Draft::Text(_) => true,
-        Draft::List(items) => limit > 0 && are_within_drafts(items, limit - 1),
-        Draft::Map(members) => limit > 0 && are_within_draft_members(members, limit - 1),
+    match outline {
+        Outline::Null | Outline::Bool(_) | Outline::Int(_) | Outline::Odd | Outline::Text(_) =>
+            true,
+        Outline::List(items) => limit > 0 && are_within_outlines(items, limit - 1),
+        Outline::Map(members) => limit > 0 && are_within_outline_members(members, limit - 1),
     }
 }
 
-#[cycle(draft_levels)]
-fn are_within_drafts(items: &Vec<Draft<'_>>, limit: usize) -> bool
-    ensures { result ≡ nat_le (items_levels (draft_items items.now.items)) limit }
+#[cycle(outline_levels)]
+fn are_within_outlines(items: &Vec<Outline<'_>>, limit: usize) -> bool
+    ensures { result ≡ nat_le (items_levels (outline_items items.now.items)) limit }
 {
     for item in items {
-        if !is_within_draft(item, limit) {
+        if !is_within_outline(item, limit) {
             return false;
         }
     }
     true
 }
 
-#[cycle(draft_levels)]
-fn are_within_draft_members(members: &DraftMembers<'_>, limit: usize) -> bool
-    ensures { result ≡ nat_le (members_levels (draft_members members.now.items)) limit }
+#[cycle(outline_levels)]
+fn are_within_outline_members(members: &OutlineMembers<'_>, limit: usize) -> bool
+    ensures { result ≡ nat_le (members_levels (outline_members members.now.items)) limit }
 {
     for member in members {
-        if !is_within_draft(&member.1, limit) {
+        if !is_within_outline(&member.1, limit) {
             return false;
         }
     }

@@ -11,7 +11,7 @@ use crate::number::JsInt;
 use crate::tree::Tree;
 use fast_float::Numeral;
 
-/// The whole number that the text of a JSON number is, where it is one in range. Takes no memory.
+/// The whole number that the text of a JSON number writes, if it writes a whole one in range. Takes no memory.
 pub fn whole_number(text: &str) -> Option<JsInt>
     ensures { option_map (λ n. n.value) result ≡ whole_in (number_in (number_of text.now)) }
 {

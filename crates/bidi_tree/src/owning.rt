@@ -55,7 +55,8 @@ fn own_members(alloc: Global, members: &Vec<(&str, Value<'_>)>) -> Result<Member
 
 /// Whether the value's tree has at most so many levels.
 ///
-/// Takes no memory but where a value nests deeper: it may stand at a name that comes again, and is then no part of the tree.
+/// Takes memory only where the value itself nests deeper. Then the tree is made, since of two members of one name the
+/// last stays: what nests deeper may be no part of the tree.
 ///
 /// # Errors
 /// No memory: an allocation failed.

@@ -1,13 +1,13 @@
-//! From a tree or a draft to its text.
+//! From a tree or an outline to its text.
 ghost use Rattle.std.specs.Prelude.{◌≡◌, ◌++◌, Some, false, IfOk, OnOk, string_bytes};
 ghost use Rattle.bidi_tree.specs.Node.{Node, whole, has_odd, items_have_odd, members_have_odd, IsWritable, IsSound};
 ghost use Rattle.bidi_tree.specs.Data.{tokens_of, items_tokens, members_tokens};
 ghost use Rattle.bidi_tree.specs.Text.{tree_of, compact_text};
-ghost use Rattle.bidi_tree.specs.Draft.{draft_node, draft_items, draft_members};
+ghost use Rattle.bidi_tree.specs.Outline.{outline_node, outline_items, outline_members};
 ghost use Rattle.bidi_tree.specs.View.{node};
 
-use crate::draft::{Draft, DraftMembers};
-use crate::drafting::draft_of;
+use crate::outline::{Outline, OutlineMembers};
+use crate::outlining::outline_of;
 use crate::tree::Tree;
 use json::Writer;
 use std::alloc::{AllocError, Global};
@@ -17,7 +17,7 @@ const ROOM: usize = 256;
 
 /// Writes the compact text of a tree: no blank, the members in byte order of their names.
 ///
-/// What is written reads back as the tree. A draft is made first, a block for each list and map; no text is copied
+/// What is written reads back as the tree. An outline is made first, a block for each list and map; no text is copied
 /// but into the one that is written.
 ///
 /// # Errors
@@ -31,47 +31,47 @@ pub fn write(alloc: Global, tree: &Tree) -> Result<String, AllocError>
     // The law behind it: the compact text of any sound tree that may be written reads back as that tree.
     ensures law { (n : Node) → IsSound n → IsWritable n → tree_of (compact_text n) ≡ Some n }
 {
-    let draft = draft_of(alloc, tree)?;
-    write_draft(alloc, &draft)
+    let outline = outline_of(alloc, tree)?;
+    write_outline(alloc, &outline)
 }
 
-/// Writes the compact text of a draft: no blank, its members in their order.
+/// Writes the compact text of an outline: no blank, its members in their order.
 ///
-/// What is written reads back as the draft's tree. One walk of the draft.
+/// What is written reads back as the outline's tree. One walk of the outline.
 ///
 /// # Errors
 /// No memory: an allocation failed.
 ///
 /// After RFC 8259.
-pub fn write_draft(alloc: Global, draft: &Draft<'_>) -> Result<String, AllocError>
-    requires sound { IsSound (draft_node draft.now) }
-    requires writable { IsWritable (draft_node draft.now) }
-    ensures text { IfOk result (λ s. string_bytes s ≡ compact_text (draft_node draft.now)) }
-    ensures reads_back { IfOk result (λ s. tree_of (string_bytes s) ≡ Some (draft_node draft.now)) }
+pub fn write_outline(alloc: Global, outline: &Outline<'_>) -> Result<String, AllocError>
+    requires sound { IsSound (outline_node outline.now) }
+    requires writable { IsWritable (outline_node outline.now) }
+    ensures text { IfOk result (λ s. string_bytes s ≡ compact_text (outline_node outline.now)) }
+    ensures reads_back { IfOk result (λ s. tree_of (string_bytes s) ≡ Some (outline_node outline.now)) }
 {
     let mut out = Writer::new(Vec::with_capacity(alloc, ROOM)?);
-    write_value(&mut out, draft)?;
+    write_value(&mut out, outline)?;
     Ok(unsafe { String::from_utf8_unchecked(out.into_inner()) })
 }
 
 #[cycle(write)]
 #[inline(always)]
-fn write_value(out: &mut Writer, draft: &Draft<'_>) -> Result<(), AllocError>
-    requires { has_odd (draft_node draft.now) ≡ false }
+fn write_value(out: &mut Writer, outline: &Outline<'_>) -> Result<(), AllocError>
+    requires { has_odd (outline_node outline.now) ≡ false }
     ensures before { OnOk result (out.new.before ≡ out.old.before) }
-    ensures tokens { OnOk result (out.new.tokens ≡ out.old.tokens ++ tokens_of (draft_node draft.now)) }
+    ensures tokens { OnOk result (out.new.tokens ≡ out.old.tokens ++ tokens_of (outline_node outline.now)) }
 {
-    match draft {
-        Draft::Null => out.null(),
-        Draft::Bool(b) => out.boolean(*b),
-        Draft::Int(whole) => write_whole(out, whole.value),
-        Draft::Odd => unreachable!(),
-        Draft::Text(text) => out.string(text),
-        Draft::List(items) => {
+    match outline {
+        Outline::Null => out.null(),
+        Outline::Bool(b) => out.boolean(*b),
+        Outline::Int(whole) => write_whole(out, whole.value),
+        Outline::Odd => unreachable!(),
+        Outline::Text(text) => out.string(text),
+        Outline::List(items) => {
             out.begin_array()?;
             write_items(out, items)
         }
-        Draft::Map(members) => {
+        Outline::Map(members) => {
             out.begin_object()?;
             write_members(out, members)
         }
@@ -90,11 +90,11 @@ fn write_whole(out: &mut Writer, value: i64) -> Result<(), AllocError>
 /// The items of a list, and the closing bracket.
 #[cycle(write)]
 #[inline(never)]
-fn write_items(out: &mut Writer, items: &Vec<Draft<'_>>) -> Result<(), AllocError>
-    requires { items_have_odd (draft_items items.now.items) ≡ false }
+fn write_items(out: &mut Writer, items: &Vec<Outline<'_>>) -> Result<(), AllocError>
+    requires { items_have_odd (outline_items items.now.items) ≡ false }
     ensures before { OnOk result (out.new.before ≡ out.old.before) }
     ensures tokens { OnOk result (out.new.tokens
-        ≡ out.old.tokens ++ items_tokens (draft_items items.now.items)) }
+        ≡ out.old.tokens ++ items_tokens (outline_items items.now.items)) }
 {
     for item in items {
         write_value(out, item)?;
@@ -105,11 +105,11 @@ fn write_items(out: &mut Writer, items: &Vec<Draft<'_>>) -> Result<(), AllocErro
 /// The members of a map, and the closing brace.
 #[cycle(write)]
 #[inline(never)]
-fn write_members(out: &mut Writer, members: &DraftMembers<'_>) -> Result<(), AllocError>
-    requires { members_have_odd (draft_members members.now.items) ≡ false }
+fn write_members(out: &mut Writer, members: &OutlineMembers<'_>) -> Result<(), AllocError>
+    requires { members_have_odd (outline_members members.now.items) ≡ false }
     ensures before { OnOk result (out.new.before ≡ out.old.before) }
     ensures tokens { OnOk result (out.new.tokens
-        ≡ out.old.tokens ++ members_tokens (draft_members members.now.items)) }
+        ≡ out.old.tokens ++ members_tokens (outline_members members.now.items)) }
 {
     for member in members {
         out.key(member.0)?;

@@ -9,8 +9,8 @@ use Rattle.bidi_tree.specs.Node.{Node, Items, no_items, item, levels, items_leve
 use Rattle.bidi_tree.specs.Kind.{list_in}
 use Rattle.bidi_shape.specs.ListLaws.{two_items as length_of_two}
 use Rattle.bidi_tree.specs.View.{items_of}
-use Rattle.bidi_tree.specs.Draft.{draft_node, draft_items}
-use Rattle.bidi_tree.specs.declared.draft.Draft.{Draft}
+use Rattle.bidi_tree.specs.Outline.{outline_node, outline_items}
+use Rattle.bidi_tree.specs.declared.outline.Outline.{Outline}
 use Rattle.bidi_shape.specs.Term.{Term, map_of, closed, rule, list_of, pair_of, either, text}
 use Rattle.bidi_shape.specs.Parts.{joined}
 use Rattle.bidi_shape.specs.Fits.{Fits, AllFit, fits_pair}
@@ -124,27 +124,27 @@ module _ {P L M : Type 0} (n : NestingOf P L M) where
   module _ {s : ShapeOf P} {l : SiblingsOf L} {m : SiblingsOf M} (a : Agrees n s l m) where
     -- ---- writers
 
-    pub plain_drafted : (r : Result Draft AllocError) (v : Nested P L M) (p : P)
-        → v ≡ PlainOf p → IfOk r (λ d. draft_node d ≡ s.tree_of p) → IfOk r (λ d. draft_node d ≡ nested_tree n v)
-    plain_drafted (Ok t) v p is e = e ∙ a.tree p ∙ sym (ap (value_tree n) (content-Plain p)) ∙ ap (nested_tree n) (sym is)
-    plain_drafted (Err x) v p is e = tt
+    pub plain_outlined : (r : Result Outline AllocError) (v : Nested P L M) (p : P)
+        → v ≡ PlainOf p → IfOk r (λ d. outline_node d ≡ s.tree_of p) → IfOk r (λ d. outline_node d ≡ nested_tree n v)
+    plain_outlined (Ok t) v p is e = e ∙ a.tree p ∙ sym (ap (value_tree n) (content-Plain p)) ∙ ap (nested_tree n) (sym is)
+    plain_outlined (Err x) v p is e = tt
 
-    pub list_drafted : (r : Result Draft AllocError) (v : Nested P L M) (h : L) (vs : Vec (Nested P L M) Global) (drafts : Vec Draft Global) → v ≡ ListOf h vs
-        → map draft_node drafts.items ≡ map (nested_tree n) vs.items
-        → IfOk r (λ d. draft_node d ≡ around l h (kind.list (draft_items drafts.items))) → IfOk r (λ d. draft_node d ≡ nested_tree n v)
-    list_drafted (Ok t) v h vs drafts is e p =
-        p ∙ around_same a.list h (kind.list (draft_items drafts.items))
-        ∙ sym (list_tree h vs (map draft_node drafts.items) (sym e)) ∙ ap (nested_tree n) (sym is)
-    list_drafted (Err x) v h vs drafts is e p = tt
+    pub list_outlined : (r : Result Outline AllocError) (v : Nested P L M) (h : L) (vs : Vec (Nested P L M) Global) (outlines : Vec Outline Global) → v ≡ ListOf h vs
+        → map outline_node outlines.items ≡ map (nested_tree n) vs.items
+        → IfOk r (λ d. outline_node d ≡ around l h (kind.list (outline_items outlines.items))) → IfOk r (λ d. outline_node d ≡ nested_tree n v)
+    list_outlined (Ok t) v h vs outlines is e p =
+        p ∙ around_same a.list h (kind.list (outline_items outlines.items))
+        ∙ sym (list_tree h vs (map outline_node outlines.items) (sym e)) ∙ ap (nested_tree n) (sym is)
+    list_outlined (Err x) v h vs outlines is e p = tt
 
-    pub pairs_drafted : (r : Result Draft AllocError) (v : Nested P L M) (h : M) (ps : Vec (NestedPair P L M) Global) (drafts : Vec Draft Global)
+    pub pairs_outlined : (r : Result Outline AllocError) (v : Nested P L M) (h : M) (ps : Vec (NestedPair P L M) Global) (outlines : Vec Outline Global)
         → v ≡ PairsOf h ps
-        → map draft_node drafts.items ≡ map (nested_pair_tree n) ps.items
-        → IfOk r (λ d. draft_node d ≡ around m h (kind.list (draft_items drafts.items))) → IfOk r (λ d. draft_node d ≡ nested_tree n v)
-    pairs_drafted (Ok t) v h ps drafts is e p =
-        p ∙ around_same a.pairs h (kind.list (draft_items drafts.items))
-        ∙ sym (pairs_list_tree h ps (map draft_node drafts.items) (sym e)) ∙ ap (nested_tree n) (sym is)
-    pairs_drafted (Err x) v h ps drafts is e p = tt
+        → map outline_node outlines.items ≡ map (nested_pair_tree n) ps.items
+        → IfOk r (λ d. outline_node d ≡ around m h (kind.list (outline_items outlines.items))) → IfOk r (λ d. outline_node d ≡ nested_tree n v)
+    pairs_outlined (Ok t) v h ps outlines is e p =
+        p ∙ around_same a.pairs h (kind.list (outline_items outlines.items))
+        ∙ sym (pairs_list_tree h ps (map outline_node outlines.items) (sym e)) ∙ ap (nested_tree n) (sym is)
+    pairs_outlined (Err x) v h ps outlines is e p = tt
 
     -- ---- copies
 

@@ -9,9 +9,9 @@ use crate::local_value::LocalValue;
 use crate::target::Target;
 use bidi_shape::{
     Ext, Fields, MakeFault, Maybe, One, Optional, Parsed, Required, Rest, Shape, ShapeFault,
-    draft_fields, further, read_fields,
+    further, outline_fields, read_fields,
 };
-use bidi_tree::{Draft, Members};
+use bidi_tree::{Members, Outline};
 use std::alloc::{AllocError, Global};
 
 /// Parameters of `script.callFunction`.
@@ -133,7 +133,7 @@ impl Shape for CallFunctionParameters {
         })
     }
 
-    fn draft<'a>(&'a self, alloc: Global) -> Result<Draft<'a>, AllocError> {
+    fn outline<'a>(&'a self, alloc: Global) -> Result<Outline<'a>, AllocError> {
         let members = One(
             &self.function_declaration,
             One(
@@ -150,7 +150,7 @@ impl Shape for CallFunctionParameters {
                 ),
             ),
         );
-        draft_fields(alloc, &members, Self::NAMES, &[])
+        outline_fields(alloc, &members, Self::NAMES, &[])
     }
 }
 
@@ -214,8 +214,8 @@ impl Shape for DisownParameters {
         })
     }
 
-    fn draft<'a>(&'a self, alloc: Global) -> Result<Draft<'a>, AllocError> {
+    fn outline<'a>(&'a self, alloc: Global) -> Result<Outline<'a>, AllocError> {
         let members = One(&self.handles, One(&self.target, Rest(&self.ext)));
-        draft_fields(alloc, &members, Self::NAMES, &[])
+        outline_fields(alloc, &members, Self::NAMES, &[])
     }
 }

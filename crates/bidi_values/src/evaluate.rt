@@ -7,9 +7,9 @@ ghost use Rattle.bidi_shape.specs.Name.{evaluate_parameters};
 use crate::target::Target;
 use bidi_shape::{
     Ext, Fields, MakeFault, Maybe, Named, One, Optional, Parsed, Required, Rest, Shape, ShapeFault,
-    draft_fields, further, read_fields,
+    further, outline_fields, read_fields,
 };
-use bidi_tree::{Draft, Members};
+use bidi_tree::{Members, Outline};
 use std::alloc::{AllocError, Global};
 
 /// Whether the handle of a result is kept.
@@ -134,7 +134,7 @@ impl Shape for EvaluateParameters {
         })
     }
 
-    fn draft<'a>(&'a self, alloc: Global) -> Result<Draft<'a>, AllocError> {
+    fn outline<'a>(&'a self, alloc: Global) -> Result<Outline<'a>, AllocError> {
         let members = One(
             &self.expression,
             One(
@@ -148,6 +148,6 @@ impl Shape for EvaluateParameters {
                 ),
             ),
         );
-        draft_fields(alloc, &members, Self::NAMES, &[])
+        outline_fields(alloc, &members, Self::NAMES, &[])
     }
 }

@@ -7,9 +7,9 @@ use crate::exception::ExceptionDetails;
 use crate::remote_value::RemoteValue;
 use bidi_shape::{
     Closed, Either, End, Exact, Fields, Literal, One, Parsed, Required, Shape, ShapeFault,
-    draft_fields, read_choice, read_fields,
+    outline_fields, read_choice, read_fields,
 };
-use bidi_tree::Draft;
+use bidi_tree::Outline;
 use std::alloc::{AllocError, Global};
 
 /// The value of a script that ran to its end, and the realm that it ran in.
@@ -38,9 +38,9 @@ impl Shape for EvaluateSuccess {
         Ok(EvaluateSuccess { result, realm })
     }
 
-    fn draft<'a>(&'a self, alloc: Global) -> Result<Draft<'a>, AllocError> {
+    fn outline<'a>(&'a self, alloc: Global) -> Result<Outline<'a>, AllocError> {
         let members = Exact(One(&self.result, One(&self.realm, End)));
-        draft_fields(alloc, &members, Self::NAMES, &["success"])
+        outline_fields(alloc, &members, Self::NAMES, &["success"])
     }
 }
 
@@ -73,9 +73,9 @@ impl Shape for EvaluateException {
         })
     }
 
-    fn draft<'a>(&'a self, alloc: Global) -> Result<Draft<'a>, AllocError> {
+    fn outline<'a>(&'a self, alloc: Global) -> Result<Outline<'a>, AllocError> {
         let members = Exact(One(&self.exception_details, One(&self.realm, End)));
-        draft_fields(alloc, &members, Self::NAMES, &["exception"])
+        outline_fields(alloc, &members, Self::NAMES, &["exception"])
     }
 }
 
@@ -109,10 +109,10 @@ impl Shape for EvaluateResult {
         }
     }
 
-    fn draft<'a>(&'a self, alloc: Global) -> Result<Draft<'a>, AllocError> {
+    fn outline<'a>(&'a self, alloc: Global) -> Result<Outline<'a>, AllocError> {
         match self {
-            EvaluateResult::Success(success) => success.draft(alloc),
-            EvaluateResult::Exception(exception) => exception.draft(alloc),
+            EvaluateResult::Success(success) => success.outline(alloc),
+            EvaluateResult::Exception(exception) => exception.outline(alloc),
         }
     }
 }

@@ -2,9 +2,9 @@
 use crate::remote_value::RemoteValue;
 use crate::stack_trace::StackTrace;
 use bidi_shape::{
-    Closed, End, Fields, One, Parsed, Required, Shape, ShapeFault, draft_fields, read_fields,
+    Closed, End, Fields, One, Parsed, Required, Shape, ShapeFault, outline_fields, read_fields,
 };
-use bidi_tree::{Draft, JsUint};
+use bidi_tree::{JsUint, Outline};
 use std::alloc::{AllocError, Global};
 
 /// The value that a script threw, and where, with an account in words. Lines and columns are counted from 0.
@@ -63,7 +63,7 @@ impl Shape for ExceptionDetails {
         })
     }
 
-    fn draft<'a>(&'a self, alloc: Global) -> Result<Draft<'a>, AllocError> {
+    fn outline<'a>(&'a self, alloc: Global) -> Result<Outline<'a>, AllocError> {
         let members = One(
             &self.column_number,
             One(
@@ -74,6 +74,6 @@ impl Shape for ExceptionDetails {
                 ),
             ),
         );
-        draft_fields(alloc, &members, Self::NAMES, &[])
+        outline_fields(alloc, &members, Self::NAMES, &[])
     }
 }

@@ -10,12 +10,12 @@ use crate::reg_exp::RegExpValue;
 use crate::siblings::Siblings;
 use bidi_shape::{
     Closed, End, Exact, Fields, Literal, Maybe, One, Optional, Parsed, Required, Shape, ShapeFault,
-    add_member, add_optional, draft_fields, read_fields,
+    add_member, add_optional, outline_fields, read_fields,
 };
-use bidi_tree::{Draft, DraftMembers};
+use bidi_tree::{Outline, OutlineMembers};
 use std::alloc::{AllocError, Global};
 
-/// What a remote end holds: its kind, which is the member `type`, and what it is named by.
+/// What a message tells of a value that a remote end holds: its kind, which is the member `type`, and its names.
 ///
 /// `( type: K, ? handle: text, ? internalId: text )`
 ///
@@ -56,12 +56,12 @@ impl<K: Shape> Shape for Held<K> {
         })
     }
 
-    fn draft<'a>(&'a self, alloc: Global) -> Result<Draft<'a>, AllocError> {
+    fn outline<'a>(&'a self, alloc: Global) -> Result<Outline<'a>, AllocError> {
         let members = One(
             &self.kind,
             Maybe(&self.handle, Maybe(&self.internal_id, End)),
         );
-        draft_fields(alloc, &members, NAMES, &[])
+        outline_fields(alloc, &members, NAMES, &[])
     }
 }
 
@@ -89,7 +89,7 @@ impl<K: Shape + Copy> Siblings for Held<K> {
     fn add_to<'a>(
         &'a self,
         alloc: Global,
-        members: &mut DraftMembers<'a>,
+        members: &mut OutlineMembers<'a>,
     ) -> Result<(), AllocError> {
         add_optional(alloc, members, "internalId", &self.internal_id)?;
         add_optional(alloc, members, "handle", &self.handle)?;
@@ -153,12 +153,12 @@ impl Shape for RemoteRegExp {
         })
     }
 
-    fn draft<'a>(&'a self, alloc: Global) -> Result<Draft<'a>, AllocError> {
+    fn outline<'a>(&'a self, alloc: Global) -> Result<Outline<'a>, AllocError> {
         let members = Exact(One(
             &self.value,
             Maybe(&self.handle, Maybe(&self.internal_id, End)),
         ));
-        draft_fields(alloc, &members, Self::NAMES, &["regexp"])
+        outline_fields(alloc, &members, Self::NAMES, &["regexp"])
     }
 }
 
@@ -210,11 +210,11 @@ impl Shape for RemoteDate {
         })
     }
 
-    fn draft<'a>(&'a self, alloc: Global) -> Result<Draft<'a>, AllocError> {
+    fn outline<'a>(&'a self, alloc: Global) -> Result<Outline<'a>, AllocError> {
         let members = Exact(One(
             &self.value,
             Maybe(&self.handle, Maybe(&self.internal_id, End)),
         ));
-        draft_fields(alloc, &members, Self::NAMES, &["date"])
+        outline_fields(alloc, &members, Self::NAMES, &["date"])
     }
 }

@@ -3,7 +3,7 @@ ghost use Rattle.bidi_values.specs.Kinds.{list_words, pairs_words};
 
 use crate::siblings::Siblings;
 use bidi_shape::{Closed, Fields, Named, Parsed, Required, ShapeFault, add_member};
-use bidi_tree::DraftMembers;
+use bidi_tree::OutlineMembers;
 use std::alloc::{AllocError, Global};
 
 /// What holds a list of values.
@@ -85,7 +85,7 @@ impl<K: Named + Copy> Siblings for K {
     fn add_to<'a>(
         &'a self,
         alloc: Global,
-        members: &mut DraftMembers<'a>,
+        members: &mut OutlineMembers<'a>,
     ) -> Result<(), AllocError> {
         add_member(alloc, members, "type", self)
     }

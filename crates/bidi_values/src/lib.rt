@@ -1,5 +1,7 @@
-//! The values of a script as messages bear them: primitive values, references, targets, what stands in an error or a log
-//! entry, and the parameters of the commands that bear such values.
+//! The values of a script as messages bear them, and the parameters that bear them.
+//!
+//! These are primitive values, references, targets, the parts of an error or a log entry, and the parameters of the
+//! commands `script.evaluate`, `script.callFunction` and `script.disown`.
 //!
 //! Each type is a [`Shape`](bidi_shape::Shape) of its rule. A type that takes further members has a constructor,
 //! which refuses the parts that are no value of it.

@@ -8,9 +8,9 @@ use crate::primitive::Primitive;
 use crate::reference::Reference;
 use crate::reg_exp::RegExpValue;
 use bidi_shape::{
-    Either, Parsed, Shape, ShapeFault, Tag, Typed, copied, draft_of_typed, read_choice,
+    Either, Parsed, Shape, ShapeFault, Tag, Typed, copied, outline_of_typed, read_choice,
 };
-use bidi_tree::Draft;
+use bidi_tree::Outline;
 use std::alloc::{AllocError, Global};
 
 /// A value that a client sends to a script, of at most 60 levels.
@@ -73,12 +73,12 @@ impl Shape for LocalPlain {
         }
     }
 
-    fn draft<'a>(&'a self, alloc: Global) -> Result<Draft<'a>, AllocError> {
+    fn outline<'a>(&'a self, alloc: Global) -> Result<Outline<'a>, AllocError> {
         match self {
-            LocalPlain::Reference(reference) => reference.draft(alloc),
-            LocalPlain::Primitive(primitive) => primitive.draft(alloc),
-            LocalPlain::Date(date) => draft_of_typed(alloc, "date", date),
-            LocalPlain::RegExp(reg_exp) => draft_of_typed(alloc, "regexp", reg_exp),
+            LocalPlain::Reference(reference) => reference.outline(alloc),
+            LocalPlain::Primitive(primitive) => primitive.outline(alloc),
+            LocalPlain::Date(date) => outline_of_typed(alloc, "date", date),
+            LocalPlain::RegExp(reg_exp) => outline_of_typed(alloc, "regexp", reg_exp),
         }
     }
 }

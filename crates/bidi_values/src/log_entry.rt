@@ -2,7 +2,7 @@
 ghost use Rattle.std.specs.Prelude.{◌≡◌, OnOk, refl, [], ◌∷◌, codes, IfOk, true};
 ghost use Rattle.bidi_tree.specs.Node as kind;
 ghost use Rattle.bidi_tree.specs.Node.{IsSound, MembersAreWhole};
-ghost use Rattle.bidi_tree.specs.Draft.{draft_members};
+ghost use Rattle.bidi_tree.specs.Outline.{outline_members};
 ghost use Rattle.bidi_tree.specs.View.{members_node};
 ghost use Rattle.bidi_shape.specs.Table.{map_shape, names_in};
 ghost use Rattle.bidi_shape.specs.Name.{source, console_entry, javascript_entry, generic_log_entry, log_entry};
@@ -13,10 +13,10 @@ use crate::remote_value::RemoteValue;
 use crate::stack_trace::StackTrace;
 use bidi_shape::{
     Closed, Either, End, Ext, Fields, Literal, MakeFault, Maybe, Named, One, Optional, Parsed,
-    Required, Shape, ShapeFault, add_literal, add_member, add_optional, draft_fields, not_shadowed,
-    read_choice, read_fields,
+    Required, Shape, ShapeFault, add_literal, add_member, add_optional, not_shadowed,
+    outline_fields, read_choice, read_fields,
 };
-use bidi_tree::{Draft, DraftMembers, JsUint, Members, draft_members_of};
+use bidi_tree::{JsUint, Members, Outline, OutlineMembers, outline_members_of};
 use std::alloc::{AllocError, Global};
 
 /// How grave a log entry is.
@@ -80,9 +80,9 @@ impl Shape for Source {
         Ok(Source { realm, context })
     }
 
-    fn draft<'a>(&'a self, alloc: Global) -> Result<Draft<'a>, AllocError> {
+    fn outline<'a>(&'a self, alloc: Global) -> Result<Outline<'a>, AllocError> {
         let members = One(&self.realm, Maybe(&self.context, End));
-        draft_fields(alloc, &members, Self::NAMES, &[])
+        outline_fields(alloc, &members, Self::NAMES, &[])
     }
 }
 
@@ -140,11 +140,11 @@ impl<F: Fields> Fields for WithBase<F> {
 /// Puts what every log entry has among the members of a map.
 fn add_base<'a>(
     alloc: Global,
-    members: &mut DraftMembers<'a>,
+    members: &mut OutlineMembers<'a>,
     base: &'a BaseLogEntry,
 ) -> Result<(), AllocError>
-    ensures ok { OnOk result (draft_members members.new.items ≡ and_base base.now (draft_members members.old.items)) }
-    ensures sound { IsSound (kind.map (draft_members members.old.items)) → OnOk result (IsSound (kind.map (draft_members members.new.items))) }
+    ensures ok { OnOk result (outline_members members.new.items ≡ and_base base.now (outline_members members.old.items)) }
+    ensures sound { IsSound (kind.map (outline_members members.old.items)) → OnOk result (IsSound (kind.map (outline_members members.new.items))) }
 {
     add_optional(alloc, members, "stackTrace", &base.stack_trace)?;
     add_member(alloc, members, "timestamp", &base.timestamp)?;
@@ -189,13 +189,13 @@ impl Shape for ConsoleEntry {
         Ok(ConsoleEntry { base, method, args })
     }
 
-    fn draft<'a>(&'a self, alloc: Global) -> Result<Draft<'a>, AllocError> {
+    fn outline<'a>(&'a self, alloc: Global) -> Result<Outline<'a>, AllocError> {
         let mut members = Vec::with_capacity(alloc, Self::NAMES.len())?;
         add_member(alloc, &mut members, "args", &self.args)?;
         add_member(alloc, &mut members, "method", &self.method)?;
         add_literal(&mut members, "type", "console")?;
         add_base(alloc, &mut members, &self.base)?;
-        Ok(Draft::Map(members))
+        Ok(Outline::Map(members))
     }
 }
 
@@ -231,11 +231,11 @@ impl Shape for JavascriptEntry {
         Ok(JavascriptEntry { base })
     }
 
-    fn draft<'a>(&'a self, alloc: Global) -> Result<Draft<'a>, AllocError> {
+    fn outline<'a>(&'a self, alloc: Global) -> Result<Outline<'a>, AllocError> {
         let mut members = Vec::with_capacity(alloc, Self::NAMES.len())?;
         add_literal(&mut members, "type", "javascript")?;
         add_base(alloc, &mut members, &self.base)?;
-        Ok(Draft::Map(members))
+        Ok(Outline::Map(members))
     }
 }
 
@@ -304,11 +304,11 @@ impl Shape for GenericLogEntry {
         Ok(GenericLogEntry { base, kind, ext })
     }
 
-    fn draft<'a>(&'a self, alloc: Global) -> Result<Draft<'a>, AllocError> {
-        let mut members = draft_members_of(alloc, &self.ext.members, Self::NAMES.len())?;
+    fn outline<'a>(&'a self, alloc: Global) -> Result<Outline<'a>, AllocError> {
+        let mut members = outline_members_of(alloc, &self.ext.members, Self::NAMES.len())?;
         add_member(alloc, &mut members, "type", &self.kind)?;
         add_base(alloc, &mut members, &self.base)?;
-        Ok(Draft::Map(members))
+        Ok(Outline::Map(members))
     }
 }
 
@@ -345,11 +345,11 @@ impl Shape for LogEntry {
         }
     }
 
-    fn draft<'a>(&'a self, alloc: Global) -> Result<Draft<'a>, AllocError> {
+    fn outline<'a>(&'a self, alloc: Global) -> Result<Outline<'a>, AllocError> {
         match self {
-            LogEntry::Console(console) => console.draft(alloc),
-            LogEntry::Javascript(javascript) => javascript.draft(alloc),
-            LogEntry::Generic(generic) => generic.draft(alloc),
+            LogEntry::Console(console) => console.outline(alloc),
+            LogEntry::Javascript(javascript) => javascript.outline(alloc),
+            LogEntry::Generic(generic) => generic.outline(alloc),
         }
     }
 }

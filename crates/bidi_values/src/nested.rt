@@ -6,9 +6,9 @@ ghost use Rattle.bidi_values.specs.NestedLaws.{NestingOf, Agrees, nested_shape, 
 use crate::copying::copy_value;
 use crate::reading::read_value;
 use crate::siblings::Siblings;
-use crate::writing::draft_value;
-use bidi_shape::{MakeFault, Parsed, Shape, ShapeFault};
-use bidi_tree::Draft;
+use crate::writing::outline_value;
+use bidi_shape::{MAX_LEVELS, MakeFault, Parsed, Shape, ShapeFault};
+use bidi_tree::Outline;
 use std::alloc::{AllocError, Global};
 
 /// A value that is plain, or holds a list of values, or a list of pairs.
@@ -63,9 +63,6 @@ pub trait Nests<L: Siblings, M: Siblings>: Shape {
     ghost agrees: { Agrees nesting Self.shape L.siblings M.siblings };
 }
 
-/// The most levels of a value's tree.
-const MAX_LEVELS: usize = 60;
-
 impl<P: Nests<L, M>, L: Siblings, M: Siblings> Shape for Nested<P, L, M> {
     ghost shape = { nested_shape P.nesting content };
 
@@ -77,8 +74,8 @@ impl<P: Nests<L, M>, L: Siblings, M: Siblings> Shape for Nested<P, L, M> {
         }
     }
 
-    fn draft<'a>(&'a self, alloc: Global) -> Result<Draft<'a>, AllocError> {
-        draft_value(alloc, self)
+    fn outline<'a>(&'a self, alloc: Global) -> Result<Outline<'a>, AllocError> {
+        outline_value(alloc, self)
     }
 }
 
@@ -88,7 +85,7 @@ impl<P: Nests<L, M>, L: Siblings, M: Siblings> Nested<P, L, M> {
     ghost use Rattle.bidi_values.specs.View.{nested_tree, NestedIsWell};
 
     /// The value, where its tree has at most 60 levels. To make a value of many levels, ask this once, at its top.
-    /// Costs the making of its draft.
+    /// Costs the making of its outline.
     ///
     /// # Errors
     /// - `TooDeep`: it has more.
@@ -98,7 +95,7 @@ impl<P: Nests<L, M>, L: Siblings, M: Siblings> Nested<P, L, M> {
         ensures made { Makes result ⊥ ⊥ (¬ (levels (nested_tree P.nesting self) ≤ 60)) (λ v. v ≡ self) }
         ensures well { IfOk result (λ v. IsWell P.nesting (content v)) }
     {
-        let is_within = self.draft(alloc)?.is_within(MAX_LEVELS);
+        let is_within = self.outline(alloc)?.is_within(MAX_LEVELS);
         if is_within {
             Ok(self)
         } else {

@@ -5,10 +5,10 @@ ghost use Rattle.bidi_shape.specs.declared.choice.Either.TheVariants.{First, Sec
 ghost use Rattle.bidi_values.specs.Number.{special_number_words, number};
 
 use bidi_shape::{
-    Bare, Either, Named, Parsed, Shape, ShapeFault, Tag, Typed, draft_of_type, draft_of_typed,
+    Bare, Either, Named, Parsed, Shape, ShapeFault, Tag, Typed, outline_of_type, outline_of_typed,
     read_choice,
 };
-use bidi_tree::{Draft, JsInt};
+use bidi_tree::{JsInt, Outline};
 use std::alloc::{AllocError, Global};
 
 /// A number that JSON has not, or that would lose its sign.
@@ -76,10 +76,10 @@ impl Shape for Number {
         }
     }
 
-    fn draft<'a>(&'a self, alloc: Global) -> Result<Draft<'a>, AllocError> {
+    fn outline<'a>(&'a self, alloc: Global) -> Result<Outline<'a>, AllocError> {
         match self {
-            Number::Whole(whole) => whole.draft(alloc),
-            Number::Special(special) => special.draft(alloc),
+            Number::Whole(whole) => whole.outline(alloc),
+            Number::Special(special) => special.outline(alloc),
         }
     }
 }
@@ -112,7 +112,7 @@ impl Primitive {
     ///
     /// # Errors
     /// No memory: an allocation failed.
-    pub(crate) fn copy(&self) -> Result<Primitive, AllocError>
+    pub fn copy(&self) -> Result<Primitive, AllocError>
         ensures tree { IfOk result (λ v. ⟦<Primitive as Shape>⟧.shape.tree_of v ≡ ⟦<Primitive as Shape>⟧.shape.tree_of self.now) }
         ensures well { ⟦<Primitive as Shape>⟧.shape.well self.now → IfOk result ⟦<Primitive as Shape>⟧.shape.well }
     {
@@ -172,14 +172,14 @@ impl Shape for Primitive {
         }
     }
 
-    fn draft<'a>(&'a self, alloc: Global) -> Result<Draft<'a>, AllocError> {
+    fn outline<'a>(&'a self, alloc: Global) -> Result<Outline<'a>, AllocError> {
         match self {
-            Primitive::Undefined => draft_of_type(alloc, "undefined"),
-            Primitive::Null => draft_of_type(alloc, "null"),
-            Primitive::String(text) => draft_of_typed(alloc, "string", text),
-            Primitive::Number(number) => draft_of_typed(alloc, "number", number),
-            Primitive::Boolean(boolean) => draft_of_typed(alloc, "boolean", boolean),
-            Primitive::BigInt(digits) => draft_of_typed(alloc, "bigint", digits),
+            Primitive::Undefined => outline_of_type(alloc, "undefined"),
+            Primitive::Null => outline_of_type(alloc, "null"),
+            Primitive::String(text) => outline_of_typed(alloc, "string", text),
+            Primitive::Number(number) => outline_of_typed(alloc, "number", number),
+            Primitive::Boolean(boolean) => outline_of_typed(alloc, "boolean", boolean),
+            Primitive::BigInt(digits) => outline_of_typed(alloc, "bigint", digits),
         }
     }
 }

@@ -6,9 +6,9 @@ ghost use Rattle.bidi_shape.specs.Made.{Makes, named, MembersAreWhole, members_n
 
 use bidi_shape::{
     Either, Ext, Fields, MakeFault, Maybe, One, Optional, Parsed, Required, Rest, Shape,
-    ShapeFault, draft_fields, further, not_shadowed, read_choice, read_fields,
+    ShapeFault, further, not_shadowed, outline_fields, read_choice, read_fields,
 };
-use bidi_tree::{Draft, Members};
+use bidi_tree::{Members, Outline};
 use std::alloc::{AllocError, Global};
 
 /// A reference to a node by its shared id. The remote end of this project holds none: `no such node`.
@@ -68,9 +68,9 @@ impl Shape for SharedReference {
         })
     }
 
-    fn draft<'a>(&'a self, alloc: Global) -> Result<Draft<'a>, AllocError> {
+    fn outline<'a>(&'a self, alloc: Global) -> Result<Outline<'a>, AllocError> {
         let members = One(&self.shared_id, Maybe(&self.handle, Rest(&self.ext)));
-        draft_fields(alloc, &members, Self::NAMES, &[])
+        outline_fields(alloc, &members, Self::NAMES, &[])
     }
 }
 
@@ -142,9 +142,9 @@ impl Shape for RemoteObjectReference {
         })
     }
 
-    fn draft<'a>(&'a self, alloc: Global) -> Result<Draft<'a>, AllocError> {
+    fn outline<'a>(&'a self, alloc: Global) -> Result<Outline<'a>, AllocError> {
         let members = One(&self.handle, Maybe(&self.shared_id, Rest(&self.ext)));
-        draft_fields(alloc, &members, Self::NAMES, &[])
+        outline_fields(alloc, &members, Self::NAMES, &[])
     }
 }
 
@@ -176,10 +176,10 @@ impl Shape for Reference {
         }
     }
 
-    fn draft<'a>(&'a self, alloc: Global) -> Result<Draft<'a>, AllocError> {
+    fn outline<'a>(&'a self, alloc: Global) -> Result<Outline<'a>, AllocError> {
         match self {
-            Reference::Shared(shared) => shared.draft(alloc),
-            Reference::RemoteObject(object) => object.draft(alloc),
+            Reference::Shared(shared) => shared.outline(alloc),
+            Reference::RemoteObject(object) => object.outline(alloc),
         }
     }
 }

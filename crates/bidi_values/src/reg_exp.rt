@@ -3,10 +3,10 @@ ghost use Rattle.std.specs.Prelude.{◌≡◌, IfOk, refl, []};
 
 use crate::copying::copy_text;
 use bidi_shape::{
-    Closed, End, Fields, Maybe, One, Optional, Parsed, Required, Shape, ShapeFault, draft_fields,
+    Closed, End, Fields, Maybe, One, Optional, Parsed, Required, Shape, ShapeFault, outline_fields,
     read_fields,
 };
-use bidi_tree::Draft;
+use bidi_tree::Outline;
 use std::alloc::{AllocError, Global};
 
 /// A regular expression, as its source has it. Neither of the two texts is checked.
@@ -25,7 +25,7 @@ impl RegExpValue {
     ///
     /// # Errors
     /// No memory: an allocation failed.
-    pub(crate) fn copy(&self) -> Result<RegExpValue, AllocError>
+    pub fn copy(&self) -> Result<RegExpValue, AllocError>
         ensures tree { IfOk result (λ v. ⟦<RegExpValue as Shape>⟧.shape.tree_of v ≡ ⟦<RegExpValue as Shape>⟧.shape.tree_of self.now) }
         ensures well { ⟦<RegExpValue as Shape>⟧.shape.well self.now → IfOk result ⟦<RegExpValue as Shape>⟧.shape.well }
     {
@@ -56,8 +56,8 @@ impl Shape for RegExpValue {
         Ok(RegExpValue { pattern, flags })
     }
 
-    fn draft<'a>(&'a self, alloc: Global) -> Result<Draft<'a>, AllocError> {
+    fn outline<'a>(&'a self, alloc: Global) -> Result<Outline<'a>, AllocError> {
         let members = One(&self.pattern, Maybe(&self.flags, End));
-        draft_fields(alloc, &members, Self::NAMES, &[])
+        outline_fields(alloc, &members, Self::NAMES, &[])
     }
 }

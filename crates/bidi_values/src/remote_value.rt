@@ -7,7 +7,7 @@ use crate::nested::{Nested, NestedKey, NestedPair, Nests};
 use crate::primitive::Primitive;
 use crate::siblings::Siblings;
 use bidi_shape::{Either, Parsed, Shape, ShapeFault, read_choice};
-use bidi_tree::Draft;
+use bidi_tree::Outline;
 use std::alloc::{AllocError, Global};
 
 /// A value that a script gives back, of at most 60 levels.
@@ -80,14 +80,14 @@ impl Shape for RemotePlain {
         }
     }
 
-    fn draft<'a>(&'a self, alloc: Global) -> Result<Draft<'a>, AllocError> {
+    fn outline<'a>(&'a self, alloc: Global) -> Result<Outline<'a>, AllocError> {
         match self {
-            RemotePlain::Primitive(primitive) => primitive.draft(alloc),
-            RemotePlain::List(list) => list.draft(alloc),
-            RemotePlain::Pairs(pairs) => pairs.draft(alloc),
-            RemotePlain::RegExp(reg_exp) => reg_exp.draft(alloc),
-            RemotePlain::Date(date) => date.draft(alloc),
-            RemotePlain::Opaque(opaque) => opaque.draft(alloc),
+            RemotePlain::Primitive(primitive) => primitive.outline(alloc),
+            RemotePlain::List(list) => list.outline(alloc),
+            RemotePlain::Pairs(pairs) => pairs.outline(alloc),
+            RemotePlain::RegExp(reg_exp) => reg_exp.outline(alloc),
+            RemotePlain::Date(date) => date.outline(alloc),
+            RemotePlain::Opaque(opaque) => opaque.outline(alloc),
         }
     }
 }

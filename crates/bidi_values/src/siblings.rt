@@ -3,7 +3,7 @@ ghost use Rattle.std.specs.Prelude.{◌≡◌, IfOk, OnOk, Some, codes, map as l
 ghost use Rattle.bidi_tree.specs.Node as kind;
 ghost use Rattle.bidi_tree.specs.Node.{no_members, get_member, AreAscending, IsSound, ItemsAreSound};
 ghost use Rattle.bidi_tree.specs.Kind.{members_in};
-ghost use Rattle.bidi_tree.specs.Draft.{draft_node, draft_items, draft_members};
+ghost use Rattle.bidi_tree.specs.Outline.{outline_node, outline_items, outline_members};
 ghost use Rattle.bidi_tree.specs.View.{items_of};
 ghost use Rattle.bidi_shape.specs.Term.{Term, null, required, list_of, names_of};
 ghost use Rattle.bidi_shape.specs.Fits.{Fits, RowsFit, without};
@@ -12,7 +12,7 @@ ghost use Rattle.bidi_shape.specs.Outcome.{IfNoFit};
 ghost use Rattle.bidi_values.specs.SiblingLaws.{SiblingsOf, and_value, around, holding};
 
 use bidi_shape::{Parsed, ShapeFault};
-use bidi_tree::{Draft, DraftMembers};
+use bidi_tree::{Outline, OutlineMembers};
 use std::alloc::{AllocError, Global};
 
 /// The most members of such a map: `value`, `type`, `handle` and `internalId`.
@@ -35,13 +35,17 @@ pub trait Siblings: Drop {
         ensures no_fit { IfNoFit result (RowsFit (members_in (S.tree map.now)) siblings.rows
             → without (names_of (and_value siblings.rows null)) (members_in (S.tree map.now)) ≡ no_members → ⊥) };
 
-    /// Puts their drafts among the members of a map.
+    /// Puts their outlines among the members of a map.
     ///
     /// # Errors
     /// No memory: some of them may be there.
-    fn add_to<'a>(&'a self, alloc: Global, members: &mut DraftMembers<'a>) -> Result<(), AllocError>
-        ensures ok { OnOk result (draft_members members.new.items ≡ joined siblings.rows (siblings.parts self.now) (draft_members members.old.items)) }
-        ensures sound { IsSound (kind.map (draft_members members.old.items)) → OnOk result (IsSound (kind.map (draft_members members.new.items))) };
+    fn add_to<'a>(
+        &'a self,
+        alloc: Global,
+        members: &mut OutlineMembers<'a>,
+    ) -> Result<(), AllocError>
+        ensures ok { OnOk result (outline_members members.new.items ≡ joined siblings.rows (siblings.parts self.now) (outline_members members.old.items)) }
+        ensures sound { IsSound (kind.map (outline_members members.old.items)) → OnOk result (IsSound (kind.map (outline_members members.new.items))) };
 
     /// A copy of the members, which shares no memory with them.
     ///
@@ -77,18 +81,18 @@ fn list_at_value<S: Parsed>(map: &S) -> Result<&[S], ShapeFault>
     }
 }
 
-/// The draft of the closed map of a list under `value` and what stands beside it.
-pub(crate) fn draft_around<'a, H: Siblings>(
+/// The outline of the closed map of a list under `value` and what stands beside it.
+pub(crate) fn outline_around<'a, H: Siblings>(
     alloc: Global,
     siblings: &'a H,
-    items: Vec<Draft<'a>>,
-) -> Result<Draft<'a>, AllocError>
-    requires { ItemsAreSound (draft_items items.items) }
-    ensures tree { IfOk result (λ d. draft_node d ≡ around H.siblings siblings.now (kind.list (draft_items items.entry.items))) }
-    ensures sound { IfOk result (λ d. IsSound (draft_node d)) }
+    items: Vec<Outline<'a>>,
+) -> Result<Outline<'a>, AllocError>
+    requires { ItemsAreSound (outline_items items.items) }
+    ensures tree { IfOk result (λ d. outline_node d ≡ around H.siblings siblings.now (kind.list (outline_items items.entry.items))) }
+    ensures sound { IfOk result (λ d. IsSound (outline_node d)) }
 {
     let mut members = Vec::with_capacity(alloc, ROOM)?;
-    members.push(("value", Draft::List(items)))?;
+    members.push(("value", Outline::List(items)))?;
     siblings.add_to(alloc, &mut members)?;
-    Ok(Draft::Map(members))
+    Ok(Outline::Map(members))
 }

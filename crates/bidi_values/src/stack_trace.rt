@@ -5,9 +5,9 @@ ghost use Rattle.bidi_shape.specs.Name.{stack_frame, stack_trace};
 ghost use Rattle.bidi_shape.specs.Term.{rule as named};
 
 use bidi_shape::{
-    Closed, End, Fields, One, Parsed, Required, Shape, ShapeFault, draft_fields, read_fields,
+    Closed, End, Fields, One, Parsed, Required, Shape, ShapeFault, outline_fields, read_fields,
 };
-use bidi_tree::{Draft, JsUint};
+use bidi_tree::{JsUint, Outline};
 use std::alloc::{AllocError, Global};
 
 /// A place in a script, and the function that it stands in.
@@ -45,7 +45,7 @@ impl Shape for StackFrame {
         })
     }
 
-    fn draft<'a>(&'a self, alloc: Global) -> Result<Draft<'a>, AllocError> {
+    fn outline<'a>(&'a self, alloc: Global) -> Result<Outline<'a>, AllocError> {
         let members = One(
             &self.column_number,
             One(
@@ -53,7 +53,7 @@ impl Shape for StackFrame {
                 One(&self.line_number, One(&self.url, End)),
             ),
         );
-        draft_fields(alloc, &members, Self::NAMES, &[])
+        outline_fields(alloc, &members, Self::NAMES, &[])
     }
 }
 
@@ -80,8 +80,8 @@ impl Shape for StackTrace {
         Ok(StackTrace { call_frames })
     }
 
-    fn draft<'a>(&'a self, alloc: Global) -> Result<Draft<'a>, AllocError> {
+    fn outline<'a>(&'a self, alloc: Global) -> Result<Outline<'a>, AllocError> {
         let members = One(&self.call_frames, End);
-        draft_fields(alloc, &members, Self::NAMES, &[])
+        outline_fields(alloc, &members, Self::NAMES, &[])
     }
 }

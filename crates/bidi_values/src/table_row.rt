@@ -5,10 +5,10 @@ ghost use Rattle.bidi_values.specs.Outcomes.{returns_row, throws_row, argument_r
 
 use crate::remote_value::RemoteValue;
 use bidi_shape::{
-    Closed, Either, End, Fields, One, Parsed, Required, Shape, ShapeFault, draft_fields,
+    Closed, Either, End, Fields, One, Parsed, Required, Shape, ShapeFault, outline_fields,
     read_choice, read_fields,
 };
-use bidi_tree::{Draft, JsUint};
+use bidi_tree::{JsUint, Outline};
 use std::alloc::{AllocError, Global};
 
 /// A script that returns a value, which is the member `returns`.
@@ -35,9 +35,9 @@ impl Shape for ReturnsRow {
         Ok(ReturnsRow { text, value })
     }
 
-    fn draft<'a>(&'a self, alloc: Global) -> Result<Draft<'a>, AllocError> {
+    fn outline<'a>(&'a self, alloc: Global) -> Result<Outline<'a>, AllocError> {
         let members = One(&self.text, One(&self.value, End));
-        draft_fields(alloc, &members, Self::NAMES, &[])
+        outline_fields(alloc, &members, Self::NAMES, &[])
     }
 }
 
@@ -65,9 +65,9 @@ impl Shape for ThrowsRow {
         Ok(ThrowsRow { text, value })
     }
 
-    fn draft<'a>(&'a self, alloc: Global) -> Result<Draft<'a>, AllocError> {
+    fn outline<'a>(&'a self, alloc: Global) -> Result<Outline<'a>, AllocError> {
         let members = One(&self.text, One(&self.value, End));
-        draft_fields(alloc, &members, Self::NAMES, &[])
+        outline_fields(alloc, &members, Self::NAMES, &[])
     }
 }
 
@@ -95,9 +95,9 @@ impl Shape for ArgumentRow {
         Ok(ArgumentRow { text, index })
     }
 
-    fn draft<'a>(&'a self, alloc: Global) -> Result<Draft<'a>, AllocError> {
+    fn outline<'a>(&'a self, alloc: Global) -> Result<Outline<'a>, AllocError> {
         let members = One(&self.text, One(&self.index, End));
-        draft_fields(alloc, &members, Self::NAMES, &[])
+        outline_fields(alloc, &members, Self::NAMES, &[])
     }
 }
 
@@ -136,11 +136,11 @@ impl Shape for TableRow {
         }
     }
 
-    fn draft<'a>(&'a self, alloc: Global) -> Result<Draft<'a>, AllocError> {
+    fn outline<'a>(&'a self, alloc: Global) -> Result<Outline<'a>, AllocError> {
         match self {
-            TableRow::Returns(returns) => returns.draft(alloc),
-            TableRow::Throws(throws) => throws.draft(alloc),
-            TableRow::Argument(argument) => argument.draft(alloc),
+            TableRow::Returns(returns) => returns.outline(alloc),
+            TableRow::Throws(throws) => throws.outline(alloc),
+            TableRow::Argument(argument) => argument.outline(alloc),
         }
     }
 }

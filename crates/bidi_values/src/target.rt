@@ -6,9 +6,9 @@ ghost use Rattle.bidi_shape.specs.Made.{Makes, named, MembersAreWhole, members_n
 
 use bidi_shape::{
     Either, Ext, Fields, MakeFault, Maybe, One, Optional, Parsed, Required, Rest, Shape,
-    ShapeFault, draft_fields, further, not_shadowed, read_choice, read_fields,
+    ShapeFault, further, not_shadowed, outline_fields, read_choice, read_fields,
 };
-use bidi_tree::{Draft, Members};
+use bidi_tree::{Members, Outline};
 use std::alloc::{AllocError, Global};
 
 /// A browsing context, or a sandbox in it.
@@ -67,9 +67,9 @@ impl Shape for ContextTarget {
         })
     }
 
-    fn draft<'a>(&'a self, alloc: Global) -> Result<Draft<'a>, AllocError> {
+    fn outline<'a>(&'a self, alloc: Global) -> Result<Outline<'a>, AllocError> {
         let members = One(&self.context, Maybe(&self.sandbox, Rest(&self.ext)));
-        draft_fields(alloc, &members, Self::NAMES, &[])
+        outline_fields(alloc, &members, Self::NAMES, &[])
     }
 }
 
@@ -124,9 +124,9 @@ impl Shape for RealmTarget {
         Ok(RealmTarget { realm, ext })
     }
 
-    fn draft<'a>(&'a self, alloc: Global) -> Result<Draft<'a>, AllocError> {
+    fn outline<'a>(&'a self, alloc: Global) -> Result<Outline<'a>, AllocError> {
         let members = One(&self.realm, Rest(&self.ext));
-        draft_fields(alloc, &members, Self::NAMES, &[])
+        outline_fields(alloc, &members, Self::NAMES, &[])
     }
 }
 
@@ -158,10 +158,10 @@ impl Shape for Target {
         }
     }
 
-    fn draft<'a>(&'a self, alloc: Global) -> Result<Draft<'a>, AllocError> {
+    fn outline<'a>(&'a self, alloc: Global) -> Result<Outline<'a>, AllocError> {
         match self {
-            Target::Context(context) => context.draft(alloc),
-            Target::Realm(realm) => realm.draft(alloc),
+            Target::Context(context) => context.outline(alloc),
+            Target::Realm(realm) => realm.outline(alloc),
         }
     }
 }

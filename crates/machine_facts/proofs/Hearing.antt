@@ -6,7 +6,7 @@ use Rattle.bidi_shape.specs.Name.{command, table_row}
 use Rattle.bidi_shape.specs.Term.{rule}
 use Rattle.bidi_shape.specs.Fits.{Fits}
 use Rattle.bidi_shape.proofs.FitsTest.{Answer, fit, misfit, not_known, IsRight, holds, fails, test, right-test}
-use Rattle.bidi_codes.specs.declared.error_code.ErrorCode.TheVariants.{InvalidArgument, UnableToCaptureScreen}
+use Rattle.bidi_params.specs.declared.error_code.ErrorCode.TheVariants.{InvalidArgument, UnableToCaptureScreen}
 use Rattle.bidi_messages.specs.Verdict.{command_tree, echoed_id}
 use Rattle.bidi_browser.specs.Actions.{Frame, Unframe, Log, TableRow}
 use Rattle.bidi_messages.specs.Verdict.{Verdict, Accepted, Refused, refusal_code, IsVerdict, is_command, is_not_json, is_no_command}

@@ -7,7 +7,7 @@ use Rattle.bidi_browser.specs.Acts.{Made, Removed, Tabled, Ran, Disowned, Return
 use Rattle.bidi_browser.specs.Contexts.{up_to}
 use Rattle.bidi_handles.specs.Maps.{◌being◌and◌, mapped, word}
 use Rattle.bidi_browser.specs.Outcome.{undefined}
-use Rattle.bidi_subjects.specs.declared.event_data.EventName.TheVariants.{EntryAdded}
+use Rattle.bidi_methods.specs.declared.event_data.EventName.TheVariants.{EntryAdded}
 use Rattle.bidi_remote.specs.Machine.History.{Deed, Began, Opened, Subscribed, Cancelled, Did, All}
 use Rattle.bidi_remote.specs.Machine.Outcome.{turn}
 use Rattle.bidi_remote.specs.Machine.Sent.{Sent, told}

@@ -1,4 +1,4 @@
-//! The machine and the ledger of both ends, computed row by row from the definitions of `bidi_remote` and `bidi_ledger` alone.
+//! The machine and the ledger, computed row by row from their definitions alone.
 //!
 //! No code stands here. A row is a theorem that computes; `proofs/Rows.antt` has the words in which rows are written.
 #![tactic(auto)]

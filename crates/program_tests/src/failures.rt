@@ -1,5 +1,5 @@
 //! Runs over a reader or a writer that fails.
-use bidi_arguments::Run;
+use bidi_command_line::Run;
 use bidi_lines::{Device, Side};
 use bidi_programs::run;
 use std::alloc::{AllocError, Global};

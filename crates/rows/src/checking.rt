@@ -1,7 +1,7 @@
 //! Runs the rows of a table, and tells those that come out otherwise.
 use super::table::{input_of, name_of, outcome_text, spelled_out, wanted_of};
 use anyhow::{Result, bail};
-use bidi_arguments::{Run, command_line};
+use bidi_command_line::{Run, command_line};
 use bidi_lines::Device;
 use bidi_programs::run;
 use std::alloc::Global;

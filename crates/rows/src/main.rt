@@ -1,4 +1,4 @@
-//! The tests of the programs: tables of rows, each run as a command line asks, and compared with what it wants.
+//! The tests of the programs: tables of rows, each run, and compared with what it wants.
 //!
 //! `rows FILE..` runs the rows of these files, and writes a line for each file, with a row that comes out otherwise in front
 //! of it. The files stand in `data/`; `table` has their form.

@@ -1,4 +1,4 @@
-//! What tests of several crates share: tables of rows, and texts as trees and values.
+//! What the test crates share: tables of rows, and texts as trees and values.
 #![tactic(auto)]
 
 pub mod repeats;

@@ -1,4 +1,4 @@
-//! Tables of rows, and the loop over them.
+//! State of rows, and the loop over them.
 //!
 //! A row is a line of a text: words, a blank, a text, ` -> `, and what is found of the text by each of the words, which
 //! stand behind each other with commas; `same` where that is the text. A name may stand in front, with ` | ` behind it.

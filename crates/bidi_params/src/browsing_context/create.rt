@@ -6,9 +6,9 @@ ghost use Rattle.bidi_shape.specs.Name.{create_parameters, create_result, activa
 
 use bidi_shape::{
     Ext, Fields, MakeFault, Maybe, Named, One, Optional, Parsed, Required, Rest, Shape, ShapeFault,
-    draft_fields, further, read_fields,
+    further, outline_fields, read_fields,
 };
-use bidi_tree::{Draft, Members};
+use bidi_tree::{Members, Outline};
 use std::alloc::{AllocError, Global};
 
 /// What a new top-level context is opened as.
@@ -116,7 +116,7 @@ impl Shape for CreateParameters {
         })
     }
 
-    fn draft<'a>(&'a self, alloc: Global) -> Result<Draft<'a>, AllocError> {
+    fn outline<'a>(&'a self, alloc: Global) -> Result<Outline<'a>, AllocError> {
         let members = One(
             &self.kind,
             Maybe(
@@ -124,7 +124,7 @@ impl Shape for CreateParameters {
                 Maybe(&self.background, Maybe(&self.user_context, Rest(&self.ext))),
             ),
         );
-        draft_fields(alloc, &members, Self::NAMES, &[])
+        outline_fields(alloc, &members, Self::NAMES, &[])
     }
 }
 
@@ -169,9 +169,9 @@ impl Shape for CreateResult {
         Ok(CreateResult { context, ext })
     }
 
-    fn draft<'a>(&'a self, alloc: Global) -> Result<Draft<'a>, AllocError> {
+    fn outline<'a>(&'a self, alloc: Global) -> Result<Outline<'a>, AllocError> {
         let members = One(&self.context, Rest(&self.ext));
-        draft_fields(alloc, &members, Self::NAMES, &[])
+        outline_fields(alloc, &members, Self::NAMES, &[])
     }
 }
 
@@ -216,9 +216,9 @@ impl Shape for ActivateParameters {
         Ok(ActivateParameters { context, ext })
     }
 
-    fn draft<'a>(&'a self, alloc: Global) -> Result<Draft<'a>, AllocError> {
+    fn outline<'a>(&'a self, alloc: Global) -> Result<Outline<'a>, AllocError> {
         let members = One(&self.context, Rest(&self.ext));
-        draft_fields(alloc, &members, Self::NAMES, &[])
+        outline_fields(alloc, &members, Self::NAMES, &[])
     }
 }
 
@@ -281,8 +281,8 @@ impl Shape for CloseParameters {
         })
     }
 
-    fn draft<'a>(&'a self, alloc: Global) -> Result<Draft<'a>, AllocError> {
+    fn outline<'a>(&'a self, alloc: Global) -> Result<Outline<'a>, AllocError> {
         let members = One(&self.context, Maybe(&self.prompt_unload, Rest(&self.ext)));
-        draft_fields(alloc, &members, Self::NAMES, &[])
+        outline_fields(alloc, &members, Self::NAMES, &[])
     }
 }

@@ -7,9 +7,9 @@ ghost use Rattle.bidi_shape.specs.Name.{get_tree_parameters, get_tree_result};
 use crate::browsing_context::info::Info;
 use bidi_shape::{
     Ext, Fields, MakeFault, Maybe, One, Optional, Parsed, Required, Rest, Shape, ShapeFault,
-    draft_fields, further, read_fields,
+    further, outline_fields, read_fields,
 };
-use bidi_tree::{Draft, JsUint, Members};
+use bidi_tree::{JsUint, Members, Outline};
 use std::alloc::{AllocError, Global};
 
 /// Parameters of `browsingContext.getTree`.
@@ -70,9 +70,9 @@ impl Shape for GetTreeParameters {
         })
     }
 
-    fn draft<'a>(&'a self, alloc: Global) -> Result<Draft<'a>, AllocError> {
+    fn outline<'a>(&'a self, alloc: Global) -> Result<Outline<'a>, AllocError> {
         let members = Maybe(&self.max_depth, Maybe(&self.root, Rest(&self.ext)));
-        draft_fields(alloc, &members, Self::NAMES, &[])
+        outline_fields(alloc, &members, Self::NAMES, &[])
     }
 }
 
@@ -118,8 +118,8 @@ impl Shape for GetTreeResult {
         Ok(GetTreeResult { contexts, ext })
     }
 
-    fn draft<'a>(&'a self, alloc: Global) -> Result<Draft<'a>, AllocError> {
+    fn outline<'a>(&'a self, alloc: Global) -> Result<Outline<'a>, AllocError> {
         let members = One(&self.contexts, Rest(&self.ext));
-        draft_fields(alloc, &members, Self::NAMES, &[])
+        outline_fields(alloc, &members, Self::NAMES, &[])
     }
 }

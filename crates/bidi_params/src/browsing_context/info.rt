@@ -3,7 +3,7 @@ ghost use Rattle.std.specs.Prelude.{◌≡◌, IfOk, Some, codes, map, option_ma
 ghost use Rattle.std.specs.List.{AllByRecursion};
 ghost use Rattle.bidi_tree.specs.Node.{get_member, IsSound, ItemsAreSound, MembersAreWhole, levels};
 ghost use Rattle.bidi_tree.specs.Kind.{members_in};
-ghost use Rattle.bidi_tree.specs.Draft.{draft_node, draft_items};
+ghost use Rattle.bidi_tree.specs.Outline.{outline_node, outline_items};
 ghost use Rattle.bidi_tree.specs.View.{items_of, members_node};
 ghost use Rattle.bidi_shape.specs.Name.{info};
 ghost use Rattle.bidi_shape.specs.Term.{Term, required, either, list_of, map_of, null, rule as named};
@@ -17,9 +17,10 @@ ghost use Rattle.bidi_params.specs.declared.browsing_context.info.Info.{out-Info
 ghost use Rattle.bidi_params.specs.InfoView.{beside_of, content, children_content, tree_of_info, InfoIsWell};
 
 use bidi_shape::{
-    Ext, Fields, MakeFault, Optional, Parsed, Required, Shape, ShapeFault, add_member, add_optional,
+    Ext, Fields, MAX_LEVELS, MakeFault, Optional, Parsed, Required, Shape, ShapeFault, add_member,
+    add_optional,
 };
-use bidi_tree::{Draft, Members, draft_members_of, put_draft};
+use bidi_tree::{Members, Outline, outline_members_of, put_outline};
 use std::alloc::{AllocError, Global};
 
 /// A browsing context, and those below it, of at most 60 levels.
@@ -48,7 +49,7 @@ pub struct Info {
 impl Info {
     ghost use Rattle.bidi_shape.specs.Made.{Makes, others_of};
 
-    /// The Info of these parts, with further members. Costs the making of its draft.
+    /// The Info of these parts, with further members. Costs the making of its outline.
     ///
     /// # Errors
     /// - `Clash`: a further member is called `children`, `clientWindow`, `context`, `originalOpener`, `url`,
@@ -91,7 +92,7 @@ impl Info {
             parent,
             ext,
         };
-        let is_within = made.draft(alloc)?.is_within(MAX_LEVELS);
+        let is_within = made.outline(alloc)?.is_within(MAX_LEVELS);
         if is_within {
             Ok(made)
         } else {
@@ -130,9 +131,6 @@ type OwnMembers = Required<
     >,
 >;
 
-/// The most levels of an Info.
-const MAX_LEVELS: usize = 60;
-
 impl Shape for Info {
     ghost shape = { info_shape info_parts content };
 
@@ -144,8 +142,8 @@ impl Shape for Info {
         }
     }
 
-    fn draft<'a>(&'a self, alloc: Global) -> Result<Draft<'a>, AllocError> {
-        draft_info(alloc, self)
+    fn outline<'a>(&'a self, alloc: Global) -> Result<Outline<'a>, AllocError> {
+        outline_info(alloc, self)
     }
 }
 
@@ -248,48 +246,48 @@ fn with_children(beside: OwnMembers, children: Option<Vec<Info>>) -> Info
 // ---- writing
 
 #[cycle(write)]
-fn draft_info<'a>(alloc: Global, info: &'a Info) -> Result<Draft<'a>, AllocError>
-    ensures tree { IfOk result (λ d. draft_node d ≡ tree_of_info info_parts info.now) }
-    ensures sound { IfOk result (λ d. IsSound (draft_node d)) }
+fn outline_info<'a>(alloc: Global, info: &'a Info) -> Result<Outline<'a>, AllocError>
+    ensures tree { IfOk result (λ d. outline_node d ≡ tree_of_info info_parts info.now) }
+    ensures sound { IfOk result (λ d. IsSound (outline_node d)) }
 {
     match &info.children {
         Some(infos) => {
-            let drafts = draft_infos(alloc, infos)?;
-            draft_beside(alloc, info, Draft::List(drafts))
+            let outlines = outline_infos(alloc, infos)?;
+            outline_beside(alloc, info, Outline::List(outlines))
         }
-        None => draft_beside(alloc, info, Draft::Null),
+        None => outline_beside(alloc, info, Outline::Null),
     }
 }
 
 #[cycle(write)]
-fn draft_infos<'a>(alloc: Global, infos: &'a Vec<Info>) -> Result<Vec<Draft<'a>>, AllocError>
-    ensures same { IfOk result (λ v. map draft_node v.items ≡ map (tree_of_info info_parts) infos.now.items) }
-    ensures sound { IfOk result (λ v. ItemsAreSound (draft_items v.items)) }
+fn outline_infos<'a>(alloc: Global, infos: &'a Vec<Info>) -> Result<Vec<Outline<'a>>, AllocError>
+    ensures same { IfOk result (λ v. map outline_node v.items ≡ map (tree_of_info info_parts) infos.now.items) }
+    ensures sound { IfOk result (λ v. ItemsAreSound (outline_items v.items)) }
 {
-    let mut drafts = Vec::with_capacity(alloc, infos.len())?;
+    let mut outlines = Vec::with_capacity(alloc, infos.len())?;
     for info in infos {
-        drafts.push(draft_info(alloc, info)?)?;
+        outlines.push(outline_info(alloc, info)?)?;
     }
-    Ok(drafts)
+    Ok(outlines)
 }
 
-/// The map of the children's draft and the members beside it.
-fn draft_beside<'a>(
+/// The map of the children's outline and the members beside it.
+fn outline_beside<'a>(
     alloc: Global,
     info: &'a Info,
-    children: Draft<'a>,
-) -> Result<Draft<'a>, AllocError>
-    requires { IsSound (draft_node children) }
-    ensures tree { IfOk result (λ d. draft_node d ≡ info_map info_parts.table (beside_of (out-Info info.now)) (draft_node children.entry)) }
-    ensures sound { IfOk result (λ d. IsSound (draft_node d)) }
+    children: Outline<'a>,
+) -> Result<Outline<'a>, AllocError>
+    requires { IsSound (outline_node children) }
+    ensures tree { IfOk result (λ d. outline_node d ≡ info_map info_parts.table (beside_of (out-Info info.now)) (outline_node children.entry)) }
+    ensures sound { IfOk result (λ d. IsSound (outline_node d)) }
 {
-    let mut members = draft_members_of(alloc, &info.ext.members, NAMES.len())?;
+    let mut members = outline_members_of(alloc, &info.ext.members, NAMES.len())?;
     add_optional(alloc, &mut members, "parent", &info.parent)?;
     add_member(alloc, &mut members, "userContext", &info.user_context)?;
     add_member(alloc, &mut members, "url", &info.url)?;
     add_member(alloc, &mut members, "originalOpener", &info.original_opener)?;
     add_member(alloc, &mut members, "context", &info.context)?;
     add_member(alloc, &mut members, "clientWindow", &info.client_window)?;
-    put_draft(&mut members, "children", children)?;
-    Ok(Draft::Map(members))
+    put_outline(&mut members, "children", children)?;
+    Ok(Outline::Map(members))
 }

@@ -6,9 +6,9 @@ ghost use Rattle.bidi_shape.specs.Name.{navigate_parameters, reload_parameters, 
 
 use bidi_shape::{
     Ext, Fields, MakeFault, Maybe, Named, One, Optional, Parsed, Required, Rest, Shape, ShapeFault,
-    draft_fields, further, read_fields,
+    further, outline_fields, read_fields,
 };
-use bidi_tree::{Draft, JsInt, JsUint, Members};
+use bidi_tree::{JsInt, JsUint, Members, Outline};
 use std::alloc::{AllocError, Global};
 
 /// How far a navigation has to be before its command is answered.
@@ -106,12 +106,12 @@ impl Shape for NavigateParameters {
         })
     }
 
-    fn draft<'a>(&'a self, alloc: Global) -> Result<Draft<'a>, AllocError> {
+    fn outline<'a>(&'a self, alloc: Global) -> Result<Outline<'a>, AllocError> {
         let members = One(
             &self.context,
             One(&self.url, Maybe(&self.wait, Rest(&self.ext))),
         );
-        draft_fields(alloc, &members, Self::NAMES, &[])
+        outline_fields(alloc, &members, Self::NAMES, &[])
     }
 }
 
@@ -177,12 +177,12 @@ impl Shape for ReloadParameters {
         })
     }
 
-    fn draft<'a>(&'a self, alloc: Global) -> Result<Draft<'a>, AllocError> {
+    fn outline<'a>(&'a self, alloc: Global) -> Result<Outline<'a>, AllocError> {
         let members = One(
             &self.context,
             Maybe(&self.ignore_cache, Maybe(&self.wait, Rest(&self.ext))),
         );
-        draft_fields(alloc, &members, Self::NAMES, &[])
+        outline_fields(alloc, &members, Self::NAMES, &[])
     }
 }
 
@@ -246,9 +246,9 @@ impl Shape for NavigateResult {
         })
     }
 
-    fn draft<'a>(&'a self, alloc: Global) -> Result<Draft<'a>, AllocError> {
+    fn outline<'a>(&'a self, alloc: Global) -> Result<Outline<'a>, AllocError> {
         let members = One(&self.navigation, One(&self.url, Rest(&self.ext)));
-        draft_fields(alloc, &members, Self::NAMES, &[])
+        outline_fields(alloc, &members, Self::NAMES, &[])
     }
 }
 
@@ -313,9 +313,9 @@ impl Shape for TraverseHistoryParameters {
         })
     }
 
-    fn draft<'a>(&'a self, alloc: Global) -> Result<Draft<'a>, AllocError> {
+    fn outline<'a>(&'a self, alloc: Global) -> Result<Outline<'a>, AllocError> {
         let members = One(&self.context, One(&self.delta, Rest(&self.ext)));
-        draft_fields(alloc, &members, Self::NAMES, &[])
+        outline_fields(alloc, &members, Self::NAMES, &[])
     }
 }
 
@@ -389,7 +389,7 @@ impl Shape for NavigationInfo {
         })
     }
 
-    fn draft<'a>(&'a self, alloc: Global) -> Result<Draft<'a>, AllocError> {
+    fn outline<'a>(&'a self, alloc: Global) -> Result<Outline<'a>, AllocError> {
         let members = One(
             &self.context,
             One(
@@ -397,6 +397,6 @@ impl Shape for NavigationInfo {
                 One(&self.timestamp, One(&self.url, Rest(&self.ext))),
             ),
         );
-        draft_fields(alloc, &members, Self::NAMES, &[])
+        outline_fields(alloc, &members, Self::NAMES, &[])
     }
 }

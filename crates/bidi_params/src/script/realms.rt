@@ -6,9 +6,9 @@ ghost use Rattle.bidi_shape.specs.Name.{get_realms_parameters, realm_info, get_r
 
 use bidi_shape::{
     Exact, Ext, Fields, Literal, MakeFault, Maybe, Named, One, Optional, Parsed, Required, Rest,
-    Shape, ShapeFault, draft_fields, further, read_fields,
+    Shape, ShapeFault, further, outline_fields, read_fields,
 };
-use bidi_tree::{Draft, Members};
+use bidi_tree::{Members, Outline};
 use std::alloc::{AllocError, Global};
 
 /// What a realm belongs to.
@@ -119,9 +119,9 @@ impl Shape for GetRealmsParameters {
         Ok(GetRealmsParameters { context, kind, ext })
     }
 
-    fn draft<'a>(&'a self, alloc: Global) -> Result<Draft<'a>, AllocError> {
+    fn outline<'a>(&'a self, alloc: Global) -> Result<Outline<'a>, AllocError> {
         let members = Maybe(&self.context, Maybe(&self.kind, Rest(&self.ext)));
-        draft_fields(alloc, &members, Self::NAMES, &[])
+        outline_fields(alloc, &members, Self::NAMES, &[])
     }
 }
 
@@ -187,12 +187,12 @@ impl Shape for RealmInfo {
         })
     }
 
-    fn draft<'a>(&'a self, alloc: Global) -> Result<Draft<'a>, AllocError> {
+    fn outline<'a>(&'a self, alloc: Global) -> Result<Outline<'a>, AllocError> {
         let members = One(
             &self.realm,
             One(&self.origin, Exact(One(&self.context, Rest(&self.ext)))),
         );
-        draft_fields(alloc, &members, Self::NAMES, &["window"])
+        outline_fields(alloc, &members, Self::NAMES, &["window"])
     }
 }
 
@@ -238,9 +238,9 @@ impl Shape for GetRealmsResult {
         Ok(GetRealmsResult { realms, ext })
     }
 
-    fn draft<'a>(&'a self, alloc: Global) -> Result<Draft<'a>, AllocError> {
+    fn outline<'a>(&'a self, alloc: Global) -> Result<Outline<'a>, AllocError> {
         let members = One(&self.realms, Rest(&self.ext));
-        draft_fields(alloc, &members, Self::NAMES, &[])
+        outline_fields(alloc, &members, Self::NAMES, &[])
     }
 }
 
@@ -288,8 +288,8 @@ impl Shape for RealmDestroyedParameters {
         Ok(RealmDestroyedParameters { realm, ext })
     }
 
-    fn draft<'a>(&'a self, alloc: Global) -> Result<Draft<'a>, AllocError> {
+    fn outline<'a>(&'a self, alloc: Global) -> Result<Outline<'a>, AllocError> {
         let members = One(&self.realm, Rest(&self.ext));
-        draft_fields(alloc, &members, Self::NAMES, &[])
+        outline_fields(alloc, &members, Self::NAMES, &[])
     }
 }

@@ -6,9 +6,9 @@ ghost use Rattle.bidi_shape.specs.Made.{Makes, named, MembersAreWhole, members_n
 
 use bidi_shape::{
     Ext, Fields, MakeFault, Maybe, One, Optional, Parsed, Required, Rest, Shape, ShapeFault,
-    draft_fields, further, read_fields,
+    further, outline_fields, read_fields,
 };
-use bidi_tree::{Draft, Members};
+use bidi_tree::{Members, Outline};
 use std::alloc::{AllocError, Global};
 
 /// Parameters of `session.new`.
@@ -53,9 +53,9 @@ impl Shape for NewParameters {
         Ok(NewParameters { capabilities, ext })
     }
 
-    fn draft<'a>(&'a self, alloc: Global) -> Result<Draft<'a>, AllocError> {
+    fn outline<'a>(&'a self, alloc: Global) -> Result<Outline<'a>, AllocError> {
         let members = One(&self.capabilities, Rest(&self.ext));
-        draft_fields(alloc, &members, Self::NAMES, &[])
+        outline_fields(alloc, &members, Self::NAMES, &[])
     }
 }
 
@@ -119,12 +119,12 @@ impl Shape for CapabilitiesRequest {
         })
     }
 
-    fn draft<'a>(&'a self, alloc: Global) -> Result<Draft<'a>, AllocError> {
+    fn outline<'a>(&'a self, alloc: Global) -> Result<Outline<'a>, AllocError> {
         let members = Maybe(
             &self.always_match,
             Maybe(&self.first_match, Rest(&self.ext)),
         );
-        draft_fields(alloc, &members, Self::NAMES, &[])
+        outline_fields(alloc, &members, Self::NAMES, &[])
     }
 }
 
@@ -204,7 +204,7 @@ impl Shape for CapabilityRequest {
         })
     }
 
-    fn draft<'a>(&'a self, alloc: Global) -> Result<Draft<'a>, AllocError> {
+    fn outline<'a>(&'a self, alloc: Global) -> Result<Outline<'a>, AllocError> {
         let members = Maybe(
             &self.accept_insecure_certs,
             Maybe(
@@ -215,7 +215,7 @@ impl Shape for CapabilityRequest {
                 ),
             ),
         );
-        draft_fields(alloc, &members, Self::NAMES, &[])
+        outline_fields(alloc, &members, Self::NAMES, &[])
     }
 }
 
@@ -277,9 +277,9 @@ impl Shape for NewResult {
         })
     }
 
-    fn draft<'a>(&'a self, alloc: Global) -> Result<Draft<'a>, AllocError> {
+    fn outline<'a>(&'a self, alloc: Global) -> Result<Outline<'a>, AllocError> {
         let members = One(&self.session_id, One(&self.capabilities, Rest(&self.ext)));
-        draft_fields(alloc, &members, Self::NAMES, &[])
+        outline_fields(alloc, &members, Self::NAMES, &[])
     }
 }
 
@@ -379,7 +379,7 @@ impl Shape for Capabilities {
         })
     }
 
-    fn draft<'a>(&'a self, alloc: Global) -> Result<Draft<'a>, AllocError> {
+    fn outline<'a>(&'a self, alloc: Global) -> Result<Outline<'a>, AllocError> {
         let members = One(
             &self.accept_insecure_certs,
             One(
@@ -396,6 +396,6 @@ impl Shape for Capabilities {
                 ),
             ),
         );
-        draft_fields(alloc, &members, Self::NAMES, &[])
+        outline_fields(alloc, &members, Self::NAMES, &[])
     }
 }

@@ -5,10 +5,10 @@ ghost use Rattle.bidi_shape.specs.Table.{map_shape};
 ghost use Rattle.bidi_shape.specs.Made.{Makes, named, MembersAreWhole, members_node, has_named, names_in, others_of};
 
 use bidi_shape::{
-    Ext, Fields, MakeFault, One, Parsed, Required, Rest, Shape, ShapeFault, draft_fields, further,
-    read_fields,
+    Ext, Fields, MakeFault, One, Parsed, Required, Rest, Shape, ShapeFault, further,
+    outline_fields, read_fields,
 };
-use bidi_tree::{Draft, Members};
+use bidi_tree::{Members, Outline};
 use std::alloc::{AllocError, Global};
 
 /// Whether a remote end can make a session, and a word about it.
@@ -61,8 +61,8 @@ impl Shape for StatusResult {
         })
     }
 
-    fn draft<'a>(&'a self, alloc: Global) -> Result<Draft<'a>, AllocError> {
+    fn outline<'a>(&'a self, alloc: Global) -> Result<Outline<'a>, AllocError> {
         let members = One(&self.ready, One(&self.message, Rest(&self.ext)));
-        draft_fields(alloc, &members, Self::NAMES, &[])
+        outline_fields(alloc, &members, Self::NAMES, &[])
     }
 }

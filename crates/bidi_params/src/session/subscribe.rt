@@ -6,9 +6,9 @@ ghost use Rattle.bidi_shape.specs.Made.{Makes, named, MembersAreWhole, members_n
 
 use bidi_shape::{
     Either, Ext, Fields, MakeFault, Maybe, One, OneOrMore, Optional, Parsed, Required, Rest, Shape,
-    ShapeFault, draft_fields, further, not_shadowed, read_choice, read_fields,
+    ShapeFault, further, not_shadowed, outline_fields, read_choice, read_fields,
 };
-use bidi_tree::{Draft, Members};
+use bidi_tree::{Members, Outline};
 use std::alloc::{AllocError, Global};
 
 /// Parameters of `session.subscribe`.
@@ -82,12 +82,12 @@ impl Shape for SubscribeParameters {
         })
     }
 
-    fn draft<'a>(&'a self, alloc: Global) -> Result<Draft<'a>, AllocError> {
+    fn outline<'a>(&'a self, alloc: Global) -> Result<Outline<'a>, AllocError> {
         let members = One(
             &self.events,
             Maybe(&self.contexts, Maybe(&self.user_contexts, Rest(&self.ext))),
         );
-        draft_fields(alloc, &members, Self::NAMES, &[])
+        outline_fields(alloc, &members, Self::NAMES, &[])
     }
 }
 
@@ -132,9 +132,9 @@ impl Shape for SubscribeResult {
         Ok(SubscribeResult { subscription, ext })
     }
 
-    fn draft<'a>(&'a self, alloc: Global) -> Result<Draft<'a>, AllocError> {
+    fn outline<'a>(&'a self, alloc: Global) -> Result<Outline<'a>, AllocError> {
         let members = One(&self.subscription, Rest(&self.ext));
-        draft_fields(alloc, &members, Self::NAMES, &[])
+        outline_fields(alloc, &members, Self::NAMES, &[])
     }
 }
 
@@ -180,9 +180,9 @@ impl Shape for UnsubscribeById {
         Ok(UnsubscribeById { subscriptions, ext })
     }
 
-    fn draft<'a>(&'a self, alloc: Global) -> Result<Draft<'a>, AllocError> {
+    fn outline<'a>(&'a self, alloc: Global) -> Result<Outline<'a>, AllocError> {
         let members = One(&self.subscriptions, Rest(&self.ext));
-        draft_fields(alloc, &members, Self::NAMES, &[])
+        outline_fields(alloc, &members, Self::NAMES, &[])
     }
 }
 
@@ -242,9 +242,9 @@ impl Shape for UnsubscribeByEvents {
         Ok(UnsubscribeByEvents { events, ext })
     }
 
-    fn draft<'a>(&'a self, alloc: Global) -> Result<Draft<'a>, AllocError> {
+    fn outline<'a>(&'a self, alloc: Global) -> Result<Outline<'a>, AllocError> {
         let members = One(&self.events, Rest(&self.ext));
-        draft_fields(alloc, &members, Self::NAMES, &[])
+        outline_fields(alloc, &members, Self::NAMES, &[])
     }
 }
 
@@ -276,10 +276,10 @@ impl Shape for UnsubscribeParameters {
         }
     }
 
-    fn draft<'a>(&'a self, alloc: Global) -> Result<Draft<'a>, AllocError> {
+    fn outline<'a>(&'a self, alloc: Global) -> Result<Outline<'a>, AllocError> {
         match self {
-            UnsubscribeParameters::ById(by_id) => by_id.draft(alloc),
-            UnsubscribeParameters::ByEvents(by_events) => by_events.draft(alloc),
+            UnsubscribeParameters::ById(by_id) => by_id.outline(alloc),
+            UnsubscribeParameters::ByEvents(by_events) => by_events.outline(alloc),
         }
     }
 }

@@ -6,10 +6,10 @@ use Rattle.std.specs.List.{list_any, list_all}
 use Rattle.bidi_tree.specs.Node as node
 use Rattle.bidi_tree.specs.Node.{Node, null, boolean, whole, odd, text, Items, Members, no_members, member}
 use Rattle.bidi_tree.specs.Kind.{map_in}
-use Rattle.bidi_codes.specs.declared.error_code.ErrorCode.{ErrorCode}
-use Rattle.bidi_codes.specs.declared.error_code.ErrorCode.TheVariants.{InvalidArgument, SessionNotCreated}
+use Rattle.bidi_params.specs.declared.error_code.ErrorCode.{ErrorCode}
+use Rattle.bidi_params.specs.declared.error_code.ErrorCode.TheVariants.{InvalidArgument, SessionNotCreated}
 use Rattle.bidi_handles.specs.Params.{tree_if_at, trees_if_at}
-use Rattle.bidi_codes.specs.Checks.{◌>>=◌, need}
+use Rattle.bidi_handles.specs.Checks.{◌>>=◌, need}
 use Rattle.bidi_handles.specs.Maps.{◌being◌and◌, mapped, word}
 
 -- the browser's capabilities

@@ -2,7 +2,7 @@
 use Rattle.std.specs.Prelude.{ℕ, ◌-◌, ◌==◌, Bool, false, not, ◌||◌, if◌then◌else◌, List, [], ◌∷◌, ◌++◌, length, drop, map, filter}
 use Rattle.bidi_browser.specs.Acts.{Logged}
 use Rattle.bidi_browser.specs.Contexts.{top_of}
-use Rattle.bidi_subjects.specs.declared.event_data.EventName.TheVariants.{EntryAdded}
+use Rattle.bidi_methods.specs.declared.event_data.EventName.TheVariants.{EntryAdded}
 use Rattle.bidi_browser.specs.Occurrences.{Occurrence, entry_added}
 use Rattle.bidi_remote.specs.Machine.History.{Deed, Began, Subscribed, Did, acts, moment}
 use Rattle.bidi_remote.specs.Machine.Sessions.{next_session}

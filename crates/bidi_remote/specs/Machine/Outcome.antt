@@ -2,18 +2,18 @@
 use Rattle.std.specs.Prelude.{ℕ, nat_lt, Bool, not, ◌&&◌, if◌then◌else◌, List, [], ◌∷◌, ◌++◌, length, find}
 use Rattle.std.specs.Prelude.{codes, bytes_eq, Option, Some, None, option_map, Result, Ok, Err}
 use Rattle.std.specs.List.{list_all}
-use Rattle.bidi_codes.specs.declared.error_code.ErrorCode.{ErrorCode}
-use Rattle.bidi_codes.specs.declared.error_code.ErrorCode.TheVariants.{InvalidArgument, InvalidSessionId, SessionNotCreated}
-use Rattle.bidi_codes.specs.declared.error_code.ErrorCode.TheVariants.{UnknownCommand, UnknownError, UnsupportedOperation}
+use Rattle.bidi_params.specs.declared.error_code.ErrorCode.{ErrorCode}
+use Rattle.bidi_params.specs.declared.error_code.ErrorCode.TheVariants.{InvalidArgument, InvalidSessionId, SessionNotCreated}
+use Rattle.bidi_params.specs.declared.error_code.ErrorCode.TheVariants.{UnknownCommand, UnknownError, UnsupportedOperation}
 use Rattle.bidi_handles.specs.declared.id.IdKind.TheVariants.{Session, Subscription}
 use Rattle.bidi_handles.specs.Ids.{id_of, id_text}
 use Rattle.bidi_browser.specs.Acts.{Act}
 use Rattle.bidi_browser.specs.Contexts.{top_of}
-use Rattle.bidi_codes.specs.Checks.{◌>>=◌, need, found}
-use Rattle.bidi_subjects.specs.declared.event_data.EventName.{EventName}
-use Rattle.bidi_subjects.specs.declared.event_data.EventName.TheVariants.{ContextCreated, ContextDestroyed, NavigationStarted}
-use Rattle.bidi_subjects.specs.declared.event_data.EventName.TheVariants.{DomContentLoaded, Load, RealmCreated, RealmDestroyed, EntryAdded}
-use Rattle.bidi_subjects.specs.EventName.{event_name_text as name_of, events as all_events}
+use Rattle.bidi_handles.specs.Checks.{◌>>=◌, need, found}
+use Rattle.bidi_methods.specs.declared.event_data.EventName.{EventName}
+use Rattle.bidi_methods.specs.declared.event_data.EventName.TheVariants.{ContextCreated, ContextDestroyed, NavigationStarted}
+use Rattle.bidi_methods.specs.declared.event_data.EventName.TheVariants.{DomContentLoaded, Load, RealmCreated, RealmDestroyed, EntryAdded}
+use Rattle.bidi_methods.specs.EventName.{event_name_text as name_of, events as all_events}
 use Rattle.bidi_browser.specs.Outcome as browser
 use Rattle.bidi_messages.specs.Verdict.{Verdict, Accepted, Refused}
 use Rattle.bidi_remote.specs.Machine.Capabilities.{Request, matching}
@@ -21,7 +21,7 @@ use Rattle.bidi_remote.specs.Machine.Commands.{Command, Status, New, End, Subscr
 use Rattle.bidi_remote.specs.Machine.History.{Input, At, Open, Drop, Heard, NotText, PageStep, Deed, Time, Opened, Dropped, Began}
 use Rattle.bidi_remote.specs.Machine.History.{Ended, Subscribed, Cancelled, Dismissed, Did, Told, Scope, All, Below, acts}
 use Rattle.bidi_remote.specs.Machine.Sessions.{sessions}
-use Rattle.bidi_remote.specs.Machine.Connections.{Standing, Shut, Alone, SpeaksFor, is_open, standing_of, open_connections}
+use Rattle.bidi_remote.specs.Machine.Connections.{Attachment, Shut, Alone, SpeaksFor, is_open, attachment_of, open_connections}
 use Rattle.bidi_remote.specs.Machine.Subscriptions.{subscriptions, holds_globally}
 
 -- ---- names of events
@@ -135,7 +135,7 @@ outcome_alone past c (New request) = new_outcome past c request
 outcome_alone past c command = Err InvalidSessionId
 
 -- a command on a connection, as it stands
-abbrev pub outcome : List Deed → ℕ → Standing → Command → Result Deed ErrorCode
+abbrev pub outcome : List Deed → ℕ → Attachment → Command → Result Deed ErrorCode
 outcome past c Shut command = Err InvalidSessionId
 outcome past c Alone command = outcome_alone past c command
 outcome past c (SpeaksFor s) command = outcome_in past s command
@@ -172,7 +172,7 @@ replied c id (Err code) = Err (Error c (Some id) code)
 -- what a command asks is done; each tree that fits the rule of commands asks something
 abbrev pub asked : List Deed → ℕ → ℕ → Option Command → Result Deed NotTaken
 asked past c id None = Err (Error c (Some id) UnknownCommand)
-asked past c id (Some command) = replied c id (outcome past c (standing_of past c) command)
+asked past c id (Some command) = replied c id (outcome past c (attachment_of past c) command)
 
 -- what a text of an open connection does
 abbrev pub answered : List Deed → ℕ → Verdict → Result Deed NotTaken

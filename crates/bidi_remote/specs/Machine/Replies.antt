@@ -4,10 +4,10 @@ use Rattle.bidi_tree.specs.Node.{Node}
 use Rattle.bidi_tree.specs.Text.{tree_of}
 use Rattle.bidi_shape.specs.Term.{rule}
 use Rattle.bidi_shape.specs.Fits.{Fits}
-use Rattle.bidi_codes.specs.declared.error_code.ErrorCode.{ErrorCode}
-use Rattle.bidi_subjects.specs.declared.event_data.EventName.{EventName}
-use Rattle.bidi_subjects.specs.declared.method.Method.{Method}
-use Rattle.bidi_subjects.specs.Method.{method_text, result_of}
+use Rattle.bidi_params.specs.declared.error_code.ErrorCode.{ErrorCode}
+use Rattle.bidi_methods.specs.declared.event_data.EventName.{EventName}
+use Rattle.bidi_methods.specs.declared.method.Method.{Method}
+use Rattle.bidi_methods.specs.Method.{method_text, result_of}
 use Rattle.bidi_messages.specs.Command.{method_in}
 use Rattle.bidi_messages.specs.Message.{response_tree, response_text, error_text, event_text}
 use Rattle.bidi_messages.specs.Verdict.{Accepted}

@@ -7,14 +7,14 @@ use Rattle.bidi_handles.specs.Params.{text_at}
 use Rattle.bidi_messages.specs.Verdict.{Verdict, Accepted, Refused}
 use Rattle.bidi_remote.specs.Machine.History.{Input, Heard, Deed}
 use Rattle.bidi_remote.specs.Machine.Step.{Step}
-use Rattle.bidi_remote.specs.Machine.Connections.{Standing, Shut, Alone, SpeaksFor, is_for, standing_of}
+use Rattle.bidi_remote.specs.Machine.Connections.{Attachment, Shut, Alone, SpeaksFor, is_for, attachment_of}
 use Rattle.bidi_remote.specs.Machine.Outcome.{answered, deeds}
 use Rattle.bidi_remote.specs.Machine.Sent.{Sent, Text, Close, Opened, Denied, Lost, NoEffect, out}
 
 -- ---- strike
 
 -- the connection speaks for a session, but not for this one
-abbrev pub is_for_another : ℕ → Standing → Bool
+abbrev pub is_for_another : ℕ → Attachment → Bool
 is_for_another s Shut = false
 is_for_another s Alone = false
 is_for_another s (SpeaksFor t) = not (s == t)
@@ -36,7 +36,7 @@ is_idle past c (Refused id code) = true
 
 -- an idle text of another session is struck, and no other input
 abbrev pub is_struck : List Deed → ℕ → Input → Bool
-is_struck past s (Heard c verdict) = is_for_another s (standing_of past c) && is_idle past c verdict
+is_struck past s (Heard c verdict) = is_for_another s (attachment_of past c) && is_idle past c verdict
 is_struck past s i = false
 
 -- of each input, after the history before it, whether it is kept
@@ -66,7 +66,7 @@ seen_on NoEffect = None
 -- a connection that speaks for the session before or after the step
 abbrev pub is_own : List Deed → List Deed → ℕ → Option ℕ → Bool
 is_own past after s None = false
-is_own past after s (Some c) = is_for s (standing_of past c) || is_for s (standing_of after c)
+is_own past after s (Some c) = is_for s (attachment_of past c) || is_for s (attachment_of after c)
 
 -- what it sees at an input, after the history before it
 abbrev pub seen : List Input → ℕ → Input → List Sent

@@ -2,8 +2,8 @@
 use Rattle.std.specs.Prelude.{ℕ, suc, ◌==◌, Bool, true, false, not, ◌&&◌, ◌||◌, if◌then◌else◌, List, [], ◌∷◌, length, filter}
 use Rattle.std.specs.List.{list_any}
 use Rattle.bidi_browser.specs.Contexts.{up_to, is_alive}
-use Rattle.bidi_subjects.specs.declared.event_data.EventName.{EventName}
-use Rattle.bidi_subjects.specs.EventName.{events as all_events}
+use Rattle.bidi_methods.specs.declared.event_data.EventName.{EventName}
+use Rattle.bidi_methods.specs.EventName.{events as all_events}
 use Rattle.bidi_browser.specs.Occurrences.{is_among}
 use Rattle.bidi_remote.specs.Machine.History.{Deed, Subscribed, Cancelled, Dismissed, Scope, All, Below, acts}
 use Rattle.bidi_remote.specs.Machine.Sessions.{is_active}

@@ -4,11 +4,12 @@ ghost use Rattle.bidi_handles.specs.Maps.{nothing};
 ghost use Rattle.bidi_remote.specs.Machine.Commands.{End};
 ghost use Rattle.bidi_remote.specs.Machine.History.{Deed, Ended};
 ghost use Rattle.bidi_browser.specs.View.{result_tree};
-ghost use Rattle.bidi_remote.specs.Tables.Turns.{Decides, HasResultOf, IsWellDecided};
+ghost use Rattle.bidi_remote.specs.State.Turns.{Decides, HasResultOf, IsWellDecided};
+ghost use Rattle.bidi_messages.specs.Payloads.{ResultIsWell, result_method};
 
 use crate::turn::{Asker, Change, Turn};
 use bidi_browser::Refusal;
-use bidi_messages::{Method, ResultData, Subject};
+use bidi_messages::{Method, Payload, ResultData};
 use bidi_params::EmptyResult;
 use bidi_shape::Ext;
 use std::alloc::Global;
@@ -25,8 +26,8 @@ pub(crate) fn decide_end(alloc: Global, asker: Asker, session: u32) -> Result<Tu
 // The empty result.
 fn end_result(alloc: Global) -> ResultData
     ensures tree { result_tree result ≡ nothing }
-    ensures well { ⟦<ResultData as Subject<Method>>⟧.subject.well result }
-    ensures of_method { ⟦<ResultData as Subject<Method>>⟧.subject.kind result ≡ Method.SessionEnd }
+    ensures well { ResultIsWell result }
+    ensures of_method { result_method result ≡ Method.SessionEnd }
 {
     ResultData::SessionEnd(EmptyResult {
         ext: Ext::empty(alloc),

@@ -1,6 +1,6 @@
 //! Names of events. The name of a module stands for all its events.
 ghost use Rattle.std.specs.Prelude.{◌≡◌, map, string_bytes, option_map};
-ghost use Rattle.bidi_remote.specs.Tables.Checked.{IfChecked, behind};
+ghost use Rattle.bidi_remote.specs.State.Checked.{IfChecked, behind};
 ghost use Rattle.bidi_remote.specs.Machine.Outcome.{events_of_module, events_named, all_named};
 
 use bidi_browser::Refusal;

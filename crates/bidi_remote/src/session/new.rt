@@ -9,18 +9,19 @@ ghost use Rattle.bidi_remote.specs.Machine.Commands.{New};
 ghost use Rattle.bidi_remote.specs.Machine.History.{Deed};
 ghost use Rattle.bidi_remote.specs.Machine.Outcome.{new_outcome};
 ghost use Rattle.bidi_remote.specs.Machine.Sessions.{sessions_made};
-ghost use Rattle.bidi_remote.specs.Tables.Stands.{AgreeWith};
+ghost use Rattle.bidi_remote.specs.State.Stands.{AgreeWith};
 ghost use Rattle.bidi_browser.specs.View.{result_tree};
-ghost use Rattle.bidi_remote.specs.Tables.Turns.{Decides, HasResultOf, IsWellDecided};
+ghost use Rattle.bidi_remote.specs.State.Turns.{Decides, HasResultOf, IsWellDecided};
+ghost use Rattle.bidi_messages.specs.Payloads.{ResultIsWell, result_method};
 
 use crate::log_buffer::LogBuffer;
 use crate::session::capabilities::{
     BROWSER_NAME, BROWSER_VERSION, PLATFORM_NAME, match_capabilities,
 };
-use crate::tables::Tables;
+use crate::state::State;
 use crate::turn::{Asker, Change, Turn};
 use bidi_browser::{IdKind, Refusal, id_text};
-use bidi_messages::{ErrorCode, Method, ResultData, Subject};
+use bidi_messages::{ErrorCode, Method, Payload, ResultData};
 use bidi_params::Capabilities;
 use bidi_params::session::{NewParameters, NewResult};
 use bidi_shape::{Ext, Shape};
@@ -35,12 +36,12 @@ use std::alloc::{AllocError, Global};
 /// - No memory: an allocation failed.
 pub(crate) fn decide_new(
     alloc: Global,
-    tables: &Tables,
+    state: &State,
     asker: Asker,
     params: &NewParameters,
 ) -> Result<Turn, Refusal>
     requires { ⟦<NewParameters as Shape>⟧.shape.well params.now }
-    ensures ok { (past : List Deed) → AgreeWith tables.now past → sessions_made past < 4294967295
+    ensures ok { (past : List Deed) → AgreeWith state.now past → sessions_made past < 4294967295
         → (let request = request_of (⟦<NewParameters as Shape>⟧.shape.tree_of params.now) in
         Decides result past asker (New request) (new_outcome past asker.conn.value request)) }
     ensures well { IsWellDecided result }
@@ -49,11 +50,11 @@ pub(crate) fn decide_new(
     if let Err(code) = match_capabilities(params) {
         return Err(Refusal::Code(code));
     }
-    if !tables.sessions.is_ready() {
+    if !state.sessions.is_ready() {
         return Err(Refusal::Code(ErrorCode::SessionNotCreated));
     }
     let missed = LogBuffer::new(alloc)?;
-    let reply = new_result(alloc, tables.sessions.next())?;
+    let reply = new_result(alloc, state.sessions.next())?;
     let change = Change::Begin(asker.conn, missed);
     Ok(Turn::replied(alloc, change, asker, reply))
 }
@@ -62,8 +63,8 @@ pub(crate) fn decide_new(
 fn new_result(alloc: Global, session: u32) -> Result<ResultData, AllocError>
     ensures tree { IfOk result (λ r. result_tree r
         ≡ mapped ("capabilities" being capabilities and "sessionId" being text (id_of Session session) and no_members)) }
-    ensures well { IfOk result ⟦<ResultData as Subject<Method>>⟧.subject.well }
-    ensures of_method { IfOk result (λ r. ⟦<ResultData as Subject<Method>>⟧.subject.kind r ≡ Method.SessionNew) }
+    ensures well { IfOk result ResultIsWell }
+    ensures of_method { IfOk result (λ r. result_method r ≡ Method.SessionNew) }
 {
     let session_id = id_text(alloc, IdKind::Session, 0, u64::from(session))?;
     let capabilities = capabilities(alloc)?;

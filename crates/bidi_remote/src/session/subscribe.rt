@@ -9,22 +9,23 @@ ghost use Rattle.bidi_remote.specs.Machine.Sessions.{is_active};
 ghost use Rattle.bidi_remote.specs.Machine.Subscriptions.{subscriptions_made};
 ghost use Rattle.bidi_remote.specs.Machine.Outcome.{tops_named, scope_asked, outcome_in};
 ghost use Rattle.bidi_remote.specs.Machine.Sent.{announcements, subscription_tree};
-ghost use Rattle.bidi_remote.specs.Tables.Asked.{texts, subscribe_asked};
-ghost use Rattle.bidi_remote.specs.Tables.Checked.{IfChecked};
-ghost use Rattle.bidi_remote.specs.Tables.SessionView.{scope_of, row_of};
-ghost use Rattle.bidi_remote.specs.Tables.EventTexts.{written, written_in, AreMessages};
-ghost use Rattle.bidi_remote.specs.Tables.SubscriptionRows.{is_new};
-ghost use Rattle.bidi_remote.specs.Tables.Stands.{AgreeWith};
-ghost use Rattle.bidi_remote.specs.Tables.Turns.{Decides, HasResultOf, IsWellDecided};
+ghost use Rattle.bidi_remote.specs.State.Asked.{texts, subscribe_asked};
+ghost use Rattle.bidi_remote.specs.State.Checked.{IfChecked};
+ghost use Rattle.bidi_remote.specs.State.SessionView.{scope_of, row_of};
+ghost use Rattle.bidi_remote.specs.State.EventTexts.{written, written_in, AreMessages};
+ghost use Rattle.bidi_remote.specs.State.SubscriptionRows.{is_new};
+ghost use Rattle.bidi_remote.specs.State.Stands.{AgreeWith};
+ghost use Rattle.bidi_remote.specs.State.Turns.{Decides, HasResultOf, IsWellDecided};
+ghost use Rattle.bidi_messages.specs.Payloads.{ResultIsWell, result_method};
 
 use crate::announcing::is_new;
 use crate::event_texts::{EventText, event_texts};
 use crate::session::event_names::all_named;
+use crate::state::State;
 use crate::subscriptions::{Scope, Subscription};
-use crate::tables::Tables;
 use crate::turn::{Asker, Change, Turn};
 use bidi_browser::{Browser, IdKind, Refusal, id_text};
-use bidi_messages::{ErrorCode, EventName, Method, ResultData, Subject};
+use bidi_messages::{ErrorCode, EventName, Method, Payload, ResultData};
 use bidi_params::{SubscribeParameters, SubscribeResult};
 use bidi_shape::Ext;
 use std::alloc::{AllocError, Global};
@@ -50,24 +51,24 @@ const MOST_SUBSCRIPTIONS: usize = 256;
 /// - No memory: an allocation failed.
 pub(crate) fn decide_subscribe(
     alloc: Global,
-    tables: &Tables,
+    state: &State,
     asker: Asker,
     session: u32,
     params: &SubscribeParameters,
 ) -> Result<Turn, Refusal>
-    ensures ok { (past : List Deed) → AgreeWith tables.now past → is_active past session ≡ true → subscriptions_made past session < 4294967295
+    ensures ok { (past : List Deed) → AgreeWith state.now past → is_active past session ≡ true → subscriptions_made past session < 4294967295
         → Decides result past asker (subscribe_asked params.now) (outcome_in past session (subscribe_asked params.now)) }
     ensures well { IsWellDecided result }
     ensures of_method { HasResultOf Method.SessionSubscribe result }
 {
     let events = all_named(alloc, &params.events.items)?;
-    let scope = scope_asked(alloc, &tables.browser, params)?;
-    let held = tables.sessions.subscriptions_of(session);
+    let scope = scope_asked(alloc, &state.browser, params)?;
+    let held = state.sessions.subscriptions_of(session);
     if held.len() >= MOST_SUBSCRIPTIONS {
         return Err(Refusal::Code(ErrorCode::UnknownError));
     }
-    let announced = newly_enabled(alloc, tables, session, &events, &scope)?;
-    let reply = subscribe_result(alloc, session, tables.sessions.next_subscription(session))?;
+    let announced = newly_enabled(alloc, state, session, &events, &scope)?;
+    let reply = subscribe_result(alloc, session, state.sessions.next_subscription(session))?;
     Ok(Turn::announced(
         alloc,
         Change::Subscribe(session, events, scope),
@@ -80,21 +81,21 @@ pub(crate) fn decide_subscribe(
 // The texts of what the subscription newly enables: events of what exists, then log entries that wait.
 fn newly_enabled(
     alloc: Global,
-    tables: &Tables,
+    state: &State,
     session: u32,
     events: &[EventName],
     scope: &Scope,
 ) -> Result<Vec<Rc<EventText>>, AllocError>
-    ensures { (past : List Deed) → AgreeWith tables.now past → is_active past session ≡ true
+    ensures { (past : List Deed) → AgreeWith state.now past → is_active past session ≡ true
         → IfOk result (λ all. (written_in all.items ≡ map written (announcements past (Subscribed session events.now (scope_of scope.now)) session))
         × AreMessages (written_in all.items)) }
 {
-    let held = tables.sessions.subscriptions_of(session);
-    let mut all = standing(alloc, &tables.browser, held, events, scope)?;
-    let mut waiting = tables.sessions.waiting_for(session)?;
+    let held = state.sessions.subscriptions_of(session);
+    let mut all = live_events(alloc, &state.browser, held, events, scope)?;
+    let mut waiting = state.sessions.waiting_for(session)?;
     waiting.retain(|entry| {
         is_new(
-            &tables.browser,
+            &state.browser,
             held,
             events,
             scope,
@@ -107,7 +108,7 @@ fn newly_enabled(
 }
 
 // The texts of the events that tell what exists, where the subscription newly enables them.
-fn standing(
+fn live_events(
     alloc: Global,
     browser: &Browser,
     held: &[Subscription],
@@ -158,8 +159,8 @@ fn tops_named(alloc: Global, browser: &Browser, ids: &[String]) -> Result<Vec<u6
 // The result: the id of the subscription of this number.
 fn subscribe_result(alloc: Global, session: u32, number: u32) -> Result<ResultData, AllocError>
     ensures tree { IfOk result (λ r. result_tree r ≡ subscription_tree session number) }
-    ensures well { IfOk result ⟦<ResultData as Subject<Method>>⟧.subject.well }
-    ensures of_method { IfOk result (λ r. ⟦<ResultData as Subject<Method>>⟧.subject.kind r ≡ Method.SessionSubscribe) }
+    ensures well { IfOk result ResultIsWell }
+    ensures of_method { IfOk result (λ r. result_method r ≡ Method.SessionSubscribe) }
 {
     let subscription = id_text(alloc, IdKind::Subscription, session, u64::from(number))?;
     Ok(ResultData::SessionSubscribe(SubscribeResult {

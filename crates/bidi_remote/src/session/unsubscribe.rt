@@ -4,19 +4,20 @@ ghost use Rattle.bidi_handles.specs.Maps.{nothing};
 ghost use Rattle.bidi_remote.specs.Machine.History.{Deed};
 ghost use Rattle.bidi_remote.specs.Machine.Outcome.{outcome_in, unsubscribe_by_id_outcome, unsubscribe_by_events_outcome};
 ghost use Rattle.bidi_remote.specs.Machine.Sessions.{is_active};
-ghost use Rattle.bidi_remote.specs.Tables.Asked.{texts, unsubscribe_asked};
-ghost use Rattle.bidi_remote.specs.Tables.Checked.{IfChecked};
-ghost use Rattle.bidi_remote.specs.Tables.Stands.{AgreeWith};
+ghost use Rattle.bidi_remote.specs.State.Asked.{texts, unsubscribe_asked};
+ghost use Rattle.bidi_remote.specs.State.Checked.{IfChecked};
+ghost use Rattle.bidi_remote.specs.State.Stands.{AgreeWith};
 ghost use Rattle.bidi_browser.specs.View.{result_tree};
 ghost use Rattle.bidi_browser.specs.Acts.{Looked};
-ghost use Rattle.bidi_remote.specs.Tables.Turns.{Decides, HasResultOf, IsWellDecided, IsOfSessions, deed_of};
+ghost use Rattle.bidi_remote.specs.State.Turns.{Decides, HasResultOf, IsWellDecided, IsOfSessions, deed_of};
+ghost use Rattle.bidi_messages.specs.Payloads.{ResultIsWell, result_method};
 
 use crate::session::event_names::all_named;
+use crate::state::State;
 use crate::subscriptions::{all_global, numbers_of};
-use crate::tables::Tables;
 use crate::turn::{Asker, Change, Turn};
 use bidi_browser::Refusal;
-use bidi_messages::{ErrorCode, Method, ResultData, Subject};
+use bidi_messages::{ErrorCode, Method, Payload, ResultData};
 use bidi_params::{EmptyResult, UnsubscribeParameters};
 use bidi_shape::Ext;
 use std::alloc::Global;
@@ -30,39 +31,34 @@ use std::alloc::Global;
 /// - No memory: an allocation failed.
 pub(crate) fn decide_unsubscribe(
     alloc: Global,
-    tables: &Tables,
+    state: &State,
     asker: Asker,
     session: u32,
     params: &UnsubscribeParameters,
 ) -> Result<Turn, Refusal>
-    ensures ok { (past : List Deed) → AgreeWith tables.now past → is_active past session ≡ true
+    ensures ok { (past : List Deed) → AgreeWith state.now past → is_active past session ≡ true
         → Decides result past asker (unsubscribe_asked params.now) (outcome_in past session (unsubscribe_asked params.now)) }
     ensures well { IsWellDecided result }
     ensures of_method { HasResultOf Method.SessionUnsubscribe result }
 {
     let change = match params {
         UnsubscribeParameters::ById(by_id) => {
-            end_by_ids(alloc, tables, session, &by_id.subscriptions.items)?
+            end_by_ids(alloc, state, session, &by_id.subscriptions.items)?
         }
         UnsubscribeParameters::ByEvents(by_events) => {
-            end_by_events(alloc, tables, session, &by_events.events.items)?
+            end_by_events(alloc, state, session, &by_events.events.items)?
         }
     };
     Ok(Turn::replied(alloc, change, asker, unsubscribe_result(alloc)))
 }
 
 // The change that ends the subscriptions of these ids.
-fn end_by_ids(
-    alloc: Global,
-    tables: &Tables,
-    session: u32,
-    ids: &[String],
-) -> Result<Change, Refusal>
-    ensures checked { (past : List Deed) → AgreeWith tables.now past → is_active past session ≡ true
+fn end_by_ids(alloc: Global, state: &State, session: u32, ids: &[String]) -> Result<Change, Refusal>
+    ensures checked { (past : List Deed) → AgreeWith state.now past → is_active past session ≡ true
         → IfChecked result (λ change. deed_of change Looked) (unsubscribe_by_id_outcome past session (texts ids.now)) }
     ensures of_sessions { IfOk result IsOfSessions }
 {
-    let held = tables.sessions.subscriptions_of(session);
+    let held = state.sessions.subscriptions_of(session);
     let numbers = numbers_of(alloc, held, session, ids)?;
     Ok(Change::Cancel(session, numbers))
 }
@@ -70,16 +66,16 @@ fn end_by_ids(
 // The change that removes the events of these names from the global subscriptions.
 fn end_by_events(
     alloc: Global,
-    tables: &Tables,
+    state: &State,
     session: u32,
     names: &[String],
 ) -> Result<Change, Refusal>
-    ensures checked { (past : List Deed) → AgreeWith tables.now past → is_active past session ≡ true
+    ensures checked { (past : List Deed) → AgreeWith state.now past → is_active past session ≡ true
         → IfChecked result (λ change. deed_of change Looked) (unsubscribe_by_events_outcome past session (texts names.now)) }
     ensures of_sessions { IfOk result IsOfSessions }
 {
     let events = all_named(alloc, names)?;
-    if !all_global(tables.sessions.subscriptions_of(session), &events) {
+    if !all_global(state.sessions.subscriptions_of(session), &events) {
         return Err(Refusal::Code(ErrorCode::InvalidArgument));
     }
     Ok(Change::Dismiss(session, events))
@@ -88,8 +84,8 @@ fn end_by_events(
 // The empty result.
 fn unsubscribe_result(alloc: Global) -> ResultData
     ensures tree { result_tree result ≡ nothing }
-    ensures well { ⟦<ResultData as Subject<Method>>⟧.subject.well result }
-    ensures of_method { ⟦<ResultData as Subject<Method>>⟧.subject.kind result ≡ Method.SessionUnsubscribe }
+    ensures well { ResultIsWell result }
+    ensures of_method { result_method result ≡ Method.SessionUnsubscribe }
 {
     ResultData::SessionUnsubscribe(EmptyResult {
         ext: Ext::empty(alloc),

@@ -1,5 +1,5 @@
 use Rattle.std.proofs.Common.{ap, ◌∷◌, [], refl, arith}
-use Rattle.bidi_subjects.specs.declared.result_data.ResultData.TheVariants.{BrowsingContextActivate}
+use Rattle.bidi_methods.specs.declared.result_data.ResultData.TheVariants.{BrowsingContextActivate}
 use Rattle.bidi_browser.specs.Actions.{Activate}
 use Rattle.bidi_browser.specs.Occurs.{Replies}
 use Rattle.bidi_browser.specs.Outcome.{looked}

@@ -5,7 +5,7 @@ use Rattle.bidi_tree.specs.View.{items_of}
 use Rattle.bidi_shape.specs.ValueLaws.{others_of}
 use Rattle.bidi_params.specs.Words.{realm_type_text}
 use Rattle.bidi_params.specs.contracts.script.realms.RealmInfoShape.TheImpl.{ghosts}
-use Rattle.bidi_subjects.specs.declared.result_data.ResultData.TheVariants.{ScriptGetRealms}
+use Rattle.bidi_methods.specs.declared.result_data.ResultData.TheVariants.{ScriptGetRealms}
 use Rattle.bidi_browser.specs.Asked.{get_realms_asked}
 use Rattle.bidi_browser.specs.ContextRows.{row_of}
 use Rattle.bidi_handles.specs.Maps.{◌being◌and◌, mapped, listed}

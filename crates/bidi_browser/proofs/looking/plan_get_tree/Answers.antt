@@ -3,7 +3,7 @@ use Rattle.std.specs.Prelude.{option_map, string_bytes}
 use Rattle.bidi_tree.specs.Node.{no_members}
 use Rattle.bidi_shape.specs.ValueLaws.{others_of}
 use Rattle.bidi_params.specs.contracts.browsing_context.info.InfoShape.TheImpl.{ghosts}
-use Rattle.bidi_subjects.specs.declared.result_data.ResultData.TheVariants.{BrowsingContextGetTree}
+use Rattle.bidi_methods.specs.declared.result_data.ResultData.TheVariants.{BrowsingContextGetTree}
 use Rattle.bidi_browser.specs.Actions.{GetTree}
 use Rattle.bidi_browser.specs.Asked.{get_tree_asked}
 use Rattle.bidi_browser.specs.Info.{info_of}

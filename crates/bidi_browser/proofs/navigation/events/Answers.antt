@@ -1,6 +1,6 @@
 use Rattle.std.proofs.Common.{◌∙◌, ◌∷◌, [], map, ap, sym, subst}
-use Rattle.bidi_subjects.specs.contracts.event_data.EventDataSubjectEventName.TheImpl.{ghosts}
-use Rattle.bidi_subjects.specs.declared.event_data.EventName.TheVariants.{NavigationStarted, DomContentLoaded, Load}
+use Rattle.bidi_methods.specs.contracts.event_data.EventDataPayloadEventName.TheImpl.{ghosts}
+use Rattle.bidi_methods.specs.declared.event_data.EventName.TheVariants.{NavigationStarted, DomContentLoaded, Load}
 use Rattle.bidi_browser.specs.ContextRows.{row_of, realm_destroyed_in}
 use Rattle.bidi_browser.specs.Contexts.{children_of}
 use Rattle.bidi_browser.specs.Occurs.{led_to}
@@ -40,7 +40,7 @@ returns-clause-told c = λ past k move stands next is leads.
 
 pub returns-clause-well : goal.returns-clause-well
 returns-clause-well c =
-    let more = AllByRecursion-more (λ o. ghosts.subject.well o.event) in
+    let more = AllByRecursion-more (λ o. ghosts.payload.well o.event) in
     let none = subst AreWell (sym c.new-all.ensures.items) tt in
     let first = more _ _ _ c.in_ok-push.ensures.items none (c.navigation_started.ensures.well c.in_ok-info.ensures.well) in
     let gone = c.in_ok-push_removals.ensures.well first in

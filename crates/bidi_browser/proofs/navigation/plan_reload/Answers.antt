@@ -1,6 +1,6 @@
 use Rattle.std.proofs.Common.{◌≡◌, ◌∙◌, refl, sym, ap, ap₂}
 use Rattle.bidi_tree.specs.Node.{text, no_members}
-use Rattle.bidi_subjects.specs.declared.result_data.ResultData.TheVariants.{BrowsingContextReload}
+use Rattle.bidi_methods.specs.declared.result_data.ResultData.TheVariants.{BrowsingContextReload}
 use Rattle.bidi_handles.specs.declared.id.IdKind.TheVariants.{Navigation}
 use Rattle.bidi_browser.specs.Acts.{Again}
 use Rattle.bidi_browser.specs.Asked.{reload_asked}

@@ -1,5 +1,5 @@
 use Rattle.std.proofs.Common.{◌≡◌, ◌∙◌, Some, refl, sym, ap}
-use Rattle.bidi_subjects.specs.declared.result_data.ResultData.TheVariants.{BrowsingContextTraverseHistory}
+use Rattle.bidi_methods.specs.declared.result_data.ResultData.TheVariants.{BrowsingContextTraverseHistory}
 use Rattle.bidi_browser.specs.Acts.{Across}
 use Rattle.bidi_browser.specs.Asked.{traverse_asked}
 use Rattle.bidi_browser.specs.Occurs.{led_to}

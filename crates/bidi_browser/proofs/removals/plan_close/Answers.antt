@@ -1,5 +1,5 @@
 use Rattle.std.proofs.Common.{◌∷◌, [], Some, sym, ap, subst, refl, arith}
-use Rattle.bidi_subjects.specs.declared.result_data.ResultData.TheVariants.{BrowsingContextClose}
+use Rattle.bidi_methods.specs.declared.result_data.ResultData.TheVariants.{BrowsingContextClose}
 use Rattle.bidi_browser.specs.Acts.{Removed}
 use Rattle.bidi_browser.specs.Occurs.{Replies}
 use Rattle.bidi_browser.specs.Plans.{AreWell}

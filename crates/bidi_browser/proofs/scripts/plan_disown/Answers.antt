@@ -1,6 +1,6 @@
 use Rattle.std.proofs.Common.{◌∙◌, ◌∷◌, [], map, filter, refl, ap, arith}
 use Rattle.std.specs.Prelude.{string_bytes}
-use Rattle.bidi_subjects.specs.declared.result_data.ResultData.TheVariants.{ScriptDisown}
+use Rattle.bidi_methods.specs.declared.result_data.ResultData.TheVariants.{ScriptDisown}
 use Rattle.bidi_browser.specs.Asked.{disown_asked}
 use Rattle.bidi_browser.specs.Occurs.{Replies}
 use Rattle.bidi_handles.specs.Ids.{has_id}

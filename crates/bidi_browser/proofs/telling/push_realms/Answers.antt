@@ -1,4 +1,4 @@
-use Rattle.bidi_subjects.specs.contracts.event_data.EventDataSubjectEventName.TheImpl.{ghosts}
+use Rattle.bidi_methods.specs.contracts.event_data.EventDataPayloadEventName.TheImpl.{ghosts}
 use Rattle.bidi_browser.specs.View.{occurrence_of}
 use Rattle.bidi_browser.specs.ContextRows.{row_of, realm_created_in}
 use Rattle.bidi_browser.proofs.PushLemmas.{told-more, AllByRecursion-more}
@@ -9,10 +9,10 @@ loop-context-preserved c =
     let held = c.loop-context in
     let one = c.in_ok-realm_created in record {
       told =
-          told-more (occurrence_of ghosts.subject) realm_created_in (λ x. row_of x.now) c.args.contexts.now held.context-index
+          told-more occurrence_of realm_created_in (λ x. row_of x.now) c.args.contexts.now held.context-index
           c.context-item.result c.args.all.now.items held.all.items c.push.new.self.items one.field-0
           c.loop-context-test.true c.context-item.is held.invariant.told c.in_ok-push.ensures.items one.ensures.told;
       well =
-          λ w. AllByRecursion-more (λ o. ghosts.subject.well o.event) held.all.items c.push.new.self.items one.field-0
+          λ w. AllByRecursion-more (λ o. ghosts.payload.well o.event) held.all.items c.push.new.self.items one.field-0
           c.in_ok-push.ensures.items (held.invariant.well w) one.ensures.well;
     }

@@ -1,9 +1,9 @@
 use Rattle.std.proofs.Common.{◌∙◌, string_bytes, codes, sym, ap, subst}
 use Rattle.bidi_tree.specs.Node.{get_of}
 use Rattle.bidi_tree.specs.View.{node}
-use Rattle.bidi_codes.specs.declared.error_code.ErrorCode.TheVariants.{NoSuchHandle}
+use Rattle.bidi_params.specs.declared.error_code.ErrorCode.TheVariants.{NoSuchHandle}
 use Rattle.bidi_values.specs.contracts.reference.RemoteObjectReferenceShape.TheImpl as objects
-use Rattle.bidi_codes.specs.Checks.{found}
+use Rattle.bidi_handles.specs.Checks.{found}
 use Rattle.bidi_handles.specs.Handles.{values_in}
 use Rattle.bidi_handles.specs.Resolves.{Gives}
 use Rattle.bidi_handles.specs.ValuesInHand.{remote_tree}

@@ -42,7 +42,7 @@ returns-clause-ok c =
     let past = past_after [] inv.0 in (
       inv.0,
       subst (λ xs. AreHeardAs xs inv.0) (sym (map-id c.loop-step.yielded) ∙ end.0) inv.1,
-      c.in_ok-ledger.ensures.pages past inv.2,
+      c.in_ok-ledger.ensures.accounts past inv.2,
       inv.3.sound,
       λ m. outcomes past m (inv.3.replies m),
     )

@@ -4,8 +4,7 @@ use Rattle.bidi_ledger.specs.Steps.{IsWell}
 use Rattle.bidi_pair.specs.declared.reading.PairFault.TheVariants.{NoMemory}
 use Rattle.bidi_lines.proofs.InputLineLemmas.{given_line, given_none}
 use Rattle.bidi_pair.proofs.PairLemmas.{count_more, input_stop, last_stop, length-say, line_stop, schedule_all, schedule_more, schedule_read, well_more}
-use Rattle.bidi_lines.proofs.ResultLemmas.{by_fault}
-use Rattle.bidi_lines.proofs.ResultLemmas.{if_some_at}
+use Rattle.bidi_lines.proofs.ResultLemmas.{by_fault, if_none_at, if_some_at}
 use Rattle.bidi_pair.proofs.reading.read_steps.Goals as goal
 
 pub returns-in-Err-clause-err : goal.returns-in-Err-clause-err
@@ -50,8 +49,9 @@ returns-in_default-clause-err g c =
     given_line _ _ c.lines.reader c.next.new.self _ c.in-Ok-Some.field-0 line c.in-Ok-Some.field-0-is (next.bytes, next.says) in (
       read ++ bytes,
       Consumes-trans _ _ _ _ _ s.reads consumes,
-      line_stop c.lines.count (g.R.Source.has_ended c.next.new.source) read bytes line.items c.lines.reader c.next.new.self
-          c.lines.steps.items s.schedule more s.count,
+      line_stop c.lines.count (g.R.Source.has_ended c.next.new.source) read bytes line.items c.deref.result.now c.lines.reader c.next.new.self
+          c.lines.steps.items s.schedule more is c.deref.ensures.value
+          (if_none_at c.in_ok-step-in-Ok-Some.field-0 _ c.in_ok-step-in-Ok-Some.ensures.none c.in_default.is) s.count,
     )
 
 pub returns-in_err-add_step-in-Ok-Some-clause-err : goal.returns-in_err-add_step-in-Ok-Some-clause-err
@@ -80,11 +80,11 @@ lines-preserved g c =
       record {
         schedule =
             schedule_more read bytes line.items c.deref.result.now c.lines.reader c.next.new.self steps after x c.lines.count s.schedule
-            more is said.0 c.deref.ensures.value grown s.count (omega arith);
+            more is said c.deref.ensures.value grown s.count (omega arith);
         reads = Consumes-trans _ _ _ _ _ s.reads consumes;
         failed_reads = next.failures ∙ s.failed_reads;
         count = count_more steps after x c.lines.count grown s.count;
-        well = well_more IsWell steps after x grown s.well said.1;
+        well = well_more IsWell steps after x grown s.well said.well;
       },
     )
 

@@ -1,5 +1,5 @@
 use Rattle.std.proofs.Common.{◌≡◌, map}
-use Rattle.bidi_remote.specs.Tables.View.{sent_of}
+use Rattle.bidi_remote.specs.State.View.{sent_of}
 use Rattle.bidi_play.specs.Lines.{written}
 use Rattle.bidi_play.proofs.lines.lines_of.Given as goal
 

@@ -2,11 +2,11 @@ use Rattle.std.proofs.Common.{◌∙◌, ◌<◌, length, map, set, sym, ap, ari
 use Rattle.std.specs.Prelude.{None}
 use Rattle.std.proofs.lemmas.List.{map-set, length-map}
 use Rattle.std.proofs.Math.ListN.{get_or-map}
-use Rattle.bidi_subjects.specs.declared.event_data.EventName.TheVariants.{EntryAdded}
-use Rattle.bidi_remote.specs.Tables.EventTexts.{place_row, written_of}
-use Rattle.bidi_remote.specs.Tables.MissedRows.{left}
-use Rattle.bidi_remote.specs.Tables.SessionView.{scope_of, row_of}
-use Rattle.bidi_remote.specs.Tables.SubscriptionRows.{is_new}
+use Rattle.bidi_methods.specs.declared.event_data.EventName.TheVariants.{EntryAdded}
+use Rattle.bidi_remote.specs.State.EventTexts.{place_row, written_of}
+use Rattle.bidi_remote.specs.State.MissedRows.{left}
+use Rattle.bidi_remote.specs.State.SessionView.{scope_of, row_of}
+use Rattle.bidi_remote.specs.State.SubscriptionRows.{is_new}
 use Rattle.bidi_remote.proofs.BeginLemmas.{over-all, over-next, over-kept}
 use Rattle.bidi_remote.proofs.PlaceLemmas.{left-new, left-old, left-empty}
 use Rattle.bidi_remote.proofs.announcing.announce.Goals.{then-is_new+in-Some-1, then-is_new+in-None-1, else-is_new}

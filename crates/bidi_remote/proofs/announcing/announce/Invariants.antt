@@ -1,11 +1,11 @@
 use Rattle.std.proofs.Common.{◌≡◌, List, map, deque_len, deque_capacity}
-use Rattle.bidi_subjects.specs.declared.event_data.EventName.TheVariants.{EntryAdded}
+use Rattle.bidi_methods.specs.declared.event_data.EventName.TheVariants.{EntryAdded}
 use Rattle.bidi_browser.specs.Acts.{Act}
 use Rattle.bidi_browser.specs.Stands.{StandsFor}
-use Rattle.bidi_remote.specs.Tables.EventTexts.{place_row}
-use Rattle.bidi_remote.specs.Tables.MissedRows.{left}
-use Rattle.bidi_remote.specs.Tables.SessionView.{scope_of, row_of}
-use Rattle.bidi_remote.specs.Tables.SubscriptionRows.{is_new}
+use Rattle.bidi_remote.specs.State.EventTexts.{place_row}
+use Rattle.bidi_remote.specs.State.MissedRows.{left}
+use Rattle.bidi_remote.specs.State.SessionView.{scope_of, row_of}
+use Rattle.bidi_remote.specs.State.SubscriptionRows.{is_new}
 use Rattle.bidi_remote.proofs.BeginLemmas.{over}
 use Rattle.bidi_remote.proofs.announcing.announce.Given as goal
 

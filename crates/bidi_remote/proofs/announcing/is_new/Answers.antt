@@ -1,7 +1,7 @@
 use Rattle.std.proofs.Common.{◌∙◌, ◌&&◌, sym, refl, true≢false}
 use Rattle.bidi_browser.specs.Occurrences.{is_among}
 use Rattle.bidi_remote.specs.Machine.Subscriptions.{covers}
-use Rattle.bidi_remote.specs.Tables.SessionView.{scope_of}
+use Rattle.bidi_remote.specs.State.SessionView.{scope_of}
 use Rattle.bidi_remote.proofs.DecideLemmas.{is-new, third, not_live, not_new}
 use Rattle.bidi_remote.proofs.announcing.is_new.Goals.{then-is_live, else-is_live}
 use Rattle.bidi_remote.proofs.announcing.is_new.Goals as goal

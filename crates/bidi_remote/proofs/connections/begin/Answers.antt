@@ -4,7 +4,7 @@ use Rattle.std.proofs.lemmas.Bool.Decides.{nat_tests}
 use Rattle.std.proofs.lemmas.List.{map-set, length-map}
 use Rattle.std.proofs.Math.ListN.{get_or-map}
 use Rattle.bidi_remote.specs.Machine.Connections.{SpeaksFor}
-use Rattle.bidi_remote.specs.Tables.ConnectionRows.{row_of, begun}
+use Rattle.bidi_remote.specs.State.ConnectionRows.{row_of, begun}
 use Rattle.bidi_remote.proofs.BeginLemmas.{over-all, over-next, begun-same, begun-other}
 use Rattle.bidi_remote.proofs.connections.begin.Goals.{then-connection-number, else-connection-number}
 use Rattle.bidi_remote.proofs.connections.begin.Goals as goal

@@ -1,5 +1,5 @@
 use Rattle.std.proofs.Common.{◌≡◌, map}
-use Rattle.bidi_remote.specs.Tables.ConnectionRows.{row_of, begun}
+use Rattle.bidi_remote.specs.State.ConnectionRows.{row_of, begun}
 use Rattle.bidi_remote.proofs.BeginLemmas.{over}
 use Rattle.bidi_remote.proofs.connections.begin.Given as goal
 

@@ -1,7 +1,7 @@
 use Rattle.std.proofs.Common.{◌≡◌, ◌++◌, map, drop}
-use Rattle.bidi_remote.specs.Tables.View.{sent_of}
+use Rattle.bidi_remote.specs.State.View.{sent_of}
 use Rattle.bidi_remote.specs.Machine.Sent.{Close}
-use Rattle.bidi_remote.specs.Tables.ConnectionRows.{row_of, to_each}
+use Rattle.bidi_remote.specs.State.ConnectionRows.{row_of, to_each}
 use Rattle.bidi_remote.proofs.connections.push_closes.Given as goal
 
 -- what is left is added to what was sent

@@ -1,8 +1,8 @@
 use Rattle.std.proofs.Common.{ℕ, ◌∙◌, ◌++◌, ◌+◌, [], ◌∷◌, map, drop, refl, sym, ap, append-nil}
 use Rattle.std.proofs.lemmas.List.{map-append, drop_all}
 use Rattle.bidi_remote.specs.Machine.Connections.{is_for}
-use Rattle.bidi_remote.specs.Tables.ConnectionRows.{row_of, to_each}
-use Rattle.bidi_remote.specs.Tables.View.{sent_of}
+use Rattle.bidi_remote.specs.State.ConnectionRows.{row_of, to_each}
+use Rattle.bidi_remote.specs.State.View.{sent_of}
 use Rattle.bidi_remote.specs.Machine.Sent.{Text}
 use Rattle.bidi_remote.proofs.BeginLemmas.{to_each-next, to_each-other}
 use Rattle.bidi_remote.proofs.connections.push_text.Goals.{then-is_for+in_ok-copy+in_ok-push, else-is_for}

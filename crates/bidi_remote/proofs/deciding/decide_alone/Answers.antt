@@ -4,8 +4,8 @@ use Rattle.bidi_remote.specs.Machine.Capabilities.{request_of}
 use Rattle.bidi_remote.specs.Machine.Commands.{New}
 use Rattle.bidi_remote.specs.Machine.Connections.{Alone}
 use Rattle.bidi_remote.specs.Machine.Outcome.{deeds, outcome}
-use Rattle.bidi_remote.specs.Tables.Asked.{asked_of}
-use Rattle.bidi_remote.specs.Tables.Turns.{Decides}
+use Rattle.bidi_remote.specs.State.Asked.{asked_of}
+use Rattle.bidi_remote.specs.State.Turns.{Decides}
 use Rattle.bidi_remote.proofs.SpeakingLemmas.{few-sessions}
 use Rattle.bidi_remote.proofs.ReplyLemmas.{asked-of}
 use Rattle.bidi_remote.proofs.deciding.decide_alone.Goals as goal

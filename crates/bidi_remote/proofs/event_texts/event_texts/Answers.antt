@@ -1,17 +1,17 @@
 use Rattle.std.proofs.Common.{◌∙◌, ◌∷◌, [], ◌++◌, ◌+◌, append_assoc, append-nil, map, drop, sym, ap, subst, arith}
 use Rattle.std.specs.List.{AllByRecursion}
 use Rattle.std.proofs.lemmas.List.{drop_all, map-append}
-use Rattle.bidi_subjects.specs.contracts.event_data.EventDataSubjectEventName.TheImpl.{ghosts}
+use Rattle.bidi_methods.specs.contracts.event_data.EventDataPayloadEventName.TheImpl.{ghosts}
 use Rattle.bidi_messages.specs.contracts.message.MessageShape.TheImpl as message
 use Rattle.bidi_messages.specs.Reading.{IsMessageText}
 use Rattle.bidi_browser.specs.View.{seen}
-use Rattle.bidi_remote.specs.Tables.EventTexts.{written, written_of, written_in, AreMessages}
+use Rattle.bidi_remote.specs.State.EventTexts.{written, written_of, written_in, AreMessages}
 use Rattle.bidi_remote.proofs.ListLemmas.{all-append, from-item}
 use Rattle.bidi_remote.proofs.event_texts.event_texts.Goals as goal
 
 pub event_text_of-requires : goal.event_text_of-requires
 event_text_of-requires c =
-    (subst (AllByRecursion (λ o. ghosts.subject.well o.event)) (from-item c.args.occurrences.now c.loop-occurrence.occurrence-index
+    (subst (AllByRecursion (λ o. ghosts.payload.well o.event)) (from-item c.args.occurrences.now c.loop-occurrence.occurrence-index
     c.occurrence-item.result (omega arith) c.occurrence-item.is) c.loop-occurrence.invariant.0).0
 
 pub loop-occurrence-preserved : goal.loop-occurrence-preserved
@@ -24,7 +24,7 @@ loop-occurrence-preserved c =
     let rest = map written (seen (drop (i + 1) occurrences)) in
     let is = from-item occurrences i x (omega arith) c.occurrence-item.is in
     let more = ap written_in c.in_ok-push.ensures.items ∙ map-append (λ y. written_of y.value) done (e ∷ []) in (
-      (subst (AllByRecursion (λ o. ghosts.subject.well o.event)) is c.loop-occurrence.invariant.0).1,
+      (subst (AllByRecursion (λ o. ghosts.payload.well o.event)) is c.loop-occurrence.invariant.0).1,
       c.loop-occurrence.invariant.1
           ∙ (ap (λ left. written_in done ++ map written (seen left)) is
           ∙ (ap (λ y. written_in done ++ y ∷ rest) (sym c.in_ok-event_text_of.ensures.written)

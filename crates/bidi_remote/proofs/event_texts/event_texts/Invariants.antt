@@ -1,13 +1,13 @@
 use Rattle.std.proofs.Common.{◌≡◌, ◌++◌, map, drop}
 use Rattle.std.specs.List.{AllByRecursion}
-use Rattle.bidi_subjects.specs.contracts.event_data.EventDataSubjectEventName.TheImpl.{ghosts}
+use Rattle.bidi_methods.specs.contracts.event_data.EventDataPayloadEventName.TheImpl.{ghosts}
 use Rattle.bidi_browser.specs.View.{seen}
-use Rattle.bidi_remote.specs.Tables.EventTexts.{written, written_in, AreMessages}
+use Rattle.bidi_remote.specs.State.EventTexts.{written, written_in, AreMessages}
 use Rattle.bidi_remote.proofs.event_texts.event_texts.Given as goal
 
 -- those that were looked at are written, and the others are well
 abbrev pub invariant-loop-occurrence : goal.invariant-loop-occurrence
 invariant-loop-occurrence l =
-    AllByRecursion (λ o. ghosts.subject.well o.event) (drop l.occurrence-index l.occurrences)
+    AllByRecursion (λ o. ghosts.payload.well o.event) (drop l.occurrence-index l.occurrences)
     × (map written (seen l.occurrences) ≡ written_in l.all.items ++ map written (seen (drop l.occurrence-index l.occurrences)))
     × AreMessages (written_in l.all.items)

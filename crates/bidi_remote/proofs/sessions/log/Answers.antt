@@ -2,8 +2,8 @@ use Rattle.std.proofs.Common.{◌≡◌, ◌∙◌, ◌<◌, ◌+◌, ◌++◌, 
 use Rattle.std.specs.Prelude.{MatchOption, option_to_list, vec_len}
 use Rattle.std.proofs.lemmas.List.{map-set, length-map, length-append}
 use Rattle.std.proofs.Math.ListN.{get_or-map}
-use Rattle.bidi_remote.specs.Tables.SessionView.{session_row_of}
-use Rattle.bidi_remote.specs.Tables.SubscriptionRows.{logged}
+use Rattle.bidi_remote.specs.State.SessionView.{session_row_of}
+use Rattle.bidi_remote.specs.State.SubscriptionRows.{logged}
 use Rattle.bidi_remote.proofs.BeginLemmas.{over-all, over-next}
 use Rattle.bidi_remote.proofs.CopyLemmas.{AreCopies, are-copies, count-copies, last-copy}
 use Rattle.bidi_remote.proofs.ListLemmas.{no_value}

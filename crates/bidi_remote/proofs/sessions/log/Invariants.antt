@@ -1,8 +1,8 @@
 use Rattle.std.proofs.Common.{◌≡◌, ◌+◌, length, map}
 use Rattle.std.specs.Prelude.{replicate}
-use Rattle.bidi_remote.specs.Tables.EventTexts.{Written, written_in}
-use Rattle.bidi_remote.specs.Tables.SessionView.{session_row_of}
-use Rattle.bidi_remote.specs.Tables.SubscriptionRows.{logged}
+use Rattle.bidi_remote.specs.State.EventTexts.{Written, written_in}
+use Rattle.bidi_remote.specs.State.SessionView.{session_row_of}
+use Rattle.bidi_remote.specs.State.SubscriptionRows.{logged}
 use Rattle.bidi_remote.proofs.BeginLemmas.{over}
 use Rattle.bidi_remote.proofs.CopyLemmas.{AreCopies}
 use Rattle.bidi_remote.proofs.sessions.log.Given as goal

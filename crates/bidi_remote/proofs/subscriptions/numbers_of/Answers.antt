@@ -1,12 +1,12 @@
 use Rattle.std.proofs.Common.{◌∙◌, ◌∷◌, [], ◌+◌, sym, ap, map, drop, string_bytes, arith}
 use Rattle.std.specs.Prelude.{bytes_eq}
-use Rattle.bidi_codes.specs.declared.error_code.ErrorCode.TheVariants.{InvalidArgument}
+use Rattle.bidi_params.specs.declared.error_code.ErrorCode.TheVariants.{InvalidArgument}
 use Rattle.bidi_handles.specs.declared.id.IdKind.TheVariants.{Subscription}
 use Rattle.bidi_handles.specs.Ids.{id_text}
-use Rattle.bidi_codes.specs.Checks.{found}
-use Rattle.bidi_remote.specs.Tables.Checked.{behind}
-use Rattle.bidi_remote.specs.Tables.SessionView.{row_of}
-use Rattle.bidi_remote.specs.Tables.SubscriptionRows.{number_named, numbers_named}
+use Rattle.bidi_handles.specs.Checks.{found}
+use Rattle.bidi_remote.specs.State.Checked.{behind}
+use Rattle.bidi_remote.specs.State.SessionView.{row_of}
+use Rattle.bidi_remote.specs.State.SubscriptionRows.{number_named, numbers_named}
 use Rattle.bidi_remote.proofs.ListLemmas.{find-map, from-item}
 use Rattle.bidi_remote.proofs.CheckLemmas.{joined-ok, joined-err}
 use Rattle.bidi_remote.proofs.subscriptions.numbers_of.Goals as goal

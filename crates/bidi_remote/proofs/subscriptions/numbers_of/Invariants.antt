@@ -1,7 +1,7 @@
 use Rattle.std.proofs.Common.{◌≡◌, map, drop, string_bytes}
-use Rattle.bidi_remote.specs.Tables.SessionView.{row_of}
-use Rattle.bidi_remote.specs.Tables.SubscriptionRows.{numbers_named}
-use Rattle.bidi_remote.specs.Tables.Checked.{behind}
+use Rattle.bidi_remote.specs.State.SessionView.{row_of}
+use Rattle.bidi_remote.specs.State.SubscriptionRows.{numbers_named}
+use Rattle.bidi_remote.specs.State.Checked.{behind}
 use Rattle.bidi_remote.proofs.subscriptions.numbers_of.Given as goal
 
 -- the numbers of the ids that are left come behind those of the others

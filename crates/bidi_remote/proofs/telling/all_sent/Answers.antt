@@ -1,13 +1,13 @@
 use Rattle.std.proofs.Common.{◌∙◌, ◌++◌, map, flat_map, sym, ap, subst}
 use Rattle.bidi_browser.specs.Acts.{Looked}
-use Rattle.bidi_remote.specs.Tables.ConnectionRows.{rows_in}
-use Rattle.bidi_remote.specs.Tables.EventTexts.{written_in}
-use Rattle.bidi_remote.specs.Tables.Messages.{AllReadBack}
-use Rattle.bidi_remote.specs.Tables.Routes.{to_all}
-use Rattle.bidi_remote.specs.Tables.SessionView as sessions
+use Rattle.bidi_remote.specs.State.ConnectionRows.{rows_in}
+use Rattle.bidi_remote.specs.State.EventTexts.{written_in}
+use Rattle.bidi_remote.specs.State.Messages.{AllReadBack}
+use Rattle.bidi_remote.specs.State.Routes.{to_all}
+use Rattle.bidi_remote.specs.State.SessionView as sessions
 use Rattle.bidi_browser.specs.View.{seen}
-use Rattle.bidi_remote.specs.Tables.Turns.{deed_of, to_subscriber_in, closed_in}
-use Rattle.bidi_remote.specs.Tables.View.{sent_of, sent_if}
+use Rattle.bidi_remote.specs.State.Turns.{deed_of, to_subscriber_in, closed_in}
+use Rattle.bidi_remote.specs.State.View.{sent_of, sent_if}
 use Rattle.bidi_remote.proofs.TellLemmas.{in-order, more-read, subscriber-read, closed-read}
 use Rattle.bidi_remote.proofs.telling.all_sent.Goals as goal
 
@@ -16,7 +16,7 @@ push_events-requires c = c.requires.before
 
 pub returns-clause-sent : goal.returns-clause-sent
 returns-clause-sent c = λ act.
-    let t = c.args.tables.now in
+    let t = c.args.state.now in
     let d = deed_of c.args.change.now act in
     let all = flat_map (to_all (sessions.rows_in t.sessions) (rows_in t.connections)) in
     let first = to_subscriber_in (rows_in t.connections) d (written_in c.args.announced.now) in
@@ -35,9 +35,9 @@ returns-clause-sent c = λ act.
 pub returns-clause-reads_back : goal.returns-clause-reads_back
 returns-clause-reads_back c = λ announced replied.
     let none = subst AllReadBack (sym (ap (map sent_of) c.new-sent.ensures.items)) tt in
-    more-read _ _ (c.in_ok-push_closes.ensures Looked) (closed-read (rows_in c.args.tables.now.connections) (deed_of c.args.change.now Looked))
+    more-read _ _ (c.in_ok-push_closes.ensures Looked) (closed-read (rows_in c.args.state.now.connections) (deed_of c.args.change.now Looked))
     (c.in_ok-push_events-2.ensures.reads_back
     (more-read _ _ c.in_ok-push_if.ensures replied
     (c.in_ok-push_events.ensures.reads_back
     (more-read _ _ (c.in_ok-push_announced.ensures Looked)
-    (subscriber-read (rows_in c.args.tables.now.connections) (deed_of c.args.change.now Looked) (written_in c.args.announced.now) announced) none))))
+    (subscriber-read (rows_in c.args.state.now.connections) (deed_of c.args.change.now Looked) (written_in c.args.announced.now) announced) none))))

@@ -1,17 +1,17 @@
 use Rattle.std.proofs.Common.{◌≡◌, ◌∙◌, map, sym, ap, ap₂, subst}
 use Rattle.std.specs.Prelude.{IfOk}
-use Rattle.bidi_remote.specs.Tables.ConnectionRows.{rows_in}
-use Rattle.bidi_remote.specs.Tables.EventTexts.{written_in, AreMessages}
-use Rattle.bidi_remote.specs.Tables.SessionView as sessions
+use Rattle.bidi_remote.specs.State.ConnectionRows.{rows_in}
+use Rattle.bidi_remote.specs.State.EventTexts.{written_in, AreMessages}
+use Rattle.bidi_remote.specs.State.SessionView as sessions
 use Rattle.bidi_browser.specs.View.{seen}
-use Rattle.bidi_remote.specs.Tables.Turns.{deed_of, reply_in, asker_in}
-use Rattle.bidi_remote.specs.Tables.View.{sent_of, sent_if}
+use Rattle.bidi_remote.specs.State.Turns.{deed_of, reply_in, asker_in}
+use Rattle.bidi_remote.specs.State.View.{sent_of, sent_if}
 use Rattle.bidi_remote.proofs.TellLemmas.{sent_in, sent_in-past}
 use Rattle.bidi_remote.proofs.telling.tell.Goals as goal
 
 pub returns-clause-told : goal.returns-clause-told
 returns-clause-told c = λ past act a.
-    let t = c.args.tables.now in
+    let t = c.args.state.now in
     let told = c.args.telling in
     let change = deed_of c.args.change.now act in
     let replied = sent_if c.in_ok-reply.reply in

@@ -1,19 +1,19 @@
 use Rattle.std.proofs.Common.{◌∙◌, ◌++◌, map, sym, ap, ap₂, subst}
 use Rattle.bidi_messages.specs.contracts.message.MessageShape.TheImpl.{ghosts}
-use Rattle.bidi_subjects.specs.declared.event_data.EventName.TheVariants.{EntryAdded}
+use Rattle.bidi_methods.specs.declared.event_data.EventName.TheVariants.{EntryAdded}
 use Rattle.bidi_messages.specs.Reading.{IsMessageText}
 use Rattle.bidi_remote.specs.Machine.Sent.{occurrence_text}
-use Rattle.bidi_remote.specs.Tables.ConnectionRows.{rows, rows_in}
-use Rattle.bidi_remote.specs.Tables.Messages.{AllReadBack}
-use Rattle.bidi_remote.specs.Tables.SessionView.{session_row_of}
-use Rattle.bidi_remote.specs.Tables.SubscriptionRows.{session_rows}
-use Rattle.bidi_remote.specs.Tables.View.{sent_of}
+use Rattle.bidi_remote.specs.State.ConnectionRows.{rows, rows_in}
+use Rattle.bidi_remote.specs.State.Messages.{AllReadBack}
+use Rattle.bidi_remote.specs.State.SessionView.{session_row_of}
+use Rattle.bidi_remote.specs.State.SubscriptionRows.{session_rows}
+use Rattle.bidi_remote.specs.State.View.{sent_of}
 use Rattle.bidi_remote.proofs.TellLemmas.{heard, heard-read, more-read, to_all-past}
 use Rattle.bidi_remote.proofs.telling.tell_entry.Goals as goal
 
 pub returns-clause-told : goal.returns-clause-told
 returns-clause-told c = λ past o a event is.
-    let t = c.args.tables.now in
+    let t = c.args.state.now in
     let entry = c.args.entry.now in
     let cs = rows_in t.connections in
     let all = map session_row_of c.all.result.now in
@@ -26,6 +26,6 @@ returns-clause-told c = λ past o a event is.
 pub returns-clause-reads_back : goal.returns-clause-reads_back
 returns-clause-reads_back c = λ text.
     more-read _ _ c.in_ok-push_heard.ensures
-    (heard-read (rows_in c.args.tables.now.connections) c.deref.result.now (subst (IsMessageText ghosts.shape) (sym c.deref.ensures) text)
+    (heard-read (rows_in c.args.state.now.connections) c.deref.result.now (subst (IsMessageText ghosts.shape) (sym c.deref.ensures) text)
     EntryAdded c.args.entry.now.top (map session_row_of c.all.result.now))
     (subst AllReadBack (sym (ap (map sent_of) c.new-sent.ensures.items)) tt)

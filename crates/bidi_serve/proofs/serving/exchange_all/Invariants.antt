@@ -1,6 +1,6 @@
 use Rattle.std.proofs.Common.{◌≡◌, ℕ, ◌+◌, List}
 use Rattle.bidi_remote.specs.Machine.History.{Input}
-use Rattle.bidi_remote.specs.Tables.Stands.{StandsFor}
+use Rattle.bidi_remote.specs.State.Stands.{StandsFor}
 use Rattle.bidi_socket.specs.declared.link.Link.{Link}
 use Rattle.bidi_serve.specs.Serving.{Exchanges}
 use Rattle.bidi_serve.proofs.serving.exchange_all.Given as goal

@@ -1,7 +1,7 @@
 use Rattle.std.proofs.Common.{◌≡◌, ◌∙◌, ◌∷◌, not, false, sym, ap, subst}
 use Rattle.std.specs.Prelude.{◌||◌}
 use Rattle.bidi_remote.specs.Machine.History.{Open}
-use Rattle.bidi_remote.specs.Tables.Stands.{StandsFor}
+use Rattle.bidi_remote.specs.State.Stands.{StandsFor}
 use Rattle.bidi_serve.specs.Serving.{is_served}
 use Rattle.bidi_serve.proofs.serving.open.Goals as goal
 

@@ -1,6 +1,6 @@
 use Rattle.std.proofs.Common.{Bool, map}
 use Rattle.bidi_remote.specs.Machine.Sent.{texts_on}
-use Rattle.bidi_remote.specs.Tables.View.{sent_of}
+use Rattle.bidi_remote.specs.State.View.{sent_of}
 use Rattle.bidi_socket.specs.declared.link.Link.{Link}
 use Rattle.bidi_serve.specs.Serving.{AreSent}
 use Rattle.bidi_serve.proofs.serving.send_all.Given as goal

@@ -1,6 +1,6 @@
 use Rattle.std.proofs.Common.{sym, subst, ◌∙◌}
 use Rattle.bidi_remote.specs.Machine.History.{IsHeardAs}
-use Rattle.bidi_remote.specs.Tables.View.{step_of}
+use Rattle.bidi_remote.specs.State.View.{step_of}
 use Rattle.bidi_strike.specs.Follows.{is_kept}
 use Rattle.bidi_strike.proofs.StrikeLemmas.{none_added, one_added}
 use Rattle.bidi_strike.proofs.striking.keep_if_kept.Goals as goal

@@ -3,7 +3,7 @@ use Rattle.std.specs.Prelude.{if◌then◌else◌}
 use Rattle.bidi_remote.specs.declared.remote_end.RemoteFault.TheVariants.{WornOut}
 use Rattle.bidi_remote.specs.Machine.History.{AreHeardAs}
 use Rattle.bidi_remote.specs.Machine.Strike.{strike_steps}
-use Rattle.bidi_remote.specs.Tables.View.{step_of}
+use Rattle.bidi_remote.specs.State.View.{step_of}
 use Rattle.bidi_remote.proofs.HeardLemmas.{heard_more}
 use Rattle.bidi_strike.specs.Follows.{is_kept}
 use Rattle.bidi_strike.proofs.AlikeLemmas.{sees-strike}

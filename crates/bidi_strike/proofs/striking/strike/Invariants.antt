@@ -2,7 +2,7 @@
 use Rattle.std.proofs.Common.{◌≡◌, List, map, take}
 use Rattle.bidi_remote.specs.Machine.History.{Input, AreHeardAs}
 use Rattle.bidi_remote.specs.Machine.Strike.{strike_steps}
-use Rattle.bidi_remote.specs.Tables.View.{step_of}
+use Rattle.bidi_remote.specs.State.View.{step_of}
 use Rattle.bidi_strike.specs.Follows.{Follows}
 use Rattle.bidi_strike.proofs.striking.strike.Given as goal
 

@@ -1,7 +1,7 @@
 use Rattle.std.proofs.Common.{◌≡◌, ◌<◌, ◌+◌, ◌∷◌, length, drop, slice_index_or, true, ◌&&◌, sym, ap, ◌∙◌, subst, arith}
 use Rattle.json.specs.Value.{value_view, members_view}
 use Rattle.bidi_tree.specs.Json.{stands_whole, members_stand_whole}
-use Rattle.bidi_tree.proofs.DraftLemmas.{nth}
+use Rattle.bidi_tree.proofs.OutlineLemmas.{nth}
 use Rattle.bidi_tree.proofs.WholeLemmas.{PutsWhole, puts-whole}
 use Rattle.bidi_tree.proofs.value_whole.+parsed_whole.Goals as goal
 

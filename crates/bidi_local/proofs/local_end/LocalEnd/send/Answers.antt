@@ -3,7 +3,7 @@ use Rattle.std.specs.List.{AllByRecursion}
 use Rattle.bidi_local.proofs.PendingLemmas.{insert_entry-next, were_sent-next}
 use Rattle.std.specs.Prelude.{length, string_bytes}
 use Rattle.bidi_messages.specs.Verdict.{IsVerdict, Accepted}
-use Rattle.bidi_subjects.specs.contracts.command_data.CommandDataSubjectMethod.TheImpl as asks
+use Rattle.bidi_methods.specs.contracts.command_data.CommandDataPayloadMethod.TheImpl as asks
 use Rattle.bidi_local.specs.Pending.{command_tree}
 use Rattle.bidi_local.proofs.SendingLemmas.{text_accepted}
 use Rattle.bidi_local.proofs.local_end.LocalEnd.send.Goals as goal
@@ -29,7 +29,7 @@ returns-in-Ok-clause-waits c =
 pub returns-in-Ok-clause-accepted : goal.returns-in-Ok-clause-accepted
 returns-in-Ok-clause-accepted c =
     let id = suc c.args.self.now.sent in
-    let fits : length (string_bytes c.in_ok-method.text) ≤ 1048576 = omega (arith, c.if-len-gt-MOST_BYTES.false, c.len-2.ensures) in
+    let fits : length (string_bytes c.in_ok-method.text) ≤ 1048576 = omega (arith, c.if-len-gt-MAX_BYTES.false, c.len-2.ensures) in
     subst (λ n. IsVerdict (string_bytes c.in_ok-method.text)
-    (Accepted (command_tree n (asks.ghosts.subject.kind c.args.«data») (asks.ghosts.subject.tree_of c.args.«data»)))) (omega arith)
+    (Accepted (command_tree n (asks.ghosts.payload.kind c.args.«data») (asks.ghosts.payload.tree_of c.args.«data»)))) (omega arith)
     (text_accepted (string_bytes c.in_ok-method.text) _ fits c.in_ok-method.ensures.reads_back c.in_ok-method.ensures.fits)

@@ -2,7 +2,7 @@ use Rattle.std.proofs.Common.{◌∙◌, ap, rules}
 use Rattle.std.specs.Prelude.{not, map}
 use Rattle.std.proofs.lemmas.Fn.{filter_same}
 use Rattle.bidi_remote.specs.Machine.Connections.{is_for}
-use Rattle.bidi_remote.specs.Tables.ConnectionRows.{row_of}
+use Rattle.bidi_remote.specs.State.ConnectionRows.{row_of}
 use Rattle.bidi_remote.proofs.ListLemmas.{map-filter}
 use Rattle.bidi_remote.proofs.connections.Connections.close_all.Goals as goal
 

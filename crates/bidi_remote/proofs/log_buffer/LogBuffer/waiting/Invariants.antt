@@ -1,6 +1,6 @@
 use Rattle.std.proofs.Common.{◌≡◌, ◌++◌, map, drop}
-use Rattle.bidi_remote.specs.Tables.EventTexts.{written_in, place_row}
-use Rattle.bidi_remote.specs.Tables.MissedRows.{waiting}
+use Rattle.bidi_remote.specs.State.EventTexts.{written_in, place_row}
+use Rattle.bidi_remote.specs.State.MissedRows.{waiting}
 use Rattle.bidi_remote.proofs.log_buffer.LogBuffer.waiting.Given as goal
 
 -- those that wait in the places that were looked at were added

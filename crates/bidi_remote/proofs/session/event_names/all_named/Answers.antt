@@ -1,5 +1,5 @@
 use Rattle.std.proofs.Common.{◌∙◌, ◌+◌, sym, ap, map, drop, string_bytes, arith}
-use Rattle.bidi_remote.specs.Tables.Checked.{behind}
+use Rattle.bidi_remote.specs.State.Checked.{behind}
 use Rattle.bidi_remote.specs.Machine.Outcome.{events_named, all_named}
 use Rattle.bidi_remote.proofs.ListLemmas.{from-item}
 use Rattle.bidi_remote.proofs.CheckLemmas.{added-ok, added-err, carried}

@@ -1,6 +1,6 @@
 use Rattle.std.proofs.Common.{◌≡◌, map, drop, string_bytes}
 use Rattle.bidi_remote.specs.Machine.Outcome.{all_named}
-use Rattle.bidi_remote.specs.Tables.Checked.{behind}
+use Rattle.bidi_remote.specs.State.Checked.{behind}
 use Rattle.bidi_remote.proofs.session.event_names.all_named.Given as goal
 
 -- the events of the names that are left come behind those of the others

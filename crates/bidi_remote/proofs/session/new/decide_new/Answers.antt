@@ -21,7 +21,7 @@ returns-clause-ok c = λ past a few.
     replied-decides c.replied.result past c.args.asker (New request) _ (Begin conn c.in_ok-missed.missed) c.in_ok-reply.reply c.in_ok-missed.ensures
     c.replied.ensures.change c.replied.ensures.before c.replied.ensures.reply c.replied.ensures.after
     (new-began past conn.value request c.match_capabilities.result c.match_capabilities.ensures c.in_default.not-Err
-    (sym c.if-not-is_ready.false ∙ is_ready-rows c.args.tables.now past c.is_ready.result a c.is_ready.ensures))
+    (sym c.if-not-is_ready.false ∙ is_ready-rows c.args.state.now past c.is_ready.result a c.is_ready.ensures))
     (ap (λ t. Replies t ∷ []) (c.in_ok-reply.ensures.tree
     ∙ ap (λ n. mapped ("capabilities" being capabilities and "sessionId" being text (id_of Session n) and no_members)) next))
     c.replied.ensures.announced refl

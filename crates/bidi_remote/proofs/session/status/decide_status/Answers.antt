@@ -12,5 +12,5 @@ returns-clause-ok c = λ past a.
     replied-decides c.replied.result past c.args.asker Status _ change.Nothing c.in_ok-reply.reply tt
     c.replied.ensures.change c.replied.ensures.before c.replied.ensures.reply c.replied.ensures.after refl
     (ap (λ t. Replies t ∷ []) (c.in_ok-reply.ensures.tree ∙ ap (λ b. if b then status_tree true (codes "ready") else status_tree false (codes "full"))
-    (is_ready-rows c.args.tables.now past c.is_ready.result a c.is_ready.ensures)))
+    (is_ready-rows c.args.state.now past c.is_ready.result a c.is_ready.ensures)))
     c.replied.ensures.announced refl

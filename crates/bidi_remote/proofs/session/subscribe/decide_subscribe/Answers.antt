@@ -6,9 +6,9 @@ use Rattle.bidi_remote.specs.Machine.History.{Subscribed, acts}
 use Rattle.bidi_remote.specs.Machine.Subscriptions.{next_subscription}
 use Rattle.bidi_remote.specs.Machine.Outcome.{all_named}
 use Rattle.bidi_remote.specs.Machine.Sent.{announcements, subscription_tree}
-use Rattle.bidi_remote.specs.Tables.Asked.{texts, subscribe_asked}
-use Rattle.bidi_remote.specs.Tables.SessionView.{scope_of}
-use Rattle.bidi_remote.specs.Tables.EventTexts.{written, written_in, AreMessages}
+use Rattle.bidi_remote.specs.State.Asked.{texts, subscribe_asked}
+use Rattle.bidi_remote.specs.State.SessionView.{scope_of}
+use Rattle.bidi_remote.specs.State.EventTexts.{written, written_in, AreMessages}
 use Rattle.bidi_remote.proofs.DecideLemmas.{announced-decides, row-active, held-length, subscribe-checked}
 use Rattle.bidi_remote.proofs.session.subscribe.decide_subscribe.Goals as goal
 
@@ -18,7 +18,7 @@ returns-then-held-ge-MOST_SUBSCRIPTIONS-clause-ok c = λ past a active few.
     let held = c.subscriptions_of-held.result.now in
     let full = c.if-held-ge-MOST_SUBSCRIPTIONS.true in
     let none : nat_lt (length held) 256 ≡ false = grind (arith, nat_tests, full) in
-    let row = row-active c.args.tables.now past s a active in
+    let row = row-active c.args.state.now past s a active in
     subscribe-checked past s (length held) (texts c.args.params.now.events.items.items) (option_map (λ l. texts l.items.items) c.args.params.now.contexts)
     (option_map (λ l. texts l.items.items) c.args.params.now.user_contexts) c.in_ok-events.events.items (scope_of c.in_ok-scope.scope) false
     (ap (λ xs. all_named (texts xs)) (sym c.deref.ensures.value) ∙ c.in_ok-events.ensures) (c.in_ok-scope.ensures (acts past) a.browser)
@@ -32,7 +32,7 @@ returns-clause-ok c = λ past a active few.
     let held = c.subscriptions_of-held.result.now in
     let less = c.if-held-ge-MOST_SUBSCRIPTIONS.false in
     let room : nat_lt (length held) 256 ≡ true = grind (arith, nat_tests, less) in
-    let row = row-active c.args.tables.now past s a active in
+    let row = row-active c.args.state.now past s a active in
     let rows = c.subscriptions_of-held.ensures ∙ ap (λ r. r.subscriptions) row in
     let made = ap (λ r. r.made) row in
     let next : c.next_subscription.result ≡ next_subscription past s =

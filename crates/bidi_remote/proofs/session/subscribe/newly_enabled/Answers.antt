@@ -3,13 +3,13 @@ use Rattle.std.specs.Prelude.{filter}
 use Rattle.std.proofs.lemmas.Fn.{filter_same}
 use Rattle.std.proofs.lemmas.List.{map-append}
 use Rattle.bidi_messages.specs.contracts.message.MessageShape.TheImpl.{ghosts}
-use Rattle.bidi_subjects.specs.declared.event_data.EventName.TheVariants.{EntryAdded}
+use Rattle.bidi_methods.specs.declared.event_data.EventName.TheVariants.{EntryAdded}
 use Rattle.bidi_messages.specs.Reading.{IsMessageText}
 use Rattle.bidi_remote.specs.Machine.History.{acts}
-use Rattle.bidi_remote.specs.Tables.EventTexts.{written_of, written_in, AreMessages}
-use Rattle.bidi_remote.specs.Tables.MissedRows.{waiting, places}
-use Rattle.bidi_remote.specs.Tables.SubscriptionRows.{is_new}
-use Rattle.bidi_remote.specs.Tables.SessionView.{scope_of, row_of}
+use Rattle.bidi_remote.specs.State.EventTexts.{written_of, written_in, AreMessages}
+use Rattle.bidi_remote.specs.State.MissedRows.{waiting, places}
+use Rattle.bidi_remote.specs.State.SubscriptionRows.{is_new}
+use Rattle.bidi_remote.specs.State.SessionView.{scope_of, row_of}
 use Rattle.bidi_remote.proofs.ListLemmas.{all-append, map-filter}
 use Rattle.bidi_remote.proofs.PlaceLemmas.{all-filtered, waiting-messages, waiting-places}
 use Rattle.bidi_remote.proofs.DecideLemmas.{row-active, new-announced}
@@ -21,20 +21,20 @@ returns c = λ past a active.
     let es = c.args.events.now in
     let scope = scope_of c.args.scope.now in
     let held = c.subscriptions_of-held.result.now in
-    let row = row-active c.args.tables.now past s a active in
+    let row = row-active c.args.state.now past s a active in
     let rows = c.subscriptions_of-held.ensures ∙ ap (λ r. r.subscriptions) row in
     let test = is_new (acts past) (map row_of held) es scope in
-    let standing = c.in_ok-all.all.items in
+    let live_events = c.in_ok-all.all.items in
     let kept = c.retain.new.self.items in
     let stands = a.browser in
     let later = ap written_in (filter_same _ (λ e. test EntryAdded e.value.top) _ (λ x b f' k. search (rules, stands)) _ _ c.retain.ensures.filtered)
     ∙ (map-filter (λ e. written_of e.value) (λ w. test EntryAdded w.top) c.in_ok-waiting.waiting.items
     ∙ ap (filter (λ w. test EntryAdded w.top)) (c.in_ok-waiting.ensures ∙ ap (λ r. waiting r.missed) row)) in
-    let split = ap written_in c.in_ok-append.ensures.items ∙ map-append (λ e. written_of e.value) standing kept in
+    let split = ap written_in c.in_ok-append.ensures.items ∙ map-append (λ e. written_of e.value) live_events kept in
     let messages = all-filtered (λ w. IsMessageText ghosts.shape w.text) (λ w. test EntryAdded w.top) (waiting (places past s))
     (subst AreMessages (sym (waiting-places past s)) (waiting-messages past s (a.entries s))) in (
-      split ∙ new-announced past s held es scope (written_in standing) (written_in kept) active (a.entries s) rows
+      split ∙ new-announced past s held es scope (written_in live_events) (written_in kept) active (a.entries s) rows
           (c.in_ok-all.ensures.ok (acts past) a.browser) later,
-      subst AreMessages (sym split) (all-append (λ w. IsMessageText ghosts.shape w.text) (written_in standing) (written_in kept)
+      subst AreMessages (sym split) (all-append (λ w. IsMessageText ghosts.shape w.text) (written_in live_events) (written_in kept)
           c.in_ok-all.ensures.reads_back (subst AreMessages (sym later) messages)),
     )

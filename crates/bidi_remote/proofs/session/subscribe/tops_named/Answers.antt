@@ -1,11 +1,11 @@
 use Rattle.std.proofs.Common.{◌∙◌, ◌++◌, ◌∷◌, [], ◌+◌, sym, ap, map, drop, string_bytes, arith}
 use Rattle.std.specs.Prelude.{bytes_eq, find}
-use Rattle.bidi_codes.specs.declared.error_code.ErrorCode.TheVariants.{NoSuchFrame}
+use Rattle.bidi_params.specs.declared.error_code.ErrorCode.TheVariants.{NoSuchFrame}
 use Rattle.bidi_handles.specs.declared.id.IdKind.TheVariants.{Context}
 use Rattle.bidi_handles.specs.Ids.{id_of}
 use Rattle.bidi_browser.specs.Contexts.{contexts, top_of}
 use Rattle.bidi_browser.specs.Outcome.{context_named}
-use Rattle.bidi_remote.specs.Tables.Checked.{behind}
+use Rattle.bidi_remote.specs.State.Checked.{behind}
 use Rattle.bidi_remote.specs.Machine.Outcome.{tops_named}
 use Rattle.bidi_remote.proofs.ListLemmas.{from-item}
 use Rattle.bidi_remote.proofs.CheckLemmas.{joined-ok, joined-err, found-some, found-none}

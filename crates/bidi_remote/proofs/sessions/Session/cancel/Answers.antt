@@ -1,7 +1,7 @@
 use Rattle.std.proofs.Common.{◌∙◌, map, ap}
 use Rattle.std.specs.Prelude.{not}
 use Rattle.bidi_remote.specs.Machine.Subscriptions.{is_listed}
-use Rattle.bidi_remote.specs.Tables.SessionView.{row_of, session_row_of}
+use Rattle.bidi_remote.specs.State.SessionView.{row_of, session_row_of}
 use Rattle.bidi_remote.proofs.ListLemmas.{map-filter}
 use Rattle.bidi_remote.proofs.sessions.Session.cancel.Goals as goal
 

@@ -1,7 +1,7 @@
 use Rattle.std.proofs.Common.{◌∙◌, sym, ap}
 use Rattle.std.specs.List.{list_any}
-use Rattle.bidi_remote.specs.Tables.SubscriptionRows.{row_covers}
-use Rattle.bidi_remote.specs.Tables.SessionView.{row_of}
+use Rattle.bidi_remote.specs.State.SubscriptionRows.{row_covers}
+use Rattle.bidi_remote.specs.State.SessionView.{row_of}
 use Rattle.bidi_remote.proofs.ListLemmas.{any-map}
 use Rattle.bidi_remote.proofs.sessions.Session.hears.Goals as goal
 

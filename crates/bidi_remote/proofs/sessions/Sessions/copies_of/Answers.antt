@@ -1,6 +1,6 @@
 use Rattle.std.proofs.Common.{◌∙◌, sym, length, map}
 use Rattle.std.proofs.lemmas.List.{length-map}
-use Rattle.bidi_remote.specs.Tables.SessionView.{session_row_of}
+use Rattle.bidi_remote.specs.State.SessionView.{session_row_of}
 use Rattle.bidi_remote.proofs.CopyLemmas.{copies-written}
 use Rattle.bidi_remote.proofs.sessions.Sessions.copies_of.Goals as goal
 

@@ -1,5 +1,5 @@
 use Rattle.std.proofs.Common.{◌∙◌, ap}
-use Rattle.bidi_remote.specs.Tables.SessionView.{session_row_of}
+use Rattle.bidi_remote.specs.State.SessionView.{session_row_of}
 use Rattle.bidi_remote.proofs.RowLemmas.{session-changed, changed-id}
 use Rattle.bidi_remote.proofs.sessions.Sessions.reserve_in.Goals as goal
 

@@ -1,5 +1,5 @@
 use Rattle.std.proofs.Common.{◌∙◌, Some, None, option_map, map, sym, ap}
-use Rattle.bidi_remote.specs.Tables.SessionView.{row_of}
+use Rattle.bidi_remote.specs.State.SessionView.{row_of}
 use Rattle.bidi_remote.proofs.RowLemmas.{row-in-hand}
 use Rattle.bidi_remote.proofs.sessions.Sessions.subscriptions_of.Goals as goal
 

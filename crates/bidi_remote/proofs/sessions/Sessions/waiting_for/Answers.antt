@@ -1,7 +1,7 @@
 use Rattle.std.proofs.Common.{◌≡◌, ◌∙◌, Some, None, option_map, sym, ap, subst}
 use Rattle.std.specs.Prelude.{IfOk}
-use Rattle.bidi_remote.specs.Tables.EventTexts.{written_in}
-use Rattle.bidi_remote.specs.Tables.MissedRows.{waiting}
+use Rattle.bidi_remote.specs.State.EventTexts.{written_in}
+use Rattle.bidi_remote.specs.State.MissedRows.{waiting}
 use Rattle.bidi_remote.proofs.RowLemmas.{row-in-hand}
 use Rattle.bidi_remote.proofs.sessions.Sessions.waiting_for.Goals as goal
 

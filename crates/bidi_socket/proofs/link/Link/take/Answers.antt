@@ -6,8 +6,8 @@ returns-in-Ok-clause-takes g c = record {
   from_closed = λ is. absurd (true≢false (sym is ∙ c.if-self.false));
   from_open =
       λ is.
-      record { answer = Ok c.in-Ok.message; read = c.read.new.self; reads = c.in-Ok.ensures; told = c.tell.ensures.tells; settles = c.tell.ensures.settles };
-  closes = c.tell.ensures.ends;
+      record { answer = Ok c.in-Ok.message; read = c.read.new.self; reads = c.in-Ok.ensures; told = c.receive.ensures.tells; settles = c.receive.ensures.settles };
+  closes = c.receive.ensures.ends;
 }
 
 pub returns-in-Err-clause-takes : goal.returns-in-Err-clause-takes

@@ -1,2 +1,0 @@
-pub mod ErrorCode
-pub mod Checks

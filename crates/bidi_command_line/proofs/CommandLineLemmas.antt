@@ -1,0 +1,252 @@
+-- What `clap`'s faults of a line, and its reading, say of the answer to it.
+use Rattle.std.proofs.Common.{◌≡◌, ◌∙◌, ℕ, Bool, true, false, List, [], ◌∷◌, ◌++◌, codes, refl, sym, ap, subst, inl, inr, arith, bytes_eq, Some, None}
+use Rattle.std.specs.Prelude.{◌==◌, ◌&&◌, if◌then◌else◌, Box, Option, option_map, nat_lt}
+use Rattle.std.specs.Char.{digit_value}
+use Rattle.std.proofs.lemmas.Bool.Decides.{nat_tests}
+use Rattle.std.specs.Box.{box_value}
+use Rattle.clap.specs.Lexer.{long_of, short_of}
+use Rattle.clap.specs.Words.{HasKind, Kinds, Row, Text, is_simple, is_simple_and_free, kind_of, subcommand_of, subcommand_rows}
+use Rattle.clap.specs.declared.parser.matches.ArgMatches.TheViews.{out-SubCommand}
+use Rattle.clap.specs.declared.parser.matches.SubCommand.{SubCommand}
+use Rattle.clap.specs.declared.error.Error.{Error}
+use Rattle.clap.specs.declared.error.kind.ErrorKind.{ErrorKind}
+use Rattle.clap.specs.declared.error.kind.ErrorKind.TheVariants.{InvalidValue, OutOfMemory}
+use Rattle.clap.proofs.OnLiterals.{clap_on_literals}
+use Rattle.bidi_command_line.specs.declared.asked.LineFault.{LineFault}
+use Rattle.bidi_command_line.specs.declared.asked.LineFault.TheVariants.{Help, Usage, NoMemory}
+use Rattle.bidi_command_line.specs.declared.asked.Run.{Run}
+use Rattle.bidi_command_line.specs.declared.asked.Run.TheVariants.{Play, Pair, Reduce, Show, Check, Serve}
+use Rattle.bidi_command_line.specs.declared.asked.ServeOptions.{ServeOptions}
+use Rattle.bidi_lines.specs.declared.side.Side.{Side}
+use Rattle.bidi_lines.specs.declared.side.Side.TheVariants.{Local, Remote}
+use Rattle.bidi_command_line.specs.CommandLine.{AsksFor, Causes, Gives, GivesNumber, IsReadAs, IsRefusedFor, IsRequest, IsSaidBy, bidi_app, faults_of}
+use Rattle.bidi_command_line.specs.CommandLine.{number_within, run_in, run_named, served, side_named, side_text}
+use Rattle.bidi_command_line.proofs.PlayLines.{play_lines, pair_lines}
+
+-- the command is one whose faults clap lists, and whose reading it states
+pub is_listed : is_simple_and_free bidi_app ≡ true
+unfolding clap_on_literals
+is_listed = refl
+
+pub is_read : is_simple bidi_app ≡ true
+unfolding clap_on_literals
+is_read = refl
+
+reads_name : IsReadAs (codes "play" ∷ []) Play
+unfolding clap_on_literals
+reads_name = (refl, refl)
+
+reads_mark : IsReadAs (codes "play" ∷ codes "--" ∷ []) Play
+unfolding clap_on_literals
+reads_mark = (refl, refl)
+
+reads_pair : IsReadAs (codes "pair" ∷ []) Pair
+unfolding clap_on_literals
+reads_pair = (refl, refl)
+
+reads_pair_mark : IsReadAs (codes "pair" ∷ codes "--" ∷ []) Pair
+unfolding clap_on_literals
+reads_pair_mark = (refl, refl)
+
+-- clap reads a line that asks for a run as that run
+pub asked_read : (line : List Text) (run : Run) → AsksFor line run → IsReadAs line run
+asked_read line Play (inl e) = subst (λ l. IsReadAs l Play) (sym e) reads_name
+asked_read line Play (inr e) = subst (λ l. IsReadAs l Play) (sym e) reads_mark
+asked_read line Pair (inl e) = subst (λ l. IsReadAs l Pair) (sym e) reads_pair
+asked_read line Pair (inr e) = subst (λ l. IsReadAs l Pair) (sym e) reads_pair_mark
+asked_read line (Reduce session) asks = asks
+asked_read line (Show side) asks = asks
+asked_read line (Check side) asks = asks
+asked_read line (Serve s) asks = asks
+
+-- and a line that clap reads as a run asks for it
+pub read_asked : (line : List Text) (run : Run) → IsReadAs line run → AsksFor line run
+read_asked line Play read = play_lines line read.0 read.1
+read_asked line Pair read = pair_lines line read.0 read.1
+read_asked line (Reduce session) read = read
+read_asked line (Show side) read = read
+read_asked line (Check side) read = read
+read_asked line (Serve s) read = read
+
+-- a want of memory is no request
+no_request : (kind : ErrorKind) → kind ≡ OutOfMemory → IsRequest kind → ⊥
+no_request kind memory (inl h) = cc
+no_request kind memory (inr h) = cc
+
+-- a refusal that the error causes has its cause among the faults
+pub refused : (line : List Text) (error : Error) (fault : LineFault) → HasKind (faults_of line) error → Causes (kind_of error) fault → IsRefusedFor line fault
+refused line error NoMemory kind cause = tt
+refused line error (Help text) (inl memory) cause = absurd (no_request (kind_of error) memory cause)
+refused line error (Help text) (inr among) cause = (kind_of error, among, cause)
+refused line error (Usage text) (inl memory) cause = absurd (cause.2 memory)
+refused line error (Usage text) (inr among) cause = inl (kind_of error, among, cause)
+
+-- so has one for an option that names no end
+pub refused_end : (line : List Text) (fault : LineFault)
+    → Causes InvalidValue fault → faults_of line ≡ [] → run_in (subcommand_of bidi_app line) ≡ None → IsRefusedFor line fault
+refused_end line NoMemory cause takes none = tt
+refused_end line (Help text) (inl h) takes none = absurd cc
+refused_end line (Help text) (inr h) takes none = absurd cc
+refused_end line (Usage text) cause takes none = inr (takes, none)
+
+-- where clap has no fault to list, the fault is a want of memory, and is told as such
+pub no_memory : (faults : Kinds) (error : Error) (fault : LineFault) → faults ≡ [] → HasKind faults error → Causes (kind_of error) fault → fault ≡ NoMemory
+no_memory faults error NoMemory none kind cause = refl
+no_memory [] error (Help text) none (inl memory) cause = absurd (no_request (kind_of error) memory cause)
+no_memory [] error (Usage text) none (inl memory) cause = absurd (cause.2 memory)
+no_memory [] error (Help text) none (inr among) cause = absurd among
+no_memory [] error (Usage text) none (inr among) cause = absurd among
+no_memory (k ∷ ks) error fault none kind cause = absurd cc
+
+-- one run, where two are the same option
+pub same_run : (run other : Run) → Some run ≡ Some other → run ≡ other
+same_run run other e = cc
+
+-- no run is none
+pub no_run : (run : Run) → (let none : Option Run = None in none) ≡ Some run → ⊥
+no_run run e = cc
+
+-- the subcommand that was met, from its name and its rows
+pub met : {Z : Type 0} (sub : Option (Box SubCommand Z)) (name : Text) (rows : List Row)
+    → Some name ≡ option_map (λ b. (out-SubCommand (box_value b)).name.now) sub
+    → Some rows ≡ option_map (λ p. p.1) (subcommand_rows sub) → subcommand_rows sub ≡ Some (name, rows)
+met None name rows named found = absurd cc
+met (Some b) name rows named found = cc
+
+-- the run of the same name and options
+pub named-same : (name : Text) (side side' : Option Side) (session session' : Option ℕ) (serving serving' : Option ServeOptions)
+    → side ≡ side' → session ≡ session' → serving ≡ serving' → run_named name side session serving ≡ run_named name side' session' serving'
+named-same name side side' session session' serving serving' p q r = λ i. run_named name (p i) (q i) (r i)
+
+-- ---- the words that are given for a run
+
+-- The same words, by what `clap` asks of them: a value that stands alone begins with no `-`.
+data Given (name : Text) : Text → List Text → Type 0 where
+  apart : (b : ℕ) (value : Text) → (b == 45) ≡ false → Given name (b ∷ value) ((codes "--" ++ name) ∷ (b ∷ value) ∷ [])
+  joined : (value : Text) → Given name value (((codes "--" ++ name) ++ 61 ∷ value) ∷ [])
+
+-- a word that begins with no `-` names no option, and is not the mark that ends them
+no_long : (b : ℕ) (value : Text) → (b == 45) ≡ false → long_of (b ∷ value) ≡ None
+no_long b value e = rw (e) refl
+
+no_short : (b : ℕ) (value : Text) → (b == 45) ≡ false → short_of (b ∷ value) ≡ None
+no_short b value e = rw (e) refl
+
+no_mark : (b : ℕ) (value : Text) → (b == 45) ≡ false → bytes_eq (b ∷ value) (codes "--") ≡ false
+no_mark b value e = rw (e) refl
+
+-- a number begins with no `-`
+no_digit : (c : ℕ) → (c == 45) ≡ true → nat_lt (digit_value c) 10 ≡ false
+no_digit c e = grind (arith, nat_tests, e)
+
+no_number : (least most n : ℕ) → number_within least most [] ≡ Some n → ⊥
+no_number least most n e = cc
+
+no_minus : (least most n b : ℕ) (value : Text) (minus : Bool) → (b == 45) ≡ minus → number_within least most (b ∷ value) ≡ Some n → (b == 45) ≡ false
+no_minus least most n b value false e number = e
+no_minus least most n b value true e number = absurd (negative number)
+  where
+    plus : (b == 43) ≡ false
+    plus = grind (arith, nat_tests, e)
+
+    digit : nat_lt (digit_value b) 10 ≡ false
+    digit = no_digit b e
+
+    hidden : (x y : Bool) (n : ℕ) → (if (x && false) && y then Some n else None) ≡ None
+    hidden true y n = refl
+    hidden false y n = refl
+
+    nothing : (n : ℕ) → (let none : Option ℕ = None in none) ≡ Some n → ⊥
+    nothing n e = cc
+
+    negative : number_within least most (b ∷ value) ≡ Some n → ⊥
+    negative is = nothing n (sym (rw (plus, digit) (hidden _ _ _)) ∙ is)
+
+-- so the text of a number, where it stands alone, begins with another byte
+data Plain : Text → Type 0 where
+  plain : (b : ℕ) (value : Text) → (b == 45) ≡ false → Plain (b ∷ value)
+
+plain_number : (least most n : ℕ) (value : Text) → number_within least most value ≡ Some n → Plain value
+plain_number least most n [] number = absurd (no_number least most n number)
+plain_number least most n (b ∷ value) number = plain b value (no_minus least most n b value (b == 45) refl number)
+
+-- the words that give a number
+given_plain : (name value : Text) → Plain value → Given name value ((codes "--" ++ name) ∷ value ∷ [])
+given_plain name value (plain b rest e) = apart b rest e
+
+given_number : (name : Text) (least most n : ℕ) (words : List Text) → (g : GivesNumber name least most n words) → Given name g.0 words
+given_number name least most n words (value, number, inl e) = subst (Given name value) (sym e) (given_plain name value (plain_number least most n value number))
+given_number name least most n words (value, number, inr e) = subst (Given name value) (sym e) (joined value)
+
+-- and so does the name of an end
+given_side : (side : Side) (words : List Text) → Gives (codes "from") (side_text side) words → Given (codes "from") (side_text side) words
+given_side Local words (inl e) = subst (Given (codes "from") (side_text Local)) (sym e) (apart 108 (codes "ocal") refl)
+given_side Remote words (inl e) = subst (Given (codes "from") (side_text Remote)) (sym e) (apart 114 (codes "emote") refl)
+given_side side words (inr e) = subst (Given (codes "from") (side_text side)) (sym e) (joined (side_text side))
+
+-- clap takes the line, and reads of it what the values say
+abbrev Reads : List Text → Option Run → Type 0
+Reads line run = (faults_of line ≡ []) × (run_in (subcommand_of bidi_app line) ≡ run)
+
+reduce_reads : {value : Text} {words : List Text} → Given (codes "session") value words → Reads (codes "reduce" ∷ words) (option_map Reduce (number_within 0 4294967295 value))
+unfolding clap_on_literals
+reduce_reads (apart b value e) =
+    let l = no_long b value e in let s = no_short b value e in let q = no_mark b value e in
+    (rw (q, l, s) refl, rw (q, l, s) refl)
+reduce_reads (joined value) = (refl, refl)
+
+show_reads : {value : Text} {words : List Text} → Given (codes "from") value words → Reads (codes "show" ∷ words) (option_map Show (side_named value))
+unfolding clap_on_literals
+show_reads (apart b value e) =
+    let l = no_long b value e in let s = no_short b value e in let q = no_mark b value e in
+    (rw (q, l, s) refl, rw (q, l, s) refl)
+show_reads (joined value) = (refl, refl)
+
+check_reads : {value : Text} {words : List Text} → Given (codes "from") value words → Reads (codes "check" ∷ words) (option_map Check (side_named value))
+unfolding clap_on_literals
+check_reads (apart b value e) =
+    let l = no_long b value e in let s = no_short b value e in let q = no_mark b value e in
+    (rw (q, l, s) refl, rw (q, l, s) refl)
+check_reads (joined value) = (refl, refl)
+
+serve_reads : {p c m : Text} → Plain p → Plain c → Plain m
+    → Reads (codes "serve" ∷ codes "--port" ∷ p ∷ codes "--connections" ∷ c ∷ codes "--messages" ∷ m ∷ [])
+    (option_map Serve (served (number_within 0 65535 p) (number_within 1 1000 c) (number_within 1 100000 m)))
+unfolding clap_on_literals
+serve_reads (plain b1 v1 e1) (plain b2 v2 e2) (plain b3 v3 e3) =
+    let l1 = no_long b1 v1 e1 in let s1 = no_short b1 v1 e1 in let q1 = no_mark b1 v1 e1 in
+    let l2 = no_long b2 v2 e2 in let s2 = no_short b2 v2 e2 in let q2 = no_mark b2 v2 e2 in
+    let l3 = no_long b3 v3 e3 in let s3 = no_short b3 v3 e3 in let q3 = no_mark b3 v3 e3 in (
+      rw (q1) (rw (l1) (rw (s1) (rw (q2) (rw (l2) (rw (s2) (rw (q3) (rw (l3) (rw (s3) refl)))))))),
+      rw (q1) (rw (l1) (rw (s1) (rw (q2) (rw (l2) (rw (s2) (rw (q3) (rw (l3) (rw (s3) refl)))))))),
+    )
+
+serve_reads_joined : (p c m : Text) → Reads (codes "serve" ∷ (codes "--port=" ++ p) ∷ (codes "--connections=" ++ c) ∷ (codes "--messages=" ++ m) ∷ [])
+    (option_map Serve (served (number_within 0 65535 p) (number_within 1 1000 c) (number_within 1 100000 m)))
+unfolding clap_on_literals
+serve_reads_joined p c m = (refl, refl)
+
+-- a line that clap reads so, by another name and with the run in hand
+read_as : (line other : List Text) (run : Run) (found : Option Run) → line ≡ other → found ≡ Some run → Reads other found → IsReadAs line run
+read_as line other run found same is reads = subst (λ l. IsReadAs l run) (sym same) (reads.0, reads.1 ∙ is)
+
+side_is : (side : Side) → side_named (side_text side) ≡ Some side
+side_is Local = refl
+side_is Remote = refl
+
+-- clap reads the words that are given for a run as that run
+pub said_asks : (line : List Text) (run : Run) → IsSaidBy run line → AsksFor line run
+said_asks line Play e = inl e
+said_asks line Pair e = inl e
+said_asks line (Reduce session) (words, gives, e) =
+    read_as line (codes "reduce" ∷ words) (Reduce session) _ e (ap (option_map Reduce) gives.1)
+    (reduce_reads (given_number (codes "session") 0 4294967295 session words gives))
+said_asks line (Show side) (words, gives, e) =
+    read_as line (codes "show" ∷ words) (Show side) _ e (ap (option_map Show) (side_is side)) (show_reads (given_side side words gives))
+said_asks line (Check side) (words, gives, e) =
+    read_as line (codes "check" ∷ words) (Check side) _ e (ap (option_map Check) (side_is side)) (check_reads (given_side side words gives))
+said_asks line (Serve s) (p, c, m, port, connections, messages, inl e) =
+    read_as line _ (Serve s) _ e (λ i. option_map Serve (served (port i) (connections i) (messages i)))
+    (serve_reads (plain_number 0 65535 s.port p port) (plain_number 1 1000 s.connections c connections) (plain_number 1 100000 s.messages m messages))
+said_asks line (Serve s) (p, c, m, port, connections, messages, inr e) =
+    read_as line _ (Serve s) _ e (λ i. option_map Serve (served (port i) (connections i) (messages i))) (serve_reads_joined p c m)

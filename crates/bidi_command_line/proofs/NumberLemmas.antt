@@ -1,0 +1,161 @@
+-- Numbers in a command line.
+use Rattle.std.proofs.Common.{◌≡◌, ◌∙◌, ◌<◌, ◌≤◌, ◌^◌, ℕ, Bool, true, false, List, [], ◌∷◌, Some, None, Ok, Err, refl, sym, ap, arith, length, subst}
+use Rattle.std.specs.Prelude.{Result, Option, ◌&&◌, nat_le, nat_lt, if◌then◌else◌}
+use Rattle.std.specs.Char.{digit_value}
+use Rattle.std.specs.Str.Parse.{AllDigits, IsNumeral, ParsesUnsigned, digits_value, without_leading_plus}
+use Rattle.std.proofs.lemmas.Bool.Decides.{nat_tests}
+use Rattle.std.specs.Prelude.{option_and_then, option_map}
+use Rattle.std.specs.Prelude.{codes}
+use Rattle.std.specs.Str.{bytes_eq}
+use Rattle.clap.specs.Words.{Row, Text, first_of}
+use Rattle.bidi_command_line.specs.declared.asked.Run.{Run}
+use Rattle.bidi_command_line.specs.declared.asked.Run.TheVariants.{Play, Pair, Reduce, Show, Check, Serve}
+use Rattle.bidi_command_line.specs.declared.asked.ServeOptions.{ServeOptions}
+use Rattle.bidi_lines.specs.declared.side.Side.{Side}
+use Rattle.bidi_command_line.specs.CommandLine.{IsWithinBounds, all_digits, is_numeral, number_in, number_within, run_in, served, serving_in, session_in, side_in}
+
+-- what both hold
+both : (a b : Bool) → (a && b) ≡ true → (a ≡ true) × (b ≡ true)
+both true b e = (refl, e)
+both false b e = cc
+
+-- digits are told truly
+told : (ds : List ℕ) → AllDigits 10 ds → all_digits ds ≡ true
+told [] a = refl
+told (c ∷ cs) a = let h = a.0 in let ih = told cs a.1 in grind (arith, nat_tests, h, ih)
+
+are : (ds : List ℕ) → all_digits ds ≡ true → AllDigits 10 ds
+are [] e = tt
+are (c ∷ cs) e = let p = both (nat_lt (digit_value c) 10) (all_digits cs) e in let h = p.0 in (grind (arith, nat_tests, h), are cs p.1)
+
+numeral : (ds : List ℕ) → IsNumeral 10 ds → is_numeral ds ≡ true
+numeral ds a = let h = a.0 in let d = told ds a.1 in grind (arith, nat_tests, h, d)
+
+is_one : (ds : List ℕ) → is_numeral ds ≡ true → IsNumeral 10 ds
+is_one ds e = let p = both (nat_lt 0 (length ds)) (all_digits ds) e in let h = p.0 in (grind (arith, nat_tests, h), are ds p.1)
+
+-- a text that is read as a number
+pub number-parsed : {E : Type 0} (k least most n : ℕ) (bs : List ℕ) (r : Result ℕ E) → r ≡ Ok n → ParsesUnsigned k 10 bs r
+    → number_within least most bs ≡ (if nat_le least n && nat_le n most then Some n else None)
+number-parsed k least most n bs r is parses =
+    let h = subst (ParsesUnsigned k 10 bs) is parses in
+    let v = digits_value 10 (without_leading_plus bs) in
+    ap (λ b. if b && (nat_le least v && nat_le v most) then Some v else None) (numeral (without_leading_plus bs) h.0.0)
+    ∙ ap (λ x. if nat_le least x && nat_le x most then Some x else None) (sym h.1)
+
+-- one that is not
+pub number-refused : {E : Type 0} (k least most : ℕ) (bs : List ℕ) (r : Result ℕ E) (e : E)
+    → r ≡ Err e → most < 2 ^ k → ParsesUnsigned k 10 bs r → number_within least most bs ≡ None
+number-refused k least most bs r e is fits parses = of (is_numeral ds && (nat_le least v && nat_le v most)) refl
+  where
+    ds : List ℕ
+    ds = without_leading_plus bs
+
+    v : ℕ
+    v = digits_value 10 ds
+
+    of : (b : Bool) → (is_numeral ds && (nat_le least v && nat_le v most)) ≡ b → (if b then Some v else None) ≡ None
+    of false none = refl
+    of true some =
+        let p = both (is_numeral ds) (nat_le least v && nat_le v most) some in
+        let q = (both (nat_le least v) (nat_le v most) p.1).1 in
+        let within : v ≤ most = grind (arith, nat_tests, q) in
+        absurd (subst (ParsesUnsigned k 10 bs) is parses (is_one ds p.0, omega (arith, within, fits)))
+
+-- the same of equal numbers
+pub served-same : (a a' b b' m m' : Option ℕ) → a ≡ a' → b ≡ b' → m ≡ m' → served a b m ≡ served a' b' m'
+served-same a a' b b' m m' p q r =
+    subst (λ x. served a b m ≡ served x b' m') p (subst (λ x. served a b m ≡ served a x m') q (subst (λ x. served a b m ≡ served a b x) r refl))
+
+-- ---- bounds
+
+-- a number that was found is within its bounds
+within : (least most n : ℕ) (text : Text) → number_within least most text ≡ Some n → (least ≤ n) × (n ≤ most)
+within least most n text e = of (is_numeral ds && (nat_le least v && nat_le v most)) refl e
+  where
+    ds : List ℕ
+    ds = without_leading_plus text
+
+    v : ℕ
+    v = digits_value 10 ds
+
+    of : (b : Bool) → (is_numeral ds && (nat_le least v && nat_le v most)) ≡ b → (if b then Some v else None) ≡ Some n → (least ≤ n) × (n ≤ most)
+    of false none e = cc
+    of true some e =
+        let same : v ≡ n = cc in
+        let p = (both (is_numeral ds) (nat_le least v && nat_le v most) some).1 in
+        let q = both (nat_le least v) (nat_le v most) p in
+        let low = q.0 in
+        let high = q.1 in
+        subst (λ x. (least ≤ x) × (x ≤ most)) same (grind (arith, nat_tests, low), grind (arith, nat_tests, high))
+
+within_found : (least most n : ℕ) (text : Option Text) → option_and_then (number_within least most) text ≡ Some n → (least ≤ n) × (n ≤ most)
+within_found least most n None e = cc
+within_found least most n (Some text) e = within least most n text e
+
+-- what is served has the numbers that were found
+served-from : (a b m : Option ℕ) (s : ServeOptions) → served a b m ≡ Some s → (a ≡ Some s.port) × (b ≡ Some s.connections) × (m ≡ Some s.messages)
+served-from (Some p) (Some k) (Some n) s e = (cc, cc, cc)
+served-from None b m s e = cc
+served-from (Some p) None m s e = cc
+served-from (Some p) (Some k) None s e = cc
+
+-- the run by the names that a subcommand has
+abbrev run_by : Bool → Bool → Bool → Bool → Bool → Bool → Option Side → Option ℕ → Option ServeOptions → Option Run
+run_by is_play is_pair is_reduce is_show is_check is_serve side session serving =
+    if is_play then Some Play else (if is_pair then Some Pair else (if is_reduce then option_map Reduce session
+    else (if is_show then option_map Show side else (if is_check then option_map Check side else (if is_serve then option_map Serve serving else None)))))
+
+-- no other subcommand is one that serves
+serve-from : (p q d r t u : Bool) (side : Option Side) (session : Option ℕ) (serving : Option ServeOptions) (s : ServeOptions)
+    → run_by p q d r t u side session serving ≡ Some (Serve s) → serving ≡ Some s
+serve-from true q d r t u side session serving s e = cc
+serve-from false true d r t u side session serving s e = cc
+serve-from false false true r t u side None serving s e = cc
+serve-from false false true r t u side (Some x) serving s e = cc
+serve-from false false false true t u None session serving s e = cc
+serve-from false false false true t u (Some x) session serving s e = cc
+serve-from false false false false true u None session serving s e = cc
+serve-from false false false false true u (Some x) session serving s e = cc
+serve-from false false false false false true side session None s e = cc
+serve-from false false false false false true side session (Some x) s e = cc
+serve-from false false false false false false side session serving s e = cc
+
+-- nor one that reduces
+reduce-from : (p q d r t u : Bool) (side : Option Side) (session : Option ℕ) (serving : Option ServeOptions) (n : ℕ)
+    → run_by p q d r t u side session serving ≡ Some (Reduce n) → session ≡ Some n
+reduce-from true q d r t u side session serving n e = cc
+reduce-from false true d r t u side session serving n e = cc
+reduce-from false false true r t u side None serving n e = cc
+reduce-from false false true r t u side (Some x) serving n e = cc
+reduce-from false false false true t u None session serving n e = cc
+reduce-from false false false true t u (Some x) session serving n e = cc
+reduce-from false false false false true u None session serving n e = cc
+reduce-from false false false false true u (Some x) session serving n e = cc
+reduce-from false false false false false true side session None n e = cc
+reduce-from false false false false false true side session (Some x) n e = cc
+reduce-from false false false false false false side session serving n e = cc
+
+-- the numbers of a run that was found are within their bounds
+pub within_bounds : (met : Option (Text × List Row)) (run : Run) → run_in met ≡ Some run → IsWithinBounds run
+within_bounds met Play e = tt
+within_bounds met Pair e = tt
+within_bounds met (Show side) e = tt
+within_bounds met (Check side) e = tt
+within_bounds None (Reduce n) e = cc
+within_bounds (Some (name, rows)) (Reduce n) e =
+    let is : Text → Bool = λ other. bytes_eq name other in
+    let session = reduce-from (is (codes "play")) (is (codes "pair")) (is (codes "reduce")) (is (codes "show")) (is (codes "check")) (is (codes "serve"))
+    (side_in rows) (session_in rows) (serving_in rows) n e in
+    (within_found 0 4294967295 n (first_of (codes "session") rows) session).1
+within_bounds None (Serve s) e = cc
+within_bounds (Some (name, rows)) (Serve s) e =
+    let is : Text → Bool = λ other. bytes_eq name other in
+    let serves = serve-from (is (codes "play")) (is (codes "pair")) (is (codes "reduce")) (is (codes "show")) (is (codes "check")) (is (codes "serve"))
+    (side_in rows) (session_in rows) (serving_in rows) s e in
+    let from = served-from (number_in (codes "port") 0 65535 rows) (number_in (codes "connections") 1 1000 rows)
+    (number_in (codes "messages") 1 100000 rows) s serves in
+    let port = within_found 0 65535 s.port (first_of (codes "port") rows) from.0 in
+    let connections = within_found 1 1000 s.connections (first_of (codes "connections") rows) from.1 in
+    let messages = within_found 1 100000 s.messages (first_of (codes "messages") rows) from.2 in
+    (port.1, connections.0, connections.1, messages.0, messages.1)

@@ -1,0 +1,411 @@
+-- The lines that clap takes and reads as a play are `play` and `play --`, and so are those of a pair.
+use Rattle.std.proofs.Common.{◌≡◌, ◌⊎◌, ℕ, Bool, true, false, zero, suc, List, [], ◌∷◌, ◌++◌, Option, None}
+use Rattle.std.proofs.Common.{Some, codes, refl, sym, ap, ap₂, subst, ◌||◌, ◌∙◌, inl, inr, cond, slice_get}
+use Rattle.std.proofs.Common.{length, bytes_eq, is_some, option_map, append-nil, append_assoc}
+use Rattle.std.specs.Str.{chars}
+use Rattle.std.specs.List.{fold}
+use Rattle.clap.specs.Lexer.{long_of, short_of}
+use Rattle.clap.specs.Walk.{Held, Names, Rule, Step, Text, Walk, finished, nothing_held, settled, subcommand_or_other, walk_from}
+use Rattle.clap.specs.Walk.{has_long, has_short, long_or_other, short_or_plain, bundle_met, bundle_step, after_flag, walked}
+use Rattle.clap.specs.Walk as walk
+use Rattle.clap.specs.Simple.{App, Shape, built, entered, filled, help_rule, names_of, new_app, subcommand_of, with_index, with_subcommand}
+use Rattle.clap.specs.Faults.{bundle_fault, bundle_step_fault, check_fault, defaults_fault, entered_fault}
+use Rattle.clap.specs.Faults.{flag_word_fault, flags_fault, level_fault, long_fault, other_fault}
+use Rattle.clap.specs.Faults.{settle_fault, short_fault, step_fault, stray_fault, turn_fault, walk_fault}
+use Rattle.clap.specs.Kinds.{Kinds, or_else}
+use Rattle.std.specs.Option.{option_map_or}
+use Rattle.std.proofs.lemmas.Slice.Eq.{bytes_eq-Decides}
+use Rattle.clap.proofs.OnLiterals.{clap_on_literals}
+use Rattle.bidi_command_line.specs.declared.asked.Run.{Run}
+use Rattle.bidi_command_line.specs.declared.asked.Run.TheVariants.{Play, Pair, Reduce, Show, Check, Serve}
+use Rattle.bidi_command_line.specs.declared.asked.ServeOptions.{ServeOptions}
+use Rattle.bidi_lines.specs.declared.side.Side.{Side}
+use Rattle.bidi_command_line.specs.CommandLine.{AsksFor, bare_app, bidi_app, faults_of, run_in}
+
+-- the one option of each command
+abbrev help : Rule
+help = with_index 1 (filled help_rule)
+
+abbrev rules : List Rule
+rules = help ∷ []
+
+-- what follows a first fault comes only where there is none
+or_else-nil : (a b : Kinds) → or_else a b ≡ [] → (a ≡ []) × (b ≡ [])
+or_else-nil [] b none = (refl, none)
+or_else-nil (k ∷ ks) b none = absurd cc
+
+-- ---- a word that is no subcommand
+
+-- a step that gives the word to a positional finds none
+abbrev step_part : Kinds → Step → Kinds
+step_part stray walk.value = stray
+step_part stray _ = []
+
+-- `--name`, where the option is known or not
+long_refused : (is_known : Bool) (value : Option Text) (next : Kinds)
+    → or_else (long_fault rules false (cond is_known (Some help) None) value nothing_held) next ≡ [] → ⊥
+long_refused true (Some value) next none = cc
+long_refused true None next none = cc
+long_refused false value next none = cc
+
+-- the first character of `-abc`, where the option is known or not
+short_refused : (is_known : Bool) (rest : Text) (more : Held → Kinds) (next : Kinds)
+    → or_else (short_fault rules false (cond is_known (Some help) None) rest nothing_held more) next ≡ [] → ⊥
+short_refused true rest more next none = cc
+short_refused false rest more next none = cc
+
+module _ (stray : Kinds) (some : stray ≡ [] → ⊥) (word : Text) where
+  -- `-abc`, by its first character
+  step_refused : (first : Option ℕ) (k : ℕ) (flags : Text)
+      → or_else (bundle_step_fault rules false first flags 0 nothing_held (flags_fault rules false k))
+      (step_part stray (after_flag rules walk.idle word (bundle_step rules first flags 0 walk.plain nothing_held (bundle_met rules k)).0
+      (bundle_step rules first flags 0 walk.plain nothing_held (bundle_met rules k)).1).1) ≡ [] → ⊥
+  step_refused None k flags none = some none
+  step_refused (Some x) k flags none = short_refused (has_short help x) _ _ _ none
+
+  bundle_refused : (n : ℕ) (flags : Text)
+      → or_else (flags_fault rules false n flags 0 nothing_held)
+      (step_part stray (after_flag rules walk.idle word (bundle_met rules n flags 0 walk.plain nothing_held).0
+      (bundle_met rules n flags 0 walk.plain nothing_held).1).1) ≡ [] → ⊥
+  unfolding clap_on_literals
+  bundle_refused zero flags none = some none
+  bundle_refused (suc k) flags none = step_refused (slice_get (chars flags) 0) k flags none
+
+  -- a word that is no `--name`
+  plain_refused : (short : Option Text) → or_else (option_map_or (λ flags. bundle_fault rules false flags nothing_held) short [])
+      (step_part stray (short_or_plain rules walk.idle word short nothing_held).1) ≡ [] → ⊥
+  plain_refused (Some flags) none = bundle_refused (length flags) flags none
+  plain_refused None none = some none
+
+  word_refused : (long : Option (Text × Option Text)) → or_else (flag_word_fault rules false long word nothing_held)
+      (step_part stray (long_or_other rules walk.idle word long nothing_held).1) ≡ [] → ⊥
+  word_refused (Some p) none = long_refused (has_long help p.0) p.1 _ none
+  word_refused None none = plain_refused (short_of word) none
+
+  -- a word that is no subcommand passes only as `--`
+  turn_refused : (is_end : Bool) (long : Option (Text × Option Text)) → or_else (cond is_end [] (flag_word_fault rules false long word nothing_held))
+      (step_part stray (cond is_end (nothing_held, walk.trailing 1) (long_or_other rules walk.idle word long nothing_held)).1) ≡ [] → is_end ≡ true
+  turn_refused true long none = refl
+  turn_refused false long none = absurd (word_refused long none)
+
+-- ---- the two commands
+
+abbrev dashes : Text
+dashes = codes "--"
+
+abbrev play : Text
+play = codes "play"
+
+abbrev app : App
+app = built bidi_app
+
+abbrev top : Shape
+top = app.top
+
+abbrev names : Names
+names = names_of app
+
+abbrev first_shape : List Shape → Shape
+first_shape [] = top
+first_shape (s ∷ rest) = s
+
+-- a subcommand of this name with no argument, as it is built
+abbrev leaf : Text → Shape
+leaf name = first_shape (built (with_subcommand bare_app (new_app name).top)).subs
+
+-- what is found after the walk
+abbrev later : Shape → Names → List Text → Bool → Kinds
+later s known line has_subcommand =
+    let end = (walk.walk s.rules known nothing_held line).held in
+    or_else (settle_fault s.rules s.args_override_self end)
+    (or_else (defaults_fault (settled s.rules end).rows s.rules) (check_fault s (finished s.rules end) has_subcommand))
+
+-- ---- the words after a subcommand with no argument
+
+module _ (name : Text) where
+  leaf_turn : (word : Text) → turn_fault (leaf name) [] (walk_from nothing_held) word ≡ [] → bytes_eq word dashes ≡ true
+  leaf_turn word none = turn_refused (stray_fault (leaf name)) (λ e. cc) word (bytes_eq word dashes) (long_of word) none
+
+  -- after the mark no word has a place
+  leaf_end : (word : Text) (line : List Text) → walk_fault (leaf name) [] (walked (leaf name).rules [] (walk_from nothing_held) dashes) (word ∷ line) ≡ [] → ⊥
+  unfolding clap_on_literals
+  leaf_end word line none = cc
+
+  leaf_rest : (x : Text) (line : List Text)
+      → x ≡ dashes → walk_fault (leaf name) [] (walked (leaf name).rules [] (walk_from nothing_held) x) line ≡ [] → line ≡ []
+  leaf_rest x [] mark none = refl
+  leaf_rest x (y ∷ line) mark none =
+      absurd (leaf_end y line (subst (λ w. walk_fault (leaf name) [] (walked (leaf name).rules [] (walk_from nothing_held) w) (y ∷ line) ≡ []) mark none))
+
+  leaf_lines : (line : List Text) → level_fault (leaf name) [] nothing_held line false [] ≡ [] → (line ≡ []) ⊎ (line ≡ dashes ∷ [])
+  unfolding clap_on_literals
+  leaf_lines [] none = inl refl
+  leaf_lines (x ∷ line) none =
+      let part = or_else-nil (walk_fault (leaf name) [] (walk_from nothing_held) (x ∷ line)) (later (leaf name) [] (x ∷ line) false) none in
+      let turn = or_else-nil (turn_fault (leaf name) [] (walk_from nothing_held) x)
+      (walk_fault (leaf name) [] (walked (leaf name).rules [] (walk_from nothing_held) x) line) part.0 in
+      let mark : x ≡ dashes = (bytes_eq-Decides x dashes).0 (leaf_turn x turn.0) in
+      inr (ap₂ (λ w rest. w ∷ rest) mark (leaf_rest x line mark turn.1))
+
+-- ---- the first word
+
+abbrev pair : Text
+pair = codes "pair"
+
+abbrev reduce : Text
+reduce = codes "reduce"
+
+abbrev show : Text
+show = codes "show"
+
+abbrev check : Text
+check = codes "check"
+
+abbrev serve : Text
+serve = codes "serve"
+
+-- the subcommand that the first word names
+abbrev named : Bool → Bool → Bool → Bool → Bool → Bool → Option Text
+named is_play is_pair is_reduce is_show is_check is_serve =
+    option_map {T = Text × List Text} (λ s. s.0)
+    (cond is_play (Some (play, []))
+    (cond is_pair (Some (pair, [])) (cond is_reduce (Some (reduce, []))
+    (cond is_show (Some (show, [])) (cond is_check (Some (check, [])) (cond is_serve (Some (serve, [])) None))))))
+
+abbrev top_met : Option Text → Text → Held × Step
+top_met name word = subcommand_or_other rules name walk.idle 1 word nothing_held
+
+abbrev first_fault : Option Text → Text → Kinds
+first_fault name word = or_else (other_fault top name word nothing_held) (step_fault top 1 (top_met name word).0 (top_met name word).1)
+
+-- a word that passes names a subcommand, or is the mark
+data Passes (is_play is_pair is_reduce is_show is_check is_serve is_mark : Bool) : Type 0 where
+  as_play : is_play ≡ true → Passes is_play is_pair is_reduce is_show is_check is_serve is_mark
+  as_pair : is_pair ≡ true → Passes is_play is_pair is_reduce is_show is_check is_serve is_mark
+  as_reduce : is_reduce ≡ true → Passes is_play is_pair is_reduce is_show is_check is_serve is_mark
+  as_show : is_show ≡ true → Passes is_play is_pair is_reduce is_show is_check is_serve is_mark
+  as_check : is_check ≡ true → Passes is_play is_pair is_reduce is_show is_check is_serve is_mark
+  as_serve : is_serve ≡ true → Passes is_play is_pair is_reduce is_show is_check is_serve is_mark
+  as_mark : is_mark ≡ true → Passes is_play is_pair is_reduce is_show is_check is_serve is_mark
+
+top_turn : (is_play is_pair is_reduce is_show is_check is_serve : Bool) (word : Text) → first_fault (named is_play is_pair is_reduce is_show is_check is_serve) word ≡ []
+    → Passes is_play is_pair is_reduce is_show is_check is_serve (bytes_eq word dashes)
+top_turn true is_pair is_reduce is_show is_check is_serve word none = as_play refl
+top_turn false true is_reduce is_show is_check is_serve word none = as_pair refl
+top_turn false false true is_show is_check is_serve word none = as_reduce refl
+top_turn false false false true is_check is_serve word none = as_show refl
+top_turn false false false false true is_serve word none = as_check refl
+top_turn false false false false false true word none = as_serve refl
+top_turn false false false false false false word none =
+    as_mark (turn_refused (stray_fault top) (λ e. cc) word (bytes_eq word dashes) (long_of word) none)
+
+-- the walk has met a subcommand, and these words after it
+abbrev after : Text → List Text → Walk
+after name line = record (walk_from nothing_held) { stopped = Some (name, line) }
+
+stays : (name : Text) (line done : List Text) → fold (walked top.rules names) (after name done) line ≡ after name (done ++ line)
+unfolding clap_on_literals
+stays name [] done = ap (after name) (sym (append-nil done))
+stays name (x ∷ line) done = stays name line (done ++ x ∷ []) ∙ ap (after name) (append_assoc done (x ∷ []) line)
+
+abbrev stop_of : List Text → Option (Text × List Text)
+stop_of line = (walk.walk top.rules names nothing_held line).stopped
+
+stop_play : (line : List Text) → stop_of (play ∷ line) ≡ Some (play, line)
+unfolding clap_on_literals
+stop_play line = ap (λ (w : Walk). w.stopped) (stays play line [])
+
+stop_pair : (line : List Text) → stop_of (pair ∷ line) ≡ Some (pair, line)
+unfolding clap_on_literals
+stop_pair line = ap (λ (w : Walk). w.stopped) (stays pair line [])
+
+stop_reduce : (line : List Text) → stop_of (reduce ∷ line) ≡ Some (reduce, line)
+unfolding clap_on_literals
+stop_reduce line = ap (λ (w : Walk). w.stopped) (stays reduce line [])
+
+stop_show : (line : List Text) → stop_of (show ∷ line) ≡ Some (show, line)
+unfolding clap_on_literals
+stop_show line = ap (λ (w : Walk). w.stopped) (stays show line [])
+
+stop_check : (line : List Text) → stop_of (check ∷ line) ≡ Some (check, line)
+unfolding clap_on_literals
+stop_check line = ap (λ (w : Walk). w.stopped) (stays check line [])
+
+stop_serve : (line : List Text) → stop_of (serve ∷ line) ≡ Some (serve, line)
+unfolding clap_on_literals
+stop_serve line = ap (λ (w : Walk). w.stopped) (stays serve line [])
+
+-- what is found in a line that begins with a subcommand is found there in the words after it
+below : (word : Text) (line : List Text) → faults_of (word ∷ line) ≡ [] → entered_fault app (stop_of (word ∷ line)) ≡ []
+below word line none =
+    let stop = stop_of (word ∷ line) in
+    let rest = later top names (word ∷ line) (is_some (entered app stop)) in
+    let part = or_else-nil (walk_fault top names (walk_from nothing_held) (word ∷ line)) (or_else (entered_fault app stop) rest) none in
+    (or_else-nil (entered_fault app stop) rest part.1).0
+
+entered_play : (line : List Text) → faults_of (play ∷ line) ≡ [] → AsksFor (play ∷ line) Play
+entered_play line none =
+    let at_leaf : level_fault (leaf play) [] nothing_held line false [] ≡ [] = subst (λ s. entered_fault app s ≡ []) (stop_play line) (below play line none) in
+    elim (leaf_lines play line at_leaf) [
+      | inl e ↦ inl (ap (λ rest. play ∷ rest) e)
+      | inr e ↦ inr (ap (λ rest. play ∷ rest) e)
+    ]
+
+entered_pair : (line : List Text) → faults_of (pair ∷ line) ≡ [] → AsksFor (pair ∷ line) Pair
+entered_pair line none =
+    let at_leaf : level_fault (leaf pair) [] nothing_held line false [] ≡ [] = subst (λ s. entered_fault app s ≡ []) (stop_pair line) (below pair line none) in
+    elim (leaf_lines pair line at_leaf) [
+      | inl e ↦ inl (ap (λ rest. pair ∷ rest) e)
+      | inr e ↦ inr (ap (λ rest. pair ∷ rest) e)
+    ]
+
+-- ---- what a line that begins with a subcommand is read as
+
+read_play : (line : List Text) → run_in (subcommand_of bidi_app (play ∷ line)) ≡ Some Play
+unfolding clap_on_literals
+read_play line = ap (λ s. run_in (entered app s)) (stop_play line)
+
+read_pair : (line : List Text) → run_in (subcommand_of bidi_app (pair ∷ line)) ≡ Some Pair
+unfolding clap_on_literals
+read_pair line = ap (λ s. run_in (entered app s)) (stop_pair line)
+
+-- a value that is there is one
+same_some : {A : Type 0} {x y : A} → Some x ≡ Some y → x ≡ y
+same_some e = cc
+
+-- a run that needs an end, or numbers, is no other
+no_other : {A : Type 0} (f : A → Run) (run : Run) → ((x : A) → f x ≡ run → ⊥) → (x : Option A) → option_map f x ≡ Some run → ⊥
+no_other f run differs None e = cc
+no_other f run differs (Some x) e = differs x (same_some e)
+
+entered_reduce : (run : Run) → ((n : ℕ) → Reduce n ≡ run → ⊥) → (line : List Text) → run_in (entered app (Some (reduce, line))) ≡ Some run → ⊥
+unfolding clap_on_literals
+entered_reduce run differs line e = no_other Reduce run differs _ e
+
+read_reduce : (run : Run) → ((n : ℕ) → Reduce n ≡ run → ⊥) → (line : List Text) → run_in (subcommand_of bidi_app (reduce ∷ line)) ≡ Some run → ⊥
+read_reduce run differs line e = entered_reduce run differs line (subst (λ s. run_in (entered app s) ≡ Some run) (stop_reduce line) e)
+
+entered_show : (run : Run) → ((side : Side) → Show side ≡ run → ⊥) → (line : List Text) → run_in (entered app (Some (show, line))) ≡ Some run → ⊥
+unfolding clap_on_literals
+entered_show run differs line e = no_other Show run differs _ e
+
+entered_check : (run : Run) → ((side : Side) → Check side ≡ run → ⊥) → (line : List Text) → run_in (entered app (Some (check, line))) ≡ Some run → ⊥
+unfolding clap_on_literals
+entered_check run differs line e = no_other Check run differs _ e
+
+read_show : (run : Run) → ((side : Side) → Show side ≡ run → ⊥) → (line : List Text) → run_in (subcommand_of bidi_app (show ∷ line)) ≡ Some run → ⊥
+read_show run differs line e = entered_show run differs line (subst (λ s. run_in (entered app s) ≡ Some run) (stop_show line) e)
+
+read_check : (run : Run) → ((side : Side) → Check side ≡ run → ⊥) → (line : List Text) → run_in (subcommand_of bidi_app (check ∷ line)) ≡ Some run → ⊥
+read_check run differs line e = entered_check run differs line (subst (λ s. run_in (entered app s) ≡ Some run) (stop_check line) e)
+
+entered_serve : (run : Run) → ((s : ServeOptions) → Serve s ≡ run → ⊥) → (line : List Text) → run_in (entered app (Some (serve, line))) ≡ Some run → ⊥
+unfolding clap_on_literals
+entered_serve run differs line e = no_other Serve run differs _ e
+
+read_serve : (run : Run) → ((s : ServeOptions) → Serve s ≡ run → ⊥) → (line : List Text) → run_in (subcommand_of bidi_app (serve ∷ line)) ≡ Some run → ⊥
+read_serve run differs line e = entered_serve run differs line (subst (λ s. run_in (entered app s) ≡ Some run) (stop_serve line) e)
+
+serve_is_no_play : (s : ServeOptions) → Serve s ≡ Play → ⊥
+serve_is_no_play s e = cc
+
+serve_is_no_pair : (s : ServeOptions) → Serve s ≡ Pair → ⊥
+serve_is_no_pair s e = cc
+
+reduce_is_no_play : (n : ℕ) → Reduce n ≡ Play → ⊥
+reduce_is_no_play n e = cc
+
+reduce_is_no_pair : (n : ℕ) → Reduce n ≡ Pair → ⊥
+reduce_is_no_pair n e = cc
+
+show_is_no_play : (side : Side) → Show side ≡ Play → ⊥
+show_is_no_play side e = cc
+
+show_is_no_pair : (side : Side) → Show side ≡ Pair → ⊥
+show_is_no_pair side e = cc
+
+check_is_no_play : (side : Side) → Check side ≡ Play → ⊥
+check_is_no_play side e = cc
+
+check_is_no_pair : (side : Side) → Check side ≡ Pair → ⊥
+check_is_no_pair side e = cc
+
+pair_is_no_play : Pair ≡ Play → ⊥
+pair_is_no_play e = cc
+
+or_false : (b : Bool) → (b || false) ≡ true → b ≡ true
+or_false true e = refl
+or_false false e = e
+
+-- after the mark no word is a subcommand
+entered_none : (line : List Text) → faults_of (dashes ∷ line) ≡ [] → ⊥
+unfolding clap_on_literals
+entered_none [] none = cc
+entered_none (y ∷ line) none = cc
+
+-- a word is the name that it is like
+same_word : (name word : Text) → (bytes_eq name word || false) ≡ true → name ≡ word
+same_word name word e = (bytes_eq-Decides name word).0 (or_false _ e)
+
+-- a line that is taken begins with a subcommand
+data Begins (word : Text) : Type 0 where
+  with_play : play ≡ word → Begins word
+  with_pair : pair ≡ word → Begins word
+  with_reduce : reduce ≡ word → Begins word
+  with_show : show ≡ word → Begins word
+  with_check : check ≡ word → Begins word
+  with_serve : serve ≡ word → Begins word
+
+begins_as : (word : Text) (line : List Text) → faults_of (word ∷ line) ≡ []
+    → Passes (bytes_eq play word || false) (bytes_eq pair word || false) (bytes_eq reduce word || false) (bytes_eq show word || false)
+    (bytes_eq check word || false) (bytes_eq serve word || false) (bytes_eq word dashes) → Begins word
+begins_as word line none (as_play e) = with_play (same_word play word e)
+begins_as word line none (as_pair e) = with_pair (same_word pair word e)
+begins_as word line none (as_reduce e) = with_reduce (same_word reduce word e)
+begins_as word line none (as_show e) = with_show (same_word show word e)
+begins_as word line none (as_check e) = with_check (same_word check word e)
+begins_as word line none (as_serve e) = with_serve (same_word serve word e)
+begins_as word line none (as_mark e) = let same : word ≡ dashes = (bytes_eq-Decides word dashes).0 e in
+    absurd (entered_none line (subst (λ w. faults_of (w ∷ line) ≡ []) same none))
+
+begins : (word : Text) (line : List Text) → faults_of (word ∷ line) ≡ [] → Begins word
+unfolding clap_on_literals
+begins word line none =
+    let stop = stop_of (word ∷ line) in
+    let part = or_else-nil (walk_fault top names (walk_from nothing_held) (word ∷ line))
+    (or_else (entered_fault app stop) (later top names (word ∷ line) (is_some (entered app stop)))) none in
+    let turn = or_else-nil (turn_fault top names (walk_from nothing_held) word)
+    (walk_fault top names (walked top.rules names (walk_from nothing_held) word) line) part.0 in
+    begins_as word line none (top_turn (bytes_eq play word || false) (bytes_eq pair word || false) (bytes_eq reduce word || false)
+    (bytes_eq show word || false) (bytes_eq check word || false) (bytes_eq serve word || false) word turn.0)
+
+abbrev IsRead : Run → List Text → Text → Type 0
+IsRead run line word = run_in (subcommand_of bidi_app (word ∷ line)) ≡ Some run
+
+play_from : (word : Text) (line : List Text) → Begins word → faults_of (word ∷ line) ≡ [] → IsRead Play line word → AsksFor (word ∷ line) Play
+play_from word line (with_play e) none read = subst (λ w. AsksFor (w ∷ line) Play) e (entered_play line (subst (λ w. faults_of (w ∷ line) ≡ []) (sym e) none))
+play_from word line (with_pair e) none read = absurd (pair_is_no_play (same_some (sym (read_pair line) ∙ subst (IsRead Play line) (sym e) read)))
+play_from word line (with_reduce e) none read = absurd (read_reduce Play reduce_is_no_play line (subst (IsRead Play line) (sym e) read))
+play_from word line (with_show e) none read = absurd (read_show Play show_is_no_play line (subst (IsRead Play line) (sym e) read))
+play_from word line (with_check e) none read = absurd (read_check Play check_is_no_play line (subst (IsRead Play line) (sym e) read))
+play_from word line (with_serve e) none read = absurd (read_serve Play serve_is_no_play line (subst (IsRead Play line) (sym e) read))
+
+pair_from : (word : Text) (line : List Text) → Begins word → faults_of (word ∷ line) ≡ [] → IsRead Pair line word → AsksFor (word ∷ line) Pair
+pair_from word line (with_play e) none read = absurd (pair_is_no_play (sym (same_some (sym (read_play line) ∙ subst (IsRead Pair line) (sym e) read))))
+pair_from word line (with_pair e) none read = subst (λ w. AsksFor (w ∷ line) Pair) e (entered_pair line (subst (λ w. faults_of (w ∷ line) ≡ []) (sym e) none))
+pair_from word line (with_reduce e) none read = absurd (read_reduce Pair reduce_is_no_pair line (subst (IsRead Pair line) (sym e) read))
+pair_from word line (with_show e) none read = absurd (read_show Pair show_is_no_pair line (subst (IsRead Pair line) (sym e) read))
+pair_from word line (with_check e) none read = absurd (read_check Pair check_is_no_pair line (subst (IsRead Pair line) (sym e) read))
+pair_from word line (with_serve e) none read = absurd (read_serve Pair serve_is_no_pair line (subst (IsRead Pair line) (sym e) read))
+
+-- clap takes `play` and `play --` alone as a play
+pub play_lines : (line : List Text) → faults_of line ≡ [] → run_in (subcommand_of bidi_app line) ≡ Some Play → AsksFor line Play
+unfolding clap_on_literals
+play_lines [] none read = absurd cc
+play_lines (word ∷ line) none read = play_from word line (begins word line none) none read
+
+-- and `pair` and `pair --` alone as a pair
+pub pair_lines : (line : List Text) → faults_of line ≡ [] → run_in (subcommand_of bidi_app line) ≡ Some Pair → AsksFor line Pair
+unfolding clap_on_literals
+pair_lines [] none read = absurd cc
+pair_lines (word ∷ line) none read = pair_from word line (begins word line none) none read

@@ -1,0 +1,193 @@
+-- What the words of a command line ask for, as `clap` reads them.
+use Rattle.std.specs.Prelude.{◌≡◌, ◌≢◌, ◌⊎◌, ◌≤◌, ℕ, Bool, true, ◌&&◌, nat_lt, nat_le, List, [], ◌∷◌, ◌++◌, length, ⊤}
+use Rattle.std.specs.Prelude.{Option, Some, None, option_and_then, option_map, if◌then◌else◌, codes, map}
+use Rattle.std.specs.Char.{digit_value}
+use Rattle.std.specs.Str.Parse.{digits_value, without_leading_plus}
+use Rattle.std.specs.Str.{bytes_eq}
+use Rattle.std.specs.Borrow.{Bor}
+use Rattle.clap.specs.Words.{App, IsAmong, Kinds, Row, Rule, Shape, Text, fault_of, first_of, new_app, new_rule, subcommand_of, with_rule, with_subcommand}
+use Rattle.clap.specs.declared.error.kind.ErrorKind.{ErrorKind}
+use Rattle.clap.specs.declared.error.kind.ErrorKind.TheVariants.{DisplayHelp, DisplayVersion, OutOfMemory}
+use Rattle.bidi_command_line.specs.declared.asked.LineFault.{LineFault}
+use Rattle.bidi_command_line.specs.declared.asked.LineFault.TheVariants.{Help, Usage, NoMemory}
+use Rattle.bidi_command_line.specs.declared.asked.Run.{Run}
+use Rattle.bidi_command_line.specs.declared.asked.Run.TheVariants.{Play, Pair, Reduce, Show, Check, Serve}
+use Rattle.bidi_command_line.specs.declared.asked.ServeOptions.{ServeOptions}
+use Rattle.bidi_lines.specs.declared.side.Side.{Side}
+use Rattle.bidi_lines.specs.declared.side.Side.TheVariants.{Local, Remote}
+
+-- the settings: a line leaves out the program's name and names a subcommand, and `help` is none
+abbrev pub with_settings : Shape → Shape
+with_settings s = record s { no_binary_name = true; disable_help_subcommand = true; subcommand_required = true }
+
+-- the subcommand `play`, with no argument
+abbrev pub play_shape : Shape
+play_shape = (new_app (codes "play")).top
+
+-- the subcommand `pair`, with no argument
+abbrev pub pair_shape : Shape
+pair_shape = (new_app (codes "pair")).top
+
+-- the option of this name with one value, which is required
+abbrev pub option_rule : Text → Rule
+option_rule name = record (new_rule name) { long = Some name; value_names = 1; required = true }
+
+-- the subcommand `reduce`, with its option
+abbrev pub reduce_shape : Shape
+reduce_shape = (with_rule (new_app (codes "reduce")) (option_rule (codes "session"))).top
+
+-- the option `--from`
+abbrev pub from_rule : Rule
+from_rule = option_rule (codes "from")
+
+-- a subcommand of this name with that option
+abbrev pub from_shape : Text → Shape
+from_shape name = (with_rule (new_app name) from_rule).top
+
+-- the subcommand `serve`, with its three options
+abbrev pub serve_shape : Shape
+serve_shape =
+    (with_rule (with_rule (with_rule (new_app (codes "serve")) (option_rule (codes "port"))) (option_rule (codes "connections")))
+    (option_rule (codes "messages"))).top
+
+-- the program's command before it has subcommands
+abbrev pub bare_app : App
+bare_app = record { top = with_settings (new_app (codes "bidi")).top; subs = [] }
+
+-- the program's command, which wants one of its subcommands
+abbrev pub bidi_app : App
+bidi_app =
+    with_subcommand (with_subcommand (with_subcommand (with_subcommand (with_subcommand (with_subcommand bare_app play_shape) pair_shape) reduce_shape)
+    (from_shape (codes "show"))) (from_shape (codes "check"))) serve_shape
+
+-- the words as texts
+abbrev pub line_of : List (Bor (List ℕ)) → List Text
+line_of words = map (λ word. word.now) words
+
+-- the faults that clap lists for the line, of which there are none where it takes the line
+abbrev pub faults_of : List Text → Kinds
+faults_of line = fault_of bidi_app line
+
+-- the end of this name
+abbrev pub side_named : Text → Option Side
+side_named text = if bytes_eq text (codes "local") then Some Local else (if bytes_eq text (codes "remote") then Some Remote else None)
+
+-- the end that a subcommand's option names
+abbrev pub side_in : List Row → Option Side
+side_in rows = option_and_then side_named (first_of (codes "from") rows)
+
+-- each character is a decimal digit
+abbrev pub all_digits : Text → Bool
+all_digits [] = true
+all_digits (c ∷ cs) = nat_lt (digit_value c) 10 && all_digits cs
+
+-- one decimal digit or more, and nothing else
+abbrev pub is_numeral : Text → Bool
+is_numeral ds = nat_lt 0 (length ds) && all_digits ds
+
+-- the number that a text writes, with a plus before its digits or without, where it is within these bounds
+abbrev pub number_within : ℕ → ℕ → Text → Option ℕ
+number_within least most text =
+    let ds = without_leading_plus text in
+    let n = digits_value 10 ds in
+    if is_numeral ds && (nat_le least n && nat_le n most) then Some n else None
+
+-- the number that an option gives, within these bounds
+abbrev pub number_in : Text → ℕ → ℕ → List Row → Option ℕ
+number_in name least most rows = option_and_then (number_within least most) (first_of name rows)
+
+-- the number of the session that a subcommand's option names
+abbrev pub session_in : List Row → Option ℕ
+session_in rows = number_in (codes "session") 0 4294967295 rows
+
+-- what is to be served, where all three numbers are there
+abbrev pub served : Option ℕ → Option ℕ → Option ℕ → Option ServeOptions
+served (Some port) (Some connections) (Some messages) = Some (record { port = port; connections = connections; messages = messages })
+served port connections messages = None
+
+-- what the three options ask to be served
+abbrev pub serving_in : List Row → Option ServeOptions
+serving_in rows = served (number_in (codes "port") 0 65535 rows) (number_in (codes "connections") 1 1000 rows) (number_in (codes "messages") 1 100000 rows)
+
+-- the run of the subcommand of this name, whose options name this end or this session, or say what is to be served
+abbrev pub run_named : Text → Option Side → Option ℕ → Option ServeOptions → Option Run
+run_named name side session serving =
+    if bytes_eq name (codes "play") then Some Play
+    else (if bytes_eq name (codes "pair") then Some Pair
+    else (if bytes_eq name (codes "reduce") then option_map Reduce session
+    else (if bytes_eq name (codes "show") then option_map Show side
+    else (if bytes_eq name (codes "check") then option_map Check side
+    else (if bytes_eq name (codes "serve") then option_map Serve serving else None)))))
+
+-- the run of a subcommand, by its name and what was found for its options
+abbrev pub run_in : Option (Text × List Row) → Option Run
+run_in None = None
+run_in (Some (name, rows)) = run_named name (side_in rows) (session_in rows) (serving_in rows)
+
+-- clap takes the line, and reads it as the run
+abbrev pub IsReadAs : List Text → Run → Type 0
+IsReadAs line run = (faults_of line ≡ []) × (run_in (subcommand_of bidi_app line) ≡ Some run)
+
+-- the line asks for the run: `play` and `pair` are asked for by their names, with or without the mark that ends the options
+abbrev pub AsksFor : List Text → Run → Type 0
+AsksFor line Play = (line ≡ codes "play" ∷ []) ⊎ (line ≡ codes "play" ∷ codes "--" ∷ [])
+AsksFor line Pair = (line ≡ codes "pair" ∷ []) ⊎ (line ≡ codes "pair" ∷ codes "--" ∷ [])
+AsksFor line (Reduce session) = IsReadAs line (Reduce session)
+AsksFor line (Show side) = IsReadAs line (Show side)
+AsksFor line (Check side) = IsReadAs line (Check side)
+AsksFor line (Serve serving) = IsReadAs line (Serve serving)
+
+-- the name of an end
+abbrev pub side_text : Side → Text
+side_text Local = codes "local"
+side_text Remote = codes "remote"
+
+-- the words that give the option of this name its value: two, or one with `=` between
+abbrev pub Gives : Text → Text → List Text → Type 0
+Gives name value words = (words ≡ (codes "--" ++ name) ∷ value ∷ []) ⊎ (words ≡ ((codes "--" ++ name) ++ 61 ∷ value) ∷ [])
+
+-- words that give the option of this name this number, which is within these bounds
+abbrev pub GivesNumber : Text → ℕ → ℕ → ℕ → List Text → Type 0
+GivesNumber name least most n words = (value : Text) × (number_within least most value ≡ Some n) × Gives name value words
+
+-- the words that are given for a run, with its options in this order
+abbrev pub IsSaidBy : Run → List Text → Type 0
+IsSaidBy Play line = line ≡ codes "play" ∷ []
+IsSaidBy Pair line = line ≡ codes "pair" ∷ []
+IsSaidBy (Reduce session) line = (words : List Text) × GivesNumber (codes "session") 0 4294967295 session words × (line ≡ codes "reduce" ∷ words)
+IsSaidBy (Show side) line = (words : List Text) × Gives (codes "from") (side_text side) words × (line ≡ codes "show" ∷ words)
+IsSaidBy (Check side) line = (words : List Text) × Gives (codes "from") (side_text side) words × (line ≡ codes "check" ∷ words)
+IsSaidBy (Serve s) line =
+    (port : Text) × (connections : Text) × (messages : Text)
+    × (number_within 0 65535 port ≡ Some s.port)
+    × (number_within 1 1000 connections ≡ Some s.connections)
+    × (number_within 1 100000 messages ≡ Some s.messages)
+    × ((line ≡ codes "serve" ∷ codes "--port" ∷ port ∷ codes "--connections" ∷ connections ∷ codes "--messages" ∷ messages ∷ [])
+    ⊎ (line ≡ codes "serve" ∷ (codes "--port=" ++ port) ∷ (codes "--connections=" ++ connections) ∷ (codes "--messages=" ++ messages) ∷ []))
+
+-- the numbers of a run are within their bounds
+abbrev pub IsWithinBounds : Run → Type 0
+IsWithinBounds (Reduce session) = session ≤ 4294967295
+IsWithinBounds (Serve s) = (s.port ≤ 65535) × (1 ≤ s.connections) × (s.connections ≤ 1000) × (1 ≤ s.messages) × (s.messages ≤ 100000)
+IsWithinBounds run = ⊤
+
+-- help, or the version, was asked for
+abbrev pub IsRequest : ErrorKind → Type 0
+IsRequest kind = (kind ≡ DisplayHelp) ⊎ (kind ≡ DisplayVersion)
+
+-- the words are wrong
+abbrev pub IsMistake : ErrorKind → Type 0
+IsMistake kind = (kind ≢ DisplayHelp) × (kind ≢ DisplayVersion) × (kind ≢ OutOfMemory)
+
+-- help answers a request for it, and a mistake is told as such
+abbrev pub Causes : ErrorKind → LineFault → Type 0
+Causes kind (Help text) = IsRequest kind
+Causes kind (Usage text) = IsMistake kind
+Causes kind NoMemory = ⊤
+
+-- a refusal has its cause among the faults of the line, or clap takes the line and its option names no end or no number within its bounds
+abbrev pub IsRefusedFor : List Text → LineFault → Type 0
+IsRefusedFor line (Help text) = (kind : ErrorKind) × IsAmong kind (faults_of line) × IsRequest kind
+IsRefusedFor line (Usage text) =
+    ((kind : ErrorKind) × IsAmong kind (faults_of line) × IsMistake kind) ⊎ ((faults_of line ≡ []) × (run_in (subcommand_of bidi_app line) ≡ None))
+IsRefusedFor line NoMemory = ⊤

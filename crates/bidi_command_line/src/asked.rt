@@ -1,0 +1,442 @@
+//! The command line: which run it asks for.
+ghost use Rattle.std.specs.Prelude.{◌≡◌, false, IfErr, IfOk, MatchResult, codes, option_and_then};
+ghost use Rattle.clap.specs.Words.{app_of, found_of, first_value, kind_of, new_app, rows_of, rule_of, subcommand_rows_of, with_rule, with_subcommand};
+ghost use Rattle.clap.specs.declared.builder.command.Command.TheViews.{out-Command};
+ghost use Rattle.clap.specs.declared.error.kind.ErrorKind.TheVariants.{InvalidValue};
+ghost use Rattle.bidi_command_line.specs.declared.asked.Run.{Run};
+ghost use Rattle.bidi_command_line.specs.CommandLine.{AsksFor, Causes, IsRefusedFor, IsSaidBy, IsWithinBounds, bare_app, bidi_app};
+ghost use Rattle.bidi_command_line.specs.CommandLine.{from_rule, from_shape, line_of, number_within, option_rule, pair_shape};
+ghost use Rattle.bidi_command_line.specs.CommandLine.{play_shape, reduce_shape, run_in, run_named, serve_shape, served, serving_in, side_named};
+
+use bidi_lines::Side;
+use clap::error::ErrorKind;
+use clap::{Arg, ArgMatches, Command};
+use std::alloc::{AllocError, Global};
+use thiserror::Error;
+
+/// What the program is asked to do.
+#[derive(Clone, Copy, Debug, PartialEq, Eq)]
+pub enum Run {
+    /// `play`: plays the lines of the standard input over a remote end.
+    Play,
+    /// `pair`: plays the lines of the standard input over both ends.
+    Pair,
+    /// `reduce`: writes the lines of the standard input that are kept for the session of this number.
+    Reduce(u32),
+    /// `show`: writes a line for each line of the standard input, read as a text of this end.
+    Show(Side),
+    /// `check`: writes a line for each line of the standard input that is no text of this end.
+    Check(Side),
+    /// `serve`: serves WebSocket connections on 127.0.0.1.
+    Serve(ServeOptions),
+}
+
+/// The options of `serve`.
+#[derive(Clone, Copy, Debug, PartialEq, Eq)]
+pub struct ServeOptions {
+    /// The port on 127.0.0.1, or 0 for one that the system chooses.
+    pub port: u16,
+    /// How many connections are served, one after another: 1 to 1,000.
+    pub connections: u32,
+    /// How many messages of each connection are taken at most, pings and pongs counted: 1 to 100,000.
+    pub messages: u32,
+}
+
+/// Why a command line gives no run.
+#[derive(Debug, Drop, Error)]
+pub enum LineFault {
+    /// Help was asked for. Write this text to the standard output, and end with status 0.
+    #[error("{0}")]
+    Help(String),
+    /// The words ask for no run. Write this text to the standard error, and end with status 2.
+    #[error("{0}")]
+    Usage(String),
+    /// An allocation failed. The same words may be read again.
+    #[error("out of memory")]
+    NoMemory,
+}
+
+// What the help of each subcommand ends with: the forms of its lines, and its statuses.
+
+const PLAY_HELP: &str =
+    "Lines in: `open N /session`, `> N TEXT`, `binary N` and `drop N` are of connection N, `at MOMENT` sets the clock,\n`frame CONTEXT URL`, `unframe CONTEXT` and `log CONTEXT LEVEL TEXT` happen in a page, `value ROW` says what a script does.\nLines out: `opened N`, `denied N`, `< N TEXT`, `close N`, `lost N`, `no effect`.\nStatus: 0 where all was played, 2 at a bad line, 3 where input, output or memory failed.\nThe rest stands in docs/FORMATS.md.";
+
+const PAIR_HELP: &str =
+    "Lines in: `open L /session` opens link L, `send L METHOD PARAMS` sends a command,\n`up L` and `down L` carry a text, `cut L` drops the link, and lines of a play.\nLines out: what became of each command, and which events each link received.\nStatus: 0 where all was played, 2 at a bad line, 3 where input, output or memory failed.\nThe rest stands in docs/FORMATS.md.";
+
+const REDUCE_HELP: &str =
+    "Lines in: those of a play. Lines out: the same, byte for byte, but for texts on connections that speak for another session\nwhich are refused, or whose command is session.status, session.subscribe, session.unsubscribe,\nbrowsingContext.activate, browsingContext.getTree or script.getRealms. The session is sent the same by both plays.\nStatus: 0 where all was read and written, 2 at a bad line, 3 where input, output or memory failed.\nThe rest stands in docs/FORMATS.md.";
+
+const SHOW_HELP: &str =
+    "Lines in: a text each, as it was sent.\nLines out: `accepted ID METHOD TEXT` or `refused ID CODE` of a local end;\n`response ID TEXT`, `error ID TEXT`, `event METHOD TEXT`, `no fit` or `not json` of a remote end.\nStatus: 0 where all was shown, 2 at a bad line, 3 where input, output or memory failed.\nThe rest stands in docs/FORMATS.md.";
+
+const CHECK_HELP: &str =
+    "Lines in: a text each, as it was sent.\nLines out: `line N: refused ID CODE` of a local end; `line N: no fit` or `line N: not json` of a remote end.\nStatus: 0 where no text is refused, 1 where one is, 2 at a bad line, 3 where input, output or memory failed.\nThe rest stands in docs/FORMATS.md.";
+
+const SERVE_HELP: &str =
+    "A client connects to ws://127.0.0.1:PORT/session, and makes a session by `session.new`;\na connection to /session/ID speaks for that session.\nStatus: 0 where all connections were served, 3 where it cannot listen or memory failed.\nThe rest stands in docs/CLIENTS.md.";
+
+/// The run that the words after the program's name ask for.
+///
+/// # Errors
+/// - `Help`: help was asked for.
+/// - `Usage`: the words ask for no run.
+/// - `NoMemory`: an allocation failed.
+pub fn command_line(alloc: Global, words: &[&str]) -> Result<Run, LineFault>
+    // A run comes from a line that asks for it, and such a line is refused only where an allocation failed.
+    ensures ok { IfOk result (AsksFor (line_of words.now)) }
+    ensures asked { (run : Run) → AsksFor (line_of words.now) run
+        → MatchResult result (λ found. found ≡ run) (λ fault. fault ≡ LineFault.NoMemory) }
+
+    // Its numbers are within their bounds.
+    ensures bounds { IfOk result IsWithinBounds }
+
+    // The words that are given for a run ask for it.
+    ensures said { (run : Run) → IsSaidBy run (line_of words.now) → AsksFor (line_of words.now) run }
+
+    // Any other refusal has its cause among the faults that `clap` finds in the line, or in an option whose
+    // value is no end or no number.
+    ensures err { IfErr result (IsRefusedFor (line_of words.now)) }
+{
+    let Ok(command) = command(alloc) else {
+        return Err(LineFault::NoMemory);
+    };
+    match command.try_get_matches_from(words) {
+        Ok(matches) => match run_of(&matches) {
+            Some(run) => Ok(run),
+            None => Err(no_value(alloc, &matches)),
+        },
+        Err(error) => Err(fault(alloc, &error)),
+    }
+}
+
+// The program's command, with a subcommand for each run.
+fn command<'a>(alloc: Global) -> Result<Command<'a>, AllocError>
+    ensures { IfOk result (λ command. app_of command ≡ bidi_app) }
+{
+    let command = with_listings(alloc)?;
+    let serve = serve_command(alloc)?;
+    command.subcommand(serve)
+}
+
+// The program's command with all subcommands but `serve`.
+fn with_listings<'a>(alloc: Global) -> Result<Command<'a>, AllocError>
+    ensures { IfOk result (λ command. app_of command ≡ with_subcommand (with_subcommand
+        (with_subcommand (with_subcommand (with_subcommand bare_app play_shape) pair_shape) reduce_shape) (from_shape (codes "show"))) (from_shape (codes "check"))) }
+{
+    let command = with_reduce(alloc)?;
+    let command = with_listing(
+        alloc,
+        command,
+        "show",
+        "Writes a line for each text of the standard input",
+        SHOW_HELP,
+    )?;
+    with_listing(
+        alloc,
+        command,
+        "check",
+        "Writes a line for each text of the standard input that is refused",
+        CHECK_HELP,
+    )
+}
+
+// The subcommand `serve`, with its three options.
+fn serve_command<'a>(alloc: Global) -> Result<Command<'a>, AllocError>
+    ensures app { IfOk result (λ command. (app_of command).top ≡ serve_shape) }
+    ensures local { IfOk result (λ command. (out-Command command).has_globals ≡ false) }
+{
+    let port = value_option(alloc, "port", "PORT", "The port on 127.0.0.1: 0 to 65535");
+    let connections = value_option(
+        alloc,
+        "connections",
+        "COUNT",
+        "How many connections are served, one after another: 1 to 1000",
+    );
+    let messages = value_option(
+        alloc,
+        "messages",
+        "COUNT",
+        "How many messages are taken of each at most: 1 to 100000",
+    );
+    Command::new(alloc, "serve")
+        .about("Serves WebSocket connections, one after another")
+        .after_help(SERVE_HELP)
+        .arg(port)?
+        .arg(connections)?
+        .arg(messages)
+}
+
+// The program's command with the subcommand `play` alone.
+fn with_play<'a>(alloc: Global) -> Result<Command<'a>, AllocError>
+    ensures { IfOk result (λ command. app_of command ≡ with_subcommand bare_app play_shape) }
+{
+    Command::new(alloc, "bidi")
+        .about("The two ends of WebDriver BiDi")
+        .after_help(
+            "`bidi SUBCOMMAND --help` has the lines and statuses of each, and `bidi --version` the version.",
+        )
+        .bin_name("bidi")?
+        .no_binary_name(true)
+        .disable_help_subcommand(true)
+        .subcommand_required(true)
+        .subcommand(
+            Command::new(alloc, "play")
+                .about("Plays steps from the standard input and writes what is sent")
+                .after_help(PLAY_HELP),
+        )
+}
+
+// The program's command with the subcommands `play` and `pair` alone.
+fn with_pair<'a>(alloc: Global) -> Result<Command<'a>, AllocError>
+    ensures { IfOk result (λ command. app_of command ≡ with_subcommand (with_subcommand bare_app play_shape) pair_shape) }
+{
+    let command = with_play(alloc)?;
+    command.subcommand(
+        Command::new(alloc, "pair")
+            .about(
+                "Plays steps of both ends from the standard input and writes what became of each command",
+            )
+            .after_help(PAIR_HELP),
+    )
+}
+
+// The program's command with the subcommands `play`, `pair` and `reduce` alone.
+fn with_reduce<'a>(alloc: Global) -> Result<Command<'a>, AllocError>
+    ensures { IfOk result (λ command. app_of command ≡ with_subcommand (with_subcommand (with_subcommand bare_app play_shape) pair_shape) reduce_shape) }
+{
+    let command = with_pair(alloc)?;
+    let reduce = reduce_command(alloc)?;
+    command.subcommand(reduce)
+}
+
+// The subcommand `reduce`, with its option.
+fn reduce_command<'a>(alloc: Global) -> Result<Command<'a>, AllocError>
+    ensures app { IfOk result (λ command. (app_of command).top ≡ reduce_shape) }
+    ensures local { IfOk result (λ command. (out-Command command).has_globals ≡ false) }
+{
+    let session = value_option(
+        alloc,
+        "session",
+        "NUMBER",
+        "The number of the session: 0 to 4294967295",
+    );
+    Command::new(alloc, "reduce")
+        .about("Writes the lines of a play without what other sessions only asked or subscribed")
+        .after_help(REDUCE_HELP)
+        .arg(session)
+}
+
+// The command with one more subcommand, of this name, with the option `--from`.
+fn with_listing<'a>(
+    alloc: Global,
+    command: Command<'a>,
+    name: &'a str,
+    about: &'a str,
+    after: &'a str,
+) -> Result<Command<'a>, AllocError>
+    ensures { IfOk result (λ c. app_of c ≡ with_subcommand (app_of command.entry) (from_shape name.entry.now)) }
+{
+    let listing = with_from(alloc, name, about, after)?;
+    command.subcommand(listing)
+}
+
+// A subcommand of this name, with the option `--from`.
+fn with_from<'a>(
+    alloc: Global,
+    name: &'a str,
+    about: &'a str,
+    after: &'a str,
+) -> Result<Command<'a>, AllocError>
+    ensures app { IfOk result (λ command. app_of command ≡ with_rule (new_app name.entry.now) from_rule) }
+    ensures local { IfOk result (λ command. (out-Command command).has_globals ≡ false) }
+{
+    Command::new(alloc, name)
+        .about(about)
+        .after_help(after)
+        .arg(value_option(
+            alloc,
+            "from",
+            "END",
+            "The end that sends the texts: local or remote",
+        ))
+}
+
+// The option of this name, with a value.
+fn value_option<'a>(alloc: Global, name: &'a str, value: &'a str, help: &'a str) -> Arg<'a>
+    ensures rule { rule_of result ≡ option_rule name.entry.now }
+    ensures local { result.global ≡ false }
+{
+    Arg::new(alloc, name)
+        .long(name)
+        .value_name(value)
+        .help(help)
+        .required(true)
+}
+
+// The run of the subcommand that was given, if the values of its options are valid.
+fn run_of(matches: &ArgMatches<'_>) -> Option<Run>
+    ensures { result ≡ run_in (subcommand_rows_of matches.now) }
+{
+    let (name, inner) = matches.subcommand()?;
+    run_named(name, side_of(inner), session_of(inner), serving_of(inner))
+}
+
+// The number of the session that `--session` names.
+fn session_of(matches: &ArgMatches<'_>) -> Option<u32>
+    ensures { result ≡ option_and_then (number_within 0 4294967295) (first_value (found_of matches.now) (codes "session")) }
+{
+    number_of(matches, "session", 0, u32::MAX)
+}
+
+// What the three options of `serve` ask for.
+fn serving_of(matches: &ArgMatches<'_>) -> Option<ServeOptions>
+    ensures { result ≡ serving_in (rows_of (found_of matches.now)) }
+{
+    let port = port_of(matches);
+    let connections = number_of(matches, "connections", 1, 1_000);
+    let messages = number_of(matches, "messages", 1, 100_000);
+    served(port, connections, messages)
+}
+
+// The options of `serve`, where all three numbers are valid.
+fn served(
+    port: Option<u16>,
+    connections: Option<u32>,
+    messages: Option<u32>,
+) -> Option<ServeOptions>
+    ensures { result ≡ served port connections messages }
+{
+    Some(ServeOptions {
+        port: port?,
+        connections: connections?,
+        messages: messages?,
+    })
+}
+
+// The port that `--port` gives.
+fn port_of(matches: &ArgMatches<'_>) -> Option<u16>
+    ensures { result ≡ option_and_then (number_within 0 65535) (first_value (found_of matches.now) (codes "port")) }
+{
+    port_in(matches.get_str("port")?)
+}
+
+// The number that an option gives, if it is within these bounds.
+fn number_of(matches: &ArgMatches<'_>, name: &str, least: u32, most: u32) -> Option<u32>
+    ensures { result ≡ option_and_then (number_within least most) (first_value (found_of matches.now) name.now) }
+{
+    number_within(matches.get_str(name)?, least, most)
+}
+
+// The port that a text stands for.
+fn port_in(text: &str) -> Option<u16>
+    ensures { result ≡ number_within 0 65535 text.now }
+{
+    match text.parse::<u16>() {
+        Ok(port) => Some(port),
+        Err(_) => None,
+    }
+}
+
+// The number that a text stands for, if it is within these bounds.
+fn number_within(text: &str, least: u32, most: u32) -> Option<u32>
+    ensures { result ≡ number_within least most text.now }
+{
+    let Ok(number) = text.parse::<u32>() else {
+        return None;
+    };
+    if least <= number && number <= most {
+        Some(number)
+    } else {
+        None
+    }
+}
+
+// The run of the subcommand of this name, with the end or the session that its option names, or the options of `serve`.
+fn run_named(
+    name: &str,
+    side: Option<Side>,
+    session: Option<u32>,
+    serving: Option<ServeOptions>,
+) -> Option<Run>
+    ensures { result ≡ run_named name.now side session serving }
+{
+    match name {
+        "play" => Some(Run::Play),
+        "pair" => Some(Run::Pair),
+        "reduce" => Some(Run::Reduce(session?)),
+        "show" => Some(Run::Show(side?)),
+        "check" => Some(Run::Check(side?)),
+        "serve" => Some(Run::Serve(serving?)),
+        _ => None,
+    }
+}
+
+// The end that `--from` names.
+fn side_of(matches: &ArgMatches<'_>) -> Option<Side>
+    ensures { result ≡ option_and_then side_named (first_value (found_of matches.now) (codes "from")) }
+{
+    match matches.get_str("from")? {
+        "local" => Some(Side::Local),
+        "remote" => Some(Side::Remote),
+        _ => None,
+    }
+}
+
+// The fault of a line in which an option has no valid value.
+fn no_value(alloc: Global, matches: &ArgMatches<'_>) -> LineFault
+    ensures { Causes InvalidValue result }
+{
+    let Ok(message) = bad_value(alloc, matches) else {
+        return LineFault::NoMemory;
+    };
+    let Ok(mut command) = command(alloc) else {
+        return LineFault::NoMemory;
+    };
+    match command.error(ErrorKind::InvalidValue, &message) {
+        Ok(error) => fault(alloc, &error),
+        Err(_) => LineFault::NoMemory,
+    }
+}
+
+// Which option of which subcommand has which value, and what it takes.
+fn bad_value(alloc: Global, matches: &ArgMatches<'_>) -> Result<String, AllocError> {
+    let Some((name, inner)) = matches.subcommand() else {
+        return String::from_str(alloc, "no subcommand");
+    };
+    let (option, takes) = bad_option(inner);
+    let value = inner.get_str(option).unwrap_or("");
+    format!(in alloc; "`{name} --{option}` takes {takes}, not `{value}`")
+}
+
+// The first option of a subcommand that has no valid value, and what it takes.
+fn bad_option(matches: &ArgMatches<'_>) -> (&'static str, &'static str) {
+    if matches.get_str("from").is_some() {
+        ("from", "`local` or `remote`")
+    } else if matches.get_str("session").is_some() {
+        ("session", "0 to 4294967295")
+    } else if port_of(matches).is_none() {
+        ("port", "0 to 65535")
+    } else if number_of(matches, "connections", 1, 1_000).is_none() {
+        ("connections", "1 to 1000")
+    } else {
+        ("messages", "1 to 100000")
+    }
+}
+
+// The fault for an error of `clap`, with its text.
+fn fault(alloc: Global, error: &clap::Error) -> LineFault
+    ensures { Causes (kind_of error.now) result }
+{
+    if error.kind() == ErrorKind::OutOfMemory {
+        return LineFault::NoMemory;
+    }
+    let Ok(text) = format!(in alloc; "{error}") else {
+        return LineFault::NoMemory;
+    };
+    if error.use_stderr() {
+        LineFault::Usage(text)
+    } else {
+        LineFault::Help(text)
+    }
+}

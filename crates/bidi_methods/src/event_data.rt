@@ -1,0 +1,178 @@
+//! What events tell.
+ghost use Rattle.std.specs.Prelude.{◌≡◌, IfOk, refl};
+ghost use Rattle.bidi_tree.specs.View.{node};
+
+use crate::payload::Payload;
+use bidi_params::{Info, NavigationInfo, RealmDestroyedParameters, RealmInfo};
+use bidi_shape::{Named, Parsed, Shape, ShapeFault};
+use bidi_tree::{Outline, Tree};
+use bidi_values::LogEntry;
+use std::alloc::{AllocError, Global};
+
+/// The name of an event: its member `method`.
+///
+/// After WebDriver BiDi, "Protocol".
+#[derive(Clone, Copy, Debug, PartialEq, Eq)]
+pub enum EventName {
+    /// `browsingContext.contextCreated`: a context was made, or was there when the event was enabled.
+    ContextCreated,
+    /// `browsingContext.contextDestroyed`: a context is gone, with all below it.
+    ContextDestroyed,
+    /// `browsingContext.navigationStarted`: a context began to go to a URL, perhaps its own once more.
+    NavigationStarted,
+    /// `browsingContext.domContentLoaded`: the new document is parsed.
+    DomContentLoaded,
+    /// `browsingContext.load`: the new document is loaded, with all that it needs.
+    Load,
+    /// `script.realmCreated`: a realm was made, or was there when the event was enabled.
+    RealmCreated,
+    /// `script.realmDestroyed`: a realm is gone, with its handles.
+    RealmDestroyed,
+    /// `log.entryAdded`: an entry was added to the log, or waited there when the event was enabled.
+    EntryAdded,
+}
+
+impl Named for EventName {
+    ghost use Rattle.bidi_methods.specs.EventName.{event_words};
+
+    ghost words = { event_words };
+
+    fn all() -> &'static [EventName] {
+        &[
+            EventName::ContextCreated,
+            EventName::ContextDestroyed,
+            EventName::NavigationStarted,
+            EventName::DomContentLoaded,
+            EventName::Load,
+            EventName::RealmCreated,
+            EventName::RealmDestroyed,
+            EventName::EntryAdded,
+        ]
+    }
+
+    fn name(&self) -> &'static str {
+        match self {
+            EventName::ContextCreated => "browsingContext.contextCreated",
+            EventName::ContextDestroyed => "browsingContext.contextDestroyed",
+            EventName::NavigationStarted => "browsingContext.navigationStarted",
+            EventName::DomContentLoaded => "browsingContext.domContentLoaded",
+            EventName::Load => "browsingContext.load",
+            EventName::RealmCreated => "script.realmCreated",
+            EventName::RealmDestroyed => "script.realmDestroyed",
+            EventName::EntryAdded => "log.entryAdded",
+        }
+    }
+}
+
+/// What an event tells: its name, with its params.
+///
+/// After WebDriver BiDi, "Protocol".
+#[derive(Drop)]
+pub enum EventData {
+    /// `browsingContext.contextCreated`, with the context, and the id of the one above it.
+    ContextCreated(Info),
+    /// `browsingContext.contextDestroyed`, with the context and all that were below it.
+    ContextDestroyed(Info),
+    /// `browsingContext.navigationStarted`, with the navigation and where it leads.
+    NavigationStarted(NavigationInfo),
+    /// `browsingContext.domContentLoaded`, with the navigation that brought the document.
+    DomContentLoaded(NavigationInfo),
+    /// `browsingContext.load`, with the navigation that brought the document.
+    Load(NavigationInfo),
+    /// `script.realmCreated`, with the realm, its origin and its context.
+    RealmCreated(RealmInfo),
+    /// `script.realmDestroyed`, with the id of the realm.
+    RealmDestroyed(RealmDestroyedParameters),
+    /// `log.entryAdded`, with the entry.
+    EntryAdded(LogEntry),
+}
+
+impl Payload<EventName> for EventData {
+    ghost use Rattle.bidi_methods.specs.EventData.{EventShapes, event_payload};
+
+    ghost payload = { event_payload
+        (record {
+          info = ⟦<Info as Shape>⟧.shape;
+          navigation_info = ⟦<NavigationInfo as Shape>⟧.shape;
+          realm_info = ⟦<RealmInfo as Shape>⟧.shape;
+          realm_destroyed_parameters = ⟦<RealmDestroyedParameters as Shape>⟧.shape;
+          log_entry = ⟦<LogEntry as Shape>⟧.shape;
+        }) 70
+        (record {
+          info = record { is_rule = refl; within = refl };
+          navigation_info = record { is_rule = refl; within = refl };
+          realm_info = record { is_rule = refl; within = refl };
+          realm_destroyed_parameters = record { is_rule = refl; within = refl };
+          log_entry = record { is_rule = refl; within = refl };
+        }) };
+
+    fn kind(&self) -> EventName {
+        match self {
+            EventData::ContextCreated(_) => EventName::ContextCreated,
+            EventData::ContextDestroyed(_) => EventName::ContextDestroyed,
+            EventData::NavigationStarted(_) => EventName::NavigationStarted,
+            EventData::DomContentLoaded(_) => EventName::DomContentLoaded,
+            EventData::Load(_) => EventName::Load,
+            EventData::RealmCreated(_) => EventName::RealmCreated,
+            EventData::RealmDestroyed(_) => EventName::RealmDestroyed,
+            EventData::EntryAdded(_) => EventName::EntryAdded,
+        }
+    }
+
+    fn read<S: Parsed>(alloc: Global, kind: EventName, tree: &S) -> Result<EventData, ShapeFault> {
+        match kind {
+            EventName::ContextCreated => Ok(EventData::ContextCreated(Info::from_tree(
+                alloc, tree,
+            )?)),
+            EventName::ContextDestroyed => Ok(EventData::ContextDestroyed(Info::from_tree(
+                alloc, tree,
+            )?)),
+            EventName::NavigationStarted => Ok(EventData::NavigationStarted(
+                NavigationInfo::from_tree(alloc, tree)?,
+            )),
+            EventName::DomContentLoaded => Ok(EventData::DomContentLoaded(NavigationInfo::from_tree(
+                alloc, tree,
+            )?)),
+            EventName::Load => Ok(EventData::Load(NavigationInfo::from_tree(alloc, tree)?)),
+            EventName::RealmCreated => Ok(EventData::RealmCreated(RealmInfo::from_tree(
+                alloc, tree,
+            )?)),
+            EventName::RealmDestroyed => Ok(EventData::RealmDestroyed(
+                RealmDestroyedParameters::from_tree(alloc, tree)?,
+            )),
+            EventName::EntryAdded => Ok(EventData::EntryAdded(LogEntry::from_tree(alloc, tree)?)),
+        }
+    }
+
+    fn outline<'a>(&'a self, alloc: Global) -> Result<Outline<'a>, AllocError> {
+        match self {
+            EventData::ContextCreated(params) => params.outline(alloc),
+            EventData::ContextDestroyed(params) => params.outline(alloc),
+            EventData::NavigationStarted(params) => params.outline(alloc),
+            EventData::DomContentLoaded(params) => params.outline(alloc),
+            EventData::Load(params) => params.outline(alloc),
+            EventData::RealmCreated(params) => params.outline(alloc),
+            EventData::RealmDestroyed(params) => params.outline(alloc),
+            EventData::EntryAdded(params) => params.outline(alloc),
+        }
+    }
+}
+
+impl EventData {
+    /// The event's name. Takes no memory.
+    pub fn event(&self) -> EventName
+        ensures { result ≡ ⟦<EventData as Payload<EventName>>⟧.payload.kind self.now }
+    {
+        self.kind()
+    }
+
+    /// Makes the tree of the params.
+    ///
+    /// # Errors
+    /// No memory: an allocation failed.
+    pub fn tree_of(&self, alloc: Global) -> Result<Tree, AllocError>
+        ensures { IfOk result (λ t. node t ≡ ⟦<EventData as Payload<EventName>>⟧.payload.tree_of self.now) }
+    {
+        self.to_tree(alloc)
+    }
+}

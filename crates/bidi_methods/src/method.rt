@@ -1,0 +1,89 @@
+//! The methods of commands.
+use bidi_shape::Named;
+
+/// The method of a command.
+///
+/// After WebDriver BiDi, "Protocol".
+#[derive(Clone, Copy, Debug, PartialEq, Eq)]
+pub enum Method {
+    /// `session.status`: tells whether a session can be made. It needs none itself.
+    SessionStatus,
+    /// `session.new`: makes a session, to which the connection then belongs.
+    SessionNew,
+    /// `session.end`: ends the session, and closes its connections.
+    SessionEnd,
+    /// `session.subscribe`: enables events for the session, in all contexts or in some.
+    SessionSubscribe,
+    /// `session.unsubscribe`: ends subscriptions, or takes events out of the global ones.
+    SessionUnsubscribe,
+    /// `browsingContext.activate`: brings a top-level context to the front, which has no effect here.
+    BrowsingContextActivate,
+    /// `browsingContext.close`: closes a top-level context, with all below it.
+    BrowsingContextClose,
+    /// `browsingContext.create`: opens a top-level context.
+    BrowsingContextCreate,
+    /// `browsingContext.getTree`: tells contexts, with those below them.
+    BrowsingContextGetTree,
+    /// `browsingContext.navigate`: leads a context to a URL.
+    BrowsingContextNavigate,
+    /// `browsingContext.reload`: leads a context to its present URL once more.
+    BrowsingContextReload,
+    /// `browsingContext.traverseHistory`: leads a top-level context to another entry of its session history.
+    BrowsingContextTraverseHistory,
+    /// `script.evaluate`: evaluates an expression in a realm.
+    ScriptEvaluate,
+    /// `script.callFunction`: calls a function in a realm, with arguments.
+    ScriptCallFunction,
+    /// `script.disown`: lets go of handles of a realm.
+    ScriptDisown,
+    /// `script.getRealms`: lists realms.
+    ScriptGetRealms,
+}
+
+impl Named for Method {
+    ghost use Rattle.bidi_methods.specs.Method.{method_words};
+
+    ghost words = { method_words };
+
+    fn all() -> &'static [Method] {
+        &[
+            Method::SessionStatus,
+            Method::SessionNew,
+            Method::SessionEnd,
+            Method::SessionSubscribe,
+            Method::SessionUnsubscribe,
+            Method::BrowsingContextActivate,
+            Method::BrowsingContextClose,
+            Method::BrowsingContextCreate,
+            Method::BrowsingContextGetTree,
+            Method::BrowsingContextNavigate,
+            Method::BrowsingContextReload,
+            Method::BrowsingContextTraverseHistory,
+            Method::ScriptEvaluate,
+            Method::ScriptCallFunction,
+            Method::ScriptDisown,
+            Method::ScriptGetRealms,
+        ]
+    }
+
+    fn name(&self) -> &'static str {
+        match self {
+            Method::SessionStatus => "session.status",
+            Method::SessionNew => "session.new",
+            Method::SessionEnd => "session.end",
+            Method::SessionSubscribe => "session.subscribe",
+            Method::SessionUnsubscribe => "session.unsubscribe",
+            Method::BrowsingContextActivate => "browsingContext.activate",
+            Method::BrowsingContextClose => "browsingContext.close",
+            Method::BrowsingContextCreate => "browsingContext.create",
+            Method::BrowsingContextGetTree => "browsingContext.getTree",
+            Method::BrowsingContextNavigate => "browsingContext.navigate",
+            Method::BrowsingContextReload => "browsingContext.reload",
+            Method::BrowsingContextTraverseHistory => "browsingContext.traverseHistory",
+            Method::ScriptEvaluate => "script.evaluate",
+            Method::ScriptCallFunction => "script.callFunction",
+            Method::ScriptDisown => "script.disown",
+            Method::ScriptGetRealms => "script.getRealms",
+        }
+    }
+}

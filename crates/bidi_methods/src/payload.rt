@@ -1,0 +1,50 @@
+//! Payloads: what a command asks, what it gives, and what an event tells.
+ghost use Rattle.std.specs.Prelude.{◌≡◌, IfOk};
+ghost use Rattle.bidi_tree.specs.Node.{IsSound};
+ghost use Rattle.bidi_tree.specs.Outline.{outline_node};
+ghost use Rattle.bidi_tree.specs.View.{node};
+ghost use Rattle.bidi_shape.specs.Fits.{Fits};
+ghost use Rattle.bidi_shape.specs.Outcome.{IfNoFit};
+ghost use Rattle.bidi_methods.specs.Payload.{PayloadOf};
+
+use bidi_shape::{Parsed, ShapeFault};
+use bidi_tree::{Outline, Tree, own_outline};
+use std::alloc::{AllocError, Global};
+
+/// A value of one of several kinds, each with a rule of its own: what a message of that kind bears.
+pub trait Payload<K: Drop>: Drop {
+    // The kind of a value, the rule of each kind, the tree of a value, and the laws of these.
+    ghost payload: { PayloadOf Self K };
+
+    /// The kind of the value. Takes no memory.
+    fn kind(&self) -> K
+        ensures { result ≡ payload.kind self.now };
+
+    /// Reads the value of that kind whose tree this is.
+    ///
+    /// # Errors
+    /// - `NoFit`: the tree does not fit the kind's rule.
+    /// - `NoMemory`: an allocation failed.
+    fn read<S: Parsed>(alloc: Global, kind: K, tree: &S) -> Result<Self, ShapeFault>
+        ensures ok { IfOk result (λ v. (payload.kind v ≡ kind) × (payload.tree_of v ≡ S.tree tree.now) × payload.well v) }
+        ensures no_fit { IfNoFit result (Fits (S.tree tree.now) (payload.rule kind) → ⊥) };
+
+    /// Makes the outline of the value's tree, to be written. No text is copied.
+    ///
+    /// # Errors
+    /// No memory: an allocation failed.
+    fn outline<'a>(&'a self, alloc: Global) -> Result<Outline<'a>, AllocError>
+        ensures tree { IfOk result (λ d. outline_node d ≡ payload.tree_of self.now) }
+        ensures sound { IfOk result (λ d. IsSound (outline_node d)) };
+
+    /// Makes the tree of the value.
+    ///
+    /// # Errors
+    /// No memory: an allocation failed.
+    final fn to_tree(&self, alloc: Global) -> Result<Tree, AllocError>
+        ensures { IfOk result (λ t. node t ≡ payload.tree_of self.now) }
+    {
+        let outline = self.outline(alloc)?;
+        own_outline(alloc, &outline)
+    }
+}

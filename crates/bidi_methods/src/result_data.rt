@@ -1,0 +1,212 @@
+//! The results of commands.
+ghost use Rattle.std.specs.Prelude.{◌≡◌, IfOk, refl};
+ghost use Rattle.bidi_tree.specs.Node as kind;
+ghost use Rattle.bidi_tree.specs.View.{node, members_node};
+ghost use Rattle.bidi_shape.specs.Term.{rule as named};
+ghost use Rattle.bidi_shape.specs.Fits.{Fits};
+ghost use Rattle.bidi_shape.specs.Outcome.{IfNoFit};
+ghost use Rattle.bidi_methods.specs.Method.{result_of as result_rule};
+
+use crate::method::Method;
+use crate::payload::Payload;
+use bidi_params::session::NewResult;
+use bidi_params::{
+    CreateResult, EmptyResult, GetRealmsResult, GetTreeResult, NavigateResult, StatusResult,
+    SubscribeResult,
+};
+use bidi_shape::{Parsed, Shape, ShapeFault};
+use bidi_tree::{Members, Outline, Tree, copy_members};
+use bidi_values::EvaluateResult;
+use std::alloc::{AllocError, Global};
+
+/// What a command gives: its method, with its result.
+///
+/// After WebDriver BiDi, "Protocol".
+#[derive(Drop)]
+pub enum ResultData {
+    /// Of `session.status`: whether a session can be made.
+    SessionStatus(StatusResult),
+    /// Of `session.new`: the id and the capabilities of the session.
+    SessionNew(NewResult),
+    /// Of `session.end`: nothing. Each connection of the session is closed then.
+    SessionEnd(EmptyResult),
+    /// Of `session.subscribe`: the id of the subscription, by which it can be ended.
+    SessionSubscribe(SubscribeResult),
+    /// Of `session.unsubscribe`: nothing.
+    SessionUnsubscribe(EmptyResult),
+    /// Of `browsingContext.activate`: nothing.
+    BrowsingContextActivate(EmptyResult),
+    /// Of `browsingContext.close`: nothing.
+    BrowsingContextClose(EmptyResult),
+    /// Of `browsingContext.create`: the id of the new context.
+    BrowsingContextCreate(CreateResult),
+    /// Of `browsingContext.getTree`: an [`Info`](bidi_params::Info) for each root.
+    BrowsingContextGetTree(GetTreeResult),
+    /// Of `browsingContext.navigate`: the id of the navigation, and the URL as it is serialised.
+    BrowsingContextNavigate(NavigateResult),
+    /// Of `browsingContext.reload`: the id of the navigation, and the URL that is shown again.
+    BrowsingContextReload(NavigateResult),
+    /// Of `browsingContext.traverseHistory`: nothing.
+    BrowsingContextTraverseHistory(EmptyResult),
+    /// Of `script.evaluate`: the value of the expression, or what it threw.
+    ScriptEvaluate(EvaluateResult),
+    /// Of `script.callFunction`: the value that the function returned, or what it threw.
+    ScriptCallFunction(EvaluateResult),
+    /// Of `script.disown`: nothing.
+    ScriptDisown(EmptyResult),
+    /// Of `script.getRealms`: the realms.
+    ScriptGetRealms(GetRealmsResult),
+}
+
+impl Payload<Method> for ResultData {
+    ghost use Rattle.bidi_methods.specs.ResultData.{ResultShapes, result_payload};
+
+    ghost payload = { result_payload
+        (record {
+          status_result = ⟦<StatusResult as Shape>⟧.shape;
+          new_result = ⟦<NewResult as Shape>⟧.shape;
+          empty_result = ⟦<EmptyResult as Shape>⟧.shape;
+          subscribe_result = ⟦<SubscribeResult as Shape>⟧.shape;
+          create_result = ⟦<CreateResult as Shape>⟧.shape;
+          get_tree_result = ⟦<GetTreeResult as Shape>⟧.shape;
+          navigate_result = ⟦<NavigateResult as Shape>⟧.shape;
+          evaluate_result = ⟦<EvaluateResult as Shape>⟧.shape;
+          get_realms_result = ⟦<GetRealmsResult as Shape>⟧.shape;
+        }) 70
+        (record {
+          status_result = record { is_rule = refl; within = refl };
+          new_result = record { is_rule = refl; within = refl };
+          empty_result = record { is_rule = refl; within = refl };
+          subscribe_result = record { is_rule = refl; within = refl };
+          create_result = record { is_rule = refl; within = refl };
+          get_tree_result = record { is_rule = refl; within = refl };
+          navigate_result = record { is_rule = refl; within = refl };
+          evaluate_result = record { is_rule = refl; within = refl };
+          get_realms_result = record { is_rule = refl; within = refl };
+        }) };
+
+    fn kind(&self) -> Method {
+        match self {
+            ResultData::SessionStatus(_) => Method::SessionStatus,
+            ResultData::SessionNew(_) => Method::SessionNew,
+            ResultData::SessionEnd(_) => Method::SessionEnd,
+            ResultData::SessionSubscribe(_) => Method::SessionSubscribe,
+            ResultData::SessionUnsubscribe(_) => Method::SessionUnsubscribe,
+            ResultData::BrowsingContextActivate(_) => Method::BrowsingContextActivate,
+            ResultData::BrowsingContextClose(_) => Method::BrowsingContextClose,
+            ResultData::BrowsingContextCreate(_) => Method::BrowsingContextCreate,
+            ResultData::BrowsingContextGetTree(_) => Method::BrowsingContextGetTree,
+            ResultData::BrowsingContextNavigate(_) => Method::BrowsingContextNavigate,
+            ResultData::BrowsingContextReload(_) => Method::BrowsingContextReload,
+            ResultData::BrowsingContextTraverseHistory(_) => Method::BrowsingContextTraverseHistory,
+            ResultData::ScriptEvaluate(_) => Method::ScriptEvaluate,
+            ResultData::ScriptCallFunction(_) => Method::ScriptCallFunction,
+            ResultData::ScriptDisown(_) => Method::ScriptDisown,
+            ResultData::ScriptGetRealms(_) => Method::ScriptGetRealms,
+        }
+    }
+
+    fn read<S: Parsed>(alloc: Global, kind: Method, tree: &S) -> Result<ResultData, ShapeFault> {
+        match kind {
+            Method::SessionStatus => Ok(ResultData::SessionStatus(StatusResult::from_tree(
+                alloc, tree,
+            )?)),
+            Method::SessionNew => Ok(ResultData::SessionNew(NewResult::from_tree(alloc, tree)?)),
+            Method::SessionEnd => Ok(ResultData::SessionEnd(EmptyResult::from_tree(alloc, tree)?)),
+            Method::SessionSubscribe => Ok(ResultData::SessionSubscribe(SubscribeResult::from_tree(
+                alloc, tree,
+            )?)),
+            Method::SessionUnsubscribe => Ok(ResultData::SessionUnsubscribe(EmptyResult::from_tree(
+                alloc, tree,
+            )?)),
+            Method::BrowsingContextActivate => Ok(ResultData::BrowsingContextActivate(
+                EmptyResult::from_tree(alloc, tree)?,
+            )),
+            Method::BrowsingContextClose => Ok(ResultData::BrowsingContextClose(
+                EmptyResult::from_tree(alloc, tree)?,
+            )),
+            Method::BrowsingContextCreate => Ok(ResultData::BrowsingContextCreate(
+                CreateResult::from_tree(alloc, tree)?,
+            )),
+            Method::BrowsingContextGetTree => Ok(ResultData::BrowsingContextGetTree(
+                GetTreeResult::from_tree(alloc, tree)?,
+            )),
+            Method::BrowsingContextNavigate => Ok(ResultData::BrowsingContextNavigate(
+                NavigateResult::from_tree(alloc, tree)?,
+            )),
+            Method::BrowsingContextReload => Ok(ResultData::BrowsingContextReload(
+                NavigateResult::from_tree(alloc, tree)?,
+            )),
+            Method::BrowsingContextTraverseHistory => Ok(ResultData::BrowsingContextTraverseHistory(
+                EmptyResult::from_tree(alloc, tree)?,
+            )),
+            Method::ScriptEvaluate => Ok(ResultData::ScriptEvaluate(EvaluateResult::from_tree(
+                alloc, tree,
+            )?)),
+            Method::ScriptCallFunction => Ok(ResultData::ScriptCallFunction(
+                EvaluateResult::from_tree(alloc, tree)?,
+            )),
+            Method::ScriptDisown => Ok(ResultData::ScriptDisown(EmptyResult::from_tree(
+                alloc, tree,
+            )?)),
+            Method::ScriptGetRealms => Ok(ResultData::ScriptGetRealms(GetRealmsResult::from_tree(
+                alloc, tree,
+            )?)),
+        }
+    }
+
+    fn outline<'a>(&'a self, alloc: Global) -> Result<Outline<'a>, AllocError> {
+        match self {
+            ResultData::SessionStatus(result) => result.outline(alloc),
+            ResultData::SessionNew(result) => result.outline(alloc),
+            ResultData::SessionEnd(result) => result.outline(alloc),
+            ResultData::SessionSubscribe(result) => result.outline(alloc),
+            ResultData::SessionUnsubscribe(result) => result.outline(alloc),
+            ResultData::BrowsingContextActivate(result) => result.outline(alloc),
+            ResultData::BrowsingContextClose(result) => result.outline(alloc),
+            ResultData::BrowsingContextCreate(result) => result.outline(alloc),
+            ResultData::BrowsingContextGetTree(result) => result.outline(alloc),
+            ResultData::BrowsingContextNavigate(result) => result.outline(alloc),
+            ResultData::BrowsingContextReload(result) => result.outline(alloc),
+            ResultData::BrowsingContextTraverseHistory(result) => result.outline(alloc),
+            ResultData::ScriptEvaluate(result) => result.outline(alloc),
+            ResultData::ScriptCallFunction(result) => result.outline(alloc),
+            ResultData::ScriptDisown(result) => result.outline(alloc),
+            ResultData::ScriptGetRealms(result) => result.outline(alloc),
+        }
+    }
+}
+
+impl ResultData {
+    /// The method of the command. Takes no memory.
+    pub fn method(&self) -> Method
+        ensures { result ≡ ⟦<ResultData as Payload<Method>>⟧.payload.kind self.now }
+    {
+        self.kind()
+    }
+
+    /// Makes the tree of the result.
+    ///
+    /// # Errors
+    /// No memory: an allocation failed.
+    pub fn tree_of(&self, alloc: Global) -> Result<Tree, AllocError>
+        ensures { IfOk result (λ t. node t ≡ ⟦<ResultData as Payload<Method>>⟧.payload.tree_of self.now) }
+    {
+        self.to_tree(alloc)
+    }
+}
+
+/// Reads the result of a method from the members of a response's result, which are copied once.
+///
+/// # Errors
+/// - `NoFit`: the map does not fit the rule of the method's result.
+/// - `NoMemory`: an allocation failed.
+pub fn result_of(alloc: Global, method: Method, members: &Members) -> Result<ResultData, ShapeFault>
+    ensures ok { IfOk result (λ v. (⟦<ResultData as Payload<Method>>⟧.payload.kind v ≡ method)
+        × (⟦<ResultData as Payload<Method>>⟧.payload.tree_of v ≡ kind.map (members_node members.now.entries))
+        × ⟦<ResultData as Payload<Method>>⟧.payload.well v) }
+    ensures no_fit { IfNoFit result (Fits (kind.map (members_node members.now.entries)) (named (result_rule method)) → ⊥) }
+{
+    let tree = Tree::Map(copy_members(members)?);
+    ResultData::read(alloc, method, &tree)
+}

@@ -1,0 +1,27 @@
+use Rattle.std.proofs.Common.{◌≡◌, ◌∙◌, sym, ap, subst, map, rules}
+use Rattle.std.specs.Prelude.{filter, IfOk}
+use Rattle.std.specs.List.{AllByRecursion}
+use Rattle.std.proofs.lemmas.Fn.{filter_same}
+use Rattle.bidi_methods.specs.contracts.event_data.EventDataPayloadEventName.TheImpl.{ghosts}
+use Rattle.bidi_browser.specs.View.{occurrence_of, seen}
+use Rattle.bidi_remote.specs.State.EventTexts.{written, written_in}
+use Rattle.bidi_remote.specs.State.SubscriptionRows.{is_new}
+use Rattle.bidi_remote.specs.State.SessionView.{scope_of, row_of}
+use Rattle.bidi_remote.proofs.ListLemmas.{map-filter}
+use Rattle.bidi_remote.proofs.DecideLemmas.{all-kept}
+use Rattle.bidi_remote.proofs.session.subscribe.live_events.Goals as goal
+
+pub event_texts-requires : goal.event_texts-requires
+event_texts-requires c =
+    let k = c.retain.ensures.filtered in
+    subst (AllByRecursion (λ o. ghosts.payload.well o.event)) (sym (c.deref.ensures.value ∙ k.4))
+    (all-kept (λ o. ghosts.payload.well o.event) k.0 c.in_ok-all.all.items c.in_ok-all.ensures.well)
+
+pub returns-clause-ok : goal.returns-clause-ok
+returns-clause-ok c = λ past stands.
+    let test = is_new past (map row_of c.args.held.now) c.args.events.now (scope_of c.args.scope.now) in
+    let left = ap seen (c.deref.ensures.value
+    ∙ filter_same _ (λ o. test (occurrence_of o).event o.top) _ (λ x b f' k. search (rules, stands)) _ _ c.retain.ensures.filtered)
+    ∙ (map-filter occurrence_of (λ o. test o.event o.top) c.in_ok-all.all.items
+    ∙ ap (filter (λ o. test o.event o.top)) (c.in_ok-all.ensures.ok past stands)) in
+    subst (λ os. IfOk c.event_texts.result (λ all. written_in all.items ≡ map written os)) left c.event_texts.ensures.written

@@ -1,0 +1,19 @@
+-- Who gets an event, by the tables.
+use Rattle.std.specs.Prelude.{ℕ, List, filter, flat_map}
+use Rattle.bidi_browser.specs.Occurrences.{Occurrence}
+use Rattle.bidi_remote.specs.Machine.Sent.{Sent, Text, occurrence_text}
+use Rattle.bidi_remote.specs.State.ConnectionRows as connections
+use Rattle.bidi_remote.specs.State.ConnectionRows.{to_each}
+use Rattle.bidi_remote.specs.State.SubscriptionRows.{SessionRow, any_covers}
+
+-- a text for each connection of a session
+abbrev pub to_one : List connections.ConnectionRow → ℕ → List ℕ → List Sent
+to_one rows s text = to_each (λ c. Text c text) s rows
+
+-- the sessions of which a subscription covers it
+abbrev pub hearers_in : List SessionRow → Occurrence → List SessionRow
+hearers_in sessions o = filter (λ r. any_covers r.subscriptions o.event o.top) sessions
+
+-- its text for each connection of these
+abbrev pub to_all : List SessionRow → List connections.ConnectionRow → Occurrence → List Sent
+to_all sessions rows o = flat_map (λ r. to_one rows r.number (occurrence_text o)) (hearers_in sessions o)

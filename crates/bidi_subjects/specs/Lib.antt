@@ -1,6 +1,0 @@
-pub mod Method
-pub mod EventName
-pub mod Subject
-pub mod CommandData
-pub mod ResultData
-pub mod EventData

@@ -1,0 +1,13 @@
+use Rattle.std.proofs.Common.{◌≡◌, ◌-◌, ◌≤◌, length}
+use Rattle.bidi_tree.proofs.OutlineLemmas.{IsPast}
+use Rattle.bidi_tree.proofs.outline.put_outline.Given as goal
+
+abbrev pub invariant-loop-place : goal.invariant-loop-place
+invariant-loop-place l = record {
+  within : l.place ≤ length l.members.items;
+  same : l.members.items ≡ l.fn.members.items;
+  past : IsPast l.name l.place l.members.items;
+}
+
+abbrev pub decreases-loop-place : goal.decreases-loop-place
+decreases-loop-place l = length l.members.items - l.place

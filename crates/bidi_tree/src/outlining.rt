@@ -1,0 +1,62 @@
+//! The outline of a tree.
+ghost use Rattle.std.specs.Prelude.{◌≡◌, IfOk, OnOk};
+ghost use Rattle.bidi_tree.specs.Node.{IsSound, ItemsAreSound, MembersAreSound, AreAscending};
+ghost use Rattle.bidi_tree.specs.Outline.{outline_node, outline_items, outline_members};
+ghost use Rattle.bidi_tree.specs.View.{node, items_node, members_node};
+
+use crate::outline::{Outline, OutlineMembers};
+use crate::tree::{Members, Tree};
+use std::alloc::{AllocError, Global};
+
+/// Makes the outline of a tree. No text is copied.
+///
+/// # Errors
+/// No memory: an allocation failed.
+#[cycle(outline)]
+pub fn outline_of<'a>(alloc: Global, tree: &'a Tree) -> Result<Outline<'a>, AllocError>
+    ensures same { IfOk result (λ d. outline_node d ≡ node tree.now) }
+    ensures sound { OnOk result (IsSound (node tree.now)) }
+{
+    match tree {
+        Tree::Null => Ok(Outline::Null),
+        Tree::Bool(b) => Ok(Outline::Bool(*b)),
+        Tree::Int(whole) => Ok(Outline::Int(*whole)),
+        Tree::Odd => Ok(Outline::Odd),
+        Tree::Text(text) => Ok(Outline::Text(text.as_str())),
+        Tree::List(items) => Ok(Outline::List(outlines_of(alloc, items)?)),
+        Tree::Map(members) => Ok(Outline::Map(outline_members_of(alloc, members, 0)?)),
+    }
+}
+
+#[cycle(outline)]
+fn outlines_of<'a>(alloc: Global, items: &'a Vec<Tree>) -> Result<Vec<Outline<'a>>, AllocError>
+    ensures same { IfOk result (λ v. outline_items v.items ≡ items_node items.now.items) }
+    ensures sound { OnOk result (ItemsAreSound (items_node items.now.items)) }
+{
+    let mut outlines = Vec::with_capacity(alloc, items.len())?;
+    for item in items {
+        outlines.push(outline_of(alloc, item)?)?;
+    }
+    Ok(outlines)
+}
+
+/// Makes the outlines of a map's members, in byte order of their names, with room for so many more. No text is copied.
+///
+/// # Errors
+/// No memory: an allocation failed.
+#[cycle(outline)]
+pub fn outline_members_of<'a>(
+    alloc: Global,
+    members: &'a Members,
+    room: usize,
+) -> Result<OutlineMembers<'a>, AllocError>
+    ensures same { IfOk result (λ v. outline_members v.items ≡ members_node members.now.entries) }
+    ensures ascending { OnOk result (AreAscending (members_node members.now.entries)) }
+    ensures sound { OnOk result (MembersAreSound (members_node members.now.entries)) }
+{
+    let mut outlines = Vec::with_capacity(alloc, members.len().saturating_add(room))?;
+    for (name, member) in members.iter() {
+        outlines.push((name.as_str(), outline_of(alloc, member)?))?;
+    }
+    Ok(outlines)
+}

@@ -1,0 +1,134 @@
+//! Ids and their texts, and what a browser says and tells as it starts.
+use bidi_browser::{Browser, IdKind, Occurrence, id_text, is_id};
+use bidi_messages::{EventData, EventName, Payload, event_text};
+use std::alloc::{AllocError, Global};
+use std::test::Fail;
+use testing::rows::{Asked, check_rows};
+
+struct Browsers;
+
+impl Asked for Browsers {
+    fn found(alloc: Global, word: &str, text: &str) -> Result<String, Fail> {
+        match word {
+            "is-handle-1001" => Ok(is_id(text, IdKind::Handle, 0, 1001).to_string(alloc)?),
+            "live" => live(alloc, text),
+            "top" => top(alloc, text),
+            "events" => events(alloc),
+            _ => id(alloc, kind_of(word).ok_or("no such word")?, text),
+        }
+    }
+}
+
+// ---- ids
+
+/// Kinds, with the number of a session and a number; the id is known again.
+const IDS: &str = "
+Session 0 1 -> 00000000-0001-8000-8000-000000000001
+Context 0 1 -> 00000000-0002-8000-8000-000000000001
+Realm 0 1 -> 00000000-0003-8000-8000-000000000001
+Navigation 0 1 -> 00000000-0004-8000-8000-000000000001
+Subscription 1 1 -> 00000001-0005-8000-8000-000000000001
+Handle 0 1 -> 00000000-0006-8000-8000-000000000001
+Window 0 1 -> 00000000-0007-8000-8000-000000000001
+Handle 7 1 -> 00000000-0006-8000-8000-000000000001
+Context 3 2 -> 00000000-0002-8000-8000-000000000002
+Handle 0 1001 -> 00000000-0006-8000-8000-0000000003e9
+Subscription 4294967295 281474976710655 -> ffffffff-0005-8000-8000-ffffffffffff
+is-handle-1001 00000000-0006-8000-8000-0000000003e9 -> true
+is-handle-1001 00000000-0006-8000-8000-0000000003E9 -> false
+is-handle-1001 00000000-0006-8000-8000-0000000003ea -> false
+is-handle-1001 00000001-0006-8000-8000-0000000003e9 -> false
+is-handle-1001 00000000-0002-8000-8000-0000000003e9 -> false
+is-handle-1001  00000000-0006-8000-8000-0000000003e9 -> false
+is-handle-1001 000000000006800080000000000003e9 -> false
+is-handle-1001  -> false
+";
+
+#[test]
+fn each_kind_has_ids_of_its_own_and_an_id_is_its_exact_text(rt: HostRuntime) -> Result<(), Fail> {
+    check_rows::<Browsers>(rt.alloc(), IDS)
+}
+
+fn kind_of(word: &str) -> Option<IdKind> {
+    match word {
+        "Session" => Some(IdKind::Session),
+        "Context" => Some(IdKind::Context),
+        "Realm" => Some(IdKind::Realm),
+        "Navigation" => Some(IdKind::Navigation),
+        "Subscription" => Some(IdKind::Subscription),
+        "Handle" => Some(IdKind::Handle),
+        "Window" => Some(IdKind::Window),
+        _ => None,
+    }
+}
+
+fn id(alloc: Global, kind: IdKind, text: &str) -> Result<String, Fail> {
+    let (session, number) = text.split_once(' ').ok_or("no number")?;
+    let session = session.parse()?;
+    let number = number.parse::<u64>()?;
+    if number >= 1 << 48 {
+        return Err(Fail::from("a number of more than 48 bits"));
+    }
+    let id = id_text(alloc, kind, session, number)?;
+    if !is_id(id.as_str(), kind, session, number) {
+        return Err(Fail::from("the id is not known again"));
+    }
+    Ok(id)
+}
+
+// ---- a browser as it starts
+
+/// Which numbers of contexts are alive, the number of the top of an id, and the events that tell of all that stands, each
+/// behind the numbers of its context and of its top.
+const START: &str = r#"
+live 0 -> false
+live 1 -> true
+live 2 -> false
+top 00000000-0002-8000-8000-000000000001 -> Some(1)
+top 00000000-0002-8000-8000-000000000002 -> None
+top 00000000-0002-8000-8000-00000000000A -> None
+top 00000000-0003-8000-8000-000000000001 -> None
+top  -> None
+the context before its realm | events  -> [1 1 {"method":"browsingContext.contextCreated","params":{"children":null,"clientWindow":"00000000-0007-8000-8000-000000000001","context":"00000000-0002-8000-8000-000000000001","originalOpener":null,"parent":null,"url":"about:blank","userContext":"default"},"type":"event"}][1 1 {"method":"script.realmCreated","params":{"context":"00000000-0002-8000-8000-000000000001","origin":"null","realm":"00000000-0003-8000-8000-000000000001","type":"window"},"type":"event"}]
+"#;
+
+#[test]
+fn one_context_is_alive_and_told_with_its_realm(rt: HostRuntime) -> Result<(), Fail> {
+    check_rows::<Browsers>(rt.alloc(), START)
+}
+
+fn live(alloc: Global, text: &str) -> Result<String, Fail> {
+    let number = text.parse()?;
+    let is_live = Browser::new(alloc)?.is_live(number);
+    Ok(is_live.to_string(alloc)?)
+}
+
+fn top(alloc: Global, text: &str) -> Result<String, Fail> {
+    let top = Browser::new(alloc)?.top_of(text);
+    Ok(format!(in alloc; "{top:?}")?)
+}
+
+fn events(alloc: Global) -> Result<String, Fail> {
+    let mut told = String::new(alloc);
+    for occurrence in Browser::new(alloc)?.tree_events()? {
+        push_told(&mut told, parts_of(alloc, occurrence))?;
+    }
+    Ok(told)
+}
+
+/// The numbers of the context and of the top, and the text of the event.
+fn parts_of(alloc: Global, occurrence: Occurrence) -> (u64, u64, Result<String, AllocError>)
+    requires { ⟦<EventData as Payload<EventName>>⟧.payload.well occurrence.event }
+{
+    let text = event_text(alloc, &occurrence.event);
+    (occurrence.context, occurrence.top, text)
+}
+
+fn push_told(
+    told: &mut String,
+    (context, top, text): (u64, u64, Result<String, AllocError>),
+) -> Result<(), Fail> {
+    let text = text?;
+    write!(told, "[{context} {top} {text}]")?;
+    Ok(())
+}
