@@ -84,7 +84,7 @@ module _ {S K : Type 0} (remaining contents : S → Option (List ℕ)) (conn : �
     nothing : Began resource messages l h h
     opened : (k : List Input) → ExchangedSome messages l (Open conn resource ∷ h) k → Began resource messages l h k
 
-  -- a link is closed, where it still is open
+  -- a link is closed by a close frame with code 1000, where it still is open
   abbrev pub IsClosed : Link S K → Link S K → Type 0
   IsClosed l m = (r : Result (Unit {0}) LinkFault) × SendsClose contents l m r
 

@@ -17,7 +17,7 @@ use tungstenite::MaskKeys;
 ///
 /// It opens the connection, takes at most so many messages, pings and pongs counted, hands each to the remote
 /// end, and sends what that answers on this connection, in order. Then it drops the connection, if it is
-/// still open, and closes the link.
+/// still open, and closes the link, by a close frame with code 1000.
 ///
 /// It ends where the remote end denies or closes the connection, where the peer closes the link, where the
 /// link fails, or after so many messages. What the remote end sends on other connections is dropped.

@@ -1,5 +1,7 @@
 -- What a link over a WebSocket sends, one call at a time. A step is that of RFC 6455 which writes a text or a close frame.
-use Rattle.std.specs.Prelude.{◌≡◌, ℕ, Bool, true, false, List, [], Option, None, Result, Err, OnOk, IfErr}
+use Rattle.std.specs.Prelude.{◌≡◌, ℕ, Bool, true, false, List, [], Option, Some, Result, Err, OnOk, IfErr}
+use Rattle.websocket.specs.declared.protocol.frame.coding.CloseCode.{CloseCode}
+use Rattle.websocket.specs.declared.protocol.frame.coding.CloseCode.TheVariants.{Normal}
 use Rattle.websocket.specs.declared.error.Error.{Error}
 use Rattle.tungstenite.specs.declared.error.Error.{Error as SocketError}
 use Rattle.tungstenite.specs.Connection.{Effect, write_step, can_write}
@@ -10,6 +12,10 @@ use Rattle.bidi_socket.specs.declared.link.Link.{Link}
 use Rattle.bidi_socket.specs.declared.link.LinkFault.{LinkFault}
 use Rattle.bidi_socket.specs.declared.link.LinkFault.TheVariants as fault
 use Rattle.bidi_socket.specs.SocketTaking.{fault_of}
+
+-- a close frame of code 1000, a normal closure, with no reason: RFC 6455, 7.4.1
+abbrev pub normal_closure : Option (CloseCode × List ℕ)
+normal_closure = Some (Normal, [])
 
 -- the link is closed after it
 abbrev pub closes : LinkFault → Bool
@@ -51,6 +57,6 @@ module _ {S K : Type 0} where
   abbrev pub SendsText : (S → Option (List ℕ)) → List ℕ → Link S K → Link S K → Result (Unit {0}) LinkFault → Type 0
   SendsText contents s old new r = Steps contents true (write_step old.socket.conn (text s)) old new r
 
-  -- a close frame is sent, while the socket still sends
+  -- a close frame of a normal closure is sent, while the socket still sends
   abbrev pub SendsClose : (S → Option (List ℕ)) → Link S K → Link S K → Result (Unit {0}) LinkFault → Type 0
-  SendsClose contents old new r = Steps contents (can_write old.socket.conn.state) (write_step old.socket.conn (close None)) old new r
+  SendsClose contents old new r = Steps contents (can_write old.socket.conn.state) (write_step old.socket.conn (close normal_closure)) old new r

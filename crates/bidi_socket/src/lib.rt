@@ -7,7 +7,7 @@
 //! # Calls
 //! - [`Link::take`] waits for the next message of the peer, an [`Incoming`], and answers a ping or a close
 //!   frame.
-//! - [`Link::send`] sends a text in one frame, [`Link::close`] a close frame.
+//! - [`Link::send`] sends a text in one frame, [`Link::close`] a close frame with code 1000.
 //!
 //! # Faults
 //! A [`LinkFault`] says whether the link is closed by it. A closed link takes [`Incoming::Closed`], and sends

@@ -1,15 +1,19 @@
 //! One end of a WebSocket connection.
 ghost use Rattle.std.specs.Prelude.{◌≡◌, ◌⊎◌, false, IfOk, IfErr, OnOk, IsOk, Ok, Err, None};
 ghost use Rattle.tungstenite.specs.Config.{HasLimitsOf};
-ghost use Rattle.tungstenite.specs.Socket.{Flushed, IsFresh};
+ghost use Rattle.tungstenite.specs.Content.{close};
+ghost use Rattle.tungstenite.specs.Socket.{Flushed, IsFresh, content_of};
 ghost use Rattle.websocket.specs.declared.protocol.config.Role.TheVariants as role;
 ghost use Rattle.bidi_socket.specs.SocketTaking.{IsTaken, Settles, seen, told, told_fault, fault_of, is_last, IsFaultOfTaking};
-ghost use Rattle.bidi_socket.specs.SocketSending.{SendsText, SendsClose, IsFaultOf, closes};
+ghost use Rattle.bidi_socket.specs.SocketSending.{SendsText, SendsClose, IsFaultOf, closes, normal_closure};
 
 use std::alloc::{AllocError, Global};
 use std::io::{Read, Write};
 use thiserror::Error;
-use tungstenite::{Error as SocketError, MaskKeys, Message, NoMask, Role, WebSocket};
+use tungstenite::{
+    CloseCode, CloseFrame, Error as SocketError, MaskKeys, Message, NoMask, Role, Utf8Bytes,
+    WebSocket,
+};
 
 /// What [`Link::take`] gives: a message of the peer, or the end of the connection.
 #[derive(Drop)]
@@ -196,8 +200,9 @@ impl<S: Read + Write + Drop, K: MaskKeys + Drop> Link<S, K> {
         self.sent(answer)
     }
 
-    /// Sends a close frame, or nothing where one was sent before. On success no byte waits to be sent any
-    /// more. What the peer sends before its own close frame can still be taken.
+    /// Sends a close frame with code 1000, a normal closure, and no reason (RFC 6455, 7.4.1), or nothing
+    /// where one was sent before. On success no byte waits to be sent any more. What the peer sends before
+    /// its own close frame can still be taken.
     ///
     /// # Errors
     /// Those of [`Link::send`].
@@ -210,7 +215,7 @@ impl<S: Read + Write + Drop, K: MaskKeys + Drop> Link<S, K> {
         if !self.socket.can_write() {
             return Ok(());
         }
-        let answer = self.socket.send(Message::Close(None));
+        let answer = self.socket.send(normal_closure());
         self.sent(answer)
     }
 
@@ -228,6 +233,16 @@ impl<S: Read + Write + Drop, K: MaskKeys + Drop> Link<S, K> {
             }
         }
     }
+}
+
+// The close frame of a normal closure, with no reason. Takes no memory.
+fn normal_closure() -> Message
+    ensures { content_of result ≡ close normal_closure }
+{
+    Message::Close(Some(CloseFrame {
+        code: CloseCode::Normal,
+        reason: Utf8Bytes::new(),
+    }))
 }
 
 // The fault for an error of the socket.

@@ -48,7 +48,7 @@ const FRAMES: &str = "
 server,over,by-1 01 81 00 00 00 00 7b 80 81 00 00 00 00 7d / take -> {} /
 server,over,by-1 01 81 00 00 00 00 7b 89 82 00 00 00 00 68 69 80 81 00 00 00 00 7d / take take -> Control {} / 8a 02 68 69
 server,over,by-1 89 82 00 00 00 00 68 69 / take send -> Control Ok / 8a 02 68 69 81 02 7b 7d
-server,over,by-1 89 82 00 00 00 00 68 69 / take close -> Control Ok / 8a 02 68 69 88 00
+server,over,by-1 89 82 00 00 00 00 68 69 / take close -> Control Ok / 8a 02 68 69 88 02 03 e8
 client 89 02 68 69 / take send -> Control Ok / 8a 82 12 34 56 78 7a 5d 81 82 12 34 56 78 69 49
 server,over,by-1 8a 82 00 00 00 00 68 69 81 82 00 00 00 00 7b 7d / take take -> Control {} /
 ";
@@ -111,9 +111,9 @@ fn a_bad_frame_closes_the_link(rt: HostRuntime) -> Result<(), Fail> {
 // ---- closes
 
 const CLOSES: &str = "
-server / close close send take send close -> Ok Ok Err(Protocol) Closed Err(Closed) Err(Closed) / 88 00
-client / close close -> Ok Ok / 88 80 12 34 56 78
-server,by-1 81 82 00 00 00 00 7b 7d 88 80 00 00 00 00 / close take take take send -> Ok {} Closed Closed Err(Closed) / 88 00
+server / close close send take send close -> Ok Ok Err(Protocol) Closed Err(Closed) Err(Closed) / 88 02 03 e8
+client / close close -> Ok Ok / 88 82 12 34 56 78 11 dc
+server,by-1 81 82 00 00 00 00 7b 7d 88 80 00 00 00 00 / close take take take send -> Ok {} Closed Closed Err(Closed) / 88 02 03 e8
 ";
 
 #[test]
@@ -125,8 +125,8 @@ const CLOSES_OF_THE_PEER: &str = "
 server,by-1 88 82 00 00 00 00 03 e8 / take take send close -> Closed Closed Err(Closed) Err(Closed) / 88 02 03 e8
 server,by-1 88 80 00 00 00 00 / take take send close -> Closed Closed Err(Closed) Err(Closed) / 88 00
 client 88 02 03 e8 / take take send close -> Closed Closed Err(Closed) Err(Closed) / 88 82 12 34 56 78 11 dc
-to-server / send close -> {} Closed / 88 00
-to-client / send close -> {} Closed / 88 80 12 34 56 78
+to-server / send close -> {} Closed / 88 02 03 e8
+to-client / send close -> {} Closed / 88 82 12 34 56 78 11 dc
 ";
 
 #[test]
@@ -153,7 +153,7 @@ fn a_code_that_may_not_be_sent_is_answered_by_another(rt: HostRuntime) -> Result
 /// Calls that find no memory, each again with memory, and then where the first finds enough.
 const NO_MEMORY: &str = "
 send -> Err(NoMemory) Ok / 81 02 7b 7d, Ok Ok / 81 02 7b 7d 81 02 7b 7d
-close -> Err(NoMemory) Ok / 88 00, Ok Ok / 88 00
+close -> Err(NoMemory) Ok / 88 02 03 e8, Ok Ok / 88 02 03 e8
 take -> Err(NoMemory) Closed /
 ";
 

@@ -105,8 +105,8 @@ fn each_link_is_served_and_fails_alone(rt: HostRuntime) -> Result<(), Fail> {
         let (first, second) = talks(&rt, &bytes_of(rt.alloc(), frames)?)?;
         let is_first = is_read(rt.alloc(), &first, wanted)?;
         assert!(rt; is_first, "{name}: {}", first.escape_ascii());
-        // the last of its messages, so that the server closes the link
-        let is_second = is_read(rt.alloc(), &second, "READY 88 00")?;
+        // the last of its messages, so that the server closes the link, by code 1000
+        let is_second = is_read(rt.alloc(), &second, "READY 88 02 03 e8")?;
         assert!(rt; is_second, "behind {name}: {}", second.escape_ascii());
     }
     Ok(())
