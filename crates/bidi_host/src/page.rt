@@ -1,0 +1,38 @@
+//! The lines of a page.
+ghost use Rattle.std.specs.Prelude.{◌≡◌, false, IsTrue};
+ghost use Rattle.bidi_lines.specs.Feeds.{has_feed};
+ghost use Rattle.bidi_lines.specs.InputLines.{IsLine};
+ghost use Rattle.bidi_remote.specs.State.View.{step_of};
+ghost use Rattle.bidi_host.specs.PageSteps.{is_of_page};
+
+use bidi_lines::LONGEST_LINE;
+use bidi_remote::Step;
+
+// Whether a step is that of a page.
+pub(crate) fn is_of_page(step: &Step) -> bool
+    ensures { result ≡ is_of_page (step_of step.now) }
+{
+    match step {
+        Step::At(_) | Step::Frame(..) | Step::Unframe(_) | Step::Log(..) | Step::TableRow(_) =>
+            true,
+        Step::Open(..) | Step::Drop(_) | Step::Text(..) | Step::NotText(_) => false,
+    }
+}
+
+// Whether a text is one line that is not too long.
+pub(crate) fn is_line(text: &str) -> bool
+    ensures yes { IsTrue result → IsLine text.now }
+    ensures no { result ≡ false → IsLine text.now → ⊥ }
+{
+    if text.len() > LONGEST_LINE {
+        return false;
+    }
+    !has_feed(text)
+}
+
+// Whether a line feed stands in a text.
+fn has_feed(text: &str) -> bool
+    ensures { result ≡ has_feed text.now }
+{
+    text.as_bytes().iter().any(|b| *b == b'\n')
+}

@@ -1,0 +1,166 @@
+//! What is left out of `session.new`.
+ghost use Rattle.std.specs.Prelude.{◌≡◌, ◌++◌, IfOk, OnOk, codes, map, string_bytes};
+ghost use Rattle.bidi_tree.specs.View.{node, items_node, members_node};
+ghost use Rattle.bidi_lenient.specs.Names.{is_capability, request_told, items_told, capabilities_told, new_told};
+ghost use Rattle.bidi_lenient.specs.Eased.{within, members_kept, request_eased, requests_eased, capabilities_eased, new_eased};
+
+use crate::members::{is_among, within};
+use bidi_tree::{Members, Tree};
+use std::alloc::{AllocError, Global};
+
+/// The capabilities that are left out, whatever their value.
+const LEFT_OUT: &[&str] = &[
+    "acceptInsecureCerts",
+    "browserName",
+    "browserVersion",
+    "pageLoadStrategy",
+    "platformName",
+    "proxy",
+    "setWindowRect",
+    "timeouts",
+    "unhandledPromptBehavior",
+    "webSocketUrl",
+];
+
+// Whether the capability of this name is left out.
+#[tactic(auto, unfolding(crate::specs::Names::capabilities))]
+fn is_left_out(name: &str) -> bool
+    ensures { result ≡ is_capability name.now }
+{
+    is_among(LEFT_OUT, name)
+}
+
+// Adds the names of what is left out of a `session.new`: those of `alwaysMatch`, then those of each item of `firstMatch`.
+pub(crate) fn tell_new(
+    alloc: Global,
+    command: &Tree,
+    told: &mut Vec<String>,
+) -> Result<(), AllocError>
+    ensures { OnOk result (map string_bytes told.new.items ≡ map string_bytes told.old.items ++ new_told (node command.now)) }
+{
+    let Some(params) = command.get("params") else {
+        return Ok(());
+    };
+    let Some(capabilities) = params.get("capabilities") else {
+        return Ok(());
+    };
+    tell_capabilities(alloc, capabilities, told)
+}
+
+// The same of its capabilities.
+fn tell_capabilities(
+    alloc: Global,
+    capabilities: &Tree,
+    told: &mut Vec<String>,
+) -> Result<(), AllocError>
+    ensures { OnOk result (map string_bytes told.new.items ≡ map string_bytes told.old.items ++ capabilities_told (node capabilities.now)) }
+{
+    if let Some(always) = capabilities.get("alwaysMatch") {
+        tell_request(alloc, always, told)?;
+    }
+    match capabilities.get("firstMatch") {
+        Some(Tree::List(requests)) => tell_requests(alloc, requests, told),
+        _ => Ok(()),
+    }
+}
+
+// The same of some requests.
+fn tell_requests(
+    alloc: Global,
+    requests: &Vec<Tree>,
+    told: &mut Vec<String>,
+) -> Result<(), AllocError>
+    ensures { OnOk result (map string_bytes told.new.items ≡ map string_bytes told.old.items ++ items_told (items_node requests.now.items)) }
+{
+    for request in requests {
+        tell_request(alloc, request, told)?;
+    }
+    Ok(())
+}
+
+// The same of one request.
+fn tell_request(alloc: Global, request: &Tree, told: &mut Vec<String>) -> Result<(), AllocError>
+    ensures { OnOk result (map string_bytes told.new.items ≡ map string_bytes told.old.items ++ request_told (node request.now)) }
+{
+    let Tree::Map(members) = request else {
+        return Ok(());
+    };
+    for (name, _) in members.iter() {
+        if is_left_out(name.as_str()) {
+            told.push(format!(in alloc; "capability {name}")?)?;
+        }
+    }
+    Ok(())
+}
+
+// A `session.new` without what is left out.
+pub(crate) fn ease_new(alloc: Global, command: &Tree) -> Result<Tree, AllocError>
+    ensures { IfOk result (λ t. node t ≡ new_eased (node command.now)) }
+{
+    within(
+        alloc,
+        command,
+        "params",
+        |params| ease_params(alloc, params),
+    )
+}
+
+// Its params without it.
+fn ease_params(alloc: Global, params: &Tree) -> Result<Tree, AllocError>
+    ensures { IfOk result (λ t. node t ≡ within (codes "capabilities") capabilities_eased (node params.now)) }
+{
+    within(
+        alloc,
+        params,
+        "capabilities",
+        |capabilities| ease_capabilities(alloc, capabilities),
+    )
+}
+
+// Its capabilities without it.
+fn ease_capabilities(alloc: Global, capabilities: &Tree) -> Result<Tree, AllocError>
+    ensures { IfOk result (λ t. node t ≡ capabilities_eased (node capabilities.now)) }
+{
+    let eased = within(alloc, capabilities, "alwaysMatch", ease_request)?;
+    within(
+        alloc,
+        &eased,
+        "firstMatch",
+        |requests| ease_requests(alloc, requests),
+    )
+}
+
+// Some requests without it.
+fn ease_requests(alloc: Global, requests: &Tree) -> Result<Tree, AllocError>
+    ensures { IfOk result (λ t. node t ≡ requests_eased (node requests.now)) }
+{
+    let Tree::List(items) = requests else {
+        return requests.clone();
+    };
+    let mut eased = Vec::with_capacity(alloc, items.len())?;
+    for request in items {
+        eased.push(ease_request(request)?)?;
+    }
+    Ok(Tree::List(eased))
+}
+
+// One request without it.
+fn ease_request(request: &Tree) -> Result<Tree, AllocError>
+    ensures { IfOk result (λ t. node t ≡ request_eased (node request.now)) }
+{
+    match request.clone()? {
+        Tree::Map(members) => {
+            let mut members = members;
+            keep_members(&mut members);
+            Ok(Tree::Map(members))
+        }
+        other => Ok(other),
+    }
+}
+
+// Takes out what is left out.
+fn keep_members(members: &mut Members)
+    ensures { members_node members.new.entries ≡ members_kept (members_node members.old.entries) }
+{
+    members.retain(|name, _| !is_left_out(name.as_str()));
+}

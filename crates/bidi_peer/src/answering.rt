@@ -1,0 +1,79 @@
+//! The answers of a server to a request that it does not open.
+
+use std::alloc::{AllocError, Global};
+
+/// How a connection is refused at its handshake.
+#[derive(Clone, Copy, Debug, PartialEq, Eq)]
+pub enum Refusal {
+    /// There is no such resource: 404.
+    NotFound,
+    /// No more connections are taken now: 503.
+    Full,
+}
+
+/// An answer after which the connection ends.
+#[derive(Clone, Copy, Debug, PartialEq, Eq)]
+pub enum Answer {
+    /// The server is up.
+    Ready,
+    /// What came is no request, or its head is too long.
+    NotHttp,
+    /// Another method than GET.
+    NotGet,
+    /// A key that is missing, or is not 16 bytes in base64.
+    BadKey,
+    /// A page of another host asks.
+    Foreign,
+    /// The request asks for no WebSocket of version 13.
+    NoUpgrade,
+    /// The caller refuses.
+    Refused(Refusal),
+}
+
+impl Answer {
+    // The status with its reason.
+    fn status(self) -> &'static str {
+        match self {
+            Answer::Ready => "200 OK",
+            Answer::NotHttp | Answer::NotGet | Answer::BadKey => "400 Bad Request",
+            Answer::Foreign => "403 Forbidden",
+            Answer::NoUpgrade => "426 Upgrade Required",
+            Answer::Refused(Refusal::NotFound) => "404 Not Found",
+            Answer::Refused(Refusal::Full) => "503 Service Unavailable",
+        }
+    }
+
+    // The header lines that this answer alone has.
+    fn own_lines(self) -> &'static str {
+        match self {
+            Answer::NoUpgrade => "Upgrade: websocket\r\nSec-WebSocket-Version: 13\r\n",
+            _ => "",
+        }
+    }
+
+    // The line of text, without its end.
+    fn line(self) -> &'static str {
+        match self {
+            Answer::Ready => "ready",
+            Answer::NotHttp =>
+                "bad request: not an HTTP/1.1 request with a head of at most 65536 bytes",
+            Answer::NotGet => "bad request: the method must be GET",
+            Answer::BadKey => "bad request: Sec-WebSocket-Key must be 16 bytes in base64",
+            Answer::Foreign =>
+                "forbidden: an Origin must be http(s)://127.0.0.1 or http(s)://localhost, with any port",
+            Answer::NoUpgrade => "upgrade required: connect by WebSocket, version 13",
+            Answer::Refused(Refusal::NotFound) =>
+                "no such resource: connect to /session, /session/ID or /page",
+            Answer::Refused(Refusal::Full) => "too many connections: try again later",
+        }
+    }
+
+    /// The whole answer, head and body.
+    pub fn text(self, alloc: Global) -> Result<String, AllocError> {
+        let (status, own_lines, line) = (self.status(), self.own_lines(), self.line());
+        let length = line.len() + 1;
+        format!(in alloc;
+            "HTTP/1.1 {status}\r\n{own_lines}Connection: close\r\nContent-Type: text/plain; charset=utf-8\r\nContent-Length: {length}\r\n\r\n{line}\n"
+        )
+    }
+}

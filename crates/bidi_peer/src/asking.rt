@@ -1,0 +1,201 @@
+//! What the head of a request asks for.
+ghost use Rattle.std.specs.Prelude.{◌≤◌, length, All};
+ghost use Rattle.httparse.specs.Spans.{IsHeaderWithin, IsRequestWithin};
+
+use super::answering::Answer;
+use httparse::Status;
+use httparse::spans::{EMPTY_HEADER_SPAN, HeaderSpan, RequestSpans, parse_request};
+use std::alloc::{AllocError, Global};
+use std::str;
+use websocket::handshake::server::accept_key;
+
+/// The longest head, in bytes.
+const LONGEST_HEAD: usize = 64 * 1024;
+
+/// The most header lines of a head.
+const MOST_HEADERS: usize = 124;
+
+/// What the bytes at the front of a stream are.
+#[derive(Drop)]
+pub enum Asked {
+    /// The beginning of a head.
+    Part,
+    /// A request for a WebSocket, whose head has so many bytes.
+    Socket {
+        target: String,
+        accept: [u8; 28],
+        length: usize,
+    },
+    /// Anything else, with its answer.
+    Other(Answer),
+}
+
+/// Whether the bytes at the front of a stream are to be judged, where the first `known` were judged before: at their first,
+/// at the end of a line, and where they are too long. So a head that comes in single bytes costs little more than one that
+/// comes whole.
+pub fn is_to_judge(bytes: &[u8], known: usize) -> bool {
+    known == 0 || bytes.len() > LONGEST_HEAD || bytes.iter().skip(known).any(|byte| *byte == b'\n')
+}
+
+/// Judges the bytes at the front of a stream.
+pub fn judge(alloc: Global, bytes: &[u8]) -> Result<Asked, AllocError> {
+    let mut spans = [EMPTY_HEADER_SPAN; MOST_HEADERS];
+    match parse_request(bytes, &mut spans) {
+        Ok(Status::Partial) if bytes.len() <= LONGEST_HEAD => Ok(Asked::Part),
+        Ok(Status::Complete(request)) if request.len <= LONGEST_HEAD => {
+            judge_request(alloc, bytes, &request, &spans)
+        }
+        _ => Ok(Asked::Other(Answer::NotHttp)),
+    }
+}
+
+// Judges a request whose parts were found.
+fn judge_request(
+    alloc: Global,
+    bytes: &[u8],
+    request: &RequestSpans,
+    spans: &[HeaderSpan],
+) -> Result<Asked, AllocError>
+    requires { IsRequestWithin bytes.now spans.now request.now }
+{
+    let target = request.path.of(bytes);
+    match checked(bytes, request, spans) {
+        Err(answer) => Ok(Asked::Other(answer)),
+        Ok(accept) => match str::from_utf8(target) {
+            Ok(target) => Ok(Asked::Socket {
+                target: String::from_str(alloc, target)?,
+                accept,
+                length: request.len,
+            }),
+            Err(_) => Ok(Asked::Other(Answer::NotHttp)),
+        },
+    }
+}
+
+// The key that accepts a request, or the answer to one that asks for no WebSocket.
+fn checked(bytes: &[u8], request: &RequestSpans, spans: &[HeaderSpan]) -> Result<[u8; 28], Answer>
+    requires { IsRequestWithin bytes.now spans.now request.now }
+{
+    let headers = &spans[..request.headers];
+    if !is_local(bytes, headers) {
+        return Err(Answer::Foreign);
+    }
+    if request.method.of(bytes) != b"GET".as_slice() {
+        return Err(Answer::NotGet);
+    }
+    if request.version == 0 || !asks_upgrade(bytes, headers) {
+        return Err(plain_answer(request.path.of(bytes)));
+    }
+    if !has_value(bytes, headers, b"Sec-WebSocket-Version", b"13") {
+        return Err(Answer::NoUpgrade);
+    }
+    accepted(bytes, headers)
+}
+
+// The answer to a GET without an upgrade.
+fn plain_answer(target: &[u8]) -> Answer {
+    if target == b"/status".as_slice() {
+        Answer::Ready
+    } else {
+        Answer::NoUpgrade
+    }
+}
+
+// The key that accepts the key of a request.
+fn accepted(bytes: &[u8], headers: &[HeaderSpan]) -> Result<[u8; 28], Answer>
+    requires { All (IsHeaderWithin (length bytes.now)) headers.now }
+{
+    match value_of(bytes, headers, b"Sec-WebSocket-Key") {
+        Some(key) => accept_key(key).map_err(|_| Answer::BadKey),
+        None => Err(Answer::BadKey),
+    }
+}
+
+// Whether a request names no origin but this machine.
+fn is_local(bytes: &[u8], headers: &[HeaderSpan]) -> bool
+    requires { All (IsHeaderWithin (length bytes.now)) headers.now }
+{
+    for header in headers {
+        let is_origin = header.name.of(bytes).eq_ignore_ascii_case(b"Origin");
+        if is_origin && !is_local_origin(header.value.of(bytes)) {
+            return false;
+        }
+    }
+    true
+}
+
+// Whether an origin is this machine, by http or https and at any port.
+fn is_local_origin(origin: &[u8]) -> bool {
+    let secure = origin.strip_prefix(b"https://");
+    let plain = origin.strip_prefix(b"http://");
+    match secure.or(plain) {
+        Some(host) => {
+            is_host_at_any_port(host, b"127.0.0.1") || is_host_at_any_port(host, b"localhost")
+        }
+        None => false,
+    }
+}
+
+// Whether a text is this host, alone or with a port.
+fn is_host_at_any_port(text: &[u8], host: &[u8]) -> bool {
+    match text.strip_prefix(host) {
+        Some([]) => true,
+        Some([b':', port @ ..]) => !port.is_empty() && port.iter().all(|b| b.is_ascii_digit()),
+        _ => false,
+    }
+}
+
+// Whether a request asks for an upgrade to a WebSocket.
+fn asks_upgrade(bytes: &[u8], headers: &[HeaderSpan]) -> bool
+    requires { All (IsHeaderWithin (length bytes.now)) headers.now }
+{
+    has_token(bytes, headers, b"Connection", b"upgrade")
+        && has_token(bytes, headers, b"Upgrade", b"websocket")
+}
+
+// Whether a header line of this name lists this word, in any case.
+fn has_token(bytes: &[u8], headers: &[HeaderSpan], name: &[u8], word: &[u8]) -> bool
+    requires { All (IsHeaderWithin (length bytes.now)) headers.now }
+{
+    for header in headers {
+        let is_named = header.name.of(bytes).eq_ignore_ascii_case(name);
+        if is_named && lists(header.value.of(bytes), word) {
+            return true;
+        }
+    }
+    false
+}
+
+// Whether one of the pieces between commas is this word, in any case.
+fn lists(value: &[u8], word: &[u8]) -> bool {
+    value
+        .split(|byte| *byte == b',')
+        .any(|piece| is_word(piece, word))
+}
+
+// Whether a piece is this word, in any case and with white space around it.
+fn is_word(piece: &[u8], word: &[u8]) -> bool {
+    piece.trim_ascii().eq_ignore_ascii_case(word)
+}
+
+// Whether the first header of this name has this value.
+fn has_value(bytes: &[u8], headers: &[HeaderSpan], name: &[u8], value: &[u8]) -> bool
+    requires { All (IsHeaderWithin (length bytes.now)) headers.now }
+{
+    match value_of(bytes, headers, name) {
+        Some(found) => found == value,
+        None => false,
+    }
+}
+
+// The value of the first header of this name.
+fn value_of<'b>(bytes: &'b [u8], headers: &[HeaderSpan], name: &[u8]) -> Option<&'b [u8]>
+    requires { All (IsHeaderWithin (length bytes.now)) headers.now }
+{
+    for header in headers {
+        if header.name.of(bytes).eq_ignore_ascii_case(name) {
+            return Some(header.value.of(bytes));
+        }
+    }
+    None
+}

@@ -1,0 +1,22 @@
+//! One connection of a server, over a stream that never waits: its handshake, its messages, its end.
+//!
+//! A [`Peer`] stands over a stream whose reads and writes answer `WouldBlock` where nothing can be done now, so
+//! one thread can serve many of them. It knows nothing of what its texts say, and of no other connection.
+//!
+//! # Calls
+//! - [`Peer::take`] tells what came in, one [`Came`] at a time. Call it until it gives [`Came::Nothing`]; then the
+//!   stream has no more for now.
+//! - [`Peer::open`] or [`Peer::refuse`] answers a handshake, after [`Came::Asks`].
+//! - [`Peer::send`] sends a text, [`Peer::close`] ends the connection, [`Peer::flush`] writes what the stream did not
+//!   take before.
+//! - [`Peer::is_open`], [`Peer::waits_to_write`] and [`Peer::is_over`] tell where it stands.
+#![tactic(auto)]
+
+mod answering;
+mod asking;
+mod inbox;
+mod outbox;
+mod peer;
+
+pub use answering::Refusal;
+pub use peer::{Came, Ending, MOST_WAITING, Peer};

@@ -1,0 +1,155 @@
+//! The answers to requests that are not opened.
+use super::rows::{Asked, check_rows};
+use super::wires::{Script, Wire, number_of};
+use bidi_peer::{Came, Peer, Refusal};
+use std::alloc::Global;
+use std::cell::RefCell;
+use std::test::Fail;
+
+/// The lines of a head, with `;` between; found is the status of the answer with the first words of its line of text. A
+/// request that asks for a connection is refused as its word says.
+struct Answers;
+
+impl Asked for Answers {
+    fn found(alloc: Global, word: &str, lines: &str) -> Result<String, Fail> {
+        let long = "x".repeat(alloc, number_of(word, "long")?.unwrap_or(0))?;
+        let lines = lines.replace(alloc, "LONG", long.as_str())?;
+        let head = head_of(alloc, lines.as_str())?;
+        let written = answered(alloc, word, head)?;
+        told(alloc, str::from_utf8(&written)?)
+    }
+}
+
+/// What a head has for an upgrade, but its version and its key.
+const UPGRADE: &str = "Upgrade: websocket;Connection: keep-alive, Upgrade";
+
+/// The version and the key of an upgrade.
+const KEY: &str = "Sec-WebSocket-Version: 13;Sec-WebSocket-Key: dGhlIHNhbXBsZSBub25jZQ==";
+
+const STATUS: &str = "
+whole,ones GET /status HTTP/1.1;Host: 127.0.0.1 -> 200 OK, ready
+whole GET /status HTTP/1.0 -> 200 OK, ready
+as long as may be | whole+long65507 GET /status HTTP/1.1;A: LONG -> 200 OK, ready
+one byte longer | whole+long65508 GET /status HTTP/1.1;A: LONG -> 400 Bad Request, bad request
+another method | whole HEAD /status HTTP/1.1 -> 400 Bad Request, bad request
+another method | whole POST /status HTTP/1.1;Content-Length: 0 -> 400 Bad Request, bad request
+with an upgrade | missing GET /status HTTP/1.1;UPGRADE;KEY -> 404 Not Found, no such resource
+";
+
+#[test]
+fn a_status_is_ready(rt: HostRuntime) -> Result<(), Fail> {
+    check_rows::<Answers>(rt.alloc(), STATUS)
+}
+
+const ORIGINS: &str = "
+whole GET /status HTTP/1.1;Origin: http://127.0.0.1 -> 200 OK, ready
+whole GET /status HTTP/1.1;origin: https://localhost:3000 -> 200 OK, ready
+whole GET /status HTTP/1.1;Origin: https://a.test -> 403 Forbidden, forbidden
+whole GET /status HTTP/1.1;Origin: null -> 403 Forbidden, forbidden
+whole GET /status HTTP/1.1;Origin: -> 403 Forbidden, forbidden
+whole GET /status HTTP/1.1;Origin: http://localhost: -> 403 Forbidden, forbidden
+whole GET /status HTTP/1.1;Origin: http://localhost:80a -> 403 Forbidden, forbidden
+whole GET /status HTTP/1.1;Origin: http://localhost.a.test -> 403 Forbidden, forbidden
+whole GET /status HTTP/1.1;Origin: ftp://localhost -> 403 Forbidden, forbidden
+whole GET /status HTTP/1.1;Origin: http://localhost;Origin: http://a.test -> 403 Forbidden, forbidden
+full GET /session HTTP/1.1;Origin: http://localhost:80;UPGRADE;KEY -> 503 Service Unavailable, too many connections
+full GET /session HTTP/1.1;Origin: http://a.test;UPGRADE;KEY -> 403 Forbidden, forbidden
+";
+
+#[test]
+fn a_page_of_another_host_is_forbidden(rt: HostRuntime) -> Result<(), Fail> {
+    check_rows::<Answers>(rt.alloc(), ORIGINS)
+}
+
+const UPGRADES: &str = "
+missing GET /x HTTP/1.1;UPGRADE;KEY -> 404 Not Found, no such resource
+full GET /session HTTP/1.1;UPGRADE;KEY -> 503 Service Unavailable, too many connections
+in other letters | full GET /session HTTP/1.1;upgrade: h2c, WebSocket;connection: keep-alive;connection: upgrade;KEY -> 503 Service Unavailable, too many connections
+none | whole,ones GET /session HTTP/1.1;Host: x -> 426 Upgrade Required, upgrade required
+to something else | whole GET /session HTTP/1.1;Upgrade: h2c;Connection: Upgrade;KEY -> 426 Upgrade Required, upgrade required
+no connection | whole GET /session HTTP/1.1;Upgrade: websocket;KEY -> 426 Upgrade Required, upgrade required
+no upgrade | whole GET /session HTTP/1.1;Connection: Upgrade;KEY -> 426 Upgrade Required, upgrade required
+an old HTTP | whole GET /session HTTP/1.0;UPGRADE;KEY -> 426 Upgrade Required, upgrade required
+another version | whole GET /session HTTP/1.1;UPGRADE;Sec-WebSocket-Version: 8;KEY -> 426 Upgrade Required, upgrade required
+no version | whole GET /session HTTP/1.1;UPGRADE;Sec-WebSocket-Key: dGhlIHNhbXBsZSBub25jZQ== -> 426 Upgrade Required, upgrade required
+no key | whole GET /session HTTP/1.1;UPGRADE;Sec-WebSocket-Version: 13 -> 400 Bad Request, bad request
+a key that is too short | whole GET /session HTTP/1.1;UPGRADE;Sec-WebSocket-Version: 13;Sec-WebSocket-Key: dGhlIHNhbXBsZSBub25j -> 400 Bad Request, bad request
+another method | whole POST /session HTTP/1.1;UPGRADE;KEY -> 400 Bad Request, bad request
+no request | whole hello -> 400 Bad Request, bad request
+TLS | whole \x16\x03\x01 -> 400 Bad Request, bad request
+";
+
+#[test]
+fn an_upgrade_that_is_refused_is_told_why(rt: HostRuntime) -> Result<(), Fail> {
+    check_rows::<Answers>(rt.alloc(), UPGRADES)
+}
+
+/// The head of these lines.
+fn head_of(alloc: Global, lines: &str) -> Result<String, Fail> {
+    let lines = lines.replace(alloc, "UPGRADE", UPGRADE)?;
+    let lines = lines.replace(alloc, "KEY", KEY)?;
+    let lines = lines.replace(alloc, ";", "\r\n")?;
+    Ok(format!(in alloc; "{lines}\r\n\r\n")?)
+}
+
+/// What is written to a client that asks by this head.
+fn answered(alloc: Global, word: &str, head: String) -> Result<Vec<u8>, Fail> {
+    let mut pieces = Vec::new(alloc);
+    pieces.push(head.into_bytes())?;
+    let script = Script::new(alloc, word, pieces)?;
+    let written = RefCell::new(Vec::new(alloc));
+    let wire = Wire::new(alloc, word, &script, &written)?;
+    let is_over = answer(Peer::new(alloc, wire), word)?;
+    if is_over {
+        Ok(written.into_inner())
+    } else {
+        Err(Fail::from("it is not over"))
+    }
+}
+
+/// Takes until the connection is over, and refuses it where it asks. Tells whether it is over.
+fn answer(mut peer: Peer<Wire<'_>>, word: &str) -> Result<bool, Fail> {
+    let refusal = if word == "full" {
+        Refusal::Full
+    } else {
+        Refusal::NotFound
+    };
+    for _ in 0..10_000u32 {
+        if is_told(peer.take()?) {
+            peer.refuse(refusal)?;
+            break;
+        }
+    }
+    Ok(peer.is_over())
+}
+
+/// Whether something came.
+fn is_told(came: Came) -> bool {
+    !matches!(&came, Came::Nothing)
+}
+
+/// The status of an answer, and the first words of its text.
+fn told(alloc: Global, answer: &str) -> Result<String, Fail> {
+    let (head, body) = answer.split_once("\r\n\r\n").ok_or("no head")?;
+    let (status, fields) = head.split_once("\r\n").ok_or("no fields")?;
+    let length = format!(in alloc; "Content-Length: {}", body.len())?;
+    has_field(fields, length.as_str())?;
+    has_field(fields, "Connection: close")?;
+    has_field(fields, "Content-Type: text/plain; charset=utf-8")?;
+    if status.contains("426") {
+        has_field(fields, "Upgrade: websocket")?;
+        has_field(fields, "Sec-WebSocket-Version: 13")?;
+    }
+    let status = status.strip_prefix("HTTP/1.1 ").ok_or("no HTTP")?;
+    let line = body.strip_suffix("\n").ok_or("no line")?;
+    let (words, _) = line.split_once(':').unwrap_or((line, ""));
+    Ok(format!(in alloc; "{status}, {words}")?)
+}
+
+fn has_field(fields: &str, field: &str) -> Result<(), Fail> {
+    if fields.split("\r\n").any(|line| line == field) {
+        Ok(())
+    } else {
+        Err(Fail::new(format_args!("no {field}")))
+    }
+}

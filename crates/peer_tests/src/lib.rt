@@ -1,0 +1,11 @@
+//! The tests of connections over streams that never wait.
+#![tactic(auto)]
+
+#[cfg(test)]
+mod answers;
+#[cfg(test)]
+mod peers;
+#[cfg(test)]
+mod rows;
+#[cfg(test)]
+mod wires;

@@ -1,0 +1,343 @@
+//! Connections over streams of given bytes: what each call answers, and what is written.
+use super::rows::{Asked, check_rows};
+use super::wires::{Script, Wire, number_of};
+use bidi_peer::{Came, Ending, MOST_WAITING, Peer, Refusal};
+use std::alloc::Global;
+use std::cell::RefCell;
+use std::test::Fail;
+
+/// What a stream gives and the calls of a connection over it, with `/` between; found are the answers and what was
+/// written.
+struct Peers;
+
+impl Asked for Peers {
+    fn found(alloc: Global, word: &str, text: &str) -> Result<String, Fail> {
+        let (mut told, written) = played(alloc, word, text)?;
+        push_written(&mut told, written.as_slice())?;
+        Ok(told)
+    }
+}
+
+// ---- handshakes
+
+const HANDSHAKES: &str = "
+whole HEAD / take take state open state take -> Asks(/session) - busy open - / 101
+whole / take take state -> - - busy /
+whole,ones HEAD / takes open state -> Asks(/session) open / 101
+whole,ones HEAD {} / takes open takes take -> Asks(/session) {} - / 101
+whole HEAD . {} / take open take take -> Asks(/session) - {} / 101
+before it asks | whole HEAD / open send missing state take -> busy Asks(/session) /
+twice | whole HEAD / take open open missing -> Asks(/session) / 101
+in the middle | whole+ends,whole+fails 47 45 54 20 / take take state -> Ended - over /
+before its first byte | whole+ends,whole+fails / take take state -> Ended - over /
+while it is answered | breaks0 HEAD / take open state take take state -> Asks(/session) busy Ended - over /
+closed before it asks | whole HEAD / done state take -> over - /
+closed while it asks | whole HEAD / take away state take -> Asks(/session) over - /
+";
+
+#[test]
+fn a_handshake_is_taken_in_any_pieces(rt: HostRuntime) -> Result<(), Fail> {
+    check_rows::<Peers>(rt.alloc(), HANDSHAKES)
+}
+
+// ---- messages
+
+const MESSAGES: &str = "
+whole,ones HEAD {} {} / takes open takes takes take state -> Asks(/session) {} {} - open / 101
+a key | whole,ones HEAD 81 82 12 34 56 78 69 49 / takes open takes -> Asks(/session) {} / 101
+bytes | whole,ones HEAD 82 82 00 00 00 00 7b 7d {} / takes open takes takes -> Asks(/session) NotText {} / 101
+in parts | whole,ones HEAD 01 81 00 00 00 00 7b PING 80 81 00 00 00 00 7d / takes open takes -> Asks(/session) {} / 101 8a 02 68 69
+a pong | whole,ones HEAD 8a 80 00 00 00 00 {} / takes open takes -> Asks(/session) {} / 101
+whole HEAD {} / take open take send send state -> Asks(/session) {} open / 101 81 02 7b 7d 81 02 7b 7d
+a long text | whole HEAD 81 fe 01 00 00 00 00 00 78*256 / take open take -> Asks(/session) 256 bytes / 101
+a megabyte | whole HEAD 81 ff 00 00 00 00 00 10 00 00 00 00 00 00 78*1048576 {} / take open take take -> Asks(/session) 1048576 bytes {} / 101
+in the middle of a frame | whole+ends,whole+fails,ones+ends HEAD 81 85 00 00 00 00 7b / takes open takes take state -> Asks(/session) Ended - over / 101
+behind a frame | whole+ends,whole+fails HEAD {} / take open take send take state -> Asks(/session) {} Ended over / 101 81 02 7b 7d
+a write that fails | breaks129 HEAD / take open send state take take state -> Asks(/session) busy Ended - over / 101
+a write that fails for a pong | breaks129 HEAD . PING {} / take open take take take state -> Asks(/session) - Ended - over / 101
+";
+
+#[test]
+fn messages_are_taken_and_sent_in_order(rt: HostRuntime) -> Result<(), Fail> {
+    check_rows::<Peers>(rt.alloc(), MESSAGES)
+}
+
+// ---- closes
+
+const CLOSES: &str = "
+whole HEAD / take open done state send done flush state -> Asks(/session) busy busy / 101 88 02 03 e8
+whole HEAD / take open away -> Asks(/session) / 101 88 02 03 e9
+behind what waits | takes129 HEAD / take open send:3 done flushes -> Asks(/session) / 101 81 03 78 78 78 88 02 03 e8
+of the peer | whole,ones HEAD 88 82 00 00 00 00 03 e8 {} / takes open takes take state send -> Asks(/session) Ended - over / 101 88 02 03 e8
+of the peer, with no code | whole,ones HEAD 88 80 00 00 00 00 / takes open takes take state -> Asks(/session) Ended - over / 101 88 00
+of the peer, whose answer waits | takes129 HEAD . 88 80 00 00 00 00 / take open take take state take flushes state -> Asks(/session) - Ended waits - over / 101 88 00
+answered | whole HEAD . {} 89 80 00 00 00 00 88 80 00 00 00 00 / take open done take take take state -> Asks(/session) - Ended - over / 101 88 02 03 e8
+answered by an end | whole+ends,whole+fails HEAD . {} / take open done take take take state -> Asks(/session) - Ended - over / 101 88 02 03 e8
+answered by a frame that breaks the protocol | whole+ends HEAD . 81 00 {} / take open done take take take take state -> Asks(/session) - Ended - - over / 101 88 02 03 e8
+";
+
+#[test]
+fn each_close_ends_once(rt: HostRuntime) -> Result<(), Fail> {
+    check_rows::<Peers>(rt.alloc(), CLOSES)
+}
+
+/// A slow reader gets all in order, and what just fits waits.
+const SLOW_READERS: &str = "
+takes7,takes1 HEAD / take open send send send state flushes state -> Asks(/session) waits open / 101 81 02 7b 7d 81 02 7b 7d 81 02 7b 7d
+takes1+bound135 HEAD / take open send send state flushes state -> Asks(/session) waits open / 101 81 02 7b 7d 81 02 7b 7d
+";
+
+#[test]
+fn a_slow_reader_gets_all_in_order(rt: HostRuntime) -> Result<(), Fail> {
+    check_rows::<Peers>(rt.alloc(), SLOW_READERS)
+}
+
+// ---- codes
+
+/// The answers, how many frames were written before the close frame, and its code with its reason.
+struct Codes;
+
+impl Asked for Codes {
+    fn found(alloc: Global, word: &str, text: &str) -> Result<String, Fail> {
+        let text = format!(in alloc; "HEAD . {text}")?;
+        let (mut told, written) = played(alloc, word, text.as_str())?;
+        push_close(&mut told, written.as_slice())?;
+        Ok(told)
+    }
+}
+
+const CODES: &str = "
+done | whole / take open done -> Asks(/session) / 0 1000 none
+going away | whole / take open away -> Asks(/session) / 0 1001 none
+no mask | whole 81 02 7b 7d / take open take take take state -> Asks(/session) - Ended - busy / 0 1002 words
+no mask, and then the end | whole+ends 81 02 7b 7d {} / take open take take take state -> Asks(/session) - Ended - over / 0 1002 words
+a reserved bit | whole c1 82 00 00 00 00 7b 7d / take open take take -> Asks(/session) - Ended / 0 1002 words
+an opcode that is not known | whole 83 80 00 00 00 00 / take open take take -> Asks(/session) - Ended / 0 1002 words
+a ping in parts | whole 09 80 00 00 00 00 / take open take take -> Asks(/session) - Ended / 0 1002 words
+a ping of 126 bytes | whole 89 fe 00 7e 00 00 00 00 00*126 / take open take take -> Asks(/session) - Ended / 0 1002 words
+a close of one byte | whole 88 81 00 00 00 00 03 / take open take take -> Asks(/session) - Ended / 0 1002 words
+a close with a code that may not be sent | whole 88 82 00 00 00 00 03 ed / take open take take state -> Asks(/session) - Ended over / 0 1002 words
+the rest of nothing | whole 80 82 00 00 00 00 7b 7d / take open take take -> Asks(/session) - Ended / 0 1002 words
+a text within a text | whole 01 81 00 00 00 00 7b 81 81 00 00 00 00 7d / take open take take -> Asks(/session) - Ended / 0 1002 words
+no UTF-8 | whole 81 81 00 00 00 00 ff / take open take take send state -> Asks(/session) - Ended busy / 0 1007 words
+no UTF-8 in parts | whole 01 81 00 00 00 00 c3 80 81 00 00 00 00 7d / take open take take -> Asks(/session) - Ended / 0 1007 words
+a frame past the limit | whole 81 ff 00 00 00 00 01 00 00 01 00 00 00 00 / take open take take state -> Asks(/session) - Ended busy / 0 1009 words
+";
+
+#[test]
+fn a_close_says_why(rt: HostRuntime) -> Result<(), Fail> {
+    check_rows::<Codes>(rt.alloc(), CODES)
+}
+
+/// Too much would wait: a text, or answers to pings. 128 bytes of the handshake wait at first.
+const TOO_SLOW: &str = "
+takes1+bound400 / take open send:100 send:100 send:100 state take take send state flushes -> Asks(/session) waits Ended - waits / 2 1013 words
+takes1+bound133 / take open send send state take flushes state -> Asks(/session) waits Ended busy / 1 1013 words
+and then the end | takes1+bound130+ends / take open send take flushes take take state -> Asks(/session) Ended - - over / 0 1013 words
+pings | takes1+bound140 PING*20 / take open take take state flushes -> Asks(/session) - Ended waits / 5 1013 words
+";
+
+#[test]
+fn a_reader_that_is_too_slow_is_closed(rt: HostRuntime) -> Result<(), Fail> {
+    check_rows::<Codes>(rt.alloc(), TOO_SLOW)
+}
+
+// ---- connections
+
+/// The answers of the calls, and the bytes that were written.
+fn played(alloc: Global, word: &str, text: &str) -> Result<(String, Vec<u8>), Fail> {
+    let (given, calls) = text.split_once('/').ok_or("no calls")?;
+    let script = Script::new(alloc, word, pieces_of(alloc, given)?)?;
+    let written = RefCell::new(Vec::new(alloc));
+    let wire = Wire::new(alloc, word, &script, &written)?;
+    let most = number_of(word, "bound")?.unwrap_or(MOST_WAITING);
+    let told = answers(alloc, Peer::with_bound(alloc, wire, most), calls)?;
+    Ok((told, written.into_inner()))
+}
+
+/// The head of a request for `/session`.
+const HEAD: &[u8] =
+    b"GET /session HTTP/1.1\r\nHost: 127.0.0.1\r\nUpgrade: websocket\r\nConnection: Upgrade\r\nSec-WebSocket-Key: dGhlIHNhbXBsZSBub25jZQ==\r\nSec-WebSocket-Version: 13\r\n\r\n";
+
+/// The text `{}` in one frame of a client.
+const TEXT: &[u8] = b"\x81\x82\x00\x00\x00\x00{}";
+
+/// A ping of a client, of two bytes.
+const PING: &[u8] = b"\x89\x82\x00\x00\x00\x00hi";
+
+/// The pieces of a script, with `.` between: bytes, and words for those above. `00*3` is `00 00 00`.
+fn pieces_of(alloc: Global, given: &str) -> Result<Vec<Vec<u8>>, Fail> {
+    let mut pieces = Vec::new(alloc);
+    for piece in given.split('.') {
+        pieces.push(bytes_of(alloc, piece)?)?;
+    }
+    Ok(pieces)
+}
+
+fn bytes_of(alloc: Global, words: &str) -> Result<Vec<u8>, Fail> {
+    let mut bytes = Vec::new(alloc);
+    for word in words.split_whitespace() {
+        let (word, times) = word.split_once('*').unwrap_or((word, "1"));
+        for _ in 0..times.parse::<u32>()? {
+            push_word(&mut bytes, word)?;
+        }
+    }
+    Ok(bytes)
+}
+
+fn push_word(bytes: &mut Vec<u8>, word: &str) -> Result<(), Fail> {
+    match word {
+        "HEAD" => bytes.extend_from_slice(HEAD)?,
+        "{}" => bytes.extend_from_slice(TEXT)?,
+        "PING" => bytes.extend_from_slice(PING)?,
+        _ => bytes.push(u8::from_str_radix(word, 16)?)?,
+    }
+    Ok(())
+}
+
+fn answers(alloc: Global, mut peer: Peer<Wire<'_>>, calls: &str) -> Result<String, Fail> {
+    let mut told = String::new(alloc);
+    for call in calls.split_whitespace() {
+        push_call(alloc, &mut told, &mut peer, call)?;
+    }
+    Ok(told)
+}
+
+fn push_call(
+    alloc: Global,
+    told: &mut String,
+    peer: &mut Peer<Wire<'_>>,
+    call: &str,
+) -> Result<(), Fail> {
+    match call {
+        "take" => push_came(told, peer.take()?)?,
+        "takes" => push_came(told, next(peer)?)?,
+        "open" => peer.open()?,
+        "missing" => peer.refuse(Refusal::NotFound)?,
+        "send" => {
+            peer.send("{}")?;
+            peer.flush();
+        }
+        "done" => peer.close(Ending::Done)?,
+        "away" => peer.close(Ending::GoingAway)?,
+        "flush" => peer.flush(),
+        "flushes" => flush_all(peer),
+        "state" => push_state(told, peer)?,
+        _ => send_long(alloc, peer, call)?,
+    }
+    Ok(())
+}
+
+/// What comes next, over so many reads that give nothing.
+fn next(peer: &mut Peer<Wire<'_>>) -> Result<Came, Fail> {
+    for _ in 0..10_000u32 {
+        let came = peer.take()?;
+        if !matches!(&came, Came::Nothing) || peer.stream().is_quiet() {
+            return Ok(came);
+        }
+    }
+    Err(Fail::from("nothing comes"))
+}
+
+fn push_came(told: &mut String, came: Came) -> Result<(), Fail> {
+    match came {
+        Came::Nothing => told.push_str("- ")?,
+        Came::More => told.push_str("+ ")?,
+        Came::Asks(target) => write!(told, "Asks({target}) ")?,
+        Came::Text(text) => push_text(told, text.as_str())?,
+        Came::NotText => told.push_str("NotText ")?,
+        Came::Ended => told.push_str("Ended ")?,
+    }
+    Ok(())
+}
+
+fn push_text(told: &mut String, text: &str) -> Result<(), Fail> {
+    match text.len() {
+        0..=9 => write!(told, "{text} ")?,
+        length => write!(told, "{length} bytes ")?,
+    }
+    Ok(())
+}
+
+fn flush_all(peer: &mut Peer<Wire<'_>>) {
+    for _ in 0..10_000u32 {
+        if !peer.waits_to_write() {
+            return;
+        }
+        peer.flush();
+    }
+}
+
+fn push_state(told: &mut String, peer: &Peer<Wire<'_>>) -> Result<(), Fail> {
+    let state = if peer.is_over() {
+        "over "
+    } else if peer.waits_to_write() {
+        "waits "
+    } else if peer.is_open() {
+        "open "
+    } else {
+        "busy "
+    };
+    Ok(told.push_str(state)?)
+}
+
+/// Sends a text of as many letters as a call says.
+fn send_long(alloc: Global, peer: &mut Peer<Wire<'_>>, call: &str) -> Result<(), Fail> {
+    let length = call.strip_prefix("send:").ok_or("no such call")?;
+    let text = "x".repeat(alloc, length.parse::<usize>()?)?;
+    peer.send(text.as_str())?;
+    peer.flush();
+    Ok(())
+}
+
+// ---- what is written
+
+/// The answer that opens a connection. The key is that of RFC 6455, section 1.3.
+const OPENED: &[u8] =
+    b"HTTP/1.1 101 Switching Protocols\r\nconnection: Upgrade\r\nupgrade: websocket\r\nsec-websocket-accept: s3pPLMBiTxaQ9kYGzzhZRbK+xOo=\r\n\r\n";
+
+fn push_written(told: &mut String, written: &[u8]) -> Result<(), Fail> {
+    told.push_str("/")?;
+    let frames = match written.strip_prefix(OPENED) {
+        Some(frames) => {
+            told.push_str(" 101")?;
+            frames
+        }
+        None => written,
+    };
+    for byte in frames {
+        write!(told, " {byte:02x}")?;
+    }
+    Ok(())
+}
+
+fn push_close(told: &mut String, written: &[u8]) -> Result<(), Fail> {
+    let mut rest = written.strip_prefix(OPENED).ok_or("not opened")?;
+    for count in 0..1000u32 {
+        let [first, length, after @ ..] = rest else {
+            return Err(Fail::from("no close frame"));
+        };
+        let length = usize::from(*length);
+        let payload = after.get(..length).ok_or("a cut frame")?;
+        rest = after.get(length..).ok_or("a cut frame")?;
+        if *first == 0x88 {
+            write!(told, "/ {count} ")?;
+            return push_code(told, payload, rest.is_empty());
+        }
+    }
+    Err(Fail::from("no close frame"))
+}
+
+fn push_code(told: &mut String, payload: &[u8], is_last: bool) -> Result<(), Fail> {
+    let [high, low, reason @ ..] = payload else {
+        return Err(Fail::from("no code"));
+    };
+    let code = u16::from_be_bytes([*high, *low]);
+    let reason = if reason.is_empty() { "none" } else { "words" };
+    write!(told, "{code} {reason}")?;
+    if is_last {
+        Ok(())
+    } else {
+        Err(Fail::from("bytes behind a close frame"))
+    }
+}
