@@ -4,16 +4,25 @@
 //! `bidi pair` reads steps of both ends, and writes what became of each command and which events each link received.
 //! `bidi reduce` writes the lines of a play that are kept for a session.
 //! `bidi show` writes a line for each text of a local or a remote end, and `bidi check` one for each that is refused.
-//! `bidi serve` serves WebSocket connections on 127.0.0.1.
+//! `bidi serve` serves WebSocket connections on 127.0.0.1, one after another.
+//! `bidi host` serves many at once, and takes lines of a page.
 #![tactic(auto)]
 
-use bidi_command_line::{LineFault, Run, ServeOptions, command_line};
+mod system;
+
+use bidi_command_line::{
+    HostFiles, HostOptions, LineFault, Run, ServeOptions, command_line, host_files,
+};
+use bidi_hosting::{Door, Hosted, HostingFault, MOST_WAITING, Manners};
 use bidi_lines::{Device, Sink, write_all};
-use bidi_programs::{run, serving_status};
+use bidi_programs::{hosting_status, run, serving_status};
 use bidi_serve::{ServeFault, serve};
+use mio::Poll;
+use mio::net::TcpListener as Listener;
 use std::net::{Ipv4Addr, SocketAddr, SocketAddrV4, TcpListener};
 use std::process::ExitCode;
 use std::{env, io};
+use system::{System, page_of};
 
 fn main(rt: HostRuntime) -> ExitCode {
     ExitCode::from(match status(&rt) {
@@ -61,6 +70,10 @@ fn status(rt: &HostRuntime) -> io::Result<u8> {
     }
     match command_line(alloc, &words) {
         Ok(Run::Serve(asked)) => Ok(serving_status(served(rt, asked), &mut faults)),
+        Ok(Run::Host(asked)) => Ok(match host_files(alloc, &words) {
+            Ok(files) => hosting_status(hosted(rt, asked, files), &mut faults),
+            Err(_) => told(rt, OUT_OF_MEMORY, 3),
+        }),
         Ok(asked) => {
             let mut input = Device::new(rt.reader());
             Ok(run(alloc, &asked, &mut input, &mut output, &mut faults))
@@ -76,9 +89,48 @@ fn status(rt: &HostRuntime) -> io::Result<u8> {
 
 // Serves on 127.0.0.1.
 fn served(rt: &HostRuntime, asked: ServeOptions) -> Result<(), ServeFault> {
-    let address = SocketAddr::V4(SocketAddrV4::new(Ipv4Addr::LOCALHOST, asked.port));
-    let Ok(listener) = TcpListener::bind(rt, address) else {
+    let Ok(listener) = TcpListener::bind(rt, local(asked.port)) else {
         return Err(ServeFault::Listen);
     };
     serve(rt.alloc(), &listener, asked.connections, asked.messages)
+}
+
+// A port on 127.0.0.1.
+fn local(port: u16) -> SocketAddr {
+    SocketAddr::V4(SocketAddrV4::new(Ipv4Addr::LOCALHOST, port))
+}
+
+// Hosts on 127.0.0.1. The lines of the page are played before it listens.
+fn hosted(rt: &HostRuntime, asked: HostOptions, files: HostFiles) -> Result<(), HostingFault> {
+    let HostFiles {
+        page_file,
+        record_file,
+    } = files;
+    let page = page_of(rt, page_file)?;
+    let mut system = System::new(rt, record_file)?;
+    let mut hosted = Hosted::new(rt.alloc(), manners(asked), page)?;
+    hosted.begin(&mut system)?;
+    let mut door = door(rt, asked.port)?;
+    hosted.serve(&mut door, &mut system)
+}
+
+// How clients are treated.
+fn manners(asked: HostOptions) -> Manners {
+    Manners {
+        ends_sessions: asked.ends_sessions,
+        is_lenient: asked.is_lenient,
+        reads_input: asked.reads_input,
+        most_waiting: MOST_WAITING,
+    }
+}
+
+// A listener on this port.
+fn door(rt: &HostRuntime, port: u16) -> Result<Door, HostingFault> {
+    let Ok(listener) = Listener::bind(rt, local(port)) else {
+        return Err(HostingFault::Listen);
+    };
+    let Ok(poll) = Poll::new(rt) else {
+        return Err(HostingFault::Listen);
+    };
+    Door::new(rt.alloc(), poll, listener)
 }

@@ -1,6 +1,6 @@
 -- What `clap`'s faults of a line, and its reading, say of the answer to it.
 use Rattle.std.proofs.Common.{◌≡◌, ◌∙◌, ℕ, Bool, true, false, List, [], ◌∷◌, ◌++◌, codes, refl, sym, ap, subst, inl, inr, arith, bytes_eq, Some, None}
-use Rattle.std.specs.Prelude.{◌==◌, ◌&&◌, if◌then◌else◌, Box, Option, option_map, nat_lt}
+use Rattle.std.specs.Prelude.{◌==◌, ◌&&◌, if◌then◌else◌, Box, Option, option_map, unwrap_or, nat_lt}
 use Rattle.std.specs.Char.{digit_value}
 use Rattle.std.proofs.lemmas.Bool.Decides.{nat_tests}
 use Rattle.std.specs.Box.{box_value}
@@ -15,12 +15,13 @@ use Rattle.clap.proofs.OnLiterals.{clap_on_literals}
 use Rattle.bidi_command_line.specs.declared.asked.LineFault.{LineFault}
 use Rattle.bidi_command_line.specs.declared.asked.LineFault.TheVariants.{Help, Usage, NoMemory}
 use Rattle.bidi_command_line.specs.declared.asked.Run.{Run}
-use Rattle.bidi_command_line.specs.declared.asked.Run.TheVariants.{Play, Pair, Reduce, Show, Check, Serve}
+use Rattle.bidi_command_line.specs.declared.asked.Run.TheVariants.{Play, Pair, Reduce, Show, Check, Serve, Host}
 use Rattle.bidi_command_line.specs.declared.asked.ServeOptions.{ServeOptions}
+use Rattle.bidi_command_line.specs.declared.asked.HostOptions.{HostOptions}
 use Rattle.bidi_lines.specs.declared.side.Side.{Side}
 use Rattle.bidi_lines.specs.declared.side.Side.TheVariants.{Local, Remote}
 use Rattle.bidi_command_line.specs.CommandLine.{AsksFor, Causes, Gives, GivesNumber, IsReadAs, IsRefusedFor, IsRequest, IsSaidBy, bidi_app, faults_of}
-use Rattle.bidi_command_line.specs.CommandLine.{number_within, run_in, run_named, served, side_named, side_text}
+use Rattle.bidi_command_line.specs.CommandLine.{default_port, flag_words, hosted, number_within, run_in, run_named, served, side_named, side_text, value_words}
 use Rattle.bidi_command_line.proofs.PlayLines.{play_lines, pair_lines}
 
 -- the command is one whose faults clap lists, and whose reading it states
@@ -58,6 +59,7 @@ asked_read line (Reduce session) asks = asks
 asked_read line (Show side) asks = asks
 asked_read line (Check side) asks = asks
 asked_read line (Serve s) asks = asks
+asked_read line (Host h) asks = asks
 
 -- and a line that clap reads as a run asks for it
 pub read_asked : (line : List Text) (run : Run) → IsReadAs line run → AsksFor line run
@@ -67,6 +69,7 @@ read_asked line (Reduce session) read = read
 read_asked line (Show side) read = read
 read_asked line (Check side) read = read
 read_asked line (Serve s) read = read
+read_asked line (Host h) read = read
 
 -- a want of memory is no request
 no_request : (kind : ErrorKind) → kind ≡ OutOfMemory → IsRequest kind → ⊥
@@ -114,9 +117,10 @@ met None name rows named found = absurd cc
 met (Some b) name rows named found = cc
 
 -- the run of the same name and options
-pub named-same : (name : Text) (side side' : Option Side) (session session' : Option ℕ) (serving serving' : Option ServeOptions)
-    → side ≡ side' → session ≡ session' → serving ≡ serving' → run_named name side session serving ≡ run_named name side' session' serving'
-named-same name side side' session session' serving serving' p q r = λ i. run_named name (p i) (q i) (r i)
+pub named-same : (name : Text) (side side' : Option Side) (session session' : Option ℕ) (serving serving' : Option ServeOptions) (hosting hosting' : Option HostOptions)
+    → side ≡ side' → session ≡ session' → serving ≡ serving' → hosting ≡ hosting'
+    → run_named name side session serving hosting ≡ run_named name side' session' serving' hosting'
+named-same name side side' session session' serving serving' hosting hosting' p q r h = λ i. run_named name (p i) (q i) (r i) (h i)
 
 -- ---- the words that are given for a run
 
@@ -226,6 +230,81 @@ serve_reads_joined : (p c m : Text) → Reads (codes "serve" ∷ (codes "--port=
 unfolding clap_on_literals
 serve_reads_joined p c m = (refl, refl)
 
+-- the words of `host`, of which each may be left out
+abbrev host_words : Option Text → Option Text → Option Text → Bool → Bool → Bool → List Text
+host_words port page record_file stdin sessions lenient =
+    value_words (codes "port") port ++ value_words (codes "page") page ++ flag_words (codes "stdin") stdin
+    ++ value_words (codes "record") record_file ++ flag_words (codes "end-sessions") sessions ++ flag_words (codes "lenient") lenient
+
+host_reads : (port page record_file : Option Text) (stdin sessions lenient : Bool)
+    → Reads (codes "host" ∷ host_words port page record_file stdin sessions lenient)
+    (option_map Host (hosted (number_within 0 65535 (unwrap_or port default_port)) stdin sessions lenient))
+unfolding clap_on_literals
+host_reads None None None true true true = (refl, refl)
+host_reads None None None true true false = (refl, refl)
+host_reads None None None true false true = (refl, refl)
+host_reads None None None true false false = (refl, refl)
+host_reads None None None false true true = (refl, refl)
+host_reads None None None false true false = (refl, refl)
+host_reads None None None false false true = (refl, refl)
+host_reads None None None false false false = (refl, refl)
+host_reads None None (Some r) true true true = (refl, refl)
+host_reads None None (Some r) true true false = (refl, refl)
+host_reads None None (Some r) true false true = (refl, refl)
+host_reads None None (Some r) true false false = (refl, refl)
+host_reads None None (Some r) false true true = (refl, refl)
+host_reads None None (Some r) false true false = (refl, refl)
+host_reads None None (Some r) false false true = (refl, refl)
+host_reads None None (Some r) false false false = (refl, refl)
+host_reads None (Some f) None true true true = (refl, refl)
+host_reads None (Some f) None true true false = (refl, refl)
+host_reads None (Some f) None true false true = (refl, refl)
+host_reads None (Some f) None true false false = (refl, refl)
+host_reads None (Some f) None false true true = (refl, refl)
+host_reads None (Some f) None false true false = (refl, refl)
+host_reads None (Some f) None false false true = (refl, refl)
+host_reads None (Some f) None false false false = (refl, refl)
+host_reads None (Some f) (Some r) true true true = (refl, refl)
+host_reads None (Some f) (Some r) true true false = (refl, refl)
+host_reads None (Some f) (Some r) true false true = (refl, refl)
+host_reads None (Some f) (Some r) true false false = (refl, refl)
+host_reads None (Some f) (Some r) false true true = (refl, refl)
+host_reads None (Some f) (Some r) false true false = (refl, refl)
+host_reads None (Some f) (Some r) false false true = (refl, refl)
+host_reads None (Some f) (Some r) false false false = (refl, refl)
+host_reads (Some p) None None true true true = (refl, refl)
+host_reads (Some p) None None true true false = (refl, refl)
+host_reads (Some p) None None true false true = (refl, refl)
+host_reads (Some p) None None true false false = (refl, refl)
+host_reads (Some p) None None false true true = (refl, refl)
+host_reads (Some p) None None false true false = (refl, refl)
+host_reads (Some p) None None false false true = (refl, refl)
+host_reads (Some p) None None false false false = (refl, refl)
+host_reads (Some p) None (Some r) true true true = (refl, refl)
+host_reads (Some p) None (Some r) true true false = (refl, refl)
+host_reads (Some p) None (Some r) true false true = (refl, refl)
+host_reads (Some p) None (Some r) true false false = (refl, refl)
+host_reads (Some p) None (Some r) false true true = (refl, refl)
+host_reads (Some p) None (Some r) false true false = (refl, refl)
+host_reads (Some p) None (Some r) false false true = (refl, refl)
+host_reads (Some p) None (Some r) false false false = (refl, refl)
+host_reads (Some p) (Some f) None true true true = (refl, refl)
+host_reads (Some p) (Some f) None true true false = (refl, refl)
+host_reads (Some p) (Some f) None true false true = (refl, refl)
+host_reads (Some p) (Some f) None true false false = (refl, refl)
+host_reads (Some p) (Some f) None false true true = (refl, refl)
+host_reads (Some p) (Some f) None false true false = (refl, refl)
+host_reads (Some p) (Some f) None false false true = (refl, refl)
+host_reads (Some p) (Some f) None false false false = (refl, refl)
+host_reads (Some p) (Some f) (Some r) true true true = (refl, refl)
+host_reads (Some p) (Some f) (Some r) true true false = (refl, refl)
+host_reads (Some p) (Some f) (Some r) true false true = (refl, refl)
+host_reads (Some p) (Some f) (Some r) true false false = (refl, refl)
+host_reads (Some p) (Some f) (Some r) false true true = (refl, refl)
+host_reads (Some p) (Some f) (Some r) false true false = (refl, refl)
+host_reads (Some p) (Some f) (Some r) false false true = (refl, refl)
+host_reads (Some p) (Some f) (Some r) false false false = (refl, refl)
+
 -- a line that clap reads so, by another name and with the run in hand
 read_as : (line other : List Text) (run : Run) (found : Option Run) → line ≡ other → found ≡ Some run → Reads other found → IsReadAs line run
 read_as line other run found same is reads = subst (λ l. IsReadAs l run) (sym same) (reads.0, reads.1 ∙ is)
@@ -250,3 +329,6 @@ said_asks line (Serve s) (p, c, m, port, connections, messages, inl e) =
     (serve_reads (plain_number 0 65535 s.port p port) (plain_number 1 1000 s.connections c connections) (plain_number 1 100000 s.messages m messages))
 said_asks line (Serve s) (p, c, m, port, connections, messages, inr e) =
     read_as line _ (Serve s) _ e (λ i. option_map Serve (served (port i) (connections i) (messages i))) (serve_reads_joined p c m)
+said_asks line (Host h) (port, page, record_file, number, e) =
+    read_as line _ (Host h) _ e (ap (λ n. option_map Host (hosted n h.reads_input h.ends_sessions h.is_lenient)) number)
+    (host_reads port page record_file h.reads_input h.ends_sessions h.is_lenient)

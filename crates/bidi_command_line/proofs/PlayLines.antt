@@ -17,8 +17,9 @@ use Rattle.std.specs.Option.{option_map_or}
 use Rattle.std.proofs.lemmas.Slice.Eq.{bytes_eq-Decides}
 use Rattle.clap.proofs.OnLiterals.{clap_on_literals}
 use Rattle.bidi_command_line.specs.declared.asked.Run.{Run}
-use Rattle.bidi_command_line.specs.declared.asked.Run.TheVariants.{Play, Pair, Reduce, Show, Check, Serve}
+use Rattle.bidi_command_line.specs.declared.asked.Run.TheVariants.{Play, Pair, Reduce, Show, Check, Serve, Host}
 use Rattle.bidi_command_line.specs.declared.asked.ServeOptions.{ServeOptions}
+use Rattle.bidi_command_line.specs.declared.asked.HostOptions.{HostOptions}
 use Rattle.bidi_lines.specs.declared.side.Side.{Side}
 use Rattle.bidi_command_line.specs.CommandLine.{AsksFor, bare_app, bidi_app, faults_of, run_in}
 
@@ -164,13 +165,16 @@ check = codes "check"
 abbrev serve : Text
 serve = codes "serve"
 
+abbrev host : Text
+host = codes "host"
+
 -- the subcommand that the first word names
-abbrev named : Bool → Bool → Bool → Bool → Bool → Bool → Option Text
-named is_play is_pair is_reduce is_show is_check is_serve =
+abbrev named : Bool → Bool → Bool → Bool → Bool → Bool → Bool → Option Text
+named is_play is_pair is_reduce is_show is_check is_serve is_host =
     option_map {T = Text × List Text} (λ s. s.0)
     (cond is_play (Some (play, []))
     (cond is_pair (Some (pair, [])) (cond is_reduce (Some (reduce, []))
-    (cond is_show (Some (show, [])) (cond is_check (Some (check, [])) (cond is_serve (Some (serve, [])) None))))))
+    (cond is_show (Some (show, [])) (cond is_check (Some (check, [])) (cond is_serve (Some (serve, [])) (cond is_host (Some (host, [])) None)))))))
 
 abbrev top_met : Option Text → Text → Held × Step
 top_met name word = subcommand_or_other rules name walk.idle 1 word nothing_held
@@ -179,24 +183,27 @@ abbrev first_fault : Option Text → Text → Kinds
 first_fault name word = or_else (other_fault top name word nothing_held) (step_fault top 1 (top_met name word).0 (top_met name word).1)
 
 -- a word that passes names a subcommand, or is the mark
-data Passes (is_play is_pair is_reduce is_show is_check is_serve is_mark : Bool) : Type 0 where
-  as_play : is_play ≡ true → Passes is_play is_pair is_reduce is_show is_check is_serve is_mark
-  as_pair : is_pair ≡ true → Passes is_play is_pair is_reduce is_show is_check is_serve is_mark
-  as_reduce : is_reduce ≡ true → Passes is_play is_pair is_reduce is_show is_check is_serve is_mark
-  as_show : is_show ≡ true → Passes is_play is_pair is_reduce is_show is_check is_serve is_mark
-  as_check : is_check ≡ true → Passes is_play is_pair is_reduce is_show is_check is_serve is_mark
-  as_serve : is_serve ≡ true → Passes is_play is_pair is_reduce is_show is_check is_serve is_mark
-  as_mark : is_mark ≡ true → Passes is_play is_pair is_reduce is_show is_check is_serve is_mark
+data Passes (is_play is_pair is_reduce is_show is_check is_serve is_host is_mark : Bool) : Type 0 where
+  as_play : is_play ≡ true → Passes is_play is_pair is_reduce is_show is_check is_serve is_host is_mark
+  as_pair : is_pair ≡ true → Passes is_play is_pair is_reduce is_show is_check is_serve is_host is_mark
+  as_reduce : is_reduce ≡ true → Passes is_play is_pair is_reduce is_show is_check is_serve is_host is_mark
+  as_show : is_show ≡ true → Passes is_play is_pair is_reduce is_show is_check is_serve is_host is_mark
+  as_check : is_check ≡ true → Passes is_play is_pair is_reduce is_show is_check is_serve is_host is_mark
+  as_serve : is_serve ≡ true → Passes is_play is_pair is_reduce is_show is_check is_serve is_host is_mark
+  as_host : is_host ≡ true → Passes is_play is_pair is_reduce is_show is_check is_serve is_host is_mark
+  as_mark : is_mark ≡ true → Passes is_play is_pair is_reduce is_show is_check is_serve is_host is_mark
 
-top_turn : (is_play is_pair is_reduce is_show is_check is_serve : Bool) (word : Text) → first_fault (named is_play is_pair is_reduce is_show is_check is_serve) word ≡ []
-    → Passes is_play is_pair is_reduce is_show is_check is_serve (bytes_eq word dashes)
-top_turn true is_pair is_reduce is_show is_check is_serve word none = as_play refl
-top_turn false true is_reduce is_show is_check is_serve word none = as_pair refl
-top_turn false false true is_show is_check is_serve word none = as_reduce refl
-top_turn false false false true is_check is_serve word none = as_show refl
-top_turn false false false false true is_serve word none = as_check refl
-top_turn false false false false false true word none = as_serve refl
-top_turn false false false false false false word none =
+top_turn : (is_play is_pair is_reduce is_show is_check is_serve is_host : Bool) (word : Text)
+    → first_fault (named is_play is_pair is_reduce is_show is_check is_serve is_host) word ≡ []
+    → Passes is_play is_pair is_reduce is_show is_check is_serve is_host (bytes_eq word dashes)
+top_turn true is_pair is_reduce is_show is_check is_serve is_host word none = as_play refl
+top_turn false true is_reduce is_show is_check is_serve is_host word none = as_pair refl
+top_turn false false true is_show is_check is_serve is_host word none = as_reduce refl
+top_turn false false false true is_check is_serve is_host word none = as_show refl
+top_turn false false false false true is_serve is_host word none = as_check refl
+top_turn false false false false false true is_host word none = as_serve refl
+top_turn false false false false false false true word none = as_host refl
+top_turn false false false false false false false word none =
     as_mark (turn_refused (stray_fault top) (λ e. cc) word (bytes_eq word dashes) (long_of word) none)
 
 -- the walk has met a subcommand, and these words after it
@@ -234,6 +241,10 @@ stop_check line = ap (λ (w : Walk). w.stopped) (stays check line [])
 stop_serve : (line : List Text) → stop_of (serve ∷ line) ≡ Some (serve, line)
 unfolding clap_on_literals
 stop_serve line = ap (λ (w : Walk). w.stopped) (stays serve line [])
+
+stop_host : (line : List Text) → stop_of (host ∷ line) ≡ Some (host, line)
+unfolding clap_on_literals
+stop_host line = ap (λ (w : Walk). w.stopped) (stays host line [])
 
 -- what is found in a line that begins with a subcommand is found there in the words after it
 below : (word : Text) (line : List Text) → faults_of (word ∷ line) ≡ [] → entered_fault app (stop_of (word ∷ line)) ≡ []
@@ -306,6 +317,19 @@ entered_serve run differs line e = no_other Serve run differs _ e
 read_serve : (run : Run) → ((s : ServeOptions) → Serve s ≡ run → ⊥) → (line : List Text) → run_in (subcommand_of bidi_app (serve ∷ line)) ≡ Some run → ⊥
 read_serve run differs line e = entered_serve run differs line (subst (λ s. run_in (entered app s) ≡ Some run) (stop_serve line) e)
 
+entered_host : (run : Run) → ((h : HostOptions) → Host h ≡ run → ⊥) → (line : List Text) → run_in (entered app (Some (host, line))) ≡ Some run → ⊥
+unfolding clap_on_literals
+entered_host run differs line e = no_other Host run differs _ e
+
+read_host : (run : Run) → ((h : HostOptions) → Host h ≡ run → ⊥) → (line : List Text) → run_in (subcommand_of bidi_app (host ∷ line)) ≡ Some run → ⊥
+read_host run differs line e = entered_host run differs line (subst (λ s. run_in (entered app s) ≡ Some run) (stop_host line) e)
+
+host_is_no_play : (h : HostOptions) → Host h ≡ Play → ⊥
+host_is_no_play h e = cc
+
+host_is_no_pair : (h : HostOptions) → Host h ≡ Pair → ⊥
+host_is_no_pair h e = cc
+
 serve_is_no_play : (s : ServeOptions) → Serve s ≡ Play → ⊥
 serve_is_no_play s e = cc
 
@@ -355,16 +379,18 @@ data Begins (word : Text) : Type 0 where
   with_show : show ≡ word → Begins word
   with_check : check ≡ word → Begins word
   with_serve : serve ≡ word → Begins word
+  with_host : host ≡ word → Begins word
 
 begins_as : (word : Text) (line : List Text) → faults_of (word ∷ line) ≡ []
     → Passes (bytes_eq play word || false) (bytes_eq pair word || false) (bytes_eq reduce word || false) (bytes_eq show word || false)
-    (bytes_eq check word || false) (bytes_eq serve word || false) (bytes_eq word dashes) → Begins word
+    (bytes_eq check word || false) (bytes_eq serve word || false) (bytes_eq host word || false) (bytes_eq word dashes) → Begins word
 begins_as word line none (as_play e) = with_play (same_word play word e)
 begins_as word line none (as_pair e) = with_pair (same_word pair word e)
 begins_as word line none (as_reduce e) = with_reduce (same_word reduce word e)
 begins_as word line none (as_show e) = with_show (same_word show word e)
 begins_as word line none (as_check e) = with_check (same_word check word e)
 begins_as word line none (as_serve e) = with_serve (same_word serve word e)
+begins_as word line none (as_host e) = with_host (same_word host word e)
 begins_as word line none (as_mark e) = let same : word ≡ dashes = (bytes_eq-Decides word dashes).0 e in
     absurd (entered_none line (subst (λ w. faults_of (w ∷ line) ≡ []) same none))
 
@@ -377,7 +403,7 @@ begins word line none =
     let turn = or_else-nil (turn_fault top names (walk_from nothing_held) word)
     (walk_fault top names (walked top.rules names (walk_from nothing_held) word) line) part.0 in
     begins_as word line none (top_turn (bytes_eq play word || false) (bytes_eq pair word || false) (bytes_eq reduce word || false)
-    (bytes_eq show word || false) (bytes_eq check word || false) (bytes_eq serve word || false) word turn.0)
+    (bytes_eq show word || false) (bytes_eq check word || false) (bytes_eq serve word || false) (bytes_eq host word || false) word turn.0)
 
 abbrev IsRead : Run → List Text → Text → Type 0
 IsRead run line word = run_in (subcommand_of bidi_app (word ∷ line)) ≡ Some run
@@ -389,6 +415,7 @@ play_from word line (with_reduce e) none read = absurd (read_reduce Play reduce_
 play_from word line (with_show e) none read = absurd (read_show Play show_is_no_play line (subst (IsRead Play line) (sym e) read))
 play_from word line (with_check e) none read = absurd (read_check Play check_is_no_play line (subst (IsRead Play line) (sym e) read))
 play_from word line (with_serve e) none read = absurd (read_serve Play serve_is_no_play line (subst (IsRead Play line) (sym e) read))
+play_from word line (with_host e) none read = absurd (read_host Play host_is_no_play line (subst (IsRead Play line) (sym e) read))
 
 pair_from : (word : Text) (line : List Text) → Begins word → faults_of (word ∷ line) ≡ [] → IsRead Pair line word → AsksFor (word ∷ line) Pair
 pair_from word line (with_play e) none read = absurd (pair_is_no_play (sym (same_some (sym (read_play line) ∙ subst (IsRead Pair line) (sym e) read))))
@@ -397,6 +424,7 @@ pair_from word line (with_reduce e) none read = absurd (read_reduce Pair reduce_
 pair_from word line (with_show e) none read = absurd (read_show Pair show_is_no_pair line (subst (IsRead Pair line) (sym e) read))
 pair_from word line (with_check e) none read = absurd (read_check Pair check_is_no_pair line (subst (IsRead Pair line) (sym e) read))
 pair_from word line (with_serve e) none read = absurd (read_serve Pair serve_is_no_pair line (subst (IsRead Pair line) (sym e) read))
+pair_from word line (with_host e) none read = absurd (read_host Pair host_is_no_pair line (subst (IsRead Pair line) (sym e) read))
 
 -- clap takes `play` and `play --` alone as a play
 pub play_lines : (line : List Text) → faults_of line ≡ [] → run_in (subcommand_of bidi_app line) ≡ Some Play → AsksFor line Play

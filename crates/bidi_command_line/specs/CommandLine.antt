@@ -1,18 +1,22 @@
 -- What the words of a command line ask for, as `clap` reads them.
-use Rattle.std.specs.Prelude.{◌≡◌, ◌≢◌, ◌⊎◌, ◌≤◌, ℕ, Bool, true, ◌&&◌, nat_lt, nat_le, List, [], ◌∷◌, ◌++◌, length, ⊤}
-use Rattle.std.specs.Prelude.{Option, Some, None, option_and_then, option_map, if◌then◌else◌, codes, map}
+use Rattle.std.specs.Prelude.{◌≡◌, ◌≢◌, ◌⊎◌, ◌≤◌, ℕ, Bool, true, false, ◌&&◌, nat_lt, nat_le, List, [], ◌∷◌, ◌++◌, length, ⊤}
+use Rattle.std.specs.Prelude.{Option, Some, None, option_and_then, option_map, unwrap_or, if◌then◌else◌, codes, map, string_bytes}
+use Rattle.std.specs.Option.{option_map_or}
 use Rattle.std.specs.Char.{digit_value}
 use Rattle.std.specs.Str.Parse.{digits_value, without_leading_plus}
 use Rattle.std.specs.Str.{bytes_eq}
 use Rattle.std.specs.Borrow.{Bor}
 use Rattle.clap.specs.Words.{App, IsAmong, Kinds, Row, Rule, Shape, Text, fault_of, first_of, new_app, new_rule, subcommand_of, with_rule, with_subcommand}
+use Rattle.clap.specs.declared.builder.action.ArgAction.TheVariants.{SetTrue}
 use Rattle.clap.specs.declared.error.kind.ErrorKind.{ErrorKind}
 use Rattle.clap.specs.declared.error.kind.ErrorKind.TheVariants.{DisplayHelp, DisplayVersion, OutOfMemory}
 use Rattle.bidi_command_line.specs.declared.asked.LineFault.{LineFault}
 use Rattle.bidi_command_line.specs.declared.asked.LineFault.TheVariants.{Help, Usage, NoMemory}
 use Rattle.bidi_command_line.specs.declared.asked.Run.{Run}
-use Rattle.bidi_command_line.specs.declared.asked.Run.TheVariants.{Play, Pair, Reduce, Show, Check, Serve}
+use Rattle.bidi_command_line.specs.declared.asked.Run.TheVariants.{Play, Pair, Reduce, Show, Check, Serve, Host}
 use Rattle.bidi_command_line.specs.declared.asked.ServeOptions.{ServeOptions}
+use Rattle.bidi_command_line.specs.declared.asked.HostOptions.{HostOptions}
+use Rattle.bidi_command_line.specs.declared.files.HostFiles.{HostFiles}
 use Rattle.bidi_lines.specs.declared.side.Side.{Side}
 use Rattle.bidi_lines.specs.declared.side.Side.TheVariants.{Local, Remote}
 
@@ -28,9 +32,17 @@ play_shape = (new_app (codes "play")).top
 abbrev pub pair_shape : Shape
 pair_shape = (new_app (codes "pair")).top
 
--- the option of this name with one value, which is required
+-- the option of this name with one value
+abbrev pub value_rule : Text → Rule
+value_rule name = record (new_rule name) { long = Some name; value_names = 1 }
+
+-- the same, which is required
 abbrev pub option_rule : Text → Rule
-option_rule name = record (new_rule name) { long = Some name; value_names = 1; required = true }
+option_rule name = record (value_rule name) { required = true }
+
+-- the flag of this name, which takes no value
+abbrev pub flag_rule : Text → Rule
+flag_rule name = record (new_rule name) { long = Some name; action = Some SetTrue }
 
 -- the subcommand `reduce`, with its option
 abbrev pub reduce_shape : Shape
@@ -50,15 +62,35 @@ serve_shape =
     (with_rule (with_rule (with_rule (new_app (codes "serve")) (option_rule (codes "port"))) (option_rule (codes "connections")))
     (option_rule (codes "messages"))).top
 
+-- the port that is taken where none is given
+abbrev pub default_port : Text
+default_port = codes "9222"
+
+-- the option `--port` of `host`
+abbrev pub port_rule : Rule
+port_rule = record (value_rule (codes "port")) { defaults = default_port ∷ [] }
+
+-- the subcommand `host`, with what it says of the port and of the input
+abbrev pub host_app : App
+host_app = with_rule (with_rule (with_rule (new_app (codes "host")) port_rule) (value_rule (codes "page"))) (flag_rule (codes "stdin"))
+
+-- the same, with what it says of the record and of sessions
+abbrev pub host_shape : Shape
+host_shape = (with_rule (with_rule (with_rule host_app (value_rule (codes "record"))) (flag_rule (codes "end-sessions"))) (flag_rule (codes "lenient"))).top
+
 -- the program's command before it has subcommands
 abbrev pub bare_app : App
 bare_app = record { top = with_settings (new_app (codes "bidi")).top; subs = [] }
 
--- the program's command, which wants one of its subcommands
-abbrev pub bidi_app : App
-bidi_app =
+-- the program's command with the subcommands that come before `host`
+abbrev pub app_without_host : App
+app_without_host =
     with_subcommand (with_subcommand (with_subcommand (with_subcommand (with_subcommand (with_subcommand bare_app play_shape) pair_shape) reduce_shape)
     (from_shape (codes "show"))) (from_shape (codes "check"))) serve_shape
+
+-- the program's command, which wants one of its subcommands
+abbrev pub bidi_app : App
+bidi_app = with_subcommand app_without_host host_shape
 
 -- the words as texts
 abbrev pub line_of : List (Bor (List ℕ)) → List Text
@@ -109,20 +141,48 @@ served port connections messages = None
 abbrev pub serving_in : List Row → Option ServeOptions
 serving_in rows = served (number_in (codes "port") 0 65535 rows) (number_in (codes "connections") 1 1000 rows) (number_in (codes "messages") 1 100000 rows)
 
--- the run of the subcommand of this name, whose options name this end or this session, or say what is to be served
-abbrev pub run_named : Text → Option Side → Option ℕ → Option ServeOptions → Option Run
-run_named name side session serving =
+-- whether the text is `true`, which clap has for a flag that is given
+abbrev pub is_true : Text → Bool
+is_true text = bytes_eq text (codes "true")
+
+-- whether the flag of this name is given
+abbrev pub is_given : Text → List Row → Bool
+is_given name rows = option_map_or is_true (first_of name rows) false
+
+-- how connections are to be hosted, where the port is there
+abbrev pub hosted : Option ℕ → Bool → Bool → Bool → Option HostOptions
+hosted port reads_input ends_sessions is_lenient =
+    option_map (λ p. record { port = p; reads_input = reads_input; ends_sessions = ends_sessions; is_lenient = is_lenient }) port
+
+-- how the port and the flags ask for it
+abbrev pub hosting_in : List Row → Option HostOptions
+hosting_in rows =
+    hosted (number_in (codes "port") 0 65535 rows) (is_given (codes "stdin") rows) (is_given (codes "end-sessions") rows) (is_given (codes "lenient") rows)
+
+-- the run of the subcommand of this name, whose options name this end or this session, or say what is to be served or hosted
+abbrev pub run_named : Text → Option Side → Option ℕ → Option ServeOptions → Option HostOptions → Option Run
+run_named name side session serving hosting =
     if bytes_eq name (codes "play") then Some Play
     else (if bytes_eq name (codes "pair") then Some Pair
     else (if bytes_eq name (codes "reduce") then option_map Reduce session
     else (if bytes_eq name (codes "show") then option_map Show side
     else (if bytes_eq name (codes "check") then option_map Check side
-    else (if bytes_eq name (codes "serve") then option_map Serve serving else None)))))
+    else (if bytes_eq name (codes "serve") then option_map Serve serving
+    else (if bytes_eq name (codes "host") then option_map Host hosting else None))))))
 
 -- the run of a subcommand, by its name and what was found for its options
 abbrev pub run_in : Option (Text × List Row) → Option Run
 run_in None = None
-run_in (Some (name, rows)) = run_named name (side_in rows) (session_in rows) (serving_in rows)
+run_in (Some (name, rows)) = run_named name (side_in rows) (session_in rows) (serving_in rows) (hosting_in rows)
+
+-- the file that a subcommand's option of this name gives
+abbrev pub file_in : Text → Option (Text × List Row) → Option Text
+file_in name met = option_and_then (λ p. first_of name p.1) met
+
+-- the files are those that the options of a subcommand give
+abbrev pub AreFilesIn : Option (Text × List Row) → HostFiles → Type 0
+AreFilesIn met files =
+    (option_map string_bytes files.page_file ≡ file_in (codes "page") met) × (option_map string_bytes files.record_file ≡ file_in (codes "record") met)
 
 -- clap takes the line, and reads it as the run
 abbrev pub IsReadAs : List Text → Run → Type 0
@@ -136,6 +196,7 @@ AsksFor line (Reduce session) = IsReadAs line (Reduce session)
 AsksFor line (Show side) = IsReadAs line (Show side)
 AsksFor line (Check side) = IsReadAs line (Check side)
 AsksFor line (Serve serving) = IsReadAs line (Serve serving)
+AsksFor line (Host hosting) = IsReadAs line (Host hosting)
 
 -- the name of an end
 abbrev pub side_text : Side → Text
@@ -149,6 +210,15 @@ Gives name value words = (words ≡ (codes "--" ++ name) ∷ value ∷ []) ⊎ (
 -- words that give the option of this name this number, which is within these bounds
 abbrev pub GivesNumber : Text → ℕ → ℕ → ℕ → List Text → Type 0
 GivesNumber name least most n words = (value : Text) × (number_within least most value ≡ Some n) × Gives name value words
+
+-- the word that gives the option of this name its value, where there is one
+abbrev pub value_words : Text → Option Text → List Text
+value_words name None = []
+value_words name (Some value) = ((codes "--" ++ name) ++ 61 ∷ value) ∷ []
+
+-- the word of the flag of this name, where it is given
+abbrev pub flag_words : Text → Bool → List Text
+flag_words name is_given = if is_given then (codes "--" ++ name) ∷ [] else []
 
 -- the words that are given for a run, with its options in this order
 abbrev pub IsSaidBy : Run → List Text → Type 0
@@ -164,11 +234,17 @@ IsSaidBy (Serve s) line =
     × (number_within 1 100000 messages ≡ Some s.messages)
     × ((line ≡ codes "serve" ∷ codes "--port" ∷ port ∷ codes "--connections" ∷ connections ∷ codes "--messages" ∷ messages ∷ [])
     ⊎ (line ≡ codes "serve" ∷ (codes "--port=" ++ port) ∷ (codes "--connections=" ++ connections) ∷ (codes "--messages=" ++ messages) ∷ []))
+IsSaidBy (Host h) line =
+    (port : Option Text) × (page : Option Text) × (record_file : Option Text)
+    × (number_within 0 65535 (unwrap_or port default_port) ≡ Some h.port)
+    × (line ≡ codes "host" ∷ value_words (codes "port") port ++ value_words (codes "page") page ++ flag_words (codes "stdin") h.reads_input
+    ++ value_words (codes "record") record_file ++ flag_words (codes "end-sessions") h.ends_sessions ++ flag_words (codes "lenient") h.is_lenient)
 
 -- the numbers of a run are within their bounds
 abbrev pub IsWithinBounds : Run → Type 0
 IsWithinBounds (Reduce session) = session ≤ 4294967295
 IsWithinBounds (Serve s) = (s.port ≤ 65535) × (1 ≤ s.connections) × (s.connections ≤ 1000) × (1 ≤ s.messages) × (s.messages ≤ 100000)
+IsWithinBounds (Host h) = h.port ≤ 65535
 IsWithinBounds run = ⊤
 
 -- help, or the version, was asked for

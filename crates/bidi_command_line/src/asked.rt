@@ -1,16 +1,18 @@
 //! The command line: which run it asks for.
 ghost use Rattle.std.specs.Prelude.{◌≡◌, false, IfErr, IfOk, MatchResult, codes, option_and_then};
+ghost use Rattle.std.specs.Option.{option_map_or};
 ghost use Rattle.clap.specs.Words.{app_of, found_of, first_value, kind_of, new_app, rows_of, rule_of, subcommand_rows_of, with_rule, with_subcommand};
 ghost use Rattle.clap.specs.declared.builder.command.Command.TheViews.{out-Command};
 ghost use Rattle.clap.specs.declared.error.kind.ErrorKind.TheVariants.{InvalidValue};
 ghost use Rattle.bidi_command_line.specs.declared.asked.Run.{Run};
-ghost use Rattle.bidi_command_line.specs.CommandLine.{AsksFor, Causes, IsRefusedFor, IsSaidBy, IsWithinBounds, bare_app, bidi_app};
-ghost use Rattle.bidi_command_line.specs.CommandLine.{from_rule, from_shape, line_of, number_within, option_rule, pair_shape};
-ghost use Rattle.bidi_command_line.specs.CommandLine.{play_shape, reduce_shape, run_in, run_named, serve_shape, served, serving_in, side_named};
+ghost use Rattle.bidi_command_line.specs.CommandLine.{AsksFor, Causes, IsRefusedFor, IsSaidBy, IsWithinBounds, app_without_host, bare_app, bidi_app};
+ghost use Rattle.bidi_command_line.specs.CommandLine.{flag_rule, from_rule, from_shape, host_app, host_shape, hosted, hosting_in, is_true, line_of, number_within};
+ghost use Rattle.bidi_command_line.specs.CommandLine.{option_rule, pair_shape, play_shape, port_rule, reduce_shape, run_in, run_named};
+ghost use Rattle.bidi_command_line.specs.CommandLine.{serve_shape, served, serving_in, side_named, value_rule};
 
 use bidi_lines::Side;
 use clap::error::ErrorKind;
-use clap::{Arg, ArgMatches, Command};
+use clap::{Arg, ArgAction, ArgMatches, Command};
 use std::alloc::{AllocError, Global};
 use thiserror::Error;
 
@@ -27,8 +29,10 @@ pub enum Run {
     Show(Side),
     /// `check`: writes a line for each line of the standard input that is no text of this end.
     Check(Side),
-    /// `serve`: serves WebSocket connections on 127.0.0.1.
+    /// `serve`: serves WebSocket connections on 127.0.0.1, one after another.
     Serve(ServeOptions),
+    /// `host`: serves many WebSocket connections on 127.0.0.1 at once, pages among them.
+    Host(HostOptions),
 }
 
 /// The options of `serve`.
@@ -40,6 +44,19 @@ pub struct ServeOptions {
     pub connections: u32,
     /// How many messages of each connection are taken at most, pings and pongs counted: 1 to 100,000.
     pub messages: u32,
+}
+
+/// The options of `host` that are no texts. [`host_files`](crate::host_files) has the others.
+#[derive(Clone, Copy, Debug, PartialEq, Eq)]
+pub struct HostOptions {
+    /// The port on 127.0.0.1, or 0 for one that the system chooses. It is 9222 where none is given.
+    pub port: u16,
+    /// `--stdin`: lines of a page come by the standard input too, and its end ends the program.
+    pub reads_input: bool,
+    /// `--end-sessions`: a session ends with its last connection.
+    pub ends_sessions: bool,
+    /// `--lenient`: what real libraries send first is taken, also where the profile refuses it.
+    pub is_lenient: bool,
 }
 
 /// Why a command line gives no run.
@@ -76,6 +93,9 @@ const CHECK_HELP: &str =
 const SERVE_HELP: &str =
     "A client connects to ws://127.0.0.1:PORT/session, and makes a session by `session.new`;\na connection to /session/ID speaks for that session.\nStatus: 0 where all connections were served, 3 where it cannot listen or memory failed.\nThe rest stands in docs/CLIENTS.md.";
 
+const HOST_HELP: &str =
+    "A client connects to ws://127.0.0.1:PORT/session, and makes a session by `session.new`;\na connection to /session/ID speaks for that session.\nOne to /page is a page: each text is a line of a play (`at`, `frame`, `unframe`, `log`, `value`),\nor `reset`, which makes the browser new, or `end`.\nWhen it listens it writes `WebDriver BiDi listening on ws://127.0.0.1:PORT` to the standard error.\nStatus: 0 where it was told to end, 2 at a bad line in the file of a page,\n3 where it cannot listen, or a file, the record or memory failed.\nThe rest stands in docs/FORMATS.md.";
+
 /// The run that the words after the program's name ask for.
 ///
 /// # Errors
@@ -111,15 +131,24 @@ pub fn command_line(alloc: Global, words: &[&str]) -> Result<Run, LineFault>
 }
 
 // The program's command, with a subcommand for each run.
-fn command<'a>(alloc: Global) -> Result<Command<'a>, AllocError>
+pub(crate) fn command<'a>(alloc: Global) -> Result<Command<'a>, AllocError>
     ensures { IfOk result (λ command. app_of command ≡ bidi_app) }
+{
+    let command = with_serving(alloc)?;
+    let host = host_command(alloc)?;
+    command.subcommand(host)
+}
+
+// The program's command with all subcommands but `host`.
+fn with_serving<'a>(alloc: Global) -> Result<Command<'a>, AllocError>
+    ensures { IfOk result (λ command. app_of command ≡ app_without_host) }
 {
     let command = with_listings(alloc)?;
     let serve = serve_command(alloc)?;
     command.subcommand(serve)
 }
 
-// The program's command with all subcommands but `serve`.
+// The program's command with all subcommands but `serve` and `host`.
 fn with_listings<'a>(alloc: Global) -> Result<Command<'a>, AllocError>
     ensures { IfOk result (λ command. app_of command ≡ with_subcommand (with_subcommand
         (with_subcommand (with_subcommand (with_subcommand bare_app play_shape) pair_shape) reduce_shape) (from_shape (codes "show"))) (from_shape (codes "check"))) }
@@ -165,6 +194,54 @@ fn serve_command<'a>(alloc: Global) -> Result<Command<'a>, AllocError>
         .arg(port)?
         .arg(connections)?
         .arg(messages)
+}
+
+// The subcommand `host`, with its three options and three flags.
+fn host_command<'a>(alloc: Global) -> Result<Command<'a>, AllocError>
+    ensures app { IfOk result (λ command. (app_of command).top ≡ host_shape) }
+    ensures local { IfOk result (λ command. (out-Command command).has_globals ≡ false) }
+{
+    let command = host_with_input(alloc)?;
+    let record = file_option(
+        alloc,
+        "record",
+        "Makes this file, and appends each input to it as the line of a play",
+    );
+    let end_sessions = flag(
+        alloc,
+        "end-sessions",
+        "Ends a session whose last connection ends without `session.end`",
+    );
+    let lenient = flag(
+        alloc,
+        "lenient",
+        "Takes what real libraries send first and the profile refuses",
+    );
+    command.arg(record)?.arg(end_sessions)?.arg(lenient)
+}
+
+// The subcommand `host`, with the arguments for its port and its input.
+fn host_with_input<'a>(alloc: Global) -> Result<Command<'a>, AllocError>
+    ensures app { IfOk result (λ command. app_of command ≡ host_app) }
+    ensures local { IfOk result (λ command. (out-Command command).has_globals ≡ false) }
+{
+    let port = port_option(alloc);
+    let page = file_option(
+        alloc,
+        "page",
+        "Plays the lines of a page in this file before it listens",
+    );
+    let stdin = flag(
+        alloc,
+        "stdin",
+        "Plays lines of a page from the standard input too, and ends with it",
+    );
+    Command::new(alloc, "host")
+        .about("Serves many WebSocket connections at once, and pages among them")
+        .after_help(HOST_HELP)
+        .arg(port)?
+        .arg(page)?
+        .arg(stdin)
 }
 
 // The program's command with the subcommand `play` alone.
@@ -274,12 +351,48 @@ fn value_option<'a>(alloc: Global, name: &'a str, value: &'a str, help: &'a str)
         .required(true)
 }
 
+// The option `--port` of `host`, which has a default.
+fn port_option<'a>(alloc: Global) -> Arg<'a>
+    ensures rule { rule_of result ≡ port_rule }
+    ensures local { result.global ≡ false }
+{
+    Arg::new(alloc, "port")
+        .long("port")
+        .value_name("PORT")
+        .help("The port on 127.0.0.1: 0 to 65535")
+        .default_value("9222")
+}
+
+// The option of this name that names a file, and may be left out.
+fn file_option<'a>(alloc: Global, name: &'a str, help: &'a str) -> Arg<'a>
+    ensures rule { rule_of result ≡ value_rule name.entry.now }
+    ensures local { result.global ≡ false }
+{
+    Arg::new(alloc, name)
+        .long(name)
+        .value_name("FILE")
+        .help(help)
+}
+
+// The flag of this name.
+fn flag<'a>(alloc: Global, name: &'a str, help: &'a str) -> Arg<'a>
+    ensures rule { rule_of result ≡ flag_rule name.entry.now }
+    ensures local { result.global ≡ false }
+{
+    Arg::new(alloc, name)
+        .long(name)
+        .help(help)
+        .action(ArgAction::SetTrue)
+}
+
 // The run of the subcommand that was given, if the values of its options are valid.
 fn run_of(matches: &ArgMatches<'_>) -> Option<Run>
     ensures { result ≡ run_in (subcommand_rows_of matches.now) }
 {
     let (name, inner) = matches.subcommand()?;
-    run_named(name, side_of(inner), session_of(inner), serving_of(inner))
+    let side = side_of(inner);
+    let session = session_of(inner);
+    run_named(name, side, session, serving_of(inner), hosting_of(inner))
 }
 
 // The number of the session that `--session` names.
@@ -312,6 +425,44 @@ fn served(
         connections: connections?,
         messages: messages?,
     })
+}
+
+// What the port and the flags of `host` ask for.
+fn hosting_of(matches: &ArgMatches<'_>) -> Option<HostOptions>
+    ensures { result ≡ hosting_in (rows_of (found_of matches.now)) }
+{
+    let port = port_of(matches);
+    let reads_input = is_given(matches, "stdin");
+    let ends_sessions = is_given(matches, "end-sessions");
+    let is_lenient = is_given(matches, "lenient");
+    hosted(port, reads_input, ends_sessions, is_lenient)
+}
+
+// The options of `host`, where the port is valid.
+fn hosted(
+    port: Option<u16>,
+    reads_input: bool,
+    ends_sessions: bool,
+    is_lenient: bool,
+) -> Option<HostOptions>
+    ensures { result ≡ hosted port reads_input ends_sessions is_lenient }
+{
+    Some(HostOptions {
+        port: port?,
+        reads_input,
+        ends_sessions,
+        is_lenient,
+    })
+}
+
+// Whether a flag was given.
+fn is_given(matches: &ArgMatches<'_>, name: &str) -> bool
+    ensures { result ≡ option_map_or is_true (first_value (found_of matches.now) name.now) false }
+{
+    match matches.get_str(name) {
+        Some(text) => text == "true",
+        None => false,
+    }
 }
 
 // The port that `--port` gives.
@@ -352,14 +503,16 @@ fn number_within(text: &str, least: u32, most: u32) -> Option<u32>
     }
 }
 
-// The run of the subcommand of this name, with the end or the session that its option names, or the options of `serve`.
+// The run of the subcommand of this name, with the end or the session that its option names, or the options of
+// `serve` or `host`.
 fn run_named(
     name: &str,
     side: Option<Side>,
     session: Option<u32>,
     serving: Option<ServeOptions>,
+    hosting: Option<HostOptions>,
 ) -> Option<Run>
-    ensures { result ≡ run_named name.now side session serving }
+    ensures { result ≡ run_named name.now side session serving hosting }
 {
     match name {
         "play" => Some(Run::Play),
@@ -368,6 +521,7 @@ fn run_named(
         "show" => Some(Run::Show(side?)),
         "check" => Some(Run::Check(side?)),
         "serve" => Some(Run::Serve(serving?)),
+        "host" => Some(Run::Host(hosting?)),
         _ => None,
     }
 }
@@ -425,7 +579,7 @@ fn bad_option(matches: &ArgMatches<'_>) -> (&'static str, &'static str) {
 }
 
 // The fault for an error of `clap`, with its text.
-fn fault(alloc: Global, error: &clap::Error) -> LineFault
+pub(crate) fn fault(alloc: Global, error: &clap::Error) -> LineFault
     ensures { Causes (kind_of error.now) result }
 {
     if error.kind() == ErrorKind::OutOfMemory {

@@ -1,6 +1,8 @@
-//! The command line: [`command_line`] reads it as a [`Run`].
+//! The command line: [`command_line`] reads it as a [`Run`], and [`host_files`] has the files that it names.
 #![tactic(auto)]
 
 mod asked;
+mod files;
 
-pub use asked::{LineFault, Run, ServeOptions, command_line};
+pub use asked::{HostOptions, LineFault, Run, ServeOptions, command_line};
+pub use files::{HostFiles, host_files};

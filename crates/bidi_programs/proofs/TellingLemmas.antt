@@ -15,9 +15,11 @@ use Rattle.bidi_play.specs.declared.playing.PlayFault.TheVariants as play
 use Rattle.bidi_pair.specs.Pairs as pairs
 use Rattle.bidi_pair.specs.declared.reading.PairFault.{PairFault}
 use Rattle.bidi_pair.specs.declared.reading.PairFault.TheVariants as pair
+use Rattle.bidi_hosting.specs.declared.fault.HostingFault.{HostingFault}
+use Rattle.bidi_hosting.specs.declared.fault.HostingFault.TheVariants as host
 use Rattle.bidi_programs.specs.Runs.{Tells, status_of}
 use Rattle.bidi_programs.specs.declared.faults.RunFault.{RunFault}
-use Rattle.bidi_programs.specs.declared.faults.RunFault.TheVariants.{Play, Pair, Listing, Serve}
+use Rattle.bidi_programs.specs.declared.faults.RunFault.TheVariants.{Play, Pair, Listing, Serve, Host}
 
 -- a beginning of the first part is one of both
 pub begins_first : (a b : Option (List ℕ)) (xs ys : List ℕ) → AppendsBeginning a b xs → AppendsBeginning a b (xs ++ ys)
@@ -71,9 +73,19 @@ of_listing (list.BadLine n) = omega arith
 of_listing list.NoMemory = omega arith
 of_listing list.TooManyLines = omega arith
 
+of_hosting : (f : HostingFault) → 2 ≤ status_of (Host f)
+of_hosting (host.BadLine n) = omega arith
+of_hosting host.Read = omega arith
+of_hosting host.Write = omega arith
+of_hosting host.Listen = omega arith
+of_hosting host.NoMemory = omega arith
+of_hosting host.WornOut = omega arith
+of_hosting host.Unsaid = omega arith
+
 -- a fault's status is none of a run that met none
 pub fault_status : (f : RunFault) → 2 ≤ status_of f
 fault_status (Play f) = of_play f
 fault_status (Pair f) = of_pair f
 fault_status (Listing f) = of_listing f
 fault_status (Serve f) = omega arith
+fault_status (Host f) = of_hosting f

@@ -17,8 +17,9 @@ use Rattle.bidi_pair.specs.Pairs as pairs
 use Rattle.bidi_pair.specs.Pairs.{PairsAll}
 use Rattle.bidi_pair.specs.declared.reading.PairFault.TheVariants as pair
 use Rattle.bidi_serve.specs.declared.listening.ServeFault.TheVariants as serve
+use Rattle.bidi_hosting.specs.declared.fault.HostingFault.TheVariants as host
 use Rattle.bidi_programs.specs.declared.faults.RunFault.{RunFault}
-use Rattle.bidi_programs.specs.declared.faults.RunFault.TheVariants.{Play, Pair, Listing, Serve}
+use Rattle.bidi_programs.specs.declared.faults.RunFault.TheVariants.{Play, Pair, Listing, Serve, Host}
 
 -- A run that met no fault has worked on all bytes. Its status is 0, but 1 where a check found a line to refuse.
 abbrev pub Completes : Run → ℕ → List ℕ → List ℕ → Type 0
@@ -27,8 +28,9 @@ Completes asked.Pair status read wrote = (status ≡ 0) × PairsAll read wrote
 Completes (asked.Reduce session) status read wrote = (status ≡ 0) × ReducesAll session read wrote
 Completes (asked.Show side) status read wrote = (status ≡ 0) × ListsAll All side read wrote
 Completes (asked.Check side) status read wrote = (status ≡ (if nat_lt 0 (length wrote) then 1 else 0)) × ListsAll RefusedAlone side read wrote
--- nothing is served over streams alone
+-- nothing is served or hosted over streams alone
 Completes (asked.Serve serving) status read wrote = ⊥
+Completes (asked.Host hosting) status read wrote = ⊥
 
 -- A run that met a fault met one of its own, which says what was read and written before it.
 abbrev pub Stops : Run → RunFault → Bool → List ℕ → List ℕ → Type 0
@@ -38,6 +40,7 @@ Stops (asked.Reduce session) (Play fault) at_end read wrote = reduces.StopsAt se
 Stops (asked.Show side) (Listing fault) at_end read wrote = lists.StopsAt All side fault at_end read wrote
 Stops (asked.Check side) (Listing fault) at_end read wrote = lists.StopsAt RefusedAlone side fault at_end read wrote
 Stops (asked.Serve serving) (Serve serve.Listen) at_end read wrote = (read ≡ []) × (wrote ≡ [])
+Stops (asked.Host hosting) (Host host.Listen) at_end read wrote = (read ≡ []) × (wrote ≡ [])
 Stops run fault at_end read wrote = ⊥
 
 -- how many reads fail for the fault
@@ -46,6 +49,7 @@ failed_reads (Play fault) = plays.failed_reads fault
 failed_reads (Pair fault) = pairs.failed_reads fault
 failed_reads (Listing fault) = lists.failed_reads fault
 failed_reads (Serve fault) = 0
+failed_reads (Host fault) = 0
 
 -- how many writes fail for it
 abbrev pub failed_writes : RunFault → ℕ
@@ -53,6 +57,7 @@ failed_writes (Play fault) = plays.failed_writes fault
 failed_writes (Pair fault) = pairs.failed_writes fault
 failed_writes (Listing fault) = lists.failed_writes fault
 failed_writes (Serve fault) = 0
+failed_writes (Host fault) = 0
 
 -- the status of a program that it ends: 2 at a bad line, else 3
 abbrev pub status_of : RunFault → ℕ
@@ -60,6 +65,8 @@ status_of (Play fault) = plays.status_of fault
 status_of (Pair fault) = pairs.status_of fault
 status_of (Listing fault) = lists.status_of fault
 status_of (Serve fault) = 3
+status_of (Host (host.BadLine n)) = 2
+status_of (Host fault) = 3
 
 -- the line that tells it, with its line feed
 abbrev pub line_of : RunFault → List ℕ
@@ -82,6 +89,13 @@ line_of (Listing list.TooManyLines) = codes "bidi: too many steps\n"
 line_of (Serve serve.Listen) = codes "bidi: cannot listen\n"
 line_of (Serve serve.NoMemory) = codes "bidi: out of memory\n"
 line_of (Serve serve.WornOut) = codes "bidi: too many steps\n"
+line_of (Host (host.BadLine n)) = codes "bidi: line " ++ decimal n ++ codes " is no line of a page\n"
+line_of (Host host.Read) = codes "bidi: input cannot be read\n"
+line_of (Host host.Write) = codes "bidi: record cannot be written\n"
+line_of (Host host.Listen) = codes "bidi: cannot listen\n"
+line_of (Host host.NoMemory) = codes "bidi: out of memory\n"
+line_of (Host host.WornOut) = codes "bidi: too many steps\n"
+line_of (Host host.Unsaid) = codes "bidi: a text cannot be recorded\n"
 
 -- a sink was told a line: the whole, or a beginning of it where the sink failed
 abbrev pub Tells : Option (List ℕ) → Option (List ℕ) → ℕ → ℕ → List ℕ → Type 0

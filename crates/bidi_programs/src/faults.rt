@@ -4,6 +4,7 @@ ghost use Rattle.std.specs.Io.KnownBytes.{Appends};
 ghost use Rattle.bidi_lines.specs.Devices.{AppendsBeginning, CountsFailure};
 ghost use Rattle.bidi_programs.specs.Runs.{Tells, line_of, status_of, with_number};
 
+use bidi_hosting::HostingFault;
 use bidi_lines::{DeviceFault, Sink, write_all};
 use bidi_pair::PairFault;
 use bidi_play::PlayFault;
@@ -22,6 +23,8 @@ pub enum RunFault {
     Listing(ShowFault),
     /// `serve` stopped, for this cause.
     Serve(ServeFault),
+    /// `host` stopped, for this cause.
+    Host(HostingFault),
 }
 
 impl RunFault {
@@ -33,6 +36,7 @@ impl RunFault {
             RunFault::Play(PlayFault::BadLine(_)) => 2,
             RunFault::Pair(PairFault::BadLine(_)) => 2,
             RunFault::Listing(ShowFault::BadLine(_)) => 2,
+            RunFault::Host(HostingFault::BadLine(_)) => 2,
             _ => 3,
         }
     }
@@ -55,22 +59,32 @@ impl RunFault {
             RunFault::Play(PlayFault::BadLine(number)) => (Some(number), " is no play line\n"),
             RunFault::Pair(PairFault::BadLine(number)) => (Some(number), " is no pair line\n"),
             RunFault::Listing(ShowFault::BadLine(number)) => (Some(number), " is no text line\n"),
+            RunFault::Host(HostingFault::BadLine(number)) => {
+                (Some(number), " is no line of a page\n")
+            }
             RunFault::Play(PlayFault::Read)
             | RunFault::Pair(PairFault::Read)
-            | RunFault::Listing(ShowFault::Read) => (None, "bidi: input cannot be read\n"),
+            | RunFault::Listing(ShowFault::Read)
+            | RunFault::Host(HostingFault::Read) => (None, "bidi: input cannot be read\n"),
             RunFault::Play(PlayFault::Write)
             | RunFault::Pair(PairFault::Write)
             | RunFault::Listing(ShowFault::Write) => (None, "bidi: output cannot be written\n"),
             RunFault::Play(PlayFault::NoMemory)
             | RunFault::Pair(PairFault::NoMemory)
             | RunFault::Listing(ShowFault::NoMemory)
-            | RunFault::Serve(ServeFault::NoMemory) => (None, "bidi: out of memory\n"),
+            | RunFault::Serve(ServeFault::NoMemory)
+            | RunFault::Host(HostingFault::NoMemory) => (None, "bidi: out of memory\n"),
             RunFault::Play(PlayFault::WornOut)
             | RunFault::Pair(PairFault::TooManyLines)
             | RunFault::Pair(PairFault::WornOut)
             | RunFault::Listing(ShowFault::TooManyLines)
-            | RunFault::Serve(ServeFault::WornOut) => (None, "bidi: too many steps\n"),
-            RunFault::Serve(ServeFault::Listen) => (None, "bidi: cannot listen\n"),
+            | RunFault::Serve(ServeFault::WornOut)
+            | RunFault::Host(HostingFault::WornOut) => (None, "bidi: too many steps\n"),
+            RunFault::Serve(ServeFault::Listen) | RunFault::Host(HostingFault::Listen) => {
+                (None, "bidi: cannot listen\n")
+            }
+            RunFault::Host(HostingFault::Write) => (None, "bidi: record cannot be written\n"),
+            RunFault::Host(HostingFault::Unsaid) => (None, "bidi: a text cannot be recorded\n"),
         }
     }
 }

@@ -11,4 +11,4 @@ mod running;
 
 pub use faults::RunFault;
 pub use pairing::play_pair;
-pub use running::{run, serving_status};
+pub use running::{hosting_status, run, serving_status};

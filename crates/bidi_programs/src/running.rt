@@ -9,6 +9,7 @@ ghost use Rattle.bidi_programs.specs.Runs.{Completes, Stops, Tells, failed_reads
 use super::faults::RunFault;
 use super::pairing::play_pair;
 use bidi_command_line::Run;
+use bidi_hosting::HostingFault;
 use bidi_lines::{Sink, Source};
 use bidi_play::play;
 use bidi_reduce::reduce;
@@ -22,8 +23,8 @@ use std::alloc::Global;
 /// where input, output or memory failed or the steps or lines are used up. A fault is written to `faults` as
 /// one line; whether that write succeeds does not change the status.
 ///
-/// `serve` needs a listener, which streams alone do not give. So for it the fault is that the program cannot
-/// listen, with status 3, and nothing is read or written. The crate `bidi_serve` serves.
+/// `serve` and `host` need a listener, which streams alone do not give. So for them the fault is that the program
+/// cannot listen, with status 3, and nothing is read or written. The crates `bidi_serve` and `bidi_hosting` listen.
 pub fn run<R: Source, W: Sink, F: Sink>(
     alloc: Global,
     run: &Run,
@@ -90,6 +91,7 @@ fn finish<R: Source, W: Sink>(
             Err(fault) => Err(RunFault::Listing(fault)),
         },
         Run::Serve(_) => Err(RunFault::Serve(ServeFault::Listen)),
+        Run::Host(_) => Err(RunFault::Host(HostingFault::Listen)),
     }
 }
 
@@ -103,6 +105,22 @@ pub fn serving_status<F: Sink>(served: Result<(), ServeFault>, faults: &mut F) -
         Ok(()) => 0,
         Err(fault) => {
             let fault = RunFault::Serve(fault);
+            fault.report(faults);
+            fault.status()
+        }
+    }
+}
+
+/// The status of a program that hosted: 0 where it was told to end, else that of the fault. The fault is
+/// written to `faults` as one line; whether that write succeeds does not change the status.
+pub fn hosting_status<F: Sink>(hosted: Result<(), HostingFault>, faults: &mut F) -> u8
+    ensures { MatchResult hosted (λ _. (result ≡ 0) × (faults.new ≡ faults.old)) (λ f. (result ≡ status_of (fault.Host f))
+        × Tells (F.contents faults.old) (F.contents faults.new) (F.failures faults.old) (F.failures faults.new) (line_of (fault.Host f))) }
+{
+    match hosted {
+        Ok(()) => 0,
+        Err(fault) => {
+            let fault = RunFault::Host(fault);
             fault.report(faults);
             fault.status()
         }

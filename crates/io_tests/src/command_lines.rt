@@ -1,6 +1,6 @@
 //! Command lines, and the runs or the texts that they give.
 use super::told::check_text;
-use bidi_command_line::{LineFault, Run, command_line};
+use bidi_command_line::{HostFiles, HostOptions, LineFault, Run, command_line, host_files};
 use bidi_lines::Side;
 use std::alloc::{AllocError, Global};
 use std::test::Fail;
@@ -66,6 +66,46 @@ usage: serve --port 0 --connections 1 --messages 0
 usage: serve --port 0 --connections 1 --messages 100001
 usage: serve --port 0 --port 1 --connections 1 --messages 1
 usage: serve play --port 0 --connections 1 --messages 1
+host 9222 - -: host
+host 9222 - -: host --
+host 0 - -: host --port 0
+host 65535 - -: host --port=65535
+host 4444 stdin end-sessions lenient p.txt r.txt: host --port 4444 --page p.txt --stdin --record r.txt --end-sessions --lenient
+host 1 stdin end-sessions lenient a b: host --lenient --end-sessions --record=b --stdin --page=a --port=1
+host 9222 stdin - -: host --stdin
+host 9222 end-sessions - -: host --end-sessions
+host 9222 lenient - -: host --lenient
+host 9222 p.txt -: host --page p.txt
+host 9222 - r.txt: host --record r.txt
+host 9222 -x -: host --page=-x
+host 9222 a=b -: host --page=a=b
+help: host --help
+help: host -h
+usage: host --port
+usage: host --port=
+usage: host --port ''
+usage: host --port x
+usage: host --port -1
+usage: host --port=-1
+usage: host --port 65536
+usage: host --port 1 --port 1
+usage: host --page a --page b
+usage: host --record a --record b
+usage: host --stdin --stdin
+usage: host --end-sessions --end-sessions
+usage: host --lenient --lenient
+usage: host --stdin=true
+usage: host --lenient=
+usage: host --page
+usage: host --record
+usage: host --page -x
+usage: host extra
+usage: host play
+usage: host --connections 1
+usage: host --session 1
+usage: host --len
+usage: serve --stdin --port 0 --connections 1 --messages 1
+usage: play --lenient
 reduce 1: reduce --session 1
 reduce 0: reduce --session=0
 reduce 4294967295: reduce --session 4294967295 --
@@ -98,6 +138,7 @@ Commands:
   show    Writes a line for each text of the standard input
   check   Writes a line for each text of the standard input that is refused
   serve   Serves WebSocket connections, one after another
+  host    Serves many WebSocket connections at once, and pages among them
 
 Options:
   -h, --help  Print help
@@ -142,6 +183,7 @@ fn answer(alloc: Global, line: &str) -> Result<String, AllocError> {
         .map(|word| if word == "''" { "" } else { word })
         .collect::<Vec<&str>>(alloc)?;
     match command_line(alloc, &words) {
+        Ok(Run::Host(options)) => host_text(alloc, options, &words),
         Ok(run) => run_text(alloc, run),
         Err(fault) => kind_and_text(alloc, fault),
     }
@@ -160,6 +202,42 @@ fn run_text(alloc: Global, run: Run) -> Result<String, AllocError> {
                 asked.port, asked.connections, asked.messages
             )
         }
+        Run::Host(_) => String::from_str(alloc, "host"),
+    }
+}
+
+/// What `host` asks for: the port, the flags that are given, and its two files, each `-` where there is none.
+fn host_text(alloc: Global, options: HostOptions, words: &[&str]) -> Result<String, AllocError> {
+    match host_files(alloc, words) {
+        Ok(files) => options_text(alloc, options, &files),
+        Err(_) => String::from_str(alloc, "no files"),
+    }
+}
+
+fn options_text(
+    alloc: Global,
+    options: HostOptions,
+    files: &HostFiles,
+) -> Result<String, AllocError> {
+    let stdin = flag_text(options.reads_input, " stdin");
+    let sessions = flag_text(options.ends_sessions, " end-sessions");
+    let lenient = flag_text(options.is_lenient, " lenient");
+    format!(in alloc;
+        "host {}{stdin}{sessions}{lenient} {} {}",
+        options.port,
+        name_of(&files.page_file),
+        name_of(&files.record_file)
+    )
+}
+
+fn flag_text(is_given: bool, text: &'static str) -> &'static str {
+    if is_given { text } else { "" }
+}
+
+fn name_of(file: &Option<String>) -> &str {
+    match file {
+        Some(name) => name.as_str(),
+        None => "-",
     }
 }
 

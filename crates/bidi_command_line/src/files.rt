@@ -1,0 +1,77 @@
+//! The files that a command line names for `host`.
+ghost use Rattle.std.specs.Prelude.{◌≡◌, [], IfErr, IfOk, option_map, string_bytes};
+ghost use Rattle.clap.specs.Words.{first_of, found_of, rows_of, subcommand_of, subcommand_rows_of};
+ghost use Rattle.bidi_command_line.specs.CommandLine.{AreFilesIn, IsRefusedFor, bidi_app, faults_of, line_of};
+
+use super::asked::{LineFault, command, fault};
+use clap::ArgMatches;
+use std::alloc::Global;
+
+/// The files that a command line of `host` names: the texts of its options.
+#[derive(Debug, Drop)]
+pub struct HostFiles {
+    /// `--page`: the file whose lines of a page are played before the program listens.
+    pub page_file: Option<String>,
+    /// `--record`: the file to which each input is appended.
+    pub record_file: Option<String>,
+}
+
+/// The files that the words after the program's name give to `host`.
+///
+/// Call it where [`command_line`](crate::command_line) gives `Run::Host` for the same words: then it fails only
+/// for want of memory. A line of another run names no file.
+///
+/// # Errors
+/// - `Help`, `Usage`: `command_line` refuses the words so too.
+/// - `NoMemory`: an allocation failed.
+pub fn host_files(alloc: Global, words: &[&str]) -> Result<HostFiles, LineFault>
+    // The texts are those that the line gives `--page` and `--record`.
+    ensures ok { IfOk result (AreFilesIn (subcommand_of bidi_app (line_of words.now))) }
+
+    // A line that `clap` takes is refused only where an allocation failed.
+    ensures taken { faults_of (line_of words.now) ≡ [] → IfErr result (λ fault. fault ≡ LineFault.NoMemory) }
+
+    // Any other refusal has its cause among the faults that `clap` finds in the line.
+    ensures err { IfErr result (IsRefusedFor (line_of words.now)) }
+{
+    let Ok(command) = command(alloc) else {
+        return Err(LineFault::NoMemory);
+    };
+    match command.try_get_matches_from(words) {
+        Ok(matches) => files_of(alloc, &matches),
+        Err(error) => Err(fault(alloc, &error)),
+    }
+}
+
+// The files that the options of the subcommand name.
+fn files_of(alloc: Global, matches: &ArgMatches<'_>) -> Result<HostFiles, LineFault>
+    ensures ok { IfOk result (AreFilesIn (subcommand_rows_of matches.now)) }
+    ensures err { IfErr result (λ fault. fault ≡ LineFault.NoMemory) }
+{
+    let Some((_, inner)) = matches.subcommand() else {
+        return Ok(HostFiles {
+            page_file: None,
+            record_file: None,
+        });
+    };
+    let page_file = text_of(alloc, inner, "page")?;
+    let record_file = text_of(alloc, inner, "record")?;
+    Ok(HostFiles {
+        page_file,
+        record_file,
+    })
+}
+
+// The text that an option gives, if it gives one.
+fn text_of(alloc: Global, matches: &ArgMatches<'_>, name: &str) -> Result<Option<String>, LineFault>
+    ensures ok { IfOk result (λ text. option_map string_bytes text ≡ first_of name.now (rows_of (found_of matches.now))) }
+    ensures err { IfErr result (λ fault. fault ≡ LineFault.NoMemory) }
+{
+    let Some(text) = matches.get_str(name) else {
+        return Ok(None);
+    };
+    match String::from_str(alloc, text) {
+        Ok(text) => Ok(Some(text)),
+        Err(_) => Err(LineFault::NoMemory),
+    }
+}

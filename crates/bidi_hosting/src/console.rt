@@ -1,0 +1,110 @@
+//! Lines that come by standard input, some bytes at a time.
+use crate::surroundings::Surroundings;
+use bidi_lines::LONGEST_LINE;
+use std::alloc::{AllocError, Global};
+
+/// How many bytes one read asks for at most.
+const CHUNK: usize = 65_536;
+
+/// What a console has.
+pub(crate) enum Said {
+    /// A line, without its line feed.
+    Line(String),
+    /// A line that is too long, or not UTF-8.
+    NoLine,
+    /// No whole line yet.
+    Nothing,
+}
+
+/// The bytes of standard input that were read, and not given yet.
+#[derive(Drop)]
+pub(crate) struct Console {
+    bytes: Vec<u8>,
+    // How many bytes at the front were given already.
+    start: usize,
+    // Whether what comes is the rest of a line that was too long.
+    is_passing: bool,
+    has_ended: bool,
+}
+
+impl Console {
+    /// A console that has read nothing. Takes no memory.
+    pub(crate) fn new(alloc: Global) -> Console {
+        Console {
+            bytes: Vec::new(alloc),
+            start: 0,
+            is_passing: false,
+            has_ended: false,
+        }
+    }
+
+    /// Whether the input has ended.
+    pub(crate) fn has_ended(&self) -> bool {
+        self.has_ended
+    }
+
+    /// Reads once. A read that fails ends the input.
+    pub(crate) fn read<W: Surroundings>(&mut self, world: &mut W) -> Result<(), AllocError> {
+        let mut chunk = [0u8; CHUNK];
+        match world.read(&mut chunk) {
+            Ok(n) if n > 0 => self.add(&chunk[..n.min(CHUNK)]),
+            _ => {
+                self.has_ended = true;
+                Ok(())
+            }
+        }
+    }
+
+    // Adds bytes at the end, and forgets those that were given.
+    fn add(&mut self, bytes: &[u8]) -> Result<(), AllocError> {
+        let given = self.start.min(self.bytes.len());
+        let rest = self.bytes.len() - given;
+        self.bytes.rotate_left(given);
+        self.bytes.truncate(rest);
+        self.start = 0;
+        self.bytes.extend_from_slice(bytes)
+    }
+
+    /// The next line. At the end of the input, bytes without a line feed are no line.
+    pub(crate) fn next(&mut self, alloc: Global) -> Result<Said, AllocError> {
+        if self.is_passing {
+            self.pass();
+        }
+        let start = self.start.min(self.bytes.len());
+        let held = &self.bytes[start..];
+        if let Some(end) = held.iter().position(|b| *b == b'\n') {
+            let said = line_said(alloc, &held[..end])?;
+            self.start = start.saturating_add(end).saturating_add(1);
+            return Ok(said);
+        }
+        if held.len() > LONGEST_LINE || (self.has_ended && !held.is_empty()) {
+            self.start = self.bytes.len();
+            self.is_passing = true;
+            return Ok(Said::NoLine);
+        }
+        Ok(Said::Nothing)
+    }
+
+    // Passes over the rest of a line that was too long, up to its line feed.
+    fn pass(&mut self) {
+        let start = self.start.min(self.bytes.len());
+        match self.bytes[start..].iter().position(|b| *b == b'\n') {
+            Some(end) => {
+                self.start = start.saturating_add(end).saturating_add(1);
+                self.is_passing = false;
+            }
+            None => self.start = self.bytes.len(),
+        }
+    }
+}
+
+// What the bytes of a line are.
+fn line_said(alloc: Global, line: &[u8]) -> Result<Said, AllocError> {
+    if line.len() > LONGEST_LINE {
+        return Ok(Said::NoLine);
+    }
+    match std::str::from_utf8(line) {
+        Ok(line) => Ok(Said::Line(String::from_str(alloc, line)?)),
+        Err(_) => Ok(Said::NoLine),
+    }
+}

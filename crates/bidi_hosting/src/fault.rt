@@ -1,0 +1,46 @@
+//! Why hosting ended.
+use bidi_host::HostFault;
+use std::alloc::AllocError;
+use thiserror::Error;
+
+/// Why hosting ended before it was told to. The browser is gone, with its sessions.
+#[derive(Clone, Copy, Debug, PartialEq, Eq, Error)]
+pub enum HostingFault {
+    /// The line of this number, counted from 1, of the file of a page is no line of a page.
+    #[error("line {0} is no line of a page")]
+    BadLine(u64),
+    /// The file of a page, or standard input, cannot be read.
+    #[error("input cannot be read")]
+    Read,
+    /// The record cannot be written. What was recorded is whole lines.
+    #[error("record cannot be written")]
+    Write,
+    /// No connection can be accepted, or none waited for. Try another port.
+    #[error("cannot listen")]
+    Listen,
+    /// An allocation failed.
+    #[error("out of memory")]
+    NoMemory,
+    /// The remote end has taken 1,000,000,000 steps. Host again, over a new one.
+    #[error("too many steps")]
+    WornOut,
+    /// No line of a play can say what came in.
+    #[error("a text cannot be recorded")]
+    Unsaid,
+}
+
+impl From<AllocError> for HostingFault {
+    fn from(_: AllocError) -> HostingFault {
+        HostingFault::NoMemory
+    }
+}
+
+impl From<HostFault> for HostingFault {
+    fn from(error: HostFault) -> HostingFault {
+        match error {
+            HostFault::NoMemory => HostingFault::NoMemory,
+            HostFault::WornOut => HostingFault::WornOut,
+            HostFault::Unsaid => HostingFault::Unsaid,
+        }
+    }
+}

@@ -1,0 +1,22 @@
+//! Hosting a remote end for many WebSocket connections at once, in one thread.
+//!
+//! [`Hosted::serve`] waits for the sockets of its clients by `mio`, and never for one of them. Each text that a step
+//! gives goes to its connection, whichever asked. On the resource `/page` a connection speaks lines of a page. What
+//! lies round it, as the clock, the record and standard input, is a [`Surroundings`].
+#![tactic(auto)]
+
+mod console;
+mod door;
+mod fault;
+mod hosting;
+mod page_file;
+mod peers;
+mod sessions;
+mod surroundings;
+
+pub use bidi_peer::MOST_WAITING;
+pub use door::Door;
+pub use fault::HostingFault;
+pub use hosting::{Hosted, Manners};
+pub use page_file::page_lines;
+pub use surroundings::Surroundings;

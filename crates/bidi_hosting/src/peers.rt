@@ -1,0 +1,365 @@
+//! The connections that are held, each at a place of its own.
+use bidi_peer::{Came, Ending, Peer, Refusal};
+use bidi_tree::JsUint;
+use mio::net::TcpStream;
+use std::alloc::{AllocError, Global};
+use std::time::Instant;
+
+/// How many connections are held at most, those in their handshake and those that are closing counted.
+const MOST_PEERS: usize = 512;
+
+/// What a connection is to the host.
+#[derive(Clone, Copy, Debug, PartialEq, Eq)]
+pub(crate) enum Role {
+    /// Its handshake is not done.
+    Arriving,
+    /// A connection of the remote end, by its number.
+    Client(JsUint),
+    /// A connection that speaks lines of a page.
+    Page,
+    /// It is being closed.
+    Leaving,
+}
+
+/// A connection that is held.
+#[derive(Drop)]
+struct Slot {
+    peer: Peer<TcpStream>,
+    role: Role,
+    // When it is dropped, whatever it does.
+    deadline: Option<Instant>,
+    // Something may have come in that was not taken.
+    is_ready: bool,
+    // Something may wait that can be written.
+    is_due: bool,
+}
+
+impl Slot {
+    // Whether the connection has ended and nobody has taken note of it.
+    fn has_failed(&self) -> bool {
+        let speaks = matches!(self.role, Role::Client(_) | Role::Page);
+        speaks && !self.peer.is_open()
+    }
+
+    // What came in, and what the connection is.
+    fn take(&mut self) -> Result<(Role, Came), AllocError> {
+        let came = self.peer.take()?;
+        if let Came::Nothing = &came {
+            self.is_ready = false;
+        }
+        Ok((self.role, came))
+    }
+
+    // Writes what waits, as far as the stream takes it.
+    fn flush(&mut self) {
+        self.peer.flush();
+        self.is_due = false;
+        if self.has_failed() {
+            self.is_ready = true;
+        }
+    }
+
+    // The connection is closed behind what waits, and dropped at the deadline.
+    fn close(&mut self, ending: Ending, deadline: Option<Instant>) -> Result<(), AllocError> {
+        self.role = Role::Leaving;
+        self.deadline = deadline;
+        self.is_ready = true;
+        self.is_due = true;
+        self.peer.close(ending)
+    }
+
+    // Queues a text.
+    fn send(&mut self, text: &str) -> Result<(), AllocError> {
+        self.is_due = true;
+        self.peer.send(text)?;
+        if self.has_failed() {
+            self.is_ready = true;
+        }
+        Ok(())
+    }
+}
+
+/// The place of the connection of a number.
+#[derive(Clone, Copy)]
+struct Route {
+    conn: u64,
+    place: usize,
+}
+
+/// The connections that are held. A place is used again when its connection is gone.
+#[derive(Drop)]
+pub(crate) struct Peers {
+    slots: Vec<Option<Slot>>,
+    routes: Vec<Route>,
+}
+
+impl Peers {
+    /// No connection. Takes no memory.
+    pub(crate) fn new(alloc: Global) -> Peers {
+        Peers {
+            slots: Vec::new(alloc),
+            routes: Vec::new(alloc),
+        }
+    }
+
+    /// How many places there are. Each connection is at one below.
+    pub(crate) fn len(&self) -> usize {
+        self.slots.len()
+    }
+
+    /// Whether none is held.
+    pub(crate) fn is_empty(&self) -> bool {
+        self.slots.iter().all(|slot| slot.is_none())
+    }
+
+    /// How many connections of the remote end are open.
+    pub(crate) fn clients(&self) -> usize {
+        self.routes.len()
+    }
+
+    /// The first free place, if there is one.
+    pub(crate) fn free(&self) -> Option<usize> {
+        match self.slots.iter().position(|slot| slot.is_none()) {
+            Some(place) => Some(place),
+            None if self.slots.len() < MOST_PEERS => Some(self.slots.len()),
+            None => None,
+        }
+    }
+
+    /// Puts a connection at a place that is free. Its handshake has until the deadline.
+    pub(crate) fn put(
+        &mut self,
+        place: usize,
+        peer: Peer<TcpStream>,
+        deadline: Option<Instant>,
+    ) -> Result<(), AllocError> {
+        let slot = Some(Slot {
+            peer,
+            role: Role::Arriving,
+            deadline,
+            is_ready: true,
+            is_due: false,
+        });
+        match self.slots.get_mut(place) {
+            Some(there) => *there = slot,
+            None => self.slots.push(slot)?,
+        }
+        Ok(())
+    }
+
+    /// The stream at a place can be read or written again.
+    pub(crate) fn wake(&mut self, place: usize) {
+        if let Some(Some(slot)) = self.slots.get_mut(place) {
+            slot.is_ready = true;
+            slot.is_due = true;
+        }
+    }
+
+    /// Whether something may have come in at a place.
+    pub(crate) fn is_ready(&self, place: usize) -> bool {
+        match self.slots.get(place) {
+            Some(Some(slot)) => slot.is_ready,
+            _ => false,
+        }
+    }
+
+    /// Whether something may have come in anywhere.
+    pub(crate) fn is_any_ready(&self) -> bool {
+        self.slots.iter().any(|slot| match slot {
+            Some(slot) => slot.is_ready,
+            None => false,
+        })
+    }
+
+    /// What came in at a place, and what the connection is.
+    pub(crate) fn take(&mut self, place: usize) -> Result<(Role, Came), AllocError> {
+        match self.slots.get_mut(place) {
+            Some(Some(slot)) => slot.take(),
+            _ => Ok((Role::Leaving, Came::Nothing)),
+        }
+    }
+
+    /// Answers a handshake: the connection at a place is open, as this.
+    pub(crate) fn open(&mut self, place: usize, role: Role) -> Result<(), AllocError> {
+        if let Role::Client(conn) = role {
+            self.routes.push(Route {
+                conn: conn.value,
+                place,
+            })?;
+        }
+        if let Some(Some(slot)) = self.slots.get_mut(place) {
+            slot.role = role;
+            slot.deadline = None;
+            slot.is_due = true;
+            slot.peer.open()?;
+        }
+        Ok(())
+    }
+
+    /// Refuses a handshake.
+    pub(crate) fn refuse(&mut self, place: usize, refusal: Refusal) -> Result<(), AllocError> {
+        if let Some(Some(slot)) = self.slots.get_mut(place) {
+            slot.role = Role::Leaving;
+            slot.is_due = true;
+            slot.peer.refuse(refusal)?;
+        }
+        Ok(())
+    }
+
+    /// Queues a text for the connection at a place.
+    pub(crate) fn send_to(&mut self, place: usize, text: &str) -> Result<(), AllocError> {
+        match self.slots.get_mut(place) {
+            Some(Some(slot)) => slot.send(text),
+            _ => Ok(()),
+        }
+    }
+
+    /// Queues a text for the connection of a number, where it is held.
+    pub(crate) fn send(&mut self, conn: JsUint, text: &str) -> Result<(), AllocError> {
+        match self.place_of(conn) {
+            Some(place) => self.send_to(place, text),
+            None => Ok(()),
+        }
+    }
+
+    // The place of the connection of a number.
+    fn place_of(&self, conn: JsUint) -> Option<usize> {
+        let route = self.routes.iter().find(|route| route.conn == conn.value)?;
+        Some(route.place)
+    }
+
+    // Forgets the number of a connection.
+    fn forget(&mut self, conn: JsUint) {
+        if let Some(at) = self
+            .routes
+            .iter()
+            .position(|route| route.conn == conn.value)
+        {
+            self.routes.swap_remove(at);
+        }
+    }
+
+    /// The connection of a number is closed by the remote end.
+    pub(crate) fn close(
+        &mut self,
+        conn: JsUint,
+        deadline: Option<Instant>,
+    ) -> Result<(), AllocError> {
+        let found = self.place_of(conn);
+        self.forget(conn);
+        match found {
+            Some(place) => self.close_at(place, Ending::Done, deadline),
+            None => Ok(()),
+        }
+    }
+
+    // Closes the connection at a place.
+    fn close_at(
+        &mut self,
+        place: usize,
+        ending: Ending,
+        deadline: Option<Instant>,
+    ) -> Result<(), AllocError> {
+        match self.slots.get_mut(place) {
+            Some(Some(slot)) => slot.close(ending, deadline),
+            _ => Ok(()),
+        }
+    }
+
+    /// The connection at a place has ended; it is dropped at the deadline, if its answer does not go out before.
+    pub(crate) fn leave(&mut self, place: usize, role: Role, deadline: Option<Instant>) {
+        if let Role::Client(conn) = role {
+            self.forget(conn);
+        }
+        if let Some(Some(slot)) = self.slots.get_mut(place) {
+            slot.role = Role::Leaving;
+            slot.deadline = deadline;
+            slot.is_due = true;
+        }
+    }
+
+    /// Closes all connections of the remote end, and with `pages` those of pages, too.
+    pub(crate) fn close_all(
+        &mut self,
+        pages: bool,
+        deadline: Option<Instant>,
+    ) -> Result<(), AllocError> {
+        self.routes.clear();
+        for slot in self.slots.iter_mut() {
+            if let Some(slot) = slot {
+                if is_closed_with(slot.role, pages) {
+                    slot.close(Ending::GoingAway, deadline)?;
+                }
+            }
+        }
+        Ok(())
+    }
+
+    /// Writes what waits, as far as the streams take it, and drops the connections that are over.
+    pub(crate) fn flush(&mut self) {
+        for slot in self.slots.iter_mut() {
+            if flushed_is_over(slot) {
+                *slot = None;
+            }
+        }
+    }
+
+    /// Drops the connections whose deadline has passed. Tells the next deadline.
+    pub(crate) fn expire(&mut self, now: Instant) -> Option<Instant> {
+        let mut next = None;
+        for slot in self.slots.iter_mut() {
+            if is_past(slot, now) {
+                *slot = None;
+            } else {
+                next = earlier(next, deadline_of(slot));
+            }
+        }
+        next
+    }
+}
+
+// Whether a connection is closed at a reset, or with `pages` at the end.
+fn is_closed_with(role: Role, pages: bool) -> bool {
+    match role {
+        Role::Client(_) => true,
+        Role::Page | Role::Arriving => pages,
+        Role::Leaving => false,
+    }
+}
+
+// Writes what waits for a connection, if something may. Tells whether it is over.
+fn flushed_is_over(slot: &mut Option<Slot>) -> bool {
+    match slot {
+        Some(slot) if slot.is_due => {
+            slot.flush();
+            slot.role == Role::Leaving && slot.peer.is_over()
+        }
+        Some(slot) => slot.role == Role::Leaving && slot.peer.is_over(),
+        None => false,
+    }
+}
+
+// When a connection is dropped.
+fn deadline_of(slot: &Option<Slot>) -> Option<Instant> {
+    match slot {
+        Some(slot) => slot.deadline,
+        None => None,
+    }
+}
+
+// Whether a connection's deadline has passed.
+fn is_past(slot: &Option<Slot>, now: Instant) -> bool {
+    match deadline_of(slot) {
+        Some(deadline) => deadline <= now,
+        None => false,
+    }
+}
+
+// The earlier of two moments.
+fn earlier(first: Option<Instant>, second: Option<Instant>) -> Option<Instant> {
+    match (first, second) {
+        (Some(first), Some(second)) => Some(first.min(second)),
+        (None, other) => other,
+        (first, None) => first,
+    }
+}

@@ -1,0 +1,27 @@
+//! The tests of hosting, over loopback.
+#![tactic(auto)]
+
+#[cfg(test)]
+mod broken;
+#[cfg(test)]
+mod clients;
+#[cfg(test)]
+mod files;
+#[cfg(test)]
+mod frames;
+#[cfg(test)]
+mod lab;
+#[cfg(test)]
+mod leniency;
+#[cfg(test)]
+mod records;
+#[cfg(test)]
+mod scenes;
+#[cfg(test)]
+mod serving;
+#[cfg(test)]
+mod steps;
+#[cfg(test)]
+mod words;
+#[cfg(test)]
+mod world;

@@ -1,0 +1,54 @@
+//! A host that serves until it is told to end, over what its clients wrote before.
+use crate::frames::{CLOSE, TEXT, push_frame};
+use crate::lab::{Awaited, Lab};
+use crate::records::check_records;
+use crate::steps::{PLAIN, ask_for, hears};
+use crate::words::spelled_out;
+use std::test::Fail;
+
+#[test]
+fn it_serves_until_it_is_told_to_end(rt: HostRuntime) -> Result<(), Fail> {
+    let lab = Lab::idle(&rt, PLAIN, "at 5\n")?;
+    serve_in(&rt, lab)
+}
+
+/// Serves in a lab.
+fn serve_in(rt: &HostRuntime, lab: Lab) -> Result<(), Fail> {
+    let mut lab = lab;
+    let found = serve_all(rt, &mut lab);
+    drop(lab);
+    found
+}
+
+/// Serves a client that asks for the status, and a page that ends the host. Both write all before it begins.
+fn serve_all(rt: &HostRuntime, lab: &mut Lab) -> Result<(), Fail> {
+    let status = spelled_out(rt.alloc(), "STATUS")?;
+    let client = talk(rt, lab, "/session", status.as_str())?;
+    let page = talk(rt, lab, "/page", "end")?;
+    lab.serve()?;
+    let ready = spelled_out(rt.alloc(), "READY")?;
+    let is_served = reads(lab, client, ready.as_str())?;
+    let is_answered = reads(lab, page, "ok")?;
+    if is_served && is_answered {
+        check_records(lab)
+    } else {
+        Err(Fail::from("they do not read what they asked for"))
+    }
+}
+
+/// A client that has written a head, a text and a close frame.
+fn talk(rt: &HostRuntime, lab: &mut Lab, resource: &str, text: &str) -> Result<usize, Fail> {
+    let place = ask_for(rt, lab, resource, resource)?;
+    let client = lab.client(place)?;
+    push_frame(client.output(), TEXT, text.as_bytes())?;
+    push_frame(client.output(), CLOSE, b"\x03\xe8")?;
+    client.write();
+    Ok(place)
+}
+
+/// Whether the client at a place has read this text, and the end.
+fn reads(lab: &mut Lab, place: usize, text: &str) -> Result<bool, Fail> {
+    lab.has_already(place, Awaited::End)?;
+    let client = lab.client(place)?;
+    Ok(client.has_ended && client.closed.is_some() && hears(client, text)?)
+}
