@@ -9,7 +9,7 @@ pub enum HostingFault {
     /// The line of this number, counted from 1, of the file of a page is no line of a page.
     #[error("line {0} is no line of a page")]
     BadLine(u64),
-    /// The file of a page, or standard input, cannot be read.
+    /// The file of a page cannot be read. Of standard input a failed read is its end.
     #[error("input cannot be read")]
     Read,
     /// The record cannot be written. What was recorded is whole lines.

@@ -13,7 +13,7 @@ pub enum Refusal {
 
 /// An answer after which the connection ends.
 #[derive(Clone, Copy, Debug, PartialEq, Eq)]
-pub enum Answer {
+pub(crate) enum Answer {
     /// The server is up.
     Ready,
     /// What came is no request, or its head is too long.
@@ -69,7 +69,7 @@ impl Answer {
     }
 
     /// The whole answer, head and body.
-    pub fn text(self, alloc: Global) -> Result<String, AllocError> {
+    pub(crate) fn text(self, alloc: Global) -> Result<String, AllocError> {
         let (status, own_lines, line) = (self.status(), self.own_lines(), self.line());
         let length = line.len() + 1;
         format!(in alloc;

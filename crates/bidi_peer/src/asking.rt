@@ -17,7 +17,7 @@ const MOST_HEADERS: usize = 124;
 
 /// What the bytes at the front of a stream are.
 #[derive(Drop)]
-pub enum Asked {
+pub(crate) enum Asked {
     /// The beginning of a head.
     Part,
     /// A request for a WebSocket, whose head has so many bytes.
@@ -33,12 +33,12 @@ pub enum Asked {
 /// Whether the bytes at the front of a stream are to be judged, where the first `known` were judged before: at their first,
 /// at the end of a line, and where they are too long. So a head that comes in single bytes costs little more than one that
 /// comes whole.
-pub fn is_to_judge(bytes: &[u8], known: usize) -> bool {
+pub(crate) fn is_to_judge(bytes: &[u8], known: usize) -> bool {
     known == 0 || bytes.len() > LONGEST_HEAD || bytes.iter().skip(known).any(|byte| *byte == b'\n')
 }
 
 /// Judges the bytes at the front of a stream.
-pub fn judge(alloc: Global, bytes: &[u8]) -> Result<Asked, AllocError> {
+pub(crate) fn judge(alloc: Global, bytes: &[u8]) -> Result<Asked, AllocError> {
     let mut spans = [EMPTY_HEADER_SPAN; MOST_HEADERS];
     match parse_request(bytes, &mut spans) {
         Ok(Status::Partial) if bytes.len() <= LONGEST_HEAD => Ok(Asked::Part),

@@ -13,7 +13,7 @@ const ROOM: usize = 16 * 1024;
 
 /// What a read of a stream gave.
 #[derive(Clone, Copy, Debug, PartialEq, Eq)]
-pub enum Filled {
+pub(crate) enum Filled {
     /// Bytes came.
     Some,
     /// Nothing came for now.
@@ -26,7 +26,7 @@ pub enum Filled {
 
 /// The bytes from `start` to `end`; those behind are room for a read.
 #[derive(Drop)]
-pub struct Inbox {
+pub(crate) struct Inbox {
     alloc: Global,
     bytes: Vec<u8>,
     start: usize,
@@ -43,7 +43,7 @@ impl Model for Inbox {
 
 impl Inbox {
     /// An empty one. Takes no memory.
-    pub fn new(alloc: Global) -> Inbox {
+    pub(crate) fn new(alloc: Global) -> Inbox {
         Inbox {
             alloc,
             bytes: Vec::new(alloc),
@@ -53,17 +53,17 @@ impl Inbox {
     }
 
     /// The bytes that wait.
-    pub fn waiting(&self) -> &[u8] {
+    pub(crate) fn waiting(&self) -> &[u8] {
         &self.bytes[self.start..self.end]
     }
 
     /// The bytes that wait, to be unmasked in place.
-    pub fn waiting_mut(&mut self) -> &mut [u8] {
+    pub(crate) fn waiting_mut(&mut self) -> &mut [u8] {
         &mut self.bytes[self.start..self.end]
     }
 
     /// Takes so many bytes off the front, or all where there are fewer.
-    pub fn take(&mut self, count: usize) {
+    pub(crate) fn take(&mut self, count: usize) {
         self.start += count.min(self.end - self.start);
         if self.start == self.end {
             self.clear();
@@ -71,7 +71,7 @@ impl Inbox {
     }
 
     /// Takes all bytes, and gives back what a long message needed.
-    pub fn clear(&mut self) {
+    pub(crate) fn clear(&mut self) {
         self.start = 0;
         self.end = 0;
         if self.bytes.len() > ROOM {
@@ -80,7 +80,7 @@ impl Inbox {
     }
 
     /// Reads the stream once.
-    pub fn fill<S: Read>(&mut self, stream: &mut S) -> Result<Filled, AllocError> {
+    pub(crate) fn fill<S: Read>(&mut self, stream: &mut S) -> Result<Filled, AllocError> {
         self.make_room()?;
         for _ in 0..usize::MAX {
             match stream.read(&mut self.bytes[self.end..]) {

@@ -12,7 +12,7 @@ const ROOM: usize = 64 * 1024;
 /// The bytes of `first` from `sent` on, and then those of `second`. What is added goes to `second`, so that a write that
 /// takes a part of `first` moves nothing.
 #[derive(Drop)]
-pub struct Outbox {
+pub(crate) struct Outbox {
     alloc: Global,
     first: Vec<u8>,
     sent: usize,
@@ -29,7 +29,7 @@ impl Model for Outbox {
 
 impl Outbox {
     /// An empty one. Takes no memory.
-    pub fn new(alloc: Global) -> Outbox {
+    pub(crate) fn new(alloc: Global) -> Outbox {
         Outbox {
             alloc,
             first: Vec::new(alloc),
@@ -39,29 +39,29 @@ impl Outbox {
     }
 
     /// How many bytes wait.
-    pub fn len(&self) -> usize {
+    pub(crate) fn len(&self) -> usize {
         (self.first.len() - self.sent).saturating_add(self.second.len())
     }
 
     /// Whether no byte waits.
-    pub fn is_empty(&self) -> bool {
+    pub(crate) fn is_empty(&self) -> bool {
         self.len() == 0
     }
 
     /// Where bytes are added.
-    pub fn back(&mut self) -> &mut Vec<u8> {
+    pub(crate) fn back(&mut self) -> &mut Vec<u8> {
         &mut self.second
     }
 
     /// Drops what waits.
-    pub fn clear(&mut self) {
+    pub(crate) fn clear(&mut self) {
         self.sent = 0;
         self.first = Vec::new(self.alloc);
         self.second = Vec::new(self.alloc);
     }
 
     /// Writes what waits, as far as the stream takes it. False where the stream failed.
-    pub fn write_to<S: Write>(&mut self, stream: &mut S) -> bool {
+    pub(crate) fn write_to<S: Write>(&mut self, stream: &mut S) -> bool {
         for _ in 0..usize::MAX {
             if !self.has_first() {
                 return true;

@@ -582,11 +582,6 @@ impl<S: Read + Write + Drop> Peer<S> {
     {
         &self.stream
     }
-
-    /// The stream, to be registered where readiness is asked for. Read and write nothing by it.
-    pub fn stream_mut(&mut self) -> &mut S {
-        &mut self.stream
-    }
 }
 
 // Reads the frame at the front of these bytes: how many it takes, and what it is. A pong or a close frame that answers it

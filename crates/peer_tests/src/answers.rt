@@ -1,10 +1,11 @@
 //! The answers to requests that are not opened.
-use super::rows::{Asked, check_rows};
+
 use super::wires::{Script, Wire, number_of};
 use bidi_peer::{Came, Peer, Refusal};
 use std::alloc::Global;
 use std::cell::RefCell;
 use std::test::Fail;
+use testing::rows::{Asked, check_rows};
 
 /// The lines of a head, with `;` between; found is the status of the answer with the first words of its line of text. A
 /// request that asks for a connection is refused as its word says.

@@ -6,6 +6,4 @@ mod answers;
 #[cfg(test)]
 mod peers;
 #[cfg(test)]
-mod rows;
-#[cfg(test)]
 mod wires;

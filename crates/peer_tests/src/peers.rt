@@ -1,10 +1,11 @@
 //! Connections over streams of given bytes: what each call answers, and what is written.
-use super::rows::{Asked, check_rows};
+
 use super::wires::{Script, Wire, number_of};
 use bidi_peer::{Came, Ending, MOST_WAITING, Peer, Refusal};
 use std::alloc::Global;
 use std::cell::RefCell;
 use std::test::Fail;
+use testing::rows::{Asked, check_rows};
 
 /// What a stream gives and the calls of a connection over it, with `/` between; found are the answers and what was
 /// written.
