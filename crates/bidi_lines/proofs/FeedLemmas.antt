@@ -1,10 +1,12 @@
 -- The first line feed.
-use Rattle.std.proofs.Common.{◌≡◌, ℕ, suc, ◌+◌, ◌-◌, ◌<◌, ◌≤◌, Bool, true, false, ◌||◌, ltb, cond, List, [], ◌∷◌, ◌++◌, length, take}
-use Rattle.std.proofs.Common.{drop, refl, sym, ◌∙◌, ap, ap₂, subst, length-drop, take_all, take-append-drop, arith, Some, None}
+use Rattle.std.proofs.Common.{◌≡◌, ℕ, zero, suc, ◌+◌, ◌-◌, ◌<◌, ◌≤◌, Bool, true, false, ◌||◌, ltb, cond, List, [], ◌∷◌, ◌++◌, length, take}
+use Rattle.std.proofs.Common.{drop, refl, sym, ◌∙◌, ap, ap₂, subst, length-drop, take_all, take-append-drop, arith, Option, Some, None}
 use Rattle.std.proofs.lemmas.List.{drop-drop, drop-take, take-take}
-use Rattle.std.specs.Prelude.{◌==◌, position}
+use Rattle.std.specs.Prelude.{◌==◌, position, slice_index}
 use Rattle.std.specs.List.{list_any, position_or_len}
+use Rattle.std.proofs.lemmas.Bool.{eqb-true, eq-eqb}
 use Rattle.std.proofs.lemmas.Bool.Decides.{nat_tests}
+use Rattle.memchr.specs.Find.{IsFirstByte, is_byte}
 use Rattle.std.proofs.lemmas.List.Folds.{list_any-append}
 use Rattle.bidi_lines.proofs.ResultLemmas.{no_truth}
 use Rattle.std.proofs.Common.{append_assoc}
@@ -40,6 +42,37 @@ some_cond false i n e = cc
 none_cond : (b : Bool) (n : ℕ) → None ≡ cond b (Some n) None → b ≡ false
 none_cond true n e = cc
 none_cond false n e = refl
+
+-- the first byte that is one stands where no byte before it is
+first-place : (bs : List ℕ) (k : ℕ) → k < length bs → slice_index bs k ≡ 10 → ((j : ℕ) → j < k → slice_index bs j ≡ 10 → ⊥) → place bs ≡ k
+first-place [] k less is before = absurd (omega arith)
+first-place (b ∷ bs) zero less is before = grind (arith, nat_tests, is)
+first-place (b ∷ bs) (suc k) less is before =
+    let here : b ≡ 10 → ⊥ = before 0 (omega arith) in
+    let ih = first-place bs k (omega arith) is (λ j lower. before (suc j) (omega arith)) in
+    grind (arith, nat_tests, here, ih)
+
+no-place : (bs : List ℕ) → ((j : ℕ) → j < length bs → slice_index bs j ≡ 10 → ⊥) → place bs ≡ length bs
+no-place [] none = refl
+no-place (b ∷ bs) none =
+    let here : b ≡ 10 → ⊥ = none 0 (omega arith) in
+    let ih = no-place bs (λ j lower. none (suc j) (omega arith)) in
+    grind (arith, nat_tests, here, ih)
+
+-- what a search for the first line feed finds is its place
+pub first_feed : (bs : List ℕ) (r : Option ℕ) → IsFirstByte (is_byte 10) bs r → r ≡ position (λ b. b == 10) bs
+first_feed bs None none =
+    let at = no-place bs (λ j lower is. none j (omega arith) lower (eq-eqb (slice_index bs j) 10 is)) in
+    sym (found_at bs ∙ ap (λ b. cond b (Some (place bs)) None) (not-below at))
+  where
+    not-below : place bs ≡ length bs → ltb (place bs) (length bs) ≡ false
+    not-below at = grind (arith, nat_tests, at)
+first_feed bs (Some k) (first, is) =
+    let at = first-place bs k first.high (eqb-true (slice_index bs k) 10 is)
+    (λ j lower same. first.before j (omega arith) lower (eq-eqb (slice_index bs j) 10 same)) in
+    let high = first.high in
+    let less : ltb (place bs) (length bs) ≡ true = grind (arith, nat_tests, at, high) in
+    sym (found_at bs ∙ (ap (λ b. cond b (Some (place bs)) None) less ∙ ap Some at))
 
 pub feed_some : (bs : List ℕ) (i : ℕ)
     → Some i ≡ position (λ b. b == 10) bs → (bs ≡ take i bs ++ 10 ∷ drop (i + 1) bs) × (has_feed (take i bs) ≡ false) × (i < length bs)
@@ -115,3 +148,32 @@ pub regroup : (front line more : List ℕ) → (front ++ (ended line ++ [])) ++ 
 regroup front line more =
     append_assoc front (ended line ++ []) more
     ∙ ap (λ (z : List ℕ). front ++ z) (append_assoc (ended line) [] more ∙ append_assoc line (10 ∷ []) more)
+
+-- ---- bytes that are read behind others
+
+take-front : (s post tail : List ℕ) (n : ℕ) → n ≤ length s → take n ((s ++ post) ++ tail) ≡ take n s
+take-front s post tail zero le = refl
+take-front [] post tail (suc n) le = absurd (omega arith)
+take-front (b ∷ s) post tail (suc n) le = ap (λ bs. b ∷ bs) (take-front s post tail n (omega arith))
+
+take-behind : (old s post tail : List ℕ) (n k : ℕ) → k ≡ length old + n → n ≤ length s → take k ((old ++ (s ++ post)) ++ tail) ≡ old ++ take n s
+take-behind [] s post tail n k is le = ap (λ (j : ℕ). take j ((s ++ post) ++ tail)) (omega (arith, is)) ∙ take-front s post tail n le
+take-behind (b ∷ old) s post tail n zero is le = absurd (omega (arith, is))
+take-behind (b ∷ old) s post tail n (suc k) is le = ap (λ bs. b ∷ bs) (take-behind old s post tail n k (omega (arith, is)) le)
+
+-- those that were there, and the first of those that were read
+pub read_behind : (old grown s post tail : List ℕ) (h n most : ℕ) → take h grown ≡ old → length old ≡ h → n ≤ length s → h + n ≤ most
+    → take (h + n) (take most ((take h grown ++ (s ++ post)) ++ tail)) ≡ old ++ take n s
+read_behind old grown s post tail h n most front len le within =
+    take-take (h + n) most _ within
+    ∙ (ap (λ (bs : List ℕ). take (h + n) ((bs ++ (s ++ post)) ++ tail)) front ∙ take-behind old s post tail n (h + n) (omega (arith, len)) le)
+
+take-whole : (old rest : List ℕ) → take (length old) (old ++ rest) ≡ old
+take-whole [] rest = refl
+take-whole (b ∷ old) rest = ap (λ bs. b ∷ bs) (take-whole old rest)
+
+-- those that were there, in front of what they were filled up with
+pub filled : (old rest : List ℕ) (h most : ℕ) → length old ≡ h → h ≤ most → take h (take most old ++ rest) ≡ old
+filled old rest h most len le =
+    ap (λ bs. take h (bs ++ rest)) (take_all most old (omega (arith, len)))
+    ∙ (ap (λ (k : ℕ). take k (old ++ rest)) (sym len) ∙ take-whole old rest)

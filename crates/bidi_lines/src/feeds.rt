@@ -1,6 +1,8 @@
 //! Line feeds, which end the lines of an input.
 ghost use Rattle.std.specs.Prelude.{◌≡◌, ◌==◌, position};
 
+use memchr::memchr;
+
 /// How many bytes a line can have, without its line feed.
 pub const LONGEST_LINE: usize = 2_097_152;
 
@@ -8,5 +10,5 @@ pub const LONGEST_LINE: usize = 2_097_152;
 pub fn feed_at(bytes: &[u8]) -> Option<usize>
     ensures { result ≡ position (λ b. b == 10) bytes.now }
 {
-    bytes.iter().position(|b| *b == b'\n')
+    memchr(b'\n', bytes)
 }

@@ -150,7 +150,7 @@ impl LineReader {
 }
 
 // How many bytes one read asks for at most.
-const CHUNK: usize = 4096;
+const CHUNK: usize = 65_536;
 
 // Reads once, and adds the bytes at the end of the buffer. Room is made first, so that no byte is lost.
 fn read_some<S: Source>(source: &mut S, buffer: &mut Vec<u8>) -> Result<usize, InputFault>
@@ -162,11 +162,20 @@ fn read_some<S: Source>(source: &mut S, buffer: &mut Vec<u8>) -> Result<usize, I
     ensures failures { MatchResult result (λ _. S.failures source.new ≡ S.failures source.old)
         (λ fault. S.failures source.new ≡ S.failures source.old + failed_reads fault) }
 {
-    let mut chunk = [0u8; CHUNK];
-    buffer.reserve(CHUNK).map_err(|_| InputFault::NoMemory)?;
-    let n = source.read(&mut chunk).map_err(|_| InputFault::Read)?;
-    buffer.extend_from_slice(&chunk[..n]).unwrap();
-    Ok(n)
+    let held = buffer.len();
+    let Ok(()) = buffer.resize(held.saturating_add(CHUNK), 0) else {
+        return Err(InputFault::NoMemory);
+    };
+    match source.read(&mut buffer[held..]) {
+        Ok(n) => {
+            buffer.truncate(held + n);
+            Ok(n)
+        }
+        Err(_) => {
+            buffer.truncate(held);
+            Err(InputFault::Read)
+        }
+    }
 }
 
 // Removes so many bytes from the front.
@@ -174,9 +183,11 @@ fn drop_front(bytes: &mut Vec<u8>, n: usize)
     requires { n ≤ vec_len bytes.old }
     ensures { bytes.new.items ≡ drop n bytes.old.items }
 {
-    let rest = bytes.len() - n;
-    bytes.rotate_left(n);
-    bytes.truncate(rest);
+    if n > 0 {
+        let rest = bytes.len() - n;
+        bytes.copy_within(n.., 0);
+        bytes.truncate(rest);
+    }
 }
 
 // The place of the first line feed, where none stands among the first `seen` bytes.
