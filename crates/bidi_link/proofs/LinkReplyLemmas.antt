@@ -90,7 +90,9 @@ pub record ReadsAsEvent (s : List ℕ) (e : Event) : Type 0 where
   pub reads : tree_of s ≡ Some (event.ghosts.shape.tree_of e)
 
 pub event_reads : (s : List ℕ) → IsEventText s → IsMessageText ghosts.shape s → (e : Event) × ReadsAsEvent s e
-event_reads s is reads = by_message reads.0 reads.3 (reads.4 is.0 is.1 is.2)
+event_reads s is reads =
+    let (m, well, so, tree) = reads.4 is.0 is.1 is.2 in
+    by_message m (reads.3 ∙ ap Some (sym tree)) so
   where
     by_message : (m : Message) → tree_of s ≡ Some (ghosts.shape.tree_of m) → IsEvent m → (e : Event) × ReadsAsEvent s e
     by_message (message.Response r) tree not_so = absurd not_so

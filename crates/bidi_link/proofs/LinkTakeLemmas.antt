@@ -109,8 +109,8 @@ fits_error t fit is =
 -- what is on its way down fits a message
 fits_message : (s : List ℕ) (t : Node) → tree_of s ≡ Some t → IsMessageText ghosts.shape s → Fits t (rule message_name)
 fits_message s t reads m =
-    let same : Some (ghosts.shape.tree_of m.0) ≡ Some t = sym m.3 ∙ reads in
-    subst (λ u. Fits u (rule message_name)) (ap (λ o. unwrap_or o null) same) (ghosts.shape.fits m.0 m.1)
+    let same : Some m.0 ≡ Some t = sym m.3 ∙ reads in
+    subst (λ u. Fits u (rule message_name)) (ap (λ o. unwrap_or o null) same) m.1
 
 -- ---- one message more
 

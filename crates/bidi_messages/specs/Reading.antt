@@ -36,8 +36,14 @@ abbrev pub IsEvent : Message → Type 0
 IsEvent (Event e) = ⊤
 IsEvent m = ⊥
 
--- the text is that of a well message, and reads back; what is written of an event is an event
+-- the text is compact, its tree fits the rule of messages, and it reads back as that tree; what is written of an event is that of a well event
 abbrev pub IsMessageText : ShapeOf Message → List ℕ → Type 0
 IsMessageText shape s =
-    (m : Message) × shape.well m × (s ≡ compact_text (shape.tree_of m)) × (tree_of_text None s ≡ Some (shape.tree_of m))
-    × ((e : EventName) (params : Node) → s ≡ event_text e params → IsEvent m)
+    (t : Node) × Fits t (rule message) × (s ≡ compact_text t) × (tree_of_text None s ≡ Some t)
+    × ((e : EventName) (params : Node) → s ≡ event_text e params → (m : Message) × shape.well m × IsEvent m × (shape.tree_of m ≡ t))
+
+-- read as a well message, whose text it is, where there is memory
+abbrev pub IsReadAs : ShapeOf Message → List ℕ → Result Message MessageFault → Type 0
+IsReadAs shape s (Ok m) = shape.well m × (s ≡ compact_text (shape.tree_of m))
+IsReadAs shape s (Err NoMemory) = Unit {0}
+IsReadAs shape s (Err e) = ⊥

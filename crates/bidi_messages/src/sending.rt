@@ -1,25 +1,23 @@
 //! The texts that a remote end sends: no member stands beside those of the message's rule.
-ghost use Rattle.std.specs.Prelude.{◌≡◌, ◌≤◌, Some, IfOk, IsSome, string_bytes, option_map};
-ghost use Rattle.bidi_tree.specs.Node.{levels, map};
-ghost use Rattle.bidi_tree.specs.Kind.{map_in};
+ghost use Rattle.std.specs.Prelude.{◌≡◌, ◌≤◌, Some, IfOk, string_bytes, option_map};
+ghost use Rattle.bidi_tree.specs.Node.{levels, IsSound, IsWritable};
+ghost use Rattle.bidi_tree.specs.Outline.{outline_node};
 ghost use Rattle.bidi_tree.specs.Text.{tree_of};
-ghost use Rattle.bidi_shape.specs.ValueLaws.{others_of};
-ghost use Rattle.bidi_messages.specs.Message.{response_tree, response_text, error_text, event_text};
+ghost use Rattle.bidi_messages.specs.Message.{response_tree, response_text, error_tree, error_text, event_text};
 ghost use Rattle.bidi_messages.specs.Reading.{IsMessageText};
 ghost use Rattle.bidi_messages.specs.Payloads.{EventIsWell, ResultIsWell, event_of, event_params, result_tree};
 
 use crate::envelope::outline_envelope;
 use crate::event::EventType;
-use crate::message::{ErrorResponse, Message, Response};
-use crate::text::text_of;
+use crate::message::Message;
 use bidi_methods::{EventData, EventName, Method, Payload, ResultData};
 use bidi_params::ErrorCode;
 use bidi_shape::{Ext, Named, Shape};
-use bidi_tree::{JsUint, Tree, write_outline};
+use bidi_tree::{JsUint, Outline, write_outline};
 use std::alloc::{AllocError, Global};
 
 /// The text of the response to a command: compact, its members in byte order of their names.
-/// The result is used up.
+/// The result is used up. No text of it is copied but into the one that is written.
 ///
 /// # Errors
 /// No memory: an allocation failed.
@@ -38,24 +36,37 @@ pub fn response_text(
         ≡ Some (response_tree id.value (result_tree result_data))) }
     ensures reads_back { IfOk result (λ s. IsMessageText ⟦<Message as Shape>⟧.shape (string_bytes s)) }
 {
-    let members = contents(alloc, result_data)?;
-    let response = Response {
-        id,
-        result: members,
-        ext: Ext::empty(alloc),
-    };
-    text_of(alloc, &response)
+    write_response(alloc, id, result_data)
 }
 
-/// The members of a result. It is used up.
-fn contents<D: Payload<Method>>(alloc: Global, result_data: D) -> Result<Ext, AllocError>
-    requires { IsSome (map_in (D.payload.tree_of result_data)) }
-    ensures { IfOk result (λ e. map (others_of e) ≡ D.payload.tree_of result_data) }
+/// The text of a response. The result is used up here, where its variants do not show.
+fn write_response<D: Payload<Method>>(
+    alloc: Global,
+    id: JsUint,
+    result_data: D,
+) -> Result<String, AllocError>
+    requires { IsWritable (response_tree id.value (D.payload.tree_of result_data)) }
+    ensures text { IfOk result (λ s. string_bytes s ≡ response_text id.value (D.payload.tree_of result_data)) }
+    ensures tree { IfOk result (λ s. tree_of (string_bytes s) ≡ Some (response_tree id.value (D.payload.tree_of result_data))) }
 {
-    let Tree::Map(members) = result_data.to_tree(alloc)? else {
-        unreachable!()
-    };
-    Ok(Ext::of(members))
+    let outline = outline_response(alloc, &id, &result_data)?;
+    write_outline(alloc, &outline)
+}
+
+/// Makes the outline of a response.
+fn outline_response<'a, D: Payload<Method>>(
+    alloc: Global,
+    id: &'a JsUint,
+    result_data: &'a D,
+) -> Result<Outline<'a>, AllocError>
+    ensures tree { IfOk result (λ d. outline_node d ≡ response_tree id.now.value (D.payload.tree_of result_data.now)) }
+    ensures sound { IfOk result (λ d. IsSound (outline_node d)) }
+{
+    let mut members = Vec::with_capacity(alloc, 3)?;
+    members.push(("id", id.outline(alloc)?))?;
+    members.push(("result", result_data.outline(alloc)?))?;
+    members.push(("type", Outline::Text("success")))?;
+    Ok(Outline::Map(members))
 }
 
 /// The text of an event.
@@ -81,13 +92,23 @@ pub fn error_text(alloc: Global, id: Option<JsUint>, code: ErrorCode) -> Result<
     ensures text { IfOk result (λ s. string_bytes s ≡ error_text (option_map (λ n. n.value) id) code) }
     ensures reads_back { IfOk result (λ s. IsMessageText ⟦<Message as Shape>⟧.shape (string_bytes s)) }
 {
-    let message = String::from_str(alloc, code.name())?;
-    let response = ErrorResponse {
-        id,
-        error: code,
-        message,
-        stacktrace: None,
-        ext: Ext::empty(alloc),
-    };
-    text_of(alloc, &response)
+    let outline = outline_error(alloc, &id, code)?;
+    write_outline(alloc, &outline)
+}
+
+/// Makes the outline of an error.
+fn outline_error<'a>(
+    alloc: Global,
+    id: &'a Option<JsUint>,
+    code: ErrorCode,
+) -> Result<Outline<'a>, AllocError>
+    ensures tree { IfOk result (λ d. outline_node d ≡ error_tree (option_map (λ n. n.value) id.now) code) }
+    ensures sound { IfOk result (λ d. IsSound (outline_node d)) }
+{
+    let mut members = Vec::with_capacity(alloc, 4)?;
+    members.push(("error", Outline::Text(code.name())))?;
+    members.push(("id", id.outline(alloc)?))?;
+    members.push(("message", Outline::Text(code.name())))?;
+    members.push(("type", Outline::Text("error")))?;
+    Ok(Outline::Map(members))
 }

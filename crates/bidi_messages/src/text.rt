@@ -1,7 +1,7 @@
 //! The texts of commands and messages, and the message of a text.
 ghost use Rattle.std.specs.Prelude.{◌≡◌, ℕ, Some, None, IfOk, IfErr, string_bytes, nat_le, true, refl};
 ghost use Rattle.bidi_tree.specs.Text.{tree_of, tree_of_text, compact_text};
-ghost use Rattle.bidi_messages.specs.Reading.{IsCause, IsMisfit, ReadsAs};
+ghost use Rattle.bidi_messages.specs.Reading.{IsCause, IsMessageText, IsMisfit, IsReadAs, ReadsAs};
 
 use crate::command::Command;
 use crate::event::Event;
@@ -81,6 +81,8 @@ pub fn read_message(alloc: Global, text: &str) -> Result<Message, MessageFault>
     ensures err { IfErr result (λ e. IsCause e text.now) }
     // The text of a well message reads as that message.
     ensures again { (m : Message) → ReadsAs ⟦<Message as Shape>⟧.shape text.now m result }
+    // What a remote end sends reads as a well message, whose text it is.
+    ensures sent { IsMessageText ⟦<Message as Shape>⟧.shape text.now → IsReadAs ⟦<Message as Shape>⟧.shape text.now result }
 {
     let mut scratch = Scratch::new(alloc);
     read_message_with(alloc, text, &mut scratch)
@@ -101,6 +103,8 @@ pub fn read_message_with<'a>(
     ensures err { IfErr result (λ e. IsCause e text.now) }
     // The text of a well message reads as that message.
     ensures again { (m : Message) → ReadsAs ⟦<Message as Shape>⟧.shape text.now m result }
+    // What a remote end sends reads as a well message, whose text it is.
+    ensures sent { IsMessageText ⟦<Message as Shape>⟧.shape text.now → IsReadAs ⟦<Message as Shape>⟧.shape text.now result }
 {
     match parse(alloc, text, None, scratch) {
         Ok(value) => message_of(alloc, &value),
