@@ -4,6 +4,7 @@ pub mod IdFacts
 pub mod IdLemmas
 pub mod ArgumentFacts
 pub mod ValueLemmas
+pub mod NumberedLemmas
 pub mod SearchLemmas
 pub mod SizeLemmas
 pub mod ResolveLemmas

@@ -1,5 +1,5 @@
 -- What is found in a list, and what passes a test there.
-use Rattle.std.proofs.Common.{◌≡◌, ◌∙◌, ◌+◌, ◌<◌, ℕ, Bool, true, false, List, [], ◌∷◌, ◌++◌, length, get_or}
+use Rattle.std.proofs.Common.{◌≡◌, ◌∙◌, ◌+◌, ◌<◌, ℕ, suc, Bool, true, false, List, [], ◌∷◌, ◌++◌, length, get_or}
 use Rattle.std.proofs.Common.{take, map, filter, append-nil, Option, Some, None, refl, sym, ap, arith}
 use Rattle.std.specs.Prelude.{find, option_map, if◌then◌else◌}
 use Rattle.std.proofs.lemmas.List.{map-append, take_more}
@@ -20,6 +20,11 @@ no_value (Some x) none = absurd (none x refl)
 pub find-map : {A B : Type 0} (f : A → B) (p : B → Bool) (xs : List A) → option_map f (find (λ x. p (f x)) xs) ≡ find p (map f xs)
 find-map f p [] = refl
 find-map f p (x ∷ xs) = let ih = find-map f p xs in grind (arith, ih)
+
+-- there is none where each fails
+pub find-none : {X : Type 0} (p : X → Bool) (xs : List X) → ((k : ℕ) (d : X) → k < length xs → p (get_or xs k d) ≡ false) → find p xs ≡ None
+find-none p [] fails = refl
+find-none p (x ∷ xs) fails = rw (fails 0 x (omega arith)) (find-none p xs (λ k d less. fails (suc k) d (omega arith)))
 
 -- two tests that agree find the same
 pub find-same : {A : Type 0} (p q : A → Bool) (xs : List A) → ((x : A) → p x ≡ q x) → find p xs ≡ find q xs

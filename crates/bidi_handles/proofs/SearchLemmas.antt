@@ -1,12 +1,12 @@
 -- Handles whose numbers ascend: one more that comes, and what a search by halves finds among them.
-use Rattle.std.proofs.Common.{◌≡◌, ◌∙◌, ◌<◌, ◌≤◌, ◌+◌, ◌^◌, ◌||◌, ℕ, zero, suc, Bool, true, false, true≢false, List, [], ◌∷◌, ◌++◌}
+use Rattle.std.proofs.Common.{◌≡◌, ◌∙◌, ◌<◌, ◌≤◌, ◌+◌, ◌^◌, ◌||◌, ℕ, zero, suc, Bool, true, false, List, [], ◌∷◌, ◌++◌}
 use Rattle.std.proofs.Common.{length, get_or, map, take, filter, All, Option, Some, None, IfSome, option_to_list, Result, Ok, Err}
 use Rattle.std.proofs.Common.{MatchResult, is_ok, String, Global, string_bytes, refl, sym, ap, ap₂, subst, arith}
 use Rattle.std.specs.Prelude.{◌==◌, bytes_eq, find, option_map}
 use Rattle.std.specs.List.{list_any}
 use Rattle.std.specs.List.Sorted.{IsSearchInRange, IsBinarySearchResult, IsNonDecreasingBy, IsNonDecreasing, IsStrictlyIncreasing}
 use Rattle.std.specs.Ordering.{nat_cmp, ordering_index}
-use Rattle.std.proofs.lemmas.Bool.Decides.{nat_tests, Decides-eqb}
+use Rattle.std.proofs.lemmas.Bool.Decides.{nat_tests}
 use Rattle.std.proofs.lemmas.Cmp.{ranked}
 use Rattle.std.proofs.Math.Seq.{get_or-append_seam}
 use Rattle.std.proofs.lemmas.List.{get_or-map, get_or_append_left, length-map, length-append, map-append, take_more}
@@ -18,7 +18,8 @@ use Rattle.bidi_handles.specs.declared.id.IdKind.TheVariants as kind
 use Rattle.bidi_handles.specs.declared.handle.Handle.{Handle}
 use Rattle.bidi_handles.specs.Ids.{id_of, has_id}
 use Rattle.bidi_handles.specs.ValuesInHand.{handle_seen, held_tree}
-use Rattle.bidi_handles.proofs.ListLemmas.{agree, find-map, find-same, filter-map}
+use Rattle.bidi_handles.proofs.ListLemmas.{find-map, find-none, filter-map}
+use Rattle.bidi_handles.proofs.NumberedLemmas.{numbered}
 use Rattle.bidi_handles.proofs.ValueLemmas.{same-either}
 
 -- ---- the first that passes a test
@@ -29,11 +30,6 @@ find-here : {X : Type 0} (p : X → Bool) (xs : List X) (i : ℕ) (d : X)
 find-here p [] i d less before here = absurd (omega arith)
 find-here p (x ∷ xs) zero d less before here = rw here refl
 find-here p (x ∷ xs) (suc i) d less before here = rw (before 0 (omega arith)) (find-here p xs i d (omega arith) (λ k lower. before (suc k) (omega arith)) here)
-
--- there is none where each fails
-find-none : {X : Type 0} (p : X → Bool) (xs : List X) → ((k : ℕ) (d : X) → k < length xs → p (get_or xs k d) ≡ false) → find p xs ≡ None
-find-none p [] fails = refl
-find-none p (x ∷ xs) fails = rw (fails 0 x (omega arith)) (find-none p xs (λ k d less. fails (suc k) d (omega arith)))
 
 -- ---- by number
 
@@ -71,23 +67,6 @@ module _ {X : Type 0} (number : X → ℕ) (xs : List X) (ascend : IsStrictlyInc
         grind (arith, nat_tests, before, after))
 
 -- ---- by id
-
--- the first of a number is the first that passes a test which that number passes and no other does
-pub by-number : (t : ℕ → Bool) (n : ℕ) → t n ≡ true
-    → ((m : ℕ) → m < 2 ^ 48 → t m ≡ true → Some n ≡ Some m) → (hs : List Handle) → find (λ h. h.number == n) hs ≡ find (λ h. t h.number) hs
-by-number t n is every hs =
-    find-same (λ h. h.number == n) (λ h. t h.number) hs (λ h. agree (h.number == n) (t h.number)
-    (λ e. ap t ((Decides-eqb h.number n).0 e) ∙ is)
-    (λ e. let one = every h.number h.number_fits e in (Decides-eqb h.number n).1 (cc)))
-
--- where no number passes there is none
-pub by-no-number : (t : ℕ → Bool) → ((m : ℕ) → m < 2 ^ 48 → t m ≡ true → (let none : Option ℕ = None in none ≡ Some m))
-    → (hs : List Handle) → find (λ h. t h.number) hs ≡ None
-by-no-number t every hs = find-none (λ (h : Handle). t h.number) hs (λ k h less. fails (get_or hs k h) (t (get_or hs k h).number) refl)
-  where
-    fails : (h : Handle) (b : Bool) → t h.number ≡ b → t h.number ≡ false
-    fails h true passes = let wrong = every h.number h.number_fits passes in absurd (cc)
-    fails h false passes = passes
 
 -- the value of a handle that was looked for is the one that is seen
 pub value-seen : (t : ℕ → Bool) (hs : List Handle) (o : Option Handle) → o ≡ find (λ h. t h.number) hs
@@ -149,16 +128,6 @@ is-among xs n r up result = by r (searched xs n r result (λ i j le within. up i
         → is_ok r ≡ list_any (λ m. m == n) xs
     by (Ok i) there = sym (among xs i there.0 there.1)
     by (Err i) gap = sym (apart xs (λ k within is. let before = gap.1 k in let after = gap.2 k in grind (arith, before, after, within, is)))
-
--- the number of a text that has one is a number that passes, and no other does
-numbered : (t : ℕ → Bool) (r : Option ℕ) → IfSome r (λ n. (n < 2 ^ 48) × (t n ≡ true))
-    → ((n : ℕ) → n < 2 ^ 48 → t n ≡ true → r ≡ Some n) → (n : ℕ) → n < 2 ^ 48 → list_any (λ m. m == n) (option_to_list r) ≡ t n
-numbered t (Some m) some every n fits =
-    agree ((m == n) || false) (t n)
-    (λ e. let same : m ≡ n = grind (arith, nat_tests, e) in ap t (sym same) ∙ some.1)
-    (λ e. let one = every n fits e in let same : m ≡ n = cc in grind (arith, nat_tests, same))
-numbered t None some every n fits =
-    agree false (t n) (λ e. absurd (true≢false (sym e))) (λ e. let wrong = every n fits e in absurd (cc))
 
 -- among the numbers of some texts is that of each text that has one, and that of the next
 pub numbers-more : (texts : List (String Global)) (i : ℕ) (s : String Global) (r : Option ℕ) (now after : List ℕ) → i < length texts → s ≡ get_or texts i s

@@ -7,7 +7,7 @@ ghost use Rattle.std.proofs.Props.{props};
 ghost use Rattle.bidi_handles.specs.Ids.{id_of, has_id};
 
 use crate::handle::{Handle, HeldValue};
-use crate::id::{IdKind, handle_number};
+use crate::id::{IdKind, id_number};
 use std::alloc::{AllocError, Global};
 use std::rc::Rc;
 
@@ -109,7 +109,7 @@ fn handle_of_id<'a>(handles: &'a [Handle], id: &str) -> Option<&'a Handle>
     ensures { IsStrictlyIncreasing (map (λ h. h.number) handles.now)
         → option_map (λ h. h.now) result ≡ find (λ h. bytes_eq id.now (id_of IdKind.Handle h.number)) handles.now }
 {
-    handle_at(handles, handle_number(id)?)
+    handle_at(handles, id_number(id, IdKind::Handle, 0)?)
 }
 
 // The handle of this number, among handles in ascending order of number.
@@ -155,7 +155,7 @@ fn handle_numbers(alloc: Global, ids: &[String]) -> Result<Vec<u64>, AllocError>
 {
     let mut numbers = Vec::new(alloc);
     for id in ids {
-        if let Some(number) = handle_number(id) {
+        if let Some(number) = id_number(id, IdKind::Handle, 0) {
             numbers.push(number)?;
         }
     }

@@ -1,6 +1,7 @@
-//! Ids: the text of one, and the comparison of a text with one.
+//! Ids: the text of one, the number that a text stands for, and the comparison of a text with one.
 ghost use Rattle.std.specs.Prelude.{◌≡◌, ◌<◌, ◌^◌, ℕ, true, bytes_eq, string_bytes, IfOk, IfSome, Some};
-ghost use Rattle.bidi_handles.specs.Ids.{kind_number, session_in, id_bytes, id_of, id_text};
+ghost use Rattle.bidi_handles.specs.Ids.{kind_number, session_in, id_bytes, id_text};
+ghost use Rattle.bidi_handles.specs.declared.id.IdKind.{IdKind};
 
 use std::alloc::{AllocError, Global};
 use uuid::Uuid;
@@ -56,16 +57,17 @@ pub fn is_id(text: &str, kind: IdKind, session: u32, n: u64) -> bool
     text == id
 }
 
-/// The number of the handle that has exactly this id, if the text is the id of a handle. Takes no memory.
-pub(crate) fn handle_number(id: &str) -> Option<u64>
-    ensures some { IfSome result (λ n. (n < 2 ^ 48) × (bytes_eq id.now (id_of IdKind.Handle n) ≡ true)) }
-    ensures every { (n : ℕ) → n < 2 ^ 48 → bytes_eq id.now (id_of IdKind.Handle n) ≡ true → result ≡ Some n }
+/// The number of the thing of this kind that has exactly this id, if the text is such an id; upper-case letters
+/// differ. Takes no memory.
+pub fn id_number(id: &str, kind: IdKind, session: u32) -> Option<u64>
+    ensures some { IfSome result (λ n. (n < 2 ^ 48) × (bytes_eq id.now (id_text kind session n) ≡ true)) }
+    ensures every { (n : ℕ) → n < 2 ^ 48 → bytes_eq id.now (id_text kind session n) ≡ true → result ≡ Some n }
 {
     let number = match Uuid::try_parse(id) {
         Ok(uuid) => number_in(uuid),
         Err(_) => return None,
     };
-    if is_id(id, IdKind::Handle, 0, number) {
+    if is_id(id, kind, session, number) {
         Some(number)
     } else {
         None
@@ -75,7 +77,7 @@ pub(crate) fn handle_number(id: &str) -> Option<u64>
 // The number in the last six bytes of an id.
 fn number_in(uuid: Uuid) -> u64
     ensures fits { result < 2 ^ 48 }
-    ensures back { (n : ℕ) → n < 2 ^ 48 → uuid ≡ id_bytes IdKind.Handle 0 n → result ≡ n }
+    ensures back { (kind : IdKind) (session n : ℕ) → n < 2 ^ 48 → uuid ≡ id_bytes kind session n → result ≡ n }
 {
     let b = uuid.into_bytes();
     u64::from_be_bytes([0, 0, b[10], b[11], b[12], b[13], b[14], b[15]])

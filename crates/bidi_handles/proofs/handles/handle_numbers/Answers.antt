@@ -12,13 +12,13 @@ use Rattle.bidi_handles.proofs.handles.handle_numbers.Goals as goal
 pub loop-id-preserved : goal.loop-id-preserved
 loop-id-preserved c =
     let now = c.loop-id.numbers.items in
-    let r = c.handle_number.result in
-    let some = subst (λ (text : List ℕ). IfSome r (λ n. (n < 2 ^ 48) × (bytes_eq text (id_of Handle n) ≡ true))) c.deref.ensures c.handle_number.ensures.some in
+    let r = c.id_number.result in
+    let some = subst (λ (text : List ℕ). IfSome r (λ n. (n < 2 ^ 48) × (bytes_eq text (id_of Handle n) ≡ true))) c.deref.ensures c.id_number.ensures.some in
     let every = subst (λ (text : List ℕ). (n : ℕ) → n < 2 ^ 48 → bytes_eq text (id_of Handle n) ≡ true → r ≡ Some n) c.deref.ensures
-    c.handle_number.ensures.every in
-    numbers-more c.args.ids.now c.loop-id.id-index c.id-item.result r now c.match-handle_number.numbers.items c.loop-id-test.true
+    c.id_number.ensures.every in
+    numbers-more c.args.ids.now c.loop-id.id-index c.id-item.result r now c.match-id_number.numbers.items c.loop-id-test.true
     c.id-item.is some every c.loop-id.invariant
-    (elim c.match-handle_number.branch [
+    (elim c.match-id_number.branch [
       | in-Some+in_ok-push w ↦ ap (λ (v : Vec ℕ Global). v.items) w.numbers-is
           ∙ (w.in_ok-push.ensures.items ∙ ap (λ o. now ++ option_to_list o) (sym w.in-Some.is))
       | in_default w ↦ ap (λ (v : Vec ℕ Global). v.items) w.numbers-is
