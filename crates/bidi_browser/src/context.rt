@@ -1,14 +1,13 @@
 //! A live context, with the Infos and events that describe it.
-ghost use Rattle.std.specs.Prelude.{◌≡◌, ℕ, ◌≤◌, ◌<◌, ◌+◌, ◌^◌, [], None, Some, IfOk, IfSome, bytes_eq, option_map};
+ghost use Rattle.std.specs.Prelude.{◌≡◌, ℕ, ◌≤◌, ◌<◌, ◌+◌, ◌^◌, [], None, Some, IfOk, IfSome, option_map};
 ghost use Rattle.std.specs.List.{All};
 ghost use Rattle.std.proofs.Props.{props};
-ghost use Rattle.bidi_handles.specs.Ids.{id_of};
 ghost use Rattle.bidi_browser.specs.View.{EventIsWell, occurrence_of};
 
 use crate::occurrence::Occurrence;
 use crate::session_history::{Move, SessionHistory};
 use crate::urls::{about_blank, origin_text};
-use bidi_handles::{Handle, Handles, IdKind, id_text, is_id};
+use bidi_handles::{Handle, Handles, IdKind, id_text};
 use bidi_methods::{EventData, EventName, Payload};
 use bidi_params::{Info, NavigationInfo, RealmDestroyedParameters, RealmInfo};
 use bidi_shape::{Ext, Shape};
@@ -149,20 +148,6 @@ impl Context {
         ensures { row_of self.new ≡ without_in numbers.now (row_of self.old) }
     {
         self.handles.disown(numbers);
-    }
-
-    /// Whether a text is its id.
-    pub(crate) fn is_named(&self, id: &str) -> bool
-        ensures { result ≡ bytes_eq id.now (id_of IdKind.Context self.now.number) }
-    {
-        is_id(id, IdKind::Context, 0, self.number)
-    }
-
-    /// Whether a text is the id of its realm.
-    pub(crate) fn is_in_realm(&self, id: &str) -> bool
-        ensures { result ≡ bytes_eq id.now (id_of IdKind.Realm self.now.realm) }
-    {
-        is_id(id, IdKind::Realm, 0, self.realm)
     }
 
     /// Its Info as one of its parent's children: these children, and no member `parent`.

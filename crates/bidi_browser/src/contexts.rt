@@ -14,7 +14,7 @@ ghost use Rattle.bidi_browser.specs.InfosInHand.{AreWithin, AreWithinIfTold, IsW
 use crate::context::Context;
 use crate::plan::Navigation;
 use crate::session_history::Move;
-use bidi_handles::{Handle, IdKind};
+use bidi_handles::{Handle, IdKind, id_number};
 use bidi_params::Info;
 use bidi_shape::Shape;
 use std::alloc::{AllocError, Global};
@@ -263,14 +263,28 @@ fn place_of(contexts: &[Context], number: u64) -> Option<usize>
 fn named<'a>(contexts: &'a [Context], id: &str) -> Option<&'a Context>
     ensures { option_map (λ c. c.now) result ≡ find (λ c. bytes_eq id.now (id_of IdKind.Context c.number)) contexts.now }
 {
-    contexts.iter().find(|context| context.is_named(id))
+    numbered(contexts, id_number(id, IdKind::Context, 0)?)
+}
+
+// The context of this number.
+fn numbered(contexts: &[Context], number: u64) -> Option<&Context>
+    ensures { option_map (λ c. c.now) result ≡ find (λ c. c.number == number) contexts.now }
+{
+    contexts.iter().find(|context| context.number == number)
 }
 
 // The context whose realm has this id.
 fn in_realm<'a>(contexts: &'a [Context], id: &str) -> Option<&'a Context>
     ensures { option_map (λ c. c.now) result ≡ find (λ c. bytes_eq id.now (id_of IdKind.Realm c.realm)) contexts.now }
 {
-    contexts.iter().find(|context| context.is_in_realm(id))
+    with_realm(contexts, id_number(id, IdKind::Realm, 0)?)
+}
+
+// The context whose realm has this number.
+fn with_realm(contexts: &[Context], realm: u64) -> Option<&Context>
+    ensures { option_map (λ c. c.now) result ≡ find (λ c. c.realm == realm) contexts.now }
+{
+    contexts.iter().find(|context| context.realm == realm)
 }
 
 // The oldest top-level context.

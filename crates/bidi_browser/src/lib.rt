@@ -10,7 +10,7 @@
 //! given text returns or throws.
 //!
 //! [`Browser::tree_events`] gives the events that tell a new subscription of the contexts and realms that
-//! exist already. [`id_text`] makes ids, and [`is_id`] compares a text with one. The specifications define
+//! exist already. [`id_text`] makes ids, and [`id_number`] reads one to its number. The specifications define
 //! the browser by the list of actions that it has accepted, its past.
 #![tactic(auto)]
 
@@ -35,7 +35,7 @@ mod telling;
 mod urls;
 
 pub use action::Action;
-pub use bidi_handles::{IdKind, Refusal, id_text, is_id};
+pub use bidi_handles::{IdKind, Refusal, id_number, id_text, is_id};
 pub use browser::Browser;
 pub use occurrence::Occurrence;
 pub use plan::{Change, Plan};

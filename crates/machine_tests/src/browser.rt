@@ -1,5 +1,5 @@
 //! Ids and their texts, and what a browser says and tells as it starts.
-use bidi_browser::{Browser, IdKind, Occurrence, id_text, is_id};
+use bidi_browser::{Browser, IdKind, Occurrence, id_number, id_text};
 use bidi_messages::{EventData, EventName, Payload, event_text};
 use std::alloc::{AllocError, Global};
 use std::test::Fail;
@@ -10,7 +10,7 @@ struct Browsers;
 impl Asked for Browsers {
     fn found(alloc: Global, word: &str, text: &str) -> Result<String, Fail> {
         match word {
-            "is-handle-1001" => Ok(is_id(text, IdKind::Handle, 0, 1001).to_string(alloc)?),
+            "number" => number(alloc, text),
             "live" => live(alloc, text),
             "top" => top(alloc, text),
             "events" => events(alloc),
@@ -34,18 +34,10 @@ Handle 7 1 -> 00000000-0006-8000-8000-000000000001
 Context 3 2 -> 00000000-0002-8000-8000-000000000002
 Handle 0 1001 -> 00000000-0006-8000-8000-0000000003e9
 Subscription 4294967295 281474976710655 -> ffffffff-0005-8000-8000-ffffffffffff
-is-handle-1001 00000000-0006-8000-8000-0000000003e9 -> true
-is-handle-1001 00000000-0006-8000-8000-0000000003E9 -> false
-is-handle-1001 00000000-0006-8000-8000-0000000003ea -> false
-is-handle-1001 00000001-0006-8000-8000-0000000003e9 -> false
-is-handle-1001 00000000-0002-8000-8000-0000000003e9 -> false
-is-handle-1001  00000000-0006-8000-8000-0000000003e9 -> false
-is-handle-1001 000000000006800080000000000003e9 -> false
-is-handle-1001  -> false
 ";
 
 #[test]
-fn each_kind_has_ids_of_its_own_and_an_id_is_its_exact_text(rt: HostRuntime) -> Result<(), Fail> {
+fn each_kind_has_ids_of_its_own(rt: HostRuntime) -> Result<(), Fail> {
     check_rows::<Browsers>(rt.alloc(), IDS)
 }
 
@@ -70,10 +62,46 @@ fn id(alloc: Global, kind: IdKind, text: &str) -> Result<String, Fail> {
         return Err(Fail::from("a number of more than 48 bits"));
     }
     let id = id_text(alloc, kind, session, number)?;
-    if !is_id(id.as_str(), kind, session, number) {
+    if id_number(id.as_str(), kind, session) != Some(number) {
         return Err(Fail::from("the id is not known again"));
     }
     Ok(id)
+}
+
+/// Kinds, with the number of a session and a text, and the number of which the text is the id.
+const NUMBERS: &str = "
+number Handle 0 00000000-0006-8000-8000-0000000003e9 -> Some(1001)
+number Handle 0 00000000-0006-8000-8000-0000000003ea -> Some(1002)
+number Handle 0 00000000-0006-8000-8000-000000000000 -> Some(0)
+number Handle 0 00000000-0006-8000-8000-ffffffffffff -> Some(281474976710655)
+number Handle 7 00000000-0006-8000-8000-0000000003e9 -> Some(1001)
+number Subscription 7 00000007-0005-8000-8000-0000000003e9 -> Some(1001)
+number Subscription 8 00000007-0005-8000-8000-0000000003e9 -> None
+an upper-case letter | number Handle 0 00000000-0006-8000-8000-0000000003E9 -> None
+a session | number Handle 0 00000001-0006-8000-8000-0000000003e9 -> None
+another kind | number Handle 0 00000000-0002-8000-8000-0000000003e9 -> None
+another version | number Handle 0 00000000-0006-4000-8000-0000000003e9 -> None
+a bit outside the number | number Handle 0 00000000-0006-8000-8001-0000000003e9 -> None
+a blank in front | number Handle 0  00000000-0006-8000-8000-0000000003e9 -> None
+more behind | number Handle 0 00000000-0006-8000-8000-0000000003e90 -> None
+no hyphens | number Handle 0 000000000006800080000000000003e9 -> None
+braces | number Handle 0 {00000000-0006-8000-8000-0000000003e9} -> None
+a name | number Handle 0 urn:uuid:00000000-0006-8000-8000-0000000003e9 -> None
+no hexadecimal digit | number Handle 0 00000000-0006-8000-8000-0000000003g9 -> None
+no text | number Handle 0  -> None
+";
+
+#[test]
+fn a_number_is_read_in_its_exact_id_alone(rt: HostRuntime) -> Result<(), Fail> {
+    check_rows::<Browsers>(rt.alloc(), NUMBERS)
+}
+
+fn number(alloc: Global, text: &str) -> Result<String, Fail> {
+    let (kind, rest) = text.split_once(' ').ok_or("no kind")?;
+    let (session, id) = rest.split_once(' ').ok_or("no session")?;
+    let kind = kind_of(kind).ok_or("no such kind")?;
+    let number = id_number(id, kind, session.parse()?);
+    Ok(format!(in alloc; "{number:?}")?)
 }
 
 // ---- a browser as it starts
