@@ -6,6 +6,5 @@ pub mod ArgumentFacts
 pub mod ValueLemmas
 pub mod NumberedLemmas
 pub mod SearchLemmas
-pub mod SizeLemmas
 pub mod ResolveLemmas
 pub mod WellLemmas

@@ -1,12 +1,13 @@
 -- Arguments that are resolved, one by one and part by part.
-use Rattle.std.proofs.Common.{◌≡◌, ◌∙◌, ◌<◌, ◌≤◌, ◌+◌, ℕ, List, [], ◌∷◌, ◌++◌, drop, get_or, length, map, codes, false}
-use Rattle.std.proofs.Common.{string_bytes, Option, Some, None, Result, Ok, Err, Vec, Global, refl, sym, ap, subst}
-use Rattle.std.specs.Prelude.{is_some, option_map}
+use Rattle.std.proofs.Common.{◌≡◌, ◌∙◌, ◌<◌, ◌≤◌, ◌+◌, ℕ, List, [], ◌∷◌, ◌++◌, drop, get_or, length, map, codes, true, false, true≢false}
+use Rattle.std.proofs.Common.{String, string_bytes, Option, Some, None, Result, Ok, Err, Vec, Global, refl, sym, ap, subst}
+use Rattle.std.specs.Prelude.{◌||◌, is_some, option_map}
 use Rattle.std.specs.Result.{IsErrAnd}
 use Rattle.std.proofs.lemmas.List.{map-append, drop_more, drop_all}
-use Rattle.bidi_tree.specs.Node.{Node, null, boolean, whole, odd, text, list as list_node, map as map_node, Items, no_items, item, no_members, member, get_of}
+use Rattle.std.proofs.lemmas.Slice.Eq.{bytes_eq-Decides}
+use Rattle.bidi_tree.specs.Node.{Node, null, boolean, whole, odd, text, list as list_node, map as map_node, Items, no_items, item, no_members, member, get_member, get_of}
 use Rattle.bidi_tree.specs.View.{items_of}
-use Rattle.bidi_tree.proofs.MemberLemmas.{get_member-put}
+use Rattle.bidi_tree.proofs.MemberLemmas.{get_member-put, get_member-put_other}
 use Rattle.bidi_shape.specs.Parts.{put_part}
 use Rattle.bidi_shape.specs.ValueLaws.{others_of}
 use Rattle.bidi_params.specs.declared.error_code.ErrorCode.{ErrorCode}
@@ -81,10 +82,34 @@ shared-refused held r s is =
     ap (λ r. resolved held (references.ghosts.shape.tree_of r)) is
     ∙ by-shared held (shared.ghosts.shape.tree_of s) (text (string_bytes s.shared_id)) (shared-there s)
 
--- what is not there is none
-pub none-there : {A B : Type 0} (f : A → B) (o : Option A) (q : Option B) → is_some o ≡ false → option_map f o ≡ q → q ≡ None
-none-there f None q none is = sym is
-none-there f (Some x) q none is = cc
+-- a reference has a member `sharedId` where it has a shared id, or a further member of that name
+pub shared_id-there : (r : RemoteObjectReference)
+    → is_some (get_of (codes "sharedId") (objects.ghosts.shape.tree_of r)) ≡ (is_some r.shared_id || is_some (get_member (codes "sharedId") (others_of r.ext)))
+shared_id-there r =
+    ap is_some
+    (get_member-put_other (codes "sharedId") (codes "handle") (text (string_bytes r.handle))
+    (put_part (codes "sharedId") (option_map (λ s. text (string_bytes s)) r.shared_id) (others_of r.ext))
+    (λ e. true≢false (sym ((bytes_eq-Decides (codes "sharedId") (codes "handle")).1 e))))
+    ∙ by r.shared_id
+  where
+    by : (id : Option (String Global))
+        → is_some (get_member (codes "sharedId") (put_part (codes "sharedId") (option_map (λ s. text (string_bytes s)) id) (others_of r.ext)))
+        ≡ (is_some id || is_some (get_member (codes "sharedId") (others_of r.ext)))
+    by None = refl
+    by (Some id) = ap is_some (get_member-put (codes "sharedId") (text (string_bytes id)) (others_of r.ext))
+
+-- what is there, and what is not
+pub there : {A : Type 0} (o : Option A) → is_some o ≡ true → (x : A) × (o ≡ Some x)
+there None is = absurd (cc)
+there (Some x) is = (x, refl)
+
+pub none-there : {A : Type 0} (o : Option A) → is_some o ≡ false → o ≡ None
+none-there None is = refl
+none-there (Some x) is = cc
+
+pub there-seen : {A B : Type 0} (f : A → B) (o : Option A) (q : Option B) → option_map f o ≡ q → is_some o ≡ is_some q
+there-seen f None q is = ap is_some is
+there-seen f (Some x) q is = ap is_some is
 
 -- ---- arguments
 

@@ -12,7 +12,7 @@ use bidi_values::RemoteValue;
 use std::alloc::Global;
 use std::rc::Rc;
 
-/// Puts a value into shared memory, with the size of its tree.
+/// Puts a value into shared memory, with the size of its tree. Costs an outline.
 ///
 /// # Errors
 /// `NoMemory`: an allocation failed.
@@ -21,6 +21,6 @@ pub fn held(alloc: Global, value: RemoteValue) -> Result<Rc<HeldValue>, Refusal>
     ensures ok { IfOk result (λ held. held.value.value ≡ value) }
     ensures err { IfErr result (λ e. e ≡ Refusal.NoMemory) }
 {
-    let size = size_of(&value.to_tree(alloc)?);
+    let size = size_of(&value.outline(alloc)?);
     Ok(Rc::new(alloc, HeldValue { value, size })?)
 }

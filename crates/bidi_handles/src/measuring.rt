@@ -1,7 +1,7 @@
-//! The size of the value that a tree stands for, found without building the value.
+//! The size of the value that an outline stands for, found without building the value.
 ghost use Rattle.std.specs.Prelude.{◌≡◌, Some, option_map};
-ghost use Rattle.bidi_tree.specs.Node.{map};
-ghost use Rattle.bidi_tree.specs.View.{node, items_node, members_node};
+ghost use Rattle.bidi_tree.specs.Node.{get_member, map};
+ghost use Rattle.bidi_tree.specs.Outline.{outline_node, outline_items, outline_members};
 ghost use Rattle.bidi_params.specs.declared.error_code.ErrorCode.TheVariants.{NoSuchHandle};
 ghost use Rattle.bidi_handles.specs.Checks.{found};
 ghost use Rattle.bidi_handles.specs.Handles.{values_in};
@@ -12,38 +12,38 @@ ghost use Rattle.bidi_handles.specs.Values.{handle_value};
 use crate::handles::Handles;
 use crate::size::{Size, decimal_bytes, quoted_bytes};
 use bidi_params::ErrorCode;
-use bidi_tree::{Members, Tree, find_member};
+use bidi_tree::{Outline, OutlineMembers};
 
-/// The size of a tree as it is.
-pub(crate) fn size_of(tree: &Tree) -> Size
-    ensures { result ≡ size_of (node tree.now) }
+/// The size of the tree of an outline as it is.
+pub(crate) fn size_of(outline: &Outline<'_>) -> Size
+    ensures { result ≡ size_of (outline_node outline.now) }
 {
-    match measured(None, tree) {
+    match measured(None, outline) {
         Ok(size) => size,
         Err(_) => unreachable!(),
     }
 }
 
-/// The size of the value that a tree stands for: with the handles of a realm, a reference counts as the value
-/// that its handle holds. Without a realm it is the size of the tree as it is.
+/// The size of the value that an outline stands for: with the handles of a realm, a reference counts as the value
+/// that its handle holds. Without a realm it is the size of its tree as it is. Takes no memory.
 ///
 /// # Errors
 /// Of the first reference that fails, and only in a realm:
 /// - `no such node`: it has a shared id.
 /// - `no such handle`: the realm has no such handle.
 #[cycle(measure)]
-pub(crate) fn measured(realm: Option<&Handles>, tree: &Tree) -> Result<Size, ErrorCode>
-    ensures { result ≡ sized (seen (in_realm realm.entry) (node tree.now)) }
+pub(crate) fn measured(realm: Option<&Handles>, outline: &Outline<'_>) -> Result<Size, ErrorCode>
+    ensures { result ≡ sized (seen (in_realm realm.entry) (outline_node outline.now)) }
 {
-    match tree {
-        Tree::Null => Ok(Size::flat(4)),
-        Tree::Bool(true) => Ok(Size::flat(4)),
-        Tree::Bool(false) => Ok(Size::flat(5)),
-        Tree::Int(whole) => Ok(Size::flat(decimal_bytes(whole.value))),
-        Tree::Odd => Ok(Size::flat(0)),
-        Tree::Text(text) => Ok(Size::flat(quoted_bytes(text))),
-        Tree::List(items) => measured_items(realm, items),
-        Tree::Map(members) => match realm {
+    match outline {
+        Outline::Null => Ok(Size::flat(4)),
+        Outline::Bool(true) => Ok(Size::flat(4)),
+        Outline::Bool(false) => Ok(Size::flat(5)),
+        Outline::Int(whole) => Ok(Size::flat(decimal_bytes(whole.value))),
+        Outline::Odd => Ok(Size::flat(0)),
+        Outline::Text(text) => Ok(Size::flat(quoted_bytes(text))),
+        Outline::List(items) => measured_items(realm, items),
+        Outline::Map(members) => match realm {
             Some(handles) => measured_map(handles, members),
             None => measured_members(realm, members),
         },
@@ -52,25 +52,37 @@ pub(crate) fn measured(realm: Option<&Handles>, tree: &Tree) -> Result<Size, Err
 
 // The size of a map in a realm. With a member `sharedId` or `handle` it is a reference.
 #[cycle(measure)]
-fn measured_map(handles: &Handles, members: &Members) -> Result<Size, ErrorCode>
-    ensures { result ≡ sized (seen (Some (values_in handles.now)) (map (members_node members.now.entries))) }
+fn measured_map(handles: &Handles, members: &OutlineMembers<'_>) -> Result<Size, ErrorCode>
+    ensures { result ≡ sized (seen (Some (values_in handles.now)) (map (outline_members members.now.items))) }
 {
-    if find_member(members, "sharedId").is_some() {
+    if member_of(members, "sharedId").is_some() {
         return Err(ErrorCode::NoSuchNode);
     }
-    match find_member(members, "handle") {
+    match member_of(members, "handle") {
         Some(handle) => size_held(handles, handle),
         None => measured_members(Some(handles), members),
     }
 }
 
-// The size of the value that a handle holds; the tree is that of its id.
-fn size_held(handles: &Handles, handle: &Tree) -> Result<Size, ErrorCode>
-    ensures { result ≡ sized (handle_value (values_in handles.now) (node handle.now)) }
+// The member of that name.
+fn member_of<'a, 'b>(members: &'a OutlineMembers<'b>, name: &str) -> Option<&'a Outline<'b>>
+    ensures { option_map (λ d. outline_node d.now) result ≡ get_member name.now (outline_members members.now.items) }
 {
-    match handle.as_text() {
-        Some(id) => size_named(handles, id),
-        None => Err(ErrorCode::NoSuchHandle),
+    for member in members {
+        if member.0 == name {
+            return Some(&member.1);
+        }
+    }
+    None
+}
+
+// The size of the value that a handle holds; the outline is that of its id.
+fn size_held(handles: &Handles, handle: &Outline<'_>) -> Result<Size, ErrorCode>
+    ensures { result ≡ sized (handle_value (values_in handles.now) (outline_node handle.now)) }
+{
+    match handle {
+        Outline::Text(id) => size_named(handles, id),
+        _ => Err(ErrorCode::NoSuchHandle),
     }
 }
 
@@ -86,8 +98,8 @@ fn size_named(handles: &Handles, id: &str) -> Result<Size, ErrorCode>
 
 // The size of a list of these items.
 #[cycle(measure)]
-fn measured_items(realm: Option<&Handles>, items: &Vec<Tree>) -> Result<Size, ErrorCode>
-    ensures { result ≡ items_sized (seen_items (in_realm realm.entry) (items_node items.now.items)) }
+fn measured_items(realm: Option<&Handles>, items: &Vec<Outline<'_>>) -> Result<Size, ErrorCode>
+    ensures { result ≡ items_sized (seen_items (in_realm realm.entry) (outline_items items.now.items)) }
 {
     let mut size = Size::flat(0);
     let mut comma = 0;
@@ -100,14 +112,19 @@ fn measured_items(realm: Option<&Handles>, items: &Vec<Tree>) -> Result<Size, Er
 
 // The size of a map of these members.
 #[cycle(measure)]
-fn measured_members(realm: Option<&Handles>, members: &Members) -> Result<Size, ErrorCode>
-    ensures { result ≡ members_sized (seen_members (in_realm realm.entry) (members_node members.now.entries)) }
+fn measured_members(
+    realm: Option<&Handles>,
+    members: &OutlineMembers<'_>,
+) -> Result<Size, ErrorCode>
+    ensures { result ≡ members_sized (seen_members (in_realm realm.entry) (outline_members members.now.items)) }
 {
     let mut size = Size::flat(0);
     let mut comma = 0;
-    for (name, member) in members.iter() {
-        let before = quoted_bytes(name).saturating_add(comma).saturating_add(1);
-        size = size.and(before, measured(realm, member)?);
+    for member in members {
+        let before = quoted_bytes(member.0)
+            .saturating_add(comma)
+            .saturating_add(1);
+        size = size.and(before, measured(realm, &member.1)?);
         comma = 1;
     }
     Ok(size.in_brackets())

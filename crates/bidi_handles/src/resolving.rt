@@ -1,8 +1,9 @@
 //! Local values resolved to remote ones, with the values of their handles in place of references.
 //!
 //! A value is measured before anything of it is built, and is built only where a script returns it.
-ghost use Rattle.std.specs.Prelude.{◌≡◌, IfOk, map, option_map};
+ghost use Rattle.std.specs.Prelude.{◌≡◌, IfOk, codes, is_some, map, option_map};
 ghost use Rattle.bidi_params.specs.declared.error_code.ErrorCode.TheVariants.{NoSuchHandle};
+ghost use Rattle.bidi_tree.specs.Node.{get_of};
 ghost use Rattle.bidi_tree.specs.View.{items_of};
 ghost use Rattle.bidi_handles.specs.Checks.{found};
 ghost use Rattle.bidi_handles.specs.Handles.{values_in};
@@ -18,6 +19,7 @@ use crate::refusal::Refusal;
 use crate::size::Size;
 use bidi_params::ErrorCode;
 use bidi_shape::{MAX_BYTES, MAX_LEVELS, Shape};
+use bidi_tree::find_member;
 use bidi_values::{
     LocalKey, LocalPair, LocalPlain, LocalValue, Nested, NestedKey, NestedPair, Reference,
     RemoteDate, RemoteKey, RemoteList, RemoteObjectReference, RemotePair, RemotePairs, RemotePlain,
@@ -28,7 +30,7 @@ use std::rc::Rc;
 
 /// Checks the arguments of a call in the realm of these handles, in their order.
 ///
-/// Builds no value. Costs a tree of each argument, and a look-up of each reference.
+/// Builds no value. Costs an outline of each argument, and a look-up of each reference.
 ///
 /// # Errors
 /// The error is that of the first argument that fails, and the first of these that holds of this argument:
@@ -86,8 +88,8 @@ pub fn given_back(
 fn sized(alloc: Global, handles: &Handles, value: &LocalValue) -> Result<Size, Refusal>
     ensures { IsSized result (argument (values_in handles.now) (local_tree value.now)) }
 {
-    let tree = value.to_tree(alloc)?;
-    let size = measured(Some(handles), &tree)?;
+    let outline = value.outline(alloc)?;
+    let size = measured(Some(handles), &outline)?;
     if size.levels <= MAX_LEVELS as u64 && size.bytes <= MAX_BYTES as u64 {
         Ok(size)
     } else {
@@ -230,10 +232,17 @@ fn held_by(
 ) -> Result<RemoteValue, Refusal>
     ensures { Gives remote_tree result (resolved (values_in handles.now) (⟦<RemoteObjectReference as Shape>⟧.shape.tree_of object.now)) }
 {
-    if object.to_tree(alloc)?.get("sharedId").is_some() {
+    if has_shared_id(object) {
         return Err(Refusal::Code(ErrorCode::NoSuchNode));
     }
     copy_held(alloc, handles, &object.handle)
+}
+
+// Whether a reference has a member `sharedId`.
+fn has_shared_id(object: &RemoteObjectReference) -> bool
+    ensures { result ≡ is_some (get_of (codes "sharedId") (⟦<RemoteObjectReference as Shape>⟧.shape.tree_of object.now)) }
+{
+    object.shared_id.is_some() || find_member(&object.ext.members, "sharedId").is_some()
 }
 
 // A copy of the value that a handle holds.
