@@ -35,7 +35,7 @@ mod telling;
 mod urls;
 
 pub use action::Action;
-pub use bidi_handles::{IdKind, Refusal, id_number, id_text, is_id};
+pub use bidi_handles::{IdKind, Refusal, id_number, id_text};
 pub use browser::Browser;
 pub use occurrence::Occurrence;
 pub use plan::{Change, Plan};

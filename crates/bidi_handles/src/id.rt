@@ -45,8 +45,8 @@ pub fn id_text(alloc: Global, kind: IdKind, session: u32, n: u64) -> Result<Stri
     String::from_str(alloc, text)
 }
 
-/// Whether a text is exactly the id that [`id_text`] gives; upper-case letters differ. Takes no memory.
-pub fn is_id(text: &str, kind: IdKind, session: u32, n: u64) -> bool
+// Whether a text is exactly the id that `id_text` gives.
+fn is_id(text: &str, kind: IdKind, session: u32, n: u64) -> bool
     requires { n < 2 ^ 48 }
     ensures { result ≡ bytes_eq text.now (id_text kind session n) }
 {

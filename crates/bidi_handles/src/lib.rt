@@ -21,7 +21,7 @@ mod values;
 pub use handle::{Ending, Handle, HeldValue, ThrownValue};
 pub use handles::Handles;
 pub use holding::held;
-pub use id::{IdKind, id_number, id_text, is_id};
+pub use id::{IdKind, id_number, id_text};
 pub use refusal::Refusal;
 pub use resolving::{check_arguments, check_this, given_back};
 pub use showing::{shown, takes_handle};
