@@ -4,4 +4,3 @@ pub mod LevelLemmas
 pub mod PlayLemmas
 pub mod ReadingLemmas
 pub mod OneTextLemmas
-pub mod SentLineLemmas

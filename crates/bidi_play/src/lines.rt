@@ -1,6 +1,6 @@
 //! Lines: reading one as a step, and writing those of what is sent.
 ghost use Rattle.std.specs.Prelude.{◌≡◌, ℕ, ◌<◌, ◌≤◌, ◌^◌, ◌==◌, ◌↔◌, List, [], ◌∷◌, ◌++◌, true, false, map, length};
-ghost use Rattle.std.specs.Prelude.{decimal, string_bytes, IsTrue, IfOk, IfSome, IfNone, IsSomeAnd, position};
+ghost use Rattle.std.specs.Prelude.{decimal, string_bytes, IsTrue, IfOk, OnOk, IfSome, IfNone, IsSomeAnd, position};
 ghost use Rattle.std.specs.List.{list_any};
 ghost use Rattle.bidi_values.specs.Level.{level_text};
 ghost use Rattle.bidi_remote.specs.Machine.Step as play;
@@ -14,6 +14,9 @@ use bidi_shape::Named;
 use bidi_tree::JsUint;
 use bidi_values::Level;
 use std::alloc::{AllocError, Global};
+
+/// The bytes of the longest line that a play writes, but for a text in it: `opened`, the greatest js-uint, and the line feed.
+const LONGEST_WORDS: usize = 24;
 
 /// Reads a line as a step; `None` where it is no play line.
 ///
@@ -201,39 +204,43 @@ pub fn is_same_text(text: &str, other: &str) -> bool
     text == other
 }
 
-/// The lines that a play writes for what is sent, each with its line feed.
+/// The lines that a play writes for what is sent, each with its line feed. Costs one allocation.
 ///
 /// # Errors
 /// No memory: an allocation failed.
 pub fn lines_of(alloc: Global, all: Vec<Sent>) -> Result<Vec<u8>, AllocError>
     ensures { IfOk result (λ lines. lines.items ≡ written (map sent_of all.items)) }
 {
-    let mut lines = Vec::new(alloc);
+    let mut lines = String::with_capacity(alloc, room_for(&all))?;
     for sent in all {
-        let line = line_of_sent(alloc, sent)?;
-        lines.extend_from_slice(line.as_bytes())?;
+        push_line(&mut lines, &sent)?;
     }
-    Ok(lines)
+    Ok(lines.into_bytes())
 }
 
-// The line that a play writes for one thing that is sent, with its line feed.
-#[tactic(auto, using(crate::proofs::SentLineLemmas::text_grouped))]
-fn line_of_sent(alloc: Global, sent: Sent) -> Result<String, AllocError>
-    ensures { IfOk result (λ line. string_bytes line ≡ ended (sent_line (sent_of sent))) }
+// Bytes that hold the lines of what is sent.
+fn room_for(all: &[Sent]) -> usize {
+    let mut room: usize = 0;
+    for sent in all {
+        let text = match sent {
+            Sent::Text(_, text) => text.len(),
+            _ => 0,
+        };
+        room = room.saturating_add(text).saturating_add(LONGEST_WORDS);
+    }
+    room
+}
+
+// Adds the line that a play writes for one thing that is sent, with its line feed.
+fn push_line(lines: &mut String, sent: &Sent) -> Result<(), AllocError>
+    ensures { OnOk result (string_bytes lines.new ≡ string_bytes lines.old ++ ended (sent_line (sent_of sent.now))) }
 {
     match sent {
-        Sent::Text(conn, text) => text_line(alloc, conn.value, text.as_str()),
-        Sent::Close(conn) => format!(in alloc; "close {}\n", conn.value),
-        Sent::Opened(conn) => format!(in alloc; "opened {}\n", conn.value),
-        Sent::Denied(conn) => format!(in alloc; "denied {}\n", conn.value),
-        Sent::Lost(conn) => format!(in alloc; "lost {}\n", conn.value),
-        Sent::NoEffect => String::from_str(alloc, "no effect\n"),
+        Sent::Text(conn, text) => writeln!(lines, "< {} {text}", conn.value),
+        Sent::Close(conn) => writeln!(lines, "close {}", conn.value),
+        Sent::Opened(conn) => writeln!(lines, "opened {}", conn.value),
+        Sent::Denied(conn) => writeln!(lines, "denied {}", conn.value),
+        Sent::Lost(conn) => writeln!(lines, "lost {}", conn.value),
+        Sent::NoEffect => lines.push_str("no effect\n"),
     }
-}
-
-// `< C TEXT`
-fn text_line(alloc: Global, conn: u64, text: &str) -> Result<String, AllocError>
-    ensures { IfOk result (λ line. string_bytes line ≡ 60 ∷ 32 ∷ (decimal conn ++ 32 ∷ (text.now ++ 10 ∷ []))) }
-{
-    format!(in alloc; "< {conn} {text}\n")
 }
