@@ -44,20 +44,11 @@ fn read_pair_words(alloc: Global, line: &str) -> Result<Option<PairStep>, AllocE
     if is_same_text(word, "send") {
         read_sending(alloc, rest)
     } else if is_same_text(word, "up") {
-        match read_number(alloc, rest)? {
-            None => Ok(None),
-            Some(link) => Ok(Some(PairStep::Up(link))),
-        }
+        Ok(read_number(rest).map(PairStep::Up))
     } else if is_same_text(word, "down") {
-        match read_number(alloc, rest)? {
-            None => Ok(None),
-            Some(link) => Ok(Some(PairStep::Down(link))),
-        }
+        Ok(read_number(rest).map(PairStep::Down))
     } else if is_same_text(word, "cut") {
-        match read_number(alloc, rest)? {
-            None => Ok(None),
-            Some(link) => Ok(Some(PairStep::Cut(link))),
-        }
+        Ok(read_number(rest).map(PairStep::Cut))
     } else {
         match read_step_text(alloc, line)? {
             None => Ok(None),
@@ -93,7 +84,7 @@ fn read_sending(alloc: Global, rest: &str) -> Result<Option<PairStep>, AllocErro
     let Some((method, params)) = method_and_params(command) else {
         return Ok(None);
     };
-    match read_number(alloc, number)? {
+    match read_number(number) {
         None => Ok(None),
         Some(link) => read_command(alloc, link, method, params),
     }

@@ -1,5 +1,5 @@
 //! Lines: reading one as a step, and writing those of what is sent.
-ghost use Rattle.std.specs.Prelude.{◌≡◌, ℕ, ◌<◌, ◌≤◌, ◌^◌, ◌==◌, ◌↔◌, List, [], ◌∷◌, ◌++◌, true, false, map, length};
+ghost use Rattle.std.specs.Prelude.{◌≡◌, ℕ, ◌<◌, ◌≤◌, ◌^◌, ◌==◌, ◌&&◌, ◌||◌, ◌↔◌, nat_lt, slice_index, List, [], ◌∷◌, ◌++◌, true, false, map, length};
 ghost use Rattle.std.specs.Prelude.{decimal, string_bytes, IsTrue, IfOk, OnOk, IfSome, IfNone, IsSomeAnd, position};
 ghost use Rattle.std.specs.List.{list_any};
 ghost use Rattle.bidi_values.specs.Level.{level_text};
@@ -48,20 +48,11 @@ pub fn read_step_text(alloc: Global, line: &str) -> Result<Option<Step>, AllocEr
         return Ok(None);
     };
     if is_same_text(word, "at") {
-        match read_number(alloc, rest)? {
-            None => Ok(None),
-            Some(moment) => Ok(Some(Step::At(moment))),
-        }
+        Ok(read_number(rest).map(Step::At))
     } else if is_same_text(word, "drop") {
-        match read_number(alloc, rest)? {
-            None => Ok(None),
-            Some(conn) => Ok(Some(Step::Drop(conn))),
-        }
+        Ok(read_number(rest).map(Step::Drop))
     } else if is_same_text(word, "binary") {
-        match read_number(alloc, rest)? {
-            None => Ok(None),
-            Some(conn) => Ok(Some(Step::NotText(conn))),
-        }
+        Ok(read_number(rest).map(Step::NotText))
     } else if is_same_text(word, "open") {
         match read_number_and_text(alloc, rest)? {
             None => Ok(None),
@@ -102,7 +93,7 @@ fn read_number_and_text(alloc: Global, rest: &str) -> Result<Option<(JsUint, Str
     let Some((number, text)) = split_at_space(rest) else {
         return Ok(None);
     };
-    match read_number(alloc, number)? {
+    match read_number(number) {
         None => Ok(None),
         Some(n) => Ok(Some((n, String::from_str(alloc, text)?))),
     }
@@ -169,23 +160,25 @@ fn has_space(text: &str) -> bool
     text.as_bytes().iter().any(|b| *b == b' ')
 }
 
-/// Reads a js-uint in decimal, without sign or leading zeros; `None` for any other text.
-///
-/// # Errors
-/// No memory: an allocation failed.
-pub fn read_number(alloc: Global, text: &str) -> Result<Option<JsUint>, AllocError>
-    ensures some { IfOk result (λ found. IfSome found (λ n. text.now ≡ decimal n.value)) }
-    ensures none { IfOk result (λ found. IfNone found ((n : ℕ) → n < 2 ^ 53 → text.now ≡ decimal n → ⊥)) }
+/// Reads a js-uint in decimal, without sign or leading zeros; `None` for any other text. Takes no memory.
+pub fn read_number(text: &str) -> Option<JsUint>
+    ensures some { IfSome result (λ n. text.now ≡ decimal n.value) }
+    ensures none { IfNone result ((n : ℕ) → n < 2 ^ 53 → text.now ≡ decimal n → ⊥) }
 {
-    let Ok(n) = text.parse::<u64>() else {
-        return Ok(None);
-    };
-    let shown = n.to_string(alloc)?;
-    if is_same_text(shown.as_str(), text) {
-        Ok(JsUint::new(n))
-    } else {
-        Ok(None)
+    if has_plus_or_zeros(text) {
+        return None;
     }
+    let Ok(n) = text.parse::<u64>() else {
+        return None;
+    };
+    JsUint::new(n)
+}
+
+// Whether a number has a plus sign or leading zeros, which `parse` takes.
+fn has_plus_or_zeros(text: &str) -> bool
+    ensures { result ≡ ((slice_index text.now 0 == 43) || ((slice_index text.now 0 == 48) && nat_lt 1 (length text.now))) }
+{
+    text.starts_with('+') || text.starts_with('0') && text.len() > 1
 }
 
 /// The text before the first space, and the text behind it; `None` where there is no space.

@@ -12,9 +12,9 @@ returns-then-is_same_text-clause-none c =
     (λ none x well says. send_alone c.args.line.now c.in-Some.word.now c.in-Some.rest.now c.in-Some.ensures.first (c.if-is_same_text.ensures.0 refl) none x well says)
     c.read_sending.ensures.none
 
-pub returns-in-None-4-clause-none : goal.returns-in-None-4-clause-none
-returns-in-None-4-clause-none c x well says =
+pub returns-in-None-clause-none : goal.returns-in-None-clause-none
+returns-in-None-clause-none c x well says =
     play_alone c.args.line.now c.in-Some.word.now c.in-Some.rest.now c.in-Some.ensures.first
     (λ w. no_truth (c.if-is_same_text.ensures.1 w)) (λ w. no_truth (c.if-is_same_text-2.ensures.1 w)) (λ w. no_truth (c.if-is_same_text-3.ensures.1 w))
     (λ w. no_truth (c.if-is_same_text-4.ensures.1 w))
-    (λ t both sayable e. if_none_at c.in_ok-read_step_text.field-0 _ c.in_ok-read_step_text.ensures.none c.in-None-4.is t sayable e) x says
+    (λ t both sayable e. if_none_at c.in_ok-read_step_text.field-0 _ c.in_ok-read_step_text.ensures.none c.in-None.is t sayable e) x says

@@ -19,14 +19,14 @@ pub returns-in-None-clause-none : goal.returns-in-None-clause-none
 returns-in-None-clause-none c l d well says =
     let found = link_first c.args.rest.now (sending_of d).method says.0 l.value (λ xs ys. (c.in-Some.number.now ≡ xs) × (c.in-Some.command.now ≡ ys))
     c.in-Some.ensures.first l.in_range says.1 in
-    if_none_at c.in_ok-read_number.field-0 _ c.in_ok-read_number.ensures.none c.in-None.is l.value l.in_range found.0
+    if_none_at c.read_number.result _ c.read_number.ensures.none c.in-None.is l.value l.in_range found.0
 
-pub returns-in-Some-2-clause-none : goal.returns-in-Some-2-clause-none
-returns-in-Some-2-clause-none c =
-    let link = c.in-Some-2.link in
+pub returns-in-Some-read_number-clause-none : goal.returns-in-Some-read_number-clause-none
+returns-in-Some-read_number-clause-none c =
+    let link = c.in-Some-read_number.link in
     let method = c.in-Some-method_and_params.method in
     let params = c.in-Some-method_and_params.params.now in
-    let number = if_some_at c.in_ok-read_number.field-0 link _ c.in_ok-read_number.ensures.some c.in-Some-2.is in
+    let number = if_some_at c.read_number.result link _ c.read_number.ensures.some c.in-Some-read_number.is in
     let is = sending_is c.args.rest.now c.in-Some.number.now c.in-Some.command.now params link.value method c.in-Some.ensures.some number
     c.in-Some-method_and_params.ensures.some in
     if_none_in c.read_command.result _ _ (λ none l d well says. none d well (sends_at (codes "send " ++ c.args.rest.now) params method l link d is says))

@@ -9,5 +9,5 @@ returns-in_default-clause-none c = λ n text lt e. c.in_default.ensures.first (d
 
 pub returns-in-None-clause-none : goal.returns-in-None-clause-none
 returns-in-None-clause-none c = λ n text lt e.
-    if_none_at c.in_ok-read_number.field-0 _ c.in_ok-read_number.ensures.none c.in-None.is n (omega arith)
+    if_none_at c.read_number.result _ c.read_number.ensures.none c.in-None.is n (omega arith)
     (c.in-Some.ensures.first (decimal n) text e (no_space n (omega arith))).0
