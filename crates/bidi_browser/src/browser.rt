@@ -105,8 +105,8 @@ impl Browser {
     ///
     /// Takes a pass over the live contexts, and for an Info one more for each context in it. A removal and a
     /// navigation make an event for each context that they remove; a navigation copies no session history. A
-    /// row of the table costs building its tree and looking up its text, a script a copy of its value, and a
-    /// call also a tree of each argument.
+    /// row of the table costs an outline of it and looking up its text, a script a copy of its value, and a
+    /// call also an outline of each argument.
     ///
     /// # Errors
     /// - `Code`: a check failed. For a command it is the code of the first check that fails, to reply with.

@@ -22,7 +22,7 @@ use bidi_values::{CallFunctionParameters, LocalValue};
 
 /// Plans the call of a function in the realm of a target. The script table has its outcome.
 ///
-/// Costs a tree of each argument and of `this`; a value that a handle holds is not measured again. Only an
+/// Costs an outline of each argument and of `this`; a value that a handle holds is not measured again. Only an
 /// argument that the function returns is built, with copies of the values of its handles.
 ///
 /// # Errors

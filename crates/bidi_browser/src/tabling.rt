@@ -47,8 +47,8 @@ fn check_row(browser: &Browser, row: &TableRow) -> Result<(), Refusal>
     ensures checked { (past : List Act) → StandsFor browser.now past → IsRowChecked result past (row_tree row.now) }
     ensures few { OnOk result (IsFew row.now) }
 {
-    let tree = row.to_tree(browser.alloc)?;
-    if has_handle(&tree) || !tree.is_within(most_levels(row)) {
+    let outline = row.outline(browser.alloc)?;
+    if has_handle(&outline) || !outline.is_within(most_levels(row)) {
         return Err(Refusal::Code(ErrorCode::InvalidArgument));
     }
     if !browser.table.takes(text_of(row)) {

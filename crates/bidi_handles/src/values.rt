@@ -1,26 +1,27 @@
 //! The search for handles in a value that a play sets.
-ghost use Rattle.std.specs.Prelude.{◌≡◌, ◌∷◌, [], string_bytes};
-ghost use Rattle.bidi_tree.specs.View.{node, items_node, members_node};
+ghost use Rattle.std.specs.Prelude.{◌≡◌, ◌∷◌, []};
+ghost use Rattle.bidi_tree.specs.Outline.{outline_node, outline_items, outline_members};
 ghost use Rattle.bidi_handles.specs.Values.{is_one_of, has_handle, items_have_handle, members_have_handle};
 
-use bidi_tree::{Members, Tree};
+use bidi_tree::{Outline, OutlineMembers};
 
-/// Whether a tree has a member `handle` or `internalId`, at any depth.
+/// Whether the tree of an outline has a member `handle` or `internalId`, at any depth. Takes no memory.
 #[cycle(handles)]
-pub fn has_handle(tree: &Tree) -> bool
-    ensures { result ≡ has_handle (node tree.now) }
+pub fn has_handle(outline: &Outline<'_>) -> bool
+    ensures { result ≡ has_handle (outline_node outline.now) }
 {
-    match tree {
-        Tree::Null | Tree::Bool(_) | Tree::Int(_) | Tree::Odd | Tree::Text(_) => false,
-        Tree::List(items) => items_have_handle(items),
-        Tree::Map(members) => members_have_handle(members),
+    match outline {
+        Outline::Null | Outline::Bool(_) | Outline::Int(_) | Outline::Odd | Outline::Text(_) =>
+            false,
+        Outline::List(items) => items_have_handle(items),
+        Outline::Map(members) => members_have_handle(members),
     }
 }
 
 // Whether one of the items has such a member.
 #[cycle(handles)]
-fn items_have_handle(items: &Vec<Tree>) -> bool
-    ensures { result ≡ items_have_handle (items_node items.now.items) }
+fn items_have_handle(items: &Vec<Outline<'_>>) -> bool
+    ensures { result ≡ items_have_handle (outline_items items.now.items) }
 {
     for item in items {
         if has_handle(item) {
@@ -32,11 +33,11 @@ fn items_have_handle(items: &Vec<Tree>) -> bool
 
 // Whether one of the members is such a member, or has one.
 #[cycle(handles)]
-fn members_have_handle(members: &Members) -> bool
-    ensures { result ≡ members_have_handle (members_node members.now.entries) }
+fn members_have_handle(members: &OutlineMembers<'_>) -> bool
+    ensures { result ≡ members_have_handle (outline_members members.now.items) }
 {
-    for (name, member) in members.iter() {
-        if names_a_handle(name) || has_handle(member) {
+    for member in members {
+        if names_a_handle(member.0) || has_handle(&member.1) {
             return true;
         }
     }
@@ -44,8 +45,8 @@ fn members_have_handle(members: &Members) -> bool
 }
 
 // Whether this is the name of such a member.
-fn names_a_handle(name: &String) -> bool
-    ensures { result ≡ is_one_of ("handle" ∷ "internalId" ∷ []) (string_bytes name.now) }
+fn names_a_handle(name: &str) -> bool
+    ensures { result ≡ is_one_of ("handle" ∷ "internalId" ∷ []) name.now }
 {
-    name.as_str() == "handle" || name.as_str() == "internalId"
+    name == "handle" || name == "internalId"
 }
