@@ -111,13 +111,16 @@ pub is-new : (past : List Act) (held : List Subscription) (es : List EventName) 
 is-new past held es scope e top live was is lives covered covers =
     ap₂ (λ a b. a && b) lives (ap₂ (λ a b. not a && b) (covered ∙ sym (any-map row_of (row_covers e top) held)) covers)
 
--- the third answer decides, where the others let it
-pub third : (live was is : Bool) → live ≡ true → not was ≡ true → is ≡ (live && (not was && is))
-third live was is lives not_was = rw (lives, not_was) refl
+-- the first answer decides, where the others let it
+pub live-decides : (live was is : Bool) → not was ≡ true → is ≡ true → live ≡ (live && (not was && is))
+live-decides true was is not_was covered = rw (not_was, covered) refl
+live-decides false was is not_was covered = refl
 
 -- and where they do not
-pub not_live : (live was is : Bool) → live ≡ false → false ≡ (live && (not was && is))
-not_live live was is dead = rw dead refl
+pub not_covered : (live was is : Bool) → is ≡ false → false ≡ (live && (not was && is))
+not_covered true false is not_is = sym not_is
+not_covered true true is not_is = refl
+not_covered false was is not_is = refl
 
 pub not_new : (live was is : Bool) → not was ≡ false → false ≡ (live && (not was && is))
 not_new true was is covered = rw covered refl

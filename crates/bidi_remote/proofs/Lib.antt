@@ -20,6 +20,7 @@ pub mod RowReadLemmas
 pub mod BrowseLemmas
 pub mod TellLemmas
 pub mod DecideLemmas
+pub mod AnnounceLemmas
 pub mod SubscribeAskLemmas
 pub mod TargetAskLemmas
 pub mod BrowserAskLemmas

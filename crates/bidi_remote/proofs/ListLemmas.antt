@@ -10,6 +10,11 @@ pub map-filter : {X Y : Type 0} (g : X → Y) (p : Y → Bool) (xs : List X) →
 map-filter g p [] = refl
 map-filter g p (x ∷ xs) = let ih = map-filter g p xs in grind (arith, nat_tests, ih)
 
+-- no item passes
+pub filter-none : {X : Type 0} (p : X → Bool) (xs : List X) → ((x : X) → p x ≡ false) → filter p xs ≡ []
+filter-none p [] fails = refl
+filter-none p (x ∷ xs) fails = rw (fails x) (filter-none p xs fails)
+
 -- some item passes, as it is seen
 pub any-map : {X Y : Type 0} (g : X → Y) (p : Y → Bool) (xs : List X) → list_any p (map g xs) ≡ list_any (λ x. p (g x)) xs
 any-map g p [] = refl

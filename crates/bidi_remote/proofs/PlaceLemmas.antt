@@ -72,6 +72,12 @@ left-old p x w is old = is ∙ (ap (λ b. if b then None else Some w) (sym old) 
 pub left-empty : (p : ℕ → Bool) (x : Option Written) → x ≡ None → x ≡ left p x
 left-empty p x is = is ∙ ap (left p) (sym is)
 
+-- each stays where no entry is announced
+pub none-left : (p : ℕ → Bool) (all : List (Option Written)) → ((top : ℕ) → p top ≡ false) → all ≡ all_left p all
+none-left p [] never = refl
+none-left p (None ∷ all) never = ap (λ xs. None ∷ xs) (none-left p all never)
+none-left p (Some w ∷ all) never = ap₂ (λ x xs. x ∷ xs) (left-old p (Some w) w refl (never w.top)) (none-left p all never)
+
 -- ---- what waits
 
 -- what waits in the places

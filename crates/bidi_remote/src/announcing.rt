@@ -7,10 +7,10 @@ ghost use Rattle.bidi_methods.specs.declared.event_data.EventName.TheVariants.{E
 ghost use Rattle.bidi_remote.specs.State.EventTexts.{place_row};
 ghost use Rattle.bidi_remote.specs.State.MissedRows.{all_left};
 ghost use Rattle.bidi_remote.specs.State.SessionView.{scope_of, row_of};
-ghost use Rattle.bidi_remote.specs.State.SubscriptionRows.{is_new};
+ghost use Rattle.bidi_remote.specs.State.SubscriptionRows.{is_new, may_be_new};
 
 use crate::event_texts::EventText;
-use crate::subscriptions::{Scope, Subscription, any_covers, covers};
+use crate::subscriptions::{Scope, Subscription, any_covers, any_global, covers, is_among};
 use bidi_browser::Browser;
 use bidi_messages::EventName;
 use std::collections::VecDeque;
@@ -19,7 +19,8 @@ use std::rc::Rc;
 /// Whether a subscription to these events in this scope newly enables the event for a top-level context: the
 /// context is live, the subscription covers the event there, and none of those held does.
 ///
-/// Passes over the live contexts and the subscriptions held. Takes no memory.
+/// Passes over the subscriptions held and the live contexts, where these events cover the event. Takes no
+/// memory.
 pub(crate) fn is_new(
     browser: &Browser,
     held: &[Subscription],
@@ -30,7 +31,15 @@ pub(crate) fn is_new(
 ) -> bool
     ensures { (past : List Act) → StandsFor browser.now past → result ≡ is_new past (map row_of held.now) events.now (scope_of scope.now) event top }
 {
-    browser.is_live(top) && !any_covers(held, event, top) && covers(events, scope, event, top)
+    covers(events, scope, event, top) && !any_covers(held, event, top) && browser.is_live(top)
+}
+
+/// Whether a subscription to these events may newly enable the event for some context: it has the event, and
+/// no global one held does. Takes no memory.
+pub(crate) fn may_be_new(held: &[Subscription], events: &[EventName], event: EventName) -> bool
+    ensures { result ≡ may_be_new (map row_of held.now) events.now event }
+{
+    is_among(events, event) && !any_global(held, event)
 }
 
 /// Empties the places of the log entries that a subscription to these events in this scope newly enables.
@@ -47,6 +56,9 @@ pub(crate) fn announce(
     ensures len { deque_len places.new ≡ deque_len places.old }
     ensures capacity { deque_capacity places.new ≡ deque_capacity places.old }
 {
+    if !may_be_new(held, events, EventName::EntryAdded) {
+        return;
+    }
     for at in 0..places.len() {
         let top = match &places[at] {
             Some(entry) => entry.top,

@@ -93,8 +93,8 @@ pub(crate) fn all_global(subscriptions: &[Subscription], events: &[EventName]) -
     events.iter().all(|event| any_global(subscriptions, *event))
 }
 
-// Whether the event is in a global subscription.
-fn any_global(subscriptions: &[Subscription], event: EventName) -> bool
+/// Whether the event is in a global subscription.
+pub(crate) fn any_global(subscriptions: &[Subscription], event: EventName) -> bool
     ensures { result ≡ list_any (λ s. row_holds event (row_of s)) subscriptions.now }
 {
     subscriptions
@@ -175,8 +175,8 @@ fn are_among(those: &[EventName], these: &[EventName]) -> bool
     these.iter().all(|event| is_among(those, *event))
 }
 
-// Whether the event is one of these.
-fn is_among(events: &[EventName], event: EventName) -> bool
+/// Whether the event is one of these.
+pub(crate) fn is_among(events: &[EventName], event: EventName) -> bool
     ensures { result ≡ is_among events.now event }
 {
     events.contains(&event)

@@ -73,6 +73,10 @@ row_holds e r = is_global r.scope && is_among r.events e
 abbrev pub any_global : List SubscriptionRow → EventName → Bool
 any_global rows e = list_any (row_holds e) rows
 
+-- a subscription to these events can newly enable the event for some context: they have it, and none of these is global and holds for it
+abbrev pub may_be_new : List SubscriptionRow → List EventName → EventName → Bool
+may_be_new held events e = is_among events e && not (any_global held e)
+
 -- the number of the row of that id
 abbrev pub number_named : ℕ → List SubscriptionRow → List ℕ → Option ℕ
 number_named s rows id = option_map (λ r. r.number) (find (λ r. bytes_eq id (id_text Subscription s r.number)) rows)

@@ -1,5 +1,5 @@
 //! `session.subscribe`.
-ghost use Rattle.std.specs.Prelude.{◌≡◌, ◌<◌, List, map, filter, string_bytes, option_map, IfOk, true};
+ghost use Rattle.std.specs.Prelude.{◌≡◌, ◌<◌, ◌||◌, List, map, filter, string_bytes, option_map, IfOk, true};
 ghost use Rattle.bidi_browser.specs.Acts.{Act};
 ghost use Rattle.bidi_browser.specs.Occurrences.{tree_events};
 ghost use Rattle.bidi_browser.specs.Stands.{StandsFor};
@@ -11,14 +11,15 @@ ghost use Rattle.bidi_remote.specs.Machine.Outcome.{tops_named, scope_asked, out
 ghost use Rattle.bidi_remote.specs.Machine.Sent.{announcements, subscription_tree};
 ghost use Rattle.bidi_remote.specs.State.Asked.{texts, subscribe_asked};
 ghost use Rattle.bidi_remote.specs.State.Checked.{IfChecked};
-ghost use Rattle.bidi_remote.specs.State.SessionView.{scope_of, row_of};
+ghost use Rattle.bidi_remote.specs.State.SessionView.{scope_of, row_of, rows_in};
+ghost use Rattle.bidi_remote.specs.State.MissedRows.{waiting};
 ghost use Rattle.bidi_remote.specs.State.EventTexts.{written, written_in, AreMessages};
-ghost use Rattle.bidi_remote.specs.State.SubscriptionRows.{is_new};
+ghost use Rattle.bidi_remote.specs.State.SubscriptionRows.{row_in, is_new, may_be_new};
 ghost use Rattle.bidi_remote.specs.State.Stands.{AgreeWith};
 ghost use Rattle.bidi_remote.specs.State.Turns.{Decides, HasResultOf, IsWellDecided};
 ghost use Rattle.bidi_messages.specs.Payloads.{ResultIsWell, result_method};
 
-use crate::announcing::is_new;
+use crate::announcing::{is_new, may_be_new};
 use crate::event_texts::{EventText, event_texts};
 use crate::session::event_names::all_named;
 use crate::state::State;
@@ -39,7 +40,8 @@ const MOST_SUBSCRIPTIONS: usize = 256;
 /// The events that tell what exists, and then the log entries that wait, are sent to the session before the
 /// reply, where this subscription enables them and no earlier one did.
 ///
-/// Makes two events for each live context, and passes over the log entries that wait.
+/// Makes two events for each live context where it may newly enable one of them, and passes over the log
+/// entries that wait where it may newly enable those.
 ///
 /// # Errors
 /// The first that holds:
@@ -92,17 +94,7 @@ fn newly_enabled(
 {
     let held = state.sessions.subscriptions_of(session);
     let mut all = live_events(alloc, &state.browser, held, events, scope)?;
-    let mut waiting = state.sessions.waiting_for(session)?;
-    waiting.retain(|entry| {
-        is_new(
-            &state.browser,
-            held,
-            events,
-            scope,
-            EventName::EntryAdded,
-            entry.top,
-        )
-    });
+    let mut waiting = waiting_entries(alloc, state, session, held, events, scope)?;
     all.append(&mut waiting)?;
     Ok(all)
 }
@@ -120,9 +112,51 @@ fn live_events(
         ≡ map written (filter (λ o. is_new past (map row_of held.now) events.now (scope_of scope.now) o.event o.top) (tree_events past))) }
     ensures reads_back { IfOk result (λ all. AreMessages (written_in all.items)) }
 {
+    if !may_tell_what_exists(held, events) {
+        return Ok(Vec::new(alloc));
+    }
     let mut all = browser.tree_events()?;
     all.retain(|o| is_new(browser, held, events, scope, o.event.kind(), o.top));
     event_texts(alloc, &all)
+}
+
+// Whether the subscription may newly enable an event that tells what exists.
+fn may_tell_what_exists(held: &[Subscription], events: &[EventName]) -> bool
+    ensures { result ≡ (may_be_new (map row_of held.now) events.now EventName.ContextCreated
+        || may_be_new (map row_of held.now) events.now EventName.RealmCreated) }
+{
+    may_be_new(held, events, EventName::ContextCreated)
+        || may_be_new(held, events, EventName::RealmCreated)
+}
+
+// The log entries that wait, where the subscription newly enables them.
+fn waiting_entries(
+    alloc: Global,
+    state: &State,
+    session: u32,
+    held: &[Subscription],
+    events: &[EventName],
+    scope: &Scope,
+) -> Result<Vec<Rc<EventText>>, AllocError>
+    ensures { (past : List Act) → StandsFor state.now.browser past
+        → IfOk result (λ all. written_in all.items ≡ filter (λ w. is_new past (map row_of held.now) events.now (scope_of scope.now) EventName.EntryAdded w.top)
+        (waiting (row_in session (rows_in state.now.sessions)).missed)) }
+{
+    if !may_be_new(held, events, EventName::EntryAdded) {
+        return Ok(Vec::new(alloc));
+    }
+    let mut waiting = state.sessions.waiting_for(session)?;
+    waiting.retain(|entry| {
+        is_new(
+            &state.browser,
+            held,
+            events,
+            scope,
+            EventName::EntryAdded,
+            entry.top,
+        )
+    });
+    Ok(waiting)
 }
 
 // The scope that the command asks for.

@@ -8,9 +8,18 @@ use Rattle.bidi_remote.specs.State.MissedRows.{left}
 use Rattle.bidi_remote.specs.State.SessionView.{scope_of, row_of}
 use Rattle.bidi_remote.specs.State.SubscriptionRows.{is_new}
 use Rattle.bidi_remote.proofs.BeginLemmas.{over-all, over-next, over-kept}
-use Rattle.bidi_remote.proofs.PlaceLemmas.{left-new, left-old, left-empty}
+use Rattle.bidi_remote.proofs.AnnounceLemmas.{never-new}
+use Rattle.bidi_remote.proofs.PlaceLemmas.{left-new, left-old, left-empty, none-left}
 use Rattle.bidi_remote.proofs.announcing.announce.Goals.{then-is_new+in-Some-1, then-is_new+in-None-1, else-is_new}
 use Rattle.bidi_remote.proofs.announcing.announce.Goals as goal
+
+pub returns-then-not-may_be_new-clause-places : goal.returns-then-not-may_be_new-clause-places
+returns-then-not-may_be_new-clause-places c = λ past stands.
+    let rows = map row_of c.args.held.now in
+    let es = c.args.events.now in
+    let scope = scope_of c.args.scope.now in
+    none-left (is_new past rows es scope EntryAdded) (map place_row c.args.places.now.items)
+    (λ top. never-new past rows es scope EntryAdded top (sym c.may_be_new.ensures ∙ c.if-not-may_be_new.true))
 
 pub loop-at-preserved-in-None : goal.loop-at-preserved-in-None
 loop-at-preserved-in-None c =

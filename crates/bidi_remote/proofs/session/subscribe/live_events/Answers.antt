@@ -8,8 +8,14 @@ use Rattle.bidi_remote.specs.State.EventTexts.{written, written_in}
 use Rattle.bidi_remote.specs.State.SubscriptionRows.{is_new}
 use Rattle.bidi_remote.specs.State.SessionView.{scope_of, row_of}
 use Rattle.bidi_remote.proofs.ListLemmas.{map-filter}
+use Rattle.bidi_remote.proofs.AnnounceLemmas.{nothing-told}
 use Rattle.bidi_remote.proofs.DecideLemmas.{all-kept}
 use Rattle.bidi_remote.proofs.session.subscribe.live_events.Goals as goal
+
+pub returns-then-not-may_tell_what_exists-clause-ok : goal.returns-then-not-may_tell_what_exists-clause-ok
+returns-then-not-may_tell_what_exists-clause-ok c = λ past stands.
+    ap written_in c.new.ensures.items ∙ ap (map written) (sym (nothing-told past (map row_of c.args.held.now) c.args.events.now
+    (scope_of c.args.scope.now) (sym c.may_tell_what_exists.ensures ∙ c.if-not-may_tell_what_exists.true)))
 
 pub event_texts-requires : goal.event_texts-requires
 event_texts-requires c =

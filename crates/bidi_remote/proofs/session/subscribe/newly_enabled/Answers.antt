@@ -1,6 +1,5 @@
-use Rattle.std.proofs.Common.{◌∙◌, sym, ap, subst, map, rules}
+use Rattle.std.proofs.Common.{◌∙◌, sym, ap, subst, map}
 use Rattle.std.specs.Prelude.{filter}
-use Rattle.std.proofs.lemmas.Fn.{filter_same}
 use Rattle.std.proofs.lemmas.List.{map-append}
 use Rattle.bidi_messages.specs.contracts.message.MessageShape.TheImpl.{ghosts}
 use Rattle.bidi_methods.specs.declared.event_data.EventName.TheVariants.{EntryAdded}
@@ -10,7 +9,7 @@ use Rattle.bidi_remote.specs.State.EventTexts.{written_of, written_in, AreMessag
 use Rattle.bidi_remote.specs.State.MissedRows.{waiting, places}
 use Rattle.bidi_remote.specs.State.SubscriptionRows.{is_new}
 use Rattle.bidi_remote.specs.State.SessionView.{scope_of, row_of}
-use Rattle.bidi_remote.proofs.ListLemmas.{all-append, map-filter}
+use Rattle.bidi_remote.proofs.ListLemmas.{all-append}
 use Rattle.bidi_remote.proofs.PlaceLemmas.{all-filtered, waiting-messages, waiting-places}
 use Rattle.bidi_remote.proofs.DecideLemmas.{row-active, new-announced}
 use Rattle.bidi_remote.proofs.session.subscribe.newly_enabled.Goals as goal
@@ -25,11 +24,8 @@ returns c = λ past a active.
     let rows = c.subscriptions_of-held.ensures ∙ ap (λ r. r.subscriptions) row in
     let test = is_new (acts past) (map row_of held) es scope in
     let live_events = c.in_ok-all.all.items in
-    let kept = c.retain.new.self.items in
-    let stands = a.browser in
-    let later = ap written_in (filter_same _ (λ e. test EntryAdded e.value.top) _ (λ x b f' k. search (rules, stands)) _ _ c.retain.ensures.filtered)
-    ∙ (map-filter (λ e. written_of e.value) (λ w. test EntryAdded w.top) c.in_ok-waiting.waiting.items
-    ∙ ap (filter (λ w. test EntryAdded w.top)) (c.in_ok-waiting.ensures ∙ ap (λ r. waiting r.missed) row)) in
+    let kept = c.in_ok-waiting.waiting.items in
+    let later = c.in_ok-waiting.ensures (acts past) a.browser ∙ ap (λ r. filter (λ w. test EntryAdded w.top) (waiting r.missed)) row in
     let split = ap written_in c.in_ok-append.ensures.items ∙ map-append (λ e. written_of e.value) live_events kept in
     let messages = all-filtered (λ w. IsMessageText ghosts.shape w.text) (λ w. test EntryAdded w.top) (waiting (places past s))
     (subst AreMessages (sym (waiting-places past s)) (waiting-messages past s (a.entries s))) in (
