@@ -14,7 +14,7 @@ ghost use Rattle.bidi_remote.specs.State.SessionView.{scope_of, row_of, session_
 use crate::event_texts::EventText;
 use crate::log_buffer::LogBuffer;
 use crate::subscriptions::{Scope, Subscription, any_covers, cancel, dismiss};
-use bidi_browser::{Browser, IdKind, is_id};
+use bidi_browser::{Browser, IdKind, id_number};
 use bidi_messages::EventName;
 use std::alloc::{AllocError, Global};
 use std::rc::Rc;
@@ -345,8 +345,9 @@ fn opening_of(sessions: &[Session], resource: &str) -> Option<Opening>
 fn session_named(sessions: &[Session], id: &str) -> Option<u32>
     ensures { result ≡ option_map (λ s. s.number) (find (λ s. bytes_eq id.now (id_of OfSession s.number)) sessions.now) }
 {
+    let number = id_number(id, IdKind::Session, 0);
     sessions
         .iter()
-        .find(|s| is_id(id, IdKind::Session, 0, u64::from(s.number)))
+        .find(|s| Some(u64::from(s.number)) == number)
         .map(|s| s.number)
 }

@@ -8,7 +8,7 @@ ghost use Rattle.bidi_remote.specs.State.SessionView.{scope_of, row_of};
 ghost use Rattle.bidi_handles.specs.Ids.{id_text};
 ghost use Rattle.bidi_browser.specs.Occurrences.{is_among};
 
-use bidi_browser::{IdKind, Refusal, is_id};
+use bidi_browser::{IdKind, Refusal, id_number};
 use bidi_messages::{ErrorCode, EventName};
 use std::alloc::Global;
 
@@ -129,9 +129,10 @@ pub(crate) fn numbers_of(
 fn number_of(subscriptions: &[Subscription], session: u32, id: &str) -> Option<u32>
     ensures { result ≡ option_map (λ s. s.number) (find (λ s. bytes_eq id.now (id_text IdKind.Subscription session s.number)) subscriptions.now) }
 {
+    let number = id_number(id, IdKind::Subscription, session);
     subscriptions
         .iter()
-        .find(|s| is_id(id, IdKind::Subscription, session, u64::from(s.number)))
+        .find(|s| Some(u64::from(s.number)) == number)
         .map(|s| s.number)
 }
 
