@@ -1,13 +1,16 @@
 -- One more line of an input that is answered, and why its answers stop.
-use Rattle.std.proofs.Common.{◌≡◌, ◌≢◌, ℕ, ◌+◌, ◌<◌, Bool, List, [], ◌∷◌, ◌++◌, length, length-append, length-drop, take, drop}
-use Rattle.std.proofs.Common.{take-append-drop, append_assoc, arith, refl, sym, ◌∙◌, ap, subst, inl, inr, true≢false, Err}
-use Rattle.std.specs.Prelude.{Option, Result}
+use Rattle.std.proofs.Common.{◌≡◌, ◌≢◌, ℕ, ◌+◌, ◌<◌, ◌≤◌, Bool, List, [], ◌∷◌, ◌++◌, length, length-append, length-drop, take, drop}
+use Rattle.std.proofs.Common.{take-append-drop, append_assoc, arith, refl, sym, ◌∙◌, ap, subst, inl, inr, true, false, true≢false, take_all, Err}
+use Rattle.std.proofs.Math.Nat.{lt_of_not-le}
+use Rattle.std.proofs.lemmas.Bool.{false_from_ne_true}
+use Rattle.std.proofs.lemmas.List.{length-take}
+use Rattle.std.specs.Prelude.{◌⊎◌, Option, Result}
 use Rattle.std.specs.Global.{Vec}
 use Rattle.std.specs.List.{AllByRecursion}
 use Rattle.std.proofs.lemmas.Grind.{flat_map-append}
 use lib.Seq.{take-append_seam}
 use Rattle.bidi_lines.specs.Feeds.{ended, has_feed}
-use Rattle.bidi_lines.specs.InputLines.{IsLine, BeginsBadly, Says, joined}
+use Rattle.bidi_lines.specs.InputLines.{IsLine, BeginsBadly, HasLine, Says, joined}
 use Rattle.bidi_lines.specs.Answering.{AnswersOf, BeginsWith, LineIs, StopsAt, answer_fault_of, lines_fault_of}
 use Rattle.bidi_lines.specs.declared.answering.LinesFault.{LinesFault}
 use Rattle.bidi_lines.specs.declared.answering.LinesFault.TheVariants.{BadLine, Write}
@@ -15,12 +18,17 @@ use Rattle.bidi_lines.specs.declared.answering.AnswerFault.{AnswerFault}
 use Rattle.bidi_lines.specs.declared.answering.AnswerFault.TheVariants as answer
 use Rattle.bidi_lines.specs.declared.line_reader.InputFault.{InputFault}
 use Rattle.bidi_lines.specs.declared.line_reader.InputFault.TheVariants as fault
-use Rattle.bidi_lines.proofs.FeedLemmas.{feed_there, no_feed_front, one_front, regroup}
+use Rattle.bidi_lines.proofs.FeedLemmas.{feed_there, first_feed, no_feed_front, one_front, regroup}
 
 -- what holds of each of some, and of one more
 pub all_more : {X : Type 0} (P : X → Type 0) (xs : List X) (x : X) → AllByRecursion P xs → P x → AllByRecursion P (xs ++ x ∷ [])
 all_more P [] x a p = (p, tt)
 all_more P (y ∷ ys) x a p = (a.0, all_more P ys x a.1 p)
+
+-- a part of nothing is nothing
+pub no_part : (xs ys : List ℕ) → xs ++ ys ≡ [] → ys ≡ []
+no_part [] ys e = e
+no_part (x ∷ xs) ys e = cc
 
 -- ---- what stands at the front
 
@@ -63,6 +71,29 @@ the_line P line rest is p other more also e =
     subst P (one_front 10 line rest other more is.one_line also.one_line
     (sym (append_assoc line (10 ∷ []) rest) ∙ (e ∙ append_assoc other (10 ∷ []) more))).0 p
 
+-- bytes that have a line, and no whole one at their front, begin badly
+pub begins_badly : (at_end : Bool) (rest : List ℕ) → HasLine at_end rest → LineIs (λ line. ⊥) rest → BeginsBadly at_end rest
+begins_badly at_end rest has none =
+    let clear = false_from_ne_true (has_feed (take 2097153 rest)) (λ some. front_line rest none (first_feed (take 2097153 rest) some)) in record {
+      no_feed = clear;
+      enough = too_long at_end rest clear has;
+    }
+  where
+    front_line : (rest : List ℕ) → LineIs (λ line. ⊥) rest
+        → ((line : List ℕ) × (more : List ℕ) × (take 2097153 rest ≡ line ++ 10 ∷ more) × (has_feed line ≡ false) × (length line < length (take 2097153 rest))) → ⊥
+    front_line rest none (line, more, e, one_line, short) =
+        let long = length-take 2097153 rest in
+        none line (more ++ drop 2097153 rest) (record { one_line = one_line; short = omega (arith, long, short) })
+        (sym (take-append-drop 2097153 rest)
+        ∙ (ap (λ (z : List ℕ). z ++ drop 2097153 rest) e
+        ∙ (append_assoc line (10 ∷ more) (drop 2097153 rest) ∙ sym (append_assoc line (10 ∷ []) (more ++ drop 2097153 rest)))))
+
+    too_long : (at_end : Bool) (rest : List ℕ) → has_feed (take 2097153 rest) ≡ false → HasLine at_end rest
+        → (2097152 < length rest) ⊎ ((at_end ≡ true) × (rest ≢ []))
+    too_long at_end rest clear (inl some) =
+        inl (lt_of_not-le (λ short. true≢false (sym some ∙ (ap has_feed (sym (take_all 2097153 rest (omega (arith, short)))) ∙ clear))))
+    too_long at_end rest clear (inr enough) = enough
+
 -- an answer to a line, where the line and the answer are known by other names
 pub answered_now : (has_answered : List (List ℕ) → List ℕ → Type 0) (lines : List (List ℕ)) (line seen text bytes written : List ℕ)
     → seen ≡ line → written ≡ bytes → has_answered (lines ++ seen ∷ []) (text ++ bytes) → has_answered (lines ++ line ∷ []) (text ++ written)
@@ -74,45 +105,48 @@ answered_now has_answered lines line seen text bytes written same is answered =
 
 -- a fault of the input stops the answers at the next line
 stops_next : {T : Type 0} (a : AnswersOf T) (first t : T) (most : ℕ) (f : InputFault) (at_end : Bool) (read rest text : List ℕ) (lines : List (List ℕ))
-    → BeginsWith read lines rest → a.has_answered first t lines text
+    → BeginsWith read lines rest → a.has_answered first t lines text → length lines ≤ most
     → (let r : Result (Option (Vec ℕ)) InputFault = Err f in Says r at_end rest) → StopsAt a first most (lines_fault_of f (length lines + 1)) at_end read text
-stops_next a first t most fault.Read at_end read rest text lines b done says = (t, lines, rest, b, done, says)
-stops_next a first t most fault.BadLine at_end read rest text lines b done says =
-    (t, lines, rest, b, done, (inr says.enough, no_line a.refuses at_end rest says, refl))
-stops_next a first t most fault.NoMemory at_end read rest text lines b done says = (t, lines, rest, b, done, tt)
+stops_next a first t most fault.Read at_end read rest text lines b done few says = (t, lines, rest, b, done, few, says)
+stops_next a first t most fault.BadLine at_end read rest text lines b done few says =
+    (t, lines, rest, b, done, few, (inr says.enough, no_line a.refuses at_end rest says, refl))
+stops_next a first t most fault.NoMemory at_end read rest text lines b done few says = (t, lines, rest, b, done, few, tt)
 
 pub input_stop : {T : Type 0} (a : AnswersOf T) (first t : T) (most count : ℕ) (f : InputFault) (shown : LinesFault) (at_end : Bool)
     (read rest text : List ℕ) (lines : List (List ℕ))
-    → shown ≡ lines_fault_of f (count + 1) → count ≡ length lines → BeginsWith read lines rest → a.has_answered first t lines text
+    → shown ≡ lines_fault_of f (count + 1) → count ≡ length lines → BeginsWith read lines rest → a.has_answered first t lines text → length lines ≤ most
     → (let r : Result (Option (Vec ℕ)) InputFault = Err f in Says r at_end rest) → StopsAt a first most shown at_end read text
-input_stop a first t most count f shown at_end read rest text lines is counted b done says =
+input_stop a first t most count f shown at_end read rest text lines is counted b done few says =
     let same : lines_fault_of f (length lines + 1) ≡ shown = ap (λ (n : ℕ). lines_fault_of f (n + 1)) (sym counted) ∙ sym is in
-    subst (λ (x : LinesFault). StopsAt a first most x at_end read text) same (stops_next a first t most f at_end read rest text lines b done says)
+    subst (λ (x : LinesFault). StopsAt a first most x at_end read text) same (stops_next a first t most f at_end read rest text lines b done few says)
 
 -- the same behind the last line that is taken, where nothing is left of what was read
 stops_last : {T : Type 0} (a : AnswersOf T) (first t : T) (most n : ℕ) (f : InputFault) (at_end : Bool) (read text : List ℕ) (lines : List (List ℕ))
-    → BeginsWith read lines [] → a.has_answered first t lines text → (f ≡ fault.BadLine → ⊥) → StopsAt a first most (lines_fault_of f n) at_end read text
-stops_last a first t most n fault.Read at_end read text lines b done good = (t, lines, [], b, done, record { one_line = refl; short = omega arith })
-stops_last a first t most n fault.BadLine at_end read text lines b done good = absurd (good refl)
-stops_last a first t most n fault.NoMemory at_end read text lines b done good = (t, lines, [], b, done, tt)
+    → BeginsWith read lines [] → a.has_answered first t lines text → length lines ≤ most → (f ≡ fault.BadLine → ⊥)
+    → StopsAt a first most (lines_fault_of f n) at_end read text
+stops_last a first t most n fault.Read at_end read text lines b done few good = (t, lines, [], b, done, few, record { one_line = refl; short = omega arith })
+stops_last a first t most n fault.BadLine at_end read text lines b done few good = absurd (good refl)
+stops_last a first t most n fault.NoMemory at_end read text lines b done few good = (t, lines, [], b, done, few, tt)
 
 pub last_stop : {T : Type 0} (a : AnswersOf T) (first t : T) (most n : ℕ) (f : InputFault) (shown : LinesFault) (at_end : Bool)
     (read text : List ℕ) (lines : List (List ℕ))
-    → shown ≡ lines_fault_of f n → BeginsWith read lines [] → a.has_answered first t lines text → (f ≡ fault.BadLine → ⊥) → StopsAt a first most shown at_end read text
-last_stop a first t most n f shown at_end read text lines is b done good =
-    subst (λ (x : LinesFault). StopsAt a first most x at_end read text) (sym is) (stops_last a first t most n f at_end read text lines b done good)
+    → shown ≡ lines_fault_of f n → BeginsWith read lines [] → a.has_answered first t lines text → length lines ≤ most → (f ≡ fault.BadLine → ⊥)
+    → StopsAt a first most shown at_end read text
+last_stop a first t most n f shown at_end read text lines is b done few good =
+    subst (λ (x : LinesFault). StopsAt a first most x at_end read text) (sym is) (stops_last a first t most n f at_end read text lines b done few good)
 
 -- a line that is refused stops them; it is known by another name
 pub line_stop : {T : Type 0} (a : AnswersOf T) (first t : T) (most count : ℕ) (at_end : Bool) (read line seen rest text : List ℕ) (lines : List (List ℕ))
     → BeginsWith read lines (ended line ++ rest) → a.has_answered first t lines text → IsLine line → seen ≡ line → a.refuses seen → count ≡ length lines
-    → StopsAt a first most (BadLine (count + 1)) at_end read text
-line_stop a first t most count at_end read line seen rest text lines b done is same refused counted =
+    → length lines ≤ most → StopsAt a first most (BadLine (count + 1)) at_end read text
+line_stop a first t most count at_end read line seen rest text lines b done is same refused counted few =
     let whole = ended line ++ rest in (
       t,
       lines,
       whole,
       b,
       done,
+      few,
       (
         inl (feed_there line rest whole (append_assoc line (10 ∷ []) rest)),
         the_line a.refuses line rest is (subst a.refuses same refused),
@@ -125,18 +159,19 @@ pub answer_stop : {T : Type 0} (a : AnswersOf T) (first t : T) (most : ℕ) (f :
     (lines : List (List ℕ))
     → BeginsWith read lines (ended line ++ rest) → a.has_answered first t lines text → IsLine line → seen ≡ line → length lines < most
     → (f ≡ answer.WornOut → a.is_worn_out lines seen) → StopsAt a first most (answer_fault_of f) at_end read text
-answer_stop a first t most answer.NoMemory at_end read line seen rest text lines b done is same few worn = (t, lines, ended line ++ rest, b, done, tt)
+answer_stop a first t most answer.NoMemory at_end read line seen rest text lines b done is same few worn =
+    (t, lines, ended line ++ rest, b, done, omega (arith, few), tt)
 answer_stop a first t most answer.WornOut at_end read line seen rest text lines b done is same few worn =
-    (t, lines, ended line ++ rest, b, done, (few, (line, rest, is, refl, subst (a.is_worn_out lines) same (worn refl))))
+    (t, lines, ended line ++ rest, b, done, omega (arith, few), (few, (line, rest, is, refl, subst (a.is_worn_out lines) same (worn refl))))
 
 -- a beginning of the last answer was written
 pub write_stop : {T : Type 0} (a : AnswersOf T) (first t : T) (most n : ℕ) (at_end : Bool) (read rest text bytes : List ℕ) (lines : List (List ℕ))
-    → BeginsWith read lines rest → a.has_answered first t lines (text ++ bytes) → n < length bytes
+    → BeginsWith read lines rest → a.has_answered first t lines (text ++ bytes) → length lines ≤ most → n < length bytes
     → StopsAt a first most Write at_end read (text ++ take n bytes)
-write_stop a first t most n at_end read rest text bytes lines b done short = (
+write_stop a first t most n at_end read rest text bytes lines b done few short = (
   text ++ bytes,
   drop n bytes,
-  (t, lines, rest, b, done, tt),
+  (t, lines, rest, b, done, few, tt),
   ap (λ (z : List ℕ). text ++ z) (sym (take-append-drop n bytes)) ∙ sym (append_assoc text (take n bytes) (drop n bytes)),
   λ none. let left = length-drop n bytes in let l = ap length none in absurd (omega (arith, left, l, short)),
 )

@@ -1,7 +1,8 @@
 -- The first line feed.
 use Rattle.std.proofs.Common.{◌≡◌, ℕ, zero, suc, ◌+◌, ◌-◌, ◌<◌, ◌≤◌, Bool, true, false, ◌||◌, ltb, cond, List, [], ◌∷◌, ◌++◌, length, take}
-use Rattle.std.proofs.Common.{drop, refl, sym, ◌∙◌, ap, ap₂, subst, length-drop, take_all, take-append-drop, arith, Option, Some, None}
-use Rattle.std.proofs.lemmas.List.{drop-drop, drop-take, take-take}
+use Rattle.std.proofs.Common.{drop, refl, sym, ◌∙◌, ap, ap₂, subst, length-drop, take_all, true≢false, take-append-drop, arith, Option, Some, None}
+use Rattle.std.proofs.Math.Nat.{lt_of_not-le}
+use Rattle.std.proofs.lemmas.List.{drop-drop, drop-take, take-take, length-take}
 use Rattle.std.specs.Prelude.{◌==◌, position, slice_index}
 use Rattle.std.specs.List.{list_any, position_or_len}
 use Rattle.std.proofs.lemmas.Bool.{eqb-true, eq-eqb}
@@ -60,14 +61,14 @@ no-place (b ∷ bs) none =
     grind (arith, nat_tests, here, ih)
 
 -- what a search for the first line feed finds is its place
-pub first_feed : (bs : List ℕ) (r : Option ℕ) → IsFirstByte (is_byte 10) bs r → r ≡ position (λ b. b == 10) bs
-first_feed bs None none =
+pub feed_found : (bs : List ℕ) (r : Option ℕ) → IsFirstByte (is_byte 10) bs r → r ≡ position (λ b. b == 10) bs
+feed_found bs None none =
     let at = no-place bs (λ j lower is. none j (omega arith) lower (eq-eqb (slice_index bs j) 10 is)) in
     sym (found_at bs ∙ ap (λ b. cond b (Some (place bs)) None) (not-below at))
   where
     not-below : place bs ≡ length bs → ltb (place bs) (length bs) ≡ false
     not-below at = grind (arith, nat_tests, at)
-first_feed bs (Some k) (first, is) =
+feed_found bs (Some k) (first, is) =
     let at = first-place bs k first.high (eqb-true (slice_index bs k) 10 is)
     (λ j lower same. first.before j (omega arith) lower (eq-eqb (slice_index bs j) 10 same)) in
     let high = first.high in
@@ -102,6 +103,14 @@ one_front sep (x ∷ xs) ys (u ∷ us) vs a b e =
     let t : xs ++ sep ∷ ys ≡ us ++ sep ∷ vs = cc in
     let ih = one_front sep xs ys us vs (grind (arith, nat_tests)) (grind (arith, nat_tests)) t in
     let i = ih.0 in (cc, ih.1)
+
+-- bytes with a line feed are those before the first one, and those behind it
+pub first_feed : (bs : List ℕ) → has_feed bs ≡ true
+    → (line : List ℕ) × (more : List ℕ) × (bs ≡ line ++ 10 ∷ more) × (has_feed line ≡ false) × (length line < length bs)
+first_feed bs some =
+    let within : place bs < length bs = lt_of_not-le (λ past. true≢false (sym some ∙ none bs past)) in
+    let short = length-take (place bs) bs in
+    (take (place bs) bs, drop (suc (place bs)) bs, split bs within, before bs, omega (arith, short, within))
 
 -- a line feed behind a line
 pub feed_there : (line more bytes : List ℕ) → bytes ≡ line ++ 10 ∷ more → has_feed bytes ≡ true

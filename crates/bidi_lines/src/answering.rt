@@ -1,5 +1,5 @@
 //! Answering an input line by line.
-ghost use Rattle.std.specs.Prelude.{◌≡◌, ℕ, ◌+◌, List, [], ◌∷◌, ◌++◌, IfOk, IfErr, OnOk, IsErrOf, IsTrue, MatchOption, MatchResult};
+ghost use Rattle.std.specs.Prelude.{◌≡◌, ℕ, ◌+◌, List, [], ◌∷◌, ◌++◌, length, IfOk, IfErr, OnOk, IsErrOf, IsTrue, MatchOption, MatchResult};
 ghost use Rattle.std.specs.Io.KnownBytes.{IsAtEnd};
 ghost use Rattle.bidi_lines.specs.Devices.{Moves};
 ghost use Rattle.bidi_lines.specs.InputLines.{IsLine};
@@ -78,15 +78,21 @@ pub trait Answerer {
     // What it has answered, which lines it refuses, and where it takes no more.
     ghost answers: { AnswersOf Self };
 
-    /// The answer to the next line, which has no line feed; `None` where it is refused.
+    /// The answer to the next line, which has this number, counted from 1, and no line feed; `None` where it is
+    /// refused.
     ///
     /// # Errors
     /// 1. `NoMemory`: an allocation failed.
     /// 2. `WornOut`: no more lines are taken.
-    fn answer(&mut self, alloc: Global, line: &[u8]) -> Result<Option<Vec<u8>>, AnswerFault>
+    fn answer(
+        &mut self,
+        alloc: Global,
+        number: u64,
+        line: &[u8],
+    ) -> Result<Option<Vec<u8>>, AnswerFault>
         requires { IsLine line.now }
         ensures ok { (first : Self) (lines : List (List ℕ)) (text : List ℕ) → answers.has_answered first self.old lines text
-            → IfOk result (λ found. MatchOption found (answers.refuses line.now)
+            → number ≡ length lines + 1 → IfOk result (λ found. MatchOption found (answers.refuses line.now)
             (λ bytes. answers.has_answered first self.new (lines ++ line.now ∷ []) (text ++ bytes.items))) }
         ensures worn_out { (first : Self) (lines : List (List ℕ)) (text : List ℕ) → answers.has_answered first self.old lines text
             → IsErrOf result refusal.WornOut → answers.is_worn_out lines line.now };
@@ -114,9 +120,9 @@ pub fn answer_lines<R: Source, W: Sink, A: Answerer>(
     // The answerer has answered no line yet.
     requires { A.answers.has_answered answerer.old answerer.old [] [] }
 
-    // All that the source had was lines that it took, and its answers were written.
+    // All that the source had was lines that it took, at most `most`, and its answers were written.
     ensures ok { OnOk result (Moves (R.left source.old) (R.left source.new) (W.contents sink.old) (W.contents sink.new)
-        (AnswersAll (A.answers.has_answered answerer.old answerer.new))) }
+        (AnswersAll (A.answers.has_answered answerer.old answerer.new) most)) }
     ensures end { OnOk result (IsTrue (R.has_ended source.new) × IsAtEnd (R.left source.new)) }
 
     // A fault says what was read and written before it.
@@ -137,7 +143,7 @@ pub fn answer_lines<R: Source, W: Sink, A: Answerer>(
             Ok(None) => return Ok(()),
             Ok(Some(line)) => {
                 count += 1;
-                let Some(text) = answerer.answer(alloc, &line)? else {
+                let Some(text) = answerer.answer(alloc, count, &line)? else {
                     return Err(LinesFault::BadLine(count));
                 };
                 write_all(sink, &text)?;

@@ -1,8 +1,8 @@
 //! Devices, and the lines of an input, read and answered one by one.
 //!
 //! A program reads a [`Source`] and writes a [`Sink`], whose bytes contracts can name; a [`Device`] is either of
-//! them over any reader or writer. A [`LineReader`] gives the lines of a source one by one. [`Side`] says whose
-//! texts they are.
+//! them over any reader or writer, and [`Nowhere`] a sink that keeps nothing. A [`LineReader`] gives the lines of a
+//! source one by one, and [`answer_lines`] has an [`Answerer`] answer them. [`Side`] says whose texts they are.
 #![tactic(auto)]
 
 mod answering;
@@ -13,7 +13,7 @@ mod side;
 mod tally;
 
 pub use answering::{AnswerFault, Answerer, LinesFault, answer_lines};
-pub use device::{Device, DeviceFault, Sink, Source, write_all};
+pub use device::{Device, DeviceFault, Nowhere, Sink, Source, write_all};
 pub use feeds::LONGEST_LINE;
 pub use line_reader::{InputFault, LineReader};
 pub use side::Side;

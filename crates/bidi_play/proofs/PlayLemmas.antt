@@ -75,8 +75,8 @@ play_of end read rest text lines b p = record {
 }
 
 -- all that was read was played
-pub plays_all : (end : RemoteEnd) (read wrote : List ℕ) → lines.AnswersAll (HasPlayed end) read wrote → PlaysAll read wrote
-plays_all end read wrote (lines, b, p) = (p.steps, play_of end read [] wrote lines b p)
+pub plays_all : (end : RemoteEnd) (most : ℕ) (read wrote : List ℕ) → lines.AnswersAll (HasPlayed end) most read wrote → PlaysAll read wrote
+plays_all end most read wrote (lines, b, p, few) = (p.steps, play_of end read [] wrote lines b p)
 
 -- where the line at the front is that of no step, no step's line stands there
 pub no_play_line : (rest : List ℕ) → LineIs SaysNoStep rest → HasNoPlayLine rest
@@ -85,8 +85,8 @@ no_play_line rest none s more can e = none (line_of s) more (record { one_line =
 -- a fault of its lines stops a play
 pub play_stop : (first : Player) (f : LinesFault) (most : ℕ) (at_end : Bool) (read wrote : List ℕ)
     → 1000000000 < most → lines.StopsAt player_answers first most f at_end read wrote → StopsAt (play_fault_of f) at_end read wrote
-play_stop first fault.Read most at_end read wrote many (t, lines, rest, b, p, is) = (p.steps, rest, play_of t.end read rest wrote lines b p, is)
-play_stop first (fault.BadLine n) most at_end read wrote many (t, lines, rest, b, p, (has, none, counted)) = (
+play_stop first fault.Read most at_end read wrote many (t, lines, rest, b, p, fits, is) = (p.steps, rest, play_of t.end read rest wrote lines b p, is)
+play_stop first (fault.BadLine n) most at_end read wrote many (t, lines, rest, b, p, fits, (has, none, counted)) = (
   p.steps,
   rest,
   play_of t.end read rest wrote lines b p,
@@ -94,16 +94,16 @@ play_stop first (fault.BadLine n) most at_end read wrote many (t, lines, rest, b
   no_play_line rest none,
   counted ∙ ap (λ (k : ℕ). k + 1) (length-said lines p.steps p.say),
 )
-play_stop first fault.TooManyLines most at_end read wrote many (t, lines, rest, b, p, (all, more)) =
+play_stop first fault.TooManyLines most at_end read wrote many (t, lines, rest, b, p, fits, (all, more)) =
     let same = length-said lines p.steps p.say in let few = p.few in absurd (omega (arith, all, same, few, many))
-play_stop first fault.WornOut most at_end read wrote many (t, lines, rest, b, p, (short, (line, more, is, front, (all, (s, can, says))))) = (
+play_stop first fault.WornOut most at_end read wrote many (t, lines, rest, b, p, fits, (short, (line, more, is, front, (all, (s, can, says))))) = (
   p.steps,
   rest,
   play_of t.end read rest wrote lines b p,
   sym (length-said lines p.steps p.say) ∙ all,
   (s, more, can, front ∙ ap (λ (l : List ℕ). ended l ++ more) says),
 )
-play_stop first fault.NoMemory most at_end read wrote many (t, lines, rest, b, p, any) =
+play_stop first fault.NoMemory most at_end read wrote many (t, lines, rest, b, p, fits, any) =
     (p.steps, rest, wrote, [], play_of t.end read rest wrote lines b p, sym (append-nil wrote))
-play_stop first fault.Write most at_end read wrote many (text, more, (t, lines, rest, b, p, any), e, left) =
+play_stop first fault.Write most at_end read wrote many (text, more, (t, lines, rest, b, p, fits, any), e, left) =
     (p.steps, rest, text, more, play_of t.end read rest text lines b p, e)

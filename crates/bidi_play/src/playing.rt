@@ -111,7 +111,12 @@ struct Player {
 impl Answerer for Player {
     ghost answers = { player_answers };
 
-    fn answer(&mut self, alloc: Global, line: &[u8]) -> Result<Option<Vec<u8>>, AnswerFault> {
+    fn answer(
+        &mut self,
+        alloc: Global,
+        _number: u64,
+        line: &[u8],
+    ) -> Result<Option<Vec<u8>>, AnswerFault> {
         let Some(step) = read_step(alloc, line)? else {
             return Ok(None);
         };

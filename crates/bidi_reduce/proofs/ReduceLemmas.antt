@@ -14,7 +14,7 @@ use Rattle.bidi_lines.specs.Answering.{BeginsWith}
 use Rattle.bidi_lines.specs.Answering as lines
 use Rattle.bidi_lines.specs.declared.answering.LinesFault.{LinesFault}
 use Rattle.bidi_lines.specs.declared.answering.LinesFault.TheVariants as fault
-use Rattle.bidi_lines.proofs.AnsweringLemmas.{all_more}
+use Rattle.bidi_lines.proofs.AnsweringLemmas.{all_more, no_part}
 use Rattle.bidi_play.specs.Lines.{line_of, said, CanBeSaid}
 use Rattle.bidi_play.specs.Plays.{play_fault_of}
 use Rattle.bidi_play.specs.declared.playing.PlayFault.TheVariants.{Write}
@@ -82,8 +82,8 @@ says first reducer read rest text lines b p = record { lines = said_front read r
 
 -- all that was read is reduced to what is kept
 pub reduces_all : (first reducer : Reducer) (read text : List ℕ)
-    → lines.AnswersAll (HasReduced first reducer) read text → ReducesAll first.session read reducer.kept.items × (text ≡ [])
-reduces_all first reducer read text (lines, b, p) =
+    → lines.AnswersAll (HasReduced first reducer) 1000000000 read text → ReducesAll first.session read reducer.kept.items × (text ≡ [])
+reduces_all first reducer read text (lines, b, p, few) =
     let kept = strike_steps p.steps p.inputs first.session in (
       (
         p.steps,
@@ -97,16 +97,11 @@ reduces_all first reducer read text (lines, b, p) =
 
 -- ---- stops
 
--- a part of nothing is nothing
-no_part : (xs ys : List ℕ) → xs ++ ys ≡ [] → ys ≡ []
-no_part [] ys e = e
-no_part (x ∷ xs) ys e = cc
-
 -- a fault of its lines stops it, and nothing was written
 pub reduce_stop : (first : Reducer) (f : LinesFault) (at_end : Bool) (read wrote : List ℕ)
     → lines.StopsAt reducer_answers first 1000000000 f at_end read wrote → StopsAt first.session (play_fault_of f) at_end read wrote
-reduce_stop first fault.Read at_end read wrote (t, lines, rest, b, p, is) = (p.steps, rest, says first t read rest wrote lines b p, is, p.none)
-reduce_stop first (fault.BadLine n) at_end read wrote (t, lines, rest, b, p, (has, none, counted)) = (
+reduce_stop first fault.Read at_end read wrote (t, lines, rest, b, p, few, is) = (p.steps, rest, says first t read rest wrote lines b p, is, p.none)
+reduce_stop first (fault.BadLine n) at_end read wrote (t, lines, rest, b, p, few, (has, none, counted)) = (
   p.steps,
   rest,
   says first t read rest wrote lines b p,
@@ -115,11 +110,11 @@ reduce_stop first (fault.BadLine n) at_end read wrote (t, lines, rest, b, p, (ha
   counted ∙ ap (λ (k : ℕ). k + 1) (length-said lines p.steps p.say),
   p.none,
 )
-reduce_stop first fault.TooManyLines at_end read wrote (t, lines, rest, b, p, (all, more)) =
+reduce_stop first fault.TooManyLines at_end read wrote (t, lines, rest, b, p, few, (all, more)) =
     (p.steps, rest, says first t read rest wrote lines b p, sym (length-said lines p.steps p.say) ∙ all, more, p.none)
-reduce_stop first fault.WornOut at_end read wrote (t, lines, rest, b, p, (short, (line, more, is, front, many))) = absurd (omega (arith, short, many))
-reduce_stop first fault.NoMemory at_end read wrote (t, lines, rest, b, p, any) = p.none
-reduce_stop first fault.Write at_end read wrote (text, more, (t, lines, rest, b, p, any), e, left) = absurd (left (no_part wrote more (sym e ∙ p.none)))
+reduce_stop first fault.WornOut at_end read wrote (t, lines, rest, b, p, few, (short, (line, more, is, front, many))) = absurd (omega (arith, short, many))
+reduce_stop first fault.NoMemory at_end read wrote (t, lines, rest, b, p, few, any) = p.none
+reduce_stop first fault.Write at_end read wrote (text, more, (t, lines, rest, b, p, few, any), e, left) = absurd (left (no_part wrote more (sym e ∙ p.none)))
 
 -- a beginning of what is kept was written
 pub write_stop : (s n : ℕ) (at_end : Bool) (read text : List ℕ) → ReducesAll s read text → StopsAt s Write at_end read (take n text)

@@ -97,7 +97,12 @@ impl Answerer for Reducer {
     ghost answers = { reducer_answers };
 
     // Nothing is written for a line before all are read.
-    fn answer(&mut self, alloc: Global, line: &[u8]) -> Result<Option<Vec<u8>>, AnswerFault> {
+    fn answer(
+        &mut self,
+        alloc: Global,
+        _number: u64,
+        line: &[u8],
+    ) -> Result<Option<Vec<u8>>, AnswerFault> {
         let Some(step) = read_step(alloc, line)? else {
             return Ok(None);
         };

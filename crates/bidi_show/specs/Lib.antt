@@ -1,2 +1,3 @@
 pub mod MessageLines
 pub mod Listings
+pub mod Listers

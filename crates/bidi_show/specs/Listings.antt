@@ -9,8 +9,8 @@ use Rattle.bidi_show.specs.declared.showing.Listing.{Listing}
 use Rattle.bidi_show.specs.declared.showing.Listing.TheVariants.{All, RefusedAlone}
 use Rattle.bidi_show.specs.declared.showing.ShowFault.{ShowFault}
 use Rattle.bidi_show.specs.declared.showing.ShowFault.TheVariants.{Read, Write, BadLine, NoMemory, TooManyLines}
-use Rattle.bidi_lines.specs.declared.line_reader.InputFault.{InputFault}
-use Rattle.bidi_lines.specs.declared.line_reader.InputFault.TheVariants as input
+use Rattle.bidi_lines.specs.declared.answering.LinesFault.{LinesFault}
+use Rattle.bidi_lines.specs.declared.answering.LinesFault.TheVariants as lines
 
 -- a line that names the number of a line that is refused; nothing for one that is not
 abbrev pub numbered : ℕ → Option (List ℕ) → List ℕ
@@ -69,11 +69,14 @@ abbrev pub failed_writes : ShowFault → ℕ
 failed_writes Write = 1
 failed_writes fault = 0
 
--- the fault that a fault of the input is, at the line of this number
-abbrev pub show_fault_of : InputFault → ℕ → ShowFault
-show_fault_of input.Read n = Read
-show_fault_of input.BadLine n = BadLine n
-show_fault_of input.NoMemory n = NoMemory
+-- the fault that a fault of its lines is
+abbrev pub show_fault_of : LinesFault → ShowFault
+show_fault_of lines.Read = Read
+show_fault_of lines.Write = Write
+show_fault_of (lines.BadLine n) = BadLine n
+show_fault_of lines.NoMemory = NoMemory
+show_fault_of lines.TooManyLines = TooManyLines
+show_fault_of lines.WornOut = TooManyLines
 
 -- the status of a program whose listing stopped at the fault
 abbrev pub status_of : ShowFault → ℕ

@@ -1,15 +1,15 @@
 //! Listings of an input: a line for each text, or one for each text that is refused.
-ghost use Rattle.std.specs.Prelude.{◌≡◌, ◌+◌, ◌==◌, ◌||◌, not, [], ◌∷◌, ◌++◌, length, nat_lt, decimal};
+ghost use Rattle.std.specs.Prelude.{◌≡◌, ◌+◌, ◌∷◌, ◌++◌, [], length, nat_lt, decimal};
 ghost use Rattle.std.specs.Prelude.{option_map, string_bytes, IfOk, IfErr, OnOk, IsTrue, MatchResult};
 ghost use Rattle.std.specs.Io.KnownBytes.{IsAtEnd};
 ghost use Rattle.bidi_lines.specs.Devices.{Moves};
 ghost use Rattle.bidi_lines.specs.Feeds.{ended};
 ghost use Rattle.bidi_show.specs.MessageLines.{shown_of, text_of};
 ghost use Rattle.bidi_show.specs.Listings.{Lists, ListsAll, StopsAt, failed_reads, failed_writes, numbered, show_fault_of};
-ghost use Rattle.bidi_show.specs.declared.showing.ShowFault.TheVariants.{Write, NoMemory};
+ghost use Rattle.bidi_show.specs.Listers.{lister_answers};
 
 use super::message_lines::{Shown, refusal, show_line};
-use bidi_lines::{DeviceFault, InputFault, LineReader, Side, Sink, Source, write_all};
+use bidi_lines::{AnswerFault, Answerer, LinesFault, Side, Sink, Source, answer_lines};
 use json::Scratch;
 use std::alloc::{AllocError, Global};
 use thiserror::Error;
@@ -46,19 +46,17 @@ pub enum ShowFault {
     TooManyLines,
 }
 
-impl From<AllocError> for ShowFault {
-    ghost from_gives = { λ _ fault. fault ≡ NoMemory };
+impl From<LinesFault> for ShowFault {
+    ghost from_gives = { λ error fault. fault ≡ show_fault_of error };
 
-    fn from(_error: AllocError) -> ShowFault {
-        ShowFault::NoMemory
-    }
-}
-
-impl From<DeviceFault> for ShowFault {
-    ghost from_gives = { λ _ fault. fault ≡ Write };
-
-    fn from(_error: DeviceFault) -> ShowFault {
-        ShowFault::Write
+    fn from(error: LinesFault) -> ShowFault {
+        match error {
+            LinesFault::Read => ShowFault::Read,
+            LinesFault::Write => ShowFault::Write,
+            LinesFault::BadLine(number) => ShowFault::BadLine(number),
+            LinesFault::NoMemory => ShowFault::NoMemory,
+            LinesFault::TooManyLines | LinesFault::WornOut => ShowFault::TooManyLines,
+        }
     }
 }
 
@@ -95,35 +93,46 @@ pub fn list<R: Source, W: Sink>(
     ensures writes { MatchResult result (λ _. W.failures sink.new ≡ W.failures sink.old)
         (λ fault. W.failures sink.new ≡ W.failures sink.old + failed_writes fault) }
 {
-    let mut reader = LineReader::new(alloc);
-    let mut scratch = Scratch::new(alloc);
-    let mut count: u64 = 0;
-    let mut some = false;
-    'lines: while count < MOST_LINES {
-        match reader.next(alloc, source) {
-            Err(fault) => return Err(show_fault(fault, count + 1)),
-            Ok(None) => return Ok(some),
-            Ok(Some(line)) => {
-                count += 1;
-                let text = text_for(alloc, listing, side, count, &line, &mut scratch)?;
-                let bytes = text.as_bytes();
-                write_all(sink, bytes)?;
-                some = or_some(some, bytes);
-            }
-        }
-    }
-    match reader.goes_on(source) {
-        Err(fault) => Err(show_fault(fault, count)),
-        Ok(true) => Err(ShowFault::TooManyLines),
-        Ok(false) => Ok(some),
-    }
+    let mut lister = Lister {
+        listing,
+        side,
+        scratch: Scratch::new(alloc),
+        has_written: false,
+    };
+    answer_lines(alloc, &mut lister, MOST_LINES, source, sink)?;
+    Ok(lister.has_written)
 }
 
-// Whether something was written before, or these bytes are not empty.
-fn or_some(some: bool, bytes: &[u8]) -> bool
-    ensures { result ≡ (some || not (length bytes.now == 0)) }
-{
-    some || !bytes.is_empty()
+// What lists the lines of an input, with the scratch that they are read in.
+#[derive(Drop)]
+struct Lister {
+    listing: Listing,
+    side: Side,
+    scratch: Scratch,
+    // Whether anything was written.
+    has_written: bool,
+}
+
+impl Answerer for Lister {
+    ghost answers = { lister_answers };
+
+    fn answer(
+        &mut self,
+        alloc: Global,
+        number: u64,
+        line: &[u8],
+    ) -> Result<Option<Vec<u8>>, AnswerFault> {
+        let text = text_for(
+            alloc,
+            self.listing,
+            self.side,
+            number,
+            line,
+            &mut self.scratch,
+        )?;
+        self.has_written |= !text.is_empty();
+        Ok(Some(text.into_bytes()))
+    }
 }
 
 // What is written for the line of this number.
@@ -171,15 +180,4 @@ fn numbered_line(alloc: Global, number: u64, text: &str) -> Result<String, Alloc
     ensures { IfOk result (λ line. string_bytes line ≡ 108 ∷ 105 ∷ 110 ∷ 101 ∷ 32 ∷ (decimal number ++ 58 ∷ 32 ∷ (text.now ++ 10 ∷ []))) }
 {
     format!(in alloc; "line {number}: {text}\n")
-}
-
-// The fault of a listing for a fault of its input, at the line of this number.
-fn show_fault(fault: InputFault, number: u64) -> ShowFault
-    ensures { result ≡ show_fault_of fault number }
-{
-    match fault {
-        InputFault::Read => ShowFault::Read,
-        InputFault::BadLine => ShowFault::BadLine(number),
-        InputFault::NoMemory => ShowFault::NoMemory,
-    }
 }

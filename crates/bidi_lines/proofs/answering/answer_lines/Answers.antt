@@ -1,4 +1,4 @@
-use Rattle.std.proofs.Common.{◌≡◌, ℕ, List, [], ◌∷◌, ◌++◌, length-append, refl, sym, ◌∙◌, ap, arith, take, Err}
+use Rattle.std.proofs.Common.{ℕ, [], ◌∷◌, ◌++◌, ◌+◌, length-append, refl, sym, ◌∙◌, ap, arith, take, Err}
 use Rattle.std.proofs.KnownBytes.{Appends-nil, Appends-trans, Consumes-nil, Consumes-trans}
 use Rattle.bidi_lines.specs.Feeds.{ended}
 use Rattle.bidi_lines.specs.Answering.{answer_fault_of}
@@ -36,7 +36,7 @@ returns-in-Err-clause-err g c =
       s.writes,
       input_stop g.A.Answerer.answers c.args.answerer.now c.lines.answerer c.args.most c.lines.count c.in-Err.fault c.lines_fault.result
           (g.R.Source.has_ended c.next.new.source) (read ++ bytes) c.next.new.self text lines c.lines_fault.ensures s.count
-          (begins_read read bytes c.lines.reader c.next.new.self lines s.begins more) s.answered next.says,
+          (begins_read read bytes c.lines.reader c.next.new.self lines s.begins more) s.answered s.few next.says,
     )
 
 pub returns-in-Ok-None-clause-ok : goal.returns-in-Ok-None-clause-ok
@@ -53,6 +53,7 @@ returns-in-Ok-None-clause-ok g c =
         lines,
         begins_all (read ++ bytes) c.next.new.self lines (begins_read read bytes c.lines.reader c.next.new.self lines s.begins more) none,
         s.answered,
+        s.few,
       ),
     )
 
@@ -84,7 +85,7 @@ returns-in_default-clause-err g c =
     let line = c.in-Ok-Some.line in
     let (bytes, more, consumes, is) =
     given_line _ _ c.lines.reader c.next.new.self _ c.in-Ok-Some.field-0 line c.in-Ok-Some.field-0-is (next.bytes, next.says) in
-    let refused = match_none c.in_ok-text-in-Ok-Some.field-0 _ _ (c.in_ok-text-in-Ok-Some.ensures.ok c.args.answerer.now lines text s.answered) c.in_default.is in (
+    let refused = match_none c.in_ok-text-in-Ok-Some.field-0 _ _ (c.in_ok-text-in-Ok-Some.ensures.ok c.args.answerer.now lines text s.answered (ap (λ (n : ℕ). n + 1) s.count)) c.in_default.is in (
       read ++ bytes,
       text,
       Consumes-trans _ _ _ _ _ s.reads consumes,
@@ -92,7 +93,7 @@ returns-in_default-clause-err g c =
       line_stop g.A.Answerer.answers c.args.answerer.now c.lines.answerer c.args.most c.lines.count (g.R.Source.has_ended c.next.new.source) (read ++ bytes)
           line.items c.deref.result.now c.next.new.self text lines
           (begins_read read bytes c.lines.reader (ended line.items ++ c.next.new.self) lines s.begins more) s.answered is
-          c.deref.ensures.value refused s.count,
+          c.deref.ensures.value refused s.count s.few,
     )
 
 pub returns-in_err-write_all-in-Ok-Some-clause-err : goal.returns-in_err-write_all-in-Ok-Some-clause-err
@@ -106,8 +107,10 @@ returns-in_err-write_all-in-Ok-Some-clause-err g c =
     let now =
     answered_now (g.A.Answerer.answers.has_answered c.args.answerer.now c.answer.new.self) lines line.items c.deref.result.now text answer.items c.deref-in-Ok-Some.result.now
     c.deref.ensures.value c.deref-in-Ok-Some.ensures.value
-    (match_some c.in_ok-text-in-Ok-Some.field-0 answer _ _ (c.in_ok-text-in-Ok-Some.ensures.ok c.args.answerer.now lines text s.answered) c.in-Some.is) in
+    (match_some c.in_ok-text-in-Ok-Some.field-0 answer _ _ (c.in_ok-text-in-Ok-Some.ensures.ok c.args.answerer.now lines text s.answered (ap (λ (n : ℕ). n + 1) s.count)) c.in-Some.is) in
     let front = c.in_err-write_all-in-Ok-Some.ensures.err in
+    let long = length-append lines (line.items ∷ []) in
+    let before = s.count in
     by_fault c.from_residual-in_err-write_all-in-Ok-Some.result Write _ c.from_residual-in_err-write_all-in-Ok-Some.ensures (
       read ++ bytes,
       text ++ take front.0 c.deref-in-Ok-Some.result.now,
@@ -115,7 +118,7 @@ returns-in_err-write_all-in-Ok-Some-clause-err g c =
       Appends-trans _ _ _ _ _ s.writes front.2,
       write_stop g.A.Answerer.answers c.args.answerer.now c.answer.new.self c.args.most front.0 (g.R.Source.has_ended c.next.new.source) (read ++ bytes)
           c.next.new.self text c.deref-in-Ok-Some.result.now (lines ++ line.items ∷ [])
-          (begins_more read bytes line.items c.lines.reader c.next.new.self lines s.begins more is) now front.1,
+          (begins_more read bytes line.items c.lines.reader c.next.new.self lines s.begins more is) now (omega (arith, long, before)) front.1,
     )
 
 pub lines-preserved : goal.lines-preserved
@@ -129,7 +132,7 @@ lines-preserved g c =
     let now =
     answered_now (g.A.Answerer.answers.has_answered c.args.answerer.now c.answer.new.self) lines line.items c.deref.result.now text answer.items c.deref-in-Ok-Some.result.now
     c.deref.ensures.value c.deref-in-Ok-Some.ensures.value
-    (match_some c.in_ok-text-in-Ok-Some.field-0 answer _ _ (c.in_ok-text-in-Ok-Some.ensures.ok c.args.answerer.now lines text s.answered) c.in-Some.is) in
+    (match_some c.in_ok-text-in-Ok-Some.field-0 answer _ _ (c.in_ok-text-in-Ok-Some.ensures.ok c.args.answerer.now lines text s.answered (ap (λ (n : ℕ). n + 1) s.count)) c.in-Some.is) in
     let long = length-append lines (line.items ∷ []) in
     let before = s.count in (
       read ++ bytes,
@@ -143,7 +146,7 @@ lines-preserved g c =
         failed_reads = next.failures ∙ s.failed_reads;
         failed_writes = c.in_ok-write_all-in-Ok-Some.ensures.counts ∙ s.failed_writes;
         count = omega (arith, long, before);
-        few = omega arith;
+        few = omega (arith, long, before);
       },
     )
 
@@ -159,7 +162,7 @@ returns-in-Err-goes_on-clause-err g c =
       last_stop g.A.Answerer.answers c.args.answerer.now c.lines.answerer c.args.most c.lines.count c.in-Err-goes_on.fault c.lines_fault-in-Err-goes_on.result
           (g.R.Source.has_ended c.goes_on.new.source) (read ++ bytes) text lines c.lines_fault-in-Err-goes_on.ensures
           (begins_all (read ++ bytes) c.goes_on.new.self lines
-          (begins_read read bytes c.lines.reader c.goes_on.new.self lines s.begins more) next.err.1) s.answered next.err.0,
+          (begins_read read bytes c.lines.reader c.goes_on.new.self lines s.begins more) next.err.1) s.answered s.few next.err.0,
     )
 
 pub returns-in-Ok-true-clause-err : goal.returns-in-Ok-true-clause-err
@@ -178,6 +181,7 @@ returns-in-Ok-true-clause-err g c =
         c.goes_on.new.self,
         begins_read read bytes c.lines.reader c.goes_on.new.self lines s.begins more,
         s.answered,
+        few,
         (omega (arith, counted, few), next.more c.in-Ok-true.field-0-test),
       ),
     )
@@ -196,5 +200,6 @@ returns-clause-ok g c =
         begins_all (read ++ bytes) c.goes_on.new.self lines (begins_read read bytes c.lines.reader c.goes_on.new.self lines s.begins more)
             (next.end c.in-Ok-false.field-0-test).0,
         s.answered,
+        s.few,
       ),
     )

@@ -13,7 +13,7 @@ invariant-lines g l = (read : List ℕ) × (lines : List (List ℕ)) × (text : 
   failed_reads : g.R.Source.failures l.source ≡ g.R.Source.failures l.initial.source;
   failed_writes : g.W.Sink.failures l.sink ≡ g.W.Sink.failures l.initial.sink;
   count : l.count ≡ length lines;
-  few : l.count ≤ l.most;
+  few : length lines ≤ l.most;
 })
 
 abbrev pub decreases-lines : goal.decreases-lines

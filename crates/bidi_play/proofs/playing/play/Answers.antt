@@ -48,5 +48,5 @@ returns-clause-ok g c =
       wrote,
       consumes,
       appends,
-      plays_all c.answer_lines.new.answerer.end read wrote all,
+      plays_all c.answer_lines.new.answerer.end 18446744073709551615 read wrote all,
     )

@@ -10,7 +10,7 @@ use Rattle.bidi_play.proofs.PlayLemmas.{length-said, played_more}
 use Rattle.bidi_play.proofs.playing.PlayerAnswerer.answer.Goals as goal
 
 pub returns-in_ok-lines_of-in-Ok-clause-ok : goal.returns-in_ok-lines_of-in-Ok-clause-ok
-returns-in_ok-lines_of-in-Ok-clause-ok c first lines text p =
+returns-in_ok-lines_of-in-Ok-clause-ok c first lines text p counted =
     let x = c.in-Some.step in
     let said = if_some_at c.in_ok-step.field-0 x _ c.in_ok-step.ensures.some c.in-Some.is in
     let heard = c.in-Ok.ensures.ok in
