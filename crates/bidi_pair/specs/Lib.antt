@@ -1,2 +1,3 @@
 pub mod PairLines
 pub mod Pairs
+pub mod StepReaders

@@ -10,8 +10,8 @@ use Rattle.bidi_ledger.specs.Pairing.{history}
 use Rattle.bidi_ledger.specs.Steps.{AreHeardAs}
 use Rattle.bidi_pair.specs.declared.reading.PairFault.{PairFault}
 use Rattle.bidi_pair.specs.declared.reading.PairFault.TheVariants.{Read, Write, BadLine, NoMemory, TooManyLines, WornOut}
-use Rattle.bidi_lines.specs.declared.line_reader.InputFault.{InputFault}
-use Rattle.bidi_lines.specs.declared.line_reader.InputFault.TheVariants as input
+use Rattle.bidi_lines.specs.declared.answering.LinesFault.{LinesFault}
+use Rattle.bidi_lines.specs.declared.answering.LinesFault.TheVariants as lines
 use Rattle.bidi_lines.specs.InputLines.{IsLine, HasLine}
 use Rattle.bidi_lines.specs.InputLines.{joined}
 use Rattle.bidi_lines.specs.Answering.{LineIs}
@@ -68,11 +68,14 @@ abbrev pub failed_writes : PairFault → ℕ
 failed_writes Write = 1
 failed_writes fault = 0
 
--- the fault that a fault of the input is, at the line of this number
-abbrev pub pair_fault_of : InputFault → ℕ → PairFault
-pair_fault_of input.Read n = Read
-pair_fault_of input.BadLine n = BadLine n
-pair_fault_of input.NoMemory n = NoMemory
+-- the fault that a fault of its lines is
+abbrev pub pair_fault_of : LinesFault → PairFault
+pair_fault_of lines.Read = Read
+pair_fault_of lines.Write = Write
+pair_fault_of (lines.BadLine n) = BadLine n
+pair_fault_of lines.NoMemory = NoMemory
+pair_fault_of lines.TooManyLines = TooManyLines
+pair_fault_of lines.WornOut = WornOut
 
 -- the fault that a fault of the remote end is
 abbrev pub remote_fault_of : RemoteFault → PairFault

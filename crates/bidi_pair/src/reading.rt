@@ -3,11 +3,12 @@ ghost use Rattle.std.specs.Prelude.{◌≡◌, ◌+◌, [], ◌∷◌, ◌++◌,
 ghost use Rattle.std.specs.Io.KnownBytes.{IsAtEnd};
 ghost use Rattle.bidi_ledger.specs.Steps.{AreWell};
 ghost use Rattle.bidi_pair.specs.Pairs.{Reads, Schedule, StopsAt, failed_reads, failed_writes, pair_fault_of, remote_fault_of};
+ghost use Rattle.bidi_pair.specs.StepReaders.{reader_answers};
 ghost use Rattle.bidi_pair.specs.declared.reading.PairFault.TheVariants.{Write, NoMemory};
 
 use super::pair_lines::read_pair_step;
 use bidi_ledger::PairStep;
-use bidi_lines::{DeviceFault, InputFault, LineReader, Source};
+use bidi_lines::{AnswerFault, Answerer, DeviceFault, LinesFault, Nowhere, Source, answer_lines};
 use bidi_remote::RemoteFault;
 use std::alloc::{AllocError, Global};
 use thiserror::Error;
@@ -54,6 +55,21 @@ impl From<DeviceFault> for PairFault {
     }
 }
 
+impl From<LinesFault> for PairFault {
+    ghost from_gives = { λ error fault. fault ≡ pair_fault_of error };
+
+    fn from(error: LinesFault) -> PairFault {
+        match error {
+            LinesFault::Read => PairFault::Read,
+            LinesFault::Write => PairFault::Write,
+            LinesFault::BadLine(number) => PairFault::BadLine(number),
+            LinesFault::NoMemory => PairFault::NoMemory,
+            LinesFault::TooManyLines => PairFault::TooManyLines,
+            LinesFault::WornOut => PairFault::WornOut,
+        }
+    }
+}
+
 impl From<RemoteFault> for PairFault {
     ghost from_gives = { λ error fault. fault ≡ remote_fault_of error };
 
@@ -82,26 +98,34 @@ pub fn read_steps<R: Source>(alloc: Global, source: &mut R) -> Result<Vec<PairSt
         (λ fault. R.failures source.new ≡ R.failures source.old + failed_reads fault) }
     ensures no_write { IfErr result (λ fault. failed_writes fault ≡ 0) }
 {
-    let mut reader = LineReader::new(alloc);
-    let mut steps = Vec::new(alloc);
-    let mut count: u64 = 0;
-    'lines: while count < MOST_LINES {
-        match reader.next(alloc, source) {
-            Err(fault) => return Err(pair_fault(fault, count + 1)),
-            Ok(None) => return Ok(steps),
-            Ok(Some(line)) => {
-                count += 1;
-                let Some(step) = read_pair_step(alloc, &line)? else {
-                    return Err(PairFault::BadLine(count));
-                };
-                add_step(&mut steps, step)?;
-            }
-        }
-    }
-    match reader.goes_on(source) {
-        Err(fault) => Err(pair_fault(fault, count)),
-        Ok(true) => Err(PairFault::TooManyLines),
-        Ok(false) => Ok(steps),
+    let mut reader = StepReader {
+        steps: Vec::new(alloc),
+    };
+    answer_lines(alloc, &mut reader, MOST_LINES, source, &mut Nowhere)?;
+    Ok(reader.steps)
+}
+
+// What reads lines as steps, and holds these.
+#[derive(Drop)]
+struct StepReader {
+    steps: Vec<PairStep>,
+}
+
+impl Answerer for StepReader {
+    ghost answers = { reader_answers };
+
+    // Nothing is written for a line.
+    fn answer(
+        &mut self,
+        alloc: Global,
+        _number: u64,
+        line: &[u8],
+    ) -> Result<Option<Vec<u8>>, AnswerFault> {
+        let Some(step) = read_pair_step(alloc, line)? else {
+            return Ok(None);
+        };
+        add_step(&mut self.steps, step)?;
+        Ok(Some(Vec::new(alloc)))
     }
 }
 
@@ -111,15 +135,4 @@ fn add_step(steps: &mut Vec<PairStep>, step: PairStep) -> Result<(), AllocError>
 {
     steps.push(step)?;
     Ok(())
-}
-
-// The fault of a run for a fault of its input, at the line of this number.
-fn pair_fault(fault: InputFault, number: u64) -> PairFault
-    ensures { result ≡ pair_fault_of fault number }
-{
-    match fault {
-        InputFault::Read => PairFault::Read,
-        InputFault::BadLine => PairFault::BadLine(number),
-        InputFault::NoMemory => PairFault::NoMemory,
-    }
 }
