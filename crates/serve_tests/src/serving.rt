@@ -10,6 +10,7 @@ use std::io;
 use std::io::{Read, Write};
 use std::net::{Shutdown, SocketAddr, TcpListener, TcpStream};
 use std::test::Fail;
+use std::time::{Duration, Instant};
 use tungstenite::{NoCallback, NoMask, accept_hdr};
 
 /// The head of a request that asks for an upgrade, after its first line.
@@ -31,39 +32,113 @@ fn served_alone(rt: &HostRuntime) -> Result<Vec<u8>, Fail> {
     Ok(rest_of(rt.alloc(), client)?)
 }
 
-/// Heads that ask for no connection: what they are, and their bytes. The first line may lack its end.
-const HEADS: &str = r"nothing |
-another method | POST /session HTTP/1.1\r\n
-an old version of HTTP | GET /session HTTP/1.0\r\n
-a head that never ends | GET /session HTTP/1.1\r\nHost: x
-a denied resource | GET /x HTTP/1.1\r\n
-a resource with a query | GET /session?a=b HTTP/1.1\r\n";
+/// Heads that ask for no connection of the remote end: what they are, their bytes, and the status that answers them, none where
+/// no request came (RFC 6455, 4.2.1, 4.2.2 and 4.4). Fields follow a first line that is whole.
+const HEADS: &str = r"nothing | |
+another method | POST /session HTTP/1.1\r\n | 400
+an old version of HTTP | GET /session HTTP/1.0\r\n | 400
+no HTTP | {}\r\n | 400
+bytes behind the head | GET /session HTTP/1.1\r\n\r\n{} | 400
+no upgrade | GET /session HTTP/1.1\r\nHost: x\r\n\r\n | 426
+a head that never ends | GET /session HTTP/1.1\r\nHost: x |
+a denied resource | GET /x HTTP/1.1\r\n | 101
+a resource with a query | GET /session?a=b HTTP/1.1\r\n | 101";
 
 #[test]
-fn each_handshake_fails_alone(rt: HostRuntime) -> Result<(), Fail> {
+fn each_handshake_is_answered_and_fails_alone(rt: HostRuntime) -> Result<(), Fail> {
     for row in HEADS.lines() {
-        let found = is_next_served(&rt, &bad_head(rt.alloc(), row)?)?;
-        assert!(rt; found, "behind {row}");
+        let (head, status) = row.rsplit_once("|").ok_or("three columns")?;
+        let (first, second) = both_read(&rt, &bad_head(rt.alloc(), head)?)?;
+        let is_first = has_status(rt.alloc(), &first, status.trim())?;
+        assert!(rt; is_first, "{row}: {}", first.escape_ascii());
+        assert!(rt; second.starts_with(b"HTTP/1.1 101"), "behind {row}");
     }
-    let found = is_next_served(&rt, &long_head(rt.alloc())?)?;
-    assert!(rt; found, "behind a head of 70,000 bytes");
+    let (first, second) = both_read(&rt, &long_head(rt.alloc())?)?;
+    assert!(rt;
+        first.starts_with(b"HTTP/1.1 400"),
+        "70,000 bytes: {}",
+        first.escape_ascii()
+    );
+    assert!(rt; second.starts_with(b"HTTP/1.1 101"), "behind 70,000 bytes");
     Ok(())
 }
 
-/// Whether the next connection is served behind one whose client writes these bytes and no more.
-fn is_next_served(rt: &HostRuntime, bytes: &[u8]) -> Result<bool, Fail> {
-    let all = next_reads(rt, bytes)?;
-    Ok(all.starts_with(b"HTTP/1.1 101"))
+/// Whether an answer has this status; without one there is no answer.
+fn has_status(alloc: Global, answer: &[u8], status: &str) -> Result<bool, AllocError> {
+    if status.is_empty() {
+        return Ok(answer.is_empty());
+    }
+    let line = format!(in alloc; "HTTP/1.1 {status} ")?;
+    Ok(answer.starts_with(line.as_bytes()))
 }
 
-/// What the client of the next connection reads.
-fn next_reads(rt: &HostRuntime, bytes: &[u8]) -> Result<Vec<u8>, Fail> {
+/// What two clients read, one after another: the first writes these bytes and no more, the second a head.
+fn both_read(rt: &HostRuntime, bytes: &[u8]) -> Result<(Vec<u8>, Vec<u8>), Fail> {
     let listener = TcpListener::bind(rt, "127.0.0.1:0")?;
     let at = listener.local_addr()?;
-    let _first = written(rt, at, bytes)?;
+    let first = written(rt, at, bytes)?;
     let second = written(rt, at, &head_bytes(rt.alloc())?)?;
     serve(rt.alloc(), &listener, 2, 100)?;
-    Ok(rest_of(rt.alloc(), second)?)
+    Ok((rest_of(rt.alloc(), first)?, rest_of(rt.alloc(), second)?))
+}
+
+/// How many commands come before the end of a session. Their replies are more than a client holds that does not read, so some
+/// are on their way where the server closes.
+const BEFORE: usize = 1500;
+
+/// How many texts come behind the end: more than the server has read by then.
+const BEHIND: usize = 4000;
+
+#[test]
+fn each_reply_before_a_close_is_read(rt: HostRuntime) -> Result<(), Fail> {
+    let listener = TcpListener::bind(&rt, "127.0.0.1:0")?;
+    let client = written(&rt, listener.local_addr()?, &ended_session(rt.alloc())?)?;
+    serve(rt.alloc(), &listener, 1, u32::MAX)?;
+    let all = rest_of(rt.alloc(), client)?;
+    let wanted = replies_to_the_end(rt.alloc())?;
+    assert!(rt; all.ends_with(&wanted), "{} bytes", all.len());
+    Ok(())
+}
+
+/// A head, a session, commands, its end, and more commands.
+fn ended_session(alloc: Global) -> Result<Vec<u8>, AllocError> {
+    let mut bytes = round_head(alloc)?;
+    bytes.extend_from_slice(NEW)?;
+    for _ in 0..BEFORE {
+        bytes.extend_from_slice(STATUS)?;
+    }
+    bytes.extend_from_slice(END)?;
+    for _ in 0..BEHIND {
+        bytes.extend_from_slice(STATUS)?;
+    }
+    Ok(bytes)
+}
+
+/// The replies to the commands and to the end of the session, and the close frame, with code 1000.
+fn replies_to_the_end(alloc: Global) -> Result<Vec<u8>, AllocError> {
+    let mut bytes = Vec::new(alloc);
+    for _ in 0..BEFORE {
+        bytes.extend_from_slice(READY)?;
+    }
+    bytes.extend_from_slice(ENDED)?;
+    bytes.extend_from_slice(b"\x88\x02\x03\xe8")?;
+    Ok(bytes)
+}
+
+#[test]
+fn a_peer_that_stays_is_left(rt: HostRuntime) -> Result<(), Fail> {
+    let listener = TcpListener::bind(&rt, "127.0.0.1:0")?;
+    let mut client = TcpStream::connect(&rt, listener.local_addr()?)?;
+    client.write_all(&round_head(rt.alloc())?)?;
+    client.write_all(STATUS)?;
+    let started = Instant::now(&rt)?;
+    serve(rt.alloc(), &listener, 1, 1)?;
+    let lasted = started.elapsed(&rt)?;
+    assert!(rt; lasted < Duration::from_secs(20));
+    let all = rest_of(rt.alloc(), client)?;
+    let is_read = all.ends_with(&bytes_of(rt.alloc(), "READY 88 02 03 e8")?);
+    assert!(rt; is_read, "{}", all.escape_ascii());
+    Ok(())
 }
 
 /// A command in one frame of a client, 46 bytes behind a key of zeros.
@@ -73,6 +148,15 @@ const STATUS: &[u8] =
 /// The reply to it in one frame of a server, 67 bytes.
 const READY: &[u8] =
     b"\x81\x43{\"id\":1,\"result\":{\"message\":\"ready\",\"ready\":true},\"type\":\"success\"}";
+
+/// What begins a session and what ends it, in one frame of a client each, 60 and 43 bytes behind a key of zeros.
+const NEW: &[u8] =
+    b"\x81\xbc\x00\x00\x00\x00{\"id\":1,\"method\":\"session.new\",\"params\":{\"capabilities\":{}}}";
+
+const END: &[u8] = b"\x81\xab\x00\x00\x00\x00{\"id\":1,\"method\":\"session.end\",\"params\":{}}";
+
+/// The reply to the end in one frame of a server, 37 bytes.
+const ENDED: &[u8] = b"\x81\x25{\"id\":1,\"result\":{},\"type\":\"success\"}";
 
 /// The answer to a message that is no text, 82 bytes.
 const REFUSED: &[u8] =
@@ -250,13 +334,25 @@ fn head_bytes(alloc: Global) -> Result<Vec<u8>, AllocError> {
     Ok(bytes)
 }
 
+/// A head for `/session` of 4,096 bytes, as many as the server reads at once: so a client that has not read the answer yet can
+/// write frames behind it.
+fn round_head(alloc: Global) -> Result<Vec<u8>, AllocError> {
+    let mut bytes = Vec::new(alloc);
+    bytes.extend_from_slice(b"GET /session HTTP/1.1\r\nA: ")?;
+    let filled = bytes.len() + 2 + FIELDS.len();
+    bytes.resize(bytes.len() + 4096usize.saturating_sub(filled), b'x')?;
+    bytes.extend_from_slice(b"\r\n")?;
+    bytes.extend_from_slice(FIELDS.as_bytes())?;
+    Ok(bytes)
+}
+
 /// The head of a row, with its fields where the first line is whole.
 fn bad_head(alloc: Global, row: &str) -> Result<Vec<u8>, Fail> {
     let (_, head) = row.split_once(" |").ok_or("a row")?;
-    let head = head.trim_start().replace(alloc, "\\r\\n", "\r\n")?;
+    let head = head.trim().replace(alloc, "\\r\\n", "\r\n")?;
     let mut bytes = Vec::new(alloc);
     bytes.extend_from_slice(head.as_bytes())?;
-    if head.ends_with("\r\n") {
+    if head.ends_with("\r\n") && !head.ends_with("\r\n\r\n") {
         bytes.extend_from_slice(FIELDS.as_bytes())?;
     }
     Ok(bytes)
