@@ -3,10 +3,28 @@ use bidi_peer::{Came, Ending, Peer, Refusal};
 use bidi_tree::JsUint;
 use mio::net::TcpStream;
 use std::alloc::{AllocError, Global};
+use std::io::{ErrorKind, Read};
+use std::net::Shutdown;
 use std::time::Instant;
 
 /// How many connections are held at most, those in their handshake and those that are closing counted.
 const MOST_PEERS: usize = 512;
+
+/// How many bytes that nobody takes are read at once, and how often in a turn at most.
+const UNREAD: usize = 4096;
+
+const MOST_READS: u32 = 16;
+
+/// How far a stream is from which nobody takes any more.
+#[derive(Clone, Copy, Debug, PartialEq, Eq)]
+enum Rest {
+    /// It has ended, or it failed.
+    Ended,
+    /// It has no more for now.
+    Nothing,
+    /// It may have more.
+    More,
+}
 
 /// What a connection is to the host.
 #[derive(Clone, Copy, Debug, PartialEq, Eq)]
@@ -28,6 +46,8 @@ struct Slot {
     role: Role,
     // When it is dropped, whatever it does.
     deadline: Option<Instant>,
+    // It was answered in its handshake, and opens no connection.
+    is_answered: bool,
     // Something may have come in that was not taken.
     is_ready: bool,
     // Something may wait that can be written.
@@ -56,6 +76,30 @@ impl Slot {
         self.is_due = false;
         if self.has_failed() {
             self.is_ready = true;
+        }
+    }
+
+    // Writes what waits, if something may. Tells whether the connection can be dropped.
+    fn flushed_is_over(&mut self) -> bool {
+        let is_due = self.is_due;
+        if is_due {
+            self.flush();
+        }
+        self.role == Role::Leaving
+            && self.peer.is_over()
+            && (!self.is_answered || is_due && self.is_read_out())
+    }
+
+    // Whether all that comes behind an answer was read. A stream that is dropped over unread bytes is reset, and the answer lost.
+    fn is_read_out(&mut self) -> bool {
+        match read_out(self.peer.stream()) {
+            Rest::Ended => true,
+            Rest::Nothing => false,
+            Rest::More => {
+                self.is_ready = true;
+                self.is_due = true;
+                false
+            }
         }
     }
 
@@ -137,6 +181,7 @@ impl Peers {
             peer,
             role: Role::Arriving,
             deadline,
+            is_answered: false,
             is_ready: true,
             is_due: false,
         });
@@ -200,6 +245,7 @@ impl Peers {
     pub(crate) fn refuse(&mut self, place: usize, refusal: Refusal) -> Result<(), AllocError> {
         if let Some(Some(slot)) = self.slots.get_mut(place) {
             slot.role = Role::Leaving;
+            slot.is_answered = true;
             slot.is_due = true;
             slot.peer.refuse(refusal)?;
         }
@@ -266,13 +312,15 @@ impl Peers {
         }
     }
 
-    /// The connection at a place has ended; it is dropped at the deadline, if its answer does not go out before.
+    /// The connection at a place has ended. It is dropped at the deadline, or before, where what waits has gone out, and its peer
+    /// has ended too if it was answered in its handshake.
     pub(crate) fn leave(&mut self, place: usize, role: Role, deadline: Option<Instant>) {
         if let Role::Client(conn) = role {
             self.forget(conn);
         }
         if let Some(Some(slot)) = self.slots.get_mut(place) {
             slot.role = Role::Leaving;
+            slot.is_answered = role == Role::Arriving;
             slot.deadline = deadline;
             slot.is_due = true;
         }
@@ -327,16 +375,30 @@ fn is_closed_with(role: Role, pages: bool) -> bool {
     }
 }
 
-// Writes what waits for a connection, if something may. Tells whether it is over.
+// Writes what waits for a connection, if something may. Tells whether it can be dropped.
 fn flushed_is_over(slot: &mut Option<Slot>) -> bool {
     match slot {
-        Some(slot) if slot.is_due => {
-            slot.flush();
-            slot.role == Role::Leaving && slot.peer.is_over()
-        }
-        Some(slot) => slot.role == Role::Leaving && slot.peer.is_over(),
+        Some(slot) => slot.flushed_is_over(),
         None => false,
     }
+}
+
+// Sends no more on a stream, and throws away what came.
+fn read_out(stream: &TcpStream) -> Rest {
+    if stream.shutdown(Shutdown::Write).is_err() {
+        return Rest::Ended;
+    }
+    let mut stream = stream;
+    let mut unread = [0; UNREAD];
+    for _ in 0..MOST_READS {
+        match stream.read(&mut unread) {
+            Ok(0) => return Rest::Ended,
+            Ok(_) => {}
+            Err(error) if error.kind() == ErrorKind::WouldBlock => return Rest::Nothing,
+            Err(_) => return Rest::Ended,
+        }
+    }
+    Rest::More
 }
 
 // When a connection is dropped.

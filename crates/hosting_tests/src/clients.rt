@@ -39,6 +39,8 @@ pub struct Client {
     pub closed: Option<Closed>,
     /// Whether nothing more can be read.
     pub has_ended: bool,
+    /// Whether that is since its stream was reset.
+    pub was_reset: bool,
 }
 
 impl Client {
@@ -58,6 +60,7 @@ impl Client {
             asked: 0,
             closed: None,
             has_ended: false,
+            was_reset: false,
         })
     }
 
@@ -132,8 +135,9 @@ impl Client {
                 Ok(true)
             }
             Err(error) if error.kind() == ErrorKind::WouldBlock => Ok(false),
-            _ => {
+            ended => {
                 self.has_ended = true;
+                self.was_reset = ended.is_err();
                 Ok(false)
             }
         }

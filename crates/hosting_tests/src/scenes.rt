@@ -289,6 +289,8 @@ page says at 5
 page hears ok
 79 asks GET /status HTTP/1.1|Host: x
 79 gets 200 ready
+81 asks POST /session HTTP/1.1|Host: x||‹1000000 x›
+81 gets 400 bad request
 «14 to 77 # is served
 »20 leaves
 record ends drop 11

@@ -264,12 +264,13 @@ fn asks(rt: &HostRuntime, lab: &mut Lab, name: &str, text: &str) -> Result<bool,
     Ok(true)
 }
 
-/// Whether a client read a whole answer of a status, whose body is a line that begins so.
+/// Whether a client read a whole answer of a status, whose body is a line that begins so, and then the end.
 fn gets(client: &Client, text: &str) -> Result<bool, Fail> {
     let (status, line) = text.split_once(' ').unwrap_or((text, ""));
     let body = client.body();
     let is_line = body.ends_with("\n") && body.lines().count() == 1;
-    Ok(client.has_ended && has_status(client, status) && is_line && body.starts_with(line))
+    let is_whole = client.has_ended && !client.was_reset;
+    Ok(is_whole && has_status(client, status) && is_line && body.starts_with(line))
 }
 
 /// A client writes a text.
