@@ -1,8 +1,7 @@
--- How the rows of the live contexts move where a context is born.
-use Rattle.std.proofs.Common.{◌≡◌, ◌+◌, ◌≤◌, ◌<◌, ℕ, zero, suc, Bool, true, false, List, [], ◌∷◌, ◌++◌, length, map, refl, sym, ◌∙◌, ap, arith, cond}
+-- What is not born yet, and which contexts and rows there are once one was born.
+use Rattle.std.proofs.Common.{◌≡◌, ◌+◌, ◌≤◌, ◌<◌, ℕ, zero, suc, Bool, true, false, List, [], ◌∷◌, ◌++◌, length, refl, sym, ◌∙◌, ap, arith, cond}
 use Rattle.std.specs.Prelude.{◌==◌, not, ◌&&◌, ◌||◌, nat_lt, if◌then◌else◌, filter, Option, Some, None, unwrap_or}
 use Rattle.std.proofs.lemmas.Bool.Decides.{nat_tests}
-use Rattle.std.proofs.lemmas.List.{length-map, map-append}
 use Rattle.std.proofs.lemmas.List.Elements.{filter-append}
 use Rattle.url.specs.Parts.{Parts}
 use Rattle.bidi_handles.specs.declared.id.IdKind.{IdKind}
@@ -12,7 +11,7 @@ use Rattle.bidi_browser.specs.Acts.{Act, Made, Framed, Removed, Moved, gives, gi
 use Rattle.bidi_browser.specs.Contexts.{parent_of, top_of, level_of, window_of, is_under, is_gone, is_alive, up_to, contexts}
 use Rattle.bidi_browser.specs.Places.{begun_at}
 use Rattle.bidi_browser.specs.Accepted.{AreAccepted}
-use Rattle.bidi_browser.specs.ContextRows.{ContextRow, row_at, rows}
+use Rattle.bidi_browser.specs.ContextRows.{row_at}
 use Rattle.bidi_browser.proofs.AcceptedLemmas.{act-sound, alive-below}
 use Rattle.bidi_browser.proofs.HandleLemmas.{handles-unmade}
 
@@ -51,7 +50,7 @@ gone-unborn (Moved a move ∷ past) c acc unborn =
 gone-unborn (act ∷ past) c acc unborn = gone-unborn past c acc.2 unborn
 
 -- it has no parent
-parent-unborn : (past : List Act) (c : ℕ) → next_number past Context ≤ c → parent_of past c ≡ None
+pub parent-unborn : (past : List Act) (c : ℕ) → next_number past Context ≤ c → parent_of past c ≡ None
 parent-unborn [] c unborn = refl
 parent-unborn (Framed p url ∷ past) c unborn = let ih = parent-unborn past c in grind (arith, nat_tests, ih)
 parent-unborn (Made w ∷ past) c unborn = parent-unborn past c (omega arith)
@@ -81,37 +80,21 @@ same-number n = grind (arith, nat_tests)
 other-number : (c n : ℕ) → c ≤ n → (c == suc n) ≡ false
 other-number c n older = grind (arith, nat_tests)
 
--- the row of a number that passes
-abbrev pub row_if : (ℕ → ContextRow) → Bool → ℕ → List ContextRow
-row_if f b c = if b then f c ∷ [] else []
-
--- it is that of a number in a filter
-row-one : (f : ℕ → ContextRow) (b : Bool) (c : ℕ) → map f (cond b (c ∷ []) []) ≡ row_if f b c
-row-one f true c = refl
-row-one f false c = refl
-
--- that of the last number stands at the end
-pub rows-split : (f : ℕ → ContextRow) (p : ℕ → Bool) (n : ℕ) → map f (filter p (up_to (suc n))) ≡ map f (filter p (up_to n)) ++ row_if f (p (suc n)) (suc n)
-rows-split f p n = ap (map f) (filter-append p (up_to n) (suc n ∷ [])) ∙ (map-append f (filter p (up_to n)) (filter p (suc n ∷ []))
-    ∙ ap (λ rs. map f (filter p (up_to n)) ++ rs) (row-one f (p (suc n)) (suc n)))
-
--- rows of the numbers up to n are the same where tests and rows agree there
-rows-up-to : (f g : ℕ → ContextRow) (p q : ℕ → Bool) (n : ℕ) → ((c : ℕ) → c ≤ n → p c ≡ q c) → ((c : ℕ) → c ≤ n → f c ≡ g c)
-    → map f (filter p (up_to n)) ≡ map g (filter q (up_to n))
-rows-up-to f g p q zero tests same = refl
-rows-up-to f g p q (suc n) tests same =
-    let ih = rows-up-to f g p q n (λ c older. tests c (omega arith)) (λ c older. same c (omega arith)) in
+-- the numbers up to n that pass are the same where tests agree there
+filter-up-to : (p q : ℕ → Bool) (n : ℕ) → ((c : ℕ) → c ≤ n → p c ≡ q c) → filter p (up_to n) ≡ filter q (up_to n)
+filter-up-to p q zero tests = refl
+filter-up-to p q (suc n) tests =
+    let ih = filter-up-to p q n (λ c older. tests c (omega arith)) in
     let test = tests (suc n) (omega arith) in
-    let row = same (suc n) (omega arith) in
-    rows-split f p n ∙ (ap (λ rs. rs ++ row_if f (p (suc n)) (suc n)) ih ∙ (ap (λ r. map g (filter q (up_to n)) ++ (if p (suc n) then r ∷ [] else [])) row
-    ∙ (ap (λ b. map g (filter q (up_to n)) ++ row_if g b (suc n)) test ∙ sym (rows-split g q n))))
+    filter-append p (up_to n) (suc n ∷ []) ∙ (ap (λ xs. xs ++ filter p (suc n ∷ [])) ih
+    ∙ (ap (λ b. filter q (up_to n) ++ cond b (suc n ∷ []) []) test ∙ sym (filter-append q (up_to n) (suc n ∷ []))))
 
 -- the row of a context that was born before a top-level one
-row-older-made : (past : List Act) (w : Option ℕ) (c : ℕ) → c ≤ given past Context → row_at (Made w ∷ past) c ≡ row_at past c
+pub row-older-made : (past : List Act) (w : Option ℕ) (c : ℕ) → c ≤ given past Context → row_at (Made w ∷ past) c ≡ row_at past c
 row-older-made past w c older = rw (other-number c (given past Context) older) refl
 
 -- also where a frame was born
-row-older-framed : (past : List Act) (p : ℕ) (url : Parts) (c : ℕ) → c ≤ given past Context → row_at (Framed p url ∷ past) c ≡ row_at past c
+pub row-older-framed : (past : List Act) (p : ℕ) (url : Parts) (c : ℕ) → c ≤ given past Context → row_at (Framed p url ∷ past) c ≡ row_at past c
 row-older-framed past p url c older = rw (other-number c (given past Context) older) refl
 
 -- a context that was born before is as alive as it was
@@ -122,29 +105,24 @@ born-older c n g older = grind (arith, nat_tests)
 born-new : (n : ℕ) (g : Bool) → g ≡ false → ((nat_lt 0 (suc n) && nat_lt (suc n) (suc (suc n))) && not g) ≡ true
 born-new n g stays = grind (arith, nat_tests)
 
--- with the new number at the end, the rows of the others are the same
-rows-new : (f g : ℕ → ContextRow) (p q : ℕ → Bool) (n : ℕ) → ((c : ℕ) → c ≤ n → p c ≡ q c) → ((c : ℕ) → c ≤ n → f c ≡ g c) → p (suc n) ≡ true
-    → map f (filter p (up_to (suc n))) ≡ map g (filter q (up_to n)) ++ f (suc n) ∷ []
-rows-new f g p q n tests same new =
-    rows-split f p n ∙ (ap (λ rs. rs ++ row_if f (p (suc n)) (suc n)) (rows-up-to f g p q n tests same)
-    ∙ ap (λ b. map g (filter q (up_to n)) ++ row_if f b (suc n)) new)
+-- with the new number at the end, the others are the same
+numbers-new : (p q : ℕ → Bool) (n : ℕ) → ((c : ℕ) → c ≤ n → p c ≡ q c) → p (suc n) ≡ true → filter p (up_to (suc n)) ≡ filter q (up_to n) ++ suc n ∷ []
+numbers-new p q n tests new =
+    filter-append p (up_to n) (suc n ∷ []) ∙ (ap (λ xs. xs ++ filter p (suc n ∷ [])) (filter-up-to p q n tests)
+    ∙ ap (λ b. filter q (up_to n) ++ cond b (suc n ∷ []) []) new)
 
--- a birth adds the row of the new context at the end
-pub rows-born : (past : List Act) (act : Act)
-    → AreAccepted past → gives Context act ≡ true → rows (act ∷ past) ≡ rows past ++ row_at (act ∷ past) (next_number past Context) ∷ []
-rows-born past (Made w) acc gives-it =
+-- a birth adds the new context, the youngest of all that live
+pub contexts-born : (past : List Act) (act : Act)
+    → AreAccepted past → gives Context act ≡ true → contexts (act ∷ past) ≡ contexts past ++ next_number past Context ∷ []
+contexts-born past (Made w) acc gives-it =
     let n = given past Context in
-    rows-new (row_at (Made w ∷ past)) (row_at past) (is_alive (Made w ∷ past)) (is_alive past) n (λ c older. born-older c n (is_gone past c) older)
-    (row-older-made past w) (born-new n (is_gone past (suc n)) (gone-unborn past (suc n) acc (omega arith)))
-rows-born past (Framed p url) acc gives-it =
+    numbers-new (is_alive (Made w ∷ past)) (is_alive past) n (λ c older. born-older c n (is_gone past c) older)
+    (born-new n (is_gone past (suc n)) (gone-unborn past (suc n) acc (omega arith)))
+contexts-born past (Framed p url) acc gives-it =
     let n = given past Context in
-    rows-new (row_at (Framed p url ∷ past)) (row_at past) (is_alive (Framed p url ∷ past)) (is_alive past) n (λ c older. born-older c n (is_gone past c) older)
-    (row-older-framed past p url) (born-new n (is_gone past (suc n)) (gone-unborn past (suc n) acc (omega arith)))
-rows-born past act acc gives-it = absurd (cc)
-
--- as many rows as live contexts
-pub length-rows : (past : List Act) → length (rows past) ≡ length (contexts past)
-length-rows past = length-map (contexts past) (row_at past)
+    numbers-new (is_alive (Framed p url ∷ past)) (is_alive past) n (λ c older. born-older c n (is_gone past c) older)
+    (born-new n (is_gone past (suc n)) (gone-unborn past (suc n) acc (omega arith)))
+contexts-born past act acc gives-it = absurd (cc)
 
 -- one more at most, of an act more
 few-step : (b : Bool) (g n : ℕ) → g ≤ n + 1 → (if b then suc g else g) ≤ suc n + 1

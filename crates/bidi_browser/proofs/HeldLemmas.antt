@@ -5,19 +5,21 @@ use Rattle.std.specs.List.{list_any}
 use Rattle.std.proofs.lemmas.Bool.Decides.{nat_tests, Decides-eqb}
 use Rattle.bidi_tree.specs.Node.{Node}
 use Rattle.bidi_handles.specs.declared.id.IdKind.TheVariants.{Context, Handle}
-use Rattle.bidi_browser.specs.Acts.{Act, Ran, Disowned, Ending, given, next_number}
-use Rattle.bidi_browser.specs.Contexts.{is_gone, is_alive}
+use Rattle.bidi_browser.specs.Accepted.{AreAccepted}
+use Rattle.bidi_browser.specs.Acts.{Act, Ran, Disowned, Ending, next_number}
+use Rattle.bidi_browser.specs.Contexts.{is_gone, is_alive, tree_order}
 use Rattle.bidi_handles.specs.Ids.{has_id}
 use Rattle.bidi_browser.specs.Realms.{realm_of, value_of, handles_of}
 use Rattle.bidi_browser.specs.ContextRows.{row_at, rows, changed, held_in, without_in}
 use Rattle.bidi_browser.proofs.AcceptedLemmas.{alive-above, alive-below}
 use Rattle.bidi_browser.proofs.RealmLemmas.{realm-one}
 use Rattle.bidi_browser.proofs.MoveLemmas.{changed-rows}
+use Rattle.bidi_browser.proofs.TreeLemmas.{order-apart, order-has}
 
 -- ---- one realm, one context
 
 -- live contexts that share a realm are one
-alive-one : (past : List Act) (c d : ℕ) → is_alive past c ≡ true → is_alive past d ≡ true → realm_of past c ≡ realm_of past d → c ≡ d
+pub alive-one : (past : List Act) (c d : ℕ) → is_alive past c ≡ true → is_alive past d ≡ true → realm_of past c ≡ realm_of past d → c ≡ d
 alive-one past c d a b same =
     let n = next_number past Context in
     realm-one past c d (alive-above c n (is_gone past c) a) (alive-below c n (is_gone past c) a) (alive-above d n (is_gone past d) b)
@@ -38,12 +40,12 @@ ran-step past a c ending true is = rw is refl
 ran-step past a c ending false is = rw is refl
 
 -- the row of its context has the handle, and no other row changes
-pub rows-ran : (past : List Act) (a : ℕ) (ending : Ending) → is_alive past a ≡ true
+pub rows-ran : (past : List Act) (a : ℕ) (ending : Ending) → AreAccepted past → is_alive past a ≡ true
     → rows (Ran (realm_of past a) ending true ∷ past) ≡ changed a (held_in (next_number past Handle, value_of ending)) (rows past)
-rows-ran past a ending alive =
+rows-ran past a ending acc alive =
     sym (changed-rows (held_in (next_number past Handle, value_of ending)) a (row_at past)
-    (row_at (Ran (realm_of past a) ending true ∷ past)) (is_alive past) (λ c. refl)
-    (λ c live. ran-step past a c ending (c == a) (realm-test past a c alive live)) (given past Context))
+    (row_at (Ran (realm_of past a) ending true ∷ past)) (tree_order past) (order-apart past acc) (λ c. refl)
+    (λ c there. ran-step past a c ending (c == a) (realm-test past a c alive (sym (order-has past acc c) ∙ there))))
 
 -- ---- handles are held no longer
 
@@ -97,10 +99,10 @@ disowned-step past a c ids true one is =
 disowned-step past a c ids false one is = rw is refl
 
 -- the row of its context is without them, and no other row changes
-pub rows-disowned : (past : List Act) (a : ℕ) (ids : List (List ℕ)) → is_alive past a ≡ true
+pub rows-disowned : (past : List Act) (a : ℕ) (ids : List (List ℕ)) → AreAccepted past → is_alive past a ≡ true
     → rows (Disowned (realm_of past a) ids ∷ past)
     ≡ changed a (without_in (map (λ h. h.0) (filter (λ h. has_id ids h.0) (handles_of past (realm_of past a))))) (rows past)
-rows-disowned past a ids alive =
+rows-disowned past a ids acc alive =
     let numbers = map (λ h. h.0) (filter (λ h. has_id ids h.0) (handles_of past (realm_of past a))) in
-    sym (changed-rows (without_in numbers) a (row_at past) (row_at (Disowned (realm_of past a) ids ∷ past)) (is_alive past) (λ c. refl)
-    (λ c live. disowned-step past a c ids (c == a) refl (realm-test past a c alive live)) (given past Context))
+    sym (changed-rows (without_in numbers) a (row_at past) (row_at (Disowned (realm_of past a) ids ∷ past)) (tree_order past) (order-apart past acc) (λ c. refl)
+    (λ c there. disowned-step past a c ids (c == a) refl (realm-test past a c alive (sym (order-has past acc c) ∙ there))))

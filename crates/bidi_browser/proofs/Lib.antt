@@ -5,6 +5,7 @@ pub mod InfoLemmas
 pub mod TellingLemmas
 pub mod RealmLemmas
 pub mod AcceptedLemmas
+pub mod AskedLemmas
 pub mod HandleLemmas
 pub mod BirthLemmas
 pub mod RemovalLemmas
@@ -13,7 +14,12 @@ pub mod HeldLemmas
 pub mod TableLemmas
 pub mod PlanLemmas
 pub mod NavigationLemmas
-pub mod WalkLemmas
+pub mod MemberLemmas
+pub mod ForestLemmas
+pub mod TreeLemmas
+pub mod OrderLemmas
+pub mod EditLemmas
+pub mod SubtreeLemmas
 pub mod ScriptTableLemmas
 pub mod RowLemmas
 pub mod ScriptLemmas

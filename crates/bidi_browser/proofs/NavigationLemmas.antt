@@ -20,7 +20,7 @@ use Rattle.bidi_browser.specs.declared.plan.Edit.TheVariants.{Navigate}
 use Rattle.bidi_browser.specs.Urls.{about_blank}
 use Rattle.bidi_browser.specs.Acts.{Act, Moved, Move, next_number}
 use Rattle.bidi_browser.specs.Actions.{Wait, Started, Interactive, Complete, Action, is_asked}
-use Rattle.bidi_browser.specs.Contexts.{children_of, subtree_of}
+use Rattle.bidi_browser.specs.Contexts.{children_of}
 use Rattle.bidi_browser.specs.Places.{Entries, with_entry, present, entries_of, place_across, shifted}
 use Rattle.bidi_browser.specs.HistoryInHand.{move_of, Leads}
 use Rattle.bidi_browser.specs.Occurrences.{Occurrence, realm_created, realm_destroyed, removal, navigation_event}
@@ -183,9 +183,9 @@ pub navigation-plans : (plan : Plan) (told : Told) (n : planned.Navigation) (r :
     (action : Action) → is_asked action ≡ true → outcome past action ≡ Ok (Moved c move)
     → IsTold told past moment (wait_in action) c move → result_tree r ≡ navigated_result past (led_to past c move) move
     → n.context ≡ c → move_of n.to ≡ move
-    → n.realm ≡ next_number past Realm → Leads (entries_of past c) move → n.gone.items ≡ flat_map (subtree_of past) (children_of past c)
+    → n.realm ≡ next_number past Realm → Leads (entries_of past c) move
     → plan.before ≡ told.before → plan.result ≡ Some r → plan.after ≡ told.after → plan.change.edit ≡ Navigate n → Plans (Ok plan) past moment action
-navigation-plans plan told n r past moment c move action asked done is result at to realm leads gone before reply after change = (
+navigation-plans plan told n r past moment c move action asked done is result at to realm leads before reply after change = (
   Moved c move,
   done,
   rw (before, reply, after) (is (Replies (result_tree r)) ∙ ap (λ t. navigating past moment (wait_in action) c move (Replies t)) result),
@@ -195,7 +195,6 @@ navigation-plans plan told n r past moment c move action asked done is result at
     record {
       realm = realm;
       leads = subst (λ k. Leads (entries_of past k) (move_of n.to)) (sym at) (subst (Leads (entries_of past c)) (sym to) leads);
-      gone = gone ∙ ap (λ k. flat_map (subtree_of past) (children_of past k)) (sym at);
     },
   ),
   λ unasked. let both = sym asked ∙ unasked in absurd (cc),

@@ -1,7 +1,7 @@
 -- Why a plan in hand is that of the definitions.
-use Rattle.std.proofs.Common.{◌≡◌, ◌∙◌, ◌≤◌, ◌<◌, ◌+◌, ℕ, zero, suc, length, get_or, Bool, true, false, List, [], ◌∷◌, ◌++◌}
+use Rattle.std.proofs.Common.{◌≡◌, ◌∙◌, ◌≤◌, ◌+◌, ℕ, suc, Bool, true, false, List, [], ◌∷◌, ◌++◌}
 use Rattle.std.proofs.Common.{map, Option, Some, None, Result, Ok, Err, unwrap_or, refl, sym, ap, ap₂, subst, arith}
-use Rattle.std.specs.Prelude.{not, find, nat_lt, if◌then◌else◌, is_none, is_some, Vec, option_map, option_to_list, IfSome, IfOk, IfErr}
+use Rattle.std.specs.Prelude.{flat_map, not, find, nat_lt, if◌then◌else◌, is_none, is_some, Vec, option_map, option_to_list, IfSome, IfOk, IfErr}
 use Rattle.std.specs.Borrow.{Bor}
 use Rattle.std.specs.Result.{IsErrAnd}
 use Rattle.std.specs.declared.alloc.Global.{Global}
@@ -28,7 +28,7 @@ use Rattle.bidi_browser.specs.Accepted.{AreAccepted}
 use Rattle.bidi_browser.specs.Actions.{Action, Log, TableRow, is_asked}
 use Rattle.bidi_browser.specs.Found.{AreTold}
 use Rattle.bidi_handles.specs.Maps.{nothing}
-use Rattle.bidi_browser.specs.Contexts.{parent_of, top_of, level_of, window_of, contexts, context_of, tops, subtree_of, tree_order}
+use Rattle.bidi_browser.specs.Contexts.{parent_of, top_of, level_of, window_of, contexts, context_of, tops, children_of, subtree_of, tree_order}
 use Rattle.bidi_handles.specs.Checks.{found}
 use Rattle.bidi_browser.specs.Outcome.{outcome, context_named, looked, looked_at, has_room, frame_outcome, log_outcome, oldest_window, row_in, row_checked}
 use Rattle.bidi_browser.specs.Occurrences.{Occurrence, realm_info, realm_destroyed, context_destroyed, removal, tree_events}
@@ -39,6 +39,7 @@ use Rattle.bidi_browser.specs.Plans.{Plans, Makes, AreWell, IsWellResult, IsWell
 use Rattle.bidi_browser.specs.View.{seen, result_tree}
 use Rattle.bidi_browser.proofs.BirthLemmas.{row-made, row-framed}
 use Rattle.bidi_browser.proofs.RowLemmas.{oldest-window, created-stand, realms-stand, realms_gone-stand}
+use Rattle.bidi_browser.proofs.TreeLemmas.{subtree-parts}
 
 -- ---- what only looks
 
@@ -257,31 +258,6 @@ window-stands past o window is found =
 
 -- ---- several contexts
 
--- one of several contexts in hand
-pub rows-at : (past : List Act) (gs : List (Bor declared_context.Context)) (cs : List ℕ) (i : ℕ) (g : Bor declared_context.Context)
-    → map (λ x. row_of x.now) gs ≡ map (row_at past) cs → i < length gs → g ≡ get_or gs i g
-    → (i < length cs) × (row_of g.now ≡ row_at past (get_or cs i 0))
-rows-at past [] cs i g same less at = absurd (omega arith)
-rows-at past (x ∷ gs) [] i g same less at = absurd (cc)
-rows-at past (x ∷ gs) (c ∷ cs) zero g same less at = (omega arith, let head : row_of x.now ≡ row_at past c = cc in ap (λ y. row_of y.now) at ∙ head)
-rows-at past (x ∷ gs) (c ∷ cs) (suc i) g same less at =
-    let rest : map (λ y. row_of y.now) gs ≡ map (row_at past) cs = cc in
-    let below = rows-at past gs cs i g rest (omega arith) at in
-    let near = below.0 in (omega (arith, near), below.1)
-
--- the numbers of contexts in hand
-pub numbers-of : (past : List Act) (gs : List (Bor declared_context.Context)) (cs : List ℕ)
-    → map (λ g. row_of g.now) gs ≡ map (row_at past) cs → map (λ g. g.now.number) gs ≡ cs
-numbers-of past gs cs same = sym (map-map gs) ∙ (ap (map (λ (r : ContextRow). r.number)) same ∙ numbers-at cs)
-  where
-    map-map : (gs : List (Bor declared_context.Context)) → map (λ (r : ContextRow). r.number) (map (λ g. row_of g.now) gs) ≡ map (λ g. g.now.number) gs
-    map-map [] = refl
-    map-map (g ∷ gs) = ap (λ ns. g.now.number ∷ ns) (map-map gs)
-
-    numbers-at : (cs : List ℕ) → map (λ (r : ContextRow). r.number) (map (row_at past) cs) ≡ cs
-    numbers-at [] = refl
-    numbers-at (c ∷ cs) = ap (λ ns. c ∷ ns) (numbers-at cs)
-
 -- each context, then each realm, tells of the whole tree
 pub events-told : (past : List Act) (first second : List ContextRow) (none some all : List Occurrence)
     → first ≡ map (row_at past) (tree_order past) → second ≡ map (row_at past) (tree_order past) → none ≡ []
@@ -298,14 +274,20 @@ pub asked-removal : (past : List Act) (c : ℕ) (before after : List in_hand.Occ
     → map Happens (seen before) ++ (reply_in reply ++ map Happens (seen after)) ≡ map Happens (removal past c) ++ Replies nothing ∷ []
 asked-removal past c before after reply told replied none = ap₂ (λ os xs. map Happens os ++ xs) told (ap₂ (λ xs os. xs ++ map Happens (seen os)) replied none)
 
--- behind what was told, the realms of a subtree, then the context
-pub removal-told : (past : List Act) (c : ℕ) (rows : List ContextRow) (before realms all : List Occurrence) (last : Occurrence)
-    → rows ≡ map (row_at past) (subtree_of past c) → realms ≡ before ++ map realm_destroyed_in rows
-    → all ≡ realms ++ last ∷ [] → last ≡ context_destroyed past c → all ≡ before ++ removal past c
-removal-told past c rows before realms all last below gone added is =
-    let ends = map (realm_destroyed past) (subtree_of past c) in
-    added ∙ (ap₂ (λ xs x. xs ++ x ∷ []) (gone ∙ ap (λ xs. before ++ xs) (ap (map realm_destroyed_in) below ∙ realms_gone-stand past (subtree_of past c))) is
-    ∙ append_assoc before ends (context_destroyed past c ∷ []))
+-- behind what was told, the realm of a context, those of all below it, then the context
+pub removal-told : (past : List Act) (c : ℕ) → AreAccepted past → (rows : List ContextRow) (before first realms all : List Occurrence) (realm last : Occurrence)
+    → rows ≡ map (row_at past) (flat_map (subtree_of past) (children_of past c)) → realm ≡ realm_destroyed past c → first ≡ before ++ realm ∷ []
+    → realms ≡ first ++ map realm_destroyed_in rows → all ≡ realms ++ last ∷ [] → last ≡ context_destroyed past c → all ≡ before ++ removal past c
+removal-told past c acc rows before first realms all realm last below one begun gone added is =
+    let inner = flat_map (subtree_of past) (children_of past c) in
+    let ends = map (realm_destroyed past) inner in
+    let whole : realm_destroyed past c ∷ ends ≡ map (realm_destroyed past) (subtree_of past c) = sym (ap (map (realm_destroyed past)) (subtree-parts past acc c)) in
+    added
+    ∙ (ap₂ (λ xs x. xs ++ x ∷ [])
+    (gone ∙ (ap₂ (λ xs ys. xs ++ ys) (begun ∙ ap (λ x. before ++ x ∷ []) one) (ap (map realm_destroyed_in) below ∙ realms_gone-stand past inner)
+    ∙ (append_assoc before (realm_destroyed past c ∷ []) ends ∙ ap (λ xs. before ++ xs) whole)))
+    is
+    ∙ append_assoc before (map (realm_destroyed past) (subtree_of past c)) (context_destroyed past c ∷ []))
 
 -- ---- the log
 

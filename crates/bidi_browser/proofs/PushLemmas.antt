@@ -1,9 +1,7 @@
 -- A list of what is told grows by one item at a time.
-use Rattle.std.proofs.Common.{◌≡◌, ◌∙◌, ◌+◌, ◌<◌, ℕ, List, [], ◌∷◌, ◌++◌, length, get_or, take, map, append-nil, sym, ap, ap₂, subst}
-use Rattle.std.specs.Prelude.{flat_map}
+use Rattle.std.proofs.Common.{◌≡◌, ◌∙◌, ◌+◌, ◌<◌, ℕ, List, [], ◌∷◌, ◌++◌, length, get_or, take, map, sym, ap, ap₂, subst}
 use Rattle.std.specs.List.{AllByRecursion}
 use Rattle.std.proofs.lemmas.List.{map-append, append_assoc, take_more}
-use Rattle.std.proofs.lemmas.Grind.{flat_map-append}
 
 -- what is told of the next item too
 pub told-more : {A B X Y : Type 0} (tell : A → B) (f : Y → B) (row : X → Y) (items : List X) (i : ℕ) (x : X) (before now after : List A) (a : A)
@@ -28,24 +26,6 @@ pub seen-more : {A B X : Type 0} (see : A → B) (f : X → B) (items : List X) 
 seen-more see f items i x now after a less at held added is =
     ap (map see) added ∙ (map-append see now (a ∷ []) ∙ (ap₂ (λ xs y. xs ++ y ∷ []) held is
     ∙ sym (ap (map f) (take_more items i x less ∙ ap (λ y. take i items ++ y ∷ []) (sym at)) ∙ map-append f (take i items) (x ∷ []))))
-
--- what f gives of the next item too
-pub pushed-more : {X Y : Type 0} (f : X → Y) (items : List X) (i : ℕ) (x : X) (before now after : List Y)
-    → i < length items → x ≡ get_or items i x → now ≡ before ++ map f (take i items)
-    → after ≡ now ++ f x ∷ [] → after ≡ before ++ map f (take (i + 1) items)
-pushed-more f items i x before now after less at held added =
-    added ∙ (ap (λ ys. ys ++ f x ∷ []) held ∙ (append_assoc before (map f (take i items)) (f x ∷ [])
-    ∙ ap (λ ys. before ++ ys) (sym (ap (map f) (take_more items i x less ∙ ap (λ y. take i items ++ y ∷ []) (sym at)) ∙ map-append f (take i items) (x ∷ [])))))
-
--- the list that g gives of the next item too
-pub joined-more : {X Y : Type 0} (g : X → List Y) (items : List X) (i : ℕ) (d : X) (before now after : List Y)
-    → i < length items → now ≡ before ++ flat_map g (take i items)
-    → after ≡ now ++ g (get_or items i d) → after ≡ before ++ flat_map g (take (i + 1) items)
-joined-more g items i d before now after less held added =
-    let x = get_or items i d in
-    added ∙ (ap (λ ys. ys ++ g x) held ∙ (append_assoc before (flat_map g (take i items)) (g x)
-    ∙ ap (λ ys. before ++ ys) (sym (ap (flat_map g) (take_more items i d less)
-    ∙ (flat_map-append g (take i items) (x ∷ []) ∙ ap (λ ys. flat_map g (take i items) ++ ys) (append-nil (g x)))))))
 
 -- one more of which it holds
 AllByRecursion-push : {A : Type 0} (P : A → Type 0) (bs : List A) (a : A) → AllByRecursion P bs → P a → AllByRecursion P (bs ++ a ∷ [])

@@ -1,18 +1,17 @@
--- What a subtree has, and which rows of the live contexts stay where one is removed.
-use Rattle.std.proofs.Common.{◌≡◌, ◌+◌, ◌≤◌, ◌<◌, ℕ, zero, suc, Bool, true, false, List, [], ◌∷◌, map, refl, sym, ◌∙◌, ap, subst, arith, cond, inl, inr, ◌⊎◌}
-use Rattle.std.specs.Prelude.{◌==◌, nat_eq, not, ◌&&◌, ◌||◌, nat_lt, if◌then◌else◌, filter, flat_map, Option, Some, None}
+-- What a subtree has: the live contexts at and below its root.
+use Rattle.std.proofs.Common.{◌≡◌, ◌+◌, ◌≤◌, ◌<◌, ℕ, zero, suc, Bool, true, false, List, [], ◌∷◌, refl, sym, ◌∙◌, ap, subst, arith, cond, inl, inr, ◌⊎◌}
+use Rattle.std.specs.Prelude.{◌==◌, nat_eq, ◌&&◌, ◌||◌, nat_lt, if◌then◌else◌, filter, flat_map, Option, Some, None}
 use Rattle.std.specs.List.{list_any}
 use Rattle.std.specs.Option.{option_eq}
 use Rattle.std.proofs.lemmas.Bool.Decides.{nat_tests, Decides-eqb}
 use Rattle.std.proofs.lemmas.List.Folds.{list_any-append}
 use Rattle.bidi_handles.specs.declared.id.IdKind.TheVariants.{Context}
-use Rattle.bidi_browser.specs.Acts.{Act, Framed, Removed, given, next_number}
-use Rattle.bidi_browser.specs.Contexts.{parent_of, level_of, is_under, is_born, is_gone, is_alive, up_to, contexts, children_of, subtree_within, subtree_of}
+use Rattle.bidi_browser.specs.Acts.{Act, Framed, given, next_number}
+use Rattle.bidi_browser.specs.Contexts.{parent_of, level_of, is_under, is_gone, is_alive, up_to, contexts, children_of, subtree_within, subtree_of}
 use Rattle.bidi_browser.specs.Accepted.{AreAccepted}
-use Rattle.bidi_browser.specs.ContextRows.{ContextRow, row_at, rows}
 use Rattle.bidi_handles.proofs.ListLemmas.{agree}
 use Rattle.bidi_browser.proofs.AcceptedLemmas.{act-sound, alive-above, alive-below, parent-born, under-parent}
-use Rattle.bidi_browser.proofs.AcceptedLemmas.{under-le, levels-accepted, level-child, parents-alive}
+use Rattle.bidi_browser.proofs.AcceptedLemmas.{levels-accepted, level-child, parents-alive}
 
 -- ---- lists
 
@@ -47,7 +46,7 @@ or-right true b e = refl
 or-right false b e = e
 
 -- of two, each
-and-both : (a b : Bool) → (a && b) ≡ true → (a ≡ true) × (b ≡ true)
+pub and-both : (a b : Bool) → (a && b) ≡ true → (a ≡ true) × (b ≡ true)
 and-both true true e = (refl, refl)
 and-both true false e = absurd (cc)
 and-both false b e = absurd (cc)
@@ -89,17 +88,17 @@ flat-in f r g c (x ∷ xs) stands passes there =
 -- ---- one step of a subtree
 
 -- the parent is that one
-option-same : (o : Option ℕ) (a : ℕ) → option_eq nat_eq o (Some a) ≡ true → o ≡ Some a
+pub option-same : (o : Option ℕ) (a : ℕ) → option_eq nat_eq o (Some a) ≡ true → o ≡ Some a
 option-same None a e = absurd (cc)
 option-same (Some m) a e = ap (λ n. Some n) ((Decides-eqb m a).0 e)
 
 -- and it is that one where it is the parent
-same-option : (o : Option ℕ) (a : ℕ) → o ≡ Some a → option_eq nat_eq o (Some a) ≡ true
+pub same-option : (o : Option ℕ) (a : ℕ) → o ≡ Some a → option_eq nat_eq o (Some a) ≡ true
 same-option None a e = absurd (cc)
 same-option (Some m) a e = let same : m ≡ a = cc in (Decides-eqb m a).1 same
 
 -- all that stands on the chain of a subtree's root stands on that of each context in it
-subtree-under : (n : ℕ) (past : List Act) → AreAccepted past → (b a c : ℕ) → is_under past b a ≡ true
+pub subtree-under : (n : ℕ) (past : List Act) → AreAccepted past → (b a c : ℕ) → is_under past b a ≡ true
     → list_any (λ x. x == c) (subtree_within n past a) ≡ true → is_under past b c ≡ true
 subtree-under zero past acc b a c up stands = absurd (cc)
 subtree-under (suc n) past acc b a c up stands =
@@ -163,7 +162,7 @@ up-step u x false s a c q n o same below old ih e =
     elim (ih e) [ inl eq ↦ inl eq | inr w ↦ inr (w.0, w.1, kept (w.0 == n) (x w.0) (u w.0) w.0 n (Decides-eqb w.0 n).0 (old w.0 w.1) w.2) ]
 
 -- what stands on the chain of a context is that context, or stands on the chain of its parent
-under-up : (past : List Act) → AreAccepted past
+pub under-up : (past : List Act) → AreAccepted past
     → (a c : ℕ) → is_under past a c ≡ true → (a ≡ c) ⊎ ((p : ℕ) × (parent_of past c ≡ Some p) × (is_under past a p ≡ true))
 under-up [] acc a c e = inl ((Decides-eqb a c).0 e)
 under-up (Framed q url ∷ past) acc a c e =
@@ -206,70 +205,3 @@ any-subtree past a c acc root alive =
     let above = level-above past a in
     agree (list_any (λ n. n == c) (subtree_within 16 past a)) (is_under past a c)
     (subtree-under 16 past acc a a c (under-self past a)) (under-in c 16 past acc a c (omega arith) (omega arith) alive)
-
--- a subtree that goes deeper has no less
-subtree-deeper : (n : ℕ) (past : List Act) (d c : ℕ)
-    → list_any (λ x. x == c) (subtree_within n past d) ≡ true → list_any (λ x. x == c) (subtree_within (suc n) past d) ≡ true
-subtree-deeper zero past d c stands = absurd (cc)
-subtree-deeper (suc n) past d c stands =
-    or-both (d == c) (list_any (λ x. x == c) (flat_map (subtree_within n past) (children_of past d))) (d == c)
-    (list_any (λ x. x == c) (flat_map (subtree_within (suc n) past) (children_of past d)))
-    (λ here. here)
-    (flat-wide (λ x. x == c) (λ x. x == c) (λ e. option_eq nat_eq (parent_of past e) (Some d)) (subtree_within n past)
-    (subtree_within (suc n) past) (contexts past)
-    (λ e child later. subtree-deeper n past e c later)) stands
-
--- below a context stand just the live contexts that have it on their chain, and are not it
-pub any-below : (past : List Act) (a c : ℕ) → AreAccepted past → is_alive past a ≡ true → is_alive past c ≡ true
-    → list_any (λ n. n == c) (flat_map (subtree_of past) (children_of past a)) ≡ (is_under past a c && not (a == c))
-any-below past a c acc root alive =
-    agree (list_any (λ n. n == c) (flat_map (subtree_of past) (children_of past a))) (is_under past a c && not (a == c))
-    (flat-back (λ x. x == c) (λ d. option_eq nat_eq (parent_of past d) (Some a)) (subtree_of past) (is_under past a c && not (a == c)) (contexts past)
-    (λ d child later.
-    let parent = option-same (parent_of past d) a child in
-    let up = under-parent past acc a d a (under-self past a) parent in
-    let under = subtree-under 16 past acc a d c up later in
-    let less = (parent-born past acc d a parent).smaller in
-    let more = under-le past acc d c (subtree-under 16 past acc d d c (under-self past d) later) in
-    grind (arith, nat_tests, under, less, more)))
-    (λ e.
-    let both = and-both (is_under past a c) (not (a == c)) e in
-    let whole = any-subtree past a c acc root alive ∙ both.0 in
-    let other = both.1 in
-    flat-wide (λ x. x == c) (λ x. x == c) (λ d. option_eq nat_eq (parent_of past d) (Some a)) (subtree_within 15 past) (subtree_of past) (contexts past)
-    (λ d child later. subtree-deeper 15 past d c later)
-    (below-root (a == c) (list_any (λ x. x == c) (flat_map (subtree_within 15 past) (children_of past a))) other whole))
-  where
-    below-root : (s t : Bool) → not s ≡ true → (s || t) ≡ true → t ≡ true
-    below-root true t other e = absurd (cc)
-    below-root false t other e = e
-
--- ---- the rows
-
--- one more number in a filter on rows
-filtered-step : (f : ℕ → ContextRow) (k : ContextRow → Bool) (t u : Bool) (x : ℕ) (rs ps : List ℕ) → k (f x) ≡ not u → map f rs ≡ filter k (map f ps)
-    → map f (cond (t && not u) (x ∷ rs) rs) ≡ filter k (map f (cond t (x ∷ ps) ps))
-filtered-step f k false u x rs ps keeps ih = ih
-filtered-step f k true true x rs ps keeps ih = ih ∙ sym (ap (λ b. cond b (f x ∷ filter k (map f ps)) (filter k (map f ps))) keeps)
-filtered-step f k true false x rs ps keeps ih = ap (λ ws. f x ∷ ws) ih ∙ sym (ap (λ b. cond b (f x ∷ filter k (map f ps)) (filter k (map f ps))) keeps)
-
--- a filter on the rows is one on the numbers
-pub rows-filtered : (past : List Act) (r p m : ℕ → Bool) (xs : List ℕ) → ((c : ℕ) → r c ≡ (p c && not (m c)))
-    → map (row_at past) (filter r xs) ≡ filter (λ w. not (m w.number)) (map (row_at past) (filter p xs))
-rows-filtered past r p m [] each = refl
-rows-filtered past r p m (x ∷ xs) each =
-    ap (λ b. map (row_at past) (cond b (x ∷ filter r xs) (filter r xs))) (each x)
-    ∙ filtered-step (row_at past) (λ w. not (m w.number)) (p x) (m x) x (filter r xs) (filter p xs) refl (rows-filtered past r p m xs each)
-
--- what stays alive
-pub stays : (b u g m : Bool) → ((b && not g) ≡ true → m ≡ u) → (b && not (u || g)) ≡ ((b && not g) && not m)
-stays false u g m same = refl
-stays true u true m same = grind arith
-stays true u false m same = grind (arith, same refl)
-
--- a removal takes out the rows of a subtree
-pub rows-removed : (past : List Act) (a : ℕ) → AreAccepted past → is_alive past a ≡ true
-    → rows (Removed a ∷ past) ≡ filter (λ r. not (list_any (λ n. n == r.number) (subtree_of past a))) (rows past)
-rows-removed past a acc root =
-    rows-filtered past (is_alive (Removed a ∷ past)) (is_alive past) (λ c. list_any (λ n. n == c) (subtree_of past a)) (up_to (given past Context))
-    (λ c. stays (is_born past c) (is_under past a c) (is_gone past c) (list_any (λ n. n == c) (subtree_of past a)) (any-subtree past a c acc root))

@@ -1,19 +1,17 @@
 -- The table in hand by its rows, and by the past that they stand for.
-use Rattle.std.proofs.Common.{◌≡◌, ◌∙◌, ℕ, suc, List, [], ◌∷◌, ◌++◌, map, Bool, true, false, cond}
+use Rattle.std.proofs.Common.{◌≡◌, ◌∙◌, ℕ, suc, List, ◌∷◌, map, true, false}
 use Rattle.std.proofs.Common.{Option, Some, None, Result, Ok, Err, IfOk, refl, sym, ap, ap₂, subst}
-use Rattle.std.specs.Prelude.{◌==◌, not, filter, option_map}
+use Rattle.std.specs.Prelude.{filter, option_map}
 use Rattle.std.specs.Borrow.{Bor}
-use Rattle.std.specs.List.{list_any}
 use Rattle.bidi_browser.specs.declared.context.Context.{Context}
 use Rattle.bidi_browser.specs.declared.browser.Browser.{Browser}
-use Rattle.bidi_browser.specs.Accepted.{AreAccepted}
 use Rattle.bidi_browser.specs.Actions.{Action}
 use Rattle.bidi_browser.specs.Outcome.{outcome}
 use Rattle.bidi_browser.specs.Plans.{leaves_tables}
 use Rattle.bidi_browser.specs.declared.script_table.ScriptTable.{ScriptTable}
 use Rattle.bidi_browser.specs.TableInHand.{AreTabled}
 use Rattle.bidi_browser.specs.Stands.{StandsFor}
-use Rattle.bidi_browser.specs.Acts.{Act, Removed, Tabled, Ran, Disowned, Logged, Looked, Ending, next_number, ScriptEffect as Said}
+use Rattle.bidi_browser.specs.Acts.{Act, Tabled, Ran, Disowned, Logged, Looked, Ending, next_number, ScriptEffect as Said}
 use Rattle.bidi_tree.specs.Node.{Node}
 use Rattle.bidi_handles.specs.declared.id.IdKind.TheVariants.{Handle}
 use Rattle.bidi_browser.specs.declared.contexts.Contexts.{Contexts}
@@ -21,12 +19,8 @@ use Rattle.bidi_handles.specs.Ids.{has_id}
 use Rattle.bidi_browser.specs.Realms.{realm_of, value_of, handles_of}
 use Rattle.bidi_browser.specs.ContextRows.{changed, held_in, without_in}
 use Rattle.bidi_browser.proofs.HeldLemmas.{rows-ran, rows-disowned}
-use Rattle.bidi_browser.specs.Contexts.{is_alive, tops, subtree_of, tree_order}
-use Rattle.bidi_browser.specs.Info.{info_of}
-use Rattle.bidi_browser.specs.ContextRows.{ContextRow, row_of, row_at, rows, children_in, below, info_in}
-use Rattle.bidi_browser.proofs.AcceptedLemmas.{act-sound}
-use Rattle.bidi_browser.proofs.RemovalLemmas.{rows-removed}
-use Rattle.bidi_browser.proofs.RowLemmas.{subtree-stands, tree_order-stands, tops-stand, info-stands}
+use Rattle.bidi_browser.specs.Contexts.{is_alive}
+use Rattle.bidi_browser.specs.ContextRows.{row_of}
 
 -- what a result is told as, said in another way
 pub ok-told : {A B E : Type 0} (f : A → B) (r : Result A E) (x y : B) → IfOk r (λ v. f v ≡ x) → x ≡ y → IfOk r (λ v. f v ≡ y)
@@ -37,57 +31,6 @@ ok-told f (Err e) x y told is = tt
 pub row-now : (o : Option (Bor Context)) → option_map (λ c. row_of c.now) o ≡ option_map row_of (option_map (λ c. c.now) o)
 row-now None = refl
 row-now (Some c) = refl
-
--- what was put first into an empty list
-pub first-pushed : {A B : Type 0} (f : A → B) (none one : List A) (x : A) (rest : List B) → one ≡ none ++ x ∷ [] → none ≡ [] → map f one ++ rest ≡ f x ∷ rest
-first-pushed f none one x rest pushed empty = ap (λ xs. map f xs ++ rest) (pushed ∙ ap (λ xs. xs ++ x ∷ []) empty)
-
--- a context and all below it
-pub subtree-in : (past : List Act) (c : ℕ) (row : ContextRow) (all : List ContextRow)
-    → row ≡ row_at past c → all ≡ rows past → row ∷ below 15 all (Some row.number) ≡ map (row_at past) (subtree_of past c)
-subtree-in past c row all is table = ap₂ (λ r rs. r ∷ below 15 rs (Some r.number)) is table ∙ subtree-stands past c
-
--- all in tree order
-pub order-in : (past : List Act) (all : List ContextRow) → all ≡ rows past → below 16 all None ≡ map (row_at past) (tree_order past)
-order-in past all table = ap (λ rs. below 16 rs None) table ∙ tree_order-stands past
-
--- the Info of a context
-pub info-at : (past : List Act) (depth : Option ℕ) (c : ℕ) (row : ContextRow) (all : List ContextRow)
-    → AreAccepted past → row ≡ row_at past c → all ≡ rows past → info_in all depth row ≡ info_of past depth c
-info-at past depth c row all accepted is table = ap₂ (λ rs r. info_in rs depth r) table is ∙ info-stands past depth c accepted
-
--- the Infos of some contexts
-infos-at : (past : List Act) (depth : Option ℕ) (cs : List ℕ)
-    → AreAccepted past → map (info_in (rows past) depth) (map (row_at past) cs) ≡ map (info_of past depth) cs
-infos-at past depth [] accepted = refl
-infos-at past depth (c ∷ cs) accepted = ap₂ (λ x xs. x ∷ xs) (info-stands past depth c accepted) (infos-at past depth cs accepted)
-
--- those of the top-level contexts
-pub top_infos-at : (past : List Act) (depth : Option ℕ) (all : List ContextRow)
-    → AreAccepted past → all ≡ rows past → map (info_in all depth) (children_in all None) ≡ map (info_of past depth) (tops past)
-top_infos-at past depth all accepted table =
-    ap (λ rs. map (info_in rs depth) (children_in rs None)) table
-    ∙ (ap (map (info_in (rows past) depth)) (tops-stand past) ∙ infos-at past depth (tops past) accepted)
-
--- a row that is kept or not
-kept-row : (b : Bool) (x : Context) (items : List Context) (all : List ContextRow)
-    → map row_of items ≡ all → map row_of (cond b (x ∷ items) items) ≡ cond b (row_of x ∷ all) all
-kept-row true x items all same = ap (λ rs. row_of x ∷ rs) same
-kept-row false x items all same = same
-
--- the rows without some numbers
-pub kept-rows : (numbers : List ℕ) (items : List Context) → map row_of (filter (λ x. not (list_any (λ n. n == x.number) numbers)) items)
-    ≡ filter (λ r. not (list_any (λ n. n == r.number) numbers)) (map row_of items)
-kept-rows numbers [] = refl
-kept-rows numbers (x ∷ items) = kept-row (not (list_any (λ n. n == x.number) numbers)) x _ _ (kept-rows numbers items)
-
--- a removal leaves the rows that the past has after it
-pub removed-rows : (past : List Act) (a : ℕ) (numbers : List ℕ) (all : List ContextRow)
-    → AreAccepted (Removed a ∷ past) → all ≡ rows past → numbers ≡ subtree_of past a
-    → filter (λ r. not (list_any (λ n. n == r.number) numbers)) all ≡ rows (Removed a ∷ past)
-removed-rows past a numbers all accepted table is =
-    ap₂ (λ ns rs. filter (λ r. not (list_any (λ n. n == r.number) ns)) rs) is table
-    ∙ sym (rows-removed past a accepted.2 (act-sound past accepted.0 (Removed a) accepted.1))
 
 -- an act that leaves the tables as they are leaves what a browser stands for with it
 pub kept-stands : (b : Browser) (past : List Act) (action : Action) (act : Act)
@@ -148,7 +91,7 @@ pub held-stands : (b : Browser) (contexts : Contexts) (n : ℕ) (past : List Act
 held-stands b contexts n past action a ending act held is alive holds done s next rows =
     subst (λ x. StandsFor (record b { contexts = contexts; next_handle = n }) (x ∷ past)) (sym is) (record {
       contexts = record {
-        rows = rows ∙ (ap₂ (λ h rs. changed a (held_in h) rs) holds s.contexts.rows ∙ sym (rows-ran past a ending alive));
+        rows = rows ∙ (ap₂ (λ h rs. changed a (held_in h) rs) holds s.contexts.rows ∙ sym (rows-ran past a ending s.contexts.accepted alive));
         accepted = (action, done ∙ ap Ok is, s.contexts.accepted);
       };
       next_context = s.next_context;
@@ -176,7 +119,7 @@ pub disowned-stands : (b : Browser) (contexts : Contexts) (past : List Act) (act
 disowned-stands b contexts past action a ids act numbers is alive gone done s rows =
     subst (λ x. StandsFor (record b { contexts = contexts }) (x ∷ past)) (sym is) (record {
       contexts = record {
-        rows = rows ∙ (ap₂ (λ ns rs. changed a (without_in ns) rs) gone s.contexts.rows ∙ sym (rows-disowned past a ids alive));
+        rows = rows ∙ (ap₂ (λ ns rs. changed a (without_in ns) rs) gone s.contexts.rows ∙ sym (rows-disowned past a ids s.contexts.accepted alive));
         accepted = (action, done ∙ ap Ok is, s.contexts.accepted);
       };
       next_context = s.next_context;

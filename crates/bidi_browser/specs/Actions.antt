@@ -1,4 +1,4 @@
--- What the browser is asked: its commands, and the steps of a play that it takes. After WebDriver BiDi, "The browsingContext Module" and "The script Module".
+-- What the browser is asked: its commands, and the steps of a page that it takes. After WebDriver BiDi, "The browsingContext Module" and "The script Module".
 use Prim.Native.String.{String}
 use Rattle.std.specs.Prelude.{ℕ, ℤ, Bool, true, false, List, [], ◌∷◌, codes, bytes_eq, Option, Some, None}
 use Rattle.std.specs.Prelude.{unwrap_or, option_map, is_some, is_none, ◌&&◌, ◌||◌, if◌then◌else◌}
@@ -28,7 +28,7 @@ pub data Target : Type 0 where
   ContextTarget : (context : List ℕ) (sandbox : List ℕ) → Target
   RealmTarget : (realm : List ℕ) → Target
 
--- a command or a step, with the members that matter; values are the trees of local values
+-- a command or a step of a page, with the members that matter; values are the trees of local values
 pub data Action : Type 0 where
   Activate : (context : List ℕ) → Action
   Close : (context : List ℕ) → Action
@@ -42,22 +42,14 @@ pub data Action : Type 0 where
   CallFunction : (declaration : List ℕ) (target : Target) (arguments : List Node) (this : Option Node) (owned : Bool) → Action
   Disown : (handles : List (List ℕ)) (target : Target) → Action
   GetRealms : (context : Option (List ℕ)) (type : Option (List ℕ)) → Action
-  -- steps of a play
+  -- steps of a page
   Frame : (context : List ℕ) (url : List ℕ) → Action
   Unframe : (context : List ℕ) → Action
   Log : (context : List ℕ) (level : Level) (text : List ℕ) → Action
   -- a row of the table, where its text is one
   TableRow : (row : Option Node) → Action
 
--- somebody asked for it, and gets a reply: a command, and no step of a play
-abbrev pub is_asked : Action → Bool
-is_asked (Frame id url) = false
-is_asked (Unframe id) = false
-is_asked (Log id level text) = false
-is_asked (TableRow row) = false
-is_asked action = true
-
--- the method of a command, and none of a step of a play
+-- the method of a command; a step of a page has none
 abbrev pub method_of : Action → Option Method
 method_of (Activate id) = Some BrowsingContextActivate
 method_of (Close id) = Some BrowsingContextClose
@@ -71,6 +63,10 @@ method_of (CallFunction declaration target arguments this owned) = Some ScriptCa
 method_of (Disown handles target) = Some ScriptDisown
 method_of (GetRealms context type) = Some ScriptGetRealms
 method_of action = None
+
+-- somebody asked for it, and gets a reply: a command, and no step of a page
+abbrev pub is_asked : Action → Bool
+is_asked action = is_some (method_of action)
 
 -- ---- an action, read from the params of its command
 

@@ -24,6 +24,8 @@ use Rattle.bidi_values.specs.declared.table_row.TableRow as declared_row
 use Rattle.bidi_values.specs.contracts.table_row.TableRowShape.TheImpl as rows
 use Rattle.bidi_tree.specs.Node.{Node}
 use Rattle.bidi_handles.specs.ValuesInHand.{local_tree}
+use Rattle.bidi_methods.specs.declared.command_data.BrowserCommand.{BrowserCommand}
+use Rattle.bidi_methods.specs.declared.command_data.BrowserCommand.TheVariants as browser
 use Rattle.bidi_browser.specs.declared.action.Action as declared_action
 use Rattle.bidi_browser.specs.declared.action.Action.TheVariants as in_code
 use Rattle.bidi_browser.specs.Actions.{CreateType, Tab, OwnWindow, Wait, Started, Interactive, Complete, Action, Activate, Close}
@@ -42,7 +44,7 @@ wait_of (Some wait.None) = Started
 wait_of (Some wait.Interactive) = Interactive
 wait_of (Some wait.Complete) = Complete
 
--- what the params of a command ask
+-- what the params of each command ask
 abbrev pub activate_asked : ActivateParameters → Action
 activate_asked p = Activate (string_bytes p.context)
 
@@ -96,19 +98,23 @@ get_realms_asked p = GetRealms (option_map string_bytes p.context) (option_map r
 abbrev pub row_asked : Option declared_row.TableRow → Action
 row_asked row = TableRow (option_map rows.ghosts.shape.tree_of row)
 
+-- what a command asks
+abbrev pub command_asked : BrowserCommand → Action
+command_asked (browser.Activate params) = activate_asked params
+command_asked (browser.Close params) = close_asked params
+command_asked (browser.Create params) = create_asked params
+command_asked (browser.GetTree params) = get_tree_asked params
+command_asked (browser.Navigate params) = navigate_asked params
+command_asked (browser.Reload params) = reload_asked params
+command_asked (browser.TraverseHistory params) = traverse_asked params
+command_asked (browser.Evaluate params) = evaluate_asked params.value
+command_asked (browser.CallFunction params) = call_function_asked params.value
+command_asked (browser.Disown params) = disown_asked params.value
+command_asked (browser.GetRealms params) = get_realms_asked params
+
 -- what an action in hand asks
 abbrev pub action_of : declared_action.Action → Action
-action_of (in_code.Activate p) = activate_asked p.now
-action_of (in_code.Close p) = close_asked p.now
-action_of (in_code.Create p) = create_asked p.now
-action_of (in_code.GetTree p) = get_tree_asked p.now
-action_of (in_code.Navigate p) = navigate_asked p.now
-action_of (in_code.Reload p) = reload_asked p.now
-action_of (in_code.TraverseHistory p) = traverse_asked p.now
-action_of (in_code.Evaluate p) = evaluate_asked p.now
-action_of (in_code.CallFunction p) = call_function_asked p.now
-action_of (in_code.Disown p) = disown_asked p.now
-action_of (in_code.GetRealms p) = get_realms_asked p.now
+action_of (in_code.Asked command) = command_asked command.now
 action_of (in_code.Frame context url) = Frame context.now url.now
 action_of (in_code.Unframe context) = Unframe context.now
 action_of (in_code.Log context level text) = Log context.now level text.now

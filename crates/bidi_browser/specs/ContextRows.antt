@@ -1,23 +1,22 @@
--- The table of live contexts: of each its row, in order of birth; how rows lie below one another, and what is told of them.
-use Rattle.std.specs.Prelude.{ℕ, zero, suc, nat_eq, ◌==◌, if◌then◌else◌, not, List, [], ◌∷◌, ◌++◌, filter, flat_map, map, Option, Some, None}
+-- The table of live contexts: of each its row, in tree order, and what is told of it.
+use Rattle.std.specs.Prelude.{ℕ, ◌==◌, if◌then◌else◌, not, List, [], ◌∷◌, ◌++◌, filter, map, Option, Some, None}
 use Rattle.std.specs.List.{list_any}
-use Rattle.std.specs.Option.{option_eq}
 use Rattle.url.specs.Parts.{Parts}
 use Rattle.bidi_tree.specs.Node.{Node, null, text, Members, no_members}
 use Rattle.bidi_values.specs.declared.log_entry.Level.{Level}
 use Rattle.bidi_methods.specs.declared.event_data.EventName.{EventName}
-use Rattle.bidi_methods.specs.declared.event_data.EventName.TheVariants.{ContextCreated, ContextDestroyed, RealmCreated, RealmDestroyed, EntryAdded}
+use Rattle.bidi_methods.specs.declared.event_data.EventName.TheVariants.{ContextCreated, RealmCreated, RealmDestroyed, EntryAdded}
 use Rattle.bidi_handles.specs.declared.id.IdKind.TheVariants as kind
 use Rattle.bidi_browser.specs.declared.context.Context.{Context}
 use Rattle.bidi_handles.specs.Ids.{has_id}
 use Rattle.bidi_browser.specs.Urls.{url_text, origin_text}
 use Rattle.bidi_browser.specs.Acts.{Act, Move}
-use Rattle.bidi_browser.specs.Contexts.{contexts, parent_of, top_of, level_of, window_of}
+use Rattle.bidi_browser.specs.Contexts.{tree_order, parent_of, top_of, level_of, window_of}
 use Rattle.bidi_browser.specs.Places.{Entries, present, moved, entries_of}
 use Rattle.bidi_browser.specs.Realms.{realm_of, handles_of}
 use Rattle.bidi_handles.specs.Handles.{handles_seen, held_among}
 use Rattle.bidi_handles.specs.Maps.{◌being◌and◌, mapped, word, number, id_tree}
-use Rattle.bidi_browser.specs.Info.{parent_tree, children_tree, depth_below}
+use Rattle.bidi_browser.specs.Info.{parent_tree}
 use Rattle.bidi_browser.specs.HistoryInHand.{entries_in}
 use Rattle.bidi_browser.specs.Occurrences.{Occurrence, console_entry}
 
@@ -68,20 +67,9 @@ row_at past c =
       handles = handles_of past (realm_of past c);
     }
 
--- the rows of the live contexts, by creation
+-- the rows of the live contexts, in tree order
 abbrev pub rows : List Act → List ContextRow
-rows past = map (row_at past) (contexts past)
-
--- ---- how they lie below one another
-
--- the children of a context; of none, the top-level contexts
-abbrev pub children_in : List ContextRow → Option ℕ → List ContextRow
-children_in rows parent = filter (λ r. option_eq nat_eq r.parent parent) rows
-
--- all that stands below it in tree order, as far as n levels
-abbrev pub below : ℕ → List ContextRow → Option ℕ → List ContextRow
-below zero rows parent = []
-below (suc n) rows parent = flat_map (λ r. r ∷ below n rows (Some r.number)) (children_in rows parent)
+rows past = map (row_at past) (tree_order past)
 
 -- ---- what is told of a row
 
@@ -107,16 +95,6 @@ inner_info row children = shown_info None row children
 abbrev pub root_info : ContextRow → Node → Node
 root_info row children = shown_info (Some (parent_tree row.parent)) row children
 
--- the Infos of a context's children, as far as n levels
-abbrev pub infos_below : ℕ → List ContextRow → Option ℕ → ℕ → List Node
-infos_below zero rows depth parent = []
-infos_below (suc n) rows depth parent =
-    map (λ r. inner_info r (children_tree depth (infos_below n rows (depth_below depth) r.number))) (children_in rows (Some parent))
-
--- the whole Info of a row, with its parent; no context stands below level 16
-abbrev pub info_in : List ContextRow → Option ℕ → ContextRow → Node
-info_in rows depth row = root_info row (children_tree depth (infos_below 16 rows (depth_below depth) row.number))
-
 -- what is told of a realm of it, where it is at a URL
 abbrev pub realm_info_at : ContextRow → ℕ → Parts → Node
 realm_info_at row realm url = mapped (
@@ -138,10 +116,6 @@ entry_added_in row moment level line = occurrence_in row EntryAdded (console_ent
 -- its context came
 abbrev pub created_in : ContextRow → Occurrence
 created_in row = occurrence_in row ContextCreated (root_info row null)
-
--- its context goes, with all these rows below it
-abbrev pub destroyed_in : List ContextRow → ContextRow → Occurrence
-destroyed_in rows row = occurrence_in row ContextDestroyed (info_in rows None row)
 
 -- what is told of its realm
 abbrev pub realm_info_in : ContextRow → Node

@@ -40,6 +40,11 @@ AreTold seen (Ok xs) checked shown = (checked ≡ Ok Looked) × (map seen xs.ite
 AreTold seen (Err (Code code)) checked shown = checked ≡ Err code
 AreTold seen (Err NoMemory) checked shown = ⊤
 
+-- the same of what is shown at once
+abbrev pub AreShown : {A B : Type 0} → (A → List B) → Result A ErrorCode → Result Act ErrorCode → List B → Type 0
+AreShown seen (Ok xs) checked shown = (checked ≡ Ok Looked) × (seen xs ≡ shown)
+AreShown seen (Err code) checked shown = checked ≡ Err code
+
 -- a URL in hand is that of a text, or the text is none
 abbrev pub IsUrlOf : Result Parts Refusal → Option Parts → Type 0
 IsUrlOf (Ok url) read = read ≡ Some url

@@ -20,3 +20,4 @@ pub mod Navigations
 pub mod Plans
 pub mod Runs
 pub mod Stands
+pub mod Subtrees

@@ -225,7 +225,7 @@ row_outcome past row = do
 
 -- ---- every action
 
--- the act of an action, or the code of the first check that fails; a step of a play that has a code has no effect
+-- the act of an action, or the code of the first check that fails; a step of a page that has a code has no effect
 abbrev pub outcome : List Act → Action → Result Act ErrorCode
 outcome past (Activate id) = looked (top_named past id)
 outcome past (Close id) = close_outcome past id

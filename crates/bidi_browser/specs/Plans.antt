@@ -1,5 +1,5 @@
 -- What a plan in hand is: what it tells, and what its change makes of the tables.
-use Rattle.std.specs.Prelude.{◌≡◌, ◌≤◌, ◌<◌, ◌^◌, ◌==◌, ℕ, Bool, true, false, not, List, [], ◌∷◌, ◌++◌, map, filter, flat_map, get_or}
+use Rattle.std.specs.Prelude.{◌≡◌, ◌≤◌, ◌<◌, ◌^◌, ◌==◌, ℕ, Bool, true, false, not, List, [], ◌∷◌, ◌++◌, map, filter, get_or}
 use Rattle.std.specs.Prelude.{Option, Some, None, Result, Ok, Err, is_some, IfSome, ⊤, string_bytes, vec_len, vec_capacity}
 use Rattle.std.specs.List.{AllByRecursion, position}
 use Rattle.bidi_tree.specs.Node.{levels}
@@ -26,7 +26,7 @@ use Rattle.bidi_handles.specs.Handles.{HasSpare}
 use Rattle.bidi_handles.specs.Ids.{has_id}
 use Rattle.bidi_browser.specs.Realms.{realm_of, value_of, handles_of}
 use Rattle.bidi_handles.specs.ValuesInHand.{handle_seen}
-use Rattle.bidi_browser.specs.Contexts.{is_alive, children_of, subtree_of}
+use Rattle.bidi_browser.specs.Contexts.{is_alive}
 use Rattle.bidi_browser.specs.Actions.{Action, is_asked}
 use Rattle.bidi_browser.specs.Outcome.{outcome}
 use Rattle.bidi_browser.specs.Occurs.{Item, Happens, Replies, occurs}
@@ -103,18 +103,17 @@ leaves_tables (Logged c level text) = true
 leaves_tables (Ran r ending held) = not held
 leaves_tables act = false
 
--- a navigation in hand is that of the past: its realm is the next, an entry stands where it leads or comes with it, and all below its context goes
+-- a navigation in hand is that of the past: its realm is the next, and an entry stands where it leads or comes with it
 pub record IsNavigation (n : Navigation) (past : List Act) : Type 0 where
   pub realm : n.realm ≡ next_number past Realm
   pub leads : Leads (entries_of past n.context) (move_of n.to)
-  pub gone : n.gone.items ≡ flat_map (subtree_of past) (children_of past n.context)
 
 -- what an edit makes of the tables, an act makes of the past
 abbrev pub EditMakes : Edit → List Act → Act → Type 0
 EditMakes Keep past act = leaves_tables act ≡ true
 EditMakes (Add context opens_window) past act =
     (gives Context act ≡ true) × (row_of context ≡ row_at (act ∷ past) (next_number past Context)) × (opens_window ≡ gives Window act)
-EditMakes (Remove numbers) past act = (c : ℕ) × (act ≡ Removed c) × (numbers.items ≡ subtree_of past c)
+EditMakes (Remove number) past act = act ≡ Removed number
 EditMakes (Navigate n) past act = (act ≡ Moved n.context (move_of n.to)) × IsNavigation n past
 EditMakes (Hold number handle) past act =
     (ending : Ending) × (is_alive past number ≡ true)

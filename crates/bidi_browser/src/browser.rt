@@ -1,10 +1,11 @@
 //! The browser: its state, and the public calls that plan and apply changes to it.
 ghost use Rattle.std.specs.Prelude.{◌≡◌, ℕ, ◌<◌, ◌^◌, nat_lt, length, List, [], ◌∷◌, Some, Ok, IfOk, IsOk, IsTrue, OnOk, map, option_map};
 ghost use Rattle.std.specs.List.{AllByRecursion};
+ghost use Rattle.bidi_methods.specs.CommandData.{browser_asked};
 ghost use Rattle.bidi_browser.specs.Accepted.{AreAccepted};
 ghost use Rattle.bidi_browser.specs.Acts.{Act};
 ghost use Rattle.bidi_browser.specs.Actions as asked;
-ghost use Rattle.bidi_browser.specs.Asked.{action_of};
+ghost use Rattle.bidi_browser.specs.Asked.{action_of, command_asked};
 ghost use Rattle.bidi_browser.specs.Contexts.{context_of, is_alive, top_of};
 ghost use Rattle.bidi_browser.specs.Occurrences.{tree_events};
 ghost use Rattle.bidi_browser.specs.Outcome.{has_room, outcome};
@@ -25,7 +26,7 @@ use crate::scripts::{plan_disown, plan_evaluate};
 use crate::tabling::plan_row;
 use crate::telling::{push_created, push_realms};
 use bidi_handles::Refusal;
-use bidi_methods::{EventData, EventName, Method, Payload};
+use bidi_methods::{BrowserCommand, EventData, EventName, Method, Payload};
 use bidi_params::ErrorCode;
 use bidi_tree::JsUint;
 use std::alloc::{AllocError, Global};
@@ -103,10 +104,10 @@ impl Browser {
 
     /// Works out what an action does at a moment, the timestamp of its events. Changes nothing.
     ///
-    /// Takes a pass over the live contexts, and for an Info one more for each context in it. A removal and a
-    /// navigation make an event for each context that they remove; a navigation copies no session history. A
-    /// row of the table costs an outline of it and looking up its text, a script a copy of its value, and a
-    /// call also an outline of each argument.
+    /// Looking up a context passes over the live contexts; what is told of its descendants passes over these
+    /// alone. A removal and a navigation make an event for each context that they remove; a navigation copies
+    /// no session history. A row of the table costs an outline of it and looking up its text, a script a copy
+    /// of its value, and a call also an outline of each argument.
     ///
     /// # Errors
     /// - `Code`: a check failed. For a command it is the code of the first check that fails, to reply with.
@@ -122,21 +123,32 @@ impl Browser {
         ensures of_method { (method : Method) → asked.method_of (action_of action.entry) ≡ Some method → HasResultOf method result }
     {
         match action {
-            Action::Activate(params) => plan_activate(self, &params.context),
-            Action::Close(params) => plan_close(self, &params.context),
-            Action::Create(params) => plan_create(self, params),
-            Action::GetTree(params) => plan_get_tree(self, params),
-            Action::Navigate(params) => plan_navigate(self, moment, params),
-            Action::Reload(params) => plan_reload(self, moment, params),
-            Action::TraverseHistory(params) => plan_traverse_history(self, moment, params),
-            Action::Evaluate(params) => plan_evaluate(self, params),
-            Action::CallFunction(params) => plan_call_function(self, params),
-            Action::Disown(params) => plan_disown(self, params),
-            Action::GetRealms(params) => plan_get_realms(self, params),
+            Action::Asked(command) => self.plan_command(command, moment),
             Action::Frame(context, url) => plan_frame(self, context, url),
             Action::Unframe(context) => plan_unframe(self, context),
             Action::Log(context, level, text) => plan_log(self, moment, context, level, text),
             Action::TableRow(row) => plan_row(self, row),
+        }
+    }
+
+    // Works out what a command does.
+    fn plan_command(&self, command: &BrowserCommand, moment: JsUint) -> Result<Plan, Refusal>
+        ensures plans { (past : List Act) → StandsFor self.now past → HasIds past → Plans result past moment.value (command_asked command.now) }
+        ensures well { IsWellPlanned result }
+        ensures of_method { HasResultOf (browser_asked command.now).0 result }
+    {
+        match command {
+            BrowserCommand::Activate(params) => plan_activate(self, &params.context),
+            BrowserCommand::Close(params) => plan_close(self, &params.context),
+            BrowserCommand::Create(params) => plan_create(self, params),
+            BrowserCommand::GetTree(params) => plan_get_tree(self, params),
+            BrowserCommand::Navigate(params) => plan_navigate(self, moment, params),
+            BrowserCommand::Reload(params) => plan_reload(self, moment, params),
+            BrowserCommand::TraverseHistory(params) => plan_traverse_history(self, moment, params),
+            BrowserCommand::Evaluate(params) => plan_evaluate(self, params.as_ref()),
+            BrowserCommand::CallFunction(params) => plan_call_function(self, params.as_ref()),
+            BrowserCommand::Disown(params) => plan_disown(self, params.as_ref()),
+            BrowserCommand::GetRealms(params) => plan_get_realms(self, params),
         }
     }
 
@@ -179,7 +191,7 @@ impl Browser {
                 }
                 self.contexts.add(context);
             }
-            Edit::Remove(numbers) => self.contexts.remove(&numbers),
+            Edit::Remove(number) => self.contexts.remove(number),
             Edit::Navigate(navigation) => {
                 self.next_realm = navigation.realm.wrapping_add(1);
                 self.next_navigation = self.next_navigation.wrapping_add(1);
@@ -218,7 +230,7 @@ impl Browser {
     /// The events that tell a new subscription what exists: contextCreated of every live context, then
     /// realmCreated of every realm, both in tree order.
     ///
-    /// Makes two events for each live context. Passes over the contexts once, and once more for each.
+    /// Makes two events for each live context.
     ///
     /// # Errors
     /// No memory: an allocation failed.
@@ -229,10 +241,10 @@ impl Browser {
             → IfOk result (λ all. map (occurrence_of) all.items ≡ tree_events past) }
         ensures well { IfOk result (λ all. AllByRecursion (λ o. EventIsWell o.event) all.items) }
     {
-        let contexts = self.contexts.in_tree_order()?;
+        let contexts = self.contexts.in_tree_order();
         let mut all = Vec::new(self.alloc);
-        push_created(self.alloc, &contexts, &mut all)?;
-        push_realms(self.alloc, &contexts, &mut all)?;
+        push_created(self.alloc, contexts, &mut all)?;
+        push_realms(self.alloc, contexts, &mut all)?;
         Ok(all)
     }
 

@@ -1,15 +1,21 @@
-//! The table of live contexts. Only this file knows how they are kept; the rest of the crate asks it.
-ghost use Rattle.std.specs.Prelude.{◌≡◌, ◌≤◌, ◌<◌, ◌^◌, ◌==◌, ◌*◌, ◌++◌, ℕ, List, ◌∷◌, [], true, nat_eq, None, Some};
-ghost use Rattle.std.specs.Prelude.{IfOk, OnOk, map, find, filter, not, length, bytes_eq, is_none, option_map};
-ghost use Rattle.std.specs.List.{list_any, position};
+//! The table of live contexts, in tree order. Only this file knows how they are kept; the rest of the crate
+//! asks it.
+//!
+//! A subtree is a range: a context, and those behind it up to the next whose level is no greater. So whoever
+//! walks over children searches for none.
+ghost use Rattle.std.specs.Prelude.{◌≡◌, ◌≤◌, ◌<◌, ◌^◌, ◌==◌, ◌*◌, ◌+◌, ℕ, suc, List, ◌∷◌, [], true, nat_eq, nat_le, None, Some};
+ghost use Rattle.std.specs.Prelude.{IfOk, OnOk, MatchOption, map, find, length, bytes_eq, is_none, option_map};
+ghost use Rattle.std.specs.List.{list_any, position, position_or_len};
 ghost use Rattle.std.specs.Option.{option_eq};
 ghost use Rattle.bidi_handles.specs.Ids.{id_of};
+ghost use Rattle.bidi_browser.specs.Accepted.{AreAccepted};
 ghost use Rattle.bidi_browser.specs.Acts.{Act, Removed, Moved, gives, next_number};
-ghost use Rattle.bidi_browser.specs.Contexts.{contexts, context_of, is_alive, parent_of, tops, children_of, subtree_of, tree_order};
-ghost use Rattle.bidi_browser.specs.Info.{info_of, depth_below, children_tree};
-ghost use Rattle.bidi_browser.specs.ContextRows.{row_of, row_at, rows, children_in, below, infos_below, info_in, moved_in, changed};
+ghost use Rattle.bidi_browser.specs.Contexts.{contexts, context_of, is_alive, level_of, parent_of, tops, children_of, tree_order};
+ghost use Rattle.bidi_browser.specs.Info.{info_of, info_within, depth_below, children_tree};
+ghost use Rattle.bidi_browser.specs.ContextRows.{row_of, row_at, rows, moved_in, changed};
 ghost use Rattle.bidi_browser.specs.Realms.{realm_of};
 ghost use Rattle.bidi_browser.specs.InfosInHand.{AreWithin, AreWithinIfTold, IsWithin, children_node};
+ghost use Rattle.bidi_browser.specs.Subtrees.{AreSubtrees, end_in};
 
 use crate::context::Context;
 use crate::plan::Navigation;
@@ -22,7 +28,8 @@ use std::alloc::{AllocError, Global};
 /// The most levels of nested contexts.
 const MOST_LEVELS: u64 = 16;
 
-/// The live contexts, in order of creation.
+/// The live contexts in tree order: a parent before its children, siblings in order of creation, each subtree
+/// whole.
 #[derive(Drop)]
 pub(crate) struct Contexts {
     alloc: Global,
@@ -31,7 +38,6 @@ pub(crate) struct Contexts {
 
 impl Contexts {
     ghost use Rattle.bidi_browser.specs.Stands.{IsTableOf};
-    ghost use Rattle.bidi_browser.specs.Accepted.{AreAccepted};
     ghost use Rattle.bidi_browser.specs.Plans.{HasRoomForOne, HasRoomForHandle, HasRoomIn, IsNavigation};
     ghost use Rattle.bidi_browser.specs.ContextRows.{held_in, without_in};
     ghost use Rattle.bidi_handles.specs.ValuesInHand.{handle_seen};
@@ -85,35 +91,22 @@ impl Contexts {
         oldest(&self.live)
     }
 
-    /// A context and all its descendants in tree order: a parent before its children, each subtree whole.
-    pub(crate) fn subtree<'a>(
-        &'a self,
-        context: &'a Context,
-    ) -> Result<Vec<&'a Context>, AllocError>
-        ensures { (past : List Act) (c : ℕ) → IsTableOf self.now past → row_of context.now ≡ row_at past c
-            → IfOk result (λ all. map (λ c. row_of c.now) all.items ≡ map (row_at past) (subtree_of past c)) }
-    {
-        let mut all = Vec::new(self.alloc);
-        all.push(context)?;
-        push_below(&self.live, Some(context.number), MOST_LEVELS - 1, &mut all)?;
-        Ok(all)
-    }
-
-    /// The children of a context, in order of creation. Passes over the contexts.
-    pub(crate) fn children_of(&self, context: &Context) -> Result<Vec<&Context>, AllocError>
-        ensures { (past : List Act) (c : ℕ) → IsTableOf self.now past → row_of context.now ≡ row_at past c
-            → IfOk result (λ all. map (λ c. row_of c.now) all.items ≡ map (row_at past) (children_of past c)) }
-    {
-        children_of(self.alloc, &self.live, context.number)
-    }
-
     /// All live contexts in tree order.
-    pub(crate) fn in_tree_order(&self) -> Result<Vec<&Context>, AllocError>
-        ensures { (past : List Act) → IsTableOf self.now past → IfOk result (λ all. map (λ c. row_of c.now) all.items ≡ map (row_at past) (tree_order past)) }
+    pub(crate) fn in_tree_order(&self) -> &[Context]
+        ensures { (past : List Act) → IsTableOf self.now past → map row_of result.now ≡ map (row_at past) (tree_order past) }
     {
-        let mut all = Vec::new(self.alloc);
-        push_below(&self.live, None, MOST_LEVELS, &mut all)?;
-        Ok(all)
+        &self.live
+    }
+
+    /// The descendants of a context in tree order. Passes over the contexts.
+    pub(crate) fn below(&self, context: &Context) -> &[Context]
+        ensures { (past : List Act) (c : ℕ) → IsTableOf self.now past → row_of context.now ≡ row_at past c
+            → AreSubtrees result.now past (suc (level_of past c)) (children_of past c) }
+    {
+        match range_of(&self.live, context.number) {
+            Some((start, end)) => &self.live[start + 1..end],
+            None => &[],
+        }
     }
 
     /// The Info of a context with its parent, to this depth. `None` is the whole depth.
@@ -122,7 +115,7 @@ impl Contexts {
             → row_of context.now ≡ row_at past c → IfOk result (λ i. ⟦<Info as Shape>⟧.shape.tree_of i ≡ info_of past depth c) }
         ensures well { IfOk result (IsWithin ⟦<Info as Shape>⟧.shape 34) }
     {
-        whole_info(self.alloc, &self.live, context, depth)
+        whole_info(self.alloc, context, self.below(context), depth)
     }
 
     /// The Info of each top-level context, to this depth. `None` is the whole depth.
@@ -153,21 +146,25 @@ impl Contexts {
         }
     }
 
-    /// Adds a new context, for which room was made. Takes no memory.
+    /// Adds a new context, for which room was made: a child behind all that stands below its parent, a
+    /// top-level context at the end. Takes no memory.
     pub(crate) fn add(&mut self, context: Context)
         requires { HasRoomForOne self.now }
         ensures { (past : List Act) (act : Act) → IsTableOf self.old past → AreAccepted (act ∷ past) → gives IdKind.Context act ≡ true
             → row_of context ≡ row_at (act ∷ past) (next_number past IdKind.Context) → IsTableOf self.new (act ∷ past) }
     {
-        self.live.push_reserved(context);
+        let place = place_for(&self.live, context.parent);
+        // It succeeds, since there is room.
+        let _ = self.live.insert(place, context);
     }
 
-    /// Removes the contexts of these numbers, which are a context and all its descendants.
-    pub(crate) fn remove(&mut self, numbers: &[u64])
-        ensures { (past : List Act) (c : ℕ) → IsTableOf self.old past
-            → AreAccepted (Removed c ∷ past) → numbers.now ≡ subtree_of past c → IsTableOf self.new (Removed c ∷ past) }
+    /// Removes the context of this number and all its descendants. Takes no memory.
+    pub(crate) fn remove(&mut self, number: u64)
+        ensures { (past : List Act) → IsTableOf self.old past → AreAccepted (Removed number ∷ past) → IsTableOf self.new (Removed number ∷ past) }
     {
-        take_out(&mut self.live, numbers);
+        if let Some((start, end)) = range_of(&self.live, number) {
+            self.live.drain(start..end);
+        }
     }
 
     /// Carries out a navigation: its context moves in the session history and gets a new realm, and all
@@ -177,14 +174,11 @@ impl Contexts {
         ensures { (past : List Act) → (let act = Moved navigation.context (move_of navigation.to) in
             IsTableOf self.old past → AreAccepted (act ∷ past) → IsNavigation navigation past → IsTableOf self.new (act ∷ past)) }
     {
-        let Navigation {
-            context,
-            realm,
-            to,
-            gone,
-        } = navigation;
+        let Navigation { context, realm, to } = navigation;
         self.lead(context, realm, to);
-        take_out(&mut self.live, &gone);
+        if let Some((start, end)) = range_of(&self.live, context) {
+            self.live.drain(start + 1..end);
+        }
     }
 
     /// Makes room for one more handle in the realm of the context of this number.
@@ -231,18 +225,55 @@ impl Contexts {
     }
 }
 
-// Removes the contexts of these numbers.
-fn take_out(contexts: &mut Vec<Context>, numbers: &[u64])
-    ensures { contexts.new.items ≡ filter (λ c. not (list_any (λ n. n == c.number) numbers.now)) contexts.old.items }
+// Where the subtree of the context of this number begins, and where it ends.
+fn range_of(contexts: &[Context], number: u64) -> Option<(usize, usize)>
+    ensures { MatchOption result (position (λ c. c.number == number) contexts.now ≡ None) (λ range.
+        (position (λ c. c.number == number) contexts.now ≡ Some range.0)
+        × (range.1 ≡ end_in (map (λ c. c.level) contexts.now) range.0) × (range.0 < range.1) × (range.1 ≤ length contexts.now)) }
 {
-    contexts.retain(|context| !is_listed(numbers, context.number));
+    let start = place_of(contexts, number)?;
+    let behind = &contexts[start + 1..];
+    Some((start, start + 1 + len_below(contexts[start].level, behind)))
 }
 
-// Whether a number is among these.
-fn is_listed(numbers: &[u64], number: u64) -> bool
-    ensures { result ≡ list_any (λ n. n == number) numbers.now }
+// Where the subtree of the context of this number ends; where there is none, the end of all.
+fn end_of(contexts: &[Context], number: u64) -> usize
+    ensures is { (i : ℕ) → position (λ c. c.number == number) contexts.now ≡ Some i → result ≡ end_in (map (λ c. c.level) contexts.now) i }
+    ensures within { result ≤ length contexts.now }
 {
-    numbers.iter().any(|n| *n == number)
+    match range_of(contexts, number) {
+        Some((_, end)) => end,
+        None => contexts.len(),
+    }
+}
+
+// Where a new child of this parent goes in, behind all that stands below the parent. Without a parent it is
+// the end.
+fn place_for(contexts: &[Context], parent: Option<u64>) -> usize
+    ensures is { MatchOption parent (result ≡ length contexts.now) (λ p. (i : ℕ)
+        → position (λ c. c.number == p) contexts.now ≡ Some i → result ≡ end_in (map (λ c. c.level) contexts.now) i) }
+    ensures within { result ≤ length contexts.now }
+{
+    match parent {
+        Some(parent) => end_of(contexts, parent),
+        None => contexts.len(),
+    }
+}
+
+/// How many contexts from the first on stand below this level. Of those behind a context, and for its level,
+/// these are its descendants.
+pub(crate) fn len_below(level: u64, contexts: &[Context]) -> usize
+    ensures is { result ≡ position_or_len (λ c. nat_le c.level level) contexts.now }
+    ensures within { result ≤ length contexts.now }
+{
+    first_at(level, contexts).unwrap_or(contexts.len())
+}
+
+// The place of the first context that does not stand below this level.
+fn first_at(level: u64, contexts: &[Context]) -> Option<usize>
+    ensures { result ≡ position (λ c. nat_le c.level level) contexts.now }
+{
+    contexts.iter().position(|context| context.level <= level)
 }
 
 // Whether one of the contexts has this number.
@@ -261,7 +292,8 @@ fn place_of(contexts: &[Context], number: u64) -> Option<usize>
 
 // The context of this id.
 fn named<'a>(contexts: &'a [Context], id: &str) -> Option<&'a Context>
-    ensures { option_map (λ c. c.now) result ≡ find (λ c. bytes_eq id.now (id_of IdKind.Context c.number)) contexts.now }
+    ensures found { option_map (λ c. c.now) result ≡ find (λ c. bytes_eq id.now (id_of IdKind.Context c.number)) contexts.now }
+    ensures one { (n m : ℕ) → n < 2 ^ 48 → m < 2 ^ 48 → bytes_eq id.now (id_of IdKind.Context n) ≡ true → bytes_eq id.now (id_of IdKind.Context m) ≡ true → n ≡ m }
 {
     numbered(contexts, id_number(id, IdKind::Context, 0)?)
 }
@@ -275,7 +307,8 @@ fn numbered(contexts: &[Context], number: u64) -> Option<&Context>
 
 // The context whose realm has this id.
 fn in_realm<'a>(contexts: &'a [Context], id: &str) -> Option<&'a Context>
-    ensures { option_map (λ c. c.now) result ≡ find (λ c. bytes_eq id.now (id_of IdKind.Realm c.realm)) contexts.now }
+    ensures found { option_map (λ c. c.now) result ≡ find (λ c. bytes_eq id.now (id_of IdKind.Realm c.realm)) contexts.now }
+    ensures one { (n m : ℕ) → n < 2 ^ 48 → m < 2 ^ 48 → bytes_eq id.now (id_of IdKind.Realm n) ≡ true → bytes_eq id.now (id_of IdKind.Realm m) ≡ true → n ≡ m }
 {
     with_realm(contexts, id_number(id, IdKind::Realm, 0)?)
 }
@@ -294,119 +327,83 @@ fn oldest(contexts: &[Context]) -> Option<&Context>
     contexts.iter().find(|context| context.parent.is_none())
 }
 
-// The contexts that have this parent, in order of creation.
-fn children_of(
-    alloc: Global,
-    contexts: &[Context],
-    parent: u64,
-) -> Result<Vec<&Context>, AllocError>
-    ensures { IfOk result (λ all. map (λ c. row_of c.now) all.items ≡ children_in (map row_of contexts.now) (Some parent)) }
-{
-    let mut all = Vec::new(alloc);
-    for child in contexts {
-        if child.parent == Some(parent) {
-            all.push(child)?;
-        }
-    }
-    Ok(all)
-}
-
-// Adds the descendants of a parent in tree order, down to so many levels; without a parent, all contexts.
-fn push_below<'a>(
-    contexts: &'a [Context],
-    parent: Option<u64>,
-    levels: u64,
-    all: &mut Vec<&'a Context>,
-) -> Result<(), AllocError>
-    ensures { IfOk result (λ _. map (λ c. row_of c.now) all.new.items
-        ≡ map (λ c. row_of c.now) all.old.items ++ below levels (map row_of contexts.now) parent) }
-{
-    if levels == 0 {
-        return Ok(());
-    }
-    for context in contexts {
-        if context.parent == parent {
-            all.push(context)?;
-            push_below(contexts, Some(context.number), levels - 1, all)?;
-        }
-    }
-    Ok(())
-}
-
-// The Info of each top-level context.
+// The Info of each top-level context, of all contexts in tree order.
 fn top_infos(
     alloc: Global,
     contexts: &[Context],
     depth: Option<u64>,
 ) -> Result<Vec<Info>, AllocError>
-    ensures tree { IfOk result (λ all. map ⟦<Info as Shape>⟧.shape.tree_of all.items
-        ≡ map (info_in (map row_of contexts.now) depth) (children_in (map row_of contexts.now) None)) }
+    ensures tree { (past : List Act) (cs : List ℕ) → AreSubtrees contexts.now past 1 cs
+        → IfOk result (λ all. map ⟦<Info as Shape>⟧.shape.tree_of all.items ≡ map (info_of past depth) cs) }
     ensures well { IfOk result (λ all. AreWithin ⟦<Info as Shape>⟧.shape 34 all.items) }
 {
     let mut all = Vec::new(alloc);
-    for context in contexts {
-        if context.parent.is_none() {
-            all.push(whole_info(alloc, contexts, context, depth)?)?;
-        }
+    let mut rest = contexts;
+    while let Some((context, behind)) = rest.split_first() {
+        let (below, next) = behind.split_at(len_below(context.level, behind));
+        all.push(whole_info(alloc, context, below, depth)?)?;
+        rest = next;
     }
     Ok(all)
 }
 
-// The Info of a context with its parent, to this depth.
-fn whole_info(
+/// The Info of a context with its parent, to this depth, where these are its descendants.
+pub(crate) fn whole_info(
     alloc: Global,
-    contexts: &[Context],
     context: &Context,
+    below: &[Context],
     depth: Option<u64>,
 ) -> Result<Info, AllocError>
-    ensures tree { IfOk result (λ i. ⟦<Info as Shape>⟧.shape.tree_of i ≡ info_in (map row_of contexts.now) depth (row_of context.now)) }
+    ensures tree { (past : List Act) (c : ℕ) → row_of context.now ≡ row_at past c
+        → AreSubtrees below.now past (suc (level_of past c)) (children_of past c) → IfOk result (λ i. ⟦<Info as Shape>⟧.shape.tree_of i ≡ info_of past depth c) }
     ensures well { IfOk result (IsWithin ⟦<Info as Shape>⟧.shape 34) }
 {
-    let children = children(alloc, contexts, context.number, depth, MOST_LEVELS)?;
+    let children = children(alloc, below, depth, MOST_LEVELS)?;
     context.root_info(alloc, children)
 }
 
-// The Infos of a context's children, down to so many levels. `None` at depth 0, which asks for no children.
+// The Infos of a context's children, of all that stands below it, down to so many levels. `None` at depth 0,
+// which asks for no children.
 #[cycle(infos)]
 fn children(
     alloc: Global,
-    contexts: &[Context],
-    parent: u64,
+    below: &[Context],
     depth: Option<u64>,
     levels: u64,
 ) -> Result<Option<Vec<Info>>, AllocError>
-    ensures tree { IfOk result (λ told. children_node ⟦<Info as Shape>⟧.shape.tree_of told
-        ≡ children_tree depth (infos_below levels (map row_of contexts.now) (depth_below depth) parent)) }
+    ensures tree { (past : List Act) (level : ℕ) (cs : List ℕ) → AreSubtrees below.now past level cs → 17 ≤ levels + level
+        → IfOk result (λ told. children_node ⟦<Info as Shape>⟧.shape.tree_of told ≡ children_tree depth (map (info_within 16 past (depth_below depth)) cs)) }
     ensures well { levels ≤ 29 → IfOk result (AreWithinIfTold ⟦<Info as Shape>⟧.shape (2 * levels)) }
 {
     match depth {
         Some(0) => Ok(None),
-        Some(depth) => Ok(Some(infos(alloc, contexts, parent, Some(depth - 1), levels)?)),
-        None => Ok(Some(infos(alloc, contexts, parent, None, levels)?)),
+        Some(depth) => Ok(Some(infos(alloc, below, Some(depth - 1), levels)?)),
+        None => Ok(Some(infos(alloc, below, None, levels)?)),
     }
 }
 
-// The Infos of a context's children, down to so many levels.
+// The Infos of siblings, each of which stands before its own descendants, down to so many levels.
 #[cycle(infos)]
 fn infos(
     alloc: Global,
     contexts: &[Context],
-    parent: u64,
     depth: Option<u64>,
     levels: u64,
 ) -> Result<Vec<Info>, AllocError>
-    ensures tree { IfOk result (λ all. map ⟦<Info as Shape>⟧.shape.tree_of all.items ≡ infos_below levels (map row_of contexts.now) depth parent) }
+    ensures tree { (past : List Act) (level : ℕ) (cs : List ℕ) → AreSubtrees contexts.now past level cs → 17 ≤ levels + level
+        → IfOk result (λ all. map ⟦<Info as Shape>⟧.shape.tree_of all.items ≡ map (info_within 16 past depth) cs) }
     ensures well { levels ≤ 29 → IfOk result (λ all. AreWithin ⟦<Info as Shape>⟧.shape (2 * levels) all.items) }
 {
     let mut all = Vec::new(alloc);
     if levels == 0 {
         return Ok(all);
     }
-    for context in contexts {
-        if context.parent == Some(parent) {
-            let children = children(alloc, contexts, context.number, depth, levels - 1)?;
-            all.push(context.info(alloc, children)?)?;
-        }
+    let mut rest = contexts;
+    while let Some((context, behind)) = rest.split_first() {
+        let (below, next) = behind.split_at(len_below(context.level, behind));
+        let children = children(alloc, below, depth, levels - 1)?;
+        all.push(context.info(alloc, children)?)?;
+        rest = next;
     }
     Ok(all)
 }

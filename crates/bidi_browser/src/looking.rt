@@ -6,7 +6,7 @@ ghost use Rattle.bidi_browser.specs.Acts.{Act};
 ghost use Rattle.bidi_browser.specs.Actions.{Activate};
 ghost use Rattle.bidi_browser.specs.Asked.{get_realms_asked, get_tree_asked};
 ghost use Rattle.bidi_browser.specs.ContextRows.{row_of, row_at, realm_info_in};
-ghost use Rattle.bidi_browser.specs.Found.{AreTold, IsFound, IsFoundIfNamed};
+ghost use Rattle.bidi_browser.specs.Found.{AreShown, AreTold, IsFound, IsFoundIfNamed};
 ghost use Rattle.bidi_browser.specs.InfosInHand.{AreWithin};
 ghost use Rattle.bidi_browser.specs.Info.{info_of};
 ghost use Rattle.bidi_handles.specs.Maps.{nothing};
@@ -28,6 +28,7 @@ use bidi_params::{
 };
 use bidi_shape::{Ext, Shape};
 use std::alloc::{AllocError, Global};
+use std::slice::from_ref;
 
 // ---- checks
 
@@ -137,7 +138,7 @@ pub(crate) fn plan_get_realms(
     ensures of_method { HasResultOf Method.ScriptGetRealms result }
 {
     let contexts = holders(browser, &params.context)?;
-    let realms = windows(browser.alloc, &contexts, params.kind)?;
+    let realms = windows(browser.alloc, contexts, params.kind)?;
     let result = ResultData::ScriptGetRealms(GetRealmsResult {
         realms,
         ext: Ext::empty(browser.alloc),
@@ -156,18 +157,16 @@ fn takes_windows(kind: Option<RealmType>) -> bool
 }
 
 // The contexts whose realms are asked for: one, or all in tree order.
-fn holders<'a>(browser: &'a Browser, id: &Option<String>) -> Result<Vec<&'a Context>, Refusal>
+fn holders<'a>(browser: &'a Browser, id: &Option<String>) -> Result<&'a [Context], ErrorCode>
     ensures { (past : List Act) → StandsFor browser.now past
         → (let named = option_map string_bytes id.now in
-        AreTold (λ c. row_of c.now) result (looked_at past named) (map (row_at past) (realm_holders past named true))) }
+        AreShown (λ cs. map row_of cs.now) result (looked_at past named) (map (row_at past) (realm_holders past named true))) }
 {
     match id {
-        None => Ok(browser.contexts.in_tree_order()?),
+        None => Ok(browser.contexts.in_tree_order()),
         Some(id) => {
             let context = context_named(&browser.contexts, id)?;
-            let mut all = Vec::new(browser.alloc);
-            all.push(context)?;
-            Ok(all)
+            Ok(from_ref(context))
         }
     }
 }
@@ -175,11 +174,11 @@ fn holders<'a>(browser: &'a Browser, id: &Option<String>) -> Result<Vec<&'a Cont
 // The RealmInfo of each context, or nothing where realms of another type are asked for.
 fn windows(
     alloc: Global,
-    contexts: &[&Context],
+    contexts: &[Context],
     kind: Option<RealmType>,
 ) -> Result<Vec<RealmInfo>, AllocError>
     ensures tree { IfOk result (λ all. map ⟦<RealmInfo as Shape>⟧.shape.tree_of all.items
-        ≡ (if takes_windows (option_map realm_type_text kind) then map (λ c. realm_info_in (row_of c.now)) contexts.now else [])) }
+        ≡ (if takes_windows (option_map realm_type_text kind) then map (λ c. realm_info_in (row_of c)) contexts.now else [])) }
     ensures well { IfOk result (λ all. AllByRecursion (λ r. ⟦<RealmInfo as Shape>⟧.shape.well r) all.items) }
 {
     if takes_windows(kind) {
@@ -190,8 +189,8 @@ fn windows(
 }
 
 // The RealmInfo of each context.
-fn realm_infos(alloc: Global, contexts: &[&Context]) -> Result<Vec<RealmInfo>, AllocError>
-    ensures tree { IfOk result (λ all. map ⟦<RealmInfo as Shape>⟧.shape.tree_of all.items ≡ map (λ c. realm_info_in (row_of c.now)) contexts.now) }
+fn realm_infos(alloc: Global, contexts: &[Context]) -> Result<Vec<RealmInfo>, AllocError>
+    ensures tree { IfOk result (λ all. map ⟦<RealmInfo as Shape>⟧.shape.tree_of all.items ≡ map (λ c. realm_info_in (row_of c)) contexts.now) }
     ensures well { IfOk result (λ all. AllByRecursion (λ r. ⟦<RealmInfo as Shape>⟧.shape.well r) all.items) }
 {
     let mut all = Vec::new(alloc);

@@ -1,10 +1,9 @@
 //! Plans of the commands that navigate: `navigate`, `reload` and `traverseHistory`.
-ghost use Rattle.std.specs.Prelude.{◌≡◌, ◌≤◌, ◌<◌, ◌^◌, ◌++◌, ℕ, List, flat_map, Some, IfOk, vec_len};
+ghost use Rattle.std.specs.Prelude.{◌≡◌, ◌≤◌, ◌<◌, ◌^◌, ℕ, List, Some, IfOk, vec_len};
 ghost use Rattle.bidi_tree.specs.Node.{no_members, text};
 ghost use Rattle.bidi_browser.specs.Acts.{Act, Move as Led};
 ghost use Rattle.bidi_browser.specs.Asked.{navigate_asked, reload_asked, traverse_asked, wait_of};
 ghost use Rattle.bidi_browser.specs.ContextRows.{row_of, row_at};
-ghost use Rattle.bidi_browser.specs.Contexts.{children_of, subtree_of};
 ghost use Rattle.bidi_handles.specs.Maps.{◌being◌and◌, mapped, id_tree};
 ghost use Rattle.bidi_browser.specs.Navigations.{AreNext, navigation_events, before_reply, IsTold};
 ghost use Rattle.bidi_browser.specs.Occurs.{led_to};
@@ -59,12 +58,11 @@ pub(crate) fn plan_navigate(
     let url = parsed(browser.alloc, &params.url)?;
     let numbers = browser.numbers()?;
     let result = navigated(browser.alloc, numbers.navigation, &url)?;
-    let (told, gone) = parted_events(browser, numbers, moment, context, &url, params.wait)?;
+    let told = parted_events(browser, numbers, moment, context, &url, params.wait)?;
     let navigation = Navigation {
         context: context.number,
         realm: numbers.realm,
         to: Move::To(url),
-        gone,
     };
     Ok(planned(
         told,
@@ -93,12 +91,11 @@ pub(crate) fn plan_reload(
     let url = context.history.present();
     let numbers = browser.numbers()?;
     let result = navigated(browser.alloc, numbers.navigation, url)?;
-    let (told, gone) = parted_events(browser, numbers, moment, context, url, params.wait)?;
+    let told = parted_events(browser, numbers, moment, context, url, params.wait)?;
     let navigation = Navigation {
         context: context.number,
         realm: numbers.realm,
         to: Move::Again,
-        gone,
     };
     Ok(planned(told, navigation, ResultData::BrowsingContextReload(result)))
 }
@@ -126,13 +123,12 @@ pub(crate) fn plan_traverse_history(
         return Err(Refusal::Code(ErrorCode::NoSuchHistoryEntry));
     };
     let numbers = browser.numbers()?;
-    let (told, gone) = parted_events(browser, numbers, moment, context, url, Some(Wait::Complete))?;
+    let told = parted_events(browser, numbers, moment, context, url, Some(Wait::Complete))?;
     let result = nothing(browser.alloc);
     let navigation = Navigation {
         context: context.number,
         realm: numbers.realm,
         to: Move::Across(place),
-        gone,
     };
     Ok(planned(
         told,
@@ -159,7 +155,7 @@ fn planned(told: Told, navigation: Navigation, outcome: ResultData) -> Plan
     }
 }
 
-// The events of a navigation, parted where its reply stands, and the numbers of the contexts that it removes.
+// The events of a navigation, parted where its reply stands.
 fn parted_events(
     browser: &Browser,
     numbers: Numbers,
@@ -167,17 +163,16 @@ fn parted_events(
     context: &Context,
     url: &Url,
     wait: Option<Wait>,
-) -> Result<(Told, Vec<u64>), AllocError>
+) -> Result<Told, AllocError>
     ensures told { (past : List Act) (c : ℕ) (move : Led)
         → StandsFor browser.now past → AreNext numbers past → row_of context.now ≡ row_at past c → led_to past c move ≡ url.now
-        → IfOk result (λ r. IsTold r.0 past moment.value (wait_of wait) c move × (r.1.items ≡ flat_map (subtree_of past) (children_of past c))) }
-    ensures well { IfOk result (λ r. AreWell r.0.before.items × AreWell r.0.after.items) }
+        → IfOk result (λ told. IsTold told past moment.value (wait_of wait) c move) }
+    ensures well { IfOk result (λ told. AreWell told.before.items × AreWell told.after.items) }
 {
-    let mut gone = Vec::new(browser.alloc);
-    let mut before = events(browser, numbers, moment, context, url, &mut gone)?;
+    let mut before = events(browser, numbers, moment, context, url)?;
     let place = place_of_reply(wait, before.len());
     let after = before.split_off(place)?;
-    Ok((Told { before, after }, gone))
+    Ok(Told { before, after })
 }
 
 // How many events of a navigation stand before its reply, by the command's `wait`.
@@ -193,27 +188,24 @@ fn place_of_reply(wait: Option<Wait>, events: usize) -> usize
     }
 }
 
-// The events of a navigation in order. Adds the numbers of the contexts that it removes to `gone`.
+// The events of a navigation in order.
 fn events(
     browser: &Browser,
     numbers: Numbers,
     moment: JsUint,
     context: &Context,
     url: &Url,
-    gone: &mut Vec<u64>,
 ) -> Result<Vec<Occurrence>, AllocError>
     ensures told { (past : List Act) (c : ℕ) (move : Led)
         → StandsFor browser.now past → AreNext numbers past → row_of context.now ≡ row_at past c → led_to past c move ≡ url.now
-        → IfOk result (λ all. (seen all.items ≡ navigation_events past moment.value c move)
-        × (gone.new.items ≡ gone.old.items ++ flat_map (subtree_of past) (children_of past c))) }
+        → IfOk result (λ all. seen all.items ≡ navigation_events past moment.value c move) }
     ensures some { IfOk result (λ all. 1 ≤ vec_len all) }
     ensures well { IfOk result (λ all. AreWell all.items) }
 {
     let mut all = Vec::new(browser.alloc);
     let info = context.navigation_info(browser.alloc, moment, numbers.navigation, url)?;
     all.push(context.navigation_started(info))?;
-    let children = browser.contexts.children_of(context)?;
-    push_removals(browser, &children, &mut all, gone)?;
+    push_removals(browser.alloc, browser.contexts.below(context), &mut all)?;
     all.push(context.realm_destroyed(browser.alloc)?)?;
     all.push(context.realm_began(browser.alloc, numbers.realm, url)?)?;
     let info = context.navigation_info(browser.alloc, moment, numbers.navigation, url)?;

@@ -40,8 +40,8 @@ pub(crate) enum Edit {
         /// Whether its window is new, too.
         opens_window: bool,
     },
-    /// The contexts of these numbers are removed: one context with all its descendants.
-    Remove(Vec<u64>),
+    /// The context of this number is removed with all its descendants.
+    Remove(u64),
     /// A context navigates.
     Navigate(Navigation),
     /// The row of this text is set in the script table.
@@ -61,8 +61,6 @@ pub(crate) struct Navigation {
     pub realm: u64,
     /// Where it leads in the session history.
     pub to: Move,
-    /// The numbers of the descendants, which are removed.
-    pub gone: Vec<u64>,
     ghost realm_fits: { realm < 2 ^ 48 },
 }
 

@@ -1,16 +1,18 @@
 //! Plans of the actions that remove contexts: `browsingContext.close`, and a frame that a page removes.
-ghost use Rattle.std.specs.Prelude.{◌≡◌, ◌++◌, ℕ, List, map, flat_map, IfOk};
-ghost use Rattle.bidi_browser.specs.Acts.{Act, Removed};
+ghost use Rattle.std.specs.Prelude.{◌≡◌, ◌++◌, ℕ, suc, List, flat_map, IfOk};
+ghost use Rattle.bidi_browser.specs.Acts.{Act};
 ghost use Rattle.bidi_browser.specs.Actions.{Close, Unframe};
 ghost use Rattle.bidi_browser.specs.ContextRows.{row_of, row_at};
-ghost use Rattle.bidi_browser.specs.Contexts.{subtree_of};
+ghost use Rattle.bidi_browser.specs.Contexts.{level_of, children_of};
 ghost use Rattle.bidi_browser.specs.Occurrences.{removal};
-ghost use Rattle.bidi_browser.specs.Plans.{AreWell, Makes, Plans, HasResultOf, IsWellPlanned};
+ghost use Rattle.bidi_browser.specs.Plans.{AreWell, Plans, HasResultOf, IsWellPlanned};
 ghost use Rattle.bidi_browser.specs.Stands.{StandsFor};
+ghost use Rattle.bidi_browser.specs.Subtrees.{AreSubtrees};
 ghost use Rattle.bidi_browser.specs.View.{seen};
 
 use crate::browser::Browser;
 use crate::context::Context;
+use crate::contexts::{len_below, whole_info};
 use crate::looking::{context_named, nothing, top_named};
 use crate::occurrence::Occurrence;
 use crate::plan::{Change, Edit, Plan};
@@ -33,13 +35,15 @@ pub(crate) fn plan_close(browser: &Browser, context: &str) -> Result<Plan, Refus
     ensures of_method { HasResultOf Method.BrowsingContextClose result }
 {
     let context = top_named(&browser.contexts, context)?;
-    let (before, change) = removal(browser, context)?;
+    let before = removal(browser, context)?;
     let result = ResultData::BrowsingContextClose(nothing(browser.alloc));
     Ok(Plan {
         before,
         result: Some(result),
         after: Vec::new(browser.alloc),
-        change,
+        change: Change {
+            edit: Edit::Remove(context.number),
+        },
     })
 }
 
@@ -58,74 +62,67 @@ pub(crate) fn plan_unframe(browser: &Browser, context: &str) -> Result<Plan, Ref
     if context.parent.is_none() {
         return Err(Refusal::Code(ErrorCode::InvalidArgument));
     }
-    let (before, change) = removal(browser, context)?;
+    let before = removal(browser, context)?;
     Ok(Plan {
         before,
         result: None,
         after: Vec::new(browser.alloc),
-        change,
+        change: Change {
+            edit: Edit::Remove(context.number),
+        },
     })
 }
 
-// The events of removing a context with all its descendants, and the change.
-fn removal(browser: &Browser, context: &Context) -> Result<(Vec<Occurrence>, Change), AllocError>
+// The events of removing a context with all its descendants.
+fn removal(browser: &Browser, context: &Context) -> Result<Vec<Occurrence>, AllocError>
     ensures told { (past : List Act) (c : ℕ) → StandsFor browser.now past → row_of context.now ≡ row_at past c
-        → IfOk result (λ r. (seen r.0.items ≡ removal past c) × Makes r.1 past (Removed c)) }
-    ensures well { IfOk result (λ r. AreWell r.0.items) }
+        → IfOk result (λ all. seen all.items ≡ removal past c) }
+    ensures well { IfOk result (λ all. AreWell all.items) }
 {
     let mut events = Vec::new(browser.alloc);
-    let mut numbers = Vec::new(browser.alloc);
-    push_removal(browser, context, &mut events, &mut numbers)?;
-    let change = Change {
-        edit: Edit::Remove(numbers),
-    };
-    Ok((events, change))
+    push_removal(
+        browser.alloc,
+        context,
+        browser.contexts.below(context),
+        &mut events,
+    )?;
+    Ok(events)
 }
 
-/// Adds the events of removing some contexts with all their descendants, and the numbers of all of these.
+/// Adds the events of removing siblings with all their descendants. Each sibling stands before its descendants.
 pub(crate) fn push_removals(
-    browser: &Browser,
-    contexts: &[&Context],
+    alloc: Global,
+    contexts: &[Context],
     events: &mut Vec<Occurrence>,
-    numbers: &mut Vec<u64>,
 ) -> Result<(), AllocError>
-    ensures told { (past : List Act) (cs : List ℕ) → StandsFor browser.now past → map (λ c. row_of c.now) contexts.now ≡ map (row_at past) cs
-        → IfOk result (λ _. (seen events.new.items ≡ seen events.old.items ++ flat_map (removal past) cs)
-        × (numbers.new.items ≡ numbers.old.items ++ flat_map (subtree_of past) cs)) }
+    ensures told { (past : List Act) (level : ℕ) (cs : List ℕ) → AreSubtrees contexts.now past level cs
+        → IfOk result (λ _. seen events.new.items ≡ seen events.old.items ++ flat_map (removal past) cs) }
     ensures well { IfOk result (λ _. AreWell events.old.items → AreWell events.new.items) }
 {
-    for context in contexts {
-        push_removal(browser, context, events, numbers)?;
+    let mut rest = contexts;
+    while let Some((context, behind)) = rest.split_first() {
+        let (below, next) = behind.split_at(len_below(context.level, behind));
+        push_removal(alloc, context, below, events)?;
+        rest = next;
     }
     Ok(())
 }
 
-// Adds the events of removing a context with all its descendants, and the numbers of all that are removed.
-// The events are realmDestroyed of each in tree order, then contextDestroyed of the context itself.
+// Adds the events of removing a context with all these descendants: realmDestroyed of each in tree order, then
+// contextDestroyed of the context itself.
 fn push_removal(
-    browser: &Browser,
+    alloc: Global,
     context: &Context,
+    below: &[Context],
     events: &mut Vec<Occurrence>,
-    numbers: &mut Vec<u64>,
 ) -> Result<(), AllocError>
-    ensures told { (past : List Act) (c : ℕ) → StandsFor browser.now past → row_of context.now ≡ row_at past c
-        → IfOk result (λ _. (seen events.new.items ≡ seen events.old.items ++ removal past c) × (numbers.new.items ≡ numbers.old.items ++ subtree_of past c)) }
+    ensures told { (past : List Act) (c : ℕ) → row_of context.now ≡ row_at past c → AreSubtrees below.now past (suc (level_of past c)) (children_of past c)
+        → IfOk result (λ _. seen events.new.items ≡ seen events.old.items ++ removal past c) }
     ensures well { IfOk result (λ _. AreWell events.old.items → AreWell events.new.items) }
 {
-    let gone = browser.contexts.subtree(context)?;
-    push_numbers(&gone, numbers)?;
-    push_realms_gone(browser.alloc, &gone, events)?;
-    let info = browser.contexts.info(context, None)?;
+    events.push(context.realm_destroyed(alloc)?)?;
+    push_realms_gone(alloc, below, events)?;
+    let info = whole_info(alloc, context, below, None)?;
     events.push(context.destroyed(info))?;
-    Ok(())
-}
-
-// Adds the numbers of some contexts.
-fn push_numbers(contexts: &[&Context], numbers: &mut Vec<u64>) -> Result<(), AllocError>
-    ensures { IfOk result (λ _. numbers.new.items ≡ numbers.old.items ++ map (λ c. c.now.number) contexts.now) }
-{
-    for context in contexts {
-        numbers.push(context.number)?;
-    }
     Ok(())
 }

@@ -11,10 +11,10 @@ use std::alloc::{AllocError, Global};
 /// Adds the contextCreated event of each context.
 pub(crate) fn push_created(
     alloc: Global,
-    contexts: &[&Context],
+    contexts: &[Context],
     all: &mut Vec<Occurrence>,
 ) -> Result<(), AllocError>
-    ensures told { IfOk result (λ _. seen all.new.items ≡ seen all.old.items ++ map created_in (map (λ c. row_of c.now) contexts.now)) }
+    ensures told { IfOk result (λ _. seen all.new.items ≡ seen all.old.items ++ map created_in (map row_of contexts.now)) }
     ensures well { IfOk result (λ _. AreWell all.old.items → AreWell all.new.items) }
 {
     for context in contexts {
@@ -26,10 +26,10 @@ pub(crate) fn push_created(
 /// Adds the realmCreated event of each context's realm.
 pub(crate) fn push_realms(
     alloc: Global,
-    contexts: &[&Context],
+    contexts: &[Context],
     all: &mut Vec<Occurrence>,
 ) -> Result<(), AllocError>
-    ensures told { IfOk result (λ _. seen all.new.items ≡ seen all.old.items ++ map realm_created_in (map (λ c. row_of c.now) contexts.now)) }
+    ensures told { IfOk result (λ _. seen all.new.items ≡ seen all.old.items ++ map realm_created_in (map row_of contexts.now)) }
     ensures well { IfOk result (λ _. AreWell all.old.items → AreWell all.new.items) }
 {
     for context in contexts {
@@ -41,10 +41,10 @@ pub(crate) fn push_realms(
 /// Adds the realmDestroyed event of each context's realm.
 pub(crate) fn push_realms_gone(
     alloc: Global,
-    contexts: &[&Context],
+    contexts: &[Context],
     all: &mut Vec<Occurrence>,
 ) -> Result<(), AllocError>
-    ensures told { IfOk result (λ _. seen all.new.items ≡ seen all.old.items ++ map realm_destroyed_in (map (λ c. row_of c.now) contexts.now)) }
+    ensures told { IfOk result (λ _. seen all.new.items ≡ seen all.old.items ++ map realm_destroyed_in (map row_of contexts.now)) }
     ensures well { IfOk result (λ _. AreWell all.old.items → AreWell all.new.items) }
 {
     for context in contexts {

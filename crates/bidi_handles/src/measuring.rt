@@ -53,7 +53,7 @@ pub(crate) fn measured(realm: Option<&Handles>, outline: &Outline<'_>) -> Result
 // The size of a map in a realm. With a member `sharedId` or `handle` it is a reference.
 #[cycle(measure)]
 fn measured_map(handles: &Handles, members: &OutlineMembers<'_>) -> Result<Size, ErrorCode>
-    ensures { result ≡ sized (seen (Some (values_in handles.now)) (map (outline_members members.now.items))) }
+    ensures { result ≡ sized (seen (Some (values_in handles.now)) (map (outline_members members.now))) }
 {
     if member_of(members, "sharedId").is_some() {
         return Err(ErrorCode::NoSuchNode);
@@ -66,9 +66,9 @@ fn measured_map(handles: &Handles, members: &OutlineMembers<'_>) -> Result<Size,
 
 // The member of that name.
 fn member_of<'a, 'b>(members: &'a OutlineMembers<'b>, name: &str) -> Option<&'a Outline<'b>>
-    ensures { option_map (λ d. outline_node d.now) result ≡ get_member name.now (outline_members members.now.items) }
+    ensures { option_map (λ d. outline_node d.now) result ≡ get_member name.now (outline_members members.now) }
 {
-    for member in members {
+    for member in members.as_slice() {
         if member.0 == name {
             return Some(&member.1);
         }
@@ -116,11 +116,11 @@ fn measured_members(
     realm: Option<&Handles>,
     members: &OutlineMembers<'_>,
 ) -> Result<Size, ErrorCode>
-    ensures { result ≡ members_sized (seen_members (in_realm realm.entry) (outline_members members.now.items)) }
+    ensures { result ≡ members_sized (seen_members (in_realm realm.entry) (outline_members members.now)) }
 {
     let mut size = Size::flat(0);
     let mut comma = 0;
-    for member in members {
+    for member in members.as_slice() {
         let before = quoted_bytes(member.0)
             .saturating_add(comma)
             .saturating_add(1);

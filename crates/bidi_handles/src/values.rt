@@ -34,9 +34,9 @@ fn items_have_handle(items: &Vec<Outline<'_>>) -> bool
 // Whether one of the members is such a member, or has one.
 #[cycle(handles)]
 fn members_have_handle(members: &OutlineMembers<'_>) -> bool
-    ensures { result ≡ members_have_handle (outline_members members.now.items) }
+    ensures { result ≡ members_have_handle (outline_members members.now) }
 {
-    for member in members {
+    for member in members.as_slice() {
         if names_a_handle(member.0) || has_handle(&member.1) {
             return true;
         }

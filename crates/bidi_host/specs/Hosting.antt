@@ -33,6 +33,6 @@ pub record IsSaidAs (conn : ℕ) (text said : List ℕ) : Type 0 where
   pub itself : CanBeSaid (Text conn text) → said ≡ text
   pub verdict : (v : Verdict) → IsVerdict text v → IsVerdict said v
 
--- the line is that of no step of a page
+-- the line is that of no step that a page may say
 abbrev pub SaysNoPageStep : List ℕ → Type 0
 SaysNoPageStep line = (s : Step) → CanBeSaid s → is_of_page s ≡ true → line ≡ line_of s → ⊥

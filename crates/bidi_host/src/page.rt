@@ -8,13 +8,12 @@ ghost use Rattle.bidi_host.specs.PageSteps.{is_of_page};
 use bidi_lines::LONGEST_LINE;
 use bidi_remote::Step;
 
-// Whether a step is that of a page.
+// Whether a page may say this step: it is one of a page, or sets the clock.
 pub(crate) fn is_of_page(step: &Step) -> bool
     ensures { result ≡ is_of_page (step_of step.now) }
 {
     match step {
-        Step::At(_) | Step::Frame(..) | Step::Unframe(_) | Step::Log(..) | Step::TableRow(_) =>
-            true,
+        Step::At(_) | Step::Page(_) => true,
         Step::Open(..) | Step::Drop(_) | Step::Text(..) | Step::NotText(_) => false,
     }
 }

@@ -3,8 +3,8 @@ use crate::surroundings::Surroundings;
 use bidi_lines::LONGEST_LINE;
 use std::alloc::{AllocError, Global};
 
-/// How many bytes one read asks for at most.
-const CHUNK: usize = 65_536;
+/// How many bytes one read asks for at most. They stand on the stack.
+const CHUNK: usize = 8192;
 
 /// What a console has.
 pub(crate) enum Said {

@@ -15,7 +15,7 @@ pub data PairInput : Type 0 where
   Up : (link : ℕ) → PairInput
   Down : (link : ℕ) → PairInput
   Cuts : (link : ℕ) → PairInput
-  -- a frame, an unframe, a log entry, a row of the table or a moment
+  -- a step of a page, or a moment
   Direct : (input : Input) → PairInput
 
 -- a link that was not cut

@@ -11,6 +11,7 @@ use Rattle.bidi_methods.specs.EventName.{event_name_text}
 use Rattle.bidi_methods.specs.Method.{method_text}
 use Rattle.bidi_remote.specs.Machine.Step as step
 use Rattle.bidi_remote.specs.Machine.History as remote
+use Rattle.bidi_remote.specs.State.View.{page_of}
 use Rattle.bidi_remote.specs.Machine.History.{Input}
 use Rattle.bidi_ledger.specs.declared.pair_step.PairStep.{PairStep}
 use Rattle.bidi_ledger.specs.declared.pair_step.PairStep.TheVariants as in_hand
@@ -41,10 +42,7 @@ IsHeardAs (in_hand.Up l) p = p ≡ Up l.value
 IsHeardAs (in_hand.Down l) p = p ≡ Down l.value
 IsHeardAs (in_hand.Cut l) p = p ≡ Cuts l.value
 IsHeardAs (in_hand.At n) p = IsDirect (step.At n.value) p
-IsHeardAs (in_hand.Frame context url) p = IsDirect (step.Frame (string_bytes context) (string_bytes url)) p
-IsHeardAs (in_hand.Unframe context) p = IsDirect (step.Unframe (string_bytes context)) p
-IsHeardAs (in_hand.Log context level text) p = IsDirect (step.Log (string_bytes context) level (string_bytes text)) p
-IsHeardAs (in_hand.TableRow text) p = IsDirect (step.TableRow (string_bytes text)) p
+IsHeardAs (in_hand.Page page) p = IsDirect (step.Page (page_of page)) p
 
 -- each step is heard as the input at its place
 abbrev pub AreHeardAs : List PairStep → List PairInput → Type 0

@@ -9,5 +9,6 @@
 mod ledger;
 mod pair_step;
 
+pub use bidi_remote::PageStep;
 pub use ledger::{Account, Entry, Fate, Ledger};
 pub use pair_step::PairStep;

@@ -1,7 +1,7 @@
 //! The steps of both ends.
 use bidi_messages::CommandData;
+use bidi_remote::PageStep;
 use bidi_tree::JsUint;
-use bidi_values::Level;
 
 /// A step of both ends. A link is named by the number of its connection at the remote end. But for `Open`, a
 /// step on a link that was never opened does nothing; nor does any step on a link that was cut, or an `Up` or
@@ -21,12 +21,6 @@ pub enum PairStep {
     Cut(JsUint),
     /// The clock of the remote end is set to this moment.
     At(JsUint),
-    /// A page adds a child to the context of this id, at this URL.
-    Frame(String, String),
-    /// A page removes the child context of this id, with all its descendants.
-    Unframe(String),
-    /// A page logs this text at this level, in the context of this id.
-    Log(String, Level, String),
-    /// A row of the script table is set. The text is the row in JSON; a text that is no row has no effect.
-    TableRow(String),
+    /// A page does something by itself.
+    Page(PageStep),
 }

@@ -6,10 +6,9 @@ use Rattle.bidi_messages.specs.Verdict.{Verdict, Accepted}
 use Rattle.bidi_methods.specs.declared.method.Method.{Method}
 use Rattle.bidi_methods.specs.Method.{method_text}
 use Rattle.bidi_values.specs.declared.log_entry.Level.{Level}
-use Rattle.bidi_browser.specs.Actions.{Frame, Unframe, Log, TableRow}
 use Rattle.bidi_remote.specs.Machine.Step as steps
 use Rattle.bidi_remote.specs.Machine.Step.{Text}
-use Rattle.bidi_remote.specs.Machine.History.{Input, At, Open, Drop, Heard, PageStep, IsHeardAs}
+use Rattle.bidi_remote.specs.Machine.History.{Input, At, Open, Drop, Heard, OfPage, IsHeardAs}
 use Rattle.bidi_remote.specs.Machine.Connections.{is_open}
 use Rattle.bidi_remote.specs.Machine.Outcome.{deeds}
 use Rattle.bidi_remote.specs.Machine.Replies.{IsAnsweredOnce}
@@ -201,18 +200,8 @@ quiet-at i j is quiet = subst (λ x. IsUnheard x × ((h : List Input) (k : ℕ) 
 pub at-quiet : (n : ℕ) (i : Input) → IsHeardAs (steps.At n) i → IsUnheard i × ((h : List Input) (k : ℕ) → IsApart h k i)
 at-quiet n i heard = quiet-at i (At n) heard (tt, λ h k. tt)
 
-pub frame-quiet : (context url : List ℕ) (i : Input) → IsHeardAs (steps.Frame context url) i → IsUnheard i × ((h : List Input) (k : ℕ) → IsApart h k i)
-frame-quiet context url i heard = quiet-at i (PageStep (Frame context url)) heard (tt, λ h k. tt)
-
-pub unframe-quiet : (context : List ℕ) (i : Input) → IsHeardAs (steps.Unframe context) i → IsUnheard i × ((h : List Input) (k : ℕ) → IsApart h k i)
-unframe-quiet context i heard = quiet-at i (PageStep (Unframe context)) heard (tt, λ h k. tt)
-
-pub log-quiet : (context : List ℕ) (level : Level) (text : List ℕ) (i : Input)
-    → IsHeardAs (steps.Log context level text) i → IsUnheard i × ((h : List Input) (k : ℕ) → IsApart h k i)
-log-quiet context level text i heard = quiet-at i (PageStep (Log context level text)) heard (tt, λ h k. tt)
-
-pub row-quiet : (text : List ℕ) (i : Input) → IsHeardAs (steps.TableRow text) i → IsUnheard i × ((h : List Input) (k : ℕ) → IsApart h k i)
-row-quiet text i heard = quiet-at i (PageStep (TableRow heard.0)) heard.2 (tt, λ h k. tt)
+pub page-quiet : (page : steps.PageStep) (i : Input) → IsHeardAs (steps.Page page) i → IsUnheard i × ((h : List Input) (k : ℕ) → IsApart h k i)
+page-quiet page i heard = quiet-at i (OfPage heard.0) heard.2 (tt, λ h k. tt)
 
 -- ---- any step
 

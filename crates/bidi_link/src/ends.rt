@@ -59,10 +59,7 @@ impl Ends {
             PairStep::Down(link) => Ok(self.carry_down(link)?),
             PairStep::Cut(link) => self.cut(link),
             PairStep::At(moment) => self.hand(Step::At(moment)),
-            PairStep::Frame(context, url) => self.hand(Step::Frame(context, url)),
-            PairStep::Unframe(context) => self.hand(Step::Unframe(context)),
-            PairStep::Log(context, level, text) => self.hand(Step::Log(context, level, text)),
-            PairStep::TableRow(text) => self.hand(Step::TableRow(text)),
+            PairStep::Page(page) => self.hand(Step::Page(page)),
         }
     }
 

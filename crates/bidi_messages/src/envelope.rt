@@ -1,7 +1,7 @@
 //! Maps with the members `method` and `params`, of which the first says what the second is: commands and events.
 ghost use Rattle.std.specs.Prelude.{◌≡◌, IfOk, Some, true};
 ghost use Rattle.bidi_tree.specs.Node as kind;
-ghost use Rattle.bidi_tree.specs.Node.{get_member, IsSound};
+ghost use Rattle.bidi_tree.specs.Node.{get_member};
 ghost use Rattle.bidi_tree.specs.Kind.{members_in};
 ghost use Rattle.bidi_tree.specs.Outline.{outline_node};
 ghost use Rattle.bidi_shape.specs.Term.{required, Term};
@@ -96,8 +96,7 @@ pub(crate) fn outline_envelope<'a, X: Shape, K: Named, D: Payload<K>>(
     payload: &'a D,
     ext: &'a Ext,
 ) -> Result<Outline<'a>, AllocError>
-    ensures tree { IfOk result (λ d. outline_node d ≡ envelope_tree name.now X.shape K.words D.payload head.now payload.now ext.now) }
-    ensures sound { IfOk result (λ d. IsSound (outline_node d)) }
+    ensures { IfOk result (λ d. outline_node d ≡ envelope_tree name.now X.shape K.words D.payload head.now payload.now ext.now) }
 {
     let mut members = outline_members_of(alloc, &ext.members, ROOM)?;
     put_outline(&mut members, "params", payload.outline(alloc)?)?;

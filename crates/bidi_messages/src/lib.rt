@@ -15,7 +15,8 @@ mod sending;
 mod text;
 
 pub use bidi_methods::{
-    CommandData, EventData, EventName, Method, Payload, ResultData, data_of, result_of,
+    BrowserCommand, CommandData, EventData, EventName, Method, Payload, ResultData, SessionCommand,
+    data_of, result_of,
 };
 pub use bidi_params::ErrorCode;
 pub use bidi_shape::Named;

@@ -1,6 +1,6 @@
 //! The texts that a remote end sends: no member stands beside those of the message's rule.
 ghost use Rattle.std.specs.Prelude.{◌≡◌, ◌≤◌, Some, IfOk, string_bytes, option_map};
-ghost use Rattle.bidi_tree.specs.Node.{levels, IsSound, IsWritable};
+ghost use Rattle.bidi_tree.specs.Node.{levels, IsWritable};
 ghost use Rattle.bidi_tree.specs.Outline.{outline_node};
 ghost use Rattle.bidi_tree.specs.Text.{tree_of};
 ghost use Rattle.bidi_messages.specs.Message.{response_tree, response_text, error_tree, error_text, event_text};
@@ -13,7 +13,7 @@ use crate::message::Message;
 use bidi_methods::{EventData, EventName, Method, Payload, ResultData};
 use bidi_params::ErrorCode;
 use bidi_shape::{Ext, Named, Shape};
-use bidi_tree::{JsUint, Outline, write_outline};
+use bidi_tree::{JsUint, Outline, OutlineMembers, put_outline, write_outline};
 use std::alloc::{AllocError, Global};
 
 /// The text of the response to a command: compact, its members in byte order of their names.
@@ -59,13 +59,12 @@ fn outline_response<'a, D: Payload<Method>>(
     id: &'a JsUint,
     result_data: &'a D,
 ) -> Result<Outline<'a>, AllocError>
-    ensures tree { IfOk result (λ d. outline_node d ≡ response_tree id.now.value (D.payload.tree_of result_data.now)) }
-    ensures sound { IfOk result (λ d. IsSound (outline_node d)) }
+    ensures { IfOk result (λ d. outline_node d ≡ response_tree id.now.value (D.payload.tree_of result_data.now)) }
 {
-    let mut members = Vec::with_capacity(alloc, 3)?;
-    members.push(("id", id.outline(alloc)?))?;
-    members.push(("result", result_data.outline(alloc)?))?;
-    members.push(("type", Outline::Text("success")))?;
+    let mut members = OutlineMembers::with_capacity(alloc, 3)?;
+    put_outline(&mut members, "id", id.outline(alloc)?)?;
+    put_outline(&mut members, "result", result_data.outline(alloc)?)?;
+    put_outline(&mut members, "type", Outline::Text("success"))?;
     Ok(Outline::Map(members))
 }
 
@@ -102,13 +101,12 @@ fn outline_error<'a>(
     id: &'a Option<JsUint>,
     code: ErrorCode,
 ) -> Result<Outline<'a>, AllocError>
-    ensures tree { IfOk result (λ d. outline_node d ≡ error_tree (option_map (λ n. n.value) id.now) code) }
-    ensures sound { IfOk result (λ d. IsSound (outline_node d)) }
+    ensures { IfOk result (λ d. outline_node d ≡ error_tree (option_map (λ n. n.value) id.now) code) }
 {
-    let mut members = Vec::with_capacity(alloc, 4)?;
-    members.push(("error", Outline::Text(code.name())))?;
-    members.push(("id", id.outline(alloc)?))?;
-    members.push(("message", Outline::Text(code.name())))?;
-    members.push(("type", Outline::Text("error")))?;
+    let mut members = OutlineMembers::with_capacity(alloc, 4)?;
+    put_outline(&mut members, "error", Outline::Text(code.name()))?;
+    put_outline(&mut members, "id", id.outline(alloc)?)?;
+    put_outline(&mut members, "message", Outline::Text(code.name()))?;
+    put_outline(&mut members, "type", Outline::Text("error"))?;
     Ok(Outline::Map(members))
 }

@@ -1,12 +1,27 @@
--- The names of events: their texts, and the rules of their params. After WebDriver BiDi, "Protocol".
+-- The names of events: of each its text, and its params. After WebDriver BiDi, "Protocol".
 use Rattle.std.specs.Prelude.{◌≡◌, ℕ, List, [], ◌∷◌, Some, codes, map, refl}
-use Rattle.bidi_shape.specs.Name.{Name, info, navigation_info, realm_info, realm_destroyed_parameters, log_entry}
+use Rattle.bidi_params.specs.contracts.browsing_context.info.InfoShape.TheImpl as context
+use Rattle.bidi_params.specs.contracts.browsing_context.navigate.NavigationInfoShape.TheImpl as navigation
+use Rattle.bidi_params.specs.contracts.script.realms.RealmInfoShape.TheImpl as realm
+use Rattle.bidi_params.specs.contracts.script.realms.RealmDestroyedParametersShape.TheImpl as realm_gone
+use Rattle.bidi_values.specs.contracts.log_entry.LogEntryShape.TheImpl as entry
+use Rattle.bidi_shape.specs.Name as rule
+use Rattle.bidi_shape.specs.Name.{Name}
 use Rattle.bidi_shape.specs.Profile.{context_created_row, further_events}
 use Rattle.bidi_shape.specs.WordLaws.{Word, Words, word, one_of, value_named}
+use Rattle.bidi_methods.specs.Payload.{Part, part}
 use Rattle.bidi_methods.specs.declared.event_data.EventName.{EventName}
 use Rattle.bidi_methods.specs.declared.event_data.EventName.TheVariants.{ContextCreated, ContextDestroyed, NavigationStarted}
 use Rattle.bidi_methods.specs.declared.event_data.EventName.TheVariants.{DomContentLoaded, Load, RealmCreated, RealmDestroyed, EntryAdded}
 
+-- what is told of a context, and of a navigation
+abbrev context_told : Part
+context_told = part rule.info context.ghosts.shape refl refl
+
+abbrev navigation_told : Part
+navigation_told = part rule.navigation_info navigation.ghosts.shape refl refl
+
+-- the text of an event's name
 abbrev pub event_name_text : EventName → List ℕ
 event_name_text ContextCreated = codes "browsingContext.contextCreated"
 event_name_text ContextDestroyed = codes "browsingContext.contextDestroyed"
@@ -17,37 +32,36 @@ event_name_text RealmCreated = codes "script.realmCreated"
 event_name_text RealmDestroyed = codes "script.realmDestroyed"
 event_name_text EntryAdded = codes "log.entryAdded"
 
--- the rule of an event's params
-abbrev pub params_of : EventName → Name
-params_of ContextCreated = info
-params_of ContextDestroyed = info
-params_of NavigationStarted = navigation_info
-params_of DomContentLoaded = navigation_info
-params_of Load = navigation_info
-params_of RealmCreated = realm_info
-params_of RealmDestroyed = realm_destroyed_parameters
-params_of EntryAdded = log_entry
+-- what an event tells
+abbrev pub params_part : EventName → Part
+params_part ContextCreated = context_told
+params_part ContextDestroyed = context_told
+params_part NavigationStarted = navigation_told
+params_part DomContentLoaded = navigation_told
+params_part Load = navigation_told
+params_part RealmCreated = part rule.realm_info realm.ghosts.shape refl refl
+params_part RealmDestroyed = part rule.realm_destroyed_parameters realm_gone.ghosts.shape refl refl
+params_part EntryAdded = part rule.log_entry entry.ghosts.shape refl refl
 
--- every event, in the order of the profile
+-- the rule of its params
+abbrev pub params_of : EventName → Name
+params_of e = (params_part e).name
+
+-- the events after browsingContext.contextCreated, in the order of the profile, and all of them
+abbrev further_names : List EventName
+further_names = ContextDestroyed ∷ NavigationStarted ∷ DomContentLoaded ∷ Load ∷ RealmCreated ∷ RealmDestroyed ∷ EntryAdded ∷ []
+
 abbrev pub events : List EventName
-events = ContextCreated ∷ ContextDestroyed ∷ NavigationStarted ∷ DomContentLoaded ∷ Load ∷ RealmCreated ∷ RealmDestroyed ∷ EntryAdded ∷ []
+events = ContextCreated ∷ further_names
 
 -- they are those of the profile, with the same rules
 pub events_are_the_profiles : map {B = List ℕ × Name} (λ e. (event_name_text e, params_of e)) events
     ≡ map {B = List ℕ × Name} (λ r. (codes r.method, r.params)) (context_created_row ∷ further_events)
 events_are_the_profiles = refl
 
--- the events after the first, by their texts
+-- the texts of those after the first
 abbrev pub event_rest : List (Word EventName)
-event_rest =
-    word event_name_text ContextDestroyed
-    ∷ word event_name_text NavigationStarted
-    ∷ word event_name_text DomContentLoaded
-    ∷ word event_name_text Load
-    ∷ word event_name_text RealmCreated
-    ∷ word event_name_text RealmDestroyed
-    ∷ word event_name_text EntryAdded
-    ∷ []
+event_rest = map (word event_name_text) further_names
 
 -- each text names its event
 pub event_named : (e : EventName) → value_named (word event_name_text ContextCreated) event_rest (event_name_text e) ≡ Some e

@@ -1,12 +1,34 @@
--- The methods of commands: their texts, and the rules of their params and results. After WebDriver BiDi, "Protocol".
+-- The methods of commands: of each its text, and the params and the result of its commands. After WebDriver BiDi, "Protocol".
 use Rattle.std.specs.Prelude.{◌≡◌, ℕ, List, [], ◌∷◌, Some, codes, map, refl}
-use Rattle.bidi_shape.specs.Name.{Name, empty_params, new_parameters, subscribe_parameters, unsubscribe_parameters}
-use Rattle.bidi_shape.specs.Name.{activate_parameters, close_parameters, create_parameters, get_tree_parameters, navigate_parameters}
-use Rattle.bidi_shape.specs.Name.{reload_parameters, traverse_history_parameters, evaluate_parameters, call_function_parameters}
-use Rattle.bidi_shape.specs.Name.{disown_parameters, get_realms_parameters, status_result, new_result, empty_result}
-use Rattle.bidi_shape.specs.Name.{subscribe_result, create_result, get_tree_result, navigate_result, evaluate_result, get_realms_result}
+use Rattle.bidi_params.specs.contracts.base.EmptyParamsShape.TheImpl as none
+use Rattle.bidi_params.specs.contracts.base.EmptyResultShape.TheImpl as nothing
+use Rattle.bidi_params.specs.contracts.session.status.StatusResultShape.TheImpl as status_told
+use Rattle.bidi_params.specs.contracts.session.capabilities.NewParametersShape.TheImpl as new
+use Rattle.bidi_params.specs.contracts.session.capabilities.NewResultShape.TheImpl as new_told
+use Rattle.bidi_params.specs.contracts.session.subscribe.SubscribeParametersShape.TheImpl as subscribe
+use Rattle.bidi_params.specs.contracts.session.subscribe.SubscribeResultShape.TheImpl as subscribe_told
+use Rattle.bidi_params.specs.contracts.session.subscribe.UnsubscribeParametersShape.TheImpl as unsubscribe
+use Rattle.bidi_params.specs.contracts.browsing_context.create.ActivateParametersShape.TheImpl as activate
+use Rattle.bidi_params.specs.contracts.browsing_context.create.CloseParametersShape.TheImpl as close
+use Rattle.bidi_params.specs.contracts.browsing_context.create.CreateParametersShape.TheImpl as create
+use Rattle.bidi_params.specs.contracts.browsing_context.create.CreateResultShape.TheImpl as create_told
+use Rattle.bidi_params.specs.contracts.browsing_context.get_tree.GetTreeParametersShape.TheImpl as get_tree
+use Rattle.bidi_params.specs.contracts.browsing_context.get_tree.GetTreeResultShape.TheImpl as get_tree_told
+use Rattle.bidi_params.specs.contracts.browsing_context.navigate.NavigateParametersShape.TheImpl as navigate
+use Rattle.bidi_params.specs.contracts.browsing_context.navigate.ReloadParametersShape.TheImpl as reload
+use Rattle.bidi_params.specs.contracts.browsing_context.navigate.TraverseHistoryParametersShape.TheImpl as traverse
+use Rattle.bidi_params.specs.contracts.browsing_context.navigate.NavigateResultShape.TheImpl as navigate_told
+use Rattle.bidi_values.specs.contracts.evaluate.EvaluateParametersShape.TheImpl as evaluate
+use Rattle.bidi_values.specs.contracts.evaluate_result.EvaluateResultShape.TheImpl as script_told
+use Rattle.bidi_values.specs.contracts.call_function.CallFunctionParametersShape.TheImpl as call_function
+use Rattle.bidi_values.specs.contracts.call_function.DisownParametersShape.TheImpl as disown
+use Rattle.bidi_params.specs.contracts.script.realms.GetRealmsParametersShape.TheImpl as get_realms
+use Rattle.bidi_params.specs.contracts.script.realms.GetRealmsResultShape.TheImpl as get_realms_told
+use Rattle.bidi_shape.specs.Name as rule
+use Rattle.bidi_shape.specs.Name.{Name}
 use Rattle.bidi_shape.specs.Profile.{session_status_row, further_commands}
 use Rattle.bidi_shape.specs.WordLaws.{Word, Words, word, one_of, value_named}
+use Rattle.bidi_methods.specs.Payload.{Part, part}
 use Rattle.bidi_methods.specs.declared.method.Method.{Method}
 use Rattle.bidi_methods.specs.declared.method.Method.TheVariants.{SessionStatus, SessionNew, SessionEnd, SessionSubscribe}
 use Rattle.bidi_methods.specs.declared.method.Method.TheVariants.{SessionUnsubscribe, BrowsingContextActivate, BrowsingContextClose}
@@ -15,6 +37,20 @@ use Rattle.bidi_methods.specs.declared.method.Method.TheVariants.{BrowsingContex
 use Rattle.bidi_methods.specs.declared.method.Method.TheVariants.{BrowsingContextTraverseHistory, ScriptEvaluate, ScriptCallFunction}
 use Rattle.bidi_methods.specs.declared.method.Method.TheVariants.{ScriptDisown, ScriptGetRealms}
 
+-- the params of a command that has none, and the results of one that gives nothing, of one that navigates and of one that runs a script
+abbrev nothing_asked : Part
+nothing_asked = part rule.empty_params none.ghosts.shape refl refl
+
+abbrev nothing_given : Part
+nothing_given = part rule.empty_result nothing.ghosts.shape refl refl
+
+abbrev navigation_given : Part
+navigation_given = part rule.navigate_result navigate_told.ghosts.shape refl refl
+
+abbrev script_given : Part
+script_given = part rule.evaluate_result script_told.ghosts.shape refl refl
+
+-- the text of a method
 abbrev pub method_text : Method → List ℕ
 method_text SessionStatus = codes "session.status"
 method_text SessionNew = codes "session.new"
@@ -33,48 +69,58 @@ method_text ScriptCallFunction = codes "script.callFunction"
 method_text ScriptDisown = codes "script.disown"
 method_text ScriptGetRealms = codes "script.getRealms"
 
--- the rule of a method's params
+-- what the commands of a method ask, and what they give
+pub record MethodRow : Type 1 where
+  pub params : Part
+  pub result : Part
+
+abbrev row : Part → Part → MethodRow
+row p r = record { params = p; result = r }
+
+abbrev pub method_row : Method → MethodRow
+method_row SessionStatus = row nothing_asked (part rule.status_result status_told.ghosts.shape refl refl)
+method_row SessionNew =
+    row (part rule.new_parameters new.ghosts.shape refl refl) (part rule.new_result new_told.ghosts.shape refl refl)
+method_row SessionEnd = row nothing_asked nothing_given
+method_row SessionSubscribe =
+    row (part rule.subscribe_parameters subscribe.ghosts.shape refl refl)
+    (part rule.subscribe_result subscribe_told.ghosts.shape refl refl)
+method_row SessionUnsubscribe = row (part rule.unsubscribe_parameters unsubscribe.ghosts.shape refl refl) nothing_given
+method_row BrowsingContextActivate = row (part rule.activate_parameters activate.ghosts.shape refl refl) nothing_given
+method_row BrowsingContextClose = row (part rule.close_parameters close.ghosts.shape refl refl) nothing_given
+method_row BrowsingContextCreate =
+    row (part rule.create_parameters create.ghosts.shape refl refl)
+    (part rule.create_result create_told.ghosts.shape refl refl)
+method_row BrowsingContextGetTree =
+    row (part rule.get_tree_parameters get_tree.ghosts.shape refl refl)
+    (part rule.get_tree_result get_tree_told.ghosts.shape refl refl)
+method_row BrowsingContextNavigate = row (part rule.navigate_parameters navigate.ghosts.shape refl refl) navigation_given
+method_row BrowsingContextReload = row (part rule.reload_parameters reload.ghosts.shape refl refl) navigation_given
+method_row BrowsingContextTraverseHistory =
+    row (part rule.traverse_history_parameters traverse.ghosts.shape refl refl) nothing_given
+method_row ScriptEvaluate = row (part rule.evaluate_parameters evaluate.ghosts.shape refl refl) script_given
+method_row ScriptCallFunction = row (part rule.call_function_parameters call_function.ghosts.shape refl refl) script_given
+method_row ScriptDisown = row (part rule.disown_parameters disown.ghosts.shape refl refl) nothing_given
+method_row ScriptGetRealms =
+    row (part rule.get_realms_parameters get_realms.ghosts.shape refl refl)
+    (part rule.get_realms_result get_realms_told.ghosts.shape refl refl)
+
+abbrev pub params_part : Method → Part
+params_part m = (method_row m).params
+
+abbrev pub result_part : Method → Part
+result_part m = (method_row m).result
+
+-- the rules of its params and of its result
 abbrev pub params_of : Method → Name
-params_of SessionStatus = empty_params
-params_of SessionNew = new_parameters
-params_of SessionEnd = empty_params
-params_of SessionSubscribe = subscribe_parameters
-params_of SessionUnsubscribe = unsubscribe_parameters
-params_of BrowsingContextActivate = activate_parameters
-params_of BrowsingContextClose = close_parameters
-params_of BrowsingContextCreate = create_parameters
-params_of BrowsingContextGetTree = get_tree_parameters
-params_of BrowsingContextNavigate = navigate_parameters
-params_of BrowsingContextReload = reload_parameters
-params_of BrowsingContextTraverseHistory = traverse_history_parameters
-params_of ScriptEvaluate = evaluate_parameters
-params_of ScriptCallFunction = call_function_parameters
-params_of ScriptDisown = disown_parameters
-params_of ScriptGetRealms = get_realms_parameters
+params_of m = (params_part m).name
 
--- the rule of a method's result
 abbrev pub result_of : Method → Name
-result_of SessionStatus = status_result
-result_of SessionNew = new_result
-result_of SessionEnd = empty_result
-result_of SessionSubscribe = subscribe_result
-result_of SessionUnsubscribe = empty_result
-result_of BrowsingContextActivate = empty_result
-result_of BrowsingContextClose = empty_result
-result_of BrowsingContextCreate = create_result
-result_of BrowsingContextGetTree = get_tree_result
-result_of BrowsingContextNavigate = navigate_result
-result_of BrowsingContextReload = navigate_result
-result_of BrowsingContextTraverseHistory = empty_result
-result_of ScriptEvaluate = evaluate_result
-result_of ScriptCallFunction = evaluate_result
-result_of ScriptDisown = empty_result
-result_of ScriptGetRealms = get_realms_result
+result_of m = (result_part m).name
 
--- every method, in the order of the profile
-abbrev pub methods : List Method
-methods = SessionStatus
-    ∷ SessionNew
+-- the methods after session.status, in the order of the profile
+abbrev further_methods : List Method
+further_methods = SessionNew
     ∷ SessionEnd
     ∷ SessionSubscribe
     ∷ SessionUnsubscribe
@@ -92,29 +138,13 @@ methods = SessionStatus
     ∷ []
 
 -- they are those of the profile, with the same rules
-pub methods_are_the_profiles : map {B = List ℕ × (Name × Name)} (λ m. (method_text m, (params_of m, result_of m))) methods
+pub methods_are_the_profiles : map {B = List ℕ × (Name × Name)} (λ m. (method_text m, (params_of m, result_of m))) (SessionStatus ∷ further_methods)
     ≡ map {B = List ℕ × (Name × Name)} (λ r. (codes r.method, (r.params, r.result))) (session_status_row ∷ further_commands)
 methods_are_the_profiles = refl
 
--- the methods after the first, by their texts
+-- their texts
 abbrev pub method_rest : List (Word Method)
-method_rest =
-    word method_text SessionNew
-    ∷ word method_text SessionEnd
-    ∷ word method_text SessionSubscribe
-    ∷ word method_text SessionUnsubscribe
-    ∷ word method_text BrowsingContextActivate
-    ∷ word method_text BrowsingContextClose
-    ∷ word method_text BrowsingContextCreate
-    ∷ word method_text BrowsingContextGetTree
-    ∷ word method_text BrowsingContextNavigate
-    ∷ word method_text BrowsingContextReload
-    ∷ word method_text BrowsingContextTraverseHistory
-    ∷ word method_text ScriptEvaluate
-    ∷ word method_text ScriptCallFunction
-    ∷ word method_text ScriptDisown
-    ∷ word method_text ScriptGetRealms
-    ∷ []
+method_rest = map (word method_text) further_methods
 
 -- each text names its method
 pub method_named : (m : Method) → value_named (word method_text SessionStatus) method_rest (method_text m) ≡ Some m

@@ -35,24 +35,39 @@ one_kind P s j k x y a b e t =
     subst (λ i. (z : P i) → (s i).well z → (s j).tree_of x ≡ (s i).tree_of z → SameKind P s j x i z) e
     (λ z c u. same_kind j x z ((s j).one_value x z a c u)) y b t
 
--- the shape is that of the rule, and its trees have so many levels at most
-pub record IsOfRule {V : Type 0} (s : ShapeOf V) (r : Name) (n : ℕ) : Type 0 where
-  pub is_rule : s.rule ≡ rule r
-  pub within : nat_le s.deepest n ≡ true
+-- the most levels of what a message bears
+abbrev pub most_levels : ℕ
+most_levels = 70
 
--- such a type, of the rule and the shape of each kind's values
-abbrev pub one_by_kind : {D K : Type 0} (P : K → Type 0) (s : (k : K) → ShapeOf (P k)) (r : K → Name) (n : ℕ) (kind : D → K) (inside : (d : D) → P (kind d))
-    → ((k : K) → IsOfRule (s k) (r k) n) → PayloadOf D K
-one_by_kind P s r n kind inside of = record {
-  kind = kind;
-  rule = λ k. rule (r k);
-  tree_of = λ d. (s (kind d)).tree_of (inside d);
-  well = λ d. (s (kind d)).well (inside d);
-  same = λ d e. SameKind P s (kind d) (inside d) (kind e) (inside e);
-  fits = λ d w. subst (λ σ. Fits ((s (kind d)).tree_of (inside d)) σ) (of (kind d)).is_rule ((s (kind d)).fits (inside d) w);
-  one_value = λ d e a b k t. one_kind P s (kind d) (kind e) (inside d) (inside e) a b k t;
-  deepest = n;
+-- what a message of one kind bears: the type of its values, the rule that their trees fit, and their shape; no tree has more than so many levels
+pub record Part : Type 1 where
+  pub Value : Type 0
+  pub name : Name
+  pub shape : ShapeOf Value
+  pub is_rule : shape.rule ≡ rule name
+  pub within : nat_le shape.deepest most_levels ≡ true
+
+abbrev pub part : {V : Type 0} (r : Name) (s : ShapeOf V) → s.rule ≡ rule r → nat_le s.deepest most_levels ≡ true → Part
+part {V = V} r s is_rule within = record { Value = V; name = r; shape = s; is_rule = is_rule; within = within }
+
+-- a value of one of several kinds, with its kind
+abbrev pub OfKind : {K : Type 0} → (K → Part) → Type 0
+OfKind {K = K} bears = (k : K) × (bears k).Value
+
+-- such a type, of what each kind bears, and of how its values are seen
+abbrev pub one_by_kind : {D K : Type 0} (bears : K → Part) → (D → OfKind bears) → PayloadOf D K
+one_by_kind bears seen = record {
+  kind = λ d. (seen d).0;
+  rule = λ k. rule (bears k).name;
+  tree_of = λ d. (bears (seen d).0).shape.tree_of (seen d).1;
+  well = λ d. (bears (seen d).0).shape.well (seen d).1;
+  same = λ d e. SameKind (λ k. (bears k).Value) (λ k. (bears k).shape) (seen d).0 (seen d).1 (seen e).0 (seen e).1;
+  fits =
+      λ d w. subst (λ σ. Fits ((bears (seen d).0).shape.tree_of (seen d).1) σ) (bears (seen d).0).is_rule
+      ((bears (seen d).0).shape.fits (seen d).1 w);
+  one_value = λ d e a b k t. one_kind (λ k. (bears k).Value) (λ k. (bears k).shape) (seen d).0 (seen e).0 (seen d).1 (seen e).1 a b k t;
+  deepest = most_levels;
   whole =
-      λ d w. whole_within ((s (kind d)).tree_of (inside d)) (s (kind d)).deepest n (leb-true (s (kind d)).deepest n (of (kind d)).within)
-      ((s (kind d)).whole (inside d) w);
+      λ d w. whole_within ((bears (seen d).0).shape.tree_of (seen d).1) (bears (seen d).0).shape.deepest most_levels
+      (leb-true (bears (seen d).0).shape.deepest most_levels (bears (seen d).0).within) ((bears (seen d).0).shape.whole (seen d).1 w);
 }

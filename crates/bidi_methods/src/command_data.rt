@@ -1,5 +1,6 @@
 //! What commands ask.
 ghost use Rattle.std.specs.Prelude.{◌≡◌, IfOk, refl};
+ghost use Rattle.bidi_tree.specs.Outline.{outline_node};
 ghost use Rattle.bidi_tree.specs.View.{node};
 ghost use Rattle.bidi_shape.specs.Term.{rule as named};
 ghost use Rattle.bidi_shape.specs.Fits.{Fits};
@@ -19,193 +20,214 @@ use bidi_tree::{Outline, Tree};
 use bidi_values::{CallFunctionParameters, DisownParameters, EvaluateParameters};
 use std::alloc::{AllocError, Global};
 
-/// What a command asks: its method, with its params. The params that take most room stand in a block of their own.
+/// What a command asks: its method, with its params, by who answers it.
 /// Match on a reference: a value of this type cannot be moved out of, since it has a `Drop` of its own.
 ///
 /// After WebDriver BiDi, "Protocol".
 pub enum CommandData {
-    /// `session.status`, which asks without parameters.
-    SessionStatus(EmptyParams),
-    /// `session.new`, with the capabilities that the session is asked to have.
-    SessionNew(Box<NewParameters>),
-    /// `session.end`, of the session that the connection belongs to.
-    SessionEnd(EmptyParams),
-    /// `session.subscribe`, with events, and the contexts that they are wanted of.
-    SessionSubscribe(Box<SubscribeParameters>),
-    /// `session.unsubscribe`, with ids of subscriptions, or with events.
-    SessionUnsubscribe(UnsubscribeParameters),
-    /// `browsingContext.activate`, with a top-level context.
-    BrowsingContextActivate(ActivateParameters),
-    /// `browsingContext.close`, with a top-level context.
-    BrowsingContextClose(CloseParameters),
-    /// `browsingContext.create`, with what is opened, a tab or a window, and beside which context.
-    BrowsingContextCreate(CreateParameters),
-    /// `browsingContext.getTree`, with the context at the root, and the depth.
-    BrowsingContextGetTree(GetTreeParameters),
-    /// `browsingContext.navigate`, with a context, a URL, and how long the reply waits.
-    BrowsingContextNavigate(NavigateParameters),
-    /// `browsingContext.reload`, with a context, and how long the reply waits.
-    BrowsingContextReload(ReloadParameters),
-    /// `browsingContext.traverseHistory`, with a top-level context, and how many entries it goes.
-    BrowsingContextTraverseHistory(TraverseHistoryParameters),
-    /// `script.evaluate`, with an expression, and where it is evaluated.
-    ScriptEvaluate(Box<EvaluateParameters>),
-    /// `script.callFunction`, with a function, its arguments, and where it is called.
-    ScriptCallFunction(Box<CallFunctionParameters>),
-    /// `script.disown`, with handles, and whose they are.
-    ScriptDisown(Box<DisownParameters>),
-    /// `script.getRealms`, with a context and a type, where only such realms are asked for.
-    ScriptGetRealms(GetRealmsParameters),
+    /// A command of the module session, which a remote end answers by itself.
+    Session(SessionCommand),
+    /// A command of the modules browsingContext and script, which its browser answers.
+    Browser(BrowserCommand),
 }
 
 // Not derived, so that it is proved here alone.
 impl Drop for CommandData {
     fn drop(self) {
         match self {
-            CommandData::SessionStatus(_) => {}
-            CommandData::SessionNew(_) => {}
-            CommandData::SessionEnd(_) => {}
-            CommandData::SessionSubscribe(_) => {}
-            CommandData::SessionUnsubscribe(_) => {}
-            CommandData::BrowsingContextActivate(_) => {}
-            CommandData::BrowsingContextClose(_) => {}
-            CommandData::BrowsingContextCreate(_) => {}
-            CommandData::BrowsingContextGetTree(_) => {}
-            CommandData::BrowsingContextNavigate(_) => {}
-            CommandData::BrowsingContextReload(_) => {}
-            CommandData::BrowsingContextTraverseHistory(_) => {}
-            CommandData::ScriptEvaluate(_) => {}
-            CommandData::ScriptCallFunction(_) => {}
-            CommandData::ScriptDisown(_) => {}
-            CommandData::ScriptGetRealms(_) => {}
+            CommandData::Session(_) => {}
+            CommandData::Browser(_) => {}
         }
     }
 }
 
-impl Payload<Method> for CommandData {
-    ghost use Rattle.bidi_methods.specs.CommandData.{ParamShapes, command_payload};
+/// A command of the module session. The params that take most room stand in a block of their own.
+///
+/// After WebDriver BiDi, "The session Module".
+#[derive(Drop)]
+pub enum SessionCommand {
+    /// `session.status`, which asks without parameters.
+    Status(EmptyParams),
+    /// `session.new`, with the capabilities that the session is asked to have.
+    New(Box<NewParameters>),
+    /// `session.end`, of the session that the connection belongs to.
+    End(EmptyParams),
+    /// `session.subscribe`, with events, and the contexts that they are wanted of.
+    Subscribe(Box<SubscribeParameters>),
+    /// `session.unsubscribe`, with ids of subscriptions, or with events.
+    Unsubscribe(UnsubscribeParameters),
+}
 
-    ghost payload = { command_payload
-        (record {
-          empty_params = ⟦<EmptyParams as Shape>⟧.shape;
-          new_parameters = ⟦<NewParameters as Shape>⟧.shape;
-          subscribe_parameters = ⟦<SubscribeParameters as Shape>⟧.shape;
-          unsubscribe_parameters = ⟦<UnsubscribeParameters as Shape>⟧.shape;
-          activate_parameters = ⟦<ActivateParameters as Shape>⟧.shape;
-          close_parameters = ⟦<CloseParameters as Shape>⟧.shape;
-          create_parameters = ⟦<CreateParameters as Shape>⟧.shape;
-          get_tree_parameters = ⟦<GetTreeParameters as Shape>⟧.shape;
-          navigate_parameters = ⟦<NavigateParameters as Shape>⟧.shape;
-          reload_parameters = ⟦<ReloadParameters as Shape>⟧.shape;
-          traverse_history_parameters = ⟦<TraverseHistoryParameters as Shape>⟧.shape;
-          evaluate_parameters = ⟦<EvaluateParameters as Shape>⟧.shape;
-          call_function_parameters = ⟦<CallFunctionParameters as Shape>⟧.shape;
-          disown_parameters = ⟦<DisownParameters as Shape>⟧.shape;
-          get_realms_parameters = ⟦<GetRealmsParameters as Shape>⟧.shape;
-        }) 70
-        (record {
-          empty_params = record { is_rule = refl; within = refl };
-          new_parameters = record { is_rule = refl; within = refl };
-          subscribe_parameters = record { is_rule = refl; within = refl };
-          unsubscribe_parameters = record { is_rule = refl; within = refl };
-          activate_parameters = record { is_rule = refl; within = refl };
-          close_parameters = record { is_rule = refl; within = refl };
-          create_parameters = record { is_rule = refl; within = refl };
-          get_tree_parameters = record { is_rule = refl; within = refl };
-          navigate_parameters = record { is_rule = refl; within = refl };
-          reload_parameters = record { is_rule = refl; within = refl };
-          traverse_history_parameters = record { is_rule = refl; within = refl };
-          evaluate_parameters = record { is_rule = refl; within = refl };
-          call_function_parameters = record { is_rule = refl; within = refl };
-          disown_parameters = record { is_rule = refl; within = refl };
-          get_realms_parameters = record { is_rule = refl; within = refl };
-        }) };
+/// A command of the browser. The params that take most room stand in a block of their own.
+///
+/// After WebDriver BiDi, "The browsingContext Module" and "The script Module".
+#[derive(Drop)]
+pub enum BrowserCommand {
+    /// `browsingContext.activate`, with a top-level context.
+    Activate(ActivateParameters),
+    /// `browsingContext.close`, with a top-level context.
+    Close(CloseParameters),
+    /// `browsingContext.create`, with what is opened, a tab or a window, and beside which context.
+    Create(CreateParameters),
+    /// `browsingContext.getTree`, with the context at the root, and the depth.
+    GetTree(GetTreeParameters),
+    /// `browsingContext.navigate`, with a context, a URL, and how long the reply waits.
+    Navigate(NavigateParameters),
+    /// `browsingContext.reload`, with a context, and how long the reply waits.
+    Reload(ReloadParameters),
+    /// `browsingContext.traverseHistory`, with a top-level context, and how many entries it goes.
+    TraverseHistory(TraverseHistoryParameters),
+    /// `script.evaluate`, with an expression, and where it is evaluated.
+    Evaluate(Box<EvaluateParameters>),
+    /// `script.callFunction`, with a function, its arguments, and where it is called.
+    CallFunction(Box<CallFunctionParameters>),
+    /// `script.disown`, with handles, and whose they are.
+    Disown(Box<DisownParameters>),
+    /// `script.getRealms`, with a context and a type, where only such realms are asked for.
+    GetRealms(GetRealmsParameters),
+}
+
+impl Payload<Method> for CommandData {
+    ghost use Rattle.bidi_methods.specs.CommandData.{command_payload};
+
+    ghost payload = { command_payload };
 
     fn kind(&self) -> Method {
         match self {
-            CommandData::SessionStatus(_) => Method::SessionStatus,
-            CommandData::SessionNew(_) => Method::SessionNew,
-            CommandData::SessionEnd(_) => Method::SessionEnd,
-            CommandData::SessionSubscribe(_) => Method::SessionSubscribe,
-            CommandData::SessionUnsubscribe(_) => Method::SessionUnsubscribe,
-            CommandData::BrowsingContextActivate(_) => Method::BrowsingContextActivate,
-            CommandData::BrowsingContextClose(_) => Method::BrowsingContextClose,
-            CommandData::BrowsingContextCreate(_) => Method::BrowsingContextCreate,
-            CommandData::BrowsingContextGetTree(_) => Method::BrowsingContextGetTree,
-            CommandData::BrowsingContextNavigate(_) => Method::BrowsingContextNavigate,
-            CommandData::BrowsingContextReload(_) => Method::BrowsingContextReload,
-            CommandData::BrowsingContextTraverseHistory(_) =>
-                Method::BrowsingContextTraverseHistory,
-            CommandData::ScriptEvaluate(_) => Method::ScriptEvaluate,
-            CommandData::ScriptCallFunction(_) => Method::ScriptCallFunction,
-            CommandData::ScriptDisown(_) => Method::ScriptDisown,
-            CommandData::ScriptGetRealms(_) => Method::ScriptGetRealms,
+            CommandData::Session(command) => command.method(),
+            CommandData::Browser(command) => command.method(),
         }
     }
 
     fn read<S: Parsed>(alloc: Global, kind: Method, tree: &S) -> Result<CommandData, ShapeFault> {
         match kind {
-            Method::SessionStatus => Ok(CommandData::SessionStatus(EmptyParams::from_tree(
+            Method::SessionStatus => Ok(CommandData::Session(SessionCommand::Status(
+                EmptyParams::from_tree(alloc, tree)?,
+            ))),
+            Method::SessionNew => Ok(CommandData::Session(SessionCommand::New(read_boxed(
                 alloc, tree,
-            )?)),
-            Method::SessionNew => Ok(CommandData::SessionNew(read_boxed(alloc, tree)?)),
-            Method::SessionEnd => Ok(CommandData::SessionEnd(EmptyParams::from_tree(alloc, tree)?)),
-            Method::SessionSubscribe => Ok(CommandData::SessionSubscribe(read_boxed(alloc, tree)?)),
-            Method::SessionUnsubscribe => Ok(CommandData::SessionUnsubscribe(
+            )?))),
+            Method::SessionEnd => Ok(CommandData::Session(SessionCommand::End(
+                EmptyParams::from_tree(alloc, tree)?,
+            ))),
+            Method::SessionSubscribe => Ok(CommandData::Session(SessionCommand::Subscribe(
+                read_boxed(alloc, tree)?,
+            ))),
+            Method::SessionUnsubscribe => Ok(CommandData::Session(SessionCommand::Unsubscribe(
                 UnsubscribeParameters::from_tree(alloc, tree)?,
-            )),
-            Method::BrowsingContextActivate => Ok(CommandData::BrowsingContextActivate(
+            ))),
+            Method::BrowsingContextActivate => Ok(CommandData::Browser(BrowserCommand::Activate(
                 ActivateParameters::from_tree(alloc, tree)?,
-            )),
-            Method::BrowsingContextClose => Ok(CommandData::BrowsingContextClose(
+            ))),
+            Method::BrowsingContextClose => Ok(CommandData::Browser(BrowserCommand::Close(
                 CloseParameters::from_tree(alloc, tree)?,
-            )),
-            Method::BrowsingContextCreate => Ok(CommandData::BrowsingContextCreate(
+            ))),
+            Method::BrowsingContextCreate => Ok(CommandData::Browser(BrowserCommand::Create(
                 CreateParameters::from_tree(alloc, tree)?,
-            )),
-            Method::BrowsingContextGetTree => Ok(CommandData::BrowsingContextGetTree(
+            ))),
+            Method::BrowsingContextGetTree => Ok(CommandData::Browser(BrowserCommand::GetTree(
                 GetTreeParameters::from_tree(alloc, tree)?,
-            )),
-            Method::BrowsingContextNavigate => Ok(CommandData::BrowsingContextNavigate(
+            ))),
+            Method::BrowsingContextNavigate => Ok(CommandData::Browser(BrowserCommand::Navigate(
                 NavigateParameters::from_tree(alloc, tree)?,
-            )),
-            Method::BrowsingContextReload => Ok(CommandData::BrowsingContextReload(
+            ))),
+            Method::BrowsingContextReload => Ok(CommandData::Browser(BrowserCommand::Reload(
                 ReloadParameters::from_tree(alloc, tree)?,
+            ))),
+            Method::BrowsingContextTraverseHistory => Ok(CommandData::Browser(
+                BrowserCommand::TraverseHistory(TraverseHistoryParameters::from_tree(alloc, tree)?),
             )),
-            Method::BrowsingContextTraverseHistory => Ok(
-                CommandData::BrowsingContextTraverseHistory(TraverseHistoryParameters::from_tree(
-                    alloc, tree,
-                )?),
-            ),
-            Method::ScriptEvaluate => Ok(CommandData::ScriptEvaluate(read_boxed(alloc, tree)?)),
-            Method::ScriptCallFunction => Ok(CommandData::ScriptCallFunction(read_boxed(
+            Method::ScriptEvaluate => Ok(CommandData::Browser(BrowserCommand::Evaluate(read_boxed(
                 alloc, tree,
-            )?)),
-            Method::ScriptDisown => Ok(CommandData::ScriptDisown(read_boxed(alloc, tree)?)),
-            Method::ScriptGetRealms => Ok(CommandData::ScriptGetRealms(
+            )?))),
+            Method::ScriptCallFunction => Ok(CommandData::Browser(BrowserCommand::CallFunction(
+                read_boxed(alloc, tree)?,
+            ))),
+            Method::ScriptDisown => Ok(CommandData::Browser(BrowserCommand::Disown(read_boxed(
+                alloc, tree,
+            )?))),
+            Method::ScriptGetRealms => Ok(CommandData::Browser(BrowserCommand::GetRealms(
                 GetRealmsParameters::from_tree(alloc, tree)?,
-            )),
+            ))),
         }
     }
 
     fn outline<'a>(&'a self, alloc: Global) -> Result<Outline<'a>, AllocError> {
         match self {
-            CommandData::SessionStatus(params) => params.outline(alloc),
-            CommandData::SessionNew(params) => params.as_ref().outline(alloc),
-            CommandData::SessionEnd(params) => params.outline(alloc),
-            CommandData::SessionSubscribe(params) => params.as_ref().outline(alloc),
-            CommandData::SessionUnsubscribe(params) => params.outline(alloc),
-            CommandData::BrowsingContextActivate(params) => params.outline(alloc),
-            CommandData::BrowsingContextClose(params) => params.outline(alloc),
-            CommandData::BrowsingContextCreate(params) => params.outline(alloc),
-            CommandData::BrowsingContextGetTree(params) => params.outline(alloc),
-            CommandData::BrowsingContextNavigate(params) => params.outline(alloc),
-            CommandData::BrowsingContextReload(params) => params.outline(alloc),
-            CommandData::BrowsingContextTraverseHistory(params) => params.outline(alloc),
-            CommandData::ScriptEvaluate(params) => params.as_ref().outline(alloc),
-            CommandData::ScriptCallFunction(params) => params.as_ref().outline(alloc),
-            CommandData::ScriptDisown(params) => params.as_ref().outline(alloc),
-            CommandData::ScriptGetRealms(params) => params.outline(alloc),
+            CommandData::Session(command) => command.outline(alloc),
+            CommandData::Browser(command) => command.outline(alloc),
+        }
+    }
+}
+
+impl SessionCommand {
+    ghost use Rattle.bidi_methods.specs.CommandData.{session_asked, asked_tree};
+
+    /// The method. Takes no memory.
+    pub fn method(&self) -> Method
+        ensures { result ≡ (session_asked self.now).0 }
+    {
+        match self {
+            SessionCommand::Status(_) => Method::SessionStatus,
+            SessionCommand::New(_) => Method::SessionNew,
+            SessionCommand::End(_) => Method::SessionEnd,
+            SessionCommand::Subscribe(_) => Method::SessionSubscribe,
+            SessionCommand::Unsubscribe(_) => Method::SessionUnsubscribe,
+        }
+    }
+
+    // The outline of the params.
+    fn outline<'a>(&'a self, alloc: Global) -> Result<Outline<'a>, AllocError>
+        ensures { IfOk result (λ d. outline_node d ≡ asked_tree (session_asked self.now)) }
+    {
+        match self {
+            SessionCommand::Status(params) => params.outline(alloc),
+            SessionCommand::New(params) => params.as_ref().outline(alloc),
+            SessionCommand::End(params) => params.outline(alloc),
+            SessionCommand::Subscribe(params) => params.as_ref().outline(alloc),
+            SessionCommand::Unsubscribe(params) => params.outline(alloc),
+        }
+    }
+}
+
+impl BrowserCommand {
+    ghost use Rattle.bidi_methods.specs.CommandData.{browser_asked, asked_tree};
+
+    /// The method. Takes no memory.
+    pub fn method(&self) -> Method
+        ensures { result ≡ (browser_asked self.now).0 }
+    {
+        match self {
+            BrowserCommand::Activate(_) => Method::BrowsingContextActivate,
+            BrowserCommand::Close(_) => Method::BrowsingContextClose,
+            BrowserCommand::Create(_) => Method::BrowsingContextCreate,
+            BrowserCommand::GetTree(_) => Method::BrowsingContextGetTree,
+            BrowserCommand::Navigate(_) => Method::BrowsingContextNavigate,
+            BrowserCommand::Reload(_) => Method::BrowsingContextReload,
+            BrowserCommand::TraverseHistory(_) => Method::BrowsingContextTraverseHistory,
+            BrowserCommand::Evaluate(_) => Method::ScriptEvaluate,
+            BrowserCommand::CallFunction(_) => Method::ScriptCallFunction,
+            BrowserCommand::Disown(_) => Method::ScriptDisown,
+            BrowserCommand::GetRealms(_) => Method::ScriptGetRealms,
+        }
+    }
+
+    // The outline of the params.
+    fn outline<'a>(&'a self, alloc: Global) -> Result<Outline<'a>, AllocError>
+        ensures { IfOk result (λ d. outline_node d ≡ asked_tree (browser_asked self.now)) }
+    {
+        match self {
+            BrowserCommand::Activate(params) => params.outline(alloc),
+            BrowserCommand::Close(params) => params.outline(alloc),
+            BrowserCommand::Create(params) => params.outline(alloc),
+            BrowserCommand::GetTree(params) => params.outline(alloc),
+            BrowserCommand::Navigate(params) => params.outline(alloc),
+            BrowserCommand::Reload(params) => params.outline(alloc),
+            BrowserCommand::TraverseHistory(params) => params.outline(alloc),
+            BrowserCommand::Evaluate(params) => params.as_ref().outline(alloc),
+            BrowserCommand::CallFunction(params) => params.as_ref().outline(alloc),
+            BrowserCommand::Disown(params) => params.as_ref().outline(alloc),
+            BrowserCommand::GetRealms(params) => params.outline(alloc),
         }
     }
 }

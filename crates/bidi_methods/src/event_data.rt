@@ -88,23 +88,9 @@ pub enum EventData {
 }
 
 impl Payload<EventName> for EventData {
-    ghost use Rattle.bidi_methods.specs.EventData.{EventShapes, event_payload};
+    ghost use Rattle.bidi_methods.specs.EventData.{event_payload};
 
-    ghost payload = { event_payload
-        (record {
-          info = ⟦<Info as Shape>⟧.shape;
-          navigation_info = ⟦<NavigationInfo as Shape>⟧.shape;
-          realm_info = ⟦<RealmInfo as Shape>⟧.shape;
-          realm_destroyed_parameters = ⟦<RealmDestroyedParameters as Shape>⟧.shape;
-          log_entry = ⟦<LogEntry as Shape>⟧.shape;
-        }) 70
-        (record {
-          info = record { is_rule = refl; within = refl };
-          navigation_info = record { is_rule = refl; within = refl };
-          realm_info = record { is_rule = refl; within = refl };
-          realm_destroyed_parameters = record { is_rule = refl; within = refl };
-          log_entry = record { is_rule = refl; within = refl };
-        }) };
+    ghost payload = { event_payload };
 
     fn kind(&self) -> EventName {
         match self {

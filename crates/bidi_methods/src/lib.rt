@@ -1,7 +1,8 @@
 //! What messages are about: what commands ask and give, and what events tell.
 //!
-//! [`CommandData`], [`ResultData`] and [`EventData`] have a variant for each [`Method`] or [`EventName`], with the
-//! parameters or the result of that kind. Each is a [`Payload`]: it is read by its kind and outlined.
+//! [`CommandData`], which is a [`SessionCommand`] or a [`BrowserCommand`], [`ResultData`] and [`EventData`] have a
+//! variant for each [`Method`] or [`EventName`], with the parameters or the result of that kind. Each is a
+//! [`Payload`]: it is read by its kind and outlined.
 #![tactic(auto)]
 
 mod command_data;
@@ -10,7 +11,7 @@ mod method;
 mod payload;
 mod result_data;
 
-pub use command_data::{CommandData, data_of};
+pub use command_data::{BrowserCommand, CommandData, SessionCommand, data_of};
 pub use event_data::{EventData, EventName};
 pub use method::Method;
 pub use payload::Payload;

@@ -1,6 +1,5 @@
 //! Payloads: what a command asks, what it gives, and what an event tells.
 ghost use Rattle.std.specs.Prelude.{◌≡◌, IfOk};
-ghost use Rattle.bidi_tree.specs.Node.{IsSound};
 ghost use Rattle.bidi_tree.specs.Outline.{outline_node};
 ghost use Rattle.bidi_tree.specs.View.{node};
 ghost use Rattle.bidi_shape.specs.Fits.{Fits};
@@ -34,8 +33,7 @@ pub trait Payload<K: Drop>: Drop {
     /// # Errors
     /// No memory: an allocation failed.
     fn outline<'a>(&'a self, alloc: Global) -> Result<Outline<'a>, AllocError>
-        ensures tree { IfOk result (λ d. outline_node d ≡ payload.tree_of self.now) }
-        ensures sound { IfOk result (λ d. IsSound (outline_node d)) };
+        ensures { IfOk result (λ d. outline_node d ≡ payload.tree_of self.now) };
 
     /// Makes the tree of the value.
     ///

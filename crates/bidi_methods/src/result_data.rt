@@ -59,31 +59,9 @@ pub enum ResultData {
 }
 
 impl Payload<Method> for ResultData {
-    ghost use Rattle.bidi_methods.specs.ResultData.{ResultShapes, result_payload};
+    ghost use Rattle.bidi_methods.specs.ResultData.{result_payload};
 
-    ghost payload = { result_payload
-        (record {
-          status_result = ⟦<StatusResult as Shape>⟧.shape;
-          new_result = ⟦<NewResult as Shape>⟧.shape;
-          empty_result = ⟦<EmptyResult as Shape>⟧.shape;
-          subscribe_result = ⟦<SubscribeResult as Shape>⟧.shape;
-          create_result = ⟦<CreateResult as Shape>⟧.shape;
-          get_tree_result = ⟦<GetTreeResult as Shape>⟧.shape;
-          navigate_result = ⟦<NavigateResult as Shape>⟧.shape;
-          evaluate_result = ⟦<EvaluateResult as Shape>⟧.shape;
-          get_realms_result = ⟦<GetRealmsResult as Shape>⟧.shape;
-        }) 70
-        (record {
-          status_result = record { is_rule = refl; within = refl };
-          new_result = record { is_rule = refl; within = refl };
-          empty_result = record { is_rule = refl; within = refl };
-          subscribe_result = record { is_rule = refl; within = refl };
-          create_result = record { is_rule = refl; within = refl };
-          get_tree_result = record { is_rule = refl; within = refl };
-          navigate_result = record { is_rule = refl; within = refl };
-          evaluate_result = record { is_rule = refl; within = refl };
-          get_realms_result = record { is_rule = refl; within = refl };
-        }) };
+    ghost payload = { result_payload };
 
     fn kind(&self) -> Method {
         match self {

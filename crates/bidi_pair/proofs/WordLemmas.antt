@@ -12,7 +12,6 @@ use Rattle.bidi_shape.specs.Fits.{Fits}
 use Rattle.bidi_shape.specs.Table.{same_some}
 use Rattle.bidi_shape.specs.Term.{rule}
 use Rattle.bidi_shape.specs.WordLaws.{word_one}
-use Rattle.bidi_values.specs.Level.{level_text}
 use Rattle.bidi_methods.specs.Method.{method_text, method_words, params_of}
 use Rattle.bidi_methods.specs.declared.method.Method.{Method}
 use Rattle.bidi_methods.specs.declared.method.Method.TheVariants.{SessionStatus, SessionNew, SessionEnd, SessionSubscribe}
@@ -24,15 +23,16 @@ use Rattle.bidi_methods.specs.declared.method.Method.TheVariants.{ScriptDisown, 
 use Rattle.bidi_methods.specs.declared.command_data.CommandData.{CommandData}
 use Rattle.bidi_methods.specs.contracts.command_data.CommandDataPayloadMethod.TheImpl as asks
 use Rattle.bidi_remote.specs.Machine.Step as play
+use Rattle.bidi_remote.specs.State.View.{page_of}
 use Rattle.bidi_ledger.specs.Steps.{IsWell, sending_of}
 use Rattle.bidi_ledger.specs.declared.pair_step.PairStep.{PairStep}
-use Rattle.bidi_ledger.specs.declared.pair_step.PairStep.TheVariants.{Open, Send, Up, Down, Cut, At, Frame, Unframe, Log, TableRow}
+use Rattle.bidi_ledger.specs.declared.pair_step.PairStep.TheVariants.{Open, Send, Up, Down, Cut, At, Page}
 use Rattle.bidi_lines.proofs.FeedLemmas.{one_front}
 use Rattle.bidi_lines.proofs.ResultLemmas.{no_truth}
 use Rattle.bidi_play.specs.Lines.{line_of, IsSayable}
 use Rattle.bidi_play.proofs.DigitLemmas.{no_space}
 use Rattle.bidi_play.proofs.ReadingLemmas.{one_step}
-use Rattle.bidi_play.proofs.WordLemmas.{Splits}
+use Rattle.bidi_play.proofs.WordLemmas.{Splits, page_word, page_found}
 use Rattle.bidi_pair.specs.PairLines.{IsOfPlayAlone, Says, sending_line}
 
 -- ---- the parts of a line that sends a command
@@ -113,10 +113,7 @@ word_of (Up l) = codes "up"
 word_of (Down l) = codes "down"
 word_of (Cut l) = codes "cut"
 word_of (At n) = codes "at"
-word_of (Frame context url) = codes "frame"
-word_of (Unframe context) = codes "unframe"
-word_of (Log context level text) = codes "log"
-word_of (TableRow text) = codes "value"
+word_of (Page page) = page_word (page_of page)
 
 -- a search for the first space finds the word of the step
 found : (line : List ℕ) (P : List ℕ → Type 0) → Splits line (λ xs ys. P xs) → (x : PairStep) → Says line x → P (word_of x)
@@ -126,10 +123,7 @@ found line P h (Up l) s = h (codes "up") (decimal l.value) s refl
 found line P h (Down l) s = h (codes "down") (decimal l.value) s refl
 found line P h (Cut l) s = h (codes "cut") (decimal l.value) s refl
 found line P h (At n) s = h (codes "at") (decimal n.value) s.1 refl
-found line P h (Frame context url) s = h (codes "frame") (string_bytes context ++ 32 ∷ string_bytes url) s.1 refl
-found line P h (Unframe context) s = h (codes "unframe") (string_bytes context) s.1 refl
-found line P h (Log context level text) s = h (codes "log") (string_bytes context ++ 32 ∷ level_text level ++ 32 ∷ string_bytes text) s.1 refl
-found line P h (TableRow text) s = h (codes "value") (string_bytes text) s.1 refl
+found line P h (Page page) s = page_found line (λ xs ys. P xs) h (page_of page) s.1
 
 -- so each line has a space
 pub has_space : (line : List ℕ) → Splits line (λ xs ys. ⊥) → (x : PairStep) → Says line x → ⊥
@@ -153,28 +147,44 @@ is_word line word rest h x s = found line (λ xs. word ≡ xs) (λ xs ys e none.
 marks : (line word rest known : List ℕ) → Finds line word rest → word ≡ known → (x : PairStep) → Says line x → mark known ≡ mark (word_of x)
 marks line word rest known h is x s = ap mark (sym is ∙ is_word line word rest h x s)
 
+-- a step of a page has another word than `send`, `up`, `down` and `cut`
+page_apart : (page : play.PageStep) → let m = mark (page_word page) in
+    ((mark (codes "send") == m) ≡ false) × ((mark (codes "up") == m) ≡ false) × ((mark (codes "down") == m) ≡ false) × ((mark (codes "cut") == m) ≡ false)
+page_apart (play.Frame context url) = (refl, refl, refl, refl)
+page_apart (play.Unframe context) = (refl, refl, refl, refl)
+page_apart (play.Log context level text) = (refl, refl, refl, refl)
+page_apart (play.TableRow text) = (refl, refl, refl, refl)
+
 -- a line whose word is `send` says a sending or nothing
 pub send_alone : (line word rest : List ℕ) → Finds line word rest → word ≡ codes "send"
     → ((l : JsUint) (d : CommandData) → IsWell (Send l d) → Says (codes "send " ++ rest) (Send l d) → ⊥) → (x : PairStep) → IsWell x → Says line x → ⊥
 send_alone line word rest h is none (Send l d) well (params, e, tree) =
     let behind = decimal l.value ++ 32 ∷ (sending_of d).method ++ 32 ∷ params in
     none l d well (params, ap (λ r. codes "send " ++ r) (h (codes "send") behind e refl).1, tree)
+send_alone line word rest h is none (Page page) well s =
+    apart (mark (codes "send")) (mark (page_word (page_of page))) (marks line word rest (codes "send") h is (Page page) s) (page_apart (page_of page)).0
 send_alone line word rest h is none x well s = apart (mark (codes "send")) (mark (word_of x)) (marks line word rest (codes "send") h is x s) refl
 
 -- and so with `up`, `down` and `cut`
 pub up_alone : (line word rest : List ℕ) → Finds line word rest → word ≡ codes "up"
     → ((n : ℕ) → n < 2 ^ 53 → rest ≡ decimal n → ⊥) → (x : PairStep) → IsWell x → Says line x → ⊥
 up_alone line word rest h is none (Up l) well s = none l.value l.in_range (h (codes "up") (decimal l.value) s refl).1
+up_alone line word rest h is none (Page page) well s =
+    apart (mark (codes "up")) (mark (page_word (page_of page))) (marks line word rest (codes "up") h is (Page page) s) (page_apart (page_of page)).1
 up_alone line word rest h is none x well s = apart (mark (codes "up")) (mark (word_of x)) (marks line word rest (codes "up") h is x s) refl
 
 pub down_alone : (line word rest : List ℕ) → Finds line word rest → word ≡ codes "down"
     → ((n : ℕ) → n < 2 ^ 53 → rest ≡ decimal n → ⊥) → (x : PairStep) → IsWell x → Says line x → ⊥
 down_alone line word rest h is none (Down l) well s = none l.value l.in_range (h (codes "down") (decimal l.value) s refl).1
+down_alone line word rest h is none (Page page) well s =
+    apart (mark (codes "down")) (mark (page_word (page_of page))) (marks line word rest (codes "down") h is (Page page) s) (page_apart (page_of page)).2
 down_alone line word rest h is none x well s = apart (mark (codes "down")) (mark (word_of x)) (marks line word rest (codes "down") h is x s) refl
 
 pub cut_alone : (line word rest : List ℕ) → Finds line word rest → word ≡ codes "cut"
     → ((n : ℕ) → n < 2 ^ 53 → rest ≡ decimal n → ⊥) → (x : PairStep) → IsWell x → Says line x → ⊥
 cut_alone line word rest h is none (Cut l) well s = none l.value l.in_range (h (codes "cut") (decimal l.value) s refl).1
+cut_alone line word rest h is none (Page page) well s =
+    apart (mark (codes "cut")) (mark (page_word (page_of page))) (marks line word rest (codes "cut") h is (Page page) s) (page_apart (page_of page)).3
 cut_alone line word rest h is none x well s = apart (mark (codes "cut")) (mark (word_of x)) (marks line word rest (codes "cut") h is x s) refl
 
 -- a line of any other word says a step of a play that is also one of both ends, or nothing
@@ -187,10 +197,7 @@ play_alone line word rest h s u d c none (Up l) says = u (is_word line word rest
 play_alone line word rest h s u d c none (Down l) says = d (is_word line word rest h (Down l) says)
 play_alone line word rest h s u d c none (Cut l) says = c (is_word line word rest h (Cut l) says)
 play_alone line word rest h s u d c none (At n) says = none (play.At n.value) (λ z. z) says.0 says.1
-play_alone line word rest h s u d c none (Frame context url) says = none (play.Frame (string_bytes context) (string_bytes url)) (λ z. z) says.0 says.1
-play_alone line word rest h s u d c none (Unframe context) says = none (play.Unframe (string_bytes context)) (λ z. z) says.0 says.1
-play_alone line word rest h s u d c none (Log context level text) says = none (play.Log (string_bytes context) level (string_bytes text)) (λ z. z) says.0 says.1
-play_alone line word rest h s u d c none (TableRow text) says = none (play.TableRow (string_bytes text)) (λ z. z) says.0 says.1
+play_alone line word rest h s u d c none (Page page) says = none (play.Page (page_of page)) (λ z. z) says.0 says.1
 
 -- which the line of a step of a play alone does not say
 pub not_of_both : (line : List ℕ) (s : play.Step) → IsSayable s → line ≡ line_of s → IsOfPlayAlone s

@@ -3,8 +3,9 @@ use Rattle.std.specs.Prelude.{◌≡◌, ℕ, ◌==◌, if◌then◌else◌, Lis
 use Rattle.std.specs.List.{flat_map}
 use Rattle.bidi_tree.specs.Text.{tree_of_text, compact_text}
 use Rattle.bidi_remote.specs.Machine.Step as play
+use Rattle.bidi_remote.specs.State.View.{page_of}
 use Rattle.bidi_ledger.specs.declared.pair_step.PairStep.{PairStep}
-use Rattle.bidi_ledger.specs.declared.pair_step.PairStep.TheVariants.{Open, Send, Up, Down, Cut, At, Frame, Unframe, Log, TableRow}
+use Rattle.bidi_ledger.specs.declared.pair_step.PairStep.TheVariants.{Open, Send, Up, Down, Cut, At, Page}
 use Rattle.bidi_ledger.specs.Steps.{sending_of, IsWell}
 use Rattle.bidi_ledger.specs.Link.{Fate, Answered, Refused, Lost, Waiting, Entry, Received, Account}
 use Rattle.bidi_lines.specs.Feeds.{ended}
@@ -28,10 +29,7 @@ Says line (Up l) = line ≡ codes "up " ++ decimal l.value
 Says line (Down l) = line ≡ codes "down " ++ decimal l.value
 Says line (Cut l) = line ≡ codes "cut " ++ decimal l.value
 Says line (At n) = IsPlayLine line (play.At n.value)
-Says line (Frame context url) = IsPlayLine line (play.Frame (string_bytes context) (string_bytes url))
-Says line (Unframe context) = IsPlayLine line (play.Unframe (string_bytes context))
-Says line (Log context level text) = IsPlayLine line (play.Log (string_bytes context) level (string_bytes text))
-Says line (TableRow text) = IsPlayLine line (play.TableRow (string_bytes text))
+Says line (Page page) = IsPlayLine line (play.Page (page_of page))
 
 -- The line is that of a step that can be taken: it is UTF-8, and a command that it sends is well.
 pub record IsPairLine (line : List ℕ) (x : PairStep) : Type 0 where

@@ -65,10 +65,7 @@ fn pair_step(step: Step) -> Option<PairStep>
     match step {
         Step::At(moment) => Some(PairStep::At(moment)),
         Step::Open(link, resource) => Some(PairStep::Open(link, resource)),
-        Step::Frame(context, url) => Some(PairStep::Frame(context, url)),
-        Step::Unframe(context) => Some(PairStep::Unframe(context)),
-        Step::Log(context, level, text) => Some(PairStep::Log(context, level, text)),
-        Step::TableRow(text) => Some(PairStep::TableRow(text)),
+        Step::Page(page) => Some(PairStep::Page(page)),
         _ => None,
     }
 }

@@ -6,12 +6,12 @@ use Rattle.bidi_shape.specs.Name.{table_row}
 use Rattle.bidi_shape.specs.Term.{rule}
 use Rattle.bidi_shape.specs.Fits.{Fits}
 use Rattle.bidi_shape.specs.Table.{same_some}
-use Rattle.bidi_browser.specs.Actions.{TableRow}
+use Rattle.bidi_browser.specs.Actions.{Action, TableRow}
 use Rattle.bidi_messages.specs.Verdict.{Verdict, IsVerdict}
 use Rattle.bidi_messages.proofs.VerdictLemmas.{one_verdict}
 use Rattle.bidi_remote.specs.Machine.Step as step
 use Rattle.bidi_remote.specs.Machine.Step.{Step}
-use Rattle.bidi_remote.specs.Machine.History.{Input, Heard, PageStep, IsRow, is_row, is_not_json, is_no_row, IsHeardAs, AreHeardAs}
+use Rattle.bidi_remote.specs.Machine.History.{Input, Heard, OfPage, IsRow, is_row, is_not_json, is_no_row, IsTakenAs, IsHeardAs, AreHeardAs}
 use Rattle.bidi_remote.specs.Machine.Sent.{Sent, answers, answers_after}
 use Rattle.bidi_lines.specs.Feeds.{ended}
 use Rattle.bidi_play.specs.Lines.{sent_line, written}
@@ -35,17 +35,21 @@ one_row (is_no_row t h misfit) (is_row u e f) = absurd (misfit (subst (λ x. Fit
 one_row (is_no_row t h misfit) (is_not_json e) = refl
 one_row (is_no_row t h misfit) (is_no_row u e also) = refl
 
--- so a step is heard as one input
+-- so a step of a page is taken as one action
+one_action : (page : step.PageStep) (a b : Action) → IsTakenAs page a → IsTakenAs page b → a ≡ b
+one_action (step.Frame context url) a b is also = is ∙ sym also
+one_action (step.Unframe context) a b is also = is ∙ sym also
+one_action (step.Log context level text) a b is also = is ∙ sym also
+one_action (step.TableRow text) a b is also = is.2 ∙ (ap TableRow (one_row is.1 also.1) ∙ sym also.2)
+
+-- and a step is heard as one input
 pub one_input : OneVerdict → (s : Step) (i j : Input) → IsHeardAs s i → IsHeardAs s j → i ≡ j
 one_input one (step.At n) i j a b = a ∙ sym b
 one_input one (step.Open c resource) i j a b = a ∙ sym b
 one_input one (step.Drop c) i j a b = a ∙ sym b
 one_input one (step.Text c text) i j a b = a.2 ∙ (ap (λ v. Heard c v) (one text a.0 b.0 a.1 b.1) ∙ sym b.2)
 one_input one (step.NotText c) i j a b = a ∙ sym b
-one_input one (step.Frame context url) i j a b = a ∙ sym b
-one_input one (step.Unframe context) i j a b = a ∙ sym b
-one_input one (step.Log context level text) i j a b = a ∙ sym b
-one_input one (step.TableRow text) i j a b = a.2 ∙ (ap (λ r. PageStep (TableRow r)) (one_row a.1 b.1) ∙ sym b.2)
+one_input one (step.Page page) i j a b = a.2 ∙ (ap OfPage (one_action page a.0 b.0 a.1 b.1) ∙ sym b.2)
 
 -- and some steps as one list of inputs
 one_inputs : OneVerdict → (steps : List Step) (inputs others : List Input) → AreHeardAs steps inputs → AreHeardAs steps others → inputs ≡ others

@@ -1,12 +1,12 @@
 -- Bytes say one list of steps.
-use Rattle.std.proofs.Common.{◌≡◌, ℕ, ◌<◌, ◌^◌, false, List, [], ◌∷◌, ◌++◌, drop, append_assoc, refl, sym, ◌∙◌, ap, ap₂, arith}
-use Rattle.std.specs.Prelude.{◌==◌, decimal}
+use Rattle.std.proofs.Common.{◌≡◌, ℕ, ◌<◌, ◌^◌, Bool, true, false, true≢false, List, [], ◌∷◌, ◌++◌, drop, append_assoc, refl, sym, ◌∙◌, ap, ap₂, arith}
+use Rattle.std.specs.Prelude.{◌==◌, decimal, codes}
 use Rattle.std.proofs.lemmas.Bool.Decides.{nat_tests}
-use Rattle.std.specs.List.{AllByRecursion}
+use Rattle.std.specs.List.{AllByRecursion, list_any}
 use Rattle.std.proofs.lemmas.Fmt.{decimal_injective}
 use Rattle.bidi_values.specs.Level.{level_text}
 use Rattle.bidi_values.specs.declared.log_entry.Level.{Level}
-use Rattle.bidi_remote.specs.Machine.Step.{Step, At, Open, Drop, Text, NotText, Frame, Unframe, Log, TableRow}
+use Rattle.bidi_remote.specs.Machine.Step.{Step, PageStep, At, Open, Drop, Text, NotText, Page, Frame, Unframe, Log, TableRow}
 use Rattle.bidi_lines.specs.Feeds.{ended}
 use Rattle.bidi_play.specs.Lines.{line_of, said, IsContext, IsSayable, CanBeSaid}
 use Rattle.bidi_play.specs.Plays.{HasNoPlayLine}
@@ -41,6 +41,32 @@ logged context id level grave text other a b e =
     let g = graded level grave text other h.1 in
     (h.0, g.0, g.1)
 
+-- a line says one step of a page
+one_page : (p q : PageStep) → IsSayable (Page p) → IsSayable (Page q) → line_of (Page p) ≡ line_of (Page q) → p ≡ q
+one_page (Frame context url) (Frame id other) a b e = let h = named context id url other a.context b.context (ap (drop 6) e) in ap₂ Frame h.0 h.1
+one_page (Unframe context) (Unframe id) a b e = ap Unframe (ap (drop 8) e)
+one_page (Log context level text) (Log id grave other) a b e =
+    let h = logged context id level grave text other a.context b.context (ap (drop 4) e) in
+    let i = h.0 in
+    let j = h.1 in
+    let k = h.2 in
+    cc
+one_page (TableRow text) (TableRow other) a b e = ap TableRow (ap (drop 6) e)
+one_page p q a b e = absurd (apart (first (line_of (Page p))) (first (line_of (Page q))) (ap first e) refl)
+
+-- the line of one begins with a letter with which no other line begins
+abbrev is_of_page : ℕ → Bool
+is_of_page b = list_any (λ c. c == b) (codes "fulv")
+
+begins : (page : PageStep) → is_of_page (first (line_of (Page page))) ≡ true
+begins (Frame context url) = refl
+begins (Unframe context) = refl
+begins (Log context level text) = refl
+begins (TableRow text) = refl
+
+of_page : (page : PageStep) (b : ℕ) → first (line_of (Page page)) ≡ b → is_of_page b ≡ false → ⊥
+of_page page b is other = true≢false (sym (begins page) ∙ (ap is_of_page is ∙ other))
+
 -- a line says one step
 pub one_step : (s t : Step) → IsSayable s → IsSayable t → line_of s ≡ line_of t → s ≡ t
 one_step (At n) (At m) a b e = let below = a.number in let less = b.number in ap At (decimal_injective n m (omega arith) (omega arith) (ap (drop 3) e))
@@ -51,15 +77,9 @@ one_step (NotText c) (NotText d) a b e =
     ap NotText (decimal_injective c d (omega arith) (omega arith) (ap (drop 7) e))
 one_step (Open c resource) (Open d other) a b e = let h = numbered c d resource other a.number b.number (ap (drop 5) e) in let i = h.0 in let j = h.1 in cc
 one_step (Text c text) (Text d other) a b e = let h = numbered c d text other a.number b.number (ap (drop 2) e) in let i = h.0 in let j = h.1 in cc
-one_step (Frame context url) (Frame id other) a b e = let h = named context id url other a.context b.context (ap (drop 6) e) in ap₂ Frame h.0 h.1
-one_step (Unframe context) (Unframe id) a b e = ap Unframe (ap (drop 8) e)
-one_step (Log context level text) (Log id grave other) a b e =
-    let h = logged context id level grave text other a.context b.context (ap (drop 4) e) in
-    let i = h.0 in
-    let j = h.1 in
-    let k = h.2 in
-    cc
-one_step (TableRow text) (TableRow other) a b e = ap TableRow (ap (drop 6) e)
+one_step (Page page) (Page other) a b e = ap Page (one_page page other a b e)
+one_step (Page page) t a b e = absurd (of_page page (first (line_of t)) (ap first e) refl)
+one_step s (Page page) a b e = absurd (of_page page (first (line_of s)) (sym (ap first e)) refl)
 one_step s t a b e = absurd (apart (first (line_of s)) (first (line_of t)) (ap first e) refl)
 
 -- the first line, and what is behind it

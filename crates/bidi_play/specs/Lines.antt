@@ -3,7 +3,7 @@ use Rattle.std.specs.Prelude.{◌≡◌, ◌≢◌, IfSome, Option, Some, None, 
 use Rattle.std.specs.List.{flat_map, list_any}
 use Rattle.bidi_values.specs.Level.{level_text}
 use Rattle.bidi_lines.specs.Feeds.{has_feed, ended}
-use Rattle.bidi_remote.specs.Machine.Step.{Step, At, Open, Drop, Text, NotText, Frame, Unframe, Log, TableRow}
+use Rattle.bidi_remote.specs.Machine.Step.{Step, At, Open, Drop, Text, NotText, Page, Frame, Unframe, Log, TableRow}
 use Rattle.bidi_remote.specs.Machine.Sent as sent
 use Rattle.bidi_remote.specs.Machine.Sent.{Sent}
 
@@ -14,10 +14,10 @@ line_of (Open c resource) = codes "open " ++ decimal c ++ 32 ∷ resource
 line_of (Drop c) = codes "drop " ++ decimal c
 line_of (Text c text) = codes "> " ++ decimal c ++ 32 ∷ text
 line_of (NotText c) = codes "binary " ++ decimal c
-line_of (Frame context url) = codes "frame " ++ context ++ 32 ∷ url
-line_of (Unframe context) = codes "unframe " ++ context
-line_of (Log context level text) = codes "log " ++ context ++ 32 ∷ level_text level ++ 32 ∷ text
-line_of (TableRow text) = codes "value " ++ text
+line_of (Page (Frame context url)) = codes "frame " ++ context ++ 32 ∷ url
+line_of (Page (Unframe context)) = codes "unframe " ++ context
+line_of (Page (Log context level text)) = codes "log " ++ context ++ 32 ∷ level_text level ++ 32 ∷ text
+line_of (Page (TableRow text)) = codes "value " ++ text
 
 -- the number in it, or 0
 abbrev pub number_of : Step → ℕ
@@ -26,16 +26,13 @@ number_of (Open c resource) = c
 number_of (Drop c) = c
 number_of (Text c text) = c
 number_of (NotText c) = c
-number_of (Frame context url) = 0
-number_of (Unframe context) = 0
-number_of (Log context level text) = 0
-number_of (TableRow text) = 0
+number_of (Page page) = 0
 
 -- the context that a step names, if it names one
 abbrev pub context_in : Step → Option (List ℕ)
-context_in (Frame context url) = Some context
-context_in (Unframe context) = Some context
-context_in (Log context level text) = Some context
+context_in (Page (Frame context url)) = Some context
+context_in (Page (Unframe context)) = Some context
+context_in (Page (Log context level text)) = Some context
 context_in s = None
 
 -- a context is one byte or more, and no space

@@ -9,7 +9,7 @@ ghost use Rattle.bidi_lines.specs.Feeds.{has_feed, ended};
 ghost use Rattle.bidi_play.specs.Lines.{line_of, IsContext, IsSayable, CanBeSaid, sent_line, written};
 
 use bidi_lines::LONGEST_LINE;
-use bidi_remote::{Sent, Step};
+use bidi_remote::{PageStep, Sent, Step};
 use bidi_shape::Named;
 use bidi_tree::JsUint;
 use bidi_values::Level;
@@ -66,20 +66,22 @@ pub fn read_step_text(alloc: Global, line: &str) -> Result<Option<Step>, AllocEr
     } else if is_same_text(word, "frame") {
         match read_context_and_text(alloc, rest)? {
             None => Ok(None),
-            Some((context, url)) => Ok(Some(Step::Frame(context, url))),
+            Some((context, url)) => Ok(Some(Step::Page(PageStep::Frame(context, url)))),
         }
     } else if is_same_text(word, "unframe") {
         match read_context(alloc, rest)? {
             None => Ok(None),
-            Some(context) => Ok(Some(Step::Unframe(context))),
+            Some(context) => Ok(Some(Step::Page(PageStep::Unframe(context)))),
         }
     } else if is_same_text(word, "log") {
         match read_entry(alloc, rest)? {
             None => Ok(None),
-            Some((context, level, text)) => Ok(Some(Step::Log(context, level, text))),
+            Some((context, level, text)) => {
+                Ok(Some(Step::Page(PageStep::Log(context, level, text))))
+            }
         }
     } else if is_same_text(word, "value") {
-        Ok(Some(Step::TableRow(String::from_str(alloc, rest)?)))
+        Ok(Some(Step::Page(PageStep::TableRow(String::from_str(alloc, rest)?))))
     } else {
         Ok(None)
     }

@@ -26,7 +26,7 @@ use Rattle.bidi_remote.specs.declared.turn.Change.TheVariants.{Browse}
 use Rattle.bidi_remote.specs.declared.turn.Reply.{Reply}
 use Rattle.bidi_remote.specs.declared.turn.Turn.{Turn}
 use Rattle.bidi_remote.specs.Machine.Commands.{OfBrowser}
-use Rattle.bidi_remote.specs.Machine.History.{Input, PageStep, Deed, Did, acts, moment}
+use Rattle.bidi_remote.specs.Machine.History.{Input, OfPage, Deed, Did, acts, moment}
 use Rattle.bidi_remote.specs.Machine.Outcome.{deeds, did, in_page, turn}
 use Rattle.bidi_remote.specs.Machine.Sent.{Sent, sent_unasked, to_hearers, items, told}
 use Rattle.bidi_remote.specs.State.Messages.{AllReadBack}
@@ -151,7 +151,7 @@ planned-decides turn plan past action asker asked p same announced before reply 
 
 -- what is told of a step of a page
 unasked-told : (past : List Deed) (action : Action) (act : Act) (ws : List Written) (all : List Item) → ws ≡ [] → all ≡ items past (Some action) (Did act)
-    → sent_for past None (Did act) ws all ≡ told past (PageStep action) (Ok (Did act))
+    → sent_for past None (Did act) ws all ≡ told past (OfPage action) (Ok (Did act))
 unasked-told past action act ws all none same = append-nil _ ∙ (flat_map-same _ _ all (λ item. one item) ∙ ap (flat_map (sent_unasked past)) same)
   where
     one : (item : Item) → sent_of_item past None item ≡ sent_unasked past item
@@ -168,20 +168,20 @@ pub page_takes : {E : Type 0} (r : Result (Vec declared_sent.Sent Global) E) (t 
     → IfOk r (λ all. (map sent_of all.items ≡ sent_for (deeds h) (asker_in turned.telling.reply) (deed_of turned.change act)
     (written_in turned.telling.announced.items) (items_in turned.telling))
     × AllReadBack (map sent_of all.items) × AgreeWith t (deed_of turned.change act ∷ deeds h)))
-    → IfOk r (λ all. Takes t (map sent_of all.items) h (PageStep action))
+    → IfOk r (λ all. Takes t (map sent_of all.items) h (OfPage action))
 page_takes r t h turned plan action unasked quiet p same announced before reply after taken =
     let past = deeds h in
     let act = p.0 in
     let ws = written_in turned.telling.announced.items in
-    let turn_is : turn past (PageStep action) ≡ Ok (Did act) = ap in_page p.1 in
+    let turn_is : turn past (OfPage action) ≡ Ok (Did act) = ap in_page p.1 in
     let made = planned-made turned plan past action None p same announced before reply after quiet in
     let all = planned-items turned plan past action None p same announced before reply after (sym (reply-unasked plan.result (p.3 ∙ unasked))) in
-    all_taken t h (PageStep action) (deed_of turned.change act) _ r
-    (taken (PageStep action) act (turn_is ∙ ap (λ x. Ok (deed_of x act)) (sym same)) made (subst (λ es. AreMessages (written_in es)) (sym announced) tt))
+    all_taken t h (OfPage action) (deed_of turned.change act) _ r
+    (taken (OfPage action) act (turn_is ∙ ap (λ x. Ok (deed_of x act)) (sym same)) made (subst (λ es. AreMessages (written_in es)) (sym announced) tt))
     (turn_is ∙ ap (λ x. Ok (deed_of x act)) (sym same))
     (ap (λ x. sent_for past (asker_in turned.telling.reply) (deed_of x act) ws (items_in turned.telling)) same
     ∙ (ap (λ who. sent_for past who (Did act) ws (items_in turned.telling)) (ap asker_in reply) ∙ (unasked-told past action act ws
-    (items_in turned.telling) (ap written_in announced) all ∙ ap (λ x. told past (PageStep action) (Ok (deed_of x act))) (sym same))))
+    (items_in turned.telling) (ap written_in announced) all ∙ ap (λ x. told past (OfPage action) (Ok (deed_of x act))) (sym same))))
 
 -- ---- the log
 
@@ -225,7 +225,7 @@ last-written (x ∷ y ∷ left) e w is = absurd (cc)
 pub entry_takes : (t : State) (h : List Input) (c : ℕ) (id : List ℕ) (level : Level) (line : List ℕ) (sent : List Sent)
     → browser.log_outcome (acts (deeds h)) id level line ≡ Ok (Logged c level line)
     → sent ≡ to_hearers (deeds h) (entry_added (acts (deeds h)) (moment (deeds h)) c level line)
-    → AllReadBack sent → AgreeWith t (Did (Logged c level line) ∷ deeds h) → Takes t sent h (PageStep (Log id level line))
+    → AllReadBack sent → AgreeWith t (Did (Logged c level line) ∷ deeds h) → Takes t sent h (OfPage (Log id level line))
 entry_takes t h c id level line sent named is reads agree =
-    takes t h (PageStep (Log id level line)) (Ok (Did (Logged c level line))) sent (ap in_page named)
+    takes t h (OfPage (Log id level line)) (Ok (Did (Logged c level line))) sent (ap in_page named)
     (is ∙ sym (append-nil (to_hearers (deeds h) (entry_added (acts (deeds h)) (moment (deeds h)) c level line)))) reads agree

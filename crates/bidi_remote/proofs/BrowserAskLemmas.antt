@@ -14,7 +14,6 @@ use Rattle.bidi_shape.specs.MapLaws.{PartsAt-joined, unnamed}
 use Rattle.bidi_shape.specs.Table.{rows_in}
 use Rattle.bidi_shape.specs.ValueLaws.{others_of}
 use Rattle.bidi_params.specs.Words.{context_type_text, wait_text, realm_type_text}
-use Rattle.bidi_params.specs.contracts.session.capabilities.NewParametersShape.TheImpl as params
 use Rattle.bidi_params.specs.contracts.browsing_context.create.ActivateParametersShape.TheImpl as activate
 use Rattle.bidi_params.specs.contracts.browsing_context.create.CloseParametersShape.TheImpl as close
 use Rattle.bidi_params.specs.contracts.browsing_context.create.CreateParametersShape.TheImpl as create
@@ -36,15 +35,17 @@ use Rattle.bidi_params.specs.declared.browsing_context.create.ActivateParameters
 use Rattle.bidi_params.specs.declared.browsing_context.create.CloseParameters.{CloseParameters}
 use Rattle.bidi_params.specs.declared.browsing_context.create.CreateParameters.{CreateParameters}
 use Rattle.bidi_params.specs.declared.browsing_context.get_tree.GetTreeParameters.{GetTreeParameters}
-use Rattle.bidi_methods.specs.declared.command_data.CommandData.TheVariants.{BrowsingContextActivate, BrowsingContextClose}
-use Rattle.bidi_methods.specs.declared.command_data.CommandData.TheVariants.{BrowsingContextCreate, BrowsingContextGetTree}
-use Rattle.bidi_methods.specs.declared.command_data.CommandData.TheVariants.{BrowsingContextNavigate, BrowsingContextReload}
-use Rattle.bidi_methods.specs.declared.command_data.CommandData.TheVariants.{BrowsingContextTraverseHistory, ScriptGetRealms}
+use Rattle.bidi_methods.specs.Method.{method_text}
+use Rattle.bidi_methods.specs.CommandData.{browser_asked, asked_tree}
+use Rattle.bidi_methods.specs.declared.command_data.BrowserCommand.{BrowserCommand}
+use Rattle.bidi_methods.specs.declared.command_data.BrowserCommand.TheVariants as browser
+use Rattle.bidi_methods.specs.Method.{params_part}
 use Rattle.bidi_handles.specs.Params.{natural}
 use Rattle.bidi_browser.specs.Actions.{OwnWindow, Tab, Started, Interactive, Complete, is_text}
-use Rattle.bidi_browser.specs.Asked.{create_type_of, wait_of}
-use Rattle.bidi_remote.specs.Machine.Commands.{command_in}
-use Rattle.bidi_remote.specs.State.Asked.{asked_of}
+use Rattle.bidi_browser.specs.Asked.{create_type_of, wait_of, activate_asked, close_asked, create_asked, get_tree_asked}
+use Rattle.bidi_browser.specs.Asked.{navigate_asked, reload_asked, traverse_asked, get_realms_asked, command_asked}
+use Rattle.bidi_remote.specs.Machine.Commands.{OfBrowser, command_in}
+use Rattle.bidi_remote.proofs.TargetAskLemmas.{evaluate-asks, call-asks, disown-asks}
 
 -- ---- members that may be there
 
@@ -87,13 +88,13 @@ wait-read (Some wait.Complete) = refl
 -- ---- the commands
 
 -- a `browsingContext.activate` asks for its context
-pub activate-asks : (p : ActivateParameters) → activate.ghosts.shape.well p
-    → command_in (codes "browsingContext.activate") (activate.ghosts.shape.tree_of p) ≡ Some (asked_of params.ghosts.shape (BrowsingContextActivate p))
+activate-asks : (p : ActivateParameters) → activate.ghosts.shape.well p
+    → command_in (codes "browsingContext.activate") (activate.ghosts.shape.tree_of p) ≡ Some (OfBrowser (activate_asked p))
 activate-asks p w = rw (get_member-put (codes "context") (text_tree p.context) (others_of p.ext)) refl
 
 -- a `browsingContext.close` asks for its context
-pub close-asks : (p : CloseParameters) → close.ghosts.shape.well p
-    → command_in (codes "browsingContext.close") (close.ghosts.shape.tree_of p) ≡ Some (asked_of params.ghosts.shape (BrowsingContextClose p))
+close-asks : (p : CloseParameters) → close.ghosts.shape.well p
+    → command_in (codes "browsingContext.close") (close.ghosts.shape.tree_of p) ≡ Some (OfBrowser (close_asked p))
 close-asks p w =
     let rs = rows_in (term_of close_parameters) in
     let others = others_of p.ext in
@@ -102,8 +103,8 @@ close-asks p w =
     rw at.0 refl
 
 -- a `browsingContext.create` asks for its type, its reference context and its user context
-pub create-asks : (p : CreateParameters) → create.ghosts.shape.well p
-    → command_in (codes "browsingContext.create") (create.ghosts.shape.tree_of p) ≡ Some (asked_of params.ghosts.shape (BrowsingContextCreate p))
+create-asks : (p : CreateParameters) → create.ghosts.shape.well p
+    → command_in (codes "browsingContext.create") (create.ghosts.shape.tree_of p) ≡ Some (OfBrowser (create_asked p))
 create-asks p w =
     let rs = rows_in (term_of create_parameters) in
     let others = others_of p.ext in
@@ -113,8 +114,8 @@ create-asks p w =
     rw (at.0, at.1.0, at.1.1.1.0, type-read p.kind, text-optional p.reference_context, text-optional p.user_context) refl
 
 -- a `browsingContext.getTree` asks for its depth and its root
-pub get_tree-asks : (p : GetTreeParameters) → get_tree.ghosts.shape.well p
-    → command_in (codes "browsingContext.getTree") (get_tree.ghosts.shape.tree_of p) ≡ Some (asked_of params.ghosts.shape (BrowsingContextGetTree p))
+get_tree-asks : (p : GetTreeParameters) → get_tree.ghosts.shape.well p
+    → command_in (codes "browsingContext.getTree") (get_tree.ghosts.shape.tree_of p) ≡ Some (OfBrowser (get_tree_asked p))
 get_tree-asks p w =
     let rs = rows_in (term_of get_tree_parameters) in
     let others = others_of p.ext in
@@ -123,8 +124,8 @@ get_tree-asks p w =
     rw (at.0, at.1.0, number-optional p.max_depth, text-optional p.root) refl
 
 -- a `browsingContext.navigate` asks for its context, its URL and its wait
-pub navigate-asks : (p : NavigateParameters) → navigate.ghosts.shape.well p
-    → command_in (codes "browsingContext.navigate") (navigate.ghosts.shape.tree_of p) ≡ Some (asked_of params.ghosts.shape (BrowsingContextNavigate p))
+navigate-asks : (p : NavigateParameters) → navigate.ghosts.shape.well p
+    → command_in (codes "browsingContext.navigate") (navigate.ghosts.shape.tree_of p) ≡ Some (OfBrowser (navigate_asked p))
 navigate-asks p w =
     let rs = rows_in (term_of navigate_parameters) in
     let others = others_of p.ext in
@@ -133,8 +134,8 @@ navigate-asks p w =
     rw (at.0, at.1.0, at.1.1.0, wait-read p.wait) refl
 
 -- a `browsingContext.reload` asks for its context and its wait
-pub reload-asks : (p : ReloadParameters) → reload.ghosts.shape.well p
-    → command_in (codes "browsingContext.reload") (reload.ghosts.shape.tree_of p) ≡ Some (asked_of params.ghosts.shape (BrowsingContextReload p))
+reload-asks : (p : ReloadParameters) → reload.ghosts.shape.well p
+    → command_in (codes "browsingContext.reload") (reload.ghosts.shape.tree_of p) ≡ Some (OfBrowser (reload_asked p))
 reload-asks p w =
     let rs = rows_in (term_of reload_parameters) in
     let others = others_of p.ext in
@@ -143,9 +144,9 @@ reload-asks p w =
     rw (at.0, at.1.1.0, wait-read p.wait) refl
 
 -- a `browsingContext.traverseHistory` asks for its context and its delta
-pub traverse-asks : (p : TraverseHistoryParameters) → traverse.ghosts.shape.well p
+traverse-asks : (p : TraverseHistoryParameters) → traverse.ghosts.shape.well p
     → command_in (codes "browsingContext.traverseHistory") (traverse.ghosts.shape.tree_of p)
-    ≡ Some (asked_of params.ghosts.shape (BrowsingContextTraverseHistory p))
+    ≡ Some (OfBrowser (traverse_asked p))
 traverse-asks p w =
     let rs = rows_in (term_of traverse_history_parameters) in
     let others = others_of p.ext in
@@ -153,11 +154,26 @@ traverse-asks p w =
     rw (at.0, at.1.0) refl
 
 -- a `script.getRealms` asks for its context and its type
-pub get_realms-asks : (p : GetRealmsParameters) → get_realms.ghosts.shape.well p
-    → command_in (codes "script.getRealms") (get_realms.ghosts.shape.tree_of p) ≡ Some (asked_of params.ghosts.shape (ScriptGetRealms p))
+get_realms-asks : (p : GetRealmsParameters) → get_realms.ghosts.shape.well p
+    → command_in (codes "script.getRealms") (get_realms.ghosts.shape.tree_of p) ≡ Some (OfBrowser (get_realms_asked p))
 get_realms-asks p w =
     let rs = rows_in (term_of get_realms_parameters) in
     let others = others_of p.ext in
     let at = PartsAt-joined rs (option_map text_tree p.context ∷ option_map (λ t. tree.text (realm_type_text t)) p.kind ∷ []) others refl tt
     (unnamed (names_of rs) others w.1.no_known) in
     rw (at.0, at.1.0, text-optional p.context, realm_type-optional p.kind) refl
+
+-- a method and its params ask what a command of the browser asks
+pub browser-asks : (c : BrowserCommand) → (params_part (browser_asked c).0).shape.well (browser_asked c).1
+    → command_in (method_text (browser_asked c).0) (asked_tree (browser_asked c)) ≡ Some (OfBrowser (command_asked c))
+browser-asks (browser.Activate p) w = activate-asks p w
+browser-asks (browser.Close p) w = close-asks p w
+browser-asks (browser.Create p) w = create-asks p w
+browser-asks (browser.GetTree p) w = get_tree-asks p w
+browser-asks (browser.Navigate p) w = navigate-asks p w
+browser-asks (browser.Reload p) w = reload-asks p w
+browser-asks (browser.TraverseHistory p) w = traverse-asks p w
+browser-asks (browser.Evaluate p) w = evaluate-asks p.value w
+browser-asks (browser.CallFunction p) w = call-asks p.value w
+browser-asks (browser.Disown p) w = disown-asks p.value w
+browser-asks (browser.GetRealms p) w = get_realms-asks p w

@@ -1,8 +1,8 @@
 -- What a command comes to, by the tables and by the past.
 use Rattle.std.proofs.Common.{◌≡◌, ◌∙◌, ℕ, Bool, true, false, not, ◌&&◌, List, [], ◌∷◌, ◌++◌, map, length}
 use Rattle.std.proofs.Common.{Option, Some, unwrap_or, Result, Ok, Err, refl, sym, ap, ap₂, subst}
-use Rattle.std.specs.Prelude.{filter, nat_lt}
-use Rattle.std.specs.List.{list_any, list_all, AllByRecursion, items_where_true}
+use Rattle.std.specs.Prelude.{◌==◌, filter, find, nat_lt}
+use Rattle.std.specs.List.{list_all, AllByRecursion, items_where_true}
 use Rattle.std.proofs.lemmas.List.{length-map, map-append}
 use Rattle.std.proofs.lemmas.List.Elements.{filter-append}
 use Rattle.bidi_params.specs.declared.error_code.ErrorCode.{ErrorCode}
@@ -33,13 +33,13 @@ use Rattle.bidi_remote.specs.Machine.Sent.{items, action_in, announcements}
 use Rattle.bidi_remote.specs.State.EventTexts.{Written, written, written_in, AreMessages}
 use Rattle.bidi_remote.specs.State.MissedRows.{places, waiting, IsEntry}
 use Rattle.bidi_remote.specs.State.SessionView as in_hand
-use Rattle.bidi_remote.specs.State.SessionView.{row_of}
+use Rattle.bidi_remote.specs.State.SubscriptionView.{row_of}
 use Rattle.bidi_remote.specs.State.Stands.{AgreeWith}
-use Rattle.bidi_remote.specs.State.SubscriptionRows.{session_row, session_rows, row_at, subscription_rows, row_in, begun}
-use Rattle.bidi_remote.specs.State.SubscriptionRows.{row_covers, row_holds, any_global, is_new, numbers_named}
+use Rattle.bidi_remote.specs.State.SubscriptionRows.{SubscriptionRow, session_row, session_rows, row_at, subscription_rows, row_in, begun}
+use Rattle.bidi_remote.specs.State.SubscriptionRows.{any_covers, any_global, is_new, numbers_named}
 use Rattle.bidi_browser.specs.View.{result_tree}
 use Rattle.bidi_remote.specs.State.Turns.{Decides, IsMade, IsOfSessions, deed_of, announced_by}
-use Rattle.bidi_remote.proofs.ListLemmas.{filter-same, any-map, all-same}
+use Rattle.bidi_remote.proofs.ListLemmas.{filter-same, all-same}
 use Rattle.bidi_remote.proofs.PlaceLemmas.{waiting-places, waiting-events, new-written}
 use Rattle.bidi_remote.proofs.SubscriptionLemmas.{newly-enabled, numbers-session_rows, find-active, named-subscription_rows, global-held}
 
@@ -86,10 +86,15 @@ pub is_ready-rows : (t : State) (past : List Deed) (b : Bool) → AgreeWith t pa
 is_ready-rows t past b a is =
     is ∙ ap (λ n. nat_lt n 8) (ap length a.sessions ∙ (sym (length-map (session_rows past) (λ r. r.number)) ∙ ap length (numbers-session_rows past)))
 
--- the row of an active session
+-- an active session is found
+pub found-active : (t : State) (past : List Deed) (s : ℕ)
+    → AgreeWith t past → is_active past s ≡ true → find (λ r. r.number == s) (in_hand.rows_in t.sessions) ≡ Some (session_row past s)
+found-active t past s a active = ap (find (λ r. r.number == s)) a.sessions ∙ find-active past s active
+
+-- its row
 pub row-active : (t : State) (past : List Deed) (s : ℕ)
     → AgreeWith t past → is_active past s ≡ true → row_in s (in_hand.rows_in t.sessions) ≡ session_row past s
-row-active t past s a active = ap (row_in s) a.sessions ∙ ap (λ o. unwrap_or o (begun s)) (find-active past s active)
+row-active t past s a active = ap (λ o. unwrap_or o (begun s)) (found-active t past s a active)
 
 -- ---- `session.new`
 
@@ -104,12 +109,10 @@ new-began past c request fits same fit room = rw (sym same ∙ no_error fits fit
 -- ---- `session.subscribe`
 
 -- whether an event is new, by the three answers
-pub is-new : (past : List Act) (held : List Subscription) (es : List EventName) (scope : Scope) (e : EventName) (top : ℕ) (live was is : Bool)
-    → live ≡ is_alive past top
-    → was ≡ list_any (λ s. row_covers e top (row_of s)) held
-    → is ≡ (is_among es e && covers scope top) → (live && (not was && is)) ≡ is_new past (map row_of held) es scope e top
-is-new past held es scope e top live was is lives covered covers =
-    ap₂ (λ a b. a && b) lives (ap₂ (λ a b. not a && b) (covered ∙ sym (any-map row_of (row_covers e top) held)) covers)
+pub is-new : (past : List Act) (held : List SubscriptionRow) (es : List EventName) (scope : Scope) (e : EventName) (top : ℕ) (live was is : Bool)
+    → live ≡ is_alive past top → was ≡ any_covers held e top → is ≡ (is_among es e && covers scope top)
+    → (live && (not was && is)) ≡ is_new past held es scope e top
+is-new past held es scope e top live was is lives covered covers = ap₂ (λ a b. a && b) lives (ap₂ (λ a b. not a && b) covered covers)
 
 -- the first answer decides, where the others let it
 pub live-decides : (live was is : Bool) → not was ≡ true → is ≡ true → live ≡ (live && (not was && is))
@@ -147,18 +150,18 @@ subscribe-checked past s n names contexts users es scope few named scoped long i
     rw (named, scoped) (ap (λ (b : Bool). need b UnknownError >>= λ room. Ok (Subscribed s es scope)) (ap (λ k. nat_lt k 256) (sym long) ∙ is))
 
 -- what is new by the table is what is announced: of the tree, then of the entries that wait
-pub new-announced : (past : List Deed) (s : ℕ) (held : List Subscription) (es : List EventName) (scope : Scope) (tree waits : List Written)
-    → is_active past s ≡ true → AllByRecursion IsEntry (missed past s) → map row_of held ≡ subscription_rows past s
-    → tree ≡ map written (filter (λ o. is_new (acts past) (map row_of held) es scope o.event o.top) (tree_events (acts past)))
-    → waits ≡ filter (λ w. is_new (acts past) (map row_of held) es scope EntryAdded w.top) (waiting (places past s))
+pub new-announced : (past : List Deed) (s : ℕ) (held : List SubscriptionRow) (es : List EventName) (scope : Scope) (tree waits : List Written)
+    → is_active past s ≡ true → AllByRecursion IsEntry (missed past s) → held ≡ subscription_rows past s
+    → tree ≡ map written (filter (λ o. is_new (acts past) held es scope o.event o.top) (tree_events (acts past)))
+    → waits ≡ filter (λ w. is_new (acts past) held es scope EntryAdded w.top) (waiting (places past s))
     → tree ++ waits ≡ map written (announcements past (Subscribed s es scope) s)
 new-announced past s held es scope tree waits active entries rows told later =
-    let in_hand = λ (o : Occurrence). is_new (acts past) (map row_of held) es scope o.event o.top in
+    let in_hand = λ (o : Occurrence). is_new (acts past) held es scope o.event o.top in
     let newly = λ (o : Occurrence). is_newly_enabled past (Subscribed s es scope) s o.event o.top in
     let same = λ (o : Occurrence). ap (λ all. is_new (acts past) all es scope o.event o.top) rows ∙ sym (newly-enabled past s es scope o.event o.top active) in
     ap₂ (λ xs ys. xs ++ ys) told
-    (later ∙ (ap (filter (λ w. is_new (acts past) (map row_of held) es scope EntryAdded w.top)) (waiting-places past s)
-    ∙ new-written (is_new (acts past) (map row_of held) es scope) (waiting_for past s) (waiting-events past s entries)))
+    (later ∙ (ap (filter (λ w. is_new (acts past) held es scope EntryAdded w.top)) (waiting-places past s)
+    ∙ new-written (is_new (acts past) held es scope) (waiting_for past s) (waiting-events past s entries)))
     ∙ (sym (map-append written (filter in_hand (tree_events (acts past))) (filter in_hand (waiting_for past s)))
     ∙ ap (map written) (sym (filter-append in_hand (tree_events (acts past)) (waiting_for past s))
     ∙ filter-same in_hand newly (tree_events (acts past) ++ waiting_for past s) same))
@@ -172,10 +175,9 @@ numbers-named past s (id ∷ ids) =
     ap₂ (λ (o : Option ℕ) (r : Result (List ℕ) ErrorCode). found o InvalidArgument >>= λ n. r >>= λ ns. Ok (n ∷ ns))
     (sym (named-subscription_rows past s id)) (numbers-named past s ids)
 
--- each event is held globally in hand where it is in the past
-pub all-held : (past : List Deed) (s : ℕ) (held : List Subscription) (es : List EventName) → map row_of held ≡ subscription_rows past s
-    → list_all (λ e. list_any (λ x. row_holds e (row_of x)) held) es ≡ list_all (holds_globally past s) es
-all-held past s held es rows = all-same _ _ es (λ e. sym (any-map row_of (row_holds e) held) ∙ (ap (λ all. any_global all e) rows ∙ sym (global-held past s e)))
+-- each event is held globally in the table where it is in the past
+pub all-held : (past : List Deed) (s : ℕ) (es : List EventName) → list_all (any_global (subscription_rows past s)) es ≡ list_all (holds_globally past s) es
+all-held past s es = all-same _ _ es (λ e. sym (global-held past s e))
 
 pub dismiss-checked : (past : List Deed) (s : ℕ) (names : List (List ℕ)) (es : List EventName) (b : Bool)
     → all_named names ≡ Ok es → list_all (holds_globally past s) es ≡ b

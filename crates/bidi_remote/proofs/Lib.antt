@@ -9,6 +9,7 @@ pub mod ConnectionLemmas
 pub mod SessionLemmas
 pub mod PlaceLemmas
 pub mod SubscriptionLemmas
+pub mod IndexLemmas
 pub mod LogLemmas
 pub mod SpeakingLemmas
 pub mod RowLemmas

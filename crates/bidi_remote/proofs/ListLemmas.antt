@@ -1,6 +1,6 @@
 -- Lists that are looked at through a function.
 use Rattle.std.proofs.Common.{◌≡◌, ◌<◌, ◌≤◌, ◌+◌, ℕ, suc, Bool, true, false, cond, Option, Some, None, ◌&&◌, ◌||◌, length, get_or}
-use Rattle.std.proofs.Common.{drop, drop-cons, add-one, option_map, List, [], ◌∷◌, ◌++◌, map, refl, sym, ap, ap₂, arith}
+use Rattle.std.proofs.Common.{drop, drop-cons, add-one, option_map, unwrap_or, List, [], ◌∷◌, ◌++◌, map, refl, sym, ap, ap₂, arith}
 use Rattle.std.specs.Prelude.{filter, find, flat_map, nat_lt}
 use Rattle.std.specs.List.{AllByRecursion, list_any, list_all, position, position_or_len}
 use Rattle.std.proofs.lemmas.Bool.Decides.{nat_tests}
@@ -67,6 +67,20 @@ flat_map-same f g (x ∷ xs) same = ap₂ (λ ys zs. ys ++ zs) (same x) (flat_ma
 pub no_value : {X : Type 0} (o : Option X) → ((x : X) → o ≡ Some x → ⊥) → o ≡ None
 no_value None h = refl
 no_value (Some x) h = absurd (h x refl)
+
+-- so nothing is seen of it
+pub not-found : {X Y : Type 0} (g : X → Y) (o : Option X) (y : Y) → o ≡ None → option_map g o ≡ Some y → ⊥
+not-found g None y none some = cc
+not-found g (Some x) y none some = cc
+
+-- one value is the other
+pub some-same : {X : Type 0} (x y : X) → Some x ≡ Some y → x ≡ y
+some-same x y e = ap (λ o. unwrap_or o x) e
+
+-- an option that is seen twice
+pub map-now : {X Y Z : Type 0} (g : Y → Z) (f : X → Y) (o : Option X) → option_map (λ x. g (f x)) o ≡ option_map g (option_map f o)
+map-now g f None = refl
+map-now g f (Some x) = refl
 
 -- what is so of each that passes
 passes-next : {X : Type 0} (f g : ℕ → X) (p : ℕ → Bool) (n : ℕ) (ns : List ℕ) (b : Bool)

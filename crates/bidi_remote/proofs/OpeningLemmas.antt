@@ -15,7 +15,7 @@ use Rattle.bidi_browser.specs.Contexts.{up_to}
 use Rattle.bidi_handles.specs.Checks.{◌>>=◌, need}
 use Rattle.bidi_browser.specs.Outcome as browser
 use Rattle.bidi_remote.specs.Machine.Commands.{Command, Status, New, End, Subscribe, UnsubscribeById, UnsubscribeByEvents, OfBrowser, command_of, id_of_command}
-use Rattle.bidi_remote.specs.Machine.History.{Input, At, Open, Drop, Heard, NotText, PageStep, Deed, Time, Opened, Dropped}
+use Rattle.bidi_remote.specs.Machine.History.{Input, At, Open, Drop, Heard, NotText, OfPage, Deed, Time, Opened, Dropped}
 use Rattle.bidi_remote.specs.Machine.History.{Began, Ended, Subscribed, Cancelled, Dismissed, Did, Told, acts}
 use Rattle.bidi_remote.specs.Machine.Sessions.{sessions_made, is_active, sessions}
 use Rattle.bidi_remote.specs.Machine.Connections.{Attachment, Shut, Alone, SpeaksFor, is_shut, is_open, attachment_of, openings}
@@ -140,7 +140,7 @@ turn_fair past (Open c resource) =
 turn_fair past (Drop c) = when_open past c (is_open past c) (Ok (Dropped c)) tt
 turn_fair past (Heard c v) = when_open past c (is_open past c) (answered past c v) (answered_fair past c v)
 turn_fair past (NotText c) = when_open past c (is_open past c) (answered past c (Refused None InvalidArgument)) tt
-turn_fair past (PageStep action) = in_page_fair past action (browser.outcome (acts past) action) refl
+turn_fair past (OfPage action) = in_page_fair past action (browser.outcome (acts past) action) refl
 
 -- ---- so what is open was opened
 

@@ -7,10 +7,8 @@ use Rattle.bidi_tree.specs.Node.{Node}
 use Rattle.bidi_tree.specs.Text.{tree_of}
 use Rattle.bidi_shape.specs.Term.{rule}
 use Rattle.bidi_shape.specs.Fits.{Fits}
-use Rattle.bidi_methods.specs.declared.command_data.CommandData.{CommandData}
 use Rattle.bidi_methods.specs.declared.method.Method.{Method}
 use Rattle.bidi_methods.specs.declared.result_data.ResultData.{ResultData}
-use Rattle.bidi_methods.specs.contracts.command_data.CommandDataPayloadMethod.TheImpl as asks
 use Rattle.bidi_methods.specs.contracts.result_data.ResultDataPayloadMethod.TheImpl as results
 use Rattle.bidi_messages.specs.Command.{method_in}
 use Rattle.bidi_messages.specs.Message.{response_text, response_tree}
@@ -30,7 +28,7 @@ use Rattle.bidi_remote.specs.declared.turn.Turn.{Turn}
 use Rattle.bidi_handles.specs.declared.refusal.Refusal as browser
 use Rattle.bidi_remote.specs.Machine.Commands.{Command, command_of, id_of_command}
 use Rattle.bidi_remote.specs.Machine.Connections.{Attachment, SpeaksFor, is_shut, attachment_of}
-use Rattle.bidi_remote.specs.Machine.History.{Input, Heard, PageStep, Deed}
+use Rattle.bidi_remote.specs.Machine.History.{Input, Heard, OfPage, Deed}
 use Rattle.bidi_remote.specs.Machine.Outcome.{NotTaken, Error, deeds, turn, replied, outcome}
 use Rattle.bidi_remote.specs.Machine.Replies.{ReadsAs, HasOneReply, IsAnsweredOnce}
 use Rattle.bidi_remote.specs.Machine.Sent.{action_in, items}
@@ -61,9 +59,9 @@ pub decides-as : (r : Result Turn browser.Refusal) (past : List Deed) (asker : A
 decides-as r past asker c s asked d is decides = subst (λ x. Decides r past asker x (outcome past c (SpeaksFor s) x)) (sym is) decides
 
 -- the method that is asked for
-pub asked-of : (asked d : CommandData) (r : Result Turn browser.Refusal)
-    → asked ≡ d → HasResultOf (asks.ghosts.payload.kind d) r → HasResultOf (asks.ghosts.payload.kind asked) r
-asked-of asked d r is has = subst (λ a. HasResultOf (asks.ghosts.payload.kind a) r) (sym is) has
+pub asked-of : {D : Type 0} (method : D → Method) (asked d : D) (r : Result Turn browser.Refusal)
+    → asked ≡ d → HasResultOf (method d) r → HasResultOf (method asked) r
+asked-of method asked d r is has = subst (λ a. HasResultOf (method a) r) (sym is) has
 
 -- ---- the text of a result
 

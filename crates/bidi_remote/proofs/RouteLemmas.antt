@@ -20,7 +20,7 @@ use Rattle.bidi_browser.specs.Occurrences.{Occurrence}
 use Rattle.bidi_browser.specs.Occurs.{Item, Happens, Replies}
 use Rattle.bidi_remote.specs.Machine.Capabilities.{matching}
 use Rattle.bidi_remote.specs.Machine.Commands.{Command, Status, New, End, Subscribe, UnsubscribeById, UnsubscribeByEvents, OfBrowser, command_of, id_of_command}
-use Rattle.bidi_remote.specs.Machine.History.{Input, At, Open, Drop, Heard, NotText, PageStep, Deed, Time, Opened, Dropped}
+use Rattle.bidi_remote.specs.Machine.History.{Input, At, Open, Drop, Heard, NotText, OfPage, Deed, Time, Opened, Dropped}
 use Rattle.bidi_remote.specs.Machine.History.{Began, Ended, Subscribed, Cancelled, Dismissed, Did, Told, acts}
 use Rattle.bidi_remote.specs.Machine.Connections.{Attachment, Shut, Alone, SpeaksFor, is_for, is_open, is_shut, attachment_of, openings, connections_of}
 use Rattle.bidi_remote.specs.Machine.Outcome.{NotTaken, Denied, Lost, Error, NoEffect, deeds, turn, with_turn, if_open}
@@ -262,7 +262,7 @@ module _ (h : List Input) (l : ℕ) where
   of-drop c true = no-events b
   of-drop c false = no-events b
 
-  of-page : (action : Action) (r : Result Act ErrorCode) → AreEvents b (texts_on l (told past (PageStep action) (in_page r)))
+  of-page : (action : Action) (r : Result Act ErrorCode) → AreEvents b (texts_on l (told past (OfPage action) (in_page r)))
   of-page action (Ok act) = events-flat b l (sent_unasked past) (unasked-events past l) (items past (Some action) (Did act))
   of-page action (Err code) = no-events b
 
@@ -271,7 +271,7 @@ module _ (h : List Input) (l : ℕ) where
   events-unheard (At n) is = no-events b
   events-unheard (Open c resource) is = of-opening c resource (session_of_resource past resource)
   events-unheard (Drop c) is = of-drop c (is_open past c)
-  events-unheard (PageStep action) is = of-page action (browser.outcome (acts past) action)
+  events-unheard (OfPage action) is = of-page action (browser.outcome (acts past) action)
   events-unheard (Heard c verdict) is = absurd is
   events-unheard (NotText c) is = absurd is
 
@@ -373,4 +373,4 @@ module _ (h : List Input) (l : ℕ) where
   stays-shut (NotText c) apart e =
       stays-turned (if_open past c (answered past c (Refused None InvalidArgument)))
       (open-apart c (is_open past c) (answered past c (Refused None InvalidArgument)) tt) e
-  stays-shut (PageStep action) apart e = stays-turned (in_page (browser.outcome (acts past) action)) (page-apart (browser.outcome (acts past) action)) e
+  stays-shut (OfPage action) apart e = stays-turned (in_page (browser.outcome (acts past) action)) (page-apart (browser.outcome (acts past) action)) e

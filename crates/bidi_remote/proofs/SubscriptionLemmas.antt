@@ -46,7 +46,7 @@ event_at RealmDestroyed = refl
 event_at EntryAdded = refl
 
 -- two events at one place are one
-same_event : (e f : EventName) → (event_place e == event_place f) ≡ true → e ≡ f
+pub same_event : (e f : EventName) → (event_place e == event_place f) ≡ true → e ≡ f
 same_event e f same = sym (event_at e) ∙ (ap (λ n. get_or all_events n ContextCreated) (eqb-true (event_place e) (event_place f) same) ∙ event_at f)
 
 -- each is among the eight
@@ -82,7 +82,7 @@ any_event p es found =
     (some_found p all_events es found, some_found p es all_events (λ e passes. is_among-all e)) (λ some. some, λ some. some)
 
 -- an event is among those that pass where it is one of them and passes
-is_among-filter : (p : EventName → Bool) (es : List EventName) (e : EventName) → is_among (filter p es) e ≡ (is_among es e && p e)
+pub is_among-filter : (p : EventName → Bool) (es : List EventName) (e : EventName) → is_among (filter p es) e ≡ (is_among es e && p e)
 is_among-filter p [] e = refl
 is_among-filter p (f ∷ es) e = let ih = is_among-filter p es e in let same = same_event f e in grind (arith, nat_tests, ih, same)
 

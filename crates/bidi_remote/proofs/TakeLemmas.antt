@@ -11,8 +11,8 @@ use Rattle.bidi_remote.specs.declared.step.Sent as declared_sent
 use Rattle.bidi_remote.specs.declared.state.State.{State}
 use Rattle.bidi_remote.specs.declared.turn.Asker.{Asker}
 use Rattle.bidi_remote.specs.declared.turn.Turn.{Turn}
-use Rattle.bidi_remote.specs.Machine.Step.{Step, Text}
-use Rattle.bidi_remote.specs.Machine.History.{Input, Open, Heard, PageStep, IsHeardAs, Deed, acts}
+use Rattle.bidi_remote.specs.Machine.Step.{Step, PageStep, Text, Page}
+use Rattle.bidi_remote.specs.Machine.History.{Input, Open, Heard, OfPage, IsTakenAs, IsHeardAs, Deed, acts}
 use Rattle.bidi_remote.specs.Machine.Commands.{Command, id_of_command}
 use Rattle.bidi_remote.specs.Machine.Connections.{Attachment, is_shut, is_open, attachment_of}
 use Rattle.bidi_remote.specs.Machine.Outcome.{NotTaken, Error, deeds, turn, with_turn, replied, outcome}
@@ -166,12 +166,19 @@ pub step_heard : {E : Type 0} (r : Result (Vec declared_sent.Sent Global) E) (x 
 step_heard (Err e) x old after i is f = tt
 step_heard (Ok all) x old after i is f = (i, is, λ h short. f h)
 
--- so is a step of a page, while the history is short
-pub page_heard : {E : Type 0} (r : Result (Vec declared_sent.Sent Global) E) (x : Step) (old after : State) (action : Action) → IsHeardAs x (PageStep action)
-    → ((h : List Input) → IsShort h → AgreeWith old (deeds h) → IfOk r (λ all. Takes after (map sent_of all.items) h (PageStep action)))
+-- a step of a page is taken as an action
+pub page_taken : {E : Type 0} (r : Result (Vec declared_sent.Sent Global) E) (page : PageStep) (old after : State) (action : Action) → IsTakenAs page action
+    → ((h : List Input) → IsShort h → AgreeWith old (deeds h) → IfOk r (λ all. Takes after (map sent_of all.items) h (OfPage action)))
+    → IfOk r (λ all. (a : Action) × IsTakenAs page a × TakesIt old after (map sent_of all.items) (OfPage a))
+page_taken (Err e) page old after action is f = tt
+page_taken (Ok all) page old after action is f = (action, is, f)
+
+-- and heard as what it is taken as
+pub page_heard : {E : Type 0} (r : Result (Vec declared_sent.Sent Global) E) (x : Step) (page : PageStep) (old after : State) → x ≡ Page page
+    → IfOk r (λ all. (a : Action) × IsTakenAs page a × TakesIt old after (map sent_of all.items) (OfPage a))
     → IfOk r (λ all. (j : Input) × IsHeardAs x j × TakesIt old after (map sent_of all.items) j)
-page_heard (Err e) x old after action is f = tt
-page_heard (Ok all) x old after action is f = (PageStep action, is, f)
+page_heard (Err e) x page old after is f = tt
+page_heard (Ok all) x page old after is (a, taken, f) = (OfPage a, subst (λ y. IsHeardAs y (OfPage a)) (sym is) (a, taken, refl), f)
 
 -- a text is heard as its verdict
 pub text_heard : {E : Type 0} (r : Result (Vec declared_sent.Sent Global) E) (x : Step) (c : ℕ) (text : List ℕ) (old after : State) → x ≡ Text c text

@@ -4,6 +4,10 @@ pub mod ConnectionRows
 pub mod EventTexts
 pub mod MissedRows
 pub mod SubscriptionRows
+pub mod SubscriptionView
+pub mod IndexRows
+pub mod IndexView
+pub mod SubscriptionsView
 pub mod SessionView
 pub mod Messages
 pub mod Routes

@@ -6,11 +6,13 @@ ghost use Rattle.bidi_browser.specs.Stands.{StandsFor};
 ghost use Rattle.bidi_methods.specs.declared.event_data.EventName.TheVariants.{EntryAdded};
 ghost use Rattle.bidi_remote.specs.State.EventTexts.{place_row};
 ghost use Rattle.bidi_remote.specs.State.MissedRows.{all_left};
-ghost use Rattle.bidi_remote.specs.State.SessionView.{scope_of, row_of};
+ghost use Rattle.bidi_remote.specs.State.SubscriptionView.{scope_of};
+ghost use Rattle.bidi_remote.specs.State.SubscriptionsView.{rows_of};
 ghost use Rattle.bidi_remote.specs.State.SubscriptionRows.{is_new, may_be_new};
 
 use crate::event_texts::EventText;
-use crate::subscriptions::{Scope, Subscription, any_covers, any_global, covers, is_among};
+use crate::subscription_table::Subscriptions;
+use crate::subscriptions::{Scope, covers, is_among};
 use bidi_browser::Browser;
 use bidi_messages::EventName;
 use std::collections::VecDeque;
@@ -19,27 +21,27 @@ use std::rc::Rc;
 /// Whether a subscription to these events in this scope newly enables the event for a top-level context: the
 /// context is live, the subscription covers the event there, and none of those held does.
 ///
-/// Passes over the subscriptions held and the live contexts, where these events cover the event. Takes no
+/// Passes over the live contexts, where these events cover the event and it is not enabled yet. Takes no
 /// memory.
 pub(crate) fn is_new(
     browser: &Browser,
-    held: &[Subscription],
+    held: &Subscriptions,
     events: &[EventName],
     scope: &Scope,
     event: EventName,
     top: u64,
 ) -> bool
-    ensures { (past : List Act) → StandsFor browser.now past → result ≡ is_new past (map row_of held.now) events.now (scope_of scope.now) event top }
+    ensures { (past : List Act) → StandsFor browser.now past → result ≡ is_new past (rows_of held.now) events.now (scope_of scope.now) event top }
 {
-    covers(events, scope, event, top) && !any_covers(held, event, top) && browser.is_live(top)
+    covers(events, scope, event, top) && !held.hears(event, top) && browser.is_live(top)
 }
 
 /// Whether a subscription to these events may newly enable the event for some context: it has the event, and
 /// no global one held does. Takes no memory.
-pub(crate) fn may_be_new(held: &[Subscription], events: &[EventName], event: EventName) -> bool
-    ensures { result ≡ may_be_new (map row_of held.now) events.now event }
+pub(crate) fn may_be_new(held: &Subscriptions, events: &[EventName], event: EventName) -> bool
+    ensures { result ≡ may_be_new (rows_of held.now) events.now event }
 {
-    is_among(events, event) && !any_global(held, event)
+    is_among(events, event) && !held.any_global(event)
 }
 
 /// Empties the places of the log entries that a subscription to these events in this scope newly enables.
@@ -47,12 +49,12 @@ pub(crate) fn may_be_new(held: &[Subscription], events: &[EventName], event: Eve
 pub(crate) fn announce(
     places: &mut VecDeque<Option<Rc<EventText>>>,
     browser: &Browser,
-    held: &[Subscription],
+    held: &Subscriptions,
     events: &[EventName],
     scope: &Scope,
 )
     ensures places { (past : List Act) → StandsFor browser.now past → map place_row places.new.items
-        ≡ all_left (is_new past (map row_of held.now) events.now (scope_of scope.now) EntryAdded) (map place_row places.old.items) }
+        ≡ all_left (is_new past (rows_of held.now) events.now (scope_of scope.now) EntryAdded) (map place_row places.old.items) }
     ensures len { deque_len places.new ≡ deque_len places.old }
     ensures capacity { deque_capacity places.new ≡ deque_capacity places.old }
 {

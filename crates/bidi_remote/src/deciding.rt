@@ -1,25 +1,26 @@
 //! How a command is decided, by the state of its connection.
-ghost use Rattle.std.specs.Prelude.{◌≡◌, List, true, Some};
-ghost use Rattle.bidi_browser.specs.Actions.{is_asked, method_of};
-ghost use Rattle.bidi_browser.specs.Asked.{action_of};
+ghost use Rattle.std.specs.Prelude.{◌≡◌, List};
+ghost use Rattle.bidi_browser.specs.Asked.{command_asked};
 ghost use Rattle.bidi_browser.specs.Outcome as browser;
 ghost use Rattle.bidi_browser.specs.Plans.{HasIds};
 ghost use Rattle.bidi_remote.specs.Machine.Connections.{attachment_of, Alone, SpeaksFor};
 ghost use Rattle.bidi_remote.specs.Machine.Commands.{OfBrowser};
 ghost use Rattle.bidi_remote.specs.Machine.History.{Input, Deed, acts};
 ghost use Rattle.bidi_remote.specs.Machine.Outcome.{deeds, did, outcome};
-ghost use Rattle.bidi_remote.specs.State.Asked.{IsWellAsked, asked_of};
+ghost use Rattle.bidi_remote.specs.State.Asked.{IsWellAsked, asked_of, session_asked_of};
 ghost use Rattle.bidi_remote.specs.State.ConnectionRows.{attachment_in_hand};
 ghost use Rattle.bidi_remote.specs.State.Stands.{AgreeWith, IsShort};
 ghost use Rattle.bidi_remote.specs.State.Turns.{Decides, HasResultOf, IsWellDecided};
 ghost use Rattle.bidi_messages.specs.Payloads.{command_method};
+ghost use Rattle.bidi_methods.specs.CommandData.{session_asked, browser_asked};
+ghost use Rattle.bidi_methods.specs.declared.command_data.CommandData.TheVariants.{Session};
 
 use crate::connections::Attachment;
 use crate::session::{decide_end, decide_new, decide_status, decide_subscribe, decide_unsubscribe};
 use crate::state::State;
 use crate::turn::{Asker, Turn};
 use bidi_browser::{Action, Refusal};
-use bidi_messages::{CommandData, ErrorCode, Method, Payload};
+use bidi_messages::{BrowserCommand, CommandData, ErrorCode, Method, Payload, SessionCommand};
 use bidi_params::session::NewParameters;
 use bidi_shape::Shape;
 use std::alloc::Global;
@@ -68,8 +69,28 @@ fn decide_alone(
     ensures of_method { HasResultOf (command_method asked.now) result }
 {
     match asked {
-        CommandData::SessionStatus(_) => decide_status(alloc, state, asker),
-        CommandData::SessionNew(params) => decide_new(alloc, state, asker, params.as_ref()),
+        CommandData::Session(command) => decide_without_session(alloc, state, asker, command),
+        CommandData::Browser(_) => Err(Refusal::Code(ErrorCode::InvalidSessionId)),
+    }
+}
+
+// Decides a command of the module session, on a connection without one.
+fn decide_without_session(
+    alloc: Global,
+    state: &State,
+    asker: Asker,
+    command: &SessionCommand,
+) -> Result<Turn, Refusal>
+    requires { IsWellAsked ⟦<NewParameters as Shape>⟧.shape (Session command.now) }
+    ensures ok { (h : List Input) → IsShort h → AgreeWith state.now (deeds h)
+        → (let what = session_asked_of ⟦<NewParameters as Shape>⟧.shape command.now in
+        Decides result (deeds h) asker what (outcome (deeds h) asker.conn.value Alone what)) }
+    ensures well { IsWellDecided result }
+    ensures of_method { HasResultOf (session_asked command.now).0 result }
+{
+    match command {
+        SessionCommand::Status(_) => decide_status(alloc, state, asker),
+        SessionCommand::New(params) => decide_new(alloc, state, asker, params.as_ref()),
         _ => Err(Refusal::Code(ErrorCode::InvalidSessionId)),
     }
 }
@@ -89,63 +110,50 @@ fn decide_in(
     ensures of_method { HasResultOf (command_method asked.now) result }
 {
     match asked {
-        CommandData::SessionStatus(_) => decide_status(alloc, state, asker),
-        CommandData::SessionNew(_) => Err(Refusal::Code(ErrorCode::SessionNotCreated)),
-        CommandData::SessionEnd(_) => decide_end(alloc, asker, session),
-        CommandData::SessionSubscribe(params) => {
+        CommandData::Session(command) => decide_of_session(alloc, state, asker, session, command),
+        CommandData::Browser(command) => decide_browsing(alloc, state, asker, command),
+    }
+}
+
+// Decides a command of the module session, on a connection that speaks for one.
+fn decide_of_session(
+    alloc: Global,
+    state: &State,
+    asker: Asker,
+    session: u32,
+    command: &SessionCommand,
+) -> Result<Turn, Refusal>
+    ensures ok { (h : List Input) → IsShort h → AgreeWith state.now (deeds h) → attachment_of (deeds h) asker.conn.value ≡ SpeaksFor session
+        → (let what = session_asked_of ⟦<NewParameters as Shape>⟧.shape command.now in
+        Decides result (deeds h) asker what (outcome (deeds h) asker.conn.value (SpeaksFor session) what)) }
+    ensures well { IsWellDecided result }
+    ensures of_method { HasResultOf (session_asked command.now).0 result }
+{
+    match command {
+        SessionCommand::Status(_) => decide_status(alloc, state, asker),
+        SessionCommand::New(_) => Err(Refusal::Code(ErrorCode::SessionNotCreated)),
+        SessionCommand::End(_) => decide_end(alloc, asker, session),
+        SessionCommand::Subscribe(params) => {
             decide_subscribe(alloc, state, asker, session, params.as_ref())
         }
-        CommandData::SessionUnsubscribe(params) => {
+        SessionCommand::Unsubscribe(params) => {
             decide_unsubscribe(alloc, state, asker, session, params)
-        }
-        CommandData::BrowsingContextActivate(params) => {
-            decide_browsing(alloc, state, asker, Action::Activate(params))
-        }
-        CommandData::BrowsingContextClose(params) => {
-            decide_browsing(alloc, state, asker, Action::Close(params))
-        }
-        CommandData::BrowsingContextCreate(params) => {
-            decide_browsing(alloc, state, asker, Action::Create(params))
-        }
-        CommandData::BrowsingContextGetTree(params) => {
-            decide_browsing(alloc, state, asker, Action::GetTree(params))
-        }
-        CommandData::BrowsingContextNavigate(params) => {
-            decide_browsing(alloc, state, asker, Action::Navigate(params))
-        }
-        CommandData::BrowsingContextReload(params) => {
-            decide_browsing(alloc, state, asker, Action::Reload(params))
-        }
-        CommandData::BrowsingContextTraverseHistory(params) => {
-            decide_browsing(alloc, state, asker, Action::TraverseHistory(params))
-        }
-        CommandData::ScriptEvaluate(params) => {
-            decide_browsing(alloc, state, asker, Action::Evaluate(params.as_ref()))
-        }
-        CommandData::ScriptCallFunction(params) => {
-            decide_browsing(alloc, state, asker, Action::CallFunction(params.as_ref()))
-        }
-        CommandData::ScriptDisown(params) => {
-            decide_browsing(alloc, state, asker, Action::Disown(params.as_ref()))
-        }
-        CommandData::ScriptGetRealms(params) => {
-            decide_browsing(alloc, state, asker, Action::GetRealms(params))
         }
     }
 }
 
-// Decides a command of the module browsingContext or script: the browser plans it.
+// Decides a command of the browser: the browser plans it.
 fn decide_browsing(
     alloc: Global,
     state: &State,
     asker: Asker,
-    action: Action,
+    command: &BrowserCommand,
 ) -> Result<Turn, Refusal>
-    ensures ok { (past : List Deed) → AgreeWith state.now past → HasIds (acts past) → is_asked (action_of action.entry) ≡ true
-        → Decides result past asker (OfBrowser (action_of action.entry)) (did (browser.outcome (acts past) (action_of action.entry))) }
+    ensures ok { (past : List Deed) → AgreeWith state.now past → HasIds (acts past)
+        → Decides result past asker (OfBrowser (command_asked command.now)) (did (browser.outcome (acts past) (command_asked command.now))) }
     ensures well { IsWellDecided result }
-    ensures of_method { (method : Method) → method_of (action_of action.entry) ≡ Some method → HasResultOf method result }
+    ensures of_method { HasResultOf (browser_asked command.now).0 result }
 {
-    let plan = state.browser.plan(action, state.moment)?;
+    let plan = state.browser.plan(Action::Asked(command), state.moment)?;
     Ok(Turn::planned(alloc, plan, Some(asker)))
 }

@@ -12,6 +12,7 @@
 mod announcing;
 mod connections;
 mod deciding;
+mod event_index;
 mod event_texts;
 mod log_buffer;
 mod remote_end;
@@ -21,9 +22,10 @@ mod sessions;
 mod state;
 mod step;
 mod striking;
+mod subscription_table;
 mod subscriptions;
 mod telling;
 mod turn;
 
 pub use remote_end::{RemoteEnd, RemoteFault};
-pub use step::{Sent, Step};
+pub use step::{PageStep, Sent, Step};

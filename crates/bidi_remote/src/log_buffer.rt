@@ -4,7 +4,8 @@ ghost use Rattle.std.specs.VecDeque.{deque_len, deque_capacity};
 
 use crate::announcing::announce;
 use crate::event_texts::EventText;
-use crate::subscriptions::{Scope, Subscription};
+use crate::subscription_table::Subscriptions;
+use crate::subscriptions::Scope;
 use bidi_browser::Browser;
 use bidi_messages::EventName;
 use std::alloc::{AllocError, Global};
@@ -30,7 +31,9 @@ impl LogBuffer {
     ghost use Rattle.bidi_remote.specs.State.EventTexts.{written_of, written_in};
     ghost use Rattle.bidi_remote.specs.State.MissedRows.{waiting, with_missed, all_left};
     ghost use Rattle.bidi_remote.specs.State.SubscriptionRows.{is_new};
-    ghost use Rattle.bidi_remote.specs.State.SessionView.{places_in, scope_of, row_of};
+    ghost use Rattle.bidi_remote.specs.State.SessionView.{places_in};
+    ghost use Rattle.bidi_remote.specs.State.SubscriptionView.{scope_of};
+    ghost use Rattle.bidi_remote.specs.State.SubscriptionsView.{rows_of};
 
     /// An empty buffer. Room for a hundred entries is made here, so that none is needed later.
     pub(crate) fn new(alloc: Global) -> Result<LogBuffer, AllocError>
@@ -70,12 +73,12 @@ impl LogBuffer {
     pub(crate) fn announce(
         &mut self,
         browser: &Browser,
-        held: &[Subscription],
+        held: &Subscriptions,
         events: &[EventName],
         scope: &Scope,
     )
         ensures { (past : List Act) → StandsFor browser.now past
-            → places_in self.new ≡ all_left (is_new past (map row_of held.now) events.now (scope_of scope.now) EntryAdded) (places_in self.old) }
+            → places_in self.new ≡ all_left (is_new past (rows_of held.now) events.now (scope_of scope.now) EntryAdded) (places_in self.old) }
     {
         announce(&mut self.places, browser, held, events, scope);
     }

@@ -47,8 +47,9 @@ pub struct RemoteEnd {
     state: State,
     /// How many steps were accepted.
     count: u64,
-    /// What the texts are read in.
-    scratch: Scratch,
+    /// What the texts are read in. Its 16 KB stand apart, since each function that hands an end on would take as much of the
+    /// stack.
+    scratch: Box<Scratch>,
 }
 
 // Not derived, so that it is proved here alone.
@@ -73,11 +74,12 @@ impl RemoteEnd {
     pub fn new(alloc: Global) -> Result<RemoteEnd, AllocError>
         ensures { IfOk result (λ end. StandsFor end []) }
     {
+        let scratch = Box::new(alloc, Scratch::new(alloc))?;
         Ok(RemoteEnd {
             alloc,
             state: State::new(alloc)?,
             count: 0,
-            scratch: Scratch::new(alloc),
+            scratch,
         })
     }
 
@@ -115,7 +117,7 @@ impl RemoteEnd {
         if self.count >= MOST_STEPS {
             return Err(RemoteFault::WornOut);
         }
-        let sent = self.state.take(self.alloc, step, &mut self.scratch)?;
+        let sent = self.state.take(self.alloc, step, self.scratch.as_mut())?;
         self.count += 1;
         Ok(sent)
     }
@@ -140,7 +142,7 @@ impl RemoteEnd {
         }
         Ok(
             self.state
-                .is_struck(self.alloc, session, step, &mut self.scratch)?,
+                .is_struck(self.alloc, session, step, self.scratch.as_mut())?,
         )
     }
 

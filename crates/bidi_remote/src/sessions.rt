@@ -1,19 +1,20 @@
 //! Active sessions, and the resources that name them.
 ghost use Rattle.std.specs.Prelude.{◌≡◌, ◌<◌, ◌+◌, List, [], ◌∷◌, ◌++◌, ◌==◌, not, nat_lt, length, find, filter, map, replicate};
 ghost use Rattle.std.specs.Prelude.{codes, bytes_eq, Some, None, option_map, if◌then◌else◌, IfOk, OnOk, vec_len, vec_capacity};
-ghost use Rattle.std.specs.List.{position};
+ghost use Rattle.std.specs.List.{position, list_all};
 ghost use Rattle.bidi_handles.specs.declared.id.IdKind.TheVariants.{Session as OfSession};
 ghost use Rattle.bidi_handles.specs.Ids.{id_of};
 ghost use Rattle.bidi_browser.specs.Acts.{Act};
 ghost use Rattle.bidi_browser.specs.Stands.{StandsFor};
 ghost use Rattle.bidi_remote.specs.State.EventTexts.{Written, written_of, written_in};
-ghost use Rattle.bidi_remote.specs.State.MissedRows.{waiting};
-ghost use Rattle.bidi_remote.specs.State.SubscriptionRows.{begun, subscribed, cancelled, lost, logged, changed, row_in, any_covers};
-ghost use Rattle.bidi_remote.specs.State.SessionView.{scope_of, row_of, session_row_of, places_in, opened_by};
+ghost use Rattle.bidi_remote.specs.State.SubscriptionRows.{SessionRow, begun, subscribed, cancelled, lost, logged, changed, row_in, any_covers, any_global};
+ghost use Rattle.bidi_remote.specs.State.SessionView.{session_row_of, places_in, opened_by};
+ghost use Rattle.bidi_remote.specs.State.SubscriptionView.{scope_of, row_of};
 
 use crate::event_texts::EventText;
 use crate::log_buffer::LogBuffer;
-use crate::subscriptions::{Scope, Subscription, any_covers, cancel, dismiss};
+use crate::subscription_table::Subscriptions;
+use crate::subscriptions::{Scope, Subscription};
 use bidi_browser::{Browser, IdKind, id_number};
 use bidi_messages::EventName;
 use std::alloc::{AllocError, Global};
@@ -50,40 +51,40 @@ pub(crate) struct Session {
     pub number: u32,
     /// How many subscriptions it has made, with those that are gone.
     pub made: u32,
-    /// Its live subscriptions, in order of number.
-    pub subscriptions: Vec<Subscription>,
+    /// Its live subscriptions.
+    pub subscriptions: Subscriptions,
     /// The log entries that it missed.
     pub missed: LogBuffer,
 }
 
 impl Session {
-    ghost use Rattle.bidi_remote.specs.State.SessionView.{HasRoom};
+    ghost use Rattle.bidi_remote.specs.State.SubscriptionsView.{HasRoomFor};
 
     /// Whether the event is enabled for it in the tree of this top-level context.
     pub(crate) fn hears(&self, event: EventName, top: u64) -> bool
         ensures { result ≡ any_covers (session_row_of self.now).subscriptions event top }
     {
-        any_covers(&self.subscriptions, event, top)
+        self.subscriptions.hears(event, top)
     }
 
-    // Makes room for one more subscription.
-    fn reserve(&mut self) -> Result<(), AllocError>
+    // Makes room for one more subscription, to these events in this scope.
+    fn reserve(&mut self, events: &[EventName], scope: &Scope) -> Result<(), AllocError>
         ensures row { session_row_of self.new ≡ session_row_of self.old }
-        ensures room { OnOk result (HasRoom self.new) }
+        ensures room { OnOk result (HasRoomFor events.now (scope_of scope.now) self.new.subscriptions) }
     {
-        self.subscriptions.reserve(1)
+        self.subscriptions.reserve(events, scope)
     }
 
     // Adds a subscription with the next number. The log entries that it newly enables wait no longer.
     fn subscribe(&mut self, browser: &Browser, events: Vec<EventName>, scope: Scope)
-        requires { HasRoom self.now }
+        requires { HasRoomFor events.items (scope_of scope) self.now.subscriptions }
         ensures { (past : List Act) → StandsFor browser.now past → self.old.made < 4294967295
             → session_row_of self.new ≡ subscribed past events.items (scope_of scope) (session_row_of self.old) }
     {
         let number = self.made.wrapping_add(1);
         self.missed
             .announce(browser, &self.subscriptions, &events, &scope);
-        self.subscriptions.push_reserved(Subscription {
+        self.subscriptions.add(Subscription {
             number,
             events,
             scope,
@@ -104,14 +105,14 @@ impl Session {
     fn cancel(&mut self, numbers: &[u32])
         ensures { session_row_of self.new ≡ cancelled numbers.now (session_row_of self.old) }
     {
-        cancel(&mut self.subscriptions, numbers);
+        self.subscriptions.cancel(numbers);
     }
 
     // Removes these events from the global subscriptions.
     fn dismiss(&mut self, events: &[EventName])
         ensures { session_row_of self.new ≡ lost events.now (session_row_of self.old) }
     {
-        dismiss(&mut self.subscriptions, events);
+        self.subscriptions.dismiss(events);
     }
 }
 
@@ -175,19 +176,27 @@ impl Sessions {
         ensures { map row_of result.now ≡ (row_in number (rows_in self.now)).subscriptions }
     {
         match find(&self.active, number) {
-            Some(session) => &session.subscriptions,
+            Some(session) => session.subscriptions.all(),
             None => &[],
         }
     }
 
-    /// The log entries that wait for a session, the oldest first. One that is not active has none.
-    pub(crate) fn waiting_for(&self, number: u32) -> Result<Vec<Rc<EventText>>, AllocError>
-        ensures { IfOk result (λ all. written_in all.items ≡ waiting (row_in number (rows_in self.now)).missed) }
+    /// Whether each of these events is in a global subscription of a session that is active.
+    pub(crate) fn all_global(&self, number: u32, events: &[EventName]) -> bool
+        ensures { (r : SessionRow) → find (λ r. r.number == number) (rows_in self.now) ≡ Some r
+            → result ≡ list_all (any_global r.subscriptions) events.now }
     {
         match find(&self.active, number) {
-            Some(session) => session.missed.waiting(self.alloc),
-            None => Ok(Vec::new(self.alloc)),
+            Some(session) => session.subscriptions.all_global(events),
+            None => false,
         }
+    }
+
+    /// The active session of this number.
+    pub(crate) fn find(&self, number: u32) -> Option<&Session>
+        ensures { option_map (λ s. session_row_of s.now) result ≡ find (λ r. r.number == number) (rows_in self.now) }
+    {
+        find(&self.active, number)
     }
 
     /// For whom a resource opens a connection; `None` where it names nothing.
@@ -207,14 +216,19 @@ impl Sessions {
         self.active.reserve(1)
     }
 
-    /// Makes room for one more subscription of a session.
-    pub(crate) fn reserve_in(&mut self, number: u32) -> Result<(), AllocError>
+    /// Makes room for one more subscription of a session, to these events in this scope.
+    pub(crate) fn reserve_in(
+        &mut self,
+        number: u32,
+        events: &[EventName],
+        scope: &Scope,
+    ) -> Result<(), AllocError>
         ensures rows { rows_in self.new ≡ rows_in self.old }
         ensures made { self.new.made ≡ self.old.made }
-        ensures room { OnOk result (HasRoomIn number self.new) }
+        ensures room { OnOk result (HasRoomIn number events.now (scope_of scope.now) self.new) }
     {
         match place_of(&self.active, number) {
-            Some(place) => self.active[place].reserve(),
+            Some(place) => self.active[place].reserve(events, scope),
             None => Ok(()),
         }
     }
@@ -230,7 +244,7 @@ impl Sessions {
         self.active.push_reserved(Session {
             number,
             made: 0,
-            subscriptions: Vec::new(self.alloc),
+            subscriptions: Subscriptions::new(self.alloc),
             missed,
         });
         self.made = number;
@@ -254,7 +268,7 @@ impl Sessions {
         events: Vec<EventName>,
         scope: Scope,
     )
-        requires { HasRoomIn number self.now }
+        requires { HasRoomIn number events.items (scope_of scope) self.now }
         ensures rows { (past : List Act) → StandsFor browser.now past → (row_in number (rows_in self.old)).made < 4294967295
             → rows_in self.new ≡ changed number (subscribed past events.items (scope_of scope)) (rows_in self.old) }
         ensures made { self.new.made ≡ self.old.made }

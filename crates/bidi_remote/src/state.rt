@@ -7,6 +7,7 @@ ghost use Rattle.bidi_methods.specs.Method.{method_text};
 ghost use Rattle.bidi_messages.specs.Verdict.{IsVerdict, Accepted};
 ghost use Rattle.bidi_messages.specs.Verdict as judged;
 ghost use Rattle.bidi_messages.specs.View.{verdict_of, IsWell};
+ghost use Rattle.bidi_browser.specs.Actions as asked;
 ghost use Rattle.bidi_browser.specs.Actions.{is_asked, Log};
 ghost use Rattle.bidi_browser.specs.Acts.{Act};
 ghost use Rattle.bidi_browser.specs.Plans as planned;
@@ -15,14 +16,14 @@ ghost use Rattle.bidi_browser.specs.View.{result_tree};
 ghost use Rattle.bidi_remote.specs.Machine.Step as steps;
 ghost use Rattle.bidi_remote.specs.Machine.Replies.{IsAnsweredOnce, ReadsAs};
 ghost use Rattle.bidi_remote.specs.Machine.Sent.{Text};
-ghost use Rattle.bidi_remote.specs.Machine.History.{Input, Open, Drop, Heard, NotText, PageStep, IsHeardAs, acts, moment};
+ghost use Rattle.bidi_remote.specs.Machine.History.{Input, Open, Drop, Heard, NotText, OfPage, IsTakenAs, IsHeardAs, acts, moment};
 ghost use Rattle.bidi_remote.specs.Machine.Connections.{is_open, attachment_of, is_shut};
 ghost use Rattle.bidi_remote.specs.Machine.Outcome.{deeds, turn};
 ghost use Rattle.bidi_remote.specs.State.Asked.{Asks, IsWellAsked, asked_of};
 ghost use Rattle.bidi_remote.specs.State.ConnectionRows.{attachment_in_hand, opening_by};
 ghost use Rattle.bidi_remote.specs.State.Messages.{AllReadBack};
 ghost use Rattle.bidi_remote.specs.State.SessionView.{opened_by};
-ghost use Rattle.bidi_remote.specs.State.View.{step_of, sent_of};
+ghost use Rattle.bidi_remote.specs.State.View.{page_of, step_of, sent_of};
 ghost use Rattle.bidi_messages.specs.Payloads.{command_method};
 
 use crate::connections::{Attachment, Connections};
@@ -30,7 +31,7 @@ use crate::deciding::decide;
 use crate::event_texts::event_texts;
 use crate::rows::read_row;
 use crate::sessions::{Opening, Sessions};
-use crate::step::{Sent, Step};
+use crate::step::{PageStep, Sent, Step};
 use crate::telling::{tell, tell_entry};
 use crate::turn::{Asker, Change, Turn};
 use bidi_browser::{Action, Browser, Change as BrowserChange, Occurrence, Plan, Refusal};
@@ -99,17 +100,7 @@ impl State {
             Step::Drop(conn) => self.drop_connection(alloc, conn),
             Step::Text(conn, text) => self.hear(alloc, conn, text.as_str(), scratch),
             Step::NotText(conn) => self.hear_no_text(alloc, conn),
-            Step::Frame(context, url) => {
-                self.page(alloc, Action::Frame(context.as_str(), url.as_str()))
-            }
-            Step::Unframe(context) => self.page(alloc, Action::Unframe(context.as_str())),
-            Step::Log(context, level, text) => {
-                self.log(alloc, context.as_str(), level, text.as_str())
-            }
-            Step::TableRow(text) => {
-                let row = read_row(alloc, text.as_str())?;
-                self.page(alloc, Action::TableRow(row))
-            }
+            Step::Page(page) => self.take_page(alloc, page),
         }
     }
 
@@ -256,11 +247,32 @@ impl State {
         }
     }
 
-    // Takes a step of a page, which has no effect where the browser refuses it.
-    fn page(&mut self, alloc: Global, action: Action) -> Result<Vec<Sent>, AllocError>
+    // Takes a step of a page.
+    fn take_page(&mut self, alloc: Global, page: PageStep) -> Result<Vec<Sent>, AllocError>
+        ensures ok { IfOk result (λ sent. (action : asked.Action) × IsTakenAs (page_of page) action
+            × ((h : List Input) → IsShort h → AgreeWith self.old (deeds h) → Takes self.new (map sent_of sent.items) h (OfPage action))) }
+        ensures err { OnErr result (Keeps self.old self.new) }
+    {
+        match page {
+            PageStep::Frame(context, url) => {
+                self.browse(alloc, Action::Frame(context.as_str(), url.as_str()))
+            }
+            PageStep::Unframe(context) => self.browse(alloc, Action::Unframe(context.as_str())),
+            PageStep::Log(context, level, text) => {
+                self.log(alloc, context.as_str(), level, text.as_str())
+            }
+            PageStep::TableRow(text) => {
+                let row = read_row(alloc, text.as_str())?;
+                self.browse(alloc, Action::TableRow(row))
+            }
+        }
+    }
+
+    // Has the browser do what a page does; it has no effect where the browser refuses it.
+    fn browse(&mut self, alloc: Global, action: Action) -> Result<Vec<Sent>, AllocError>
         ensures ok { (h : List Input) → IsShort h → AgreeWith self.old (deeds h)
             → is_asked (action_of action.entry) ≡ false → is_log (action_of action.entry) ≡ false
-            → IfOk result (λ sent. Takes self.new (map sent_of sent.items) h (PageStep (action_of action.entry))) }
+            → IfOk result (λ sent. Takes self.new (map sent_of sent.items) h (OfPage (action_of action.entry))) }
         ensures err { OnErr result (Keeps self.old self.new) }
     {
         match self.browser.plan(action, self.moment) {
@@ -279,7 +291,7 @@ impl State {
         text: &str,
     ) -> Result<Vec<Sent>, AllocError>
         ensures ok { (h : List Input) → IsShort h → AgreeWith self.old (deeds h)
-            → IfOk result (λ sent. Takes self.new (map sent_of sent.items) h (PageStep (Log context.now level text.now))) }
+            → IfOk result (λ sent. Takes self.new (map sent_of sent.items) h (OfPage (Log context.now level text.now))) }
         ensures err { OnErr result (Keeps self.old self.new) }
     {
         match self
@@ -297,7 +309,7 @@ impl State {
         requires { planned.IsWellTold plan }
         ensures ok { (h : List Input) (context text : List ℕ) (level : Level) → IsShort h → AgreeWith self.old (deeds h)
             → planned.Plans (Ok plan) (acts (deeds h)) (moment (deeds h)) (Log context level text)
-            → IfOk result (λ sent. Takes self.new (map sent_of sent.items) h (PageStep (Log context level text))) }
+            → IfOk result (λ sent. Takes self.new (map sent_of sent.items) h (OfPage (Log context level text))) }
         ensures err { OnErr result (Keeps self.old self.new) }
     {
         let (told, change) = told_by(plan);
@@ -339,7 +351,9 @@ impl State {
     {
         match change {
             Change::Begin(_, _) => self.sessions.reserve(),
-            Change::Subscribe(session, _, _) => self.sessions.reserve_in(*session),
+            Change::Subscribe(session, events, scope) => {
+                self.sessions.reserve_in(*session, events, scope)
+            }
             Change::Browse(change) => self.browser.reserve(change),
             _ => Ok(()),
         }

@@ -1,6 +1,6 @@
 //! The steps that a remote end takes, and what it sends.
 ghost use Rattle.std.specs.Prelude.{◌≡◌, IfOk, string_bytes};
-ghost use Rattle.bidi_remote.specs.State.View.{step_of};
+ghost use Rattle.bidi_remote.specs.State.View.{page_of, step_of};
 
 use bidi_tree::JsUint;
 use bidi_values::Level;
@@ -19,13 +19,21 @@ pub enum Step {
     Text(JsUint, String),
     /// A binary message came in on the connection. It is answered as a text that is not JSON.
     NotText(JsUint),
-    /// A page adds a child to the context of this id, at this URL.
+    /// A page does something by itself.
+    Page(PageStep),
+}
+
+/// What a page does by itself, which no client asked for. A play gives it in place of the page.
+#[derive(Drop)]
+pub enum PageStep {
+    /// It adds a child to the context of this id, at this URL.
     Frame(String, String),
-    /// A page removes the child context of this id, with all its descendants.
+    /// It removes the child context of this id, with all its descendants.
     Unframe(String),
-    /// A page logs this text at this level, in the context of this id.
+    /// It logs this text at this level, in the context of this id.
     Log(String, Level, String),
-    /// A row of the script table is set. The text is the row in JSON; a text that is no row has no effect.
+    /// A row of the script table is set, which says what a script returns or throws. The text is the row in JSON; a
+    /// text that is no row has no effect.
     TableRow(String),
 }
 
@@ -43,16 +51,27 @@ impl Step {
             Step::Drop(conn) => Ok(Step::Drop(*conn)),
             Step::Text(conn, text) => Ok(Step::Text(*conn, copy(alloc, text)?)),
             Step::NotText(conn) => Ok(Step::NotText(*conn)),
-            Step::Frame(context, url) => {
+            Step::Page(page) => Ok(Step::Page(page.copy(alloc)?)),
+        }
+    }
+}
+
+impl PageStep {
+    // An equal step.
+    fn copy(&self, alloc: Global) -> Result<PageStep, AllocError>
+        ensures { IfOk result (λ page. page_of page ≡ page_of self.now) }
+    {
+        match self {
+            PageStep::Frame(context, url) => {
                 let context = copy(alloc, context)?;
-                Ok(Step::Frame(context, copy(alloc, url)?))
+                Ok(PageStep::Frame(context, copy(alloc, url)?))
             }
-            Step::Unframe(context) => Ok(Step::Unframe(copy(alloc, context)?)),
-            Step::Log(context, level, text) => {
+            PageStep::Unframe(context) => Ok(PageStep::Unframe(copy(alloc, context)?)),
+            PageStep::Log(context, level, text) => {
                 let context = copy(alloc, context)?;
-                Ok(Step::Log(context, *level, copy(alloc, text)?))
+                Ok(PageStep::Log(context, *level, copy(alloc, text)?))
             }
-            Step::TableRow(text) => Ok(Step::TableRow(copy(alloc, text)?)),
+            PageStep::TableRow(text) => Ok(PageStep::TableRow(copy(alloc, text)?)),
         }
     }
 }
@@ -78,6 +97,6 @@ pub enum Sent {
     Denied(JsUint),
     /// The connection is not open, so what came in on it, or its drop, was ignored.
     Lost(JsUint),
-    /// The step of a page, or the row of the script table, was refused. Nothing has changed.
+    /// The step of a page was refused. Nothing has changed.
     NoEffect,
 }

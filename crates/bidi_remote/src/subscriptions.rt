@@ -4,7 +4,7 @@ ghost use Rattle.std.specs.List.{list_all, list_any};
 ghost use Rattle.bidi_remote.specs.Machine.Subscriptions.{is_global, is_listed, covers};
 ghost use Rattle.bidi_remote.specs.State.SubscriptionRows.{row_covers, row_holds, numbers_named, loses_all, stripped, dismissed};
 ghost use Rattle.bidi_remote.specs.State.Checked.{IfChecked};
-ghost use Rattle.bidi_remote.specs.State.SessionView.{scope_of, row_of};
+ghost use Rattle.bidi_remote.specs.State.SubscriptionView.{scope_of, row_of};
 ghost use Rattle.bidi_handles.specs.Ids.{id_text};
 ghost use Rattle.bidi_browser.specs.Occurrences.{is_among};
 
@@ -55,13 +55,6 @@ pub(crate) struct Subscription {
 }
 
 impl Subscription {
-    // Whether it covers the event in the tree of this top-level context.
-    fn covers(&self, event: EventName, top: u64) -> bool
-        ensures { result ≡ row_covers event top (row_of self.now) }
-    {
-        covers(&self.events, &self.scope, event, top)
-    }
-
     // Whether it is global, and would lose its last events with these.
     fn loses_all(&self, events: &[EventName]) -> bool
         ensures { result ≡ loses_all events.now (row_of self.now) }
@@ -75,31 +68,6 @@ pub(crate) fn covers(events: &[EventName], scope: &Scope, event: EventName, top:
     ensures { result ≡ (is_among events.now event && covers (scope_of scope.now) top) }
 {
     is_among(events, event) && scope.covers(top)
-}
-
-/// Whether one of the subscriptions covers the event in the tree of this top-level context.
-pub(crate) fn any_covers(subscriptions: &[Subscription], event: EventName, top: u64) -> bool
-    ensures { result ≡ list_any (λ s. row_covers event top (row_of s)) subscriptions.now }
-{
-    subscriptions
-        .iter()
-        .any(|subscription| subscription.covers(event, top))
-}
-
-/// Whether each of these events is in a global subscription.
-pub(crate) fn all_global(subscriptions: &[Subscription], events: &[EventName]) -> bool
-    ensures { result ≡ list_all (λ e. list_any (λ s. row_holds e (row_of s)) subscriptions.now) events.now }
-{
-    events.iter().all(|event| any_global(subscriptions, *event))
-}
-
-/// Whether the event is in a global subscription.
-pub(crate) fn any_global(subscriptions: &[Subscription], event: EventName) -> bool
-    ensures { result ≡ list_any (λ s. row_holds event (row_of s)) subscriptions.now }
-{
-    subscriptions
-        .iter()
-        .any(|s| s.scope.is_global() && is_among(&s.events, event))
 }
 
 /// The numbers of the subscriptions of a session that have these ids.
@@ -143,11 +111,11 @@ pub(crate) fn cancel(subscriptions: &mut Vec<Subscription>, numbers: &[u32])
     subscriptions.retain(|s| !is_listed(numbers, s.number));
 }
 
-// Whether the number is one of these.
-fn is_listed(numbers: &[u32], number: u32) -> bool
+/// Whether the number is one of these.
+pub(crate) fn is_listed(numbers: &[u32], number: u32) -> bool
     ensures { result ≡ is_listed numbers.now number }
 {
-    numbers.contains(&number)
+    numbers.iter().any(|n| *n == number)
 }
 
 /// Removes these events from each global subscription, and with its last event the subscription itself.

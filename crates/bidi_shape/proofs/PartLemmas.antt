@@ -1,14 +1,12 @@
--- What holds of every value holds of a list of them, and of one that may be there; null is no text; an item has no more levels than its list; and what is put into a sound map leaves it sound.
+-- What holds of every value holds of a list of them, and of one that may be there; null is no text; an item has no more levels than its list.
 use Rattle.std.proofs.Common.{ℕ, zero, suc, ◌++◌, ◌≤◌, ◌<◌, length, map, get_or, arith}
-use Rattle.std.specs.Prelude.{◌≡◌, List, [], ◌∷◌, Option, Some, None, IfSome, Result, Ok, Err, OnOk, refl}
-use Rattle.std.proofs.Common.{sym, subst, ap, ◌∙◌, take, ◌+◌}
+use Rattle.std.specs.Prelude.{◌≡◌, List, [], ◌∷◌, Option, Some, None, IfSome, refl}
+use Rattle.std.proofs.Common.{sym, ap, ◌∙◌, take, ◌+◌}
 use Rattle.std.proofs.lemmas.List.{map-append, take_more}
 use Rattle.std.specs.List.{AllByRecursion}
-use Rattle.bidi_tree.specs.Node as tree
-use Rattle.bidi_tree.specs.Node.{Node, Members, put, levels, items_levels, IsSound, ItemsAreSound}
-use Rattle.bidi_tree.proofs.SoundLemmas.{AreAscending-put, MembersAreSound-put}
+use Rattle.bidi_tree.specs.Node.{Node, levels, items_levels}
 use Rattle.bidi_tree.specs.View.{items_of}
-use Rattle.bidi_tree.specs.Outline.{outline_node, outline_items}
+use Rattle.bidi_tree.specs.Outline.{outline_node}
 use Rattle.bidi_tree.specs.declared.outline.Outline.{Outline}
 use Rattle.bidi_shape.specs.Term.{text}
 use Rattle.bidi_shape.specs.ChoiceLaws.{NullableWell}
@@ -33,24 +31,10 @@ item_levels tree_of [] i d h = absurd (omega arith)
 item_levels tree_of (x ∷ xs) zero d h = omega arith
 item_levels tree_of (x ∷ xs) (suc i) d h = let rest = item_levels tree_of xs i d (omega arith) in omega (arith, rest)
 
--- what is put into a sound map leaves it sound
-pub sound-put : {U E : Type 0} (r : Result U E) (k : List ℕ) (n : Node) (old new : Members)
-    → IsSound n → OnOk r (new ≡ put k n old) → IsSound (tree.map old) → OnOk r (IsSound (tree.map new))
-sound-put (Ok u) k n old new s is h = subst (λ ms. IsSound (tree.map ms)) (sym is) (AreAscending-put k n old h.0, MembersAreSound-put k n old s h.1)
-sound-put (Err e) k n old new s is h = tt
-
--- ---- outlines of the items of a list, made one after the other
-
-sound-next : (ds : List Outline) (d : Outline) → ItemsAreSound (outline_items ds) → IsSound (outline_node d) → ItemsAreSound (outline_items (ds ++ d ∷ []))
-sound-next [] d all s = (s, tt)
-sound-next (e ∷ ds) d all s = (all.0, sound-next ds d all.1 s)
-
+-- outlines of the items of a list, made one after the other
 pub next-outlined : {X : Type 0} (tree_of : X → Node) (xs : List X) (i : ℕ) (x : X) (ds new : List Outline) (d : Outline) → new ≡ ds ++ d ∷ [] → i < length xs
-    → map outline_node ds ≡ map tree_of (take i xs) → ItemsAreSound (outline_items ds) → outline_node d ≡ tree_of x → x ≡ get_or xs i x → IsSound (outline_node d)
-    → (map outline_node new ≡ map tree_of (take (i + 1) xs)) × ItemsAreSound (outline_items new)
-next-outlined tree_of xs i x ds new d is few same all one at s =
-    let more : take (i + 1) xs ≡ take i xs ++ x ∷ [] = take_more xs i x few ∙ ap (λ y. take i xs ++ y ∷ []) (sym at) in (
-      ap (map outline_node) is ∙ map-append outline_node ds (d ∷ []) ∙ ap (λ ns. ns ++ outline_node d ∷ []) same ∙ ap (λ n. map tree_of (take i xs) ++ n ∷ []) one
-          ∙ sym (map-append tree_of (take i xs) (x ∷ [])) ∙ ap (map tree_of) (sym more),
-      subst (λ es. ItemsAreSound (outline_items es)) (sym is) (sound-next ds d all s),
-    )
+    → map outline_node ds ≡ map tree_of (take i xs) → outline_node d ≡ tree_of x → x ≡ get_or xs i x → map outline_node new ≡ map tree_of (take (i + 1) xs)
+next-outlined tree_of xs i x ds new d is few same one at =
+    let more : take (i + 1) xs ≡ take i xs ++ x ∷ [] = take_more xs i x few ∙ ap (λ y. take i xs ++ y ∷ []) (sym at) in
+    ap (map outline_node) is ∙ map-append outline_node ds (d ∷ []) ∙ ap (λ ns. ns ++ outline_node d ∷ []) same ∙ ap (λ n. map tree_of (take i xs) ++ n ∷ []) one
+    ∙ sym (map-append tree_of (take i xs) (x ∷ [])) ∙ ap (map tree_of) (sym more)

@@ -1,7 +1,7 @@
 //! The members of a map that is written, as a list of references.
 ghost use Rattle.std.specs.Prelude.{◌≡◌, ℕ, List, IfOk};
 ghost use Rattle.bidi_tree.specs.Node as kind;
-ghost use Rattle.bidi_tree.specs.Node.{IsSound, Members as Listed};
+ghost use Rattle.bidi_tree.specs.Node.{Members as Listed};
 ghost use Rattle.bidi_tree.specs.Outline.{outline_node, outline_members};
 ghost use Rattle.bidi_shape.specs.Parts.{texts_in};
 
@@ -28,8 +28,7 @@ pub trait Lent<'a>: Drop {
         texts: &'a [&'a str],
         room: usize,
     ) -> Result<OutlineMembers<'a>, AllocError>
-        ensures ok { IfOk result (λ ms. outline_members ms.items ≡ listed (texts_in names.now) (texts_in texts.now) self.now) }
-        ensures sound { IfOk result (λ ms. IsSound (kind.map (outline_members ms.items))) };
+        ensures { IfOk result (λ ms. outline_members ms ≡ listed (texts_in names.now) (texts_in texts.now) self.now) };
 }
 
 /// A member that is there.
@@ -144,7 +143,7 @@ impl<'a> Lent<'a> for End {
         _texts: &'a [&'a str],
         room: usize,
     ) -> Result<OutlineMembers<'a>, AllocError> {
-        Vec::with_capacity(alloc, room)
+        OutlineMembers::with_capacity(alloc, room)
     }
 }
 
@@ -158,8 +157,7 @@ pub fn outline_fields<'a, L: Lent<'a>>(
     names: &'a [&'a str],
     texts: &'a [&'a str],
 ) -> Result<Outline<'a>, AllocError>
-    ensures tree { IfOk result (λ d. outline_node d ≡ kind.map (L.listed (texts_in names.now) (texts_in texts.now) members.now)) }
-    ensures sound { IfOk result (λ d. IsSound (outline_node d)) }
+    ensures { IfOk result (λ d. outline_node d ≡ kind.map (L.listed (texts_in names.now) (texts_in texts.now) members.now)) }
 {
     Ok(Outline::Map(members.outline(alloc, names, texts, names.len())?))
 }

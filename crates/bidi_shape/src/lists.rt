@@ -2,7 +2,6 @@
 ghost use Rattle.std.proofs.Common.{zero-le};
 ghost use Rattle.std.specs.Prelude.{◌≡◌, ◌≤◌, IfOk, length, map, suc, max};
 ghost use Rattle.std.specs.List.{AllByRecursion};
-ghost use Rattle.bidi_tree.specs.Node.{IsSound};
 ghost use Rattle.bidi_tree.specs.Outline.{outline_node};
 ghost use Rattle.bidi_tree.specs.View.{items_of};
 ghost use Rattle.bidi_shape.specs.Term.{list_of, pair_of};
@@ -31,8 +30,7 @@ fn read_items<X: Shape, S: Parsed>(alloc: Global, items: &[S]) -> Result<Vec<X>,
 
 /// The outline of the list of the items.
 fn outline_list<'a, X: Shape>(alloc: Global, items: &'a [X]) -> Result<Outline<'a>, AllocError>
-    ensures tree { IfOk result (λ d. outline_node d ≡ list_tree X.shape.tree_of items.now) }
-    ensures sound { IfOk result (λ d. IsSound (outline_node d)) }
+    ensures { IfOk result (λ d. outline_node d ≡ list_tree X.shape.tree_of items.now) }
 {
     let mut outlines = Vec::with_capacity(alloc, items.len())?;
     for item in items {

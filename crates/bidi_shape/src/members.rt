@@ -1,6 +1,6 @@
 //! The members of a map, one by one.
 ghost use Rattle.std.specs.Prelude.{◌≡◌, IfOk, OnOk, OnErr, IsTrue, ◌↔◌, option_map, Some, IfSome};
-ghost use Rattle.bidi_tree.specs.Node.{put, get_member, IsSound, IsWhole, MembersAreWhole, AreAscending, no_members};
+ghost use Rattle.bidi_tree.specs.Node.{put, get_member, IsWhole, MembersAreWhole, AreAscending, no_members};
 ghost use Rattle.bidi_tree.specs.Kind.{members_in};
 ghost use Rattle.bidi_tree.specs.Outline.{outline_members};
 ghost use Rattle.bidi_tree.specs.View.{node, members_node};
@@ -68,9 +68,8 @@ pub fn add_member<'a, X: Shape>(
     name: &'a str,
     value: &'a X,
 ) -> Result<(), AllocError>
-    ensures ok { OnOk result (outline_members members.new.items ≡ put name.now (X.shape.tree_of value.now) (outline_members members.old.items)) }
-    ensures sound { IsSound (kind.map (outline_members members.old.items)) → OnOk result (IsSound (kind.map (outline_members members.new.items))) }
-    ensures err { OnErr result (outline_members members.new.items ≡ outline_members members.old.items) }
+    ensures ok { OnOk result (outline_members members.new ≡ put name.now (X.shape.tree_of value.now) (outline_members members.old)) }
+    ensures err { OnErr result (outline_members members.new ≡ outline_members members.old) }
 {
     let outline = value.outline(alloc)?;
     put_outline(members, name, outline)
@@ -86,9 +85,8 @@ pub fn add_optional<'a, X: Shape>(
     name: &'a str,
     value: &'a Option<X>,
 ) -> Result<(), AllocError>
-    ensures ok { OnOk result (outline_members members.new.items ≡ put_part name.now (option_map X.shape.tree_of value.now) (outline_members members.old.items)) }
-    ensures sound { IsSound (kind.map (outline_members members.old.items)) → OnOk result (IsSound (kind.map (outline_members members.new.items))) }
-    ensures err { OnErr result (outline_members members.new.items ≡ outline_members members.old.items) }
+    ensures ok { OnOk result (outline_members members.new ≡ put_part name.now (option_map X.shape.tree_of value.now) (outline_members members.old)) }
+    ensures err { OnErr result (outline_members members.new ≡ outline_members members.old) }
 {
     match value {
         Some(value) => add_member(alloc, members, name, value),
@@ -105,9 +103,8 @@ pub fn add_literal<'a>(
     name: &'a str,
     text: &'a str,
 ) -> Result<(), AllocError>
-    ensures ok { OnOk result (outline_members members.new.items ≡ put name.now (kind.text text.now) (outline_members members.old.items)) }
-    ensures sound { IsSound (kind.map (outline_members members.old.items)) → OnOk result (IsSound (kind.map (outline_members members.new.items))) }
-    ensures err { OnErr result (outline_members members.new.items ≡ outline_members members.old.items) }
+    ensures ok { OnOk result (outline_members members.new ≡ put name.now (kind.text text.now) (outline_members members.old)) }
+    ensures err { OnErr result (outline_members members.new ≡ outline_members members.old) }
 {
     put_outline(members, name, Outline::Text(text))
 }

@@ -1,6 +1,5 @@
 //! Types whose values are the trees that fit a rule.
 ghost use Rattle.std.specs.Prelude.{◌≡◌, IfOk};
-ghost use Rattle.bidi_tree.specs.Node.{IsSound};
 ghost use Rattle.bidi_tree.specs.Outline.{outline_node};
 ghost use Rattle.bidi_tree.specs.View.{node};
 ghost use Rattle.bidi_shape.specs.Value.{ShapeOf};
@@ -33,8 +32,7 @@ pub trait Shape: Drop {
     /// # Errors
     /// No memory: an allocation failed.
     fn outline<'a>(&'a self, alloc: Global) -> Result<Outline<'a>, AllocError>
-        ensures tree { IfOk result (λ d. outline_node d ≡ shape.tree_of self.now) }
-        ensures sound { IfOk result (λ d. IsSound (outline_node d)) };
+        ensures { IfOk result (λ d. outline_node d ≡ shape.tree_of self.now) };
 
     /// Makes the tree of the value. Costs an outline, and a copy of each text.
     ///

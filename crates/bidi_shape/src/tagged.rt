@@ -1,6 +1,5 @@
 //! Closed maps that a text tells apart.
 ghost use Rattle.std.specs.Prelude.{◌≡◌, IfOk, ℕ, List};
-ghost use Rattle.bidi_tree.specs.Node.{IsSound};
 ghost use Rattle.bidi_tree.specs.Outline.{outline_node};
 ghost use Rattle.bidi_shape.specs.TagLaws.{bare_tree, typed_tree};
 
@@ -10,7 +9,7 @@ use crate::members::{add_literal, add_member};
 use crate::parsed::Parsed;
 use crate::shape::Shape;
 use crate::table::read_fields;
-use bidi_tree::Outline;
+use bidi_tree::{Outline, OutlineMembers};
 use std::alloc::{AllocError, Global};
 use std::marker::PhantomData;
 
@@ -86,10 +85,9 @@ impl<T: Tag, X: Shape> Shape for Typed<T, X> {
 /// # Errors
 /// No memory: an allocation failed.
 pub fn outline_of_type<'a>(alloc: Global, tag: &'a str) -> Result<Outline<'a>, AllocError>
-    ensures tree { IfOk result (λ d. outline_node d ≡ bare_tree tag.now) }
-    ensures sound { IfOk result (λ d. IsSound (outline_node d)) }
+    ensures { IfOk result (λ d. outline_node d ≡ bare_tree tag.now) }
 {
-    let mut members = Vec::with_capacity(alloc, 1)?;
+    let mut members = OutlineMembers::with_capacity(alloc, 1)?;
     add_literal(&mut members, "type", tag)?;
     Ok(Outline::Map(members))
 }
@@ -103,10 +101,9 @@ pub fn outline_of_typed<'a, X: Shape>(
     tag: &'a str,
     value: &'a X,
 ) -> Result<Outline<'a>, AllocError>
-    ensures tree { IfOk result (λ d. outline_node d ≡ typed_tree tag.now (X.shape.tree_of value.now)) }
-    ensures sound { IfOk result (λ d. IsSound (outline_node d)) }
+    ensures { IfOk result (λ d. outline_node d ≡ typed_tree tag.now (X.shape.tree_of value.now)) }
 {
-    let mut members = Vec::with_capacity(alloc, 2)?;
+    let mut members = OutlineMembers::with_capacity(alloc, 2)?;
     add_member(alloc, &mut members, "value", value)?;
     add_literal(&mut members, "type", tag)?;
     Ok(Outline::Map(members))

@@ -20,7 +20,7 @@ use Rattle.bidi_browser.specs.Occurrences.{Occurrence}
 use Rattle.bidi_browser.specs.Occurs.{Item, Happens, Replies, looked_result}
 use Rattle.bidi_remote.specs.Machine.Capabilities.{capabilities, matching}
 use Rattle.bidi_remote.specs.Machine.Commands.{Command, Status, New, End, Subscribe, UnsubscribeById, UnsubscribeByEvents, OfBrowser, command_of, id_of_command}
-use Rattle.bidi_remote.specs.Machine.History.{Input, At, Open, Drop, Heard, NotText, PageStep, Deed, Opened, Began, Ended}
+use Rattle.bidi_remote.specs.Machine.History.{Input, At, Open, Drop, Heard, NotText, OfPage, Deed, Opened, Began, Ended}
 use Rattle.bidi_remote.specs.Machine.History.{Subscribed, Cancelled, Dismissed, Did, Told, acts}
 use Rattle.bidi_remote.specs.Machine.Sessions.{sessions}
 use Rattle.bidi_remote.specs.Machine.Connections.{Attachment, Shut, Alone, SpeaksFor, is_for, attachment_of, is_open, openings}
@@ -261,8 +261,8 @@ heard-shown s past c t (Ok d) fine =
 heard-shown s past c t (Err refusal) fine = refl
 
 page-shown : (s : ℕ) (past : List Deed) (action : Action) (r : Result Act ErrorCode)
-    → filter (λ x. is_own past (with_turn past (machine.in_page r)) s (seen_on x)) (told (own s past) (PageStep action) (machine.in_page r))
-    ≡ filter (λ x. is_own past (with_turn past (machine.in_page r)) s (seen_on x)) (told past (PageStep action) (machine.in_page r))
+    → filter (λ x. is_own past (with_turn past (machine.in_page r)) s (seen_on x)) (told (own s past) (OfPage action) (machine.in_page r))
+    ≡ filter (λ x. is_own past (with_turn past (machine.in_page r)) s (seen_on x)) (told past (OfPage action) (machine.in_page r))
 page-shown s past action (Ok act) =
     ap (λ all. filter (λ x. is_own past (Did act ∷ past) s (seen_on x)) (flat_map (sent_unasked (own s past)) all)) (occurs-own s past action act)
     ∙ sent_unasked-own s past (Did act ∷ past) (λ k. refl) (items past (Some action) (Did act))
@@ -310,7 +310,7 @@ kept-shown s past (Heard c (Refused id code)) kept =
     (told-refused (own s past) past c id code (turn past (Heard c (Refused id code))))
 kept-shown s past (NotText c) kept =
     ap (filter (λ x. is_own past (with_turn past (turn past (NotText c))) s (seen_on x))) (told-no_text (own s past) past c (turn past (NotText c)))
-kept-shown s past (PageStep action) kept = page-shown s past action _
+kept-shown s past (OfPage action) kept = page-shown s past action _
 
 -- a connection of the session is one after its own past too
 is_own-own : (s : ℕ) (past : List Deed) (r : Result Deed NotTaken) (c : Option ℕ)

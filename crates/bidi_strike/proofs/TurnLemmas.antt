@@ -15,7 +15,7 @@ use Rattle.bidi_browser.specs.Outcome as browser
 use Rattle.bidi_messages.specs.Verdict.{Accepted, Refused}
 use Rattle.bidi_remote.specs.Machine.Capabilities.{matching}
 use Rattle.bidi_remote.specs.Machine.Commands.{Command, Status, New, End, Subscribe, UnsubscribeById, UnsubscribeByEvents, OfBrowser, command_of, id_of_command}
-use Rattle.bidi_remote.specs.Machine.History.{Input, At, Open, Drop, Heard, NotText, PageStep, Deed, Opened, Dropped, Began}
+use Rattle.bidi_remote.specs.Machine.History.{Input, At, Open, Drop, Heard, NotText, OfPage, Deed, Opened, Dropped, Began}
 use Rattle.bidi_remote.specs.Machine.History.{Subscribed, Cancelled, Dismissed, Did, Told, Below, acts}
 use Rattle.bidi_remote.specs.Machine.Connections.{Attachment, Shut, Alone, SpeaksFor, attachment_of, is_open}
 use Rattle.bidi_remote.specs.Machine.Subscriptions.{subscriptions, holds_globally}
@@ -135,7 +135,7 @@ turn-own s past (Heard c (Accepted t)) kept =
     λ i. if is_open-own s past c i then same i else Err (Lost c)
 turn-own s past (Heard c (Refused id code)) kept = λ i. if is_open-own s past c i then Err (Error c id code) else Err (Lost c)
 turn-own s past (NotText c) kept = λ i. if is_open-own s past c i then Err (Error c None InvalidArgument) else Err (Lost c)
-turn-own s past (PageStep action) kept = λ i. in_page (outcome-own s past action i)
+turn-own s past (OfPage action) kept = λ i. in_page (outcome-own s past action i)
 
 -- an input is struck after the past of the session where it is struck after the past
 quiet-idle : (another quiet a b : Bool) → quiet ≡ true → (another && (quiet || a)) ≡ (another && (quiet || b))
@@ -161,7 +161,7 @@ is_struck-own s past (At n) = refl
 is_struck-own s past (Open c resource) = refl
 is_struck-own s past (Drop c) = refl
 is_struck-own s past (NotText c) = refl
-is_struck-own s past (PageStep action) = refl
+is_struck-own s past (OfPage action) = refl
 
 -- ---- the past after it
 

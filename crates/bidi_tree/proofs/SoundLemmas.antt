@@ -14,7 +14,6 @@ use Rattle.serde_json.specs.Data as json
 use Rattle.serde_json.specs.Read.{of_json, of_items, of_members, number_of, read, max_depth}
 use Rattle.bidi_tree.specs.Number.{is_js_int}
 use Rattle.bidi_tree.specs.Node.{Node, whole, odd, Members, no_members, member, put, IsBelow, AreAscending, IsSound, ItemsAreSound, MembersAreSound}
-use Rattle.bidi_tree.specs.Json.{json_node, json_items, put_all, number_in}
 use Rattle.bidi_tree.specs.Text as text
 use Rattle.bidi_tree.specs.Text.{of_data, integer_node, number_node, tree_of}
 use Rattle.bidi_tree.specs.View.{members_node}
@@ -144,29 +143,3 @@ Holds-tree_of s =
 
 pub IsSound-tree_of : (s : List ℕ) (n : Node) → tree_of s ≡ Some n → IsSound n
 IsSound-tree_of s n e = subst (Holds IsSound) e (Holds-tree_of s)
-
--- ---- so is the tree of a value in hand
-
-IsSound-number_in : (o : Option json.Num) → IsSound (number_in o)
-IsSound-number_in None = tt
-IsSound-number_in (Some n) = IsSound-number_node n
-
-mutual
-  pub IsSound-json_node : (j : tree.Json) → IsSound (json_node j)
-  IsSound-json_node tree.null = tt
-  IsSound-json_node (tree.boolean b) = tt
-  IsSound-json_node (tree.number s) = IsSound-number_in (number_of s)
-  IsSound-json_node (tree.string s) = tt
-  IsSound-json_node (tree.array js) = ItemsAreSound-json_items js
-  IsSound-json_node (tree.object ms) = are_sound-put_all ms no_members tt tt
-
-  ItemsAreSound-json_items : (js : tree.Items) → ItemsAreSound (json_items js)
-  ItemsAreSound-json_items tree.no_items = tt
-  ItemsAreSound-json_items (tree.item j js) = (IsSound-json_node j, ItemsAreSound-json_items js)
-
-  are_sound-put_all : (ms : tree.Members) (found : Members)
-      → AreAscending found → MembersAreSound found → AreAscending (put_all ms found) × MembersAreSound (put_all ms found)
-  are_sound-put_all tree.no_members found a s = (a, s)
-  are_sound-put_all (tree.member k j ms) found a s =
-      are_sound-put_all ms (put k (json_node j) found) (AreAscending-put k (json_node j) found a)
-      (MembersAreSound-put k (json_node j) found (IsSound-json_node j) s)

@@ -5,4 +5,6 @@ pub mod Text
 pub mod Data
 pub mod Kind
 pub mod Json
+pub mod Named
 pub mod Outline
+pub mod formers

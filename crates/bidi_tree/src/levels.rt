@@ -68,9 +68,9 @@ fn are_within_outlines(items: &Vec<Outline<'_>>, limit: usize) -> bool
 
 #[cycle(outline_levels)]
 fn are_within_outline_members(members: &OutlineMembers<'_>, limit: usize) -> bool
-    ensures { result ≡ nat_le (members_levels (outline_members members.now.items)) limit }
+    ensures { result ≡ nat_le (members_levels (outline_members members.now)) limit }
 {
-    for member in members {
+    for member in members.as_slice() {
         if !is_within_outline(&member.1, limit) {
             return false;
         }

@@ -1,11 +1,12 @@
 //! Trees that borrow their texts, made of values to be written.
 ghost use Rattle.std.specs.Prelude.{◌≡◌, IfOk, OnOk, OnErr};
-ghost use Rattle.bidi_tree.specs.Node.{IsSound, ItemsAreSound, MembersAreSound, AreAscending, put};
+ghost use Rattle.bidi_tree.specs.Node.{put};
 ghost use Rattle.bidi_tree.specs.Outline.{outline_node, outline_items, outline_members};
 ghost use Rattle.bidi_tree.specs.View.{node, items_node, members_node};
 
 use crate::levels::is_within_outline;
 use crate::number::JsInt;
+use crate::sorted::Sorted;
 use crate::tree::{Members, Tree, put_member};
 use std::alloc::{AllocError, Global};
 use std::cmp::Ordering;
@@ -27,7 +28,7 @@ pub enum Outline<'a> {
     Text(&'a str),
     /// An array of JSON, its items in their order.
     List(Vec<Outline<'a>>),
-    /// An object of JSON, its members in the order in which they are written.
+    /// An object of JSON, its members in byte order of their names.
     Map(OutlineMembers<'a>),
 }
 
@@ -43,8 +44,8 @@ impl<'a> Outline<'a> {
     }
 }
 
-/// The members of an outline of a map, in the order in which they are written.
-pub type OutlineMembers<'a> = Vec<(&'a str, Outline<'a>)>;
+/// The members of an outline of a map, in byte order of their names.
+pub type OutlineMembers<'a> = Sorted<&'a str, Outline<'a>>;
 
 /// Puts a member in: in place of the one of that name, or else before the first whose name is above its own.
 ///
@@ -57,21 +58,21 @@ pub fn put_outline<'a>(
     name: &'a str,
     outline: Outline<'a>,
 ) -> Result<(), AllocError>
-    ensures ok { OnOk result (outline_members members.new.items ≡ put name.now (outline_node outline.entry) (outline_members members.old.items)) }
-    ensures err { OnErr result (outline_members members.new.items ≡ outline_members members.old.items) }
+    ensures ok { OnOk result (outline_members members.new ≡ put name.now (outline_node outline.entry) (outline_members members.old)) }
+    ensures err { OnErr result (outline_members members.new ≡ outline_members members.old) }
 {
     let mut place = 0;
-    while place < members.len() {
-        match name.cmp(members[place].0) {
+    while place < members.entries.len() {
+        match name.cmp(members.entries[place].0) {
             Ordering::Less => break,
             Ordering::Equal => {
-                members[place].1 = outline;
+                members.entries[place].1 = outline;
                 return Ok(());
             }
             Ordering::Greater => place += 1,
         }
     }
-    members.insert(place, (name, outline))?;
+    members.entries.insert(place, (name, outline))?;
     Ok(())
 }
 
@@ -81,7 +82,6 @@ pub fn put_outline<'a>(
 /// No memory: an allocation failed.
 #[cycle(own_outline)]
 pub fn own_outline(alloc: Global, outline: &Outline<'_>) -> Result<Tree, AllocError>
-    requires { IsSound (outline_node outline.now) }
     ensures { IfOk result (λ t. node t ≡ outline_node outline.now) }
 {
     match outline {
@@ -97,7 +97,6 @@ pub fn own_outline(alloc: Global, outline: &Outline<'_>) -> Result<Tree, AllocEr
 
 #[cycle(own_outline)]
 fn own_outline_items(alloc: Global, items: &Vec<Outline<'_>>) -> Result<Vec<Tree>, AllocError>
-    requires { ItemsAreSound (outline_items items.now.items) }
     ensures { IfOk result (λ v. items_node v.items ≡ outline_items items.now.items) }
 {
     let mut trees = Vec::with_capacity(alloc, items.len())?;
@@ -109,12 +108,10 @@ fn own_outline_items(alloc: Global, items: &Vec<Outline<'_>>) -> Result<Vec<Tree
 
 #[cycle(own_outline)]
 fn own_outline_members(alloc: Global, members: &OutlineMembers<'_>) -> Result<Members, AllocError>
-    requires ascending { AreAscending (outline_members members.now.items) }
-    requires sound { MembersAreSound (outline_members members.now.items) }
-    ensures { IfOk result (λ m. members_node m.entries ≡ outline_members members.now.items) }
+    ensures { IfOk result (λ m. members_node m.entries ≡ outline_members members.now) }
 {
     let mut owned = Members::new(alloc);
-    for member in members {
+    for member in members.as_slice() {
         let tree = own_outline(alloc, &member.1)?;
         put_member(&mut owned, String::from_str(alloc, member.0)?, tree)?;
     }

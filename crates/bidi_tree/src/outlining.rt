@@ -1,10 +1,10 @@
 //! The outline of a tree.
-ghost use Rattle.std.specs.Prelude.{◌≡◌, IfOk, OnOk};
-ghost use Rattle.bidi_tree.specs.Node.{IsSound, ItemsAreSound, MembersAreSound, AreAscending};
+ghost use Rattle.std.specs.Prelude.{◌≡◌, IfOk};
 ghost use Rattle.bidi_tree.specs.Outline.{outline_node, outline_items, outline_members};
 ghost use Rattle.bidi_tree.specs.View.{node, items_node, members_node};
 
 use crate::outline::{Outline, OutlineMembers};
+use crate::sorted::Sorted;
 use crate::tree::{Members, Tree};
 use std::alloc::{AllocError, Global};
 
@@ -14,8 +14,7 @@ use std::alloc::{AllocError, Global};
 /// No memory: an allocation failed.
 #[cycle(outline)]
 pub fn outline_of<'a>(alloc: Global, tree: &'a Tree) -> Result<Outline<'a>, AllocError>
-    ensures same { IfOk result (λ d. outline_node d ≡ node tree.now) }
-    ensures sound { OnOk result (IsSound (node tree.now)) }
+    ensures { IfOk result (λ d. outline_node d ≡ node tree.now) }
 {
     match tree {
         Tree::Null => Ok(Outline::Null),
@@ -30,8 +29,7 @@ pub fn outline_of<'a>(alloc: Global, tree: &'a Tree) -> Result<Outline<'a>, Allo
 
 #[cycle(outline)]
 fn outlines_of<'a>(alloc: Global, items: &'a Vec<Tree>) -> Result<Vec<Outline<'a>>, AllocError>
-    ensures same { IfOk result (λ v. outline_items v.items ≡ items_node items.now.items) }
-    ensures sound { OnOk result (ItemsAreSound (items_node items.now.items)) }
+    ensures { IfOk result (λ v. outline_items v.items ≡ items_node items.now.items) }
 {
     let mut outlines = Vec::with_capacity(alloc, items.len())?;
     for item in items {
@@ -50,13 +48,11 @@ pub fn outline_members_of<'a>(
     members: &'a Members,
     room: usize,
 ) -> Result<OutlineMembers<'a>, AllocError>
-    ensures same { IfOk result (λ v. outline_members v.items ≡ members_node members.now.entries) }
-    ensures ascending { OnOk result (AreAscending (members_node members.now.entries)) }
-    ensures sound { OnOk result (MembersAreSound (members_node members.now.entries)) }
+    ensures { IfOk result (λ ms. outline_members ms ≡ members_node members.now.entries) }
 {
     let mut outlines = Vec::with_capacity(alloc, members.len().saturating_add(room))?;
     for (name, member) in members.iter() {
         outlines.push((name.as_str(), outline_of(alloc, member)?))?;
     }
-    Ok(outlines)
+    Ok(Sorted { entries: outlines })
 }

@@ -1,13 +1,14 @@
 //! The outline of a JSON value that borrows its text.
-ghost use Rattle.std.specs.Prelude.{◌≡◌, IfOk, OnOk};
+ghost use Rattle.std.specs.Prelude.{◌≡◌, IfOk};
 ghost use Rattle.json.specs.Value.{items_view, members_view};
 ghost use Rattle.serde_json.specs.Read.{number_of};
-ghost use Rattle.bidi_tree.specs.Node.{IsSound, no_members};
+ghost use Rattle.bidi_tree.specs.Node.{no_members};
 ghost use Rattle.bidi_tree.specs.Outline.{outline_node, outline_items, outline_members};
 ghost use Rattle.bidi_tree.specs.Json.{parsed, json_items, put_all, number_in};
 
 use crate::number_text::whole_number;
 use crate::outline::{Outline, OutlineMembers};
+use crate::sorted::Sorted;
 use json::Value;
 use std::alloc::{AllocError, Global};
 use std::collections::BTreeMap;
@@ -18,8 +19,7 @@ use std::collections::BTreeMap;
 /// No memory: an allocation failed.
 #[cycle(outline_parsed)]
 pub fn outline_parsed<'a>(alloc: Global, value: &Value<'a>) -> Result<Outline<'a>, AllocError>
-    ensures same { IfOk result (λ d. outline_node d ≡ parsed value.now) }
-    ensures sound { OnOk result (IsSound (parsed value.now)) }
+    ensures { IfOk result (λ d. outline_node d ≡ parsed value.now) }
 {
     match value {
         Value::Null => Ok(Outline::Null),
@@ -51,7 +51,7 @@ fn members_parsed<'a>(
     alloc: Global,
     members: &Vec<(&'a str, Value<'a>)>,
 ) -> Result<OutlineMembers<'a>, AllocError>
-    ensures { IfOk result (λ v. outline_members v.items ≡ put_all (members_view members.now.items) no_members) }
+    ensures { IfOk result (λ ms. outline_members ms ≡ put_all (members_view members.now.items) no_members) }
 {
     let mut sorted = BTreeMap::new(alloc);
     for member in members {
@@ -66,13 +66,13 @@ fn in_order<'a>(
     alloc: Global,
     sorted: BTreeMap<&'a str, Outline<'a>>,
 ) -> Result<OutlineMembers<'a>, AllocError>
-    ensures { IfOk result (λ v. v.items ≡ sorted.entry.entries) }
+    ensures { IfOk result (λ ms. ms.entries.items ≡ sorted.entry.entries) }
 {
     let mut outlines = Vec::with_capacity(alloc, sorted.len())?;
     for member in sorted {
         outlines.push(member)?;
     }
-    Ok(outlines)
+    Ok(Sorted { entries: outlines })
 }
 
 fn number_outline<'a>(text: &str) -> Outline<'a>

@@ -44,8 +44,7 @@ pub fn write(alloc: Global, tree: &Tree) -> Result<String, AllocError>
 ///
 /// After RFC 8259.
 pub fn write_outline(alloc: Global, outline: &Outline<'_>) -> Result<String, AllocError>
-    requires sound { IsSound (outline_node outline.now) }
-    requires writable { IsWritable (outline_node outline.now) }
+    requires { IsWritable (outline_node outline.now) }
     ensures text { IfOk result (λ s. string_bytes s ≡ compact_text (outline_node outline.now)) }
     ensures reads_back { IfOk result (λ s. tree_of (string_bytes s) ≡ Some (outline_node outline.now)) }
 {
@@ -106,12 +105,12 @@ fn write_items(out: &mut Writer, items: &Vec<Outline<'_>>) -> Result<(), AllocEr
 #[cycle(write)]
 #[inline(never)]
 fn write_members(out: &mut Writer, members: &OutlineMembers<'_>) -> Result<(), AllocError>
-    requires { members_have_odd (outline_members members.now.items) ≡ false }
+    requires { members_have_odd (outline_members members.now) ≡ false }
     ensures before { OnOk result (out.new.before ≡ out.old.before) }
     ensures tokens { OnOk result (out.new.tokens
-        ≡ out.old.tokens ++ members_tokens (outline_members members.now.items)) }
+        ≡ out.old.tokens ++ members_tokens (outline_members members.now)) }
 {
-    for member in members {
+    for member in members.as_slice() {
         out.key(member.0)?;
         write_value(out, &member.1)?;
     }

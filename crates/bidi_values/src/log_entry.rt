@@ -1,7 +1,7 @@
 //! Log entries, their levels and their sources.
 ghost use Rattle.std.specs.Prelude.{◌≡◌, OnOk, refl, [], ◌∷◌, codes, IfOk, true};
 ghost use Rattle.bidi_tree.specs.Node as kind;
-ghost use Rattle.bidi_tree.specs.Node.{IsSound, MembersAreWhole};
+ghost use Rattle.bidi_tree.specs.Node.{MembersAreWhole};
 ghost use Rattle.bidi_tree.specs.Outline.{outline_members};
 ghost use Rattle.bidi_tree.specs.View.{members_node};
 ghost use Rattle.bidi_shape.specs.Table.{map_shape, names_in};
@@ -143,8 +143,7 @@ fn add_base<'a>(
     members: &mut OutlineMembers<'a>,
     base: &'a BaseLogEntry,
 ) -> Result<(), AllocError>
-    ensures ok { OnOk result (outline_members members.new.items ≡ and_base base.now (outline_members members.old.items)) }
-    ensures sound { IsSound (kind.map (outline_members members.old.items)) → OnOk result (IsSound (kind.map (outline_members members.new.items))) }
+    ensures { OnOk result (outline_members members.new ≡ and_base base.now (outline_members members.old)) }
 {
     add_optional(alloc, members, "stackTrace", &base.stack_trace)?;
     add_member(alloc, members, "timestamp", &base.timestamp)?;
@@ -190,7 +189,7 @@ impl Shape for ConsoleEntry {
     }
 
     fn outline<'a>(&'a self, alloc: Global) -> Result<Outline<'a>, AllocError> {
-        let mut members = Vec::with_capacity(alloc, Self::NAMES.len())?;
+        let mut members = OutlineMembers::with_capacity(alloc, Self::NAMES.len())?;
         add_member(alloc, &mut members, "args", &self.args)?;
         add_member(alloc, &mut members, "method", &self.method)?;
         add_literal(&mut members, "type", "console")?;
@@ -232,7 +231,7 @@ impl Shape for JavascriptEntry {
     }
 
     fn outline<'a>(&'a self, alloc: Global) -> Result<Outline<'a>, AllocError> {
-        let mut members = Vec::with_capacity(alloc, Self::NAMES.len())?;
+        let mut members = OutlineMembers::with_capacity(alloc, Self::NAMES.len())?;
         add_literal(&mut members, "type", "javascript")?;
         add_base(alloc, &mut members, &self.base)?;
         Ok(Outline::Map(members))

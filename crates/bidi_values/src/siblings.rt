@@ -1,7 +1,7 @@
 //! The members that stand beside the `value` of a closed map.
 ghost use Rattle.std.specs.Prelude.{◌≡◌, IfOk, OnOk, Some, codes, map as list_map};
 ghost use Rattle.bidi_tree.specs.Node as kind;
-ghost use Rattle.bidi_tree.specs.Node.{no_members, get_member, AreAscending, IsSound, ItemsAreSound};
+ghost use Rattle.bidi_tree.specs.Node.{no_members, get_member, AreAscending};
 ghost use Rattle.bidi_tree.specs.Kind.{members_in};
 ghost use Rattle.bidi_tree.specs.Outline.{outline_node, outline_items, outline_members};
 ghost use Rattle.bidi_tree.specs.View.{items_of};
@@ -12,7 +12,7 @@ ghost use Rattle.bidi_shape.specs.Outcome.{IfNoFit};
 ghost use Rattle.bidi_values.specs.SiblingLaws.{SiblingsOf, and_value, around, holding};
 
 use bidi_shape::{Parsed, ShapeFault};
-use bidi_tree::{Outline, OutlineMembers};
+use bidi_tree::{Outline, OutlineMembers, put_outline};
 use std::alloc::{AllocError, Global};
 
 /// The most members of such a map: `value`, `type`, `handle` and `internalId`.
@@ -44,8 +44,7 @@ pub trait Siblings: Drop {
         alloc: Global,
         members: &mut OutlineMembers<'a>,
     ) -> Result<(), AllocError>
-        ensures ok { OnOk result (outline_members members.new.items ≡ joined siblings.rows (siblings.parts self.now) (outline_members members.old.items)) }
-        ensures sound { IsSound (kind.map (outline_members members.old.items)) → OnOk result (IsSound (kind.map (outline_members members.new.items))) };
+        ensures { OnOk result (outline_members members.new ≡ joined siblings.rows (siblings.parts self.now) (outline_members members.old)) };
 
     /// A copy of the members, which shares no memory with them.
     ///
@@ -87,12 +86,10 @@ pub(crate) fn outline_around<'a, H: Siblings>(
     siblings: &'a H,
     items: Vec<Outline<'a>>,
 ) -> Result<Outline<'a>, AllocError>
-    requires { ItemsAreSound (outline_items items.items) }
-    ensures tree { IfOk result (λ d. outline_node d ≡ around H.siblings siblings.now (kind.list (outline_items items.entry.items))) }
-    ensures sound { IfOk result (λ d. IsSound (outline_node d)) }
+    ensures { IfOk result (λ d. outline_node d ≡ around H.siblings siblings.now (kind.list (outline_items items.entry.items))) }
 {
-    let mut members = Vec::with_capacity(alloc, ROOM)?;
-    members.push(("value", Outline::List(items)))?;
+    let mut members = OutlineMembers::with_capacity(alloc, ROOM)?;
+    put_outline(&mut members, "value", Outline::List(items))?;
     siblings.add_to(alloc, &mut members)?;
     Ok(Outline::Map(members))
 }

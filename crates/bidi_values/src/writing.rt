@@ -1,7 +1,6 @@
 //! Values that may hold others, as outlines.
 ghost use Rattle.std.specs.Prelude.{◌≡◌, IfOk, map};
-ghost use Rattle.bidi_tree.specs.Node.{IsSound, ItemsAreSound};
-ghost use Rattle.bidi_tree.specs.Outline.{outline_node, outline_items};
+ghost use Rattle.bidi_tree.specs.Outline.{outline_node};
 ghost use Rattle.bidi_values.specs.View.{nested_tree, nested_pair_tree, nested_key_tree};
 
 use crate::nested::{Nested, NestedKey, NestedPair, Nests};
@@ -15,8 +14,7 @@ pub(crate) fn outline_value<'a, P: Nests<L, M>, L: Siblings, M: Siblings>(
     alloc: Global,
     value: &'a Nested<P, L, M>,
 ) -> Result<Outline<'a>, AllocError>
-    ensures tree { IfOk result (λ d. outline_node d ≡ nested_tree P.nesting value.now) }
-    ensures sound { IfOk result (λ d. IsSound (outline_node d)) }
+    ensures { IfOk result (λ d. outline_node d ≡ nested_tree P.nesting value.now) }
 {
     match value {
         Nested::Plain(plain) => plain.outline(alloc),
@@ -36,8 +34,7 @@ fn outline_values<'a, P: Nests<L, M>, L: Siblings, M: Siblings>(
     alloc: Global,
     values: &'a Vec<Nested<P, L, M>>,
 ) -> Result<Vec<Outline<'a>>, AllocError>
-    ensures same { IfOk result (λ v. map outline_node v.items ≡ map (nested_tree P.nesting) values.now.items) }
-    ensures sound { IfOk result (λ v. ItemsAreSound (outline_items v.items)) }
+    ensures { IfOk result (λ v. map outline_node v.items ≡ map (nested_tree P.nesting) values.now.items) }
 {
     let mut outlines = Vec::with_capacity(alloc, values.len())?;
     for value in values {
@@ -51,8 +48,7 @@ fn outline_pairs<'a, P: Nests<L, M>, L: Siblings, M: Siblings>(
     alloc: Global,
     pairs: &'a Vec<NestedPair<P, L, M>>,
 ) -> Result<Vec<Outline<'a>>, AllocError>
-    ensures same { IfOk result (λ v. map outline_node v.items ≡ map (nested_pair_tree P.nesting) pairs.now.items) }
-    ensures sound { IfOk result (λ v. ItemsAreSound (outline_items v.items)) }
+    ensures { IfOk result (λ v. map outline_node v.items ≡ map (nested_pair_tree P.nesting) pairs.now.items) }
 {
     let mut outlines = Vec::with_capacity(alloc, pairs.len())?;
     for pair in pairs {
@@ -66,8 +62,7 @@ fn outline_pair<'a, P: Nests<L, M>, L: Siblings, M: Siblings>(
     alloc: Global,
     pair: &'a NestedPair<P, L, M>,
 ) -> Result<Outline<'a>, AllocError>
-    ensures tree { IfOk result (λ d. outline_node d ≡ nested_pair_tree P.nesting pair.now) }
-    ensures sound { IfOk result (λ d. IsSound (outline_node d)) }
+    ensures { IfOk result (λ d. outline_node d ≡ nested_pair_tree P.nesting pair.now) }
 {
     let key = outline_key(alloc, &pair.key)?;
     let value = outline_value(alloc, &pair.value)?;
@@ -82,8 +77,7 @@ fn outline_key<'a, P: Nests<L, M>, L: Siblings, M: Siblings>(
     alloc: Global,
     key: &'a NestedKey<P, L, M>,
 ) -> Result<Outline<'a>, AllocError>
-    ensures tree { IfOk result (λ d. outline_node d ≡ nested_key_tree P.nesting key.now) }
-    ensures sound { IfOk result (λ d. IsSound (outline_node d)) }
+    ensures { IfOk result (λ d. outline_node d ≡ nested_key_tree P.nesting key.now) }
 {
     match key {
         NestedKey::Value(value) => outline_value(alloc, value),

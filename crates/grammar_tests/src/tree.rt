@@ -362,14 +362,17 @@ fn parsed(alloc: Global, text: &str) -> Result<String, Fail> {
 
 /// The members in their order, after whole numbers were put at names.
 fn placed(alloc: Global, asked: &str) -> Result<String, Fail> {
-    let mut members: OutlineMembers = Vec::new(alloc);
+    let mut members = OutlineMembers::new(alloc);
     for member in asked.split(' ') {
         let (name, number) = member.split_once('=').ok_or("no member")?;
         let number = JsInt::new(number.parse()?).ok_or("out of range")?;
         put_outline(&mut members, name, Outline::Int(number))?;
     }
+    if members.len() != members.as_slice().len() {
+        return Err(Fail::from("another count"));
+    }
     let mut told = String::new(alloc);
-    for (name, outline) in &members {
+    for (name, outline) in members.as_slice() {
         let Outline::Int(number) = outline else {
             return Err(Fail::from("another outline"));
         };

@@ -3,7 +3,7 @@ use Rattle.std.specs.Prelude.{◌≡◌, ℕ, List, [], ◌∷◌, ◌++◌, map
 use Rattle.bidi_browser.specs.Contexts.{up_to}
 use Rattle.bidi_handles.specs.declared.id.IdKind.TheVariants.{Context}
 use Rattle.bidi_handles.specs.Ids.{id_of}
-use Rattle.bidi_remote.specs.Machine.Step.{Step, Frame}
+use Rattle.bidi_remote.specs.Machine.Step.{Step, Page, Frame}
 use Rattle.bidi_remote.specs.Machine.Sent as sent
 use Rattle.machine_facts.proofs.Rows.{after, ask, begun, event, frame, machine_on_literals, refusal, success, unframe}
 
@@ -213,16 +213,16 @@ frame_is_in_the_window_of_its_parent = refl
 
 -- so many frames within each other, below the first context
 abbrev pub chain : ℕ → List Step
-chain n = map (λ c. Frame (id_of Context c) (codes "about:blank")) (up_to n)
+chain n = map (λ c. Page (Frame (id_of Context c) (codes "about:blank"))) (up_to n)
 
 pub sixteen_levels_are_all :
-    after (begun ++ chain 15) (Frame (id_of Context 16) (codes "about:blank"))
+    after (begun ++ chain 15) (Page (Frame (id_of Context 16) (codes "about:blank")))
     ≡ sent.NoEffect ∷ []
 unfolding machine_on_literals
 sixteen_levels_are_all = refl
 
 pub fifteenth_level_has_room_below :
-    after (begun ++ chain 15) (Frame (id_of Context 15) (codes "about:blank"))
+    after (begun ++ chain 15) (Page (Frame (id_of Context 15) (codes "about:blank")))
     ≡ []
 unfolding machine_on_literals
 fifteenth_level_has_room_below = refl

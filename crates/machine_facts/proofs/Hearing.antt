@@ -8,10 +8,10 @@ use Rattle.bidi_shape.specs.Fits.{Fits}
 use Rattle.bidi_shape.proofs.FitsTest.{Answer, fit, misfit, not_known, IsRight, holds, fails, test, right-test}
 use Rattle.bidi_params.specs.declared.error_code.ErrorCode.TheVariants.{InvalidArgument, UnableToCaptureScreen}
 use Rattle.bidi_messages.specs.Verdict.{command_tree, echoed_id}
-use Rattle.bidi_browser.specs.Actions.{Frame, Unframe, Log, TableRow}
+use Rattle.bidi_browser.specs.Actions.{Action, Frame, Unframe, Log, TableRow}
 use Rattle.bidi_messages.specs.Verdict.{Verdict, Accepted, Refused, refusal_code, IsVerdict, is_command, is_not_json, is_no_command}
 use Rattle.bidi_remote.specs.Machine.Step as step
-use Rattle.bidi_remote.specs.Machine.History.{Input, At, Open, Drop, Heard, NotText, PageStep, row_tree, IsRow, is_row, is_no_row, IsHeardAs}
+use Rattle.bidi_remote.specs.Machine.History.{Input, At, Open, Drop, Heard, NotText, OfPage, row_tree, IsRow, is_row, is_no_row, IsTakenAs, IsHeardAs}
 use Rattle.bidi_remote.specs.Machine.History as history
 
 -- ---- computed
@@ -44,6 +44,13 @@ abbrev pub row_in : Option Node → Option Node
 row_in None = None
 row_in (Some t) = row_by (row_test t) t
 
+-- what a step of a page is taken as
+abbrev pub taken : step.PageStep → Action
+taken (step.Frame id url) = Frame id url
+taken (step.Unframe id) = Unframe id
+taken (step.Log id level text) = Log id level text
+taken (step.TableRow text) = TableRow (row_in (row_tree text))
+
 -- what is heard in a step
 abbrev pub heard : step.Step → Input
 heard (step.At n) = At n
@@ -51,10 +58,7 @@ heard (step.Open c resource) = Open c resource
 heard (step.Drop c) = Drop c
 heard (step.Text c text) = Heard c (verdict_in (command_tree text))
 heard (step.NotText c) = NotText c
-heard (step.Frame id url) = PageStep (Frame id url)
-heard (step.Unframe id) = PageStep (Unframe id)
-heard (step.Log id level text) = PageStep (Log id level text)
-heard (step.TableRow text) = PageStep (TableRow (row_in (row_tree text)))
+heard (step.Page page) = OfPage (taken page)
 
 -- ---- it is right
 
@@ -84,8 +88,15 @@ row-in s (Some t) e known = row-by s t (row_test t) e (right-test 1000 t (rule t
 -- the texts of a step are known
 abbrev pub IsKnownStep : step.Step → Type 0
 IsKnownStep (step.Text c text) = IsKnown command_test (command_tree text)
-IsKnownStep (step.TableRow text) = IsKnown row_test (row_tree text)
+IsKnownStep (step.Page (step.TableRow text)) = IsKnown row_test (row_tree text)
 IsKnownStep x = ⊤
+
+-- a step of a page is taken as what is computed
+taken-right : (page : step.PageStep) → IsKnownStep (step.Page page) → IsTakenAs page (taken page)
+taken-right (step.Frame id url) known = refl
+taken-right (step.Unframe id) known = refl
+taken-right (step.Log id level text) known = refl
+taken-right (step.TableRow text) known = (row_in (row_tree text), row-in text (row_tree text) refl known, refl)
 
 -- a step is heard as what is computed
 pub heard-right : (x : step.Step) → IsKnownStep x → IsHeardAs x (heard x)
@@ -94,7 +105,4 @@ heard-right (step.Open c resource) known = refl
 heard-right (step.Drop c) known = refl
 heard-right (step.Text c text) known = (verdict_in (command_tree text), verdict-in text (command_tree text) refl known, refl)
 heard-right (step.NotText c) known = refl
-heard-right (step.Frame id url) known = refl
-heard-right (step.Unframe id) known = refl
-heard-right (step.Log id level text) known = refl
-heard-right (step.TableRow text) known = (row_in (row_tree text), row-in text (row_tree text) refl known, refl)
+heard-right (step.Page page) known = (taken page, taken-right page known, refl)

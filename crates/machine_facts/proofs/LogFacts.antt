@@ -6,7 +6,7 @@ use Rattle.bidi_handles.specs.Ids.{id_of}
 use Rattle.bidi_values.specs.declared.log_entry.Level.TheVariants.{Error, Info}
 use Rattle.bidi_remote.specs.Machine.Sent.{Sent}
 use Rattle.bidi_handles.proofs.Spelling.{said}
-use Rattle.bidi_remote.specs.Machine.Step.{Step, At, Open, Drop, Log}
+use Rattle.bidi_remote.specs.Machine.Step.{Step, At, Open, Drop, Page, Log}
 use Rattle.bidi_remote.specs.Machine.Sent as sent
 use Rattle.machine_facts.proofs.Rows.{after, ask, ask_on, begun, event, frame, log, machine_on_literals, success, unframe}
 
@@ -147,7 +147,7 @@ entries_are_announced_oldest_first_over_all_contexts = refl
 
 -- so many entries of a context, each with its number for a text
 abbrev pub entries : ℕ → ℕ → List Step
-entries c n = map (λ k. Log (id_of Context c) Info (decimal k)) (up_to n)
+entries c n = map (λ k. Page (Log (id_of Context c) Info (decimal k))) (up_to n)
 
 -- an entry of the first context, as it is announced
 abbrev pub announced : ℕ → Sent

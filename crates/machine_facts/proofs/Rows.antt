@@ -5,7 +5,7 @@ use Rattle.serde_json.proofs.OnLiterals.{serde_json_on_literals}
 use Rattle.bidi_browser.proofs.OnLiterals.{browser_on_literals}
 use Rattle.bidi_handles.proofs.Spelling.{said}
 use Rattle.bidi_values.specs.declared.log_entry.Level.{Level}
-use Rattle.bidi_remote.specs.Machine.Step.{Step, Open, Text, Frame, Unframe, Log, TableRow}
+use Rattle.bidi_remote.specs.Machine.Step.{Step, Open, Text, Page, Frame, Unframe, Log, TableRow}
 use Rattle.bidi_remote.specs.Machine.Sent as sent
 use Rattle.bidi_remote.specs.Machine.Sent.{Sent, out}
 use Rattle.machine_facts.proofs.Hearing.{heard}
@@ -28,16 +28,16 @@ abbrev pub ask : String → Step
 ask = ask_on 1
 
 abbrev pub frame : String → String → Step
-frame c url = Frame (said c) (codes url)
+frame c url = Page (Frame (said c) (codes url))
 
 abbrev pub unframe : String → Step
-unframe c = Unframe (said c)
+unframe c = Page (Unframe (said c))
 
 abbrev pub log : String → Level → String → Step
-log c level s = Log (said c) level (codes s)
+log c level s = Page (Log (said c) level (codes s))
 
 abbrev pub value : String → Step
-value s = TableRow (said s)
+value s = Page (TableRow (said s))
 
 abbrev pub open_session : Step
 open_session = Open 1 (codes "/session")

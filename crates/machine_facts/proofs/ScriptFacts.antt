@@ -2,7 +2,7 @@
 use Rattle.std.specs.Prelude.{◌≡◌, ℕ, List, [], ◌∷◌, ◌++◌, codes, zero, suc, refl}
 use Prim.Native.String.{String}
 use Rattle.bidi_handles.proofs.Spelling.{said}
-use Rattle.bidi_remote.specs.Machine.Step.{Step, Text, TableRow}
+use Rattle.bidi_remote.specs.Machine.Step.{Step, Text, Page, TableRow}
 use Rattle.bidi_remote.specs.Machine.Sent as sent
 use Rattle.machine_facts.proofs.Rows.{after, ask, begun, frame, machine_on_literals, refusal, success, value}
 
@@ -497,7 +497,7 @@ arrays (suc n) inner = said "{'type':'array','value':[" ++ arrays n inner ++ sai
 -- handle 1 holds 29 arrays within each other, of 58 levels
 abbrev pub deep : List Step
 deep =
-    begun ++ TableRow (said "{'text':'o','returns':" ++ arrays 28 (said "{'type':'array','value':[]}") ++ said "}")
+    begun ++ Page (TableRow (said "{'text':'o','returns':" ++ arrays 28 (said "{'type':'array','value':[]}") ++ said "}"))
     ∷ value "{'text':'f','argument':0}"
     ∷ ask "{'id':1,'method':'script.evaluate','params':{'awaitPromise':false,'expression':'o','resultOwnership':'root','target':{'context':'$c1'}}}" ∷ []
 

@@ -2,7 +2,7 @@
 use Rattle.std.specs.Prelude.{◌≡◌, ℕ, List, [], ◌∷◌, ◌++◌, codes, zero, suc, refl}
 use Prim.Native.String.{String}
 use Rattle.bidi_handles.proofs.Spelling.{said}
-use Rattle.bidi_remote.specs.Machine.Step.{Step, TableRow}
+use Rattle.bidi_remote.specs.Machine.Step.{Step, Page, TableRow}
 use Rattle.bidi_remote.specs.Machine.Sent as sent
 use Rattle.machine_facts.proofs.Rows.{after, ask, begun, machine_on_literals, success, value}
 
@@ -98,7 +98,7 @@ arrays (suc n) inner = said "{'type':'array','value':[" ++ arrays n inner ++ sai
 
 -- a row that ends in 30 arrays within each other
 abbrev pub thirty : List ℕ → String → Step
-thirty verb inner = TableRow (said "{'text':'t','" ++ verb ++ said "':" ++ arrays 29 (said inner) ++ said "}")
+thirty verb inner = Page (TableRow (said "{'text':'t','" ++ verb ++ said "':" ++ arrays 29 (said inner) ++ said "}"))
 
 pub thrown_value_of_sixty_levels_is_no_row :
     after begun (thirty (codes "throws") "{'type':'array','value':[]}")

@@ -1,5 +1,5 @@
 //! Steps, and what is sent at each.
-use bidi_remote::{RemoteEnd, RemoteFault, Sent, Step};
+use bidi_remote::{PageStep, RemoteEnd, RemoteFault, Sent, Step};
 use bidi_tree::JsUint;
 use std::alloc::Global;
 use std::process::Abort;
@@ -152,8 +152,8 @@ fn page_step(alloc: Global, word: &str, rest: &str) -> Result<Option<Step>, Fail
     let (context, url) = rest.split_once(' ').unwrap_or((rest, ""));
     let context = String::from_str(alloc, context)?;
     match word {
-        "frame" => Ok(Some(Step::Frame(context, String::from_str(alloc, url)?))),
-        "unframe" => Ok(Some(Step::Unframe(context))),
+        "frame" => Ok(Some(Step::Page(PageStep::Frame(context, String::from_str(alloc, url)?)))),
+        "unframe" => Ok(Some(Step::Page(PageStep::Unframe(context)))),
         _ => Ok(None),
     }
 }

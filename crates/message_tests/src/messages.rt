@@ -3,8 +3,8 @@ ghost use Rattle.std.specs.Prelude.{IfOk};
 
 use bidi_messages::{
     CommandData, ErrorCode, EventData, EventName, Message, Method, Named, Payload, ResultData,
-    Sendable, Verdict, data_of, error_text, event_text, judge, read_message, response_id,
-    response_text, result_of, text_of,
+    Sendable, SessionCommand, Verdict, data_of, error_text, event_text, judge, read_message,
+    response_id, response_text, result_of, text_of,
 };
 use bidi_params::UnsubscribeParameters;
 use bidi_tree::{JsUint, Tree, are_whole, parse};
@@ -176,12 +176,13 @@ fn again<M: Sendable>(alloc: Global, value: M) -> Result<String, Fail>
 
 fn unsubscribe(alloc: Global, text: &str) -> Result<String, Fail> {
     match &data_of(alloc, Method::SessionUnsubscribe, &tree_of(alloc, text)?) {
-        Ok(CommandData::SessionUnsubscribe(UnsubscribeParameters::ById(by_id))) => {
-            with_further(alloc, "by id", &by_id.ext)
-        }
-        Ok(CommandData::SessionUnsubscribe(UnsubscribeParameters::ByEvents(by_events))) => {
-            with_further(alloc, "by events", &by_events.ext)
-        }
+        Ok(CommandData::Session(SessionCommand::Unsubscribe(UnsubscribeParameters::ById(by_id)))) =>
+            { with_further(alloc, "by id", &by_id.ext) }
+        Ok(
+            CommandData::Session(
+                SessionCommand::Unsubscribe(UnsubscribeParameters::ByEvents(by_events)),
+            ),
+        ) => { with_further(alloc, "by events", &by_events.ext) }
         Ok(_) => Err(Fail::from("another command")),
         Err(fault) => Ok(format!(in alloc; "{fault:?}")?),
     }

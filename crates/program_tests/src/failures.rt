@@ -1,4 +1,8 @@
-//! Runs over a reader or a writer that fails.
+//! Runs over a reader or a writer that fails once, or that moves few bytes at a time.
+//!
+//! What a run answers stands with an empty line between the answers to two lines of its input.
+ghost use Rattle.std.specs.Prelude.{◌≤◌, IfSome};
+
 use bidi_command_line::Run;
 use bidi_lines::{Device, Side};
 use bidi_programs::run;
@@ -8,27 +12,63 @@ use std::io::{ErrorKind, Read, Write};
 use std::process::Abort;
 use std::test::Fail;
 
-/// A play of two lines, and what it writes.
+/// A play of two lines, and what it answers.
 const PLAY: &str = "open 1 /session\n> 1 {\"id\":1,\"method\":\"session.status\",\"params\":{}}\n";
 
 const PLAYED: &str =
-    "opened 1\n< 1 {\"id\":1,\"result\":{\"message\":\"ready\",\"ready\":true},\"type\":\"success\"}\n";
+    "opened 1\n\n< 1 {\"id\":1,\"result\":{\"message\":\"ready\",\"ready\":true},\"type\":\"success\"}\n";
 
 /// Two commands of no known method, and what is shown of them, and what a check writes.
 const TWO: &str = "{\"id\":1,\"method\":\"session.fly\"}\n{\"id\":2,\"method\":\"session.fly\"}\n";
 
-const SHOWN: &str = "refused 1 unknown command\nrefused 2 unknown command\n";
+const SHOWN: &str = "refused 1 unknown command\n\nrefused 2 unknown command\n";
 
-const CHECKED: &str = "line 1: refused 1 unknown command\nline 2: refused 2 unknown command\n";
+const CHECKED: &str = "line 1: refused 1 unknown command\n\nline 2: refused 2 unknown command\n";
 
 /// A schedule of both ends, and what became of its command.
 const PAIR: &str = "open 1 /session\nsend 1 session.status {}\nup 1\ndown 1\n";
 
 const PAIRED: &str = "1 1 session.status answered {\"message\":\"ready\",\"ready\":true}\n";
 
+/// A navigation of a context with a frame, told to a subscriber, and a history that has no such entry.
+const NAVIGATION: &str = r#"open 1 /session
+> 1 {"id":0,"method":"session.new","params":{"capabilities":{}}}
+> 1 {"id":1,"method":"session.subscribe","params":{"events":["browsingContext","script"]}}
+frame 00000000-0002-8000-8000-000000000001 about:blank
+at 5
+> 1 {"id":2,"method":"browsingContext.navigate","params":{"context":"00000000-0002-8000-8000-000000000001","url":"http://a.test","wait":"complete"}}
+> 1 {"id":3,"method":"browsingContext.traverseHistory","params":{"context":"00000000-0002-8000-8000-000000000001","delta":-2}}
+"#;
+
+const NAVIGATED: &str = r#"opened 1
+
+< 1 {"id":0,"result":{"capabilities":{"acceptInsecureCerts":false,"browserName":"memory-browser","browserVersion":"1.0","platformName":"none","setWindowRect":false,"userAgent":"memory-browser/1.0"},"sessionId":"00000000-0001-8000-8000-000000000001"},"type":"success"}
+
+< 1 {"method":"browsingContext.contextCreated","params":{"children":null,"clientWindow":"00000000-0007-8000-8000-000000000001","context":"00000000-0002-8000-8000-000000000001","originalOpener":null,"parent":null,"url":"about:blank","userContext":"default"},"type":"event"}
+< 1 {"method":"script.realmCreated","params":{"context":"00000000-0002-8000-8000-000000000001","origin":"null","realm":"00000000-0003-8000-8000-000000000001","type":"window"},"type":"event"}
+< 1 {"id":1,"result":{"subscription":"00000001-0005-8000-8000-000000000001"},"type":"success"}
+
+< 1 {"method":"browsingContext.contextCreated","params":{"children":null,"clientWindow":"00000000-0007-8000-8000-000000000001","context":"00000000-0002-8000-8000-000000000002","originalOpener":null,"parent":"00000000-0002-8000-8000-000000000001","url":"about:blank","userContext":"default"},"type":"event"}
+< 1 {"method":"script.realmCreated","params":{"context":"00000000-0002-8000-8000-000000000002","origin":"null","realm":"00000000-0003-8000-8000-000000000002","type":"window"},"type":"event"}
+
+
+
+< 1 {"method":"browsingContext.navigationStarted","params":{"context":"00000000-0002-8000-8000-000000000001","navigation":"00000000-0004-8000-8000-000000000001","timestamp":5,"url":"http://a.test/"},"type":"event"}
+< 1 {"method":"script.realmDestroyed","params":{"realm":"00000000-0003-8000-8000-000000000002"},"type":"event"}
+< 1 {"method":"browsingContext.contextDestroyed","params":{"children":[],"clientWindow":"00000000-0007-8000-8000-000000000001","context":"00000000-0002-8000-8000-000000000002","originalOpener":null,"parent":"00000000-0002-8000-8000-000000000001","url":"about:blank","userContext":"default"},"type":"event"}
+< 1 {"method":"script.realmDestroyed","params":{"realm":"00000000-0003-8000-8000-000000000001"},"type":"event"}
+< 1 {"method":"script.realmCreated","params":{"context":"00000000-0002-8000-8000-000000000001","origin":"http://a.test","realm":"00000000-0003-8000-8000-000000000003","type":"window"},"type":"event"}
+< 1 {"method":"browsingContext.domContentLoaded","params":{"context":"00000000-0002-8000-8000-000000000001","navigation":"00000000-0004-8000-8000-000000000001","timestamp":5,"url":"http://a.test/"},"type":"event"}
+< 1 {"method":"browsingContext.load","params":{"context":"00000000-0002-8000-8000-000000000001","navigation":"00000000-0004-8000-8000-000000000001","timestamp":5,"url":"http://a.test/"},"type":"event"}
+< 1 {"id":2,"result":{"navigation":"00000000-0004-8000-8000-000000000001","url":"http://a.test/"},"type":"success"}
+
+< 1 {"error":"no such history entry","id":3,"message":"no such history entry","type":"error"}
+"#;
+
 #[test]
 fn each_line_before_a_failed_read_is_answered(rt: HostRuntime) -> Result<(), Fail> {
     check_reads(&rt, &Run::Play, PLAY, PLAYED)?;
+    check_reads(&rt, &Run::Play, NAVIGATION, NAVIGATED)?;
     check_reads(&rt, &Run::Show(Side::Local), TWO, SHOWN)?;
     check_reads(&rt, &Run::Check(Side::Local), TWO, CHECKED)?;
     // What became of a command is known at the end alone, and what is kept of a play is written then.
@@ -39,10 +79,19 @@ fn each_line_before_a_failed_read_is_answered(rt: HostRuntime) -> Result<(), Fai
 #[test]
 fn a_failed_write_ends_the_run(rt: HostRuntime) -> Result<(), Fail> {
     check_writes(&rt, &Run::Play, PLAY, PLAYED)?;
+    check_writes(&rt, &Run::Play, NAVIGATION, NAVIGATED)?;
     check_writes(&rt, &Run::Show(Side::Local), TWO, SHOWN)?;
     check_writes(&rt, &Run::Check(Side::Local), TWO, CHECKED)?;
     check_writes(&rt, &Run::Pair, PAIR, PAIRED)?;
     check_writes(&rt, &Run::Reduce(1), PLAY, PLAY)
+}
+
+#[test]
+fn short_reads_and_writes_change_nothing(rt: HostRuntime) -> Result<(), Fail> {
+    check_sizes(&rt, &Run::Play, NAVIGATION, NAVIGATED)?;
+    check_sizes(&rt, &Run::Show(Side::Local), TWO, SHOWN)?;
+    check_sizes(&rt, &Run::Pair, PAIR, PAIRED)?;
+    check_sizes(&rt, &Run::Reduce(1), PLAY, PLAY)
 }
 
 #[test]
@@ -55,26 +104,25 @@ fn a_fault_that_cannot_be_told_changes_nothing(rt: HostRuntime) {
     assert_eq!(rt; status, 2);
 }
 
-/// That a run over any first bytes of an input, behind which a read fails, answers each line that is whole.
+/// That a run whose reader fails once, behind any number of bytes, answers each line that is whole, and no more.
 fn check_reads<R: Abort + AllocGlobal>(
     rt: &R,
     asked: &Run,
     input: &str,
-    output: &str,
+    answers: &str,
 ) -> Result<(), Fail> {
     for count in 0..=input.len() {
         let read = input.as_bytes().get(..count).ok_or("a place")?;
         let mut written = Vec::new(rt.alloc());
-        let broken = Broken { left: read };
         let is_told = fails(
             rt.alloc(),
             asked,
-            broken,
+            StopAt::after(input.as_bytes(), count),
             &mut written,
             "bidi: input cannot be read\n",
         );
         let lines = read.iter().filter(|byte| **byte == b'\n').count();
-        let wanted = first_lines(rt.alloc(), output, lines)?;
+        let wanted = first_answers(rt.alloc(), answers, lines)?;
         assert!(rt;
             is_told && written.as_slice() == wanted.as_bytes(),
             "behind {count} bytes of {input}"
@@ -83,20 +131,21 @@ fn check_reads<R: Abort + AllocGlobal>(
     Ok(())
 }
 
-/// That a run whose output takes any number of bytes that are too few writes so many.
+/// That a run whose writer fails once, behind any number of bytes that are too few, writes so many, and no more.
 fn check_writes<R: Abort + AllocGlobal>(
     rt: &R,
     asked: &Run,
     input: &str,
-    output: &str,
+    answers: &str,
 ) -> Result<(), Fail> {
+    let output = first_answers(rt.alloc(), answers, usize::MAX)?;
     for count in 0..output.len() {
-        let mut written = vec![in rt.alloc(); 0u8; count]?;
+        let mut written = Vec::new(rt.alloc());
         let is_told = fails(
             rt.alloc(),
             asked,
             input.as_bytes(),
-            written.as_mut_slice(),
+            StopAt::after(&mut written, count),
             "bidi: output cannot be written\n",
         );
         let wanted = output.as_bytes().get(..count).ok_or("a place")?;
@@ -106,6 +155,36 @@ fn check_writes<R: Abort + AllocGlobal>(
         );
     }
     Ok(())
+}
+
+/// The most bytes that a short read or write moves.
+const MOST_MOVED: usize = 512;
+
+/// That a run writes the same, however few bytes a read and a write move.
+fn check_sizes<R: Abort + AllocGlobal>(
+    rt: &R,
+    asked: &Run,
+    input: &str,
+    answers: &str,
+) -> Result<(), Fail> {
+    let output = first_answers(rt.alloc(), answers, usize::MAX)?;
+    for most in 1..=MOST_MOVED.min(output.len()) {
+        let mut written = Vec::new(rt.alloc());
+        let status = status_of(rt.alloc(), asked, input.as_bytes(), &mut written, most);
+        assert!(rt;
+            status == 0 && written.as_slice() == output.as_bytes(),
+            "{most} bytes at a time of {output}"
+        );
+    }
+    Ok(())
+}
+
+/// The status of a run whose reads and writes move at most so many bytes.
+fn status_of(alloc: Global, asked: &Run, input: &[u8], output: &mut Vec<u8>, most: usize) -> u8 {
+    let mut source = Device::new(StopAt::within(input, most));
+    let mut sink = Device::new(StopAt::within(output, most));
+    let mut faults = Device::new(io::sink());
+    run(alloc, asked, &mut source, &mut sink, &mut faults)
 }
 
 /// Whether a run ends with the status of a device that failed, and tells this.
@@ -125,26 +204,77 @@ fn fails<I: Read + Drop, O: Write + Drop>(
     status == 3 && told.as_slice() == fault.as_bytes()
 }
 
-/// So many first lines of a text.
-fn first_lines(alloc: Global, text: &str, count: usize) -> Result<String, AllocError> {
-    let mut lines = String::new(alloc);
-    for line in text.split_inclusive('\n').take(count) {
-        lines.push_str(line)?;
-    }
-    Ok(lines)
-}
-
-/// A reader that fails behind its bytes.
-#[derive(Drop)]
-struct Broken<'a> {
-    left: &'a [u8],
-}
-
-impl Read for Broken<'_> {
-    fn read(&mut self, buffer: &mut [u8]) -> io::Result<usize> {
-        if self.left.is_empty() {
-            return Err(io::Error::from(ErrorKind::BrokenPipe));
+/// The answers to so many first lines.
+fn first_answers(alloc: Global, answers: &str, count: usize) -> Result<String, AllocError> {
+    let mut text = String::new(alloc);
+    for answer in answers.split("\n\n").take(count) {
+        for line in answer.lines() {
+            text.push_str(line)?;
+            text.push_str("\n")?;
         }
-        self.left.read(buffer)
+    }
+    Ok(text)
+}
+
+/// A reader or a writer that fails once, behind so many bytes, and then goes on, or that moves few bytes at a time.
+#[derive(Drop)]
+struct StopAt<T> {
+    inner: T,
+    most: usize,
+    until_failure: usize,
+}
+
+impl<T> StopAt<T> {
+    fn after(inner: T, count: usize) -> StopAt<T> {
+        StopAt {
+            inner,
+            most: usize::MAX,
+            until_failure: count,
+        }
+    }
+
+    fn within(inner: T, most: usize) -> StopAt<T> {
+        StopAt {
+            inner,
+            most,
+            until_failure: usize::MAX,
+        }
+    }
+
+    /// How many bytes of so many are moved; none where it fails.
+    fn part(&mut self, asked: usize) -> Option<usize>
+        ensures { IfSome result (λ n. n ≤ asked) }
+    {
+        if self.until_failure == 0 {
+            self.until_failure = usize::MAX;
+            return None;
+        }
+        Some(asked.min(self.most).min(self.until_failure))
+    }
+}
+
+impl<T: Read> Read for StopAt<T> {
+    fn read(&mut self, buffer: &mut [u8]) -> io::Result<usize> {
+        let Some(most) = self.part(buffer.len()) else {
+            return Err(io::Error::from(ErrorKind::BrokenPipe));
+        };
+        let count = self.inner.read(&mut buffer[..most])?;
+        self.until_failure = self.until_failure.saturating_sub(count);
+        Ok(count)
+    }
+}
+
+impl<T: Write> Write for StopAt<T> {
+    fn write(&mut self, bytes: &[u8]) -> io::Result<usize> {
+        let Some(most) = self.part(bytes.len()) else {
+            return Err(io::Error::from(ErrorKind::BrokenPipe));
+        };
+        let count = self.inner.write(&bytes[..most])?;
+        self.until_failure = self.until_failure.saturating_sub(count);
+        Ok(count)
+    }
+
+    fn flush(&mut self) -> io::Result<()> {
+        self.inner.flush()
     }
 }

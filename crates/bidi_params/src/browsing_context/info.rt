@@ -1,7 +1,7 @@
 //! What is told of a browsing context and of those below it.
 ghost use Rattle.std.specs.Prelude.{◌≡◌, IfOk, Some, codes, map, option_map, ◌≤◌, ◌⊎◌, ◌∷◌, IfSome, true};
 ghost use Rattle.std.specs.List.{AllByRecursion};
-ghost use Rattle.bidi_tree.specs.Node.{get_member, IsSound, ItemsAreSound, MembersAreWhole, levels};
+ghost use Rattle.bidi_tree.specs.Node.{get_member, MembersAreWhole, levels};
 ghost use Rattle.bidi_tree.specs.Kind.{members_in};
 ghost use Rattle.bidi_tree.specs.Outline.{outline_node, outline_items};
 ghost use Rattle.bidi_tree.specs.View.{items_of, members_node};
@@ -247,8 +247,7 @@ fn with_children(beside: OwnMembers, children: Option<Vec<Info>>) -> Info
 
 #[cycle(write)]
 fn outline_info<'a>(alloc: Global, info: &'a Info) -> Result<Outline<'a>, AllocError>
-    ensures tree { IfOk result (λ d. outline_node d ≡ tree_of_info info_parts info.now) }
-    ensures sound { IfOk result (λ d. IsSound (outline_node d)) }
+    ensures { IfOk result (λ d. outline_node d ≡ tree_of_info info_parts info.now) }
 {
     match &info.children {
         Some(infos) => {
@@ -261,8 +260,7 @@ fn outline_info<'a>(alloc: Global, info: &'a Info) -> Result<Outline<'a>, AllocE
 
 #[cycle(write)]
 fn outline_infos<'a>(alloc: Global, infos: &'a Vec<Info>) -> Result<Vec<Outline<'a>>, AllocError>
-    ensures same { IfOk result (λ v. map outline_node v.items ≡ map (tree_of_info info_parts) infos.now.items) }
-    ensures sound { IfOk result (λ v. ItemsAreSound (outline_items v.items)) }
+    ensures { IfOk result (λ v. map outline_node v.items ≡ map (tree_of_info info_parts) infos.now.items) }
 {
     let mut outlines = Vec::with_capacity(alloc, infos.len())?;
     for info in infos {
@@ -277,9 +275,7 @@ fn outline_beside<'a>(
     info: &'a Info,
     children: Outline<'a>,
 ) -> Result<Outline<'a>, AllocError>
-    requires { IsSound (outline_node children) }
-    ensures tree { IfOk result (λ d. outline_node d ≡ info_map info_parts.table (beside_of (out-Info info.now)) (outline_node children.entry)) }
-    ensures sound { IfOk result (λ d. IsSound (outline_node d)) }
+    ensures { IfOk result (λ d. outline_node d ≡ info_map info_parts.table (beside_of (out-Info info.now)) (outline_node children.entry)) }
 {
     let mut members = outline_members_of(alloc, &info.ext.members, NAMES.len())?;
     add_optional(alloc, &mut members, "parent", &info.parent)?;

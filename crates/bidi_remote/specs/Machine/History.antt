@@ -21,8 +21,8 @@ pub data Input : Type 0 where
   Heard : (conn : ℕ) (verdict : Verdict) → Input
   -- a message that is no text
   NotText : (conn : ℕ) → Input
-  -- a step that the browser takes
-  PageStep : (action : Action) → Input
+  -- what a page does, as the browser takes it
+  OfPage : (action : Action) → Input
 
 -- the tree of a row's text, which has at most 1,048,576 bytes
 abbrev pub row_tree : List ℕ → Option Node
@@ -34,17 +34,21 @@ pub data IsRow (s : List ℕ) : Option Node → Type 0 where
   is_not_json : row_tree s ≡ None → IsRow s None
   is_no_row : (t : Node) → row_tree s ≡ Some t → (Fits t (rule table_row) → ⊥) → IsRow s None
 
--- a text is heard as its verdict, the text of a row as the row that it is, and each other step as it is
+-- the browser takes the text of a row as the row that it is, and each other step of a page as it is
+abbrev pub IsTakenAs : step.PageStep → Action → Type 0
+IsTakenAs (step.Frame id url) a = a ≡ Frame id url
+IsTakenAs (step.Unframe id) a = a ≡ Unframe id
+IsTakenAs (step.Log id level text) a = a ≡ Log id level text
+IsTakenAs (step.TableRow text) a = (row : Option Node) × IsRow text row × (a ≡ TableRow row)
+
+-- a text is heard as its verdict, a step of a page as the browser takes it, and each other step as it is
 abbrev pub IsHeardAs : step.Step → Input → Type 0
 IsHeardAs (step.At n) i = i ≡ At n
 IsHeardAs (step.Open c resource) i = i ≡ Open c resource
 IsHeardAs (step.Drop c) i = i ≡ Drop c
 IsHeardAs (step.Text c text) i = (v : Verdict) × IsVerdict text v × (i ≡ Heard c v)
 IsHeardAs (step.NotText c) i = i ≡ NotText c
-IsHeardAs (step.Frame id url) i = i ≡ PageStep (Frame id url)
-IsHeardAs (step.Unframe id) i = i ≡ PageStep (Unframe id)
-IsHeardAs (step.Log id level text) i = i ≡ PageStep (Log id level text)
-IsHeardAs (step.TableRow text) i = (row : Option Node) × IsRow text row × (i ≡ PageStep (TableRow row))
+IsHeardAs (step.Page page) i = (a : Action) × IsTakenAs page a × (i ≡ OfPage a)
 
 -- each step is heard as the input at its place
 abbrev pub AreHeardAs : List step.Step → List Input → Type 0

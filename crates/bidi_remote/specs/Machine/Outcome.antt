@@ -18,7 +18,7 @@ use Rattle.bidi_browser.specs.Outcome as browser
 use Rattle.bidi_messages.specs.Verdict.{Verdict, Accepted, Refused}
 use Rattle.bidi_remote.specs.Machine.Capabilities.{Request, matching}
 use Rattle.bidi_remote.specs.Machine.Commands.{Command, Status, New, End, Subscribe, UnsubscribeById, UnsubscribeByEvents, OfBrowser, command_of, id_of_command}
-use Rattle.bidi_remote.specs.Machine.History.{Input, At, Open, Drop, Heard, NotText, PageStep, Deed, Time, Opened, Dropped, Began}
+use Rattle.bidi_remote.specs.Machine.History.{Input, At, Open, Drop, Heard, NotText, OfPage, Deed, Time, Opened, Dropped, Began}
 use Rattle.bidi_remote.specs.Machine.History.{Ended, Subscribed, Cancelled, Dismissed, Did, Told, Scope, All, Below, acts}
 use Rattle.bidi_remote.specs.Machine.Sessions.{sessions}
 use Rattle.bidi_remote.specs.Machine.Connections.{Attachment, Shut, Alone, SpeaksFor, is_open, attachment_of, open_connections}
@@ -183,7 +183,7 @@ answered past c (Refused id code) = Err (Error c id code)
 abbrev pub if_open : List Deed → ℕ → Result Deed NotTaken → Result Deed NotTaken
 if_open past c turn = if is_open past c then turn else Err (Lost c)
 
--- a step of a play that the browser refuses has no effect
+-- a step of a page that the browser refuses has no effect
 abbrev pub in_page : Result Act ErrorCode → Result Deed NotTaken
 in_page (Ok act) = Ok (Did act)
 in_page (Err code) = Err NoEffect
@@ -195,7 +195,7 @@ turn past (Open c resource) = opening past c (session_of_resource past resource)
 turn past (Drop c) = if_open past c (Ok (Dropped c))
 turn past (Heard c verdict) = if_open past c (answered past c verdict)
 turn past (NotText c) = if_open past c (answered past c (Refused None InvalidArgument))
-turn past (PageStep action) = in_page (browser.outcome (acts past) action)
+turn past (OfPage action) = in_page (browser.outcome (acts past) action)
 
 -- the past with the deed, where there is one
 abbrev pub with_turn : List Deed → Result Deed NotTaken → List Deed

@@ -11,7 +11,7 @@ use Rattle.bidi_browser.specs.Occurs.{Item, Happens, Replies, occurs}
 use Rattle.bidi_messages.specs.Verdict.{Accepted}
 use Rattle.bidi_remote.specs.Machine.Capabilities.{capabilities}
 use Rattle.bidi_remote.specs.Machine.Commands.{Command, OfBrowser, command_of, id_of_command}
-use Rattle.bidi_remote.specs.Machine.History.{Input, Heard, PageStep, Deed, Began, Ended, Subscribed, Did, Told, acts, moment}
+use Rattle.bidi_remote.specs.Machine.History.{Input, Heard, OfPage, Deed, Began, Ended, Subscribed, Did, Told, acts, moment}
 use Rattle.bidi_remote.specs.Machine.History as did
 use Rattle.bidi_remote.specs.Machine.Sessions.{next_session, sessions}
 use Rattle.bidi_remote.specs.Machine.Connections.{connections_of}
@@ -106,7 +106,7 @@ abbrev pub sent_to : List Deed → ℕ → ℕ → Item → List Sent
 sent_to past c id (Happens o) = to_hearers past o
 sent_to past c id (Replies result) = Text c (response_text id result) ∷ []
 
--- nobody asked for a step of a play
+-- nobody asked for a step of a page
 abbrev pub sent_unasked : List Deed → Item → List Sent
 sent_unasked past (Happens o) = to_hearers past o
 sent_unasked past (Replies result) = []
@@ -124,7 +124,7 @@ told past (Heard c (Accepted t)) (Ok d) =
     announced past d
     ++ (flat_map (sent_to past c (id_of_command t)) (items past (action_in (command_of t)) d)
     ++ closed past d)
-told past (PageStep action) (Ok d) = flat_map (sent_unasked past) (items past (Some action) d)
+told past (OfPage action) (Ok d) = flat_map (sent_unasked past) (items past (Some action) d)
 told past i (Ok (did.Opened c s)) = Opened c ∷ []
 told past i (Ok d) = []
 told past i (Err refusal) = refused refusal

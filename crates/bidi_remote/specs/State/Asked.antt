@@ -7,10 +7,11 @@ use Rattle.bidi_params.specs.declared.session.capabilities.NewParameters.{NewPar
 use Rattle.bidi_params.specs.declared.session.subscribe.SubscribeParameters.{SubscribeParameters}
 use Rattle.bidi_params.specs.declared.session.subscribe.UnsubscribeParameters.{UnsubscribeParameters}
 use Rattle.bidi_params.specs.declared.session.subscribe.UnsubscribeParameters.TheVariants.{ById, ByEvents}
+use Rattle.bidi_methods.specs.declared.command_data.SessionCommand.{SessionCommand}
+use Rattle.bidi_methods.specs.declared.command_data.SessionCommand.TheVariants as session
 use Rattle.bidi_methods.specs.declared.command_data.CommandData.{CommandData}
-use Rattle.bidi_methods.specs.declared.command_data.CommandData.TheVariants as Of
-use Rattle.bidi_browser.specs.Asked.{activate_asked, close_asked, create_asked, get_tree_asked, navigate_asked, reload_asked}
-use Rattle.bidi_browser.specs.Asked.{traverse_asked, evaluate_asked, call_function_asked, disown_asked, get_realms_asked}
+use Rattle.bidi_methods.specs.declared.command_data.CommandData.TheVariants.{Session, Browser}
+use Rattle.bidi_browser.specs.Asked.{command_asked}
 use Rattle.bidi_remote.specs.Machine.Capabilities.{request_of}
 use Rattle.bidi_remote.specs.Machine.Commands.{Command, Status, New, End, Subscribe, UnsubscribeById, UnsubscribeByEvents, OfBrowser, command_of, id_of_command}
 
@@ -28,28 +29,22 @@ abbrev pub unsubscribe_asked : UnsubscribeParameters → Command
 unsubscribe_asked (ById p) = UnsubscribeById (texts p.subscriptions.items.items)
 unsubscribe_asked (ByEvents p) = UnsubscribeByEvents (texts p.events.items.items)
 
+-- what a command of the module session asks
+abbrev pub session_asked_of : ShapeOf NewParameters → SessionCommand → Command
+session_asked_of shape (session.Status params) = Status
+session_asked_of shape (session.New params) = New (request_of (shape.tree_of params.value))
+session_asked_of shape (session.End params) = End
+session_asked_of shape (session.Subscribe params) = subscribe_asked params.value
+session_asked_of shape (session.Unsubscribe params) = unsubscribe_asked params
+
 -- what a command in hand asks
 abbrev pub asked_of : ShapeOf NewParameters → CommandData → Command
-asked_of shape (Of.SessionStatus params) = Status
-asked_of shape (Of.SessionNew params) = New (request_of (shape.tree_of params.value))
-asked_of shape (Of.SessionEnd params) = End
-asked_of shape (Of.SessionSubscribe params) = subscribe_asked params.value
-asked_of shape (Of.SessionUnsubscribe params) = unsubscribe_asked params
-asked_of shape (Of.BrowsingContextActivate params) = OfBrowser (activate_asked params)
-asked_of shape (Of.BrowsingContextClose params) = OfBrowser (close_asked params)
-asked_of shape (Of.BrowsingContextCreate params) = OfBrowser (create_asked params)
-asked_of shape (Of.BrowsingContextGetTree params) = OfBrowser (get_tree_asked params)
-asked_of shape (Of.BrowsingContextNavigate params) = OfBrowser (navigate_asked params)
-asked_of shape (Of.BrowsingContextReload params) = OfBrowser (reload_asked params)
-asked_of shape (Of.BrowsingContextTraverseHistory params) = OfBrowser (traverse_asked params)
-asked_of shape (Of.ScriptEvaluate params) = OfBrowser (evaluate_asked params.value)
-asked_of shape (Of.ScriptCallFunction params) = OfBrowser (call_function_asked params.value)
-asked_of shape (Of.ScriptDisown params) = OfBrowser (disown_asked params.value)
-asked_of shape (Of.ScriptGetRealms params) = OfBrowser (get_realms_asked params)
+asked_of shape (Session command) = session_asked_of shape command
+asked_of shape (Browser command) = OfBrowser (command_asked command)
 
 -- the request for a session is well; of another command nothing is asked
 abbrev pub IsWellAsked : ShapeOf NewParameters → CommandData → Type 0
-IsWellAsked shape (Of.SessionNew params) = shape.well params.value
+IsWellAsked shape (Session (session.New params)) = shape.well params.value
 IsWellAsked shape d = ⊤
 
 -- a tree is that of a command with this id, which asks this

@@ -5,7 +5,7 @@ use Rattle.bidi_messages.specs.contracts.message.MessageShape.TheImpl.{ghosts}
 use Rattle.bidi_messages.specs.Reading.{IsMessageText}
 use Rattle.bidi_remote.specs.Machine.Sent.{Sent, Text}
 
--- a text that is sent is that of a well message, and reads back as it; of what is no text nothing is asked
+-- a text that is sent is compact, and its tree, as which it reads back, fits the rule of messages; of what is no text nothing is asked
 abbrev pub ReadsBack : Sent → Type 0
 ReadsBack (Text c text) = IsMessageText ghosts.shape text
 ReadsBack sent = ⊤

@@ -2,30 +2,22 @@
 use Rattle.std.specs.Prelude.{◌≡◌, ◌<◌, ◌==◌, ℕ, List, map, get_or, Option, Some, None, vec_len, vec_capacity}
 use Rattle.std.specs.List.{position}
 use Rattle.bidi_remote.specs.declared.log_buffer.LogBuffer.{LogBuffer}
-use Rattle.bidi_remote.specs.declared.subscriptions.Scope as declared_scope
-use Rattle.bidi_remote.specs.declared.subscriptions.Scope.TheVariants as in_code
-use Rattle.bidi_remote.specs.declared.subscriptions.Subscription.{Subscription}
 use Rattle.bidi_remote.specs.declared.sessions.Opening as declared_opening
 use Rattle.bidi_remote.specs.declared.sessions.Opening.TheVariants as opens
 use Rattle.bidi_remote.specs.declared.sessions.Session.{Session}
 use Rattle.bidi_remote.specs.declared.sessions.Sessions.{Sessions}
-use Rattle.bidi_remote.specs.Machine.History.{Scope, All, Below}
+use Rattle.bidi_methods.specs.declared.event_data.EventName.{EventName}
+use Rattle.bidi_remote.specs.Machine.History.{Scope}
 use Rattle.bidi_remote.specs.State.EventTexts.{Written, place_row}
-use Rattle.bidi_remote.specs.State.SubscriptionRows.{SubscriptionRow, SessionRow}
-
-abbrev pub scope_of : declared_scope.Scope → Scope
-scope_of in_code.All = All
-scope_of (in_code.Below tops) = Below tops.items
-
-abbrev pub row_of : Subscription → SubscriptionRow
-row_of s = record { number = s.number; events = s.events.items; scope = scope_of s.scope }
+use Rattle.bidi_remote.specs.State.SubscriptionRows.{SessionRow}
+use Rattle.bidi_remote.specs.State.SubscriptionsView.{rows_of, HasRoomFor}
 
 -- the places of a buffer in hand
 abbrev pub places_in : LogBuffer → List (Option Written)
 places_in b = map place_row b.places.items
 
 abbrev pub session_row_of : Session → SessionRow
-session_row_of s = record { number = s.number; made = s.made; subscriptions = map row_of s.subscriptions.items; missed = places_in s.missed }
+session_row_of s = record { number = s.number; made = s.made; subscriptions = rows_of s.subscriptions; missed = places_in s.missed }
 
 -- the rows of a table in hand
 abbrev pub rows_in : Sessions → List SessionRow
@@ -38,15 +30,12 @@ opened_by (opens.For s) = Some s
 
 -- ---- room
 
--- for one more subscription
-abbrev pub HasRoom : Session → Type 0
-HasRoom s = vec_len s.subscriptions < vec_capacity s.subscriptions
-
 -- for one more session
 abbrev pub HasRoomForOne : Sessions → Type 0
 HasRoomForOne sessions = vec_len sessions.active < vec_capacity sessions.active
 
--- for one more subscription of the session of that number, where it is there
-abbrev pub HasRoomIn : ℕ → Sessions → Type 0
-HasRoomIn number sessions =
-    (i : ℕ) (d : Session) → position (λ s. s.number == number) sessions.active.items ≡ Some i → HasRoom (get_or sessions.active.items i d)
+-- for one more subscription of the session of that number, to these events in this scope, where the session is there
+abbrev pub HasRoomIn : ℕ → List EventName → Scope → Sessions → Type 0
+HasRoomIn number es scope sessions =
+    (i : ℕ) (d : Session) → position (λ s. s.number == number) sessions.active.items ≡ Some i
+    → HasRoomFor es scope (get_or sessions.active.items i d).subscriptions

@@ -28,7 +28,8 @@ use Rattle.bidi_remote.specs.State.ConnectionRows as connections
 use Rattle.bidi_remote.specs.State.ConnectionRows.{to_each}
 use Rattle.bidi_remote.specs.State.EventTexts.{Written, written, written_in, AreMessages}
 use Rattle.bidi_remote.specs.State.Routes.{to_one}
-use Rattle.bidi_remote.specs.State.SessionView.{scope_of, places_in, HasRoomForOne, HasRoomIn}
+use Rattle.bidi_remote.specs.State.SessionView.{places_in, HasRoomForOne, HasRoomIn}
+use Rattle.bidi_remote.specs.State.SubscriptionView.{scope_of}
 
 -- ---- what a change does
 
@@ -67,7 +68,7 @@ IsOfSessions change = ⊤
 -- there is room in the tables for what it adds
 abbrev pub HasRoom : State → Change → Type 0
 HasRoom state (Begin c buffer) = HasRoomForOne state.sessions
-HasRoom state (Subscribe s es scope) = HasRoomIn s state.sessions
+HasRoom state (Subscribe s es scope) = HasRoomIn s es.items (scope_of scope) state.sessions
 HasRoom state (Browse change) = browser.HasRoom state.browser change
 HasRoom state change = ⊤
 

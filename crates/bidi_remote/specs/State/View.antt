@@ -2,10 +2,18 @@
 use Rattle.std.specs.Prelude.{List, [], ◌∷◌, Option, Some, None, string_bytes}
 use Rattle.bidi_remote.specs.declared.step.Step as declared_step
 use Rattle.bidi_remote.specs.declared.step.Step.TheVariants as step_in_code
+use Rattle.bidi_remote.specs.declared.step.PageStep as declared_page
+use Rattle.bidi_remote.specs.declared.step.PageStep.TheVariants as page_in_code
 use Rattle.bidi_remote.specs.declared.step.Sent as declared_sent
 use Rattle.bidi_remote.specs.declared.step.Sent.TheVariants as sent_in_code
 use Rattle.bidi_remote.specs.Machine.Step as step
 use Rattle.bidi_remote.specs.Machine.Sent as sent
+
+abbrev pub page_of : declared_page.PageStep → step.PageStep
+page_of (page_in_code.Frame context url) = step.Frame (string_bytes context) (string_bytes url)
+page_of (page_in_code.Unframe context) = step.Unframe (string_bytes context)
+page_of (page_in_code.Log context level text) = step.Log (string_bytes context) level (string_bytes text)
+page_of (page_in_code.TableRow text) = step.TableRow (string_bytes text)
 
 abbrev pub step_of : declared_step.Step → step.Step
 step_of (step_in_code.At n) = step.At n.value
@@ -13,10 +21,7 @@ step_of (step_in_code.Open c resource) = step.Open c.value (string_bytes resourc
 step_of (step_in_code.Drop c) = step.Drop c.value
 step_of (step_in_code.Text c text) = step.Text c.value (string_bytes text)
 step_of (step_in_code.NotText c) = step.NotText c.value
-step_of (step_in_code.Frame context url) = step.Frame (string_bytes context) (string_bytes url)
-step_of (step_in_code.Unframe context) = step.Unframe (string_bytes context)
-step_of (step_in_code.Log context level text) = step.Log (string_bytes context) level (string_bytes text)
-step_of (step_in_code.TableRow text) = step.TableRow (string_bytes text)
+step_of (step_in_code.Page page) = step.Page (page_of page)
 
 abbrev pub sent_of : declared_sent.Sent → sent.Sent
 sent_of (sent_in_code.Text c text) = sent.Text c.value (string_bytes text)

@@ -11,10 +11,12 @@ ghost use Rattle.bidi_remote.specs.Machine.Outcome.{tops_named, scope_asked, out
 ghost use Rattle.bidi_remote.specs.Machine.Sent.{announcements, subscription_tree};
 ghost use Rattle.bidi_remote.specs.State.Asked.{texts, subscribe_asked};
 ghost use Rattle.bidi_remote.specs.State.Checked.{IfChecked};
-ghost use Rattle.bidi_remote.specs.State.SessionView.{scope_of, row_of, rows_in};
+ghost use Rattle.bidi_remote.specs.State.SessionView.{session_row_of};
+ghost use Rattle.bidi_remote.specs.State.SubscriptionView.{scope_of};
+ghost use Rattle.bidi_remote.specs.State.SubscriptionsView.{rows_of};
 ghost use Rattle.bidi_remote.specs.State.MissedRows.{waiting};
 ghost use Rattle.bidi_remote.specs.State.EventTexts.{written, written_in, AreMessages};
-ghost use Rattle.bidi_remote.specs.State.SubscriptionRows.{row_in, is_new, may_be_new};
+ghost use Rattle.bidi_remote.specs.State.SubscriptionRows.{is_new, may_be_new};
 ghost use Rattle.bidi_remote.specs.State.Stands.{AgreeWith};
 ghost use Rattle.bidi_remote.specs.State.Turns.{Decides, HasResultOf, IsWellDecided};
 ghost use Rattle.bidi_messages.specs.Payloads.{ResultIsWell, result_method};
@@ -22,8 +24,10 @@ ghost use Rattle.bidi_messages.specs.Payloads.{ResultIsWell, result_method};
 use crate::announcing::{is_new, may_be_new};
 use crate::event_texts::{EventText, event_texts};
 use crate::session::event_names::all_named;
+use crate::sessions::Session;
 use crate::state::State;
-use crate::subscriptions::{Scope, Subscription};
+use crate::subscription_table::Subscriptions;
+use crate::subscriptions::Scope;
 use crate::turn::{Asker, Change, Turn};
 use bidi_browser::{Browser, IdKind, Refusal, id_text};
 use bidi_messages::{ErrorCode, EventName, Method, Payload, ResultData};
@@ -92,9 +96,11 @@ fn newly_enabled(
         → IfOk result (λ all. (written_in all.items ≡ map written (announcements past (Subscribed session events.now (scope_of scope.now)) session))
         × AreMessages (written_in all.items)) }
 {
-    let held = state.sessions.subscriptions_of(session);
-    let mut all = live_events(alloc, &state.browser, held, events, scope)?;
-    let mut waiting = waiting_entries(alloc, state, session, held, events, scope)?;
+    let Some(own) = state.sessions.find(session) else {
+        return Ok(Vec::new(alloc));
+    };
+    let mut all = live_events(alloc, &state.browser, &own.subscriptions, events, scope)?;
+    let mut waiting = waiting_entries(alloc, &state.browser, own, events, scope)?;
     all.append(&mut waiting)?;
     Ok(all)
 }
@@ -103,13 +109,13 @@ fn newly_enabled(
 fn live_events(
     alloc: Global,
     browser: &Browser,
-    held: &[Subscription],
+    held: &Subscriptions,
     events: &[EventName],
     scope: &Scope,
 ) -> Result<Vec<Rc<EventText>>, AllocError>
     ensures ok { (past : List Act) → StandsFor browser.now past
         → IfOk result (λ all. written_in all.items
-        ≡ map written (filter (λ o. is_new past (map row_of held.now) events.now (scope_of scope.now) o.event o.top) (tree_events past))) }
+        ≡ map written (filter (λ o. is_new past (rows_of held.now) events.now (scope_of scope.now) o.event o.top) (tree_events past))) }
     ensures reads_back { IfOk result (λ all. AreMessages (written_in all.items)) }
 {
     if !may_tell_what_exists(held, events) {
@@ -121,9 +127,9 @@ fn live_events(
 }
 
 // Whether the subscription may newly enable an event that tells what exists.
-fn may_tell_what_exists(held: &[Subscription], events: &[EventName]) -> bool
-    ensures { result ≡ (may_be_new (map row_of held.now) events.now EventName.ContextCreated
-        || may_be_new (map row_of held.now) events.now EventName.RealmCreated) }
+fn may_tell_what_exists(held: &Subscriptions, events: &[EventName]) -> bool
+    ensures { result ≡ (may_be_new (rows_of held.now) events.now EventName.ContextCreated
+        || may_be_new (rows_of held.now) events.now EventName.RealmCreated) }
 {
     may_be_new(held, events, EventName::ContextCreated)
         || may_be_new(held, events, EventName::RealmCreated)
@@ -132,23 +138,24 @@ fn may_tell_what_exists(held: &[Subscription], events: &[EventName]) -> bool
 // The log entries that wait, where the subscription newly enables them.
 fn waiting_entries(
     alloc: Global,
-    state: &State,
-    session: u32,
-    held: &[Subscription],
+    browser: &Browser,
+    own: &Session,
     events: &[EventName],
     scope: &Scope,
 ) -> Result<Vec<Rc<EventText>>, AllocError>
-    ensures { (past : List Act) → StandsFor state.now.browser past
-        → IfOk result (λ all. written_in all.items ≡ filter (λ w. is_new past (map row_of held.now) events.now (scope_of scope.now) EventName.EntryAdded w.top)
-        (waiting (row_in session (rows_in state.now.sessions)).missed)) }
+    ensures { (past : List Act) → StandsFor browser.now past
+        → (let row = session_row_of own.now in
+        IfOk result (λ all. written_in all.items ≡ filter (λ w. is_new past row.subscriptions events.now (scope_of scope.now) EventName.EntryAdded w.top)
+        (waiting row.missed))) }
 {
+    let held = &own.subscriptions;
     if !may_be_new(held, events, EventName::EntryAdded) {
         return Ok(Vec::new(alloc));
     }
-    let mut waiting = state.sessions.waiting_for(session)?;
+    let mut waiting = own.missed.waiting(alloc)?;
     waiting.retain(|entry| {
         is_new(
-            &state.browser,
+            browser,
             held,
             events,
             scope,

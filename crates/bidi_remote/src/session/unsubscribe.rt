@@ -14,7 +14,7 @@ ghost use Rattle.bidi_messages.specs.Payloads.{ResultIsWell, result_method};
 
 use crate::session::event_names::all_named;
 use crate::state::State;
-use crate::subscriptions::{all_global, numbers_of};
+use crate::subscriptions::numbers_of;
 use crate::turn::{Asker, Change, Turn};
 use bidi_browser::Refusal;
 use bidi_messages::{ErrorCode, Method, Payload, ResultData};
@@ -75,7 +75,7 @@ fn end_by_events(
     ensures of_sessions { IfOk result IsOfSessions }
 {
     let events = all_named(alloc, names)?;
-    if !all_global(state.sessions.subscriptions_of(session), &events) {
+    if !state.sessions.all_global(session, &events) {
         return Err(Refusal::Code(ErrorCode::InvalidArgument));
     }
     Ok(Change::Dismiss(session, events))

@@ -1,8 +1,10 @@
-use Rattle.std.proofs.Common.{◌≡◌, ◌≤◌, ◌+◌, ◌-◌, ◌*◌, Some, map, take}
+use Rattle.std.proofs.Common.{◌≤◌, ◌+◌, ◌*◌, ◌∷◌, [], ℕ, List, map, length}
 use Rattle.bidi_params.specs.contracts.browsing_context.info.InfoShape.TheImpl.{ghosts}
-use Rattle.bidi_browser.specs.ContextRows.{row_of, children_in}
+use Rattle.bidi_browser.specs.Acts.{Act}
+use Rattle.bidi_browser.specs.Info.{info_within}
 use Rattle.bidi_browser.specs.InfosInHand.{AreWithin}
-use Rattle.bidi_browser.proofs.WalkLemmas.{child_info}
+use Rattle.bidi_browser.specs.Subtrees.{AreSubtrees}
+use Rattle.bidi_browser.proofs.SubtreeLemmas.{Left}
 use Rattle.bidi_browser.proofs.contexts.+infos.Given as goal
 
 abbrev pub decreases-children : goal.decreases-children
@@ -13,7 +15,10 @@ decreases-infos l = 2 * l.levels
 
 abbrev pub invariant-infos-loop-context : goal.invariant-infos-loop-context
 invariant-infos-loop-context l = record {
-  tree : map ghosts.shape.tree_of l.all.items
-      ≡ map (child_info (l.levels - 1) (map row_of l.contexts) l.depth) (children_in (map row_of (take l.context-index l.contexts)) (Some l.parent));
+  tree : (past : List Act) (level : ℕ) (cs : List ℕ) → AreSubtrees l.contexts past level cs → 17 ≤ l.levels + level
+      → Left (λ c. info_within 16 past l.depth c ∷ []) l.rest past level (map ghosts.shape.tree_of l.all.items) (map (info_within 16 past l.depth) cs);
   well : l.levels ≤ 29 → AreWithin ghosts.shape (2 * l.levels) l.all.items;
 }
+
+abbrev pub decreases-infos-loop-context : goal.decreases-infos-loop-context
+decreases-infos-loop-context l = length l.rest

@@ -1,11 +1,18 @@
-use Rattle.std.proofs.Common.{◌≡◌, None, map, take}
+use Rattle.std.proofs.Common.{◌∷◌, [], ℕ, List, map, length}
 use Rattle.bidi_params.specs.contracts.browsing_context.info.InfoShape.TheImpl.{ghosts}
-use Rattle.bidi_browser.specs.ContextRows.{row_of, children_in, info_in}
+use Rattle.bidi_browser.specs.Acts.{Act}
+use Rattle.bidi_browser.specs.Info.{info_of}
 use Rattle.bidi_browser.specs.InfosInHand.{AreWithin}
+use Rattle.bidi_browser.specs.Subtrees.{AreSubtrees}
+use Rattle.bidi_browser.proofs.SubtreeLemmas.{Left}
 use Rattle.bidi_browser.proofs.contexts.top_infos.Given as goal
 
 abbrev pub invariant-loop-context : goal.invariant-loop-context
 invariant-loop-context l = record {
-  tree : map ghosts.shape.tree_of l.all.items ≡ map (info_in (map row_of l.contexts) l.depth) (children_in (map row_of (take l.context-index l.contexts)) None);
+  tree : (past : List Act) (cs : List ℕ) → AreSubtrees l.contexts past 1 cs
+      → Left (λ c. info_of past l.depth c ∷ []) l.rest past 1 (map ghosts.shape.tree_of l.all.items) (map (info_of past l.depth) cs);
   well : AreWithin ghosts.shape 34 l.all.items;
 }
+
+abbrev pub decreases-loop-context : goal.decreases-loop-context
+decreases-loop-context l = length l.rest

@@ -19,8 +19,8 @@ returns-clause-plans c = λ past moment stands.
     let params = c.args.params.now in
     let held = c.in_ok-contexts.ensures past stands in
     let told = c.in_ok-realms.ensures.tree
-    ∙ windows-told (λ x. row_of x.now) past (option_map string_bytes params.context) (takes_windows (option_map realm_type_text params.kind)) c.deref.result.now
-    (ap (map (λ x. row_of x.now)) c.deref.ensures.value ∙ held.1) in
+    ∙ windows-told row_of past (option_map string_bytes params.context) (takes_windows (option_map realm_type_text params.kind))
+    c.in_ok-contexts.contexts.now held.1 in
     looked-plans c.looked.result past moment (get_realms_asked params) _ refl held.0
     (rw (c.empty.ensures) (ap (λ ts. Replies (mapped ("realms" being listed ts and no_members)) ∷ []) told))
     c.looked.ensures.before c.looked.ensures.outcome c.looked.ensures.after c.looked.ensures.change
@@ -30,7 +30,7 @@ returns-clause-well c =
     let realms = c.in_ok-realms.realms in
     let flat : items_levels (items_of (map ghosts.shape.tree_of realms.items)) ≤ 1 =
     subst (λ ts. items_levels (items_of ts) ≤ 1) (sym c.in_ok-realms.ensures.tree)
-    (windows-flat (λ x. row_of x.now) (takes_windows (option_map realm_type_text c.args.params.now.kind)) c.deref.result.now) in
+    (windows-flat row_of (takes_windows (option_map realm_type_text c.args.params.now.kind)) c.in_ok-contexts.contexts.now) in
     told-well c.looked.result _ c.looked.ensures.before c.looked.ensures.outcome c.looked.ensures.after
     (result-well (ScriptGetRealms (record { realms = realms; ext = c.empty.result }))
     (mapped ("realms" being listed (map ghosts.shape.tree_of realms.items) and no_members))

@@ -8,7 +8,7 @@ loop-context-preserved c =
     let held = c.loop-context in
     let one = c.in_ok-own_realm in record {
       tree =
-          seen-more ghosts.shape.tree_of (λ x. realm_info_in (row_of x.now)) c.args.contexts.now held.context-index c.context-item.result
+          seen-more ghosts.shape.tree_of (λ x. realm_info_in (row_of x)) c.args.contexts.now held.context-index c.context-item.result
           held.all.items c.push.new.self.items one.field-0
           c.loop-context-test.true c.context-item.is held.invariant.tree c.in_ok-push.ensures.items one.ensures.tree;
       well =

@@ -1,4 +1,4 @@
-use Rattle.std.proofs.Common.{◌∙◌, ◌∷◌, [], map, ap, sym, subst}
+use Rattle.std.proofs.Common.{◌∙◌, ◌∷◌, [], ap, sym, subst}
 use Rattle.bidi_methods.specs.contracts.event_data.EventDataPayloadEventName.TheImpl.{ghosts}
 use Rattle.bidi_methods.specs.declared.event_data.EventName.TheVariants.{NavigationStarted, DomContentLoaded, Load}
 use Rattle.bidi_browser.specs.ContextRows.{row_of, realm_destroyed_in}
@@ -17,26 +17,24 @@ returns-clause-told c = λ past k move stands next is leads.
     let row = row_of c.args.context.now in
     let url = c.args.url.now in
     let to = led_to past k move in
-    let below = ap (map (λ g. row_of g.now)) c.deref.ensures.value ∙ c.in_ok-children.ensures past k stands.contexts is in
-    let gone = c.in_ok-push_removals.ensures.told past (children_of past k) stands below in
+    let below = c.below.ensures past k stands.contexts is in
+    let gone = c.in_ok-push_removals.ensures.told past _ (children_of past k) below in
     let first = event-told past moment k number url to NavigationStarted row _ _ is next.navigation leads
     c.navigation_started.ensures.told c.in_ok-info.ensures.tree in
     let ended = c.in_ok-realm_destroyed.ensures.told ∙ ap realm_destroyed_in is in
     let begun = realm-told past k c.args.numbers.realm move url row _ is next.realm leads c.in_ok-realm_began.ensures.told in
     let there = event-told past moment k number url to DomContentLoaded row _ _ is next.navigation leads c.dom_content_loaded.ensures.told
     c.in_ok-info-2.ensures.tree in
-    let loaded = event-told past moment k number url to Load row _ _ is next.navigation leads c.loaded.ensures.told c.in_ok-info-3.ensures.tree in (
-      all-told past moment k move (seen c.new-all.result.items) (seen c.push.new.self.items) (seen c.push_removals.new.events.items)
-          (seen c.push-2.new.self.items) (seen c.push-3.new.self.items) (seen c.push-4.new.self.items)
-          (seen c.push-5.new.self.items) (ap seen c.new-all.ensures.items)
-          (one-told c.new-all.result.items c.push.new.self.items _ _ c.in_ok-push.ensures.items (ap (λ o. o ∷ []) first))
-          gone.0
-          (one-told c.push_removals.new.events.items c.push-2.new.self.items _ _ c.in_ok-push-2.ensures.items (ap (λ o. o ∷ []) ended))
-          (one-told c.push-2.new.self.items c.push-3.new.self.items _ _ c.in_ok-push-3.ensures.items (ap (λ o. o ∷ []) begun))
-          (one-told c.push-3.new.self.items c.push-4.new.self.items _ _ c.in_ok-push-4.ensures.items (ap (λ o. o ∷ []) there))
-          (one-told c.push-4.new.self.items c.push-5.new.self.items _ _ c.in_ok-push-5.ensures.items (ap (λ o. o ∷ []) loaded)),
-      gone.1,
-    )
+    let loaded = event-told past moment k number url to Load row _ _ is next.navigation leads c.loaded.ensures.told c.in_ok-info-3.ensures.tree in
+    all-told past moment k move (seen c.new-all.result.items) (seen c.push.new.self.items) (seen c.push_removals.new.events.items)
+    (seen c.push-2.new.self.items) (seen c.push-3.new.self.items) (seen c.push-4.new.self.items)
+    (seen c.push-5.new.self.items) (ap seen c.new-all.ensures.items)
+    (one-told c.new-all.result.items c.push.new.self.items _ _ c.in_ok-push.ensures.items (ap (λ o. o ∷ []) first))
+    gone
+    (one-told c.push_removals.new.events.items c.push-2.new.self.items _ _ c.in_ok-push-2.ensures.items (ap (λ o. o ∷ []) ended))
+    (one-told c.push-2.new.self.items c.push-3.new.self.items _ _ c.in_ok-push-3.ensures.items (ap (λ o. o ∷ []) begun))
+    (one-told c.push-3.new.self.items c.push-4.new.self.items _ _ c.in_ok-push-4.ensures.items (ap (λ o. o ∷ []) there))
+    (one-told c.push-4.new.self.items c.push-5.new.self.items _ _ c.in_ok-push-5.ensures.items (ap (λ o. o ∷ []) loaded))
 
 pub returns-clause-well : goal.returns-clause-well
 returns-clause-well c =

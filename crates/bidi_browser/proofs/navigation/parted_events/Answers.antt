@@ -1,7 +1,5 @@
-use Rattle.std.proofs.Common.{◌∙◌, ◌++◌, ap, sym, subst}
-use Rattle.std.specs.Prelude.{flat_map}
+use Rattle.std.proofs.Common.{◌∙◌, ap, sym, subst}
 use Rattle.bidi_browser.specs.Asked.{wait_of}
-use Rattle.bidi_browser.specs.Contexts.{children_of, subtree_of}
 use Rattle.bidi_browser.specs.Navigations.{before_reply}
 use Rattle.bidi_browser.specs.Plans.{AreWell}
 use Rattle.bidi_browser.proofs.NavigationLemmas.{told-parted, take-well, drop-well}
@@ -11,12 +9,10 @@ pub returns-clause-told : goal.returns-clause-told
 returns-clause-told c = λ past k move stands next is leads.
     let all = c.in_ok-before.before in
     let wait = wait_of c.args.wait in
-    let told = c.in_ok-before.ensures.told past k move stands next is leads in (
-      told-parted past c.args.moment.value k move wait (record { before = c.split_off.new.self; after = c.in_ok-after.after }) all.items
-          c.place_of_reply-place.result told.0 (c.place_of_reply-place.ensures.place ∙ ap (before_reply wait) (c.len.ensures ∙ all.ok.0))
-          c.in_ok-after.ensures.items c.in_ok-after.ensures.tail,
-      told.1 ∙ ap (λ ns. ns ++ flat_map (subtree_of past) (children_of past k)) c.new-gone.ensures.items,
-    )
+    let told = c.in_ok-before.ensures.told past k move stands next is leads in
+    told-parted past c.args.moment.value k move wait (record { before = c.split_off.new.self; after = c.in_ok-after.after }) all.items
+    c.place_of_reply-place.result told (c.place_of_reply-place.ensures.place ∙ ap (before_reply wait) (c.len.ensures ∙ all.ok.0))
+    c.in_ok-after.ensures.items c.in_ok-after.ensures.tail
 
 pub returns-clause-well : goal.returns-clause-well
 returns-clause-well c =

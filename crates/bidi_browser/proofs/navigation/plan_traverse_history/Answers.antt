@@ -22,6 +22,6 @@ returns-clause-plans c = λ past stands ids.
     let told = c.in_ok-told.ensures.told past k (Across place) stands next found.2 leads in
     navigation-plans c.planned.result c.in_ok-told.told _ (BrowsingContextTraverseHistory c.nothing-result.result) past c.args.moment.value k
     (Across place) (traverse_asked c.args.params.now) refl
-    (rw (ap (top_named past) (sym c.deref.ensures) ∙ found.1, at) refl) told.0 c.nothing-result.ensures.tree
-    (ap (λ r. r.number) found.2) refl next.realm (across-leads (entries_of past k) delta place at) told.1 c.planned.ensures.before
+    (rw (ap (top_named past) (sym c.deref.ensures) ∙ found.1, at) refl) told c.nothing-result.ensures.tree
+    (ap (λ r. r.number) found.2) refl next.realm (across-leads (entries_of past k) delta place at) c.planned.ensures.before
     c.planned.ensures.outcome c.planned.ensures.after c.planned.ensures.change

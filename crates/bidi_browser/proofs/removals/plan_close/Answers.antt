@@ -12,10 +12,10 @@ returns-clause-plans c = λ past moment stands.
     let told = c.in_ok-before.ensures.told past found.0 stands found.2 in (
       Removed found.0,
       rw found.1 refl,
-      asked-removal past found.0 c.in_ok-before.before.items _ (Some (BrowsingContextClose c.nothing.result)) told.0
+      asked-removal past found.0 c.in_ok-before.before.items _ (Some (BrowsingContextClose c.nothing.result)) told
           (ap (λ t. Replies t ∷ []) c.nothing.ensures.tree) c.new.ensures.items,
       refl,
-      told.1,
+      ap (λ r. Removed r.number) (sym found.2),
       λ unasked. c.new.ensures.items,
     )
 

@@ -1,38 +1,28 @@
-use Rattle.std.proofs.Common.{◌∙◌, ◌++◌, take_all, length, get_or, ap, arith}
+use Rattle.std.proofs.Common.{◌++◌}
 use Rattle.std.specs.Prelude.{flat_map}
-use Rattle.std.proofs.lemmas.List.{length-map}
-use Rattle.bidi_browser.specs.ContextRows.{row_of, row_at}
-use Rattle.bidi_browser.specs.Contexts.{subtree_of}
 use Rattle.bidi_browser.specs.Occurrences.{removal}
 use Rattle.bidi_browser.specs.View.{seen}
-use Rattle.bidi_browser.proofs.PushLemmas.{joined-more}
-use Rattle.bidi_browser.proofs.PlanLemmas.{rows-at}
+use Rattle.bidi_browser.proofs.SubtreeLemmas.{left-all, left-next, left-end}
 use Rattle.bidi_browser.proofs.removals.push_removals.Goals as goal
+
+pub loop-context-init : goal.loop-context-init
+loop-context-init c = record {
+  told = λ past l cs s. left-all (removal past) c.args.contexts.now past l cs (seen c.args.events.now.items) s;
+  well = λ w. w;
+}
 
 pub loop-context-preserved : goal.loop-context-preserved
 loop-context-preserved c =
-    let held = c.loop-context in
-    let i = held.context-index in record {
-      told = λ past cs stands same.
-          let at = rows-at past c.args.contexts.now cs i c.context-item.result same c.loop-context-test.true c.context-item.is in
-          let before = held.invariant.told past cs stands same in
-          let one = c.in_ok-push_removal.ensures.told past (get_or cs i 0) stands at.1 in (
-            joined-more (removal past) cs i 0 (seen c.args.events.now.items) (seen held.events.items)
-                (seen c.push_removal.new.events.items) at.0 before.0 one.0,
-            joined-more (subtree_of past) cs i 0 c.args.numbers.now.items held.numbers.items c.push_removal.new.numbers.items at.0 before.1 one.1,
-          );
+    let held = c.loop-context in record {
+      told = λ past l cs s.
+          left-next (removal past) held.rest.now c.split_at.result.0.now c.split_at.result.1.now c.in-Some.behind.now c.in-Some.context.now
+          c.len_below.result past l (seen held.events.items) (seen c.push_removal.new.events.items) _
+          c.in-Some.ensures.cases.0 c.len_below.ensures.is c.split_at.ensures.front c.split_at.ensures.back
+          (held.invariant.told past l cs s) (λ k level row below. c.in_ok-push_removal.ensures.told past k row below);
       well = λ w. c.in_ok-push_removal.ensures.well (held.invariant.well w);
     }
 
 pub returns-clause-told : goal.returns-clause-told
-returns-clause-told c = λ past cs stands same.
-    let held = c.loop-context in
-    let all = c.loop-context-test.false in
-    let long = ap length same in
-    let rows = length-map c.args.contexts.now (λ x. row_of x.now) in
-    let numbers = length-map cs (row_at past) in
-    let end = take_all held.context-index cs (omega (arith, all, long, rows, numbers)) in
-    let told = held.invariant.told past cs stands same in (
-      told.0 ∙ ap (λ ds. seen c.args.events.now.items ++ flat_map (removal past) ds) end,
-      told.1 ∙ ap (λ ds. c.args.numbers.now.items ++ flat_map (subtree_of past) ds) end,
-    )
+returns-clause-told c = λ past l cs s.
+    left-end (removal past) c.loop-context.rest.now past l (seen c.loop-context.events.items)
+    (seen c.args.events.now.items ++ flat_map (removal past) cs) c.in_default.ensures.cases (c.loop-context.invariant.told past l cs s)

@@ -9,7 +9,7 @@ loop-context-preserved c =
     let held = c.loop-context in
     let one = c.in_ok-realm_created in record {
       told =
-          told-more occurrence_of realm_created_in (λ x. row_of x.now) c.args.contexts.now held.context-index
+          told-more occurrence_of realm_created_in row_of c.args.contexts.now held.context-index
           c.context-item.result c.args.all.now.items held.all.items c.push.new.self.items one.field-0
           c.loop-context-test.true c.context-item.is held.invariant.told c.in_ok-push.ensures.items one.ensures.told;
       well =

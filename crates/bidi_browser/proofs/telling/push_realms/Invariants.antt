@@ -6,6 +6,6 @@ use Rattle.bidi_browser.proofs.telling.push_realms.Given as goal
 
 abbrev pub invariant-loop-context : goal.invariant-loop-context
 invariant-loop-context l = record {
-  told : seen l.all.items ≡ seen l.initial.all.items ++ map realm_created_in (map (λ c. row_of c.now) (take l.context-index l.contexts));
+  told : seen l.all.items ≡ seen l.initial.all.items ++ map realm_created_in (map row_of (take l.context-index l.contexts));
   well : AreWell l.initial.all.items → AreWell l.all.items;
 }

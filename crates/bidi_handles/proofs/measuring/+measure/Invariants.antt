@@ -2,7 +2,7 @@ use Rattle.std.proofs.Common.{◌≡◌, ℕ, suc, ◌+◌, drop, length, Result
 use Rattle.std.specs.Prelude.{max, true}
 use Rattle.json.specs.Print.{quoted}
 use Rattle.bidi_tree.specs.Node.{Items, no_items, item, Members, no_members, member, items_levels, members_levels}
-use Rattle.bidi_tree.specs.Outline.{outline_items, outline_members}
+use Rattle.bidi_tree.specs.Outline.{outline_items, outline_members, named_outlines}
 use Rattle.bidi_tree.specs.Text.{compact_text, items_text, members_text}
 use Rattle.bidi_params.specs.declared.error_code.ErrorCode.{ErrorCode}
 use Rattle.bidi_handles.specs.declared.size.Size.{Size}
@@ -35,5 +35,5 @@ invariant-measured_items-loop-item l =
 
 abbrev pub invariant-measured_members-loop-member : goal.invariant-measured_members-loop-member
 invariant-measured_members-loop-member l =
-    with_members l.size l.comma (seen_members (in_realm l.realm) (outline_members (drop l.member-index l.members.items)))
-    ≡ members_sized (seen_members (in_realm l.realm) (outline_members l.members.items))
+    with_members l.size l.comma (seen_members (in_realm l.realm) (named_outlines (drop l.member-index l.members.entries.items)))
+    ≡ members_sized (seen_members (in_realm l.realm) (outline_members l.members))

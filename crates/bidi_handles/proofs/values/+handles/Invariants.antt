@@ -1,5 +1,5 @@
 use Rattle.std.proofs.Common.{◌≡◌, drop}
-use Rattle.bidi_tree.specs.Outline.{outline_items, outline_members}
+use Rattle.bidi_tree.specs.Outline.{outline_items, outline_members, named_outlines}
 use Rattle.bidi_handles.specs.Values.{items_have_handle, members_have_handle}
 use Rattle.bidi_handles.proofs.values.+handles.Given as goal
 
@@ -9,4 +9,4 @@ invariant-items_have_handle-loop-item l =
 
 abbrev pub invariant-members_have_handle-loop-member : goal.invariant-members_have_handle-loop-member
 invariant-members_have_handle-loop-member l =
-    members_have_handle (outline_members l.members.items) ≡ members_have_handle (outline_members (drop l.member-index l.members.items))
+    members_have_handle (outline_members l.members) ≡ members_have_handle (named_outlines (drop l.member-index l.members.entries.items))

@@ -5,7 +5,8 @@ use Rattle.std.proofs.Math.ListN.{get_or-map}
 use Rattle.bidi_methods.specs.declared.event_data.EventName.TheVariants.{EntryAdded}
 use Rattle.bidi_remote.specs.State.EventTexts.{place_row, written_of}
 use Rattle.bidi_remote.specs.State.MissedRows.{left}
-use Rattle.bidi_remote.specs.State.SessionView.{scope_of, row_of}
+use Rattle.bidi_remote.specs.State.SubscriptionView.{scope_of}
+use Rattle.bidi_remote.specs.State.SubscriptionsView.{rows_of}
 use Rattle.bidi_remote.specs.State.SubscriptionRows.{is_new}
 use Rattle.bidi_remote.proofs.BeginLemmas.{over-all, over-next, over-kept}
 use Rattle.bidi_remote.proofs.AnnounceLemmas.{never-new}
@@ -15,7 +16,7 @@ use Rattle.bidi_remote.proofs.announcing.announce.Goals as goal
 
 pub returns-then-not-may_be_new-clause-places : goal.returns-then-not-may_be_new-clause-places
 returns-then-not-may_be_new-clause-places c = λ past stands.
-    let rows = map row_of c.args.held.now in
+    let rows = rows_of c.args.held.now in
     let es = c.args.events.now in
     let scope = scope_of c.args.scope.now in
     none-left (is_new past rows es scope EntryAdded) (map place_row c.args.places.now.items)
@@ -33,7 +34,7 @@ loop-at-preserved-in-None c =
       c.loop-at.invariant.0,
       c.loop-at.invariant.1,
       λ past stands.
-          let p = is_new past (map row_of c.args.held.now) c.args.events.now (scope_of c.args.scope.now) EntryAdded in
+          let p = is_new past (rows_of c.args.held.now) c.args.events.now (scope_of c.args.scope.now) EntryAdded in
           over-kept (left p) i rows (map place_row items) (place_row x) less (c.loop-at.invariant.2 past stands) at
           (left-empty p (place_row x) (ap place_row c.in-None.is)),
     )
@@ -55,7 +56,7 @@ loop-at-preserved c =
         ap (λ q. q.len) w.places-is ∙ c.loop-at.invariant.0,
         ap (λ q. q.cap) w.places-is ∙ c.loop-at.invariant.1,
         λ past stands.
-            let p = is_new past (map row_of c.args.held.now) c.args.events.now (scope_of c.args.scope.now) EntryAdded in
+            let p = is_new past (rows_of c.args.held.now) c.args.events.now (scope_of c.args.scope.now) EntryAdded in
             ap (λ q. map place_row q.items) w.places-is ∙ (map-set place_row items i None
             ∙ (ap (set (map place_row items) i) (left-new p (place_row x) entry is (ap p (sym top) ∙ (sym (c.is_new.ensures past stands) ∙ w.if-is_new.true)))
             ∙ sym (over-next (left p) i rows (map place_row items) (place_row x) less (c.loop-at.invariant.2 past stands) at))),
@@ -64,7 +65,7 @@ loop-at-preserved c =
         ap (λ q. q.len) w.places-is ∙ c.loop-at.invariant.0,
         ap (λ q. q.cap) w.places-is ∙ c.loop-at.invariant.1,
         λ past stands.
-            let p = is_new past (map row_of c.args.held.now) c.args.events.now (scope_of c.args.scope.now) EntryAdded in
+            let p = is_new past (rows_of c.args.held.now) c.args.events.now (scope_of c.args.scope.now) EntryAdded in
             ap (λ q. map place_row q.items) w.places-is ∙ (map-set place_row items i None
             ∙ (ap (set (map place_row items) i) (left-new p (place_row x) entry is (ap p (sym top) ∙ (sym (c.is_new.ensures past stands) ∙ w.if-is_new.true)))
             ∙ sym (over-next (left p) i rows (map place_row items) (place_row x) less (c.loop-at.invariant.2 past stands) at))),
@@ -73,7 +74,7 @@ loop-at-preserved c =
         ap (λ q. q.len) w.places-is ∙ c.loop-at.invariant.0,
         ap (λ q. q.cap) w.places-is ∙ c.loop-at.invariant.1,
         λ past stands.
-            let p = is_new past (map row_of c.args.held.now) c.args.events.now (scope_of c.args.scope.now) EntryAdded in
+            let p = is_new past (rows_of c.args.held.now) c.args.events.now (scope_of c.args.scope.now) EntryAdded in
             ap (λ q. map place_row q.items) w.places-is
             ∙ over-kept (left p) i rows (map place_row items) (place_row x) less (c.loop-at.invariant.2 past stands) at
             (left-old p (place_row x) entry is (ap p (sym top) ∙ (sym (c.is_new.ensures past stands) ∙ w.if-is_new.false))),
@@ -87,5 +88,5 @@ returns-clause-places c = λ past stands.
     let end = c.len-at-end.ensures in
     let ok = c.args.places.now.ok.0 in
     c.loop-at.invariant.2 past stands
-    ∙ over-all (left (is_new past (map row_of c.args.held.now) c.args.events.now (scope_of c.args.scope.now) EntryAdded)) c.loop-at.at
+    ∙ over-all (left (is_new past (rows_of c.args.held.now) c.args.events.now (scope_of c.args.scope.now) EntryAdded)) c.loop-at.at
     (map place_row c.args.places.now.items) (omega (arith, all, end, ok, long))

@@ -4,7 +4,8 @@ use Rattle.bidi_browser.specs.Acts.{Act}
 use Rattle.bidi_browser.specs.Stands.{StandsFor}
 use Rattle.bidi_remote.specs.State.EventTexts.{place_row}
 use Rattle.bidi_remote.specs.State.MissedRows.{left}
-use Rattle.bidi_remote.specs.State.SessionView.{scope_of, row_of}
+use Rattle.bidi_remote.specs.State.SubscriptionView.{scope_of}
+use Rattle.bidi_remote.specs.State.SubscriptionsView.{rows_of}
 use Rattle.bidi_remote.specs.State.SubscriptionRows.{is_new}
 use Rattle.bidi_remote.proofs.BeginLemmas.{over}
 use Rattle.bidi_remote.proofs.announcing.announce.Given as goal
@@ -15,4 +16,4 @@ invariant-loop-at l =
     (deque_len l.places ≡ deque_len l.fn.places) × (deque_capacity l.places ≡ deque_capacity l.fn.places)
     × ((past : List Act) → StandsFor l.browser past
     → map place_row l.places.items
-    ≡ over (left (is_new past (map row_of l.held) l.events (scope_of l.scope) EntryAdded)) l.at (map place_row l.fn.places.items))
+    ≡ over (left (is_new past (rows_of l.held) l.events (scope_of l.scope) EntryAdded)) l.at (map place_row l.fn.places.items))

@@ -2,7 +2,7 @@ use Rattle.std.proofs.Common.{◌≡◌, ◌∙◌, not, length, map, ap, arith,
 use Rattle.std.specs.Vec.{with_items}
 use Rattle.std.proofs.lemmas.Fn.{filter_same}
 use Rattle.std.proofs.lemmas.List.{length-map, with_items_is}
-use Rattle.bidi_remote.specs.State.SessionView.{row_of}
+use Rattle.bidi_remote.specs.State.SubscriptionView.{row_of}
 use Rattle.bidi_remote.specs.State.SubscriptionRows.{loses_all, stripped}
 use Rattle.bidi_remote.proofs.ListLemmas.{map-filter}
 use Rattle.bidi_remote.proofs.subscriptions.dismiss.Goals as goal

@@ -5,7 +5,7 @@ use Rattle.bidi_handles.specs.declared.id.IdKind.TheVariants.{Subscription}
 use Rattle.bidi_handles.specs.Ids.{id_text}
 use Rattle.bidi_handles.specs.Checks.{found}
 use Rattle.bidi_remote.specs.State.Checked.{behind}
-use Rattle.bidi_remote.specs.State.SessionView.{row_of}
+use Rattle.bidi_remote.specs.State.SubscriptionView.{row_of}
 use Rattle.bidi_remote.specs.State.SubscriptionRows.{number_named, numbers_named}
 use Rattle.bidi_remote.proofs.ListLemmas.{find-map, from-item}
 use Rattle.bidi_remote.proofs.CheckLemmas.{joined-ok, joined-err}

@@ -1,5 +1,5 @@
 use Rattle.std.proofs.Common.{◌≡◌, map, drop, string_bytes}
-use Rattle.bidi_remote.specs.State.SessionView.{row_of}
+use Rattle.bidi_remote.specs.State.SubscriptionView.{row_of}
 use Rattle.bidi_remote.specs.State.SubscriptionRows.{numbers_named}
 use Rattle.bidi_remote.specs.State.Checked.{behind}
 use Rattle.bidi_remote.proofs.subscriptions.numbers_of.Given as goal

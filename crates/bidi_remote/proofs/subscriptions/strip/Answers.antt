@@ -3,7 +3,7 @@ use Rattle.std.proofs.lemmas.Fn.{filter_same}
 use Rattle.std.proofs.lemmas.List.{map-set, length-map}
 use Rattle.std.proofs.Math.ListN.{get_or-map}
 use Rattle.bidi_remote.specs.Machine.Subscriptions.{is_global}
-use Rattle.bidi_remote.specs.State.SessionView.{row_of}
+use Rattle.bidi_remote.specs.State.SubscriptionView.{row_of}
 use Rattle.bidi_remote.specs.State.SubscriptionRows.{stripped}
 use Rattle.bidi_remote.proofs.BeginLemmas.{over-all, over-next}
 use Rattle.bidi_remote.proofs.RowLemmas.{stripped-global, stripped-other}

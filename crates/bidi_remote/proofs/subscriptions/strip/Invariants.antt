@@ -1,5 +1,5 @@
 use Rattle.std.proofs.Common.{◌≡◌, map}
-use Rattle.bidi_remote.specs.State.SessionView.{row_of}
+use Rattle.bidi_remote.specs.State.SubscriptionView.{row_of}
 use Rattle.bidi_remote.specs.State.SubscriptionRows.{stripped}
 use Rattle.bidi_remote.proofs.BeginLemmas.{over}
 use Rattle.bidi_remote.proofs.subscriptions.strip.Given as goal

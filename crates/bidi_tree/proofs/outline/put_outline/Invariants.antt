@@ -4,10 +4,10 @@ use Rattle.bidi_tree.proofs.outline.put_outline.Given as goal
 
 abbrev pub invariant-loop-place : goal.invariant-loop-place
 invariant-loop-place l = record {
-  within : l.place ≤ length l.members.items;
-  same : l.members.items ≡ l.fn.members.items;
-  past : IsPast l.name l.place l.members.items;
+  within : l.place ≤ length l.members.entries.items;
+  same : l.members.entries.items ≡ l.fn.members.entries.items;
+  past : IsPast l.name l.place l.members.entries.items;
 }
 
 abbrev pub decreases-loop-place : goal.decreases-loop-place
-decreases-loop-place l = length l.members.items - l.place
+decreases-loop-place l = length l.members.entries.items - l.place

@@ -7,29 +7,27 @@ use Rattle.bidi_values.proofs.writing.+write.Goals as goal
 pub outline_values-loop-value-preserved : goal.outline_values-loop-value-preserved
 outline_values-loop-value-preserved g t c =
     let l = c.loop-value in
-    let p = next-outlined (nested_tree g.P.Nests.nesting) c.deref-value-items.result.now l.value-index c.value-item.result l.outlines.items
-    c.push.new.self.items c.in_ok-outline_value.field-0 c.in_ok-push.ensures.items (omega arith) l.invariant.same l.invariant.sound
-    c.in_ok-outline_value.ensures.tree c.value-item.is c.in_ok-outline_value.ensures.sound in
-    record { same = p.0; sound = p.1 }
+    next-outlined (nested_tree g.P.Nests.nesting) c.deref-value-items.result.now l.value-index c.value-item.result l.outlines.items
+    c.push.new.self.items c.in_ok-outline_value.field-0 c.in_ok-push.ensures.items (omega arith) l.invariant
+    c.in_ok-outline_value.ensures c.value-item.is
 
 pub outline_pairs-loop-pair-preserved : goal.outline_pairs-loop-pair-preserved
 outline_pairs-loop-pair-preserved g t c =
     let l = c.loop-pair in
-    let p = next-outlined (nested_pair_tree g.P.Nests.nesting) c.deref-pair-items.result.now l.pair-index c.pair-item.result l.outlines.items
-    c.push.new.self.items c.in_ok-outline_pair.field-0 c.in_ok-push.ensures.items (omega arith) l.invariant.same l.invariant.sound
-    c.in_ok-outline_pair.ensures.tree c.pair-item.is c.in_ok-outline_pair.ensures.sound in
-    record { same = p.0; sound = p.1 }
+    next-outlined (nested_pair_tree g.P.Nests.nesting) c.deref-pair-items.result.now l.pair-index c.pair-item.result l.outlines.items
+    c.push.new.self.items c.in_ok-outline_pair.field-0 c.in_ok-push.ensures.items (omega arith) l.invariant
+    c.in_ok-outline_pair.ensures c.pair-item.is
 
-pub outline_value-returns-in_ok-outlines-in-List-clause-tree : goal.outline_value-returns-in_ok-outlines-in-List-clause-tree
-outline_value-returns-in_ok-outlines-in-List-clause-tree g t c =
+pub outline_value-returns-in_ok-outlines-in-List : goal.outline_value-returns-in_ok-outlines-in-List
+outline_value-returns-in_ok-outlines-in-List g t c =
     list_outlined g.P.Nests.nesting g.met.P.Nests.agrees c.outline_around.result c.args.value.now c.in-List.siblings c.in-List.values
-    c.in_ok-outlines-in-List.outlines c.in-List.is c.in_ok-outlines-in-List.ensures.same c.outline_around.ensures.tree
+    c.in_ok-outlines-in-List.outlines c.in-List.is c.in_ok-outlines-in-List.ensures c.outline_around.ensures
 
-pub outline_value-returns-in_ok-outlines-in-Pairs-clause-tree : goal.outline_value-returns-in_ok-outlines-in-Pairs-clause-tree
-outline_value-returns-in_ok-outlines-in-Pairs-clause-tree g t c =
+pub outline_value-returns-in_ok-outlines-in-Pairs : goal.outline_value-returns-in_ok-outlines-in-Pairs
+outline_value-returns-in_ok-outlines-in-Pairs g t c =
     pairs_outlined g.P.Nests.nesting g.met.P.Nests.agrees c.outline_around-in-Pairs.result c.args.value.now c.in-Pairs.siblings c.in-Pairs.pairs
-    c.in_ok-outlines-in-Pairs.outlines c.in-Pairs.is c.in_ok-outlines-in-Pairs.ensures.same c.outline_around-in-Pairs.ensures.tree
+    c.in_ok-outlines-in-Pairs.outlines c.in-Pairs.is c.in_ok-outlines-in-Pairs.ensures c.outline_around-in-Pairs.ensures
 
-pub outline_value-returns-in-Plain-clause-tree : goal.outline_value-returns-in-Plain-clause-tree
-outline_value-returns-in-Plain-clause-tree g t c =
-    plain_outlined g.P.Nests.nesting g.met.P.Nests.agrees c.outline.result c.args.value.now c.in-Plain.plain c.in-Plain.is c.outline.ensures.tree
+pub outline_value-returns-in-Plain : goal.outline_value-returns-in-Plain
+outline_value-returns-in-Plain g t c =
+    plain_outlined g.P.Nests.nesting g.met.P.Nests.agrees c.outline.result c.args.value.now c.in-Plain.plain c.in-Plain.is c.outline.ensures

@@ -1,4 +1,4 @@
-use Rattle.std.proofs.Common.{◌∙◌, map, ap}
+use Rattle.std.proofs.Common.{map, ap}
 use Rattle.bidi_browser.specs.ContextRows.{row_of}
 use Rattle.bidi_browser.specs.View.{seen}
 use Rattle.bidi_browser.proofs.PlanLemmas.{events-told}
@@ -6,9 +6,8 @@ use Rattle.bidi_browser.proofs.browser.Browser.tree_events.Goals as goal
 
 pub returns-clause-ok : goal.returns-clause-ok
 returns-clause-ok c = λ past stands.
-    let order = c.in_ok-contexts.ensures past stands.contexts in
-    events-told past (map (λ g. row_of g.now) c.deref.result.now) (map (λ g. row_of g.now) c.deref-2.result.now)
-    (seen c.new-all.result.items) (seen c.push_created.new.all.items) (seen c.push_realms.new.all.items)
-    (ap (map (λ g. row_of g.now)) c.deref.ensures.value ∙ order) (ap (map (λ g. row_of g.now)) c.deref-2.ensures.value ∙ order)
+    let order = c.in_tree_order-contexts.ensures past stands.contexts in
+    let rows = map row_of c.in_tree_order-contexts.result.now in
+    events-told past rows rows (seen c.new-all.result.items) (seen c.push_created.new.all.items) (seen c.push_realms.new.all.items) order order
     (ap seen c.new-all.ensures.items)
     c.in_ok-push_created.ensures.told c.in_ok-push_realms.ensures.told

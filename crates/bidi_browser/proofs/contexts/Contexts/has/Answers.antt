@@ -5,4 +5,4 @@ use Rattle.bidi_browser.proofs.contexts.Contexts.has.Goals as goal
 
 pub returns : goal.returns
 returns c = λ past table.
-    c.has_number.ensures ∙ any-stands past c.deref.result.now c.args.number (ap (map row_of) c.deref.ensures.value ∙ table.rows)
+    c.has_number.ensures ∙ any-stands past c.deref.result.now c.args.number (ap (map row_of) c.deref.ensures.value ∙ table.rows) table.accepted

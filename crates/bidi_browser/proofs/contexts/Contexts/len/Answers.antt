@@ -1,10 +1,10 @@
 use Rattle.std.proofs.Common.{◌≡◌, ◌∙◌, length, sym, ap, rules}
 use Rattle.std.proofs.lemmas.List.{length-map}
 use Rattle.bidi_browser.specs.ContextRows.{row_of}
-use Rattle.bidi_browser.proofs.BirthLemmas.{length-rows}
+use Rattle.bidi_browser.proofs.TreeLemmas.{length-rows}
 use Rattle.bidi_browser.proofs.contexts.Contexts.len.Goals as goal
 
 pub returns : goal.returns
 returns c = λ past table.
     let counted : c.len.result ≡ length c.args.self.now.live.items = search rules in
-    counted ∙ (sym (length-map c.args.self.now.live.items row_of) ∙ (ap length table.rows ∙ length-rows past))
+    counted ∙ (sym (length-map c.args.self.now.live.items row_of) ∙ (ap length table.rows ∙ length-rows past table.accepted))

@@ -1,11 +1,12 @@
 use Rattle.std.proofs.Common.{refl, sym, subst}
 use Rattle.std.specs.Prelude.{string_bytes}
 use Rattle.bidi_remote.specs.Machine.Step as steps
+use Rattle.bidi_remote.specs.State.View.{page_of}
 use Rattle.bidi_ledger.specs.declared.pair_step.PairStep.TheVariants as in_hand
 use Rattle.bidi_ledger.specs.Ledger.{Opens, Sends, Up, Down, Cuts}
 use Rattle.bidi_ledger.specs.Steps.{IsHeardAs, sending_of}
 use Rattle.bidi_ledger.specs.declared.pair_step.PairStep.{PairStep}
-use Rattle.bidi_link.proofs.StepLemmas.{Does, step-done, of-step, beside-done, at-quiet, frame-quiet, unframe-quiet, log-quiet, row-quiet}
+use Rattle.bidi_link.proofs.StepLemmas.{Does, step-done, of-step, beside-done, at-quiet, page-quiet}
 use Rattle.bidi_link.proofs.ends.Ends.take.Goals as goal
 
 pub returns-in-Open-clause-ok : goal.returns-in-Open-clause-ok
@@ -34,31 +35,11 @@ returns-in-At-clause-ok c =
     of-step c.hand.result c.args.step (in_hand.At c.in-At.moment) (Does c.args.self.now c.hand.new.self) c.in-At.is
     (beside-done c.hand.result c.args.self.now c.hand.new.self (steps.At c.in-At.moment.value) (at-quiet c.in-At.moment.value) c.hand.ensures.ok)
 
-pub returns-in-Frame-clause-ok : goal.returns-in-Frame-clause-ok
-returns-in-Frame-clause-ok c =
-    of-step c.hand-in-Frame.result c.args.step (in_hand.Frame c.in-Frame.context c.in-Frame.url)
-    (Does c.args.self.now c.hand-in-Frame.new.self) c.in-Frame.is (beside-done c.hand-in-Frame.result
-    c.args.self.now c.hand-in-Frame.new.self (steps.Frame (string_bytes c.in-Frame.context) (string_bytes c.in-Frame.url))
-    (frame-quiet (string_bytes c.in-Frame.context) (string_bytes c.in-Frame.url)) c.hand-in-Frame.ensures.ok)
-
-pub returns-in-Unframe-clause-ok : goal.returns-in-Unframe-clause-ok
-returns-in-Unframe-clause-ok c =
-    of-step c.hand-in-Unframe.result c.args.step (in_hand.Unframe c.in-Unframe.context) (Does c.args.self.now c.hand-in-Unframe.new.self)
-    c.in-Unframe.is (beside-done c.hand-in-Unframe.result c.args.self.now c.hand-in-Unframe.new.self
-    (steps.Unframe (string_bytes c.in-Unframe.context)) (unframe-quiet (string_bytes c.in-Unframe.context)) c.hand-in-Unframe.ensures.ok)
-
-pub returns-in-Log-clause-ok : goal.returns-in-Log-clause-ok
-returns-in-Log-clause-ok c =
-    of-step c.hand-in-Log.result c.args.step (in_hand.Log c.in-Log.context c.in-Log.level c.in-Log.text)
-    (Does c.args.self.now c.hand-in-Log.new.self) c.in-Log.is (beside-done c.hand-in-Log.result c.args.self.now c.hand-in-Log.new.self
-    (steps.Log (string_bytes c.in-Log.context) c.in-Log.level (string_bytes c.in-Log.text))
-    (log-quiet (string_bytes c.in-Log.context) c.in-Log.level (string_bytes c.in-Log.text)) c.hand-in-Log.ensures.ok)
-
-pub returns-in-TableRow-clause-ok : goal.returns-in-TableRow-clause-ok
-returns-in-TableRow-clause-ok c =
-    of-step c.hand-in-TableRow.result c.args.step (in_hand.TableRow c.in-TableRow.text) (Does c.args.self.now c.hand-in-TableRow.new.self)
-    c.in-TableRow.is (beside-done c.hand-in-TableRow.result c.args.self.now c.hand-in-TableRow.new.self
-    (steps.TableRow (string_bytes c.in-TableRow.text)) (row-quiet (string_bytes c.in-TableRow.text)) c.hand-in-TableRow.ensures.ok)
+pub returns-in-Page-clause-ok : goal.returns-in-Page-clause-ok
+returns-in-Page-clause-ok c =
+    of-step c.hand-in-Page.result c.args.step (in_hand.Page c.in-Page.page) (Does c.args.self.now c.hand-in-Page.new.self) c.in-Page.is
+    (beside-done c.hand-in-Page.result c.args.self.now c.hand-in-Page.new.self (steps.Page (page_of c.in-Page.page)) (page-quiet (page_of c.in-Page.page))
+    c.hand-in-Page.ensures.ok)
 
 pub returns-in_ok-send-in-Send-clause-ok : goal.returns-in_ok-send-in-Send-clause-ok
 returns-in_ok-send-in-Send-clause-ok c =

@@ -8,12 +8,11 @@ use Rattle.bidi_params.proofs.browsing_context.info.+write.Goals as goal
 pub outline_infos-loop-info-preserved : goal.outline_infos-loop-info-preserved
 outline_infos-loop-info-preserved t c =
     let l = c.loop-info in
-    let p = next-outlined (tree_of_info info_parts) c.deref-info-items.result.now l.info-index c.info-item.result l.outlines.items
-    c.push.new.self.items c.in_ok-outline_info.field-0 c.in_ok-push.ensures.items (omega arith) l.invariant.same l.invariant.sound
-    c.in_ok-outline_info.ensures.tree c.info-item.is c.in_ok-outline_info.ensures.sound in
-    record { same = p.0; sound = p.1 }
+    next-outlined (tree_of_info info_parts) c.deref-info-items.result.now l.info-index c.info-item.result l.outlines.items
+    c.push.new.self.items c.in_ok-outline_info.field-0 c.in_ok-push.ensures.items (omega arith) l.invariant
+    c.in_ok-outline_info.ensures c.info-item.is
 
-pub outline_info-returns-in_ok-outlines-in-Some-clause-tree : goal.outline_info-returns-in_ok-outlines-in-Some-clause-tree
-outline_info-returns-in_ok-outlines-in-Some-clause-tree t c =
+pub outline_info-returns-in_ok-outlines-in-Some : goal.outline_info-returns-in_ok-outlines-in-Some
+outline_info-returns-in_ok-outlines-in-Some t c =
     children_outlined info_parts c.outline_beside.result c.args.info.now c.in-Some.infos c.in_ok-outlines-in-Some.outlines c.in-Some.is
-    c.in_ok-outlines-in-Some.ensures.same c.outline_beside.ensures.tree
+    c.in_ok-outlines-in-Some.ensures c.outline_beside.ensures

@@ -7,7 +7,7 @@ use Rattle.bidi_remote.specs.Machine.Subscriptions.{next_subscription}
 use Rattle.bidi_remote.specs.Machine.Outcome.{all_named}
 use Rattle.bidi_remote.specs.Machine.Sent.{announcements, subscription_tree}
 use Rattle.bidi_remote.specs.State.Asked.{texts, subscribe_asked}
-use Rattle.bidi_remote.specs.State.SessionView.{scope_of}
+use Rattle.bidi_remote.specs.State.SubscriptionView.{scope_of}
 use Rattle.bidi_remote.specs.State.EventTexts.{written, written_in, AreMessages}
 use Rattle.bidi_remote.proofs.DecideLemmas.{announced-decides, row-active, held-length, subscribe-checked}
 use Rattle.bidi_remote.proofs.session.subscribe.decide_subscribe.Goals as goal

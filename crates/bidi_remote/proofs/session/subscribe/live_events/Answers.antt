@@ -6,7 +6,8 @@ use Rattle.bidi_methods.specs.contracts.event_data.EventDataPayloadEventName.The
 use Rattle.bidi_browser.specs.View.{occurrence_of, seen}
 use Rattle.bidi_remote.specs.State.EventTexts.{written, written_in}
 use Rattle.bidi_remote.specs.State.SubscriptionRows.{is_new}
-use Rattle.bidi_remote.specs.State.SessionView.{scope_of, row_of}
+use Rattle.bidi_remote.specs.State.SubscriptionView.{scope_of}
+use Rattle.bidi_remote.specs.State.SubscriptionsView.{rows_of}
 use Rattle.bidi_remote.proofs.ListLemmas.{map-filter}
 use Rattle.bidi_remote.proofs.AnnounceLemmas.{nothing-told}
 use Rattle.bidi_remote.proofs.DecideLemmas.{all-kept}
@@ -14,7 +15,7 @@ use Rattle.bidi_remote.proofs.session.subscribe.live_events.Goals as goal
 
 pub returns-then-not-may_tell_what_exists-clause-ok : goal.returns-then-not-may_tell_what_exists-clause-ok
 returns-then-not-may_tell_what_exists-clause-ok c = λ past stands.
-    ap written_in c.new.ensures.items ∙ ap (map written) (sym (nothing-told past (map row_of c.args.held.now) c.args.events.now
+    ap written_in c.new.ensures.items ∙ ap (map written) (sym (nothing-told past (rows_of c.args.held.now) c.args.events.now
     (scope_of c.args.scope.now) (sym c.may_tell_what_exists.ensures ∙ c.if-not-may_tell_what_exists.true)))
 
 pub event_texts-requires : goal.event_texts-requires
@@ -25,7 +26,7 @@ event_texts-requires c =
 
 pub returns-clause-ok : goal.returns-clause-ok
 returns-clause-ok c = λ past stands.
-    let test = is_new past (map row_of c.args.held.now) c.args.events.now (scope_of c.args.scope.now) in
+    let test = is_new past (rows_of c.args.held.now) c.args.events.now (scope_of c.args.scope.now) in
     let left = ap seen (c.deref.ensures.value
     ∙ filter_same _ (λ o. test (occurrence_of o).event o.top) _ (λ x b f' k. search (rules, stands)) _ _ c.retain.ensures.filtered)
     ∙ (map-filter occurrence_of (λ o. test o.event o.top) c.in_ok-all.all.items

@@ -1,4 +1,4 @@
-use Rattle.std.proofs.Common.{◌∙◌, sym, ap, subst, map}
+use Rattle.std.proofs.Common.{◌≡◌, ◌∙◌, option_map, sym, ap, subst}
 use Rattle.std.specs.Prelude.{filter}
 use Rattle.std.proofs.lemmas.List.{map-append}
 use Rattle.bidi_messages.specs.contracts.message.MessageShape.TheImpl.{ghosts}
@@ -7,29 +7,36 @@ use Rattle.bidi_messages.specs.Reading.{IsMessageText}
 use Rattle.bidi_remote.specs.Machine.History.{acts}
 use Rattle.bidi_remote.specs.State.EventTexts.{written_of, written_in, AreMessages}
 use Rattle.bidi_remote.specs.State.MissedRows.{waiting, places}
-use Rattle.bidi_remote.specs.State.SubscriptionRows.{is_new}
-use Rattle.bidi_remote.specs.State.SessionView.{scope_of, row_of}
-use Rattle.bidi_remote.proofs.ListLemmas.{all-append}
+use Rattle.bidi_remote.specs.State.SubscriptionRows.{session_row, is_new}
+use Rattle.bidi_remote.specs.State.SubscriptionView.{scope_of}
+use Rattle.bidi_remote.specs.State.SessionView.{session_row_of}
+use Rattle.bidi_remote.proofs.ListLemmas.{all-append, no_value, not-found, some-same}
 use Rattle.bidi_remote.proofs.PlaceLemmas.{all-filtered, waiting-messages, waiting-places}
-use Rattle.bidi_remote.proofs.DecideLemmas.{row-active, new-announced}
+use Rattle.bidi_remote.proofs.DecideLemmas.{found-active, new-announced}
 use Rattle.bidi_remote.proofs.session.subscribe.newly_enabled.Goals as goal
+
+pub returns-in_default : goal.returns-in_default
+returns-in_default c = λ past a active.
+    let none = c.find.ensures ∙ found-active c.args.state.now past c.args.session a active in
+    absurd (not-found (λ x. session_row_of x.now) c.find.result (session_row past c.args.session) (no_value c.find.result c.in_default.not-Some) none)
 
 pub returns : goal.returns
 returns c = λ past a active.
     let s = c.args.session in
     let es = c.args.events.now in
     let scope = scope_of c.args.scope.now in
-    let held = c.subscriptions_of-held.result.now in
-    let row = row-active c.args.state.now past s a active in
-    let rows = c.subscriptions_of-held.ensures ∙ ap (λ r. r.subscriptions) row in
-    let test = is_new (acts past) (map row_of held) es scope in
+    let own = session_row_of c.in-Some.own.now in
+    let row : own ≡ session_row past s =
+    some-same own (session_row past s) (ap (option_map (λ x. session_row_of x.now)) (sym c.in-Some.is) ∙ (c.find.ensures ∙ found-active c.args.state.now past s a active)) in
+    let held = own.subscriptions in
+    let test = is_new (acts past) held es scope in
     let live_events = c.in_ok-all.all.items in
     let kept = c.in_ok-waiting.waiting.items in
     let later = c.in_ok-waiting.ensures (acts past) a.browser ∙ ap (λ r. filter (λ w. test EntryAdded w.top) (waiting r.missed)) row in
     let split = ap written_in c.in_ok-append.ensures.items ∙ map-append (λ e. written_of e.value) live_events kept in
     let messages = all-filtered (λ w. IsMessageText ghosts.shape w.text) (λ w. test EntryAdded w.top) (waiting (places past s))
     (subst AreMessages (sym (waiting-places past s)) (waiting-messages past s (a.entries s))) in (
-      split ∙ new-announced past s held es scope (written_in live_events) (written_in kept) active (a.entries s) rows
+      split ∙ new-announced past s held es scope (written_in live_events) (written_in kept) active (a.entries s) (ap (λ r. r.subscriptions) row)
           (c.in_ok-all.ensures.ok (acts past) a.browser) later,
       subst AreMessages (sym split) (all-append (λ w. IsMessageText ghosts.shape w.text) (written_in live_events) (written_in kept)
           c.in_ok-all.ensures.reads_back (subst AreMessages (sym later) messages)),

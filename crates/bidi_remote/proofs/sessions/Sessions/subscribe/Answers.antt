@@ -1,6 +1,7 @@
 use Rattle.std.proofs.Common.{◌∙◌, Some, arith, ap}
 use Rattle.bidi_remote.specs.State.SubscriptionRows.{subscribed}
-use Rattle.bidi_remote.specs.State.SessionView.{scope_of, session_row_of}
+use Rattle.bidi_remote.specs.State.SessionView.{session_row_of}
+use Rattle.bidi_remote.specs.State.SubscriptionView.{scope_of}
 use Rattle.bidi_remote.proofs.RowLemmas.{session-changed, none-changed}
 use Rattle.bidi_remote.specs.declared.sessions.Session.{Session}
 use Rattle.bidi_remote.proofs.RowLemmas.{row-at, position-is}

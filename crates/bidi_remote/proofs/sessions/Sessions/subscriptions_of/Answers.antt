@@ -1,5 +1,4 @@
-use Rattle.std.proofs.Common.{◌∙◌, Some, None, option_map, map, sym, ap}
-use Rattle.bidi_remote.specs.State.SessionView.{row_of}
+use Rattle.std.proofs.Common.{◌∙◌, Some, None, option_map, sym, ap}
 use Rattle.bidi_remote.proofs.RowLemmas.{row-in-hand}
 use Rattle.bidi_remote.proofs.sessions.Sessions.subscriptions_of.Goals as goal
 
@@ -7,7 +6,7 @@ pub returns-in-Some : goal.returns-in-Some
 returns-in-Some c =
     let row = row-in-hand c.args.number c.args.self.now.active.items c.deref.result.now (Some c.in-Some.session.now) c.deref.ensures.value
     (ap (option_map (λ s. s.now)) (sym c.in-Some.is) ∙ c.find.ensures) in
-    ap (map row_of) c.deref-in-Some.ensures.value ∙ sym (ap (λ r. r.subscriptions) row)
+    c.all.ensures ∙ sym (ap (λ r. r.subscriptions) row)
 
 pub returns-in-None : goal.returns-in-None
 returns-in-None c =

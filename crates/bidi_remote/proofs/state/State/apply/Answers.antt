@@ -6,7 +6,7 @@ use Rattle.bidi_remote.specs.Machine.Outcome.{deeds}
 use Rattle.bidi_remote.specs.Machine.Sessions.{next_session}
 use Rattle.bidi_remote.specs.State.SessionView as in_hand
 use Rattle.bidi_remote.specs.State.SubscriptionRows.{cancelled, lost, changed}
-use Rattle.bidi_remote.specs.State.SessionView.{scope_of}
+use Rattle.bidi_remote.specs.State.SubscriptionView.{scope_of}
 use Rattle.bidi_remote.specs.State.Stands.{AgreeWith}
 use Rattle.bidi_remote.specs.State.Turns.{IsMade, deed_of}
 use Rattle.bidi_remote.proofs.OpeningLemmas.{IsFairIfDone, turn_fair}

@@ -2,7 +2,7 @@ use Rattle.std.proofs.Common.{Ok, Err, refl, ap, subst}
 use Rattle.bidi_browser.specs.Actions.{Log}
 use Rattle.bidi_browser.specs.Plans.{Plans}
 use Rattle.bidi_remote.specs.declared.step.Sent.TheVariants as sent
-use Rattle.bidi_remote.specs.Machine.History.{PageStep, acts}
+use Rattle.bidi_remote.specs.Machine.History.{OfPage, acts}
 use Rattle.bidi_remote.specs.Machine.Outcome.{NoEffect, deeds, in_page}
 use Rattle.bidi_remote.proofs.SpeakingLemmas.{has-ids}
 use Rattle.bidi_remote.proofs.TakeLemmas.{only_takes}
@@ -17,7 +17,7 @@ returns-in-Ok-clause-ok c = λ h short a.
 pub returns-in-Err-Code-clause-ok : goal.returns-in-Err-Code-clause-ok
 returns-in-Err-Code-clause-ok c = λ h short a.
     let action = Log c.args.context.now c.args.level c.args.text.now in
-    only_takes c.only.result sent.NoEffect c.args.self.now h (PageStep action) (Err NoEffect) c.only.ensures
+    only_takes c.only.result sent.NoEffect c.args.self.now h (OfPage action) (Err NoEffect) c.only.ensures
     (ap in_page (subst (λ r. Plans (Err r) (acts (deeds h)) c.args.self.now.moment.value action) c.in-Err-Code.field-0-is
     (c.in-Err-Code.ensures.plans (acts (deeds h)) a.browser (has-ids h short))))
     refl tt a

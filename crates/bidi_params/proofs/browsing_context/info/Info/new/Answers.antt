@@ -16,4 +16,4 @@ returns-then-is_within-clause-well c =
       (tt, (tt, (text_or_null c.args.original_opener, (tt, (tt, (some_well text_or_null c.args.parent, tt)))))),
       record { no_known = c.in_ok-ext.ensures.unnamed; may = search rules },
     )
-    c.requires.children (subst (λ t. levels t ≤ 60) c.in_ok-outline.ensures.tree (search rules))
+    c.requires.children (subst (λ t. levels t ≤ 60) c.in_ok-outline.ensures (search rules))

@@ -1,0 +1,23 @@
+use Rattle.std.proofs.Common.{List, rules, subst, sym}
+use Rattle.std.specs.Prelude.{not}
+use Rattle.std.specs.List.Sorted.{IsNonDecreasingBy}
+use Rattle.std.proofs.lemmas.Fn.{filter_same}
+use Rattle.std.proofs.lemmas.List.Kept.{IsNonDecreasingBy-filter}
+use Rattle.bidi_remote.specs.Machine.Subscriptions.{is_listed}
+use Rattle.bidi_remote.specs.State.IndexRows.{Pair}
+use Rattle.bidi_remote.proofs.IndexLemmas.{row-cancelled}
+use Rattle.bidi_remote.proofs.event_index.EventIndex.cancel.Goals as goal
+
+pub returns : goal.returns
+returns c =
+    row-cancelled c.args.numbers.now c.args.self.now.event _ _ _ _
+    (filter_same _ (λ n. not (is_listed c.args.numbers.now n)) _ (λ x b f' k. search rules) _ _ c.retain.ensures.filtered)
+    (filter_same _ (λ (p : Pair). not (is_listed c.args.numbers.now p.1)) _ (λ x b f' k. search rules) _ _ c.retain-2.ensures.filtered)
+
+pub invariant_of-self : goal.invariant_of-self
+invariant_of-self c =
+    let keep = λ (p : Pair). not (is_listed c.args.numbers.now p.1) in
+    let left = filter_same _ keep _ (λ x b f' k. search rules) _ _ c.retain-2.ensures.filtered in
+    record {
+      order = subst (λ (ps : List Pair). IsNonDecreasingBy (λ p. p.0) ps) (sym left) (IsNonDecreasingBy-filter (λ (p : Pair). p.0) keep c.args.self.now.scoped.items c.args.self.now.order);
+    }

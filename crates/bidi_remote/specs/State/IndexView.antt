@@ -1,0 +1,20 @@
+-- What contracts see of an index in hand.
+use Rattle.std.specs.Prelude.{◌≡◌, ◌≤◌, ◌<◌, ◌+◌, true, List, length, vec_len, vec_capacity}
+use Rattle.std.specs.List.{list_any, All as Each}
+use Rattle.bidi_methods.specs.declared.event_data.EventName.{EventName}
+use Rattle.bidi_browser.specs.Occurrences.{is_among}
+use Rattle.bidi_remote.specs.declared.event_index.EventIndex.{EventIndex}
+use Rattle.bidi_remote.specs.Machine.History.{Scope, All, Below}
+use Rattle.bidi_remote.specs.State.IndexRows.{IndexRow}
+
+abbrev pub index_row_of : EventIndex → IndexRow
+index_row_of x = record { event = x.event; global = x.global.items; any_scoped = λ t. list_any t x.scoped.items }
+
+-- there is room for a subscription to these events in this scope
+abbrev pub HasRoomFor : List EventName → Scope → EventIndex → Type 0
+HasRoomFor es All x = is_among es x.event ≡ true → vec_len x.global < vec_capacity x.global
+HasRoomFor es (Below tops) x = is_among es x.event ≡ true → vec_len x.scoped + length tops ≤ vec_capacity x.scoped
+
+-- for each event
+abbrev pub HaveRoomFor : List EventName → Scope → List EventIndex → Type 0
+HaveRoomFor es scope xs = Each (HasRoomFor es scope) xs

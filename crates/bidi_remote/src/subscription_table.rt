@@ -1,0 +1,167 @@
+//! The subscriptions of a session, and an index of them by event.
+ghost use Rattle.std.specs.Prelude.{◌≡◌, ◌<◌, List, [], ◌∷◌, ◌++◌, map, filter, not, length, OnOk, IfOk};
+ghost use Rattle.std.specs.List.{list_all};
+ghost use Rattle.bidi_browser.specs.Occurrences.{event_place};
+ghost use Rattle.bidi_remote.specs.State.SubscriptionView.{scope_of, row_of};
+ghost use Rattle.bidi_remote.specs.State.SubscriptionRows.{any_covers, any_global, without, dismissed};
+ghost use Rattle.bidi_remote.specs.State.IndexRows.{index, with_row, without_numbers, without_global};
+ghost use Rattle.bidi_remote.specs.State.IndexView.{index_row_of, HaveRoomFor};
+
+use crate::event_index::EventIndex;
+use crate::subscriptions::{Scope, Subscription, cancel, dismiss};
+use bidi_messages::EventName;
+use std::alloc::{AllocError, Global};
+
+/// The live subscriptions of a session.
+#[derive(Drop)]
+pub(crate) struct Subscriptions {
+    /// The subscriptions, in order of number.
+    pub rows: Vec<Subscription>,
+    /// For each event, those that have it.
+    pub by_event: [EventIndex; 8],
+    ghost index: { ∥ map index_row_of by_event ≡ index (map row_of rows.items) ∥₁ },
+}
+
+impl Subscriptions {
+    ghost use Rattle.bidi_remote.specs.State.SubscriptionsView.{rows_of, HasRoomFor};
+
+    /// No subscriptions. Takes no memory.
+    pub(crate) fn new(alloc: Global) -> Subscriptions
+        ensures { rows_of result ≡ [] }
+    {
+        Subscriptions {
+            rows: Vec::new(alloc),
+            by_event: no_index(alloc),
+        }
+    }
+
+    /// All of them, in order of number.
+    pub(crate) fn all(&self) -> &[Subscription]
+        ensures { map row_of result.now ≡ rows_of self.now }
+    {
+        &self.rows
+    }
+
+    /// Whether one covers the event in the tree of this top-level context. Does a binary search, whatever their
+    /// number is.
+    pub(crate) fn hears(&self, event: EventName, top: u64) -> bool
+        ensures { result ≡ any_covers (rows_of self.now) event top }
+    {
+        self.by_event[place_of(event)].hears(top)
+    }
+
+    /// Whether the event is in a global one.
+    pub(crate) fn any_global(&self, event: EventName) -> bool
+        ensures { result ≡ any_global (rows_of self.now) event }
+    {
+        self.by_event[place_of(event)].is_global()
+    }
+
+    /// Whether each of these events is in a global one.
+    pub(crate) fn all_global(&self, events: &[EventName]) -> bool
+        ensures { result ≡ list_all (any_global (rows_of self.now)) events.now }
+    {
+        events.iter().all(|event| self.any_global(*event))
+    }
+
+    /// Makes room for one more, to these events in this scope.
+    pub(crate) fn reserve(&mut self, events: &[EventName], scope: &Scope) -> Result<(), AllocError>
+        ensures rows { rows_of self.new ≡ rows_of self.old }
+        ensures room { OnOk result (HasRoomFor events.now (scope_of scope.now) self.new) }
+    {
+        self.rows.reserve(1)?;
+        reserve_each(&mut self.by_event, events, scope)
+    }
+
+    /// Adds one. Takes no memory.
+    pub(crate) fn add(&mut self, subscription: Subscription)
+        requires { HasRoomFor (row_of subscription).events (row_of subscription).scope self.now }
+        ensures { rows_of self.new ≡ rows_of self.old ++ row_of subscription ∷ [] }
+    {
+        add_each(&mut self.by_event, &subscription);
+        self.rows.push_reserved(subscription);
+    }
+
+    /// Removes those of these numbers. Takes no memory.
+    pub(crate) fn cancel(&mut self, numbers: &[u32])
+        ensures { rows_of self.new ≡ without numbers.now (rows_of self.old) }
+    {
+        cancel_each(&mut self.by_event, numbers);
+        cancel(&mut self.rows, numbers);
+    }
+
+    /// Removes these events from each global one, and with its last event the subscription itself. Takes no memory.
+    pub(crate) fn dismiss(&mut self, events: &[EventName])
+        ensures { rows_of self.new ≡ dismissed events.now (rows_of self.old) }
+    {
+        dismiss_each(&mut self.by_event, events);
+        dismiss(&mut self.rows, events);
+    }
+}
+
+// The place of an event among the eight.
+fn place_of(event: EventName) -> usize
+    ensures place { result ≡ event_place event }
+    ensures within { result < 8 }
+{
+    event as usize
+}
+
+// An index that has no subscription: for each event nothing.
+fn no_index(alloc: Global) -> [EventIndex; 8]
+    ensures { map index_row_of result ≡ index [] }
+{
+    [
+        EventIndex::new(alloc, EventName::ContextCreated),
+        EventIndex::new(alloc, EventName::ContextDestroyed),
+        EventIndex::new(alloc, EventName::NavigationStarted),
+        EventIndex::new(alloc, EventName::DomContentLoaded),
+        EventIndex::new(alloc, EventName::Load),
+        EventIndex::new(alloc, EventName::RealmCreated),
+        EventIndex::new(alloc, EventName::RealmDestroyed),
+        EventIndex::new(alloc, EventName::EntryAdded),
+    ]
+}
+
+// Makes room for a subscription to these events in this scope.
+fn reserve_each(
+    by_event: &mut [EventIndex],
+    events: &[EventName],
+    scope: &Scope,
+) -> Result<(), AllocError>
+    ensures rows { map index_row_of by_event.new ≡ map index_row_of by_event.old }
+    ensures room { OnOk result (HaveRoomFor events.now (scope_of scope.now) by_event.new) }
+{
+    for index in by_event.iter_mut() {
+        index.reserve(events, scope)?;
+    }
+    Ok(())
+}
+
+// Adds a subscription for the events that it has.
+fn add_each(by_event: &mut [EventIndex], subscription: &Subscription)
+    requires { HaveRoomFor (row_of subscription.now).events (row_of subscription.now).scope by_event.now }
+    ensures { map index_row_of by_event.new ≡ map (with_row (row_of subscription.now)) (map index_row_of by_event.old) }
+{
+    for index in by_event.iter_mut() {
+        index.add(subscription);
+    }
+}
+
+// Removes the subscriptions of these numbers.
+fn cancel_each(by_event: &mut [EventIndex], numbers: &[u32])
+    ensures { map index_row_of by_event.new ≡ map (without_numbers numbers.now) (map index_row_of by_event.old) }
+{
+    for index in by_event.iter_mut() {
+        index.cancel(numbers);
+    }
+}
+
+// Removes the global subscriptions of these events.
+fn dismiss_each(by_event: &mut [EventIndex], events: &[EventName])
+    ensures { map index_row_of by_event.new ≡ map (without_global events.now) (map index_row_of by_event.old) }
+{
+    for index in by_event.iter_mut() {
+        index.dismiss(events);
+    }
+}
