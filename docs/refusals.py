@@ -1,7 +1,7 @@
 #!/usr/bin/env python3
 """Refuses each allocation of a run in turn, fails each read and write, and cuts each short: refusals.py [--short]
 
-Two programs are run, as `rt run` leaves them: crates/refusals/out/refusals, which makes each call of a row once more where it
+Two programs are run, as `.ci/run` leaves them: crates/refusals/out/refusals, which makes each call of a row once more where it
 finds no memory, and crates/bidi/out/bidi. `--refusals FILE` and `--bidi FILE` name others. docs/faults.c is compiled by `cc` and
 loaded in front of the C library; it counts the allocations, reads and writes of a run, and lets one go wrong.
 
