@@ -1,22 +1,29 @@
 #!/usr/bin/env python3
 """Refuses each allocation of a run in turn, fails each read and write, and cuts each short: refusals.py [--short]
 
-Two programs are run, as `.ci/run` leaves them: crates/refusals/out/refusals, which makes each call of a row once more where it
+Two programs are run, as `rt ci` leaves them: crates/refusals/out/refusals, which makes each call of a row once more where it
 finds no memory, and crates/bidi/out/bidi. `--refusals FILE` and `--bidi FILE` name others. docs/faults.c is compiled by `cc` and
 loaded in front of the C library; it counts the allocations, reads and writes of a run, and lets one go wrong.
 
 Of a row of `refusals`: whichever allocation is refused, the status is 0 and what is written stays the same. Of `bidi`: where an
 allocation is refused, or a read or a write fails, the run ends with status 3, its line on standard error and a beginning of the
-output, or all is as if nothing had happened; where a read or a write is cut short, all is as if nothing had happened.
-`--short` tries two rows. `--memory` runs `bidi` within less and less of an address space in place of all that, over inputs that
-take much memory or much stack: a run ends with its whole output, or with status 3, its line and a beginning of the output, and
-by no signal; where the system cannot load a program at all, its loader says so with status 127. A line of the table is written
-for each row, and for what comes out otherwise; then the status is 1.
+output, or all is as if nothing had happened; where a read or a write is cut short, all is as if nothing had happened. Of
+`bidi serve`, with two clients: where an allocation is refused, one client is cut off or answered by 400, and the other served,
+or the run ends with status 3, its line and a beginning of the replies.
+`--short`, which `.ci/run` runs behind `rt ci`, tries a row of each program. `--memory` runs `bidi` within less and less of an
+address space in place of all that, over inputs that take much memory or much stack: a run ends with its whole output, or with
+status 3, its line and a beginning of the output, and by no signal; where the system cannot load a program at all, its loader
+says so with status 127.
+A line of a table is written for each row, one that begins with `WRONG:` for what comes out otherwise, and a last line with the
+number of runs and of these. Where there are such, or no C compiler, or a program is not built, the status is 1.
 """
 import resource
+import shutil
+import socket
 import subprocess
 import sys
 import tempfile
+import time
 from collections import Counter, namedtuple
 from concurrent.futures import ThreadPoolExecutor
 from pathlib import Path
@@ -116,7 +123,10 @@ def nested(levels):
 
 CALL = """> 1 {"id":2,"method":"script.callFunction","params":{"arguments":[%s],"awaitPromise":false,"functionDeclaration":"f",\
 "resultOwnership":"root","target":{"context":"@c1"}}}
-""".replace("\\\n", "")
+"""
+SHOWN = """{"method":"log.entryAdded","params":{"args":[%s],"level":"info","method":"info","source":{"realm":"r"},"text":"t",\
+"timestamp":0,"type":"console"},"type":"event"}
+""" % nested(30)
 # What takes much memory or much stack: the program, and what it is given.
 HEAVY = {
     "1,024 contexts": (["play"], BEGUN + subscribe(1, ["browsingContext", "script"])
@@ -130,6 +140,7 @@ HEAVY = {
                                  + 'send 1 browsingContext.create {"type":"tab"}\nup 1\ndown 1\n' * 600),
     "texts of a megabyte": (["show", "--from", "local"],
                             '{"id":1,"method":"session.status","params":{"x":"%s"}}\n' % ("y" * 1000000) * 3),
+    "values of 60 levels, shown": (["show", "--from", "remote"], SHOWN * 20),
     "nested texts": (["check", "--from", "remote"], '{"type":"success","id":1,"result":{"x":%s}}\n' % ("[" * 60 + "]" * 60) * 3),
     "1,024 contexts, reduced": (["reduce", "--session", "1"], BEGUN
                                 + '> 1 {"id":1,"method":"browsingContext.create","params":{"type":"tab"}}\n' * 1023),
@@ -140,16 +151,36 @@ Fault = namedtuple("Fault", "name count statuses")
 REFUSED = Fault("REFUSE_ALLOCATION", "allocations", {b"bidi: out of memory\n"})
 FAILED = Fault("FAIL_MOVE", "reads_and_writes", {b"bidi: input cannot be read\n", b"bidi: output cannot be written\n"})
 CUT = Fault("SHORT_MOVE", "long_moves", set())
+OF_CALLS = "| calls | allocations, each refused once | a call was made again | changes that were applied |\n|---|---|---|---|"
+OF_PROGRAMS = "| program | each allocation refused | each read and write failed | each read and write cut short |\n|---|---|---|---|"
+OF_SERVING = "| program | each allocation refused |\n|---|---|"
+OF_MEMORY = "| program | runs | the most KB that were too few |\n|---|---|---|"
+
+
+def found(program):
+    """The path of a program that is built."""
+    if not Path(program).is_file():
+        sys.exit(f"refusals: {program} is not built; `rt ci` does it")
+    return program
+
+
+def compiled(folder):
+    """What is loaded in front of the C library."""
+    compiler = shutil.which("cc") or shutil.which("gcc")
+    if not compiler:
+        sys.exit("refusals: there is no C compiler, neither `cc` nor `gcc`, for docs/faults.c")
+    faults = Path(folder) / "faults.so"
+    subprocess.run([compiler, "-O1", "-shared", "-fPIC", "-o", faults, ROOT / "docs/faults.c"], check=True)
+    return faults
 
 
 class Bench:
     """The programs, and what is loaded in front of the C library."""
 
     def __init__(self, folder, refusals, bidi):
-        self.folder, self.refusals, self.bidi = Path(folder), refusals, bidi
-        self.faults = self.folder / "faults.so"
-        subprocess.run(["cc", "-O1", "-shared", "-fPIC", "-o", self.faults, ROOT / "docs/faults.c"], check=True)
-        self.is_well = True
+        self.folder, self.refusals, self.bidi = Path(folder), found(refusals), found(bidi)
+        self.faults = compiled(folder)
+        self.count = self.problems = 0
 
     def run(self, words, text, fault=None, number=0):
         """One run, with the fault of that number."""
@@ -166,18 +197,20 @@ class Bench:
 
     def runs(self, words, text, fault, numbers):
         with ThreadPoolExecutor(2) as pool:
-            yield from zip(numbers, pool.map(lambda number: self.run(words, text, fault, number), numbers))
+            for number, run in zip(numbers, pool.map(lambda number: self.run(words, text, fault, number), numbers)):
+                self.count += 1
+                yield number, run
 
     def wrong(self, *words):
-        self.is_well = False
+        self.problems += 1
         print("WRONG:", *words)
 
     def calls(self, name, what, text):
         """A row of the calls: whichever allocation is refused, what is written stays the same."""
         text = ids(what + "\n" + text)
         whole = self.run([self.refusals], text)
-        if whole.status:
-            self.wrong(name, "ends with status", whole.status)
+        if whole.status or not whole.allocations:
+            self.wrong(name, "ends with status", whole.status, "after", whole.allocations, "allocations")
         applied = self.applied(name, whole)
         again = 0
         for number, run in self.runs([self.refusals], text, REFUSED, range(1, whole.allocations + 1)):
@@ -204,6 +237,8 @@ class Bench:
         """A run of the program: a fault ends it, with its status, its line and a beginning of the output."""
         words = [self.bidi, *words]
         whole = self.run(words, text)
+        if whole.status not in (0, 1, 2) or not whole.allocations:
+            self.wrong(name, "ends with status", whole.status, "after", whole.allocations, "allocations")
         cells = []
         for fault in faults:
             ends = Counter()
@@ -216,6 +251,8 @@ class Bench:
                     ends["a fault that could not be told"] += 1
                 else:
                     self.wrong(name, fault.name, number, "status", run.status, run.told, run.output)
+            if fault is REFUSED and not ends["told"]:
+                self.wrong(name, "tells no refused allocation")
             cells.append(", ".join(f"{count} {end}" for end, count in sorted(ends.items(), reverse=True)))
         print(f"| `bidi {' '.join(words[1:])}`: {name} | " + " | ".join(cells) + " |", flush=True)
 
@@ -239,9 +276,85 @@ def full(bench):
     print(f"| `browser`: the tree of the last of 1,024 contexts, that plan alone | {behind - first} | {again} | |", flush=True)
 
 
-def within(words, text, limit):
+# What a client of `serve` sends, and what it may be answered.
+HEAD = b"""GET /session HTTP/1.1\r
+Host: 127.0.0.1\r
+Upgrade: websocket\r
+Connection: Upgrade\r
+Sec-WebSocket-Key: dGhlIHNhbXBsZSBub25jZQ==\r
+Sec-WebSocket-Version: 13\r
+\r
+"""
+BAD_REQUEST = b"HTTP/1.1 400 Bad Request\r\nConnection: close\r\nContent-Length: 0\r\n\r\n"
+CLOSE = b"\x88\x02\x03\xe8"
+
+
+def status_frame(number):
+    """A frame with a command, whose mask changes nothing."""
+    text = b'{"id":%d,"method":"session.status","params":{}}' % number
+    return bytes([0x81, 0x80 | len(text), 0, 0, 0, 0]) + text
+
+
+def talk(port, serving):
+    """What a client reads that opens a connection, asks for three statuses and waits for the end."""
+    read = b""
+    with socket.socket() as client:
+        while client.connect_ex(("127.0.0.1", port)):
+            if serving.poll() is not None:
+                return read
+            time.sleep(0.001)
+        try:
+            client.sendall(HEAD)
+            while not read.endswith(b"\r\n\r\n") and (piece := client.recv(4096)):
+                read += piece
+            client.sendall(b"".join(map(status_frame, range(1, 4))))
+            while piece := client.recv(4096):
+                read += piece
+        except ConnectionError:
+            pass
+    return read
+
+
+def serve_two(bench, number):
+    """Two clients of `serve`, one after another, where the allocation of that number is refused."""
+    with socket.socket() as free:
+        free.bind(("127.0.0.1", 0))
+        port = free.getsockname()[1]
+    trace = bench.folder / "trace-serve"
+    environment = {"LD_PRELOAD": str(bench.faults), "TRACE_MOVES": str(trace), REFUSED.name: str(number)}
+    words = [bench.bidi, "serve", "--port", str(port), "--connections", "2", "--messages", "3"]
+    bench.count += 1
+    with subprocess.Popen(words, env=environment, stderr=subprocess.PIPE) as serving:
+        reads = [talk(port, serving), talk(port, serving)]
+        told = serving.stderr.read()
+    return serving.returncode, told, reads, int(trace.read_text().split()[-3])
+
+
+def served(bench):
+    """Whichever allocation is refused, one connection alone is lost, or the run ends and tells it."""
+    _, _, (whole, _), allocations = serve_two(bench, 0)
+    ends = Counter()
+    for number in range(1, allocations + 1):
+        status, told, reads, _ = serve_two(bench, number)
+        lost = [read for read in reads if read != whole]
+        is_front = all(whole.startswith(read.removesuffix(CLOSE)) for read in lost)
+        if status == 3 and told in REFUSED.statuses and is_front:
+            ends["told"] += 1
+        elif (status, lost) == (0, []):
+            ends["nothing lost"] += 1
+        elif (status, lost) == (0, [BAD_REQUEST]):
+            ends["a connection answered by 400, and the other served"] += 1
+        elif status == 0 and len(lost) == 1 and is_front:
+            ends["a connection cut off, and the other served"] += 1
+        else:
+            bench.wrong("serve, with allocation", number, "refused: status", status, told, lost)
+    print(f"| `bidi serve`: two connections | {', '.join(f'{count} {end}' for end, count in sorted(ends.items(), reverse=True))} |", flush=True)
+
+
+def within(bench, words, text, limit):
     """A run within an address space of so many KB."""
     set_limit = None if limit is None else lambda: resource.setrlimit(resource.RLIMIT_AS, (limit * 1024, limit * 1024))
+    bench.count += 1
     ended = subprocess.run(words, input=text.encode(), capture_output=True, preexec_fn=set_limit)
     return ended.returncode, ended.stdout, ended.stderr
 
@@ -249,10 +362,10 @@ def within(words, text, limit):
 def limited(bench, name, words, text):
     """Runs of the program, in steps of 4 KB up to 5 MB and of 64 KB behind, until thirty in turn are whole."""
     words = [bench.bidi, *words]
-    whole = within(words, text, None)
+    whole = within(bench, words, text, None)
     ends, enough, limit = Counter(), 0, 4096
     while enough < 30:
-        status, output, told = within(words, text, limit)
+        status, output, told = within(bench, words, text, limit)
         enough = enough + 1 if (status, output, told) == whole else 0
         if enough:
             ends["whole"] += 1
@@ -268,50 +381,63 @@ def limited(bench, name, words, text):
     print(f"| `bidi {' '.join(words[1:])}`: {name} | {counts} | {least} |", flush=True)
 
 
+def short(bench):
+    """A row of each program."""
+    print(OF_CALLS)
+    bench.calls("a navigation", "browser", BROWSER["a navigation"])
+    print("\n" + OF_PROGRAMS)
+    bench.program("a navigation", ["play"], PLAYS["a navigation"])
+
+
+def within_memory(bench):
+    """What takes much memory or much stack, within less and less of an address space."""
+    print(OF_MEMORY)
+    for name, (given, text) in HEAVY.items():
+        limited(bench, name, given, text)
+
+
+def all_rows(bench):
+    print(OF_CALLS)
+    for name, text in PLAYS.items():
+        whole = bench.calls(name, "remote", text)
+        if whole.output != bench.run([bench.bidi, "play"], text).output:
+            bench.wrong(name, "is played otherwise by bidi")
+    for name, text in BROWSER.items():
+        bench.calls(name, "browser", text)
+    full(bench)
+    bench.calls("each meaning of a text", "local", LOCAL)
+    bench.calls("two takes and a send", "link", "take\ntake\nsend {}\n")
+    whole = bench.calls("two links, one of them cut", "pair", PAIRED)
+    if whole.output != bench.run([bench.bidi, "pair"], PAIRED).output:
+        bench.wrong("a schedule is played otherwise by bidi")
+    print("\n" + OF_PROGRAMS)
+    for name, text in PLAYS.items():
+        bench.program(name, ["play"], text)
+    bench.program("two links, one of them cut", ["pair"], PAIRED)
+    bench.program("both ends", ["pair"], (ROOT / "examples/both_ends.pair").read_text())
+    texts = (ROOT / TEXTS).read_text()
+    commands = (ROOT / "examples/clients/commands.texts").read_text()
+    for command in "show", "check":
+        bench.program("what browsers sent", [command, "--from", "remote"], texts)
+        bench.program("what a client sent", [command, "--from", "local"], commands)
+    bench.program("two tools", ["reduce", "--session", "1"], (ROOT / "examples/two_tools.play").read_text())
+    bench.program("help", ["--help"], "")
+    bench.program("a mistake", ["ploy"], "")
+    print("\n" + OF_SERVING)
+    served(bench)
+
+
 def main():
     words = sys.argv[1:]
-    is_short = "--short" in words
     named = {word: words[place + 1] for place, word in enumerate(words) if word in ("--refusals", "--bidi")}
     refusals = named.get("--refusals", ROOT / "crates/refusals/out/refusals")
     bidi = named.get("--bidi", ROOT / "crates/bidi/out/bidi")
+    rows = short if "--short" in words else within_memory if "--memory" in words else all_rows
     with tempfile.TemporaryDirectory() as folder:
         bench = Bench(folder, refusals, bidi)
-        if "--memory" in words:
-            print("| program | runs | the most KB that were too few |\n|---|---|---|")
-            for name, (given, text) in HEAVY.items():
-                limited(bench, name, given, text)
-            sys.exit(not bench.is_well)
-        print("| calls | allocations, each refused once | a call was made again | changes that were applied |\n|---|---|---|---|")
-        if is_short:
-            bench.calls("a navigation", "browser", BROWSER["a navigation"])
-            bench.calls("two takes and a send", "link", "take\ntake\nsend {}\n")
-            sys.exit(not bench.is_well)
-        for name, text in PLAYS.items():
-            whole = bench.calls(name, "remote", text)
-            if whole.output != bench.run([bidi, "play"], text).output:
-                bench.wrong(name, "is played otherwise by bidi")
-        for name, text in BROWSER.items():
-            bench.calls(name, "browser", text)
-        full(bench)
-        bench.calls("each meaning of a text", "local", LOCAL)
-        bench.calls("two takes and a send", "link", "take\ntake\nsend {}\n")
-        whole = bench.calls("two links, one of them cut", "pair", PAIRED)
-        if whole.output != bench.run([bidi, "pair"], PAIRED).output:
-            bench.wrong("a schedule is played otherwise by bidi")
-        print("\n| program | each allocation refused | each read and write failed | each read and write cut short |\n|---|---|---|---|")
-        for name, text in PLAYS.items():
-            bench.program(name, ["play"], text)
-        bench.program("two links, one of them cut", ["pair"], PAIRED)
-        bench.program("both ends", ["pair"], (ROOT / "examples/both_ends.pair").read_text())
-        texts = (ROOT / TEXTS).read_text()
-        commands = (ROOT / "examples/clients/commands.texts").read_text()
-        for command in "show", "check":
-            bench.program("what browsers sent", [command, "--from", "remote"], texts)
-            bench.program("what a client sent", [command, "--from", "local"], commands)
-        bench.program("two tools", ["reduce", "--session", "1"], (ROOT / "examples/two_tools.play").read_text())
-        bench.program("help", ["--help"], "")
-        bench.program("a mistake", ["ploy"], "")
-        sys.exit(not bench.is_well)
+        rows(bench)
+        print(f"refusals: {bench.count} runs, {bench.problems} problems")
+        sys.exit(bench.problems > 0)
 
 
 main()

@@ -1,6 +1,6 @@
 -- What a call of a function comes to.
-use Rattle.std.proofs.Common.{◌≡◌, ◌∙◌, ℕ, zero, suc, Bool, true, List, [], ◌∷◌, Option, Some, None, Result, Ok, Err, refl, sym, ap, subst}
-use Rattle.std.specs.Prelude.{option_map, slice_get, unwrap_or}
+use Rattle.std.proofs.Common.{◌≡◌, ◌∙◌, ℕ, Bool, true, List, [], ◌∷◌, Option, Some, None, Result, Ok, Err, refl, sym, ap, subst}
+use Rattle.std.specs.Prelude.{slice_get, unwrap_or}
 use Rattle.std.specs.Result.{IsErrAnd}
 use Rattle.bidi_tree.specs.Node.{Node}
 use Rattle.bidi_params.specs.declared.error_code.ErrorCode.{ErrorCode}
@@ -21,66 +21,10 @@ use Rattle.bidi_browser.specs.Realms.{held_value, realm_of, row_of}
 use Rattle.bidi_handles.specs.Resolves.{Gives, Passes, this_argument}
 use Rattle.bidi_browser.specs.Runs.{HasReturned, HasRun, IsEnding, call_ending}
 use Rattle.bidi_browser.specs.TableInHand.{ending_seen}
-use Rattle.bidi_handles.specs.Values.{Held, argument, arguments}
+use Rattle.bidi_handles.specs.Values.{arguments}
 use Rattle.bidi_browser.specs.View.{result_tree}
 
--- ---- the arguments of a call
-
--- the first of some that pass, and the others
-first-passes : (r : Result Node ErrorCode) (s : Result (List Node) ErrorCode) (ws : List Node)
-    → (r >>= λ v. s >>= λ vs. Ok (v ∷ vs)) ≡ Ok ws → (v : Node) × (vs : List Node) × (r ≡ Ok v) × (s ≡ Ok vs) × (ws ≡ v ∷ vs)
-first-passes (Ok v) (Ok vs) ws e = (v, vs, refl, refl, cc)
-first-passes (Ok v) (Err code) ws e = absurd (cc)
-first-passes (Err code) s ws e = absurd (cc)
-
--- that a value was taken
-abbrev taken : Node → Result Node ErrorCode
-taken v = Ok v
-
--- what the argument of a place comes to stands at that place
-at-place : (held : Held) (ts vs : List Node) (n : ℕ)
-    → arguments held ts ≡ Ok vs → option_map taken (slice_get vs n) ≡ option_map (argument held) (slice_get ts n)
-at-place held [] vs n e = let none : vs ≡ [] = cc in rw none refl
-at-place held (t ∷ ts) vs n e = step n (first-passes (argument held t) (arguments held ts) vs e) (λ us m f. at-place held ts us m f)
-  where
-    step : (n : ℕ) → (u : Node) × (us : List Node) × (argument held t ≡ Ok u) × (arguments held ts ≡ Ok us) × (vs ≡ u ∷ us)
-        → ((us : List Node) (m : ℕ) → arguments held ts ≡ Ok us → option_map taken (slice_get us m) ≡ option_map (argument held) (slice_get ts m))
-        → option_map taken (slice_get vs n) ≡ option_map (argument held) (slice_get (t ∷ ts) n)
-    step zero all rest = rw all.4 (ap Some (sym all.2))
-    step (suc n) all rest = rw all.4 (rest all.1 n all.3)
-
--- the argument that is given back
-pub returned-value : (held : Held) (ts vs : List Node) (n : ℕ) (t v : Node)
-    → arguments held ts ≡ Ok vs → slice_get ts n ≡ Some t → argument held t ≡ Ok v → v ≡ unwrap_or (slice_get vs n) undefined
-returned-value held ts vs n t v all there is = by (slice_get vs n) (at-place held ts vs n all ∙ (ap (option_map (argument held)) there ∙ ap Some is))
-  where
-    by : (o : Option Node) → option_map taken o ≡ Some (taken v) → v ≡ unwrap_or o undefined
-    by None e = absurd (cc)
-    by (Some u) e = cc
-
--- and there is none
-pub returned-none : (held : Held) (ts vs : List Node) (n : ℕ)
-    → arguments held ts ≡ Ok vs → slice_get ts n ≡ None → undefined ≡ unwrap_or (slice_get vs n) undefined
-returned-none held ts vs n all there = by (slice_get vs n) (at-place held ts vs n all ∙ ap (option_map (argument held)) there)
-  where
-    by : (o : Option Node) → option_map taken o ≡ None → undefined ≡ unwrap_or o undefined
-    by None e = refl
-    by (Some u) e = absurd (cc)
-
--- an argument that passed is refused for want of memory alone
-pub passed-argument : (held : Held) (ts vs : List Node) (n : ℕ) (t : Node)
-    → arguments held ts ≡ Ok vs → slice_get ts n ≡ Some t → (v : Node) × (argument held t ≡ Ok v)
-passed-argument held ts vs n t all there = by (slice_get vs n) (at-place held ts vs n all ∙ ap (option_map (argument held)) there)
-  where
-    by : (o : Option Node) → option_map taken o ≡ Some (argument held t) → (v : Node) × (argument held t ≡ Ok v)
-    by None e = absurd (cc)
-    by (Some u) e = (u, cc)
-
-pub not-returned : {A : Type 0} (view : A → Node) (r : Result declared_ending.Ending Refusal) (e : Refusal) (answer : Result Node ErrorCode)
-    (v value : Node) → IsErrAnd r (λ f. f ≡ e) → Gives view (Err e) answer → answer ≡ Ok v → HasReturned r value
-not-returned view (Ok ending) e answer v value is gives passed = absurd is
-not-returned view (Err f) (Code code) answer v value is gives passed = absurd (cc)
-not-returned view (Err f) NoMemory answer v value is gives passed = rw is tt
+-- ---- how it ends
 
 -- a row that gives an argument back ends in it
 pub gives-ending : (r : Result declared_ending.Ending Refusal) (past : List Act) (script : List ℕ) (vs : List Node) (n : ℕ)
@@ -88,8 +32,6 @@ pub gives-ending : (r : Result declared_ending.Ending Refusal) (past : List Act)
 gives-ending (Ok ending) past script vs n row returned = (GivesBack n, row, returned)
 gives-ending (Err (Code code)) past script vs n row returned = absurd returned
 gives-ending (Err NoMemory) past script vs n row returned = tt
-
--- ---- how it ends
 
 -- `this` in the realm
 pub this-in : (past : List Act) (r : ℕ) (this : Option Node) → this_argument (held_value past r) this ≡ this_resolved past r this

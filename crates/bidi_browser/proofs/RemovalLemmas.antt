@@ -12,6 +12,7 @@ use Rattle.bidi_browser.specs.Accepted.{AreAccepted}
 use Rattle.bidi_handles.proofs.ListLemmas.{agree}
 use Rattle.bidi_browser.proofs.AcceptedLemmas.{act-sound, alive-above, alive-below, parent-born, under-parent}
 use Rattle.bidi_browser.proofs.AcceptedLemmas.{levels-accepted, level-child, parents-alive}
+use Rattle.bidi_browser.proofs.MemberLemmas.{has-filter}
 
 -- ---- lists
 
@@ -20,14 +21,9 @@ pub any-up-to : (c n : ℕ) → list_any (λ x. x == c) (up_to n) ≡ (nat_lt 0 
 any-up-to c zero = grind (arith, nat_tests)
 any-up-to c (suc n) = grind (arith, nat_tests, any-up-to c n, list_any-append (λ x. x == c) (up_to n) (suc n ∷ []))
 
--- a filter has just those of a list that pass
-pub any-filter : (c : ℕ) (p : ℕ → Bool) (xs : List ℕ) → list_any (λ d. d == c) (filter p xs) ≡ (p c && list_any (λ d. d == c) xs)
-any-filter c p [] = grind (arith, nat_tests)
-any-filter c p (x ∷ xs) = grind (arith, nat_tests, any-filter c p xs)
-
 -- the live contexts are those that are alive
 pub any-contexts : (past : List Act) (c : ℕ) → list_any (λ d. d == c) (contexts past) ≡ is_alive past c
-any-contexts past c = grind (arith, nat_tests, any-filter c (is_alive past) (up_to (given past Context)), any-up-to c (given past Context))
+any-contexts past c = grind (arith, nat_tests, has-filter c (is_alive past) (up_to (given past Context)), any-up-to c (given past Context))
 
 -- what each of two settles, one of them settles
 or-split : (a b c : Bool) → (a ≡ true → c ≡ true) → (b ≡ true → c ≡ true) → (a || b) ≡ true → c ≡ true

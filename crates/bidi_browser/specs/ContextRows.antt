@@ -8,7 +8,6 @@ use Rattle.bidi_methods.specs.declared.event_data.EventName.{EventName}
 use Rattle.bidi_methods.specs.declared.event_data.EventName.TheVariants.{ContextCreated, RealmCreated, RealmDestroyed, EntryAdded}
 use Rattle.bidi_handles.specs.declared.id.IdKind.TheVariants as kind
 use Rattle.bidi_browser.specs.declared.context.Context.{Context}
-use Rattle.bidi_handles.specs.Ids.{has_id}
 use Rattle.bidi_browser.specs.Urls.{url_text, origin_text}
 use Rattle.bidi_browser.specs.Acts.{Act, Move}
 use Rattle.bidi_browser.specs.Contexts.{tree_order, parent_of, top_of, level_of, window_of}
@@ -154,10 +153,6 @@ held_in held row = record row { handles = row.handles ++ held ∷ [] }
 -- the handles of these numbers are held no longer
 abbrev pub without_in : List ℕ → ContextRow → ContextRow
 without_in numbers row = record row { handles = filter (λ held. not (list_any (λ n. n == held.0) numbers)) row.handles }
-
--- those of these ids
-abbrev pub disowned_in : List (List ℕ) → ContextRow → ContextRow
-disowned_in ids row = record row { handles = filter (λ held. not (has_id ids held.0)) row.handles }
 
 -- the first row of a context is changed, and no other
 abbrev pub changed : ℕ → (ContextRow → ContextRow) → List ContextRow → List ContextRow

@@ -242,8 +242,3 @@ outcome past (Frame id address) = frame_outcome past id address
 outcome past (Unframe id) = unframe_outcome past id
 outcome past (Log id level line) = log_outcome past id level line
 outcome past (TableRow row) = row_outcome past row
-
--- the past with the act, where there is one
-abbrev pub with_act : List Act → Result Act ErrorCode → List Act
-with_act past (Ok act) = act ∷ past
-with_act past (Err code) = past

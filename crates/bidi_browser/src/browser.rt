@@ -1,19 +1,22 @@
 //! The browser: its state, and the public calls that plan and apply changes to it.
-ghost use Rattle.std.specs.Prelude.{◌≡◌, ℕ, ◌<◌, ◌^◌, nat_lt, length, List, [], ◌∷◌, Some, Ok, IfOk, IsOk, IsTrue, OnOk, map, option_map};
+ghost use Rattle.std.specs.Prelude.{◌≡◌, ◌++◌, ℕ, ◌<◌, ◌^◌, nat_lt, length, List, [], ◌∷◌, Some, Ok, IfOk, IsOk, IsTrue, OnOk, map, option_map};
 ghost use Rattle.std.specs.List.{AllByRecursion};
 ghost use Rattle.bidi_methods.specs.CommandData.{browser_asked};
 ghost use Rattle.bidi_browser.specs.Accepted.{AreAccepted};
 ghost use Rattle.bidi_browser.specs.Acts.{Act};
 ghost use Rattle.bidi_browser.specs.Actions as asked;
 ghost use Rattle.bidi_browser.specs.Asked.{action_of, command_asked};
+ghost use Rattle.bidi_browser.specs.ContextRows.{row_of, created_in, realm_created_in};
 ghost use Rattle.bidi_browser.specs.Contexts.{context_of, is_alive, top_of};
 ghost use Rattle.bidi_browser.specs.Occurrences.{tree_events};
 ghost use Rattle.bidi_browser.specs.Outcome.{has_room, outcome};
-ghost use Rattle.bidi_browser.specs.View.{EventIsWell, occurrence_of};
+ghost use Rattle.bidi_browser.specs.Plans.{AreWell};
+ghost use Rattle.bidi_browser.specs.View.{EventIsWell, occurrence_of, seen};
 
 use crate::action::Action;
 use crate::births::{plan_create, plan_frame};
 use crate::calling::plan_call_function;
+use crate::context::Context;
 use crate::contexts::Contexts;
 use crate::logging::plan_log;
 use crate::looking::{plan_activate, plan_get_realms, plan_get_tree};
@@ -24,7 +27,6 @@ use crate::removals::{plan_close, plan_unframe};
 use crate::script_table::ScriptTable;
 use crate::scripts::{plan_disown, plan_evaluate};
 use crate::tabling::plan_row;
-use crate::telling::{push_created, push_realms};
 use bidi_handles::Refusal;
 use bidi_methods::{BrowserCommand, EventData, EventName, Method, Payload};
 use bidi_params::ErrorCode;
@@ -273,4 +275,34 @@ impl Browser {
             Err(ErrorCode::UnknownError)
         }
     }
+}
+
+// Adds the contextCreated event of each context.
+fn push_created(
+    alloc: Global,
+    contexts: &[Context],
+    all: &mut Vec<Occurrence>,
+) -> Result<(), AllocError>
+    ensures told { IfOk result (λ _. seen all.new.items ≡ seen all.old.items ++ map created_in (map row_of contexts.now)) }
+    ensures well { IfOk result (λ _. AreWell all.old.items → AreWell all.new.items) }
+{
+    for context in contexts {
+        all.push(context.created(alloc)?)?;
+    }
+    Ok(())
+}
+
+// Adds the realmCreated event of each context's realm.
+fn push_realms(
+    alloc: Global,
+    contexts: &[Context],
+    all: &mut Vec<Occurrence>,
+) -> Result<(), AllocError>
+    ensures told { IfOk result (λ _. seen all.new.items ≡ seen all.old.items ++ map realm_created_in (map row_of contexts.now)) }
+    ensures well { IfOk result (λ _. AreWell all.old.items → AreWell all.new.items) }
+{
+    for context in contexts {
+        all.push(context.realm_created(alloc)?)?;
+    }
+    Ok(())
 }

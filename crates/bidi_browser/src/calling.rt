@@ -22,8 +22,9 @@ use bidi_values::{CallFunctionParameters, LocalValue};
 
 /// Plans the call of a function in the realm of a target. The script table has its outcome.
 ///
-/// Costs an outline of each argument and of `this`; a value that a handle holds is not measured again. Only an
-/// argument that the function returns is built, with copies of the values of its handles.
+/// Costs an outline of each argument and of `this`, and a block of memory for the sizes of the arguments; a value
+/// that a handle holds is not measured again. Only an argument that the function returns is built, with copies of
+/// the values of its handles, and it is not measured a second time.
 ///
 /// # Errors
 /// The first that holds:
@@ -57,10 +58,10 @@ fn called(
         → Gives ending_seen result (call_ending past (realm_of past c) (string_bytes params.now.function_declaration)
         (arguments_asked params.now) (option_map local_tree params.now.this)) }
 {
-    let arguments = arguments_of(params);
-    check_arguments(browser.alloc, &context.handles, arguments)?;
+    let values = arguments_of(params);
+    let arguments = check_arguments(browser.alloc, &context.handles, values)?;
     check_this(browser.alloc, &context.handles, &params.this)?;
-    ending_of(browser, context, &params.function_declaration, arguments)
+    ending_of(browser, &params.function_declaration, &arguments)
 }
 
 // The arguments; none where the member is absent.

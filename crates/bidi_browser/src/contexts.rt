@@ -110,12 +110,17 @@ impl Contexts {
     }
 
     /// The Info of a context with its parent, to this depth. `None` is the whole depth.
+    ///
+    /// Looks for what stands below the context, but at depth 0, which shows no children.
     pub(crate) fn info(&self, context: &Context, depth: Option<u64>) -> Result<Info, AllocError>
         ensures tree { (past : List Act) (c : ℕ) → IsTableOf self.now past
             → row_of context.now ≡ row_at past c → IfOk result (λ i. ⟦<Info as Shape>⟧.shape.tree_of i ≡ info_of past depth c) }
         ensures well { IfOk result (IsWithin ⟦<Info as Shape>⟧.shape 34) }
     {
-        whole_info(self.alloc, context, self.below(context), depth)
+        match depth {
+            Some(0) => context.root_info(self.alloc, None),
+            _ => whole_info(self.alloc, context, self.below(context), depth),
+        }
     }
 
     /// The Info of each top-level context, to this depth. `None` is the whole depth.

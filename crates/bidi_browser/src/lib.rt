@@ -31,7 +31,6 @@ mod scripts;
 mod session_history;
 mod showing;
 mod tabling;
-mod telling;
 mod urls;
 
 pub use action::Action;

@@ -1,8 +1,8 @@
 //! Plans of the actions that remove contexts: `browsingContext.close`, and a frame that a page removes.
-ghost use Rattle.std.specs.Prelude.{◌≡◌, ◌++◌, ℕ, suc, List, flat_map, IfOk};
+ghost use Rattle.std.specs.Prelude.{◌≡◌, ◌++◌, ℕ, suc, List, map, flat_map, IfOk};
 ghost use Rattle.bidi_browser.specs.Acts.{Act};
 ghost use Rattle.bidi_browser.specs.Actions.{Close, Unframe};
-ghost use Rattle.bidi_browser.specs.ContextRows.{row_of, row_at};
+ghost use Rattle.bidi_browser.specs.ContextRows.{row_of, row_at, realm_destroyed_in};
 ghost use Rattle.bidi_browser.specs.Contexts.{level_of, children_of};
 ghost use Rattle.bidi_browser.specs.Occurrences.{removal};
 ghost use Rattle.bidi_browser.specs.Plans.{AreWell, Plans, HasResultOf, IsWellPlanned};
@@ -16,7 +16,6 @@ use crate::contexts::{len_below, whole_info};
 use crate::looking::{context_named, nothing, top_named};
 use crate::occurrence::Occurrence;
 use crate::plan::{Change, Edit, Plan};
-use crate::telling::push_realms_gone;
 use bidi_handles::Refusal;
 use bidi_methods::{Method, ResultData};
 use bidi_params::ErrorCode;
@@ -124,5 +123,20 @@ fn push_removal(
     push_realms_gone(alloc, below, events)?;
     let info = whole_info(alloc, context, below, None)?;
     events.push(context.destroyed(info))?;
+    Ok(())
+}
+
+// Adds the realmDestroyed event of each context's realm.
+fn push_realms_gone(
+    alloc: Global,
+    contexts: &[Context],
+    all: &mut Vec<Occurrence>,
+) -> Result<(), AllocError>
+    ensures told { IfOk result (λ _. seen all.new.items ≡ seen all.old.items ++ map realm_destroyed_in (map row_of contexts.now)) }
+    ensures well { IfOk result (λ _. AreWell all.old.items → AreWell all.new.items) }
+{
+    for context in contexts {
+        all.push(context.realm_destroyed(alloc)?)?;
+    }
     Ok(())
 }

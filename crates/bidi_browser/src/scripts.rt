@@ -4,14 +4,14 @@ ghost use Rattle.bidi_browser.specs.Acts.{Act};
 ghost use Rattle.bidi_browser.specs.Actions as asked;
 ghost use Rattle.bidi_browser.specs.Asked.{disown_asked, evaluate_asked, is_owned, target_of};
 ghost use Rattle.bidi_browser.specs.Contexts.{is_alive};
-ghost use Rattle.bidi_browser.specs.ContextRows.{row_of, row_at, held_in_row};
+ghost use Rattle.bidi_browser.specs.ContextRows.{row_of, row_at};
 ghost use Rattle.bidi_browser.specs.Realms.{realm_of, value_of};
 ghost use Rattle.bidi_browser.specs.Runs.{HasReturned, HasRun, IsEnding, IsNextHandle};
 ghost use Rattle.bidi_browser.specs.TableInHand.{ending_seen};
-ghost use Rattle.bidi_handles.specs.Values.{arguments};
-ghost use Rattle.bidi_handles.specs.ValuesInHand.{held_tree, local_tree};
+ghost use Rattle.bidi_handles.specs.Resolves.{stands_for};
+ghost use Rattle.bidi_handles.specs.ValuesInHand.{held_tree};
 ghost use Rattle.bidi_handles.specs.declared.refusal.Refusal.TheVariants as refused;
-ghost use Rattle.bidi_tree.specs.Node.{Node, levels};
+ghost use Rattle.bidi_tree.specs.Node.{levels};
 ghost use Rattle.bidi_browser.specs.Found.{IsTargeted};
 ghost use Rattle.bidi_browser.specs.Outcome.{realm_targeted, undefined};
 ghost use Rattle.bidi_browser.specs.Plans.{HasIds, Plans, HasResultOf, IsWellPlanned};
@@ -25,14 +25,14 @@ use crate::plan::{Edit, Plan};
 use crate::script_table::ScriptRow;
 use crate::showing::result_of_ending;
 use bidi_handles::{
-    Ending, Handle, HeldValue, Refusal, ThrownValue, given_back, held, takes_handle,
+    Argument, Ending, Handle, HeldValue, Refusal, ThrownValue, given_back, held, takes_handle,
 };
 use bidi_methods::{Method, ResultData};
 use bidi_params::ErrorCode;
 use bidi_shape::Shape;
 use bidi_values::{
-    DisownParameters, EvaluateParameters, EvaluateResult, LocalValue, Ownership, Primitive,
-    RemotePlain, RemoteValue, Target,
+    DisownParameters, EvaluateParameters, EvaluateResult, Ownership, Primitive, RemotePlain,
+    RemoteValue, Target,
 };
 use std::alloc::{AllocError, Global};
 use std::rc::Rc;
@@ -62,7 +62,7 @@ pub(crate) fn plan_evaluate(browser: &Browser, params: &EvaluateParameters) -> R
     ensures of_method { HasResultOf Method.ScriptEvaluate result }
 {
     let context = targeted(&browser.contexts, &params.target)?;
-    let ending = evaluated(browser, context, &params.expression)?;
+    let ending = evaluated(browser, &params.expression)?;
     let Ran { result, edit } = run(browser, context, ending, is_owned(params.result_ownership))?;
     Ok(answered(browser.alloc, ResultData::ScriptEvaluate(result), edit))
 }
@@ -75,10 +75,10 @@ pub(crate) fn is_owned(ownership: Option<Ownership>) -> bool
 }
 
 // How a script of this text ends without arguments.
-fn evaluated(browser: &Browser, context: &Context, script: &String) -> Result<Ending, Refusal>
+fn evaluated(browser: &Browser, script: &String) -> Result<Ending, Refusal>
     ensures { (past : List Act) → StandsFor browser.now past → IsEnding result past (string_bytes script.now) [] }
 {
-    ending_of(browser, context, script, &[])
+    ending_of(browser, script, &[])
 }
 
 /// How a script of this text ends with these arguments, which passed their checks.
@@ -88,42 +88,34 @@ fn evaluated(browser: &Browser, context: &Context, script: &String) -> Result<En
 /// - No memory: an allocation failed.
 pub(crate) fn ending_of(
     browser: &Browser,
-    context: &Context,
     script: &String,
-    values: &[LocalValue],
+    arguments: &[Argument<'_>],
 ) -> Result<Ending, Refusal>
-    ensures { (past : List Act) (vs : List Node) → StandsFor browser.now past
-        → arguments (held_in_row (row_of context.now)) (map local_tree values.now) ≡ Ok vs → IsEnding result past (string_bytes script.now) vs }
+    ensures { (past : List Act) → StandsFor browser.now past → IsEnding result past (string_bytes script.now) (map stands_for arguments.now) }
 {
     match browser.table.get(script) {
         Some(ScriptRow::EndsIn(ending)) => Ok(share(ending)?),
-        Some(ScriptRow::GivesBack(place)) => returned(browser.alloc, context, values, *place),
+        Some(ScriptRow::GivesBack(place)) => returned(browser.alloc, arguments, *place),
         None => Err(Refusal::Code(ErrorCode::UnsupportedOperation)),
     }
 }
 
 // The ending that returns the argument at this place, or undefined where there is none.
-fn returned(
-    alloc: Global,
-    context: &Context,
-    values: &[LocalValue],
-    place: u64,
-) -> Result<Ending, Refusal>
-    ensures { (vs : List Node) → arguments (held_in_row (row_of context.now)) (map local_tree values.now) ≡ Ok vs
-        → HasReturned result (unwrap_or (slice_get vs place) undefined) }
+fn returned(alloc: Global, arguments: &[Argument<'_>], place: u64) -> Result<Ending, Refusal>
+    ensures { HasReturned result (unwrap_or (slice_get (map stands_for arguments.now) place) undefined) }
 {
-    match at(values, place) {
-        Some(value) => Ok(Ending::Returned(given_back(alloc, &context.handles, value)?)),
+    match at(arguments, place) {
+        Some(argument) => Ok(Ending::Returned(given_back(alloc, argument)?)),
         None => Ok(Ending::Returned(undefined(alloc)?)),
     }
 }
 
 // The argument at this place, counted from 0.
-fn at(values: &[LocalValue], place: u64) -> Option<&LocalValue>
-    ensures { option_map (λ v. v.now) result ≡ slice_get values.now place }
+fn at<'a, 'b>(arguments: &'a [Argument<'b>], place: u64) -> Option<&'a Argument<'b>>
+    ensures { option_map (λ a. a.now) result ≡ slice_get arguments.now place }
 {
     match usize::try_from(place) {
-        Ok(place) => values.get(place),
+        Ok(place) => arguments.get(place),
         Err(_) => None,
     }
 }
@@ -222,7 +214,7 @@ fn into_value(ending: Ending) -> Rc<HeldValue>
 
 /// Plans the release of handles in the realm of a target. A handle that the realm does not have is ignored.
 ///
-/// Sorts the numbers to release, and does a binary search among them for each handle of the realm.
+/// Sorts the numbers to release, and does a binary search among the handles of the realm for each.
 ///
 /// # Errors
 /// - Those of the target, as in [`targeted`].

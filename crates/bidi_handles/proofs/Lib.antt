@@ -4,7 +4,9 @@ pub mod IdFacts
 pub mod IdLemmas
 pub mod ArgumentFacts
 pub mod ValueLemmas
+pub mod ArgumentLemmas
 pub mod NumberedLemmas
+pub mod NumberLemmas
 pub mod SearchLemmas
 pub mod ResolveLemmas
 pub mod WellLemmas

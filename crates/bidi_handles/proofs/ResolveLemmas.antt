@@ -39,7 +39,7 @@ use Rattle.bidi_handles.specs.declared.refusal.Refusal.{Refusal}
 use Rattle.bidi_handles.specs.declared.refusal.Refusal.TheVariants.{Code, NoMemory}
 use Rattle.bidi_handles.specs.Checks.{◌>>=◌, found}
 use Rattle.bidi_handles.specs.Resolves.{Gives, this_argument}
-use Rattle.bidi_handles.specs.Values.{Held, resolved, resolved_items, argument, arguments}
+use Rattle.bidi_handles.specs.Values.{Held, resolved, resolved_items, argument}
 use Rattle.bidi_handles.specs.ValuesInHand.{local_tree, local_pair_tree, remote_tree, remote_trees, remote_pair_trees}
 
 -- ---- references
@@ -111,30 +111,7 @@ pub there-seen : {A B : Type 0} (f : A → B) (o : Option A) (q : Option B) → 
 there-seen f None q is = ap is_some is
 there-seen f (Some x) q is = ap is_some is
 
--- ---- arguments
-
--- what comes of the rest comes of all
-abbrev pub Carries : {B : Type 0} → Result B ErrorCode → Result B ErrorCode → Type 0
-Carries {B} (Ok x) all = (y : B) × (all ≡ Ok y)
-Carries (Err code) all = all ≡ Err code
-
-pub carries-all : {B : Type 0} (r : Result B ErrorCode) → Carries r r
-carries-all (Ok x) = (x, refl)
-carries-all (Err code) = refl
-
-pub carries-more : (held : Held) (t u : Node) (ts : List Node) (all : Result (List Node) ErrorCode)
-    → argument held t ≡ Ok u → Carries (arguments held (t ∷ ts)) all → Carries (arguments held ts) all
-carries-more held t u ts all is carries =
-    by (arguments held ts) (subst (λ (r : Result Node ErrorCode). Carries (r >>= λ v. arguments held ts >>= λ vs. Ok (v ∷ vs)) all) is carries)
-  where
-    by : (vs : Result (List Node) ErrorCode) → Carries (vs >>= λ ws. Ok (u ∷ ws)) all → Carries vs all
-    by (Ok vs) c = c
-    by (Err code) c = c
-
-pub carries-refused : (held : Held) (t : Node) (ts : List Node) (code : ErrorCode) (all : Result (List Node) ErrorCode)
-    → argument held t ≡ Err code → Carries (arguments held (t ∷ ts)) all → all ≡ Err code
-carries-refused held t ts code all is carries =
-    subst (λ (r : Result Node ErrorCode). Carries (r >>= λ v. arguments held ts >>= λ vs. Ok (v ∷ vs)) all) is carries
+-- ---- `this`
 
 pub this-passes : (held : Held) (t u : Node) → argument held t ≡ Ok u → this_argument held (Some t) ≡ Ok (Some u)
 this-passes held t u is = rw is refl

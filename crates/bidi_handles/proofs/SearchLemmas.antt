@@ -1,18 +1,17 @@
 -- Handles whose numbers ascend: one more that comes, and what a search by halves finds among them.
 use Rattle.std.proofs.Common.{◌≡◌, ◌∙◌, ◌<◌, ◌≤◌, ◌+◌, ◌^◌, ◌||◌, ℕ, zero, suc, Bool, true, false, List, [], ◌∷◌, ◌++◌}
 use Rattle.std.proofs.Common.{length, get_or, map, take, filter, All, Option, Some, None, IfSome, option_to_list, Result, Ok, Err}
-use Rattle.std.proofs.Common.{MatchResult, is_ok, String, Global, string_bytes, refl, sym, ap, ap₂, subst, arith}
-use Rattle.std.specs.Prelude.{◌==◌, bytes_eq, find, option_map}
-use Rattle.std.specs.List.{list_any}
-use Rattle.std.specs.List.Sorted.{IsSearchInRange, IsBinarySearchResult, IsNonDecreasingBy, IsNonDecreasing, IsStrictlyIncreasing}
+use Rattle.std.proofs.Common.{String, Global, string_bytes, refl, sym, ap, ap₂, subst, arith}
+use Rattle.std.specs.Prelude.{◌==◌, bytes_eq, find, not, option_map}
+use Rattle.std.specs.List.{list_any, remove}
+use Rattle.std.specs.List.Sorted.{IsSearchInRange, IsBinarySearchResult, IsNonDecreasingBy, IsStrictlyIncreasing}
 use Rattle.std.specs.Ordering.{nat_cmp, ordering_index}
 use Rattle.std.proofs.lemmas.Bool.Decides.{nat_tests}
 use Rattle.std.proofs.lemmas.Cmp.{ranked}
 use Rattle.std.proofs.Math.Seq.{get_or-append_seam}
-use Rattle.std.proofs.lemmas.List.{get_or-map, get_or_append_left, length-map, length-append, map-append, take_more}
+use Rattle.std.proofs.lemmas.List.{get_or-map, get_or_append_left, get_or_default, length-map, length-append, map-append, take_more}
 use Rattle.std.proofs.lemmas.List.Folds.{list_any-append}
 use Rattle.std.proofs.lemmas.List.Kept.{AllPairs-from_increasing, IsStrictlyIncreasing-filter}
-use Rattle.std.proofs.lemmas.List.Sorted.{searched}
 use Rattle.bidi_tree.specs.Node.{Node}
 use Rattle.bidi_handles.specs.declared.id.IdKind.TheVariants as kind
 use Rattle.bidi_handles.specs.declared.handle.Handle.{Handle}
@@ -31,6 +30,20 @@ find-here p [] i d less before here = absurd (omega arith)
 find-here p (x ∷ xs) zero d less before here = rw here refl
 find-here p (x ∷ xs) (suc i) d less before here = rw (before 0 (omega arith)) (find-here p xs i d (omega arith) (λ k lower. before (suc k) (omega arith)) here)
 
+-- all are left that pass, and all but one that fails alone
+all-kept : {X : Type 0} (p : X → Bool) (xs : List X) → ((k : ℕ) (d : X) → k < length xs → p (get_or xs k d) ≡ true) → filter p xs ≡ xs
+all-kept p [] pass = refl
+all-kept p (x ∷ xs) pass = rw (pass 0 x (omega arith)) (ap (λ ys. x ∷ ys) (all-kept p xs (λ k d less. pass (suc k) d (omega arith))))
+
+taken-here : {X : Type 0} (p : X → Bool) (xs : List X) (i : ℕ) (d : X) → i < length xs → p (get_or xs i d) ≡ false
+    → ((k : ℕ) → k < i → p (get_or xs k d) ≡ true) → ((k : ℕ) → i < k → k < length xs → p (get_or xs k d) ≡ true) → remove xs i ≡ filter p xs
+taken-here p [] i d less fails before after = absurd (omega arith)
+taken-here p (x ∷ xs) zero d less fails before after =
+    rw fails (sym (all-kept p xs (λ k e inside. subst (λ y. p y ≡ true) (get_or_default xs k d e inside) (after (suc k) (omega arith) (omega arith)))))
+taken-here p (x ∷ xs) (suc i) d less fails before after =
+    rw (before 0 (omega arith)) (ap (λ ys. x ∷ ys)
+    (taken-here p xs i d (omega arith) fails (λ k lower. before (suc k) (omega arith)) (λ k higher inside. after (suc k) (omega arith) (omega arith))))
+
 -- ---- by number
 
 module _ {X : Type 0} (number : X → ℕ) (xs : List X) (ascend : IsStrictlyIncreasing (map number xs)) where
@@ -48,6 +61,14 @@ module _ {X : Type 0} (number : X → ℕ) (xs : List X) (ascend : IsStrictlyInc
         let same : i ≡ j → number (get_or xs i d) ≡ number (get_or xs j d) = ap (λ k. number (get_or xs k d)) in
         grind (arith, nat_tests, later, same)
 
+    module _ (i : ℕ) (within : IsSearchInRange (Err i) (length xs)) (parted : IsBinarySearchResult (λ x. nat_cmp (number x) n) xs (Err i)) where
+      -- where nothing is found, each number is another
+      apart : (k : ℕ) (d : X) → k < length xs → (number (get_or xs k d) == n) ≡ false
+      apart k d inside =
+          let before : k < i → number (get_or xs k d) < n = λ lower. ranked _ n _ (sym ((parted comparisons-rise).0 k d (omega arith) lower)) in
+          let after : i ≤ k → n < number (get_or xs k d) = λ higher. ranked _ n _ (sym ((parted comparisons-rise).1 k d higher inside)) in
+          grind (arith, nat_tests, before, after)
+
     -- what is found is the one of that number
     pub found : (i : ℕ) (d : X) → IsSearchInRange (Ok i) (length xs)
         → IsBinarySearchResult (λ x. nat_cmp (number x) n) xs (Ok i) → find (λ x. number x == n) xs ≡ Some (get_or xs i d)
@@ -57,14 +78,27 @@ module _ {X : Type 0} (number : X → ℕ) (xs : List X) (ascend : IsStrictlyInc
         (λ k lower. let less = below-later k i d lower within in grind (arith, nat_tests, less, here))
         (grind (arith, nat_tests, here))
 
+    -- and those of other numbers are left where it is taken out
+    pub taken : (i : ℕ) (d : X) → IsSearchInRange (Ok i) (length xs)
+        → IsBinarySearchResult (λ x. nat_cmp (number x) n) xs (Ok i) → remove xs i ≡ filter (λ x. not (n == number x)) xs
+    taken i d within at =
+        let here : number (get_or xs i d) ≡ n = ranked _ n _ (sym (at d)) in
+        taken-here (λ x. not (n == number x)) xs i d within (grind (arith, nat_tests, here))
+        (λ k lower. let less = below-later k i d lower within in grind (arith, nat_tests, less, here))
+        (λ k higher inside. let more = below-later i k d higher inside in grind (arith, nat_tests, more, here))
+
     -- where nothing is found there is none
     pub not-found : (i : ℕ) → IsSearchInRange (Err i) (length xs)
         → IsBinarySearchResult (λ x. nat_cmp (number x) n) xs (Err i) → find (λ x. number x == n) xs ≡ None
-    not-found i within parted =
-        find-none (λ x. number x == n) xs (λ k d inside.
-        let before : k < i → number (get_or xs k d) < n = λ lower. ranked _ n _ (sym ((parted comparisons-rise).0 k d (omega arith) lower)) in
-        let after : i ≤ k → n < number (get_or xs k d) = λ higher. ranked _ n _ (sym ((parted comparisons-rise).1 k d higher inside)) in
-        grind (arith, nat_tests, before, after))
+    not-found i within parted = find-none (λ x. number x == n) xs (apart i within parted)
+
+    -- so all are left
+    pub not-taken : (r : Result ℕ ℕ) → ((i : ℕ) → r ≡ Ok i → ⊥) → IsSearchInRange r (length xs)
+        → IsBinarySearchResult (λ x. nat_cmp (number x) n) xs r → xs ≡ filter (λ x. not (n == number x)) xs
+    not-taken (Ok i) none within at = absurd (none i refl)
+    not-taken (Err i) none within parted =
+        sym (all-kept (λ x. not (n == number x)) xs
+        (λ k d inside. let other = apart i within parted k d inside in grind (arith, nat_tests, other)))
 
 -- ---- by id
 
@@ -105,29 +139,7 @@ pub ascend-filter : (p : ℕ → Bool) (hs : List Handle)
     → IsStrictlyIncreasing (map (λ h. h.number) hs) → IsStrictlyIncreasing (map (λ h. h.number) (filter (λ h. p h.number) hs))
 ascend-filter p hs up = subst IsStrictlyIncreasing (filter-map (λ (h : Handle). h.number) p hs) (IsStrictlyIncreasing-filter p (map (λ h. h.number) hs) up)
 
--- ---- among numbers alone
-
--- whether a number was found says whether it is among them
-pub is-among : (xs : List ℕ) (n : ℕ) (r : Result ℕ ℕ) → IsNonDecreasing xs → IsBinarySearchResult (λ m. nat_cmp m n) xs r → is_ok r ≡ list_any (λ m. m == n) xs
-is-among xs n r up result = by r (searched xs n r result (λ i j le within. up i j 0 le within))
-  where
-    among : (xs : List ℕ) (i : ℕ) → i < length xs → get_or xs i 0 ≡ n → list_any (λ m. m == n) xs ≡ true
-    among [] i within is = absurd (omega arith)
-    among (x ∷ xs) zero within is = grind (arith, nat_tests, is)
-    among (x ∷ xs) (suc i) within is = let ih = among xs i (omega arith) is in grind (arith, nat_tests, ih)
-
-    apart : (xs : List ℕ) → ((k : ℕ) → k < length xs → get_or xs k 0 ≡ n → ⊥) → list_any (λ m. m == n) xs ≡ false
-    apart [] differ = refl
-    apart (x ∷ xs) differ =
-        let ih = apart xs (λ k within. differ (suc k) (omega arith)) in
-        let here = differ 0 (omega arith) in
-        grind (arith, nat_tests, ih, here)
-
-    by : (r : Result ℕ ℕ) → MatchResult r (λ i. (i < length xs) × (get_or xs i 0 ≡ n))
-        (λ i. (i ≤ length xs) × ((k : ℕ) → k < i → get_or xs k 0 < n) × ((k : ℕ) → i ≤ k → k < length xs → n < get_or xs k 0))
-        → is_ok r ≡ list_any (λ m. m == n) xs
-    by (Ok i) there = sym (among xs i there.0 there.1)
-    by (Err i) gap = sym (apart xs (λ k within is. let before = gap.1 k in let after = gap.2 k in grind (arith, before, after, within, is)))
+-- ---- the numbers of texts
 
 -- among the numbers of some texts is that of each text that has one, and that of the next
 pub numbers-more : (texts : List (String Global)) (i : ℕ) (s : String Global) (r : Option ℕ) (now after : List ℕ) → i < length texts → s ≡ get_or texts i s

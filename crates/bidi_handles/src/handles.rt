@@ -2,7 +2,7 @@
 ghost use Rattle.std.specs.Prelude.{◌≡◌, ℕ, ◌<◌, ◌^◌, [], ◌∷◌, ◌++◌, true, IfOk, OnOk, bytes_eq, filter};
 ghost use Rattle.std.specs.Prelude.{find, length, map, not, option_map, string_bytes, ◌==◌};
 ghost use Rattle.std.specs.List.{All, list_any};
-ghost use Rattle.std.specs.List.Sorted.{IsNonDecreasing, IsStrictlyIncreasing};
+ghost use Rattle.std.specs.List.Sorted.{IsStrictlyIncreasing};
 ghost use Rattle.std.proofs.Props.{props};
 ghost use Rattle.bidi_handles.specs.Ids.{id_of, has_id};
 
@@ -48,21 +48,23 @@ impl Handles {
 
     /// The numbers of the handles whose id is one of these, in ascending order.
     ///
-    /// Sorts the numbers of the ids, and does a binary search among them for each handle.
+    /// Sorts the numbers of the ids, and does a binary search among the handles for each.
     ///
     /// # Errors
     /// No memory: an allocation failed.
     pub fn numbers_of(&self, alloc: Global, ids: &Vec<String>) -> Result<Vec<u64>, AllocError>
         ensures { IfOk result (λ numbers. numbers.items ≡ map (λ h. h.0) (filter (λ h. has_id (map string_bytes ids.now.items) h.0) (handles_seen self.now))) }
     {
-        let named = handle_numbers(alloc, ids)?;
-        let mut numbers = Vec::new(alloc);
-        for handle in &self.items {
-            if is_among(&named, handle.number) {
-                numbers.push(handle.number)?;
-            }
-        }
+        let mut numbers = handle_numbers(alloc, ids)?;
+        numbers.retain(|number| self.has(*number));
         Ok(numbers)
+    }
+
+    // Whether there is a handle of this number.
+    fn has(&self, number: u64) -> bool
+        ensures { result ≡ list_any (λ h. h.number == number) self.now.items.items }
+    {
+        handle_at(&self.items, number).is_some()
     }
 
     /// Makes room for one more handle.
@@ -89,11 +91,26 @@ impl Handles {
         }
     }
 
-    /// Releases the handles of these numbers. Takes no memory.
+    /// Releases the handles of these numbers. Does a binary search for each, and moves the handles behind it. Takes
+    /// no memory.
     pub fn disown(&mut self, numbers: &[u64])
         ensures { handles_seen self.new ≡ filter (λ held. not (list_any (λ n. n == held.0) numbers.now)) (handles_seen self.old) }
     {
-        take_out(&mut self.items, numbers);
+        for number in numbers {
+            self.release(*number);
+        }
+    }
+
+    // Releases the handle of this number, if there is one.
+    fn release(&mut self, number: u64)
+        ensures { handles_seen self.new ≡ filter (λ held. not (number == held.0)) (handles_seen self.old) }
+    {
+        if let Ok(place) = self
+            .items
+            .binary_search_by_key(&number, |handle| handle.number)
+        {
+            self.items.remove(place);
+        }
     }
 
     /// Releases all handles. Takes no memory.
@@ -134,23 +151,9 @@ fn may_come(handles: &[Handle], number: u64) -> bool
     }
 }
 
-// Removes the handles of these numbers.
-fn take_out(handles: &mut Vec<Handle>, numbers: &[u64])
-    ensures { handles.new.items ≡ filter (λ h. not (list_any (λ n. n == h.number) numbers.now)) handles.old.items }
-{
-    handles.retain(|handle| !is_listed(numbers, handle.number));
-}
-
-// Whether a number is among these.
-fn is_listed(numbers: &[u64], number: u64) -> bool
-    ensures { result ≡ list_any (λ n. n == number) numbers.now }
-{
-    numbers.iter().any(|n| *n == number)
-}
-
-// The numbers of the handles that these ids can stand for, in ascending order.
+// The numbers of the handles that these ids can stand for, each once and in ascending order.
 fn handle_numbers(alloc: Global, ids: &[String]) -> Result<Vec<u64>, AllocError>
-    ensures order { IfOk result (λ numbers. IsNonDecreasing numbers.items) }
+    ensures order { IfOk result (λ numbers. IsStrictlyIncreasing numbers.items) }
     ensures ids { (n : ℕ) → n < 2 ^ 48 → IfOk result (λ numbers. list_any (λ m. m == n) numbers.items ≡ has_id (map string_bytes ids.now) n) }
 {
     let mut numbers = Vec::new(alloc);
@@ -160,12 +163,6 @@ fn handle_numbers(alloc: Global, ids: &[String]) -> Result<Vec<u64>, AllocError>
         }
     }
     numbers.sort_unstable();
+    numbers.dedup();
     Ok(numbers)
-}
-
-// Whether a number is among these, which are in ascending order.
-fn is_among(numbers: &[u64], number: u64) -> bool
-    ensures { IsNonDecreasing numbers.now → result ≡ list_any (λ n. n == number) numbers.now }
-{
-    numbers.binary_search(&number).is_ok()
 }

@@ -1,6 +1,6 @@
 //! The size of the value that an outline stands for, found without building the value.
-ghost use Rattle.std.specs.Prelude.{◌≡◌, Some, option_map};
-ghost use Rattle.bidi_tree.specs.Node.{get_member, map};
+ghost use Rattle.std.specs.Prelude.{◌≡◌, Some};
+ghost use Rattle.bidi_tree.specs.Node.{map};
 ghost use Rattle.bidi_tree.specs.Outline.{outline_node, outline_items, outline_members};
 ghost use Rattle.bidi_params.specs.declared.error_code.ErrorCode.TheVariants.{NoSuchHandle};
 ghost use Rattle.bidi_handles.specs.Checks.{found};
@@ -12,7 +12,7 @@ ghost use Rattle.bidi_handles.specs.Values.{handle_value};
 use crate::handles::Handles;
 use crate::size::{Size, decimal_bytes, quoted_bytes};
 use bidi_params::ErrorCode;
-use bidi_tree::{Outline, OutlineMembers};
+use bidi_tree::{Outline, OutlineMembers, find_outline};
 
 /// The size of the tree of an outline as it is.
 pub(crate) fn size_of(outline: &Outline<'_>) -> Size
@@ -55,25 +55,13 @@ pub(crate) fn measured(realm: Option<&Handles>, outline: &Outline<'_>) -> Result
 fn measured_map(handles: &Handles, members: &OutlineMembers<'_>) -> Result<Size, ErrorCode>
     ensures { result ≡ sized (seen (Some (values_in handles.now)) (map (outline_members members.now))) }
 {
-    if member_of(members, "sharedId").is_some() {
+    if find_outline(members, "sharedId").is_some() {
         return Err(ErrorCode::NoSuchNode);
     }
-    match member_of(members, "handle") {
+    match find_outline(members, "handle") {
         Some(handle) => size_held(handles, handle),
         None => measured_members(Some(handles), members),
     }
-}
-
-// The member of that name.
-fn member_of<'a, 'b>(members: &'a OutlineMembers<'b>, name: &str) -> Option<&'a Outline<'b>>
-    ensures { option_map (λ d. outline_node d.now) result ≡ get_member name.now (outline_members members.now) }
-{
-    for member in members.as_slice() {
-        if member.0 == name {
-            return Some(&member.1);
-        }
-    }
-    None
 }
 
 // The size of the value that a handle holds; the outline is that of its id.

@@ -1,17 +1,19 @@
 //! Local values resolved to remote ones, with the values of their handles in place of references.
 //!
 //! A value is measured before anything of it is built, and is built only where a script returns it.
-ghost use Rattle.std.specs.Prelude.{◌≡◌, IfOk, codes, is_some, map, option_map};
+ghost use Rattle.std.specs.Prelude.{◌≡◌, IfOk, IfErr, codes, is_some, map, option_map};
 ghost use Rattle.bidi_params.specs.declared.error_code.ErrorCode.TheVariants.{NoSuchHandle};
 ghost use Rattle.bidi_tree.specs.Node.{get_of};
 ghost use Rattle.bidi_tree.specs.View.{items_of};
+ghost use Rattle.bidi_handles.specs.declared.refusal.Refusal.TheVariants as Refusal;
 ghost use Rattle.bidi_handles.specs.Checks.{found};
 ghost use Rattle.bidi_handles.specs.Handles.{values_in};
-ghost use Rattle.bidi_handles.specs.Resolves.{Gives, IsSized, Passes, this_argument};
+ghost use Rattle.bidi_handles.specs.Resolves.{Gives, IsSized, Passes, stands_for, this_argument};
 ghost use Rattle.bidi_handles.specs.Values.{resolved, resolved_items, argument, arguments};
 ghost use Rattle.bidi_handles.specs.ValuesInHand.{local_tree, local_pair_tree, local_key_tree, remote_tree, remote_trees};
 ghost use Rattle.bidi_handles.specs.ValuesInHand.{remote_pair_tree, remote_pair_trees, remote_key_tree, shared_tree};
 
+use crate::argument::Argument;
 use crate::handle::HeldValue;
 use crate::handles::Handles;
 use crate::measuring::measured;
@@ -28,9 +30,11 @@ use bidi_values::{
 use std::alloc::{AllocError, Global};
 use std::rc::Rc;
 
-/// Checks the arguments of a call in the realm of these handles, in their order.
+/// Checks the arguments of a call in the realm of these handles, in their order, and gives each with the size of
+/// what it stands for.
 ///
-/// Builds no value. Costs an outline of each argument, and a look-up of each reference.
+/// Builds no value. Costs an outline of each argument, and a look-up of each reference. Without arguments it takes
+/// no memory.
 ///
 /// # Errors
 /// The error is that of the first argument that fails, and the first of these that holds of this argument:
@@ -38,17 +42,18 @@ use std::rc::Rc;
 ///   have. The first such reference counts, in the order of lists; in a pair the key comes first.
 /// - `unknown error`: it has more than 60 levels, or its compact text more than 1,048,576 bytes.
 /// - No memory: an allocation failed.
-pub fn check_arguments(
+pub fn check_arguments<'a>(
     alloc: Global,
-    handles: &Handles,
-    values: &[LocalValue],
-) -> Result<(), Refusal>
-    ensures { Passes result (arguments (values_in handles.now) (map local_tree values.now)) }
+    handles: &'a Handles,
+    values: &'a [LocalValue],
+) -> Result<Vec<Argument<'a>>, Refusal>
+    ensures { Gives (λ all. map stands_for all.items) result (arguments (values_in handles.now) (map local_tree values.now)) }
 {
+    let mut all = Vec::with_capacity(alloc, values.len())?;
     for value in values {
-        sized(alloc, handles, value)?;
+        all.push(checked(alloc, handles, value)?)?;
     }
-    Ok(())
+    Ok(all)
 }
 
 /// Checks the `this` of a call, where one is given. Errors are those of [`check_arguments`].
@@ -68,20 +73,33 @@ pub fn check_this(
     }
 }
 
-/// Builds the value that an argument stands for, made to be shared.
+/// Builds the value that an argument stands for, made to be shared. Measures nothing.
 ///
 /// # Errors
-/// Those of [`check_arguments`].
-pub fn given_back(
+/// `NoMemory`: an allocation failed.
+pub fn given_back(alloc: Global, given: &Argument<'_>) -> Result<Rc<HeldValue>, Refusal>
+    ensures ok { IfOk result (λ held. shared_tree held ≡ stands_for given.now) }
+    ensures err { IfErr result (λ e. e ≡ Refusal.NoMemory) }
+{
+    let value = resolved(alloc, given.handles, given.value)?;
+    let size = given.size;
+    Ok(Rc::new(alloc, HeldValue { value, size })?)
+}
+
+// The argument with the size of what it stands for, or the error of one that fails.
+fn checked<'a>(
     alloc: Global,
-    handles: &Handles,
-    value: &LocalValue,
-) -> Result<Rc<HeldValue>, Refusal>
-    ensures { Gives shared_tree result (argument (values_in handles.now) (local_tree value.now)) }
+    handles: &'a Handles,
+    value: &'a LocalValue,
+) -> Result<Argument<'a>, Refusal>
+    ensures { Gives stands_for result (argument (values_in handles.now) (local_tree value.now)) }
 {
     let size = sized(alloc, handles, value)?;
-    let value = resolved(alloc, handles, value)?;
-    Ok(Rc::new(alloc, HeldValue { value, size })?)
+    Ok(Argument {
+        handles,
+        value,
+        size,
+    })
 }
 
 // The size of the value that an argument stands for, or the error of an argument that fails.

@@ -9,7 +9,7 @@ use Rattle.bidi_remote.specs.State.View.{sent_of}
 use Rattle.bidi_remote.specs.declared.remote_end.RemoteEnd.{RemoteEnd}
 use Rattle.bidi_play.specs.Lines.{line_of, CanBeSaid, written}
 use Rattle.bidi_play.specs.Players.{HasPlayed}
-use Rattle.bidi_host.specs.PageSteps.{is_of_page}
+use Rattle.bidi_host.specs.PageSteps.{is_said_by_pages}
 use Rattle.bidi_host.specs.declared.host.Taken.{Taken}
 
 -- The step was taken: its line is given, and what is sent is what the machine answers to it, whatever came before.
@@ -35,4 +35,4 @@ pub record IsSaidAs (conn : ℕ) (text said : List ℕ) : Type 0 where
 
 -- the line is that of no step that a page may say
 abbrev pub SaysNoPageStep : List ℕ → Type 0
-SaysNoPageStep line = (s : Step) → CanBeSaid s → is_of_page s ≡ true → line ≡ line_of s → ⊥
+SaysNoPageStep line = (s : Step) → CanBeSaid s → is_said_by_pages s ≡ true → line ≡ line_of s → ⊥

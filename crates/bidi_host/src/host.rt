@@ -10,7 +10,7 @@ ghost use Rattle.bidi_play.specs.Lines.{line_of, CanBeSaid, IsSayable};
 ghost use Rattle.bidi_play.specs.Players.{HasPlayed};
 ghost use Rattle.bidi_host.specs.declared.host.HostFault.TheVariants.{NoMemory};
 
-use crate::page::{is_line, is_of_page};
+use crate::page::{is_line, is_said_by_pages};
 use crate::saying::said_for;
 use bidi_play::read_step_text;
 use bidi_remote::{RemoteEnd, RemoteFault, Sent, Step};
@@ -76,7 +76,7 @@ impl Drop for Host {
 }
 
 impl Host {
-    ghost use Rattle.bidi_host.specs.PageSteps.{is_of_page};
+    ghost use Rattle.bidi_host.specs.PageSteps.{is_said_by_pages};
     ghost use Rattle.bidi_host.specs.Hosting.{IsTaken, Stays, IsSaidAs, SaysNoPageStep};
 
     /// A host that has taken nothing: no connection, no session, and a browser with one context.
@@ -178,7 +178,7 @@ impl Host {
     /// 1. `NoMemory`: an allocation failed.
     /// 2. `WornOut`: 1,000,000,000 inputs were taken.
     pub fn page_line(&mut self, line: &str) -> Result<Option<Taken>, HostFault>
-        ensures some { IfOk result (λ found. IfSome found (λ t. (s : Taking) × (is_of_page s ≡ true) × (line.now ≡ line_of s)
+        ensures some { IfOk result (λ found. IfSome found (λ t. (s : Taking) × (is_said_by_pages s ≡ true) × (line.now ≡ line_of s)
             × IsTaken s self.old.end self.new.end t)) }
         ensures none { IfOk result (λ found. IfNone found (SaysNoPageStep line.now × Stays self.old.end self.new.end)) }
         ensures err { OnErr result (Stays self.old.end self.new.end) }
@@ -189,7 +189,7 @@ impl Host {
             return Ok(None);
         }
         match read_step_text(self.alloc, line)? {
-            Some(step) if is_of_page(&step) => {
+            Some(step) if is_said_by_pages(&step) => {
                 let line = String::from_str(self.alloc, line)?;
                 Ok(Some(self.take(step, line)?))
             }

@@ -3,14 +3,14 @@ ghost use Rattle.std.specs.Prelude.{◌≡◌, false, IsTrue};
 ghost use Rattle.bidi_lines.specs.Feeds.{has_feed};
 ghost use Rattle.bidi_lines.specs.InputLines.{IsLine};
 ghost use Rattle.bidi_remote.specs.State.View.{step_of};
-ghost use Rattle.bidi_host.specs.PageSteps.{is_of_page};
+ghost use Rattle.bidi_host.specs.PageSteps.{is_said_by_pages};
 
 use bidi_lines::LONGEST_LINE;
 use bidi_remote::Step;
 
 // Whether a page may say this step: it is one of a page, or sets the clock.
-pub(crate) fn is_of_page(step: &Step) -> bool
-    ensures { result ≡ is_of_page (step_of step.now) }
+pub(crate) fn is_said_by_pages(step: &Step) -> bool
+    ensures { result ≡ is_said_by_pages (step_of step.now) }
 {
     match step {
         Step::At(_) | Step::Page(_) => true,

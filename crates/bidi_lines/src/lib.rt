@@ -7,13 +7,11 @@
 
 mod answering;
 mod device;
-mod feeds;
 mod line_reader;
 mod side;
 mod tally;
 
 pub use answering::{AnswerFault, Answerer, LinesFault, answer_lines};
 pub use device::{Device, DeviceFault, Nowhere, Sink, Source, write_all};
-pub use feeds::LONGEST_LINE;
-pub use line_reader::{InputFault, LineReader};
+pub use line_reader::{InputFault, LONGEST_LINE, LineReader};
 pub use side::Side;

@@ -1,5 +1,5 @@
 //! A reader of lines, which holds little more of an input than one line.
-ghost use Rattle.std.specs.Prelude.{◌≡◌, ◌≢◌, ℕ, ◌+◌, ◌≤◌, List, [], ◌∷◌, ◌++◌, false, true, length, take};
+ghost use Rattle.std.specs.Prelude.{◌≡◌, ◌≢◌, ◌==◌, ℕ, ◌+◌, ◌≤◌, List, [], ◌∷◌, ◌++◌, false, true, length, position, take};
 ghost use Rattle.std.specs.Prelude.{drop, vec_len, IfOk, IfSome, IfNone, IfErr, IsTrue, MatchResult};
 ghost use Rattle.std.specs.Io.KnownBytes.{IsAtEnd};
 ghost use Rattle.bidi_lines.specs.Devices.{ReadsOn, TellsEnd};
@@ -8,10 +8,13 @@ ghost use Rattle.bidi_lines.specs.declared.line_reader.InputFault.TheVariants.{B
 ghost use Rattle.bidi_lines.specs.InputLines.{Says, failed_reads, given};
 
 use super::device::Source;
-use super::feeds::{LONGEST_LINE, feed_at};
+use memchr::memchr;
 use std::alloc::Global;
 use std::marker::Model;
 use thiserror::Error;
+
+/// How many bytes a line can have, without its line feed.
+pub const LONGEST_LINE: usize = 2_097_152;
 
 /// Why a line could not be read. The end of the input is no fault.
 #[derive(Clone, Copy, Debug, PartialEq, Eq, Error)]
@@ -201,4 +204,11 @@ fn feed_behind(bytes: &[u8], seen: usize) -> Option<usize>
 {
     let i = feed_at(&bytes[seen..])?;
     Some(seen + i)
+}
+
+// The place of the first line feed, if there is one.
+fn feed_at(bytes: &[u8]) -> Option<usize>
+    ensures { result ≡ position (λ b. b == 10) bytes.now }
+{
+    memchr(b'\n', bytes)
 }

@@ -12,3 +12,4 @@ pub mod SaneLemmas
 pub mod StandLemmas
 pub mod StepLemmas
 pub mod RowStepLemmas
+pub mod LeftLemmas

@@ -21,6 +21,7 @@ use bidi_messages::{CommandData, Method, Payload};
 use bidi_remote::{RemoteEnd, RemoteFault, Step};
 use bidi_tree::JsUint;
 use indexmap::IndexMap;
+use json::Scratch;
 use std::alloc::{AllocError, Global};
 
 /// The links by their numbers, in order of opening, and the remote end.
@@ -45,8 +46,8 @@ impl Ends {
         })
     }
 
-    /// Takes one step.
-    pub(crate) fn take(&mut self, step: PairStep) -> Result<(), RemoteFault>
+    /// Takes one step. A text that is carried down is read in a scratch that the caller keeps from step to step.
+    pub(crate) fn take(&mut self, step: PairStep, scratch: &mut Scratch) -> Result<(), RemoteFault>
         requires { IsWell step }
         ensures ok { IfOk result (λ _. (p : PairInput) × IsHeardAs step p
             × ((past : List Deed) → StandsFor self.old past → IsSane past → CanCount past → Both self.new (with_step past p))) }
@@ -56,7 +57,7 @@ impl Ends {
             PairStep::Open(link, resource) => self.open(link, resource),
             PairStep::Send(link, command) => Ok(self.send(link, command)?),
             PairStep::Up(link) => self.carry_up(link),
-            PairStep::Down(link) => Ok(self.carry_down(link)?),
+            PairStep::Down(link) => Ok(self.carry_down(link, scratch)?),
             PairStep::Cut(link) => self.cut(link),
             PairStep::At(moment) => self.hand(Step::At(moment)),
             PairStep::Page(page) => self.hand(Step::Page(page)),
@@ -141,11 +142,11 @@ impl Ends {
     }
 
     // Carries the oldest text of a link to its local end.
-    fn carry_down(&mut self, number: JsUint) -> Result<(), AllocError>
+    fn carry_down(&mut self, number: JsUint, scratch: &mut Scratch) -> Result<(), AllocError>
         ensures { (past : List Deed) → StandsFor self.old past → IsSane past → OnOk result (Both self.new (with_step past (Down number.value))) }
     {
         match self.links.get_mut(&number.value) {
-            Some(end) => end.take_down(),
+            Some(end) => end.take_down(scratch),
             None => Ok(()),
         }
     }

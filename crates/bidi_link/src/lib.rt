@@ -12,6 +12,6 @@ mod link_end;
 mod links;
 mod pairing;
 
-pub use bidi_ledger::{Account, Entry, Fate, Ledger, PairStep};
+pub use bidi_ledger::{Account, Entry, Fate, Ledger, PageStep, PairStep};
 pub use bidi_socket::{Incoming, Link, LinkFault};
 pub use pairing::pair;

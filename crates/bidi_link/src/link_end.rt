@@ -19,6 +19,7 @@ use bidi_ledger::{Account, Entry, Fate};
 use bidi_local::{LocalEnd, LocalFault, Received};
 use bidi_messages::{CommandData, EventData, Method, Payload};
 use bidi_tree::JsUint;
+use json::Scratch;
 use std::alloc::{AllocError, Global};
 use std::collections::VecDeque;
 
@@ -97,12 +98,12 @@ impl LinkEnd {
     }
 
     /// Hands the local end the oldest text on its way there, if there is one.
-    pub(crate) fn take_down(&mut self) -> Result<(), AllocError>
+    pub(crate) fn take_down(&mut self, scratch: &mut Scratch) -> Result<(), AllocError>
         ensures { (l : ℕ) (v : Link) → Agrees self.old l v → IsSound v → OnOk result (Agrees self.new l (with_down v)) }
     {
         match self.down.pop_front() {
             Some(text) => {
-                let received = self.local.take(text.as_str())?;
+                let received = self.local.take_with(text.as_str(), scratch)?;
                 note(&mut self.commands, &mut self.events, received)
             }
             None => Ok(()),

@@ -1,5 +1,5 @@
 //! Both ends over a list of steps.
-ghost use Rattle.std.specs.Prelude.{◌≡◌, ◌≤◌, ℕ, List, [], take, length, IfOk, IsErrOf};
+ghost use Rattle.std.specs.Prelude.{◌≡◌, ◌≤◌, ℕ, List, [], ◌∷◌, ◌++◌, take, length, IfOk, IfSome, IfNone, IsErrOf};
 ghost use Rattle.bidi_ledger.specs.Ledger.{PairInput, past_after, ledger};
 ghost use Rattle.bidi_ledger.specs.Link.{link};
 ghost use Rattle.bidi_link.specs.Outcomes.{AreOutcomes};
@@ -10,11 +10,16 @@ ghost use Rattle.bidi_ledger.specs.Steps.{AreHeardAs, AreWell, LedgerIsWell, acc
 use crate::ends::Ends;
 use bidi_ledger::{Ledger, PairStep};
 use bidi_remote::RemoteFault;
-use std::alloc::Global;
+use json::Scratch;
+use std::alloc::{AllocError, Global};
+
+/// How many steps that were taken may keep their room.
+const MOST_SPARE: usize = 4096;
 
 /// Plays steps of both ends: several local ends, each over a link of its own, and one remote end.
 ///
-/// A text is made once and moved from end to end. Links and commands are found in constant time.
+/// A text is made once and moved from end to end. Links and commands are found in constant time. A step's room is
+/// given back soon after it was taken, so memory holds the steps that are left beside the ledger so far.
 ///
 /// # Errors
 /// The steps are used up, and there is no ledger.
@@ -34,9 +39,29 @@ pub fn pair(alloc: Global, steps: Vec<PairStep>) -> Result<Ledger, RemoteFault>
         × (1000000000 ≤ length (history (past_after [] inputs))) }
 {
     let mut ends = Ends::new(alloc)?;
-    for step in steps {
-        ends.take(step)?;
+    let mut scratch = new_scratch(alloc)?;
+    let mut left = steps;
+    left.reverse();
+    while let Some(step) = next_step(&mut left) {
+        ends.take(step, scratch.as_mut())?;
     }
     let ledger = ends.into_ledger()?;
     Ok(ledger)
+}
+
+// A scratch for all local ends. Its 16 KB stand in a block of their own, and not on the stack below all steps.
+fn new_scratch(alloc: Global) -> Result<Box<Scratch>, AllocError> {
+    let scratch = Box::new(alloc, Scratch::new(alloc))?;
+    Ok(scratch)
+}
+
+// Removes and returns the last step, after it has given back the room of those that were removed before, where that is much.
+fn next_step(left: &mut Vec<PairStep>) -> Option<PairStep>
+    ensures some { IfSome result (λ x. left.old.items ≡ left.new.items ++ x ∷ []) }
+    ensures none { IfNone result (left.old.items ≡ []) }
+{
+    if left.capacity() - left.len() > MOST_SPARE {
+        left.shrink_to_fit();
+    }
+    left.pop()
 }

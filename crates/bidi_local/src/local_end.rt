@@ -11,10 +11,11 @@ use crate::pending::ids_of;
 use crate::received::Received;
 use crate::receiving::receive;
 use crate::writing::written;
-use bidi_messages::{CommandData, MessageFault, Method, Payload, read_message};
+use bidi_messages::{CommandData, MessageFault, Method, Payload, read_message_with};
 use bidi_shape::MAX_BYTES;
 use bidi_tree::JsUint;
 use indexmap::IndexMap;
+use json::Scratch;
 use std::alloc::{AllocError, Global};
 use thiserror::Error;
 
@@ -138,8 +139,8 @@ impl LocalEnd {
     /// An answer, a bad result and a refusal settle the command whose id they give: it waits no longer. The
     /// other cases change nothing.
     ///
-    /// Costs the reading of the text, and one copy of an answer's result. The command is found by its id in
-    /// constant time; to settle it moves the waiting commands that were sent after it, at most 1,023.
+    /// Costs the reading of the text in a fresh scratch, and one copy of an answer's result. The command is found
+    /// by its id in constant time; to settle it moves the waiting commands that were sent after it, at most 1,023.
     ///
     /// # Errors
     /// No memory: an allocation failed. Nothing has changed, and the same text may be taken again.
@@ -152,7 +153,27 @@ impl LocalEnd {
         ensures well { IfOk result IsWell }
         ensures err { OnErr result (Stands self.new (sent_by self.old) (waiting_in self.old)) }
     {
-        match read_message(self.alloc, text) {
+        let mut scratch = Scratch::new(self.alloc);
+        self.take_with(text, &mut scratch)
+    }
+
+    /// Takes a text of the remote end as [`take`](LocalEnd::take) does, in a scratch that the caller keeps from
+    /// text to text. One serves all local ends.
+    ///
+    /// # Errors
+    /// As [`take`](LocalEnd::take).
+    pub fn take_with<'a>(
+        &mut self,
+        text: &'a str,
+        scratch: &'a mut Scratch,
+    ) -> Result<Received, AllocError>
+        ensures means { IfOk result (λ r. Means (waiting_in self.old) text.now (meaning_of r)) }
+        ensures no_other { (m : Meaning) → Means (waiting_in self.old) text.now m → IfOk result (λ r. m ≡ meaning_of r) }
+        ensures settles { IfOk result (λ r. Stands self.new (sent_by self.old) (settled (waiting_in self.old) (meaning_of r))) }
+        ensures well { IfOk result IsWell }
+        ensures err { OnErr result (Stands self.new (sent_by self.old) (waiting_in self.old)) }
+    {
+        match read_message_with(self.alloc, text, scratch) {
             Ok(message) => receive(self.alloc, &mut self.pending, message),
             Err(MessageFault::NotJson) => Ok(Received::NotJson),
             Err(MessageFault::NoFit) => Ok(Received::NotInProfile),

@@ -1,7 +1,6 @@
 //! Pair lines: reading one as a step of both ends.
 ghost use Rattle.std.specs.Prelude.{◌≡◌, ℕ, List, ◌∷◌, ◌++◌, Some, None, codes, IfOk, IfSome, IfNone};
 ghost use Rattle.bidi_tree.specs.Text.{tree_of_text};
-ghost use Rattle.bidi_tree.specs.View.{node};
 ghost use Rattle.bidi_methods.specs.Method.{method_text};
 ghost use Rattle.bidi_methods.specs.declared.command_data.CommandData.{CommandData};
 ghost use Rattle.bidi_methods.specs.declared.method.Method.{Method};
@@ -12,29 +11,39 @@ ghost use Rattle.bidi_ledger.specs.declared.pair_step.PairStep.TheVariants.{Send
 ghost use Rattle.bidi_pair.specs.PairLines.{IsOfPlayAlone, IsPairLine, IsPlayLine, Says, SaysNoStep, sending_line};
 
 use bidi_ledger::PairStep;
-use bidi_messages::{Method, Named, data_of};
+use bidi_messages::{CommandData, Method, Named, Payload};
 use bidi_play::{is_same_text, read_number, read_step_text, split_at_space};
 use bidi_remote::Step;
-use bidi_shape::ShapeFault;
-use bidi_tree::{JsUint, ReadFault, Tree, read};
+use bidi_shape::{Parsed, ShapeFault};
+use bidi_tree::{JsUint, ReadFault, parse};
+use json::Scratch;
 use std::alloc::{AllocError, Global};
 
-/// Reads a line as a step of both ends; `None` where it is no pair line.
+/// Reads a line as a step of both ends; `None` where it is no pair line. The params of a command are read in a scratch
+/// that the caller keeps from line to line.
 ///
 /// # Errors
 /// No memory: an allocation failed.
-pub fn read_pair_step(alloc: Global, line: &[u8]) -> Result<Option<PairStep>, AllocError>
+pub fn read_pair_step(
+    alloc: Global,
+    line: &[u8],
+    scratch: &mut Scratch,
+) -> Result<Option<PairStep>, AllocError>
     ensures some { IfOk result (λ found. IfSome found (IsPairLine line.now)) }
     ensures none { IfOk result (λ found. IfNone found (SaysNoStep line.now)) }
 {
     match std::str::from_utf8(line) {
         Err(_) => Ok(None),
-        Ok(text) => read_pair_words(alloc, text),
+        Ok(text) => read_pair_words(alloc, text, scratch),
     }
 }
 
 // Reads a text as a step of both ends. A step of a page, an opening and a moment have the lines of a play.
-fn read_pair_words(alloc: Global, line: &str) -> Result<Option<PairStep>, AllocError>
+fn read_pair_words(
+    alloc: Global,
+    line: &str,
+    scratch: &mut Scratch,
+) -> Result<Option<PairStep>, AllocError>
     ensures some { IfOk result (λ found. IfSome found (λ x. Says line.now x × IsWell x)) }
     ensures none { IfOk result (λ found. IfNone found ((x : PairStep) → IsWell x → Says line.now x → ⊥)) }
 {
@@ -42,7 +51,7 @@ fn read_pair_words(alloc: Global, line: &str) -> Result<Option<PairStep>, AllocE
         return Ok(None);
     };
     if is_same_text(word, "send") {
-        read_sending(alloc, rest)
+        read_sending(alloc, rest, scratch)
     } else if is_same_text(word, "up") {
         Ok(read_number(rest).map(PairStep::Up))
     } else if is_same_text(word, "down") {
@@ -71,7 +80,11 @@ fn pair_step(step: Step) -> Option<PairStep>
 }
 
 // Reads a link, the method behind the first space, and the params behind the next.
-fn read_sending(alloc: Global, rest: &str) -> Result<Option<PairStep>, AllocError>
+fn read_sending(
+    alloc: Global,
+    rest: &str,
+    scratch: &mut Scratch,
+) -> Result<Option<PairStep>, AllocError>
     ensures some { IfOk result (λ found. IfSome found (λ x. Says (codes "send " ++ rest.now) x × IsWell x)) }
     ensures none { IfOk result (λ found. IfNone found ((l : JsUint) (d : CommandData) → IsWell (Send l d) → Says (codes "send " ++ rest.now) (Send l d) → ⊥)) }
 {
@@ -83,7 +96,7 @@ fn read_sending(alloc: Global, rest: &str) -> Result<Option<PairStep>, AllocErro
     };
     match read_number(number) {
         None => Ok(None),
-        Some(link) => read_command(alloc, link, method, params),
+        Some(link) => read_command(alloc, link, method, params, scratch),
     }
 }
 
@@ -103,32 +116,33 @@ fn read_command(
     link: JsUint,
     method: Method,
     params: &str,
+    scratch: &mut Scratch,
 ) -> Result<Option<PairStep>, AllocError>
     ensures some { IfOk result (λ found. IfSome found (λ x. Says (sending_line link.value (method_text method) params.now) x × IsWell x)) }
     ensures none { IfOk result (λ found. IfNone found
         ((d : CommandData) → IsWell (Send link d) → Says (sending_line link.value (method_text method) params.now) (Send link d) → ⊥)) }
 {
-    match read(alloc, params, None) {
-        Ok(tree) => sending(alloc, link, method, &tree),
+    match parse(alloc, params, None, scratch) {
+        Ok(value) => sending(alloc, link, method, &value),
         Err(ReadFault::NotJson) => Ok(None),
         Err(ReadFault::TooLong) => Ok(None),
         Err(ReadFault::NoMemory) => Err(AllocError),
     }
 }
 
-// The same, by the tree of the params.
-fn sending(
+// The same, by what the params were read as.
+fn sending<S: Parsed>(
     alloc: Global,
     link: JsUint,
     method: Method,
-    params: &Tree,
+    params: &S,
 ) -> Result<Option<PairStep>, AllocError>
-    ensures some { (text : List ℕ) → tree_of_text None text ≡ Some (node params.now)
+    ensures some { (text : List ℕ) → tree_of_text None text ≡ Some (S.tree params.now)
         → IfOk result (λ found. IfSome found (λ x. Says (sending_line link.value (method_text method) text) x × IsWell x)) }
-    ensures none { (text : List ℕ) → tree_of_text None text ≡ Some (node params.now)
+    ensures none { (text : List ℕ) → tree_of_text None text ≡ Some (S.tree params.now)
         → IfOk result (λ found. IfNone found ((d : CommandData) → IsWell (Send link d) → Says (sending_line link.value (method_text method) text) (Send link d) → ⊥)) }
 {
-    match data_of(alloc, method, params) {
+    match CommandData::read(alloc, method, params) {
         Ok(data) => Ok(Some(PairStep::Send(link, data))),
         Err(ShapeFault::NoFit) => Ok(None),
         Err(ShapeFault::NoMemory) => Err(AllocError),

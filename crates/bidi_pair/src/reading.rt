@@ -10,6 +10,7 @@ use super::pair_lines::read_pair_step;
 use bidi_ledger::PairStep;
 use bidi_lines::{AnswerFault, Answerer, DeviceFault, LinesFault, Nowhere, Source, answer_lines};
 use bidi_remote::RemoteFault;
+use json::Scratch;
 use std::alloc::{AllocError, Global};
 use thiserror::Error;
 
@@ -98,17 +99,29 @@ pub fn read_steps<R: Source>(alloc: Global, source: &mut R) -> Result<Vec<PairSt
         (λ fault. R.failures source.new ≡ R.failures source.old + failed_reads fault) }
     ensures no_write { IfErr result (λ fault. failed_writes fault ≡ 0) }
 {
-    let mut reader = StepReader {
-        steps: Vec::new(alloc),
-    };
+    let mut reader = StepReader::new(alloc)?;
     answer_lines(alloc, &mut reader, MOST_LINES, source, &mut Nowhere)?;
     Ok(reader.steps)
 }
 
-// What reads lines as steps, and holds these.
+// What reads lines as steps, and holds these, with the scratch that the lines are read in.
 #[derive(Drop)]
 struct StepReader {
     steps: Vec<PairStep>,
+    scratch: Box<Scratch>,
+}
+
+impl StepReader {
+    // One that has read nothing.
+    fn new(alloc: Global) -> Result<StepReader, AllocError>
+        ensures { IfOk result (λ reader. reader.steps.items ≡ []) }
+    {
+        let scratch = Box::new(alloc, Scratch::new(alloc))?;
+        Ok(StepReader {
+            steps: Vec::new(alloc),
+            scratch,
+        })
+    }
 }
 
 impl Answerer for StepReader {
@@ -121,7 +134,7 @@ impl Answerer for StepReader {
         _number: u64,
         line: &[u8],
     ) -> Result<Option<Vec<u8>>, AnswerFault> {
-        let Some(step) = read_pair_step(alloc, line)? else {
+        let Some(step) = read_pair_step(alloc, line, self.scratch.as_mut())? else {
             return Ok(None);
         };
         add_step(&mut self.steps, step)?;

@@ -1,8 +1,8 @@
 -- The index of subscriptions by event follows the rows of the table, and answers as they do.
 use Rattle.std.proofs.Common.{◌≡◌, ◌∙◌, ◌<◌, ◌≤◌, ℕ, suc, Bool, true, false, not, ◌&&◌, ◌||◌, List, [], ◌∷◌, ◌++◌}
-use Rattle.std.proofs.Common.{◌+◌, length, map, get_or, set, take, subst, nat_lt, append-nil, Result, Ok, Err, is_ok, refl, sym, ap, ap₂, arith}
-use Rattle.std.specs.Prelude.{◌==◌, filter, flat_map}
-use Rattle.std.specs.List.{list_any, list_all, insert}
+use Rattle.std.proofs.Common.{◌+◌, length, map, get_or, set, subst, nat_lt, append-nil, Result, Ok, Err, is_ok, refl, sym, ap, ap₂, arith}
+use Rattle.std.specs.Prelude.{◌==◌, filter, flat_map, vec_len, vec_capacity}
+use Rattle.std.specs.List.{list_any, list_all}
 use Rattle.std.specs.List.Sorted.{IsNonDecreasingBy, IsSearchInRange, IsBinarySearchResult}
 use Rattle.std.specs.Ordering.{nat_cmp, ordering_index}
 use Rattle.std.proofs.lemmas.Bool.Decides.{nat_tests}
@@ -10,8 +10,8 @@ use Rattle.std.proofs.lemmas.Cmp.{ranked}
 use Rattle.std.proofs.lemmas.List.{map-append, map-set, length-map, length-set, get_or-set_same, get_or-set_other}
 use Rattle.std.proofs.Math.Seq.{map-set_same}
 use Rattle.std.proofs.lemmas.List.Elements.{filter-append}
-use Rattle.std.proofs.lemmas.List.Folds.{list_any-append, list_any_at, list_any_more}
-use Rattle.std.proofs.lemmas.List.Sorted.{IsNonDecreasingBy-insert, IsPermutation-insert, list_any-IsPermutation}
+use Rattle.std.proofs.lemmas.List.Folds.{list_any-append, list_any_at}
+use Rattle.std.proofs.lemmas.List.Sorted.{IsPermutation-map, length_permutation, list_any-IsPermutation}
 use Rattle.std.proofs.lemmas.Grind.{flat_map-append}
 use Rattle.std.proofs.Math.ListN.{get_or-map}
 use Rattle.std.proofs.Math.Bool.{and-true, and-false}
@@ -24,8 +24,8 @@ use Rattle.bidi_remote.specs.Machine.History.{Scope, All, Below}
 use Rattle.bidi_remote.specs.Machine.Subscriptions.{is_global, is_listed}
 use Rattle.bidi_remote.specs.State.SubscriptionRows.{SubscriptionRow, row_covers, any_covers, row_holds, any_global, without, loses_all, stripped, dismissed}
 use Rattle.bidi_remote.specs.State.IndexRows.{Pair, pairs_at, pairs_for, global_numbers, scoped_pairs, IndexRow, index_row, index}
-use Rattle.bidi_remote.specs.State.IndexRows.{is_held, hears, global_of, with_row, without_numbers, without_global}
-use Rattle.bidi_remote.specs.State.IndexView.{index_row_of}
+use Rattle.bidi_remote.specs.State.IndexRows.{tops_of, AreInOrder, is_held, hears, global_of, with_row, without_numbers, without_global}
+use Rattle.bidi_remote.specs.State.IndexView.{index_row_of, HasRoomFor}
 use Rattle.bidi_remote.specs.declared.event_index.EventIndex.{EventIndex}
 use Rattle.bidi_remote.proofs.BeginLemmas.{over, over-all, over-next}
 use Rattle.bidi_remote.proofs.ListLemmas.{any-map, filter-none, map-twice}
@@ -46,22 +46,6 @@ module _ (pairs : List Pair) (up : IsNonDecreasingBy (λ p. p.0) pairs) (top : �
   -- the comparisons with a context do not fall
   rise : IsNonDecreasingBy (λ p. ordering_index (nat_cmp p.0 top)) pairs
   rise i j d le within = let a = up i j d le within in grind (arith, nat_tests, a)
-
-  -- a pair of this context may stand where one was found
-  pub at-found : (n i : ℕ) → IsSearchInRange (Ok i) (length pairs) → IsBinarySearchResult (λ p. nat_cmp p.0 top) pairs (Ok i)
-      → IsNonDecreasingBy (λ p. p.0) (insert pairs i (top, n))
-  at-found n i within at =
-      IsNonDecreasingBy-insert (λ p. p.0) pairs i (top, n) up (omega (arith, within))
-      (λ k d lower. let here = ranked _ top _ (sym (at d)) in let a = up k i d (omega arith) within in omega (arith, here, a))
-      (λ k d higher inside. let here = ranked _ top _ (sym (at d)) in let a = up i k d higher inside in omega (arith, here, a))
-
-  -- or where one would stand
-  pub at-gap : (n i : ℕ) → IsSearchInRange (Err i) (length pairs) → IsBinarySearchResult (λ p. nat_cmp p.0 top) pairs (Err i)
-      → IsNonDecreasingBy (λ p. p.0) (insert pairs i (top, n))
-  at-gap n i within parted =
-      IsNonDecreasingBy-insert (λ p. p.0) pairs i (top, n) up within
-      (λ k d lower. let a = ranked _ top _ (sym ((parted rise).0 k d (omega arith) lower)) in omega (arith, a))
-      (λ k d higher inside. let a = ranked _ top _ (sym ((parted rise).1 k d higher inside)) in omega (arith, a))
 
   -- a search tells whether there is one
   pub found-any : (r : Result ℕ ℕ) → IsSearchInRange r (length pairs) → IsBinarySearchResult (λ p. nat_cmp p.0 top) pairs r
@@ -153,8 +137,7 @@ pairs-kept q t n (top ∷ tops) = let ih = pairs-kept q t n tops in grind (arith
 
 pairs_for-kept : (q : ℕ → Bool) (t : Pair → Bool) (n : ℕ) (scope : Scope)
     → list_any (λ p. q p.1 && t p) (pairs_for n scope) ≡ (q n && list_any t (pairs_for n scope))
-pairs_for-kept q t n All = pairs-kept q t n []
-pairs_for-kept q t n (Below tops) = pairs-kept q t n tops
+pairs_for-kept q t n scope = pairs-kept q t n (tops_of scope)
 
 global_numbers-without : (e : EventName) (q : ℕ → Bool) (rows : List SubscriptionRow)
     → global_numbers e (filter (λ r. q r.number) rows) ≡ filter q (global_numbers e rows)
@@ -359,27 +342,29 @@ pub row-cancelled : (ns : List ℕ) (e : EventName) (numbers left : List ℕ) (p
 row-cancelled ns e numbers left pairs stay is kept =
     λ i. record { event = e; global = is i; any_scoped = λ t. (ap (list_any t) kept ∙ any-filter (λ p. not (is_listed ns p.1)) t pairs) i }
 
--- one pair more
-pub any-put : (t : Pair → Bool) (pairs more : List Pair) (i : ℕ) (p : Pair) → more ≡ insert pairs i p → list_any t more ≡ (list_any t pairs || t p)
-any-put t pairs more i p is =
-    ap (list_any t) is ∙ (sym (list_any-IsPermutation t (p ∷ pairs) (insert pairs i p) (IsPermutation-insert pairs i p)) ∙ either (t p) (list_any t pairs))
-  where
-    either : (a b : Bool) → (a || b) ≡ (b || a)
-    either a b = grind arith
+-- the pairs of some contexts in order are those of the scope that names them
+any-ordered : (t : Pair → Bool) (n : ℕ) (scope : Scope) (tops : List ℕ) → AreInOrder scope tops → list_any t (pairs_at n tops) ≡ list_any t (pairs_for n scope)
+any-ordered t n scope tops so =
+    sym (list_any-IsPermutation t (pairs_for n scope) (pairs_at n tops) (IsPermutation-map (λ top. (top, n)) (tops_of scope) tops so.moved))
 
--- the pairs of one context more
-pub any-put-next : (t : Pair → Bool) (before now after : Bool) (n : ℕ) (tops : List ℕ) (i : ℕ) → i < length tops
-    → now ≡ (before || list_any t (pairs_at n (take i tops))) → after ≡ (now || t (get_or tops i 0, n))
-    → after ≡ (before || list_any t (pairs_at n (take (i + 1) tops)))
-any-put-next t before now after n tops i less is one =
-    let test = λ (c : ℕ). t (c, n) in
-    let some = λ (cs : List ℕ). any-map (λ c. (c, n)) t cs in
-    one ∙ (ap (λ b. b || test (get_or tops i 0)) (is ∙ ap (λ b. before || b) (some (take i tops)))
-    ∙ (either before (list_any test (take i tops)) (test (get_or tops i 0))
-    ∙ ap (λ b. before || b) (sym (list_any_more test tops i 0 less) ∙ sym (some (take (i + 1) tops)))))
-  where
-    either : (a b c : Bool) → ((a || b) || c) ≡ (a || (b || c))
-    either a b c = grind arith
+-- where there is room for a scope, there is for its contexts in order
+pub room-scoped : (es : List EventName) (scope : Scope) (x : EventIndex) (ts tops : List ℕ) → scope ≡ Below ts → AreInOrder scope tops
+    → is_among es x.event ≡ true → HasRoomFor es scope x → vec_len x.scoped + length tops ≤ vec_capacity x.scoped
+room-scoped es scope x ts tops is so has room =
+    let free = subst (λ (s : Scope). HasRoomFor es s x) is room has in
+    let named = ap (λ (s : Scope). length (tops_of s)) is in
+    let long = length_permutation (tops_of scope) tops so.moved in
+    omega (arith, free, named, long)
+
+-- its row has a scoped subscription more
+pub row-scoped : (r : SubscriptionRow) (e : EventName) (global : List ℕ) (was now : List Pair) (tops : List ℕ)
+    → is_among r.events e ≡ true → is_global r.scope ≡ false → AreInOrder r.scope tops
+    → ((t : Pair → Bool) → list_any t now ≡ (list_any t was || list_any t (pairs_at r.number tops)))
+    → (let new : IndexRow = record { event = e; global = global; any_scoped = λ t. list_any t now } in
+    new ≡ with_row r (record { event = e; global = global; any_scoped = λ t. list_any t was }))
+row-scoped r e global was now tops has scoped so added =
+    let pairs = λ (t : Pair → Bool). added t ∙ ap (λ b. list_any t was || b) (any-ordered t r.number r.scope tops so) in
+    rw (has, scoped) (λ i. record { event = e; global = sym (append-nil global) i; any_scoped = λ t. pairs t i })
 
 -- ---- a loop over the eight
 

@@ -10,6 +10,7 @@ pub mod SessionLemmas
 pub mod PlaceLemmas
 pub mod SubscriptionLemmas
 pub mod IndexLemmas
+pub mod MergeLemmas
 pub mod LogLemmas
 pub mod SpeakingLemmas
 pub mod RowLemmas

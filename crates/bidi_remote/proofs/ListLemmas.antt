@@ -1,9 +1,10 @@
 -- Lists that are looked at through a function.
-use Rattle.std.proofs.Common.{◌≡◌, ◌<◌, ◌≤◌, ◌+◌, ℕ, suc, Bool, true, false, cond, Option, Some, None, ◌&&◌, ◌||◌, length, get_or}
+use Rattle.std.proofs.Common.{◌≡◌, ◌∙◌, ◌<◌, ◌≤◌, ◌+◌, ℕ, suc, Bool, true, false, cond, Option, Some, None, ◌&&◌, ◌||◌, length, get_or}
 use Rattle.std.proofs.Common.{drop, drop-cons, add-one, option_map, unwrap_or, List, [], ◌∷◌, ◌++◌, map, refl, sym, ap, ap₂, arith}
-use Rattle.std.specs.Prelude.{filter, find, flat_map, nat_lt}
-use Rattle.std.specs.List.{AllByRecursion, list_any, list_all, position, position_or_len}
-use Rattle.std.proofs.lemmas.Bool.Decides.{nat_tests}
+use Rattle.std.specs.Prelude.{◌==◌, if◌then◌else◌, filter, find, flat_map, nat_lt}
+use Rattle.std.specs.List.{AllByRecursion, list_any, list_all, dedup, dedup_from, position, position_or_len}
+use Rattle.std.proofs.Math.Dec.{eqb}
+use Rattle.std.proofs.lemmas.Bool.Decides.{nat_tests, Decides-eqb}
 
 -- a test of what is seen
 pub map-filter : {X Y : Type 0} (g : X → Y) (p : Y → Bool) (xs : List X) → map g (filter (λ x. p (g x)) xs) ≡ filter p (map g xs)
@@ -19,6 +20,25 @@ filter-none p (x ∷ xs) fails = rw (fails x) (filter-none p xs fails)
 pub any-map : {X Y : Type 0} (g : X → Y) (p : Y → Bool) (xs : List X) → list_any p (map g xs) ≡ list_any (λ x. p (g x)) xs
 any-map g p [] = refl
 any-map g p (x ∷ xs) = ap (λ b. p (g x) || b) (any-map g p xs)
+
+-- some number passes among those that are left once each
+either-first : (a b c : Bool) → (b ≡ true → a ≡ true) → (a || c) ≡ (a || (b || c))
+either-first true b c same = refl
+either-first false true c same = absurd (let wrong = same refl in cc)
+either-first false false c same = refl
+
+any-dedup_from : (p : ℕ → Bool) (k : ℕ) (ns : List ℕ) → list_any p (dedup_from eqb k ns) ≡ (p k || list_any p ns)
+any-dedup_from p k [] = refl
+any-dedup_from p k (n ∷ ns) = by (n == k) refl (any-dedup_from p k ns) (any-dedup_from p n ns)
+  where
+    by : (b : Bool) → (n == k) ≡ b → list_any p (dedup_from eqb k ns) ≡ (p k || list_any p ns) → list_any p (dedup_from eqb n ns) ≡ (p n || list_any p ns)
+        → list_any p (if b then dedup_from eqb k ns else k ∷ dedup_from eqb n ns) ≡ (p k || (p n || list_any p ns))
+    by true e kept first = kept ∙ either-first (p k) (p n) (list_any p ns) (λ t. sym (ap p ((Decides-eqb n k).0 e)) ∙ t)
+    by false e kept first = ap (λ b. p k || b) first
+
+pub any-dedup : (p : ℕ → Bool) (ns : List ℕ) → list_any p (dedup eqb ns) ≡ list_any p ns
+any-dedup p [] = refl
+any-dedup p (n ∷ ns) = any-dedup_from p n ns
 
 -- tests that agree
 pub all-same : {X : Type 0} (p q : X → Bool) (xs : List X) → ((x : X) → p x ≡ q x) → list_all p xs ≡ list_all q xs

@@ -1,17 +1,15 @@
 -- Why a command that does something gets one reply, with a result of its method.
-use Rattle.std.proofs.Common.{◌≡◌, ◌∙◌, ℕ, true, false, true≢false, unwrap_or, List, ◌∷◌, ◌++◌, map, Option, Some, None}
-use Rattle.std.proofs.Common.{Result, Ok, Err, IfOk, Vec, String, Global, string_bytes, refl, sym, ap, subst}
+use Rattle.std.proofs.Common.{◌≡◌, ◌∙◌, ℕ, false, true≢false, unwrap_or, List, ◌++◌, map, Option, Some, None}
+use Rattle.std.proofs.Common.{Result, Ok, Err, IfOk, Vec, Global, sym, ap, subst}
 use Rattle.std.specs.Prelude.{IfSome, OnOk, option_map, is_some}
 use Rattle.std.specs.Option.{option_zip}
 use Rattle.bidi_tree.specs.Node.{Node}
-use Rattle.bidi_tree.specs.Text.{tree_of}
 use Rattle.bidi_shape.specs.Term.{rule}
 use Rattle.bidi_shape.specs.Fits.{Fits}
 use Rattle.bidi_methods.specs.declared.method.Method.{Method}
 use Rattle.bidi_methods.specs.declared.result_data.ResultData.{ResultData}
 use Rattle.bidi_methods.specs.contracts.result_data.ResultDataPayloadMethod.TheImpl as results
 use Rattle.bidi_messages.specs.Command.{method_in}
-use Rattle.bidi_messages.specs.Message.{response_text, response_tree}
 use Rattle.bidi_methods.specs.Method.{method_text, result_of, method_words}
 use Rattle.bidi_messages.specs.Verdict.{Verdict, Accepted, Refused}
 use Rattle.bidi_params.specs.declared.error_code.ErrorCode.{ErrorCode}
@@ -23,28 +21,22 @@ use Rattle.bidi_browser.specs.View.{seen, result_tree}
 use Rattle.bidi_remote.specs.declared.step.Sent as declared_sent
 use Rattle.bidi_remote.specs.declared.turn.Asker.{Asker}
 use Rattle.bidi_remote.specs.declared.turn.Reply.{Reply}
-use Rattle.bidi_remote.specs.declared.turn.Telling.{Telling}
 use Rattle.bidi_remote.specs.declared.turn.Turn.{Turn}
 use Rattle.bidi_handles.specs.declared.refusal.Refusal as browser
 use Rattle.bidi_remote.specs.Machine.Commands.{Command, command_of, id_of_command}
 use Rattle.bidi_remote.specs.Machine.Connections.{Attachment, SpeaksFor, is_shut, attachment_of}
-use Rattle.bidi_remote.specs.Machine.History.{Input, Heard, OfPage, Deed}
-use Rattle.bidi_remote.specs.Machine.Outcome.{NotTaken, Error, deeds, turn, replied, outcome}
+use Rattle.bidi_remote.specs.Machine.History.{Input, Heard, Deed}
+use Rattle.bidi_remote.specs.Machine.Outcome.{NotTaken, deeds, turn, replied, outcome}
 use Rattle.bidi_remote.specs.Machine.Replies.{ReadsAs, HasOneReply, IsAnsweredOnce}
 use Rattle.bidi_remote.specs.Machine.Sent.{action_in, items}
 use Rattle.bidi_remote.specs.State.Asked.{Asks}
-use Rattle.bidi_remote.specs.State.Turns.{Decides, IsWellTold, HasResultOf, deed_of, asker_in, reply_in, items_in}
+use Rattle.bidi_remote.specs.State.Turns.{Decides, IsWellTold, HasResultOf, deed_of, asker_in, reply_in}
 use Rattle.bidi_remote.proofs.TurnLemmas.{heard-open, asked-is}
 
 -- ---- the method of a result
 
 abbrev kind : ResultData → Method
 kind r = results.ghosts.payload.kind r
-
--- a turn of which only a reply tells
-pub replied-of : (method : Method) (turn : Turn) (to : Asker) (r : ResultData)
-    → turn.telling.reply ≡ Some (record { to = to; outcome = r }) → kind r ≡ method → HasResultOf method (Ok turn)
-replied-of method turn to r is same = subst (λ o. IfSome o (λ x. kind x.outcome ≡ method)) (sym is) same
 
 -- one that the browser planned
 pub planned-of : (method : Method) (turn : Turn) (asker : Asker) (o : Option ResultData)
@@ -62,20 +54,6 @@ decides-as r past asker c s asked d is decides = subst (λ x. Decides r past ask
 pub asked-of : {D : Type 0} (method : D → Method) (asked d : D) (r : Result Turn browser.Refusal)
     → asked ≡ d → HasResultOf (method d) r → HasResultOf (method asked) r
 asked-of method asked d r is has = subst (λ a. HasResultOf (method a) r) (sym is) has
-
--- ---- the text of a result
-
--- what was written reads back
-pub reads-as : {E : Type 0} (q : Result (String Global) E) (id : ℕ) (result : Node) → IfOk q (λ s. string_bytes s ≡ response_text id result)
-    → IfOk q (λ s. tree_of (string_bytes s) ≡ Some (response_tree id result)) → OnOk q (ReadsAs id result)
-reads-as (Ok s) id result text tree = subst (λ t. tree_of t ≡ Some (response_tree id result)) text tree
-reads-as (Err e) id result text tree = tt
-
--- of a reply, if there is one
-pub when-sent : {S E : Type 0} (o : Option Reply) (q : Result S E) (P : Reply → Type 0) → IfSome o P → IfSome o (λ r. OnOk q (P r))
-when-sent None q P is = tt
-when-sent (Some r) (Ok x) P is = is
-when-sent (Some r) (Err e) P is = tt
 
 -- what holds anyway holds after an Ok
 on-ok : {S E : Type 0} (q : Result S E) {P : Type 0} → P → OnOk q P

@@ -1,6 +1,6 @@
 -- One row of the table of sessions that changes.
-use Rattle.std.proofs.Common.{◌≡◌, ◌∙◌, ◌<◌, ◌≤◌, ℕ, zero, suc, Bool, true, false, cond, not, List, [], ◌∷◌, length, map, set}
-use Rattle.std.proofs.Common.{get_or, Option, Some, None, option_map, unwrap_or, refl, sym, ap, ap₂, subst, arith}
+use Rattle.std.proofs.Common.{◌≡◌, ◌∙◌, ◌<◌, ◌≤◌, ℕ, zero, suc, Bool, true, false, not, List, [], ◌∷◌, length, map, set}
+use Rattle.std.proofs.Common.{get_or, Option, Some, None, option_map, unwrap_or, refl, sym, ap, arith}
 use Rattle.std.specs.Prelude.{◌==◌, filter, find}
 use Rattle.std.specs.List.{position}
 use Rattle.std.proofs.lemmas.List.Quantifiers.{position-Some}
@@ -126,19 +126,6 @@ one-row past s =
     let active = fewer (is_active past) (λ k. k == s) (up_to (sessions_made past)) in
     let all = once (sessions_made past) s in
     omega (arith, rows, active, all)
-
--- ---- rows of a past
-
-row_same : (past : List Deed) (s n : ℕ) (f g : SessionRow → SessionRow) (b : Bool) → (n == s) ≡ b → f (session_row past s) ≡ g (session_row past s)
-    → cond b (f (session_row past n)) (session_row past n) ≡ cond b (g (session_row past n)) (session_row past n)
-row_same past s n f g true e same = let is : n ≡ s = grind (arith, nat_tests, e) in subst (λ k. f (session_row past k) ≡ g (session_row past k)) (sym is) same
-row_same past s n f g false e same = refl
-
--- changes that agree on the row of that session
-pub updated-same : (past : List Deed) (s : ℕ) (f g : SessionRow → SessionRow) (ns : List ℕ) → f (session_row past s) ≡ g (session_row past s)
-    → updated s f (map (session_row past) ns) ≡ updated s g (map (session_row past) ns)
-updated-same past s f g [] same = refl
-updated-same past s f g (n ∷ ns) same = ap₂ (λ r rows. r ∷ rows) (row_same past s n f g (n == s) refl same) (updated-same past s f g ns same)
 
 -- ---- events that are taken from a row
 

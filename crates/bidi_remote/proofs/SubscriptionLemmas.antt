@@ -25,7 +25,7 @@ use Rattle.bidi_remote.specs.Machine.Subscriptions.{is_global, is_kept, is_live,
 use Rattle.bidi_remote.specs.Machine.Subscriptions.{is_newly_enabled}
 use Rattle.bidi_remote.specs.State.SubscriptionRows.{SubscriptionRow, row_at, events_left, subscription_rows, SessionRow}
 use Rattle.bidi_remote.specs.State.SubscriptionRows.{session_row, session_rows, any_covers, any_global, row_covers, without}
-use Rattle.bidi_remote.specs.State.SubscriptionRows.{loses_all, stripped, dismissed, begun, subscribed, updated, is_new}
+use Rattle.bidi_remote.specs.State.SubscriptionRows.{loses_all, stripped, dismissed, begun, subscribed, cancelled, updated, changed, is_new}
 use Rattle.bidi_remote.specs.State.MissedRows.{places, all_left}
 use Rattle.bidi_remote.specs.Machine.LogBuffer.{missed}
 use Rattle.bidi_remote.proofs.ListLemmas.{each-passing}
@@ -420,6 +420,11 @@ session_rows-cancelled past s ns =
     rows_updated past (Cancelled s ns ∷ past) s (λ r. record r { subscriptions = without ns r.subscriptions }) refl
     (λ i. record { number = s; made = subscriptions_made past s; subscriptions = rows-cancelled past s ns i; missed = places past s })
     (λ n apart i. record { number = n; made = subscriptions_made past n; subscriptions = rows-cancelled-other past n s ns apart i; missed = places past n })
+
+-- the same go where the same numbers are listed
+pub cancelled-same : (ns ms : List ℕ) → ((n : ℕ) → is_listed ns n ≡ is_listed ms n)
+    → (s : ℕ) (rows : List SessionRow) → changed s (cancelled ns) rows ≡ changed s (cancelled ms) rows
+cancelled-same ns ms same s rows = λ i. changed s (λ r. record r { subscriptions = filter (λ q. not (same q.number i)) r.subscriptions }) rows
 
 -- and without those events
 pub session_rows-dismissed : (past : List Deed) (s : ℕ) (es : List EventName)

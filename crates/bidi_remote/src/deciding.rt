@@ -69,13 +69,13 @@ fn decide_alone(
     ensures of_method { HasResultOf (command_method asked.now) result }
 {
     match asked {
-        CommandData::Session(command) => decide_without_session(alloc, state, asker, command),
+        CommandData::Session(command) => decide_session_alone(alloc, state, asker, command),
         CommandData::Browser(_) => Err(Refusal::Code(ErrorCode::InvalidSessionId)),
     }
 }
 
-// Decides a command of the module session, on a connection without one.
-fn decide_without_session(
+// Decides a command of the module session on a connection without a session.
+fn decide_session_alone(
     alloc: Global,
     state: &State,
     asker: Asker,
@@ -110,13 +110,13 @@ fn decide_in(
     ensures of_method { HasResultOf (command_method asked.now) result }
 {
     match asked {
-        CommandData::Session(command) => decide_of_session(alloc, state, asker, session, command),
-        CommandData::Browser(command) => decide_browsing(alloc, state, asker, command),
+        CommandData::Session(command) => decide_session_in(alloc, state, asker, session, command),
+        CommandData::Browser(command) => decide_browser_in(alloc, state, asker, command),
     }
 }
 
-// Decides a command of the module session, on a connection that speaks for one.
-fn decide_of_session(
+// Decides a command of the module session on a connection that speaks for a session.
+fn decide_session_in(
     alloc: Global,
     state: &State,
     asker: Asker,
@@ -142,8 +142,8 @@ fn decide_of_session(
     }
 }
 
-// Decides a command of the browser: the browser plans it.
-fn decide_browsing(
+// Decides a command of the browser on a connection that speaks for a session: the browser plans it.
+fn decide_browser_in(
     alloc: Global,
     state: &State,
     asker: Asker,

@@ -1,10 +1,10 @@
 //! Which subscriptions of a session have an event.
-ghost use Rattle.std.specs.Prelude.{◌≡◌, ◌≤◌, ◌<◌, ◌+◌, ◌==◌, ◌||◌, ℕ, Bool, [], length, OnOk, vec_len, vec_capacity};
-ghost use Rattle.std.specs.List.{list_any, insert};
-ghost use Rattle.std.specs.List.Sorted.{IsNonDecreasingBy};
+ghost use Rattle.std.specs.Prelude.{◌≡◌, ◌≤◌, ◌<◌, ◌+◌, ◌-◌, ◌==◌, ◌||◌, ◌++◌, Bool, true, false, [], length, take, get_or, OnOk, vec_len, vec_capacity};
+ghost use Rattle.std.specs.List.{list_any};
+ghost use Rattle.std.specs.List.Sorted.{IsNonDecreasing, IsNonDecreasingBy};
 ghost use Rattle.std.proofs.Props.{props};
 ghost use Rattle.bidi_remote.specs.State.SubscriptionView.{scope_of, row_of};
-ghost use Rattle.bidi_remote.specs.State.IndexRows.{Pair, IndexRow, index_row, is_held, hears, with_row, without_numbers, without_global, pairs_at};
+ghost use Rattle.bidi_remote.specs.State.IndexRows.{Pair, IndexRow, index_row, is_held, hears, with_row, without_numbers, without_global, pairs_at, AreInOrder};
 
 use crate::subscriptions::{Scope, Subscription, is_among, is_listed};
 use bidi_messages::EventName;
@@ -64,9 +64,11 @@ impl EventIndex {
         }
     }
 
-    /// Adds a subscription, if it has the event. Takes no memory.
-    pub(crate) fn add(&mut self, subscription: &Subscription)
-        requires { HasRoomFor (row_of subscription.now).events (row_of subscription.now).scope self.now }
+    /// Adds a subscription, if it has the event. The contexts that its scope names are given in order, so each
+    /// pair moves once. Takes no memory.
+    pub(crate) fn add(&mut self, subscription: &Subscription, tops: &[u64])
+        requires room { HasRoomFor (row_of subscription.now).events (row_of subscription.now).scope self.now }
+        requires order { AreInOrder (row_of subscription.now).scope tops.now }
         ensures { index_row_of self.new ≡ with_row (row_of subscription.now) (index_row_of self.old) }
     {
         if !is_among(&subscription.events, self.event) {
@@ -74,11 +76,12 @@ impl EventIndex {
         }
         match &subscription.scope {
             Scope::All => self.global.push_reserved(subscription.number),
-            Scope::Below(tops) => put_pairs(&mut self.scoped, tops, subscription.number),
+            Scope::Below(_) => put_pairs(&mut self.scoped, tops, subscription.number),
         }
     }
 
-    /// Removes the subscriptions of these numbers. Takes no memory.
+    /// Removes the subscriptions of these numbers. Passes once over all that have the event, and for each over the
+    /// numbers. Takes no memory.
     pub(crate) fn cancel(&mut self, numbers: &[u32])
         ensures { index_row_of self.new ≡ without_numbers numbers.now (index_row_of self.old) }
     {
@@ -103,39 +106,52 @@ fn has_top(pairs: &[(u64, u32)], top: u64) -> bool
     pairs.binary_search_by_key(&top, |pair| pair.0).is_ok()
 }
 
-// Adds a pair for each of these top-level contexts.
+// Adds a pair for each of these top-level contexts, which ascend. Each pair that is there moves once.
 fn put_pairs(pairs: &mut Vec<(u64, u32)>, tops: &[u64], number: u32)
     requires { vec_len pairs.now + length tops.now ≤ vec_capacity pairs.now }
-    ensures order { IsNonDecreasingBy (λ p. p.0) pairs.old.items → IsNonDecreasingBy (λ p. p.0) pairs.new.items }
+    ensures order { IsNonDecreasing tops.now → IsNonDecreasingBy (λ p. p.0) pairs.old.items → IsNonDecreasingBy (λ p. p.0) pairs.new.items }
     ensures added { (t : Pair → Bool) → list_any t pairs.new.items ≡ (list_any t pairs.old.items || list_any t (pairs_at number tops.now)) }
 {
+    let held = pairs.len();
+    push_pairs(pairs, tops, number);
+    merge_pairs(pairs, held, tops, number);
+}
+
+// Adds these pairs behind the others.
+fn push_pairs(pairs: &mut Vec<(u64, u32)>, tops: &[u64], number: u32)
+    requires { vec_len pairs.now + length tops.now ≤ vec_capacity pairs.now }
+    ensures { pairs.new.items ≡ pairs.old.items ++ pairs_at number tops.now }
+{
     for top in tops {
-        put_pair(pairs, *top, number);
+        pairs.push_reserved((*top, number));
     }
 }
 
-// Adds a pair at its place.
-fn put_pair(pairs: &mut Vec<(u64, u32)>, top: u64, number: u32)
-    requires { vec_len pairs.now < vec_capacity pairs.now }
-    ensures order { IsNonDecreasingBy (λ p. p.0) pairs.old.items → IsNonDecreasingBy (λ p. p.0) pairs.new.items }
-    ensures added { (t : Pair → Bool) → list_any t pairs.new.items ≡ (list_any t pairs.old.items || t (top, number)) }
-    ensures len { vec_len pairs.new ≡ vec_len pairs.old + 1 }
-    ensures capacity { vec_capacity pairs.new ≡ vec_capacity pairs.old }
+// Puts a pair for each of these contexts, which ascend, among the first `held`, and uses up the room behind them.
+fn merge_pairs(pairs: &mut [(u64, u32)], held: usize, tops: &[u64], number: u32)
+    requires { held + length tops.now ≡ length pairs.now }
+    ensures order { IsNonDecreasing tops.now → IsNonDecreasingBy (λ p. p.0) (take held pairs.old) → IsNonDecreasingBy (λ p. p.0) pairs.new }
+    ensures added { (t : Pair → Bool) → list_any t pairs.new ≡ (list_any t (take held pairs.old) || list_any t (pairs_at number tops.now)) }
 {
-    let place = place_for(pairs, top);
-    if pairs.insert(place, (top, number)).is_err() {
-        unreachable!();
+    let mut left = held;
+    let mut right = tops.len();
+    while right > 0 {
+        let top = tops[right - 1];
+        if is_last_above(pairs, left, top) {
+            left -= 1;
+            pairs[left + right] = pairs[left];
+        } else {
+            right -= 1;
+            pairs[left + right] = (top, number);
+        }
     }
 }
 
-// A place for a pair of this top-level context.
-fn place_for(pairs: &[(u64, u32)], top: u64) -> usize
-    ensures within { result ≤ length pairs.now }
-    ensures order { IsNonDecreasingBy (λ p. p.0) pairs.now → (number : ℕ)
-        → IsNonDecreasingBy (λ p. p.0) (insert pairs.now result (top, number)) }
+// Whether the last of the first `left` pairs has a greater context than this one.
+fn is_last_above(pairs: &[(u64, u32)], left: usize, top: u64) -> bool
+    requires { left ≤ length pairs.now }
+    ensures above { result ≡ true → (d : Pair) → (0 < left) × (top < (get_or pairs.now (left - 1) d).0) }
+    ensures not_above { result ≡ false → (d : Pair) → 0 < left → (get_or pairs.now (left - 1) d).0 ≤ top }
 {
-    match pairs.binary_search_by_key(&top, |pair| pair.0) {
-        Ok(place) => place,
-        Err(place) => place,
-    }
+    left > 0 && pairs[left - 1].0 > top
 }

@@ -7,7 +7,7 @@ ghost use Rattle.bidi_handles.specs.Ids.{id_of};
 ghost use Rattle.bidi_browser.specs.Acts.{Act};
 ghost use Rattle.bidi_browser.specs.Stands.{StandsFor};
 ghost use Rattle.bidi_remote.specs.State.EventTexts.{Written, written_of, written_in};
-ghost use Rattle.bidi_remote.specs.State.SubscriptionRows.{SessionRow, begun, subscribed, cancelled, lost, logged, changed, row_in, any_covers, any_global};
+ghost use Rattle.bidi_remote.specs.State.SubscriptionRows.{begun, subscribed, cancelled, lost, logged, changed, row_in, any_covers, any_global};
 ghost use Rattle.bidi_remote.specs.State.SessionView.{session_row_of, places_in, opened_by};
 ghost use Rattle.bidi_remote.specs.State.SubscriptionView.{scope_of, row_of};
 
@@ -181,14 +181,13 @@ impl Sessions {
         }
     }
 
-    /// Whether each of these events is in a global subscription of a session that is active.
+    /// Whether each of these events is in a global subscription of a session. One that is not active has none.
     pub(crate) fn all_global(&self, number: u32, events: &[EventName]) -> bool
-        ensures { (r : SessionRow) → find (λ r. r.number == number) (rows_in self.now) ≡ Some r
-            → result ≡ list_all (any_global r.subscriptions) events.now }
+        ensures { result ≡ list_all (any_global (row_in number (rows_in self.now)).subscriptions) events.now }
     {
         match find(&self.active, number) {
             Some(session) => session.subscriptions.all_global(events),
-            None => false,
+            None => events.is_empty(),
         }
     }
 

@@ -32,6 +32,7 @@ use crate::event_texts::event_texts;
 use crate::rows::read_row;
 use crate::sessions::{Opening, Sessions};
 use crate::step::{PageStep, Sent, Step};
+use crate::subscriptions::distinct;
 use crate::telling::{tell, tell_entry};
 use crate::turn::{Asker, Change, Turn};
 use bidi_browser::{Action, Browser, Change as BrowserChange, Occurrence, Plan, Refusal};
@@ -380,7 +381,7 @@ impl State {
                 self.sessions
                     .subscribe(session, &self.browser, events, scope);
             }
-            Change::Cancel(session, numbers) => self.sessions.cancel(session, &numbers),
+            Change::Cancel(session, numbers) => self.sessions.cancel(session, &distinct(numbers)),
             Change::Dismiss(session, events) => self.sessions.dismiss(session, &events),
             Change::Browse(change) => self.browser.apply(change),
         }

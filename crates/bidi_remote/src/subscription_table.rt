@@ -1,10 +1,10 @@
 //! The subscriptions of a session, and an index of them by event.
-ghost use Rattle.std.specs.Prelude.{◌≡◌, ◌<◌, List, [], ◌∷◌, ◌++◌, map, filter, not, length, OnOk, IfOk};
+ghost use Rattle.std.specs.Prelude.{◌≡◌, ◌<◌, ◌≤◌, ◌+◌, List, [], ◌∷◌, ◌++◌, map, filter, not, length, OnOk, IfOk, vec_len, vec_capacity};
 ghost use Rattle.std.specs.List.{list_all};
 ghost use Rattle.bidi_browser.specs.Occurrences.{event_place};
 ghost use Rattle.bidi_remote.specs.State.SubscriptionView.{scope_of, row_of};
 ghost use Rattle.bidi_remote.specs.State.SubscriptionRows.{any_covers, any_global, without, dismissed};
-ghost use Rattle.bidi_remote.specs.State.IndexRows.{index, with_row, without_numbers, without_global};
+ghost use Rattle.bidi_remote.specs.State.IndexRows.{index, with_row, without_numbers, without_global, tops_of, AreInOrder};
 ghost use Rattle.bidi_remote.specs.State.IndexView.{index_row_of, HaveRoomFor};
 
 use crate::event_index::EventIndex;
@@ -19,6 +19,8 @@ pub(crate) struct Subscriptions {
     pub rows: Vec<Subscription>,
     /// For each event, those that have it.
     pub by_event: [EventIndex; 8],
+    /// Room to put the contexts of a new one in order.
+    tops: Vec<u64>,
     ghost index: { ∥ map index_row_of by_event ≡ index (map row_of rows.items) ∥₁ },
 }
 
@@ -32,6 +34,7 @@ impl Subscriptions {
         Subscriptions {
             rows: Vec::new(alloc),
             by_event: no_index(alloc),
+            tops: Vec::new(alloc),
         }
     }
 
@@ -70,19 +73,23 @@ impl Subscriptions {
         ensures room { OnOk result (HasRoomFor events.now (scope_of scope.now) self.new) }
     {
         self.rows.reserve(1)?;
+        reserve_tops(&mut self.tops, scope)?;
         reserve_each(&mut self.by_event, events, scope)
     }
 
-    /// Adds one. Takes no memory.
+    /// Adds one. Puts the contexts that it names in order, and passes once over the pairs of each event that it
+    /// has. Takes no memory.
     pub(crate) fn add(&mut self, subscription: Subscription)
         requires { HasRoomFor (row_of subscription).events (row_of subscription).scope self.now }
         ensures { rows_of self.new ≡ rows_of self.old ++ row_of subscription ∷ [] }
     {
-        add_each(&mut self.by_event, &subscription);
+        put_in_order(&mut self.tops, &subscription.scope);
+        add_each(&mut self.by_event, &subscription, &self.tops);
         self.rows.push_reserved(subscription);
     }
 
-    /// Removes those of these numbers. Takes no memory.
+    /// Removes those of these numbers. Passes once over all and over the pairs of each event, and for each over the
+    /// numbers. Takes no memory.
     pub(crate) fn cancel(&mut self, numbers: &[u32])
         ensures { rows_of self.new ≡ without numbers.now (rows_of self.old) }
     {
@@ -138,13 +145,46 @@ fn reserve_each(
     Ok(())
 }
 
-// Adds a subscription for the events that it has.
-fn add_each(by_event: &mut [EventIndex], subscription: &Subscription)
-    requires { HaveRoomFor (row_of subscription.now).events (row_of subscription.now).scope by_event.now }
+// Makes room to put the contexts that a scope names in order.
+fn reserve_tops(room: &mut Vec<u64>, scope: &Scope) -> Result<(), AllocError>
+    ensures { OnOk result (length (tops_of (scope_of scope.now)) ≤ vec_capacity room.new) }
+{
+    match scope {
+        Scope::All => Ok(()),
+        Scope::Below(tops) => room.reserve(tops.len()),
+    }
+}
+
+// Puts the contexts that a scope names in order, in this room.
+fn put_in_order(room: &mut Vec<u64>, scope: &Scope)
+    requires { length (tops_of (scope_of scope.now)) ≤ vec_capacity room.now }
+    ensures { AreInOrder (scope_of scope.now) room.new.items }
+{
+    room.clear();
+    if let Scope::Below(tops) = scope {
+        push_each(room, tops);
+        room.sort_unstable();
+    }
+}
+
+// Adds these behind the others.
+fn push_each(room: &mut Vec<u64>, tops: &[u64])
+    requires { vec_len room.now + length tops.now ≤ vec_capacity room.now }
+    ensures { room.new.items ≡ room.old.items ++ tops.now }
+{
+    for top in tops {
+        room.push_reserved(*top);
+    }
+}
+
+// Adds a subscription for the events that it has. The contexts that its scope names are given in order.
+fn add_each(by_event: &mut [EventIndex], subscription: &Subscription, tops: &[u64])
+    requires room { HaveRoomFor (row_of subscription.now).events (row_of subscription.now).scope by_event.now }
+    requires order { AreInOrder (row_of subscription.now).scope tops.now }
     ensures { map index_row_of by_event.new ≡ map (with_row (row_of subscription.now)) (map index_row_of by_event.old) }
 {
     for index in by_event.iter_mut() {
-        index.add(subscription);
+        index.add(subscription, tops);
     }
 }
 

@@ -1,5 +1,5 @@
 //! Subscriptions of a session, by events and scope.
-ghost use Rattle.std.specs.Prelude.{◌≡◌, ◌&&◌, map, string_bytes, option_map, find, filter, not, bytes_eq};
+ghost use Rattle.std.specs.Prelude.{◌≡◌, ◌&&◌, ℕ, map, string_bytes, option_map, find, filter, not, bytes_eq};
 ghost use Rattle.std.specs.List.{list_all, list_any};
 ghost use Rattle.bidi_remote.specs.Machine.Subscriptions.{is_global, is_listed, covers};
 ghost use Rattle.bidi_remote.specs.State.SubscriptionRows.{row_covers, row_holds, numbers_named, loses_all, stripped, dismissed};
@@ -102,6 +102,16 @@ fn number_of(subscriptions: &[Subscription], session: u32, id: &str) -> Option<u
         .iter()
         .find(|s| Some(u64::from(s.number)) == number)
         .map(|s| s.number)
+}
+
+/// These numbers in ascending order, each once: a client may name a subscription as often as it likes, and each
+/// number is looked for in all that the session has. Takes no memory.
+pub(crate) fn distinct(mut numbers: Vec<u32>) -> Vec<u32>
+    ensures { (n : ℕ) → is_listed result.items n ≡ is_listed numbers.items n }
+{
+    numbers.sort_unstable();
+    numbers.dedup();
+    numbers
 }
 
 /// Removes the subscriptions of these numbers.

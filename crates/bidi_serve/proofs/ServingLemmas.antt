@@ -1,42 +1,50 @@
--- Texts that are sent one after another, and exchanges.
-use Rattle.std.proofs.Common.{◌≡◌, ℕ, Bool, true, false, true≢false, not, List, [], ◌∷◌, ◌++◌, Option, Result}
-use Rattle.std.proofs.Common.{Ok, Err, refl, sym, ap, subst, rules, tests, arith, suc, ◌<◌, ◌-◌}
+-- Texts that are sent on a link, and exchanges.
+use Rattle.std.proofs.Common.{◌≡◌, ℕ, Bool, true, false, true≢false, not, List, [], ◌∷◌, ◌++◌, map, Option, Result}
+use Rattle.std.proofs.Common.{Ok, Err, refl, sym, ◌∙◌, ap, subst, rules, tests, arith, suc, ◌<◌, ◌-◌}
 use Rattle.std.specs.Prelude.{◌==◌, ◌&&◌, ◌||◌, if◌then◌else◌, is_ok, IfOk, IfErr, IsErr, IsErrAnd, OnOk}
+use Rattle.std.specs.List.{list_any}
 use Rattle.bidi_tree.specs.declared.number.JsUint.{JsUint}
 use Rattle.bidi_remote.specs.declared.step.Sent.{Sent}
 use Rattle.bidi_remote.specs.declared.step.Sent.TheVariants as in_hand
 use Rattle.bidi_remote.specs.State.View.{sent_of}
-use Rattle.bidi_remote.specs.Machine.Sent.{Text, text_on}
+use Rattle.bidi_remote.specs.Machine.Sent as sent
+use Rattle.bidi_remote.specs.Machine.Sent.{Text, text_on, texts_on}
 use Rattle.bidi_socket.specs.declared.link.LinkFault.{LinkFault}
-use Rattle.bidi_socket.specs.SocketSending.{SendsText}
+use Rattle.bidi_socket.specs.SocketSending.{QueuesText, SendsWaiting}
 use Rattle.bidi_socket.specs.declared.link.Link.{Link}
-use Rattle.bidi_serve.specs.Serving.{AreSent, all, next, stop}
+use Rattle.bidi_serve.specs.Serving.{AreQueued, all, next, stop, AreSent, together, is_text_on}
 
 module _ {S K : Type 0} (contents : S → Option (List ℕ)) where
-  -- further texts are sent behind those that were
-  pub sent-more : (l m n : Link S K) (xs ys : List (List ℕ)) (b w : Bool)
-      → b ≡ true → AreSent contents l xs m b → AreSent contents m ys n w → AreSent contents l (xs ++ ys) n w
-  sent-more l m n xs ys b w whole (all _) rest = rest
-  sent-more l m n xs ys b w whole (next _ k _ s ss _ sends more) rest = next l k n s (ss ++ ys) w sends (sent-more k m n ss ys b w whole more rest)
-  sent-more l m n xs ys b w whole (stop _ _ s ss fault sends) rest = absurd (true≢false (sym whole))
+  -- further texts join behind those that did
+  pub queued-more : (l m n : Link S K) (xs ys : List (List ℕ)) (b w : Bool)
+      → b ≡ true → AreQueued contents l xs m b → AreQueued contents m ys n w → AreQueued contents l (xs ++ ys) n w
+  queued-more l m n xs ys b w whole (all _) rest = rest
+  queued-more l m n xs ys b w whole (next _ k _ s ss _ joins more) rest = next l k n s (ss ++ ys) w joins (queued-more k m n ss ys b w whole more rest)
+  queued-more l m n xs ys b w whole (stop _ _ s ss fault joins) rest = absurd (true≢false (sym whole))
 
-  -- behind one that could not be sent, no other is
-  pub sent-stop : (l m : Link S K) (xs ys : List (List ℕ)) (b : Bool) → b ≡ false → AreSent contents l xs m b → AreSent contents l (xs ++ ys) m false
-  sent-stop l m xs ys b stopped (all _) = absurd (true≢false stopped)
-  sent-stop l m xs ys b stopped (next _ k _ s ss _ sends more) = next l k m s (ss ++ ys) false sends (sent-stop k m ss ys b stopped more)
-  sent-stop l m xs ys b stopped (stop _ _ s ss fault sends) = stop l m s (ss ++ ys) fault sends
+  -- behind one that could not join, no other does
+  pub queued-stop : (l m : Link S K) (xs ys : List (List ℕ)) (b : Bool) → b ≡ false → AreQueued contents l xs m b → AreQueued contents l (xs ++ ys) m false
+  queued-stop l m xs ys b stopped (all _) = absurd (true≢false stopped)
+  queued-stop l m xs ys b stopped (next _ k _ s ss _ joins more) = next l k m s (ss ++ ys) false joins (queued-stop k m ss ys b stopped more)
+  queued-stop l m xs ys b stopped (stop _ _ s ss fault joins) = stop l m s (ss ++ ys) fault joins
 
-  -- a text for the connection was sent, or could not be
-  pub sent-here : (l m : Link S K) (conn to : ℕ) (s : List ℕ) (r : Result (Unit {0}) LinkFault)
-      → (conn == to) ≡ true → SendsText contents s l m r → AreSent contents l (text_on conn (Text to s)) m (is_ok r)
-  sent-here l m conn to s (Ok tt) here sends =
-      subst (λ xs. AreSent contents l xs m true) (sym (ap (λ b. if b then s ∷ [] else []) here)) (next l m m s [] true sends (all m))
-  sent-here l m conn to s (Err fault) here sends =
-      subst (λ xs. AreSent contents l xs m false) (sym (ap (λ b. if b then s ∷ [] else []) here)) (stop l m s [] fault sends)
+  -- a text for the connection joined, or could not
+  pub queued-here : (l m : Link S K) (conn to : ℕ) (s : List ℕ) (r : Result (Unit {0}) LinkFault)
+      → (conn == to) ≡ true → QueuesText contents s l m r → AreQueued contents l (text_on conn (Text to s)) m (is_ok r)
+  queued-here l m conn to s (Ok tt) here joins =
+      subst (λ xs. AreQueued contents l xs m true) (sym (ap (λ b. if b then s ∷ [] else []) here)) (next l m m s [] true joins (all m))
+  queued-here l m conn to s (Err fault) here joins =
+      subst (λ xs. AreQueued contents l xs m false) (sym (ap (λ b. if b then s ∷ [] else []) here)) (stop l m s [] fault joins)
 
-  -- one for another connection is not
-  pub sent-apart : (l : Link S K) (conn to : ℕ) (s : List ℕ) → (conn == to) ≡ false → AreSent contents l (text_on conn (Text to s)) l true
-  sent-apart l conn to s apart = subst (λ xs. AreSent contents l xs l true) (sym (ap (λ b. if b then s ∷ [] else []) apart)) (all l)
+  -- one for another connection does not
+  pub queued-apart : (l : Link S K) (conn to : ℕ) (s : List ℕ) → (conn == to) ≡ false → AreQueued contents l (text_on conn (Text to s)) l true
+  queued-apart l conn to s apart = subst (λ xs. AreQueued contents l xs l true) (sym (ap (λ b. if b then s ∷ [] else []) apart)) (all l)
+
+  -- where there is a text, what waits is sent behind those that joined
+  pub sent-together : (l m n : Link S K) (ss : List (List ℕ)) (queued : Bool) (r : Result (Unit {0}) LinkFault)
+      → (ss ≡ [] → ⊥) → AreQueued contents l ss m queued → SendsWaiting contents m n r → AreSent contents l ss n (queued && is_ok r)
+  sent-together l m n [] queued r is joins sends = absurd (is refl)
+  sent-together l m n (s ∷ ss) queued r is joins sends = together l m n s ss queued r joins sends
 
 -- the connection is made where its number was not open before, and is after its opening
 pub not-denied : (was is : Bool) → not (not was && is) ≡ (was || not is)
@@ -86,3 +94,59 @@ no-text c (in_hand.Opened d) none = refl
 no-text c (in_hand.Denied d) none = refl
 no-text c (in_hand.Lost d) none = refl
 no-text c in_hand.NoEffect none = refl
+
+-- what is no text is no text for a connection
+pub not-text : (c : ℕ) (x : Sent) → ((to : JsUint) (text : _) → x ≡ in_hand.Text to text → ⊥) → is_text_on c (sent_of x) ≡ false
+not-text c (in_hand.Text to text) none = absurd (none to text refl)
+not-text c (in_hand.Close d) none = refl
+not-text c (in_hand.Opened d) none = refl
+not-text c (in_hand.Denied d) none = refl
+not-text c (in_hand.Lost d) none = refl
+not-text c in_hand.NoEffect none = refl
+
+-- ---- whether there is a text for a connection
+
+-- none is empty where something stands in front
+pub cons-nil : (s : List ℕ) (ss : List (List ℕ)) → s ∷ ss ≡ [] → ⊥
+cons-nil s ss e = cc
+
+pub text-apart : (c : ℕ) (x : sent.Sent) → is_text_on c x ≡ false → text_on c x ≡ []
+text-apart c (Text d s) apart = ap (λ b. if b then s ∷ [] else []) apart
+text-apart c (sent.Close d) apart = refl
+text-apart c (sent.Opened d) apart = refl
+text-apart c (sent.Denied d) apart = refl
+text-apart c (sent.Lost d) apart = refl
+text-apart c sent.NoEffect apart = refl
+
+pub text-here : (c : ℕ) (x : sent.Sent) (ss : List (List ℕ)) → is_text_on c x ≡ true → text_on c x ++ ss ≡ [] → ⊥
+text-here c (Text d s) ss here none = cons-nil s ss (sym (ap (λ b. (if b then s ∷ [] else []) ++ ss) here) ∙ none)
+text-here c (sent.Close d) ss here none = absurd (true≢false (sym here))
+text-here c (sent.Opened d) ss here none = absurd (true≢false (sym here))
+text-here c (sent.Denied d) ss here none = absurd (true≢false (sym here))
+text-here c (sent.Lost d) ss here none = absurd (true≢false (sym here))
+text-here c sent.NoEffect ss here none = absurd (true≢false (sym here))
+
+pub tail-nil : (xs ys : List (List ℕ)) → xs ++ ys ≡ [] → ys ≡ []
+tail-nil [] ys none = none
+tail-nil (s ∷ xs) ys none = absurd (cons-nil s (xs ++ ys) none)
+
+pub neither : (a b : Bool) → (a || b) ≡ false → (a ≡ false) × (b ≡ false)
+neither true b apart = absurd (true≢false apart)
+neither false b apart = (refl, apart)
+
+pub either : {P : Type 0} (a b : Bool) → (a || b) ≡ true → (a ≡ true → P) → (b ≡ true → P) → P
+either true b has f g = f refl
+either false b has f g = g has
+
+pub no-texts : (c : ℕ) (xs : List Sent) → list_any (λ x. is_text_on c (sent_of x)) xs ≡ false → texts_on c (map sent_of xs) ≡ []
+no-texts c [] none = refl
+no-texts c (x ∷ xs) none =
+    let both = neither (is_text_on c (sent_of x)) (list_any (λ y. is_text_on c (sent_of y)) xs) none in
+    ap (λ ss. ss ++ texts_on c (map sent_of xs)) (text-apart c (sent_of x) both.0) ∙ no-texts c xs both.1
+
+pub some-texts : (c : ℕ) (xs : List Sent) → list_any (λ x. is_text_on c (sent_of x)) xs ≡ true → texts_on c (map sent_of xs) ≡ [] → ⊥
+some-texts c [] has none = true≢false (sym has)
+some-texts c (x ∷ xs) has none =
+    either (is_text_on c (sent_of x)) (list_any (λ y. is_text_on c (sent_of y)) xs) has
+    (λ here. text-here c (sent_of x) (texts_on c (map sent_of xs)) here none)
+    (λ rest. some-texts c xs rest (tail-nil (text_on c (sent_of x)) (texts_on c (map sent_of xs)) none))

@@ -1,10 +1,10 @@
 -- One connection that is served over a WebSocket link: what is handed to the remote end, and what is sent. This project's own.
-use Rattle.std.specs.Prelude.{◌≡◌, ◌≤◌, ℕ, suc, Bool, true, false, not, ◌&&◌, ◌||◌, if◌then◌else◌, List, [], ◌∷◌, length, Option, Result, Ok, Err, ⊤}
+use Rattle.std.specs.Prelude.{◌≡◌, ◌≤◌, ◌==◌, ℕ, suc, Bool, true, false, not, ◌&&◌, ◌||◌, if◌then◌else◌, List, [], ◌∷◌, length, Option, Result, Ok, Err, is_ok, ⊤}
 use Rattle.bidi_remote.specs.Machine.Step as step
 use Rattle.bidi_remote.specs.Machine.History.{Input, Open, Drop, NotText, IsHeardAs}
 use Rattle.bidi_remote.specs.Machine.Connections.{is_open}
 use Rattle.bidi_remote.specs.Machine.Outcome.{deeds}
-use Rattle.bidi_remote.specs.Machine.Sent.{out, texts_on}
+use Rattle.bidi_remote.specs.Machine.Sent.{Sent, Text, out, texts_on}
 use Rattle.bidi_remote.specs.State.Stands.{StandsFor}
 use Rattle.bidi_remote.specs.declared.remote_end.RemoteEnd.{RemoteEnd}
 use Rattle.bidi_remote.specs.declared.remote_end.RemoteFault.{RemoteFault}
@@ -16,7 +16,7 @@ use Rattle.bidi_socket.specs.declared.link.Link.{Link}
 use Rattle.bidi_socket.specs.declared.link.LinkFault.{LinkFault}
 use Rattle.bidi_socket.specs.SocketTaking as link
 use Rattle.bidi_socket.specs.SocketTaking.{Taken, Control, Closed, IsTaken}
-use Rattle.bidi_socket.specs.SocketSending.{SendsText, SendsClose}
+use Rattle.bidi_socket.specs.SocketSending.{QueuesText, SendsWaiting, SendsClose}
 
 -- the connection is open after this history
 abbrev pub is_served : List Input → ℕ → Bool
@@ -51,12 +51,24 @@ abbrev pub serve_fault_of : RemoteFault → ServeFault
 serve_fault_of remote.NoMemory = serve.NoMemory
 serve_fault_of remote.WornOut = serve.WornOut
 
--- Texts are sent on a link one after another, up to the first that cannot be. Whether all were is said last.
-pub data AreSent {S K : Type 0} (contents : S → Option (List ℕ)) : Link S K → List (List ℕ) → Link S K → Bool → Type 0 where
-  all : (l : Link S K) → AreSent contents l [] l true
+-- something that is sent is a text for this connection
+abbrev pub is_text_on : ℕ → Sent → Bool
+is_text_on conn (Text to s) = conn == to
+is_text_on conn x = false
+
+-- Texts join what waits to be sent on a link, one after another, up to the first that cannot. Whether all did is said last.
+pub data AreQueued {S K : Type 0} (contents : S → Option (List ℕ)) : Link S K → List (List ℕ) → Link S K → Bool → Type 0 where
+  all : (l : Link S K) → AreQueued contents l [] l true
   next : (l m n : Link S K) (s : List ℕ) (ss : List (List ℕ)) (whole : Bool)
-      → SendsText contents s l m (Ok tt) → AreSent contents m ss n whole → AreSent contents l (s ∷ ss) n whole
-  stop : (l m : Link S K) (s : List ℕ) (ss : List (List ℕ)) (fault : LinkFault) → SendsText contents s l m (Err fault) → AreSent contents l (s ∷ ss) m false
+      → QueuesText contents s l m (Ok tt) → AreQueued contents m ss n whole → AreQueued contents l (s ∷ ss) n whole
+  stop : (l m : Link S K) (s : List ℕ) (ss : List (List ℕ)) (fault : LinkFault) → QueuesText contents s l m (Err fault) → AreQueued contents l (s ∷ ss) m false
+
+-- Texts are sent on a link all at once: they join what waits, up to the first that cannot, and then all that waits is sent.
+-- Where there is no text, nothing is done. Whether all were sent is said last.
+pub data AreSent {S K : Type 0} (contents : S → Option (List ℕ)) : Link S K → List (List ℕ) → Link S K → Bool → Type 0 where
+  no_text : (l : Link S K) → AreSent contents l [] l true
+  together : (l m n : Link S K) (s : List ℕ) (ss : List (List ℕ)) (queued : Bool) (r : Result (Unit {0}) LinkFault)
+      → AreQueued contents l (s ∷ ss) m queued → SendsWaiting contents m n r → AreSent contents l (s ∷ ss) n (queued && is_ok r)
 
 module _ {S K : Type 0} (remaining contents : S → Option (List ℕ)) (conn : ℕ) where
   -- One exchange, from a link and a history to those after it. Whether another may follow is said last.

@@ -72,8 +72,9 @@ impl From<RemoteFault> for ServeFault {
 ///
 /// A connection's resource is the target of its request, as it was written. A handshake or a link that fails
 /// ends its own connection alone; a handshake that fails makes no step, and counts as a connection. A head
-/// that is none is answered by 400, a request for no WebSocket, or for another version than 13, by 426. It
-/// waits for each connection, and for each message of its peer.
+/// that is none is answered by 400, a request for no WebSocket, or for another version than 13, by 426; one
+/// for which there is no memory by nothing, or by 400. It waits for each connection, and for each message of
+/// its peer.
 ///
 /// At the end of a connection it sends no more, and throws away what the peer still sends, up to the peer's
 /// end: at most 1,024 reads of 4,096 bytes, none of which waits more than 250 ms. A socket that is closed over

@@ -1,10 +1,11 @@
 //! Serving one connection: the remote end behind a WebSocket link.
 ghost use Rattle.std.specs.Prelude.{◌≡◌, not, ◌&&◌, Bool, List, [], ◌∷◌, map, IfOk, IfErr, OnOk};
+ghost use Rattle.std.specs.List.{list_any};
 ghost use Rattle.bidi_remote.specs.Machine.History.{Input, Open, IsHeardAs};
 ghost use Rattle.bidi_remote.specs.Machine.Sent.{Text, out, text_on, texts_on};
 ghost use Rattle.bidi_remote.specs.State.Stands.{StandsFor};
 ghost use Rattle.bidi_remote.specs.State.View.{step_of, sent_of};
-ghost use Rattle.bidi_serve.specs.Serving.{AreSent, Began, Exchange, Exchanged, ExchangedSome, Exchanges, IsRefused, Served, dropped, is_denied, is_served};
+ghost use Rattle.bidi_serve.specs.Serving.{AreQueued, AreSent, Began, Exchange, Exchanged, ExchangedSome, Exchanges, IsRefused, Served, dropped, is_denied, is_served, is_text_on};
 
 use bidi_remote::{RemoteEnd, RemoteFault, Sent, Step};
 use bidi_socket::{Incoming, Link};
@@ -153,7 +154,7 @@ fn hand_on<S: Read + Write + Drop, K: MaskKeys + Drop>(
     Ok(whole && end.is_open(conn))
 }
 
-// Sends the texts for the connection in order, up to the first that cannot be sent. Tells whether all were.
+// Sends the texts for the connection in order and all at once, up to the first that cannot be sent. Tells whether all were.
 fn send_all<S: Read + Write + Drop, K: MaskKeys + Drop>(
     link: &mut Link<S, K>,
     conn: JsUint,
@@ -161,39 +162,72 @@ fn send_all<S: Read + Write + Drop, K: MaskKeys + Drop>(
 ) -> bool
     ensures { AreSent S.contents link.old (texts_on conn.value (map sent_of sent.items)) link.new result }
 {
+    if !has_text(conn, &sent) {
+        return true;
+    }
+    let queued = queue_all(link, conn, sent);
+    let flushed = link.flush().is_ok();
+    queued && flushed
+}
+
+// Whether one of these is a text for the connection.
+fn has_text(conn: JsUint, sent: &[Sent]) -> bool
+    ensures { result ≡ list_any (λ x. is_text_on conn.value (sent_of x)) sent.now }
+{
+    sent.iter().any(|one| is_text_on(conn, one))
+}
+
+// Whether it is a text for the connection.
+fn is_text_on(conn: JsUint, one: &Sent) -> bool
+    ensures { result ≡ is_text_on conn.value (sent_of one.now) }
+{
+    match one {
+        Sent::Text(to, _) => conn.value == to.value,
+        _ => false,
+    }
+}
+
+// Puts the texts for the connection behind what waits, in order, up to the first that cannot join it. Tells whether all did.
+fn queue_all<S: Read + Write + Drop, K: MaskKeys + Drop>(
+    link: &mut Link<S, K>,
+    conn: JsUint,
+    sent: Vec<Sent>,
+) -> bool
+    ensures { AreQueued S.contents link.old (texts_on conn.value (map sent_of sent.items)) link.new result }
+{
     'texts: for one in sent {
-        if !send_one(link, conn, one) {
+        if !queue_one(link, conn, one) {
             return false;
         }
     }
     true
 }
 
-// Sends one thing, if it is a text for the connection. Tells whether the next may follow.
-fn send_one<S: Read + Write + Drop, K: MaskKeys + Drop>(
+// Puts one thing behind what waits, if it is a text for the connection. Tells whether the next may follow.
+fn queue_one<S: Read + Write + Drop, K: MaskKeys + Drop>(
     link: &mut Link<S, K>,
     conn: JsUint,
     one: Sent,
 ) -> bool
-    ensures { AreSent S.contents link.old (text_on conn.value (sent_of one)) link.new result }
+    ensures { AreQueued S.contents link.old (text_on conn.value (sent_of one)) link.new result }
 {
     match one {
-        Sent::Text(to, text) => send_text(link, conn, to, text.as_str()),
+        Sent::Text(to, text) => queue_text(link, conn, to, text.as_str()),
         _ => true,
     }
 }
 
-// Sends a text, if it is for the connection. Tells whether the next may follow.
-fn send_text<S: Read + Write + Drop, K: MaskKeys + Drop>(
+// Puts a text behind what waits, if it is for the connection. Tells whether the next may follow.
+fn queue_text<S: Read + Write + Drop, K: MaskKeys + Drop>(
     link: &mut Link<S, K>,
     conn: JsUint,
     to: JsUint,
     text: &str,
 ) -> bool
-    ensures { AreSent S.contents link.old (text_on conn.value (Text to.value text.now)) link.new result }
+    ensures { AreQueued S.contents link.old (text_on conn.value (Text to.value text.now)) link.new result }
 {
     if conn.value == to.value {
-        link.send(text).is_ok()
+        link.queue(text).is_ok()
     } else {
         true
     }

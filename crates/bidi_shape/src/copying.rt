@@ -5,8 +5,7 @@ use crate::fault::ShapeFault;
 use crate::shape::Shape;
 use std::alloc::{AllocError, Global};
 
-/// A copy of the value, which is equal and shares no memory with it. Makes the value's tree, by way of an outline, and
-/// reads it.
+/// A copy of the value, which is equal and shares no memory with it. Makes an outline of the value, and reads that.
 ///
 /// # Errors
 /// No memory: an allocation failed.
@@ -16,8 +15,8 @@ pub fn copied<X: Shape>(alloc: Global, value: &X) -> Result<X, AllocError>
     ensures well { IfOk result X.shape.well }
     ensures same { IfOk result (λ v. X.shape.same v value.now) }
 {
-    let tree = value.to_tree(alloc)?;
-    match X::from_tree(alloc, &tree) {
+    let outline = value.outline(alloc)?;
+    match X::from_tree(alloc, &outline) {
         Ok(copy) => Ok(copy),
         Err(ShapeFault::NoMemory) => Err(AllocError),
         Err(ShapeFault::NoFit) => unreachable!(),

@@ -74,7 +74,7 @@ pub fn further(members: Members, names: &[&str]) -> Result<Ext, MakeFault>
     Ok(ext)
 }
 
-/// Checks that an earlier alternative of the choice does not take the value, by trying its reader on the value's tree.
+/// Checks that an earlier alternative of the choice does not take the value, by trying its reader on an outline of it.
 ///
 /// # Errors
 /// - `Shadowed`: the earlier alternative takes the value.
@@ -82,8 +82,8 @@ pub fn further(members: Members, names: &[&str]) -> Result<Ext, MakeFault>
 pub fn not_shadowed<Earlier: Shape, V: Shape>(alloc: Global, value: &V) -> Result<(), MakeFault>
     ensures { Makes result ⊥ (Fits (V.shape.tree_of value.now) Earlier.shape.rule) ⊥ (λ _. Unit {0}) }
 {
-    let tree = value.to_tree(alloc)?;
-    match Earlier::from_tree(alloc, &tree) {
+    let outline = value.outline(alloc)?;
+    match Earlier::from_tree(alloc, &outline) {
         Ok(_) => Err(MakeFault::Shadowed),
         Err(ShapeFault::NoFit) => Ok(()),
         Err(ShapeFault::NoMemory) => Err(MakeFault::NoMemory),

@@ -1,4 +1,4 @@
-//! What a typed value is read of: a tree, or a JSON value that borrows its text.
+//! What a typed value is read of: a tree, a JSON value that borrows its text, or an outline (`parsed_outline.rt`).
 ghost use Rattle.std.specs.Prelude.{◌≡◌, ◌≤◌, ◌↔◌, IfOk, OnOk, IsTrue, map, option_map};
 ghost use Rattle.bidi_tree.specs.Node as kind;
 ghost use Rattle.bidi_tree.specs.Node.{Node, AreAscending, MembersAreWhole, get_member, levels, no_members};
@@ -20,7 +20,7 @@ use bidi_tree::{
 use json::Value;
 use std::alloc::{AllocError, Global};
 
-/// A tree of JSON, or a JSON value that borrows its text and has a tree. It is asked for its parts.
+/// A tree of JSON, or a JSON value that borrows its text or an outline, which has a tree. It is asked for its parts.
 pub trait Parsed: Drop {
     /// The tree that it is or has.
     ghost tree: { Self → Node };

@@ -18,7 +18,7 @@ pub trait Shape: Drop {
     // The rule, the tree of a value, when a value is well, and the laws.
     ghost shape: { ShapeOf Self };
 
-    /// Reads a value from a tree, or from a JSON value that borrows its text and has that tree.
+    /// Reads a value from a tree, or from a JSON value that borrows its text or an outline that has that tree.
     ///
     /// # Errors
     /// - `NoFit`: the tree does not fit the rule.

@@ -4,11 +4,10 @@ ghost use Rattle.bidi_tree.specs.Outline.{outline_node};
 ghost use Rattle.bidi_shape.specs.TagLaws.{bare_tree, typed_tree};
 
 use crate::fault::ShapeFault;
-use crate::fields::{Closed, Literal, Required};
+use crate::fields::{Closed, Literal, Required, read_fields};
 use crate::members::{add_literal, add_member};
 use crate::parsed::Parsed;
 use crate::shape::Shape;
-use crate::table::read_fields;
 use bidi_tree::{Outline, OutlineMembers};
 use std::alloc::{AllocError, Global};
 use std::marker::PhantomData;

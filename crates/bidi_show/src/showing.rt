@@ -7,6 +7,7 @@ ghost use Rattle.bidi_lines.specs.Feeds.{ended};
 ghost use Rattle.bidi_show.specs.MessageLines.{shown_of, text_of};
 ghost use Rattle.bidi_show.specs.Listings.{Lists, ListsAll, StopsAt, failed_reads, failed_writes, numbered, show_fault_of};
 ghost use Rattle.bidi_show.specs.Listers.{lister_answers};
+ghost use Rattle.bidi_show.specs.declared.showing.ShowFault.TheVariants.{NoMemory};
 
 use super::message_lines::{Shown, refusal, show_line};
 use bidi_lines::{AnswerFault, Answerer, LinesFault, Side, Sink, Source, answer_lines};
@@ -44,6 +45,14 @@ pub enum ShowFault {
     /// The input goes on after 1,000,000,000 lines, which are listed. List the rest as an input of its own.
     #[error("too many steps")]
     TooManyLines,
+}
+
+impl From<AllocError> for ShowFault {
+    ghost from_gives = { λ _ fault. fault ≡ NoMemory };
+
+    fn from(_error: AllocError) -> ShowFault {
+        ShowFault::NoMemory
+    }
 }
 
 impl From<LinesFault> for ShowFault {
@@ -96,19 +105,27 @@ pub fn list<R: Source, W: Sink>(
     let mut lister = Lister {
         listing,
         side,
-        scratch: Scratch::new(alloc),
+        scratch: boxed_scratch(alloc)?,
         has_written: false,
     };
     answer_lines(alloc, &mut lister, MOST_LINES, source, sink)?;
     Ok(lister.has_written)
 }
 
-// What lists the lines of an input, with the scratch that they are read in.
+// A scratch in a block of its own. It is never inlined: a scratch takes 16 KB of the stack while it is made, and the lines of
+// an input are to be read with all of the stack.
+#[inline(never)]
+fn boxed_scratch(alloc: Global) -> Result<Box<Scratch>, AllocError> {
+    Ok(Box::new(alloc, Scratch::new(alloc))?)
+}
+
+// What lists the lines of an input.
 #[derive(Drop)]
 struct Lister {
     listing: Listing,
     side: Side,
-    scratch: Scratch,
+    // What the lines are read in.
+    scratch: Box<Scratch>,
     // Whether anything was written.
     has_written: bool,
 }
@@ -128,7 +145,7 @@ impl Answerer for Lister {
             self.side,
             number,
             line,
-            &mut self.scratch,
+            self.scratch.as_mut(),
         )?;
         self.has_written |= !text.is_empty();
         Ok(Some(text.into_bytes()))

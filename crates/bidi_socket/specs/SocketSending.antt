@@ -7,7 +7,7 @@ use Rattle.tungstenite.specs.declared.error.Error.{Error as SocketError}
 use Rattle.tungstenite.specs.Connection.{Effect, write_step, can_write}
 use Rattle.tungstenite.specs.Content.{text, close}
 use Rattle.tungstenite.specs.Failure.{of_frame}
-use Rattle.tungstenite.specs.Socket.{Socket, Writes}
+use Rattle.tungstenite.specs.Socket.{Socket, Writes, Flushed}
 use Rattle.bidi_socket.specs.declared.link.Link.{Link}
 use Rattle.bidi_socket.specs.declared.link.LinkFault.{LinkFault}
 use Rattle.bidi_socket.specs.declared.link.LinkFault.TheVariants as fault
@@ -45,18 +45,44 @@ module _ {S : Type 0} where
   SendFails contents step old new fault.NoMemory = new ≡ old
   SendFails contents step old new f = Refuses step f
 
+  -- the step's frame joined what waits, of which some may have gone to the stream
+  abbrev pub IsQueued : (S → Option (List ℕ)) → Result Effect Error → Socket S → Socket S → Type 0
+  IsQueued contents step old new = Writes contents old new step
+
+  -- all that waited went to the stream, and nothing waits
+  abbrev pub IsFlushed : (S → Option (List ℕ)) → Socket S → Socket S → Type 0
+  IsFlushed contents old new = Flushed contents old new × (new.output ≡ [])
+
+  -- it fails for the stream alone, to which some of what waited may have gone
+  abbrev pub FlushFails : (S → Option (List ℕ)) → Socket S → Socket S → LinkFault → Type 0
+  FlushFails contents old new fault.Stream = Flushed contents old new
+  FlushFails contents old new f = ⊥
+
 module _ {S K : Type 0} where
-  -- One step of a link's socket: refused where the link is closed. A fault of the stream or of the protocol closes it.
-  pub record Steps (contents : S → Option (List ℕ)) (sends : Bool) (step : Result Effect Error) (old new : Link S K) (r : Result (Unit {0}) LinkFault) : Type
+  -- One call that sends on a link, with what it does to the socket and why it fails: refused where the link is closed. A fault of the stream or of the protocol closes it.
+  pub record Steps (done : Socket S → Socket S → Type 0) (fails : Socket S → Socket S → LinkFault → Type 0) (old new : Link S K) (r : Result (Unit {0}) LinkFault) : Type
       0 where
     pub from_closed : old.is_closed ≡ true → (r ≡ Err fault.Closed) × (new ≡ old)
-    pub ok : OnOk r (IsSent sends contents step old.socket new.socket × (old.is_closed ≡ false) × (new.is_closed ≡ false))
-    pub err : old.is_closed ≡ false → IfErr r (λ f. SendFails contents step old.socket new.socket f × (new.is_closed ≡ closes f))
+    pub ok : OnOk r (done old.socket new.socket × (old.is_closed ≡ false) × (new.is_closed ≡ false))
+    pub err : old.is_closed ≡ false → IfErr r (λ f. fails old.socket new.socket f × (new.is_closed ≡ closes f))
+
+  -- one step: its frame is sent with all that waits, while the socket still sends
+  abbrev pub SendsStep : (S → Option (List ℕ)) → Bool → Result Effect Error → Link S K → Link S K → Result (Unit {0}) LinkFault → Type 0
+  SendsStep contents sends step old new r = Steps (IsSent sends contents step) (SendFails contents step) old new r
 
   -- a text is sent, in one frame
   abbrev pub SendsText : (S → Option (List ℕ)) → List ℕ → Link S K → Link S K → Result (Unit {0}) LinkFault → Type 0
-  SendsText contents s old new r = Steps contents true (write_step old.socket.conn (text s)) old new r
+  SendsText contents s old new r = SendsStep contents true (write_step old.socket.conn (text s)) old new r
 
   -- a close frame of a normal closure is sent, while the socket still sends
   abbrev pub SendsClose : (S → Option (List ℕ)) → Link S K → Link S K → Result (Unit {0}) LinkFault → Type 0
-  SendsClose contents old new r = Steps contents (can_write old.socket.conn.state) (write_step old.socket.conn (close normal_closure)) old new r
+  SendsClose contents old new r = SendsStep contents (can_write old.socket.conn.state) (write_step old.socket.conn (close normal_closure)) old new r
+
+  -- a text joins what waits to be sent, in one frame
+  abbrev pub QueuesText : (S → Option (List ℕ)) → List ℕ → Link S K → Link S K → Result (Unit {0}) LinkFault → Type 0
+  QueuesText contents s old new r =
+      Steps (IsQueued contents (write_step old.socket.conn (text s))) (SendFails contents (write_step old.socket.conn (text s))) old new r
+
+  -- all that waits is sent
+  abbrev pub SendsWaiting : (S → Option (List ℕ)) → Link S K → Link S K → Result (Unit {0}) LinkFault → Type 0
+  SendsWaiting contents old new r = Steps (IsFlushed contents) (FlushFails contents) old new r

@@ -5,7 +5,7 @@ ghost use Rattle.tungstenite.specs.Content.{close};
 ghost use Rattle.tungstenite.specs.Socket.{Flushed, IsFresh, content_of};
 ghost use Rattle.websocket.specs.declared.protocol.config.Role.TheVariants as role;
 ghost use Rattle.bidi_socket.specs.SocketTaking.{IsTaken, Settles, seen, told, told_fault, fault_of, is_last, IsFaultOfTaking};
-ghost use Rattle.bidi_socket.specs.SocketSending.{SendsText, SendsClose, IsFaultOf, closes, normal_closure};
+ghost use Rattle.bidi_socket.specs.SocketSending.{SendsText, SendsClose, QueuesText, SendsWaiting, IsFaultOf, closes, normal_closure};
 
 use std::alloc::{AllocError, Global};
 use std::io::{Read, Write};
@@ -140,11 +140,11 @@ impl<S: Read + Write + Drop, K: MaskKeys + Drop> Link<S, K> {
             },
             Message::Binary(_) => Ok(Incoming::NotText),
             Message::Ping(_) | Message::Pong(_) => {
-                self.flush();
+                self.settle();
                 Ok(Incoming::Control)
             }
             Message::Close(_) => {
-                self.flush();
+                self.settle();
                 self.is_closed = true;
                 Ok(Incoming::Closed)
             }
@@ -160,7 +160,7 @@ impl<S: Read + Write + Drop, K: MaskKeys + Drop> Link<S, K> {
         match fault_of(error) {
             LinkFault::Stream => Err(LinkFault::Stream),
             LinkFault::Closed => {
-                self.flush();
+                self.settle();
                 self.is_closed = true;
                 Ok(Incoming::Closed)
             }
@@ -172,7 +172,7 @@ impl<S: Read + Write + Drop, K: MaskKeys + Drop> Link<S, K> {
     }
 
     // Sends what waits, as far as the stream takes the bytes. The rest is sent by the next call.
-    fn flush(&mut self)
+    fn settle(&mut self)
         ensures sent { Flushed S.contents self.old.socket self.new.socket }
         ensures same { self.new.is_closed ≡ self.old.is_closed }
     {
@@ -190,13 +190,45 @@ impl<S: Read + Write + Drop, K: MaskKeys + Drop> Link<S, K> {
     pub fn send(&mut self, text: &str) -> Result<(), LinkFault>
         ensures { SendsText S.contents text.now self.old self.new result }
     {
+        self.queue(text)?;
+        self.flush()
+    }
+
+    /// Puts a text in one frame behind what waits to be sent, so that several texts go out in one write. It waits
+    /// for the next [`Link::flush`], [`Link::send`], [`Link::take`] or [`Link::close`]; where 128 KiB wait, they
+    /// are written at once, as far as the stream takes them.
+    ///
+    /// Costs a copy of the text.
+    ///
+    /// # Errors
+    /// Those of [`Link::send`].
+    pub fn queue(&mut self, text: &str) -> Result<(), LinkFault>
+        ensures { QueuesText S.contents text.now self.old self.new result }
+    {
         if self.is_closed {
             return Err(LinkFault::Closed);
         }
         let Ok(message) = Message::text(self.alloc, text) else {
             return Err(LinkFault::NoMemory);
         };
-        let answer = self.socket.send(message);
+        let answer = self.socket.write(message);
+        self.sent(answer)
+    }
+
+    /// Sends all that waits. On success no byte waits to be sent any more.
+    ///
+    /// Costs a write of the stream, and none where nothing waits. Takes no memory.
+    ///
+    /// # Errors
+    /// - `Stream`: the link is closed.
+    /// - `Closed`: the connection was closed before.
+    pub fn flush(&mut self) -> Result<(), LinkFault>
+        ensures { SendsWaiting S.contents self.old self.new result }
+    {
+        if self.is_closed {
+            return Err(LinkFault::Closed);
+        }
+        let answer = self.socket.flush();
         self.sent(answer)
     }
 
@@ -219,7 +251,7 @@ impl<S: Read + Write + Drop, K: MaskKeys + Drop> Link<S, K> {
         self.sent(answer)
     }
 
-    // Tells how a send ended.
+    // Tells how a call of the socket that sends ended.
     fn sent(&mut self, answer: Result<(), SocketError>) -> Result<(), LinkFault>
         ensures ok { OnOk result (IsOk answer × (self.new ≡ self.old)) }
         ensures err { IfErr result (λ fault. IsFaultOf answer fault × (self.new.socket ≡ self.old.socket) × (self.new.is_closed ≡ closes fault)) }

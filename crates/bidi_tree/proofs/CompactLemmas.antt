@@ -10,25 +10,6 @@ use Rattle.bidi_tree.specs.Data.{to_data, to_items, to_members}
 use Rattle.bidi_tree.specs.Text.{comma_if, compact_text, items_text, members_text}
 
 mutual
-  pub has_float-to_data : (n : Node) → json.has_float (to_data n) ≡ false
-  has_float-to_data null = refl
-  has_float-to_data (boolean b) = refl
-  has_float-to_data (whole (pos n)) = refl
-  has_float-to_data (whole (negsuc n)) = refl
-  has_float-to_data odd = refl
-  has_float-to_data (text s) = refl
-  has_float-to_data (list ns) = items_have_float-to_items ns
-  has_float-to_data (map ms) = members_have_float-to_members ms
-
-  items_have_float-to_items : (ns : Items) → json.items_have_float (to_items ns) ≡ false
-  items_have_float-to_items no_items = refl
-  items_have_float-to_items (item n ns) = rw (has_float-to_data n) (items_have_float-to_items ns)
-
-  members_have_float-to_members : (ms : Members) → json.members_have_float (to_members ms) ≡ false
-  members_have_float-to_members no_members = refl
-  members_have_float-to_members (member k n ms) = rw (has_float-to_data n) (members_have_float-to_members ms)
-
-mutual
   pub depth-to_data : (n : Node) → depth (to_data n) ≡ levels n
   depth-to_data null = refl
   depth-to_data (boolean b) = refl

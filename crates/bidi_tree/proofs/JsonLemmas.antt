@@ -19,7 +19,7 @@ use Rattle.json.specs.declared.value.Value.{Value, Array, Object, the_lemmas}
 use Rattle.serde_json.specs.Data as serde
 use Rattle.serde_json.specs.Read.{of_json, of_items, of_members, number_of, number_from, max_depth}
 use Rattle.bidi_tree.specs.Node.{Node, list, Items, no_items, item, Members, no_members, member, put}
-use Rattle.bidi_tree.specs.Node.{get_member, levels, items_levels, members_levels, AreAscending}
+use Rattle.bidi_tree.specs.Node.{get_member, levels, items_levels, members_levels}
 use Rattle.bidi_tree.specs.Node as tree
 use Rattle.bidi_tree.specs.Number.{is_js_int}
 use Rattle.bidi_tree.specs.Kind.{members_in}
@@ -29,7 +29,6 @@ use Rattle.bidi_tree.specs.Text.{of_data, integer_node, tree_of, is_within, tree
 use Rattle.bidi_tree.specs.View.{items_of}
 use Rattle.bidi_tree.proofs.TreeLemmas.{of_members-put}
 use Rattle.bidi_tree.proofs.MemberLemmas.{get_member-put, get_member-put_other}
-use Rattle.bidi_tree.proofs.SoundLemmas.{AreAscending-put}
 
 -- ---- the number of a text, by its sign
 
@@ -161,10 +160,6 @@ pub items_parsed : {A : Type 0} (vs : List (Value A)) → items_of (map parsed v
 items_parsed [] = refl
 items_parsed (v ∷ vs) = ap (item (parsed v)) (items_parsed vs)
 
-pub some_of : {A B : Type 0} (f : A → B) (o : Option A) (b : B) → option_map f o ≡ Some b → (a : A) × (o ≡ Some a) × (f a ≡ b)
-some_of f None b e = absurd (let no : None ≡ Some b = e in cc)
-some_of f (Some a) b e = let same : Some (f a) ≡ Some b = e in (a, refl, cc)
-
 -- ---- a value nests as deep as it stands, or less, since a member may be put in place of another
 
 levels_at : (c : Ordering) (k l : List ℕ) (n m : Node) (ms : Members) → members_levels (put k n ms) ≤ max (levels n) (members_levels ms)
@@ -260,12 +255,6 @@ seen_parsed (Some v) = refl
 pub member_parsed : {A : Type 0} (q : List ℕ) (v : Value A) (r : Option (Bor (Value A))) → option_map (λ v. value_view v.now) r ≡ find.get q (value_view v)
     → option_map (λ v. parsed v.now) r ≡ get_member q (members_in (parsed v))
 member_parsed q v r e = seen_parsed r ∙ ap (option_map json_node) e ∙ sym (get-json q (value_view v))
-
--- ---- the names of what was put together ascend
-
-pub AreAscending-put_all : (ms : json.Members) (found : Members) → AreAscending found → AreAscending (put_all ms found)
-AreAscending-put_all json.no_members found h = h
-AreAscending-put_all (json.member k j ms) found h = AreAscending-put_all ms (put k (json_node j) found) (AreAscending-put k (json_node j) found h)
 
 -- ---- lists and maps
 

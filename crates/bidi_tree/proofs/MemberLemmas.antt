@@ -6,15 +6,14 @@ use Rattle.std.proofs.lemmas.Map.Text.{is_eq-slice_cmp}
 use Rattle.std.proofs.lemmas.Slice.Eq.{bytes_eq-Decides}
 use Rattle.std.specs.Cmp.Lexicographic.{slice_cmp}
 use Rattle.std.specs.Ordering.{match_ordering, ordering_reverse, nat_cmp}
-use Rattle.bidi_tree.specs.Kind.{members_in}
-use Rattle.bidi_tree.specs.Node.{Node, null, boolean, whole, odd, text, list, map, Members, no_members, member}
-use Rattle.bidi_tree.specs.Node.{put, get_member, get_of, IsBelow, AreAscending, IsSound, MembersAreSound}
+use Rattle.bidi_tree.specs.Node.{Node, Members, no_members, member}
+use Rattle.bidi_tree.specs.Node.{put, get_member, IsBelow, AreAscending}
 use Rattle.bidi_tree.proofs.SoundLemmas.{IsBelow-below}
 
 pub same_text : (xs : List ℕ) → slice_cmp nat_cmp xs xs ≡ Equal
 same_text xs = tied_itself nat_list_cmp_total xs
 
-same_name : (k l : List ℕ) → slice_cmp nat_cmp k l ≡ Equal → k ≡ l
+pub same_name : (k l : List ℕ) → slice_cmp nat_cmp k l ≡ Equal → k ≡ l
 same_name k l is = (bytes_eq-Decides k l).0 (sym (is_eq-slice_cmp k l) ∙ ap is_eq is)
 
 get_member-put_at : (o : Ordering) (k l : List ℕ) (n m : Node) (ms : Members) → slice_cmp nat_cmp k l ≡ o → get_member k (put k n ms) ≡ Some n
@@ -100,25 +99,3 @@ same_members no_members (member l m right) a b h =
 same_members (member k n left) no_members a b h =
     absurd (let here : get_member k (member k n left) ≡ Some n = rw same_text in let e : Some n ≡ None = sym here ∙ h k in cc)
 same_members (member k n left) (member l m right) a b h = same_head _ k l n m left right refl a b h (same_members left right a.1 b.1)
-
--- ---- what is found in a map
-
-found_sound : (o : Ordering) (rest : Option Node) (n m : Node)
-    → IsSound n → (rest ≡ Some m → IsSound m) → match_ordering o rest (Some n) rest ≡ Some m → IsSound m
-found_sound Less rest n m s later e = later e
-found_sound Equal rest n m s later e = let same : n ≡ m = cc in subst IsSound same s
-found_sound Greater rest n m s later e = later e
-
-pub IsSound-get_member : (k : List ℕ) (ms : Members) (m : Node) → MembersAreSound ms → get_member k ms ≡ Some m → IsSound m
-IsSound-get_member k no_members m s e = absurd (cc)
-IsSound-get_member k (member l n ms) m s e = found_sound _ _ n m s.0 (IsSound-get_member k ms m s.1) e
-
--- a tree's member is one of its members
-pub get_of-members_in : (k : List ℕ) (n : Node) → get_of k n ≡ get_member k (members_in n)
-get_of-members_in k null = refl
-get_of-members_in k (boolean b) = refl
-get_of-members_in k (whole z) = refl
-get_of-members_in k odd = refl
-get_of-members_in k (text s) = refl
-get_of-members_in k (list ns) = refl
-get_of-members_in k (map ms) = refl

@@ -1,5 +1,5 @@
 -- Outlines, beside the trees that they stand for.
-use Rattle.std.proofs.Common.{◌≡◌, ◌≤◌, ◌<◌, ◌+◌, ℕ, zero, suc, length, List, [], ◌∷◌, take, drop, slice_index_or, slice_set, ◌++◌, map, Bool, true, false, cond}
+use Rattle.std.proofs.Common.{◌≡◌, ◌≤◌, ◌<◌, ◌+◌, ◌-◌, ℕ, zero, suc, length, List, [], ◌∷◌, take, drop, slice_index_or, slice_set, ◌++◌, map, Bool, true, false, cond}
 use Rattle.std.proofs.Common.{Ordering, Less, Equal, Greater, Vec, Global, rules, refl, ap, ◌∙◌, subst, sym, arith}
 use Rattle.std.proofs.Math.Seq.{take-suc, drop-cons}
 use Rattle.std.proofs.lemmas.List.{take-append-drop}
@@ -13,13 +13,14 @@ use Rattle.std.specs.Cmp.Lexicographic.{slice_cmp}
 use Rattle.std.specs.Ordering.{nat_cmp, match_ordering, ordering_reverse}
 use Rattle.bidi_tree.specs.Node.{Node, put, member, IsBelow, AreAscending, IsSound, ItemsAreSound, MembersAreSound}
 use Rattle.bidi_tree.specs.formers.sorted.Sorted.{Ascend-map}
-use Rattle.bidi_tree.specs.Named.{Name, Named}
-use Rattle.bidi_tree.specs.Outline.{outline_node, outline_step, outline_items, named_outlines, outline_members}
+use Rattle.bidi_tree.specs.Named.{Name}
+use Rattle.bidi_tree.specs.Outline.{outline_node, outline_step, outline_items, named_outlines}
 use Rattle.bidi_tree.specs.View.{node, members_node}
 use Rattle.bidi_tree.proofs.TreeLemmas.{Entry}
 use Rattle.bidi_tree.proofs.SoundLemmas.{AreAscending-put}
+use Rattle.bidi_tree.proofs.MemberLemmas.{same_name}
 use Rattle.bidi_tree.specs.Node as tree
-use Rattle.bidi_tree.specs.declared.outline.Outline.{Outline, Text, List as ListOf, Map as MapOf, map-Outline, fold-roll-Outline, ind-Outline, the_lemmas}
+use Rattle.bidi_tree.specs.declared.outline.Outline.{Outline, List as ListOf, map-Outline, fold-roll-Outline, ind-Outline, the_lemmas}
 use Rattle.bidi_tree.specs.declared.outline.Outline.TheOpen.{Outline-F}
 
 abbrev pub OutlineMember : Type 0
@@ -46,9 +47,37 @@ next_past k i [] m h at above = tt
 next_past k zero (x ∷ ms) m h at above = (subst (λ y. Stands k y Greater) at above, tt)
 next_past k (suc i) (x ∷ ms) m h at above = (h.0, next_past k i ms m h.1 at above)
 
-pub past_next : (k : List ℕ) (i : ℕ) (ms : List OutlineMember) (m : OutlineMember)
-    → IsPast k i ms → m ≡ slice_index_or ms i m → Stands k m Greater → IsPast k (i + 1) ms
-past_next k i ms m h at above = let one : suc i ≡ i + 1 = omega arith in subst (λ j. IsPast k j ms) one (next_past k i ms m h at above)
+name_below : (k : List ℕ) (i : ℕ) (ms : List OutlineMember) (m : OutlineMember)
+    → IsBelow k (named_outlines ms) → i < length ms → m ≡ slice_index_or ms i m → Stands k m Less
+name_below k i [] m h few at = absurd (omega (arith, few))
+name_below k zero (x ∷ ms) m h few at = subst (λ y. Stands k y Less) (sym at) h.0
+name_below k (suc i) (x ∷ ms) m h few at = name_below k i ms m h.1 (omega (arith, few)) at
+
+-- a name above whatever is below a member is above those before that member
+past_before : (k : List ℕ) (i : ℕ) (ms : List OutlineMember) (m : OutlineMember) → ((l : List ℕ) → Stands l m Less → slice_cmp nat_cmp k l ≡ Greater)
+    → AreAscending (named_outlines ms) → i < length ms → m ≡ slice_index_or ms i m → IsPast k i ms
+past_before k zero ms m above h few at = tt
+past_before k (suc i) [] m above h few at = absurd (omega (arith, few))
+past_before k (suc i) (x ∷ ms) m above h few at =
+    (above x.0.now (name_below x.0.now i ms m h.0 (omega (arith, few)) at), past_before k i ms m above h.1 (omega (arith, few)) at)
+
+-- the name of a member is above those before it
+pub past_same : (k : List ℕ) (i : ℕ) (ms : List OutlineMember) (m : OutlineMember)
+    → AreAscending (named_outlines ms) → i < length ms → m ≡ slice_index_or ms i m → Stands k m Equal → IsPast k i ms
+past_same k i ms m h few at same =
+    past_before k i ms m
+    (λ l less. nat_list_cmp_total.antisymm k l ∙ ap ordering_reverse (subst (λ n. slice_cmp nat_cmp l n ≡ Less) (sym (same_name k m.0.now same)) less)) h few at
+
+-- a name above that of the member before a place is above all before the place
+pub past_above : (k : List ℕ) (i : ℕ) (ms : List OutlineMember) (m : OutlineMember) → AreAscending (named_outlines ms)
+    → 0 < i → i ≤ length ms → m ≡ slice_index_or ms (i - 1) m → Stands k m Greater → IsPast k i ms
+past_above k i ms m h some few at above =
+    let below : Stands k m Greater → slice_cmp nat_cmp m.0.now k ≡ Less = λ a. nat_list_cmp_total.antisymm m.0.now k ∙ ap ordering_reverse a in
+    let before : IsPast k (i - 1) ms =
+    past_before k (i - 1) ms m
+    (λ l less. nat_list_cmp_total.antisymm k l ∙ ap ordering_reverse (nat_list_cmp_total.trans l m.0.now k less (below above))) h (omega (arith, some, few)) at in
+    let one : suc (i - 1) ≡ i = omega (arith, some) in
+    subst (λ j. IsPast k j ms) one (next_past k (i - 1) ms m before at above)
 
 pub put_over : (k : List ℕ) (i : ℕ) (ms : List OutlineMember) (new : Outline) (m n : OutlineMember)
     → IsPast k i ms → i < length ms → m ≡ slice_index_or ms i m → n ≡ slice_index_or ms i n → Stands k m Equal
@@ -171,14 +200,8 @@ sorted_if false ms ns h k = k
 
 -- ---- one level
 
-pub outline_node-Text : (s : Name) → outline_node (Text s) ≡ tree.text s.now
-outline_node-Text s = search (rules, the_lemmas)
-
 pub outline_node-List : (v : Vec Outline Global) → outline_node (ListOf v) ≡ tree.list (outline_items v.items)
 outline_node-List v = search (rules, the_lemmas)
-
-pub outline_node-Map : (ms : Named Outline) → outline_node (MapOf ms) ≡ tree.map (outline_members ms)
-outline_node-Map ms = search (rules, the_lemmas)
 
 -- ---- every outline is sound: its numbers are in range, and the names of each map ascend
 

@@ -9,12 +9,10 @@ use Rattle.std.specs.Ordering.{match_ordering, ordering_reverse, nat_cmp}
 use Rattle.std.specs.Cmp.Lexicographic.{slice_cmp}
 use Rattle.std.specs.BTreeMap.{insert_entry, is_at}
 use Rattle.serde_json.specs.Data as json
-use Rattle.serde_json.specs.View.{view, items_view}
-use Rattle.serde_json.specs.declared.value.Value.{Value}
 use Rattle.bidi_tree.specs.Node as tree
-use Rattle.bidi_tree.specs.Node.{get_member, Node, Items, no_items, item, Members, no_members, member, put}
-use Rattle.bidi_tree.specs.Text.{of_data, of_items, of_members}
-use Rattle.bidi_tree.specs.View.{node, items_of, items_node, members_node}
+use Rattle.bidi_tree.specs.Node.{get_member, Node, Members, no_members, member, put}
+use Rattle.bidi_tree.specs.Text.{of_data, of_members}
+use Rattle.bidi_tree.specs.View.{node, items_node, members_node}
 use Rattle.bidi_tree.specs.declared.tree.Tree.{Tree, List as ListOf, Map, the_lemmas}
 
 abbrev pub Entry : Type 0
@@ -41,10 +39,6 @@ of_members-match_ordering Greater a b c = refl
 pub of_members-put : (k : List ℕ) (d : json.Data) (ms : json.Members) → of_members (json.put k d ms) ≡ put k (of_data d) (of_members ms)
 of_members-put k d json.no_members = refl
 of_members-put k d (json.member l e ms) = of_members-match_ordering (slice_cmp nat_cmp k l) _ _ _ ∙ rw (of_members-put k d ms)
-
-pub of_items-items_view : (vs : List Value) → items_of (map (λ v. of_data (view v)) vs) ≡ of_items (items_view vs)
-of_items-items_view [] = refl
-of_items-items_view (v ∷ vs) = ap (item (of_data (view v))) (of_items-items_view vs)
 
 below_middle : (first : Entry) (es : List Entry) (e : Entry) (more : List Entry)
     → AllByRecursion (λ y. string_cmp first.0 y ≡ Less) (keys_of (es ++ e ∷ more)) → string_cmp first.0 e.0 ≡ Less

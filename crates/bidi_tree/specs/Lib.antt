@@ -5,6 +5,7 @@ pub mod Text
 pub mod Data
 pub mod Kind
 pub mod Json
+pub mod Entries
 pub mod Named
 pub mod Outline
 pub mod formers

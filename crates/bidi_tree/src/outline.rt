@@ -1,6 +1,6 @@
 //! Trees that borrow their texts, made of values to be written.
-ghost use Rattle.std.specs.Prelude.{◌≡◌, IfOk, OnOk, OnErr};
-ghost use Rattle.bidi_tree.specs.Node.{put};
+ghost use Rattle.std.specs.Prelude.{◌≡◌, IfOk, OnOk, OnErr, option_map};
+ghost use Rattle.bidi_tree.specs.Node.{put, get_member};
 ghost use Rattle.bidi_tree.specs.Outline.{outline_node, outline_items, outline_members};
 ghost use Rattle.bidi_tree.specs.View.{node, items_node, members_node};
 
@@ -49,7 +49,7 @@ pub type OutlineMembers<'a> = Sorted<&'a str, Outline<'a>>;
 
 /// Puts a member in: in place of the one of that name, or else before the first whose name is above its own.
 ///
-/// Looks at the members before its place, and moves those behind it; the maps of messages have few members.
+/// Compares with the last member first, and moves those behind its place: where names come in order, it compares once.
 ///
 /// # Errors
 /// No memory: the members are as they were.
@@ -61,19 +61,31 @@ pub fn put_outline<'a>(
     ensures ok { OnOk result (outline_members members.new ≡ put name.now (outline_node outline.entry) (outline_members members.old)) }
     ensures err { OnErr result (outline_members members.new ≡ outline_members members.old) }
 {
-    let mut place = 0;
-    while place < members.entries.len() {
-        match name.cmp(members.entries[place].0) {
-            Ordering::Less => break,
+    let mut place = members.entries.len();
+    while place > 0 {
+        match name.cmp(members.entries[place - 1].0) {
+            Ordering::Less => place -= 1,
             Ordering::Equal => {
-                members.entries[place].1 = outline;
+                members.entries[place - 1].1 = outline;
                 return Ok(());
             }
-            Ordering::Greater => place += 1,
+            Ordering::Greater => break,
         }
     }
     members.entries.insert(place, (name, outline))?;
     Ok(())
+}
+
+/// The member of that name. Takes no memory.
+pub fn find_outline<'a, 'b>(members: &'a OutlineMembers<'b>, name: &str) -> Option<&'a Outline<'b>>
+    ensures { option_map (λ d. outline_node d.now) result ≡ get_member name.now (outline_members members.now) }
+{
+    for member in members.as_slice() {
+        if member.0 == name {
+            return Some(&member.1);
+        }
+    }
+    None
 }
 
 /// Makes the tree of an outline, with texts of its own.

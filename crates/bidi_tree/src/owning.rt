@@ -1,13 +1,12 @@
-//! From a JSON value that borrows its text to a tree that owns its texts.
+//! From a JSON value that borrows its text to a tree that owns its texts, and how deep such a tree is.
 ghost use Rattle.std.specs.Prelude.{◌≡◌, ◌↔◌, ◌≤◌, IfOk, IsTrue};
-ghost use Rattle.json.specs.Value.{members_view};
+ghost use Rattle.json.specs.Tree.{depth, items_depth, members_depth};
+ghost use Rattle.json.specs.Value.{value_view, items_view, members_view};
 ghost use Rattle.bidi_tree.specs.Node.{levels, no_members};
 ghost use Rattle.bidi_tree.specs.Json.{parsed, json_items, put_all};
-ghost use Rattle.json.specs.Value.{items_view};
 ghost use Rattle.bidi_tree.specs.View.{node, items_node, members_node};
 
 use crate::number_text::number_tree;
-use crate::readable::is_shallow;
 use crate::tree::{Members, Tree, put_member};
 use json::Value;
 use std::alloc::{AllocError, Global};
@@ -68,4 +67,40 @@ pub fn is_parsed_within(alloc: Global, value: &Value<'_>, limit: usize) -> Resul
     }
     let tree = own(alloc, value)?;
     Ok(tree.is_within(limit))
+}
+
+// Whether it nests at most so deep, each member that stands there counted.
+#[cycle(shallow)]
+fn is_shallow(value: &Value<'_>, limit: usize) -> bool
+    ensures { IsTrue result → depth (value_view value.now) ≤ limit }
+{
+    match value {
+        Value::Null | Value::Bool(_) | Value::Number(_) | Value::String(_) => true,
+        Value::Array(items) => limit > 0 && are_shallow(items, limit - 1),
+        Value::Object(members) => limit > 0 && members_are_shallow(members, limit - 1),
+    }
+}
+
+#[cycle(shallow)]
+fn are_shallow(items: &Vec<Value<'_>>, limit: usize) -> bool
+    ensures { IsTrue result → items_depth (items_view items.now.items) ≤ limit }
+{
+    for item in items {
+        if !is_shallow(item, limit) {
+            return false;
+        }
+    }
+    true
+}
+
+#[cycle(shallow)]
+fn members_are_shallow(members: &Vec<(&str, Value<'_>)>, limit: usize) -> bool
+    ensures { IsTrue result → members_depth (members_view members.now.items) ≤ limit }
+{
+    for member in members {
+        if !is_shallow(&member.1, limit) {
+            return false;
+        }
+    }
+    true
 }

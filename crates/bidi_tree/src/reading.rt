@@ -1,12 +1,13 @@
 //! From a text to its value, and to its tree.
 ghost use Rattle.std.specs.Prelude.{◌≡◌, Some, None, IfOk, IsTrue, false, Err};
+ghost use Rattle.json.specs.Value.{value_view, items_view, members_view};
 ghost use Rattle.bidi_tree.specs.Node.{IsSound};
-ghost use Rattle.bidi_tree.specs.Json.{parsed};
+ghost use Rattle.bidi_tree.specs.Json.{parsed, is_readable, are_readable, members_are_readable};
 ghost use Rattle.bidi_tree.specs.Text.{is_within, tree_of, tree_of_text};
 ghost use Rattle.bidi_tree.specs.View.{node};
 
+use crate::number_text::number_tree;
 use crate::owning::own;
-use crate::readable::is_readable;
 use crate::tree::Tree;
 use json::{Error as JsonError, Reader, Scratch, Value};
 use std::alloc::{AllocError, Global};
@@ -112,4 +113,41 @@ fn is_within(limit: Option<usize>, text: &str) -> bool
         Some(most) => text.len() <= most,
         None => true,
     }
+}
+
+// Whether no number is too large for a float.
+#[cycle(readable)]
+fn is_readable(value: &Value<'_>) -> bool
+    ensures { result ≡ is_readable (value_view value.now) }
+{
+    match value {
+        Value::Null | Value::Bool(_) | Value::String(_) => true,
+        Value::Number(text) => number_tree(text).is_some(),
+        Value::Array(items) => are_readable(items),
+        Value::Object(members) => members_are_readable(members),
+    }
+}
+
+#[cycle(readable)]
+fn are_readable(items: &Vec<Value<'_>>) -> bool
+    ensures { result ≡ are_readable (items_view items.now.items) }
+{
+    for item in items {
+        if !is_readable(item) {
+            return false;
+        }
+    }
+    true
+}
+
+#[cycle(readable)]
+fn members_are_readable(members: &Vec<(&str, Value<'_>)>) -> bool
+    ensures { result ≡ members_are_readable (members_view members.now.items) }
+{
+    for member in members {
+        if !is_readable(&member.1) {
+            return false;
+        }
+    }
+    true
 }

@@ -1,5 +1,4 @@
 //! Entries in the order of their keys.
-ghost use Rattle.std.specs.Prelude.{◌≡◌, [], length, IfOk};
 ghost use Rattle.std.specs.List.Sorted.{IsStrictlySortedBy, IsStrictlySortedBy-prop};
 ghost use Rattle.std.specs.Map.{keys_of};
 
@@ -15,9 +14,12 @@ pub struct Sorted<K: Ord, V> {
 }
 
 impl<K: Ord, V> Sorted<K, V> {
+    ghost use Rattle.std.specs.Prelude.{◌≡◌, [], length, IfOk};
+    ghost use Rattle.bidi_tree.specs.Entries.{entries_of};
+
     /// No entry.
     pub fn new(alloc: Global) -> Self
-        ensures { result.entries.items ≡ [] }
+        ensures { entries_of result ≡ [] }
     {
         Sorted {
             entries: Vec::new(alloc),
@@ -29,7 +31,7 @@ impl<K: Ord, V> Sorted<K, V> {
     /// # Errors
     /// No memory: an allocation failed.
     pub fn with_capacity(alloc: Global, room: usize) -> Result<Self, AllocError>
-        ensures { IfOk result (λ s. s.entries.items ≡ []) }
+        ensures { IfOk result (λ s. entries_of s ≡ []) }
     {
         Ok(Sorted {
             entries: Vec::with_capacity(alloc, room)?,
@@ -38,14 +40,14 @@ impl<K: Ord, V> Sorted<K, V> {
 
     /// How many entries it has.
     pub fn len(&self) -> usize
-        ensures { result ≡ length self.now.entries.items }
+        ensures { result ≡ length (entries_of self.now) }
     {
         self.entries.len()
     }
 
     /// The entries, in the order of their keys.
     pub fn as_slice(&self) -> &[(K, V)]
-        ensures { result.now ≡ self.now.entries.items }
+        ensures { result.now ≡ entries_of self.now }
     {
         self.entries.as_slice()
     }

@@ -58,6 +58,32 @@ fn a_text_is_whole_and_a_ping_is_answered(rt: HostRuntime) -> Result<(), Fail> {
     check_rows::<Links>(rt.alloc(), FRAMES)
 }
 
+// ---- several texts in one write
+
+/// Texts that join what waits are written by the next call that sends, in order: a `take` sends first what waits. A stream of
+/// `once` takes one write and no more, one of `eager` writes what waits at one byte.
+const QUEUES: &str = "
+server,over / queue queue -> Ok Ok /
+server,over,by-1,by-3,once / queue queue flush -> Ok Ok Ok / 81 02 7b 7d 81 02 7b 7d
+server,over,by-1,once / queue queue send -> Ok Ok Ok / 81 02 7b 7d 81 02 7b 7d 81 02 7b 7d
+server,over,by-1,once / queue close -> Ok Ok / 81 02 7b 7d 88 02 03 e8
+server,over,by-1,once / flush flush -> Ok Ok /
+once / send send -> Ok Err(Stream) / 81 02 7b 7d
+client / queue queue flush -> Ok Ok Ok / 81 82 12 34 56 78 69 49 81 82 12 34 56 78 69 49
+server,over,by-1 81 82 00 00 00 00 7b 7d / queue take -> Ok {} / 81 02 7b 7d
+server,over,by-1 89 82 00 00 00 00 68 69 / queue take -> Ok Control / 81 02 7b 7d 8a 02 68 69
+server,over,by-1 88 80 00 00 00 00 / queue take queue flush -> Ok Closed Err(Closed) Err(Closed) / 81 02 7b 7d 88 00
+server,over,by-1 / close queue flush send -> Ok Err(Protocol) Err(Closed) Err(Closed) / 88 02 03 e8
+refuses-1 / queue queue flush queue flush take -> Ok Ok Err(Stream) Err(Closed) Err(Closed) Closed /
+narrow / queue flush queue -> Err(Full) Ok Err(Full) /
+eager / queue queue -> Ok Ok / 81 02 7b 7d 81 02 7b 7d
+";
+
+#[test]
+fn queued_texts_leave_in_one_write(rt: HostRuntime) -> Result<(), Fail> {
+    check_rows::<Links>(rt.alloc(), QUEUES)
+}
+
 // ---- streams that fail
 
 /// A read fails once, or the stream ends, after so many bytes.
@@ -153,6 +179,7 @@ fn a_code_that_may_not_be_sent_is_answered_by_another(rt: HostRuntime) -> Result
 /// Calls that find no memory, each again with memory, and then where the first finds enough.
 const NO_MEMORY: &str = "
 send -> Err(NoMemory) Ok / 81 02 7b 7d, Ok Ok / 81 02 7b 7d 81 02 7b 7d
+queue -> Err(NoMemory) Ok /, Ok Ok /
 close -> Err(NoMemory) Ok / 88 02 03 e8, Ok Ok / 88 02 03 e8
 take -> Err(NoMemory) Closed /
 ";
@@ -226,6 +253,10 @@ fn answers(alloc: Global, word: &str, wire: Wire<'_>, calls: &str) -> Result<Str
             let config = WebSocketConfig::default().max_write_buffer_size(1);
             calls_of(alloc, over(alloc, wire, config), calls)
         }
+        "eager" => {
+            let config = WebSocketConfig::default().write_buffer_size(1);
+            calls_of(alloc, over(alloc, wire, config), calls)
+        }
         _ => calls_of(alloc, Link::server(alloc, wire)?, calls),
     }
 }
@@ -255,6 +286,8 @@ fn push_call<K: MaskKeys + Drop>(
     match call {
         "take" => push_taken(told, link.take()),
         "send" => push_done(told, link.send("{}")),
+        "queue" => push_done(told, link.queue("{}")),
+        "flush" => push_done(told, link.flush()),
         "close" => push_done(told, link.close()),
         _ => Err(Fail::from("no such call")),
     }
@@ -374,6 +407,8 @@ struct Wire<'a> {
     until_failure: usize,
     /// How many writes fail, the first ones.
     refused_writes: usize,
+    /// How many writes are taken; those behind them fail.
+    taken_writes: usize,
     written: &'a RefCell<Vec<u8>>,
 }
 
@@ -394,6 +429,7 @@ fn wire_of<'a>(
         step: if cut == "by" { place } else { usize::MAX },
         until_failure: if cut == "fails" { place } else { usize::MAX },
         refused_writes: if cut == "refuses" { place } else { 0 },
+        taken_writes: if cut == "once" { 1 } else { usize::MAX },
         written,
     })
 }
@@ -419,6 +455,10 @@ impl Write for Wire<'_> {
             self.refused_writes -= 1;
             return Err(io::Error::from(ErrorKind::BrokenPipe));
         }
+        if self.taken_writes == 0 {
+            return Err(io::Error::from(ErrorKind::BrokenPipe));
+        }
+        self.taken_writes -= 1;
         let count = buf.len().min(self.step);
         match self.written.try_borrow_mut() {
             Ok(mut written) => written.extend_from_slice(&buf[..count])?,

@@ -157,10 +157,7 @@ fn check_writes<R: Abort + AllocGlobal>(
     Ok(())
 }
 
-/// The most bytes that a short read or write moves.
-const MOST_MOVED: usize = 512;
-
-/// That a run writes the same, however few bytes a read and a write move.
+/// That a run writes the same, whatever number of bytes a read and a write move at most.
 fn check_sizes<R: Abort + AllocGlobal>(
     rt: &R,
     asked: &Run,
@@ -168,7 +165,7 @@ fn check_sizes<R: Abort + AllocGlobal>(
     answers: &str,
 ) -> Result<(), Fail> {
     let output = first_answers(rt.alloc(), answers, usize::MAX)?;
-    for most in 1..=MOST_MOVED.min(output.len()) {
+    for most in 1..=input.len().max(output.len()) {
         let mut written = Vec::new(rt.alloc());
         let status = status_of(rt.alloc(), asked, input.as_bytes(), &mut written, most);
         assert!(rt;

@@ -6,8 +6,9 @@ use bidi_serve::{ServeFault, serve, serve_link};
 use bidi_socket::Link;
 use bidi_tree::JsUint;
 use std::alloc::{AllocError, Global};
+use std::cell::RefCell;
 use std::io;
-use std::io::{Read, Write};
+use std::io::{ErrorKind, Read, Write};
 use std::net::{Shutdown, SocketAddr, TcpListener, TcpStream};
 use std::test::Fail;
 use std::time::{Duration, Instant};
@@ -258,11 +259,11 @@ fn talk_over(
 }
 
 /// Serves a link, and tells whether its connection was dropped.
-fn serve_one(
+fn serve_one<S: Read + Write + Drop>(
     alloc: Global,
     end: &mut RemoteEnd,
     conn: u32,
-    link: Link<TcpStream, NoMask>,
+    link: Link<S, NoMask>,
     messages: u32,
 ) -> bool {
     let mut link = link;
@@ -301,6 +302,102 @@ fn bytes_of(alloc: Global, words: &str) -> Result<Vec<u8>, Fail> {
         }
     }
     Ok(bytes)
+}
+
+/// Subscribes to what happens to contexts and realms, and navigates the tab that stands at the start: in one frame of a client
+/// each, 86 and 127 bytes behind a key of zeros.
+const SUBSCRIBE: &[u8] =
+    b"\x81\xd6\x00\x00\x00\x00{\"id\":2,\"method\":\"session.subscribe\",\"params\":{\"events\":[\"browsingContext\",\"script\"]}}";
+
+const NAVIGATE: &[u8] =
+    b"\x81\xfe\x00\x7f\x00\x00\x00\x00{\"id\":3,\"method\":\"browsingContext.navigate\",\"params\":{\"context\":\"00000000-0002-8000-8000-000000000001\",\"url\":\"http://a.test/\"}}";
+
+/// A session is answered by one text; a subscription by the context, the realm and its id; a navigation by its start, the end of
+/// a realm, a new realm, the content, the load, and its reply. What one command brings about leaves in one write.
+#[test]
+fn the_texts_of_a_step_leave_in_one_write(rt: HostRuntime) -> Result<(), Fail> {
+    let mut frames = Vec::new(rt.alloc());
+    for frame in [NEW, SUBSCRIBE, NAVIGATE] {
+        frames.extend_from_slice(frame)?;
+    }
+    let writes = RefCell::new(Vec::new(rt.alloc()));
+    let wire = Wire {
+        given: frames.as_slice(),
+        writes: &writes,
+    };
+    let is_dropped = serve_wire(rt.alloc(), Link::server(rt.alloc(), wire)?);
+    let texts = writes.into_inner();
+    assert!(rt;
+        is_dropped && texts.as_slice() == [1, 3, 6].as_slice(),
+        "{texts:?}"
+    );
+    Ok(())
+}
+
+/// Serves a link by a new remote end, and tells whether its connection was dropped.
+fn serve_wire(alloc: Global, link: Link<Wire<'_>, NoMask>) -> bool {
+    match RemoteEnd::new(alloc) {
+        Ok(end) => serve_new(alloc, end, link),
+        Err(_) => false,
+    }
+}
+
+fn serve_new(alloc: Global, end: RemoteEnd, link: Link<Wire<'_>, NoMask>) -> bool {
+    let mut end = end;
+    serve_one(alloc, &mut end, 1, link, 10)
+}
+
+/// A stream in memory: the bytes that it gives, and how many texts each write had.
+#[derive(Drop)]
+struct Wire<'a> {
+    given: &'a [u8],
+    writes: &'a RefCell<Vec<usize>>,
+}
+
+impl Read for Wire<'_> {
+    fn read(&mut self, buf: &mut [u8]) -> io::Result<usize> {
+        let count = buf.len().min(self.given.len());
+        buf[..count].copy_from_slice(&self.given[..count]);
+        self.given = &self.given[count..];
+        Ok(count)
+    }
+}
+
+impl Write for Wire<'_> {
+    fn write(&mut self, buf: &[u8]) -> io::Result<usize> {
+        match self.writes.try_borrow_mut() {
+            Ok(mut writes) => writes.push(texts_in(buf))?,
+            Err(_) => return Err(io::Error::from(ErrorKind::Other)),
+        }
+        Ok(buf.len())
+    }
+
+    fn flush(&mut self) -> io::Result<()> {
+        Ok(())
+    }
+}
+
+/// How many whole frames of a text, each of less than 65,536 bytes, stand at the front of these bytes.
+fn texts_in(bytes: &[u8]) -> usize {
+    let mut rest = bytes;
+    for texts in 0..bytes.len() {
+        match behind_text(rest) {
+            Some(behind) => rest = behind,
+            None => return texts,
+        }
+    }
+    bytes.len()
+}
+
+/// What stands behind the first frame of a text.
+fn behind_text(bytes: &[u8]) -> Option<&[u8]> {
+    match bytes {
+        [0x81, 0x7e, high, low, rest @ ..] => {
+            rest.get(usize::from(u16::from_be_bytes([*high, *low]))..)
+        }
+        [0x81, len, rest @ ..] => rest.get(usize::from(*len)..),
+        _ => None,
+    }
 }
 
 #[test]

@@ -2,7 +2,7 @@
 ghost use Rattle.std.specs.Prelude.{IfOk};
 
 use bidi_shape::{Ext, MakeFault, Parsed, Shape};
-use bidi_tree::{Members, Tree, parse, read, write};
+use bidi_tree::{Members, Outline, Tree, outline_parsed, parse, read, write};
 use json::{Scratch, Value};
 use std::alloc::Global;
 use std::fmt::Debug;
@@ -42,16 +42,18 @@ pub fn text_of<X: Shape>(alloc: Global, value: X) -> Result<String, Fail> {
     written(alloc, value.to_tree(alloc)?)
 }
 
-/// The compact text of the value that a text reads as, or the fault: by its tree and with no tree between, which agree.
+/// The compact text of the value that a text reads as, or the fault: by its tree, by an outline and straight, which
+/// agree.
 pub fn again<X: Shape>(alloc: Global, text: &str) -> Result<String, Fail> {
     let mut scratch = Scratch::new(alloc);
     let value = parse(alloc, text, None, &mut scratch)?;
     let straight = read_again::<X, Value>(alloc, &value)?;
+    let by_outline = read_again::<X, Outline>(alloc, &outline_parsed(alloc, &value)?)?;
     let by_tree = read_again::<X, Tree>(alloc, &tree_of(alloc, text)?)?;
-    if by_tree == straight {
+    if by_tree == straight && by_tree == by_outline {
         Ok(by_tree)
     } else {
-        Err(Fail::from("a text reads in two ways"))
+        Err(Fail::from("a text reads in more than one way"))
     }
 }
 

@@ -1,6 +1,7 @@
 -- The index of a session's subscriptions: for each event, those that have it.
 use Rattle.std.specs.Prelude.{ℕ, ◌==◌, Bool, not, ◌&&◌, ◌||◌, if◌then◌else◌, List, [], ◌∷◌, ◌++◌, length, map, filter, flat_map}
 use Rattle.std.specs.List.{list_any}
+use Rattle.std.specs.List.Sorted.{IsPermutation, IsNonDecreasing}
 use Rattle.bidi_methods.specs.declared.event_data.EventName.{EventName}
 use Rattle.bidi_methods.specs.EventName.{events as all_events}
 use Rattle.bidi_browser.specs.Occurrences.{is_among}
@@ -16,10 +17,19 @@ Pair = ℕ × ℕ
 abbrev pub pairs_at : ℕ → List ℕ → List Pair
 pairs_at n tops = map (λ top. (top, n)) tops
 
--- those of a subscription; a global one has none
+-- the top-level contexts that a scope names; a global one names none
+abbrev pub tops_of : Scope → List ℕ
+tops_of All = []
+tops_of (Below tops) = tops
+
+-- the pairs of a subscription to this scope
 abbrev pub pairs_for : ℕ → Scope → List Pair
-pairs_for n All = []
-pairs_for n (Below tops) = pairs_at n tops
+pairs_for n scope = pairs_at n (tops_of scope)
+
+-- these are the contexts that a scope names, in order of number
+pub record AreInOrder (scope : Scope) (tops : List ℕ) : Type 0 where
+  pub moved : IsPermutation (tops_of scope) tops
+  pub ascending : IsNonDecreasing tops
 
 -- for an event, the numbers of the global subscriptions that hold for it
 abbrev pub global_numbers : EventName → List SubscriptionRow → List ℕ

@@ -1,4 +1,4 @@
-use Rattle.std.proofs.Common.{◌≡◌, ◌++◌, List, ℕ, codes}
+use Rattle.std.proofs.Common.{◌≡◌, ◌++◌, codes}
 use Rattle.bidi_ledger.specs.Steps.{sending_of}
 use Rattle.bidi_methods.specs.contracts.command_data.CommandDataPayloadMethod.TheImpl as asks
 use Rattle.bidi_lines.proofs.ResultLemmas.{if_none_at, if_some_at}

@@ -1,28 +1,32 @@
-use Rattle.std.proofs.Common.{true, false, sym, subst, map, arith}
-use Rattle.bidi_remote.specs.Machine.Sent.{text_on, texts_on}
+use Rattle.std.proofs.Common.{false, true, ◌∙◌, sym, ap, subst, map}
+use Rattle.std.specs.Prelude.{◌&&◌, is_ok}
+use Rattle.std.specs.List.{list_any}
+use Rattle.bidi_remote.specs.Machine.Sent.{texts_on}
 use Rattle.bidi_remote.specs.State.View.{sent_of}
-use Rattle.std.proofs.lemmas.List.{nil_from_length}
-use Rattle.bidi_serve.specs.Serving.{AreSent, all}
-use Rattle.bidi_serve.proofs.ServingLemmas.{sent-more, sent-stop}
+use Rattle.bidi_serve.specs.Serving.{AreSent, no_text, is_text_on}
+use Rattle.bidi_serve.proofs.ServingLemmas.{no-texts, some-texts, sent-together}
 use Rattle.bidi_serve.proofs.serving.send_all.Goals as goal
 
-pub returns-then-not-send_one : goal.returns-then-not-send_one
-returns-then-not-send_one g c =
-    c.texts.invariant c.send_one.new.link false
-    (subst (λ xs. AreSent g.S.Write.contents c.texts.link (texts_on c.args.conn.value (map sent_of xs)) c.send_one.new.link false)
-    (sym c.in-Some.ensures.steps.0)
-    (sent-stop g.S.Write.contents c.texts.link c.send_one.new.link (text_on c.args.conn.value (sent_of c.in-Some.one))
-    (texts_on c.args.conn.value (map sent_of c.next.new.self.rest.items)) c.send_one.result c.if-not-send_one.true c.send_one.ensures))
+pub returns-then-not-has_text : goal.returns-then-not-has_text
+returns-then-not-has_text g c =
+    let l = c.args.conn.value in
+    let has = ap (list_any (λ x. is_text_on l (sent_of x))) (sym c.deref.ensures.value) ∙ sym c.has_text.ensures ∙ c.if-not-has_text.true in
+    subst (λ ss. AreSent g.S.Write.contents c.args.link.now ss c.args.link.now true) (sym (no-texts l c.args.sent.items has)) (no_text c.args.link.now)
 
-pub texts-preserved : goal.texts-preserved
-texts-preserved g c = λ n w rest.
-    c.texts.invariant n w
-    (subst (λ xs. AreSent g.S.Write.contents c.texts.link (texts_on c.args.conn.value (map sent_of xs)) n w) (sym c.in-Some.ensures.steps.0)
-    (sent-more g.S.Write.contents c.texts.link c.send_one.new.link n (text_on c.args.conn.value (sent_of c.in-Some.one))
-    (texts_on c.args.conn.value (map sent_of c.next.new.self.rest.items)) c.send_one.result w c.if-not-send_one.false c.send_one.ensures rest))
+pub returns-then-queued : goal.returns-then-queued
+returns-then-queued g c =
+    let l = c.args.conn.value in
+    let has = ap (list_any (λ x. is_text_on l (sent_of x))) (sym c.deref.ensures.value) ∙ sym c.has_text.ensures ∙ c.if-not-has_text.false in
+    let ss = texts_on l (map sent_of c.args.sent.items) in
+    subst (AreSent g.S.Write.contents c.args.link.now ss c.flush.new.self) (ap (λ b. b && is_ok c.flush.result) c.if-queued.true ∙ sym c.is_ok-flushed.ensures.value)
+    (sent-together g.S.Write.contents c.args.link.now c.queue_all-queued.new.link c.flush.new.self ss c.queue_all-queued.result c.flush.result
+    (some-texts l c.args.sent.items has) c.queue_all-queued.ensures c.flush.ensures)
 
-pub returns : goal.returns
-returns g c =
-    let none = nil_from_length c.texts.one-iterator.rest.items (omega (arith, c.in-None.ensures.steps.0, c.texts.one-iterator.rest.ok)) in
-    c.texts.invariant c.texts.link true
-    (subst (λ xs. AreSent g.S.Write.contents c.texts.link (texts_on c.args.conn.value (map sent_of xs)) c.texts.link true) (sym none) (all c.texts.link))
+pub returns-else-queued : goal.returns-else-queued
+returns-else-queued g c =
+    let l = c.args.conn.value in
+    let has = ap (list_any (λ x. is_text_on l (sent_of x))) (sym c.deref.ensures.value) ∙ sym c.has_text.ensures ∙ c.if-not-has_text.false in
+    let ss = texts_on l (map sent_of c.args.sent.items) in
+    subst (AreSent g.S.Write.contents c.args.link.now ss c.flush.new.self) (ap (λ b. b && is_ok c.flush.result) c.if-queued.false ∙ sym c.if-queued.false)
+    (sent-together g.S.Write.contents c.args.link.now c.queue_all-queued.new.link c.flush.new.self ss c.queue_all-queued.result c.flush.result
+    (some-texts l c.args.sent.items has) c.queue_all-queued.ensures c.flush.ensures)

@@ -1,21 +1,19 @@
-use Rattle.std.proofs.Common.{◌∙◌, List, map, sym, ap, subst}
-use Rattle.std.specs.Prelude.{◌==◌, not}
-use Rattle.std.specs.List.{list_any}
-use Rattle.std.specs.List.Sorted.{IsStrictlyIncreasing}
-use Rattle.bidi_handles.specs.declared.handle.Handle.{Handle}
-use Rattle.bidi_handles.specs.ValuesInHand.{handle_seen}
-use Rattle.bidi_handles.proofs.ListLemmas.{filter-map}
-use Rattle.bidi_handles.proofs.SearchLemmas.{ascend-filter}
+use Rattle.std.proofs.Common.{◌∙◌, filter, take_all, ap, arith}
+use Rattle.std.specs.Prelude.{not}
+use Rattle.bidi_handles.specs.Handles.{handles_seen}
+use Rattle.bidi_handles.proofs.NumberLemmas.{among, none-left_out, left-more}
 use Rattle.bidi_handles.proofs.handles.Handles.disown.Goals as goal
+
+pub loop-number-init : goal.loop-number-init
+loop-number-init c = none-left_out (handles_seen c.args.self.now)
+
+pub loop-number-preserved : goal.loop-number-preserved
+loop-number-preserved c =
+    let held = c.loop-number in
+    left-more c.args.numbers.now held.number-index 0 (handles_seen c.args.self.now) (handles_seen held.self) (handles_seen c.release.new.self)
+    c.loop-number-test.true held.invariant c.release.ensures
 
 pub returns : goal.returns
 returns c =
-    ap (map handle_seen) c.take_out.ensures
-    ∙ sym (filter-map handle_seen (λ held. not (list_any (λ n. n == held.0) c.args.numbers.now)) c.args.self.now.items.items)
-
-pub invariant_of-self : goal.invariant_of-self
-invariant_of-self c = record {
-  ascend =
-      subst (λ (hs : List Handle). IsStrictlyIncreasing (map (λ h. h.number) hs)) (sym c.take_out.ensures)
-      (ascend-filter (λ m. not (list_any (λ n. n == m) c.args.numbers.now)) c.args.self.now.items.items c.args.self.now.ascend);
-}
+    c.loop-number.invariant
+    ∙ ap (λ ns. filter (λ s. not (among s.0 ns)) (handles_seen c.args.self.now)) (take_all c.loop-number.number-index c.args.numbers.now (omega arith))

@@ -13,6 +13,7 @@ use Rattle.bidi_remote.proofs.OpeningLemmas.{IsFairIfDone, turn_fair}
 use Rattle.bidi_remote.proofs.SpeakingLemmas.{speaks-active, made-none, few-sessions, few-subscriptions, has-ids}
 use Rattle.bidi_remote.proofs.DecideLemmas.{row-active}
 use Rattle.bidi_remote.proofs.ChangeLemmas.{agree-told, agree-did, agree-began, agree-ended, agree-subscribed, agree-cancelled, agree-dismissed}
+use Rattle.bidi_remote.proofs.SubscriptionLemmas.{cancelled-same}
 use Rattle.bidi_remote.proofs.state.State.apply.Goals as goal
 
 pub returns-in-Nothing : goal.returns-in-Nothing
@@ -57,7 +58,8 @@ returns-in-Cancel c = λ h i act short a is made.
     let s = c.in-Cancel.session in
     subst (λ x. AgreeWith (record c.args.self.now { sessions = c.cancel.new.self }) (deed_of x act ∷ deeds h)) (sym c.in-Cancel.is)
     (agree-cancelled c.args.self.now (deeds h) s c.cancel.new.self a c.cancel.ensures.made c.in-Cancel.numbers.items
-    (c.cancel.ensures.rows ∙ ap (λ ns. changed s (cancelled ns) (in_hand.rows_in c.args.self.now.sessions)) c.deref.ensures.value))
+    (c.cancel.ensures.rows ∙ (ap (λ ns. changed s (cancelled ns) (in_hand.rows_in c.args.self.now.sessions)) c.deref.ensures.value
+    ∙ cancelled-same c.distinct.result.items c.in-Cancel.numbers.items c.distinct.ensures s (in_hand.rows_in c.args.self.now.sessions))))
 
 pub returns-in-Dismiss : goal.returns-in-Dismiss
 returns-in-Dismiss c = λ h i act short a is made.

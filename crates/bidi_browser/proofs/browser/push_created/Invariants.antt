@@ -1,0 +1,11 @@
+use Rattle.std.proofs.Common.{◌≡◌, ◌++◌, map, take}
+use Rattle.bidi_browser.specs.ContextRows.{row_of, created_in}
+use Rattle.bidi_browser.specs.Plans.{AreWell}
+use Rattle.bidi_browser.specs.View.{seen}
+use Rattle.bidi_browser.proofs.browser.push_created.Given as goal
+
+abbrev pub invariant-loop-context : goal.invariant-loop-context
+invariant-loop-context l = record {
+  told : seen l.all.items ≡ seen l.initial.all.items ++ map created_in (map row_of (take l.context-index l.contexts));
+  well : AreWell l.initial.all.items → AreWell l.all.items;
+}
