@@ -1,0 +1,7 @@
+pub mod Names
+pub mod Grammar
+pub mod Weight
+pub mod Reason
+pub mod Blames
+pub mod View
+pub mod Words

@@ -1,0 +1,105 @@
+-- A reason in words: the place as a JSON Pointer, what may stand there, and what does. Pointers after RFC 6901, 3 and 4; the words are this project's own.
+use Rattle.std.specs.Prelude.{ℕ, suc, List, [], ◌∷◌, ◌++◌, length, flat_map, codes, decimal, bytes_eq, nat_le, ◌==◌, Option, Some, None, if◌then◌else◌}
+use Rattle.std.specs.Fmt.{signed_decimal}
+use Rattle.std.specs.List.{list_any}
+use Rattle.json.specs.Print.{quoted}
+use Rattle.bidi_tree.specs.Node as node
+use Rattle.bidi_tree.specs.Node.{Node, Members}
+use Rattle.bidi_shape.specs.Term.{Term, exactly, text, bool, null, js_uint, js_int, any, list_of, pair_of, map_of, either, rule, capped}
+use Rattle.bidi_shape.specs.Fits.{count}
+use Rattle.bidi_blame.specs.Names.{rule_text}
+use Rattle.bidi_blame.specs.Reason.{Step, member, item}
+
+-- ---- the place
+
+-- `~0` stands for `~` in a name, `~1` for `/`, and every other byte for itself
+abbrev pub escaped_byte : ℕ → List ℕ
+escaped_byte b = if b == 126 then codes "~0" else if b == 47 then codes "~1" else b ∷ []
+
+abbrev pub escaped : List ℕ → List ℕ
+escaped = flat_map escaped_byte
+
+-- the name of a member, or the number of an item
+abbrev pub step_text : Step → List ℕ
+step_text (member k) = escaped k
+step_text (item i) = decimal i
+
+-- a slash and its text for each step; the first step of the list is the last one of the pointer
+abbrev pub pointer_text : List Step → List ℕ
+pointer_text [] = []
+pointer_text (s ∷ ss) = pointer_text ss ++ 47 ∷ step_text s
+
+-- ---- what may stand there
+
+-- a list with so many items at least
+abbrev pub list_words : ℕ → List ℕ
+list_words least = if least == 0 then codes "a list" else codes "a list with at least one item"
+
+-- the words of a term, and of each alternative where it is a choice
+abbrev pub alternatives : Term → List (List ℕ)
+alternatives (exactly s) = quoted s ∷ []
+alternatives text = codes "a text" ∷ []
+alternatives bool = codes "true or false" ∷ []
+alternatives null = codes "null" ∷ []
+alternatives js_uint = codes "a whole number from 0 to 9007199254740991" ∷ []
+alternatives js_int = codes "a whole number from -9007199254740991 to 9007199254740991" ∷ []
+alternatives any = codes "whole numbers in range and at most 60 levels" ∷ []
+alternatives (list_of least τ) = list_words least ∷ []
+alternatives (pair_of σ τ) = codes "a list of two items" ∷ []
+alternatives (map_of rows o) = codes "a map" ∷ []
+alternatives (either σ τ) = alternatives σ ++ alternatives τ
+alternatives (rule n) = rule_text n ∷ []
+alternatives (capped τ) = codes "at most 60 levels" ∷ []
+
+-- words once more, unless they are among those told so far
+abbrev pub told_with : List (List ℕ) → List ℕ → List (List ℕ)
+told_with told w = if list_any (bytes_eq w) told then told else told ++ w ∷ []
+
+-- the words told so far, and each of these once
+abbrev pub each_once : List (List ℕ) → List (List ℕ) → List (List ℕ)
+each_once told [] = told
+each_once told (w ∷ ws) = each_once (told_with told w) ws
+
+-- ` or ` before each
+abbrev pub or_each : List (List ℕ) → List ℕ
+or_each [] = []
+or_each (w ∷ ws) = (codes " or " ++ w) ++ or_each ws
+
+-- the words with ` or ` between them; `nothing` where there are none
+abbrev pub choice_text : List (List ℕ) → List ℕ
+choice_text [] = codes "nothing"
+choice_text (w ∷ ws) = w ++ or_each ws
+
+abbrev pub wants_text : List Term → List ℕ
+wants_text τs = choice_text (each_once [] (flat_map alternatives τs))
+
+-- ---- what stands there
+
+-- a text of at most 60 bytes as JSON writes it, or how many bytes it has
+abbrev pub text_words : List ℕ → List ℕ
+text_words s = if nat_le (length s) 60 then quoted s else codes "a text of " ++ decimal (length s) ++ codes " bytes"
+
+-- a list or a map by how many parts it has
+abbrev pub count_words : List ℕ → List ℕ → ℕ → List ℕ
+count_words kind part n =
+    if n == 0 then codes "an empty " ++ kind
+    else if n == 1 then codes "a " ++ kind ++ codes " of one " ++ part
+    else codes "a " ++ kind ++ codes " of " ++ decimal n ++ 32 ∷ part ++ codes "s"
+
+abbrev pub count_members : Members → ℕ
+count_members node.no_members = 0
+count_members (node.member k t ms) = suc (count_members ms)
+
+abbrev pub node_text : Node → List ℕ
+node_text node.null = codes "null"
+node_text (node.boolean b) = if b then codes "true" else codes "false"
+node_text (node.whole z) = signed_decimal z
+node_text node.odd = codes "a number with a fraction or out of range"
+node_text (node.text s) = text_words s
+node_text (node.list ts) = count_words (codes "list") (codes "item") (count ts)
+node_text (node.map ms) = count_words (codes "map") (codes "member") (count_members ms)
+
+-- `nothing` where nothing stands
+abbrev pub found_text : Option Node → List ℕ
+found_text None = codes "nothing"
+found_text (Some t) = node_text t

@@ -1,0 +1,24 @@
+//! Why a tree does not fit a rule of the grammar.
+//!
+//! [`blame`] gives a [`Reason`] exactly where a tree does not fit the rule of a [`Name`]: the place, what may stand there, and
+//! what does.
+//!
+//! [`pointer`], [`wanted`] and [`found_words`] have the words for it.
+//!
+//! The rules are data here, each proved equal to the definition of its name; `bidi_shape` and the crates above it read values by
+//! the same definitions.
+#![tactic(auto)]
+
+mod blaming;
+mod name;
+mod reason;
+mod rules;
+mod taking;
+mod term;
+mod words;
+
+pub use blaming::blame;
+pub use name::Name;
+pub use reason::{Reason, Step, Want};
+pub use term::{Need, Openness, Row, Term};
+pub use words::{found_words, pointer, wanted};
