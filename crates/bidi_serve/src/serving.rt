@@ -21,7 +21,8 @@ use tungstenite::MaskKeys;
 /// still open, and closes the link, by a close frame with code 1000.
 ///
 /// It ends where the remote end denies or closes the connection, where the peer closes the link, where the
-/// link fails, or after so many messages. What the remote end sends on other connections is dropped.
+/// link fails, or after so many messages. A frame that breaks the protocol is answered by [`Link::take`], with
+/// its own code. What the remote end sends on other connections is dropped.
 ///
 /// # Errors
 /// Those of `RemoteEnd::step`. The remote end has taken the steps before, and the connection may still be

@@ -1,1 +1,2 @@
 pub mod SendingLemmas
+pub mod TakingLemmas

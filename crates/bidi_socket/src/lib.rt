@@ -5,8 +5,8 @@
 //! its texts say, so either end of the protocol can stand behind it.
 //!
 //! # Calls
-//! - [`Link::take`] waits for the next message of the peer, an [`Incoming`], and answers a ping or a close
-//!   frame.
+//! - [`Link::take`] waits for the next message of the peer, an [`Incoming`], and answers a ping, a close frame,
+//!   or a frame that breaks the protocol.
 //! - [`Link::send`] sends a text in one frame, [`Link::close`] a close frame with code 1000.
 //!
 //! # Faults

@@ -1,10 +1,10 @@
 //! One end of a WebSocket connection.
-ghost use Rattle.std.specs.Prelude.{◌≡◌, ◌⊎◌, false, IfOk, IfErr, OnOk, IsOk, Ok, Err, None};
+ghost use Rattle.std.specs.Prelude.{◌≡◌, ◌⊎◌, [], false, Some, IfOk, IfErr, OnOk, IsOk, Ok, Err, None};
 ghost use Rattle.tungstenite.specs.Config.{HasLimitsOf};
 ghost use Rattle.tungstenite.specs.Content.{close};
-ghost use Rattle.tungstenite.specs.Socket.{Flushed, IsFresh, content_of};
+ghost use Rattle.tungstenite.specs.Socket.{Flushed, IsFresh, close_of, content_of};
 ghost use Rattle.websocket.specs.declared.protocol.config.Role.TheVariants as role;
-ghost use Rattle.bidi_socket.specs.SocketTaking.{IsTaken, Settles, seen, told, told_fault, fault_of, is_last, IsFaultOfTaking};
+ghost use Rattle.bidi_socket.specs.SocketTaking.{BreaksOff, IsTaken, Settles, seen, told, told_fault, code_of, fault_of, is_last, IsFaultOfTaking};
 ghost use Rattle.bidi_socket.specs.SocketSending.{SendsText, SendsClose, QueuesText, SendsWaiting, IsFaultOf, closes, normal_closure};
 
 use std::alloc::{AllocError, Global};
@@ -14,6 +14,7 @@ use tungstenite::{
     CloseCode, CloseFrame, Error as SocketError, MaskKeys, Message, NoMask, Role, Utf8Bytes,
     WebSocket,
 };
+use websocket::error::ProtocolError;
 
 /// What [`Link::take`] gives: a message of the peer, or the end of the connection.
 #[derive(Drop)]
@@ -36,7 +37,8 @@ pub enum LinkFault {
     #[error("the stream failed")]
     Stream,
     /// The peer broke RFC 6455, sent a text that is not UTF-8 or a message past the limits, or its stream
-    /// ended without a close frame. The link is closed; open a new connection.
+    /// ended without a close frame. A frame of its own was answered by a close frame, unless one was sent
+    /// before. The link is closed; open a new connection.
     #[error("the peer broke the protocol")]
     Protocol,
     /// Too many bytes wait for the stream to take them. Nothing has changed; the call may be made again
@@ -106,9 +108,15 @@ impl<S: Read + Write + Drop, K: MaskKeys + Drop> Link<S, K> {
     /// behind it for the next call. A ping and a close frame are answered at once, as far as the stream takes
     /// the bytes; the rest is sent by the next call.
     ///
+    /// A frame that breaks the protocol is answered by a close frame with no reason, unless one was sent before,
+    /// as far as the stream takes it: with code 1007 where a text is not UTF-8, with 1009 where a frame or a
+    /// message is past the limits, else with 1002 (RFC 6455, 7.1.7 and 7.4.1). A stream that ends or fails is
+    /// answered by nothing.
+    ///
     /// # Errors
     /// - `Stream`: a read or a write of the stream failed. What was read is kept, and the next take goes on.
-    /// - `Protocol`, `NoMemory`: the link is closed.
+    /// - `Protocol`, `NoMemory`: the link is closed. Where there is no memory for the answer to a frame that
+    ///   breaks the protocol, it is `NoMemory`.
     pub fn take(&mut self) -> Result<Incoming, LinkFault>
         // It is the message that ends one run of frames, in the bytes left over and those of the stream.
         ensures takes { IsTaken S.remaining S.contents self.old self.new (seen result) }
@@ -119,7 +127,10 @@ impl<S: Read + Write + Drop, K: MaskKeys + Drop> Link<S, K> {
         }
         match self.socket.read() {
             Ok(message) => self.receive(message),
-            Err(error) => self.fail(error),
+            Err(error) => match code_of(&error) {
+                Some(code) => Err(self.break_off(code)),
+                None => self.fail(error),
+            },
         }
     }
 
@@ -127,7 +138,7 @@ impl<S: Read + Write + Drop, K: MaskKeys + Drop> Link<S, K> {
     fn receive(&mut self, message: Message) -> Result<Incoming, LinkFault>
         ensures tells { (seen result ≡ Ok (told message)) ⊎ (seen result ≡ Err LinkFault.NoMemory) }
         ensures ends { self.old.is_closed ≡ false → self.new.is_closed ≡ is_last (seen result) }
-        ensures settles { Settles S.contents (seen result) self.old.socket self.new.socket }
+        ensures settles { Settles S.contents (seen result) None self.old.socket self.new.socket }
         ensures faults { IfErr result IsFaultOfTaking }
     {
         match message {
@@ -151,11 +162,25 @@ impl<S: Read + Write + Drop, K: MaskKeys + Drop> Link<S, K> {
         }
     }
 
-    // Tells why nothing was read.
+    // Answers a frame that could not be taken by a close frame with this code, and closes the link.
+    fn break_off(&mut self, code: CloseCode) -> LinkFault
+        ensures answers { BreaksOff S.contents code self.old.socket self.new.socket result }
+        ensures ends { self.new.is_closed ≡ is_last (Err result) }
+        ensures faults { IsFaultOfTaking result }
+    {
+        self.is_closed = true;
+        let answer = self.socket.close(Some(close_frame(code)));
+        match answer {
+            Ok(()) | Err(SocketError::Io(_)) => LinkFault::Protocol,
+            Err(_) => LinkFault::NoMemory,
+        }
+    }
+
+    // Tells why nothing was read, where no frame is to blame.
     fn fail(&mut self, error: SocketError) -> Result<Incoming, LinkFault>
         ensures tells { seen result ≡ told_fault (fault_of error) }
         ensures ends { self.old.is_closed ≡ false → self.new.is_closed ≡ is_last (seen result) }
-        ensures settles { Settles S.contents (seen result) self.old.socket self.new.socket }
+        ensures settles { Settles S.contents (seen result) None self.old.socket self.new.socket }
     {
         match fault_of(error) {
             LinkFault::Stream => Err(LinkFault::Stream),
@@ -271,10 +296,30 @@ impl<S: Read + Write + Drop, K: MaskKeys + Drop> Link<S, K> {
 fn normal_closure() -> Message
     ensures { content_of result ≡ close normal_closure }
 {
-    Message::Close(Some(CloseFrame {
-        code: CloseCode::Normal,
+    Message::Close(Some(close_frame(CloseCode::Normal)))
+}
+
+// A close frame with this code and no reason. Takes no memory.
+fn close_frame(code: CloseCode) -> CloseFrame
+    ensures { close_of (Some result) ≡ Some (code, []) }
+{
+    CloseFrame {
+        code,
         reason: Utf8Bytes::new(),
-    }))
+    }
+}
+
+// The code by which a frame is answered that the socket could not take.
+fn code_of(error: &SocketError) -> Option<CloseCode>
+    ensures { result ≡ code_of error.now }
+{
+    match error {
+        SocketError::Capacity(_) => Some(CloseCode::Size),
+        SocketError::Utf8 => Some(CloseCode::Invalid),
+        SocketError::Protocol(ProtocolError::ResetWithoutClosingHandshake) => None,
+        SocketError::Protocol(_) => Some(CloseCode::Protocol),
+        _ => None,
+    }
 }
 
 // The fault for an error of the socket.

@@ -104,6 +104,7 @@ const REFUSALS: &str = "
 refuses-1 81 82 00 00 00 00 7b 7d / send take send close -> Err(Stream) Closed Err(Closed) Err(Closed) /
 refuses-1 81 82 00 00 00 00 7b 7d / close take send close -> Err(Stream) Closed Err(Closed) Err(Closed) /
 refuses-1 89 82 00 00 00 00 68 69 81 82 00 00 00 00 7b 7d / take take -> Control {} / 8a 02 68 69
+refuses-1 81 02 7b 7d / take take -> Err(Protocol) Closed /
 ";
 
 #[test]
@@ -113,20 +114,25 @@ fn a_write_that_fails_closes_the_link_of_a_sender(rt: HostRuntime) -> Result<(),
 
 // ---- frames that break the protocol
 
+/// Each is answered by a close frame with its code (RFC 6455, 5.5.1 and 7.4.1): 1002, or 1007 for what is no UTF-8, or 1009 for
+/// what is past a limit. Behind a close of ours none is sent.
 const BAD_FRAMES: &str = "
-no mask | server,by-1 81 02 7b 7d / take take send close -> Err(Protocol) Closed Err(Closed) Err(Closed) /
-a mask to a client | client 81 82 00 00 00 00 7b 7d / take take send close -> Err(Protocol) Closed Err(Closed) Err(Closed) /
-no UTF-8 | server,by-1 81 81 00 00 00 00 ff / take take send close -> Err(Protocol) Closed Err(Closed) Err(Closed) /
-a reserved bit | server,by-1 c1 82 00 00 00 00 7b 7d / take take send close -> Err(Protocol) Closed Err(Closed) Err(Closed) /
-another reserved bit | server,by-1 91 82 00 00 00 00 7b 7d / take take send close -> Err(Protocol) Closed Err(Closed) Err(Closed) /
-an opcode of data that is not known | server,by-1 83 82 00 00 00 00 7b 7d / take take send close -> Err(Protocol) Closed Err(Closed) Err(Closed) /
-an opcode of control that is not known | server,by-1 8b 82 00 00 00 00 7b 7d / take take send close -> Err(Protocol) Closed Err(Closed) Err(Closed) /
-a length past the limit | server,by-1 81 ff 7f ff ff ff ff ff ff ff 00 00 00 00 / take take send close -> Err(Protocol) Closed Err(Closed) Err(Closed) /
-a ping in parts | server,by-1 09 80 00 00 00 00 / take take send close -> Err(Protocol) Closed Err(Closed) Err(Closed) /
-a ping of 126 bytes | server,by-1 89 fe 00 7e 00 00 00 00 «126 00 »/ take take send close -> Err(Protocol) Closed Err(Closed) Err(Closed) /
-a close of one byte | server,by-1 88 81 00 00 00 00 03 / take take send close -> Err(Protocol) Closed Err(Closed) Err(Closed) /
-the rest of nothing | server,by-1 80 82 00 00 00 00 7b 7d / take take send close -> Err(Protocol) Closed Err(Closed) Err(Closed) /
-a text within a text | server,by-1 01 81 00 00 00 00 7b 81 81 00 00 00 00 7d / take take send close -> Err(Protocol) Closed Err(Closed) Err(Closed) /
+no mask | server,by-1 81 02 7b 7d / take take send close -> Err(Protocol) Closed Err(Closed) Err(Closed) / 88 02 03 ea
+a mask to a client | client 81 82 00 00 00 00 7b 7d / take take send close -> Err(Protocol) Closed Err(Closed) Err(Closed) / 88 82 12 34 56 78 11 de
+no UTF-8 | server,by-1 81 81 00 00 00 00 ff / take take send close -> Err(Protocol) Closed Err(Closed) Err(Closed) / 88 02 03 ef
+a reserved bit | server,by-1 c1 82 00 00 00 00 7b 7d / take take send close -> Err(Protocol) Closed Err(Closed) Err(Closed) / 88 02 03 ea
+another reserved bit | server,by-1 91 82 00 00 00 00 7b 7d / take take send close -> Err(Protocol) Closed Err(Closed) Err(Closed) / 88 02 03 ea
+an opcode of data that is not known | server,by-1 83 82 00 00 00 00 7b 7d / take take send close -> Err(Protocol) Closed Err(Closed) Err(Closed) / 88 02 03 ea
+an opcode of control that is not known | server,by-1 8b 82 00 00 00 00 7b 7d / take take send close -> Err(Protocol) Closed Err(Closed) Err(Closed) / 88 02 03 ea
+a length past the limit | server,by-1 81 ff 7f ff ff ff ff ff ff ff 00 00 00 00 / take take send close -> Err(Protocol) Closed Err(Closed) Err(Closed) / 88 02 03 f1
+a ping in parts | server,by-1 09 80 00 00 00 00 / take take send close -> Err(Protocol) Closed Err(Closed) Err(Closed) / 88 02 03 ea
+a ping of 126 bytes | server,by-1 89 fe 00 7e 00 00 00 00 «126 00 »/ take take send close -> Err(Protocol) Closed Err(Closed) Err(Closed) / 88 02 03 ea
+a close of one byte | server,by-1 88 81 00 00 00 00 03 / take take send close -> Err(Protocol) Closed Err(Closed) Err(Closed) / 88 02 03 ea
+the rest of nothing | server,by-1 80 82 00 00 00 00 7b 7d / take take send close -> Err(Protocol) Closed Err(Closed) Err(Closed) / 88 02 03 ea
+a text within a text | server,by-1 01 81 00 00 00 00 7b 81 81 00 00 00 00 7d / take take send close -> Err(Protocol) Closed Err(Closed) Err(Closed) / 88 02 03 ea
+a reason that is no UTF-8 | server,by-1 88 83 00 00 00 00 03 e8 ff / take take send close -> Err(Protocol) Closed Err(Closed) Err(Closed) / 88 02 03 ef
+no mask, behind a ping and a text that waits | server,over,by-1 89 82 00 00 00 00 68 69 81 02 7b 7d / take queue take -> Control Ok Err(Protocol) / 8a 02 68 69 81 02 7b 7d 88 02 03 ea
+no mask, behind a close of ours | server,over,by-1 81 02 7b 7d / close take take -> Ok Err(Protocol) Closed / 88 02 03 e8
 ";
 
 #[test]

@@ -87,7 +87,7 @@ fn both_read(rt: &HostRuntime, bytes: &[u8]) -> Result<(Vec<u8>, Vec<u8>), Fail>
 /// are on their way where the server closes.
 const BEFORE: usize = 1500;
 
-/// How many texts come behind the end: more than the server has read by then.
+/// How many texts come behind the end, or behind a broken frame: more than the server has read by then.
 const BEHIND: usize = 4000;
 
 #[test]
@@ -99,6 +99,27 @@ fn each_reply_before_a_close_is_read(rt: HostRuntime) -> Result<(), Fail> {
     let wanted = replies_to_the_end(rt.alloc())?;
     assert!(rt; all.ends_with(&wanted), "{} bytes", all.len());
     Ok(())
+}
+
+#[test]
+fn the_answer_to_a_broken_frame_is_read(rt: HostRuntime) -> Result<(), Fail> {
+    let listener = TcpListener::bind(&rt, "127.0.0.1:0")?;
+    let client = written(&rt, listener.local_addr()?, &broken_at_once(rt.alloc())?)?;
+    serve(rt.alloc(), &listener, 1, u32::MAX)?;
+    let all = rest_of(rt.alloc(), client)?;
+    let is_read = all.ends_with(b"\r\n\r\n\x88\x02\x03\xea");
+    assert!(rt; is_read, "{}", all.escape_ascii());
+    Ok(())
+}
+
+/// A head, a frame without a mask, and commands behind it.
+fn broken_at_once(alloc: Global) -> Result<Vec<u8>, AllocError> {
+    let mut bytes = round_head(alloc)?;
+    bytes.extend_from_slice(b"\x81\x02{}")?;
+    for _ in 0..BEHIND {
+        bytes.extend_from_slice(STATUS)?;
+    }
+    Ok(bytes)
 }
 
 /// A head, a session, commands, its end, and more commands.
@@ -164,8 +185,8 @@ const REFUSED: &[u8] =
     b"\x81\x52{\"error\":\"invalid argument\",\"id\":null,\"message\":\"invalid argument\",\"type\":\"error\"}";
 
 /// What a client writes behind the head of its handshake, and all that it reads behind the server's: three words stand for the
-/// bytes above, the rest are bytes. A link that fails is closed without a frame; a close is answered, one with a code that may
-/// not be sent by 1002, with a text.
+/// bytes above, the rest are bytes. A frame that breaks the protocol is answered by a close frame with its code, an end of the
+/// stream by none (RFC 6455, 7.4.1); a close is answered, one with a code that may not be sent by 1002, with a text.
 const LINKS: &str = "a command | STATUS | READY
 two commands | STATUS STATUS | READY READY
 no frame | |
@@ -173,14 +194,14 @@ bytes, a ping and a pong | 82 80 00 00 00 00 89 80 00 00 00 00 8a 80 00 00 00 00
 a close | 88 80 00 00 00 00 | 88 00
 a command behind a close | 88 80 00 00 00 00 STATUS | 88 00
 a close with a bad code | 88 82 00 00 00 00 03 ed | 88 14 03 ea ..
-no mask | 81 02 7b 7d |
-reserved bits | f1 80 00 00 00 00 |
-an unknown opcode | 83 80 00 00 00 00 |
-a length past the limits | 81 ff 7f ff ff ff ff ff ff ff 00 00 00 00 |
-a text within a text in parts | 01 81 00 00 00 00 7b 81 81 00 00 00 00 7d |
-no UTF-8 | 81 81 00 00 00 00 ff |
+no mask | 81 02 7b 7d | 88 02 03 ea
+reserved bits | f1 80 00 00 00 00 | 88 02 03 ea
+an unknown opcode | 83 80 00 00 00 00 | 88 02 03 ea
+a length past the limits | 81 ff 7f ff ff ff ff ff ff ff 00 00 00 00 | 88 02 03 f1
+a text within a text in parts | 01 81 00 00 00 00 7b 81 81 00 00 00 00 7d | 88 02 03 ea
+no UTF-8 | 81 81 00 00 00 00 ff | 88 02 03 ef
 the end in the middle | 81 85 00 00 00 00 7b |
-a command, and then no mask | STATUS 81 02 7b 7d | READY";
+a command, and then no mask | STATUS 81 02 7b 7d | READY 88 02 03 ea";
 
 #[test]
 fn each_link_is_served_and_fails_alone(rt: HostRuntime) -> Result<(), Fail> {
