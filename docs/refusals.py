@@ -114,6 +114,10 @@ lose
 # As many contexts as may be, and the tree of the last, which has nothing below it.
 FULL = '1023 browsingContext.create {"type":"tab"}\nbrowsingContext.getTree {"maxDepth":0,"root":"@c1024"}\n'
 TEXTS = "examples/browsers.texts"
+# Commands that are refused, the last of them without its line feed.
+MISTAKEN = """{"id":7,"method":"browsingContext.navigate","params":{"context":5,"url":"u"}}
+{"id":8,"method":"script.disown","params":{"handles":["a",{}],"target":{}}}
+[1"""
 
 
 def nested(levels):
@@ -142,6 +146,7 @@ HEAVY = {
                             '{"id":1,"method":"session.status","params":{"x":"%s"}}\n' % ("y" * 1000000) * 3),
     "values of 60 levels, shown": (["show", "--from", "remote"], SHOWN * 20),
     "nested texts": (["check", "--from", "remote"], '{"type":"success","id":1,"result":{"x":%s}}\n' % ("[" * 60 + "]" * 60) * 3),
+    "values of 60 levels, refused": (["check", "--from", "remote", "--why"], SHOWN.replace('"value":[]', '"value":5') * 20),
     "1,024 contexts, reduced": (["reduce", "--session", "1"], BEGUN
                                 + '> 1 {"id":1,"method":"browsingContext.create","params":{"type":"tab"}}\n' * 1023),
 }
@@ -420,6 +425,8 @@ def all_rows(bench):
     for command in "show", "check":
         bench.program("what browsers sent", [command, "--from", "remote"], texts)
         bench.program("what a client sent", [command, "--from", "local"], commands)
+    bench.program("what browsers sent", ["check", "--from", "remote", "--why"], texts)
+    bench.program("what a client sent", ["check", "--from", "local", "--why", "--json"], commands + MISTAKEN)
     bench.program("two tools", ["reduce", "--session", "1"], (ROOT / "examples/two_tools.play").read_text())
     bench.program("help", ["--help"], "")
     bench.program("a mistake", ["ploy"], "")

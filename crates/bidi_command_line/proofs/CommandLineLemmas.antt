@@ -15,13 +15,13 @@ use Rattle.clap.proofs.OnLiterals.{clap_on_literals}
 use Rattle.bidi_command_line.specs.declared.asked.LineFault.{LineFault}
 use Rattle.bidi_command_line.specs.declared.asked.LineFault.TheVariants.{Help, Usage, NoMemory}
 use Rattle.bidi_command_line.specs.declared.asked.Run.{Run}
-use Rattle.bidi_command_line.specs.declared.asked.Run.TheVariants.{Play, Pair, Reduce, Show, Check, Serve, Host}
+use Rattle.bidi_command_line.specs.declared.asked.Run.TheVariants.{Play, Pair, Reduce, Show, Check, Why, Serve, Host}
 use Rattle.bidi_command_line.specs.declared.asked.ServeOptions.{ServeOptions}
 use Rattle.bidi_command_line.specs.declared.asked.HostOptions.{HostOptions}
 use Rattle.bidi_lines.specs.declared.side.Side.{Side}
 use Rattle.bidi_lines.specs.declared.side.Side.TheVariants.{Local, Remote}
 use Rattle.bidi_command_line.specs.CommandLine.{AsksFor, Causes, Gives, GivesNumber, IsReadAs, IsRefusedFor, IsRequest, IsSaidBy, bidi_app, faults_of}
-use Rattle.bidi_command_line.specs.CommandLine.{default_port, flag_words, hosted, number_within, run_in, run_named, served, side_named, side_text, value_words}
+use Rattle.bidi_command_line.specs.CommandLine.{checked, default_port, flag_words, hosted, number_within, run_in, run_named, served, side_named, side_text, value_words}
 use Rattle.bidi_command_line.proofs.PlayLines.{play_lines, pair_lines}
 
 -- the command is one whose faults clap lists, and whose reading it states
@@ -58,6 +58,7 @@ asked_read line Pair (inr e) = subst (λ l. IsReadAs l Pair) (sym e) reads_pair_
 asked_read line (Reduce session) asks = asks
 asked_read line (Show side) asks = asks
 asked_read line (Check side) asks = asks
+asked_read line (Why o) asks = asks
 asked_read line (Serve s) asks = asks
 asked_read line (Host h) asks = asks
 
@@ -68,6 +69,7 @@ read_asked line Pair read = pair_lines line read.0 read.1
 read_asked line (Reduce session) read = read
 read_asked line (Show side) read = read
 read_asked line (Check side) read = read
+read_asked line (Why o) read = read
 read_asked line (Serve s) read = read
 read_asked line (Host h) read = read
 
@@ -117,10 +119,11 @@ met None name rows named found = absurd cc
 met (Some b) name rows named found = cc
 
 -- the run of the same name and options
-pub named-same : (name : Text) (side side' : Option Side) (session session' : Option ℕ) (serving serving' : Option ServeOptions) (hosting hosting' : Option HostOptions)
-    → side ≡ side' → session ≡ session' → serving ≡ serving' → hosting ≡ hosting'
-    → run_named name side session serving hosting ≡ run_named name side' session' serving' hosting'
-named-same name side side' session session' serving serving' hosting hosting' p q r h = λ i. run_named name (p i) (q i) (r i) (h i)
+pub named-same : (name : Text) (side side' : Option Side) (session session' : Option ℕ) (checking checking' : Option Run)
+    (serving serving' : Option ServeOptions) (hosting hosting' : Option HostOptions)
+    → side ≡ side' → session ≡ session' → checking ≡ checking' → serving ≡ serving' → hosting ≡ hosting'
+    → run_named name side session checking serving hosting ≡ run_named name side' session' checking' serving' hosting'
+named-same name side side' session session' checking checking' serving serving' hosting hosting' p q c r h = λ i. run_named name (p i) (q i) (c i) (r i) (h i)
 
 -- ---- the words that are given for a run
 
@@ -206,12 +209,25 @@ show_reads (apart b value e) =
     (rw (q, l, s) refl, rw (q, l, s) refl)
 show_reads (joined value) = (refl, refl)
 
-check_reads : {value : Text} {words : List Text} → Given (codes "from") value words → Reads (codes "check" ∷ words) (option_map Check (side_named value))
+check_reads : {value : Text} {words : List Text} → Given (codes "from") value words → Reads (codes "check" ∷ words) (checked (side_named value) false false)
 unfolding clap_on_literals
 check_reads (apart b value e) =
     let l = no_long b value e in let s = no_short b value e in let q = no_mark b value e in
     (rw (q, l, s) refl, rw (q, l, s) refl)
 check_reads (joined value) = (refl, refl)
+
+-- the flags behind the option
+why_reads : {value : Text} {words : List Text} (json : Bool) → Given (codes "from") value words
+    → Reads (codes "check" ∷ words ++ codes "--why" ∷ flag_words (codes "json") json) (checked (side_named value) true json)
+unfolding clap_on_literals
+why_reads true (apart b value e) =
+    let l = no_long b value e in let s = no_short b value e in let q = no_mark b value e in
+    (rw (q, l, s) refl, rw (q, l, s) refl)
+why_reads false (apart b value e) =
+    let l = no_long b value e in let s = no_short b value e in let q = no_mark b value e in
+    (rw (q, l, s) refl, rw (q, l, s) refl)
+why_reads true (joined value) = (refl, refl)
+why_reads false (joined value) = (refl, refl)
 
 serve_reads : {p c m : Text} → Plain p → Plain c → Plain m
     → Reads (codes "serve" ∷ codes "--port" ∷ p ∷ codes "--connections" ∷ c ∷ codes "--messages" ∷ m ∷ [])
@@ -323,7 +339,9 @@ said_asks line (Reduce session) (words, gives, e) =
 said_asks line (Show side) (words, gives, e) =
     read_as line (codes "show" ∷ words) (Show side) _ e (ap (option_map Show) (side_is side)) (show_reads (given_side side words gives))
 said_asks line (Check side) (words, gives, e) =
-    read_as line (codes "check" ∷ words) (Check side) _ e (ap (option_map Check) (side_is side)) (check_reads (given_side side words gives))
+    read_as line (codes "check" ∷ words) (Check side) _ e (ap (λ s. checked s false false) (side_is side)) (check_reads (given_side side words gives))
+said_asks line (Why o) (words, gives, e) =
+    read_as line _ (Why o) _ e (ap (λ s. checked s true o.is_json) (side_is o.side)) (why_reads o.is_json (given_side o.side words gives))
 said_asks line (Serve s) (p, c, m, port, connections, messages, inl e) =
     read_as line _ (Serve s) _ e (λ i. option_map Serve (served (port i) (connections i) (messages i)))
     (serve_reads (plain_number 0 65535 s.port p port) (plain_number 1 1000 s.connections c connections) (plain_number 1 100000 s.messages m messages))

@@ -17,11 +17,12 @@ use Rattle.std.specs.Option.{option_map_or}
 use Rattle.std.proofs.lemmas.Slice.Eq.{bytes_eq-Decides}
 use Rattle.clap.proofs.OnLiterals.{clap_on_literals}
 use Rattle.bidi_command_line.specs.declared.asked.Run.{Run}
-use Rattle.bidi_command_line.specs.declared.asked.Run.TheVariants.{Play, Pair, Reduce, Show, Check, Serve, Host}
+use Rattle.bidi_command_line.specs.declared.asked.Run.TheVariants.{Play, Pair, Reduce, Show, Check, Why, Serve, Host}
+use Rattle.bidi_command_line.specs.declared.asked.WhyOptions.{WhyOptions}
 use Rattle.bidi_command_line.specs.declared.asked.ServeOptions.{ServeOptions}
 use Rattle.bidi_command_line.specs.declared.asked.HostOptions.{HostOptions}
 use Rattle.bidi_lines.specs.declared.side.Side.{Side}
-use Rattle.bidi_command_line.specs.CommandLine.{AsksFor, bare_app, bidi_app, faults_of, run_in}
+use Rattle.bidi_command_line.specs.CommandLine.{AsksFor, bare_app, bidi_app, checked, faults_of, run_in}
 
 -- the one option of each command
 abbrev help : Rule
@@ -300,15 +301,25 @@ entered_show : (run : Run) → ((side : Side) → Show side ≡ run → ⊥) →
 unfolding clap_on_literals
 entered_show run differs line e = no_other Show run differs _ e
 
-entered_check : (run : Run) → ((side : Side) → Check side ≡ run → ⊥) → (line : List Text) → run_in (entered app (Some (check, line))) ≡ Some run → ⊥
+-- nor is a run that checks, and with `--why` tells why
+no_checked : (run : Run) → ((side : Side) → Check side ≡ run → ⊥) → ((o : WhyOptions) → Why o ≡ run → ⊥)
+    → (side : Option Side) (why json : Bool) → checked side why json ≡ Some run → ⊥
+no_checked run differs tells None why json e = cc
+no_checked run differs tells (Some side) true json e = tells (record { side = side; is_json = json }) (same_some e)
+no_checked run differs tells (Some side) false true e = cc
+no_checked run differs tells (Some side) false false e = differs side (same_some e)
+
+entered_check : (run : Run) → ((side : Side) → Check side ≡ run → ⊥) → ((o : WhyOptions) → Why o ≡ run → ⊥)
+    → (line : List Text) → run_in (entered app (Some (check, line))) ≡ Some run → ⊥
 unfolding clap_on_literals
-entered_check run differs line e = no_other Check run differs _ e
+entered_check run differs tells line e = no_checked run differs tells _ _ _ e
 
 read_show : (run : Run) → ((side : Side) → Show side ≡ run → ⊥) → (line : List Text) → run_in (subcommand_of bidi_app (show ∷ line)) ≡ Some run → ⊥
 read_show run differs line e = entered_show run differs line (subst (λ s. run_in (entered app s) ≡ Some run) (stop_show line) e)
 
-read_check : (run : Run) → ((side : Side) → Check side ≡ run → ⊥) → (line : List Text) → run_in (subcommand_of bidi_app (check ∷ line)) ≡ Some run → ⊥
-read_check run differs line e = entered_check run differs line (subst (λ s. run_in (entered app s) ≡ Some run) (stop_check line) e)
+read_check : (run : Run) → ((side : Side) → Check side ≡ run → ⊥) → ((o : WhyOptions) → Why o ≡ run → ⊥)
+    → (line : List Text) → run_in (subcommand_of bidi_app (check ∷ line)) ≡ Some run → ⊥
+read_check run differs tells line e = entered_check run differs tells line (subst (λ s. run_in (entered app s) ≡ Some run) (stop_check line) e)
 
 entered_serve : (run : Run) → ((s : ServeOptions) → Serve s ≡ run → ⊥) → (line : List Text) → run_in (entered app (Some (serve, line))) ≡ Some run → ⊥
 unfolding clap_on_literals
@@ -353,6 +364,12 @@ check_is_no_play side e = cc
 
 check_is_no_pair : (side : Side) → Check side ≡ Pair → ⊥
 check_is_no_pair side e = cc
+
+why_is_no_play : (o : WhyOptions) → Why o ≡ Play → ⊥
+why_is_no_play o e = cc
+
+why_is_no_pair : (o : WhyOptions) → Why o ≡ Pair → ⊥
+why_is_no_pair o e = cc
 
 pair_is_no_play : Pair ≡ Play → ⊥
 pair_is_no_play e = cc
@@ -413,7 +430,7 @@ play_from word line (with_play e) none read = subst (λ w. AsksFor (w ∷ line) 
 play_from word line (with_pair e) none read = absurd (pair_is_no_play (same_some (sym (read_pair line) ∙ subst (IsRead Play line) (sym e) read)))
 play_from word line (with_reduce e) none read = absurd (read_reduce Play reduce_is_no_play line (subst (IsRead Play line) (sym e) read))
 play_from word line (with_show e) none read = absurd (read_show Play show_is_no_play line (subst (IsRead Play line) (sym e) read))
-play_from word line (with_check e) none read = absurd (read_check Play check_is_no_play line (subst (IsRead Play line) (sym e) read))
+play_from word line (with_check e) none read = absurd (read_check Play check_is_no_play why_is_no_play line (subst (IsRead Play line) (sym e) read))
 play_from word line (with_serve e) none read = absurd (read_serve Play serve_is_no_play line (subst (IsRead Play line) (sym e) read))
 play_from word line (with_host e) none read = absurd (read_host Play host_is_no_play line (subst (IsRead Play line) (sym e) read))
 
@@ -422,7 +439,7 @@ pair_from word line (with_play e) none read = absurd (pair_is_no_play (sym (same
 pair_from word line (with_pair e) none read = subst (λ w. AsksFor (w ∷ line) Pair) e (entered_pair line (subst (λ w. faults_of (w ∷ line) ≡ []) (sym e) none))
 pair_from word line (with_reduce e) none read = absurd (read_reduce Pair reduce_is_no_pair line (subst (IsRead Pair line) (sym e) read))
 pair_from word line (with_show e) none read = absurd (read_show Pair show_is_no_pair line (subst (IsRead Pair line) (sym e) read))
-pair_from word line (with_check e) none read = absurd (read_check Pair check_is_no_pair line (subst (IsRead Pair line) (sym e) read))
+pair_from word line (with_check e) none read = absurd (read_check Pair check_is_no_pair why_is_no_pair line (subst (IsRead Pair line) (sym e) read))
 pair_from word line (with_serve e) none read = absurd (read_serve Pair serve_is_no_pair line (subst (IsRead Pair line) (sym e) read))
 pair_from word line (with_host e) none read = absurd (read_host Pair host_is_no_pair line (subst (IsRead Pair line) (sym e) read))
 

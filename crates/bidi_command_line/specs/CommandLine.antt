@@ -13,7 +13,7 @@ use Rattle.clap.specs.declared.error.kind.ErrorKind.TheVariants.{DisplayHelp, Di
 use Rattle.bidi_command_line.specs.declared.asked.LineFault.{LineFault}
 use Rattle.bidi_command_line.specs.declared.asked.LineFault.TheVariants.{Help, Usage, NoMemory}
 use Rattle.bidi_command_line.specs.declared.asked.Run.{Run}
-use Rattle.bidi_command_line.specs.declared.asked.Run.TheVariants.{Play, Pair, Reduce, Show, Check, Serve, Host}
+use Rattle.bidi_command_line.specs.declared.asked.Run.TheVariants.{Play, Pair, Reduce, Show, Check, Why, Serve, Host}
 use Rattle.bidi_command_line.specs.declared.asked.ServeOptions.{ServeOptions}
 use Rattle.bidi_command_line.specs.declared.asked.HostOptions.{HostOptions}
 use Rattle.bidi_command_line.specs.declared.files.HostFiles.{HostFiles}
@@ -56,6 +56,10 @@ from_rule = option_rule (codes "from")
 abbrev pub from_shape : Text → Shape
 from_shape name = (with_rule (new_app name) from_rule).top
 
+-- the subcommand `check`, with that option and its two flags
+abbrev pub check_shape : Shape
+check_shape = (with_rule (with_rule (with_rule (new_app (codes "check")) from_rule) (flag_rule (codes "why"))) (flag_rule (codes "json"))).top
+
 -- the subcommand `serve`, with its three options
 abbrev pub serve_shape : Shape
 serve_shape =
@@ -86,7 +90,7 @@ bare_app = record { top = with_settings (new_app (codes "bidi")).top; subs = [] 
 abbrev pub app_without_host : App
 app_without_host =
     with_subcommand (with_subcommand (with_subcommand (with_subcommand (with_subcommand (with_subcommand bare_app play_shape) pair_shape) reduce_shape)
-    (from_shape (codes "show"))) (from_shape (codes "check"))) serve_shape
+    (from_shape (codes "show"))) check_shape) serve_shape
 
 -- the program's command, which wants one of its subcommands
 abbrev pub bidi_app : App
@@ -132,6 +136,25 @@ number_in name least most rows = option_and_then (number_within least most) (fir
 abbrev pub session_in : List Row → Option ℕ
 session_in rows = number_in (codes "session") 0 4294967295 rows
 
+-- whether the text is `true`, which clap has for a flag that is given
+abbrev pub is_true : Text → Bool
+is_true text = bytes_eq text (codes "true")
+
+-- whether the flag of this name is given
+abbrev pub is_given : Text → List Row → Bool
+is_given name rows = option_map_or is_true (first_of name rows) false
+
+-- the run of `check`, where the end is there: with `--why` it tells why, and `--json` goes with `--why` alone
+abbrev pub checked : Option Side → Bool → Bool → Option Run
+checked None is_why is_json = None
+checked (Some side) true is_json = Some (Why (record { side = side; is_json = is_json }))
+checked (Some side) false true = None
+checked (Some side) false false = Some (Check side)
+
+-- the run that its option and its flags ask for
+abbrev pub checking_in : List Row → Option Run
+checking_in rows = checked (side_in rows) (is_given (codes "why") rows) (is_given (codes "json") rows)
+
 -- what is to be served, where all three numbers are there
 abbrev pub served : Option ℕ → Option ℕ → Option ℕ → Option ServeOptions
 served (Some port) (Some connections) (Some messages) = Some (record { port = port; connections = connections; messages = messages })
@@ -140,14 +163,6 @@ served port connections messages = None
 -- what the three options ask to be served
 abbrev pub serving_in : List Row → Option ServeOptions
 serving_in rows = served (number_in (codes "port") 0 65535 rows) (number_in (codes "connections") 1 1000 rows) (number_in (codes "messages") 1 100000 rows)
-
--- whether the text is `true`, which clap has for a flag that is given
-abbrev pub is_true : Text → Bool
-is_true text = bytes_eq text (codes "true")
-
--- whether the flag of this name is given
-abbrev pub is_given : Text → List Row → Bool
-is_given name rows = option_map_or is_true (first_of name rows) false
 
 -- how connections are to be hosted, where the port is there
 abbrev pub hosted : Option ℕ → Bool → Bool → Bool → Option HostOptions
@@ -159,21 +174,21 @@ abbrev pub hosting_in : List Row → Option HostOptions
 hosting_in rows =
     hosted (number_in (codes "port") 0 65535 rows) (is_given (codes "stdin") rows) (is_given (codes "end-sessions") rows) (is_given (codes "lenient") rows)
 
--- the run of the subcommand of this name, whose options name this end or this session, or say what is to be served or hosted
-abbrev pub run_named : Text → Option Side → Option ℕ → Option ServeOptions → Option HostOptions → Option Run
-run_named name side session serving hosting =
+-- the run of the subcommand of this name, whose options name this end or this session, or say what is to be checked, served or hosted
+abbrev pub run_named : Text → Option Side → Option ℕ → Option Run → Option ServeOptions → Option HostOptions → Option Run
+run_named name side session checking serving hosting =
     if bytes_eq name (codes "play") then Some Play
     else (if bytes_eq name (codes "pair") then Some Pair
     else (if bytes_eq name (codes "reduce") then option_map Reduce session
     else (if bytes_eq name (codes "show") then option_map Show side
-    else (if bytes_eq name (codes "check") then option_map Check side
+    else (if bytes_eq name (codes "check") then checking
     else (if bytes_eq name (codes "serve") then option_map Serve serving
     else (if bytes_eq name (codes "host") then option_map Host hosting else None))))))
 
 -- the run of a subcommand, by its name and what was found for its options
 abbrev pub run_in : Option (Text × List Row) → Option Run
 run_in None = None
-run_in (Some (name, rows)) = run_named name (side_in rows) (session_in rows) (serving_in rows) (hosting_in rows)
+run_in (Some (name, rows)) = run_named name (side_in rows) (session_in rows) (checking_in rows) (serving_in rows) (hosting_in rows)
 
 -- the file that a subcommand's option of this name gives
 abbrev pub file_in : Text → Option (Text × List Row) → Option Text
@@ -195,6 +210,7 @@ AsksFor line Pair = (line ≡ codes "pair" ∷ []) ⊎ (line ≡ codes "pair" �
 AsksFor line (Reduce session) = IsReadAs line (Reduce session)
 AsksFor line (Show side) = IsReadAs line (Show side)
 AsksFor line (Check side) = IsReadAs line (Check side)
+AsksFor line (Why options) = IsReadAs line (Why options)
 AsksFor line (Serve serving) = IsReadAs line (Serve serving)
 AsksFor line (Host hosting) = IsReadAs line (Host hosting)
 
@@ -227,6 +243,9 @@ IsSaidBy Pair line = line ≡ codes "pair" ∷ []
 IsSaidBy (Reduce session) line = (words : List Text) × GivesNumber (codes "session") 0 4294967295 session words × (line ≡ codes "reduce" ∷ words)
 IsSaidBy (Show side) line = (words : List Text) × Gives (codes "from") (side_text side) words × (line ≡ codes "show" ∷ words)
 IsSaidBy (Check side) line = (words : List Text) × Gives (codes "from") (side_text side) words × (line ≡ codes "check" ∷ words)
+IsSaidBy (Why o) line =
+    (words : List Text) × Gives (codes "from") (side_text o.side) words
+    × (line ≡ codes "check" ∷ words ++ codes "--why" ∷ flag_words (codes "json") o.is_json)
 IsSaidBy (Serve s) line =
     (port : Text) × (connections : Text) × (messages : Text)
     × (number_within 0 65535 port ≡ Some s.port)

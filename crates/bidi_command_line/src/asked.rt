@@ -6,7 +6,8 @@ ghost use Rattle.clap.specs.declared.builder.command.Command.TheViews.{out-Comma
 ghost use Rattle.clap.specs.declared.error.kind.ErrorKind.TheVariants.{InvalidValue};
 ghost use Rattle.bidi_command_line.specs.declared.asked.Run.{Run};
 ghost use Rattle.bidi_command_line.specs.CommandLine.{AsksFor, Causes, IsRefusedFor, IsSaidBy, IsWithinBounds, app_without_host, bare_app, bidi_app};
-ghost use Rattle.bidi_command_line.specs.CommandLine.{flag_rule, from_rule, from_shape, host_app, host_shape, hosted, hosting_in, is_true, line_of, number_within};
+ghost use Rattle.bidi_command_line.specs.CommandLine.{check_shape, checked, checking_in, flag_rule, from_rule, from_shape};
+ghost use Rattle.bidi_command_line.specs.CommandLine.{host_app, host_shape, hosted, hosting_in, is_true, line_of, number_within};
 ghost use Rattle.bidi_command_line.specs.CommandLine.{option_rule, pair_shape, play_shape, port_rule, reduce_shape, run_in, run_named};
 ghost use Rattle.bidi_command_line.specs.CommandLine.{serve_shape, served, serving_in, side_named, value_rule};
 
@@ -29,10 +30,21 @@ pub enum Run {
     Show(Side),
     /// `check`: writes a line for each line of the standard input that is no text of this end.
     Check(Side),
+    /// `check --why`: tells of each line of the standard input that is no text of this end where and why.
+    Why(WhyOptions),
     /// `serve`: serves WebSocket connections on 127.0.0.1, one after another.
     Serve(ServeOptions),
     /// `host`: serves many WebSocket connections on 127.0.0.1 at once, pages among them.
     Host(HostOptions),
+}
+
+/// The options of `check --why`.
+#[derive(Clone, Copy, Debug, PartialEq, Eq)]
+pub struct WhyOptions {
+    /// `--from`: the end that sends the texts.
+    pub side: Side,
+    /// `--json`: each refused line is told as a JSON object.
+    pub is_json: bool,
 }
 
 /// The options of `serve`.
@@ -88,7 +100,7 @@ const SHOW_HELP: &str =
     "Lines in: a text each, as it was sent.\nLines out: `accepted ID METHOD TEXT` or `refused ID CODE` of a local end;\n`response ID TEXT`, `error ID TEXT`, `event METHOD TEXT`, `no fit` or `not json` of a remote end.\nStatus: 0 where all was shown, 2 at a bad line, 3 where input, output or memory failed.\nThe rest stands in docs/FORMATS.md.";
 
 const CHECK_HELP: &str =
-    "Lines in: a text each, as it was sent.\nLines out: `line N: refused ID CODE` of a local end; `line N: no fit` or `line N: not json` of a remote end.\nStatus: 0 where no text is refused, 1 where one is, 2 at a bad line, 3 where input, output or memory failed.\nThe rest stands in docs/FORMATS.md.";
+    "Lines in: a text each, as it was sent.\nLines out: `line N: refused ID CODE` of a local end; `line N: no fit` or `line N: not json` of a remote end.\nWith --why: `line N: LABEL: POINTER: wants WHAT, has WHAT (RULE)`, where LABEL is the method or the type of the text,\nand at the end, on the standard error, how many lines are refused, and each cause with its number.\nWith --why --json: a JSON object for each refused line.\nStatus: 0 where no text is refused, 1 where one is, 2 at a bad line (with --why it is one that is refused), 3 where input, output or memory failed.\nThe rest stands in docs/FORMATS.md.";
 
 const SERVE_HELP: &str =
     "A client connects to ws://127.0.0.1:PORT/session, and makes a session by `session.new`;\na connection to /session/ID speaks for that session.\nStatus: 0 where all connections were served, 3 where it cannot listen or memory failed.\nThe rest stands in docs/CLIENTS.md.";
@@ -151,23 +163,31 @@ fn with_serving<'a>(alloc: Global) -> Result<Command<'a>, AllocError>
 // The program's command with all subcommands but `serve` and `host`.
 fn with_listings<'a>(alloc: Global) -> Result<Command<'a>, AllocError>
     ensures { IfOk result (λ command. app_of command ≡ with_subcommand (with_subcommand
-        (with_subcommand (with_subcommand (with_subcommand bare_app play_shape) pair_shape) reduce_shape) (from_shape (codes "show"))) (from_shape (codes "check"))) }
+        (with_subcommand (with_subcommand (with_subcommand bare_app play_shape) pair_shape) reduce_shape) (from_shape (codes "show"))) check_shape) }
 {
-    let command = with_reduce(alloc)?;
-    let command = with_listing(
+    let command = with_show(alloc)?;
+    let check = check_command(alloc)?;
+    command.subcommand(check)
+}
+
+// The subcommand `check`, with its option and its two flags.
+fn check_command<'a>(alloc: Global) -> Result<Command<'a>, AllocError>
+    ensures app { IfOk result (λ command. (app_of command).top ≡ check_shape) }
+    ensures local { IfOk result (λ command. (out-Command command).has_globals ≡ false) }
+{
+    let command = with_from(
         alloc,
-        command,
-        "show",
-        "Writes a line for each text of the standard input",
-        SHOW_HELP,
-    )?;
-    with_listing(
-        alloc,
-        command,
         "check",
         "Writes a line for each text of the standard input that is refused",
         CHECK_HELP,
-    )
+    )?;
+    let why = flag(
+        alloc,
+        "why",
+        "Tells where and why each is refused, and counts the causes",
+    );
+    let json = flag(alloc, "json", "With --why: tells each as a JSON object");
+    command.arg(why)?.arg(json)
 }
 
 // The subcommand `serve`, with its three options.
@@ -304,18 +324,27 @@ fn reduce_command<'a>(alloc: Global) -> Result<Command<'a>, AllocError>
         .arg(session)
 }
 
-// The command with one more subcommand, of this name, with the option `--from`.
-fn with_listing<'a>(
-    alloc: Global,
-    command: Command<'a>,
-    name: &'a str,
-    about: &'a str,
-    after: &'a str,
-) -> Result<Command<'a>, AllocError>
-    ensures { IfOk result (λ c. app_of c ≡ with_subcommand (app_of command.entry) (from_shape name.entry.now)) }
+// The program's command with the subcommands `play`, `pair`, `reduce` and `show` alone.
+fn with_show<'a>(alloc: Global) -> Result<Command<'a>, AllocError>
+    ensures { IfOk result (λ command. app_of command ≡ with_subcommand
+        (with_subcommand (with_subcommand (with_subcommand bare_app play_shape) pair_shape) reduce_shape) (from_shape (codes "show"))) }
 {
-    let listing = with_from(alloc, name, about, after)?;
-    command.subcommand(listing)
+    let command = with_reduce(alloc)?;
+    let show = show_command(alloc)?;
+    command.subcommand(show)
+}
+
+// The subcommand `show`, with its option.
+fn show_command<'a>(alloc: Global) -> Result<Command<'a>, AllocError>
+    ensures app { IfOk result (λ command. (app_of command).top ≡ from_shape (codes "show")) }
+    ensures local { IfOk result (λ command. (out-Command command).has_globals ≡ false) }
+{
+    with_from(
+        alloc,
+        "show",
+        "Writes a line for each text of the standard input",
+        SHOW_HELP,
+    )
 }
 
 // A subcommand of this name, with the option `--from`.
@@ -392,7 +421,15 @@ fn run_of(matches: &ArgMatches<'_>) -> Option<Run>
     let (name, inner) = matches.subcommand()?;
     let side = side_of(inner);
     let session = session_of(inner);
-    run_named(name, side, session, serving_of(inner), hosting_of(inner))
+    let checking = checking_of(inner);
+    run_named(
+        name,
+        side,
+        session,
+        checking,
+        serving_of(inner),
+        hosting_of(inner),
+    )
 }
 
 // The number of the session that `--session` names.
@@ -400,6 +437,30 @@ fn session_of(matches: &ArgMatches<'_>) -> Option<u32>
     ensures { result ≡ option_and_then (number_within 0 4294967295) (first_value (found_of matches.now) (codes "session")) }
 {
     number_of(matches, "session", 0, u32::MAX)
+}
+
+// What the option and the flags of `check` ask for.
+fn checking_of(matches: &ArgMatches<'_>) -> Option<Run>
+    ensures { result ≡ checking_in (rows_of (found_of matches.now)) }
+{
+    let side = side_of(matches);
+    let is_why = is_given(matches, "why");
+    let is_json = is_given(matches, "json");
+    checked(side, is_why, is_json)
+}
+
+// The run of `check`, where the end is valid. `--json` goes with `--why`.
+fn checked(side: Option<Side>, is_why: bool, is_json: bool) -> Option<Run>
+    ensures { result ≡ checked side is_why is_json }
+{
+    let side = side?;
+    if is_why {
+        Some(Run::Why(WhyOptions { side, is_json }))
+    } else if is_json {
+        None
+    } else {
+        Some(Run::Check(side))
+    }
 }
 
 // What the three options of `serve` ask for.
@@ -503,23 +564,24 @@ fn number_within(text: &str, least: u32, most: u32) -> Option<u32>
     }
 }
 
-// The run of the subcommand of this name, with the end or the session that its option names, or the options of
-// `serve` or `host`.
+// The run of the subcommand of this name, with the end or the session that its option names, the run of `check`, or
+// the options of `serve` or `host`.
 fn run_named(
     name: &str,
     side: Option<Side>,
     session: Option<u32>,
+    checking: Option<Run>,
     serving: Option<ServeOptions>,
     hosting: Option<HostOptions>,
 ) -> Option<Run>
-    ensures { result ≡ run_named name.now side session serving hosting }
+    ensures { result ≡ run_named name.now side session checking serving hosting }
 {
     match name {
         "play" => Some(Run::Play),
         "pair" => Some(Run::Pair),
         "reduce" => Some(Run::Reduce(session?)),
         "show" => Some(Run::Show(side?)),
-        "check" => Some(Run::Check(side?)),
+        "check" => checking,
         "serve" => Some(Run::Serve(serving?)),
         "host" => Some(Run::Host(hosting?)),
         _ => None,
@@ -553,11 +615,14 @@ fn no_value(alloc: Global, matches: &ArgMatches<'_>) -> LineFault
     }
 }
 
-// Which option of which subcommand has which value, and what it takes.
+// Which option of which subcommand has which value, and what it takes. Where the end is valid, a flag stands alone.
 fn bad_value(alloc: Global, matches: &ArgMatches<'_>) -> Result<String, AllocError> {
     let Some((name, inner)) = matches.subcommand() else {
         return String::from_str(alloc, "no subcommand");
     };
+    if side_of(inner).is_some() {
+        return String::from_str(alloc, "`check --json` goes with `--why`");
+    }
     let (option, takes) = bad_option(inner);
     let value = inner.get_str(option).unwrap_or("");
     format!(in alloc; "`{name} --{option}` takes {takes}, not `{value}`")

@@ -121,7 +121,7 @@ take_sum : (bs : List ℕ) (n i : ℕ) → take (n + i) bs ≡ take n bs ++ take
 take_sum bs n i = sym (take-append-drop n (take (n + i) bs)) ∙ ap₂ (λ (a b : List ℕ). a ++ b) (take-take n (n + i) bs (omega arith)) (drop-take n i bs)
 
 -- no line feed stands in two parts, so none in both together
-no_feed_append : (a b : List ℕ) → has_feed a ≡ false → has_feed b ≡ false → has_feed (a ++ b) ≡ false
+pub no_feed_append : (a b : List ℕ) → has_feed a ≡ false → has_feed b ≡ false → has_feed (a ++ b) ≡ false
 no_feed_append a b p q = let whole = list_any-append (λ b. b == 10) a b in grind (arith, whole, p, q)
 
 -- the first line feed behind a beginning that has none

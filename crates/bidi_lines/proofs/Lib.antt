@@ -2,4 +2,5 @@ pub mod ResultLemmas
 pub mod FeedLemmas
 pub mod DeviceLemmas
 pub mod InputLineLemmas
+pub mod SkippingLemmas
 pub mod AnsweringLemmas

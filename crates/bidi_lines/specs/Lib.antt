@@ -1,4 +1,5 @@
 pub mod Feeds
 pub mod Devices
 pub mod InputLines
+pub mod Skipping
 pub mod Answering

@@ -13,5 +13,5 @@ mod tally;
 
 pub use answering::{AnswerFault, Answerer, LinesFault, answer_lines};
 pub use device::{Device, DeviceFault, Nowhere, Sink, Source, write_all};
-pub use line_reader::{InputFault, LONGEST_LINE, LineReader};
+pub use line_reader::{InputFault, LONGEST_LINE, LineReader, Skipped};
 pub use side::Side;

@@ -1,11 +1,12 @@
 //! A reader of lines, which holds little more of an input than one line.
 ghost use Rattle.std.specs.Prelude.{◌≡◌, ◌≢◌, ◌==◌, ℕ, ◌+◌, ◌≤◌, List, [], ◌∷◌, ◌++◌, false, true, length, position, take};
-ghost use Rattle.std.specs.Prelude.{drop, vec_len, IfOk, IfSome, IfNone, IfErr, IsTrue, MatchResult};
+ghost use Rattle.std.specs.Prelude.{drop, ◌<◌, vec_len, IfOk, IfSome, IfNone, IfErr, IsTrue, MatchResult};
 ghost use Rattle.std.specs.Io.KnownBytes.{IsAtEnd};
 ghost use Rattle.bidi_lines.specs.Devices.{ReadsOn, TellsEnd};
 ghost use Rattle.bidi_lines.specs.Feeds.{has_feed};
 ghost use Rattle.bidi_lines.specs.declared.line_reader.InputFault.TheVariants.{BadLine};
-ghost use Rattle.bidi_lines.specs.InputLines.{Says, failed_reads, given};
+ghost use Rattle.bidi_lines.specs.InputLines.{BeginsBadly, Says, failed_reads, given};
+ghost use Rattle.bidi_lines.specs.Skipping.{SkipsLine, skips};
 
 use super::device::Source;
 use memchr::memchr;
@@ -28,6 +29,17 @@ pub enum InputFault {
     /// An allocation failed. No byte is lost, and the next call goes on from there.
     #[error("out of memory")]
     NoMemory,
+}
+
+/// What became of a line that [`LineReader::next`] does not give.
+#[derive(Drop)]
+pub enum Skipped {
+    /// It has more than 2,097,152 bytes. It is thrown away, with its line feed.
+    TooLong,
+    /// It has more than 2,097,152 bytes and no line feed. It is thrown away, and was the last of the input.
+    TooLongLast,
+    /// It has no line feed, and this is all of it: the last bytes of the input.
+    Unended(Vec<u8>),
 }
 
 /// Reads the lines of a source one by one. Contracts see it as the bytes that it has read and not given yet.
@@ -101,6 +113,57 @@ impl LineReader {
                 };
             }
         }
+    }
+
+    /// Goes on behind a line that [`LineReader::next`] answered `BadLine` to.
+    ///
+    /// A line that is too long is thrown away as it is read, so memory holds a chunk of it. The last bytes of an input that ends without
+    /// a line feed are given.
+    ///
+    /// # Errors
+    /// 1. `Read`: a read of the source failed, and a beginning of the line is thrown away. Give up the input.
+    /// 2. `BadLine`: the line goes on behind 2^64 - 1 reads.
+    /// 3. `NoMemory`: an allocation failed.
+    pub fn skip<S: Source>(&mut self, alloc: Global, source: &mut S) -> Result<Skipped, InputFault>
+        // As `BadLine` leaves it.
+        requires { BeginsBadly (S.has_ended source.old) self.old }
+
+        // The bytes that were held, and those that the source gave, are those that are gone and what is held now.
+        ensures skips { SkipsLine (S.left source.old) (S.left source.new) self.old self.new (skips result (S.has_ended source.new)) }
+        ensures failures { MatchResult result (λ _. S.failures source.new ≡ S.failures source.old)
+            (λ fault. S.failures source.new ≡ S.failures source.old + failed_reads fault) }
+    {
+        if self.held().len() > LONGEST_LINE {
+            return self.skip_long(source);
+        }
+        let Ok(last) = Vec::from_slice(alloc, self.held()) else {
+            return Err(InputFault::NoMemory);
+        };
+        self.give(last.len());
+        Ok(Skipped::Unended(last))
+    }
+
+    // Throws away what is held, and what follows up to a line feed or the end of the input.
+    fn skip_long<S: Source>(&mut self, source: &mut S) -> Result<Skipped, InputFault>
+        requires long { 2097152 < length self.old }
+        requires no_feed { has_feed (take 2097153 self.old) ≡ false }
+        ensures skips { SkipsLine (S.left source.old) (S.left source.new) self.old self.new (skips result (S.has_ended source.new)) }
+        ensures failures { MatchResult result (λ _. S.failures source.new ≡ S.failures source.old)
+            (λ fault. S.failures source.new ≡ S.failures source.old + failed_reads fault) }
+    {
+        'skips: for _ in 0..u64::MAX {
+            let held = self.held();
+            if let Some(end) = feed_behind(held, 0) {
+                self.give(end + 1);
+                return Ok(Skipped::TooLong);
+            }
+            let seen = held.len();
+            self.give(seen);
+            if self.read_more(source)? == 0 {
+                return Ok(Skipped::TooLongLast);
+            }
+        }
+        Err(InputFault::BadLine)
     }
 
     /// Whether the input has more bytes. Reads some where none is held.

@@ -1,27 +1,29 @@
 //! Runs: what a command line asks for, over the devices of a program.
-ghost use Rattle.std.specs.Prelude.{◌≡◌, ℕ, ◌+◌, ◌<◌, ◌≤◌, List, IsTrue, IfOk, IfErr, MatchResult};
+ghost use Rattle.std.specs.Prelude.{◌≡◌, ℕ, ◌+◌, ◌<◌, ◌≤◌, List, false, IsTrue, IfOk, IfErr, OnErr, MatchResult};
 ghost use Rattle.bidi_lines.specs.Devices.{Moves};
 ghost use Rattle.bidi_play.specs.Plays.{Plays};
 ghost use Rattle.bidi_programs.specs.declared.faults.RunFault.{RunFault as Fault};
 ghost use Rattle.bidi_programs.specs.declared.faults.RunFault.TheVariants as fault;
-ghost use Rattle.bidi_programs.specs.Runs.{Completes, Stops, Tells, failed_reads, failed_writes, line_of, status_of};
+ghost use Rattle.bidi_programs.specs.Runs.{Completes, Stops, Tells, failed_reads, failed_writes, form_of, line_of, status_of, sums_up};
 
 use super::faults::RunFault;
 use super::pairing::play_pair;
-use bidi_command_line::Run;
+use bidi_command_line::{Run, WhyOptions};
 use bidi_hosting::HostingFault;
 use bidi_lines::{Sink, Source};
 use bidi_play::play;
 use bidi_reduce::reduce;
 use bidi_serve::ServeFault;
 use bidi_show::{Listing, list};
+use bidi_why::{Form, explain};
 use std::alloc::Global;
 
 /// Runs what was asked for, and returns the status of the program.
 ///
 /// The status is 0 where all was done, 1 where a check found a line that is refused, 2 at a bad line, and 3
 /// where input, output or memory failed or the steps or lines are used up. A fault is written to `faults` as
-/// one line; whether that write succeeds does not change the status.
+/// one line; whether that write succeeds does not change the status. What `check --why` tells at its end of the lines
+/// that are refused is written there, too.
 ///
 /// `serve` and `host` need a listener, which streams alone do not give. So for them the fault is that the program
 /// cannot listen, with status 3, and nothing is read or written. The crates `bidi_serve` and `bidi_hosting` listen.
@@ -32,9 +34,9 @@ pub fn run<R: Source, W: Sink, F: Sink>(
     sink: &mut W,
     faults: &mut F,
 ) -> u8
-    // Where all was done, no device has failed and no fault is written.
+    // Where all was done, no device has failed, and nothing is told but what a check that tells why sums up.
     ensures done { result ≤ 1 → IsTrue (R.has_ended source.new) × (R.failures source.new ≡ R.failures source.old) × (W.failures sink.new ≡ W.failures sink.old)
-        × (faults.new ≡ faults.old)
+        × (sums_up run.now result ≡ false → faults.new ≡ faults.old)
         × Moves (R.left source.old) (R.left source.new) (W.contents sink.old) (W.contents sink.new) (Completes run.now result) }
     // Else a fault ended the run. It says what was read and written and which device failed, and is written.
     ensures stopped { 1 < result → (fault : Fault) × (result ≡ status_of fault)
@@ -44,7 +46,7 @@ pub fn run<R: Source, W: Sink, F: Sink>(
     // The text of a play is one: its bytes determine it.
     ensures one_text { (bytes text other : List ℕ) → Plays bytes text → Plays bytes other → text ≡ other }
 {
-    match finish(alloc, run, source, sink) {
+    match finish(alloc, run, source, sink, faults) {
         Ok(status) => status,
         Err(fault) => {
             fault.report(faults);
@@ -54,11 +56,12 @@ pub fn run<R: Source, W: Sink, F: Sink>(
 }
 
 // Runs what was asked for. Without a fault it gives the status of the program.
-fn finish<R: Source, W: Sink>(
+fn finish<R: Source, W: Sink, F: Sink>(
     alloc: Global,
     run: &Run,
     source: &mut R,
     sink: &mut W,
+    faults: &mut F,
 ) -> Result<u8, RunFault>
     ensures ok { IfOk result (λ status. (status ≤ 1) × IsTrue (R.has_ended source.new)
         × Moves (R.left source.old) (R.left source.new) (W.contents sink.old) (W.contents sink.new) (Completes run.now status)) }
@@ -68,6 +71,8 @@ fn finish<R: Source, W: Sink>(
         (λ fault. R.failures source.new ≡ R.failures source.old + failed_reads fault) }
     ensures writes { MatchResult result (λ _. W.failures sink.new ≡ W.failures sink.old)
         (λ fault. W.failures sink.new ≡ W.failures sink.old + failed_writes fault) }
+    ensures quiet { IfOk result (λ status. sums_up run.now status ≡ false → faults.new ≡ faults.old) }
+    ensures untold { OnErr result (faults.new ≡ faults.old) }
 {
     match run {
         Run::Play => match play(alloc, source, sink) {
@@ -90,8 +95,25 @@ fn finish<R: Source, W: Sink>(
             Ok(found) => Ok(if found { 1 } else { 0 }),
             Err(fault) => Err(RunFault::Listing(fault)),
         },
+        Run::Why(options) => {
+            match explain(alloc, form_of(*options), options.side, source, sink, faults) {
+                Ok(found) => Ok(if found { 1 } else { 0 }),
+                Err(fault) => Err(RunFault::Listing(fault)),
+            }
+        }
         Run::Serve(_) => Err(RunFault::Serve(ServeFault::Listen)),
         Run::Host(_) => Err(RunFault::Host(HostingFault::Listen)),
+    }
+}
+
+// In which form a check tells why.
+fn form_of(options: WhyOptions) -> Form
+    ensures { result ≡ form_of options }
+{
+    if options.is_json {
+        Form::Json
+    } else {
+        Form::Words
     }
 }
 

@@ -1,6 +1,8 @@
 //! Command lines, and the runs or the texts that they give.
 use super::told::check_text;
-use bidi_command_line::{HostFiles, HostOptions, LineFault, Run, command_line, host_files};
+use bidi_command_line::{
+    HostFiles, HostOptions, LineFault, Run, WhyOptions, command_line, host_files,
+};
 use bidi_lines::Side;
 use std::alloc::{AllocError, Global};
 use std::test::Fail;
@@ -49,6 +51,28 @@ usage: show --from local remote
 usage: show --from local --from local
 usage: show -- --from local
 usage: --from local show
+why local: check --from local --why
+why remote: check --from=remote --why
+why local json: check --from local --why --json
+why remote json: check --from=remote --why --json
+why remote json: check --json --from remote --why
+why local json: check --why --json --from=local --
+help: check --why --help
+usage: check --why
+usage: check --why --json
+usage: check --json --from both
+usage: check --from both --why
+usage: check --from local --json
+usage: check --json --from=remote
+usage: check --from local --why --why
+usage: check --from local --why --json --json
+usage: check --from local --why=true
+usage: check --from local --why --json=
+usage: check --from local --wh
+usage: check --from local --why extra
+usage: show --from local --why
+usage: show --from local --json
+usage: play --why
 serve 9222 10 1000: serve --port 9222 --connections 10 --messages 1000
 serve 0 1 1: serve --port=0 --connections=1 --messages=1
 serve 65535 1000 100000: serve --messages 100000 --port 65535 --connections 1000
@@ -154,6 +178,22 @@ Usage: bidi <COMMAND>
 For more information, try '--help'.
 ";
 
+const JSON_ALONE: &str = "usage
+error: `check --json` goes with `--why`
+
+Usage: bidi <COMMAND>
+
+For more information, try '--help'.
+";
+
+const NO_END: &str = "usage
+error: `check --from` takes `local` or `remote`, not `both`
+
+Usage: bidi <COMMAND>
+
+For more information, try '--help'.
+";
+
 #[test]
 fn each_line_gives_a_run_or_a_text(rt: HostRuntime) -> Result<(), Fail> {
     let alloc = rt.alloc();
@@ -163,6 +203,18 @@ fn each_line_gives_a_run_or_a_text(rt: HostRuntime) -> Result<(), Fail> {
     }
     check_text(&rt, "help", answer(alloc, "--help")?, HELP);
     check_text(&rt, "usage", answer(alloc, "over")?, USAGE);
+    check_text(
+        &rt,
+        "json",
+        answer(alloc, "check --from local --json")?,
+        JSON_ALONE,
+    );
+    check_text(
+        &rt,
+        "end",
+        answer(alloc, "check --json --from both")?,
+        NO_END,
+    );
     Ok(())
 }
 
@@ -196,6 +248,7 @@ fn run_text(alloc: Global, run: Run) -> Result<String, AllocError> {
         Run::Reduce(session) => format!(in alloc; "reduce {session}"),
         Run::Show(side) => format!(in alloc; "show {}", side_name(side)),
         Run::Check(side) => format!(in alloc; "check {}", side_name(side)),
+        Run::Why(asked) => why_text(alloc, asked),
         Run::Serve(asked) => {
             format!(in alloc;
                 "serve {} {} {}",
@@ -204,6 +257,12 @@ fn run_text(alloc: Global, run: Run) -> Result<String, AllocError> {
         }
         Run::Host(_) => String::from_str(alloc, "host"),
     }
+}
+
+/// What `check --why` asks for: the end, and whether JSON is written.
+fn why_text(alloc: Global, asked: WhyOptions) -> Result<String, AllocError> {
+    let json = flag_text(asked.is_json, " json");
+    format!(in alloc; "why {}{json}", side_name(asked.side))
 }
 
 /// What `host` asks for: the port, the flags that are given, and its two files, each `-` where there is none.

@@ -3,7 +3,7 @@
 //! What a run answers stands with an empty line between the answers to two lines of its input.
 ghost use Rattle.std.specs.Prelude.{◌≤◌, IfSome};
 
-use bidi_command_line::Run;
+use bidi_command_line::{Run, WhyOptions};
 use bidi_lines::{Device, Side};
 use bidi_programs::run;
 use std::alloc::{AllocError, Global};
@@ -24,6 +24,16 @@ const TWO: &str = "{\"id\":1,\"method\":\"session.fly\"}\n{\"id\":2,\"method\":\
 const SHOWN: &str = "refused 1 unknown command\n\nrefused 2 unknown command\n";
 
 const CHECKED: &str = "line 1: refused 1 unknown command\n\nline 2: refused 2 unknown command\n";
+
+/// What a check asks for that tells why, two lines that are no JSON, and what it tells of them.
+const WHY: Run = Run::Why(WhyOptions {
+    side: Side::Remote,
+    is_json: false,
+});
+
+const NO_JSON: &str = "x\n[\n";
+
+const EXPLAINED: &str = "line 1: not json\n\nline 2: not json\n";
 
 /// A schedule of both ends, and what became of its command.
 const PAIR: &str = "open 1 /session\nsend 1 session.status {}\nup 1\ndown 1\n";
@@ -71,6 +81,7 @@ fn each_line_before_a_failed_read_is_answered(rt: HostRuntime) -> Result<(), Fai
     check_reads(&rt, &Run::Play, NAVIGATION, NAVIGATED)?;
     check_reads(&rt, &Run::Show(Side::Local), TWO, SHOWN)?;
     check_reads(&rt, &Run::Check(Side::Local), TWO, CHECKED)?;
+    check_reads(&rt, &WHY, NO_JSON, EXPLAINED)?;
     // What became of a command is known at the end alone, and what is kept of a play is written then.
     check_reads(&rt, &Run::Pair, PAIR, "")?;
     check_reads(&rt, &Run::Reduce(1), PLAY, "")
@@ -82,6 +93,7 @@ fn a_failed_write_ends_the_run(rt: HostRuntime) -> Result<(), Fail> {
     check_writes(&rt, &Run::Play, NAVIGATION, NAVIGATED)?;
     check_writes(&rt, &Run::Show(Side::Local), TWO, SHOWN)?;
     check_writes(&rt, &Run::Check(Side::Local), TWO, CHECKED)?;
+    check_writes(&rt, &WHY, NO_JSON, EXPLAINED)?;
     check_writes(&rt, &Run::Pair, PAIR, PAIRED)?;
     check_writes(&rt, &Run::Reduce(1), PLAY, PLAY)
 }
@@ -95,13 +107,18 @@ fn short_reads_and_writes_change_nothing(rt: HostRuntime) -> Result<(), Fail> {
 }
 
 #[test]
-fn a_fault_that_cannot_be_told_changes_nothing(rt: HostRuntime) {
-    let mut source = Device::new(b"at 01\n".as_slice());
+fn what_cannot_be_told_changes_nothing(rt: HostRuntime) {
+    assert_eq!(rt; untold_status(rt.alloc(), &Run::Play, "at 01\n"), 2);
+    assert_eq!(rt; untold_status(rt.alloc(), &WHY, NO_JSON), 1);
+}
+
+/// The status of a run that can tell nothing.
+fn untold_status(alloc: Global, asked: &Run, input: &str) -> u8 {
+    let mut source = Device::new(input.as_bytes());
     let mut sink = Device::new(io::sink());
-    let mut room = Vec::<u8>::new(rt.alloc());
+    let mut room = Vec::<u8>::new(alloc);
     let mut faults = Device::new(room.as_mut_slice());
-    let status = run(rt.alloc(), &Run::Play, &mut source, &mut sink, &mut faults);
-    assert_eq!(rt; status, 2);
+    run(alloc, asked, &mut source, &mut sink, &mut faults)
 }
 
 /// That a run whose reader fails once, behind any number of bytes, answers each line that is whole, and no more.

@@ -12,5 +12,5 @@ returns c =
     let found = found_of c.in_ok-name.inner.now in
     let side = c.side_of-side.ensures ∙ ap (option_and_then side_named) (first_value-rows found (codes "from")) in
     let session = c.session_of-session.ensures ∙ ap (option_and_then (number_within 0 4294967295)) (first_value-rows found (codes "session")) in
-    c.run_named.ensures ∙ (named-same name _ _ _ _ _ _ _ _ side session c.serving_of.ensures c.hosting_of.ensures
+    c.run_named.ensures ∙ (named-same name _ _ _ _ _ _ _ _ _ _ side session c.checking_of-checking.ensures c.serving_of.ensures c.hosting_of.ensures
     ∙ sym (ap run_in (met _ name (rows_of found) c.in_ok-name.ensures.name c.in_ok-name.ensures.rows)))

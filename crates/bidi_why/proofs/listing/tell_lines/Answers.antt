@@ -1,0 +1,182 @@
+use Rattle.std.proofs.Common.{◌++◌, ◌∷◌, [], ℕ, List, length-append, refl, sym, ◌∙◌, ap₂, arith}
+use Rattle.std.proofs.KnownBytes.{Appends-nil, Appends-trans, Consumes-nil, Consumes-trans}
+use Rattle.bidi_lines.proofs.ResultLemmas.{by_fault}
+use Rattle.bidi_why.specs.declared.next_line.Found.TheVariants.{End, Last, Line}
+use Rattle.bidi_why.proofs.InputLemmas.{found_as, one_line}
+use Rattle.bidi_why.proofs.TellingLemmas.{if_err, on_ok, parts_more, parts_read, some_more, stops_input, stops_line, tells_all, tells_last, told_more}
+use Rattle.bidi_why.proofs.listing.tell_lines.Goals as goal
+
+pub lines-init : goal.lines-init
+lines-init g c = (
+  [],
+  [],
+  [],
+  record {
+    parts = record { front = sym c.new-reader.ensures; each = tt };
+    told = refl;
+    form = refl;
+    side = refl;
+    some = c.requires.not_written;
+    reads = Consumes-nil _;
+    writes = Appends-nil _;
+    failed_reads = refl;
+    failed_writes = refl;
+    count = c.requires.lines;
+    few = omega arith;
+  },
+)
+
+pub returns-in-Err-clause-err : goal.returns-in-Err-clause-err
+returns-in-Err-clause-err g c =
+    let (read, lines, text, s) = c.lines.invariant in
+    let (gone, (bytes, more, consumes), none) = c.in-Err.ensures.finds in (
+      read ++ bytes,
+      text,
+      Consumes-trans _ _ _ _ _ s.reads consumes,
+      s.writes,
+      stops_input c.args.teller.now.form c.args.teller.now.side c.in-Err.fault _ c.show_fault.result (read ++ bytes) (gone ++ c.next_line.new.reader) text lines
+          c.show_fault.ensures
+          (record { parts = parts_read read bytes c.lines.reader (gone ++ c.next_line.new.reader) lines s.parts more; text = s.told; few = s.few }),
+    )
+
+pub returns-in-Ok-End-clause-ok : goal.returns-in-Ok-End-clause-ok
+returns-in-Ok-End-clause-ok g c =
+    let (read, lines, text, s) = c.lines.invariant in
+    let (gone, (bytes, more, consumes), (none, last)) =
+    found_as _ _ c.lines.reader c.next_line.new.reader (g.R.Source.has_ended c.next_line.new.source) c.in-Ok-End.field-0 End c.in-Ok-End.field-0-is c.in-Ok-End.ensures.finds in (
+      read ++ bytes,
+      text,
+      Consumes-trans _ _ _ _ _ s.reads consumes,
+      s.writes,
+      (
+        tells_all c.args.teller.now.form c.args.teller.now.side (read ++ bytes) (gone ++ c.next_line.new.reader) text lines
+            (parts_read read bytes c.lines.reader (gone ++ c.next_line.new.reader) lines s.parts more)
+            (ap₂ (λ (x y : List ℕ). x ++ y) none last.1) s.told,
+        s.some,
+      ),
+    )
+
+pub returns-in-Ok-Last-clause-ok : goal.returns-in-Ok-Last-clause-ok
+returns-in-Ok-Last-clause-ok g c =
+    let (read, lines, text, s) = c.lines.invariant in
+    let line = c.in-Ok-Last.line in
+    let (gone, (bytes, more, consumes), (is, some, last)) =
+    found_as _ _ c.lines.reader c.next_line.new.reader (g.R.Source.has_ended c.next_line.new.source) c.in-Ok-Last.field-0 (Last line) c.in-Ok-Last.field-0-is c.in-Ok-Last.ensures.finds in
+    on_ok c.answer.result c.answer.ensures.ok (λ told. (
+      read ++ bytes,
+      text ++ told.0,
+      Consumes-trans _ _ _ _ _ s.reads consumes,
+      Appends-trans _ _ _ _ _ s.writes told.1,
+      (
+        tells_last c.args.teller.now.form c.args.teller.now.side read bytes gone c.lines.reader c.next_line.new.reader (text ++ told.0) lines s.parts more last.1 some
+            (one_line line gone is)
+            (told_more c.args.teller.now.form c.lines.teller.form c.args.teller.now.side c.lines.teller.side c.lines.teller.lines lines gone text told.0 s.form s.side
+            s.count s.told (told.3 gone is)),
+        told.2 ∙ some_more c.lines.teller.has_written text told.0 s.some,
+      ),
+    ))
+
+pub returns-in-Ok-Last-clause-err : goal.returns-in-Ok-Last-clause-err
+returns-in-Ok-Last-clause-err g c =
+    let (read, lines, text, s) = c.lines.invariant in
+    let (gone, (bytes, more, consumes), found) = c.in-Ok-Last.ensures.finds in
+    if_err c.answer.result c.answer.ensures.err (λ fault stop. (
+      read ++ bytes,
+      text ++ stop.0,
+      Consumes-trans _ _ _ _ _ s.reads consumes,
+      Appends-trans _ _ _ _ _ s.writes stop.1,
+      stops_line c.args.teller.now.form c.args.teller.now.side fault (read ++ bytes) (gone ++ c.next_line.new.reader) text stop.0 lines stop.2
+          (record { parts = parts_read read bytes c.lines.reader (gone ++ c.next_line.new.reader) lines s.parts more; text = s.told; few = s.few }),
+    ))
+
+pub lines-preserved : goal.lines-preserved
+lines-preserved g c =
+    let (read, lines, text, s) = c.lines.invariant in
+    let line = c.in-Ok-Line.line in
+    let (gone, (bytes, more, consumes), (is, at, whole)) =
+    found_as _ _ c.lines.reader c.next_line.new.reader (g.R.Source.has_ended c.next_line.new.source) c.in-Ok-Line.field-0 (Line line) c.in-Ok-Line.field-0-is c.in-Ok-Line.ensures.finds in
+    let told = c.in_ok-answer-in-Ok-Line.ensures in
+    let (here, appends, some, tells) = told.ok in
+    let long = length-append lines (is ∷ []) in
+    let before = s.count in
+    let now = told.lines in (
+      read ++ bytes,
+      lines ++ is ∷ [],
+      text ++ here,
+      record {
+        parts = parts_more read bytes is gone c.lines.reader c.next_line.new.reader lines s.parts more whole (one_line line is at);
+        told = told_more c.args.teller.now.form c.lines.teller.form c.args.teller.now.side c.lines.teller.side c.lines.teller.lines lines is text here s.form s.side
+            s.count s.told (tells is at);
+        form = told.form ∙ s.form;
+        side = told.side ∙ s.side;
+        some = some ∙ some_more c.lines.teller.has_written text here s.some;
+        reads = Consumes-trans _ _ _ _ _ s.reads consumes;
+        writes = Appends-trans _ _ _ _ _ s.writes appends;
+        failed_reads = c.in-Ok-Line.ensures.failures ∙ s.failed_reads;
+        failed_writes = told.writes ∙ s.failed_writes;
+        count = omega (arith, long, before, now);
+        few = omega (arith, long, before, now);
+      },
+    )
+
+pub returns-in_err-answer-in-Ok-Line-clause-err : goal.returns-in_err-answer-in-Ok-Line-clause-err
+returns-in_err-answer-in-Ok-Line-clause-err g c =
+    let (read, lines, text, s) = c.lines.invariant in
+    let (gone, (bytes, more, consumes), found) = c.in-Ok-Line.ensures.finds in
+    let fault = c.in_err-answer-in-Ok-Line.field-0.0 in
+    let (stop, appends, stops) = c.in_err-answer-in-Ok-Line.ensures.err in
+    by_fault c.from_residual.result fault _ c.from_residual.ensures (
+      read ++ bytes,
+      text ++ stop,
+      Consumes-trans _ _ _ _ _ s.reads consumes,
+      Appends-trans _ _ _ _ _ s.writes appends,
+      stops_line c.args.teller.now.form c.args.teller.now.side fault (read ++ bytes) (gone ++ c.next_line.new.reader) text stop lines stops
+          (record { parts = parts_read read bytes c.lines.reader (gone ++ c.next_line.new.reader) lines s.parts more; text = s.told; few = s.few }),
+    )
+
+pub returns-in-Err-goes_on-clause-err : goal.returns-in-Err-goes_on-clause-err
+returns-in-Err-goes_on-clause-err g c =
+    let (read, lines, text, s) = c.lines.invariant in
+    let (bytes, more, consumes) = c.in-Err-goes_on.ensures.bytes in (
+      read ++ bytes,
+      text,
+      Consumes-trans _ _ _ _ _ s.reads consumes,
+      s.writes,
+      stops_input c.args.teller.now.form c.args.teller.now.side c.in-Err-goes_on.fault _ c.show_fault-in-Err-goes_on.result (read ++ bytes) c.goes_on.new.self text lines
+          c.show_fault-in-Err-goes_on.ensures
+          (record { parts = parts_read read bytes c.lines.reader c.goes_on.new.self lines s.parts more; text = s.told; few = s.few }),
+    )
+
+pub returns-in-Ok-true-clause-err : goal.returns-in-Ok-true-clause-err
+returns-in-Ok-true-clause-err g c =
+    let (read, lines, text, s) = c.lines.invariant in
+    let (bytes, more, consumes) = c.in-Ok-true.ensures.bytes in
+    let counted = s.count in let few = s.few in (
+      read ++ bytes,
+      text,
+      Consumes-trans _ _ _ _ _ s.reads consumes,
+      s.writes,
+      (
+        lines,
+        c.goes_on.new.self,
+        record { parts = parts_read read bytes c.lines.reader c.goes_on.new.self lines s.parts more; text = s.told; few = few },
+        omega (arith, counted, few),
+        c.in-Ok-true.ensures.more c.in-Ok-true.field-0-test,
+      ),
+    )
+
+pub returns-clause-ok : goal.returns-clause-ok
+returns-clause-ok g c =
+    let (read, lines, text, s) = c.lines.invariant in
+    let next = c.in-Ok-false.ensures in
+    let (bytes, more, consumes) = next.bytes in (
+      read ++ bytes,
+      text,
+      Consumes-trans _ _ _ _ _ s.reads consumes,
+      s.writes,
+      (
+        tells_all c.args.teller.now.form c.args.teller.now.side (read ++ bytes) c.goes_on.new.self text lines
+            (parts_read read bytes c.lines.reader c.goes_on.new.self lines s.parts more) (next.end c.in-Ok-false.field-0-test).0 s.told,
+        s.some,
+      ),
+    )

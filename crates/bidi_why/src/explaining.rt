@@ -1,0 +1,46 @@
+//! What is written for one line.
+ghost use Rattle.std.specs.Prelude.{◌≡◌, IfOk, option_map};
+ghost use Rattle.bidi_why.specs.Explaining.{Explains, explained_of};
+
+use crate::finding::find_trouble;
+use crate::texts::{Form, cause, told};
+use bidi_lines::Side;
+use bidi_show::refusal;
+use json::Scratch;
+use std::alloc::{AllocError, Global};
+
+/// What is written for a refused line, and by which cause it is counted.
+#[derive(Drop)]
+pub struct Explained {
+    /// The line that is written, with its line feed.
+    pub text: Vec<u8>,
+    /// Where lines of its kind go wrong: two lines with one cause differ in numbers of items, or in what stands at the place, alone.
+    pub cause: Vec<u8>,
+}
+
+/// What is written for a line of this number; `None` for one that the end takes.
+///
+/// It is judged as `check` judges it, in a scratch that the caller keeps from line to line. Only of a line that is refused a tree is made, to
+/// look for the place.
+///
+/// # Errors
+/// No memory: an allocation failed.
+pub fn explain_line(
+    alloc: Global,
+    form: Form,
+    side: Side,
+    number: u64,
+    line: &[u8],
+    scratch: &mut Scratch,
+) -> Result<Option<Explained>, AllocError>
+    ensures { IfOk result (λ found. Explains form side number line.now (option_map explained_of found)) }
+{
+    if refusal(alloc, side, line, scratch)?.is_none() {
+        return Ok(None);
+    }
+    let trouble = find_trouble(alloc, side, number, line)?;
+    Ok(Some(Explained {
+        text: told(alloc, form, number, &trouble)?,
+        cause: cause(alloc, &trouble)?,
+    }))
+}
