@@ -9,7 +9,7 @@ use Rattle.bidi_tree.specs.Node.{Node, Items, no_items, item, Members, no_member
 use Rattle.bidi_tree.specs.Kind.{list_in, map_in}
 use Rattle.bidi_tree.specs.View.{items_of}
 use Rattle.bidi_shape.specs.Name.{Name}
-use Rattle.bidi_shape.specs.Term.{Need, required, optional, Openness, extensible, Term, any, list_of, pair_of, map_of, rule, capped, Rows, row, names_of}
+use Rattle.bidi_shape.specs.Term.{Need, required, Openness, extensible, Term, any, list_of, pair_of, map_of, rule, capped, Rows, row, names_of}
 use Rattle.bidi_shape.specs.Profile.{term_of}
 use Rattle.bidi_shape.specs.Fits.{count, without, OthersFit, Fits, fits_any, fits_list, fits_pair, fits_map, fits_first, fits_second, fits_rule, fits_capped}
 use Rattle.bidi_shape.specs.Fits.{AllFit, RowsFit}
@@ -52,11 +52,7 @@ judged_capped t τ (Some r) h b = of_capped t τ r b
 
 -- ---- others
 
--- a member that a row names is left out, and another stays
-pub without_named : (names : List (List ℕ)) (k : List ℕ) (t : Node) (ms : Members) → list_any (bytes_eq k) names ≡ true
-    → without names (member k t ms) ≡ without names ms
-without_named names k t ms e = rw e refl
-
+-- a member that no row names stays
 pub without_other : (names : List (List ℕ)) (k : List ℕ) (t : Node) (ms : Members) → list_any (bytes_eq k) names ≡ false
     → without names (member k t ms) ≡ member k t (without names ms)
 without_other names k t ms e = rw e refl
@@ -186,10 +182,6 @@ pub row_missing : (o : Openness) (others : Members) (n : ℕ) (ms : Members) (k 
     → RowsBlame o others n ms (row k need τ rows) (missing n k τ)
 row_missing o others n ms k need τ rows is e =
     subst (λ x. RowsBlame o others n ms (row k x τ rows) (missing n k τ)) (sym is) (is_missing o others n ms k τ rows e)
-
-pub row_absent : (need : Need) → (need ≡ required → ⊥) → need ≡ optional
-row_absent required h = absurd (h refl)
-row_absent optional h = refl
 
 -- rows and others are judged together
 pub rows_judged : (ms : Members) (rows : Rows) (op : Openness) (n : ℕ) (o : Option Reason)

@@ -3,15 +3,13 @@ use Rattle.std.proofs.Common.{◌≡◌, ◌≢◌, ℕ, suc, ◌+◌, ◌<◌, 
 use Rattle.std.proofs.Common.{refl, sym, ap, ap₂, ◌∙◌, append_assoc, append-nil, arith, lit<, ne_eqb, encode_utf8, encode_utf8_all}
 use Rattle.std.proofs.lemmas.List.{at_drop_more}
 use Rattle.std.proofs.lemmas.List.Concat.{flat_map-append}
-use Rattle.std.proofs.lemmas.Str.{encode_ascii, inside_one}
+use Rattle.std.proofs.lemmas.Str.{inside_one}
 use Rattle.bidi_tree.specs.View.{items_node, members_node}
 use Rattle.bidi_tree.specs.declared.tree.Tree.{Tree}
 use Rattle.bidi_shape.specs.Fits.{count}
 use Rattle.bidi_shape.specs.Term.{Term, bool, js_uint, js_int, any}
 use Rattle.bidi_blame.specs.Grammar.{grammar, one_of}
-use Rattle.bidi_blame.specs.View.{step_of}
-use Rattle.bidi_blame.specs.Words.{escaped_byte, escaped, step_text, pointer_text, alternatives, told_with, each_once, count_words, count_members}
-use Rattle.bidi_blame.specs.declared.reason.Step as code
+use Rattle.bidi_blame.specs.Words.{escaped_byte, escaped, alternatives, told_with, each_once, count_words, count_members}
 use Rattle.bidi_blame.specs.declared.term.Term as code_term
 use Rattle.bidi_blame.specs.declared.term.Term.{the_lemmas}
 
@@ -41,25 +39,11 @@ pub escaped-encode_utf8 : (c : ℕ) → c ≢ 126 → c ≢ 47 → escaped (enco
 escaped-encode_utf8 c p q =
     escaped_plain (encode_utf8 c) (λ k l. (λ e. p (in_letter c k 126 l (lit< tt) e), λ e. q (in_letter c k 47 l (lit< tt) e)))
 
--- those that have one
-pub escaped_tilde : escaped (encode_utf8 126) ≡ codes "~0"
-escaped_tilde = ap escaped (encode_ascii 126 (lit< tt))
-
-pub escaped_slash : escaped (encode_utf8 47) ≡ codes "~1"
-escaped_slash = ap escaped (encode_ascii 47 (lit< tt))
-
 -- the escapes of a text, letter by letter
 pub escaped-encode_utf8_all : (cs : List ℕ) → flat_map (λ c. escaped (encode_utf8 c)) cs ≡ escaped (encode_utf8_all cs)
 escaped-encode_utf8_all [] = refl
 escaped-encode_utf8_all (c ∷ cs) =
     ap (λ (t : List ℕ). escaped (encode_utf8 c) ++ t) (escaped-encode_utf8_all cs) ∙ sym (flat_map-append escaped_byte (encode_utf8 c) (encode_utf8_all cs))
-
--- a pointer with one step more
-pub pointer_text-drop : (ss : List code.Step) (i : ℕ) (s : code.Step) → i < length ss → s ≡ get_or ss i s
-    → pointer_text (map step_of (drop i ss)) ≡ pointer_text (map step_of (drop (i + 1) ss)) ++ 47 ∷ step_text (step_of s)
-pointer_text-drop ss i s few at =
-    at_drop_more (λ (xs : List code.Step). pointer_text (map step_of xs)) ss i s few
-    ∙ ap (λ (x : code.Step). pointer_text (map step_of (drop (i + 1) ss)) ++ 47 ∷ step_text (step_of x)) (sym at)
 
 -- ---- told words
 

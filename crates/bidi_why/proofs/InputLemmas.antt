@@ -1,42 +1,17 @@
 -- What comes next in an input.
-use Rattle.std.proofs.Common.{◌≡◌, ◌<◌, ◌++◌, ℕ, Bool, false, length, arith, List, [], Option, Some, None, Ok, Err, refl, sym, ap, subst}
+use Rattle.std.proofs.Common.{◌≡◌, ◌<◌, ◌++◌, ℕ, Bool, false, length, arith, List, [], Option, Ok, Err, sym, ap, subst}
 use Rattle.std.specs.Prelude.{Result}
-use Rattle.std.specs.Global.{Vec}
 use Rattle.bidi_lines.specs.Devices.{ReadsOn}
-use Rattle.bidi_lines.specs.Feeds.{ended, has_feed}
-use Rattle.bidi_lines.specs.InputLines.{BeginsBadly, Says, given}
+use Rattle.bidi_lines.specs.Feeds.{has_feed}
 use Rattle.bidi_lines.specs.Skipping.{SkipsLine, skips}
 use Rattle.bidi_lines.specs.declared.line_reader.InputFault.{InputFault}
-use Rattle.bidi_lines.specs.declared.line_reader.InputFault.TheVariants.{BadLine}
 use Rattle.bidi_lines.specs.declared.line_reader.Skipped.{Skipped}
 use Rattle.bidi_lines.specs.declared.line_reader.Skipped.TheVariants as skipped
 use Rattle.bidi_lines.proofs.DeviceLemmas.{ReadsOn-trans}
-use Rattle.bidi_lines.proofs.InputLineLemmas.{given_line}
 use Rattle.bidi_why.specs.Input.{IsOf, finds, found_of}
 use Rattle.bidi_why.specs.declared.next_line.Line.{Line}
 use Rattle.bidi_why.specs.declared.next_line.Line.TheVariants as line
 use Rattle.bidi_why.specs.declared.next_line.Found.{Found}
-use Rattle.bidi_why.specs.declared.next_line.Found.TheVariants as next
-
--- a line that is given
-pub finds_line : (a b : Option (List ℕ)) (rest rest' : List ℕ) (at_end : Bool) (found : Option (Vec ℕ)) (text : Vec ℕ) → found ≡ Some text
-    → (let r : Result (Option (Vec ℕ)) InputFault = Ok found in ReadsOn a b rest (given r ++ rest') × Says r at_end rest')
-    → SkipsLine a b rest rest' (finds (Ok (next.Line (line.Text text))) at_end)
-finds_line a b rest rest' at_end found text e h =
-    let (bytes, more, consumes, is) = given_line a b rest rest' at_end found text e h in
-    (ended text.items, (bytes, more, consumes), (text.items, (refl, is), refl))
-
--- the end of the input
-pub finds_end : (a b : Option (List ℕ)) (rest rest' : List ℕ) (at_end : Bool) (found : Option (Vec ℕ)) → found ≡ None
-    → (let r : Result (Option (Vec ℕ)) InputFault = Ok found in ReadsOn a b rest (given r ++ rest') × Says r at_end rest')
-    → SkipsLine a b rest rest' (finds (Ok next.End) at_end)
-finds_end a b rest rest' at_end None e (reads, says) = ([], reads, (refl, says))
-finds_end a b rest rest' at_end (Some v) e (reads, says) = absurd cc
-
--- a bad line
-pub is_bad : (f : InputFault) (at_end : Bool) (rest : List ℕ) → f ≡ BadLine
-    → (let r : Result (Option (Vec ℕ)) InputFault = Err f in Says r at_end rest) → BeginsBadly at_end rest
-is_bad f at_end rest e says = subst (λ (x : InputFault). let r : Result (Option (Vec ℕ)) InputFault = Err x in Says r at_end rest) e says
 
 -- what was skipped is what comes next
 found_by_skip : (r : Result Skipped InputFault) (at_end : Bool) (gone held : List ℕ) → skips r at_end gone held → finds (found_of r) at_end gone held
@@ -54,11 +29,6 @@ pub finds_skipped : (a b c : Option (List ℕ)) (old mid new : List ℕ) (r : Re
 finds_skipped a b c old mid new r found at_end is reads (gone, more, s) =
     subst (λ (x : Result Found InputFault). SkipsLine a c old new (finds x at_end)) (sym is)
     (gone, ReadsOn-trans a b c old mid (gone ++ new) reads more, found_by_skip r at_end gone new s)
-
--- any other fault leaves all as it is
-pub finds_fault : (a b : Option (List ℕ)) (rest rest' : List ℕ) (at_end : Bool) (fault : InputFault) → ReadsOn a b rest rest'
-    → SkipsLine a b rest rest' (let r : Result Found InputFault = Err fault in finds r at_end)
-finds_fault a b rest rest' at_end fault reads = ([], reads, refl)
 
 -- no line feed stands in a line
 pub one_line : (l : Line) (bytes : List ℕ) → IsOf l bytes → has_feed bytes ≡ false
