@@ -2,3 +2,4 @@ pub mod MeaningLemmas
 pub mod OneMeaning
 pub mod PendingLemmas
 pub mod SendingLemmas
+pub mod OutcomeLemmas

@@ -4,7 +4,6 @@ use Rattle.std.proofs.Common.{option_and_then, unwrap_or, bytes_eq, false, strin
 use Rattle.std.specs.List.{AllByRecursion}
 use Rattle.bidi_tree.specs.Node.{Node, Members, put, get_member, null, whole, text, map}
 use Rattle.bidi_tree.specs.Kind.{text_in}
-use Rattle.bidi_tree.specs.Text.{tree_of}
 use Rattle.bidi_tree.proofs.MemberLemmas.{get_member-put, get_member-put_other}
 use Rattle.bidi_shape.specs.Name.{command_response, error_response}
 use Rattle.bidi_shape.specs.Term.{rule}
@@ -31,9 +30,9 @@ use Rattle.bidi_messages.proofs.CommandLemmas.{apart}
 use Rattle.bidi_messages.proofs.MessageLemmas.{echoed_id-response, echoed_id-error, method_in-event}
 use Rattle.bidi_local.specs.Pending.{Pending, method_of, without}
 use Rattle.bidi_local.specs.Received.{Meaning, Answer, BadResult, Refusal, Event, Stray, NotInProfile, NotJson, Means, result_in, error_in}
-use Rattle.bidi_local.specs.Received.{asked_by, settled, is_event, is_stray_response, is_stray_error, is_refusal, is_answer, is_bad_result}
+use Rattle.bidi_local.specs.Received.{asked_by, settled, IsSettledBy, is_event, is_stray_response, is_stray_error, is_refusal, is_answer, is_bad_result}
 use Rattle.bidi_local.specs.View.{meaning_of}
-use Rattle.bidi_local.specs.declared.received.Received.{Received}
+use Rattle.bidi_local.specs.declared.received.Taken.{Taken}
 use Rattle.bidi_local.proofs.PendingLemmas.{AllByRecursion-filter}
 use Rattle.bidi_local.specs.Receiving.{IsMeaningOf, IsOutcome, is_good, is_bad, IsRefusal, refuses, is_stray}
 
@@ -120,6 +119,12 @@ pub outcome_settles : (waiting : Pending) {id : ℕ} {method : Method} {outcome 
 outcome_settles waiting (is_good good) = refl
 outcome_settles waiting (is_bad bad) = refl
 
+-- which has that method
+pub outcome_method : (waiting : Pending) {id : ℕ} (method : Method) {outcome : Node} {m : Meaning}
+    → method_of waiting id ≡ Some method → IsOutcome id method outcome m → IsSettledBy waiting m (Some method)
+outcome_method waiting method waits (is_good good) = (refl, waits)
+outcome_method waiting method waits (is_bad bad) = (method, refl, waits)
+
 -- an error with an id
 pub error_means : (waiting : Pending) (e : ErrorResponse) (id : ℕ) (m : Meaning) → error.ghosts.shape.well e → option_map (λ n. n.value) e.id ≡ Some id
     → IsRefusal waiting id e.error m → IsMeaningOf waiting (error.ghosts.shape.tree_of e) m
@@ -139,16 +144,9 @@ event_means waiting e well = λ s is.
     subst (λ p. Means waiting s (Event (event_of e.«data») p)) (params_in-event e)
     (is_event (event.ghosts.shape.tree_of e) (event_of e.«data») is (event.ghosts.shape.fits e well) (method_in-event e))
 
--- what a tree means, its text means
-pub at_text : {E : Type 0} (waiting : Pending) (s : List ℕ) (t : Node) (r : Result Received E)
-    → tree_of s ≡ Some t → IfOk r (λ v. IsMeaningOf waiting t (meaning_of v))
-    → IfOk r (λ v. Means waiting s (meaning_of v))
-at_text waiting s t (Ok v) is means = means s is
-at_text waiting s t (Err e) is means = tt
-
 -- ---- what is left
 
--- what holds of all that wait holds of those that wait after a text
+-- what holds of all that wait holds of those that wait after a message
 settled_holds : (P : ℕ × Method → Type 0) (waiting : Pending) (m : Meaning) → AllByRecursion P waiting → AllByRecursion P (settled waiting m)
 settled_holds P waiting (Answer id method outcome) all = AllByRecursion-filter P (λ w. not (id == w.0)) waiting all
 settled_holds P waiting (BadResult id) all = AllByRecursion-filter P (λ w. not (id == w.0)) waiting all
@@ -158,8 +156,8 @@ settled_holds P waiting Stray all = all
 settled_holds P waiting NotInProfile all = all
 settled_holds P waiting NotJson all = all
 
-pub received_holds : {E : Type 0} (P : ℕ × Method → Type 0) (old new : Pending) (r : Result Received E)
-    → IfOk r (λ v. new ≡ settled old (meaning_of v)) → OnErr r (new ≡ old)
+pub received_holds : {E : Type 0} (P : ℕ × Method → Type 0) (old new : Pending) (r : Result Taken E)
+    → IfOk r (λ t. new ≡ settled old (meaning_of t.received)) → OnErr r (new ≡ old)
     → AllByRecursion P old → AllByRecursion P new
-received_holds P old new (Ok v) settles err all = subst (AllByRecursion P) (sym settles) (settled_holds P old (meaning_of v) all)
+received_holds P old new (Ok t) settles err all = subst (AllByRecursion P) (sym settles) (settled_holds P old (meaning_of t.received) all)
 received_holds P old new (Err e) settles err all = subst (AllByRecursion P) (sym err) all

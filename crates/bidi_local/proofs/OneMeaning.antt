@@ -1,6 +1,6 @@
 -- A text has one meaning: two questions, whether its tree fits a message and whether it is a good response, decide it.
 use Rattle.std.proofs.Common.{◌≡◌, ◌∙◌, ℕ, Bool, true, false, if◌then◌else◌, bytes_eq, List, [], codes, Option, Some}
-use Rattle.std.proofs.Common.{None, option_and_then, unwrap_or, Result, Ok, Err, IfOk, refl, sym, ap, ap₂, subst}
+use Rattle.std.proofs.Common.{None, option_and_then, unwrap_or, refl, sym, ap, ap₂, subst}
 use Rattle.bidi_tree.specs.Node.{Node, get_of}
 use Rattle.bidi_tree.specs.Kind.{text_in}
 use Rattle.bidi_tree.specs.Text.{tree_of}
@@ -25,12 +25,10 @@ use Rattle.bidi_local.specs.Pending.{Pending}
 use Rattle.bidi_local.specs.Received.{Meaning, Answer, BadResult, Refusal, Event, Stray, NotInProfile, NotJson, Means}
 use Rattle.bidi_local.specs.Received.{result_in, error_in, asked_by, is_not_json, is_no_message, is_event}
 use Rattle.bidi_local.specs.Received.{is_stray_response, is_stray_error, is_refusal, is_answer, is_bad_result}
-use Rattle.bidi_local.specs.View.{meaning_of}
-use Rattle.bidi_local.specs.declared.received.Received.{Received}
 
 -- ---- the member `type`
 
-abbrev type_in : Node → List ℕ
+abbrev pub type_in : Node → List ℕ
 type_in t = unwrap_or (option_and_then text_in (get_of (codes "type") t)) []
 
 typed : (o : Option Node) (s : List ℕ) → RowFits required (exactly s) o → unwrap_or (option_and_then text_in o) [] ≡ s
@@ -44,13 +42,13 @@ typed_map {t} {s} {rows} {o} fit =
     let inside = map_inside (subst (λ u. Fits u (map_of (row (codes "type") required (exactly s) rows) o)) is.1 fit) in
     ap type_in is.1 ∙ typed _ s (row_inside inside.0).0
 
-response_type : (t : Node) → Fits t (rule command_response) → type_in t ≡ codes "success"
+pub response_type : (t : Node) → Fits t (rule command_response) → type_in t ≡ codes "success"
 response_type t fit = typed_map (rule_inside fit)
 
-error_type : (t : Node) → Fits t (rule error_response) → type_in t ≡ codes "error"
+pub error_type : (t : Node) → Fits t (rule error_response) → type_in t ≡ codes "error"
 error_type t fit = typed_map (rule_inside fit)
 
-event_is_typed : (t : Node) → Fits t (rule event) → type_in t ≡ codes "event"
+pub event_is_typed : (t : Node) → Fits t (rule event) → type_in t ≡ codes "event"
 event_is_typed t fit = typed_map (envelope_inside (codes "type") (word_shape event_type_words) event_words told.ghosts.payload (rule event) refl t fit).1
 
 -- ---- what decides
@@ -207,9 +205,3 @@ one_meaning waiting s m n p q =
     let a = is_decided waiting s p in
     let b = is_decided waiting s q in
     a.is ∙ ap₂ (decided waiting (tree_of s)) (one_answer a.message_holds b.message_holds) (one_answer a.good_holds b.good_holds) ∙ sym b.is
-
--- what is told of a text is its one meaning
-pub no_other : {E : Type 0} (waiting : Pending) (s : List ℕ) (r : Result Received E)
-    → IfOk r (λ v. Means waiting s (meaning_of v)) → (m : Meaning) → Means waiting s m → IfOk r (λ v. m ≡ meaning_of v)
-no_other waiting s (Ok v) told m means = one_meaning waiting s m (meaning_of v) means told
-no_other waiting s (Err e) told m means = tt

@@ -1,5 +1,5 @@
 -- What a look-up, a removal and an insertion in the table are to the commands that wait.
-use Rattle.std.proofs.Common.{◌≡◌, ◌≤◌, ◌<◌, ◌+◌, ℕ, suc, Bool, true, false, cond, not, List, [], ◌∷◌, ◌++◌, filter, find}
+use Rattle.std.proofs.Common.{◌≡◌, ◌≤◌, ◌+◌, ℕ, suc, Bool, true, false, cond, not, List, [], ◌∷◌, ◌++◌, filter, find}
 use Rattle.std.proofs.Common.{map, Option, Some, None, option_map, is_some, nat_eq, true≢false, refl, ap, sym, arith}
 use Rattle.std.specs.List.{AllByRecursion}
 use Rattle.std.proofs.lemmas.Bool.{ne_eqb}
@@ -56,11 +56,6 @@ pub AllByRecursion-ids : {X : Type 0} (P : ℕ → Type 0) (es : List (ℕ × X)
 AllByRecursion-ids P [] all = tt
 AllByRecursion-ids P (e ∷ es) all = (all.0, AllByRecursion-ids P es all.1)
 
--- ids of commands that were sent are in range
-pub AllByRecursion-below : {X : Type 0} (n m : ℕ) (es : List (ℕ × X)) → n < m → AllByRecursion (λ w. w.0 ≤ n) es → AllByRecursion (λ w. w.0 < m) es
-AllByRecursion-below n m [] less all = tt
-AllByRecursion-below n m (e ∷ es) less all = (omega (arith, all.0, less), AllByRecursion-below n m es less all.1)
-
 -- ---- one more command
 
 is_new : {X : Type 0} (b : Bool) (e : ℕ × X) (changed es rest : List (ℕ × X)) → b ≡ false → es ≡ rest → cond b changed (e ∷ es) ≡ e ∷ rest
@@ -75,8 +70,22 @@ insert_entry-next n v (e ∷ es) all =
     is_new (nat_eq (n + 1) e.0) e ((e.0, v) ∷ es) (insert_entry nat_eq es (n + 1) v) (es ++ (suc n, v) ∷ [])
     (ne_eqb (n + 1) e.0 (λ is. omega (arith, all.0, is))) (insert_entry-next n v es all.1)
 
--- and all were sent
-pub were_sent-next : {X : Type 0} (n : ℕ) (v : X) (es : List (ℕ × X))
-    → AllByRecursion (λ w. w.0 ≤ n) es → AllByRecursion (λ w. w.0 ≤ n + 1) (es ++ (suc n, v) ∷ [])
-were_sent-next n v [] all = (omega arith, tt)
-were_sent-next n v (e ∷ es) all = (omega (arith, all.0), were_sent-next n v es all.1)
+-- where no entry is found, it is not the first, and not in the rest
+differs : {X : Type 0} (b : Bool) (e : ℕ × X) (found : Option (ℕ × X))
+    → is_some (option_map (λ w. w.1) (cond b (Some e) found)) ≡ false → (b ≡ false) × (is_some (option_map (λ w. w.1) found) ≡ false)
+differs true e found none = absurd (true≢false none)
+differs false e found none = (refl, none)
+
+-- so does an id under which none waits
+pub insert_entry-absent : {X : Type 0} (n : ℕ) (v : X) (es : List (ℕ × X))
+    → is_some (option_map (λ w. w.1) (find (λ w. nat_eq n w.0) es)) ≡ false → insert_entry nat_eq es n v ≡ es ++ (n, v) ∷ []
+insert_entry-absent n v [] none = refl
+insert_entry-absent n v (e ∷ es) none =
+    let apart = differs (nat_eq n e.0) e (find (λ w. nat_eq n w.0) es) none in
+    is_new (nat_eq n e.0) e ((e.0, v) ∷ es) (insert_entry nat_eq es n v) (es ++ (n, v) ∷ []) apart.0 (insert_entry-absent n v es apart.1)
+
+-- no id is above the last one
+pub AllByRecursion-last : {X : Type 0} (n last k : ℕ) (v : X) (es : List (ℕ × X))
+    → n ≤ last → k ≤ last → AllByRecursion (λ w. w.0 ≤ n) es → AllByRecursion (λ w. w.0 ≤ last) (es ++ (k, v) ∷ [])
+AllByRecursion-last n last k v [] before this all = (this, tt)
+AllByRecursion-last n last k v (e ∷ es) before this all = (omega (arith, all.0, before), AllByRecursion-last n last k v es before this all.1)

@@ -62,3 +62,10 @@ settled waiting (Answer id method result) = without waiting id
 settled waiting (BadResult id) = without waiting id
 settled waiting (Refusal id code) = without waiting id
 settled waiting meaning = waiting
+
+-- the method of the command that is settled, where one is
+abbrev pub IsSettledBy : Pending → Meaning → Option Method → Type 0
+IsSettledBy waiting (Answer id method result) told = (told ≡ Some method) × (method_of waiting id ≡ Some method)
+IsSettledBy waiting (BadResult id) told = (method : Method) × (told ≡ Some method) × (method_of waiting id ≡ Some method)
+IsSettledBy waiting (Refusal id code) told = (method : Method) × (told ≡ Some method) × (method_of waiting id ≡ Some method)
+IsSettledBy waiting meaning told = told ≡ None

@@ -10,7 +10,7 @@ use Rattle.bidi_methods.specs.Method.{result_of}
 use Rattle.bidi_local.specs.Pending.{Pending, method_of}
 use Rattle.bidi_local.specs.Received.{Meaning, Answer, BadResult, Refusal, Stray, Means}
 
--- each text of that tree means it
+-- each text of that tree means it; so a message means what its texts mean
 abbrev pub IsMeaningOf : Pending → Node → Meaning → Type 0
 IsMeaningOf waiting t meaning = (s : List ℕ) → tree_of s ≡ Some t → Means waiting s meaning
 

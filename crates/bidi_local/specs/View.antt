@@ -12,13 +12,13 @@ use Rattle.bidi_local.specs.Received.{Meaning, Answer, BadResult, Refusal, Event
 abbrev pub waiting_in : LocalEnd → Pending
 waiting_in end = end.pending.entries
 
--- how many commands were sent; it is the last id
+-- the last id: the greatest that was sent or noted, 0 before the first
 abbrev pub sent_by : LocalEnd → ℕ
 sent_by end = end.sent
 
--- after so many were sent, these wait
-pub record Stands (end : LocalEnd) (count : ℕ) (commands : Pending) : Type 0 where
-  pub sent : sent_by end ≡ count
+-- this is the last id, and these wait
+pub record Stands (end : LocalEnd) (last : ℕ) (commands : Pending) : Type 0 where
+  pub sent : sent_by end ≡ last
   pub waiting : waiting_in end ≡ commands
 
 -- what was received

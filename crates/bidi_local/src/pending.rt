@@ -39,3 +39,21 @@ pub(crate) fn ids_of(
     }
     Ok(all)
 }
+
+/// The commands that wait, each by its id and its method, in order of sending.
+///
+/// # Errors
+/// No memory: an allocation failed.
+pub(crate) fn waiting_of(
+    alloc: Global,
+    pending: &IndexMap<u64, Method>,
+) -> Result<Vec<(JsUint, Method)>, AllocError>
+    requires { AllByRecursion (λ w. w.0 < 2 ^ 53) pending.now.entries }
+    ensures { IfOk result (λ all. map (λ w. (w.0.value, w.1)) all.items ≡ pending.now.entries) }
+{
+    let mut all = Vec::new(alloc);
+    for (id, method) in pending.iter() {
+        all.push((JsUint { value: *id }, *method))?;
+    }
+    Ok(all)
+}

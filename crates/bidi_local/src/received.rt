@@ -1,5 +1,5 @@
 //! What a text of the remote end means to a local end.
-use bidi_messages::{ErrorCode, EventData, ResultData};
+use bidi_messages::{ErrorCode, EventData, Method, ResultData};
 use bidi_tree::JsUint;
 
 /// What a text of the remote end means while some commands wait. The first three cases settle their command,
@@ -35,4 +35,13 @@ pub enum Received {
     NotInProfile,
     /// A text that is not JSON, as `[1`, or that has lists and maps of more than 127 levels.
     NotJson,
+}
+
+/// A message that was taken: what it means, and the method of the command that it settles.
+#[derive(Drop)]
+pub struct Taken {
+    /// What the message means. It is never [`Received::NotJson`] or [`Received::NotInProfile`].
+    pub received: Received,
+    /// The method of the command that it settles, or `None` where it settles none.
+    pub method: Option<Method>,
 }

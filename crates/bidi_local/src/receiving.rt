@@ -3,19 +3,19 @@ ghost use Rattle.std.specs.Prelude.{◌≡◌, IfOk, OnErr};
 ghost use Rattle.bidi_tree.specs.Node as kind;
 ghost use Rattle.bidi_shape.specs.ValueLaws.{others_of};
 ghost use Rattle.bidi_local.specs.Pending.{Pending};
-ghost use Rattle.bidi_local.specs.Received.{settled};
+ghost use Rattle.bidi_local.specs.Received.{settled, IsSettledBy};
 ghost use Rattle.bidi_local.specs.Receiving.{IsMeaningOf, IsOutcome, IsRefusal};
 ghost use Rattle.bidi_local.specs.View.{meaning_of, IsWell};
 
 use crate::pending::{method_of, settle};
-use crate::received::Received;
+use crate::received::{Received, Taken};
 use bidi_messages::{ErrorCode, ErrorResponse, Event, Message, Method, Response, result_of};
 use bidi_shape::{Ext, Shape, ShapeFault};
 use bidi_tree::JsUint;
 use indexmap::IndexMap;
 use std::alloc::{AllocError, Global};
 
-/// Tells what a message means while these commands wait, and settles the one that it answers.
+/// Tells what a message means while these commands wait, and settles the one that it answers, whose method it tells.
 ///
 /// # Errors
 /// No memory: an allocation failed. Each command still waits.
@@ -23,11 +23,12 @@ pub(crate) fn receive(
     alloc: Global,
     pending: &mut IndexMap<u64, Method>,
     message: Message,
-) -> Result<Received, AllocError>
+) -> Result<Taken, AllocError>
     requires { ⟦<Message as Shape>⟧.shape.well message }
-    ensures means { IfOk result (λ r. IsMeaningOf pending.old.entries (⟦<Message as Shape>⟧.shape.tree_of message) (meaning_of r)) }
-    ensures settles { IfOk result (λ r. pending.new.entries ≡ settled pending.old.entries (meaning_of r)) }
-    ensures well { IfOk result IsWell }
+    ensures means { IfOk result (λ t. IsMeaningOf pending.old.entries (⟦<Message as Shape>⟧.shape.tree_of message) (meaning_of t.received)) }
+    ensures method { IfOk result (λ t. IsSettledBy pending.old.entries (meaning_of t.received) t.method) }
+    ensures settles { IfOk result (λ t. pending.new.entries ≡ settled pending.old.entries (meaning_of t.received)) }
+    ensures well { IfOk result (λ t. IsWell t.received) }
     ensures err { OnErr result (pending.new.entries ≡ pending.old.entries) }
 {
     match message {
@@ -42,20 +43,27 @@ fn receive_response(
     alloc: Global,
     pending: &mut IndexMap<u64, Method>,
     response: Response,
-) -> Result<Received, AllocError>
+) -> Result<Taken, AllocError>
     requires { ⟦<Response as Shape>⟧.shape.well response }
-    ensures means { IfOk result (λ r. IsMeaningOf pending.old.entries (⟦<Response as Shape>⟧.shape.tree_of response) (meaning_of r)) }
-    ensures settles { IfOk result (λ r. pending.new.entries ≡ settled pending.old.entries (meaning_of r)) }
-    ensures well { IfOk result IsWell }
+    ensures means { IfOk result (λ t. IsMeaningOf pending.old.entries (⟦<Response as Shape>⟧.shape.tree_of response) (meaning_of t.received)) }
+    ensures method { IfOk result (λ t. IsSettledBy pending.old.entries (meaning_of t.received) t.method) }
+    ensures settles { IfOk result (λ t. pending.new.entries ≡ settled pending.old.entries (meaning_of t.received)) }
+    ensures well { IfOk result (λ t. IsWell t.received) }
     ensures err { OnErr result (pending.new.entries ≡ pending.old.entries) }
 {
     match method_of(pending, response.id.value) {
         Some(method) => {
             let outcome = outcome_of(alloc, response.id, method, response.result)?;
             settle(pending, response.id.value);
-            Ok(outcome)
+            Ok(Taken {
+                received: outcome,
+                method: Some(method),
+            })
         }
-        None => Ok(Received::Stray),
+        None => Ok(Taken {
+            received: Received::Stray,
+            method: None,
+        }),
     }
 }
 
@@ -80,39 +88,54 @@ fn outcome_of(
 }
 
 // What an error means; it settles the command that it answers.
-fn receive_error(pending: &mut IndexMap<u64, Method>, error: ErrorResponse) -> Received
+fn receive_error(pending: &mut IndexMap<u64, Method>, error: ErrorResponse) -> Taken
     requires { ⟦<ErrorResponse as Shape>⟧.shape.well error }
-    ensures means { IsMeaningOf pending.old.entries (⟦<ErrorResponse as Shape>⟧.shape.tree_of error) (meaning_of result) }
-    ensures settles { pending.new.entries ≡ settled pending.old.entries (meaning_of result) }
-    ensures well { IsWell result }
+    ensures means { IsMeaningOf pending.old.entries (⟦<ErrorResponse as Shape>⟧.shape.tree_of error) (meaning_of result.received) }
+    ensures method { IsSettledBy pending.old.entries (meaning_of result.received) result.method }
+    ensures settles { pending.new.entries ≡ settled pending.old.entries (meaning_of result.received) }
+    ensures well { IsWell result.received }
 {
     match error.id {
         Some(id) => refusal_of(pending, id, error.error),
-        None => Received::Stray,
+        None => Taken {
+            received: Received::Stray,
+            method: None,
+        },
     }
 }
 
 /// What an error of this id and code means; it settles the command that it answers.
-fn refusal_of(pending: &mut IndexMap<u64, Method>, id: JsUint, code: ErrorCode) -> Received
-    ensures refusal { IsRefusal pending.old.entries id.value code (meaning_of result) }
-    ensures settles { pending.new.entries ≡ settled pending.old.entries (meaning_of result) }
-    ensures well { IsWell result }
+fn refusal_of(pending: &mut IndexMap<u64, Method>, id: JsUint, code: ErrorCode) -> Taken
+    ensures refusal { IsRefusal pending.old.entries id.value code (meaning_of result.received) }
+    ensures method { IsSettledBy pending.old.entries (meaning_of result.received) result.method }
+    ensures settles { pending.new.entries ≡ settled pending.old.entries (meaning_of result.received) }
+    ensures well { IsWell result.received }
 {
     match method_of(pending, id.value) {
-        Some(_) => {
+        Some(method) => {
             settle(pending, id.value);
-            Received::Refusal(id, code)
+            Taken {
+                received: Received::Refusal(id, code),
+                method: Some(method),
+            }
         }
-        None => Received::Stray,
+        None => Taken {
+            received: Received::Stray,
+            method: None,
+        },
     }
 }
 
 // What an event means; it settles no command.
-fn receive_event(event: Event) -> Received
+fn receive_event(event: Event) -> Taken
     requires { ⟦<Event as Shape>⟧.shape.well event }
-    ensures means { (waiting : Pending) → IsMeaningOf waiting (⟦<Event as Shape>⟧.shape.tree_of event) (meaning_of result) }
-    ensures settles { (waiting : Pending) → settled waiting (meaning_of result) ≡ waiting }
-    ensures well { IsWell result }
+    ensures means { (waiting : Pending) → IsMeaningOf waiting (⟦<Event as Shape>⟧.shape.tree_of event) (meaning_of result.received) }
+    ensures method { (waiting : Pending) → IsSettledBy waiting (meaning_of result.received) result.method }
+    ensures settles { (waiting : Pending) → settled waiting (meaning_of result.received) ≡ waiting }
+    ensures well { IsWell result.received }
 {
-    Received::Event(event.data)
+    Taken {
+        received: Received::Event(event.data),
+        method: None,
+    }
 }

@@ -1,4 +1,5 @@
 //! The texts of faults.
+use bidi_local::NoteFault;
 use bidi_messages::MessageFault;
 use bidi_shape::{Clash, MakeFault, ShapeFault};
 use bidi_tree::ReadFault;
@@ -23,6 +24,9 @@ impl Asked for Faults {
             "MakeFault::TooDeep" => shown(alloc, MakeFault::TooDeep),
             "MakeFault::NoMemory" => shown(alloc, MakeFault::NoMemory),
             "MessageFault::NoMemory" => shown(alloc, MessageFault::NoMemory),
+            "NoteFault::NoMemory" => shown(alloc, NoteFault::NoMemory),
+            "NoteFault::IdWaits" => shown(alloc, NoteFault::IdWaits),
+            "NoteFault::TooManyPending" => shown(alloc, NoteFault::TooManyPending),
             _ => Err(Fail::from("no such fault")),
         }
     }
@@ -40,6 +44,9 @@ fault MakeFault::Shadowed -> an earlier alternative takes the value
 fault MakeFault::TooDeep -> a further member has too many levels, or a number that is not kept
 fault MakeFault::NoMemory -> out of memory
 fault MessageFault::NoMemory -> out of memory
+fault NoteFault::NoMemory -> out of memory
+fault NoteFault::IdWaits -> a command with this id waits for an answer
+fault NoteFault::TooManyPending -> too many commands wait for an answer
 ";
 
 #[test]

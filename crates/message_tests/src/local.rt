@@ -5,7 +5,9 @@
 ghost use Rattle.std.specs.Prelude.{IfOk};
 
 use bidi_local::{LocalEnd, LocalFault, Received};
-use bidi_messages::{CommandData, EventData, Method, Named, Payload, ResultData, data_of};
+use bidi_messages::{
+    CommandData, EventData, Method, Named, Payload, ResultData, data_of, read_message,
+};
 use bidi_tree::JsUint;
 use std::alloc::Global;
 use std::process::Abort;
@@ -77,6 +79,49 @@ fn each_text_means_one_of_seven_things(rt: HostRuntime) -> Result<(), Fail> {
     check_plays(&rt, rt.alloc(), ORDERS)
 }
 
+// ---- commands that others sent
+
+/// Plays in which commands are noted, and messages that were read are taken: what is settled has its method in front.
+const NOTES: &str = r#"
+waiting ->
+note 7 session.status -> noted
+note 3 session.end -> noted
+note 7 session.end -> IdWaits
+waiting -> 7 session.status, 3 session.end
+send session.status {} -> 8 {"id":8,"method":"session.status","params":{}}
+message {"method":"script.realmDestroyed","params":{"realm":"r"},"type":"event"} -> Event script.realmDestroyed {"realm":"r"}
+message {"id":3,"result":{},"type":"success"} -> session.end: Answer 3 session.end {}
+message {"id":7,"result":{},"type":"success"} -> session.status: BadResult 7
+message {"error":"unknown error","id":8,"message":"","type":"error"} -> session.status: Refusal 8 unknown error
+message {"id":7,"result":{},"type":"success"} -> Stray
+message {"error":"invalid argument","id":null,"message":"","type":"error"} -> Stray
+waiting ->
+note 7 script.evaluate -> noted
+send session.end {} -> 9 {"id":9,"method":"session.end","params":{}}
+take {"id":7,"result":{},"type":"success"} -> BadResult 7
+lose -> 9
+
+note 9007199254740991 session.end -> noted
+send session.status {} -> IdsUsedUp
+note 0 session.status -> noted
+waiting -> 9007199254740991 session.end, 0 session.status
+take {"id":0,"result":{"message":"ready","ready":true},"type":"success"} -> Answer 0 session.status {"message":"ready","ready":true}
+
+fill 1023 -> 1023
+note 2000 session.end -> noted
+note 2001 session.end -> TooManyPending
+note 2000 session.end -> IdWaits
+send session.status {} -> TooManyPending
+message {"error":"unknown error","id":7,"message":"","type":"error"} -> session.status: Refusal 7 unknown error
+note 7 session.end -> noted
+note 2001 session.end -> TooManyPending
+"#;
+
+#[test]
+fn commands_that_others_sent_are_noted(rt: HostRuntime) -> Result<(), Fail> {
+    check_plays(&rt, rt.alloc(), NOTES)
+}
+
 // ---- limits
 
 /// The most commands that wait, the most bytes of a command, and a long text of the remote end.
@@ -138,6 +183,9 @@ fn found(alloc: Global, end: &mut LocalEnd, asked: &str) -> Result<String, Fail>
         "take" => taken(alloc, end, spelled.as_str()),
         "take-long" => taken_long(alloc, end, spelled.as_str()),
         "lose" => lost(alloc, end),
+        "note" => noted(alloc, end, spelled.as_str()),
+        "message" => message_taken(alloc, end, spelled.as_str()),
+        "waiting" => waiting(alloc, end),
         _ => Err(Fail::from("no such word")),
     }
 }
@@ -197,6 +245,32 @@ fn lost(alloc: Global, end: &mut LocalEnd) -> Result<String, Fail> {
     Ok(String::from_str(alloc, ids.as_str().trim())?)
 }
 
+/// That a command is noted, or the fault.
+fn noted(alloc: Global, end: &mut LocalEnd, asked: &str) -> Result<String, Fail> {
+    let (id, method) = asked.split_once(' ').ok_or("no method")?;
+    let id = JsUint::new(id.parse::<u64>()?).ok_or("no id")?;
+    let method = Method::named(method).ok_or("no such method")?;
+    match end.note(id, method) {
+        Ok(()) => Ok(String::from_str(alloc, "noted")?),
+        Err(fault) => Ok(format!(in alloc; "{fault:?}")?),
+    }
+}
+
+/// The commands that wait.
+fn waiting(alloc: Global, end: &LocalEnd) -> Result<String, Fail> {
+    let mut commands = String::new(alloc);
+    for (id, method) in &end.waiting()? {
+        let gap = if commands.is_empty() { "" } else { ", " };
+        write!(
+            &mut commands,
+            "{gap}{id} {method}",
+            id = id.value,
+            method = method.name()
+        )?;
+    }
+    Ok(commands)
+}
+
 // ---- receiving
 
 /// The name of what a text means, and its parts.
@@ -209,6 +283,16 @@ fn taken_long(alloc: Global, end: &mut LocalEnd, text: &str) -> Result<String, F
     let taken = taken(alloc, end, text)?;
     let (name, _) = taken.split_once(' ').unwrap_or((taken.as_str(), ""));
     Ok(String::from_str(alloc, name)?)
+}
+
+/// The method of the command that a message settles, and what it means.
+fn message_taken(alloc: Global, end: &mut LocalEnd, text: &str) -> Result<String, Fail> {
+    let taken = end.take_message(read_message(alloc, text)?)?;
+    let received = shown(alloc, taken.received)?;
+    match taken.method {
+        Some(method) => Ok(format!(in alloc; "{method}: {received}", method = method.name())?),
+        None => Ok(received),
+    }
 }
 
 fn shown(alloc: Global, received: Received) -> Result<String, Fail> {

@@ -5,7 +5,7 @@ use Rattle.bidi_local.proofs.receiving.receive_error.Goals as goal
 
 pub returns-in-Some-clause-means : goal.returns-in-Some-clause-means
 returns-in-Some-clause-means c =
-    error_means c.args.pending.now.entries c.args.error c.in-Some.id.value (meaning_of c.refusal_of.result) c.requires
+    error_means c.args.pending.now.entries c.args.error c.in-Some.id.value (meaning_of c.refusal_of.result.received) c.requires
     (ap (option_map (λ n. n.value)) c.in-Some.is) c.refusal_of.ensures.refusal
 
 pub returns-clause-means : goal.returns-clause-means

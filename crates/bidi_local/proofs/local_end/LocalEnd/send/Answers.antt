@@ -1,6 +1,6 @@
 use Rattle.std.proofs.Common.{◌∙◌, ◌≤◌, ◌+◌, ◌∷◌, [], ◌++◌, suc, sym, ap, subst, arith}
 use Rattle.std.specs.List.{AllByRecursion}
-use Rattle.bidi_local.proofs.PendingLemmas.{insert_entry-next, were_sent-next}
+use Rattle.bidi_local.proofs.PendingLemmas.{insert_entry-next, AllByRecursion-last}
 use Rattle.std.specs.Prelude.{length, string_bytes}
 use Rattle.bidi_messages.specs.Verdict.{IsVerdict, Accepted}
 use Rattle.bidi_methods.specs.contracts.command_data.CommandDataPayloadMethod.TheImpl as asks
@@ -14,7 +14,9 @@ invariant_of-self c =
     let last = c.in-Ok.ensures.entries ∙ insert_entry-next end.sent c.in_ok-method.method end.pending.entries end.were_sent in
     record {
       in_range = omega (arith, c.if-self-ge-LAST_ID.false);
-      were_sent = subst (AllByRecursion (λ w. w.0 ≤ end.sent + 1)) (sym last) (were_sent-next end.sent c.in_ok-method.method end.pending.entries end.were_sent);
+      were_sent =
+          subst (AllByRecursion (λ w. w.0 ≤ end.sent + 1)) (sym last)
+          (AllByRecursion-last end.sent (end.sent + 1) (suc end.sent) c.in_ok-method.method end.pending.entries (omega arith) (omega arith) end.were_sent);
     }
 
 pub returns-in-Ok-clause-waits : goal.returns-in-Ok-clause-waits
