@@ -1,7 +1,8 @@
 -- The term and the weight of each form of a term of the code.
-use Rattle.std.proofs.Common.{◌≡◌, ℕ, suc, List, [], ◌∷◌, map, Bool, true, ◌&&◌, ◌+◌, nat_lt, drop, length, get_or, rules, arith, refl, sym, ap, ◌∙◌, ltb-true}
+use Rattle.std.proofs.Common.{◌≡◌, ℕ, suc, List, [], ◌∷◌, map, Bool, true, ◌&&◌, ◌+◌, nat_lt, drop, length, get_or, rules, arith, sym, ap, ◌∙◌, ltb-true}
 use Rattle.std.proofs.Math.Seq.{drop-cons}
 use Rattle.std.proofs.lemmas.Bool.{and_parts}
+use Rattle.std.proofs.lemmas.List.Folds.{list_all-map}
 use Rattle.std.specs.Prelude.{◌<◌, ◌≤◌}
 use Rattle.std.specs.Borrow.{Bor}
 use Rattle.std.specs.List.{list_all}
@@ -87,8 +88,7 @@ abbrev rows_weighed : List (Bor (List ℕ) × Need × Term) → List (Bor (List 
 rows_weighed rows = map (λ r. (r.0, r.1, weight r.2)) rows
 
 rows-light : (rows : List (Bor (List ℕ) × Need × Term)) → list_all (λ r. is_light r.2) (rows_weighed rows) ≡ rows_are_ready rows
-rows-light [] = refl
-rows-light (r ∷ rows) = ap (λ b. is_light (weight r.2) && b) (rows-light rows)
+rows-light rows = list_all-map (λ r. is_light r.2) (λ r. (r.0, r.1, weight r.2)) rows
 
 pub weight-MapOf : (rows : Bor (List (Bor (List ℕ) × Need × Term))) (o : Openness) → weight (MapOf rows o) ≡ (0, rows_are_ready rows.now)
 weight-MapOf rows o =
@@ -107,10 +107,6 @@ weight-Capped τ = search (rules, the_lemmas)
 
 -- ---- what is ready has parts that are
 
-each-light : (τs : List Term) → list_all is_light (map weight τs) ≡ are_ready τs
-each-light [] = refl
-each-light (τ ∷ τs) = ap (λ b. is_light (weight τ) && b) (each-light τs)
-
 -- what is inside of a ready term is light
 inside : (w : Weight) (n : ℕ) (b : Bool) → w ≡ (n, b) → is_light w ≡ true → b ≡ true
 inside w n b e h = (and_parts (nat_lt n 40) b (ap is_light (sym e) ∙ h)).1
@@ -125,7 +121,7 @@ pub ready-OneOf : (σ : Bor Term) (τs : Bor (List Term)) → is_ready (OneOf σ
 ready-OneOf σ τs h =
     let all = list_all is_light (map weight τs.now) in
     let p = and_parts (is_ready σ.now) all (inside (weight (OneOf σ τs)) (suc (chosen (weight σ.now) (map weight τs.now))) (is_ready σ.now && all) (weight-OneOf σ τs) h) in
-    (p.0, sym (each-light τs.now) ∙ p.1)
+    (p.0, sym (list_all-map is_light weight τs.now) ∙ p.1)
 
 pub height-OneOf : (σ : Bor Term) (τs : Bor (List Term)) → height_of (OneOf σ τs) ≡ suc (chosen (weight σ.now) (map weight τs.now))
 height-OneOf σ τs = ap (λ w. w.0) (weight-OneOf σ τs)

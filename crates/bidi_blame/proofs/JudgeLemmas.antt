@@ -1,23 +1,25 @@
 -- What is said of a tree and its parts, by the form of the term.
-use Rattle.std.proofs.Common.{◌≡◌, ◌∙◌, ℕ, suc, ◌+◌, List, [], ◌∷◌, length, map, get_or, Bool, true, false, not, Option, Some, None, Result, Ok, Err, bytes_eq, refl, sym, ap, subst, drop, ◌==◌, nat_le, leb-true, true≢false, arith}
+use Rattle.std.proofs.Common.{◌≡◌, ◌∙◌, ℕ, suc, ◌+◌, List, [], ◌∷◌, length, map, get_or, Bool, true, false, not, Option, Some, None, bytes_eq, refl, sym, ap, subst, drop, ◌==◌, nat_le, leb-true, true≢false, arith}
 use Rattle.std.proofs.lemmas.Bool.{and_parts, or_from, eqb-true}
-use Rattle.std.specs.Prelude.{◌≤◌, IfOk, if◌then◌else◌}
+use Rattle.std.specs.Prelude.{◌≤◌, ◌<◌, if◌then◌else◌}
 use Rattle.std.specs.Option.{option_map_or}
 use Rattle.std.specs.List.{list_any}
 use Rattle.bidi_tree.specs.Node as node
 use Rattle.bidi_tree.specs.Node.{Node, Items, no_items, item, Members, no_members, member, get_member, levels, items_levels, members_levels, has_odd, items_have_odd}
 use Rattle.bidi_tree.specs.Kind.{list_in, map_in}
+use Rattle.bidi_tree.specs.Outline.{outline_node, named_outlines}
 use Rattle.bidi_tree.specs.View.{items_of}
+use Rattle.bidi_tree.proofs.OutlineLemmas.{OutlineMember, nth}
 use Rattle.bidi_shape.specs.Name.{Name}
 use Rattle.bidi_shape.specs.Term.{Need, required, Openness, extensible, Term, any, list_of, pair_of, map_of, rule, capped, Rows, row, names_of}
 use Rattle.bidi_shape.specs.Profile.{term_of}
-use Rattle.bidi_shape.specs.Fits.{count, without, OthersFit, Fits, fits_any, fits_list, fits_pair, fits_map, fits_first, fits_second, fits_rule, fits_capped}
+use Rattle.bidi_shape.specs.Fits.{count, without, OthersFit, Fits, fits_any, fits_list, fits_pair, fits_map, fits_first, fits_rule, fits_capped}
 use Rattle.bidi_shape.specs.Fits.{AllFit, RowsFit}
 use Rattle.bidi_shape.proofs.FitsLemmas.{any_inside, item_inside}
 use Rattle.bidi_blame.specs.Grammar.{one_of}
 use Rattle.bidi_blame.specs.Reason as step
-use Rattle.bidi_blame.specs.Reason.{Reason, missing, under, by, told, is_tag, tags_with}
-use Rattle.bidi_blame.specs.Blames.{takes, is_odd, Judged, ItemsJudged, RowsJudged, OthersJudged, Blames, in_any_list, in_any_map, in_list, in_first, in_second, in_map, of_both, of_rule, of_capped}
+use Rattle.bidi_blame.specs.Reason.{Reason, missing, under, by, is_tag, tags_with}
+use Rattle.bidi_blame.specs.Blames.{takes, is_odd, Judged, ItemsJudged, RowsJudged, OthersJudged, Blames, in_any_list, in_any_map, in_list, in_first, in_second, in_map, of_rule, of_capped}
 use Rattle.bidi_blame.specs.Blames.{RowsBlame, is_missing}
 use Rattle.bidi_blame.specs.Blames.{OthersBlame}
 
@@ -27,15 +29,6 @@ use Rattle.bidi_blame.specs.Blames.{OthersBlame}
 pub first_of : (t : Node) (σ : Term) (τs : List Term) → Fits t σ → Fits t (one_of σ τs)
 first_of t σ [] f = f
 first_of t σ (τ ∷ τs) f = fits_first t σ (one_of τ τs) f
-
--- and what fits one of the rest does
-pub rest_of : (t : Node) (σ τ : Term) (τs : List Term) → Fits t (one_of τ τs) → Fits t (one_of σ (τ ∷ τs))
-rest_of t σ τ τs f = fits_second t σ (one_of τ τs) f
-
--- the reasons against the first and against the rest are one against all
-pub both_of : (t : Node) (σ τ : Term) (τs : List Term) (a b : Reason) → Blames t σ a → Blames t (one_of τ τs) b
-    → Blames t (one_of σ (τ ∷ τs)) (told t (one_of σ (τ ∷ τs)) a b)
-both_of t σ τ τs a b p q = of_both t σ (one_of τ τs) a b p q
 
 -- ---- names and caps
 
@@ -53,9 +46,17 @@ judged_capped t τ (Some r) h b = of_capped t τ r b
 -- ---- others
 
 -- a member that no row names stays
-pub without_other : (names : List (List ℕ)) (k : List ℕ) (t : Node) (ms : Members) → list_any (bytes_eq k) names ≡ false
+without_other : (names : List (List ℕ)) (k : List ℕ) (t : Node) (ms : Members) → list_any (bytes_eq k) names ≡ false
     → without names (member k t ms) ≡ member k t (without names ms)
 without_other names k t ms e = rw e refl
+
+-- of the members from one on, that one stays
+pub other_here : (names : List (List ℕ)) (ms : List OutlineMember) (i : ℕ) (m : OutlineMember) → i < length ms → m ≡ get_or ms i m
+    → list_any (bytes_eq m.0.now) names ≡ false
+    → without names (named_outlines (drop i ms)) ≡ member m.0.now (outline_node m.1) (without names (named_outlines (drop (i + 1) ms)))
+other_here names ms i m few at other =
+    ap (λ es. without names (named_outlines es)) (nth ms i m few at)
+    ∙ without_other names m.0.now (outline_node m.1) (named_outlines (drop (i + 1) ms)) other
 
 -- where nothing is named, all stay
 pub without_none : (ms : Members) → without [] ms ≡ ms
@@ -70,7 +71,7 @@ count-items_of tree_of [] = refl
 count-items_of tree_of (x ∷ xs) = ap suc (count-items_of tree_of xs)
 
 -- the items of a list of two
-pub two_items : {X : Type 0} (tree_of : X → Node) (xs : List X) (d e : X) → length xs ≡ 2
+two_items : {X : Type 0} (tree_of : X → Node) (xs : List X) (d e : X) → length xs ≡ 2
     → items_of (map tree_of xs) ≡ item (tree_of (get_or xs 0 d)) (item (tree_of (get_or xs 1 e)) no_items)
 two_items tree_of (x ∷ y ∷ []) d e h = refl
 two_items tree_of [] d e h = absurd (cc)
@@ -145,12 +146,6 @@ list_levels t ts is = ap levels (list_of_items t ts is)
 
 pub map_levels : (t : Node) (ms : Members) → Some ms ≡ map_in t → levels t ≡ suc (members_levels ms)
 map_levels t ms is = ap levels (map_of_members t ms is)
-
--- ---- an answer that may be a refusal
-
-pub if_ok : {A E : Type 0} {P Q : A → Type 0} (r : Result A E) → ((x : A) → P x → Q x) → IfOk r P → IfOk r Q
-if_ok (Ok x) f h = f x h
-if_ok (Err e) f h = tt
 
 -- ---- pairs
 

@@ -1,17 +1,29 @@
 -- What pointers, told words and counts are made of.
-use Rattle.std.proofs.Common.{◌≡◌, ◌≢◌, ℕ, suc, ◌+◌, ◌<◌, List, [], ◌∷◌, ◌++◌, map, flat_map, length, get_or, drop, codes, decimal, String, Global, eqb, false, rules}
-use Rattle.std.proofs.Common.{refl, sym, ap, ap₂, ◌∙◌, append_assoc, append-nil, arith, lit<, ne_eqb, encode_utf8, encode_utf8_all}
+use Rattle.std.proofs.Common.{◌≡◌, ◌≢◌, ℕ, suc, ◌+◌, ◌<◌, List, [], ◌∷◌, ◌++◌, map, flat_map, length, get_or, drop, codes, decimal, eqb, false, rules}
+use Rattle.std.proofs.Common.{refl, sym, ap, ap₂, subst, ◌∙◌, append_assoc, append-nil, arith, lit<, ne_eqb, encode_utf8, encode_utf8_all}
+use Rattle.std.proofs.Common.{◌≤◌, bytes_eq, Some}
+use Rattle.std.proofs.Math.Seq.{drop-cons}
+use Rattle.std.proofs.lemmas.Bool.Decides.{same_from_decides}
+use Rattle.std.proofs.lemmas.Slice.Eq.{bytes_eq-Decides}
+use Rattle.json.specs.Print.{escape, quoted}
+use Rattle.json.proofs.Printed.Strings.{escape_byte_plain}
+use Rattle.bidi_tree.specs.Text.{tree_of}
+use Rattle.bidi_tree.proofs.RoundTrip.{tree_of-compact_text}
 use Rattle.std.proofs.lemmas.List.{at_drop_more}
 use Rattle.std.proofs.lemmas.List.Concat.{flat_map-append}
 use Rattle.std.proofs.lemmas.Str.{inside_one}
-use Rattle.bidi_tree.specs.View.{items_node, members_node}
-use Rattle.bidi_tree.specs.declared.tree.Tree.{Tree}
+use Rattle.bidi_tree.specs.Named.{Named}
+use Rattle.bidi_tree.specs.Node as node
+use Rattle.bidi_tree.specs.Outline.{outline_node, outline_items, outline_members, named_outlines}
+use Rattle.bidi_tree.specs.declared.outline.Outline.{Outline, Map as MapOf, the_lemmas as the_outlines}
+use Rattle.bidi_tree.proofs.OutlineLemmas.{OutlineMember}
 use Rattle.bidi_shape.specs.Fits.{count}
 use Rattle.bidi_shape.specs.Term.{Term, bool, js_uint, js_int, any}
 use Rattle.bidi_blame.specs.Grammar.{grammar, one_of}
 use Rattle.bidi_blame.specs.Words.{escaped_byte, escaped, alternatives, told_with, each_once, count_words, count_members}
 use Rattle.bidi_blame.specs.declared.term.Term as code_term
 use Rattle.bidi_blame.specs.declared.term.Term.{the_lemmas}
+use Rattle.bidi_blame.proofs.JudgeLemmas.{count-items_of}
 
 -- ---- pointers
 
@@ -28,6 +40,14 @@ escaped_plain [] h = refl
 escaped_plain (b ∷ bs) h =
     let here = h 0 (omega arith) in
     ap₂ (λ (x y : List ℕ). x ++ y) (escaped_byte_plain b here.0 here.1) (escaped_plain bs (λ k l. h (suc k) (omega arith)))
+
+-- so does a byte that has no escape, before bytes that do
+pub escaped_more : (bs : List ℕ) (i : ℕ) → i < length bs → get_or bs i 0 ≢ 126 → get_or bs i 0 ≢ 47
+    → escaped (drop (i + 1) bs) ≡ drop (i + 1) bs → escaped (drop i bs) ≡ drop i bs
+escaped_more bs i few tilde slash rest =
+    let next : suc i ≡ i + 1 = omega arith in
+    let here : drop i bs ≡ get_or bs i 0 ∷ drop (i + 1) bs = drop-cons bs i 0 few ∙ ap (λ j. get_or bs i 0 ∷ drop j bs) next in
+    subst (λ (xs : List ℕ). escaped xs ≡ xs) (sym here) (ap₂ (λ (x y : List ℕ). x ++ y) (escaped_byte_plain (get_or bs i 0) tilde slash) rest)
 
 -- an ASCII byte stands in one letter alone, the one that has it as its code
 in_letter : (c k n : ℕ) → k < length (encode_utf8 c) → n < 128 → get_or (encode_utf8 c) k 0 ≡ n → c ≡ n
@@ -77,6 +97,33 @@ told_one_more {A} g before now all xs i d few so_far one =
     ∙ sym (at_drop_more (λ (ys : List A). each_once before (flat_map alternatives (map g ys))) xs i d few)
     ∙ so_far
 
+-- ---- texts as JSON writes them
+
+-- texts that JSON writes alike are the same
+quoted-same : (s u : List ℕ) → quoted s ≡ quoted u → s ≡ u
+quoted-same s u e =
+    let here = tree_of-compact_text (node.text s) tt (refl, omega arith) in
+    let there = tree_of-compact_text (node.text u) tt (refl, omega arith) in
+    let same : Some (node.text s) ≡ Some (node.text u) = sym here ∙ (ap tree_of e ∙ there) in cc
+
+pub quoted-eq : (s u : List ℕ) → bytes_eq s u ≡ bytes_eq (quoted s) (quoted u)
+quoted-eq s u =
+    let d = bytes_eq-Decides s u in
+    let q = bytes_eq-Decides (quoted s) (quoted u) in
+    same_from_decides {P = s ≡ u} (bytes_eq s u) (bytes_eq (quoted s) (quoted u)) d (λ e. quoted-same s u (q.0 e), λ e. q.1 (ap quoted e))
+
+-- a byte that is written by no escape
+abbrev pub Unescaped : ℕ → Type 0
+Unescaped b = (32 ≤ b) × (b ≢ 34) × (b ≢ 92)
+
+-- it stands for itself, before bytes that do
+pub escape_more : (bs : List ℕ) (i : ℕ) → i < length bs → Unescaped (get_or bs i 0)
+    → escape (drop (i + 1) bs) ≡ drop (i + 1) bs → escape (drop i bs) ≡ drop i bs
+escape_more bs i few plain rest =
+    let next : suc i ≡ i + 1 = omega arith in
+    let here : drop i bs ≡ get_or bs i 0 ∷ drop (i + 1) bs = drop-cons bs i 0 few ∙ ap (λ j. get_or bs i 0 ∷ drop j bs) next in
+    subst (λ (xs : List ℕ). escape xs ≡ xs) (sym here) (ap₂ (λ (x y : List ℕ). x ++ y) (escape_byte_plain (get_or bs i 0) plain.1 plain.2 plain.0) rest)
+
 -- ---- terms of the code
 
 pub grammar-Bool : grammar code_term.Bool ≡ bool
@@ -93,13 +140,18 @@ grammar-Any = search (rules, the_lemmas)
 
 -- ---- counts
 
-pub count-items_node : (ts : List Tree) → length ts ≡ count (items_node ts)
-count-items_node [] = refl
-count-items_node (t ∷ ts) = ap suc (count-items_node ts)
+-- a list has as many items as its tree
+pub length-outline_items : (ds : List Outline) → length ds ≡ count (outline_items ds)
+length-outline_items ds = sym (count-items_of outline_node ds)
 
-pub count_members-members_node : (ms : List (String Global × Tree)) → length ms ≡ count_members (members_node ms)
-count_members-members_node [] = refl
-count_members-members_node (m ∷ ms) = ap suc (count_members-members_node ms)
+-- and a map as many members
+pub length-named_outlines : (ms : List OutlineMember) → length ms ≡ count_members (named_outlines ms)
+length-named_outlines [] = refl
+length-named_outlines (m ∷ ms) = ap suc (length-named_outlines ms)
+
+-- one level of an outline
+pub outline_node-Map : (ms : Named Outline) → outline_node (MapOf ms) ≡ node.map (outline_members ms)
+outline_node-Map ms = search (rules, the_outlines)
 
 -- the words of a count as a format joins them
 pub one_part : (kind part : List ℕ) (n : ℕ) → n ≡ 1 → codes "a " ++ (kind ++ (codes " of one " ++ part)) ≡ count_words kind part n

@@ -5,3 +5,4 @@ pub mod Reason
 pub mod Blames
 pub mod View
 pub mod Words
+pub mod Said

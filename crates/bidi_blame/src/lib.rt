@@ -10,15 +10,20 @@
 #![tactic(auto)]
 
 mod blaming;
+mod draft;
+mod few;
 mod name;
+mod quoting;
 mod reason;
 mod rules;
 mod taking;
 mod term;
+mod wanting;
 mod words;
 
 pub use blaming::blame;
 pub use name::Name;
 pub use reason::{Reason, Step, Want};
 pub use term::{Need, Openness, Row, Term};
-pub use words::{found_words, pointer, wanted};
+pub use wanting::wanted;
+pub use words::{found_words, pointer};

@@ -1,6 +1,6 @@
 -- What `clap`'s faults of a line, and its reading, say of the answer to it.
 use Rattle.std.proofs.Common.{◌≡◌, ◌∙◌, ℕ, Bool, true, false, List, [], ◌∷◌, ◌++◌, codes, refl, sym, ap, subst, inl, inr, arith, bytes_eq, Some, None}
-use Rattle.std.specs.Prelude.{◌==◌, ◌&&◌, if◌then◌else◌, Box, Option, option_map, unwrap_or, nat_lt}
+use Rattle.std.specs.Prelude.{◌==◌, ◌&&◌, if◌then◌else◌, Box, IsTrue, Option, option_map, unwrap_or, nat_lt}
 use Rattle.std.specs.Char.{digit_value}
 use Rattle.std.proofs.lemmas.Bool.Decides.{nat_tests}
 use Rattle.std.specs.Box.{box_value}
@@ -15,7 +15,7 @@ use Rattle.clap.proofs.OnLiterals.{clap_on_literals}
 use Rattle.bidi_command_line.specs.declared.asked.LineFault.{LineFault}
 use Rattle.bidi_command_line.specs.declared.asked.LineFault.TheVariants.{Help, Usage, NoMemory}
 use Rattle.bidi_command_line.specs.declared.asked.Run.{Run}
-use Rattle.bidi_command_line.specs.declared.asked.Run.TheVariants.{Play, Pair, Reduce, Show, Check, Why, Serve, Host}
+use Rattle.bidi_command_line.specs.declared.asked.Run.TheVariants.{Play, Pair, Reduce, Show, Check, Why, Both, Serve, Host}
 use Rattle.bidi_command_line.specs.declared.asked.ServeOptions.{ServeOptions}
 use Rattle.bidi_command_line.specs.declared.asked.HostOptions.{HostOptions}
 use Rattle.bidi_lines.specs.declared.side.Side.{Side}
@@ -59,6 +59,7 @@ asked_read line (Reduce session) asks = asks
 asked_read line (Show side) asks = asks
 asked_read line (Check side) asks = asks
 asked_read line (Why o) asks = asks
+asked_read line (Both o) asks = asks
 asked_read line (Serve s) asks = asks
 asked_read line (Host h) asks = asks
 
@@ -70,6 +71,7 @@ read_asked line (Reduce session) read = read
 read_asked line (Show side) read = read
 read_asked line (Check side) read = read
 read_asked line (Why o) read = read
+read_asked line (Both o) read = read
 read_asked line (Serve s) read = read
 read_asked line (Host h) read = read
 
@@ -209,7 +211,7 @@ show_reads (apart b value e) =
     (rw (q, l, s) refl, rw (q, l, s) refl)
 show_reads (joined value) = (refl, refl)
 
-check_reads : {value : Text} {words : List Text} → Given (codes "from") value words → Reads (codes "check" ∷ words) (checked (side_named value) false false)
+check_reads : {value : Text} {words : List Text} → Given (codes "from") value words → Reads (codes "check" ∷ words) (checked (Some value) false false false)
 unfolding clap_on_literals
 check_reads (apart b value e) =
     let l = no_long b value e in let s = no_short b value e in let q = no_mark b value e in
@@ -218,7 +220,7 @@ check_reads (joined value) = (refl, refl)
 
 -- the flags behind the option
 why_reads : {value : Text} {words : List Text} (json : Bool) → Given (codes "from") value words
-    → Reads (codes "check" ∷ words ++ codes "--why" ∷ flag_words (codes "json") json) (checked (side_named value) true json)
+    → Reads (codes "check" ∷ words ++ codes "--why" ∷ flag_words (codes "json") json) (checked (Some value) false true json)
 unfolding clap_on_literals
 why_reads true (apart b value e) =
     let l = no_long b value e in let s = no_short b value e in let q = no_mark b value e in
@@ -228,6 +230,15 @@ why_reads false (apart b value e) =
     (rw (q, l, s) refl, rw (q, l, s) refl)
 why_reads true (joined value) = (refl, refl)
 why_reads false (joined value) = (refl, refl)
+
+-- the flags alone
+both_reads : (why json : Bool)
+    → Reads (codes "check" ∷ codes "--both" ∷ flag_words (codes "why") why ++ flag_words (codes "json") json) (checked None true why json)
+unfolding clap_on_literals
+both_reads true true = (refl, refl)
+both_reads true false = (refl, refl)
+both_reads false true = (refl, refl)
+both_reads false false = (refl, refl)
 
 serve_reads : {p c m : Text} → Plain p → Plain c → Plain m
     → Reads (codes "serve" ∷ codes "--port" ∷ p ∷ codes "--connections" ∷ c ∷ codes "--messages" ∷ m ∷ [])
@@ -329,6 +340,12 @@ side_is : (side : Side) → side_named (side_text side) ≡ Some side
 side_is Local = refl
 side_is Remote = refl
 
+-- `--both` asks for both, where `--json` has its `--why`
+both_is : (why json : Bool) → (IsTrue json → IsTrue why) → checked None true why json ≡ Some (Both (record { is_why = why; is_json = json }))
+both_is true json goes = refl
+both_is false true goes = let given : false ≡ true = goes refl in cc
+both_is false false goes = refl
+
 -- clap reads the words that are given for a run as that run
 pub said_asks : (line : List Text) (run : Run) → IsSaidBy run line → AsksFor line run
 said_asks line Play e = inl e
@@ -339,9 +356,11 @@ said_asks line (Reduce session) (words, gives, e) =
 said_asks line (Show side) (words, gives, e) =
     read_as line (codes "show" ∷ words) (Show side) _ e (ap (option_map Show) (side_is side)) (show_reads (given_side side words gives))
 said_asks line (Check side) (words, gives, e) =
-    read_as line (codes "check" ∷ words) (Check side) _ e (ap (λ s. checked s false false) (side_is side)) (check_reads (given_side side words gives))
+    read_as line (codes "check" ∷ words) (Check side) _ e (ap (option_map Check) (side_is side)) (check_reads (given_side side words gives))
 said_asks line (Why o) (words, gives, e) =
-    read_as line _ (Why o) _ e (ap (λ s. checked s true o.is_json) (side_is o.side)) (why_reads o.is_json (given_side o.side words gives))
+    read_as line _ (Why o) _ e (ap (option_map (λ s. Why (record { side = s; is_json = o.is_json }))) (side_is o.side))
+    (why_reads o.is_json (given_side o.side words gives))
+said_asks line (Both o) (goes, e) = read_as line _ (Both o) _ e (both_is o.is_why o.is_json goes) (both_reads o.is_why o.is_json)
 said_asks line (Serve s) (p, c, m, port, connections, messages, inl e) =
     read_as line _ (Serve s) _ e (λ i. option_map Serve (served (port i) (connections i) (messages i)))
     (serve_reads (plain_number 0 65535 s.port p port) (plain_number 1 1000 s.connections c connections) (plain_number 1 100000 s.messages m messages))

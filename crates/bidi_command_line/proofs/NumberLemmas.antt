@@ -9,12 +9,11 @@ use Rattle.std.specs.Prelude.{codes}
 use Rattle.std.specs.Str.{bytes_eq}
 use Rattle.clap.specs.Words.{Row, Text, first_of}
 use Rattle.bidi_command_line.specs.declared.asked.Run.{Run}
-use Rattle.bidi_command_line.specs.declared.asked.Run.TheVariants.{Play, Pair, Reduce, Show, Check, Why, Serve, Host}
+use Rattle.bidi_command_line.specs.declared.asked.Run.TheVariants.{Play, Pair, Reduce, Show, Check, Why, Both, Serve, Host}
 use Rattle.bidi_command_line.specs.declared.asked.ServeOptions.{ServeOptions}
 use Rattle.bidi_command_line.specs.declared.asked.HostOptions.{HostOptions}
-use Rattle.bidi_lines.specs.declared.side.Side.{Side}
-use Rattle.bidi_command_line.specs.CommandLine.{IsWithinBounds, all_digits, checked, hosted, hosting_in, is_given, is_numeral, number_in, number_within}
-use Rattle.bidi_command_line.specs.CommandLine.{run_in, served, serving_in, session_in, side_in}
+use Rattle.bidi_command_line.specs.CommandLine.{IsWithinBounds, all_digits, checked, checking_in, hosted, hosting_in, is_given, is_numeral, number_in}
+use Rattle.bidi_command_line.specs.CommandLine.{number_within, run_in, served, serving_in, session_in, side_in, side_named}
 
 -- what both hold
 both : (a b : Bool) → (a && b) ≡ true → (a ≡ true) × (b ≡ true)
@@ -69,8 +68,8 @@ pub served-same : (a a' b b' m m' : Option ℕ) → a ≡ a' → b ≡ b' → m 
 served-same a a' b b' m m' p q r =
     subst (λ x. served a b m ≡ served x b' m') p (subst (λ x. served a b m ≡ served a x m') q (subst (λ x. served a b m ≡ served a b x) r refl))
 
-pub checked-same : (a a' : Option Side) (b b' c c' : Bool) → a ≡ a' → b ≡ b' → c ≡ c' → checked a b c ≡ checked a' b' c'
-checked-same a a' b b' c c' p q r = λ i. checked (p i) (q i) (r i)
+pub checked-same : (a a' : Option Text) (b b' c c' d d' : Bool) → a ≡ a' → b ≡ b' → c ≡ c' → d ≡ d' → checked a b c d ≡ checked a' b' c' d'
+checked-same a a' b b' c c' d d' p q r s = λ i. checked (p i) (q i) (r i) (s i)
 
 pub hosted-same : (a a' : Option ℕ) (b b' c c' d d' : Bool) → a ≡ a' → b ≡ b' → c ≡ c' → d ≡ d' → hosted a b c d ≡ hosted a' b' c' d'
 hosted-same a a' b b' c c' d d' p q r s = λ i. hosted (p i) (q i) (r i) (s i)
@@ -108,104 +107,77 @@ served-from None b m s e = cc
 served-from (Some p) None m s e = cc
 served-from (Some p) (Some k) None s e = cc
 
--- the run by the names that a subcommand has
-abbrev run_by : Bool → Bool → Bool → Bool → Bool → Bool → Bool → Option Side → Bool → Bool → Option ℕ → Option ServeOptions → Option HostOptions → Option Run
-run_by is_play is_pair is_reduce is_show is_check is_serve is_host side why json session serving hosting =
-    if is_play then Some Play else (if is_pair then Some Pair else (if is_reduce then option_map Reduce session
-    else (if is_show then option_map Show side else (if is_check then checked side why json else (if is_serve then option_map Serve serving
-    else (if is_host then option_map Host hosting else None))))))
-
--- no other subcommand is one that serves
-serve-from : (p q d r t u h : Bool) (side : Option Side) (why json : Bool) (session : Option ℕ) (serving : Option ServeOptions) (hosting : Option HostOptions) (s : ServeOptions)
-    → run_by p q d r t u h side why json session serving hosting ≡ Some (Serve s) → serving ≡ Some s
-serve-from true q d r t u h side why json session serving hosting s e = cc
-serve-from false true d r t u h side why json session serving hosting s e = cc
-serve-from false false true r t u h side why json None serving hosting s e = cc
-serve-from false false true r t u h side why json (Some x) serving hosting s e = cc
-serve-from false false false true t u h None why json session serving hosting s e = cc
-serve-from false false false true t u h (Some x) why json session serving hosting s e = cc
-serve-from false false false false true u h None why json session serving hosting s e = cc
-serve-from false false false false true u h (Some x) true json session serving hosting s e = cc
-serve-from false false false false true u h (Some x) false true session serving hosting s e = cc
-serve-from false false false false true u h (Some x) false false session serving hosting s e = cc
-serve-from false false false false false true h side why json session None hosting s e = cc
-serve-from false false false false false true h side why json session (Some x) hosting s e = cc
-serve-from false false false false false false true side why json session serving None s e = cc
-serve-from false false false false false false true side why json session serving (Some x) s e = cc
-serve-from false false false false false false false side why json session serving hosting s e = cc
-
--- nor one that reduces
-reduce-from : (p q d r t u h : Bool) (side : Option Side) (why json : Bool) (session : Option ℕ) (serving : Option ServeOptions) (hosting : Option HostOptions) (n : ℕ)
-    → run_by p q d r t u h side why json session serving hosting ≡ Some (Reduce n) → session ≡ Some n
-reduce-from true q d r t u h side why json session serving hosting n e = cc
-reduce-from false true d r t u h side why json session serving hosting n e = cc
-reduce-from false false true r t u h side why json None serving hosting n e = cc
-reduce-from false false true r t u h side why json (Some x) serving hosting n e = cc
-reduce-from false false false true t u h None why json session serving hosting n e = cc
-reduce-from false false false true t u h (Some x) why json session serving hosting n e = cc
-reduce-from false false false false true u h None why json session serving hosting n e = cc
-reduce-from false false false false true u h (Some x) true json session serving hosting n e = cc
-reduce-from false false false false true u h (Some x) false true session serving hosting n e = cc
-reduce-from false false false false true u h (Some x) false false session serving hosting n e = cc
-reduce-from false false false false false true h side why json session None hosting n e = cc
-reduce-from false false false false false true h side why json session (Some x) hosting n e = cc
-reduce-from false false false false false false true side why json session serving None n e = cc
-reduce-from false false false false false false true side why json session serving (Some x) n e = cc
-reduce-from false false false false false false false side why json session serving hosting n e = cc
-
--- nor one that hosts
-host-from : (p q d r t u h : Bool) (side : Option Side) (why json : Bool) (session : Option ℕ) (serving : Option ServeOptions) (hosting : Option HostOptions) (o : HostOptions)
-    → run_by p q d r t u h side why json session serving hosting ≡ Some (Host o) → hosting ≡ Some o
-host-from true q d r t u h side why json session serving hosting o e = cc
-host-from false true d r t u h side why json session serving hosting o e = cc
-host-from false false true r t u h side why json None serving hosting o e = cc
-host-from false false true r t u h side why json (Some x) serving hosting o e = cc
-host-from false false false true t u h None why json session serving hosting o e = cc
-host-from false false false true t u h (Some x) why json session serving hosting o e = cc
-host-from false false false false true u h None why json session serving hosting o e = cc
-host-from false false false false true u h (Some x) true json session serving hosting o e = cc
-host-from false false false false true u h (Some x) false true session serving hosting o e = cc
-host-from false false false false true u h (Some x) false false session serving hosting o e = cc
-host-from false false false false false true h side why json session None hosting o e = cc
-host-from false false false false false true h side why json session (Some x) hosting o e = cc
-host-from false false false false false false true side why json session serving None o e = cc
-host-from false false false false false false true side why json session serving (Some x) o e = cc
-host-from false false false false false false false side why json session serving hosting o e = cc
-
 -- what is hosted has the port that was found
 hosted-from : (port : Option ℕ) (stdin sessions lenient : Bool) (o : HostOptions) → hosted port stdin sessions lenient ≡ Some o → port ≡ Some o.port
 hosted-from (Some p) stdin sessions lenient o e = cc
 hosted-from None stdin sessions lenient o e = cc
 
--- the numbers of a run that was found are within their bounds
-pub within_bounds : (met : Option (Text × List Row)) (run : Run) → run_in met ≡ Some run → IsWithinBounds run
-within_bounds met Play e = tt
-within_bounds met Pair e = tt
-within_bounds met (Show side) e = tt
-within_bounds met (Check side) e = tt
-within_bounds met (Why o) e = tt
-within_bounds None (Reduce n) e = cc
-within_bounds (Some (name, rows)) (Reduce n) e =
-    let is : Text → Bool = λ other. bytes_eq name other in
-    let session = reduce-from (is (codes "play")) (is (codes "pair")) (is (codes "reduce")) (is (codes "show")) (is (codes "check")) (is (codes "serve"))
-    (is (codes "host")) (side_in rows) (is_given (codes "why") rows) (is_given (codes "json") rows) (session_in rows) (serving_in rows) (hosting_in rows) n e in
-    (within_found 0 4294967295 n (first_of (codes "session") rows) session).1
-within_bounds None (Serve s) e = cc
-within_bounds (Some (name, rows)) (Serve s) e =
-    let is : Text → Bool = λ other. bytes_eq name other in
-    let serves = serve-from (is (codes "play")) (is (codes "pair")) (is (codes "reduce")) (is (codes "show")) (is (codes "check")) (is (codes "serve"))
-    (is (codes "host")) (side_in rows) (is_given (codes "why") rows) (is_given (codes "json") rows) (session_in rows) (serving_in rows) (hosting_in rows) s e in
+-- a run, where one was found, has its numbers within their bounds
+abbrev AreWithin : Option Run → Type 0
+AreWithin found = (run : Run) → found ≡ Some run → IsWithinBounds run
+
+none_within : AreWithin None
+none_within run e = cc
+
+one_within : (one : Run) → IsWithinBounds one → AreWithin (Some one)
+one_within one is run e = let same : one ≡ run = cc in subst IsWithinBounds same is
+
+-- so has one that is made of what was found
+made_within : {A : Type 0} (f : A → Run) (found : Option A) → ((x : A) → found ≡ Some x → IsWithinBounds (f x)) → AreWithin (option_map f found)
+made_within f None is = none_within
+made_within f (Some x) is = one_within (f x) (is x refl)
+
+-- a run that checks has no numbers
+checked_within : (end : Option Text) (both why json : Bool) → AreWithin (checked end both why json)
+checked_within None false why json = none_within
+checked_within None true true json = one_within (Both (record { is_why = true; is_json = json })) tt
+checked_within None true false true = none_within
+checked_within None true false false = one_within (Both (record { is_why = false; is_json = false })) tt
+checked_within (Some end) true why json = none_within
+checked_within (Some end) false true json = made_within (λ side. Why (record { side = side; is_json = json })) (side_named end) (λ side e. tt)
+checked_within (Some end) false false true = none_within
+checked_within (Some end) false false false = made_within Check (side_named end) (λ side e. tt)
+
+reduced_within : (rows : List Row) → AreWithin (option_map Reduce (session_in rows))
+reduced_within rows = made_within Reduce (session_in rows) (λ n e. (within_found 0 4294967295 n (first_of (codes "session") rows) e).1)
+
+served_within : (rows : List Row) → AreWithin (option_map Serve (serving_in rows))
+served_within rows = made_within Serve (serving_in rows) (λ s e.
     let from = served-from (number_in (codes "port") 0 65535 rows) (number_in (codes "connections") 1 1000 rows)
-    (number_in (codes "messages") 1 100000 rows) s serves in
+    (number_in (codes "messages") 1 100000 rows) s e in
     let port = within_found 0 65535 s.port (first_of (codes "port") rows) from.0 in
     let connections = within_found 1 1000 s.connections (first_of (codes "connections") rows) from.1 in
     let messages = within_found 1 100000 s.messages (first_of (codes "messages") rows) from.2 in
-    (port.1, connections.0, connections.1, messages.0, messages.1)
-within_bounds None (Host o) e = cc
-within_bounds (Some (name, rows)) (Host o) e =
-    let is : Text → Bool = λ other. bytes_eq name other in
-    let hosts = host-from (is (codes "play")) (is (codes "pair")) (is (codes "reduce")) (is (codes "show")) (is (codes "check")) (is (codes "serve"))
-    (is (codes "host")) (side_in rows) (is_given (codes "why") rows) (is_given (codes "json") rows) (session_in rows) (serving_in rows) (hosting_in rows) o e in
+    (port.1, connections.0, connections.1, messages.0, messages.1))
+
+hosted_within : (rows : List Row) → AreWithin (option_map Host (hosting_in rows))
+hosted_within rows = made_within Host (hosting_in rows) (λ o e.
     let port = hosted-from (number_in (codes "port") 0 65535 rows) (is_given (codes "stdin") rows) (is_given (codes "end-sessions") rows)
-    (is_given (codes "lenient") rows) o hosts in
-    (within_found 0 65535 o.port (first_of (codes "port") rows) port).1
+    (is_given (codes "lenient") rows) o e in
+    (within_found 0 65535 o.port (first_of (codes "port") rows) port).1)
+
+-- the run by the names that a subcommand has
+abbrev run_by : Bool → Bool → Bool → Bool → Bool → Bool → Bool → List Row → Option Run
+run_by is_play is_pair is_reduce is_show is_check is_serve is_host rows =
+    if is_play then Some Play else (if is_pair then Some Pair else (if is_reduce then option_map Reduce (session_in rows)
+    else (if is_show then option_map Show (side_in rows) else (if is_check then checking_in rows
+    else (if is_serve then option_map Serve (serving_in rows) else (if is_host then option_map Host (hosting_in rows) else None))))))
+
+named_within : (p q d r t u h : Bool) (rows : List Row) → AreWithin (run_by p q d r t u h rows)
+named_within true q d r t u h rows = one_within Play tt
+named_within false true d r t u h rows = one_within Pair tt
+named_within false false true r t u h rows = reduced_within rows
+named_within false false false true t u h rows = made_within Show (side_in rows) (λ side e. tt)
+named_within false false false false true u h rows =
+    checked_within (first_of (codes "from") rows) (is_given (codes "both") rows) (is_given (codes "why") rows) (is_given (codes "json") rows)
+named_within false false false false false true h rows = served_within rows
+named_within false false false false false false true rows = hosted_within rows
+named_within false false false false false false false rows = none_within
+
+-- the numbers of a run that was found are within their bounds
+pub within_bounds : (met : Option (Text × List Row)) (run : Run) → run_in met ≡ Some run → IsWithinBounds run
+within_bounds None run e = cc
+within_bounds (Some (name, rows)) run e =
+    let is : Text → Bool = λ other. bytes_eq name other in
+    named_within (is (codes "play")) (is (codes "pair")) (is (codes "reduce")) (is (codes "show")) (is (codes "check")) (is (codes "serve"))
+    (is (codes "host")) rows run e

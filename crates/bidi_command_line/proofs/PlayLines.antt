@@ -8,6 +8,7 @@ use Rattle.clap.specs.Lexer.{long_of, short_of}
 use Rattle.clap.specs.Walk.{Held, Names, Rule, Step, Text, Walk, finished, nothing_held, settled, subcommand_or_other, walk_from}
 use Rattle.clap.specs.Walk.{has_long, has_short, long_or_other, short_or_plain, bundle_met, bundle_step, after_flag, walked}
 use Rattle.clap.specs.Walk as walk
+use Rattle.clap.specs.Words.{Row, first_of}
 use Rattle.clap.specs.Simple.{App, Shape, built, entered, filled, help_rule, names_of, new_app, subcommand_of, with_index, with_subcommand}
 use Rattle.clap.specs.Faults.{bundle_fault, bundle_step_fault, check_fault, defaults_fault, entered_fault}
 use Rattle.clap.specs.Faults.{flag_word_fault, flags_fault, level_fault, long_fault, other_fault}
@@ -17,12 +18,13 @@ use Rattle.std.specs.Option.{option_map_or}
 use Rattle.std.proofs.lemmas.Slice.Eq.{bytes_eq-Decides}
 use Rattle.clap.proofs.OnLiterals.{clap_on_literals}
 use Rattle.bidi_command_line.specs.declared.asked.Run.{Run}
-use Rattle.bidi_command_line.specs.declared.asked.Run.TheVariants.{Play, Pair, Reduce, Show, Check, Why, Serve, Host}
+use Rattle.bidi_command_line.specs.declared.asked.Run.TheVariants.{Play, Pair, Reduce, Show, Check, Why, Both, Serve, Host}
 use Rattle.bidi_command_line.specs.declared.asked.WhyOptions.{WhyOptions}
+use Rattle.bidi_command_line.specs.declared.asked.BothOptions.{BothOptions}
 use Rattle.bidi_command_line.specs.declared.asked.ServeOptions.{ServeOptions}
 use Rattle.bidi_command_line.specs.declared.asked.HostOptions.{HostOptions}
 use Rattle.bidi_lines.specs.declared.side.Side.{Side}
-use Rattle.bidi_command_line.specs.CommandLine.{AsksFor, bare_app, bidi_app, checked, faults_of, run_in}
+use Rattle.bidi_command_line.specs.CommandLine.{AsksFor, bare_app, bidi_app, checked, faults_of, is_given, run_in, side_named}
 
 -- the one option of each command
 abbrev help : Rule
@@ -301,25 +303,38 @@ entered_show : (run : Run) → ((side : Side) → Show side ≡ run → ⊥) →
 unfolding clap_on_literals
 entered_show run differs line e = no_other Show run differs _ e
 
--- nor is a run that checks, and with `--why` tells why
-no_checked : (run : Run) → ((side : Side) → Check side ≡ run → ⊥) → ((o : WhyOptions) → Why o ≡ run → ⊥)
-    → (side : Option Side) (why json : Bool) → checked side why json ≡ Some run → ⊥
-no_checked run differs tells None why json e = cc
-no_checked run differs tells (Some side) true json e = tells (record { side = side; is_json = json }) (same_some e)
-no_checked run differs tells (Some side) false true e = cc
-no_checked run differs tells (Some side) false false e = differs side (same_some e)
+-- a run is none that checks, whatever it tells and of whichever end
+abbrev IsNoCheck : Run → Type 0
+IsNoCheck run = ((side : Side) → Check side ≡ run → ⊥) × ((o : WhyOptions) → Why o ≡ run → ⊥) × ((o : BothOptions) → Both o ≡ run → ⊥)
 
-entered_check : (run : Run) → ((side : Side) → Check side ≡ run → ⊥) → ((o : WhyOptions) → Why o ≡ run → ⊥)
-    → (line : List Text) → run_in (entered app (Some (check, line))) ≡ Some run → ⊥
+-- nor is a run that checks
+no_checked : (run : Run) → IsNoCheck run → (end : Option Text) (both why json : Bool) → checked end both why json ≡ Some run → ⊥
+no_checked run differs None false why json e = cc
+no_checked run differs None true true json e = differs.2 (record { is_why = true; is_json = json }) (same_some e)
+no_checked run differs None true false true e = cc
+no_checked run differs None true false false e = differs.2 (record { is_why = false; is_json = false }) (same_some e)
+no_checked run differs (Some end) true why json e = cc
+no_checked run differs (Some end) false true json e =
+    no_other (λ side. Why (record { side = side; is_json = json })) run (λ side. differs.1 (record { side = side; is_json = json })) (side_named end) e
+no_checked run differs (Some end) false false true e = cc
+no_checked run differs (Some end) false false false e = no_other Check run differs.0 (side_named end) e
+
+no_check_met : (run : Run) → IsNoCheck run → (met : Option (Text × List Row)) → option_map (λ m. m.0) met ≡ Some check → run_in met ≡ Some run → ⊥
 unfolding clap_on_literals
-entered_check run differs tells line e = no_checked run differs tells _ _ _ e
+no_check_met run differs None named e = cc
+no_check_met run differs (Some (name, rows)) named e =
+    no_checked run differs (first_of (codes "from") rows) (is_given (codes "both") rows) (is_given (codes "why") rows) (is_given (codes "json") rows)
+    (subst (λ n. run_in (Some (n, rows)) ≡ Some run) (same_some named) e)
+
+entered_check : (run : Run) → IsNoCheck run → (line : List Text) → run_in (entered app (Some (check, line))) ≡ Some run → ⊥
+unfolding clap_on_literals
+entered_check run differs line e = no_check_met run differs (entered app (Some (check, line))) refl e
 
 read_show : (run : Run) → ((side : Side) → Show side ≡ run → ⊥) → (line : List Text) → run_in (subcommand_of bidi_app (show ∷ line)) ≡ Some run → ⊥
 read_show run differs line e = entered_show run differs line (subst (λ s. run_in (entered app s) ≡ Some run) (stop_show line) e)
 
-read_check : (run : Run) → ((side : Side) → Check side ≡ run → ⊥) → ((o : WhyOptions) → Why o ≡ run → ⊥)
-    → (line : List Text) → run_in (subcommand_of bidi_app (check ∷ line)) ≡ Some run → ⊥
-read_check run differs tells line e = entered_check run differs tells line (subst (λ s. run_in (entered app s) ≡ Some run) (stop_check line) e)
+read_check : (run : Run) → IsNoCheck run → (line : List Text) → run_in (subcommand_of bidi_app (check ∷ line)) ≡ Some run → ⊥
+read_check run differs line e = entered_check run differs line (subst (λ s. run_in (entered app s) ≡ Some run) (stop_check line) e)
 
 entered_serve : (run : Run) → ((s : ServeOptions) → Serve s ≡ run → ⊥) → (line : List Text) → run_in (entered app (Some (serve, line))) ≡ Some run → ⊥
 unfolding clap_on_literals
@@ -359,17 +374,11 @@ show_is_no_play side e = cc
 show_is_no_pair : (side : Side) → Show side ≡ Pair → ⊥
 show_is_no_pair side e = cc
 
-check_is_no_play : (side : Side) → Check side ≡ Play → ⊥
-check_is_no_play side e = cc
+play_is_no_check : IsNoCheck Play
+play_is_no_check = (λ side e. cc, λ o e. cc, λ o e. cc)
 
-check_is_no_pair : (side : Side) → Check side ≡ Pair → ⊥
-check_is_no_pair side e = cc
-
-why_is_no_play : (o : WhyOptions) → Why o ≡ Play → ⊥
-why_is_no_play o e = cc
-
-why_is_no_pair : (o : WhyOptions) → Why o ≡ Pair → ⊥
-why_is_no_pair o e = cc
+pair_is_no_check : IsNoCheck Pair
+pair_is_no_check = (λ side e. cc, λ o e. cc, λ o e. cc)
 
 pair_is_no_play : Pair ≡ Play → ⊥
 pair_is_no_play e = cc
@@ -430,7 +439,7 @@ play_from word line (with_play e) none read = subst (λ w. AsksFor (w ∷ line) 
 play_from word line (with_pair e) none read = absurd (pair_is_no_play (same_some (sym (read_pair line) ∙ subst (IsRead Play line) (sym e) read)))
 play_from word line (with_reduce e) none read = absurd (read_reduce Play reduce_is_no_play line (subst (IsRead Play line) (sym e) read))
 play_from word line (with_show e) none read = absurd (read_show Play show_is_no_play line (subst (IsRead Play line) (sym e) read))
-play_from word line (with_check e) none read = absurd (read_check Play check_is_no_play why_is_no_play line (subst (IsRead Play line) (sym e) read))
+play_from word line (with_check e) none read = absurd (read_check Play play_is_no_check line (subst (IsRead Play line) (sym e) read))
 play_from word line (with_serve e) none read = absurd (read_serve Play serve_is_no_play line (subst (IsRead Play line) (sym e) read))
 play_from word line (with_host e) none read = absurd (read_host Play host_is_no_play line (subst (IsRead Play line) (sym e) read))
 
@@ -439,7 +448,7 @@ pair_from word line (with_play e) none read = absurd (pair_is_no_play (sym (same
 pair_from word line (with_pair e) none read = subst (λ w. AsksFor (w ∷ line) Pair) e (entered_pair line (subst (λ w. faults_of (w ∷ line) ≡ []) (sym e) none))
 pair_from word line (with_reduce e) none read = absurd (read_reduce Pair reduce_is_no_pair line (subst (IsRead Pair line) (sym e) read))
 pair_from word line (with_show e) none read = absurd (read_show Pair show_is_no_pair line (subst (IsRead Pair line) (sym e) read))
-pair_from word line (with_check e) none read = absurd (read_check Pair check_is_no_pair why_is_no_pair line (subst (IsRead Pair line) (sym e) read))
+pair_from word line (with_check e) none read = absurd (read_check Pair pair_is_no_check line (subst (IsRead Pair line) (sym e) read))
 pair_from word line (with_serve e) none read = absurd (read_serve Pair serve_is_no_pair line (subst (IsRead Pair line) (sym e) read))
 pair_from word line (with_host e) none read = absurd (read_host Pair host_is_no_pair line (subst (IsRead Pair line) (sym e) read))
 

@@ -1,5 +1,5 @@
 -- What the words of a command line ask for, as `clap` reads them.
-use Rattle.std.specs.Prelude.{◌≡◌, ◌≢◌, ◌⊎◌, ◌≤◌, ℕ, Bool, true, false, ◌&&◌, nat_lt, nat_le, List, [], ◌∷◌, ◌++◌, length, ⊤}
+use Rattle.std.specs.Prelude.{◌≡◌, ◌≢◌, ◌⊎◌, ◌≤◌, ℕ, Bool, true, false, ◌&&◌, IsTrue, nat_lt, nat_le, List, [], ◌∷◌, ◌++◌, length, ⊤}
 use Rattle.std.specs.Prelude.{Option, Some, None, option_and_then, option_map, unwrap_or, if◌then◌else◌, codes, map, string_bytes}
 use Rattle.std.specs.Option.{option_map_or}
 use Rattle.std.specs.Char.{digit_value}
@@ -13,7 +13,7 @@ use Rattle.clap.specs.declared.error.kind.ErrorKind.TheVariants.{DisplayHelp, Di
 use Rattle.bidi_command_line.specs.declared.asked.LineFault.{LineFault}
 use Rattle.bidi_command_line.specs.declared.asked.LineFault.TheVariants.{Help, Usage, NoMemory}
 use Rattle.bidi_command_line.specs.declared.asked.Run.{Run}
-use Rattle.bidi_command_line.specs.declared.asked.Run.TheVariants.{Play, Pair, Reduce, Show, Check, Why, Serve, Host}
+use Rattle.bidi_command_line.specs.declared.asked.Run.TheVariants.{Play, Pair, Reduce, Show, Check, Why, Both, Serve, Host}
 use Rattle.bidi_command_line.specs.declared.asked.ServeOptions.{ServeOptions}
 use Rattle.bidi_command_line.specs.declared.asked.HostOptions.{HostOptions}
 use Rattle.bidi_command_line.specs.declared.files.HostFiles.{HostFiles}
@@ -48,17 +48,17 @@ flag_rule name = record (new_rule name) { long = Some name; action = Some SetTru
 abbrev pub reduce_shape : Shape
 reduce_shape = (with_rule (new_app (codes "reduce")) (option_rule (codes "session"))).top
 
--- the option `--from`
-abbrev pub from_rule : Rule
-from_rule = option_rule (codes "from")
+-- the subcommand `show`, with its option
+abbrev pub show_shape : Shape
+show_shape = (with_rule (new_app (codes "show")) (option_rule (codes "from"))).top
 
--- a subcommand of this name with that option
-abbrev pub from_shape : Text → Shape
-from_shape name = (with_rule (new_app name) from_rule).top
+-- the subcommand `check`, with what it says of the end or the ends whose texts it reads
+abbrev pub check_app : App
+check_app = with_rule (with_rule (new_app (codes "check")) (value_rule (codes "from"))) (flag_rule (codes "both"))
 
--- the subcommand `check`, with that option and its two flags
+-- the same, with its two other flags
 abbrev pub check_shape : Shape
-check_shape = (with_rule (with_rule (with_rule (new_app (codes "check")) from_rule) (flag_rule (codes "why"))) (flag_rule (codes "json"))).top
+check_shape = (with_rule (with_rule check_app (flag_rule (codes "why"))) (flag_rule (codes "json"))).top
 
 -- the subcommand `serve`, with its three options
 abbrev pub serve_shape : Shape
@@ -90,7 +90,7 @@ bare_app = record { top = with_settings (new_app (codes "bidi")).top; subs = [] 
 abbrev pub app_without_host : App
 app_without_host =
     with_subcommand (with_subcommand (with_subcommand (with_subcommand (with_subcommand (with_subcommand bare_app play_shape) pair_shape) reduce_shape)
-    (from_shape (codes "show"))) check_shape) serve_shape
+    show_shape) check_shape) serve_shape
 
 -- the program's command, which wants one of its subcommands
 abbrev pub bidi_app : App
@@ -144,16 +144,18 @@ is_true text = bytes_eq text (codes "true")
 abbrev pub is_given : Text → List Row → Bool
 is_given name rows = option_map_or is_true (first_of name rows) false
 
--- the run of `check`, where the end is there: with `--why` it tells why, and `--json` goes with `--why` alone
-abbrev pub checked : Option Side → Bool → Bool → Option Run
-checked None is_why is_json = None
-checked (Some side) true is_json = Some (Why (record { side = side; is_json = is_json }))
-checked (Some side) false true = None
-checked (Some side) false false = Some (Check side)
+-- The run of `check`, by what `--from` gives, and whether `--both`, `--why` and `--json` are given: it reads the texts of the end of that
+-- name, or those of both ends; with `--why` it tells why, and `--json` goes with `--why` alone.
+abbrev pub checked : Option Text → Bool → Bool → Bool → Option Run
+checked (Some end) false true is_json = option_map (λ side. Why (record { side = side; is_json = is_json })) (side_named end)
+checked (Some end) false false false = option_map Check (side_named end)
+checked None true true is_json = Some (Both (record { is_why = true; is_json = is_json }))
+checked None true false false = Some (Both (record { is_why = false; is_json = false }))
+checked end is_both is_why is_json = None
 
 -- the run that its option and its flags ask for
 abbrev pub checking_in : List Row → Option Run
-checking_in rows = checked (side_in rows) (is_given (codes "why") rows) (is_given (codes "json") rows)
+checking_in rows = checked (first_of (codes "from") rows) (is_given (codes "both") rows) (is_given (codes "why") rows) (is_given (codes "json") rows)
 
 -- what is to be served, where all three numbers are there
 abbrev pub served : Option ℕ → Option ℕ → Option ℕ → Option ServeOptions
@@ -211,6 +213,7 @@ AsksFor line (Reduce session) = IsReadAs line (Reduce session)
 AsksFor line (Show side) = IsReadAs line (Show side)
 AsksFor line (Check side) = IsReadAs line (Check side)
 AsksFor line (Why options) = IsReadAs line (Why options)
+AsksFor line (Both options) = IsReadAs line (Both options)
 AsksFor line (Serve serving) = IsReadAs line (Serve serving)
 AsksFor line (Host hosting) = IsReadAs line (Host hosting)
 
@@ -246,6 +249,9 @@ IsSaidBy (Check side) line = (words : List Text) × Gives (codes "from") (side_t
 IsSaidBy (Why o) line =
     (words : List Text) × Gives (codes "from") (side_text o.side) words
     × (line ≡ codes "check" ∷ words ++ codes "--why" ∷ flag_words (codes "json") o.is_json)
+IsSaidBy (Both o) line =
+    (IsTrue o.is_json → IsTrue o.is_why)
+    × (line ≡ codes "check" ∷ codes "--both" ∷ flag_words (codes "why") o.is_why ++ flag_words (codes "json") o.is_json)
 IsSaidBy (Serve s) line =
     (port : Text) × (connections : Text) × (messages : Text)
     × (number_within 0 65535 port ≡ Some s.port)
@@ -280,7 +286,7 @@ Causes kind (Help text) = IsRequest kind
 Causes kind (Usage text) = IsMistake kind
 Causes kind NoMemory = ⊤
 
--- a refusal has its cause among the faults of the line, or clap takes the line and its option names no end or no number within its bounds
+-- a refusal has its cause among the faults of the line, or clap takes the line and its options have no valid value or do not go together
 abbrev pub IsRefusedFor : List Text → LineFault → Type 0
 IsRefusedFor line (Help text) = (kind : ErrorKind) × IsAmong kind (faults_of line) × IsRequest kind
 IsRefusedFor line (Usage text) =

@@ -1,15 +1,15 @@
 //! The command line: which run it asks for.
-ghost use Rattle.std.specs.Prelude.{◌≡◌, false, IfErr, IfOk, MatchResult, codes, option_and_then};
+ghost use Rattle.std.specs.Prelude.{◌≡◌, Some, None, true, false, IfErr, IfOk, MatchResult, codes, option_and_then, option_map};
 ghost use Rattle.std.specs.Option.{option_map_or};
-ghost use Rattle.clap.specs.Words.{app_of, found_of, first_value, kind_of, new_app, rows_of, rule_of, subcommand_rows_of, with_rule, with_subcommand};
+ghost use Rattle.clap.specs.Words.{app_of, found_of, first_value, kind_of, rows_of, rule_of, subcommand_rows_of, with_subcommand};
 ghost use Rattle.clap.specs.declared.builder.command.Command.TheViews.{out-Command};
 ghost use Rattle.clap.specs.declared.error.kind.ErrorKind.TheVariants.{InvalidValue};
 ghost use Rattle.bidi_command_line.specs.declared.asked.Run.{Run};
 ghost use Rattle.bidi_command_line.specs.CommandLine.{AsksFor, Causes, IsRefusedFor, IsSaidBy, IsWithinBounds, app_without_host, bare_app, bidi_app};
-ghost use Rattle.bidi_command_line.specs.CommandLine.{check_shape, checked, checking_in, flag_rule, from_rule, from_shape};
+ghost use Rattle.bidi_command_line.specs.CommandLine.{check_app, check_shape, checked, checking_in, flag_rule};
 ghost use Rattle.bidi_command_line.specs.CommandLine.{host_app, host_shape, hosted, hosting_in, is_true, line_of, number_within};
 ghost use Rattle.bidi_command_line.specs.CommandLine.{option_rule, pair_shape, play_shape, port_rule, reduce_shape, run_in, run_named};
-ghost use Rattle.bidi_command_line.specs.CommandLine.{serve_shape, served, serving_in, side_named, value_rule};
+ghost use Rattle.bidi_command_line.specs.CommandLine.{serve_shape, served, serving_in, show_shape, side_named, value_rule};
 
 use bidi_lines::Side;
 use clap::error::ErrorKind;
@@ -32,6 +32,8 @@ pub enum Run {
     Check(Side),
     /// `check --why`: tells of each line of the standard input that is no text of this end where and why.
     Why(WhyOptions),
+    /// `check --both`: tells of each line of the standard input, a conversation of both ends, what is wrong with it.
+    Both(BothOptions),
     /// `serve`: serves WebSocket connections on 127.0.0.1, one after another.
     Serve(ServeOptions),
     /// `host`: serves many WebSocket connections on 127.0.0.1 at once, pages among them.
@@ -44,6 +46,15 @@ pub struct WhyOptions {
     /// `--from`: the end that sends the texts.
     pub side: Side,
     /// `--json`: each refused line is told as a JSON object.
+    pub is_json: bool,
+}
+
+/// The options of `check --both`.
+#[derive(Clone, Copy, Debug, PartialEq, Eq)]
+pub struct BothOptions {
+    /// `--why`: tells where and why.
+    pub is_why: bool,
+    /// `--json`: each is told as a JSON object.
     pub is_json: bool,
 }
 
@@ -85,6 +96,9 @@ pub enum LineFault {
     NoMemory,
 }
 
+// The help of the option `--from`.
+const FROM_HELP: &str = "The end that sends the texts: local or remote";
+
 // What the help of each subcommand ends with: the forms of its lines, and its statuses.
 
 const PLAY_HELP: &str =
@@ -100,7 +114,7 @@ const SHOW_HELP: &str =
     "Lines in: a text each, as it was sent.\nLines out: `accepted ID METHOD TEXT` or `refused ID CODE` of a local end;\n`response ID TEXT`, `error ID TEXT`, `event METHOD TEXT`, `no fit` or `not json` of a remote end.\nStatus: 0 where all was shown, 2 at a bad line, 3 where input, output or memory failed.\nThe rest stands in docs/FORMATS.md.";
 
 const CHECK_HELP: &str =
-    "Lines in: a text each, as it was sent.\nLines out: `line N: refused ID CODE` of a local end; `line N: no fit` or `line N: not json` of a remote end.\nWith --why: `line N: LABEL: POINTER: wants WHAT, has WHAT (RULE)`, where LABEL is the method or the type of the text,\nand at the end, on the standard error, how many lines are refused, and each cause with its number.\nWith --why --json: a JSON object for each refused line.\nStatus: 0 where no text is refused, 1 where one is, 2 at a bad line (with --why it is one that is refused), 3 where input, output or memory failed.\nThe rest stands in docs/FORMATS.md.";
+    "Lines in: a text each, as it was sent.\nLines out: `line N: refused ID CODE` of a local end; `line N: no fit` or `line N: not json` of a remote end.\nWith --both: a conversation; `> TEXT` is of the local end, `< TEXT` of the remote end. Answers are held against commands:\n`line N: stray ID`, `line N: bad result ID METHOD` or `line N: error ID METHOD CODE`, and at the end `unanswered ID METHOD`.\nWith --why: `line N: LABEL: POINTER: wants WHAT, has WHAT (RULE)`, where LABEL is the method or the type of the text,\nand at the end, on the standard error, how many lines are refused, and each cause with its number.\nWith --why --json: a JSON object for each refused line.\nStatus: 0 where no text is refused, 1 where one is, or with --both anything but an error is told,\n2 at a bad line (with --why or --both it is one that is refused), 3 where input, output or memory failed.\nThe rest stands in docs/FORMATS.md.";
 
 const SERVE_HELP: &str =
     "A client connects to ws://127.0.0.1:PORT/session, and makes a session by `session.new`;\na connection to /session/ID speaks for that session.\nStatus: 0 where all connections were served, 3 where it cannot listen or memory failed.\nThe rest stands in docs/CLIENTS.md.";
@@ -126,8 +140,8 @@ pub fn command_line(alloc: Global, words: &[&str]) -> Result<Run, LineFault>
     // The words that are given for a run ask for it.
     ensures said { (run : Run) → IsSaidBy run (line_of words.now) → AsksFor (line_of words.now) run }
 
-    // Any other refusal has its cause among the faults that `clap` finds in the line, or in an option whose
-    // value is no end or no number.
+    // Any other refusal has its cause among the faults that `clap` finds in the line, or in options that have no
+    // valid value or do not go together.
     ensures err { IfErr result (IsRefusedFor (line_of words.now)) }
 {
     let Ok(command) = command(alloc) else {
@@ -163,24 +177,19 @@ fn with_serving<'a>(alloc: Global) -> Result<Command<'a>, AllocError>
 // The program's command with all subcommands but `serve` and `host`.
 fn with_listings<'a>(alloc: Global) -> Result<Command<'a>, AllocError>
     ensures { IfOk result (λ command. app_of command ≡ with_subcommand (with_subcommand
-        (with_subcommand (with_subcommand (with_subcommand bare_app play_shape) pair_shape) reduce_shape) (from_shape (codes "show"))) check_shape) }
+        (with_subcommand (with_subcommand (with_subcommand bare_app play_shape) pair_shape) reduce_shape) show_shape) check_shape) }
 {
     let command = with_show(alloc)?;
     let check = check_command(alloc)?;
     command.subcommand(check)
 }
 
-// The subcommand `check`, with its option and its two flags.
+// The subcommand `check`, with its option and its three flags.
 fn check_command<'a>(alloc: Global) -> Result<Command<'a>, AllocError>
     ensures app { IfOk result (λ command. (app_of command).top ≡ check_shape) }
     ensures local { IfOk result (λ command. (out-Command command).has_globals ≡ false) }
 {
-    let command = with_from(
-        alloc,
-        "check",
-        "Writes a line for each text of the standard input that is refused",
-        CHECK_HELP,
-    )?;
+    let command = check_with_ends(alloc)?;
     let why = flag(
         alloc,
         "why",
@@ -188,6 +197,24 @@ fn check_command<'a>(alloc: Global) -> Result<Command<'a>, AllocError>
     );
     let json = flag(alloc, "json", "With --why: tells each as a JSON object");
     command.arg(why)?.arg(json)
+}
+
+// The subcommand `check`, with the arguments for the end or the ends whose texts it reads.
+fn check_with_ends<'a>(alloc: Global) -> Result<Command<'a>, AllocError>
+    ensures app { IfOk result (λ command. app_of command ≡ check_app) }
+    ensures local { IfOk result (λ command. (out-Command command).has_globals ≡ false) }
+{
+    let from = optional(alloc, "from", "END", FROM_HELP);
+    let both = flag(
+        alloc,
+        "both",
+        "Reads a conversation of both ends, in place of --from",
+    );
+    Command::new(alloc, "check")
+        .about("Writes a line for each text of the standard input that is refused")
+        .after_help(CHECK_HELP)
+        .arg(from)?
+        .arg(both)
 }
 
 // The subcommand `serve`, with its three options.
@@ -222,9 +249,10 @@ fn host_command<'a>(alloc: Global) -> Result<Command<'a>, AllocError>
     ensures local { IfOk result (λ command. (out-Command command).has_globals ≡ false) }
 {
     let command = host_with_input(alloc)?;
-    let record = file_option(
+    let record = optional(
         alloc,
         "record",
+        "FILE",
         "Makes this file, and appends each input to it as the line of a play",
     );
     let end_sessions = flag(
@@ -246,9 +274,10 @@ fn host_with_input<'a>(alloc: Global) -> Result<Command<'a>, AllocError>
     ensures local { IfOk result (λ command. (out-Command command).has_globals ≡ false) }
 {
     let port = port_option(alloc);
-    let page = file_option(
+    let page = optional(
         alloc,
         "page",
+        "FILE",
         "Plays the lines of a page in this file before it listens",
     );
     let stdin = flag(
@@ -327,7 +356,7 @@ fn reduce_command<'a>(alloc: Global) -> Result<Command<'a>, AllocError>
 // The program's command with the subcommands `play`, `pair`, `reduce` and `show` alone.
 fn with_show<'a>(alloc: Global) -> Result<Command<'a>, AllocError>
     ensures { IfOk result (λ command. app_of command ≡ with_subcommand
-        (with_subcommand (with_subcommand (with_subcommand bare_app play_shape) pair_shape) reduce_shape) (from_shape (codes "show"))) }
+        (with_subcommand (with_subcommand (with_subcommand bare_app play_shape) pair_shape) reduce_shape) show_shape) }
 {
     let command = with_reduce(alloc)?;
     let show = show_command(alloc)?;
@@ -336,36 +365,14 @@ fn with_show<'a>(alloc: Global) -> Result<Command<'a>, AllocError>
 
 // The subcommand `show`, with its option.
 fn show_command<'a>(alloc: Global) -> Result<Command<'a>, AllocError>
-    ensures app { IfOk result (λ command. (app_of command).top ≡ from_shape (codes "show")) }
+    ensures app { IfOk result (λ command. (app_of command).top ≡ show_shape) }
     ensures local { IfOk result (λ command. (out-Command command).has_globals ≡ false) }
 {
-    with_from(
-        alloc,
-        "show",
-        "Writes a line for each text of the standard input",
-        SHOW_HELP,
-    )
-}
-
-// A subcommand of this name, with the option `--from`.
-fn with_from<'a>(
-    alloc: Global,
-    name: &'a str,
-    about: &'a str,
-    after: &'a str,
-) -> Result<Command<'a>, AllocError>
-    ensures app { IfOk result (λ command. app_of command ≡ with_rule (new_app name.entry.now) from_rule) }
-    ensures local { IfOk result (λ command. (out-Command command).has_globals ≡ false) }
-{
-    Command::new(alloc, name)
-        .about(about)
-        .after_help(after)
-        .arg(value_option(
-            alloc,
-            "from",
-            "END",
-            "The end that sends the texts: local or remote",
-        ))
+    let from = value_option(alloc, "from", "END", FROM_HELP);
+    Command::new(alloc, "show")
+        .about("Writes a line for each text of the standard input")
+        .after_help(SHOW_HELP)
+        .arg(from)
 }
 
 // The option of this name, with a value.
@@ -392,14 +399,14 @@ fn port_option<'a>(alloc: Global) -> Arg<'a>
         .default_value("9222")
 }
 
-// The option of this name that names a file, and may be left out.
-fn file_option<'a>(alloc: Global, name: &'a str, help: &'a str) -> Arg<'a>
+// The option of this name, with a value, which may be left out.
+fn optional<'a>(alloc: Global, name: &'a str, value: &'a str, help: &'a str) -> Arg<'a>
     ensures rule { rule_of result ≡ value_rule name.entry.now }
     ensures local { result.global ≡ false }
 {
     Arg::new(alloc, name)
         .long(name)
-        .value_name("FILE")
+        .value_name(value)
         .help(help)
 }
 
@@ -443,17 +450,30 @@ fn session_of(matches: &ArgMatches<'_>) -> Option<u32>
 fn checking_of(matches: &ArgMatches<'_>) -> Option<Run>
     ensures { result ≡ checking_in (rows_of (found_of matches.now)) }
 {
-    let side = side_of(matches);
+    let end = matches.get_str("from");
+    let is_both = is_given(matches, "both");
     let is_why = is_given(matches, "why");
     let is_json = is_given(matches, "json");
-    checked(side, is_why, is_json)
+    checked(end, is_both, is_why, is_json)
 }
 
-// The run of `check`, where the end is valid. `--json` goes with `--why`.
-fn checked(side: Option<Side>, is_why: bool, is_json: bool) -> Option<Run>
-    ensures { result ≡ checked side is_why is_json }
+// The run of `check`, where either `--from` gives an end or `--both` is given.
+fn checked(end: Option<&str>, is_both: bool, is_why: bool, is_json: bool) -> Option<Run>
+    ensures { result ≡ checked (option_map (λ text. text.now) end.entry) is_both is_why is_json }
 {
-    let side = side?;
+    match end {
+        Some(_) if is_both => None,
+        Some(end) => checked_from(end, is_why, is_json),
+        None if is_both => checked_both(is_why, is_json),
+        None => None,
+    }
+}
+
+// The run of `check` over the texts of the end of this name. `--json` goes with `--why`.
+fn checked_from(end: &str, is_why: bool, is_json: bool) -> Option<Run>
+    ensures { result ≡ checked (Some end.now) false is_why is_json }
+{
+    let side = side_named(end)?;
     if is_why {
         Some(Run::Why(WhyOptions { side, is_json }))
     } else if is_json {
@@ -461,6 +481,16 @@ fn checked(side: Option<Side>, is_why: bool, is_json: bool) -> Option<Run>
     } else {
         Some(Run::Check(side))
     }
+}
+
+// The run of `check` over the texts of both ends, so too.
+fn checked_both(is_why: bool, is_json: bool) -> Option<Run>
+    ensures { result ≡ checked None true is_why is_json }
+{
+    if is_json && !is_why {
+        return None;
+    }
+    Some(Run::Both(BothOptions { is_why, is_json }))
 }
 
 // What the three options of `serve` ask for.
@@ -592,14 +622,21 @@ fn run_named(
 fn side_of(matches: &ArgMatches<'_>) -> Option<Side>
     ensures { result ≡ option_and_then side_named (first_value (found_of matches.now) (codes "from")) }
 {
-    match matches.get_str("from")? {
+    side_named(matches.get_str("from")?)
+}
+
+// The end of this name.
+fn side_named(text: &str) -> Option<Side>
+    ensures { result ≡ side_named text.now }
+{
+    match text {
         "local" => Some(Side::Local),
         "remote" => Some(Side::Remote),
         _ => None,
     }
 }
 
-// The fault of a line in which an option has no valid value.
+// The fault of a line in which options have no valid value or do not go together.
 fn no_value(alloc: Global, matches: &ArgMatches<'_>) -> LineFault
     ensures { Causes InvalidValue result }
 {
@@ -615,17 +652,30 @@ fn no_value(alloc: Global, matches: &ArgMatches<'_>) -> LineFault
     }
 }
 
-// Which option of which subcommand has which value, and what it takes. Where the end is valid, a flag stands alone.
+// Which options do not go together; or which option of which subcommand has which value, and what it takes.
 fn bad_value(alloc: Global, matches: &ArgMatches<'_>) -> Result<String, AllocError> {
     let Some((name, inner)) = matches.subcommand() else {
         return String::from_str(alloc, "no subcommand");
     };
-    if side_of(inner).is_some() {
-        return String::from_str(alloc, "`check --json` goes with `--why`");
+    if let Some(text) = bad_company(name, inner) {
+        return String::from_str(alloc, text);
     }
     let (option, takes) = bad_option(inner);
     let value = inner.get_str(option).unwrap_or("");
     format!(in alloc; "`{name} --{option}` takes {takes}, not `{value}`")
+}
+
+// Which options of `check` do not go together; nothing of an end that has no such name.
+fn bad_company(name: &str, matches: &ArgMatches<'_>) -> Option<&'static str> {
+    if name != "check" {
+        return None;
+    }
+    match (matches.get_str("from"), is_given(matches, "both")) {
+        (None, false) => Some("`check` takes `--from END` or `--both`"),
+        (Some(_), true) => Some("`check --both` goes without `--from`"),
+        (Some(end), false) if side_named(end).is_none() => None,
+        _ => Some("`check --json` goes with `--why`"),
+    }
 }
 
 // The first option of a subcommand that has no valid value, and what it takes.

@@ -4,5 +4,5 @@
 mod asked;
 mod files;
 
-pub use asked::{HostOptions, LineFault, Run, ServeOptions, WhyOptions, command_line};
+pub use asked::{BothOptions, HostOptions, LineFault, Run, ServeOptions, WhyOptions, command_line};
 pub use files::{HostFiles, host_files};

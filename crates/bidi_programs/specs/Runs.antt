@@ -1,16 +1,17 @@
 -- What a run writes for the bytes that it reads, the status that it ends with, and what it tells of a fault.
-use Rattle.std.specs.Prelude.{◌≡◌, ℕ, ◌+◌, ◌⊎◌, List, [], ◌++◌, Option, Some, None, Bool, false, codes, decimal, length, nat_lt, if◌then◌else◌}
+use Rattle.std.specs.Prelude.{◌≡◌, ℕ, ◌+◌, ◌⊎◌, ◌&&◌, List, [], ◌++◌, Option, Some, None, Bool, false, codes, decimal, length, nat_lt, if◌then◌else◌}
 use Rattle.std.specs.Io.KnownBytes.{Appends}
 use Rattle.bidi_lines.specs.Devices.{AppendsBeginning}
 use Rattle.bidi_show.specs.Listings as lists
 use Rattle.bidi_show.specs.Listings.{ListsAll}
 use Rattle.bidi_command_line.specs.declared.asked.Run.{Run}
 use Rattle.bidi_command_line.specs.declared.asked.Run.TheVariants as asked
-use Rattle.bidi_command_line.specs.declared.asked.WhyOptions.{WhyOptions}
+use Rattle.bidi_command_line.specs.declared.asked.BothOptions.{BothOptions}
 use Rattle.bidi_show.specs.declared.showing.Listing.TheVariants.{All, RefusedAlone}
 use Rattle.bidi_show.specs.declared.showing.ShowFault.TheVariants as list
 use Rattle.bidi_why.specs.Telling as tellings
 use Rattle.bidi_why.specs.Telling.{TellsAll}
+use Rattle.bidi_why.specs.Conversing.{StopsConversation, TellsConversation}
 use Rattle.bidi_why.specs.declared.texts.Form.{Form}
 use Rattle.bidi_why.specs.declared.texts.Form.TheVariants.{Words, Json}
 use Rattle.bidi_play.specs.Plays as plays
@@ -28,21 +29,27 @@ use Rattle.bidi_programs.specs.declared.faults.RunFault.TheVariants.{Play, Pair,
 
 -- Whether a run of this status has told how many lines are refused: a check that tells why does so where some are.
 abbrev pub sums_up : Run → ℕ → Bool
-sums_up (asked.Why options) status = nat_lt 0 status
+sums_up (asked.Why o) status = nat_lt 0 status
+sums_up (asked.Both o) status = o.is_why && nat_lt 0 status
 sums_up run status = false
 
--- the form in which a check tells why
-abbrev pub form_of : WhyOptions → Form
-form_of options = if options.is_json then Json else Words
+-- the form in which a check tells why: as JSON or in words
+abbrev pub form_of : Bool → Form
+form_of is_json = if is_json then Json else Words
 
--- A run that met no fault has worked on all bytes. Its status is 0, but 1 where a check found a line to refuse.
+-- the form in which it tells why of a conversation, where it does so
+abbrev pub both_form : BothOptions → Option Form
+both_form o = if o.is_why then Some (form_of o.is_json) else None
+
+-- A run that met no fault has worked on all bytes. Its status is 0, but 1 where a check found a line to refuse, or a command with no answer.
 abbrev pub Completes : Run → ℕ → List ℕ → List ℕ → Type 0
 Completes asked.Play status read wrote = (status ≡ 0) × PlaysAll read wrote
 Completes asked.Pair status read wrote = (status ≡ 0) × PairsAll read wrote
 Completes (asked.Reduce session) status read wrote = (status ≡ 0) × ReducesAll session read wrote
 Completes (asked.Show side) status read wrote = (status ≡ 0) × ListsAll All side read wrote
 Completes (asked.Check side) status read wrote = (status ≡ (if nat_lt 0 (length wrote) then 1 else 0)) × ListsAll RefusedAlone side read wrote
-Completes (asked.Why o) status read wrote = (status ≡ (if nat_lt 0 (length wrote) then 1 else 0)) × TellsAll (form_of o) o.side read wrote
+Completes (asked.Why o) status read wrote = (status ≡ (if nat_lt 0 (length wrote) then 1 else 0)) × TellsAll (form_of o.is_json) o.side read wrote
+Completes (asked.Both o) status read wrote = (some : Bool) × (status ≡ (if some then 1 else 0)) × TellsConversation (both_form o) some read wrote
 -- nothing is served or hosted over streams alone
 Completes (asked.Serve serving) status read wrote = ⊥
 Completes (asked.Host hosting) status read wrote = ⊥
@@ -54,7 +61,8 @@ Stops asked.Pair (Pair fault) at_end read wrote = pairs.StopsAt fault at_end rea
 Stops (asked.Reduce session) (Play fault) at_end read wrote = reduces.StopsAt session fault at_end read wrote
 Stops (asked.Show side) (Listing fault) at_end read wrote = lists.StopsAt All side fault at_end read wrote
 Stops (asked.Check side) (Listing fault) at_end read wrote = lists.StopsAt RefusedAlone side fault at_end read wrote
-Stops (asked.Why o) (Listing fault) at_end read wrote = tellings.StopsAt (form_of o) o.side fault read wrote
+Stops (asked.Why o) (Listing fault) at_end read wrote = tellings.StopsAt (form_of o.is_json) o.side fault read wrote
+Stops (asked.Both o) (Listing fault) at_end read wrote = StopsConversation (both_form o) fault read wrote
 Stops (asked.Serve serving) (Serve serve.Listen) at_end read wrote = (read ≡ []) × (wrote ≡ [])
 Stops (asked.Host hosting) (Host host.Listen) at_end read wrote = (read ≡ []) × (wrote ≡ [])
 Stops run fault at_end read wrote = ⊥

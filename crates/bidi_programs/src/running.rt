@@ -4,26 +4,26 @@ ghost use Rattle.bidi_lines.specs.Devices.{Moves};
 ghost use Rattle.bidi_play.specs.Plays.{Plays};
 ghost use Rattle.bidi_programs.specs.declared.faults.RunFault.{RunFault as Fault};
 ghost use Rattle.bidi_programs.specs.declared.faults.RunFault.TheVariants as fault;
-ghost use Rattle.bidi_programs.specs.Runs.{Completes, Stops, Tells, failed_reads, failed_writes, form_of, line_of, status_of, sums_up};
+ghost use Rattle.bidi_programs.specs.Runs.{Completes, Stops, Tells, both_form, failed_reads, failed_writes, form_of, line_of, status_of, sums_up};
 
 use super::faults::RunFault;
 use super::pairing::play_pair;
-use bidi_command_line::{Run, WhyOptions};
+use bidi_command_line::{BothOptions, Run};
 use bidi_hosting::HostingFault;
 use bidi_lines::{Sink, Source};
 use bidi_play::play;
 use bidi_reduce::reduce;
 use bidi_serve::ServeFault;
 use bidi_show::{Listing, list};
-use bidi_why::{Form, explain};
+use bidi_why::{Form, explain, explain_both};
 use std::alloc::Global;
 
 /// Runs what was asked for, and returns the status of the program.
 ///
-/// The status is 0 where all was done, 1 where a check found a line that is refused, 2 at a bad line, and 3
-/// where input, output or memory failed or the steps or lines are used up. A fault is written to `faults` as
-/// one line; whether that write succeeds does not change the status. What `check --why` tells at its end of the lines
-/// that are refused is written there, too.
+/// The status is 0 where all was done, 1 where a check found a line that is refused or a command that is not answered,
+/// 2 at a bad line, and 3 where input, output or memory failed or the steps or lines are used up. A fault is written to
+/// `faults` as one line; whether that write succeeds does not change the status. What a check with `--why` tells at its
+/// end of the lines that are refused is written there, too.
 ///
 /// `serve` and `host` need a listener, which streams alone do not give. So for them the fault is that the program
 /// cannot listen, with status 3, and nothing is read or written. The crates `bidi_serve` and `bidi_hosting` listen.
@@ -96,7 +96,20 @@ fn finish<R: Source, W: Sink, F: Sink>(
             Err(fault) => Err(RunFault::Listing(fault)),
         },
         Run::Why(options) => {
-            match explain(alloc, form_of(*options), options.side, source, sink, faults) {
+            match explain(
+                alloc,
+                form_of(options.is_json),
+                options.side,
+                source,
+                sink,
+                faults,
+            ) {
+                Ok(found) => Ok(if found { 1 } else { 0 }),
+                Err(fault) => Err(RunFault::Listing(fault)),
+            }
+        }
+        Run::Both(options) => {
+            match explain_both(alloc, both_form(*options), source, sink, faults) {
                 Ok(found) => Ok(if found { 1 } else { 0 }),
                 Err(fault) => Err(RunFault::Listing(fault)),
             }
@@ -107,13 +120,20 @@ fn finish<R: Source, W: Sink, F: Sink>(
 }
 
 // In which form a check tells why.
-fn form_of(options: WhyOptions) -> Form
-    ensures { result ≡ form_of options }
+fn form_of(is_json: bool) -> Form
+    ensures { result ≡ form_of is_json }
 {
-    if options.is_json {
-        Form::Json
+    if is_json { Form::Json } else { Form::Words }
+}
+
+// In which form it tells why of a conversation, where it does so.
+fn both_form(options: BothOptions) -> Option<Form>
+    ensures { result ≡ both_form options }
+{
+    if options.is_why {
+        Some(form_of(options.is_json))
     } else {
-        Form::Words
+        None
     }
 }
 

@@ -1,5 +1,5 @@
 //! The line that is shown for a text of a local or of a remote end.
-ghost use Rattle.std.specs.Prelude.{◌≡◌, ℕ, List, ◌∷◌, ◌++◌, IfOk, MatchOption, codes, decimal, option_map, string_bytes};
+ghost use Rattle.std.specs.Prelude.{◌≡◌, ℕ, List, ◌∷◌, ◌++◌, IfOk, IfSome, MatchOption, codes, decimal, option_map, string_bytes};
 ghost use Rattle.bidi_tree.specs.Node.{IsWritable};
 ghost use Rattle.bidi_tree.specs.Json.{parsed};
 ghost use Rattle.bidi_tree.specs.Text.{compact_text};
@@ -8,6 +8,7 @@ ghost use Rattle.bidi_methods.specs.Method.{method_text};
 ghost use Rattle.bidi_methods.specs.CommandData.{method_of};
 ghost use Rattle.bidi_methods.specs.EventName.{event_name_text};
 ghost use Rattle.bidi_methods.specs.EventData.{event_of};
+ghost use Rattle.bidi_messages.specs.Reading.{IsMisfit};
 ghost use Rattle.bidi_messages.specs.View.{verdict_of, IsWell};
 ghost use Rattle.bidi_show.specs.MessageLines.{HasTree, HasVerdict, IsMessageLine, Refused, Refuses, Shows, ShowsMessage, id_text, refused, shown_of, verdict_shown};
 ghost use Rattle.bidi_lines.specs.declared.side.Side.TheVariants.{Remote};
@@ -47,7 +48,7 @@ pub fn show_line(
 {
     match side {
         Side::Local => {
-            let verdict = verdict(alloc, line, scratch)?;
+            let verdict = line_verdict(alloc, line, scratch)?;
             show_verdict(alloc, verdict)
         }
         Side::Remote => show_message(alloc, line, scratch),
@@ -70,17 +71,45 @@ pub fn refusal(
 {
     match side {
         Side::Local => {
-            let verdict = verdict(alloc, line, scratch)?;
+            let verdict = line_verdict(alloc, line, scratch)?;
             verdict_refusal(alloc, verdict)
         }
         Side::Remote => message_refusal(alloc, line, scratch),
     }
 }
 
+/// Why a line of a remote end that reads as this value is no message, as [`refusal`] says it; `None` where it is one.
+///
+/// # Errors
+/// No memory: an allocation failed.
+pub fn value_refusal(alloc: Global, value: &Value<'_>) -> Result<Option<String>, AllocError>
+    ensures refuses { IfOk result (λ text. (line : List ℕ) → HasTree line (parsed value.now) → Refuses Remote line (option_map string_bytes text)) }
+    ensures misfit { IfOk result (λ text. IfSome text (λ _. IsMisfit MessageFault.NoFit (parsed value.now))) }
+{
+    if response_id(value).is_some() {
+        return Ok(None);
+    }
+    match message_of(alloc, value).err() {
+        None => Ok(None),
+        Some(MessageFault::NoFit) => Ok(Some(String::from_str(alloc, "no fit")?)),
+        Some(MessageFault::NotJson) => unreachable!(),
+        Some(MessageFault::NoMemory) => Err(AllocError),
+    }
+}
+
 // ---- texts of a local end
 
-// The verdict on a line.
-fn verdict(alloc: Global, line: &[u8], scratch: &mut Scratch) -> Result<Verdict, AllocError>
+/// The verdict on a line of a local end. A line that is not UTF-8 counts as a text that is not JSON.
+///
+/// It is read in a scratch that the caller keeps from line to line.
+///
+/// # Errors
+/// No memory: an allocation failed.
+pub fn line_verdict(
+    alloc: Global,
+    line: &[u8],
+    scratch: &mut Scratch,
+) -> Result<Verdict, AllocError>
     ensures verdict { IfOk result (λ v. HasVerdict line.now (verdict_of ⟦<Command as Shape>⟧.shape v)) }
     ensures well { IfOk result (IsWell ⟦<Command as Shape>⟧.shape) }
 {
@@ -135,8 +164,15 @@ fn accepted_head(alloc: Global, id: JsUint, method: Method) -> Result<String, Al
     format!(in alloc; "accepted {} {name}", id.value)
 }
 
-// `refused ID CODE`
-fn refused_line(alloc: Global, id: Option<JsUint>, code: ErrorCode) -> Result<String, AllocError>
+/// What is shown for a text of a local end that is refused with this id and code: `refused ID CODE`.
+///
+/// # Errors
+/// No memory: an allocation failed.
+pub fn refused_line(
+    alloc: Global,
+    id: Option<JsUint>,
+    code: ErrorCode,
+) -> Result<String, AllocError>
     ensures { IfOk result (λ line. string_bytes line ≡ codes "refused " ++ id_text (option_map (λ n. n.value) id) ++ 32 ∷ error_code_text code) }
 {
     let code = code.name();
@@ -204,21 +240,6 @@ fn show_value(alloc: Global, value: &Value<'_>) -> Result<Shown, AllocError>
         Err(MessageFault::NoFit) => Ok(Shown::Refused(String::from_str(alloc, "no fit")?)),
         Err(MessageFault::NotJson) => unreachable!(),
         Err(MessageFault::NoMemory) => Err(AllocError),
-    }
-}
-
-// What is refused of a value, which is looked at as it is to be shown.
-fn value_refusal(alloc: Global, value: &Value<'_>) -> Result<Option<String>, AllocError>
-    ensures { IfOk result (λ text. (line : List ℕ) → HasTree line (parsed value.now) → Refuses Remote line (option_map string_bytes text)) }
-{
-    if response_id(value).is_some() {
-        return Ok(None);
-    }
-    match message_of(alloc, value).err() {
-        None => Ok(None),
-        Some(MessageFault::NoFit) => Ok(Some(String::from_str(alloc, "no fit")?)),
-        Some(MessageFault::NotJson) => unreachable!(),
-        Some(MessageFault::NoMemory) => Err(AllocError),
     }
 }
 

@@ -1,17 +1,21 @@
 -- What is wrong with a line, and what is told of it.
-use Rattle.std.proofs.Common.{◌≡◌, ℕ, List, true, false, Option, Some, None, Result, Ok, Err, IfOk, String, Global, sym, ◌∙◌, ap₂, subst, is_some, string_bytes, option_map}
-use Rattle.std.specs.Prelude.{IsUtf8}
+use Rattle.std.proofs.Common.{◌≡◌, ℕ, List, true, false, Option, Some, None, Result, Ok, Err, IfOk, String, Global, refl, sym, ◌∙◌, ap₂, subst, is_some, string_bytes, option_map, codes}
+use Rattle.std.specs.Prelude.{IsUtf8, IfSome}
 use Rattle.std.specs.Global.{Vec}
 use Rattle.bidi_tree.specs.Node.{Node}
 use Rattle.bidi_tree.specs.Text.{tree_of_text}
+use Rattle.bidi_show.specs.MessageLines as show
 use Rattle.bidi_show.specs.MessageLines.{HasTree, Refuses}
 use Rattle.bidi_lines.specs.declared.side.Side.{Side}
-use Rattle.bidi_why.specs.Trouble.{IsTrouble, IsTroubleAt, Trouble, bad, begins_with_mark, is_unmarked, trouble_of}
+use Rattle.bidi_lines.specs.declared.side.Side.TheVariants.{Remote}
+use Rattle.bidi_why.specs.Trouble.{HasMisfit, HasNoTree, HasTrouble, IsTrouble, IsTroubleAt, Misfit, Trouble, bad, no_fit, begins_with_mark, trouble_of}
+use Rattle.bidi_why.specs.Trouble.{fits_none, is_no_text, is_not_json, is_unmarked}
 use Rattle.bidi_why.specs.Texts.{cause_text, told_text}
 use Rattle.bidi_why.specs.Explaining.{Explains, explained_of, is_refused}
 use Rattle.bidi_why.specs.Input.{IsOf}
 use Rattle.bidi_why.specs.Telling.{Tells, is_line, is_too_long, written}
-use Rattle.bidi_why.specs.declared.bad_text.BadText.TheVariants.{TooLong}
+use Rattle.bidi_why.specs.declared.bad_text.BadText.TheVariants.{ByteOrderMark, NotJson, NoUtf8, TooLarge, TooLong, NoDirection}
+use Rattle.bidi_why.specs.declared.bad_text.BadText.{BadText}
 use Rattle.bidi_why.specs.declared.explaining.Explained.{Explained}
 use Rattle.bidi_why.specs.declared.finding.Trouble as code
 use Rattle.bidi_why.specs.declared.next_line.Line.{Line}
@@ -37,6 +41,42 @@ pub refused : (side : Side) (line : List ℕ) (o : Option (String Global)) → i
     → (why : List ℕ) × Refuses side line (Some why)
 refused side line None e h = absurd cc
 refused side line (Some s) e h = (string_bytes s, h)
+
+-- that is wrong with a line that has no tree
+pub bad_line : (side : Side) (line : List ℕ) (b : BadText) → HasNoTree line b → IsTrouble side line (bad b)
+bad_line side line (NoUtf8 place) (none, (front, valid, at)) = subst (λ (n : ℕ). IsTrouble side line (bad (NoUtf8 n))) (sym at) (is_no_text front none valid)
+bad_line side line NotJson h = is_not_json h.0 h.1
+bad_line side line ByteOrderMark h = absurd h
+bad_line side line TooLong h = absurd h
+bad_line side line TooLarge h = absurd h
+bad_line side line NoDirection h = absurd h
+
+-- ---- lines of a remote end
+
+-- one that has no tree is refused
+pub no_tree : (line : List ℕ) (b : BadText) → HasNoTree line b → HasTrouble Remote line (Some (bad b))
+no_tree line b h = ((codes "not json", (show.Refused (codes "not json"), not_shown b h, refl)), bad_line Remote line b h)
+  where
+    not_shown : (b : BadText) → HasNoTree line b → show.ShowsMessage line (show.Refused (codes "not json"))
+    not_shown (NoUtf8 place) h = show.is_no_text h.0
+    not_shown NotJson h = show.is_not_json h.0 h.1
+    not_shown ByteOrderMark h = absurd h
+    not_shown TooLong h = absurd h
+    not_shown TooLarge h = absurd h
+    not_shown NoDirection h = absurd h
+
+-- what is said of a refusal
+pub said : {A P : Type 0} (o : Option A) → is_some o ≡ true → IfSome o (λ _. P) → P
+said None e h = absurd cc
+said (Some s) e h = h
+
+-- one whose value is refused has the misfit of its tree
+pub value_refused : (t : Node) (o : Option (String Global)) (m : Misfit) → is_some o ≡ true
+    → ((line : List ℕ) → HasTree line t → Refuses Remote line (option_map string_bytes o)) → HasMisfit Remote t m
+    → (line : List ℕ) → HasTree line t → HasTrouble Remote line (Some (no_fit m))
+value_refused t o m some refuses misfit line read = (refused Remote line o some (refuses line read), fits_none t m read refl misfit)
+
+-- ---- what is told
 
 -- what is told of a refused line
 pub explained : (form : Form) (side : Side) (n : ℕ) (line text cause : List ℕ) (x : Trouble) → ((why : List ℕ) × Refuses side line (Some why))

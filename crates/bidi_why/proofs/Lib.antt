@@ -1,3 +1,5 @@
 pub mod FindingLemmas
 pub mod InputLemmas
 pub mod TellingLemmas
+pub mod ConversationLemmas
+pub mod HearingLemmas

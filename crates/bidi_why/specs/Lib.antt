@@ -3,3 +3,7 @@ pub mod Texts
 pub mod Explaining
 pub mod Input
 pub mod Telling
+pub mod Remark
+pub mod Conversing
+pub mod Hearing
+pub mod Explainers

@@ -1,5 +1,5 @@
 -- What is written for the lines of an input, and why it may stop before its end.
-use Rattle.std.specs.Prelude.{◌≡◌, ◌≢◌, ℕ, ◌+◌, ◌≤◌, false, List, [], ◌∷◌, ◌++◌, length, Option, Some, None, ⊤}
+use Rattle.std.specs.Prelude.{◌≡◌, ◌≢◌, ℕ, ◌+◌, ◌≤◌, Bool, false, List, [], ◌∷◌, ◌++◌, length, Option, Some, None, ⊤}
 use Rattle.std.specs.List.{AllByRecursion}
 use Rattle.bidi_lines.specs.Feeds.{has_feed}
 use Rattle.bidi_lines.specs.InputLines.{IsLine, joined}
@@ -45,27 +45,38 @@ abbrev pub last_line : List ℕ → List (List ℕ)
 last_line [] = []
 last_line (b ∷ bytes) = (b ∷ bytes) ∷ []
 
+-- the bytes are lines, and this holds of them and of what was written
+abbrev pub Whole : (List (List ℕ) → List ℕ → Type 0) → List ℕ → List ℕ → Type 0
+Whole P bytes wrote = (lines : List (List ℕ)) × (last : List ℕ) × Parts bytes lines last × IsOneLine last × P (lines ++ last_line last) wrote
+
 -- the bytes are lines, and this is written for them
 abbrev pub TellsAll : Form → Side → List ℕ → List ℕ → Type 0
-TellsAll form side bytes wrote =
-    (lines : List (List ℕ)) × (last : List ℕ) × Parts bytes lines last × IsOneLine last × TellsEach form side 1 (lines ++ last_line last) wrote
+TellsAll form side bytes wrote = Whole (TellsEach form side 1) bytes wrote
 
--- The bytes begin with these lines, with this rest behind them, and this is written for the lines.
-pub record Told (form : Form) (side : Side) (bytes : List ℕ) (lines : List (List ℕ)) (rest : List ℕ) (wrote : List ℕ) : Type 0 where
+-- The bytes begin with these lines, with this rest behind them, and this holds of the lines and of what was written.
+pub record Told (P : List (List ℕ) → List ℕ → Type 0) (bytes : List ℕ) (lines : List (List ℕ)) (rest : List ℕ) (wrote : List ℕ) : Type 0 where
   pub parts : Parts bytes lines rest
-  pub text : TellsEach form side 1 lines wrote
+  pub text : P lines wrote
   pub few : length lines ≤ 1000000000
 
--- What a fault says of the bytes that were read, and of what was written.
-abbrev pub StopsAt : Form → Side → ShowFault → List ℕ → List ℕ → Type 0
+-- What a fault says of the bytes that were read, and of what was written, where this holds of lines and of what is written for them.
+abbrev pub StopsBy : (List (List ℕ) → List ℕ → Type 0) → ShowFault → List ℕ → List ℕ → Type 0
 -- some of what is written for the next line may stand behind what is written for the lines
-StopsAt form side Write read wrote =
-    (lines : List (List ℕ)) × (rest : List ℕ) × (text : List ℕ) × (more : List ℕ) × Told form side read lines rest text × (wrote ≡ text ++ more)
+StopsBy P Write read wrote =
+    (lines : List (List ℕ)) × (rest : List ℕ) × (text : List ℕ) × (more : List ℕ) × Told P read lines rest text × (wrote ≡ text ++ more)
 -- as many lines as are taken were told of, and the input goes on
-StopsAt form side TooManyLines read wrote =
-    (lines : List (List ℕ)) × (rest : List ℕ) × Told form side read lines rest wrote × (length lines ≡ 1000000000) × (rest ≢ [])
+StopsBy P TooManyLines read wrote =
+    (lines : List (List ℕ)) × (rest : List ℕ) × Told P read lines rest wrote × (length lines ≡ 1000000000) × (rest ≢ [])
 -- what was written is what is written for some lines at the front
-StopsAt form side fault read wrote = (lines : List (List ℕ)) × (rest : List ℕ) × Told form side read lines rest wrote
+StopsBy P fault read wrote = (lines : List (List ℕ)) × (rest : List ℕ) × Told P read lines rest wrote
+
+-- since the first of its states something has told of these lines by this text
+abbrev pub SoFar : {T : Type 0} → (T → T → List (List ℕ) → List ℕ → Bool → Type 0) → T → List (List ℕ) → List ℕ → Type 0
+SoFar {T} has_told first lines text = (t : T) × (some : Bool) × has_told first t lines text some
+
+-- the same of what is written for the lines of an end
+abbrev pub StopsAt : Form → Side → ShowFault → List ℕ → List ℕ → Type 0
+StopsAt form side fault read wrote = StopsBy (TellsEach form side 1) fault read wrote
 
 -- what a fault at a line says of what was written for it
 abbrev pub StopsLine : ShowFault → List ℕ → Type 0

@@ -66,10 +66,10 @@ text_or_null (Some s) = quoted s
 abbrev pub named : List ℕ → List ℕ
 named name = 34 ∷ (name ++ 34 ∷ 58 ∷ [])
 
--- `{"line":N,"id":ID,"method":METHOD,"pointer":POINTER,"rule":RULE,"wants":WANTS,"has":HAS}`
-abbrev pub json_line : ℕ → Row → List ℕ
+-- `{"line":N,"id":ID,"method":METHOD,"pointer":POINTER,"rule":RULE,"wants":WANTS,"has":HAS}`; what is told behind the last line has no number
+abbrev pub json_line : Option ℕ → Row → List ℕ
 json_line n r =
-    123 ∷ named (codes "line") ++ decimal n
+    123 ∷ named (codes "line") ++ number_or_null n
     ++ 44 ∷ named (codes "id") ++ number_or_null r.id
     ++ 44 ∷ named (codes "method") ++ text_or_null r.method
     ++ 44 ∷ named (codes "pointer") ++ text_or_null r.pointer
@@ -106,4 +106,4 @@ trouble_row (no_fit m) = misfit_row m
 -- what is written for the refused line of this number
 abbrev pub told_text : Form → ℕ → Trouble → List ℕ
 told_text Words n x = words_line n (trouble_words x)
-told_text Json n x = json_line n (trouble_row x)
+told_text Json n x = json_line (Some n) (trouble_row x)

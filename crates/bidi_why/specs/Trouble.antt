@@ -12,11 +12,11 @@ use Rattle.bidi_blame.specs.Names.{rule_text}
 use Rattle.bidi_blame.specs.Reason.{Reason, Step, member, item}
 use Rattle.bidi_blame.specs.Blames.{Blames}
 use Rattle.bidi_blame.specs.Words.{pointer_text, wants_text, found_text}
-use Rattle.bidi_show.specs.MessageLines.{HasTree}
+use Rattle.bidi_show.specs.MessageLines.{HasTree, Refuses}
 use Rattle.bidi_lines.specs.declared.side.Side.{Side}
 use Rattle.bidi_lines.specs.declared.side.Side.TheVariants.{Local, Remote}
 use Rattle.bidi_why.specs.declared.bad_text.BadText.{BadText}
-use Rattle.bidi_why.specs.declared.bad_text.BadText.TheVariants.{ByteOrderMark, NoUtf8, TooLong, TooLarge, NotJson}
+use Rattle.bidi_why.specs.declared.bad_text.BadText.TheVariants.{ByteOrderMark, NoUtf8, TooLong, TooLarge, NotJson, NoDirection}
 use Rattle.bidi_why.specs.declared.misfit.Misfit as declared_misfit
 use Rattle.bidi_why.specs.declared.finding.Trouble as declared_trouble
 use Rattle.bidi_why.specs.declared.finding.Trouble.TheVariants as code
@@ -30,6 +30,7 @@ bad_words (NoUtf8 place) = codes "no UTF-8 at byte " ++ decimal place
 bad_words TooLong = codes "too long"
 bad_words TooLarge = codes "more than 1048576 bytes"
 bad_words NotJson = codes "not json"
+bad_words NoDirection = codes "no direction"
 
 -- the same without the place
 abbrev pub bad_cause : BadText → List ℕ
@@ -38,6 +39,13 @@ bad_cause (NoUtf8 place) = codes "no UTF-8"
 bad_cause TooLong = codes "too long"
 bad_cause TooLarge = codes "more than 1048576 bytes"
 bad_cause NotJson = codes "not json"
+bad_cause NoDirection = codes "no direction"
+
+-- so many bytes at the front of a line are characters and the next is none, or its text is no JSON: so it has no tree
+abbrev pub HasNoTree : List ℕ → BadText → Type 0
+HasNoTree line (NoUtf8 place) = (IsUtf8 line → ⊥) × ((front : ℕ) × IsValidUpTo line front × (place ≡ front + 1))
+HasNoTree line NotJson = IsUtf8 line × (tree_of_text None line ≡ None)
+HasNoTree line b = ⊥
 
 -- ---- trees that do not fit the rule of their end
 
@@ -79,17 +87,21 @@ abbrev pub pattern_text : List Step → List ℕ
 pattern_text [] = []
 pattern_text (s ∷ ss) = pattern_text ss ++ pattern_step s
 
--- a tree and the reason why it does not fit, in words
-abbrev pub misfit_parts : Node → Reason → Misfit
-misfit_parts t r = record {
-  id = echoed_id t;
-  method = method_of t;
+-- the reason why a tree with this id and this method does not fit, in words
+abbrev pub reason_parts : Option ℕ → Option (List ℕ) → Reason → Misfit
+reason_parts id method r = record {
+  id = id;
+  method = method;
   pointer = pointer_text r.steps;
   pattern = pattern_text r.steps;
   wants = wants_text r.wants;
   has = found_text r.found;
   named = option_map rule_text r.named;
 }
+
+-- a tree and the reason why it does not fit, in words
+abbrev pub misfit_parts : Node → Reason → Misfit
+misfit_parts t r = reason_parts (echoed_id t) (method_of t) r
 
 -- a reason why the tree does not fit the rule of its end, in words
 abbrev pub HasMisfit : Side → Node → Misfit → Type 0
@@ -138,3 +150,15 @@ pub data IsTrouble (side : Side) (line : List ℕ) : Trouble → Type 0 where
 pub data IsTroubleAt (side : Side) (n : ℕ) (line : List ℕ) : Trouble → Type 0 where
   is_marked : begins_with_mark n line ≡ true → IsTroubleAt side n line (bad ByteOrderMark)
   is_unmarked : (x : Trouble) → begins_with_mark n line ≡ false → IsTrouble side line x → IsTroubleAt side n line x
+
+-- ---- of a line that may be refused
+
+-- a line is taken, or it is refused, and this is wrong with it
+abbrev pub HasTrouble : Side → List ℕ → Option Trouble → Type 0
+HasTrouble side line None = Refuses side line None
+HasTrouble side line (Some x) = ((why : List ℕ) × Refuses side line (Some why)) × IsTrouble side line x
+
+-- the same of the line of this number
+abbrev pub HasTroubleAt : Side → ℕ → List ℕ → Option Trouble → Type 0
+HasTroubleAt side n line None = Refuses side line None
+HasTroubleAt side n line (Some x) = ((why : List ℕ) × Refuses side line (Some why)) × IsTroubleAt side n line x

@@ -17,6 +17,8 @@ pub(crate) enum BadText {
     TooLarge,
     /// It is no JSON.
     NotJson,
+    /// It is a line of a conversation that does not say who sent it.
+    NoDirection,
 }
 
 impl BadText {
@@ -26,9 +28,11 @@ impl BadText {
     {
         match self {
             BadText::NoUtf8(place) => format!(in alloc; "no UTF-8 at byte {place}"),
-            BadText::ByteOrderMark | BadText::TooLong | BadText::TooLarge | BadText::NotJson => {
-                String::from_str(alloc, self.cause())
-            }
+            BadText::ByteOrderMark
+            | BadText::TooLong
+            | BadText::TooLarge
+            | BadText::NotJson
+            | BadText::NoDirection => String::from_str(alloc, self.cause()),
         }
     }
 
@@ -42,6 +46,7 @@ impl BadText {
             BadText::TooLong => "too long",
             BadText::TooLarge => "more than 1048576 bytes",
             BadText::NotJson => "not json",
+            BadText::NoDirection => "no direction",
         }
     }
 }

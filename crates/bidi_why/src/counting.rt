@@ -62,6 +62,22 @@ impl Causes {
         Ok(())
     }
 
+    /// Counts so many more lines of this cause.
+    ///
+    /// # Errors
+    /// No memory: some of them may be counted.
+    pub(crate) fn add_each(
+        &mut self,
+        alloc: Global,
+        cause: &[u8],
+        count: usize,
+    ) -> Result<(), AllocError> {
+        for _ in 0..count {
+            self.add(Vec::from_slice(alloc, cause)?)?;
+        }
+        Ok(())
+    }
+
     /// Puts the most frequent first, of equal ones the one that was met first. Takes no memory.
     pub(crate) fn sort(&mut self) {
         self.rows

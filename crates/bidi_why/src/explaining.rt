@@ -2,10 +2,9 @@
 ghost use Rattle.std.specs.Prelude.{◌≡◌, IfOk, option_map};
 ghost use Rattle.bidi_why.specs.Explaining.{Explains, explained_of};
 
-use crate::finding::find_trouble;
+use crate::finding::look_for_trouble;
 use crate::texts::{Form, cause, told};
 use bidi_lines::Side;
-use bidi_show::refusal;
 use json::Scratch;
 use std::alloc::{AllocError, Global};
 
@@ -20,8 +19,8 @@ pub struct Explained {
 
 /// What is written for a line of this number; `None` for one that the end takes.
 ///
-/// It is judged as `check` judges it, in a scratch that the caller keeps from line to line. Only of a line that is refused a tree is made, to
-/// look for the place.
+/// It is judged as `check` judges it, in a scratch that the caller keeps from line to line. Only of a line that is refused an outline is made,
+/// to look for the place.
 ///
 /// # Errors
 /// No memory: an allocation failed.
@@ -35,10 +34,9 @@ pub fn explain_line(
 ) -> Result<Option<Explained>, AllocError>
     ensures { IfOk result (λ found. Explains form side number line.now (option_map explained_of found)) }
 {
-    if refusal(alloc, side, line, scratch)?.is_none() {
+    let Some(trouble) = look_for_trouble(alloc, side, number, line, scratch)? else {
         return Ok(None);
-    }
-    let trouble = find_trouble(alloc, side, number, line)?;
+    };
     Ok(Some(Explained {
         text: told(alloc, form, number, &trouble)?,
         cause: cause(alloc, &trouble)?,

@@ -1,12 +1,18 @@
 //! What is wrong with a line that is refused.
-ghost use Rattle.std.specs.Prelude.{◌≡◌, ℕ, List, Some, IfOk};
-ghost use Rattle.bidi_show.specs.MessageLines.{Refuses};
-ghost use Rattle.bidi_why.specs.Trouble.{IsTrouble, IsTroubleAt, begins_with_mark, is_too_large, trouble_of};
+ghost use Rattle.std.specs.Prelude.{◌≡◌, ℕ, List, Some, IfOk, MatchResult, option_map};
+ghost use Rattle.bidi_tree.specs.Json.{parsed};
+ghost use Rattle.bidi_shape.specs.Term.{rule};
+ghost use Rattle.bidi_shape.specs.Fits.{Fits};
+ghost use Rattle.bidi_show.specs.MessageLines.{HasTree, Refuses};
+ghost use Rattle.bidi_lines.specs.declared.side.Side.TheVariants.{Local, Remote};
+ghost use Rattle.bidi_why.specs.Trouble.{HasMisfit, HasNoTree, HasTrouble, HasTroubleAt, IsTrouble, IsTroubleAt, begins_with_mark, is_too_large, misfit_of, rule_of, trouble_of};
 
 use crate::bad_text::BadText;
 use crate::misfit::{Misfit, find_misfit};
 use bidi_lines::Side;
-use bidi_tree::{ReadFault, read};
+use bidi_show::{refusal, value_refusal};
+use bidi_tree::{ReadFault, outline_parsed, parse};
+use json::{Scratch, Value};
 use std::alloc::{AllocError, Global};
 
 /// What is wrong with a line that is refused.
@@ -21,12 +27,48 @@ pub(crate) enum Trouble {
 /// The most bytes of a command.
 const MOST_BYTES: usize = 1_048_576;
 
+/// What is wrong with a line of this number, where its end refuses it.
+///
+/// A line of a remote end is read once, one of a local end that is refused twice.
+pub(crate) fn look_for_trouble(
+    alloc: Global,
+    side: Side,
+    number: u64,
+    line: &[u8],
+    scratch: &mut Scratch,
+) -> Result<Option<Trouble>, AllocError>
+    ensures { IfOk result (λ found. HasTroubleAt side number line.now (option_map trouble_of found)) }
+{
+    match side {
+        Side::Local => command_trouble(alloc, number, line, scratch),
+        Side::Remote => message_trouble(alloc, number, line, scratch),
+    }
+}
+
+// ---- lines of a local end
+
+// What is wrong with a line of a local end, where it is refused.
+fn command_trouble(
+    alloc: Global,
+    number: u64,
+    line: &[u8],
+    scratch: &mut Scratch,
+) -> Result<Option<Trouble>, AllocError>
+    ensures { IfOk result (λ found. HasTroubleAt Local number line.now (option_map trouble_of found)) }
+{
+    if refusal(alloc, Side::Local, line, scratch)?.is_none() {
+        return Ok(None);
+    }
+    Ok(Some(find_trouble(alloc, Side::Local, number, line, scratch)?))
+}
+
 /// What is wrong with a line of this number, which is refused.
 pub(crate) fn find_trouble(
     alloc: Global,
     side: Side,
     number: u64,
     line: &[u8],
+    scratch: &mut Scratch,
 ) -> Result<Trouble, AllocError>
     requires { (text : List ℕ) × Refuses side line.now (Some text) }
     ensures { IfOk result (λ found. IsTroubleAt side number line.now (trouble_of found)) }
@@ -34,40 +76,114 @@ pub(crate) fn find_trouble(
     if begins_with_mark(number, line) {
         return Ok(Trouble::Bad(BadText::ByteOrderMark));
     }
-    trouble_in(alloc, side, line)
+    trouble_in(alloc, side, line, scratch)
 }
 
-// Whether the line is the first of an input, and begins with a byte order mark.
-fn begins_with_mark(number: u64, line: &[u8]) -> bool
-    ensures { result ≡ begins_with_mark number line.now }
-{
-    number == 1 && line.starts_with(b"\xEF\xBB\xBF")
-}
-
-// What is wrong with a refused line that begins with no byte order mark.
-fn trouble_in(alloc: Global, side: Side, line: &[u8]) -> Result<Trouble, AllocError>
+/// What is wrong with a refused line that begins with no byte order mark.
+pub(crate) fn trouble_in(
+    alloc: Global,
+    side: Side,
+    line: &[u8],
+    scratch: &mut Scratch,
+) -> Result<Trouble, AllocError>
     requires { (text : List ℕ) × Refuses side line.now (Some text) }
     ensures { IfOk result (λ found. IsTrouble side line.now (trouble_of found)) }
 {
-    let text = match std::str::from_utf8(line) {
-        Ok(text) => text,
-        Err(error) => return Ok(Trouble::Bad(BadText::NoUtf8(error.valid_up_to() + 1))),
-    };
-    match read(alloc, text, None) {
-        Ok(_) if is_too_large(side, text) => Ok(Trouble::Bad(BadText::TooLarge)),
-        Ok(tree) => Ok(Trouble::NoFit(find_misfit(alloc, side, &tree)?)),
-        Err(ReadFault::NotJson) => Ok(Trouble::Bad(BadText::NotJson)),
-        Err(ReadFault::TooLong) => unreachable!(),
-        Err(ReadFault::NoMemory) => Err(AllocError),
+    match value_in(alloc, line, scratch)? {
+        Ok(_) if is_too_large(side, line) => Ok(Trouble::Bad(BadText::TooLarge)),
+        Ok(value) => Ok(Trouble::NoFit(misfit_in(alloc, side, &value)?)),
+        Err(bad) => Ok(Trouble::Bad(bad)),
     }
 }
 
 // Whether a text has more bytes than a command may have.
-fn is_too_large(side: Side, text: &str) -> bool
+fn is_too_large(side: Side, text: &[u8]) -> bool
     ensures { result ≡ is_too_large side text.now }
 {
     match side {
         Side::Local => text.len() > MOST_BYTES,
         Side::Remote => false,
     }
+}
+
+// ---- lines of a remote end
+
+// What is wrong with a line of a remote end, where it is refused.
+fn message_trouble(
+    alloc: Global,
+    number: u64,
+    line: &[u8],
+    scratch: &mut Scratch,
+) -> Result<Option<Trouble>, AllocError>
+    ensures { IfOk result (λ found. HasTroubleAt Remote number line.now (option_map trouble_of found)) }
+{
+    let Some(trouble) = text_trouble(alloc, line, scratch)? else {
+        return Ok(None);
+    };
+    if begins_with_mark(number, line) {
+        return Ok(Some(Trouble::Bad(BadText::ByteOrderMark)));
+    }
+    Ok(Some(trouble))
+}
+
+// The same, where a byte order mark is as any other character.
+fn text_trouble(
+    alloc: Global,
+    line: &[u8],
+    scratch: &mut Scratch,
+) -> Result<Option<Trouble>, AllocError>
+    ensures { IfOk result (λ found. HasTrouble Remote line.now (option_map trouble_of found)) }
+{
+    match value_in(alloc, line, scratch)? {
+        Ok(value) => value_trouble(alloc, &value),
+        Err(bad) => Ok(Some(Trouble::Bad(bad))),
+    }
+}
+
+// What is wrong with a line that reads as this value, where it is refused.
+fn value_trouble(alloc: Global, value: &Value<'_>) -> Result<Option<Trouble>, AllocError>
+    ensures { IfOk result (λ found. (line : List ℕ) → HasTree line (parsed value.now) → HasTrouble Remote line (option_map trouble_of found)) }
+{
+    if value_refusal(alloc, value)?.is_none() {
+        return Ok(None);
+    }
+    Ok(Some(Trouble::NoFit(misfit_in(alloc, Side::Remote, value)?)))
+}
+
+// ---- of both
+
+/// Whether the line is the first of an input, and begins with a byte order mark.
+pub(crate) fn begins_with_mark(number: u64, line: &[u8]) -> bool
+    ensures { result ≡ begins_with_mark number line.now }
+{
+    number == 1 && line.starts_with(b"\xEF\xBB\xBF")
+}
+
+// What a line is read as, or why it has no tree.
+fn value_in<'a>(
+    alloc: Global,
+    line: &'a [u8],
+    scratch: &'a mut Scratch,
+) -> Result<Result<Value<'a>, BadText>, AllocError>
+    ensures { IfOk result (λ read. MatchResult read (λ v. HasTree line.now (parsed v)) (HasNoTree line.now)) }
+{
+    let text = match std::str::from_utf8(line) {
+        Ok(text) => text,
+        Err(error) => return Ok(Err(BadText::NoUtf8(error.valid_up_to() + 1))),
+    };
+    match parse(alloc, text, None, scratch) {
+        Ok(value) => Ok(Ok(value)),
+        Err(ReadFault::NotJson) => Ok(Err(BadText::NotJson)),
+        Err(ReadFault::TooLong) => unreachable!(),
+        Err(ReadFault::NoMemory) => Err(AllocError),
+    }
+}
+
+// The misfit of a value whose tree does not fit the rule of its end.
+fn misfit_in(alloc: Global, side: Side, value: &Value<'_>) -> Result<Misfit, AllocError>
+    requires { Fits (parsed value.now) (rule (rule_of side)) → ⊥ }
+    ensures { IfOk result (λ m. HasMisfit side (parsed value.now) (misfit_of m)) }
+{
+    let outline = outline_parsed(alloc, value)?;
+    find_misfit(alloc, side, &outline)
 }

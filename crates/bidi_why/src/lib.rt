@@ -1,18 +1,26 @@
-//! What `check --why` writes: where a line goes wrong and why, and how often each cause was met.
+//! What `check --why` and `check --both` write: where a line goes wrong and why, and how often each cause was met.
 //!
-//! [`explain`] writes it for the refused lines of an input, and [`explain_line`] is what is written for one line.
+//! [`explain`] writes it for the refused lines of an input, [`explain_line`] is what is written for one line, and [`explain_both`] joins both ends
+//! of a conversation.
 #![tactic(auto)]
 
 mod bad_text;
+mod conversation;
+mod conversing;
 mod counting;
+mod explainer;
 mod explaining;
 mod finding;
 mod listing;
 mod misfit;
 mod next_line;
-mod teller;
+mod one_side;
+mod remark;
+mod result_misfit;
+mod sum;
 mod texts;
 
+pub use conversing::explain_both;
 pub use explaining::{Explained, explain_line};
 pub use listing::explain;
 pub use texts::Form;

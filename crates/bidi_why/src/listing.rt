@@ -1,15 +1,19 @@
 //! Listings of what is wrong with the lines of an input.
-ghost use Rattle.std.specs.Prelude.{◌≡◌, ◌+◌, nat_lt, length, false, IfOk, IfErr, OnErr, OnOk, IsTrue, MatchResult};
+ghost use Rattle.std.specs.Prelude.{◌≡◌, ℕ, ◌+◌, ◌<◌, List, [], ◌∷◌, ◌++◌, nat_lt, length, false, IfOk, IfErr, OnErr, OnOk, IsTrue, MatchResult};
+ghost use Rattle.std.specs.Io.KnownBytes.{Appends};
 ghost use Rattle.bidi_lines.specs.Devices.{Moves};
 ghost use Rattle.bidi_show.specs.Listings.{failed_reads, failed_writes};
-ghost use Rattle.bidi_why.specs.Telling.{StopsAt, TellsAll, input_fault};
+ghost use Rattle.bidi_why.specs.Input.{IsOf};
+ghost use Rattle.bidi_why.specs.Telling.{SoFar, StopsAt, StopsBy, StopsLine, TellsAll, Whole, input_fault};
 
-use crate::next_line::{Found, next_line};
-use crate::teller::Teller;
+use crate::explainer::Explainer;
+use crate::next_line::{Found, Line, next_line};
+use crate::one_side::OneSide;
+use crate::sum::Sum;
 use crate::texts::Form;
-use bidi_lines::{InputFault, LineReader, Side, Sink, Source};
+use bidi_lines::{InputFault, LineReader, Side, Sink, Source, write_all};
 use bidi_show::ShowFault;
-use std::alloc::Global;
+use std::alloc::{AllocError, Global};
 
 /// How many lines an input may have.
 const MOST_LINES: u64 = 1_000_000_000;
@@ -54,43 +58,108 @@ pub fn explain<R: Source, W: Sink, F: Sink>(
     ensures writes { MatchResult result (λ _. W.failures sink.new ≡ W.failures sink.old)
         (λ fault. W.failures sink.new ≡ W.failures sink.old + failed_writes fault) }
 {
-    let mut teller = Teller::new(alloc, form, side)?;
-    tell_lines(alloc, &mut teller, source, sink)?;
-    Ok(teller.sum_up(faults))
+    let mut one_side = OneSide::new(alloc, form, side)?;
+    let mut sum = Sum::new(alloc);
+    tell_lines(alloc, &mut one_side, &mut sum, source, sink)?;
+    Ok(sum.tell(faults))
 }
 
-// Tells of the lines of a source.
-fn tell_lines<R: Source, W: Sink>(
+/// Tells of the lines of a source.
+///
+/// # Errors
+/// As [`explain`].
+pub(crate) fn tell_lines<E: Explainer, R: Source, W: Sink>(
     alloc: Global,
-    teller: &mut Teller,
+    explainer: &mut E,
+    sum: &mut Sum,
     source: &mut R,
     sink: &mut W,
 ) -> Result<(), ShowFault>
-    requires lines { teller.old.lines ≡ 0 }
-    requires not_written { teller.old.has_written ≡ false }
+    requires lines { sum.old.lines ≡ 0 }
+    requires nothing { E.has_told explainer.old explainer.old [] [] sum.old.has_fault }
     ensures ok { OnOk result (Moves (R.left source.old) (R.left source.new) (W.contents sink.old) (W.contents sink.new)
-        (λ read wrote. TellsAll teller.old.form teller.old.side read wrote × (teller.new.has_written ≡ nat_lt 0 (length wrote)))) }
+        (Whole (λ lines text. E.has_told explainer.old explainer.new lines text sum.new.has_fault))) }
     ensures end { OnOk result (IsTrue (R.has_ended source.new)) }
     ensures err { IfErr result (λ fault. Moves (R.left source.old) (R.left source.new) (W.contents sink.old) (W.contents sink.new)
-        (StopsAt teller.old.form teller.old.side fault)) }
+        (StopsBy (SoFar E.has_told explainer.old) fault)) }
     ensures reads { MatchResult result (λ _. R.failures source.new ≡ R.failures source.old)
         (λ fault. R.failures source.new ≡ R.failures source.old + failed_reads fault) }
     ensures writes { MatchResult result (λ _. W.failures sink.new ≡ W.failures sink.old)
         (λ fault. W.failures sink.new ≡ W.failures sink.old + failed_writes fault) }
 {
     let mut reader = LineReader::new(alloc);
-    'lines: while teller.lines < MOST_LINES {
+    'lines: while sum.lines < MOST_LINES {
         match next_line(alloc, &mut reader, source) {
-            Err(fault) => return Err(show_fault(fault, teller.lines + 1)),
+            Err(fault) => return Err(show_fault(fault, sum.lines + 1)),
             Ok(Found::End) => return Ok(()),
-            Ok(Found::Last(line)) => return teller.answer(alloc, line, sink),
-            Ok(Found::Line(line)) => teller.answer(alloc, line, sink)?,
+            Ok(Found::Last(line)) => return answer(alloc, explainer, sum, line, sink),
+            Ok(Found::Line(line)) => answer(alloc, explainer, sum, line, sink)?,
         }
     }
     match reader.goes_on(source) {
-        Err(fault) => Err(show_fault(fault, teller.lines)),
+        Err(fault) => Err(show_fault(fault, sum.lines)),
         Ok(true) => Err(ShowFault::TooManyLines),
         Ok(false) => Ok(()),
+    }
+}
+
+// Writes what is told of the next line.
+fn answer<E: Explainer, W: Sink>(
+    alloc: Global,
+    explainer: &mut E,
+    sum: &mut Sum,
+    line: Line,
+    sink: &mut W,
+) -> Result<(), ShowFault>
+    requires few { sum.old.lines < 1000000000 }
+    ensures lines { OnOk result (sum.new.lines ≡ sum.old.lines + 1) }
+    ensures ok { OnOk result ((text : List ℕ) × Appends (W.contents sink.old) (W.contents sink.new) text
+        × ((first : E) (lines : List (List ℕ)) (before : List ℕ) (is : List ℕ) → E.has_told first explainer.old lines before sum.old.has_fault
+        → sum.old.lines ≡ length lines → IsOf line is → E.has_told first explainer.new (lines ++ is ∷ []) (before ++ text) sum.new.has_fault)) }
+    ensures err { IfErr result (λ fault. (more : List ℕ) × Appends (W.contents sink.old) (W.contents sink.new) more × StopsLine fault more) }
+    ensures writes { MatchResult result (λ _. W.failures sink.new ≡ W.failures sink.old)
+        (λ fault. W.failures sink.new ≡ W.failures sink.old + failed_writes fault) }
+{
+    let text = tell(alloc, explainer, sum, line)?;
+    write(sink, &text)
+}
+
+// What is told of the next line.
+fn tell<E: Explainer>(
+    alloc: Global,
+    explainer: &mut E,
+    sum: &mut Sum,
+    line: Line,
+) -> Result<Vec<u8>, AllocError>
+    requires few { sum.old.lines < 1000000000 }
+    ensures lines { OnOk result (sum.new.lines ≡ sum.old.lines + 1) }
+    ensures text { IfOk result (λ text. (first : E) (lines : List (List ℕ)) (before : List ℕ) (is : List ℕ)
+        → E.has_told first explainer.old lines before sum.old.has_fault → sum.old.lines ≡ length lines → IsOf line is
+        → E.has_told first explainer.new (lines ++ is ∷ []) (before ++ text.items) sum.new.has_fault) }
+{
+    sum.lines += 1;
+    match explainer.explain(alloc, sum.lines, line)? {
+        Some(told) => {
+            sum.count(told.is_fault, told.cause)?;
+            Ok(told.text)
+        }
+        None => Ok(Vec::new(alloc)),
+    }
+}
+
+/// Writes all of a text.
+///
+/// # Errors
+/// `Write`: a write of the sink failed.
+pub(crate) fn write<W: Sink>(sink: &mut W, text: &[u8]) -> Result<(), ShowFault>
+    ensures ok { OnOk result (Appends (W.contents sink.old) (W.contents sink.new) text.now) }
+    ensures err { IfErr result (λ fault. (more : List ℕ) × Appends (W.contents sink.old) (W.contents sink.new) more × (fault ≡ ShowFault.Write)) }
+    ensures writes { MatchResult result (λ _. W.failures sink.new ≡ W.failures sink.old)
+        (λ fault. W.failures sink.new ≡ W.failures sink.old + failed_writes fault) }
+{
+    match write_all(sink, text) {
+        Ok(()) => Ok(()),
+        Err(_) => Err(ShowFault::Write),
     }
 }
 

@@ -1,18 +1,20 @@
 //! Trees that do not fit the rule of their end.
-ghost use Rattle.std.specs.Prelude.{◌≡◌, codes, map, option_map, option_and_then, string_bytes, IfOk};
+ghost use Rattle.std.specs.Prelude.{◌≡◌, codes, false, map, option_map, option_and_then, string_bytes, IfOk};
 ghost use Rattle.bidi_tree.specs.Node.{get_of};
 ghost use Rattle.bidi_tree.specs.Kind.{text_in};
-ghost use Rattle.bidi_tree.specs.View.{node};
+ghost use Rattle.bidi_tree.specs.Outline.{outline_node};
 ghost use Rattle.bidi_messages.specs.Verdict.{echoed_id, js_uint_in};
 ghost use Rattle.bidi_shape.specs.Term.{rule};
 ghost use Rattle.bidi_shape.specs.Fits.{Fits};
 ghost use Rattle.bidi_blame.specs.Names.{name_of, rule_text};
 ghost use Rattle.bidi_blame.specs.View.{reason_of, step_of};
-ghost use Rattle.bidi_why.specs.Trouble.{HasMisfit, method_of, misfit_of, misfit_parts, pattern_text, rule_of};
+ghost use Rattle.bidi_blame.specs.Words.{pointer_text};
+ghost use Rattle.bidi_why.specs.Trouble.{HasMisfit, method_of, misfit_of, pattern_text, reason_parts, rule_of};
 
 use bidi_blame::{Name, Reason, Step, blame, found_words, pointer, wanted};
 use bidi_lines::Side;
-use bidi_tree::{JsUint, Tree};
+use bidi_shape::Parsed;
+use bidi_tree::{JsUint, Outline, find_outline};
 use std::alloc::{AllocError, Global};
 
 /// Where a tree does not fit, and why, in words.
@@ -35,14 +37,18 @@ pub(crate) struct Misfit {
 }
 
 /// The misfit of a tree that does not fit the rule of its end.
-pub(crate) fn find_misfit(alloc: Global, side: Side, tree: &Tree) -> Result<Misfit, AllocError>
-    requires { Fits (node tree.now) (rule (rule_of side)) → ⊥ }
-    ensures { IfOk result (λ m. HasMisfit side (node tree.now) (misfit_of m)) }
+pub(crate) fn find_misfit(
+    alloc: Global,
+    side: Side,
+    tree: &Outline<'_>,
+) -> Result<Misfit, AllocError>
+    requires { Fits (outline_node tree.now) (rule (rule_of side)) → ⊥ }
+    ensures { IfOk result (λ m. HasMisfit side (outline_node tree.now) (misfit_of m)) }
 {
     let Some(reason) = blame(alloc, tree, rule_for(side))? else {
         unreachable!();
     };
-    of_reason(alloc, tree, &reason)
+    in_words(alloc, id(tree), method(alloc, tree)?, &reason)
 }
 
 // The rule of the texts of an end.
@@ -55,15 +61,22 @@ fn rule_for(side: Side) -> Name
     }
 }
 
-// A tree and the reason why it does not fit, in words.
-fn of_reason(alloc: Global, tree: &Tree, reason: &Reason<'_>) -> Result<Misfit, AllocError>
-    ensures { IfOk result (λ m. misfit_of m ≡ misfit_parts (node tree.now) (reason_of reason.now)) }
+/// The reason why a tree with this id and this method does not fit, in words.
+pub(crate) fn in_words(
+    alloc: Global,
+    id: Option<u64>,
+    method: Option<String>,
+    reason: &Reason<'_, '_>,
+) -> Result<Misfit, AllocError>
+    ensures { IfOk result (λ m. misfit_of m ≡ reason_parts id (option_map string_bytes method) (reason_of reason.now)) }
 {
+    let pointer = pointer(alloc, &reason.steps)?;
+    let pattern = pattern(alloc, &reason.steps, pointer.as_str())?;
     Ok(Misfit {
-        id: id(tree),
-        method: method(alloc, tree)?,
-        pointer: pointer(alloc, &reason.steps)?,
-        pattern: pattern(alloc, &reason.steps)?,
+        id,
+        method,
+        pointer,
+        pattern,
         wants: wanted(alloc, &reason.wants)?,
         has: found_words(alloc, reason.found)?,
         rule: rule_name(reason.named),
@@ -81,18 +94,18 @@ fn rule_name(name: Option<Name>) -> Option<&'static str>
 }
 
 // The id of a tree, where it is a js-uint.
-fn id(tree: &Tree) -> Option<u64>
-    ensures { result ≡ echoed_id (node tree.now) }
+fn id(tree: &Outline<'_>) -> Option<u64>
+    ensures { result ≡ echoed_id (outline_node tree.now) }
 {
-    match tree.get("id") {
+    match member(tree, "id") {
         Some(id) => js_uint(id),
         None => None,
     }
 }
 
 // The number, where the tree is a js-uint.
-fn js_uint(tree: &Tree) -> Option<u64>
-    ensures { result ≡ js_uint_in (node tree.now) }
+fn js_uint(tree: &Outline<'_>) -> Option<u64>
+    ensures { result ≡ js_uint_in (outline_node tree.now) }
 {
     match tree.as_int() {
         Some(n) if n.value >= 0 => match JsUint::new(n.value as u64) {
@@ -104,36 +117,70 @@ fn js_uint(tree: &Tree) -> Option<u64>
 }
 
 // The member `method` of a tree, or else its `type`, where that is a text.
-fn method(alloc: Global, tree: &Tree) -> Result<Option<String>, AllocError>
-    ensures { IfOk result (λ found. option_map string_bytes found ≡ method_of (node tree.now)) }
+fn method(alloc: Global, tree: &Outline<'_>) -> Result<Option<String>, AllocError>
+    ensures { IfOk result (λ found. option_map string_bytes found ≡ method_of (outline_node tree.now)) }
 {
     if let Some(method) = text_member(tree, "method") {
-        return Ok(Some(method.clone()?));
+        return Ok(Some(String::from_str(alloc, method)?));
     }
     match text_member(tree, "type") {
-        Some(kind) => Ok(Some(kind.clone()?)),
+        Some(kind) => Ok(Some(String::from_str(alloc, kind)?)),
         None => Ok(None),
     }
 }
 
 // The member of that name, where it is a text.
-fn text_member<'a>(tree: &'a Tree, name: &str) -> Option<&'a String>
-    ensures { option_map (λ s. string_bytes s.now) result ≡ option_and_then text_in (get_of name.now (node tree.now)) }
+fn text_member<'a>(tree: &'a Outline<'_>, name: &str) -> Option<&'a str>
+    ensures { option_map (λ s. s.now) result ≡ option_and_then text_in (get_of name.now (outline_node tree.now)) }
 {
-    match tree.get(name) {
-        Some(member) => member.as_text(),
+    match member(tree, name) {
+        Some(member) => member.as_str(),
         None => None,
     }
 }
 
-// The place as a JSON Pointer, with `*` for the number of each item, of steps that have the last one first.
-fn pattern(alloc: Global, steps: &[Step<'_>]) -> Result<String, AllocError>
+/// The member of that name.
+pub(crate) fn member<'a, 'b>(tree: &'a Outline<'b>, name: &str) -> Option<&'a Outline<'b>>
+    ensures { option_map (λ t. outline_node t.now) result ≡ get_of name.now (outline_node tree.now) }
+{
+    match tree {
+        Outline::Map(members) => find_outline(members, name),
+        _ => None,
+    }
+}
+
+// The place with `*` for the number of each item, of steps that have the last one first, and of their pointer.
+fn pattern(alloc: Global, steps: &[Step<'_>], pointer: &str) -> Result<String, AllocError>
+    requires { pointer.now ≡ pointer_text (map step_of steps.now) }
+    ensures { IfOk result (λ text. string_bytes text ≡ pattern_text (map step_of steps.now)) }
+{
+    if has_items(steps) {
+        starred(alloc, steps)
+    } else {
+        String::from_str(alloc, pointer)
+    }
+}
+
+// Whether an item is among the steps.
+fn has_items(steps: &[Step<'_>]) -> bool
+    ensures { result ≡ false → pattern_text (map step_of steps.now) ≡ pointer_text (map step_of steps.now) }
+{
+    for step in steps {
+        if let Step::Item(_) = step {
+            return true;
+        }
+    }
+    false
+}
+
+// The pointer with `*` for the number of each item, step by step.
+fn starred(alloc: Global, steps: &[Step<'_>]) -> Result<String, AllocError>
     ensures { IfOk result (λ text. string_bytes text ≡ pattern_text (map step_of steps.now)) }
 {
     let [last, before @ ..] = steps else {
         return Ok(String::new(alloc));
     };
-    let mut text = pattern(alloc, before)?;
+    let mut text = starred(alloc, before)?;
     match last {
         Step::Member(_) => text.push_str(pointer(alloc, &[*last])?.as_str())?,
         Step::Item(_) => text.push_str("/*")?,

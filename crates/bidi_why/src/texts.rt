@@ -1,5 +1,5 @@
 //! How a refused line is told: in words, or as JSON.
-ghost use Rattle.std.specs.Prelude.{◌≡◌, ◌++◌, IfOk, OnOk, option_map, string_bytes};
+ghost use Rattle.std.specs.Prelude.{◌≡◌, ◌++◌, Some, IfOk, OnOk, option_map, string_bytes};
 ghost use Rattle.json.specs.Print.{escape, quoted};
 ghost use Rattle.bidi_why.specs.Trouble.{bad_words, misfit_of, trouble_of};
 ghost use Rattle.bidi_why.specs.Texts.{bad_row, cause_text, json_line, label, misfit_cause, misfit_row, misfit_words, number_or_null};
@@ -31,7 +31,7 @@ pub(crate) fn told(
     ensures { IfOk result (λ text. text.items ≡ told_text form number (trouble_of trouble.now)) }
 {
     match form {
-        Form::Words => told_in_words(alloc, number, &trouble_words(alloc, trouble)?),
+        Form::Words => line_of_words(alloc, number, &trouble_words(alloc, trouble)?),
         Form::Json => told_in_json(alloc, number, trouble),
     }
 }
@@ -48,8 +48,8 @@ pub(crate) fn cause(alloc: Global, trouble: &Trouble) -> Result<Vec<u8>, AllocEr
 
 // ---- in words
 
-// `line N: WORDS`
-fn told_in_words(alloc: Global, number: u64, words: &[u8]) -> Result<Vec<u8>, AllocError>
+/// `line N: WORDS`
+pub(crate) fn line_of_words(alloc: Global, number: u64, words: &[u8]) -> Result<Vec<u8>, AllocError>
     ensures { IfOk result (λ text. text.items ≡ words_line number words.now) }
 {
     let mut text = Vec::new(alloc);
@@ -129,20 +129,20 @@ fn rule_words(alloc: Global, rule: Option<&'static str>) -> Result<Vec<u8>, Allo
 
 // ---- as JSON
 
-// What a line of JSON has behind its number.
+/// What a line of JSON has behind its number.
 #[derive(Clone, Copy)]
-struct Row<'a> {
-    id: Option<u64>,
-    method: Option<&'a str>,
-    pointer: Option<&'a str>,
-    rule: Option<&'a str>,
-    wants: Option<&'a str>,
-    has: &'a str,
+pub(crate) struct Row<'a> {
+    pub id: Option<u64>,
+    pub method: Option<&'a str>,
+    pub pointer: Option<&'a str>,
+    pub rule: Option<&'a str>,
+    pub wants: Option<&'a str>,
+    pub has: &'a str,
 }
 
 // The object of a line that is refused.
 fn told_in_json(alloc: Global, number: u64, trouble: &Trouble) -> Result<Vec<u8>, AllocError>
-    ensures { IfOk result (λ text. text.items ≡ json_line number (trouble_row (trouble_of trouble.now))) }
+    ensures { IfOk result (λ text. text.items ≡ json_line (Some number) (trouble_row (trouble_of trouble.now))) }
 {
     match trouble {
         Trouble::Bad(bad) => bad_in_json(alloc, number, *bad),
@@ -152,7 +152,7 @@ fn told_in_json(alloc: Global, number: u64, trouble: &Trouble) -> Result<Vec<u8>
 
 // That of a line that is no text to judge.
 fn bad_in_json(alloc: Global, number: u64, bad: BadText) -> Result<Vec<u8>, AllocError>
-    ensures { IfOk result (λ text. text.items ≡ json_line number (bad_row bad)) }
+    ensures { IfOk result (λ text. text.items ≡ json_line (Some number) (bad_row bad)) }
 {
     let words = bad.words(alloc)?;
     let row = Row {
@@ -163,12 +163,12 @@ fn bad_in_json(alloc: Global, number: u64, bad: BadText) -> Result<Vec<u8>, Allo
         wants: None,
         has: words.as_str(),
     };
-    json_line(alloc, number, &row)
+    json_line(alloc, Some(number), &row)
 }
 
 // That of a line whose tree does not fit.
 fn misfit_in_json(alloc: Global, number: u64, misfit: &Misfit) -> Result<Vec<u8>, AllocError>
-    ensures { IfOk result (λ text. text.items ≡ json_line number (misfit_row (misfit_of misfit.now))) }
+    ensures { IfOk result (λ text. text.items ≡ json_line (Some number) (misfit_row (misfit_of misfit.now))) }
 {
     let row = Row {
         id: misfit.id,
@@ -178,7 +178,7 @@ fn misfit_in_json(alloc: Global, number: u64, misfit: &Misfit) -> Result<Vec<u8>
         wants: Some(misfit.wants.as_str()),
         has: misfit.has.as_str(),
     };
-    json_line(alloc, number, &row)
+    json_line(alloc, Some(number), &row)
 }
 
 // The text, if there is one.
@@ -191,13 +191,17 @@ fn text_of(text: &Option<String>) -> Option<&str>
     }
 }
 
-// `{"line":N,"id":ID,"method":METHOD,"pointer":POINTER,"rule":RULE,"wants":WANTS,"has":HAS}`
-fn json_line(alloc: Global, number: u64, row: &Row<'_>) -> Result<Vec<u8>, AllocError>
+/// `{"line":N,"id":ID,"method":METHOD,"pointer":POINTER,"rule":RULE,"wants":WANTS,"has":HAS}`, with `null` where there is no number.
+pub(crate) fn json_line(
+    alloc: Global,
+    number: Option<u64>,
+    row: &Row<'_>,
+) -> Result<Vec<u8>, AllocError>
     ensures { IfOk result (λ text. text.items ≡ json_line number (row_of row.now)) }
 {
     let mut text = Vec::new(alloc);
     put(&mut text, b"{\"line\":")?;
-    put(&mut text, Buffer::new().format(number).as_bytes())?;
+    put(&mut text, &number_or_null(alloc, number)?)?;
     put(&mut text, b",\"id\":")?;
     put(&mut text, &number_or_null(alloc, row.id)?)?;
     put_member(alloc, &mut text, b",\"method\":", row.method)?;

@@ -1,5 +1,6 @@
 //! Of a tree and a rule, whether it fits, or the reason why not.
 use bidi_blame::{Name, Reason, blame, found_words, pointer, wanted};
+use bidi_tree::outline_of;
 use std::alloc::Global;
 use std::test::Fail;
 use testing::rows::{Asked, check_rows};
@@ -12,7 +13,8 @@ impl Asked for Reasons {
     fn found(alloc: Global, word: &str, text: &str) -> Result<String, Fail> {
         let name = named(word)?;
         let tree = tree_of(alloc, text)?;
-        match blame(alloc, &tree, name)? {
+        let outline = outline_of(alloc, &tree)?;
+        match blame(alloc, &outline, name)? {
             None => Ok(String::from_str(alloc, "fits")?),
             Some(reason) => told(alloc, &reason),
         }
@@ -30,7 +32,7 @@ fn named(text: &str) -> Result<Name, Fail> {
 }
 
 /// `POINTER: wants WHAT, has WHAT (RULE)`
-fn told(alloc: Global, reason: &Reason<'_>) -> Result<String, Fail> {
+fn told(alloc: Global, reason: &Reason<'_, '_>) -> Result<String, Fail> {
     let place = pointer(alloc, &reason.steps)?;
     let wants = wanted(alloc, &reason.wants)?;
     let found = found_words(alloc, reason.found)?;

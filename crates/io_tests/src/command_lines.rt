@@ -1,7 +1,7 @@
 //! Command lines, and the runs or the texts that they give.
 use super::told::check_text;
 use bidi_command_line::{
-    HostFiles, HostOptions, LineFault, Run, WhyOptions, command_line, host_files,
+    BothOptions, HostFiles, HostOptions, LineFault, Run, WhyOptions, command_line, host_files,
 };
 use bidi_lines::Side;
 use std::alloc::{AllocError, Global};
@@ -73,6 +73,31 @@ usage: check --from local --why extra
 usage: show --from local --why
 usage: show --from local --json
 usage: play --why
+both: check --both
+both: check --both --
+both why: check --both --why
+both why: check --why --both
+both why json: check --both --why --json
+both why json: check --json --why --both --
+help: check --both --help
+usage: check
+usage: check --
+usage: check --json
+usage: check --both --json
+usage: check --both --from local
+usage: check --both --from=remote --why
+usage: check --from local --both --why --json
+usage: check --from local --both --json
+usage: check --from x --both
+usage: check --from x
+usage: check --from --both
+usage: check --from=--both
+usage: check --both --both
+usage: check --both=true
+usage: check --both local
+usage: check --bo
+usage: show --both
+usage: play --both
 serve 9222 10 1000: serve --port 9222 --connections 10 --messages 1000
 serve 0 1 1: serve --port=0 --connections=1 --messages=1
 serve 65535 1000 100000: serve --messages 100000 --port 65535 --connections 1000
@@ -178,18 +203,31 @@ Usage: bidi <COMMAND>
 For more information, try '--help'.
 ";
 
-const JSON_ALONE: &str = "usage
-error: `check --json` goes with `--why`
+/// What is told of lines that clap takes, and behind it the words.
+const MISTAKES: &str = "`check` takes `--from END` or `--both`: check
+`check` takes `--from END` or `--both`: check --why
+`check` takes `--from END` or `--both`: check --json
+`check` takes `--from END` or `--both`: check --why --json
+`check --both` goes without `--from`: check --both --from local
+`check --both` goes without `--from`: check --from=remote --why --json --both
+`check --both` goes without `--from`: check --from x --both
+`check --both` goes without `--from`: check --from local --both --json
+`check --from` takes `local` or `remote`, not `x`: check --from x
+`check --from` takes `local` or `remote`, not `both`: check --from both --why
+`check --from` takes `local` or `remote`, not `both`: check --json --from both
+`check --from` takes `local` or `remote`, not `--both`: check --from=--both
+`check --json` goes with `--why`: check --from local --json
+`check --json` goes with `--why`: check --json --from=remote
+`check --json` goes with `--why`: check --both --json
+`show --from` takes `local` or `remote`, not `both`: show --from both
+`reduce --session` takes 0 to 4294967295, not `x`: reduce --session x
+`host --port` takes 0 to 65535, not `65536`: host --port 65536";
 
-Usage: bidi <COMMAND>
+const NO_OPTION: &str = "usage
+error: the following required arguments were not provided:
+  --from <END>
 
-For more information, try '--help'.
-";
-
-const NO_END: &str = "usage
-error: `check --from` takes `local` or `remote`, not `both`
-
-Usage: bidi <COMMAND>
+Usage: bidi show --from <END>
 
 For more information, try '--help'.
 ";
@@ -203,19 +241,26 @@ fn each_line_gives_a_run_or_a_text(rt: HostRuntime) -> Result<(), Fail> {
     }
     check_text(&rt, "help", answer(alloc, "--help")?, HELP);
     check_text(&rt, "usage", answer(alloc, "over")?, USAGE);
-    check_text(
-        &rt,
-        "json",
-        answer(alloc, "check --from local --json")?,
-        JSON_ALONE,
-    );
-    check_text(
-        &rt,
-        "end",
-        answer(alloc, "check --json --from both")?,
-        NO_END,
-    );
+    check_text(&rt, "option", answer(alloc, "show")?, NO_OPTION);
     Ok(())
+}
+
+#[test]
+fn each_mistake_in_a_value_is_told(rt: HostRuntime) -> Result<(), Fail> {
+    let alloc = rt.alloc();
+    for row in MISTAKES.lines() {
+        let (wanted, words) = row.split_once(": ").ok_or("a row")?;
+        let wanted = usage_text(alloc, wanted)?;
+        check_text(&rt, row, answer(alloc, words)?, wanted.as_str());
+    }
+    Ok(())
+}
+
+/// The answer to a line with this mistake.
+fn usage_text(alloc: Global, mistake: &str) -> Result<String, AllocError> {
+    format!(in alloc;
+        "usage\nerror: {mistake}\n\nUsage: bidi <COMMAND>\n\nFor more information, try '--help'.\n"
+    )
 }
 
 /// The first line of the answer.
@@ -249,6 +294,7 @@ fn run_text(alloc: Global, run: Run) -> Result<String, AllocError> {
         Run::Show(side) => format!(in alloc; "show {}", side_name(side)),
         Run::Check(side) => format!(in alloc; "check {}", side_name(side)),
         Run::Why(asked) => why_text(alloc, asked),
+        Run::Both(asked) => both_text(alloc, asked),
         Run::Serve(asked) => {
             format!(in alloc;
                 "serve {} {} {}",
@@ -263,6 +309,13 @@ fn run_text(alloc: Global, run: Run) -> Result<String, AllocError> {
 fn why_text(alloc: Global, asked: WhyOptions) -> Result<String, AllocError> {
     let json = flag_text(asked.is_json, " json");
     format!(in alloc; "why {}{json}", side_name(asked.side))
+}
+
+/// What `check --both` asks for: whether it tells why, and whether JSON is written.
+fn both_text(alloc: Global, asked: BothOptions) -> Result<String, AllocError> {
+    let why = flag_text(asked.is_why, " why");
+    let json = flag_text(asked.is_json, " json");
+    format!(in alloc; "both{why}{json}")
 }
 
 /// What `host` asks for: the port, the flags that are given, and its two files, each `-` where there is none.

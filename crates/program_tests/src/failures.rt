@@ -3,7 +3,7 @@
 //! What a run answers stands with an empty line between the answers to two lines of its input.
 ghost use Rattle.std.specs.Prelude.{◌≤◌, IfSome};
 
-use bidi_command_line::{Run, WhyOptions};
+use bidi_command_line::{BothOptions, Run, WhyOptions};
 use bidi_lines::{Device, Side};
 use bidi_programs::run;
 use std::alloc::{AllocError, Global};
@@ -34,6 +34,20 @@ const WHY: Run = Run::Why(WhyOptions {
 const NO_JSON: &str = "x\n[\n";
 
 const EXPLAINED: &str = "line 1: not json\n\nline 2: not json\n";
+
+/// A check of a conversation, a text of each end that is no JSON, and a command with no answer behind which one comes.
+const BOTH: Run = Run::Both(BothOptions {
+    is_why: false,
+    is_json: false,
+});
+
+const NO_TEXTS: &str = "> x\n< [\n";
+
+const REFUSED: &str = "line 1: refused null invalid argument\n\nline 2: not json\n";
+
+const ASKED: &str = "> {\"id\":1,\"method\":\"session.status\",\"params\":{}}\n< [\n";
+
+const UNANSWERED: &str = "line 2: not json\n\nunanswered 1 session.status\n";
 
 /// A schedule of both ends, and what became of its command.
 const PAIR: &str = "open 1 /session\nsend 1 session.status {}\nup 1\ndown 1\n";
@@ -82,6 +96,7 @@ fn each_line_before_a_failed_read_is_answered(rt: HostRuntime) -> Result<(), Fai
     check_reads(&rt, &Run::Show(Side::Local), TWO, SHOWN)?;
     check_reads(&rt, &Run::Check(Side::Local), TWO, CHECKED)?;
     check_reads(&rt, &WHY, NO_JSON, EXPLAINED)?;
+    check_reads(&rt, &BOTH, NO_TEXTS, REFUSED)?;
     // What became of a command is known at the end alone, and what is kept of a play is written then.
     check_reads(&rt, &Run::Pair, PAIR, "")?;
     check_reads(&rt, &Run::Reduce(1), PLAY, "")
@@ -94,6 +109,8 @@ fn a_failed_write_ends_the_run(rt: HostRuntime) -> Result<(), Fail> {
     check_writes(&rt, &Run::Show(Side::Local), TWO, SHOWN)?;
     check_writes(&rt, &Run::Check(Side::Local), TWO, CHECKED)?;
     check_writes(&rt, &WHY, NO_JSON, EXPLAINED)?;
+    check_writes(&rt, &BOTH, NO_TEXTS, REFUSED)?;
+    check_writes(&rt, &BOTH, ASKED, UNANSWERED)?;
     check_writes(&rt, &Run::Pair, PAIR, PAIRED)?;
     check_writes(&rt, &Run::Reduce(1), PLAY, PLAY)
 }
@@ -110,6 +127,7 @@ fn short_reads_and_writes_change_nothing(rt: HostRuntime) -> Result<(), Fail> {
 fn what_cannot_be_told_changes_nothing(rt: HostRuntime) {
     assert_eq!(rt; untold_status(rt.alloc(), &Run::Play, "at 01\n"), 2);
     assert_eq!(rt; untold_status(rt.alloc(), &WHY, NO_JSON), 1);
+    assert_eq!(rt; untold_status(rt.alloc(), &BOTH, ASKED), 1);
 }
 
 /// The status of a run that can tell nothing.

@@ -1,10 +1,21 @@
-use Rattle.std.proofs.Common.{[], refl, subst, sym}
+use Rattle.std.proofs.Common.{[], true, arith, refl, subst, sym}
 use Rattle.std.proofs.KnownBytes.{Appends-nil, Consumes-nil}
 use Rattle.bidi_serve.specs.declared.listening.ServeFault.TheVariants.{Listen}
 use Rattle.bidi_hosting.specs.declared.fault.HostingFault.TheVariants as host
 use Rattle.bidi_programs.specs.declared.faults.RunFault.TheVariants as fault
-use Rattle.bidi_programs.specs.Runs.{Stops}
+use Rattle.bidi_why.specs.Conversing.{TellsConversation}
+use Rattle.bidi_programs.specs.Runs.{Completes, Stops, both_form}
 use Rattle.bidi_programs.proofs.running.finish.Goals as goal
+
+pub returns-then-found-3-clause-ok : goal.returns-then-found-3-clause-ok
+returns-then-found-3-clause-ok g c =
+    let (read, wrote, consumes, appends, told) = c.in-Ok-explain_both.ensures.ok in
+    let of_form = subst (λ f. TellsConversation f c.in-Ok-explain_both.found read wrote) c.both_form.ensures told in
+    let found = subst (λ b. TellsConversation (both_form c.in-Both.options) b read wrote) c.if-found-3.true of_form in (
+      omega arith,
+      c.in-Ok-explain_both.ensures.end,
+      (read, wrote, consumes, appends, subst (λ r. Completes r 1 read wrote) (sym c.in-Both.is) (true, refl, found)),
+    )
 
 pub returns-in-Serve-clause-err : goal.returns-in-Serve-clause-err
 returns-in-Serve-clause-err g c = (

@@ -3,7 +3,8 @@ use Rattle.std.proofs.KnownBytes.{Appends-nil, Appends-trans, Consumes-nil, Cons
 use Rattle.bidi_lines.proofs.ResultLemmas.{by_fault}
 use Rattle.bidi_why.specs.declared.next_line.Found.TheVariants.{End, Last, Line}
 use Rattle.bidi_why.proofs.InputLemmas.{found_as, one_line}
-use Rattle.bidi_why.proofs.TellingLemmas.{if_err, on_ok, parts_more, parts_read, some_more, stops_input, stops_line, tells_all, tells_last, told_more}
+use Rattle.bidi_why.specs.Telling.{SoFar}
+use Rattle.bidi_why.proofs.TellingLemmas.{if_err, on_ok, parts_more, parts_read, stops_input, stops_line, whole_all, whole_last}
 use Rattle.bidi_why.proofs.listing.tell_lines.Goals as goal
 
 pub lines-init : goal.lines-init
@@ -13,10 +14,7 @@ lines-init g c = (
   [],
   record {
     parts = record { front = sym c.new-reader.ensures; each = tt };
-    told = refl;
-    form = refl;
-    side = refl;
-    some = c.requires.not_written;
+    told = c.requires.nothing;
     reads = Consumes-nil _;
     writes = Appends-nil _;
     failed_reads = refl;
@@ -34,9 +32,13 @@ returns-in-Err-clause-err g c =
       text,
       Consumes-trans _ _ _ _ _ s.reads consumes,
       s.writes,
-      stops_input c.args.teller.now.form c.args.teller.now.side c.in-Err.fault _ c.show_fault.result (read ++ bytes) (gone ++ c.next_line.new.reader) text lines
+      stops_input (SoFar g.E.Explainer.has_told c.args.explainer.now) c.in-Err.fault _ c.show_fault.result (read ++ bytes) (gone ++ c.next_line.new.reader) text lines
           c.show_fault.ensures
-          (record { parts = parts_read read bytes c.lines.reader (gone ++ c.next_line.new.reader) lines s.parts more; text = s.told; few = s.few }),
+          (record {
+            parts = parts_read read bytes c.lines.reader (gone ++ c.next_line.new.reader) lines s.parts more;
+            text = (c.lines.explainer, c.lines.sum.has_fault, s.told);
+            few = s.few;
+          }),
     )
 
 pub returns-in-Ok-End-clause-ok : goal.returns-in-Ok-End-clause-ok
@@ -48,12 +50,10 @@ returns-in-Ok-End-clause-ok g c =
       text,
       Consumes-trans _ _ _ _ _ s.reads consumes,
       s.writes,
-      (
-        tells_all c.args.teller.now.form c.args.teller.now.side (read ++ bytes) (gone ++ c.next_line.new.reader) text lines
-            (parts_read read bytes c.lines.reader (gone ++ c.next_line.new.reader) lines s.parts more)
-            (ap₂ (λ (x y : List ℕ). x ++ y) none last.1) s.told,
-        s.some,
-      ),
+      whole_all (λ ls t. g.E.Explainer.has_told c.args.explainer.now c.lines.explainer ls t c.lines.sum.has_fault)
+          (read ++ bytes) (gone ++ c.next_line.new.reader) text lines
+          (parts_read read bytes c.lines.reader (gone ++ c.next_line.new.reader) lines s.parts more)
+          (ap₂ (λ (x y : List ℕ). x ++ y) none last.1) s.told,
     )
 
 pub returns-in-Ok-Last-clause-ok : goal.returns-in-Ok-Last-clause-ok
@@ -67,13 +67,9 @@ returns-in-Ok-Last-clause-ok g c =
       text ++ told.0,
       Consumes-trans _ _ _ _ _ s.reads consumes,
       Appends-trans _ _ _ _ _ s.writes told.1,
-      (
-        tells_last c.args.teller.now.form c.args.teller.now.side read bytes gone c.lines.reader c.next_line.new.reader (text ++ told.0) lines s.parts more last.1 some
-            (one_line line gone is)
-            (told_more c.args.teller.now.form c.lines.teller.form c.args.teller.now.side c.lines.teller.side c.lines.teller.lines lines gone text told.0 s.form s.side
-            s.count s.told (told.3 gone is)),
-        told.2 ∙ some_more c.lines.teller.has_written text told.0 s.some,
-      ),
+      whole_last (λ ls t. g.E.Explainer.has_told c.args.explainer.now c.answer.new.explainer ls t c.answer.new.sum.has_fault)
+          read bytes gone c.lines.reader c.next_line.new.reader (text ++ told.0) lines s.parts more last.1 some (one_line line gone is)
+          (told.2 c.args.explainer.now lines text gone s.told s.count is),
     ))
 
 pub returns-in-Ok-Last-clause-err : goal.returns-in-Ok-Last-clause-err
@@ -85,8 +81,12 @@ returns-in-Ok-Last-clause-err g c =
       text ++ stop.0,
       Consumes-trans _ _ _ _ _ s.reads consumes,
       Appends-trans _ _ _ _ _ s.writes stop.1,
-      stops_line c.args.teller.now.form c.args.teller.now.side fault (read ++ bytes) (gone ++ c.next_line.new.reader) text stop.0 lines stop.2
-          (record { parts = parts_read read bytes c.lines.reader (gone ++ c.next_line.new.reader) lines s.parts more; text = s.told; few = s.few }),
+      stops_line (SoFar g.E.Explainer.has_told c.args.explainer.now) fault (read ++ bytes) (gone ++ c.next_line.new.reader) text stop.0 lines stop.2
+          (record {
+            parts = parts_read read bytes c.lines.reader (gone ++ c.next_line.new.reader) lines s.parts more;
+            text = (c.lines.explainer, c.lines.sum.has_fault, s.told);
+            few = s.few;
+          }),
     ))
 
 pub lines-preserved : goal.lines-preserved
@@ -96,7 +96,7 @@ lines-preserved g c =
     let (gone, (bytes, more, consumes), (is, at, whole)) =
     found_as _ _ c.lines.reader c.next_line.new.reader (g.R.Source.has_ended c.next_line.new.source) c.in-Ok-Line.field-0 (Line line) c.in-Ok-Line.field-0-is c.in-Ok-Line.ensures.finds in
     let told = c.in_ok-answer-in-Ok-Line.ensures in
-    let (here, appends, some, tells) = told.ok in
+    let (here, appends, tells) = told.ok in
     let long = length-append lines (is ∷ []) in
     let before = s.count in
     let now = told.lines in (
@@ -105,11 +105,7 @@ lines-preserved g c =
       text ++ here,
       record {
         parts = parts_more read bytes is gone c.lines.reader c.next_line.new.reader lines s.parts more whole (one_line line is at);
-        told = told_more c.args.teller.now.form c.lines.teller.form c.args.teller.now.side c.lines.teller.side c.lines.teller.lines lines is text here s.form s.side
-            s.count s.told (tells is at);
-        form = told.form ∙ s.form;
-        side = told.side ∙ s.side;
-        some = some ∙ some_more c.lines.teller.has_written text here s.some;
+        told = tells c.args.explainer.now lines text is s.told s.count at;
         reads = Consumes-trans _ _ _ _ _ s.reads consumes;
         writes = Appends-trans _ _ _ _ _ s.writes appends;
         failed_reads = c.in-Ok-Line.ensures.failures ∙ s.failed_reads;
@@ -130,8 +126,12 @@ returns-in_err-answer-in-Ok-Line-clause-err g c =
       text ++ stop,
       Consumes-trans _ _ _ _ _ s.reads consumes,
       Appends-trans _ _ _ _ _ s.writes appends,
-      stops_line c.args.teller.now.form c.args.teller.now.side fault (read ++ bytes) (gone ++ c.next_line.new.reader) text stop lines stops
-          (record { parts = parts_read read bytes c.lines.reader (gone ++ c.next_line.new.reader) lines s.parts more; text = s.told; few = s.few }),
+      stops_line (SoFar g.E.Explainer.has_told c.args.explainer.now) fault (read ++ bytes) (gone ++ c.next_line.new.reader) text stop lines stops
+          (record {
+            parts = parts_read read bytes c.lines.reader (gone ++ c.next_line.new.reader) lines s.parts more;
+            text = (c.lines.explainer, c.lines.sum.has_fault, s.told);
+            few = s.few;
+          }),
     )
 
 pub returns-in-Err-goes_on-clause-err : goal.returns-in-Err-goes_on-clause-err
@@ -142,9 +142,13 @@ returns-in-Err-goes_on-clause-err g c =
       text,
       Consumes-trans _ _ _ _ _ s.reads consumes,
       s.writes,
-      stops_input c.args.teller.now.form c.args.teller.now.side c.in-Err-goes_on.fault _ c.show_fault-in-Err-goes_on.result (read ++ bytes) c.goes_on.new.self text lines
+      stops_input (SoFar g.E.Explainer.has_told c.args.explainer.now) c.in-Err-goes_on.fault _ c.show_fault-in-Err-goes_on.result (read ++ bytes) c.goes_on.new.self text lines
           c.show_fault-in-Err-goes_on.ensures
-          (record { parts = parts_read read bytes c.lines.reader c.goes_on.new.self lines s.parts more; text = s.told; few = s.few }),
+          (record {
+            parts = parts_read read bytes c.lines.reader c.goes_on.new.self lines s.parts more;
+            text = (c.lines.explainer, c.lines.sum.has_fault, s.told);
+            few = s.few;
+          }),
     )
 
 pub returns-in-Ok-true-clause-err : goal.returns-in-Ok-true-clause-err
@@ -159,7 +163,11 @@ returns-in-Ok-true-clause-err g c =
       (
         lines,
         c.goes_on.new.self,
-        record { parts = parts_read read bytes c.lines.reader c.goes_on.new.self lines s.parts more; text = s.told; few = few },
+        record {
+          parts = parts_read read bytes c.lines.reader c.goes_on.new.self lines s.parts more;
+          text = (c.lines.explainer, c.lines.sum.has_fault, s.told);
+          few = few;
+        },
         omega (arith, counted, few),
         c.in-Ok-true.ensures.more c.in-Ok-true.field-0-test,
       ),
@@ -174,9 +182,7 @@ returns-clause-ok g c =
       text,
       Consumes-trans _ _ _ _ _ s.reads consumes,
       s.writes,
-      (
-        tells_all c.args.teller.now.form c.args.teller.now.side (read ++ bytes) c.goes_on.new.self text lines
-            (parts_read read bytes c.lines.reader c.goes_on.new.self lines s.parts more) (next.end c.in-Ok-false.field-0-test).0 s.told,
-        s.some,
-      ),
+      whole_all (λ ls t. g.E.Explainer.has_told c.args.explainer.now c.lines.explainer ls t c.lines.sum.has_fault)
+          (read ++ bytes) c.goes_on.new.self text lines
+          (parts_read read bytes c.lines.reader c.goes_on.new.self lines s.parts more) (next.end c.in-Ok-false.field-0-test).0 s.told,
     )

@@ -1,24 +1,20 @@
 -- The lines before what the reader holds were told of, and no read or write has failed.
 use Rattle.std.proofs.Common.{◌≡◌, ◌-◌, ◌≤◌, ℕ, List, length}
-use Rattle.std.specs.Prelude.{nat_lt}
 use Rattle.std.specs.Io.KnownBytes.{Appends, Consumes}
-use Rattle.bidi_why.specs.Telling.{Parts, TellsEach}
+use Rattle.bidi_why.specs.Telling.{Parts}
 use Rattle.bidi_why.proofs.listing.tell_lines.Given as goal
 
 abbrev pub invariant-lines : goal.invariant-lines
 invariant-lines g l = (read : List ℕ) × (lines : List (List ℕ)) × (text : List ℕ) × (record {
   parts : Parts read lines l.reader;
-  told : TellsEach l.initial.teller.form l.initial.teller.side 1 lines text;
-  form : l.teller.form ≡ l.initial.teller.form;
-  side : l.teller.side ≡ l.initial.teller.side;
-  some : l.teller.has_written ≡ nat_lt 0 (length text);
+  told : g.E.Explainer.has_told l.initial.explainer l.explainer lines text l.sum.has_fault;
   reads : Consumes (g.R.Source.left l.initial.source) (g.R.Source.left l.source) read;
   writes : Appends (g.W.Sink.contents l.initial.sink) (g.W.Sink.contents l.sink) text;
   failed_reads : g.R.Source.failures l.source ≡ g.R.Source.failures l.initial.source;
   failed_writes : g.W.Sink.failures l.sink ≡ g.W.Sink.failures l.initial.sink;
-  count : l.teller.lines ≡ length lines;
+  count : l.sum.lines ≡ length lines;
   few : length lines ≤ 1000000000;
 })
 
 abbrev pub decreases-lines : goal.decreases-lines
-decreases-lines g l = 1000000000 - l.teller.lines
+decreases-lines g l = 1000000000 - l.sum.lines

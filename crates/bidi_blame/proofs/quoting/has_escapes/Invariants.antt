@@ -1,0 +1,6 @@
+use Rattle.std.proofs.Common.{◌≡◌, false, drop}
+use Rattle.json.specs.Print.{escape}
+use Rattle.bidi_blame.proofs.quoting.has_escapes.Given as goal
+
+abbrev pub invariant-loop-byte : goal.invariant-loop-byte
+invariant-loop-byte l = l.has_escapes ≡ false → escape (drop l.byte-index l.text) ≡ drop l.byte-index l.text → escape l.text ≡ l.text

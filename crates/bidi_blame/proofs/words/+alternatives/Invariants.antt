@@ -1,9 +1,0 @@
-use Rattle.std.proofs.Common.{◌≡◌, map, flat_map, drop, string_bytes}
-use Rattle.bidi_blame.specs.Grammar.{grammar}
-use Rattle.bidi_blame.specs.Words.{alternatives, each_once}
-use Rattle.bidi_blame.proofs.words.+alternatives.Given as goal
-
-abbrev pub invariant-tell_terms-loop-term : goal.invariant-tell_terms-loop-term
-invariant-tell_terms-loop-term l =
-    each_once (map string_bytes l.told.items) (flat_map alternatives (map grammar (drop l.term-index l.terms)))
-    ≡ each_once (map string_bytes l.fn.told.items) (flat_map alternatives (map grammar l.terms))

@@ -1,0 +1,35 @@
+use Rattle.std.proofs.Common.{◌∙◌, ◌++◌}
+use Rattle.std.proofs.KnownBytes.{Appends-trans}
+use Rattle.bidi_lines.proofs.ResultLemmas.{by_fault}
+use Rattle.bidi_why.proofs.ConversationLemmas.{stops_behind, tells_both}
+use Rattle.bidi_why.proofs.conversing.explain_both.Goals as goal
+
+pub returns-in_err-tell_waiting-clause-err : goal.returns-in_err-tell_waiting-clause-err
+returns-in_err-tell_waiting-clause-err g c =
+    let fault = c.in_err-tell_waiting.field-0.0 in
+    let (read, wrote, consumes, appends, whole) = c.in_ok-tell_lines.ensures.ok in
+    let (more, part, stops) = c.in_err-tell_waiting.ensures.err in
+    by_fault c.from_residual-in_err-tell_waiting.result fault _ c.from_residual-in_err-tell_waiting.ensures (
+      read,
+      wrote ++ more,
+      consumes,
+      Appends-trans _ _ _ _ _ appends part,
+      stops_behind c.args.form c.in_ok-conversation.conversation c.tell_lines.new.explainer c.tell_lines.new.sum.has_fault c.in_ok-conversation.ensures.form
+          fault read wrote more whole stops,
+    )
+
+pub returns-then-is_none-clause-ok : goal.returns-then-is_none-clause-ok
+returns-then-is_none-clause-ok g c =
+    let (read, wrote, consumes, appends, whole) = c.in_ok-tell_lines.ensures.ok in
+    let (text, rest, tells) =
+    tells_both c.args.form c.in_ok-conversation.conversation c.tell_lines.new.explainer c.tell_lines.new.sum.has_fault c.in_ok-conversation.ensures.form _ _
+    c.tell_waiting.new.sum.has_fault read wrote whole c.in_ok-tell_waiting.ensures.ok c.in_ok-tell_waiting.ensures.fault in
+    (read, wrote ++ text, consumes, Appends-trans _ _ _ _ _ appends rest, tells)
+
+pub returns-clause-ok : goal.returns-clause-ok
+returns-clause-ok g c =
+    let (read, wrote, consumes, appends, whole) = c.in_ok-tell_lines.ensures.ok in
+    let (text, rest, tells) =
+    tells_both c.args.form c.in_ok-conversation.conversation c.tell_lines.new.explainer c.tell_lines.new.sum.has_fault c.in_ok-conversation.ensures.form _ _
+    c.tell.result read wrote whole c.in_ok-tell_waiting.ensures.ok (c.tell.ensures.some ∙ c.in_ok-tell_waiting.ensures.fault) in
+    (read, wrote ++ text, consumes, Appends-trans _ _ _ _ _ appends rest, tells)

@@ -1,0 +1,180 @@
+-- A conversation of both ends: what is told of its lines, and of the commands that are never answered. Who answers what is decided as by a local end
+-- that sent just the commands which are accepted.
+use Rattle.std.specs.Prelude.{◌≡◌, ℕ, ◌+◌, ◌⊎◌, Bool, false, true, ◌||◌, ◌==◌, not, nat_lt, List, [], ◌∷◌, ◌++◌, filter, length, codes, IsUtf8, if◌then◌else◌}
+use Rattle.std.specs.Prelude.{Option, Some, None, option_and_then, unwrap_or}
+use Rattle.std.specs.List.{flat_map, list_any}
+use Rattle.bidi_tree.specs.Node.{Node, get_of}
+use Rattle.bidi_tree.specs.Kind.{text_in}
+use Rattle.bidi_tree.specs.Text.{tree_of}
+use Rattle.bidi_shape.specs.Term.{rule}
+use Rattle.bidi_params.specs.ErrorCode.{error_code_text}
+use Rattle.bidi_params.specs.declared.error_code.ErrorCode.{ErrorCode}
+use Rattle.bidi_methods.specs.declared.event_data.EventName.{EventName}
+use Rattle.bidi_methods.specs.declared.method.Method.{Method}
+use Rattle.bidi_methods.specs.Method.{method_text, result_of}
+use Rattle.bidi_messages.specs.Command.{id_in, method_in}
+use Rattle.bidi_messages.specs.Verdict.{Accepted, Refused, echoed_id}
+use Rattle.bidi_local.specs.Pending.{Pending, method_of, note_refusal}
+use Rattle.bidi_local.specs.Received as local
+use Rattle.bidi_local.specs.Received.{Meaning, Means, result_in, settled}
+use Rattle.bidi_local.specs.declared.local_end.NoteFault.TheVariants.{IdWaits, TooManyPending}
+use Rattle.bidi_lines.specs.InputLines.{IsLine}
+use Rattle.bidi_lines.specs.Skipping.{IsTooLong}
+use Rattle.bidi_lines.specs.declared.side.Side.{Side}
+use Rattle.bidi_lines.specs.declared.side.Side.TheVariants.{Local, Remote}
+use Rattle.bidi_show.specs.MessageLines.{HasVerdict, Refuses, id_text}
+use Rattle.bidi_show.specs.declared.showing.ShowFault.{ShowFault}
+use Rattle.bidi_show.specs.declared.showing.ShowFault.TheVariants.{Write, NoMemory}
+use Rattle.bidi_blame.specs.Blames.{Blames}
+use Rattle.bidi_blame.specs.Reason.{Reason}
+use Rattle.bidi_why.specs.Trouble.{IsTrouble, Trouble, begins_with_mark}
+use Rattle.bidi_why.specs.Telling.{StopsBy, Whole}
+use Rattle.bidi_why.specs.Remark.{Remark, bad_line, bad_result, failed, fault, id_waits, is_fault, remark_line, stray, too_many, unanswered_line}
+use Rattle.bidi_why.specs.declared.bad_text.BadText.TheVariants.{ByteOrderMark, NoDirection, TooLong}
+use Rattle.bidi_why.specs.declared.texts.Form.{Form}
+
+-- ---- what stands before a line
+
+pub record Standing : Type 0 where
+  -- the commands that wait for an answer
+  pub waiting : Pending
+  -- ids of commands that were refused; of an answer to one nothing is told
+  pub refused : List ℕ
+
+-- nothing was said
+abbrev pub silence : Standing
+silence = record { waiting = []; refused = [] }
+
+-- the command waits, too
+abbrev pub with_command : ℕ → Method → Standing → Standing
+with_command id method s = record { waiting = s.waiting ++ (id, method) ∷ []; refused = s.refused }
+
+-- so many are kept at most
+abbrev pub kept : List ℕ → ℕ → List ℕ
+kept ids id = if nat_lt (length ids) 1024 then ids ++ id ∷ [] else ids
+
+-- the command is refused, which has an id or none
+abbrev pub with_refused : Option ℕ → Standing → Standing
+with_refused None s = s
+with_refused (Some id) s = record { waiting = s.waiting; refused = kept s.refused id }
+
+-- whether a command of that id was refused, and has no answer
+abbrev pub was_refused : Option ℕ → Standing → Bool
+was_refused None s = false
+was_refused (Some id) s = list_any (λ x. x == id) s.refused
+
+-- that one has its answer
+abbrev pub without_refused : Option ℕ → Standing → Standing
+without_refused None s = s
+without_refused (Some id) s = record { waiting = s.waiting; refused = filter (λ x. not (x == id)) s.refused }
+
+-- a message with that meaning came
+abbrev pub behind : Meaning → Standing → Standing
+behind meaning s = record { waiting = settled s.waiting meaning; refused = s.refused }
+
+-- ---- one line
+
+-- the member `type`; of a message it is a text
+abbrev pub kind_in : Node → List ℕ
+kind_in t = unwrap_or (option_and_then text_in (get_of (codes "type") t)) []
+
+-- what is told of a message of this tree that means this, and what stands behind it
+pub data IsTold (s : Standing) (t : Node) : Meaning → Option Remark → Standing → Type 0 where
+  of_answer : (id : ℕ) (method : Method) (result : Node) → IsTold s t (local.Answer id method result) None (behind (local.Answer id method result) s)
+  of_event : (event : EventName) (params : Node) → IsTold s t (local.Event event params) None (behind (local.Event event params) s)
+  of_failure : (id : ℕ) (method : Method) (code : ErrorCode) → method_of s.waiting id ≡ Some method
+      → IsTold s t (local.Refusal id code) (Some (failed id method code)) (behind (local.Refusal id code) s)
+  of_result : (id : ℕ) (method : Method) (r : Reason) → method_of s.waiting id ≡ Some method → Blames (result_in t) (rule (result_of method)) r
+      → IsTold s t (local.BadResult id) (Some (bad_result id method r)) (behind (local.BadResult id) s)
+  of_refused : was_refused (echoed_id t) s ≡ true → IsTold s t local.Stray None (without_refused (echoed_id t) s)
+  of_stray : was_refused (echoed_id t) s ≡ false → IsTold s t local.Stray (Some (stray (echoed_id t) (kind_in t))) (behind local.Stray s)
+
+-- what stands in front of a text: who said it
+abbrev pub mark_of : Side → List ℕ
+mark_of Local = codes "> "
+mark_of Remote = codes "< "
+
+-- `refused ID CODE`
+abbrev pub refused_words : Option ℕ → ErrorCode → List ℕ
+refused_words id code = codes "refused " ++ id_text id ++ 32 ∷ error_code_text code
+
+-- what is told of a text, and what stands behind it
+pub data Hears (s : Standing) (text : List ℕ) : Side → Option Remark → Standing → Type 0 where
+  -- a command is accepted, and waits from now on
+  is_sent : (t : Node) (method : Method) → HasVerdict text (Accepted t) → method_in t ≡ method_text method → note_refusal s.waiting (id_in t) ≡ None
+      → Hears s text Local None (with_command (id_in t) method s)
+  -- its id waits, or too many do
+  is_sent_twice : (t : Node) (method : Method) → HasVerdict text (Accepted t) → method_in t ≡ method_text method
+      → note_refusal s.waiting (id_in t) ≡ Some IdWaits → Hears s text Local (Some (id_waits (id_in t) method)) s
+  is_one_too_many : (t : Node) (method : Method) → HasVerdict text (Accepted t) → method_in t ≡ method_text method
+      → note_refusal s.waiting (id_in t) ≡ Some TooManyPending
+      → Hears s text Local (Some (too_many (id_in t) method)) (with_refused (Some (id_in t)) s)
+  is_refused : (id : Option ℕ) (code : ErrorCode) (why : Trouble) → HasVerdict text (Refused id code) → IsTrouble Local text why
+      → Hears s text Local (Some (fault (refused_words id code) why)) (with_refused id s)
+  -- a message means what it means to the local end
+  is_message : (t : Node) (meaning : Meaning) (o : Option Remark) (s' : Standing) → IsUtf8 text → tree_of text ≡ Some t → Means s.waiting text meaning
+      → IsTold s t meaning o s' → Hears s text Remote o s'
+  is_no_message : (brief : List ℕ) (why : Trouble) → Refuses Remote text (Some brief) → IsTrouble Remote text why
+      → Hears s text Remote (Some (fault brief why)) s
+
+-- what is told of the line of this number, and what stands behind it
+pub data HearsLine (n : ℕ) (s : Standing) (line : List ℕ) : Option Remark → Standing → Type 0 where
+  is_too_long : IsTooLong line → HearsLine n s line (Some (bad_line TooLong)) s
+  is_marked : IsLine line → begins_with_mark n line ≡ true → HearsLine n s line (Some (bad_line ByteOrderMark)) s
+  is_no_text : IsLine line → begins_with_mark n line ≡ false → ((side : Side) (text : List ℕ) → line ≡ mark_of side ++ text → ⊥)
+      → HearsLine n s line (Some (bad_line NoDirection)) s
+  is_text : (side : Side) (text : List ℕ) (o : Option Remark) (s' : Standing) → IsLine line → begins_with_mark n line ≡ false
+      → line ≡ mark_of side ++ text → Hears s text side o s' → HearsLine n s line o s'
+
+-- ---- all lines
+
+-- the remark, with the number of its line
+abbrev pub at_line : ℕ → Option Remark → List (ℕ × Remark)
+at_line n None = []
+at_line n (Some r) = (n, r) ∷ []
+
+-- what is told of these lines, the first of which has this number, and what stands behind them
+abbrev pub HearsEach : ℕ → Standing → List (List ℕ) → List (ℕ × Remark) → Standing → Type 0
+HearsEach n s [] told s' = (told ≡ []) × (s' ≡ s)
+HearsEach n s (line ∷ lines) told s' =
+    (o : Option Remark) × (mid : Standing) × (more : List (ℕ × Remark))
+    × HearsLine n s line o mid × HearsEach (n + 1) mid lines more s' × (told ≡ at_line n o ++ more)
+
+-- what is written for these remarks
+abbrev pub remark_lines : Option Form → List (ℕ × Remark) → List ℕ
+remark_lines form told = flat_map (λ r. remark_line form r.0 r.1) told
+
+-- whether one of them is a fault
+abbrev pub has_fault : List (ℕ × Remark) → Bool
+has_fault told = list_any (λ r. is_fault r.1) told
+
+-- These lines are the beginning of a conversation; this is written for them, with a fault among it or not, and this stands behind them.
+abbrev pub Converses : Option Form → List (List ℕ) → List ℕ → Bool → Standing → Type 0
+Converses form lines text some s =
+    (told : List (ℕ × Remark)) × HearsEach 1 silence lines told s × (text ≡ remark_lines form told) × (some ≡ has_fault told)
+
+-- whether any command waits
+abbrev pub any_waits : Pending → Bool
+any_waits [] = false
+any_waits (w ∷ ws) = true
+
+-- The bytes are a conversation. What is written is what is told of its lines and then of each command that waits; it has a fault where a line has one,
+-- or where a command waits.
+abbrev pub TellsConversation : Option Form → Bool → List ℕ → List ℕ → Type 0
+TellsConversation form some bytes wrote =
+    (text : List ℕ) × (among : Bool) × (s : Standing) × Whole (λ lines written. Converses form lines written among s) bytes text
+    × (wrote ≡ text ++ flat_map (unanswered_line form) s.waiting) × (some ≡ (among || any_waits s.waiting))
+
+-- some lines at the front were told of by this text
+abbrev pub IsTranscript : Option Form → List (List ℕ) → List ℕ → Type 0
+IsTranscript form lines text = (some : Bool) × (s : Standing) × Converses form lines text some s
+
+-- What a fault behind the last line says: all lines were told of, and of the commands that wait a part.
+abbrev pub StopsBehind : Option Form → ShowFault → List ℕ → List ℕ → Type 0
+StopsBehind form Write read wrote = (text : List ℕ) × (more : List ℕ) × Whole (IsTranscript form) read text × (wrote ≡ text ++ more)
+StopsBehind form NoMemory read wrote = Whole (IsTranscript form) read wrote
+StopsBehind form f read wrote = ⊥
+
+-- What a fault says of the bytes that were read, and of what was written.
+abbrev pub StopsConversation : Option Form → ShowFault → List ℕ → List ℕ → Type 0
+StopsConversation form f read wrote = StopsBy (IsTranscript form) f read wrote ⊎ StopsBehind form f read wrote

@@ -1,0 +1,109 @@
+//! Listings of what is wrong with the lines of a conversation.
+ghost use Rattle.std.specs.Prelude.{◌≡◌, ℕ, ◌+◌, ◌||◌, List, None, false, IfOk, IfErr, OnErr, OnOk, IsTrue, MatchResult};
+ghost use Rattle.std.specs.Io.KnownBytes.{Appends};
+ghost use Rattle.std.specs.List.{flat_map};
+ghost use Rattle.bidi_lines.specs.Devices.{Moves};
+ghost use Rattle.bidi_local.specs.View.{waiting_in};
+ghost use Rattle.bidi_show.specs.Listings.{failed_reads, failed_writes};
+ghost use Rattle.bidi_why.specs.Conversing.{StopsConversation, TellsConversation, any_waits};
+ghost use Rattle.bidi_why.specs.Remark as told;
+ghost use Rattle.bidi_why.specs.Telling.{StopsLine};
+
+use crate::conversation::Conversation;
+use crate::listing::{tell_lines, write};
+use crate::remark::unanswered_line;
+use crate::sum::Sum;
+use crate::texts::Form;
+use bidi_lines::{Sink, Source};
+use bidi_messages::Method;
+use bidi_show::ShowFault;
+use bidi_tree::JsUint;
+use std::alloc::{AllocError, Global};
+
+/// Tells what is wrong in a conversation of both ends, and returns whether anything is.
+///
+/// Each line is `> ` and a text of the local end, or `< ` and one of the remote end, in the order in which they were sent. Each text is judged
+/// as a text of its end. Answers are held against the commands: a command that is accepted waits from then on, as at a [`LocalEnd`](bidi_local::LocalEnd)
+/// that sent just these commands, and messages mean what they mean to it. So it is told, too, where a command has the id of one that waits, or comes
+/// while 1,024 wait; where a response or an error answers no command that waits; where a result does not fit the rule of its command's method; where a
+/// command failed, which is no fault; and, behind the last line, which commands were never answered. Of an answer to a command that was refused nothing
+/// is told, as long as its id is one of the first 1,024 such ids without an answer.
+///
+/// Without a form each line says in brief what is wrong. With one it says where and why, and behind all, where there was a fault, `faults` is told how
+/// many lines have one and why, as [`explain`](crate::explain) tells it. Lines are read as there.
+///
+/// Costs the reading of each text, of a refused one and of a bad result twice. Memory holds a line, what waits, and at most 1,000 causes.
+///
+/// # Errors
+/// As [`explain`](crate::explain).
+pub fn explain_both<R: Source, W: Sink, F: Sink>(
+    alloc: Global,
+    form: Option<Form>,
+    source: &mut R,
+    sink: &mut W,
+    faults: &mut F,
+) -> Result<bool, ShowFault>
+    // All that the source had was lines, and what is told of them and of the commands without an answer was written.
+    ensures ok { IfOk result (λ some. Moves (R.left source.old) (R.left source.new) (W.contents sink.old) (W.contents sink.new)
+        (TellsConversation form some)) }
+    ensures end { OnOk result (IsTrue (R.has_ended source.new)) }
+
+    // Where there is no fault, where only that is told, and where a fault of a device ends the listing, `faults` is told nothing.
+    ensures told { OnErr result (faults.new ≡ faults.old) }
+    ensures quiet { IfOk result (λ some. some ≡ false → faults.new ≡ faults.old) }
+    ensures brief { form ≡ None → faults.new ≡ faults.old }
+
+    // A fault says what was read and written before it.
+    ensures err { IfErr result (λ fault. Moves (R.left source.old) (R.left source.new) (W.contents sink.old) (W.contents sink.new)
+        (StopsConversation form fault)) }
+
+    // A device is blamed where it failed, and no listing succeeds after a failure.
+    ensures reads { MatchResult result (λ _. R.failures source.new ≡ R.failures source.old)
+        (λ fault. R.failures source.new ≡ R.failures source.old + failed_reads fault) }
+    ensures writes { MatchResult result (λ _. W.failures sink.new ≡ W.failures sink.old)
+        (λ fault. W.failures sink.new ≡ W.failures sink.old + failed_writes fault) }
+{
+    let mut conversation = Conversation::new(alloc, form)?;
+    let mut sum = Sum::new(alloc);
+    tell_lines(alloc, &mut conversation, &mut sum, source, sink)?;
+    tell_waiting(alloc, &conversation, &mut sum, sink)?;
+    if form.is_none() {
+        return Ok(sum.has_fault);
+    }
+    Ok(sum.tell(faults))
+}
+
+// Writes what is told of the commands without an answer.
+fn tell_waiting<W: Sink>(
+    alloc: Global,
+    conversation: &Conversation,
+    sum: &mut Sum,
+    sink: &mut W,
+) -> Result<(), ShowFault>
+    ensures fault { OnOk result (sum.new.has_fault ≡ (sum.old.has_fault || any_waits (waiting_in conversation.now.end))) }
+    ensures ok { OnOk result (Appends (W.contents sink.old) (W.contents sink.new)
+        (flat_map (told.unanswered_line conversation.now.form) (waiting_in conversation.now.end))) }
+    ensures err { IfErr result (λ fault. (more : List ℕ) × Appends (W.contents sink.old) (W.contents sink.new) more × StopsLine fault more) }
+    ensures writes { MatchResult result (λ _. W.failures sink.new ≡ W.failures sink.old)
+        (λ fault. W.failures sink.new ≡ W.failures sink.old + failed_writes fault) }
+{
+    let waiting = conversation.end.waiting()?;
+    sum.count_unanswered(alloc, waiting.len())?;
+    let text = unanswered_lines(alloc, conversation.form, &waiting)?;
+    write(sink, &text)
+}
+
+// What is written for the commands without an answer.
+fn unanswered_lines(
+    alloc: Global,
+    form: Option<Form>,
+    waiting: &[(JsUint, Method)],
+) -> Result<Vec<u8>, AllocError>
+    ensures { IfOk result (λ text. text.items ≡ flat_map (λ w. told.unanswered_line form (w.0.value, w.1)) waiting.now) }
+{
+    let mut text = Vec::new(alloc);
+    for (id, method) in waiting {
+        text.extend_from_slice(&unanswered_line(alloc, form, *id, *method)?)?;
+    }
+    Ok(text)
+}

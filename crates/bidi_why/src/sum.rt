@@ -1,0 +1,89 @@
+//! What was told so far, in numbers.
+ghost use Rattle.std.specs.Prelude.{◌≡◌, ◌<◌, ◌||◌, true, false, nat_lt, IfOk, OnOk};
+ghost use Rattle.bidi_lines.specs.Devices.{CountsFailure};
+
+use crate::counting::Causes;
+use bidi_lines::{DeviceFault, Sink, write_all};
+use itoa::Buffer;
+use std::alloc::{AllocError, Global};
+
+/// How many lines there were, how many of them have a fault, and which causes were met.
+#[derive(Drop)]
+pub(crate) struct Sum {
+    /// How many lines there were.
+    pub lines: u64,
+    /// Whether there was any fault.
+    pub has_fault: bool,
+    // How many lines have one.
+    refused: u64,
+    causes: Causes,
+}
+
+impl Sum {
+    /// That of no line. Takes no memory.
+    pub(crate) fn new(alloc: Global) -> Sum
+        ensures lines { result.lines ≡ 0 }
+        ensures none { result.has_fault ≡ false }
+    {
+        Sum {
+            lines: 0,
+            has_fault: false,
+            refused: 0,
+            causes: Causes::new(alloc),
+        }
+    }
+
+    /// Counts what is told of a line, by its cause.
+    ///
+    /// # Errors
+    /// No memory: an allocation failed.
+    pub(crate) fn count(&mut self, is_fault: bool, cause: Vec<u8>) -> Result<(), AllocError>
+        ensures lines { self.new.lines ≡ self.old.lines }
+        ensures fault { OnOk result (self.new.has_fault ≡ (self.old.has_fault || is_fault)) }
+    {
+        if is_fault {
+            self.refused = self.refused.saturating_add(1);
+        }
+        self.causes.add(cause)?;
+        self.has_fault |= is_fault;
+        Ok(())
+    }
+
+    /// Counts so many commands without an answer.
+    ///
+    /// # Errors
+    /// No memory: an allocation failed.
+    pub(crate) fn count_unanswered(&mut self, alloc: Global, count: usize) -> Result<(), AllocError>
+        ensures fault { OnOk result (self.new.has_fault ≡ (self.old.has_fault || nat_lt 0 count)) }
+    {
+        self.causes.add_each(alloc, b"unanswered", count)?;
+        self.has_fault |= count > 0;
+        Ok(())
+    }
+
+    /// Writes how many lines have a fault and why, as far as it can be written, and returns whether there was any fault.
+    ///
+    /// Where there was none, it writes nothing. Takes no memory.
+    pub(crate) fn tell<F: Sink>(&mut self, faults: &mut F) -> bool
+        ensures some { result ≡ self.old.has_fault }
+        ensures quiet { result ≡ false → faults.new ≡ faults.old }
+    {
+        if !self.has_fault {
+            return false;
+        }
+        self.causes.sort();
+        let _ = self.write(faults);
+        true
+    }
+
+    // `R of N lines are refused`, and the causes.
+    fn write<F: Sink>(&self, faults: &mut F) -> Result<(), DeviceFault>
+        ensures { CountsFailure result (F.failures faults.old) (F.failures faults.new) }
+    {
+        write_all(faults, Buffer::new().format(self.refused).as_bytes())?;
+        write_all(faults, b" of ")?;
+        write_all(faults, Buffer::new().format(self.lines).as_bytes())?;
+        write_all(faults, b" lines are refused\n")?;
+        self.causes.write(faults)
+    }
+}
