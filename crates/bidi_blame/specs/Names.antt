@@ -41,6 +41,7 @@ name_of code.Target = rule.target
 name_of code.ContextTarget = rule.context_target
 name_of code.RealmTarget = rule.realm_target
 name_of code.Ownership = rule.ownership
+name_of code.SerializationOptions = rule.serialization_options
 name_of code.EvaluateParameters = rule.evaluate_parameters
 name_of code.CallFunctionParameters = rule.call_function_parameters
 name_of code.DisownParameters = rule.disown_parameters
@@ -107,6 +108,7 @@ rule_text rule.target = codes "Target"
 rule_text rule.context_target = codes "ContextTarget"
 rule_text rule.realm_target = codes "RealmTarget"
 rule_text rule.ownership = codes "Ownership"
+rule_text rule.serialization_options = codes "SerializationOptions"
 rule_text rule.evaluate_parameters = codes "EvaluateParameters"
 rule_text rule.call_function_parameters = codes "CallFunctionParameters"
 rule_text rule.disown_parameters = codes "DisownParameters"
@@ -174,6 +176,7 @@ all_names =
     ∷ code.ContextTarget
     ∷ code.RealmTarget
     ∷ code.Ownership
+    ∷ code.SerializationOptions
     ∷ code.EvaluateParameters
     ∷ code.CallFunctionParameters
     ∷ code.DisownParameters

@@ -47,6 +47,7 @@ pub enum Name {
     ContextTarget,
     RealmTarget,
     Ownership,
+    SerializationOptions,
     EvaluateParameters,
     CallFunctionParameters,
     DisownParameters,
@@ -78,7 +79,7 @@ pub enum Name {
 }
 
 // All names, in their order.
-static ALL: [Name; 64] = [
+static ALL: [Name; 65] = [
     Name::EmptyParams,
     Name::EmptyResult,
     Name::Command,
@@ -115,6 +116,7 @@ static ALL: [Name; 64] = [
     Name::ContextTarget,
     Name::RealmTarget,
     Name::Ownership,
+    Name::SerializationOptions,
     Name::EvaluateParameters,
     Name::CallFunctionParameters,
     Name::DisownParameters,
@@ -194,6 +196,7 @@ impl Name {
             Name::ContextTarget => "ContextTarget",
             Name::RealmTarget => "RealmTarget",
             Name::Ownership => "Ownership",
+            Name::SerializationOptions => "SerializationOptions",
             Name::EvaluateParameters => "EvaluateParameters",
             Name::CallFunctionParameters => "CallFunctionParameters",
             Name::DisownParameters => "DisownParameters",
@@ -268,6 +271,7 @@ impl Name {
             Name::ContextTarget => &script::CONTEXT_TARGET,
             Name::RealmTarget => &script::REALM_TARGET,
             Name::Ownership => &script::OWNERSHIP,
+            Name::SerializationOptions => &script::SERIALIZATION_OPTIONS,
             Name::EvaluateParameters => &script::EVALUATE_PARAMETERS,
             Name::CallFunctionParameters => &script::CALL_FUNCTION_PARAMETERS,
             Name::DisownParameters => &script::DISOWN_PARAMETERS,

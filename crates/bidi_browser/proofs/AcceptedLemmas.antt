@@ -120,10 +120,10 @@ ends-sound past (Navigate id address wait) =
 ends-sound past (Reload id wait) = sound-then past (context_named past id) _ (λ c e. sound-ok past (Moved c Again) (named-alive past id c e))
 ends-sound past (TraverseHistory id delta) =
     sound-then past (top_named past id) _ (λ c e. sound-then past _ _ (λ place f. sound-ok past (Moved c (Across place)) (top-alive past id c e)))
-ends-sound past (Evaluate expression target owned) =
+ends-sound past (Evaluate expression target owned depth) =
     sound-then past (realm_targeted past target) _ (λ r e. sound-then past (found (row_of past expression) UnsupportedOperation) _
     (λ row f. sound-ending past r owned (ending_of row []) (target-made past target r e)))
-ends-sound past (CallFunction declaration target values this owned) =
+ends-sound past (CallFunction declaration target values this owned depth) =
     sound-then past (realm_targeted past target) _
     (λ r e. sound-then past (arguments (held_value past r) values) _ (λ resolved f. sound-then past (this_resolved past r this) _
     (λ self g. sound-then past (found (row_of past declaration) UnsupportedOperation) _

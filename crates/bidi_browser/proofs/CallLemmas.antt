@@ -69,9 +69,9 @@ pub gives-code : {A B : Type 0} (view : A → B) (e : Refusal) (answer : Result 
     → Gives view (Err e) answer → (code : ErrorCode) → e ≡ Code code → answer ≡ Err code
 gives-code view e answer gives code is = subst (λ f. Gives view (Err f) answer) is gives
 
-pub run-code : (e : Refusal) (past : List Act) (c : ℕ) (owned : Bool) (ending : Ending) → HasRun (Err e) past c owned ending
+pub run-code : (e : Refusal) (past : List Act) (c : ℕ) (owned : Bool) (depth : Option ℕ) (ending : Ending) → HasRun (Err e) past c owned depth ending
     → (code : ErrorCode) → e ≡ Code code → ending_outcome past (realm_of past c) owned ending ≡ Err code
-run-code e past c owned ending has_run code is = subst (λ f. HasRun (Err f) past c owned ending) is has_run
+run-code e past c owned depth ending has_run code is = subst (λ f. HasRun (Err f) past c owned depth ending) is has_run
 
 -- ---- what is planned
 

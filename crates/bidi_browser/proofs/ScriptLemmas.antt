@@ -25,6 +25,7 @@ use Rattle.bidi_browser.specs.Outcome.{ending_outcome}
 use Rattle.bidi_browser.specs.Plans.{EditMakes}
 use Rattle.bidi_browser.specs.Realms.{value_of}
 use Rattle.bidi_browser.specs.Runs.{result_told}
+use Rattle.bidi_values.specs.Cut.{cut_to}
 use Rattle.bidi_handles.specs.Values.{takes_handle, shown_as}
 use Rattle.bidi_browser.specs.Contexts.{contexts, is_alive, up_to}
 use Rattle.bidi_browser.specs.Occurs.{Replies, occurs}
@@ -83,27 +84,27 @@ disown-plans plan past moment action c ids r number numbers asked alive checked 
 -- ---- scripts that ended
 
 -- a script whose value gets no handle
-pub ran-unheld : (past : List Act) (c : ℕ) (owned : Bool) (ending : Ending) (realm : ℕ) (t : Node)
-    → (owned && takes_handle (value_of ending)) ≡ false → realm ≡ realm_of past c → t ≡ result_told realm ending (value_of ending)
+pub ran-unheld : (past : List Act) (c : ℕ) (owned : Bool) (depth : Option ℕ) (ending : Ending) (realm : ℕ) (t : Node)
+    → (owned && takes_handle (value_of ending)) ≡ false → realm ≡ realm_of past c → t ≡ result_told realm ending (cut_to depth (value_of ending))
     → (let r = realm_of past c in let held = owned && takes_handle (value_of ending) in
-    (ending_outcome past r owned ending ≡ Ok (Ran r ending held)) × (t ≡ script_result past r ending held) × EditMakes Keep past (Ran r ending held))
-ran-unheld past c owned (Returned v) realm t none at told = rw none (refl, told ∙ ap (λ r. result_told r (Returned v) v) at, refl)
-ran-unheld past c owned (Threw v) realm t none at told = rw none (refl, told ∙ ap (λ r. result_told r (Threw v) v) at, refl)
+    (ending_outcome past r owned ending ≡ Ok (Ran r ending held)) × (t ≡ script_result past r depth ending held) × EditMakes Keep past (Ran r ending held))
+ran-unheld past c owned depth (Returned v) realm t none at told = rw none (refl, told ∙ ap (λ r. result_told r (Returned v) (cut_to depth v)) at, refl)
+ran-unheld past c owned depth (Threw v) realm t none at told = rw none (refl, told ∙ ap (λ r. result_told r (Threw v) (cut_to depth v)) at, refl)
 
 -- and one whose value gets one
-pub ran-held : (past : List Act) (c : ℕ) (owned : Bool) (ending : Ending) (realm : ℕ) (t : Node) (n : ℕ) (seen : ℕ × Node) (number : ℕ)
+pub ran-held : (past : List Act) (c : ℕ) (owned : Bool) (depth : Option ℕ) (ending : Ending) (realm : ℕ) (t : Node) (n : ℕ) (seen : ℕ × Node) (number : ℕ)
     → (owned && takes_handle (value_of ending)) ≡ true
     → nat_lt (length (handles_of past (realm_of past c))) 1000 ≡ true → n ≡ next_number past kind.Handle
     → is_alive past c ≡ true → realm ≡ realm_of past c
-    → number ≡ c → t ≡ result_told realm ending (shown_as (Some n) (value_of ending)) → seen ≡ (n, value_of ending)
+    → number ≡ c → t ≡ result_told realm ending (shown_as (Some n) (cut_to depth (value_of ending))) → seen ≡ (n, value_of ending)
     → (let r = realm_of past c in let held = owned && takes_handle (value_of ending) in
-    (ending_outcome past r owned ending ≡ Ok (Ran r ending held)) × (t ≡ script_result past r ending held)
+    (ending_outcome past r owned ending ≡ Ok (Ran r ending held)) × (t ≡ script_result past r depth ending held)
     × ((e : Ending) × (is_alive past number ≡ true)
     × (Ran r ending held ≡ Ran (realm_of past number) e true) × (seen ≡ (next_number past kind.Handle, value_of e))))
-ran-held past c owned (Returned v) realm t n seen number some room next alive at is told holds =
+ran-held past c owned depth (Returned v) realm t n seen number some room next alive at is told holds =
     rw (some, room) (
       refl,
-      told ∙ ap₂ (λ r k. result_told r (Returned v) (shown_as (Some k) v)) at next,
+      told ∙ ap₂ (λ r k. result_told r (Returned v) (shown_as (Some k) (cut_to depth v))) at next,
       (
         Returned v,
         subst (λ k. is_alive past k ≡ true) (sym is) alive,
@@ -111,9 +112,9 @@ ran-held past c owned (Returned v) realm t n seen number some room next alive at
         holds ∙ ap (λ k. (k, v)) next,
       ),
     )
-ran-held past c owned (Threw v) realm t n seen number some room next alive at is told holds =
+ran-held past c owned depth (Threw v) realm t n seen number some room next alive at is told holds =
     rw (some, room) (
       refl,
-      told ∙ ap₂ (λ r k. result_told r (Threw v) (shown_as (Some k) v)) at next,
+      told ∙ ap₂ (λ r k. result_told r (Threw v) (shown_as (Some k) (cut_to depth v))) at next,
       (Threw v, subst (λ k. is_alive past k ≡ true) (sym is) alive, ap (λ k. Ran (realm_of past k) (Threw v) true) (sym is), holds ∙ ap (λ k. (k, v)) next),
     )

@@ -37,9 +37,9 @@ pub data Action : Type 0 where
   Navigate : (context : List ℕ) (url : List ℕ) (wait : Wait) → Action
   Reload : (context : List ℕ) (wait : Wait) → Action
   TraverseHistory : (context : List ℕ) (delta : ℤ) → Action
-  -- owned, where the value gets a handle
-  Evaluate : (expression : List ℕ) (target : Target) (owned : Bool) → Action
-  CallFunction : (declaration : List ℕ) (target : Target) (arguments : List Node) (this : Option Node) (owned : Bool) → Action
+  -- owned, where the value gets a handle; with a depth, where it is cut
+  Evaluate : (expression : List ℕ) (target : Target) (owned : Bool) (depth : Option ℕ) → Action
+  CallFunction : (declaration : List ℕ) (target : Target) (arguments : List Node) (this : Option Node) (owned : Bool) (depth : Option ℕ) → Action
   Disown : (handles : List (List ℕ)) (target : Target) → Action
   GetRealms : (context : Option (List ℕ)) (type : Option (List ℕ)) → Action
   -- steps of a page
@@ -58,8 +58,8 @@ method_of (GetTree depth root) = Some BrowsingContextGetTree
 method_of (Navigate id url wait) = Some BrowsingContextNavigate
 method_of (Reload id wait) = Some BrowsingContextReload
 method_of (TraverseHistory id delta) = Some BrowsingContextTraverseHistory
-method_of (Evaluate expression target owned) = Some ScriptEvaluate
-method_of (CallFunction declaration target arguments this owned) = Some ScriptCallFunction
+method_of (Evaluate expression target owned depth) = Some ScriptEvaluate
+method_of (CallFunction declaration target arguments this owned depth) = Some ScriptCallFunction
 method_of (Disown handles target) = Some ScriptDisown
 method_of (GetRealms context type) = Some ScriptGetRealms
 method_of action = None
@@ -89,6 +89,10 @@ wait_of params =
 abbrev pub is_owned : Node → Bool
 is_owned params = is_text "root" (text_if_at "resultOwnership" params)
 
+-- the depth at which the value is cut; absent or null, it stays whole
+abbrev pub object_depth : Node → Option ℕ
+object_depth params = number_if_at "maxObjectDepth" (unwrap_or (tree_if_at "serializationOptions" params) null)
+
 -- a text stands there, or nothing at all
 abbrev pub is_well_at : String → Node → Bool
 is_well_at name params = is_none (tree_if_at name params) || is_some (text_if_at name params)
@@ -114,10 +118,10 @@ browser_commands =
     ∷ ("browsingContext.navigate", λ p. Navigate (text_at "context" p) (text_at "url" p) (wait_of p))
     ∷ ("browsingContext.reload", λ p. Reload (text_at "context" p) (wait_of p))
     ∷ ("browsingContext.traverseHistory", λ p. TraverseHistory (text_at "context" p) (whole_at "delta" p))
-    ∷ ("script.evaluate", λ p. Evaluate (text_at "expression" p) (target_of p) (is_owned p))
+    ∷ ("script.evaluate", λ p. Evaluate (text_at "expression" p) (target_of p) (is_owned p) (object_depth p))
     ∷ (
       "script.callFunction",
-      λ p. CallFunction (text_at "functionDeclaration" p) (target_of p) (unwrap_or (trees_if_at "arguments" p) []) (tree_if_at "this" p) (is_owned p),
+      λ p. CallFunction (text_at "functionDeclaration" p) (target_of p) (unwrap_or (trees_if_at "arguments" p) []) (tree_if_at "this" p) (is_owned p) (object_depth p),
     )
     ∷ ("script.disown", λ p. Disown (texts_at "handles" p) (target_of p))
     ∷ ("script.getRealms", λ p. GetRealms (text_if_at "context" p) (text_if_at "type" p))

@@ -1,5 +1,5 @@
 -- What an action in hand asks.
-use Rattle.std.specs.Prelude.{Bool, true, false, List, [], map, Option, Some, None, option_map, unwrap_or, string_bytes}
+use Rattle.std.specs.Prelude.{ℕ, Bool, true, false, List, [], map, Option, Some, None, option_map, option_and_then, unwrap_or, string_bytes}
 use Rattle.bidi_params.specs.declared.browsing_context.create.ContextType.{ContextType}
 use Rattle.bidi_params.specs.declared.browsing_context.create.ContextType.TheVariants as type
 use Rattle.bidi_params.specs.declared.browsing_context.create.ActivateParameters.{ActivateParameters}
@@ -14,6 +14,7 @@ use Rattle.bidi_params.specs.declared.browsing_context.navigate.TraverseHistoryP
 use Rattle.bidi_params.specs.Words.{realm_type_text}
 use Rattle.bidi_values.specs.declared.evaluate.Ownership.{Ownership}
 use Rattle.bidi_values.specs.declared.evaluate.Ownership.TheVariants as ownership
+use Rattle.bidi_values.specs.declared.serialization_options.SerializationOptions.{SerializationOptions}
 use Rattle.bidi_values.specs.declared.evaluate.EvaluateParameters.{EvaluateParameters}
 use Rattle.bidi_values.specs.declared.call_function.CallFunctionParameters.{CallFunctionParameters}
 use Rattle.bidi_values.specs.declared.call_function.DisownParameters.{DisownParameters}
@@ -77,8 +78,12 @@ is_owned (Some ownership.Root) = true
 is_owned (Some ownership.None) = false
 is_owned None = false
 
+-- the depth at which the value is cut; absent or null, it stays whole
+abbrev pub object_depth : Option SerializationOptions → Option ℕ
+object_depth options = option_map (λ n. n.value) (option_and_then (λ o. unwrap_or o.max_object_depth None) options)
+
 abbrev pub evaluate_asked : EvaluateParameters → Action
-evaluate_asked p = Evaluate (string_bytes p.expression) (target_of p.target) (is_owned p.result_ownership)
+evaluate_asked p = Evaluate (string_bytes p.expression) (target_of p.target) (is_owned p.result_ownership) (object_depth p.serialization_options)
 
 -- the trees of the arguments; absent, there are none
 abbrev pub arguments_asked : CallFunctionParameters → List Node
@@ -87,7 +92,7 @@ arguments_asked p = unwrap_or (option_map (λ vs. map local_tree vs.items) p.arg
 abbrev pub call_function_asked : CallFunctionParameters → Action
 call_function_asked p =
     CallFunction (string_bytes p.function_declaration) (target_of p.target) (arguments_asked p)
-    (option_map local_tree p.this) (is_owned p.result_ownership)
+    (option_map local_tree p.this) (is_owned p.result_ownership) (object_depth p.serialization_options)
 
 abbrev pub disown_asked : DisownParameters → Action
 disown_asked p = Disown (map string_bytes p.handles.items) (target_of p.target)

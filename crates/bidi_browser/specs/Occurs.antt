@@ -8,7 +8,8 @@ use Rattle.bidi_browser.specs.Acts.{Act, Made, Framed, Removed, Moved, Logged, T
 use Rattle.bidi_browser.specs.Acts.{Looked, Move, Across, Ending, Returned, Threw, next_number}
 use Rattle.bidi_browser.specs.Contexts.{context_of, tops, children_of, tree_order}
 use Rattle.bidi_browser.specs.Places.{entries_of, moved, present}
-use Rattle.bidi_browser.specs.Actions.{Wait, Started, Interactive, Complete, Action, Unframe, Navigate, Reload, GetTree, GetRealms}
+use Rattle.bidi_browser.specs.Actions.{Wait, Started, Interactive, Complete, Action, Unframe, Navigate, Reload, GetTree, Evaluate, CallFunction, GetRealms}
+use Rattle.bidi_values.specs.Cut.{cut_to}
 use Rattle.bidi_handles.specs.Values.{with_member}
 use Rattle.bidi_handles.specs.Maps.{◌being◌and◌, mapped, listed, nothing, word, number, id_tree}
 use Rattle.bidi_browser.specs.Info.{info_of}
@@ -98,15 +99,21 @@ exception_details value = mapped (
     "stackTrace" being mapped ("callFrames" being listed [] and no_members) and
     "text" being word "thrown" and no_members)
 
--- the result of a script that ended in a realm
-abbrev pub script_result : List Act → ℕ → Ending → Bool → Node
-script_result past r (Returned value) held = mapped (
+-- the depth at which the value of a script is cut
+abbrev pub depth_in : Action → Option ℕ
+depth_in (Evaluate expression target owned depth) = depth
+depth_in (CallFunction declaration target arguments this owned depth) = depth
+depth_in action = None
+
+-- the result of a script that ended in a realm, with its value cut and then with its handle
+abbrev pub script_result : List Act → ℕ → Option ℕ → Ending → Bool → Node
+script_result past r depth (Returned value) held = mapped (
     "type" being word "success" and
-    "result" being shown past held value and
+    "result" being shown past held (cut_to depth value) and
     "realm" being id_tree Realm r and no_members)
-script_result past r (Threw value) held = mapped (
+script_result past r depth (Threw value) held = mapped (
     "type" being word "exception" and
-    "exceptionDetails" being exception_details (shown past held value) and
+    "exceptionDetails" being exception_details (shown past held (cut_to depth value)) and
     "realm" being id_tree Realm r and no_members)
 
 -- ---- commands that look
@@ -147,6 +154,6 @@ occurs past moment action (Removed c) = map Happens (removal past c) ++ removal_
 occurs past moment action (Moved c move) = navigation past moment (wait_in action) c move
 occurs past moment action (Logged c level line) = Happens (entry_added past moment c level line) ∷ []
 occurs past moment action (Tabled t row) = []
-occurs past moment action (Ran r ending held) = Replies (script_result past r ending held) ∷ []
+occurs past moment action (Ran r ending held) = Replies (script_result past r (depth_in action) ending held) ∷ []
 occurs past moment action (Disowned r ids) = Replies nothing ∷ []
 occurs past moment action Looked = Replies (looked_result past action) ∷ []

@@ -56,11 +56,11 @@ result_told r (Threw value) shown = mapped (
     "realm" being id_tree Realm r and no_members)
 
 -- the script's act, its result, and the change that it makes; or the code of its check
-abbrev pub HasRun : Result RanInHand Refusal → List Act → ℕ → Bool → Ending → Type 0
-HasRun (Ok ran) past c owned ending =
+abbrev pub HasRun : Result RanInHand Refusal → List Act → ℕ → Bool → Option ℕ → Ending → Type 0
+HasRun (Ok ran) past c owned depth ending =
     let r = realm_of past c in
     let held = owned && takes_handle (value_of ending) in
     (ending_outcome past r owned ending ≡ Ok (Ran r ending held))
-    × (results.ghosts.shape.tree_of ran.result ≡ script_result past r ending held) × EditMakes ran.edit past (Ran r ending held)
-HasRun (Err (Code code)) past c owned ending = ending_outcome past (realm_of past c) owned ending ≡ Err code
-HasRun (Err NoMemory) past c owned ending = ⊤
+    × (results.ghosts.shape.tree_of ran.result ≡ script_result past r depth ending held) × EditMakes ran.edit past (Ran r ending held)
+HasRun (Err (Code code)) past c owned depth ending = ending_outcome past (realm_of past c) owned ending ≡ Err code
+HasRun (Err NoMemory) past c owned depth ending = ⊤

@@ -16,7 +16,8 @@ use Rattle.bidi_browser.specs.declared.script_table.ScriptRow.TheVariants as in_
 use Rattle.bidi_browser.specs.declared.script_table.ScriptTable.{ScriptTable}
 use Rattle.bidi_browser.specs.Acts.{Act, ScriptEffect, EndsIn, GivesBack, Ending, Returned, Threw}
 use Rattle.bidi_browser.specs.Outcome.{row_checked}
-use Rattle.bidi_handles.specs.ValuesInHand.{remote_tree, held_tree}
+use Rattle.bidi_values.specs.RemoteView.{remote_tree}
+use Rattle.bidi_handles.specs.ValuesInHand.{held_tree}
 use Rattle.bidi_browser.specs.Realms.{row_of, tabled_texts}
 
 -- the tree of a row that was read

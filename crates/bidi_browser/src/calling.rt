@@ -15,7 +15,7 @@ use crate::browser::Browser;
 use crate::context::Context;
 use crate::looking::answered;
 use crate::plan::Plan;
-use crate::scripts::{Ran, ending_of, is_owned, run, targeted};
+use crate::scripts::{Ran, ending_of, is_owned, object_depth, run, targeted};
 use bidi_handles::{Ending, Refusal, check_arguments, check_this};
 use bidi_methods::{Method, ResultData};
 use bidi_values::{CallFunctionParameters, LocalValue};
@@ -43,7 +43,9 @@ pub(crate) fn plan_call_function(
 {
     let context = targeted(&browser.contexts, &params.target)?;
     let ending = called(browser, context, params)?;
-    let Ran { result, edit } = run(browser, context, ending, is_owned(params.result_ownership))?;
+    let depth = object_depth(&params.serialization_options);
+    let owned = is_owned(params.result_ownership);
+    let Ran { result, edit } = run(browser, context, ending, owned, depth)?;
     let result = ResultData::ScriptCallFunction(result);
     Ok(answered(browser.alloc, result, edit))
 }

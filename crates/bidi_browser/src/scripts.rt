@@ -2,7 +2,7 @@
 ghost use Rattle.std.specs.Prelude.{◌≡◌, ◌≤◌, ◌<◌, ◌^◌, ℕ, List, [], true, Ok, IfOk, IfErr, bytes_eq, map, not, option_map, slice_get, string_bytes, unwrap_or};
 ghost use Rattle.bidi_browser.specs.Acts.{Act};
 ghost use Rattle.bidi_browser.specs.Actions as asked;
-ghost use Rattle.bidi_browser.specs.Asked.{disown_asked, evaluate_asked, is_owned, target_of};
+ghost use Rattle.bidi_browser.specs.Asked.{disown_asked, evaluate_asked, is_owned, object_depth, target_of};
 ghost use Rattle.bidi_browser.specs.Contexts.{is_alive};
 ghost use Rattle.bidi_browser.specs.ContextRows.{row_of, row_at};
 ghost use Rattle.bidi_browser.specs.Realms.{realm_of, value_of};
@@ -30,9 +30,10 @@ use bidi_handles::{
 use bidi_methods::{Method, ResultData};
 use bidi_params::ErrorCode;
 use bidi_shape::Shape;
+use bidi_tree::JsUint;
 use bidi_values::{
     DisownParameters, EvaluateParameters, EvaluateResult, Ownership, Primitive, RemotePlain,
-    RemoteValue, Target,
+    RemoteValue, SerializationOptions, Target,
 };
 use std::alloc::{AllocError, Global};
 use std::rc::Rc;
@@ -63,7 +64,9 @@ pub(crate) fn plan_evaluate(browser: &Browser, params: &EvaluateParameters) -> R
 {
     let context = targeted(&browser.contexts, &params.target)?;
     let ending = evaluated(browser, &params.expression)?;
-    let Ran { result, edit } = run(browser, context, ending, is_owned(params.result_ownership))?;
+    let depth = object_depth(&params.serialization_options);
+    let owned = is_owned(params.result_ownership);
+    let Ran { result, edit } = run(browser, context, ending, owned, depth)?;
     Ok(answered(browser.alloc, ResultData::ScriptEvaluate(result), edit))
 }
 
@@ -72,6 +75,16 @@ pub(crate) fn is_owned(ownership: Option<Ownership>) -> bool
     ensures { result ≡ is_owned ownership }
 {
     matches!(ownership, Some(Ownership::Root))
+}
+
+/// The depth at which the result is cut, if it is. Absent or null, it stays whole.
+pub(crate) fn object_depth(options: &Option<SerializationOptions>) -> Option<JsUint>
+    ensures { option_map (λ d. d.value) result ≡ object_depth options.now }
+{
+    match options {
+        Some(options) => options.max_object_depth.unwrap_or(None),
+        None => None,
+    }
 }
 
 // How a script of this text ends without arguments.
@@ -144,7 +157,7 @@ fn undefined(alloc: Global) -> Result<Rc<HeldValue>, Refusal>
 }
 
 /// What a script gives that ended so in a context's realm. If `owned`, a value that can have a handle gets
-/// one.
+/// one, which holds the whole value; what is told of it is cut at `depth`, if there is one.
 ///
 /// # Errors
 /// - `unknown error`: the value needs a handle, and the realm has 1,000 already, or no id is left.
@@ -154,21 +167,22 @@ pub(crate) fn run(
     context: &Context,
     ending: Ending,
     owned: bool,
+    depth: Option<JsUint>,
 ) -> Result<Ran, Refusal>
     ensures ran { (past : List Act) (c : ℕ) → StandsFor browser.now past
-        → HasIds past → is_alive past c ≡ true → row_of context.now ≡ row_at past c → HasRun result past c owned (ending_seen ending) }
+        → HasIds past → is_alive past c ≡ true → row_of context.now ≡ row_at past c → HasRun result past c owned (option_map (λ d. d.value) depth) (ending_seen ending) }
     ensures well { IfOk result (λ ran. ⟦<EvaluateResult as Shape>⟧.shape.well ran.result
         × (levels (⟦<EvaluateResult as Shape>⟧.shape.tree_of ran.result) ≤ 61)) }
 {
     if !owned || !takes_handle(&value_of(&ending).value) {
-        let result = result_of_ending(browser.alloc, context.realm, &ending, None)?;
+        let result = result_of_ending(browser.alloc, context.realm, &ending, depth, None)?;
         return Ok(Ran {
             result,
             edit: Edit::Keep,
         });
     }
     let number = next_handle(browser, context)?;
-    let result = result_of_ending(browser.alloc, context.realm, &ending, Some(number))?;
+    let result = result_of_ending(browser.alloc, context.realm, &ending, depth, Some(number))?;
     let handle = Handle {
         number,
         value: into_value(ending),

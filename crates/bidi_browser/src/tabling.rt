@@ -7,7 +7,7 @@ ghost use Rattle.bidi_handles.specs.Params.{text_at};
 ghost use Rattle.bidi_browser.specs.Plans.{Makes, Plans, IsWellPlanned};
 ghost use Rattle.bidi_browser.specs.Stands.{StandsFor};
 ghost use Rattle.bidi_browser.specs.TableInHand.{IsFew, IsRowChecked, row_tree, throws};
-ghost use Rattle.bidi_handles.specs.ValuesInHand.{remote_tree};
+ghost use Rattle.bidi_values.specs.RemoteView.{remote_tree};
 ghost use Rattle.bidi_handles.specs.declared.refusal.Refusal.TheVariants as Refusal;
 ghost use Rattle.bidi_tree.specs.Node.{levels};
 

@@ -9,4 +9,4 @@ pub mod NumberedLemmas
 pub mod NumberLemmas
 pub mod SearchLemmas
 pub mod ResolveLemmas
-pub mod WellLemmas
+pub mod ShowingLemmas

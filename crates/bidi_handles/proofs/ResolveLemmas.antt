@@ -40,7 +40,8 @@ use Rattle.bidi_handles.specs.declared.refusal.Refusal.TheVariants.{Code, NoMemo
 use Rattle.bidi_handles.specs.Checks.{◌>>=◌, found}
 use Rattle.bidi_handles.specs.Resolves.{Gives, this_argument}
 use Rattle.bidi_handles.specs.Values.{Held, resolved, resolved_items, argument}
-use Rattle.bidi_handles.specs.ValuesInHand.{local_tree, local_pair_tree, remote_tree, remote_trees, remote_pair_trees}
+use Rattle.bidi_values.specs.RemoteView.{remote_tree}
+use Rattle.bidi_handles.specs.ValuesInHand.{local_tree, local_pair_tree, remote_trees, remote_pair_trees}
 
 -- ---- references
 

@@ -4,6 +4,7 @@ use Rattle.std.specs.declared.alloc.Global.{Global}
 use Rattle.std.specs.declared.rc.Rc.{Rc}
 use Rattle.bidi_tree.specs.Node.{Node, Items}
 use Rattle.bidi_tree.specs.View.{items_of}
+use Rattle.bidi_values.specs.RemoteView.{remote_tree, remote_pair_tree}
 use Rattle.bidi_values.specs.View.{nested_tree, nested_pair_tree, nested_key_tree}
 use Rattle.bidi_values.specs.declared.nested.Nested.{Nested}
 use Rattle.bidi_values.specs.declared.nested.NestedPair.{NestedPair}
@@ -14,13 +15,8 @@ use Rattle.bidi_values.specs.declared.local_value.LocalPlain.{LocalPlain}
 use Rattle.bidi_values.specs.contracts.local_value.LocalPlainNestsListKindPairsKind.TheImpl as local
 use Rattle.bidi_values.specs.declared.remote_value.RemotePlain.{RemotePlain}
 use Rattle.bidi_values.specs.declared.held.Held.{Held as HeldBy}
-use Rattle.bidi_values.specs.contracts.remote_value.RemotePlainNestsRemoteListRemotePairs.TheImpl as remote
 use Rattle.bidi_handles.specs.declared.handle.Handle.{Handle}
 use Rattle.bidi_handles.specs.declared.handle.HeldValue.{HeldValue}
-
--- the tree of a remote value in hand
-abbrev pub remote_tree : Nested RemotePlain (HeldBy ListKind) (HeldBy PairsKind) → Node
-remote_tree v = nested_tree remote.ghosts.nesting v
 
 -- the tree of a local value in hand, of a pair of an object or a map, and of its key
 abbrev pub local_tree : Nested LocalPlain ListKind PairsKind → Node
@@ -31,12 +27,6 @@ local_pair_tree p = nested_pair_tree local.ghosts.nesting p
 
 abbrev pub local_key_tree : NestedKey LocalPlain ListKind PairsKind → Node
 local_key_tree k = nested_key_tree local.ghosts.nesting k
-
-abbrev pub remote_pair_tree : NestedPair RemotePlain (HeldBy ListKind) (HeldBy PairsKind) → Node
-remote_pair_tree p = nested_pair_tree remote.ghosts.nesting p
-
-abbrev pub remote_key_tree : NestedKey RemotePlain (HeldBy ListKind) (HeldBy PairsKind) → Node
-remote_key_tree k = nested_key_tree remote.ghosts.nesting k
 
 -- those of some values, and of some pairs
 abbrev pub remote_trees : Vec (Nested RemotePlain (HeldBy ListKind) (HeldBy PairsKind)) Global → Items

@@ -2,7 +2,7 @@
 ghost use Rattle.std.specs.Prelude.{◌≡◌, ◌≤◌, IfOk, IfErr};
 ghost use Rattle.bidi_tree.specs.Node.{levels};
 ghost use Rattle.bidi_handles.specs.declared.refusal.Refusal.TheVariants as Refusal;
-ghost use Rattle.bidi_handles.specs.ValuesInHand.{remote_tree};
+ghost use Rattle.bidi_values.specs.RemoteView.{remote_tree};
 
 use crate::handle::HeldValue;
 use crate::measuring::size_of;

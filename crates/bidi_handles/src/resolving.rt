@@ -10,8 +10,10 @@ ghost use Rattle.bidi_handles.specs.Checks.{found};
 ghost use Rattle.bidi_handles.specs.Handles.{values_in};
 ghost use Rattle.bidi_handles.specs.Resolves.{Gives, IsSized, Passes, stands_for, this_argument};
 ghost use Rattle.bidi_handles.specs.Values.{resolved, resolved_items, argument, arguments};
-ghost use Rattle.bidi_handles.specs.ValuesInHand.{local_tree, local_pair_tree, local_key_tree, remote_tree, remote_trees};
-ghost use Rattle.bidi_handles.specs.ValuesInHand.{remote_pair_tree, remote_pair_trees, remote_key_tree, shared_tree};
+ghost use Rattle.bidi_values.specs.RemoteView.{remote_tree};
+ghost use Rattle.bidi_handles.specs.ValuesInHand.{local_tree, local_pair_tree, local_key_tree, remote_trees};
+ghost use Rattle.bidi_values.specs.RemoteView.{remote_pair_tree, remote_key_tree};
+ghost use Rattle.bidi_handles.specs.ValuesInHand.{remote_pair_trees, shared_tree};
 
 use crate::argument::Argument;
 use crate::handle::HeldValue;

@@ -1,15 +1,16 @@
-//! What a reply shows of a value that is held: a copy, with its handle.
-ghost use Rattle.std.specs.Prelude.{◌≡◌, ◌≤◌, ◌<◌, ◌^◌, true, IfOk, IfSome, string_bytes};
+//! What a reply shows of a value that is held: a copy, cut as deep as was asked, with its handle.
+ghost use Rattle.std.specs.Prelude.{◌≡◌, ◌≤◌, ◌<◌, ◌^◌, true, IfOk, IfSome, option_map, string_bytes};
 ghost use Rattle.bidi_tree.specs.Node.{levels, text};
-ghost use Rattle.bidi_values.specs.Content.{content};
-ghost use Rattle.bidi_values.specs.NestedLaws.{IsWell};
+ghost use Rattle.bidi_values.specs.Cut.{cut_to};
 ghost use Rattle.bidi_handles.specs.Values.{takes_handle, with_member, shown_as};
-ghost use Rattle.bidi_handles.specs.ValuesInHand.{remote_tree, held_tree};
+ghost use Rattle.bidi_values.specs.RemoteView.{remote_tree, RemoteIsWell};
+ghost use Rattle.bidi_handles.specs.ValuesInHand.{held_tree};
 
 use crate::handle::HeldValue;
 use crate::id::{IdKind, id_text};
 use bidi_shape::Shape;
-use bidi_values::{Nested, Nests, RemoteList, RemotePairs, RemotePlain, RemoteValue};
+use bidi_tree::JsUint;
+use bidi_values::{Nested, RemotePlain, RemoteValue};
 use std::alloc::{AllocError, Global};
 
 /// Whether a value can have a handle: all but primitive values can.
@@ -19,25 +20,37 @@ pub fn takes_handle(value: &RemoteValue) -> bool
     !matches!(value, Nested::Plain(RemotePlain::Primitive(_)))
 }
 
-/// A copy of a value, with this handle if there is one.
+/// A copy of a value, cut at this depth if there is one, and with this handle if there is one. What is held stays
+/// whole.
 pub fn shown(
     alloc: Global,
     held: &HeldValue,
+    depth: Option<JsUint>,
     handle: Option<u64>,
 ) -> Result<RemoteValue, AllocError>
     requires handle { IfSome handle (λ n. n < 2 ^ 48) }
     requires takes { IfSome handle (λ n. takes_handle (held_tree held.now) ≡ true) }
-    ensures tree { IfOk result (λ v. remote_tree v ≡ shown_as handle (held_tree held.now)) }
-    ensures well { IfOk result (λ v. IsWell ⟦<RemotePlain as Nests<RemoteList, RemotePairs>>⟧.nesting (content v)) }
+    ensures tree { IfOk result (λ v. remote_tree v ≡ shown_as handle (cut_to (option_map (λ d. d.value) depth) (held_tree held.now))) }
+    ensures well { IfOk result (λ v. RemoteIsWell v) }
     ensures few { IfOk result (λ v. levels (remote_tree v) ≤ levels (held_tree held.now)) }
 {
-    let copy = held.value.copy(alloc)?;
+    let copy = cut_to(held.value.copy(alloc)?, depth);
     match handle {
         Some(n) => {
             let id = id_text(alloc, IdKind::Handle, 0, n)?;
             Ok(with_handle(copy, id))
         }
         None => Ok(copy),
+    }
+}
+
+// The value, cut at this depth if there is one. Takes no memory.
+fn cut_to(value: RemoteValue, depth: Option<JsUint>) -> RemoteValue
+    ensures { remote_tree result ≡ cut_to (option_map (λ d. d.value) depth) (remote_tree value) }
+{
+    match depth {
+        Some(depth) => value.cut(depth),
+        None => value,
     }
 }
 

@@ -1,17 +1,19 @@
 -- What the tree of a target in hand asks, and of the commands that name one.
 use Rattle.std.proofs.Common.{◌≡◌, ℕ, List, [], ◌∷◌, map, Vec, true, ◌&&◌, ◌||◌, true≢false, Option, Some, None, is_none, is_some}
-use Rattle.std.proofs.Common.{option_map, option_and_then, unwrap_or, codes, String, string_bytes, Global, refl, sym, ap}
+use Rattle.std.proofs.Common.{◌∙◌, option_map, option_and_then, unwrap_or, codes, String, string_bytes, Global, refl, sym, ap}
 use Rattle.std.proofs.lemmas.Bool.{and_parts, false_from_ne_true}
-use Rattle.std.specs.Prelude.{if◌then◌else◌}
+use Rattle.std.specs.Prelude.{IfSome, if◌then◌else◌}
 use Rattle.bidi_tree.specs.Node as tree
 use Rattle.bidi_tree.specs.Node.{Node, Members, get_member}
-use Rattle.bidi_tree.specs.Kind.{text_in, list_in}
+use Rattle.bidi_tree.specs.Kind.{text_in, list_in, whole_in}
 use Rattle.bidi_tree.specs.View.{items_of}
+use Rattle.bidi_tree.specs.declared.number.JsUint.{JsUint}
 use Rattle.bidi_tree.proofs.MemberLemmas.{get_member-put}
-use Rattle.bidi_shape.specs.Name.{context_target, disown_parameters, evaluate_parameters, call_function_parameters}
+use Rattle.bidi_shape.specs.Name.{context_target, disown_parameters, evaluate_parameters, call_function_parameters, serialization_options}
 use Rattle.bidi_shape.specs.Term.{required, optional, extensible, text, rule, row, no_more, names_of}
 use Rattle.bidi_shape.specs.Profile.{term_of}
 use Rattle.bidi_shape.specs.Fits.{Fits, fits_map, fits_rule, no_row, OthersFit}
+use Rattle.bidi_shape.specs.ChoiceLaws.{nullable_tree}
 use Rattle.bidi_shape.specs.ListLaws.{list_tree}
 use Rattle.bidi_shape.specs.MapLaws.{PartsAt-joined, unnamed}
 use Rattle.bidi_shape.specs.Table.{rows_in}
@@ -32,11 +34,14 @@ use Rattle.bidi_values.specs.contracts.evaluate.EvaluateParametersShape.TheImpl 
 use Rattle.bidi_values.specs.declared.evaluate.EvaluateParameters.{EvaluateParameters}
 use Rattle.bidi_values.specs.declared.evaluate.Ownership.{Ownership}
 use Rattle.bidi_values.specs.declared.evaluate.Ownership.TheVariants as ownership
+use Rattle.bidi_values.specs.declared.serialization_options.SerializationOptions.{SerializationOptions}
+use Rattle.bidi_values.specs.contracts.serialization_options.SerializationOptionsShape.TheImpl as options
+use Rattle.bidi_values.specs.LogEntry.{uint_tree}
 use Rattle.bidi_values.specs.declared.call_function.CallFunctionParameters.{CallFunctionParameters}
 use Rattle.bidi_values.specs.declared.call_function.DisownParameters.{DisownParameters}
-use Rattle.bidi_handles.specs.Params.{items_in, text_if_at}
+use Rattle.bidi_handles.specs.Params.{items_in, text_if_at, number_if_at, natural}
 use Rattle.bidi_browser.specs.Actions.{ContextTarget, RealmTarget, target_in, is_text, is_well_at}
-use Rattle.bidi_browser.specs.Asked.{is_owned, target_of, evaluate_asked, call_function_asked, disown_asked}
+use Rattle.bidi_browser.specs.Asked.{is_owned, object_depth, target_of, evaluate_asked, call_function_asked, disown_asked}
 use Rattle.bidi_handles.specs.ValuesInHand.{local_tree}
 use Rattle.bidi_remote.specs.Machine.Commands.{command_in, OfBrowser}
 use Rattle.bidi_remote.proofs.SubscribeAskLemmas.{text_tree, texts-list, text-fits, others_fit-without, inside_whole}
@@ -93,6 +98,20 @@ owned-read None = refl
 owned-read (Some ownership.Root) = refl
 owned-read (Some ownership.None) = refl
 
+-- options, which may be absent, are read as the depth at which the value is cut
+depth-read : (o : Option SerializationOptions) → (IfSome o options.ghosts.shape.well) → number_if_at "maxObjectDepth" (unwrap_or (option_map options.ghosts.shape.tree_of o) tree.null) ≡ object_depth o
+depth-read None w = refl
+depth-read (Some o) w =
+    let rs = rows_in (term_of serialization_options) in
+    let others = others_of o.ext in
+    let at = PartsAt-joined rs (option_map (nullable_tree uint_tree) o.max_object_depth ∷ []) others refl tt (unnamed (names_of rs) others w.1.no_known) in
+    ap (λ t. option_map natural (option_and_then whole_in t)) at.0 ∙ by_depth o.max_object_depth
+  where
+    by_depth : (d : Option (Option JsUint)) → option_map natural (option_and_then whole_in (option_map (nullable_tree uint_tree) d)) ≡ option_map (λ n. n.value) (unwrap_or d None)
+    by_depth None = refl
+    by_depth (Some None) = refl
+    by_depth (Some (Some n)) = refl
+
 -- ---- values
 
 -- the items of a list are those that it is of
@@ -108,18 +127,28 @@ values-read (Some vs) = ap Some (items-read (map local_tree vs.items))
 
 -- ---- the commands
 
--- a `script.evaluate` asks for its expression in the realm of its target, and whether its value is to be owned
+-- a `script.evaluate` asks for its expression in the realm of its target, whether its value is to be owned, and at which depth it is cut
 pub evaluate-asks : (p : EvaluateParameters) → evaluate.ghosts.shape.well p
     → command_in (codes "script.evaluate") (evaluate.ghosts.shape.tree_of p) ≡ Some (OfBrowser (evaluate_asked p))
 evaluate-asks p w =
     let rs = rows_in (term_of evaluate_parameters) in
     let others = others_of p.ext in
     let parts = Some (text_tree p.expression) ∷ Some (targets.ghosts.shape.tree_of p.target) ∷ Some (tree.boolean p.await_promise)
-    ∷ option_map (λ w. tree.text (ownership_text w)) p.result_ownership ∷ option_map tree.boolean p.user_activation ∷ [] in
+    ∷ option_map (λ w. tree.text (ownership_text w)) p.result_ownership
+    ∷ option_map options.ghosts.shape.tree_of p.serialization_options ∷ option_map tree.boolean p.user_activation ∷ [] in
     let at = PartsAt-joined rs parts others refl tt (unnamed (names_of rs) others w.1.no_known) in
-    rw (at.0, at.1.0, at.1.1.1.0, target-read p.target w.0.1.0, owned-read p.result_ownership) refl
+    rw (
+      at.0,
+      at.1.0,
+      at.1.1.1.0,
+      at.1.1.1.1.0,
+      target-read p.target w.0.1.0,
+      owned-read p.result_ownership,
+      depth-read p.serialization_options w.0.1.1.1.1.0,
+    ) refl
 
--- a `script.callFunction` asks for its function in the realm of its target, its arguments, its `this`, and whether its value is to be owned
+-- a `script.callFunction` asks for its function in the realm of its target, its arguments, its `this`, whether its value is to be owned, and at which
+-- depth it is cut
 pub call-asks : (p : CallFunctionParameters) → call.ghosts.shape.well p
     → command_in (codes "script.callFunction") (call.ghosts.shape.tree_of p) ≡ Some (OfBrowser (call_function_asked p))
 call-asks p w =
@@ -127,9 +156,21 @@ call-asks p w =
     let others = others_of p.ext in
     let parts = Some (text_tree p.function_declaration) ∷ Some (tree.boolean p.await_promise)
     ∷ Some (targets.ghosts.shape.tree_of p.target) ∷ option_map (λ vs. list_tree local_tree vs.items) p.arguments
-    ∷ option_map (λ w. tree.text (ownership_text w)) p.result_ownership ∷ option_map local_tree p.this ∷ option_map tree.boolean p.user_activation ∷ [] in
+    ∷ option_map (λ w. tree.text (ownership_text w)) p.result_ownership
+    ∷ option_map options.ghosts.shape.tree_of p.serialization_options ∷ option_map local_tree p.this ∷ option_map tree.boolean p.user_activation ∷ [] in
     let at = PartsAt-joined rs parts others refl tt (unnamed (names_of rs) others w.1.no_known) in
-    rw (at.0, at.1.1.0, at.1.1.1.0, at.1.1.1.1.0, at.1.1.1.1.1.0, target-read p.target w.0.1.1.0, values-read p.arguments, owned-read p.result_ownership) refl
+    rw (
+      at.0,
+      at.1.1.0,
+      at.1.1.1.0,
+      at.1.1.1.1.0,
+      at.1.1.1.1.1.0,
+      at.1.1.1.1.1.1.0,
+      target-read p.target w.0.1.1.0,
+      values-read p.arguments,
+      owned-read p.result_ownership,
+      depth-read p.serialization_options w.0.1.1.1.1.1.0,
+    ) refl
 
 -- a `script.disown` asks for its handles in the realm of its target
 pub disown-asks : (p : DisownParameters) → disown.ghosts.shape.well p

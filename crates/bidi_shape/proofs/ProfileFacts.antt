@@ -8,7 +8,8 @@ use Rattle.bidi_tree.proofs.TextFacts.{nested, status_tree}
 use Rattle.bidi_shape.specs.Name.{command, command_response, console_entry, context_target, create_parameters, empty_params}
 use Rattle.bidi_shape.specs.Name.{error_response, generic_log_entry, get_tree_parameters, info, javascript_entry, local_pair}
 use Rattle.bidi_shape.specs.Name.{local_value, log_entry, message, navigate_result, primitive, realm_target, reference}
-use Rattle.bidi_shape.specs.Name.{remote_object_reference, remote_value, shared_reference, stack_trace, subscribe_parameters, table_row}
+use Rattle.bidi_shape.specs.Name.{remote_object_reference, remote_value, serialization_options, shared_reference, stack_trace}
+use Rattle.bidi_shape.specs.Name.{subscribe_parameters, table_row}
 use Rattle.bidi_shape.specs.Name.{target, traverse_history_parameters, unsubscribe_by_events, unsubscribe_by_id, unsubscribe_parameters}
 use Rattle.bidi_shape.specs.Name.{wait}
 use Rattle.bidi_shape.specs.Term.{text, js_uint, js_int, any, rule, any_number_of, at_least_one}
@@ -59,6 +60,39 @@ max_depth_below_nought_misfits = misfits_by 1000 refl
 -- nor `{"maxDepth":"0"}`
 pub max_depth_as_text_misfits : Fits (mapped ("maxDepth" being word "0" and no_members)) (rule get_tree_parameters) → ⊥
 max_depth_as_text_misfits = misfits_by 1000 refl
+
+-- ---- serialization options
+
+-- `{"maxObjectDepth":1}` fits SerializationOptions
+pub object_depth_fits : Fits (mapped ("maxObjectDepth" being number 1 and no_members)) (rule serialization_options)
+object_depth_fits = fits_by 1000 refl
+
+-- so does null in its place, which leaves a value whole
+pub object_depth_null_fits : Fits (mapped ("maxObjectDepth" being node.null and no_members)) (rule serialization_options)
+object_depth_null_fits = fits_by 1000 refl
+
+-- and a map without it
+pub no_object_depth_fits : Fits (mapped ("x" being number 1 and no_members)) (rule serialization_options)
+no_object_depth_fits = fits_by 1000 refl
+
+-- `{"maxObjectDepth":"1"}` does not
+pub object_depth_as_text_misfits : Fits (mapped ("maxObjectDepth" being word "1" and no_members)) (rule serialization_options) → ⊥
+object_depth_as_text_misfits = misfits_by 1000 refl
+
+-- nor does `{"maxObjectDepth":-1}`
+pub object_depth_below_nought_misfits : Fits (mapped ("maxObjectDepth" being node.whole (negsuc 0) and no_members)) (rule serialization_options) → ⊥
+object_depth_below_nought_misfits = misfits_by 1000 refl
+
+-- nor Odd, as 1.5 is read
+pub odd_object_depth_misfits : Fits (mapped ("maxObjectDepth" being node.odd and no_members)) (rule serialization_options) → ⊥
+odd_object_depth_misfits = misfits_by 1000 refl
+
+-- a number is no SerializationOptions, and null is none
+pub number_misfits_serialization_options : Fits (number 5) (rule serialization_options) → ⊥
+number_misfits_serialization_options = misfits_by 1000 refl
+
+pub null_misfits_serialization_options : Fits node.null (rule serialization_options) → ⊥
+null_misfits_serialization_options = misfits_by 1000 refl
 
 -- ---- members that no row names
 

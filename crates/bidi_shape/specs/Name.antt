@@ -42,6 +42,7 @@ pub data Name : Type 0 where
   context_target : Name
   realm_target : Name
   ownership : Name
+  serialization_options : Name
   evaluate_parameters : Name
   call_function_parameters : Name
   disown_parameters : Name

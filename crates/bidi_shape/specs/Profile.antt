@@ -7,8 +7,8 @@ use Rattle.bidi_shape.specs.Name.{status_result, new_parameters, capabilities_re
 use Rattle.bidi_shape.specs.Name.{subscribe_parameters, subscribe_result, unsubscribe_parameters, unsubscribe_by_id, unsubscribe_by_events}
 use Rattle.bidi_shape.specs.Name.{info, navigation_info, wait, activate_parameters, close_parameters, create_parameters, create_result}
 use Rattle.bidi_shape.specs.Name.{get_tree_parameters, get_tree_result, navigate_parameters, reload_parameters, navigate_result}
-use Rattle.bidi_shape.specs.Name.{traverse_history_parameters, target, context_target, realm_target, ownership, evaluate_parameters}
-use Rattle.bidi_shape.specs.Name.{call_function_parameters, disown_parameters, get_realms_parameters, realm_type, get_realms_result}
+use Rattle.bidi_shape.specs.Name.{traverse_history_parameters, target, context_target, realm_target, ownership, serialization_options}
+use Rattle.bidi_shape.specs.Name.{evaluate_parameters, call_function_parameters, disown_parameters, get_realms_parameters, realm_type, get_realms_result}
 use Rattle.bidi_shape.specs.Name.{realm_info, realm_destroyed_parameters, primitive, reg_exp_value, reference, shared_reference}
 use Rattle.bidi_shape.specs.Name.{remote_object_reference, local_value, local_pair, remote_value, remote_pair, opaque, evaluate_result}
 use Rattle.bidi_shape.specs.Name.{exception_details, stack_trace, stack_frame, source, table_row, log_entry, console_entry}
@@ -238,11 +238,14 @@ term_of context_target = open_map (
 term_of realm_target = open_map (
     "realm" is text and no_more)
 term_of ownership = the "root" or the "none"
+term_of serialization_options = open_map (
+    "maxObjectDepth" may_be (js_uint or null) and no_more)
 term_of evaluate_parameters = open_map (
     "expression" is text and
     "target" is rule target and
     "awaitPromise" is bool and
     "resultOwnership" may_be rule ownership and
+    "serializationOptions" may_be rule serialization_options and
     "userActivation" may_be bool and no_more)
 term_of call_function_parameters = open_map (
     "functionDeclaration" is text and
@@ -250,6 +253,7 @@ term_of call_function_parameters = open_map (
     "target" is rule target and
     "arguments" may_be any_number_of (rule local_value) and
     "resultOwnership" may_be rule ownership and
+    "serializationOptions" may_be rule serialization_options and
     "this" may_be rule local_value and
     "userActivation" may_be bool and no_more)
 term_of disown_parameters = open_map (

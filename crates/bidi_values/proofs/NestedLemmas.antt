@@ -104,11 +104,11 @@ module _ {P L M : Type 0} (n : NestingOf P L M) where
       (parts.0, pairs_well-each ps.items parts.1)
 
   -- the tree of a list of values is the map around theirs
-  list_tree : (h : L) (vs : Vec (Nested P L M) Global) (ts : List Node)
+  pub list_tree : (h : L) (vs : Vec (Nested P L M) Global) (ts : List Node)
       → map (nested_tree n) vs.items ≡ ts → nested_tree n (ListOf h vs) ≡ around n.list h (kind.list (items_of ts))
   list_tree h vs ts e = ap (value_tree n) (content-List h vs) ∙ ap (λ x. around n.list h (kind.list x)) (values_tree-of vs.items ∙ ap items_of e)
 
-  pairs_list_tree : (h : M) (ps : Vec (NestedPair P L M) Global) (ts : List Node)
+  pub pairs_list_tree : (h : M) (ps : Vec (NestedPair P L M) Global) (ts : List Node)
       → map (nested_pair_tree n) ps.items ≡ ts → nested_tree n (PairsOf h ps) ≡ around n.pairs h (kind.list (items_of ts))
   pairs_list_tree h ps ts e = ap (value_tree n) (content-Pairs h ps) ∙ ap (λ x. around n.pairs h (kind.list x)) (pairs_tree-of ps.items ∙ ap items_of e)
 

@@ -11,6 +11,8 @@ pub mod Kinds
 pub mod ChoiceOfMaps
 pub mod LocalValue
 pub mod RemoteValue
+pub mod RemoteView
+pub mod Cut
 pub mod OptionalValue
 pub mod Outcomes
 pub mod LogEntry

@@ -6,6 +6,7 @@ ghost use Rattle.bidi_shape.specs.Name.{call_function_parameters, disown_paramet
 
 use crate::evaluate::Ownership;
 use crate::local_value::LocalValue;
+use crate::serialization_options::SerializationOptions;
 use crate::target::Target;
 use bidi_shape::{
     Ext, Fields, MakeFault, Maybe, One, Optional, Parsed, Required, Rest, Shape, ShapeFault,
@@ -17,10 +18,12 @@ use std::alloc::{AllocError, Global};
 /// Parameters of `script.callFunction`.
 ///
 /// `{ functionDeclaration: text, awaitPromise: bool, target: Target, ? arguments: [*LocalValue],
-/// ? resultOwnership: Ownership, ? this: LocalValue, ? userActivation: bool, Extensible }`
+/// ? resultOwnership: Ownership, ? serializationOptions: SerializationOptions, ? this: LocalValue,
+/// ? userActivation: bool, Extensible }`
 ///
 /// `functionDeclaration` is looked up in the table of a play, and not run. `awaitPromise` and `userActivation` have no
-/// effect here; `this` is checked, and has no other effect. Absent, `arguments` is empty, and `resultOwnership` is `none`.
+/// effect here; `this` is checked, and has no other effect. Absent, `arguments` is empty, `resultOwnership` is `none`,
+/// and `serializationOptions` leave the result whole.
 ///
 /// After WebDriver BiDi, "The script.callFunction Command".
 #[derive(Drop)]
@@ -30,6 +33,7 @@ pub struct CallFunctionParameters {
     pub target: Target,
     pub arguments: Option<Vec<LocalValue>>,
     pub result_ownership: Option<Ownership>,
+    pub serialization_options: Option<SerializationOptions>,
     pub this: Option<LocalValue>,
     pub user_activation: Option<bool>,
     pub ext: Ext,
@@ -43,6 +47,7 @@ impl CallFunctionParameters {
         "target",
         "arguments",
         "resultOwnership",
+        "serializationOptions",
         "this",
         "userActivation",
     ];
@@ -51,7 +56,7 @@ impl CallFunctionParameters {
     ///
     /// # Errors
     /// - `Clash`: a further member is called `functionDeclaration`, `awaitPromise`, `target`, `arguments`,
-    ///   `resultOwnership`, `this` or `userActivation`.
+    ///   `resultOwnership`, `serializationOptions`, `this` or `userActivation`.
     /// - `TooDeep`: a further member has an `Odd` in it, or more than 60 levels.
     pub fn new(
         function_declaration: String,
@@ -59,12 +64,14 @@ impl CallFunctionParameters {
         target: Target,
         arguments: Option<Vec<LocalValue>>,
         result_ownership: Option<Ownership>,
+        serialization_options: Option<SerializationOptions>,
         this: Option<LocalValue>,
         user_activation: Option<bool>,
         ext: Members,
     ) -> Result<CallFunctionParameters, MakeFault>
         requires target { ⟦<Target as Shape>⟧.shape.well target }
         requires arguments { IfSome arguments (λ vs. ⟦<Vec<LocalValue> as Shape>⟧.shape.well vs) }
+        requires options { IfSome serialization_options (λ o. ⟦<SerializationOptions as Shape>⟧.shape.well o) }
         requires this { IfSome this (λ v. ⟦<LocalValue as Shape>⟧.shape.well v) }
         ensures made { Makes result
             (has_named (names_in (named call_function_parameters)) (members_node ext.entries) ≡ true)
@@ -72,7 +79,7 @@ impl CallFunctionParameters {
             (¬ MembersAreWhole (members_node ext.entries) 60)
             (λ v. (v.function_declaration ≡ function_declaration) × (v.await_promise ≡ await_promise)
             × (v.target ≡ target) × (v.arguments ≡ arguments) × (v.result_ownership ≡ result_ownership)
-            × (v.this ≡ this) × (v.user_activation ≡ user_activation) × (others_of v.ext ≡ members_node ext.entries)) }
+            × (v.serialization_options ≡ serialization_options) × (v.this ≡ this) × (v.user_activation ≡ user_activation) × (others_of v.ext ≡ members_node ext.entries)) }
         ensures well { IfOk result (λ v. ⟦<CallFunctionParameters as Shape>⟧.shape.well v) }
     {
         let ext = further(ext, Self::NAMES)?;
@@ -82,6 +89,7 @@ impl CallFunctionParameters {
             target,
             arguments,
             result_ownership,
+            serialization_options,
             this,
             user_activation,
             ext,
@@ -97,7 +105,10 @@ type CallParts = Required<
             Target,
             Optional<
                 Vec<LocalValue>,
-                Optional<Ownership, Optional<LocalValue, Optional<bool, Ext>>>,
+                Optional<
+                    Ownership,
+                    Optional<SerializationOptions, Optional<LocalValue, Optional<bool, Ext>>>,
+                >,
             >,
         >,
     >,
@@ -105,7 +116,7 @@ type CallParts = Required<
 
 impl Shape for CallFunctionParameters {
     ghost shape = { map_shape (named call_function_parameters) ⟦<CallParts as Fields>⟧.table []
-        (λ v. (v.function_declaration, (v.await_promise, (v.target, (v.arguments, (v.result_ownership, (v.this, (v.user_activation, v.ext)))))))) refl refl };
+        (λ v. (v.function_declaration, (v.await_promise, (v.target, (v.arguments, (v.result_ownership, (v.serialization_options, (v.this, (v.user_activation, v.ext))))))))) refl refl };
 
     fn from_tree<S: Parsed>(alloc: Global, tree: &S) -> Result<CallFunctionParameters, ShapeFault> {
         let Required(
@@ -116,7 +127,13 @@ impl Shape for CallFunctionParameters {
                     target,
                     Optional(
                         arguments,
-                        Optional(result_ownership, Optional(this, Optional(user_activation, ext))),
+                        Optional(
+                            result_ownership,
+                            Optional(
+                                serialization_options,
+                                Optional(this, Optional(user_activation, ext)),
+                            ),
+                        ),
                     ),
                 ),
             ),
@@ -127,6 +144,7 @@ impl Shape for CallFunctionParameters {
             target,
             arguments,
             result_ownership,
+            serialization_options,
             this,
             user_activation,
             ext,
@@ -144,7 +162,10 @@ impl Shape for CallFunctionParameters {
                         &self.arguments,
                         Maybe(
                             &self.result_ownership,
-                            Maybe(&self.this, Maybe(&self.user_activation, Rest(&self.ext))),
+                            Maybe(
+                                &self.serialization_options,
+                                Maybe(&self.this, Maybe(&self.user_activation, Rest(&self.ext))),
+                            ),
                         ),
                     ),
                 ),

@@ -1,9 +1,10 @@
 //! Evaluating an expression.
-ghost use Rattle.std.specs.Prelude.{◌≡◌, IfOk, refl, true, []};
+ghost use Rattle.std.specs.Prelude.{◌≡◌, IfOk, IfSome, refl, true, []};
 ghost use Rattle.bidi_shape.specs.Table.{map_shape};
 ghost use Rattle.bidi_shape.specs.Made.{Makes, named, MembersAreWhole, members_node, has_named, names_in, others_of};
 ghost use Rattle.bidi_shape.specs.Name.{evaluate_parameters};
 
+use crate::serialization_options::SerializationOptions;
 use crate::target::Target;
 use bidi_shape::{
     Ext, Fields, MakeFault, Maybe, Named, One, Optional, Parsed, Required, Rest, Shape, ShapeFault,
@@ -45,11 +46,11 @@ impl Named for Ownership {
 
 /// Parameters of `script.evaluate`.
 ///
-/// `{ expression: text, target: Target, awaitPromise: bool, ? resultOwnership: Ownership, ? userActivation: bool,
-/// Extensible }`
+/// `{ expression: text, target: Target, awaitPromise: bool, ? resultOwnership: Ownership,
+/// ? serializationOptions: SerializationOptions, ? userActivation: bool, Extensible }`
 ///
 /// `expression` is looked up in the table of a play, and not run. `awaitPromise` and `userActivation` have no effect
-/// here. Absent, `resultOwnership` is `none`.
+/// here. Absent, `resultOwnership` is `none`, and `serializationOptions` leave the result whole.
 ///
 /// After WebDriver BiDi, "The script.evaluate Command".
 #[derive(Drop)]
@@ -58,6 +59,7 @@ pub struct EvaluateParameters {
     pub target: Target,
     pub await_promise: bool,
     pub result_ownership: Option<Ownership>,
+    pub serialization_options: Option<SerializationOptions>,
     pub user_activation: Option<bool>,
     pub ext: Ext,
 }
@@ -69,30 +71,33 @@ impl EvaluateParameters {
         "target",
         "awaitPromise",
         "resultOwnership",
+        "serializationOptions",
         "userActivation",
     ];
 
     /// The parameters, with further members. Takes no memory.
     ///
     /// # Errors
-    /// - `Clash`: a further member is called `expression`, `target`, `awaitPromise`, `resultOwnership` or
-    ///   `userActivation`.
+    /// - `Clash`: a further member is called `expression`, `target`, `awaitPromise`, `resultOwnership`,
+    ///   `serializationOptions` or `userActivation`.
     /// - `TooDeep`: a further member has an `Odd` in it, or more than 60 levels.
     pub fn new(
         expression: String,
         target: Target,
         await_promise: bool,
         result_ownership: Option<Ownership>,
+        serialization_options: Option<SerializationOptions>,
         user_activation: Option<bool>,
         ext: Members,
     ) -> Result<EvaluateParameters, MakeFault>
         requires target { ⟦<Target as Shape>⟧.shape.well target }
+        requires options { IfSome serialization_options (λ o. ⟦<SerializationOptions as Shape>⟧.shape.well o) }
         ensures made { Makes result
             (has_named (names_in (named evaluate_parameters)) (members_node ext.entries) ≡ true)
             ⊥
             (¬ MembersAreWhole (members_node ext.entries) 60)
             (λ v. (v.expression ≡ expression) × (v.target ≡ target) × (v.await_promise ≡ await_promise) × (v.result_ownership ≡ result_ownership)
-            × (v.user_activation ≡ user_activation) × (others_of v.ext ≡ members_node ext.entries)) }
+            × (v.serialization_options ≡ serialization_options) × (v.user_activation ≡ user_activation) × (others_of v.ext ≡ members_node ext.entries)) }
         ensures well { IfOk result (λ v. ⟦<EvaluateParameters as Shape>⟧.shape.well v) }
     {
         let ext = further(ext, Self::NAMES)?;
@@ -101,6 +106,7 @@ impl EvaluateParameters {
             target,
             await_promise,
             result_ownership,
+            serialization_options,
             user_activation,
             ext,
         })
@@ -109,19 +115,28 @@ impl EvaluateParameters {
 
 type EvaluateParts = Required<
     String,
-    Required<Target, Required<bool, Optional<Ownership, Optional<bool, Ext>>>>,
+    Required<
+        Target,
+        Required<bool, Optional<Ownership, Optional<SerializationOptions, Optional<bool, Ext>>>>,
+    >,
 >;
 
 impl Shape for EvaluateParameters {
     ghost shape = { map_shape (named evaluate_parameters) ⟦<EvaluateParts as Fields>⟧.table []
-        (λ v. (v.expression, (v.target, (v.await_promise, (v.result_ownership, (v.user_activation, v.ext)))))) refl refl };
+        (λ v. (v.expression, (v.target, (v.await_promise, (v.result_ownership, (v.serialization_options, (v.user_activation, v.ext))))))) refl refl };
 
     fn from_tree<S: Parsed>(alloc: Global, tree: &S) -> Result<EvaluateParameters, ShapeFault> {
         let Required(
             expression,
             Required(
                 target,
-                Required(await_promise, Optional(result_ownership, Optional(user_activation, ext))),
+                Required(
+                    await_promise,
+                    Optional(
+                        result_ownership,
+                        Optional(serialization_options, Optional(user_activation, ext)),
+                    ),
+                ),
             ),
         ) = read_fields(alloc, tree, Self::NAMES, &[])?;
         Ok(EvaluateParameters {
@@ -129,6 +144,7 @@ impl Shape for EvaluateParameters {
             target,
             await_promise,
             result_ownership,
+            serialization_options,
             user_activation,
             ext,
         })
@@ -143,7 +159,10 @@ impl Shape for EvaluateParameters {
                     &self.await_promise,
                     Maybe(
                         &self.result_ownership,
-                        Maybe(&self.user_activation, Rest(&self.ext)),
+                        Maybe(
+                            &self.serialization_options,
+                            Maybe(&self.user_activation, Rest(&self.ext)),
+                        ),
                     ),
                 ),
             ),

@@ -9,6 +9,7 @@
 
 mod call_function;
 mod copying;
+mod cut;
 mod evaluate;
 mod evaluate_result;
 mod exception;
@@ -23,6 +24,7 @@ mod reading;
 mod reference;
 mod reg_exp;
 mod remote_value;
+mod serialization_options;
 mod siblings;
 mod stack_trace;
 mod table_row;
@@ -45,6 +47,7 @@ pub use primitive::{Number, Primitive, SpecialNumber};
 pub use reference::{Reference, RemoteObjectReference, SharedReference};
 pub use reg_exp::RegExpValue;
 pub use remote_value::{RemoteKey, RemotePair, RemotePlain, RemoteValue};
+pub use serialization_options::SerializationOptions;
 pub use siblings::Siblings;
 pub use stack_trace::{StackFrame, StackTrace};
 pub use table_row::{ArgumentRow, ReturnsRow, TableRow, ThrowsRow};

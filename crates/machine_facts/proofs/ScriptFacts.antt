@@ -269,6 +269,137 @@ pub symbol_takes_a_handle :
 unfolding machine_on_literals
 symbol_takes_a_handle = refl
 
+-- ---- how deep a value is told
+
+pub object_is_told_without_what_it_holds_at_depth_nought :
+    after (begun
+    ++ value "{'text':'o','returns':{'type':'object','value':[['a',{'type':'array','value':[{'type':'number','value':1}]}]]}}" ∷ [])
+    (ask "{'id':1,'method':'script.evaluate','params':{'awaitPromise':false,'expression':'o','serializationOptions':{'maxObjectDepth':0},'target':{'context':'$c1'}}}")
+    ≡ success 1 1 "{'realm':'$r1','result':{'type':'object'},'type':'success'}" ∷ []
+unfolding machine_on_literals
+object_is_told_without_what_it_holds_at_depth_nought = refl
+
+pub array_in_an_object_is_cut_at_depth_one :
+    after (begun
+    ++ value "{'text':'o','returns':{'type':'object','value':[['a',{'type':'array','value':[{'type':'number','value':1}]}]]}}" ∷ [])
+    (ask "{'id':1,'method':'script.evaluate','params':{'awaitPromise':false,'expression':'o','serializationOptions':{'maxObjectDepth':1},'target':{'context':'$c1'}}}")
+    ≡ success 1 1 "{'realm':'$r1','result':{'type':'object','value':[['a',{'type':'array'}]]},'type':'success'}" ∷ []
+unfolding machine_on_literals
+array_in_an_object_is_cut_at_depth_one = refl
+
+pub object_is_told_whole_at_depth_two :
+    after (begun
+    ++ value "{'text':'o','returns':{'type':'object','value':[['a',{'type':'array','value':[{'type':'number','value':1}]}]]}}" ∷ [])
+    (ask "{'id':1,'method':'script.evaluate','params':{'awaitPromise':false,'expression':'o','serializationOptions':{'maxObjectDepth':2},'target':{'context':'$c1'}}}")
+    ≡ success 1 1 "{'realm':'$r1','result':{'type':'object','value':[['a',{'type':'array','value':[{'type':'number','value':1}]}]]},'type':'success'}" ∷ []
+unfolding machine_on_literals
+object_is_told_whole_at_depth_two = refl
+
+pub null_depth_leaves_a_value_whole :
+    after (begun
+    ++ value "{'text':'o','returns':{'type':'object','value':[['a',{'type':'array','value':[{'type':'number','value':1}]}]]}}" ∷ [])
+    (ask "{'id':1,'method':'script.evaluate','params':{'awaitPromise':false,'expression':'o','serializationOptions':{'maxObjectDepth':null},'target':{'context':'$c1'}}}")
+    ≡ success 1 1 "{'realm':'$r1','result':{'type':'object','value':[['a',{'type':'array','value':[{'type':'number','value':1}]}]]},'type':'success'}" ∷ []
+unfolding machine_on_literals
+null_depth_leaves_a_value_whole = refl
+
+pub options_without_a_depth_leave_a_value_whole :
+    after (begun
+    ++ value "{'text':'o','returns':{'type':'object','value':[['a',{'type':'array','value':[{'type':'number','value':1}]}]]}}" ∷ [])
+    (ask "{'id':1,'method':'script.evaluate','params':{'awaitPromise':false,'expression':'o','serializationOptions':{'x':1},'target':{'context':'$c1'}}}")
+    ≡ success 1 1 "{'realm':'$r1','result':{'type':'object','value':[['a',{'type':'array','value':[{'type':'number','value':1}]}]]},'type':'success'}" ∷ []
+unfolding machine_on_literals
+options_without_a_depth_leave_a_value_whole = refl
+
+pub depth_as_text_is_an_invalid_argument :
+    after (begun
+    ++ value "{'text':'o','returns':{'type':'object','value':[['a',{'type':'array','value':[{'type':'number','value':1}]}]]}}" ∷ [])
+    (ask "{'id':1,'method':'script.evaluate','params':{'awaitPromise':false,'expression':'o','serializationOptions':{'maxObjectDepth':'1'},'target':{'context':'$c1'}}}")
+    ≡ refusal 1 1 "invalid argument" ∷ []
+unfolding machine_on_literals
+depth_as_text_is_an_invalid_argument = refl
+
+pub depth_below_nought_is_an_invalid_argument :
+    after (begun
+    ++ value "{'text':'o','returns':{'type':'object','value':[['a',{'type':'array','value':[{'type':'number','value':1}]}]]}}" ∷ [])
+    (ask "{'id':1,'method':'script.evaluate','params':{'awaitPromise':false,'expression':'o','serializationOptions':{'maxObjectDepth':-1},'target':{'context':'$c1'}}}")
+    ≡ refusal 1 1 "invalid argument" ∷ []
+unfolding machine_on_literals
+depth_below_nought_is_an_invalid_argument = refl
+
+pub depth_with_a_fraction_is_an_invalid_argument :
+    after (begun
+    ++ value "{'text':'o','returns':{'type':'object','value':[['a',{'type':'array','value':[{'type':'number','value':1}]}]]}}" ∷ [])
+    (ask "{'id':1,'method':'script.evaluate','params':{'awaitPromise':false,'expression':'o','serializationOptions':{'maxObjectDepth':1.5},'target':{'context':'$c1'}}}")
+    ≡ refusal 1 1 "invalid argument" ∷ []
+unfolding machine_on_literals
+depth_with_a_fraction_is_an_invalid_argument = refl
+
+pub null_is_no_serialization_options :
+    after (begun
+    ++ value "{'text':'o','returns':{'type':'object','value':[['a',{'type':'array','value':[{'type':'number','value':1}]}]]}}" ∷ [])
+    (ask "{'id':1,'method':'script.evaluate','params':{'awaitPromise':false,'expression':'o','serializationOptions':null,'target':{'context':'$c1'}}}")
+    ≡ refusal 1 1 "invalid argument" ∷ []
+unfolding machine_on_literals
+null_is_no_serialization_options = refl
+
+pub number_is_no_serialization_options :
+    after (begun ++ value "{'text':'f','argument':0}" ∷ [])
+    (ask "{'id':1,'method':'script.callFunction','params':{'arguments':[{'type':'null'}],'awaitPromise':false,'functionDeclaration':'f','serializationOptions':5,'target':{'context':'$c1'}}}")
+    ≡ refusal 1 1 "invalid argument" ∷ []
+unfolding machine_on_literals
+number_is_no_serialization_options = refl
+
+pub key_that_is_a_value_is_cut_too :
+    after (begun ++ value "{'text':'f','argument':0}" ∷ [])
+    (ask "{'id':1,'method':'script.callFunction','params':{'arguments':[{'type':'map','value':[[{'type':'array','value':[]},{'type':'set','value':[{'type':'null'}]}]]}],'awaitPromise':false,'functionDeclaration':'f','serializationOptions':{'maxObjectDepth':1},'target':{'context':'$c1'}}}")
+    ≡ success 1 1 "{'realm':'$r1','result':{'type':'map','value':[[{'type':'array'},{'type':'set'}]]},'type':'success'}" ∷ []
+unfolding machine_on_literals
+key_that_is_a_value_is_cut_too = refl
+
+pub regexp_is_told_whole_at_depth_nought :
+    after (begun ++ value "{'text':'f','argument':0}" ∷ [])
+    (ask "{'id':1,'method':'script.callFunction','params':{'arguments':[{'type':'regexp','value':{'pattern':'p'}}],'awaitPromise':false,'functionDeclaration':'f','serializationOptions':{'maxObjectDepth':0},'target':{'context':'$c1'}}}")
+    ≡ success 1 1 "{'realm':'$r1','result':{'type':'regexp','value':{'pattern':'p'}},'type':'success'}" ∷ []
+unfolding machine_on_literals
+regexp_is_told_whole_at_depth_nought = refl
+
+pub thrown_value_is_cut_too :
+    after (begun
+    ++ value "{'text':'t','throws':{'type':'map','value':[['k',{'type':'set','value':[{'type':'null'}]}]]}}" ∷ [])
+    (ask "{'id':1,'method':'script.evaluate','params':{'awaitPromise':false,'expression':'t','serializationOptions':{'maxObjectDepth':1},'target':{'context':'$c1'}}}")
+    ≡ success 1 1 "{'exceptionDetails':{'columnNumber':0,'exception':{'type':'map','value':[['k',{'type':'set'}]]},'lineNumber':0,'stackTrace':{'callFrames':[]},'text':'thrown'},'realm':'$r1','type':'exception'}" ∷ []
+unfolding machine_on_literals
+thrown_value_is_cut_too = refl
+
+pub value_that_is_cut_gets_a_handle :
+    after (begun
+    ++ value "{'text':'o','returns':{'type':'object','value':[['a',{'type':'array','value':[{'type':'number','value':1}]}]]}}" ∷ [])
+    (ask "{'id':1,'method':'script.evaluate','params':{'awaitPromise':false,'expression':'o','resultOwnership':'root','serializationOptions':{'maxObjectDepth':0},'target':{'context':'$c1'}}}")
+    ≡ success 1 1 "{'realm':'$r1','result':{'handle':'$h1','type':'object'},'type':'success'}" ∷ []
+unfolding machine_on_literals
+value_that_is_cut_gets_a_handle = refl
+
+pub handle_of_a_value_that_is_cut_holds_all_of_it :
+    after (begun
+    ++ value "{'text':'o','returns':{'type':'object','value':[['a',{'type':'array','value':[{'type':'number','value':1}]}]]}}"
+    ∷ value "{'text':'f','argument':0}"
+    ∷ ask "{'id':1,'method':'script.evaluate','params':{'awaitPromise':false,'expression':'o','resultOwnership':'root','serializationOptions':{'maxObjectDepth':0},'target':{'context':'$c1'}}}" ∷ [])
+    (ask "{'id':2,'method':'script.callFunction','params':{'arguments':[{'handle':'$h1'}],'awaitPromise':false,'functionDeclaration':'f','target':{'context':'$c1'}}}")
+    ≡ success 1 2 "{'realm':'$r1','result':{'type':'object','value':[['a',{'type':'array','value':[{'type':'number','value':1}]}]]},'type':'success'}" ∷ []
+unfolding machine_on_literals
+handle_of_a_value_that_is_cut_holds_all_of_it = refl
+
+pub value_of_a_handle_is_cut_too :
+    after (begun
+    ++ value "{'text':'o','returns':{'type':'object','value':[['a',{'type':'array','value':[{'type':'number','value':1}]}]]}}"
+    ∷ value "{'text':'f','argument':0}"
+    ∷ ask "{'id':1,'method':'script.evaluate','params':{'awaitPromise':false,'expression':'o','resultOwnership':'root','target':{'context':'$c1'}}}" ∷ [])
+    (ask "{'id':2,'method':'script.callFunction','params':{'arguments':[{'type':'set','value':[{'handle':'$h1'}]}],'awaitPromise':false,'functionDeclaration':'f','serializationOptions':{'maxObjectDepth':1},'target':{'context':'$c1'}}}")
+    ≡ success 1 2 "{'realm':'$r1','result':{'type':'set','value':[{'type':'object'}]},'type':'success'}" ∷ []
+unfolding machine_on_literals
+value_of_a_handle_is_cut_too = refl
+
 -- ---- references
 
 pub handle_has_its_value :

@@ -59,6 +59,8 @@ command browsingContext.reload {"context":"c","ignoreCache":true} -> 1 browsingC
 command browsingContext.traverseHistory {"context":"c","delta":-1} -> 1 browsingContext.traverseHistory same
 command script.evaluate {"awaitPromise":false,"expression":"1","target":{"context":"c"}} -> 1 script.evaluate same
 command script.callFunction {"arguments":[{"type":"undefined"}],"awaitPromise":false,"functionDeclaration":"f","target":{"realm":"r"}} -> 1 script.callFunction same
+command script.evaluate {"awaitPromise":false,"expression":"1","serializationOptions":{"maxObjectDepth":1},"target":{"context":"c"}} -> 1 script.evaluate same
+command script.callFunction {"awaitPromise":false,"functionDeclaration":"f","serializationOptions":{"maxObjectDepth":null},"target":{"realm":"r"}} -> 1 script.callFunction same
 command script.disown {"handles":[],"target":{"context":"c"}} -> 1 script.disown same
 command script.getRealms {"type":"window"} -> 1 script.getRealms same
 command session.status [] -> 1 invalid argument
@@ -79,6 +81,8 @@ command browsingContext.reload {"context":"c","wait":"never"} -> 1 invalid argum
 command browsingContext.traverseHistory {"context":"c","delta":1.5} -> 1 invalid argument
 command script.evaluate {"awaitPromise":false,"expression":"1"} -> 1 invalid argument
 command script.callFunction {"arguments":[{"type":"array"}],"awaitPromise":false,"functionDeclaration":"f","target":{"realm":"r"}} -> 1 invalid argument
+command script.evaluate {"awaitPromise":false,"expression":"1","serializationOptions":{"maxObjectDepth":-1},"target":{"context":"c"}} -> 1 invalid argument
+command script.callFunction {"awaitPromise":false,"functionDeclaration":"f","serializationOptions":5,"target":{"realm":"r"}} -> 1 invalid argument
 command script.disown {"handles":"h","target":{"context":"c"}} -> 1 invalid argument
 command script.getRealms {"type":"page"} -> 1 invalid argument
 "#;

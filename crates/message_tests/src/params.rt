@@ -2,9 +2,10 @@
 use bidi_params::{
     GetRealmsParameters, GetRealmsResult, RealmDestroyedParameters, RealmInfo, RealmType,
 };
-use bidi_tree::{Members, Tree};
+use bidi_tree::{JsUint, Members, Tree};
 use bidi_values::{
-    CallFunctionParameters, DisownParameters, EvaluateParameters, Ownership, Target,
+    CallFunctionParameters, DisownParameters, EvaluateParameters, Ownership, SerializationOptions,
+    Target,
 };
 use std::alloc::Global;
 use std::test::Fail;
@@ -19,6 +20,7 @@ impl Asked for Script {
         match word {
             "Ownership" => again::<Ownership>(alloc, text),
             "RealmType" => again::<RealmType>(alloc, text),
+            "SerializationOptions" => again::<SerializationOptions>(alloc, text),
             "EvaluateParameters" => again::<EvaluateParameters>(alloc, text),
             "CallFunctionParameters" => again::<CallFunctionParameters>(alloc, text),
             "DisownParameters" => again::<DisownParameters>(alloc, text),
@@ -46,11 +48,21 @@ RealmType "worker" -> same
 RealmType "paint-worklet" -> same
 RealmType "audio-worklet" -> same
 RealmType "worklet" -> same
+SerializationOptions {} -> same
+SerializationOptions {"maxObjectDepth":0} -> same
+SerializationOptions {"maxObjectDepth":9007199254740991} -> same
+SerializationOptions {"maxObjectDepth":null} -> same
+further members, of whatever kind | SerializationOptions {"x":[1],"maxObjectDepth":1,"maxDomDepth":"a","includeShadowTree":null} -> {"includeShadowTree":null,"maxDomDepth":"a","maxObjectDepth":1,"x":[1]}
+another name | SerializationOptions {"maxobjectdepth":"1"} -> same
 EvaluateParameters {"target":{"context":"c1"},"expression":"1","awaitPromise":false} -> {"awaitPromise":false,"expression":"1","target":{"context":"c1"}}
 EvaluateParameters {"x":1,"userActivation":true,"target":{"realm":"r1"},"resultOwnership":"root","expression":"1","awaitPromise":true} -> {"awaitPromise":true,"expression":"1","resultOwnership":"root","target":{"realm":"r1"},"userActivation":true,"x":1}
+EvaluateParameters {"target":{"context":"c1"},"serializationOptions":{"maxObjectDepth":1},"expression":"1","awaitPromise":false} -> {"awaitPromise":false,"expression":"1","serializationOptions":{"maxObjectDepth":1},"target":{"context":"c1"}}
+EvaluateParameters {"x":1,"userActivation":true,"target":{"realm":"r1"},"serializationOptions":{"y":2,"maxObjectDepth":null},"resultOwnership":"root","expression":"1","awaitPromise":true} -> {"awaitPromise":true,"expression":"1","resultOwnership":"root","serializationOptions":{"maxObjectDepth":null,"y":2},"target":{"realm":"r1"},"userActivation":true,"x":1}
 CallFunctionParameters {"target":{"context":"c1"},"functionDeclaration":"f","awaitPromise":false} -> {"awaitPromise":false,"functionDeclaration":"f","target":{"context":"c1"}}
 CallFunctionParameters {"target":{"context":"c1"},"functionDeclaration":"f","awaitPromise":false,"arguments":[]} -> {"arguments":[],"awaitPromise":false,"functionDeclaration":"f","target":{"context":"c1"}}
 CallFunctionParameters {"userActivation":false,"this":{"type":"null"},"target":{"realm":"r1"},"resultOwnership":"none","functionDeclaration":"f","awaitPromise":true,"arguments":[{"type":"undefined"},{"handle":"h1"}]} -> {"arguments":[{"type":"undefined"},{"handle":"h1"}],"awaitPromise":true,"functionDeclaration":"f","resultOwnership":"none","target":{"realm":"r1"},"this":{"type":"null"},"userActivation":false}
+CallFunctionParameters {"target":{"context":"c1"},"serializationOptions":{},"functionDeclaration":"f","awaitPromise":false} -> {"awaitPromise":false,"functionDeclaration":"f","serializationOptions":{},"target":{"context":"c1"}}
+CallFunctionParameters {"x":1,"userActivation":false,"this":{"type":"null"},"target":{"realm":"r1"},"serializationOptions":{"maxObjectDepth":0},"resultOwnership":"none","functionDeclaration":"f","awaitPromise":true,"arguments":[{"handle":"h1"}]} -> {"arguments":[{"handle":"h1"}],"awaitPromise":true,"functionDeclaration":"f","resultOwnership":"none","serializationOptions":{"maxObjectDepth":0},"target":{"realm":"r1"},"this":{"type":"null"},"userActivation":false,"x":1}
 DisownParameters {"target":{"realm":"r1"},"handles":[]} -> {"handles":[],"target":{"realm":"r1"}}
 DisownParameters {"target":{"sandbox":"s","context":"c1"},"handles":["h2","h1"]} -> {"handles":["h2","h1"],"target":{"context":"c1","sandbox":"s"}}
 GetRealmsParameters {} -> same
@@ -61,6 +73,9 @@ GetRealmsResult {"x":1,"realms":[{"type":"window","realm":"r1","origin":"o","con
 RealmDestroyedParameters {"x":1,"realm":"r"} -> {"realm":"r","x":1}
 CallFunctionParameters {"awaitPromise":true,"functionDeclaration":"f","target":{"realm":"r"},"this":«30 {"type":"array","value":[»«30 ]}»} -> same
 CallFunctionParameters {"arguments":[«30 {"type":"array","value":[»«30 ]}»],"awaitPromise":true,"functionDeclaration":"f","target":{"realm":"r"}} -> same
+SerializationOptions {"x":«60 [»«60 ]»} -> same
+EvaluateParameters {"awaitPromise":true,"expression":"1","serializationOptions":{"x":«60 [»«60 ]»},"target":{"realm":"r"}} -> same
+CallFunctionParameters {"awaitPromise":true,"functionDeclaration":"f","serializationOptions":{"x":«60 [»«60 ]»},"target":{"realm":"r"}} -> same
 variant-of-Ownership "root" -> Root
 variant-of-Ownership "none" -> None
 variant-of-RealmType "window" -> Window
@@ -83,6 +98,20 @@ Ownership "all" -> NoFit
 Ownership null -> NoFit
 RealmType "frame" -> NoFit
 RealmType null -> NoFit
+SerializationOptions {"maxObjectDepth":"1"} -> NoFit
+SerializationOptions {"maxObjectDepth":-1} -> NoFit
+SerializationOptions {"maxObjectDepth":1.5} -> NoFit
+SerializationOptions {"maxObjectDepth":1.0} -> NoFit
+SerializationOptions {"maxObjectDepth":-0} -> NoFit
+SerializationOptions {"maxObjectDepth":9007199254740992} -> NoFit
+SerializationOptions {"maxObjectDepth":true} -> NoFit
+SerializationOptions {"maxObjectDepth":[1]} -> NoFit
+SerializationOptions {"maxObjectDepth":{}} -> NoFit
+SerializationOptions {"x":1.5} -> NoFit
+SerializationOptions 5 -> NoFit
+SerializationOptions null -> NoFit
+SerializationOptions "1" -> NoFit
+SerializationOptions [] -> NoFit
 EvaluateParameters {"awaitPromise":false,"target":{"context":"c1"}} -> NoFit
 EvaluateParameters {"awaitPromise":false,"expression":"1"} -> NoFit
 EvaluateParameters {"expression":"1","target":{"context":"c1"}} -> NoFit
@@ -92,6 +121,13 @@ EvaluateParameters {"awaitPromise":false,"expression":"1","target":null} -> NoFi
 EvaluateParameters {"awaitPromise":false,"expression":"1","target":{"context":"c1"},"resultOwnership":"all"} -> NoFit
 EvaluateParameters {"awaitPromise":false,"expression":"1","target":{"context":"c1"},"resultOwnership":null} -> NoFit
 EvaluateParameters {"awaitPromise":false,"expression":"1","target":{"context":"c1"},"userActivation":"yes"} -> NoFit
+EvaluateParameters {"awaitPromise":false,"expression":"1","target":{"context":"c1"},"serializationOptions":null} -> NoFit
+EvaluateParameters {"awaitPromise":false,"expression":"1","target":{"context":"c1"},"serializationOptions":5} -> NoFit
+EvaluateParameters {"awaitPromise":false,"expression":"1","target":{"context":"c1"},"serializationOptions":[]} -> NoFit
+EvaluateParameters {"awaitPromise":false,"expression":"1","target":{"context":"c1"},"serializationOptions":{"maxObjectDepth":"1"}} -> NoFit
+EvaluateParameters {"awaitPromise":false,"expression":"1","target":{"context":"c1"},"serializationOptions":{"maxObjectDepth":-1}} -> NoFit
+EvaluateParameters {"awaitPromise":false,"expression":"1","target":{"context":"c1"},"serializationOptions":{"maxObjectDepth":1.5}} -> NoFit
+EvaluateParameters {"awaitPromise":false,"expression":"1","target":{"context":"c1"},"serializationOptions":{"x":-0}} -> NoFit
 CallFunctionParameters {"awaitPromise":false,"target":{"context":"c1"}} -> NoFit
 CallFunctionParameters {"functionDeclaration":"f","target":{"context":"c1"}} -> NoFit
 CallFunctionParameters {"awaitPromise":false,"functionDeclaration":"f"} -> NoFit
@@ -102,6 +138,11 @@ CallFunctionParameters {"awaitPromise":false,"functionDeclaration":"f","target":
 CallFunctionParameters {"awaitPromise":false,"functionDeclaration":"f","target":{"context":"c1"},"this":{"type":"array"}} -> NoFit
 CallFunctionParameters {"awaitPromise":false,"functionDeclaration":"f","target":{"context":"c1"},"resultOwnership":5} -> NoFit
 CallFunctionParameters {"awaitPromise":false,"functionDeclaration":"f","target":{"context":"c1"},"userActivation":null} -> NoFit
+CallFunctionParameters {"awaitPromise":false,"functionDeclaration":"f","target":{"context":"c1"},"serializationOptions":null} -> NoFit
+CallFunctionParameters {"awaitPromise":false,"functionDeclaration":"f","target":{"context":"c1"},"serializationOptions":5} -> NoFit
+CallFunctionParameters {"awaitPromise":false,"functionDeclaration":"f","target":{"context":"c1"},"serializationOptions":{"maxObjectDepth":"1"}} -> NoFit
+CallFunctionParameters {"awaitPromise":false,"functionDeclaration":"f","target":{"context":"c1"},"serializationOptions":{"maxObjectDepth":-1}} -> NoFit
+CallFunctionParameters {"awaitPromise":false,"functionDeclaration":"f","target":{"context":"c1"},"serializationOptions":{"maxObjectDepth":1.5}} -> NoFit
 DisownParameters {"target":{"realm":"r1"}} -> NoFit
 DisownParameters {"handles":["h1"]} -> NoFit
 DisownParameters {"handles":null,"target":{"realm":"r1"}} -> NoFit
@@ -123,6 +164,9 @@ RealmDestroyedParameters {"x":1} -> NoFit
 RealmDestroyedParameters {"realm":null} -> NoFit
 CallFunctionParameters {"awaitPromise":true,"functionDeclaration":"f","target":{"realm":"r"},"this":«31 {"type":"array","value":[»«31 ]}»} -> NoFit
 CallFunctionParameters {"arguments":[«31 {"type":"array","value":[»«31 ]}»],"awaitPromise":true,"functionDeclaration":"f","target":{"realm":"r"}} -> NoFit
+SerializationOptions {"x":«61 [»«61 ]»} -> NoFit
+EvaluateParameters {"awaitPromise":true,"expression":"1","serializationOptions":{"x":«61 [»«61 ]»},"target":{"realm":"r"}} -> NoFit
+CallFunctionParameters {"awaitPromise":true,"functionDeclaration":"f","serializationOptions":{"x":«61 [»«61 ]»},"target":{"realm":"r"}} -> NoFit
 "#;
 
 #[test]
@@ -151,6 +195,9 @@ impl Asked for ScriptMade {
     fn found(alloc: Global, word: &str, text: &str) -> Result<String, Fail> {
         let ext = members_of(alloc, text)?;
         match word {
+            "SerializationOptions" => options_with(alloc, Some(Some(JsUint { value: 1 })), ext),
+            "SerializationOptions-of-null" => options_with(alloc, Some(None), ext),
+            "SerializationOptions-of-nothing" => options_with(alloc, None, ext),
             "EvaluateParameters" => evaluate_with(alloc, ext),
             "CallFunctionParameters" => call_with(alloc, ext),
             "DisownParameters" => disown_with(alloc, ext),
@@ -179,14 +226,28 @@ impl Asked for ScriptMade {
 }
 
 const MADE: &str = r#"
+SerializationOptions {"x":1} -> {"maxObjectDepth":1,"x":1}
+SerializationOptions {"maxDomDepth":0} -> {"maxDomDepth":0,"maxObjectDepth":1}
+SerializationOptions-of-null {"x":1} -> {"maxObjectDepth":null,"x":1}
+SerializationOptions-of-nothing {"x":1} -> same
+SerializationOptions-of-nothing {} -> same
+SerializationOptions,SerializationOptions-of-null,SerializationOptions-of-nothing {"maxObjectDepth":1} -> Clash
+SerializationOptions,SerializationOptions-of-null,SerializationOptions-of-nothing {"maxObjectDepth":null} -> Clash
+SerializationOptions {"maxObjectDepth":"1","x":1.5} -> Clash
+SerializationOptions {"x":[-0]} -> TooDeep
 EvaluateParameters {"x":[1]} -> {"awaitPromise":true,"expression":"1","resultOwnership":"root","target":{"realm":"r1"},"x":[1]}
 EvaluateParameters {"target":{}} -> Clash
 also where that member was left out | EvaluateParameters {"userActivation":5} -> Clash
+EvaluateParameters {"serializationOptions":{"maxObjectDepth":1}} -> Clash
+EvaluateParameters {"serializationOptions":null} -> Clash
+EvaluateParameters {"serializationOptions":{"x":1.5}} -> Clash
 EvaluateParameters {"target":{},"x":1.5} -> Clash
 EvaluateParameters {"x":{"y":1.5}} -> TooDeep
-CallFunctionParameters {"x":1} -> {"arguments":[{"handle":"h1"}],"awaitPromise":false,"functionDeclaration":"f","target":{"realm":"r1"},"this":{"type":"null"},"userActivation":true,"x":1}
+CallFunctionParameters {"x":1} -> {"arguments":[{"handle":"h1"}],"awaitPromise":false,"functionDeclaration":"f","serializationOptions":{"maxObjectDepth":1},"target":{"realm":"r1"},"this":{"type":"null"},"userActivation":true,"x":1}
 CallFunctionParameters {"resultOwnership":1} -> Clash
+CallFunctionParameters {"serializationOptions":{}} -> Clash
 CallFunctionParameters {"this":1} -> Clash
+CallFunctionParameters {"x":1.5} -> TooDeep
 DisownParameters {} -> {"handles":["h1"],"target":{"realm":"r1"}}
 DisownParameters {"handles":[]} -> Clash
 GetRealmsParameters {} -> {"context":"c1","type":"worklet"}
@@ -197,9 +258,11 @@ GetRealmsResult {} -> {"realms":[]}
 GetRealmsResult {"realms":[]} -> Clash
 RealmDestroyedParameters {"x":1} -> {"realm":"r1","x":1}
 RealmDestroyedParameters {"realm":1} -> Clash
+SerializationOptions {"x":«60 [»«60 ]»} -> {"maxObjectDepth":1,"x":«60 [»«60 ]»}
+SerializationOptions {"x":«61 [»«61 ]»} -> TooDeep
 EvaluateParameters {"x":«60 [»«60 ]»} -> {"awaitPromise":true,"expression":"1","resultOwnership":"root","target":{"realm":"r1"},"x":«60 [»«60 ]»}
 EvaluateParameters {"x":«61 [»«61 ]»} -> TooDeep
-CallFunctionParameters {"x":«60 [»«60 ]»} -> {"arguments":[{"handle":"h1"}],"awaitPromise":false,"functionDeclaration":"f","target":{"realm":"r1"},"this":{"type":"null"},"userActivation":true,"x":«60 [»«60 ]»}
+CallFunctionParameters {"x":«60 [»«60 ]»} -> {"arguments":[{"handle":"h1"}],"awaitPromise":false,"functionDeclaration":"f","serializationOptions":{"maxObjectDepth":1},"target":{"realm":"r1"},"this":{"type":"null"},"userActivation":true,"x":«60 [»«60 ]»}
 CallFunctionParameters {"x":«61 [»«61 ]»} -> TooDeep
 DisownParameters {"x":«60 [»«60 ]»} -> {"handles":["h1"],"target":{"realm":"r1"},"x":«60 [»«60 ]»}
 DisownParameters {"x":«61 [»«61 ]»} -> TooDeep
@@ -220,13 +283,21 @@ fn made_with_further_members(rt: HostRuntime) -> Result<(), Fail> {
 
 const TARGET: &str = r#"{"realm":"r1"}"#;
 
+fn options_with(
+    alloc: Global,
+    depth: Option<Option<JsUint>>,
+    ext: Members,
+) -> Result<String, Fail> {
+    told(alloc, SerializationOptions::new(depth, ext))
+}
+
 fn evaluate_with(alloc: Global, ext: Members) -> Result<String, Fail> {
     let expression = owned(alloc, "1")?;
     let target = value_of(alloc, TARGET)?;
     let root = Some(Ownership::Root);
     told(
         alloc,
-        EvaluateParameters::new(expression, target, true, root, None, ext),
+        EvaluateParameters::new(expression, target, true, root, None, None, ext),
     )
 }
 
@@ -234,6 +305,7 @@ fn call_with(alloc: Global, ext: Members) -> Result<String, Fail> {
     let function = owned(alloc, "f")?;
     let target = value_of(alloc, TARGET)?;
     let arguments = Some(value_of(alloc, r#"[{"handle":"h1"}]"#)?);
+    let options = Some(value_of(alloc, r#"{"maxObjectDepth":1}"#)?);
     let this = Some(value_of(alloc, r#"{"type":"null"}"#)?);
     told(
         alloc,
@@ -243,6 +315,7 @@ fn call_with(alloc: Global, ext: Members) -> Result<String, Fail> {
             target,
             arguments,
             None,
+            options,
             this,
             Some(true),
             ext,

@@ -1,6 +1,6 @@
 //! Values of scripts, references, targets, results, log entries and rows of a play's table: `docs/FORMATS.md`.
 use bidi_shape::Shape;
-use bidi_tree::Tree;
+use bidi_tree::{JsUint, Tree};
 use bidi_values::{
     ConsoleEntry, ContextTarget, EvaluateException, EvaluateResult, EvaluateSuccess,
     ExceptionDetails, GenericLogEntry, JavascriptEntry, Level, ListKind, LocalPlain, LocalValue,
@@ -468,6 +468,80 @@ GenericLogEntry {"level":"info","source":{"realm":"r"},"stackTrace":{"callFrames
 GenericLogEntry {"level":"info","source":{"realm":"r"},"text":"t","timestamp":1,"type":"other"} + {"x":«60 [»«60 ]»} -> {"level":"info","source":{"realm":"r"},"text":"t","timestamp":1,"type":"other","x":«60 [»«60 ]»}
 GenericLogEntry {"level":"info","source":{"realm":"r"},"text":"t","timestamp":1,"type":"other"} + {"x":«61 [»«61 ]»} -> TooDeep
 "#;
+
+/// A remote value, cut at the depth that the word is.
+struct Cut;
+
+impl Asked for Cut {
+    fn found(alloc: Global, word: &str, text: &str) -> Result<String, Fail> {
+        let depth = value_of::<JsUint>(alloc, word)?;
+        let value = value_of::<RemoteValue>(alloc, text)?;
+        text_of(alloc, value.cut(depth))
+    }
+}
+
+const CUT: &str = r#"
+0,1 {"type":"undefined"} -> same
+0,1 {"type":"null"} -> same
+0,1 {"type":"string","value":"array"} -> same
+0,1 {"type":"number","value":1} -> same
+0,1 {"type":"number","value":"NaN"} -> same
+0,1 {"type":"boolean","value":true} -> same
+0,1 {"type":"bigint","value":"1"} -> same
+0,1 {"handle":"h","internalId":"i","type":"regexp","value":{"flags":"g","pattern":"p"}} -> same
+0,1 {"handle":"h","internalId":"i","type":"date","value":"2026-01-01"} -> same
+0,1 {"handle":"h","internalId":"i","type":"function"} -> same
+0,1 {"type":"promise"} -> same
+0,1 {"type":"array"} -> same
+0,1 {"type":"set"} -> same
+0,1 {"type":"object"} -> same
+0,1 {"type":"map"} -> same
+0 {"type":"array","value":[]} -> {"type":"array"}
+0 {"type":"set","value":[]} -> {"type":"set"}
+0 {"type":"object","value":[]} -> {"type":"object"}
+0 {"type":"map","value":[]} -> {"type":"map"}
+1,2 {"type":"array","value":[]} -> same
+1,2 {"type":"set","value":[]} -> same
+1,2 {"type":"object","value":[]} -> same
+1,2 {"type":"map","value":[]} -> same
+0 {"type":"array","value":[{"type":"number","value":1}]} -> {"type":"array"}
+0 {"type":"set","value":[{"type":"number","value":1}]} -> {"type":"set"}
+0 {"type":"object","value":[["a",{"type":"number","value":1}]]} -> {"type":"object"}
+0 {"type":"map","value":[["a",{"type":"number","value":1}]]} -> {"type":"map"}
+1,2,9007199254740991 {"type":"array","value":[{"type":"number","value":1}]} -> same
+1,2,9007199254740991 {"type":"set","value":[{"type":"number","value":1}]} -> same
+1,2,9007199254740991 {"type":"object","value":[["a",{"type":"number","value":1}]]} -> same
+1,2,9007199254740991 {"type":"map","value":[["a",{"type":"number","value":1}]]} -> same
+0 {"type":"array","value":[{"type":"array","value":[{"type":"array","value":[]}]},{"type":"null"},{"type":"set","value":[{"type":"null"}]}]} -> {"type":"array"}
+1 {"type":"array","value":[{"type":"array","value":[{"type":"array","value":[]}]},{"type":"null"},{"type":"set","value":[{"type":"null"}]}]} -> {"type":"array","value":[{"type":"array"},{"type":"null"},{"type":"set"}]}
+2 {"type":"array","value":[{"type":"array","value":[{"type":"array","value":[]}]},{"type":"null"},{"type":"set","value":[{"type":"null"}]}]} -> {"type":"array","value":[{"type":"array","value":[{"type":"array"}]},{"type":"null"},{"type":"set","value":[{"type":"null"}]}]}
+3,4,9007199254740991 {"type":"array","value":[{"type":"array","value":[{"type":"array","value":[]}]},{"type":"null"},{"type":"set","value":[{"type":"null"}]}]} -> same
+0 {"type":"object","value":[["a",{"type":"map","value":[["b",{"type":"set","value":[{"type":"array","value":[{"type":"date","value":"d"}]}]}]]}]]} -> {"type":"object"}
+1 {"type":"object","value":[["a",{"type":"map","value":[["b",{"type":"set","value":[{"type":"array","value":[{"type":"date","value":"d"}]}]}]]}]]} -> {"type":"object","value":[["a",{"type":"map"}]]}
+2 {"type":"object","value":[["a",{"type":"map","value":[["b",{"type":"set","value":[{"type":"array","value":[{"type":"date","value":"d"}]}]}]]}]]} -> {"type":"object","value":[["a",{"type":"map","value":[["b",{"type":"set"}]]}]]}
+3 {"type":"object","value":[["a",{"type":"map","value":[["b",{"type":"set","value":[{"type":"array","value":[{"type":"date","value":"d"}]}]}]]}]]} -> {"type":"object","value":[["a",{"type":"map","value":[["b",{"type":"set","value":[{"type":"array"}]}]]}]]}
+4,5 {"type":"object","value":[["a",{"type":"map","value":[["b",{"type":"set","value":[{"type":"array","value":[{"type":"date","value":"d"}]}]}]]}]]} -> same
+a key that is a value is cut as the value beside it | 1 {"type":"map","value":[[{"type":"array","value":[{"type":"null"}]},{"type":"set","value":[]}]]} -> {"type":"map","value":[[{"type":"array"},{"type":"set"}]]}
+2 {"type":"map","value":[[{"type":"array","value":[{"type":"set","value":[]}]},{"type":"set","value":[]}]]} -> {"type":"map","value":[[{"type":"array","value":[{"type":"set"}]},{"type":"set","value":[]}]]}
+3 {"type":"map","value":[[{"type":"array","value":[{"type":"set","value":[]}]},{"type":"set","value":[]}]]} -> same
+1 {"type":"object","value":[[{"type":"object","value":[["k",{"type":"null"}]]},{"type":"null"}],["k",{"type":"map","value":[]}]]} -> {"type":"object","value":[[{"type":"object"},{"type":"null"}],["k",{"type":"map"}]]}
+1 {"type":"map","value":[[{"type":"string","value":"s"},{"type":"null"}],[{"type":"regexp","value":{"pattern":"p"}},{"type":"null"}]]} -> same
+a key that is a text stays | 1 {"type":"map","value":[["value",{"type":"array","value":[]}],["type",{"type":"null"}]]} -> {"type":"map","value":[["value",{"type":"array"}],["type",{"type":"null"}]]}
+0 {"handle":"h","internalId":"i","type":"array","value":[{"type":"null"}]} -> {"handle":"h","internalId":"i","type":"array"}
+0 {"handle":"h","type":"set","value":[]} -> {"handle":"h","type":"set"}
+0 {"internalId":"i","type":"object","value":[["k",{"type":"null"}]]} -> {"internalId":"i","type":"object"}
+0 {"handle":"h","internalId":"i","type":"map","value":[]} -> {"handle":"h","internalId":"i","type":"map"}
+1 {"handle":"h","internalId":"i","type":"map","value":[[{"internalId":"j","type":"set","value":[{"type":"null"}]},{"handle":"g","type":"object","value":[["k",{"type":"null"}]]}]]} -> {"handle":"h","internalId":"i","type":"map","value":[[{"internalId":"j","type":"set"},{"handle":"g","type":"object"}]]}
+2 {"handle":"h","internalId":"i","type":"map","value":[[{"internalId":"j","type":"set","value":[{"type":"null"}]},{"handle":"g","type":"object","value":[["k",{"type":"null"}]]}]]} -> same
+28 «30 {"type":"array","value":[»«30 ]}» -> «28 {"type":"array","value":[»{"type":"array"}«28 ]}»
+29 «30 {"type":"array","value":[»«30 ]}» -> «29 {"type":"array","value":[»{"type":"array"}«29 ]}»
+30 «30 {"type":"array","value":[»«30 ]}» -> same
+"#;
+
+#[test]
+fn cut_at_a_depth(rt: HostRuntime) -> Result<(), Fail> {
+    check_rows::<Cut>(rt.alloc(), CUT)
+}
 
 #[test]
 fn made_of_parts(rt: HostRuntime) -> Result<(), Fail> {

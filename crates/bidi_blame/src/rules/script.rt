@@ -4,7 +4,7 @@ use crate::term::Need::{Optional, Required};
 use crate::term::Openness::{Closed, Extensible};
 use crate::term::Term;
 use crate::term::Term::{
-    Bool, Capped, Exactly, JsInt, JsUint, ListOf, MapOf, OneOf, PairOf, Rule, Text,
+    Bool, Capped, Exactly, JsInt, JsUint, ListOf, MapOf, Null, OneOf, PairOf, Rule, Text,
 };
 
 pub(crate) static TARGET: Term = OneOf(&Rule(Name::ContextTarget), &[Rule(Name::RealmTarget)]);
@@ -18,12 +18,22 @@ pub(crate) static REALM_TARGET: Term = MapOf(&[("realm", Required, Text)], Exten
 
 pub(crate) static OWNERSHIP: Term = OneOf(&Exactly("root"), &[Exactly("none")]);
 
+pub(crate) static SERIALIZATION_OPTIONS: Term = MapOf(
+    &[("maxObjectDepth", Optional, OneOf(&JsUint, &[Null]))],
+    Extensible,
+);
+
 pub(crate) static EVALUATE_PARAMETERS: Term = MapOf(
     &[
         ("expression", Required, Text),
         ("target", Required, Rule(Name::Target)),
         ("awaitPromise", Required, Bool),
         ("resultOwnership", Optional, Rule(Name::Ownership)),
+        (
+            "serializationOptions",
+            Optional,
+            Rule(Name::SerializationOptions),
+        ),
         ("userActivation", Optional, Bool),
     ],
     Extensible,
@@ -36,6 +46,11 @@ pub(crate) static CALL_FUNCTION_PARAMETERS: Term = MapOf(
         ("target", Required, Rule(Name::Target)),
         ("arguments", Optional, ListOf(0, &Rule(Name::LocalValue))),
         ("resultOwnership", Optional, Rule(Name::Ownership)),
+        (
+            "serializationOptions",
+            Optional,
+            Rule(Name::SerializationOptions),
+        ),
         ("this", Optional, Rule(Name::LocalValue)),
         ("userActivation", Optional, Bool),
     ],

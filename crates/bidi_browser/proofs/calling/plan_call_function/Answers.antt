@@ -4,7 +4,7 @@ use Rattle.bidi_methods.specs.declared.result_data.ResultData.TheVariants.{Scrip
 use Rattle.bidi_browser.specs.Acts.{Ran}
 use Rattle.bidi_browser.specs.Asked.{arguments_asked, call_function_asked, is_owned, target_of}
 use Rattle.bidi_handles.specs.Checks.{◌>>=◌}
-use Rattle.bidi_browser.specs.Occurs.{Replies}
+use Rattle.bidi_browser.specs.Occurs.{Replies, script_result}
 use Rattle.bidi_browser.specs.Outcome.{ending_outcome}
 use Rattle.bidi_browser.specs.Realms.{realm_of, value_of}
 use Rattle.bidi_browser.specs.Runs.{call_ending}
@@ -36,8 +36,8 @@ returns-in_err-result-clause-plans c = λ past moment stands ids.
     (λ code is. call-outcome past (string_bytes p.function_declaration) (target_of p.target) (arguments_asked p)
     (option_map local_tree p.this) owned (realm_of past at.0) at.2
     ∙ (ap (λ r. r >>= λ ending. ending_outcome past (realm_of past at.0) owned ending) ended
-    ∙ (ap (λ b. ending_outcome past (realm_of past at.0) b (ending_seen c.in_ok-ending.ending)) (sym c.is_owned.ensures)
-    ∙ run-code c.in_err-result.field-0.0 past at.0 c.is_owned.result (ending_seen c.in_ok-ending.ending)
+    ∙ (ap (λ b. ending_outcome past (realm_of past at.0) b (ending_seen c.in_ok-ending.ending)) (sym c.is_owned-owned.ensures)
+    ∙ run-code c.in_err-result.field-0.0 past at.0 c.is_owned-owned.result (option_map (λ d. d.value) c.object_depth-depth.result) (ending_seen c.in_ok-ending.ending)
     (c.in_err-result.ensures.ran past at.0 stands ids at.1 at.3) code is)))
 
 pub returns-clause-plans : goal.returns-clause-plans
@@ -48,10 +48,11 @@ returns-clause-plans c = λ past moment stands ids.
     let ended = c.in_ok-ending.ensures past at.0 stands at.3 in
     let ending = ending_seen c.in_ok-ending.ending in
     let ran = c.in_ok-result.ensures.ran past at.0 stands ids at.1 at.3 in
-    let act = Ran (realm_of past at.0) ending (c.is_owned.result && takes_handle (value_of ending)) in
+    let act = Ran (realm_of past at.0) ending (c.is_owned-owned.result && takes_handle (value_of ending)) in
     answered-plans c.answered.result past moment (call_function_asked p) act (ScriptCallFunction c.in_ok-result.field-0.result) c.in_ok-result.field-0.edit refl
     (call-outcome past (string_bytes p.function_declaration) (target_of p.target) (arguments_asked p) (option_map local_tree p.this)
     owned (realm_of past at.0) at.2
     ∙ (ap (λ r. r >>= λ e. ending_outcome past (realm_of past at.0) owned e) ended
-    ∙ (ap (λ b. ending_outcome past (realm_of past at.0) b ending) (sym c.is_owned.ensures) ∙ ran.0)))
-    (ap (λ t. Replies t ∷ []) ran.1) c.answered.ensures.before c.answered.ensures.outcome c.answered.ensures.after c.answered.ensures.change ran.2
+    ∙ (ap (λ b. ending_outcome past (realm_of past at.0) b ending) (sym c.is_owned-owned.ensures) ∙ ran.0)))
+    (ap (λ t. Replies t ∷ []) (ran.1 ∙ ap (λ d. script_result past (realm_of past at.0) d ending (c.is_owned-owned.result && takes_handle (value_of ending)))
+    c.object_depth-depth.ensures)) c.answered.ensures.before c.answered.ensures.outcome c.answered.ensures.after c.answered.ensures.change ran.2

@@ -2,7 +2,8 @@ use Rattle.bidi_tree.specs.View.{items_of}
 use Rattle.std.proofs.Common.{map, arith}
 use Rattle.bidi_handles.specs.Handles.{values_in}
 use Rattle.bidi_handles.specs.Values.{resolved, resolved_items}
-use Rattle.bidi_handles.specs.ValuesInHand.{local_tree, local_pair_tree, remote_tree, remote_pair_tree, remote_pair_trees}
+use Rattle.bidi_values.specs.RemoteView.{remote_tree, remote_pair_tree}
+use Rattle.bidi_handles.specs.ValuesInHand.{local_tree, local_pair_tree, remote_pair_trees}
 use Rattle.bidi_handles.proofs.ResolveLemmas.{handed, list-given, pairs-given, list-refused, pairs-refused, seen-more, seen-refused, seen-all}
 use Rattle.bidi_handles.proofs.resolving.+resolve.Goals as goal
 

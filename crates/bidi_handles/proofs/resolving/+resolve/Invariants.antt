@@ -2,7 +2,8 @@ use Rattle.std.proofs.Common.{◌≡◌, drop, map}
 use Rattle.bidi_tree.specs.View.{items_of}
 use Rattle.bidi_handles.specs.Handles.{values_in}
 use Rattle.bidi_handles.specs.Values.{resolved_items}
-use Rattle.bidi_handles.specs.ValuesInHand.{local_tree, local_pair_tree, remote_tree, remote_pair_tree}
+use Rattle.bidi_values.specs.RemoteView.{remote_tree, remote_pair_tree}
+use Rattle.bidi_handles.specs.ValuesInHand.{local_tree, local_pair_tree}
 use Rattle.bidi_handles.proofs.ResolveLemmas.{with_done}
 use Rattle.bidi_handles.proofs.resolving.+resolve.Given as goal
 

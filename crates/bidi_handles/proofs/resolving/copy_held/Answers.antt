@@ -1,4 +1,4 @@
-use Rattle.bidi_handles.proofs.WellLemmas.{remote-well}
+use Rattle.bidi_values.proofs.WellLemmas.{remote-well}
 use Rattle.bidi_handles.proofs.resolving.copy_held.Goals as goal
 
 pub copy-requires : goal.copy-requires

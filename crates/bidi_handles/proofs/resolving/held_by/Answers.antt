@@ -5,7 +5,7 @@ use Rattle.bidi_values.specs.contracts.reference.RemoteObjectReferenceShape.TheI
 use Rattle.bidi_handles.specs.Checks.{found}
 use Rattle.bidi_handles.specs.Handles.{values_in}
 use Rattle.bidi_handles.specs.Resolves.{Gives}
-use Rattle.bidi_handles.specs.ValuesInHand.{remote_tree}
+use Rattle.bidi_values.specs.RemoteView.{remote_tree}
 use Rattle.bidi_handles.proofs.ResolveLemmas.{by-shared, by-handle, handle-there, there, none-there}
 use Rattle.bidi_handles.proofs.resolving.held_by.Goals as goal
 

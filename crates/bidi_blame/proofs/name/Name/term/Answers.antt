@@ -194,6 +194,9 @@ returns-in-RemoteValue-clause-rank c = simp (c.in-RemoteValue.is, weight-Exactly
 pub returns-in-RemoteValue-clause-says : goal.returns-in-RemoteValue-clause-says
 returns-in-RemoteValue-clause-says c = rw c.in-RemoteValue.is (simp (grammar-Exactly, grammar-Text, grammar-Bool, grammar-Null, grammar-JsUint, grammar-JsInt, grammar-Any, grammar-ListOf, grammar-PairOf, grammar-MapOf, grammar-OneOf, grammar-Rule, grammar-Capped))
 
+pub returns-in-SerializationOptions-clause-says : goal.returns-in-SerializationOptions-clause-says
+returns-in-SerializationOptions-clause-says c = rw c.in-SerializationOptions.is (simp (grammar-Exactly, grammar-Text, grammar-Bool, grammar-Null, grammar-JsUint, grammar-JsInt, grammar-Any, grammar-ListOf, grammar-PairOf, grammar-MapOf, grammar-OneOf, grammar-Rule, grammar-Capped))
+
 pub returns-in-SharedReference-clause-says : goal.returns-in-SharedReference-clause-says
 returns-in-SharedReference-clause-says c = rw c.in-SharedReference.is (simp (grammar-Exactly, grammar-Text, grammar-Bool, grammar-Null, grammar-JsUint, grammar-JsInt, grammar-Any, grammar-ListOf, grammar-PairOf, grammar-MapOf, grammar-OneOf, grammar-Rule, grammar-Capped))
 

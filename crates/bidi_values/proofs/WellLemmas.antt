@@ -3,13 +3,8 @@ use Rattle.std.proofs.Common.{◌≡◌, ◌≤◌, ◌∙◌, Bool, true, false
 use Rattle.std.proofs.lemmas.Bool.{and_parts}
 use Rattle.std.proofs.lemmas.Slice.Eq.{bytes_eq-Decides}
 use Rattle.std.specs.Prelude.{IfSome, ◌&&◌, ⊤}
-use Prim.Native.String as native
-use Rattle.std.proofs.Common.{ℕ, zero, suc, List, Ordering, Less, Equal, Greater, nat_cmp, codes, arith}
-use Rattle.std.specs.Cmp.Lexicographic.{slice_cmp}
-use Rattle.std.specs.Ordering.{match_ordering}
-use Rattle.bidi_handles.specs.Values.{with_member}
-use Rattle.bidi_tree.specs.Node.{Node, null, boolean, whole, odd, text, list as list_node, map, Members}
-use Rattle.bidi_tree.specs.Node.{no_members, member, get_member, put, levels, members_levels}
+use Rattle.std.proofs.Common.{ℕ, zero, suc, List, codes}
+use Rattle.bidi_tree.specs.Node.{Node, text, map, Members, no_members, get_member, put, levels}
 use Rattle.bidi_tree.proofs.MemberLemmas.{get_member-put}
 use Rattle.bidi_shape.specs.Name as name
 use Rattle.bidi_shape.specs.ChoiceLaws.{fits_neither}
@@ -20,11 +15,13 @@ use Rattle.bidi_shape.specs.Table.{TableWell}
 use Rattle.bidi_shape.specs.Term.{Term, required, closed, map_of, either, rule, Rows, row, ◌or◌}
 use Rattle.bidi_shape.proofs.FitsLemmas.{RowFits, rule_inside, map_inside, row_inside}
 use Rattle.bidi_shape.proofs.FitsTest.{Answer, fit, misfit, not_known, test, misfits_by}
+use Rattle.bidi_shape.proofs.PartLemmas.{some_well}
 use Rattle.bidi_values.specs.Content.{Content, plain, list, pairs, Contents, no_values, value, Pairs, no_pairs, pair, Key, value_key, text_key, content}
 use Rattle.bidi_values.specs.Kinds.{list_text, pairs_text}
-use Rattle.bidi_values.specs.NestedLaws.{NestingOf, PartsAreWell, ValuesAreWell, PairsAreWell, KeyIsWell, IsWell}
+use Rattle.bidi_values.specs.NestedLaws.{NestingOf, PartsAreWell, ValuesAreWell, PairsAreWell, KeyIsWell}
 use Rattle.bidi_values.specs.Opaque.{opaque_text}
 use Rattle.bidi_values.specs.RemoteValue.{bare_list, bare_pairs, remote_reg_exp, remote_date}
+use Rattle.bidi_values.specs.RemoteView.{remote_tree, RemoteIsWell}
 use Rattle.bidi_values.specs.declared.kinds.ListKind.{ListKind}
 use Rattle.bidi_values.specs.declared.kinds.ListKind.TheVariants as array
 use Rattle.bidi_values.specs.declared.kinds.PairsKind.{PairsKind}
@@ -43,8 +40,6 @@ use Rattle.bidi_values.specs.contracts.primitive.PrimitiveShape.TheImpl as primi
 use Rattle.bidi_values.specs.contracts.primitive.NumberShape.TheImpl as numbers
 use Rattle.bidi_values.specs.contracts.reg_exp.RegExpValueShape.TheImpl as reg_exps
 use Rattle.bidi_values.specs.contracts.remote_value.RemotePlainNestsRemoteListRemotePairs.TheImpl as remote
-use Rattle.bidi_shape.proofs.PartLemmas.{some_well}
-use Rattle.bidi_handles.specs.ValuesInHand.{remote_tree}
 
 -- ---- values of any kind
 
@@ -202,26 +197,5 @@ plain-well (of.Opaque o) =
     )
 
 -- a value of so many levels is well
-pub remote-well : (v : Nested RemotePlain (HeldBy ListKind) (HeldBy PairsKind)) → levels (remote_tree v) ≤ 60 → IsWell remote.ghosts.nesting (content v)
+pub remote-well : (v : Nested RemotePlain (HeldBy ListKind) (HeldBy PairsKind)) → levels (remote_tree v) ≤ 60 → RemoteIsWell v
 remote-well v few = record { parts = parts-well remote.ghosts.nesting plain-well list-well held-pairs-well (content v); cap = few }
-
--- a text among the members of a map makes it no deeper
-put-levels : (k s : List ℕ) (ms : Members) → members_levels (put k (text s) ms) ≤ members_levels ms
-put-levels k s no_members = omega arith
-put-levels k s (member l t ms) = step (slice_cmp nat_cmp k l) (put-levels k s ms)
-  where
-    step : (o : Ordering) → members_levels (put k (text s) ms) ≤ members_levels ms
-        → members_levels (match_ordering o (member k (text s) (member l t ms)) (member l (text s) ms) (member l t (put k (text s) ms)))
-        ≤ members_levels (member l t ms)
-    step Less few = omega arith
-    step Equal few = omega arith
-    step Greater few = omega (arith, few)
-
-pub with_member-levels : (name : native.String) (s : List ℕ) (t : Node) → levels (with_member name (text s) t) ≤ levels t
-with_member-levels name s (map ms) = let few = put-levels (codes name) s ms in omega (arith, few)
-with_member-levels name s null = omega arith
-with_member-levels name s (boolean b) = omega arith
-with_member-levels name s (whole z) = omega arith
-with_member-levels name s odd = omega arith
-with_member-levels name s (text u) = omega arith
-with_member-levels name s (list_node ts) = omega arith
