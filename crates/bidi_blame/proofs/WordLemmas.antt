@@ -1,11 +1,12 @@
 -- What pointers, told words and counts are made of.
-use Rattle.std.proofs.Common.{◌≡◌, ◌≢◌, ℕ, suc, ◌+◌, ◌<◌, List, [], ◌∷◌, ◌++◌, map, flat_map, length, get_or, drop, codes, decimal, eqb, false, rules}
+use Rattle.std.proofs.Common.{◌≡◌, ◌≢◌, ℕ, zero, suc, ◌+◌, ◌<◌, List, [], ◌∷◌, ◌++◌, map, flat_map, length, get_or, drop, codes, decimal, eqb, false, rules}
 use Rattle.std.proofs.Common.{refl, sym, ap, ap₂, subst, ◌∙◌, append_assoc, append-nil, arith, lit<, ne_eqb, encode_utf8, encode_utf8_all}
-use Rattle.std.proofs.Common.{◌≤◌, bytes_eq, Some}
+use Rattle.std.proofs.Common.{◌≤◌, ◌⊎◌, inl, inr, Bool, true, cond, nat_lt, length-append, bytes_eq, Some}
+use Rattle.std.proofs.lemmas.Bool.{lt-ltb}
 use Rattle.std.proofs.Math.Seq.{drop-cons}
 use Rattle.std.proofs.lemmas.Bool.Decides.{same_from_decides}
 use Rattle.std.proofs.lemmas.Slice.Eq.{bytes_eq-Decides}
-use Rattle.json.specs.Print.{escape, quoted}
+use Rattle.json.specs.Print.{escape, escape_byte, escape_letter, quoted}
 use Rattle.json.proofs.Printed.Strings.{escape_byte_plain}
 use Rattle.bidi_tree.specs.Text.{tree_of}
 use Rattle.bidi_tree.proofs.RoundTrip.{tree_of-compact_text}
@@ -123,6 +124,43 @@ escape_more bs i few plain rest =
     let next : suc i ≡ i + 1 = omega arith in
     let here : drop i bs ≡ get_or bs i 0 ∷ drop (i + 1) bs = drop-cons bs i 0 few ∙ ap (λ j. get_or bs i 0 ∷ drop j bs) next in
     subst (λ (xs : List ℕ). escape xs ≡ xs) (sym here) (ap₂ (λ (x y : List ℕ). x ++ y) (escape_byte_plain (get_or bs i 0) plain.1 plain.2 plain.0) rest)
+
+-- a byte that is
+abbrev pub Escaped : ℕ → Type 0
+Escaped b = (b < 32) ⊎ ((b ≡ 34) ⊎ (b ≡ 92))
+
+-- a choice of two texts, each of so many bytes
+either-long : (n : ℕ) (x : Bool) (us vs : List ℕ) → n ≤ length us → n ≤ length vs → n ≤ length (cond x us vs)
+either-long n true us vs p q = p
+either-long n false us vs p q = q
+
+-- the bytes that stand for one are one or more
+escape_byte-some : (b : ℕ) → 1 ≤ length (escape_byte b)
+unfolding escape_byte
+escape_byte-some b = either-long 1 (nat_lt 0 (escape_letter b)) _ _ (omega arith) (either-long 1 (nat_lt b 32) _ _ (omega arith) (omega arith))
+
+-- of one that is written by an escape they are more
+escape_byte-long : (b : ℕ) → Escaped b → 2 ≤ length (escape_byte b)
+unfolding escape_byte
+escape_byte-long b (inr (inl e)) = subst (λ (x : ℕ). 2 ≤ length (escape_byte x)) (sym e) (omega arith)
+escape_byte-long b (inr (inr e)) = subst (λ (x : ℕ). 2 ≤ length (escape_byte x)) (sym e) (omega arith)
+escape_byte-long b (inl few) = rw (lt-ltb b 32 few) (either-long 2 (nat_lt 0 (escape_letter b)) _ _ (omega arith) (omega arith))
+
+-- so no text is shorter where JSON writes it
+escape-long : (bs : List ℕ) → length bs ≤ length (escape bs)
+escape-long [] = omega arith
+escape-long (b ∷ bs) = omega (arith, length-append (escape_byte b) (escape bs), escape_byte-some b, escape-long bs)
+
+-- and one of whose bytes one is escaped is longer
+escape-longer : (bs : List ℕ) (i : ℕ) → i < length bs → 2 ≤ length (escape_byte (get_or bs i 0)) → length bs < length (escape bs)
+escape-longer [] i few long = absurd (omega (arith, few))
+escape-longer (b ∷ bs) zero few long = omega (arith, length-append (escape_byte b) (escape bs), long, escape-long bs)
+escape-longer (b ∷ bs) (suc i) few long =
+    omega (arith, length-append (escape_byte b) (escape bs), escape_byte-some b, escape-longer bs i (omega (arith, few)) long)
+
+-- so it does not stand as it is
+pub escape-other : (bs : List ℕ) (i : ℕ) → i < length bs → Escaped (get_or bs i 0) → escape bs ≢ bs
+escape-other bs i few some same = absurd (omega (arith, ap length same, escape-longer bs i few (escape_byte-long (get_or bs i 0) some)))
 
 -- ---- terms of the code
 

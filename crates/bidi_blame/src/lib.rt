@@ -3,7 +3,7 @@
 //! [`blame`] gives a [`Reason`] exactly where a tree does not fit the rule of a [`Name`]: the place, what may stand there, and
 //! what does.
 //!
-//! [`pointer`], [`wanted`] and [`found_words`] have the words for it.
+//! [`pointer`], [`wanted`] and [`found_words`] have the words for it, and [`has_escapes`] tells of a text whether JSON writes it as it stands.
 //!
 //! The rules are data here, each proved equal to the definition of its name; `bidi_shape` and the crates above it read values by
 //! the same definitions.
@@ -23,6 +23,7 @@ mod words;
 
 pub use blaming::blame;
 pub use name::Name;
+pub use quoting::has_escapes;
 pub use reason::{Reason, Step, Want};
 pub use term::{Need, Openness, Row, Term};
 pub use wanting::wanted;

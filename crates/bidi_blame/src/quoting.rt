@@ -1,5 +1,5 @@
 //! Texts as JSON writes them.
-ghost use Rattle.std.specs.Prelude.{◌≡◌, ◌≢◌, ◌≤◌, ◌++◌, false, IfOk, OnOk, string_bytes};
+ghost use Rattle.std.specs.Prelude.{◌≡◌, ◌≢◌, ◌<◌, ◌≤◌, ◌⊎◌, ◌++◌, true, false, IfOk, OnOk, string_bytes};
 ghost use Rattle.json.specs.Print.{escape, quoted};
 
 use bidi_tree::{Outline, write_outline};
@@ -26,9 +26,11 @@ pub(crate) fn push_quoted(alloc: Global, out: &mut String, text: &str) -> Result
     out.push_str("\"")
 }
 
-// Whether a byte of the text is written by an escape. It looks at all of them, so that it can look at many at once.
-fn has_escapes(text: &str) -> bool
-    ensures { result ≡ false → escape text.now ≡ text.now }
+/// Whether JSON writes a byte of the text by an escape.
+///
+/// It looks at all of them, so that it can look at many at once. Takes no memory.
+pub fn has_escapes(text: &str) -> bool
+    ensures { (result ≡ false → escape text.now ≡ text.now) × (result ≡ true → escape text.now ≢ text.now) }
 {
     let mut has_escapes = false;
     for byte in text.as_bytes() {
@@ -40,7 +42,7 @@ fn has_escapes(text: &str) -> bool
 // Whether a byte is written by an escape.
 #[inline(always)]
 fn is_escaped(byte: u8) -> bool
-    ensures { result ≡ false → (32 ≤ byte) × (byte ≢ 34) × (byte ≢ 92) }
+    ensures { (result ≡ false → (32 ≤ byte) × (byte ≢ 34) × (byte ≢ 92)) × (result ≡ true → (byte < 32) ⊎ ((byte ≡ 34) ⊎ (byte ≡ 92))) }
 {
     (byte < 32) | (byte == b'"') | (byte == b'\\')
 }

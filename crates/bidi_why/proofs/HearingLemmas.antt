@@ -38,7 +38,7 @@ use Rattle.bidi_messages.specs.Reading.{IsCause}
 use Rattle.bidi_messages.specs.declared.text.MessageFault.{MessageFault}
 use Rattle.bidi_messages.specs.declared.text.MessageFault.TheVariants.{NotJson, NoFit}
 use Rattle.bidi_why.specs.Hearing.{IsJudged, IsSender, IsStray, TellsBadResult, to_none, to_refused}
-use Rattle.bidi_why.specs.Remark.{Remark, bad_line, bad_result, fault, failed, id_waits, stray, too_many}
+use Rattle.bidi_why.specs.Remark.{Remark, bad_line, fault, failed, id_waits, stray, too_many}
 use Rattle.bidi_why.specs.declared.conversation.Judged.{Judged}
 use Rattle.bidi_why.specs.declared.conversation.Judged.TheVariants as judged
 use Rattle.bidi_params.specs.declared.error_code.ErrorCode.{ErrorCode}
@@ -59,7 +59,7 @@ use Rattle.bidi_local.specs.declared.outcome.Outcome as outcome
 use Rattle.bidi_local.specs.declared.outcome.Outcome.TheVariants as out
 use Rattle.bidi_blame.specs.Blames.{Blames}
 use Rattle.bidi_local.specs.Pending.{IsNoted, note_refusal}
-use Rattle.bidi_local.specs.View.{Stands, sent_by, waiting_in}
+use Rattle.bidi_local.specs.View.{Stands, waiting_in}
 use Rattle.bidi_local.specs.declared.local_end.LocalEnd.{LocalEnd}
 use Rattle.bidi_local.specs.declared.local_end.NoteFault.{NoteFault}
 use Rattle.bidi_local.specs.declared.local_end.NoteFault.TheVariants.{IdWaits, TooManyPending}
@@ -123,11 +123,6 @@ misfit_of waiting s m id method (local.is_stray_response t a b c) e waits = absu
 misfit_of waiting s m id method (local.is_stray_error t a b c) e waits = absurd cc
 misfit_of waiting s m id method (local.is_refusal t mm cd a b c d) e waits = absurd cc
 misfit_of waiting s m id method (local.is_answer t mm a b c d) e waits = absurd cc
-
--- of a tree that has this text
-pub bad_result_here : (waiting : Pending) (s : List ℕ) (t : Node) (m : Meaning) (id : ℕ) (method : Method) → tree_of s ≡ Some t → IsMeaningOf waiting t m
-    → m ≡ local.BadResult id → method_of waiting id ≡ Some method → HasBadResult s method
-bad_result_here waiting s t m id method tree means e waits = misfit_of waiting s m id method (means s tree) e waits
 
 -- ---- marks
 

@@ -13,7 +13,7 @@ use Rattle.bidi_lines.proofs.AnsweringLemmas.{all_more}
 use Rattle.bidi_lines.proofs.FeedLemmas.{regroup}
 use Rattle.bidi_show.specs.declared.showing.ShowFault.{ShowFault}
 use Rattle.bidi_show.specs.declared.showing.ShowFault.TheVariants.{Read, Write, BadLine, NoMemory, TooManyLines}
-use Rattle.bidi_why.specs.Telling.{IsOneLine, Parts, SoFar, StopsBy, StopsLine, Tells, TellsAll, TellsEach, Told, Whole, input_fault, last_line}
+use Rattle.bidi_why.specs.Telling.{IsOneLine, Parts, StopsBy, StopsLine, Tells, TellsEach, Told, Whole, input_fault, last_line}
 use Rattle.bidi_why.specs.Explainers.{HasExplained, fault_in, text_in}
 use Rattle.bidi_why.specs.declared.explainer.Told as explainer
 use Rattle.bidi_why.specs.declared.one_side.OneSide.{OneSide}
@@ -140,15 +140,6 @@ module _ {P Q : List (List ℕ) → List ℕ → Type 0} (f : (lines : List (Lis
   stops_as (BadLine n) read wrote (lines, rest, t) = (lines, rest, told_as read rest wrote lines t)
   stops_as NoMemory read wrote (lines, rest, t) = (lines, rest, told_as read rest wrote lines t)
   stops_as TooManyLines read wrote (lines, rest, t, most, some) = (lines, rest, told_as read rest wrote lines t, most, some)
-
--- ---- of the lines of an end
-
-pub explained_all : (first now : OneSide) (some : Bool) (read wrote : List ℕ) → Whole (λ lines text. HasExplained first now lines text some) read wrote
-    → TellsAll first.form first.side read wrote × (some ≡ nat_lt 0 (length wrote))
-explained_all first now some read wrote (lines, last, parts, one, p) = ((lines, last, parts, one, p.tells), p.is_some)
-
-pub explained_so_far : (first : OneSide) (lines : List (List ℕ)) (text : List ℕ) → SoFar HasExplained first lines text → TellsEach first.form first.side 1 lines text
-explained_so_far first lines text (now, some, p) = p.tells
 
 -- ---- results
 

@@ -7,3 +7,4 @@ pub mod Remark
 pub mod Conversing
 pub mod Hearing
 pub mod Explainers
+pub mod Counting

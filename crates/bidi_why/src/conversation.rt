@@ -1,10 +1,10 @@
 //! What tells of the lines of a conversation.
-ghost use Rattle.std.specs.Prelude.{◌≡◌, ◌++◌, ℕ, Bool, List, true, false, Some, None, IfOk, OnOk, MatchOption, filter, not, ◌==◌, option_map, if◌then◌else◌};
+ghost use Rattle.std.specs.Prelude.{◌≡◌, ◌++◌, ℕ, List, true, false, Some, None, IfOk, OnOk, MatchOption, filter, not, ◌==◌, option_map, if◌then◌else◌};
 ghost use Rattle.std.specs.List.{list_any};
 ghost use Rattle.bidi_tree.specs.Text.{tree_of};
 ghost use Rattle.bidi_lines.specs.InputLines.{IsLine};
 ghost use Rattle.bidi_lines.specs.declared.side.Side.TheVariants.{Local, Remote};
-ghost use Rattle.bidi_messages.specs.View.{IsWell, verdict_of};
+ghost use Rattle.bidi_messages.specs.View.{verdict_of};
 ghost use Rattle.bidi_show.specs.MessageLines.{HasVerdict, Refuses};
 ghost use Rattle.bidi_why.specs.Conversing.{Hears, HearsLine, Standing, silence, was_refused, with_refused, without_refused};
 ghost use Rattle.bidi_why.specs.Explainers.{HasConversed, standing_of};

@@ -1,6 +1,7 @@
 //! The causes that were met, and how often each was.
-ghost use Rattle.std.specs.Prelude.{◌<◌, ◌≤◌, length, vec_len, IfSome};
+ghost use Rattle.std.specs.Prelude.{◌≡◌, ◌<◌, ◌≤◌, ◌+◌, ◌^◌, length, vec_len, IfSome, OnOk};
 ghost use Rattle.bidi_lines.specs.Devices.{CountsFailure};
+ghost use Rattle.bidi_why.specs.Counting.{lines_counted};
 
 use bidi_lines::{DeviceFault, Sink, write_all};
 use itoa::Buffer;
@@ -32,7 +33,9 @@ pub(crate) struct Causes {
 
 impl Causes {
     /// No cause. Takes no memory.
-    pub(crate) fn new(alloc: Global) -> Causes {
+    pub(crate) fn new(alloc: Global) -> Causes
+        ensures { lines_counted result ≡ 0 }
+    {
         Causes {
             rows: Vec::new(alloc),
             others: 0,
@@ -45,7 +48,8 @@ impl Causes {
     /// No memory: nothing is counted.
     pub(crate) fn add(&mut self, cause: Vec<u8>) -> Result<(), AllocError>
         // So many causes are kept at most.
-        ensures { vec_len self.old.rows ≤ 1000 → vec_len self.new.rows ≤ 1000 }
+        ensures few { vec_len self.old.rows ≤ 1000 → vec_len self.new.rows ≤ 1000 }
+        ensures counts { OnOk result (lines_counted self.old + 1 < 2 ^ 64 → lines_counted self.new ≡ lines_counted self.old + 1) }
     {
         if let Some(i) = place_of(&self.rows, &cause) {
             self.rows[i].count = self.rows[i].count.saturating_add(1);
@@ -71,7 +75,10 @@ impl Causes {
         alloc: Global,
         cause: &[u8],
         count: usize,
-    ) -> Result<(), AllocError> {
+    ) -> Result<(), AllocError>
+        ensures few { vec_len self.old.rows ≤ 1000 → vec_len self.new.rows ≤ 1000 }
+        ensures counts { OnOk result (lines_counted self.old + count < 2 ^ 64 → lines_counted self.new ≡ lines_counted self.old + count) }
+    {
         for _ in 0..count {
             self.add(Vec::from_slice(alloc, cause)?)?;
         }

@@ -1,5 +1,5 @@
 //! What is written for one line.
-ghost use Rattle.std.specs.Prelude.{◌≡◌, IfOk, option_map};
+ghost use Rattle.std.specs.Prelude.{IfOk, option_map};
 ghost use Rattle.bidi_why.specs.Explaining.{Explains, explained_of};
 
 use crate::finding::look_for_trouble;

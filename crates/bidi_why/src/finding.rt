@@ -1,16 +1,18 @@
 //! What is wrong with a line that is refused.
-ghost use Rattle.std.specs.Prelude.{◌≡◌, ℕ, List, Some, IfOk, MatchResult, option_map};
+ghost use Rattle.std.specs.Prelude.{◌≡◌, ℕ, List, Some, false, IfOk, MatchResult, option_map};
 ghost use Rattle.bidi_tree.specs.Json.{parsed};
 ghost use Rattle.bidi_shape.specs.Term.{rule};
 ghost use Rattle.bidi_shape.specs.Fits.{Fits};
 ghost use Rattle.bidi_show.specs.MessageLines.{HasTree, Refuses};
 ghost use Rattle.bidi_lines.specs.declared.side.Side.TheVariants.{Local, Remote};
-ghost use Rattle.bidi_why.specs.Trouble.{HasMisfit, HasNoTree, HasTrouble, HasTroubleAt, IsTrouble, IsTroubleAt, begins_with_mark, is_too_large, misfit_of, rule_of, trouble_of};
+ghost use Rattle.bidi_why.specs.Trouble.{HasMisfit, HasNoTree, HasTrouble, HasTroubleAt, IsTrouble, begins_with_mark, is_too_large, misfit_of, rule_of, trouble_of};
 
 use crate::bad_text::BadText;
 use crate::misfit::{Misfit, find_misfit};
 use bidi_lines::Side;
-use bidi_show::{refusal, value_refusal};
+use bidi_messages::Command;
+use bidi_shape::{Shape, ShapeFault};
+use bidi_show::value_refusal;
 use bidi_tree::{ReadFault, outline_parsed, parse};
 use json::{Scratch, Value};
 use std::alloc::{AllocError, Global};
@@ -29,7 +31,7 @@ const MOST_BYTES: usize = 1_048_576;
 
 /// What is wrong with a line of this number, where its end refuses it.
 ///
-/// A line of a remote end is read once, one of a local end that is refused twice.
+/// The line is read once. Only of one whose tree does not fit an outline is made.
 pub(crate) fn look_for_trouble(
     alloc: Global,
     side: Side,
@@ -39,44 +41,68 @@ pub(crate) fn look_for_trouble(
 ) -> Result<Option<Trouble>, AllocError>
     ensures { IfOk result (λ found. HasTroubleAt side number line.now (option_map trouble_of found)) }
 {
-    match side {
-        Side::Local => command_trouble(alloc, number, line, scratch),
-        Side::Remote => message_trouble(alloc, number, line, scratch),
+    let Some(trouble) = text_trouble(alloc, side, line, scratch)? else {
+        return Ok(None);
+    };
+    if begins_with_mark(number, line) {
+        return Ok(Some(Trouble::Bad(BadText::ByteOrderMark)));
     }
+    Ok(Some(trouble))
 }
 
-// ---- lines of a local end
-
-// What is wrong with a line of a local end, where it is refused.
-fn command_trouble(
+// The same, where a byte order mark is as any other character.
+fn text_trouble(
     alloc: Global,
-    number: u64,
+    side: Side,
     line: &[u8],
     scratch: &mut Scratch,
 ) -> Result<Option<Trouble>, AllocError>
-    ensures { IfOk result (λ found. HasTroubleAt Local number line.now (option_map trouble_of found)) }
+    ensures { IfOk result (λ found. HasTrouble side line.now (option_map trouble_of found)) }
 {
-    if refusal(alloc, Side::Local, line, scratch)?.is_none() {
-        return Ok(None);
+    match value_in(alloc, line, scratch)? {
+        Ok(_) if is_too_large(side, line) => Ok(Some(Trouble::Bad(BadText::TooLarge))),
+        Ok(value) => value_trouble(alloc, side, &value),
+        Err(bad) => Ok(Some(Trouble::Bad(bad))),
     }
-    Ok(Some(find_trouble(alloc, Side::Local, number, line, scratch)?))
 }
 
-/// What is wrong with a line of this number, which is refused.
-pub(crate) fn find_trouble(
+// What is wrong with a line that is not too large and reads as this value, where it is refused.
+fn value_trouble(
     alloc: Global,
     side: Side,
-    number: u64,
-    line: &[u8],
-    scratch: &mut Scratch,
-) -> Result<Trouble, AllocError>
-    requires { (text : List ℕ) × Refuses side line.now (Some text) }
-    ensures { IfOk result (λ found. IsTroubleAt side number line.now (trouble_of found)) }
+    value: &Value<'_>,
+) -> Result<Option<Trouble>, AllocError>
+    ensures { IfOk result (λ found. (line : List ℕ) → HasTree line (parsed value.now) → is_too_large side line ≡ false
+        → HasTrouble side line (option_map trouble_of found)) }
 {
-    if begins_with_mark(number, line) {
-        return Ok(Trouble::Bad(BadText::ByteOrderMark));
+    match side {
+        Side::Local => command_trouble(alloc, value),
+        Side::Remote => message_trouble(alloc, value),
     }
-    trouble_in(alloc, side, line, scratch)
+}
+
+// The same of a line of a local end.
+fn command_trouble(alloc: Global, value: &Value<'_>) -> Result<Option<Trouble>, AllocError>
+    ensures { IfOk result (λ found. (line : List ℕ) → HasTree line (parsed value.now) → is_too_large Local line ≡ false
+        → HasTrouble Local line (option_map trouble_of found)) }
+{
+    match Command::from_tree(alloc, value).err() {
+        None => Ok(None),
+        Some(ShapeFault::NoFit) => {
+            Ok(Some(Trouble::NoFit(misfit_in(alloc, Side::Local, value)?)))
+        }
+        Some(ShapeFault::NoMemory) => Err(AllocError),
+    }
+}
+
+// The same of a line of a remote end, of any size.
+fn message_trouble(alloc: Global, value: &Value<'_>) -> Result<Option<Trouble>, AllocError>
+    ensures { IfOk result (λ found. (line : List ℕ) → HasTree line (parsed value.now) → HasTrouble Remote line (option_map trouble_of found)) }
+{
+    if value_refusal(alloc, value)?.is_none() {
+        return Ok(None);
+    }
+    Ok(Some(Trouble::NoFit(misfit_in(alloc, Side::Remote, value)?)))
 }
 
 /// What is wrong with a refused line that begins with no byte order mark.
@@ -105,52 +131,6 @@ fn is_too_large(side: Side, text: &[u8]) -> bool
         Side::Remote => false,
     }
 }
-
-// ---- lines of a remote end
-
-// What is wrong with a line of a remote end, where it is refused.
-fn message_trouble(
-    alloc: Global,
-    number: u64,
-    line: &[u8],
-    scratch: &mut Scratch,
-) -> Result<Option<Trouble>, AllocError>
-    ensures { IfOk result (λ found. HasTroubleAt Remote number line.now (option_map trouble_of found)) }
-{
-    let Some(trouble) = text_trouble(alloc, line, scratch)? else {
-        return Ok(None);
-    };
-    if begins_with_mark(number, line) {
-        return Ok(Some(Trouble::Bad(BadText::ByteOrderMark)));
-    }
-    Ok(Some(trouble))
-}
-
-// The same, where a byte order mark is as any other character.
-fn text_trouble(
-    alloc: Global,
-    line: &[u8],
-    scratch: &mut Scratch,
-) -> Result<Option<Trouble>, AllocError>
-    ensures { IfOk result (λ found. HasTrouble Remote line.now (option_map trouble_of found)) }
-{
-    match value_in(alloc, line, scratch)? {
-        Ok(value) => value_trouble(alloc, &value),
-        Err(bad) => Ok(Some(Trouble::Bad(bad))),
-    }
-}
-
-// What is wrong with a line that reads as this value, where it is refused.
-fn value_trouble(alloc: Global, value: &Value<'_>) -> Result<Option<Trouble>, AllocError>
-    ensures { IfOk result (λ found. (line : List ℕ) → HasTree line (parsed value.now) → HasTrouble Remote line (option_map trouble_of found)) }
-{
-    if value_refusal(alloc, value)?.is_none() {
-        return Ok(None);
-    }
-    Ok(Some(Trouble::NoFit(misfit_in(alloc, Side::Remote, value)?)))
-}
-
-// ---- of both
 
 /// Whether the line is the first of an input, and begins with a byte order mark.
 pub(crate) fn begins_with_mark(number: u64, line: &[u8]) -> bool

@@ -1,5 +1,5 @@
 //! Trees that do not fit the rule of their end.
-ghost use Rattle.std.specs.Prelude.{◌≡◌, codes, false, map, option_map, option_and_then, string_bytes, IfOk};
+ghost use Rattle.std.specs.Prelude.{◌≡◌, false, map, option_map, option_and_then, string_bytes, IfOk};
 ghost use Rattle.bidi_tree.specs.Node.{get_of};
 ghost use Rattle.bidi_tree.specs.Kind.{text_in};
 ghost use Rattle.bidi_tree.specs.Outline.{outline_node};

@@ -1,5 +1,5 @@
 //! What was told so far, in numbers.
-ghost use Rattle.std.specs.Prelude.{◌≡◌, ◌<◌, ◌||◌, true, false, nat_lt, IfOk, OnOk};
+ghost use Rattle.std.specs.Prelude.{◌≡◌, ◌<◌, ◌||◌, true, false, nat_lt, OnOk};
 ghost use Rattle.bidi_lines.specs.Devices.{CountsFailure};
 
 use crate::counting::Causes;

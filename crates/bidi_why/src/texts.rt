@@ -1,16 +1,24 @@
 //! How a refused line is told: in words, or as JSON.
-ghost use Rattle.std.specs.Prelude.{◌≡◌, ◌++◌, Some, IfOk, OnOk, option_map, string_bytes};
+ghost use Rattle.std.specs.Prelude.{◌≡◌, ◌++◌, Some, IfOk, OnOk, codes, decimal, option_map, string_bytes};
 ghost use Rattle.json.specs.Print.{escape, quoted};
-ghost use Rattle.bidi_why.specs.Trouble.{bad_words, misfit_of, trouble_of};
+ghost use Rattle.bidi_why.specs.Trouble.{misfit_of, trouble_of};
 ghost use Rattle.bidi_why.specs.Texts.{bad_row, cause_text, json_line, label, misfit_cause, misfit_row, misfit_words, number_or_null};
 ghost use Rattle.bidi_why.specs.Texts.{row_of, rule_words, text_or_null, told_text, trouble_row, trouble_words, words_line};
 
 use crate::bad_text::BadText;
 use crate::finding::Trouble;
 use crate::misfit::Misfit;
-use bidi_tree::{Outline, write_outline};
+use bidi_blame::has_escapes;
 use itoa::Buffer;
+use json::Writer;
 use std::alloc::{AllocError, Global};
+use std::mem;
+
+/// The most bytes that stand around the words of a line, or around those of a cause.
+const AROUND_WORDS: usize = 64;
+
+/// The most bytes that stand around the texts of an object.
+const AROUND_TEXTS: usize = 128;
 
 /// How a refused line is told.
 #[derive(Clone, Copy, Debug, PartialEq, Eq)]
@@ -22,6 +30,8 @@ pub enum Form {
 }
 
 /// The text that tells of a refused line of this number, with its line feed.
+///
+/// It is written where it stays. Of a tree that does not fit it takes one block of memory, unless a text has escapes.
 pub(crate) fn told(
     alloc: Global,
     form: Form,
@@ -31,12 +41,14 @@ pub(crate) fn told(
     ensures { IfOk result (λ text. text.items ≡ told_text form number (trouble_of trouble.now)) }
 {
     match form {
-        Form::Words => line_of_words(alloc, number, &trouble_words(alloc, trouble)?),
+        Form::Words => told_in_words(alloc, number, trouble),
         Form::Json => told_in_json(alloc, number, trouble),
     }
 }
 
 /// The cause, by which lines are counted.
+///
+/// It takes one block of memory, unless the place has escapes.
 pub(crate) fn cause(alloc: Global, trouble: &Trouble) -> Result<Vec<u8>, AllocError>
     ensures { IfOk result (λ text. text.items ≡ cause_text (trouble_of trouble.now)) }
 {
@@ -49,82 +61,112 @@ pub(crate) fn cause(alloc: Global, trouble: &Trouble) -> Result<Vec<u8>, AllocEr
 // ---- in words
 
 /// `line N: WORDS`
+///
+/// Takes one block of memory.
 pub(crate) fn line_of_words(alloc: Global, number: u64, words: &[u8]) -> Result<Vec<u8>, AllocError>
     ensures { IfOk result (λ text. text.items ≡ words_line number words.now) }
 {
-    let mut text = Vec::new(alloc);
-    put(&mut text, b"line ")?;
-    put(&mut text, Buffer::new().format(number).as_bytes())?;
-    put(&mut text, b": ")?;
+    let mut text = line_head(alloc, number, words.len())?;
     put(&mut text, words)?;
     put(&mut text, b"\n")?;
     Ok(text)
 }
 
-// The words for what is wrong.
-fn trouble_words(alloc: Global, trouble: &Trouble) -> Result<Vec<u8>, AllocError>
-    ensures { IfOk result (λ text. text.items ≡ trouble_words (trouble_of trouble.now)) }
+// The line of what is wrong.
+fn told_in_words(alloc: Global, number: u64, trouble: &Trouble) -> Result<Vec<u8>, AllocError>
+    ensures { IfOk result (λ text. text.items ≡ words_line number (trouble_words (trouble_of trouble.now))) }
 {
     match trouble {
-        Trouble::Bad(bad) => bad_words(alloc, *bad),
-        Trouble::NoFit(misfit) => misfit_words(alloc, misfit),
+        Trouble::Bad(bad) => line_of_words(alloc, number, bad.words(alloc)?.as_bytes()),
+        Trouble::NoFit(misfit) => misfit_line(alloc, number, misfit),
     }
 }
 
-// The words for a line that is no text to judge.
-fn bad_words(alloc: Global, bad: BadText) -> Result<Vec<u8>, AllocError>
-    ensures { IfOk result (λ text. text.items ≡ bad_words bad) }
+// `line N: LABEL: POINTER: wants WANTS, has HAS (RULE)`
+fn misfit_line(alloc: Global, number: u64, misfit: &Misfit) -> Result<Vec<u8>, AllocError>
+    ensures { IfOk result (λ text. text.items ≡ words_line number (misfit_words (misfit_of misfit.now))) }
 {
-    Ok(bad.words(alloc)?.into_bytes())
+    let mut text = line_head(alloc, number, room_of(misfit))?;
+    put_misfit(alloc, &mut text, misfit)?;
+    put(&mut text, b"\n")?;
+    Ok(text)
 }
 
-// `LABEL: POINTER: wants WANTS, has HAS (RULE)`
-fn misfit_words(alloc: Global, misfit: &Misfit) -> Result<Vec<u8>, AllocError>
-    ensures { IfOk result (λ text. text.items ≡ misfit_words (misfit_of misfit.now)) }
+// `line N: `, with room for so many bytes of words behind it.
+fn line_head(alloc: Global, number: u64, room: usize) -> Result<Vec<u8>, AllocError>
+    ensures { IfOk result (λ text. text.items ≡ codes "line " ++ decimal number ++ codes ": ") }
 {
-    let mut text = label(alloc, misfit)?;
+    let mut text = Vec::with_capacity(alloc, room.saturating_add(AROUND_WORDS))?;
+    put(&mut text, b"line ")?;
+    put(&mut text, Buffer::new().format(number).as_bytes())?;
     put(&mut text, b": ")?;
-    put(&mut text, &escaped(alloc, misfit.pointer.as_str())?)?;
-    put(&mut text, b": wants ")?;
-    put(&mut text, misfit.wants.as_bytes())?;
-    put(&mut text, b", has ")?;
-    put(&mut text, misfit.has.as_bytes())?;
-    put(&mut text, &rule_words(alloc, misfit.rule)?)?;
     Ok(text)
+}
+
+// How many bytes the texts of a misfit have.
+fn room_of(misfit: &Misfit) -> usize {
+    let label = match &misfit.method {
+        Some(method) => method.len(),
+        None => 1,
+    };
+    let rule = match misfit.rule {
+        Some(rule) => rule.len(),
+        None => 0,
+    };
+    label
+        .saturating_add(misfit.pointer.len())
+        .saturating_add(misfit.wants.len())
+        .saturating_add(misfit.has.len())
+        .saturating_add(rule)
+}
+
+// Puts `LABEL: POINTER: wants WANTS, has HAS (RULE)` behind.
+fn put_misfit(alloc: Global, text: &mut Vec<u8>, misfit: &Misfit) -> Result<(), AllocError>
+    ensures { OnOk result (text.new.items ≡ text.old.items ++ misfit_words (misfit_of misfit.now)) }
+{
+    put_label(alloc, text, misfit)?;
+    put(text, b": ")?;
+    put_escaped(alloc, text, misfit.pointer.as_str())?;
+    put(text, b": wants ")?;
+    put(text, misfit.wants.as_bytes())?;
+    put(text, b", has ")?;
+    put(text, misfit.has.as_bytes())?;
+    put_rule(text, misfit.rule)
 }
 
 // `PATTERN: wants WANTS (RULE)`
 fn misfit_cause(alloc: Global, misfit: &Misfit) -> Result<Vec<u8>, AllocError>
     ensures { IfOk result (λ text. text.items ≡ misfit_cause (misfit_of misfit.now)) }
 {
-    let mut text = escaped(alloc, misfit.pattern.as_str())?;
+    let room = misfit.pattern.len().saturating_add(misfit.wants.len());
+    let mut text = Vec::with_capacity(alloc, room.saturating_add(AROUND_WORDS))?;
+    put_escaped(alloc, &mut text, misfit.pattern.as_str())?;
     put(&mut text, b": wants ")?;
     put(&mut text, misfit.wants.as_bytes())?;
-    put(&mut text, &rule_words(alloc, misfit.rule)?)?;
+    put_rule(&mut text, misfit.rule)?;
     Ok(text)
 }
 
-// The label of a tree: its method, or `-`.
-fn label(alloc: Global, misfit: &Misfit) -> Result<Vec<u8>, AllocError>
-    ensures { IfOk result (λ text. text.items ≡ label (misfit_of misfit.now).method) }
+// Puts the label of a tree behind: its method, or `-`.
+fn put_label(alloc: Global, text: &mut Vec<u8>, misfit: &Misfit) -> Result<(), AllocError>
+    ensures { OnOk result (text.new.items ≡ text.old.items ++ label (misfit_of misfit.now).method) }
 {
     match &misfit.method {
-        Some(method) => escaped(alloc, method.as_str()),
-        None => Vec::from_slice(alloc, b"-"),
+        Some(method) => put_escaped(alloc, text, method.as_str()),
+        None => put(text, b"-"),
     }
 }
 
-// ` (RULE)`, or nothing.
-fn rule_words(alloc: Global, rule: Option<&'static str>) -> Result<Vec<u8>, AllocError>
-    ensures { IfOk result (λ text. text.items ≡ rule_words (option_map (λ s. s.now) rule.entry)) }
+// Puts ` (RULE)` behind, or nothing.
+fn put_rule(text: &mut Vec<u8>, rule: Option<&'static str>) -> Result<(), AllocError>
+    ensures { OnOk result (text.new.items ≡ text.old.items ++ rule_words (option_map (λ s. s.now) rule.entry)) }
 {
-    let mut text = Vec::new(alloc);
     if let Some(rule) = rule {
-        put(&mut text, b" (")?;
-        put(&mut text, rule.as_bytes())?;
-        put(&mut text, b")")?;
+        put(text, b" (")?;
+        put(text, rule.as_bytes())?;
+        put(text, b")")?;
     }
-    Ok(text)
+    Ok(())
 }
 
 // ---- as JSON
@@ -192,6 +234,8 @@ fn text_of(text: &Option<String>) -> Option<&str>
 }
 
 /// `{"line":N,"id":ID,"method":METHOD,"pointer":POINTER,"rule":RULE,"wants":WANTS,"has":HAS}`, with `null` where there is no number.
+///
+/// Takes one block of memory, unless more than one byte in eight of its texts has an escape.
 pub(crate) fn json_line(
     alloc: Global,
     number: Option<u64>,
@@ -199,11 +243,11 @@ pub(crate) fn json_line(
 ) -> Result<Vec<u8>, AllocError>
     ensures { IfOk result (λ text. text.items ≡ json_line number (row_of row.now)) }
 {
-    let mut text = Vec::new(alloc);
+    let mut text = Vec::with_capacity(alloc, room_of_row(row))?;
     put(&mut text, b"{\"line\":")?;
-    put(&mut text, &number_or_null(alloc, number)?)?;
+    put_number(&mut text, number)?;
     put(&mut text, b",\"id\":")?;
-    put(&mut text, &number_or_null(alloc, row.id)?)?;
+    put_number(&mut text, row.id)?;
     put_member(alloc, &mut text, b",\"method\":", row.method)?;
     put_member(alloc, &mut text, b",\"pointer\":", row.pointer)?;
     put_member(alloc, &mut text, b",\"rule\":", row.rule)?;
@@ -211,6 +255,24 @@ pub(crate) fn json_line(
     put_member(alloc, &mut text, b",\"has\":", Some(row.has))?;
     put(&mut text, b"}\n")?;
     Ok(text)
+}
+
+// The room for an object.
+fn room_of_row(row: &Row<'_>) -> usize {
+    let texts = length_of(row.method)
+        .saturating_add(length_of(row.pointer))
+        .saturating_add(length_of(row.rule))
+        .saturating_add(length_of(row.wants))
+        .saturating_add(row.has.len());
+    texts.saturating_add(texts / 8).saturating_add(AROUND_TEXTS)
+}
+
+// How many bytes a text has, where there is one.
+fn length_of(text: Option<&str>) -> usize {
+    match text {
+        Some(text) => text.len(),
+        None => 0,
+    }
 }
 
 // Puts a member behind: its name, and its text or `null`.
@@ -224,37 +286,51 @@ fn put_member(
 {
     put(text, name)?;
     match value {
-        Some(value) => put(text, quoted(alloc, value)?.as_bytes()),
+        Some(value) => put_quoted(alloc, text, value),
         None => put(text, b"null"),
     }
 }
 
-// The number in decimal, or `null`.
-fn number_or_null(alloc: Global, number: Option<u64>) -> Result<Vec<u8>, AllocError>
-    ensures { IfOk result (λ text. text.items ≡ number_or_null number) }
+// Puts a number in decimal behind, or `null`.
+fn put_number(text: &mut Vec<u8>, number: Option<u64>) -> Result<(), AllocError>
+    ensures { OnOk result (text.new.items ≡ text.old.items ++ number_or_null number) }
 {
     match number {
-        Some(number) => Vec::from_slice(alloc, Buffer::new().format(number).as_bytes()),
-        None => Vec::from_slice(alloc, b"null"),
+        Some(number) => put(text, Buffer::new().format(number).as_bytes()),
+        None => put(text, b"null"),
     }
 }
 
 // ---- of both
 
-// A text as JSON writes it.
-fn quoted(alloc: Global, text: &str) -> Result<String, AllocError>
-    ensures { IfOk result (λ s. string_bytes s ≡ quoted text.now) }
+// Puts a text as JSON writes it behind.
+fn put_quoted(alloc: Global, text: &mut Vec<u8>, value: &str) -> Result<(), AllocError>
+    ensures { OnOk result (text.new.items ≡ text.old.items ++ quoted value.now) }
 {
-    write_outline(alloc, &Outline::Text(text))
+    let mut out = Writer::new(mem::replace(text, Vec::new(alloc)));
+    out.string(value)?;
+    *text = out.into_inner();
+    Ok(())
 }
 
-// The same without its quotation marks.
-fn escaped(alloc: Global, text: &str) -> Result<Vec<u8>, AllocError>
-    ensures { IfOk result (λ bytes. bytes.items ≡ escape text.now) }
+// Puts the same without its quotation marks behind. One without an escape is copied once.
+fn put_escaped(alloc: Global, text: &mut Vec<u8>, value: &str) -> Result<(), AllocError>
+    ensures { OnOk result (text.new.items ≡ text.old.items ++ escape value.now) }
 {
-    let quoted = quoted(alloc, text)?;
-    let bytes = quoted.as_bytes();
-    Vec::from_slice(alloc, &bytes[1..bytes.len() - 1])
+    if has_escapes(value) {
+        put_within_quotes(alloc, text, value)
+    } else {
+        put(text, value.as_bytes())
+    }
+}
+
+// Puts what JSON writes within the quotation marks behind.
+fn put_within_quotes(alloc: Global, text: &mut Vec<u8>, value: &str) -> Result<(), AllocError>
+    ensures { OnOk result (text.new.items ≡ text.old.items ++ escape value.now) }
+{
+    let mut quoted = Vec::new(alloc);
+    put_quoted(alloc, &mut quoted, value)?;
+    put(text, &quoted[1..quoted.len() - 1])
 }
 
 // Puts bytes behind those that are there.

@@ -1,4 +1,4 @@
-use Rattle.std.proofs.Common.{ap, sym, subst, ℕ, List, string_bytes}
+use Rattle.std.proofs.Common.{sym, subst, ℕ, List, string_bytes}
 use Rattle.std.specs.Prelude.{Some, Option}
 use Rattle.bidi_lines.specs.declared.side.Side.TheVariants.{Remote}
 use Rattle.bidi_show.specs.MessageLines.{Refuses}

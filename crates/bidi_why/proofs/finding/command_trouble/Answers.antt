@@ -1,10 +1,23 @@
-use Rattle.bidi_lines.specs.declared.side.Side.TheVariants.{Local}
-use Rattle.bidi_why.proofs.FindingLemmas.{refused, taken}
+use Rattle.std.proofs.Common.{◌∙◌, sym}
+use Rattle.bidi_tree.specs.Json.{parsed}
+use Rattle.bidi_why.specs.Trouble.{fits_none, misfit_of}
+use Rattle.bidi_why.proofs.FindingLemmas.{command_fits, command_misfits, command_refused, command_taken}
 use Rattle.bidi_why.proofs.finding.command_trouble.Goals as goal
 
-pub returns-then-is_none : goal.returns-then-is_none
-returns-then-is_none c = taken Local c.args.line.now c.in_ok-refusal.field-0 c.if-is_none.ensures c.in_ok-refusal.ensures
+pub returns-in-None : goal.returns-in-None
+returns-in-None c = λ line read small.
+    let t = parsed c.args.value.now in
+    command_taken line t read small (command_fits t c.from_tree.result c.from_tree.ensures.ok (sym c.err.ensures.value ∙ c.in-None.is))
 
-pub returns : goal.returns
-returns c =
-    (refused Local c.args.line.now c.in_ok-refusal.field-0 c.if-is_none.ensures c.in_ok-refusal.ensures, c.in_ok-find_trouble.ensures)
+pub misfit_in-requires : goal.misfit_in-requires
+misfit_in-requires c =
+    command_misfits (parsed c.args.value.now) c.from_tree.result c.in-Some-NoFit.field-0 c.from_tree.ensures.no_fit
+    (sym c.err.ensures.value ∙ c.in-Some-NoFit.is) c.in-Some-NoFit.field-0-is
+
+pub returns-in_ok-misfit_in-in-Some-NoFit : goal.returns-in_ok-misfit_in-in-Some-NoFit
+returns-in_ok-misfit_in-in-Some-NoFit c = λ line read small.
+    let t = parsed c.args.value.now in
+    let none = command_misfits t c.from_tree.result c.in-Some-NoFit.field-0 c.from_tree.ensures.no_fit
+    (sym c.err.ensures.value ∙ c.in-Some-NoFit.is) c.in-Some-NoFit.field-0-is in
+    let told = c.in_ok-misfit_in-in-Some-NoFit in
+    (command_refused line t read small none, fits_none t (misfit_of told.field-0) read small told.ensures)

@@ -1,16 +1,16 @@
-use Rattle.std.specs.Prelude.{Some}
-use Rattle.std.proofs.Common.{sym}
+use Rattle.bidi_tree.specs.Json.{parsed}
 use Rattle.bidi_lines.specs.declared.side.Side.TheVariants.{Remote}
-use Rattle.bidi_why.specs.Trouble.{HasTrouble, is_marked, is_unmarked, trouble_of}
+use Rattle.bidi_why.specs.Trouble.{misfit_of}
+use Rattle.bidi_why.proofs.FindingLemmas.{said, taken, value_refused}
 use Rattle.bidi_why.proofs.finding.message_trouble.Goals as goal
 
-pub returns-then-begins_with_mark : goal.returns-then-begins_with_mark
-returns-then-begins_with_mark c =
-    let h : HasTrouble Remote c.args.line.now (Some (trouble_of c.in-Some.trouble)) = rw c.in-Some.is at c.in_ok-trouble.ensures in
-    (h.0, is_marked (sym c.if-begins_with_mark.ensures))
+pub returns-then-is_none : goal.returns-then-is_none
+returns-then-is_none c = λ line read. taken Remote line c.in_ok-value_refusal.field-0 c.if-is_none.ensures (c.in_ok-value_refusal.ensures.refuses line read)
+
+pub misfit_in-requires : goal.misfit_in-requires
+misfit_in-requires c = said c.in_ok-value_refusal.field-0 c.if-is_none.ensures c.in_ok-value_refusal.ensures.misfit
 
 pub returns : goal.returns
 returns c =
-    let x = trouble_of c.in-Some.trouble in
-    let h : HasTrouble Remote c.args.line.now (Some x) = rw c.in-Some.is at c.in_ok-trouble.ensures in
-    (h.0, is_unmarked x (sym c.if-begins_with_mark.ensures) h.1)
+    value_refused (parsed c.args.value.now) c.in_ok-value_refusal.field-0 (misfit_of c.in_ok-misfit_in.field-0) c.if-is_none.ensures
+    c.in_ok-value_refusal.ensures.refuses c.in_ok-misfit_in.ensures

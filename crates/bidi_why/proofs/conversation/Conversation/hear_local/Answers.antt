@@ -1,7 +1,5 @@
-use Rattle.std.proofs.Common.{◌∙◌, ap, option_map, string_bytes, subst, sym}
-use Rattle.bidi_why.specs.Conversing.{is_refused}
+use Rattle.std.proofs.Common.{option_map, string_bytes}
 use Rattle.bidi_why.specs.Explainers.{standing_of}
-use Rattle.bidi_why.specs.Hearing.{IsJudged}
 use Rattle.bidi_why.specs.Remark.{remark_of}
 use Rattle.bidi_why.specs.Trouble.{trouble_of}
 use Rattle.bidi_why.proofs.HearingLemmas.{heard_refused, judged_noted, judged_refused}

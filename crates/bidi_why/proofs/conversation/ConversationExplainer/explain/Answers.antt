@@ -1,4 +1,4 @@
-use Rattle.std.proofs.Common.{◌≡◌, ◌∙◌, Some, None, [], false, ap, option_map, refl, subst}
+use Rattle.std.proofs.Common.{◌∙◌, Some, None, [], false, ap, option_map, refl, subst}
 use Rattle.bidi_why.specs.Conversing.{HearsLine}
 use Rattle.bidi_why.specs.Explainers.{standing_of}
 use Rattle.bidi_why.specs.Remark.{remark_line, remark_of}
