@@ -29,14 +29,15 @@ from concurrent.futures import ThreadPoolExecutor
 from pathlib import Path
 
 ROOT = Path(__file__).resolve().parent.parent
-KINDS = {"s": "00000000-0001", "c": "00000000-0002", "r": "00000000-0003", "u": "00000001-0005", "h": "00000000-0006"}
+KINDS = {"s": "00000000-0001", "c": "00000000-0002", "r": "00000000-0003", "u": "00000001-0005", "h": "00000000-0006",
+         "k": "00000000-0008"}
 BEGUN = """open 1 /session
 > 1 {"id":0,"method":"session.new","params":{"capabilities":{}}}
 """
 
 
 def ids(text):
-    """The text with whole ids: `@c1` is that of the first context, so `@s1`, `@r1`, `@u1` and `@h1`."""
+    """The text with whole ids: `@c1` is that of the first context, so `@s1`, `@r1`, `@u1`, `@h1` and `@k1`."""
     first, *parts = text.split("@")
     for part in parts:
         digits = part[1:1 + len(part[1:]) - len(part[1:].lstrip("0123456789"))]
@@ -73,6 +74,13 @@ PLAYS = {
     "a value that is held": BEGUN + ids("""value {"text":"o","returns":{"type":"object","value":[["a",{"type":"number","value":1}]]}}
 > 1 {"id":1,"method":"script.evaluate","params":{"awaitPromise":false,"expression":"o","resultOwnership":"root","target":{"context":"@c1"}}}
 """),
+    "user contexts": BEGUN + ids("""> 1 {"id":1,"method":"browser.createUserContext","params":{}}
+> 1 {"id":2,"method":"session.subscribe","params":{"events":["browsingContext"],"userContexts":["@k1","default"]}}
+> 1 {"id":3,"method":"browsingContext.create","params":{"type":"tab","userContext":"@k1"}}
+frame @c2 about:blank
+> 1 {"id":4,"method":"browser.getUserContexts","params":{}}
+> 1 {"id":5,"method":"browser.removeUserContext","params":{"userContext":"@k1"}}
+"""),
     "the end of a session": BEGUN + ids("""open 2 /session/@s1
 > 2 {"id":1,"method":"session.end","params":{}}
 > 1 {}
@@ -96,6 +104,14 @@ script.evaluate {"awaitPromise":false,"expression":"o","resultOwnership":"root",
 script.callFunction {"arguments":[{"handle":"@h1"}],"awaitPromise":false,"functionDeclaration":"f","target":{"context":"@c1"}}
 script.disown {"handles":["@h1"],"target":{"context":"@c1"}}
 script.getRealms {}
+""",
+    "user contexts": """browser.createUserContext {}
+browser.createUserContext {}
+browser.getUserContexts {}
+browsingContext.create {"type":"tab","userContext":"@k2"}
+frame @c2 about:blank
+browser.removeUserContext {"userContext":"@k2"}
+browser.createUserContext {}
 """,
     "a tree of two": 'frame @c1 about:blank\nbrowsingContext.getTree {}\nbrowsingContext.getTree {"maxDepth":0,"root":"@c2"}\n',
 }

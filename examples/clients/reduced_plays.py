@@ -23,12 +23,18 @@ def context(chance):
     return identifier(2, chance.randint(1, 5))
 
 
+def user(chance):
+    return chance.choice(["default", identifier(8, chance.randint(1, 3))])
+
+
 def command(chance, session):
     """A command that may succeed, and may be refused."""
     target = {"context": context(chance)} if chance.random() < 0.8 else {"realm": identifier(3, chance.randint(1, 9))}
-    names = ["log", "browsingContext", "script", "session", "log.entryAdded", "browsingContext.load", "script.realmCreated", "log.nothing"]
-    events = chance.sample(names[:7], chance.randint(1, 2)) if chance.random() < 0.95 else ["log.nothing"]
-    scope = {} if chance.random() < 0.6 else {"contexts": [context(chance) for _ in range(chance.randint(1, 2))]}
+    names = ["log", "browsingContext", "script", "session", "browser", "log.entryAdded", "browsingContext.load", "script.realmCreated"]
+    events = chance.sample(names, chance.randint(1, 2)) if chance.random() < 0.95 else ["log.nothing"]
+    scope = {} if chance.random() < 0.5 else {"contexts": [context(chance) for _ in range(chance.randint(1, 2))]}
+    scope = scope if chance.random() < 0.7 else {"userContexts": [user(chance) for _ in range(chance.randint(1, 2))]}
+    within = {} if chance.random() < 0.5 else {"userContext": user(chance)}
     ownership = {} if chance.random() < 0.6 else {"resultOwnership": "root"}
     script = chance.choice(["one", "text", "thrown", "given", "none"])
     given = chance.choice([{"type": "null"}, {"handle": identifier(6, chance.randint(1, 6))}, {"type": "array", "value": [{"type": "number", "value": 1}]}])
@@ -41,7 +47,7 @@ def command(chance, session):
         ("session.new", {"capabilities": {}}),
         ("browsingContext.activate", {"context": context(chance)}),
         ("browsingContext.getTree", {} if chance.random() < 0.5 else {"root": context(chance)}),
-        ("browsingContext.create", {"type": chance.choice(["tab", "window"])}),
+        ("browsingContext.create", {"type": chance.choice(["tab", "window"]), **within}),
         ("browsingContext.close", {"context": context(chance)}),
         ("browsingContext.navigate", {"context": context(chance), "url": chance.choice(["http://a.test", "about:blank", "/x"]),
                                       "wait": chance.choice(["none", "interactive", "complete"])}),
@@ -51,6 +57,9 @@ def command(chance, session):
         ("script.callFunction", {"functionDeclaration": script, "awaitPromise": False, "target": target, "arguments": [given], **ownership}),
         ("script.disown", {"handles": [identifier(6, chance.randint(1, 6))], "target": target}),
         ("script.getRealms", {} if chance.random() < 0.5 else {"context": context(chance)}),
+        ("browser.createUserContext", {}),
+        ("browser.getUserContexts", {}),
+        ("browser.removeUserContext", {"userContext": user(chance)}),
     ])
 
 

@@ -38,7 +38,7 @@ fn main(rt: HostRuntime) -> ExitCode {
 const OUT_OF_MEMORY: &[u8] = b"bidi: out of memory\n";
 
 /// What `--version` tells.
-const VERSION: &[u8] = b"bidi 0.1.0\n";
+const VERSION: &[u8] = b"bidi 0.1.0, profile P2\n";
 
 // Writes what was asked for, help or the version, and returns the status.
 fn answered<W: Sink>(rt: &HostRuntime, output: &mut W, text: &[u8]) -> u8 {

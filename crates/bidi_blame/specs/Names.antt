@@ -70,6 +70,9 @@ name_of code.LogEntry = rule.log_entry
 name_of code.ConsoleEntry = rule.console_entry
 name_of code.JavascriptEntry = rule.javascript_entry
 name_of code.GenericLogEntry = rule.generic_log_entry
+name_of code.UserContextInfo = rule.user_context_info
+name_of code.GetUserContextsResult = rule.get_user_contexts_result
+name_of code.RemoveUserContextParameters = rule.remove_user_context_parameters
 
 abbrev pub rule_text : rule.Name → List ℕ
 rule_text rule.empty_params = codes "EmptyParams"
@@ -137,6 +140,9 @@ rule_text rule.log_entry = codes "LogEntry"
 rule_text rule.console_entry = codes "ConsoleEntry"
 rule_text rule.javascript_entry = codes "JavascriptEntry"
 rule_text rule.generic_log_entry = codes "GenericLogEntry"
+rule_text rule.user_context_info = codes "UserContextInfo"
+rule_text rule.get_user_contexts_result = codes "GetUserContextsResult"
+rule_text rule.remove_user_context_parameters = codes "RemoveUserContextParameters"
 
 abbrev pub all_names : List Name
 all_names =
@@ -205,4 +211,7 @@ all_names =
     ∷ code.ConsoleEntry
     ∷ code.JavascriptEntry
     ∷ code.GenericLogEntry
+    ∷ code.UserContextInfo
+    ∷ code.GetUserContextsResult
+    ∷ code.RemoveUserContextParameters
     ∷ []

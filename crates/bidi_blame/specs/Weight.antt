@@ -12,7 +12,7 @@ use Rattle.bidi_blame.specs.declared.term.Term.TheOpen.{Term-F}
 -- how many choices, caps and names are passed at most below a rule before a map, a list or a plain value stands
 abbrev pub rank : Name → ℕ
 rank ErrorCode = 23
-rank Command = 16
+rank Command = 19
 rank Message = 12
 rank LocalValue = 10
 rank Opaque = 10

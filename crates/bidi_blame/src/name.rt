@@ -5,7 +5,7 @@ ghost use Rattle.bidi_blame.specs.Grammar.{grammar};
 ghost use Rattle.bidi_blame.specs.Names.{all_names, name_of, rule_text};
 ghost use Rattle.bidi_blame.specs.Weight.{is_ready, is_within, rank, weight};
 
-use crate::rules::{base, browsing_context, log, messages, script, session};
+use crate::rules::{base, browser, browsing_context, log, messages, script, session};
 use crate::term::Term;
 
 /// The name of a rule, in the order of `docs/FORMATS.md`.
@@ -76,10 +76,13 @@ pub enum Name {
     ConsoleEntry,
     JavascriptEntry,
     GenericLogEntry,
+    UserContextInfo,
+    GetUserContextsResult,
+    RemoveUserContextParameters,
 }
 
 // All names, in their order.
-static ALL: [Name; 65] = [
+static ALL: [Name; 68] = [
     Name::EmptyParams,
     Name::EmptyResult,
     Name::Command,
@@ -145,6 +148,9 @@ static ALL: [Name; 65] = [
     Name::ConsoleEntry,
     Name::JavascriptEntry,
     Name::GenericLogEntry,
+    Name::UserContextInfo,
+    Name::GetUserContextsResult,
+    Name::RemoveUserContextParameters,
 ];
 
 impl Name {
@@ -225,6 +231,9 @@ impl Name {
             Name::ConsoleEntry => "ConsoleEntry",
             Name::JavascriptEntry => "JavascriptEntry",
             Name::GenericLogEntry => "GenericLogEntry",
+            Name::UserContextInfo => "UserContextInfo",
+            Name::GetUserContextsResult => "GetUserContextsResult",
+            Name::RemoveUserContextParameters => "RemoveUserContextParameters",
         }
     }
 
@@ -300,6 +309,9 @@ impl Name {
             Name::ConsoleEntry => &log::CONSOLE_ENTRY,
             Name::JavascriptEntry => &log::JAVASCRIPT_ENTRY,
             Name::GenericLogEntry => &log::GENERIC_LOG_ENTRY,
+            Name::UserContextInfo => &browser::USER_CONTEXT_INFO,
+            Name::GetUserContextsResult => &browser::GET_USER_CONTEXTS_RESULT,
+            Name::RemoveUserContextParameters => &browser::REMOVE_USER_CONTEXT_PARAMETERS,
         }
     }
 }

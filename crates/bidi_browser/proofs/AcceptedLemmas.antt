@@ -1,18 +1,22 @@
 -- What holds in every past that can be.
-use Rattle.std.proofs.Common.{◌≡◌, ap, ◌≤◌, ◌<◌, ℕ, suc, Bool, true, false, List, [], ◌∷◌, refl, subst, arith}
-use Rattle.std.specs.Prelude.{◌==◌, not, ◌&&◌, ◌||◌, nat_lt, if◌then◌else◌, bytes_eq, filter, find, Option, Some, None, is_none, Result, Ok, Err}
+use Rattle.std.proofs.Common.{◌≡◌, ◌∙◌, ap, ◌≤◌, ◌<◌, ℕ, zero, suc, Bool, true, false, List, [], ◌∷◌, refl, sym, subst, arith}
+use Rattle.std.specs.Prelude.{◌==◌, not, ◌&&◌, ◌||◌, nat_lt, if◌then◌else◌, bytes_eq, codes, filter, find, Option, Some, None, is_none, Result, Ok, Err}
 use Rattle.std.proofs.lemmas.Bool.Decides.{nat_tests, Decides-eqb, Decides-ltb}
 use Rattle.bidi_params.specs.declared.error_code.ErrorCode.{ErrorCode}
-use Rattle.bidi_params.specs.declared.error_code.ErrorCode.TheVariants.{InvalidArgument, NoSuchFrame, UnknownError, UnsupportedOperation}
-use Rattle.bidi_handles.specs.declared.id.IdKind.TheVariants.{Context, Realm}
+use Rattle.bidi_params.specs.declared.error_code.ErrorCode.TheVariants.{InvalidArgument, NoSuchFrame, NoSuchUserContext, UnknownError, UnsupportedOperation}
+use Rattle.bidi_handles.specs.declared.id.IdKind.TheVariants.{Context, Realm, UserContext}
 use Rattle.bidi_handles.specs.Ids.{id_of}
 use Rattle.bidi_browser.specs.Urls.{parsed}
-use Rattle.bidi_browser.specs.Acts.{Act, Made, Framed, Removed, Moved, Ran, Looked, To, Again, Across, given, next_number, Ending}
-use Rattle.bidi_browser.specs.Contexts.{parent_of, level_of, is_under, is_born, is_gone, is_alive, up_to}
+use Rattle.bidi_browser.specs.Acts.{Act, Made, Framed, Removed, Moved, Ran, UserRemoved, Looked, To, Again, Across, given, next_number, Ending}
+use Rattle.bidi_browser.specs.Contexts.{parent_of, level_of, is_under, user_of, is_born, is_gone, is_alive, up_to}
+use Rattle.bidi_browser.specs.Users.{others, users, user_id, is_removed}
+use Rattle.bidi_browser.proofs.MemberLemmas as members
+use Rattle.bidi_browser.proofs.MemberLemmas.{has, has-filter, any-up-to}
 use Rattle.bidi_browser.specs.Actions.{Action, Activate, Close, Create, GetTree, Navigate, Reload, TraverseHistory}
-use Rattle.bidi_browser.specs.Actions.{Evaluate, CallFunction, Disown, GetRealms, Frame, Unframe, Log, TableRow}
+use Rattle.bidi_browser.specs.Actions.{Evaluate, CallFunction, Disown, GetRealms, CreateUserContext, GetUserContexts, RemoveUserContext}
+use Rattle.bidi_browser.specs.Actions.{Frame, Unframe, Log, TableRow}
 use Rattle.bidi_handles.specs.Checks.{◌>>=◌, need, found}
-use Rattle.bidi_browser.specs.Outcome.{context_named, top_named, looked, looked_at, has_room, realm_targeted, this_resolved, ending_of, ending_outcome, outcome}
+use Rattle.bidi_browser.specs.Outcome.{context_named, top_named, user_checked, looked, looked_at, has_room, realm_targeted, this_resolved, ending_of, ending_outcome, outcome}
 use Rattle.bidi_browser.specs.Accepted.{AreAccepted}
 use Rattle.bidi_browser.specs.Realms.{row_of, held_value}
 use Rattle.bidi_handles.specs.Values.{arguments}
@@ -63,12 +67,18 @@ pub record IsChecked (past : List Act) (p : ℕ) : Type 0 where
   pub alive : is_alive past p ≡ true
   pub high : level_of past p < 16
 
--- what an accepted act is of is alive; a frame's parent stands above level 16, and a script ran in a realm that was made
+-- a user context was made, and is not `default`
+pub record IsMade (past : List Act) (u : ℕ) : Type 0 where
+  pub above : 0 < u
+  pub below : u < next_number past UserContext
+
+-- what an accepted act is of is alive; a frame's parent stands above level 16, a script ran in a realm that was made, and `default` stays
 abbrev pub IsSound : List Act → Act → Type 0
 IsSound past (Framed p url) = IsChecked past p
 IsSound past (Removed a) = is_alive past a ≡ true
 IsSound past (Moved a move) = is_alive past a ≡ true
 IsSound past (Ran r ending held) = r < next_number past Realm
+IsSound past (UserRemoved u) = IsMade past u
 IsSound past act = Unit {0}
 
 -- the act of an action is so, where there is one
@@ -109,6 +119,24 @@ sound-ending past r owned ending made = sound-then past _ _ (λ u e. sound-ok pa
 checked : (past : List Act) (c : ℕ) (u : Unit {0}) → is_alive past c ≡ true → need (nat_lt (level_of past c) 16) UnknownError ≡ Ok u → IsChecked past c
 checked past c u alive high = record { alive = alive; high = (Decides-ltb (level_of past c) 16).0 (need-ok _ UnknownError u high) }
 
+clash : (b : Bool) → b ≡ true → not b ≡ true → ⊥
+clash true is other = absurd (cc)
+clash false is other = absurd (cc)
+
+-- a live user context of another id than `default` was made
+user-made : (past : List Act) (id : List ℕ) (u : ℕ) → not (bytes_eq id (codes "default")) ≡ true → user_checked past id ≡ Ok u → IsMade past u
+user-made past id u other e =
+    let is = members.find-passes (λ v. bytes_eq id (user_id v)) (users past) u (found-ok _ NoSuchUserContext u e) in
+    by u is.0 is.1
+  where
+    by : (u : ℕ) → bytes_eq id (user_id u) ≡ true → has (users past) u ≡ true → IsMade past u
+    by zero same listed = absurd (clash (bytes_eq id (codes "default")) same other)
+    by (suc n) same listed =
+        let there : has (others past) (suc n) ≡ true = grind (arith, nat_tests, listed) in
+        let among = sym (has-filter (suc n) (λ v. not (is_removed past v)) (up_to (given past UserContext))) ∙ there in
+        let up = any-up-to (suc n) (given past UserContext) in
+        record { above = omega arith; below = grind (arith, nat_tests, among, up) }
+
 -- each action does
 ends-sound : (past : List Act) (action : Action) → EndsSound past (outcome past action)
 ends-sound past (Activate id) = sound-looked past (top_named past id)
@@ -130,6 +158,11 @@ ends-sound past (CallFunction declaration target values this owned depth) =
     (λ row h. sound-ending past r owned (ending_of row resolved) (target-made past target r e)))))
 ends-sound past (Disown ids target) = search (sound-then, sound-ok)
 ends-sound past (GetRealms context type) = sound-at past context
+ends-sound past CreateUserContext = search (sound-then, sound-ok)
+ends-sound past GetUserContexts = sound-ok past Looked tt
+ends-sound past (RemoveUserContext id) =
+    sound-then past (need (not (bytes_eq id (codes "default"))) InvalidArgument) _
+    (λ other e. sound-then past (user_checked past id) _ (λ u f. sound-ok past (UserRemoved u) (user-made past id u (need-ok _ InvalidArgument other e) f)))
 ends-sound past (Frame id address) =
     sound-then past (context_named past id) _
     (λ c e. sound-then past (found (parsed address) InvalidArgument) _ (λ url f. sound-then past (need (has_room past) UnknownError) _ (λ room g.
@@ -202,7 +235,7 @@ parent-born (Framed q url ∷ past) acc c p e =
     born-step (c == next_number past Context) c (next_number past Context) p q (parent_of past c) (Decides-eqb c (next_number past Context)).0
     (alive-above q (next_number past Context) (is_gone past q) alive) (alive-below q (next_number past Context) (is_gone past q) alive)
     (parent-born past acc.2 c p) e
-parent-born (Made w ∷ past) acc c p e = let old = parent-born past acc.2 c p e in record { above = old.above; smaller = old.smaller; below = omega arith }
+parent-born (Made w u ∷ past) acc c p e = let old = parent-born past acc.2 c p e in record { above = old.above; smaller = old.smaller; below = omega arith }
 parent-born (act ∷ past) acc c p e = parent-born past acc.2 c p e
 
 -- a number on the chain of a context, where one more was born
@@ -288,6 +321,36 @@ gone-removed false uc gp gc under ih e = true-or uc gc (ih e)
 below-step : (up uc : Bool) (a p c : ℕ) → p < c → (up ≡ true → a ≤ p) → (up ≡ true → uc ≡ true) → (up && not (a == p)) ≡ true → (uc && not (a == c)) ≡ true
 below-step up uc a p c smaller le under e = grind (arith, nat_tests)
 
+-- the user context of a context, where one more top-level one was made
+user-made-step : (b d : Bool) (u x y : ℕ) → (b ≡ true → ⊥) → (d ≡ true → ⊥) → x ≡ y → (if b then u else x) ≡ (if d then u else y)
+user-made-step true d u x y old older same = absurd (old refl)
+user-made-step false true u x y old older same = absurd (older refl)
+user-made-step false false u x y old older same = same
+
+-- and where one more child was born
+user-step : (b d : Bool) (f : ℕ → ℕ) (c p q n : ℕ) (o : Option ℕ)
+    → (d ≡ true → p ≡ n) → AreBorn p c (suc n) → (o ≡ Some p → f c ≡ f p) → (if b then Some q else o) ≡ Some p
+    → (if b then f q else f c) ≡ (if d then f q else f p)
+user-step b true f c p q n o there born ih e = let new = there refl in let less = born.smaller in let under = born.below in absurd (omega arith)
+user-step true false f c p q n o there born ih e = let same : q ≡ p = cc in ap f same
+user-step false false f c p q n o there born ih e = ih e
+
+-- a child has the user context of its parent
+pub user-child : (past : List Act) (c p : ℕ) → AreAccepted past → parent_of past c ≡ Some p → user_of past c ≡ user_of past p
+user-child [] c p acc e = absurd (cc)
+user-child (Framed q url ∷ past) c p acc e =
+    user-step (c == next_number past Context) (p == next_number past Context) (user_of past) c p q (next_number past Context) (parent_of past c)
+    (Decides-eqb p (next_number past Context)).0 (parent-born (Framed q url ∷ past) acc c p e) (user-child past c p acc.2) e
+user-child (Made w u ∷ past) c p acc e =
+    let born = parent-born past acc.2 c p e in
+    let less = born.smaller in
+    let below = born.below in
+    user-made-step (c == next_number past Context) (p == next_number past Context) u (user_of past c) (user_of past p)
+    (λ same. let new = (Decides-eqb c (next_number past Context)).0 same in absurd (omega (arith, new, below)))
+    (λ same. let new = (Decides-eqb p (next_number past Context)).0 same in absurd (omega (arith, new, less, below)))
+    (user-child past c p acc.2 e)
+user-child (act ∷ past) c p acc e = user-child past c p acc.2 e
+
 -- what goes takes its children along
 gone-parent : (past : List Act) → AreAccepted past → (c p : ℕ) → is_gone past p ≡ true → parent_of past c ≡ Some p → is_gone past c ≡ true
 gone-parent [] acc c p gone e = absurd (cc)
@@ -303,6 +366,9 @@ gone-parent (Moved a move ∷ past) acc c p gone e =
     (below-step (is_under past a p) (is_under past a c) a p c (parent-born past acc.2 c p e).smaller (under-le past acc.2 a p)
     (λ up. under-parent past acc.2 a c p up e))
     (λ old. gone-parent past acc.2 c p old e) gone
+gone-parent (UserRemoved u ∷ past) acc c p gone e =
+    gone-removed (user_of past p == u) (user_of past c == u) (is_gone past p) (is_gone past c)
+    (λ same. ap (λ v. v == u) (user-child past c p acc.2 e) ∙ same) (λ old. gone-parent past acc.2 c p old e) gone
 gone-parent (act ∷ past) acc c p gone e = gone-parent past acc.2 c p gone e
 
 -- what takes every child along stays where a child stays

@@ -5,6 +5,7 @@ use Rattle.bidi_methods.specs.CommandData.{browser_asked}
 use Rattle.bidi_methods.specs.declared.command_data.BrowserCommand.{BrowserCommand}
 use Rattle.bidi_methods.specs.declared.command_data.BrowserCommand.TheVariants.{Activate, Close, Create, GetTree, Navigate, Reload}
 use Rattle.bidi_methods.specs.declared.command_data.BrowserCommand.TheVariants.{TraverseHistory, Evaluate, CallFunction, Disown, GetRealms}
+use Rattle.bidi_methods.specs.declared.command_data.BrowserCommand.TheVariants.{CreateUserContext, GetUserContexts, RemoveUserContext}
 use Rattle.bidi_browser.specs.Actions.{method_of, is_asked}
 use Rattle.bidi_browser.specs.Asked.{command_asked}
 
@@ -21,6 +22,9 @@ command-method (Evaluate p) = refl
 command-method (CallFunction p) = refl
 command-method (Disown p) = refl
 command-method (GetRealms p) = refl
+command-method (CreateUserContext p) = refl
+command-method (GetUserContexts p) = refl
+command-method (RemoveUserContext p) = refl
 
 -- so it is asked for
 pub command-is_asked : (c : BrowserCommand) → is_asked (command_asked c) ≡ true

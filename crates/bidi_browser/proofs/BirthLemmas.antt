@@ -7,8 +7,8 @@ use Rattle.url.specs.Parts.{Parts}
 use Rattle.bidi_handles.specs.declared.id.IdKind.{IdKind}
 use Rattle.bidi_handles.specs.declared.id.IdKind.TheVariants.{Context, Realm, Window}
 use Rattle.bidi_browser.specs.Urls.{about_blank}
-use Rattle.bidi_browser.specs.Acts.{Act, Made, Framed, Removed, Moved, gives, given, next_number}
-use Rattle.bidi_browser.specs.Contexts.{parent_of, top_of, level_of, window_of, is_under, is_gone, is_alive, up_to, contexts}
+use Rattle.bidi_browser.specs.Acts.{Act, Made, Framed, Removed, Moved, UserRemoved, gives, given, next_number}
+use Rattle.bidi_browser.specs.Contexts.{parent_of, top_of, level_of, window_of, user_of, is_under, is_gone, is_alive, up_to, contexts}
 use Rattle.bidi_browser.specs.Places.{begun_at}
 use Rattle.bidi_browser.specs.Accepted.{AreAccepted}
 use Rattle.bidi_browser.specs.ContextRows.{row_at}
@@ -21,7 +21,7 @@ use Rattle.bidi_browser.proofs.HandleLemmas.{handles-unmade}
 under-unborn : (past : List Act) (a c : ℕ) → next_number past Context ≤ c → is_under past a c ≡ (a == c)
 under-unborn [] a c unborn = refl
 under-unborn (Framed p url ∷ past) a c unborn = let ih = under-unborn past a c in grind (arith, nat_tests, ih)
-under-unborn (Made w ∷ past) a c unborn = under-unborn past a c (omega arith)
+under-unborn (Made w u ∷ past) a c unborn = under-unborn past a c (omega arith)
 under-unborn (act ∷ past) a c unborn = under-unborn past a c unborn
 
 -- what goes with a live context is not it
@@ -36,38 +36,51 @@ moved-step u g a c smaller under stays = grind (arith, nat_tests)
 alive-smaller : (past : List Act) (a c : ℕ) → is_alive past a ≡ true → next_number past Context ≤ c → a < c
 alive-smaller past a c alive unborn = let below = alive-below a (next_number past Context) (is_gone past a) alive in omega arith
 
+-- it is in no user context but `default`
+user-unborn : (past : List Act) (c : ℕ) → next_number past Context ≤ c → user_of past c ≡ 0
+user-unborn [] c unborn = refl
+user-unborn (Framed p url ∷ past) c unborn = let ih = user-unborn past c in grind (arith, nat_tests, ih)
+user-unborn (Made w u ∷ past) c unborn = let ih = user-unborn past c in grind (arith, nat_tests, ih)
+user-unborn (act ∷ past) c unborn = user-unborn past c unborn
+
+-- so the removal of another one does not take it
+user-step : (v u : ℕ) (g : Bool) → v ≡ 0 → 0 < u → g ≡ false → (v == u || g) ≡ false
+user-step v u g none above stays = grind (arith, nat_tests)
+
 -- what is not born yet is not gone
 pub gone-unborn : (past : List Act) (c : ℕ) → AreAccepted past → next_number past Context ≤ c → is_gone past c ≡ false
 gone-unborn [] c acc unborn = refl
 gone-unborn (Framed p url ∷ past) c acc unborn = gone-unborn past c acc.2 (omega arith)
-gone-unborn (Made w ∷ past) c acc unborn = gone-unborn past c acc.2 (omega arith)
+gone-unborn (Made w u ∷ past) c acc unborn = gone-unborn past c acc.2 (omega arith)
 gone-unborn (Removed a ∷ past) c acc unborn =
     gone-step (is_under past a c) (is_gone past c) a c (alive-smaller past a c (act-sound past acc.0 (Removed a) acc.1) unborn)
     (under-unborn past a c unborn) (gone-unborn past c acc.2 unborn)
 gone-unborn (Moved a move ∷ past) c acc unborn =
     moved-step (is_under past a c) (is_gone past c) a c (alive-smaller past a c (act-sound past acc.0 (Moved a move) acc.1) unborn)
     (under-unborn past a c unborn) (gone-unborn past c acc.2 unborn)
+gone-unborn (UserRemoved u ∷ past) c acc unborn =
+    user-step (user_of past c) u (is_gone past c) (user-unborn past c unborn) (act-sound past acc.0 (UserRemoved u) acc.1).above (gone-unborn past c acc.2 unborn)
 gone-unborn (act ∷ past) c acc unborn = gone-unborn past c acc.2 unborn
 
 -- it has no parent
 pub parent-unborn : (past : List Act) (c : ℕ) → next_number past Context ≤ c → parent_of past c ≡ None
 parent-unborn [] c unborn = refl
 parent-unborn (Framed p url ∷ past) c unborn = let ih = parent-unborn past c in grind (arith, nat_tests, ih)
-parent-unborn (Made w ∷ past) c unborn = parent-unborn past c (omega arith)
+parent-unborn (Made w u ∷ past) c unborn = parent-unborn past c (omega arith)
 parent-unborn (act ∷ past) c unborn = parent-unborn past c unborn
 
 -- it is its own top-level context
 top-unborn : (past : List Act) (c : ℕ) → next_number past Context ≤ c → top_of past c ≡ c
 top-unborn [] c unborn = refl
 top-unborn (Framed p url ∷ past) c unborn = let ih = top-unborn past c in grind (arith, nat_tests, ih)
-top-unborn (Made w ∷ past) c unborn = top-unborn past c (omega arith)
+top-unborn (Made w u ∷ past) c unborn = top-unborn past c (omega arith)
 top-unborn (act ∷ past) c unborn = top-unborn past c unborn
 
 -- it is at level 1
 level-unborn : (past : List Act) (c : ℕ) → next_number past Context ≤ c → level_of past c ≡ 1
 level-unborn [] c unborn = refl
 level-unborn (Framed p url ∷ past) c unborn = let ih = level-unborn past c in grind (arith, nat_tests, ih)
-level-unborn (Made w ∷ past) c unborn = level-unborn past c (omega arith)
+level-unborn (Made w u ∷ past) c unborn = level-unborn past c (omega arith)
 level-unborn (act ∷ past) c unborn = level-unborn past c unborn
 
 -- ---- the rows
@@ -90,8 +103,8 @@ filter-up-to p q (suc n) tests =
     ∙ (ap (λ b. filter q (up_to n) ++ cond b (suc n ∷ []) []) test ∙ sym (filter-append q (up_to n) (suc n ∷ []))))
 
 -- the row of a context that was born before a top-level one
-pub row-older-made : (past : List Act) (w : Option ℕ) (c : ℕ) → c ≤ given past Context → row_at (Made w ∷ past) c ≡ row_at past c
-row-older-made past w c older = rw (other-number c (given past Context) older) refl
+pub row-older-made : (past : List Act) (w : Option ℕ) (u c : ℕ) → c ≤ given past Context → row_at (Made w u ∷ past) c ≡ row_at past c
+row-older-made past w u c older = rw (other-number c (given past Context) older) refl
 
 -- also where a frame was born
 pub row-older-framed : (past : List Act) (p : ℕ) (url : Parts) (c : ℕ) → c ≤ given past Context → row_at (Framed p url ∷ past) c ≡ row_at past c
@@ -114,9 +127,9 @@ numbers-new p q n tests new =
 -- a birth adds the new context, the youngest of all that live
 pub contexts-born : (past : List Act) (act : Act)
     → AreAccepted past → gives Context act ≡ true → contexts (act ∷ past) ≡ contexts past ++ next_number past Context ∷ []
-contexts-born past (Made w) acc gives-it =
+contexts-born past (Made w u) acc gives-it =
     let n = given past Context in
-    numbers-new (is_alive (Made w ∷ past)) (is_alive past) n (λ c older. born-older c n (is_gone past c) older)
+    numbers-new (is_alive (Made w u ∷ past)) (is_alive past) n (λ c older. born-older c n (is_gone past c) older)
     (born-new n (is_gone past (suc n)) (gone-unborn past (suc n) acc (omega arith)))
 contexts-born past (Framed p url) acc gives-it =
     let n = given past Context in
@@ -138,18 +151,19 @@ given-few [] kind = omega arith
 given-few (act ∷ past) kind = few-step (gives kind act) (given past kind) (length past) (given-few past kind)
 
 -- the new context of a top-level birth
-pub row-made : (past : List Act) (w : Option ℕ) → AreAccepted past → row_at (Made w ∷ past) (next_number past Context)
+pub row-made : (past : List Act) (w : Option ℕ) (u : ℕ) → AreAccepted past → row_at (Made w u ∷ past) (next_number past Context)
     ≡ record {
       number = next_number past Context;
       parent = None;
       top = next_number past Context;
       level = 1;
       window = unwrap_or w (next_number past Window);
+      user = u;
       realm = next_number past Realm;
       entries = begun_at about_blank;
       handles = [];
     }
-row-made past w acc =
+row-made past w u acc =
     rw (
       same-number (next_number past Context),
       parent-unborn past (suc (given past Context)) (omega arith),
@@ -166,6 +180,7 @@ pub row-framed : (past : List Act) (p : ℕ) (url : Parts) → AreAccepted past 
       top = top_of past p;
       level = suc (level_of past p);
       window = window_of past p;
+      user = user_of past p;
       realm = next_number past Realm;
       entries = begun_at url;
       handles = [];

@@ -1,6 +1,6 @@
 -- What edits of the table leave, by the rows of the past with the act added.
 use Rattle.std.proofs.Common.{◌≡◌, ◌∙◌, ◌≤◌, ◌+◌, ℕ, true, List, [], ◌∷◌, ◌++◌, map, take, drop, length, get_or, Option, Some, None, refl, sym, ap, ap₂, subst, arith}
-use Rattle.std.specs.Prelude.{◌==◌, MatchOption, if◌then◌else◌, Result, Ok, Err, IsOk, is_ok}
+use Rattle.std.specs.Prelude.{◌==◌, not, filter, MatchOption, if◌then◌else◌, Result, Ok, Err, IsOk, is_ok}
 use Rattle.std.specs.List.{position}
 use Rattle.std.proofs.lemmas.Bool.Decides.{Decides-eqb}
 use Rattle.std.proofs.lemmas.List.{map-append, append_assoc, take_more, take-map, drop-map, take_all, drop_all}
@@ -8,16 +8,17 @@ use Rattle.std.proofs.lemmas.List.Quantifiers.{position-Some}
 use Rattle.url.specs.Parts.{Parts}
 use Rattle.bidi_handles.specs.declared.id.IdKind.TheVariants.{Context}
 use Rattle.bidi_browser.specs.declared.context.Context as in_hand
-use Rattle.bidi_browser.specs.Acts.{Act, Made, Framed, Removed, Moved, Move, gives, given, next_number}
+use Rattle.bidi_browser.specs.Acts.{Act, Made, Framed, Removed, Moved, UserRemoved, Move, gives, given, next_number}
 use Rattle.bidi_browser.specs.Accepted.{AreAccepted}
 use Rattle.bidi_browser.specs.Contexts.{is_alive, is_gone, parent_of, tree_order}
 use Rattle.bidi_browser.specs.ContextRows.{ContextRow, row_of, row_at, rows}
 use Rattle.bidi_browser.specs.Subtrees.{end_in}
+use Rattle.bidi_handles.proofs.ListLemmas.{filter-map}
 use Rattle.bidi_browser.proofs.AcceptedLemmas.{act-sound, alive-below}
 use Rattle.bidi_browser.proofs.BirthLemmas.{row-older-made, row-older-framed, parent-unborn, same-number}
 use Rattle.bidi_browser.proofs.MemberLemmas.{map-in, no-truth, find-none}
 use Rattle.bidi_browser.proofs.MoveLemmas.{position-none}
-use Rattle.bidi_browser.proofs.OrderLemmas.{order-removed, order-moved, order-framed, order-made, end_at}
+use Rattle.bidi_browser.proofs.OrderLemmas.{order-removed, order-moved, order-framed, order-made, order-left, end_at}
 use Rattle.bidi_browser.proofs.RowLemmas.{map-cut, levels-rows, place-of, place-stands}
 use Rattle.bidi_browser.proofs.TreeLemmas.{order-has}
 
@@ -105,26 +106,26 @@ framed-rows past p url i e items context accepted table row at end =
     ∙ sym (order-framed past p i url accepted (sym (place-stands past items p table) ∙ at)))
 
 -- and a new top-level context at the end
-pub made-rows : (past : List Act) (w : Option ℕ) (items : List in_hand.Context) (context : in_hand.Context) (e : ℕ)
-    → AreAccepted (Made w ∷ past) → map row_of items ≡ rows past → row_of context ≡ row_at (Made w ∷ past) (next_number past Context) → e ≡ length items
-    → map row_of (take e items ++ (context ∷ drop e items)) ≡ rows (Made w ∷ past)
-made-rows past w items context e accepted table row end =
-    let after = Made w ∷ past in
+pub made-rows : (past : List Act) (w : Option ℕ) (u : ℕ) (items : List in_hand.Context) (context : in_hand.Context) (e : ℕ)
+    → AreAccepted (Made w u ∷ past) → map row_of items ≡ rows past → row_of context ≡ row_at (Made w u ∷ past) (next_number past Context) → e ≡ length items
+    → map row_of (take e items ++ (context ∷ drop e items)) ≡ rows (Made w u ∷ past)
+made-rows past w u items context e accepted table row end =
+    let after = Made w u ∷ past in
     ap (λ n. map row_of (take n items ++ (context ∷ drop n items))) end
     ∙ (ap₂ (λ xs ys. map row_of (xs ++ (context ∷ ys))) (take_all (length items) items (omega arith)) (drop_all (length items) items (omega arith))
     ∙ (map-append row_of items (context ∷ [])
     ∙ (ap₂ (λ rs r. rs ++ r ∷ []) (table ∙ map-in (row_at past) (row_at after) (tree_order past)
-    (λ c there. sym (row-older-made past w c (lives-before past c (sym (order-has past accepted.2 c) ∙ there))))) row
-    ∙ (sym (map-append (row_at after) (tree_order past) (next_number past Context ∷ [])) ∙ ap (map (row_at after)) (sym (order-made past w accepted))))))
+    (λ c there. sym (row-older-made past w u c (lives-before past c (sym (order-has past accepted.2 c) ∙ there))))) row
+    ∙ (sym (map-append (row_at after) (tree_order past) (next_number past Context ∷ [])) ∙ ap (map (row_at after)) (sym (order-made past w u accepted))))))
 
 -- so either birth leaves them
 pub born-rows : (past : List Act) (act : Act) (items : List in_hand.Context) (context : in_hand.Context) (e : ℕ)
     → AreAccepted (act ∷ past) → gives Context act ≡ true → map row_of items ≡ rows past → row_of context ≡ row_at (act ∷ past) (next_number past Context)
     → MatchOption context.parent (e ≡ length items) (λ p. (i : ℕ) → position (λ x. x.number == p) items ≡ Some i → e ≡ end_in (map (λ x. x.level) items) i)
     → map row_of (take e items ++ (context ∷ drop e items)) ≡ rows (act ∷ past)
-born-rows past (Made w) items context e accepted born table row place =
+born-rows past (Made w u) items context e accepted born table row place =
     let none = ap (λ (r : ContextRow). r.parent) row ∙ parent-unborn past (next_number past Context) (omega arith) in
-    made-rows past w items context e accepted table row
+    made-rows past w u items context e accepted table row
     (subst (λ o. MatchOption o (e ≡ length items) (λ p. (i : ℕ) → position (λ x. x.number == p) items ≡ Some i → e ≡ end_in (map (λ x. x.level) items) i)) none place)
 born-rows past (Framed p url) items context e accepted born table row place =
     let acc = accepted.2 in
@@ -142,3 +143,11 @@ born-rows past act items context e accepted born table row place = absurd (cc)
 pub ok-is : {A E : Type 0} (r : Result A E) → IsOk r → is_ok r ≡ true
 ok-is (Ok x) ok = refl
 ok-is (Err e) ok = ok
+
+-- the removal of a user context leaves the rows of the others
+pub left-rows : (past : List Act) (u : ℕ) (items : List in_hand.Context) → AreAccepted (UserRemoved u ∷ past) → map row_of items ≡ rows past
+    → map row_of (filter (λ x. not (x.user == u)) items) ≡ rows (UserRemoved u ∷ past)
+left-rows past u items accepted table =
+    let other = λ (r : ContextRow). not (r.user == u) in
+    sym (filter-map row_of other items)
+    ∙ (ap (filter other) table ∙ (filter-map (row_at past) other (tree_order past) ∙ ap (map (row_at past)) (sym (order-left past accepted.2 u))))

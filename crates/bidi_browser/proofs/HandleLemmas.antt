@@ -5,7 +5,7 @@ use Rattle.std.proofs.lemmas.Bool.Decides.{nat_tests}
 use Rattle.std.proofs.lemmas.List.Elements.{All-nil, All-push, All-weaker, All-filter}
 use Rattle.bidi_tree.specs.Node.{Node}
 use Rattle.bidi_handles.specs.declared.id.IdKind.TheVariants.{Realm, Handle}
-use Rattle.bidi_browser.specs.Acts.{Act, Made, Framed, Moved, Removed, Logged, Tabled, Ran, Disowned, Looked, next_number}
+use Rattle.bidi_browser.specs.Acts.{Act, Made, Framed, Moved, Removed, Logged, Tabled, Ran, Disowned, UserMade, UserRemoved, Looked, next_number}
 use Rattle.bidi_browser.specs.Accepted.{AreAccepted}
 use Rattle.bidi_handles.specs.Ids.{has_id}
 use Rattle.bidi_browser.specs.Realms.{value_of, handles_of}
@@ -18,7 +18,7 @@ other-held q r xs ys less = grind (arith, nat_tests, less)
 -- in a realm that is not made yet no value is held
 pub handles-unmade : (past : List Act) (r : ℕ) → AreAccepted past → next_number past Realm ≤ r → handles_of past r ≡ []
 handles-unmade [] r acc unmade = refl
-handles-unmade (Made w ∷ past) r acc unmade = handles-unmade past r acc.2 (omega arith)
+handles-unmade (Made w u ∷ past) r acc unmade = handles-unmade past r acc.2 (omega arith)
 handles-unmade (Framed p url ∷ past) r acc unmade = handles-unmade past r acc.2 (omega arith)
 handles-unmade (Moved d move ∷ past) r acc unmade = handles-unmade past r acc.2 (omega arith)
 handles-unmade (Removed d ∷ past) r acc unmade = handles-unmade past r acc.2 unmade
@@ -33,6 +33,8 @@ handles-unmade (Disowned q ids ∷ past) r acc unmade = step (q == r) (handles-u
     step : (b : Bool) → handles_of past r ≡ [] → (if b then filter (λ held. not (has_id ids held.0)) (handles_of past r) else handles_of past r) ≡ []
     step true none = rw none refl
     step false none = none
+handles-unmade (UserMade ∷ past) r acc unmade = handles-unmade past r acc.2 unmade
+handles-unmade (UserRemoved u ∷ past) r acc unmade = handles-unmade past r acc.2 unmade
 handles-unmade (Looked ∷ past) r acc unmade = handles-unmade past r acc.2 unmade
 
 -- each number is below n
@@ -46,7 +48,7 @@ below-higher m n handles le all = All-weaker (λ held. held.0 < m) (λ held. hel
 -- the next handle's number is above those of all that are held in a realm
 pub handles-below : (past : List Act) (r : ℕ) → All (λ held. held.0 < next_number past Handle) (handles_of past r)
 handles-below [] r = All-nil (λ (held : ℕ × Node). held.0 < next_number [] Handle)
-handles-below (Made w ∷ past) r = handles-below past r
+handles-below (Made w u ∷ past) r = handles-below past r
 handles-below (Framed p url ∷ past) r = handles-below past r
 handles-below (Moved d move ∷ past) r = handles-below past r
 handles-below (Removed d ∷ past) r = handles-below past r
@@ -67,4 +69,6 @@ handles-below (Disowned q ids ∷ past) r = step (q == r) (handles-below past r)
         → AreBelow (next_number past Handle) (if b then filter (λ held. not (has_id ids held.0)) (handles_of past r) else handles_of past r)
     step true all = All-filter (λ held. not (has_id ids held.0)) (λ held. held.0 < next_number past Handle) (handles_of past r) all
     step false all = all
+handles-below (UserMade ∷ past) r = handles-below past r
+handles-below (UserRemoved u ∷ past) r = handles-below past r
 handles-below (Looked ∷ past) r = handles-below past r

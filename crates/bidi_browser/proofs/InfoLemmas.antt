@@ -1,6 +1,6 @@
 -- Infos in hand: what their trees are, and that they are well.
 use Rattle.std.proofs.Common.{◌≡◌, ◌∙◌, ◌≤◌, ◌+◌, ℕ, List, [], ◌∷◌, map, Option, Some, None, String, Vec, Global, refl, sym, ap, subst, arith}
-use Rattle.std.specs.Prelude.{codes, string_bytes, option_map, max, IfSome}
+use Rattle.std.specs.Prelude.{string_bytes, option_map, max, IfSome}
 use Rattle.std.specs.List.{AllByRecursion}
 use Rattle.bidi_tree.specs.Node as tree
 use Rattle.bidi_tree.specs.Node.{Node, Members, item, no_members, levels, items_levels}
@@ -22,6 +22,7 @@ use Rattle.bidi_params.proofs.InfoLemmas.{info_made}
 use Rattle.bidi_handles.specs.declared.id.IdKind.TheVariants.{Context, Window}
 use Rattle.bidi_handles.specs.Ids.{id_of}
 use Rattle.bidi_browser.specs.Urls.{url_text}
+use Rattle.bidi_browser.specs.Users.{user_id}
 use Rattle.bidi_browser.specs.ContextRows.{ContextRow, url_in, shown_info}
 use Rattle.bidi_browser.specs.InfosInHand.{children_node, parent_node, IsWithin, AreWithin, AreWithinIfTold}
 
@@ -48,7 +49,7 @@ info-told i f c whole made same = ap (info_tree info_parts) made ∙ (same (tree
 -- what stands beside the children
 pub beside-told : (window number url user : String Global) (parent : Option (Option (String Global))) (ext : Ext) (row : ContextRow) (x : Node)
     → string_bytes window ≡ id_of Window row.window → string_bytes number ≡ id_of Context row.number
-    → string_bytes url ≡ url_text (url_in row) → string_bytes user ≡ codes "default" → others_of ext ≡ no_members
+    → string_bytes url ≡ url_text (url_in row) → string_bytes user ≡ user_id row.user → others_of ext ≡ no_members
     → info_map info_parts.table (window, (number, (None, (url, (user, (parent, ext)))))) x ≡ shown_info (option_map parent_node parent) row x
 beside-told window number url user None ext row x w n u d e = rw (w, n, u, d, e) refl
 beside-told window number url user (Some None) ext row x w n u d e = rw (w, n, u, d, e) refl

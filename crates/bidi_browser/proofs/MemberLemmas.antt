@@ -1,9 +1,10 @@
 -- Lists of numbers: what stands in them, and that none stands twice.
-use Rattle.std.proofs.Common.{◌≡◌, ◌∙◌, ◌≤◌, ℕ, suc, Bool, true, false, List, [], ◌∷◌, ◌++◌, length, map, Option, Some, None, cond, refl, sym, ap, subst, arith}
-use Rattle.std.specs.Prelude.{◌==◌, ◌&&◌, ◌||◌, not, if◌then◌else◌, filter, find, flat_map}
+use Rattle.std.proofs.Common.{◌≡◌, ◌∙◌, ◌≤◌, ℕ, zero, suc, Bool, true, false, List, [], ◌∷◌, ◌++◌, length, map, Option, Some, None, cond, refl, sym, ap, subst, arith}
+use Rattle.std.specs.Prelude.{◌==◌, ◌&&◌, ◌||◌, not, nat_lt, if◌then◌else◌, filter, find, flat_map}
 use Rattle.std.specs.List.{list_any}
 use Rattle.std.proofs.lemmas.Bool.Decides.{nat_tests, Decides-eqb}
 use Rattle.std.proofs.lemmas.List.Folds.{list_any-append}
+use Rattle.bidi_browser.specs.Contexts.{up_to}
 
 -- a number stands in a list
 abbrev pub has : List ℕ → ℕ → Bool
@@ -256,3 +257,8 @@ find-first p (x ∷ xs) = step (p x) (find-first p xs)
     step : (b : Bool) → find p xs ≡ first (filter p xs) → cond b (Some x) (find p xs) ≡ first (cond b (x ∷ filter p xs) (filter p xs))
     step true ih = refl
     step false ih = ih
+
+-- the numbers up to n are those from 1 to n
+pub any-up-to : (c n : ℕ) → has (up_to n) c ≡ (nat_lt 0 c && nat_lt c (suc n))
+any-up-to c zero = grind (arith, nat_tests)
+any-up-to c (suc n) = grind (arith, nat_tests, any-up-to c n, list_any-append (λ x. x == c) (up_to n) (suc n ∷ []))

@@ -10,17 +10,17 @@ use Rattle.std.proofs.lemmas.List.Elements.{filter-append}
 use Rattle.std.proofs.lemmas.Grind.{flat_map-append}
 use Rattle.url.specs.Parts.{Parts}
 use Rattle.bidi_handles.specs.declared.id.IdKind.TheVariants.{Context}
-use Rattle.bidi_browser.specs.Acts.{Act, Made, Framed, Removed, Moved, Move, given, next_number}
+use Rattle.bidi_browser.specs.Acts.{Act, Made, Framed, Removed, Moved, UserRemoved, Move, given, next_number}
 use Rattle.bidi_browser.specs.Accepted.{AreAccepted}
-use Rattle.bidi_browser.specs.Contexts.{parent_of, level_of, is_under, is_born, is_gone, is_alive, up_to}
+use Rattle.bidi_browser.specs.Contexts.{parent_of, level_of, is_under, user_of, is_born, is_gone, is_alive, up_to}
 use Rattle.bidi_browser.specs.Contexts.{contexts, tops, children_of, subtree_within, subtree_of, tree_order}
 use Rattle.bidi_browser.specs.Subtrees.{end_in}
-use Rattle.bidi_browser.proofs.AcceptedLemmas.{act-sound, levels-accepted, parent-born, under-parent, alive-below}
+use Rattle.bidi_browser.proofs.AcceptedLemmas.{act-sound, levels-accepted, parent-born, under-parent, user-child, alive-below}
 use Rattle.bidi_browser.proofs.BirthLemmas.{contexts-born, parent-unborn, same-number}
 use Rattle.bidi_browser.proofs.RemovalLemmas.{any-contexts, under-self, level-above, option-same, same-option}
-use Rattle.bidi_browser.proofs.MemberLemmas.{has, no-truth, fails, flat-same, filter-in, filter-both, filter-none}
+use Rattle.bidi_browser.proofs.MemberLemmas.{has, has-first, has-later, has-filter, by-cases, no-truth, fails, flat-same, filter-in, filter-both, filter-none}
 use Rattle.bidi_browser.proofs.ForestLemmas.{tree, all-swapped, all-without, tree-same}
-use Rattle.bidi_browser.proofs.TreeLemmas.{flat-is, no-parent, children-at, tops-at, under-child, under-top, subtrees-are, order-placed}
+use Rattle.bidi_browser.proofs.TreeLemmas.{flat-is, child-of, no-parent, children-at, tops-at, under-child, under-top, subtrees-are, order-placed}
 
 -- where the subtree of a context ends in tree order that begins at a place
 abbrev pub end_at : List Act → ℕ → ℕ
@@ -234,38 +234,136 @@ order-framed past p i url accepted at =
         ap₂ (λ m c. tree (children_of (Framed p url ∷ past)) m c) depth here ∙ framed-tree past p url accepted
 
 -- a new top-level context changes no children
-children-made : (past : List Act) (w : Option ℕ) → AreAccepted past → (c : ℕ) → children_of (Made w ∷ past) c ≡ children_of past c
-children-made past w acc c =
+children-made : (past : List Act) (w : Option ℕ) (u : ℕ) → AreAccepted past → (c : ℕ) → children_of (Made w u ∷ past) c ≡ children_of past c
+children-made past w u acc c =
     let k = next_number past Context in
     let is : ℕ → Bool = λ d. option_eq nat_eq (parent_of past d) (Some c) in
-    ap (filter is) (contexts-born past (Made w) acc refl)
+    ap (filter is) (contexts-born past (Made w u) acc refl)
     ∙ (filter-append is (contexts past) (k ∷ [])
     ∙ (ap (λ o. children_of past c ++ cond (option_eq nat_eq o (Some c)) (k ∷ []) []) (parent-unborn past k (omega arith)) ∙ append-nil (children_of past c)))
 
-tops-made : (past : List Act) (w : Option ℕ) → AreAccepted past → tops (Made w ∷ past) ≡ tops past ++ next_number past Context ∷ []
-tops-made past w acc =
+tops-made : (past : List Act) (w : Option ℕ) (u : ℕ) → AreAccepted past → tops (Made w u ∷ past) ≡ tops past ++ next_number past Context ∷ []
+tops-made past w u acc =
     let k = next_number past Context in
     let is : ℕ → Bool = λ d. is_none (parent_of past d) in
-    ap (filter is) (contexts-born past (Made w) acc refl)
+    ap (filter is) (contexts-born past (Made w u) acc refl)
     ∙ (filter-append is (contexts past) (k ∷ [])
     ∙ ap (λ o. tops past ++ cond (is_none o) (k ∷ []) []) (parent-unborn past k (omega arith)))
 
 -- and stands at the end
-pub order-made : (past : List Act) (w : Option ℕ) → AreAccepted (Made w ∷ past) → tree_order (Made w ∷ past) ≡ tree_order past ++ next_number past Context ∷ []
-order-made past w accepted =
+pub order-made : (past : List Act) (w : Option ℕ) (u : ℕ) → AreAccepted (Made w u ∷ past) → tree_order (Made w u ∷ past) ≡ tree_order past ++ next_number past Context ∷ []
+order-made past w u accepted =
     let acc = accepted.2 in
-    let after = Made w ∷ past in
+    let after = Made w u ∷ past in
     let k = next_number past Context in
     let olds : flat_map (subtree_of after) (tops past) ≡ tree_order past =
     flat-is after 16 (tops past)
     ∙ (flat-same (tree (children_of after) 16) (tree (children_of past) 16) (tops past) (λ d listed. same acc 16 d) ∙ sym (flat-is past 16 (tops past))) in
     let one : flat_map (subtree_of after) (k ∷ []) ≡ k ∷ [] =
     ap (λ ds. (k ∷ flat_map (subtree_within 15 after) ds) ++ []) (childless after accepted k (omega arith)) in
-    ap (flat_map (subtree_of after)) (tops-made past w acc)
+    ap (flat_map (subtree_of after)) (tops-made past w u acc)
     ∙ (flat_map-append (subtree_of after) (tops past) (k ∷ []) ∙ ap₂ (λ xs ys. xs ++ ys) olds one)
   where
-    same : AreAccepted past → (n c : ℕ) → tree (children_of (Made w ∷ past)) n c ≡ tree (children_of past) n c
+    same : AreAccepted past → (n c : ℕ) → tree (children_of (Made w u ∷ past)) n c ≡ tree (children_of past) n c
     same acc zero c = refl
     same acc (suc n) c =
-        ap (λ xs. c ∷ xs) (ap (flat_map (tree (children_of (Made w ∷ past)) n)) (children-made past w acc c)
-        ∙ flat-same (tree (children_of (Made w ∷ past)) n) (tree (children_of past) n) (children_of past c) (λ d listed. same acc n d))
+        ap (λ xs. c ∷ xs) (ap (flat_map (tree (children_of (Made w u ∷ past)) n)) (children-made past w u acc c)
+        ∙ flat-same (tree (children_of (Made w u ∷ past)) n) (tree (children_of past) n) (children_of past c) (λ d listed. same acc n d))
+
+-- ---- the removal of a user context
+
+-- it stays where its user context is another
+abbrev pub stays : List Act → ℕ → ℕ → Bool
+stays past u c = not (user_of past c == u)
+
+left-step : (p b g s : Bool) → ((b && not (s || g)) && p) ≡ (((b && not g) && p) && not s)
+left-step p b g s = grind arith
+
+-- of those that pass, those of the user context go
+filter-left : (past : List Act) (u : ℕ) (p : ℕ → Bool) → filter p (contexts (UserRemoved u ∷ past)) ≡ filter (stays past u) (filter p (contexts past))
+filter-left past u p =
+    let xs = up_to (given past Context) in
+    filter-both p (is_alive (UserRemoved u ∷ past)) xs
+    ∙ (filter-in (λ d. is_alive (UserRemoved u ∷ past) d && p d) (λ d. (is_alive past d && p d) && stays past u d) xs
+    (λ d listed. left-step (p d) (is_born past d) (is_gone past d) (user_of past d == u))
+    ∙ sym (ap (filter (stays past u)) (filter-both p (is_alive past) xs) ∙ filter-both (stays past u) (λ d. is_alive past d && p d) xs))
+
+-- of a list in which each passes, none is taken out
+filter-whole : (p : ℕ → Bool) (xs : List ℕ) → ((x : ℕ) → has xs x ≡ true → p x ≡ true) → filter p xs ≡ xs
+filter-whole p [] each = refl
+filter-whole p (x ∷ xs) each =
+    ap (λ b. cond b (x ∷ filter p xs) (filter p xs)) (each x (has-first x xs))
+    ∙ ap (λ ys. x ∷ ys) (filter-whole p xs (λ y listed. each y (has-later x y xs listed)))
+
+-- what passes among lists end to end
+filter-flat : (p : ℕ → Bool) (g : ℕ → List ℕ) (ds : List ℕ) → filter p (flat_map g ds) ≡ flat_map (λ d. filter p (g d)) ds
+filter-flat p g [] = refl
+filter-flat p g (d ∷ ds) = filter-append p (g d) (flat_map g ds) ∙ ap (λ xs. filter p (g d) ++ xs) (filter-flat p g ds)
+
+-- lists that are empty, end to end
+flat-none : (g : ℕ → List ℕ) (ds : List ℕ) → ((d : ℕ) → has ds d ≡ true → g d ≡ []) → flat_map g ds ≡ []
+flat-none g [] each = refl
+flat-none g (d ∷ ds) each =
+    ap (λ xs. xs ++ flat_map g ds) (each d (has-first d ds)) ∙ flat-none g ds (λ e listed. each e (has-later d e ds listed))
+
+module _ (past : List Act) (acc : AreAccepted past) (u : ℕ) where
+  -- a child stays where its parent does
+  stays-child : (c d : ℕ) → has (children_of past c) d ≡ true → stays past u d ≡ stays past u c
+  stays-child c d listed = ap (λ v. not (v == u)) (user-child past d c acc (child-of past c d listed).0)
+
+  -- of a subtree all stay, or none
+  tree-stays : (n c : ℕ) → stays past u c ≡ true → filter (stays past u) (tree (children_of past) n c) ≡ tree (children_of past) n c
+  tree-stays zero c here = refl
+  tree-stays (suc n) c here =
+      ap (λ b. cond b (c ∷ filter (stays past u) (flat_map (tree (children_of past) n) (children_of past c)))
+      (filter (stays past u) (flat_map (tree (children_of past) n) (children_of past c)))) here
+      ∙ ap (λ xs. c ∷ xs) (filter-flat (stays past u) (tree (children_of past) n) (children_of past c)
+      ∙ flat-same (λ d. filter (stays past u) (tree (children_of past) n d)) (tree (children_of past) n) (children_of past c)
+      (λ d listed. tree-stays n d (stays-child c d listed ∙ here)))
+
+  tree-goes : (n c : ℕ) → stays past u c ≡ false → filter (stays past u) (tree (children_of past) n c) ≡ []
+  tree-goes zero c gone = refl
+  tree-goes (suc n) c gone =
+      ap (λ b. cond b (c ∷ filter (stays past u) (flat_map (tree (children_of past) n) (children_of past c)))
+      (filter (stays past u) (flat_map (tree (children_of past) n) (children_of past c)))) gone
+      ∙ (filter-flat (stays past u) (tree (children_of past) n) (children_of past c)
+      ∙ flat-none (λ d. filter (stays past u) (tree (children_of past) n d)) (children_of past c) (λ d listed. tree-goes n d (stays-child c d listed ∙ gone)))
+
+  -- so of subtrees those stay whose roots do
+  trees-left : (n : ℕ) (ds : List ℕ)
+      → filter (stays past u) (flat_map (tree (children_of past) n) ds) ≡ flat_map (tree (children_of past) n) (filter (stays past u) ds)
+  trees-left n [] = refl
+  trees-left n (d ∷ ds) =
+      filter-append (stays past u) (tree (children_of past) n d) (flat_map (tree (children_of past) n) ds)
+      ∙ by-cases (stays past u d)
+      (λ here. ap₂ (λ xs ys. xs ++ ys) (tree-stays n d here) (trees-left n ds)
+      ∙ sym (ap (λ b. flat_map (tree (children_of past) n) (cond b (d ∷ filter (stays past u) ds) (filter (stays past u) ds))) here))
+      (λ gone. ap₂ (λ xs ys. xs ++ ys) (tree-goes n d gone) (trees-left n ds)
+      ∙ sym (ap (λ b. flat_map (tree (children_of past) n) (cond b (d ∷ filter (stays past u) ds) (filter (stays past u) ds))) gone))
+
+  -- what stays keeps its children
+  children-left : (c : ℕ) → stays past u c ≡ true → children_of (UserRemoved u ∷ past) c ≡ children_of past c
+  children-left c here =
+      filter-left past u (λ d. option_eq nat_eq (parent_of past d) (Some c))
+      ∙ filter-whole (stays past u) (children_of past c) (λ d listed. stays-child c d listed ∙ here)
+
+  tree-left : (n c : ℕ) → stays past u c ≡ true → tree (children_of (UserRemoved u ∷ past)) n c ≡ tree (children_of past) n c
+  tree-left zero c here = refl
+  tree-left (suc n) c here =
+      ap (λ xs. c ∷ xs) (ap (flat_map (tree (children_of (UserRemoved u ∷ past)) n)) (children-left c here)
+      ∙ flat-same (tree (children_of (UserRemoved u ∷ past)) n) (tree (children_of past) n) (children_of past c)
+      (λ d listed. tree-left n d (stays-child c d listed ∙ here)))
+
+  -- the removal of a user context takes out all in it, and no other
+  pub order-left : tree_order (UserRemoved u ∷ past) ≡ filter (stays past u) (tree_order past)
+  order-left =
+      let after = UserRemoved u ∷ past in
+      flat-is after 16 (tops after)
+      ∙ (ap (flat_map (tree (children_of after) 16)) (filter-left past u (λ d. is_none (parent_of past d)))
+      ∙ (flat-same (tree (children_of after) 16) (tree (children_of past) 16) (filter (stays past u) (tops past))
+      (λ d listed. tree-left 16 d (passes (stays past u d) (has (tops past) d) (sym (has-filter d (stays past u) (tops past)) ∙ listed)))
+      ∙ (sym (trees-left 16 (tops past)) ∙ ap (filter (stays past u)) (sym (flat-is past 16 (tops past))))))
+    where
+      passes : (a b : Bool) → (a && b) ≡ true → a ≡ true
+      passes true b e = refl
+      passes false b e = absurd (cc)

@@ -1,10 +1,11 @@
 -- Why a plan in hand is that of the definitions.
 use Rattle.std.proofs.Common.{◌≡◌, ◌∙◌, ◌≤◌, ◌+◌, ℕ, suc, Bool, true, false, List, [], ◌∷◌, ◌++◌}
-use Rattle.std.proofs.Common.{map, Option, Some, None, Result, Ok, Err, unwrap_or, refl, sym, ap, ap₂, subst, arith}
-use Rattle.std.specs.Prelude.{flat_map, not, find, nat_lt, if◌then◌else◌, is_none, is_some, Vec, option_map, option_to_list, IfSome, IfOk, IfErr}
+use Rattle.std.proofs.Common.{append-nil, cond, map, filter, Option, Some, None, Result, Ok, Err, unwrap_or, refl, sym, ap, ap₂, subst, arith}
+use Rattle.std.specs.Prelude.{◌==◌, flat_map, not, find, nat_lt, if◌then◌else◌, is_none, is_some, Vec, option_map, option_to_list, IfSome, IfOk, IfErr}
 use Rattle.std.specs.Borrow.{Bor}
 use Rattle.std.specs.Result.{IsErrAnd}
 use Rattle.std.specs.declared.alloc.Global.{Global}
+use Rattle.std.proofs.lemmas.Bool.Decides.{Decides-eqb}
 use Rattle.std.proofs.lemmas.List.{append_assoc}
 use Rattle.std.proofs.lemmas.Simd.{map-map}
 use Rattle.url.specs.Parts.{Parts}
@@ -28,7 +29,7 @@ use Rattle.bidi_browser.specs.Accepted.{AreAccepted}
 use Rattle.bidi_browser.specs.Actions.{Action, Log, TableRow, is_asked}
 use Rattle.bidi_browser.specs.Found.{AreTold}
 use Rattle.bidi_handles.specs.Maps.{nothing}
-use Rattle.bidi_browser.specs.Contexts.{parent_of, top_of, level_of, window_of, contexts, context_of, tops, children_of, subtree_of, tree_order}
+use Rattle.bidi_browser.specs.Contexts.{parent_of, top_of, level_of, window_of, user_of, contexts, context_of, tops, children_of, subtree_of, tree_order}
 use Rattle.bidi_handles.specs.Checks.{found}
 use Rattle.bidi_browser.specs.Outcome.{outcome, context_named, looked, looked_at, has_room, frame_outcome, log_outcome, oldest_window, row_in, row_checked}
 use Rattle.bidi_browser.specs.Occurrences.{Occurrence, realm_info, realm_destroyed, context_destroyed, removal, tree_events}
@@ -38,6 +39,7 @@ use Rattle.bidi_handles.specs.Params.{text_at}
 use Rattle.bidi_browser.specs.Plans.{Plans, Makes, AreWell, IsWellResult, IsWellTold, reply_in, leaves_tables}
 use Rattle.bidi_browser.specs.View.{seen, result_tree}
 use Rattle.bidi_browser.proofs.BirthLemmas.{row-made, row-framed}
+use Rattle.bidi_browser.proofs.MemberLemmas.{fails}
 use Rattle.bidi_browser.proofs.RowLemmas.{oldest-window, created-stand, realms-stand, realms_gone-stand}
 use Rattle.bidi_browser.proofs.TreeLemmas.{subtree-parts}
 
@@ -167,12 +169,12 @@ none-is (Some n) true e = absurd (cc)
 none-is (Some n) false e = refl
 
 -- the row of a new top-level context
-pub made-row : (past : List Act) (w : Option ℕ) (row : ContextRow) (number window realm next : ℕ) → AreAccepted past
+pub made-row : (past : List Act) (w : Option ℕ) (u : ℕ) (row : ContextRow) (number window realm next : ℕ) → AreAccepted past
     → number ≡ next_number past Context → realm ≡ next_number past Realm → next ≡ next_number past Window → window ≡ unwrap_or w next
-    → row ≡ record { number = number; parent = None; top = number; level = 1; window = window; realm = realm; entries = begun_at about_blank; handles = [] }
-    → row ≡ row_at (Made w ∷ past) (next_number past Context)
-made-row past w row number window realm next accepted n r v opened is =
-    is ∙ (ap₂ (λ k x. record { number = k; parent = None; top = k; level = 1; window = x; realm = realm; entries = begun_at about_blank; handles = [] })
+    → row ≡ record { number = number; parent = None; top = number; level = 1; window = window; user = u; realm = realm; entries = begun_at about_blank; handles = [] }
+    → row ≡ row_at (Made w u ∷ past) (next_number past Context)
+made-row past w u row number window realm next accepted n r v opened is =
+    is ∙ (ap₂ (λ k x. record { number = k; parent = None; top = k; level = 1; window = x; user = u; realm = realm; entries = begun_at about_blank; handles = [] })
     n (opened ∙ ap (unwrap_or w) v)
     ∙ (ap (λ x. record {
       number = next_number past Context;
@@ -180,11 +182,12 @@ made-row past w row number window realm next accepted n r v opened is =
       top = next_number past Context;
       level = 1;
       window = unwrap_or w (next_number past Window);
+      user = u;
       realm = x;
       entries = begun_at about_blank;
       handles = [];
     }) r
-    ∙ sym (row-made past w accepted)))
+    ∙ sym (row-made past w u accepted)))
 
 -- the row of a new child
 pub framed-row : (past : List Act) (p : ℕ) (url : Parts) (parent row : ContextRow) (number realm : ℕ)
@@ -195,6 +198,7 @@ pub framed-row : (past : List Act) (p : ℕ) (url : Parts) (parent row : Context
       top = parent.top;
       level = parent.level + 1;
       window = parent.window;
+      user = parent.user;
       realm = realm;
       entries = begun_at url;
       handles = [];
@@ -207,6 +211,7 @@ framed-row past p url parent row number realm accepted n r is made =
       top = parent.top;
       level = parent.level + 1;
       window = parent.window;
+      user = parent.user;
       realm = x;
       entries = begun_at url;
       handles = [];
@@ -217,6 +222,7 @@ framed-row past p url parent row number realm accepted n r is made =
       top = q.top;
       level = q.level + 1;
       window = q.window;
+      user = q.user;
       realm = next_number past Realm;
       entries = begun_at url;
       handles = [];
@@ -227,6 +233,7 @@ framed-row past p url parent row number realm accepted n r is made =
       top = top_of past p;
       level = k;
       window = window_of past p;
+      user = user_of past p;
       realm = next_number past Realm;
       entries = begun_at url;
       handles = [];
@@ -269,10 +276,40 @@ events-told past first second none some all one two empty came realms =
 -- ---- removals
 
 -- a removal that somebody asked for
-pub asked-removal : (past : List Act) (c : ℕ) (before after : List in_hand.Occurrence) (reply : Option ResultData)
-    → seen before ≡ removal past c → reply_in reply ≡ Replies nothing ∷ [] → after ≡ []
-    → map Happens (seen before) ++ (reply_in reply ++ map Happens (seen after)) ≡ map Happens (removal past c) ++ Replies nothing ∷ []
-asked-removal past c before after reply told replied none = ap₂ (λ os xs. map Happens os ++ xs) told (ap₂ (λ xs os. xs ++ map Happens (seen os)) replied none)
+pub asked-removal : (gone : List Occurrence) (before after : List in_hand.Occurrence) (reply : Option ResultData)
+    → seen before ≡ gone → reply_in reply ≡ Replies nothing ∷ [] → after ≡ []
+    → map Happens (seen before) ++ (reply_in reply ++ map Happens (seen after)) ≡ map Happens gone ++ Replies nothing ∷ []
+asked-removal gone before after reply told replied none = ap₂ (λ os xs. map Happens os ++ xs) told (ap₂ (λ xs os. xs ++ map Happens (seen os)) replied none)
+
+-- what is told of a context, where it goes with a user context
+abbrev pub removal_with : List Act → ℕ → ℕ → List Occurrence
+removal_with past u c = if user_of past c == u then removal past c else []
+
+-- of several, what is told of those that go
+pub removals-with : (past : List Act) (u : ℕ) (cs : List ℕ) → flat_map (removal_with past u) cs ≡ flat_map (removal past) (filter (λ c. user_of past c == u) cs)
+removals-with past u [] = refl
+removals-with past u (c ∷ cs) = step (user_of past c == u) (removals-with past u cs)
+  where
+    rest : List ℕ
+    rest = filter (λ c. user_of past c == u) cs
+
+    step : (b : Bool) → flat_map (removal_with past u) cs ≡ flat_map (removal past) rest
+        → (if b then removal past c else []) ++ flat_map (removal_with past u) cs ≡ flat_map (removal past) (cond b (c ∷ rest) rest)
+    step true ih = ap (λ xs. removal past c ++ xs) ih
+    step false ih = ih
+
+-- behind what was told, that of one that goes
+pub removal-gone : (past : List Act) (u c : ℕ) (row : ContextRow) (told after : List Occurrence)
+    → row ≡ row_at past c → row.user ≡ u → after ≡ told ++ removal past c → after ≡ told ++ removal_with past u c
+removal-gone past u c row told after is same made =
+    made ∙ ap (λ t. told ++ (if t then removal past c else [])) (sym ((Decides-eqb (user_of past c) u).1 (sym (ap (λ (r : ContextRow). r.user) is) ∙ same)))
+
+-- and nothing of one that stays
+pub removal-stays : (past : List Act) (u c : ℕ) (row : ContextRow) (told after : List Occurrence)
+    → row ≡ row_at past c → (row.user ≡ u → ⊥) → after ≡ told → after ≡ told ++ removal_with past u c
+removal-stays past u c row told after is other made =
+    let stays = fails (user_of past c == u) (λ e. absurd (other (ap (λ (r : ContextRow). r.user) is ∙ (Decides-eqb (user_of past c) u).0 e))) in
+    made ∙ (sym (append-nil told) ∙ ap (λ t. told ++ (if t then removal past c else [])) (sym stays))
 
 -- behind what was told, the realm of a context, those of all below it, then the context
 pub removal-told : (past : List Act) (c : ℕ) → AreAccepted past → (rows : List ContextRow) (before first realms all : List Occurrence) (realm last : Occurrence)

@@ -11,13 +11,13 @@ use Rattle.bidi_handles.specs.Checks.{◌>>=◌, need, found}
 use Rattle.bidi_browser.specs.Contexts.{contexts}
 use Rattle.bidi_browser.specs.Outcome.{context_named, realm_targeted}
 use Rattle.bidi_handles.specs.declared.id.IdKind.TheVariants.{Context, Realm}
-use Rattle.bidi_browser.specs.Acts.{Act, Made, Framed, Moved, Removed, Logged, Tabled, Ran, Disowned, Looked, next_number}
+use Rattle.bidi_browser.specs.Acts.{Act, Made, Framed, Moved, Removed, Logged, Tabled, Ran, Disowned, UserMade, UserRemoved, Looked, next_number}
 use Rattle.bidi_browser.specs.Realms.{realm_of, realms}
 
 -- each realm is one that was made
 pub realm-made : (past : List Act) (c : ℕ) → realm_of past c < next_number past Realm
 realm-made [] c = omega arith
-realm-made (Made w ∷ past) c = let ih = realm-made past c in grind (arith, nat_tests, ih)
+realm-made (Made w u ∷ past) c = let ih = realm-made past c in grind (arith, nat_tests, ih)
 realm-made (Framed p url ∷ past) c = let ih = realm-made past c in grind (arith, nat_tests, ih)
 realm-made (Moved d move ∷ past) c = let ih = realm-made past c in grind (arith, nat_tests, ih)
 realm-made (Removed d ∷ past) c = realm-made past c
@@ -25,13 +25,15 @@ realm-made (Logged d level text ∷ past) c = realm-made past c
 realm-made (Tabled text row ∷ past) c = realm-made past c
 realm-made (Ran r ending held ∷ past) c = realm-made past c
 realm-made (Disowned r ids ∷ past) c = realm-made past c
+realm-made (UserMade ∷ past) c = realm-made past c
+realm-made (UserRemoved u ∷ past) c = realm-made past c
 realm-made (Looked ∷ past) c = realm-made past c
 
 -- contexts that were born and share a realm are one
 pub realm-one : (past : List Act) (c d : ℕ)
     → 0 < c → c < next_number past Context → 0 < d → d < next_number past Context → realm_of past c ≡ realm_of past d → c ≡ d
 realm-one [] c d a b e f same = omega arith
-realm-one (Made w ∷ past) c d a b e f same =
+realm-one (Made w u ∷ past) c d a b e f same =
     let ih = realm-one past c d in
     let left = realm-made past c in
     let right = realm-made past d in
@@ -51,6 +53,8 @@ realm-one (Logged g level text ∷ past) c d a b e f same = realm-one past c d a
 realm-one (Tabled text row ∷ past) c d a b e f same = realm-one past c d a b e f same
 realm-one (Ran r ending held ∷ past) c d a b e f same = realm-one past c d a b e f same
 realm-one (Disowned r ids ∷ past) c d a b e f same = realm-one past c d a b e f same
+realm-one (UserMade ∷ past) c d a b e f same = realm-one past c d a b e f same
+realm-one (UserRemoved u ∷ past) c d a b e f same = realm-one past c d a b e f same
 realm-one (Looked ∷ past) c d a b e f same = realm-one past c d a b e f same
 
 -- what is found among what f gives is given

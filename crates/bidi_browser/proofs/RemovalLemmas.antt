@@ -1,6 +1,6 @@
 -- What a subtree has: the live contexts at and below its root.
 use Rattle.std.proofs.Common.{◌≡◌, ◌+◌, ◌≤◌, ◌<◌, ℕ, zero, suc, Bool, true, false, List, [], ◌∷◌, refl, sym, ◌∙◌, ap, subst, arith, cond, inl, inr, ◌⊎◌}
-use Rattle.std.specs.Prelude.{◌==◌, nat_eq, ◌&&◌, ◌||◌, nat_lt, if◌then◌else◌, filter, flat_map, Option, Some, None}
+use Rattle.std.specs.Prelude.{◌==◌, nat_eq, ◌&&◌, ◌||◌, if◌then◌else◌, filter, flat_map, Option, Some, None}
 use Rattle.std.specs.List.{list_any}
 use Rattle.std.specs.Option.{option_eq}
 use Rattle.std.proofs.lemmas.Bool.Decides.{nat_tests, Decides-eqb}
@@ -12,14 +12,9 @@ use Rattle.bidi_browser.specs.Accepted.{AreAccepted}
 use Rattle.bidi_handles.proofs.ListLemmas.{agree}
 use Rattle.bidi_browser.proofs.AcceptedLemmas.{act-sound, alive-above, alive-below, parent-born, under-parent}
 use Rattle.bidi_browser.proofs.AcceptedLemmas.{levels-accepted, level-child, parents-alive}
-use Rattle.bidi_browser.proofs.MemberLemmas.{has-filter}
+use Rattle.bidi_browser.proofs.MemberLemmas.{has-filter, any-up-to}
 
 -- ---- lists
-
--- the numbers up to n are those from 1 to n
-pub any-up-to : (c n : ℕ) → list_any (λ x. x == c) (up_to n) ≡ (nat_lt 0 c && nat_lt c (suc n))
-any-up-to c zero = grind (arith, nat_tests)
-any-up-to c (suc n) = grind (arith, nat_tests, any-up-to c n, list_any-append (λ x. x == c) (up_to n) (suc n ∷ []))
 
 -- the live contexts are those that are alive
 pub any-contexts : (past : List Act) (c : ℕ) → list_any (λ d. d == c) (contexts past) ≡ is_alive past c

@@ -97,6 +97,11 @@ pub left-all : {B : Type 0} (tell : ℕ → List B) (contexts : List Context) (p
     → AreSubtrees contexts past l cs → Left tell contexts past l told (told ++ flat_map tell cs)
 left-all tell contexts past l cs told s = record { left = cs; stand = s; joined = refl }
 
+-- also where nothing is told yet
+pub left-start : {B : Type 0} (tell : ℕ → List B) (contexts : List Context) (past : List Act) (l : ℕ) (cs : List ℕ) (told : List B)
+    → told ≡ [] → AreSubtrees contexts past l cs → Left tell contexts past l told (flat_map tell cs)
+left-start tell contexts past l cs told none s = record { left = cs; stand = s; joined = ap (λ xs. xs ++ flat_map tell cs) none }
+
 -- then one fewer
 pub left-more : {B : Type 0} (tell : ℕ → List B) (context : Context) (behind : List Context) (past : List Act) (l : ℕ) (told after whole : List B)
     → Left tell (context ∷ behind) past l told whole

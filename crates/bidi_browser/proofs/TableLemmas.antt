@@ -10,8 +10,10 @@ use Rattle.bidi_browser.specs.Outcome.{outcome}
 use Rattle.bidi_browser.specs.Plans.{leaves_tables}
 use Rattle.bidi_browser.specs.declared.script_table.ScriptTable.{ScriptTable}
 use Rattle.bidi_browser.specs.TableInHand.{AreTabled}
-use Rattle.bidi_browser.specs.Stands.{StandsFor}
-use Rattle.bidi_browser.specs.Acts.{Act, Tabled, Ran, Disowned, Logged, Looked, Ending, next_number, ScriptEffect as Said}
+use Rattle.bidi_browser.specs.Accepted.{AreAccepted}
+use Rattle.bidi_browser.specs.Stands.{AreUsersOf, IsTableOf, StandsFor}
+use Rattle.bidi_browser.specs.declared.users.Users.{Users}
+use Rattle.bidi_browser.specs.Acts.{Act, Tabled, Ran, Disowned, Logged, UserMade, UserRemoved, Looked, Ending, next_number, ScriptEffect as Said}
 use Rattle.bidi_tree.specs.Node.{Node}
 use Rattle.bidi_handles.specs.declared.id.IdKind.TheVariants.{Handle}
 use Rattle.bidi_browser.specs.declared.contexts.Contexts.{Contexts}
@@ -38,6 +40,7 @@ pub kept-stands : (b : Browser) (past : List Act) (action : Action) (act : Act)
 kept-stands b past action Looked leaves done s =
     record {
       contexts = record { rows = s.contexts.rows; accepted = (action, done, s.contexts.accepted) };
+      users = record { live = s.users.live; next = s.users.next };
       next_context = s.next_context;
       next_realm = s.next_realm;
       next_navigation = s.next_navigation;
@@ -48,6 +51,7 @@ kept-stands b past action Looked leaves done s =
 kept-stands b past action (Logged c level line) leaves done s =
     record {
       contexts = record { rows = s.contexts.rows; accepted = (action, done, s.contexts.accepted) };
+      users = record { live = s.users.live; next = s.users.next };
       next_context = s.next_context;
       next_realm = s.next_realm;
       next_navigation = s.next_navigation;
@@ -58,6 +62,7 @@ kept-stands b past action (Logged c level line) leaves done s =
 kept-stands b past action (Ran r ending false) leaves done s =
     record {
       contexts = record { rows = s.contexts.rows; accepted = (action, done, s.contexts.accepted) };
+      users = record { live = s.users.live; next = s.users.next };
       next_context = s.next_context;
       next_realm = s.next_realm;
       next_navigation = s.next_navigation;
@@ -74,6 +79,7 @@ pub row-stands : (b : Browser) (table : ScriptTable) (past : List Act) (action :
 row-stands b table past action act script row is done tabled s =
     subst (λ a. StandsFor (record b { table = table }) (a ∷ past)) (sym is) (record {
       contexts = record { rows = s.contexts.rows; accepted = (action, done ∙ ap Ok is, s.contexts.accepted) };
+      users = record { live = s.users.live; next = s.users.next };
       next_context = s.next_context;
       next_realm = s.next_realm;
       next_navigation = s.next_navigation;
@@ -94,6 +100,7 @@ held-stands b contexts n past action a ending act held is alive holds done s nex
         rows = rows ∙ (ap₂ (λ h rs. changed a (held_in h) rs) holds s.contexts.rows ∙ sym (rows-ran past a ending s.contexts.accepted alive));
         accepted = (action, done ∙ ap Ok is, s.contexts.accepted);
       };
+      users = record { live = s.users.live; next = s.users.next };
       next_context = s.next_context;
       next_realm = s.next_realm;
       next_navigation = s.next_navigation;
@@ -122,6 +129,42 @@ disowned-stands b contexts past action a ids act numbers is alive gone done s ro
         rows = rows ∙ (ap₂ (λ ns rs. changed a (without_in ns) rs) gone s.contexts.rows ∙ sym (rows-disowned past a ids s.contexts.accepted alive));
         accepted = (action, done ∙ ap Ok is, s.contexts.accepted);
       };
+      users = record { live = s.users.live; next = s.users.next };
+      next_context = s.next_context;
+      next_realm = s.next_realm;
+      next_navigation = s.next_navigation;
+      next_handle = s.next_handle;
+      table = record { rows = s.table.rows; count = s.table.count };
+      next_window = s.next_window;
+    })
+
+-- ---- user contexts
+
+-- one more
+pub user-made-stands : (b : Browser) (users : Users) (past : List Act) (action : Action) (act : Act)
+    → act ≡ UserMade → outcome past action ≡ Ok act → AreUsersOf users (UserMade ∷ past) → StandsFor b past
+    → StandsFor (record b { users = users }) (act ∷ past)
+user-made-stands b users past action act is done made s =
+    subst (λ x. StandsFor (record b { users = users }) (x ∷ past)) (sym is) (record {
+      contexts = record { rows = s.contexts.rows; accepted = (action, done ∙ ap Ok is, s.contexts.accepted) };
+      users = made;
+      next_context = s.next_context;
+      next_realm = s.next_realm;
+      next_navigation = s.next_navigation;
+      next_handle = s.next_handle;
+      table = record { rows = s.table.rows; count = s.table.count };
+      next_window = s.next_window;
+    })
+
+-- one fewer, with all contexts in it
+pub user-removed-stands : (b : Browser) (users : Users) (contexts : Contexts) (past : List Act) (action : Action) (act : Act) (u : ℕ)
+    → act ≡ UserRemoved u → outcome past action ≡ Ok act → AreUsersOf users (UserRemoved u ∷ past)
+    → (AreAccepted (UserRemoved u ∷ past) → IsTableOf contexts (UserRemoved u ∷ past)) → StandsFor b past
+    → StandsFor (record b { users = users; contexts = contexts }) (act ∷ past)
+user-removed-stands b users contexts past action act u is done removed left s =
+    subst (λ x. StandsFor (record b { users = users; contexts = contexts }) (x ∷ past)) (sym is) (record {
+      contexts = left (action, done ∙ ap Ok is, s.contexts.accepted);
+      users = removed;
       next_context = s.next_context;
       next_realm = s.next_realm;
       next_navigation = s.next_navigation;

@@ -14,8 +14,8 @@ use Rattle.bidi_browser.specs.Contexts.{parent_of, level_of, is_under, is_alive,
 use Rattle.bidi_browser.specs.Contexts.{contexts, tops, children_of, subtree_within, subtree_of, tree_order}
 use Rattle.bidi_browser.specs.ContextRows.{row_at, rows}
 use Rattle.bidi_browser.proofs.AcceptedLemmas.{levels-accepted, level-child, parent-born, parents-alive, under-parent}
-use Rattle.bidi_browser.proofs.RemovalLemmas.{any-up-to, any-contexts, any-subtree, subtree-under, under-up, under-self, level-above, and-both, option-same}
-use Rattle.bidi_browser.proofs.MemberLemmas.{has, AreApart, by-cases, has-cases, no-truth, apart-append, piece-of, piece-in}
+use Rattle.bidi_browser.proofs.RemovalLemmas.{any-contexts, any-subtree, subtree-under, under-up, under-self, level-above, and-both, option-same}
+use Rattle.bidi_browser.proofs.MemberLemmas.{has, AreApart, any-up-to, by-cases, has-cases, no-truth, apart-append, piece-of, piece-in}
 use Rattle.bidi_browser.proofs.MemberLemmas.{flat-same, has-filter, apart-filter, length-same}
 use Rattle.bidi_browser.proofs.ForestLemmas.{tree, swapped, Swap, EndsAt, flat-ends, level-below, deep-to, apart-flat, swap-flat}
 use Rattle.bidi_browser.proofs.ForestLemmas.{Placed, placed}

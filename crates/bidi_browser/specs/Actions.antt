@@ -1,4 +1,4 @@
--- What the browser is asked: its commands, and the steps of a page that it takes. After WebDriver BiDi, "The browsingContext Module" and "The script Module".
+-- What the browser is asked: its commands, and the steps of a page that it takes. After WebDriver BiDi, "The browsingContext Module", "The script Module" and "The browser Module".
 use Prim.Native.String.{String}
 use Rattle.std.specs.Prelude.{ℕ, ℤ, Bool, true, false, List, [], ◌∷◌, codes, bytes_eq, Option, Some, None}
 use Rattle.std.specs.Prelude.{unwrap_or, option_map, is_some, is_none, ◌&&◌, ◌||◌, if◌then◌else◌}
@@ -10,6 +10,7 @@ use Rattle.bidi_methods.specs.declared.method.Method.TheVariants.{BrowsingContex
 use Rattle.bidi_methods.specs.declared.method.Method.TheVariants.{BrowsingContextNavigate, BrowsingContextReload}
 use Rattle.bidi_methods.specs.declared.method.Method.TheVariants.{BrowsingContextTraverseHistory, ScriptEvaluate, ScriptCallFunction}
 use Rattle.bidi_methods.specs.declared.method.Method.TheVariants.{ScriptDisown, ScriptGetRealms}
+use Rattle.bidi_methods.specs.declared.method.Method.TheVariants.{BrowserCreateUserContext, BrowserGetUserContexts, BrowserRemoveUserContext}
 use Rattle.bidi_handles.specs.Params.{tree_if_at, text_if_at, number_if_at, trees_if_at, text_at, texts_at, whole_at, entry_at}
 
 -- a tab of a window, or a window of its own
@@ -42,6 +43,9 @@ pub data Action : Type 0 where
   CallFunction : (declaration : List ℕ) (target : Target) (arguments : List Node) (this : Option Node) (owned : Bool) (depth : Option ℕ) → Action
   Disown : (handles : List (List ℕ)) (target : Target) → Action
   GetRealms : (context : Option (List ℕ)) (type : Option (List ℕ)) → Action
+  CreateUserContext : Action
+  GetUserContexts : Action
+  RemoveUserContext : (user : List ℕ) → Action
   -- steps of a page
   Frame : (context : List ℕ) (url : List ℕ) → Action
   Unframe : (context : List ℕ) → Action
@@ -62,6 +66,9 @@ method_of (Evaluate expression target owned depth) = Some ScriptEvaluate
 method_of (CallFunction declaration target arguments this owned depth) = Some ScriptCallFunction
 method_of (Disown handles target) = Some ScriptDisown
 method_of (GetRealms context type) = Some ScriptGetRealms
+method_of CreateUserContext = Some BrowserCreateUserContext
+method_of GetUserContexts = Some BrowserGetUserContexts
+method_of (RemoveUserContext user) = Some BrowserRemoveUserContext
 method_of action = None
 
 -- somebody asked for it, and gets a reply: a command, and no step of a page
@@ -125,6 +132,9 @@ browser_commands =
     )
     ∷ ("script.disown", λ p. Disown (texts_at "handles" p) (target_of p))
     ∷ ("script.getRealms", λ p. GetRealms (text_if_at "context" p) (text_if_at "type" p))
+    ∷ ("browser.createUserContext", λ p. CreateUserContext)
+    ∷ ("browser.getUserContexts", λ p. GetUserContexts)
+    ∷ ("browser.removeUserContext", λ p. RemoveUserContext (text_at "userContext" p))
     ∷ []
 
 -- what a command of that method asks of the browser, if it is one of its commands

@@ -4,7 +4,7 @@ use Rattle.url.specs.Parts.{Parts}
 use Rattle.bidi_tree.specs.Node.{Node}
 use Rattle.bidi_values.specs.declared.log_entry.Level.{Level}
 use Rattle.bidi_handles.specs.declared.id.IdKind.{IdKind}
-use Rattle.bidi_handles.specs.declared.id.IdKind.TheVariants.{Context, Realm, Navigation, Handle, Window}
+use Rattle.bidi_handles.specs.declared.id.IdKind.TheVariants.{Context, Realm, Navigation, Handle, Window, UserContext}
 
 -- where a navigation leads: to a URL, to the same entry again, or to another entry of the session history
 pub data Move : Type 0 where
@@ -24,8 +24,8 @@ pub data ScriptEffect : Type 0 where
 
 -- what an accepted command or an effective step did
 pub data Act : Type 0 where
-  -- a top-level context came, in a window that stood or in a new one
-  Made : (window : Option ℕ) → Act
+  -- a top-level context came in a user context, in a window that stood or in a new one
+  Made : (window : Option ℕ) (user : ℕ) → Act
   -- a child of a context came, at a URL
   Framed : (parent : ℕ) (url : Parts) → Act
   -- a context went, and all below it
@@ -36,19 +36,24 @@ pub data Act : Type 0 where
   -- a script ended in a realm, and where held is true its value got a handle
   Ran : (realm : ℕ) (ending : Ending) (held : Bool) → Act
   Disowned : (realm : ℕ) (handles : List (List ℕ)) → Act
+  -- a user context came
+  UserMade : Act
+  -- a user context went, and all contexts in it
+  UserRemoved : (user : ℕ) → Act
   -- nothing changed
   Looked : Act
 
 -- whether an act gives out an id of the kind
 abbrev pub gives : IdKind → Act → Bool
-gives Context (Made w) = true
+gives Context (Made w u) = true
 gives Context (Framed p url) = true
-gives Realm (Made w) = true
+gives Realm (Made w u) = true
 gives Realm (Framed p url) = true
 gives Realm (Moved c move) = true
 gives Navigation (Moved c move) = true
 gives Handle (Ran r ending held) = held
-gives Window (Made w) = is_none w
+gives Window (Made w u) = is_none w
+gives UserContext UserMade = true
 gives kind act = false
 
 -- at the start stand one context, its realm and its window

@@ -11,6 +11,7 @@ use Rattle.bidi_params.specs.declared.browsing_context.navigate.Wait.TheVariants
 use Rattle.bidi_params.specs.declared.browsing_context.navigate.NavigateParameters.{NavigateParameters}
 use Rattle.bidi_params.specs.declared.browsing_context.navigate.ReloadParameters.{ReloadParameters}
 use Rattle.bidi_params.specs.declared.browsing_context.navigate.TraverseHistoryParameters.{TraverseHistoryParameters}
+use Rattle.bidi_params.specs.declared.browser.RemoveUserContextParameters.{RemoveUserContextParameters}
 use Rattle.bidi_params.specs.Words.{realm_type_text}
 use Rattle.bidi_values.specs.declared.evaluate.Ownership.{Ownership}
 use Rattle.bidi_values.specs.declared.evaluate.Ownership.TheVariants as ownership
@@ -31,7 +32,7 @@ use Rattle.bidi_browser.specs.declared.action.Action as declared_action
 use Rattle.bidi_browser.specs.declared.action.Action.TheVariants as in_code
 use Rattle.bidi_browser.specs.Actions.{CreateType, Tab, OwnWindow, Wait, Started, Interactive, Complete, Action, Activate, Close}
 use Rattle.bidi_browser.specs.Actions.{Create, GetTree, Navigate, Reload, TraverseHistory, Target, ContextTarget, RealmTarget}
-use Rattle.bidi_browser.specs.Actions.{Evaluate, CallFunction, Disown, GetRealms, Frame, Unframe, Log, TableRow}
+use Rattle.bidi_browser.specs.Actions.{Evaluate, CallFunction, Disown, GetRealms, CreateUserContext, GetUserContexts, RemoveUserContext, Frame, Unframe, Log, TableRow}
 
 -- as what a context is created
 abbrev pub create_type_of : ContextType → CreateType
@@ -103,6 +104,9 @@ get_realms_asked p = GetRealms (option_map string_bytes p.context) (option_map r
 abbrev pub row_asked : Option declared_row.TableRow → Action
 row_asked row = TableRow (option_map rows.ghosts.shape.tree_of row)
 
+abbrev pub remove_user_asked : RemoveUserContextParameters → Action
+remove_user_asked p = RemoveUserContext (string_bytes p.user_context)
+
 -- what a command asks
 abbrev pub command_asked : BrowserCommand → Action
 command_asked (browser.Activate params) = activate_asked params
@@ -116,6 +120,9 @@ command_asked (browser.Evaluate params) = evaluate_asked params.value
 command_asked (browser.CallFunction params) = call_function_asked params.value
 command_asked (browser.Disown params) = disown_asked params.value
 command_asked (browser.GetRealms params) = get_realms_asked params
+command_asked (browser.CreateUserContext params) = CreateUserContext
+command_asked (browser.GetUserContexts params) = GetUserContexts
+command_asked (browser.RemoveUserContext params) = remove_user_asked params
 
 -- what an action in hand asks
 abbrev pub action_of : declared_action.Action → Action

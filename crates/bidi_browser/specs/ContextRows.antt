@@ -10,7 +10,8 @@ use Rattle.bidi_handles.specs.declared.id.IdKind.TheVariants as kind
 use Rattle.bidi_browser.specs.declared.context.Context.{Context}
 use Rattle.bidi_browser.specs.Urls.{url_text, origin_text}
 use Rattle.bidi_browser.specs.Acts.{Act, Move}
-use Rattle.bidi_browser.specs.Contexts.{tree_order, parent_of, top_of, level_of, window_of}
+use Rattle.bidi_browser.specs.Contexts.{tree_order, parent_of, top_of, level_of, window_of, user_of}
+use Rattle.bidi_browser.specs.Users.{user_id}
 use Rattle.bidi_browser.specs.Places.{Entries, present, moved, entries_of}
 use Rattle.bidi_browser.specs.Realms.{realm_of, handles_of}
 use Rattle.bidi_handles.specs.Handles.{handles_seen, held_among}
@@ -19,13 +20,14 @@ use Rattle.bidi_browser.specs.Info.{parent_tree}
 use Rattle.bidi_browser.specs.HistoryInHand.{entries_in}
 use Rattle.bidi_browser.specs.Occurrences.{Occurrence, console_entry}
 
--- a live context: its number, its parent if it is a child, its top-level context, its level, its window, its realm, its entries and the handles that are held in its realm
+-- a live context: its number, its parent if it is a child, its top-level context, its level, its window, its user context, its realm, its entries and the handles that are held in its realm
 pub record ContextRow : Type 0 where
   pub number : ℕ
   pub parent : Option ℕ
   pub top : ℕ
   pub level : ℕ
   pub window : ℕ
+  pub user : ℕ
   pub realm : ℕ
   pub entries : Entries
   pub handles : List (ℕ × Node)
@@ -47,6 +49,7 @@ row_of c =
       top = c.top;
       level = c.level;
       window = c.window;
+      user = c.user;
       realm = c.realm;
       entries = entries_in c.history;
       handles = handles_seen c.handles;
@@ -61,6 +64,7 @@ row_at past c =
       top = top_of past c;
       level = level_of past c;
       window = window_of past c;
+      user = user_of past c;
       realm = realm_of past c;
       entries = entries_of past c;
       handles = handles_of past (realm_of past c);
@@ -80,7 +84,7 @@ members_in row children =
     "context" being id_tree kind.Context row.number and
     "originalOpener" being null and
     "url" being text (url_text (url_in row)) and
-    "userContext" being word "default" and no_members
+    "userContext" being text (user_id row.user) and no_members
 
 -- its Info, with its parent where it is to be shown
 abbrev pub shown_info : Option Node → ContextRow → Node → Node
@@ -106,7 +110,7 @@ realm_info_at row realm url = mapped (
 
 -- an event of it
 abbrev pub occurrence_in : ContextRow → EventName → Node → Occurrence
-occurrence_in row event params = record { event = event; context = row.number; top = row.top; params = params }
+occurrence_in row event params = record { event = event; context = row.number; top = record { number = row.top; user = row.user }; params = params }
 
 -- an entry was logged in it, at the moment
 abbrev pub entry_added_in : ContextRow → ℕ → Level → List ℕ → Occurrence

@@ -4,7 +4,7 @@ use Rattle.std.specs.Prelude.{◌∷◌, ◌++◌, filter, flat_map, find, bytes
 use Rattle.std.specs.Option.{option_eq}
 use Rattle.bidi_handles.specs.declared.id.IdKind.TheVariants.{Context, Window}
 use Rattle.bidi_handles.specs.Ids.{id_of}
-use Rattle.bidi_browser.specs.Acts.{Act, Made, Framed, Removed, Moved, given, next_number}
+use Rattle.bidi_browser.specs.Acts.{Act, Made, Framed, Removed, Moved, UserRemoved, given, next_number}
 
 -- the context of which c is a child
 abbrev pub parent_of : List Act → ℕ → Option ℕ
@@ -33,19 +33,27 @@ is_under (act ∷ past) a c = is_under past a c
 -- the window of a context: for a child that of its parent
 abbrev pub window_of : List Act → ℕ → ℕ
 window_of [] c = 1
-window_of (Made w ∷ past) c = if c == next_number past Context then unwrap_or w (next_number past Window) else window_of past c
+window_of (Made w u ∷ past) c = if c == next_number past Context then unwrap_or w (next_number past Window) else window_of past c
 window_of (Framed p url ∷ past) c = if c == next_number past Context then window_of past p else window_of past c
 window_of (act ∷ past) c = window_of past c
+
+-- the user context of a context: for a child that of its parent; 0 is `default`
+abbrev pub user_of : List Act → ℕ → ℕ
+user_of [] c = 0
+user_of (Made w u ∷ past) c = if c == next_number past Context then u else user_of past c
+user_of (Framed p url ∷ past) c = if c == next_number past Context then user_of past p else user_of past c
+user_of (act ∷ past) c = user_of past c
 
 -- a context was born that has a number given out
 abbrev pub is_born : List Act → ℕ → Bool
 is_born past c = nat_lt 0 c && nat_lt c (next_number past Context)
 
--- a removal takes a context and all below it, a navigation all below it
+-- a removal takes a context and all below it, a navigation all below it, and that of a user context all in it
 abbrev pub is_gone : List Act → ℕ → Bool
 is_gone [] c = false
 is_gone (Removed a ∷ past) c = is_under past a c || is_gone past c
 is_gone (Moved a move ∷ past) c = (is_under past a c && not (a == c)) || is_gone past c
+is_gone (UserRemoved u ∷ past) c = user_of past c == u || is_gone past c
 is_gone (act ∷ past) c = is_gone past c
 
 -- born, and not gone
@@ -68,6 +76,10 @@ context_of past id = find (λ c. bytes_eq id (id_of Context c)) (contexts past)
 -- the live top-level contexts, by creation
 abbrev pub tops : List Act → List ℕ
 tops past = filter (λ c. is_none (parent_of past c)) (contexts past)
+
+-- those in a user context
+abbrev pub tops_in : List Act → ℕ → List ℕ
+tops_in past u = filter (λ c. user_of past c == u) (tops past)
 
 -- the live children of a context, by creation
 abbrev pub children_of : List Act → ℕ → List ℕ

@@ -1,12 +1,13 @@
--- The tree of what is told of a context. After WebDriver BiDi, "The browsingContext.Info Type"; that `originalOpener` is null and `userContext` is `default` is this project's own.
+-- The tree of what is told of a context. After WebDriver BiDi, "The browsingContext.Info Type"; that `originalOpener` is null is this project's own.
 use Rattle.std.specs.Prelude.{ℕ, ◌-◌, zero, suc, map, Option, Some, None, option_map}
 use Rattle.bidi_tree.specs.Node.{Node, null, text, Members, no_members}
 use Rattle.bidi_handles.specs.declared.id.IdKind.TheVariants.{Context, Window}
 use Rattle.bidi_browser.specs.Acts.{Act}
 use Rattle.bidi_browser.specs.Urls.{url_text}
-use Rattle.bidi_browser.specs.Contexts.{parent_of, window_of, children_of}
+use Rattle.bidi_browser.specs.Contexts.{parent_of, window_of, user_of, children_of}
+use Rattle.bidi_browser.specs.Users.{user_id}
 use Rattle.bidi_browser.specs.Places.{url_of}
-use Rattle.bidi_handles.specs.Maps.{◌being◌and◌, mapped, listed, word, id_tree}
+use Rattle.bidi_handles.specs.Maps.{◌being◌and◌, mapped, listed, id_tree}
 use Rattle.std.specs.Prelude.{List}
 
 -- the parent's id, or null for a top-level context
@@ -32,7 +33,7 @@ info_members past c children =
     "context" being id_tree Context c and
     "originalOpener" being null and
     "url" being text (url_text (url_of past c)) and
-    "userContext" being word "default" and no_members
+    "userContext" being text (user_id (user_of past c)) and no_members
 
 -- an Info that stands in the list of its parent's, as far as n levels
 abbrev pub info_within : ℕ → List Act → Option ℕ → ℕ → Node

@@ -1,6 +1,7 @@
 pub mod Urls
 pub mod Acts
 pub mod Contexts
+pub mod Users
 pub mod Places
 pub mod Realms
 pub mod Actions

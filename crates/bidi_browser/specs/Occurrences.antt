@@ -9,9 +9,10 @@ use Rattle.bidi_methods.specs.declared.event_data.EventName.{EventName}
 use Rattle.bidi_methods.specs.declared.event_data.EventName.TheVariants.{ContextCreated, ContextDestroyed, NavigationStarted}
 use Rattle.bidi_methods.specs.declared.event_data.EventName.TheVariants.{DomContentLoaded, Load, RealmCreated, RealmDestroyed, EntryAdded}
 use Rattle.bidi_handles.specs.declared.id.IdKind.TheVariants.{Context, Realm, Navigation}
+use Rattle.bidi_browser.specs.declared.occurrence.Top.{Top}
 use Rattle.bidi_browser.specs.Urls.{url_text, origin_text}
 use Rattle.bidi_browser.specs.Acts.{Act, next_number}
-use Rattle.bidi_browser.specs.Contexts.{top_of, subtree_of, tree_order}
+use Rattle.bidi_browser.specs.Contexts.{top_of, user_of, subtree_of, tree_order}
 use Rattle.bidi_browser.specs.Places.{url_of}
 use Rattle.bidi_browser.specs.Realms.{realm_of}
 use Rattle.bidi_handles.specs.Maps.{◌being◌and◌, mapped, listed, word, number, id_tree}
@@ -32,16 +33,20 @@ event_place EntryAdded = 7
 abbrev pub is_among : List EventName → EventName → Bool
 is_among events e = list_any (λ f. event_place f == event_place e) events
 
--- an event, the context that it is of, that context's top-level context, and the params
+-- an event, the context that it is of, that context's top-level context with the user context of both, and the params
 pub record Occurrence : Type 0 where
   pub event : EventName
   pub context : ℕ
-  pub top : ℕ
+  pub top : Top
   pub params : Node
+
+-- the top-level context of a context, with its user context
+abbrev pub top_at : List Act → ℕ → Top
+top_at past c = record { number = top_of past c; user = user_of past c }
 
 -- an event of a context, with the top-level context that the past gives it
 abbrev pub occurrence : List Act → ℕ → EventName → Node → Occurrence
-occurrence past c event params = record { event = event; context = c; top = top_of past c; params = params }
+occurrence past c event params = record { event = event; context = c; top = top_at past c; params = params }
 
 -- a context came: its Info without its children
 abbrev pub context_created : List Act → ℕ → Occurrence

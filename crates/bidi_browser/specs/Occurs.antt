@@ -2,13 +2,14 @@
 use Rattle.std.specs.Prelude.{ℕ, Bool, true, false, List, [], ◌∷◌, ◌++◌, map, flat_map, codes, bytes_eq, Option, Some, None, option_to_list, unwrap_or}
 use Rattle.url.specs.Parts.{Parts}
 use Rattle.bidi_tree.specs.Node.{Node, text, no_members}
-use Rattle.bidi_handles.specs.declared.id.IdKind.TheVariants.{Context, Realm, Navigation, Handle}
+use Rattle.bidi_handles.specs.declared.id.IdKind.TheVariants.{Context, Realm, Navigation, Handle, UserContext}
 use Rattle.bidi_browser.specs.Urls.{url_text}
 use Rattle.bidi_browser.specs.Acts.{Act, Made, Framed, Removed, Moved, Logged, Tabled, Ran, Disowned}
-use Rattle.bidi_browser.specs.Acts.{Looked, Move, Across, Ending, Returned, Threw, next_number}
-use Rattle.bidi_browser.specs.Contexts.{context_of, tops, children_of, tree_order}
+use Rattle.bidi_browser.specs.Acts.{UserMade, UserRemoved, Looked, Move, Across, Ending, Returned, Threw, next_number}
+use Rattle.bidi_browser.specs.Contexts.{context_of, tops, tops_in, children_of, tree_order}
+use Rattle.bidi_browser.specs.Users.{users, user_info}
 use Rattle.bidi_browser.specs.Places.{entries_of, moved, present}
-use Rattle.bidi_browser.specs.Actions.{Wait, Started, Interactive, Complete, Action, Unframe, Navigate, Reload, GetTree, Evaluate, CallFunction, GetRealms}
+use Rattle.bidi_browser.specs.Actions.{Wait, Started, Interactive, Complete, Action, Unframe, Navigate, Reload, GetTree, Evaluate, CallFunction, GetRealms, GetUserContexts}
 use Rattle.bidi_values.specs.Cut.{cut_to}
 use Rattle.bidi_handles.specs.Values.{with_member}
 use Rattle.bidi_handles.specs.Maps.{◌being◌and◌, mapped, listed, nothing, word, number, id_tree}
@@ -142,13 +143,14 @@ abbrev pub looked_result : List Act → Action → Node
 looked_result past (GetTree depth root) = mapped ("contexts" being listed (map (info_of past depth) (roots past root)) and no_members)
 looked_result past (GetRealms context type) =
     mapped ("realms" being listed (map (realm_info past) (realm_holders past context (takes_windows type))) and no_members)
+looked_result past GetUserContexts = mapped ("userContexts" being listed (map user_info (users past)) and no_members)
 looked_result past action = nothing
 
 -- ---- every act
 
 -- what an act brings about at a moment, where the action asked for it
 abbrev pub occurs : List Act → ℕ → Action → Act → List Item
-occurs past moment action (Made w) = birth past (Made w) ++ Replies (created_result past) ∷ []
+occurs past moment action (Made w u) = birth past (Made w u) ++ Replies (created_result past) ∷ []
 occurs past moment action (Framed p url) = birth past (Framed p url)
 occurs past moment action (Removed c) = map Happens (removal past c) ++ removal_reply action
 occurs past moment action (Moved c move) = navigation past moment (wait_in action) c move
@@ -156,4 +158,6 @@ occurs past moment action (Logged c level line) = Happens (entry_added past mome
 occurs past moment action (Tabled t row) = []
 occurs past moment action (Ran r ending held) = Replies (script_result past r (depth_in action) ending held) ∷ []
 occurs past moment action (Disowned r ids) = Replies nothing ∷ []
+occurs past moment action UserMade = Replies (user_info (next_number past UserContext)) ∷ []
+occurs past moment action (UserRemoved u) = map Happens (flat_map (removal past) (tops_in past u)) ++ Replies nothing ∷ []
 occurs past moment action Looked = Replies (looked_result past action) ∷ []

@@ -9,15 +9,17 @@ use Rattle.bidi_handles.specs.declared.id.IdKind.TheVariants.{Realm}
 use Rattle.bidi_handles.specs.Ids.{id_of}
 use Rattle.bidi_browser.specs.Urls.{parsed}
 use Rattle.bidi_values.specs.declared.log_entry.Level.{Level}
-use Rattle.bidi_browser.specs.Acts.{Act, Made, Framed, Removed, Moved, Logged, Tabled, Ran, Disowned, Looked, To}
+use Rattle.bidi_browser.specs.Acts.{Act, Made, Framed, Removed, Moved, Logged, Tabled, Ran, Disowned, UserMade, UserRemoved, Looked, To}
 use Rattle.bidi_browser.specs.Acts.{Again, Across, Ending, Returned, Threw, ScriptEffect, EndsIn, GivesBack}
 use Rattle.bidi_browser.specs.Contexts.{parent_of, level_of, window_of, contexts, context_of, tops}
+use Rattle.bidi_browser.specs.Users.{others, user_named}
 use Rattle.bidi_browser.specs.Places.{entries_of, place_across}
 use Rattle.bidi_browser.specs.Realms.{realm_of, realms, value_of, handles_of, held_value, row_of, tabled_texts}
 use Rattle.bidi_handles.specs.Params.{text_at, tree_if_at, number_if_at}
 use Rattle.bidi_browser.specs.Actions.{CreateType, Tab, OwnWindow, Target, ContextTarget, RealmTarget, Action}
 use Rattle.bidi_browser.specs.Actions.{Activate, Close, Create, GetTree, Navigate, Reload, TraverseHistory, Evaluate}
-use Rattle.bidi_browser.specs.Actions.{CallFunction, Disown, GetRealms, Frame, Unframe, Log, TableRow}
+use Rattle.bidi_browser.specs.Actions.{CallFunction, Disown, GetRealms, CreateUserContext, GetUserContexts, RemoveUserContext}
+use Rattle.bidi_browser.specs.Actions.{Frame, Unframe, Log, TableRow}
 use Rattle.bidi_handles.specs.Checks.{◌>>=◌, need, found}
 use Rattle.bidi_handles.specs.Values.{argument, arguments, takes_handle, has_handle}
 use Rattle.bidi_handles.specs.Maps.{◌being◌and◌, mapped, word}
@@ -53,9 +55,9 @@ window_for past OwnWindow reference = None
 window_for past Tab (Some c) = Some (window_of past c)
 window_for past Tab None = oldest_window past (tops past)
 
--- the one user context is `default`
-abbrev pub is_user : Option (List ℕ) → Bool
-is_user user = bytes_eq (unwrap_or user (codes "default")) (codes "default")
+-- the live user context of an id
+abbrev pub user_checked : List Act → List ℕ → Result ℕ ErrorCode
+user_checked past id = found (user_named past id) NoSuchUserContext
 
 -- fewer than 1,024 contexts are alive
 abbrev pub has_room : List Act → Bool
@@ -65,9 +67,9 @@ has_room past = nat_lt (length (contexts past)) 1024
 abbrev pub create_outcome : List Act → CreateType → Option (List ℕ) → Option (List ℕ) → Result Act ErrorCode
 create_outcome past type reference user = do
   c ← top_if_named past reference
-  known ← need (is_user user) NoSuchUserContext
+  u ← user_checked past (unwrap_or user (codes "default"))
   room ← need (has_room past) UnknownError
-  Ok (Made (window_for past type c))
+  Ok (Made (window_for past type c) u)
 
 -- only a top-level context is closed
 abbrev pub close_outcome : List Act → List ℕ → Result Act ErrorCode
@@ -100,6 +102,21 @@ unframe_outcome past id = do
   c ← context_named past id
   child ← need (is_some (parent_of past c)) InvalidArgument
   Ok (Removed c)
+
+-- ---- user contexts
+
+-- at most 64 are alive besides `default`
+abbrev pub create_user_outcome : List Act → Result Act ErrorCode
+create_user_outcome past = do
+  room ← need (nat_lt (length (others past)) 64) UnknownError
+  Ok UserMade
+
+-- `default` stays
+abbrev pub remove_user_outcome : List Act → List ℕ → Result Act ErrorCode
+remove_user_outcome past id = do
+  other ← need (not (bytes_eq id (codes "default"))) InvalidArgument
+  u ← user_checked past id
+  Ok (UserRemoved u)
 
 -- ---- navigation
 
@@ -238,6 +255,9 @@ outcome past (Evaluate expression target owned depth) = evaluate_outcome past ex
 outcome past (CallFunction declaration target values this owned depth) = call_outcome past declaration target values this owned
 outcome past (Disown ids target) = disown_outcome past ids target
 outcome past (GetRealms context type) = looked_at past context
+outcome past CreateUserContext = create_user_outcome past
+outcome past GetUserContexts = Ok Looked
+outcome past (RemoveUserContext id) = remove_user_outcome past id
 outcome past (Frame id address) = frame_outcome past id address
 outcome past (Unframe id) = unframe_outcome past id
 outcome past (Log id level line) = log_outcome past id level line

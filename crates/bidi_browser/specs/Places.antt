@@ -30,7 +30,7 @@ moved entries (Across place) = record entries { place = place }
 -- a context's entries: the URL that it was born at, and each navigation of it since
 abbrev pub entries_of : List Act → ℕ → Entries
 entries_of [] c = begun_at about_blank
-entries_of (Made w ∷ past) c = if c == next_number past Context then begun_at about_blank else entries_of past c
+entries_of (Made w u ∷ past) c = if c == next_number past Context then begun_at about_blank else entries_of past c
 entries_of (Framed p url ∷ past) c = if c == next_number past Context then begun_at url else entries_of past c
 entries_of (Moved d move ∷ past) c = if c == d then moved (entries_of past c) move else entries_of past c
 entries_of (act ∷ past) c = entries_of past c

@@ -11,6 +11,7 @@ use Rattle.bidi_handles.specs.declared.id.IdKind.{IdKind}
 use Rattle.bidi_handles.specs.declared.id.IdKind.TheVariants.{Context, Realm, Handle, Window}
 use Rattle.bidi_browser.specs.declared.browser.Browser.{Browser}
 use Rattle.bidi_browser.specs.declared.contexts.Contexts.{Contexts}
+use Rattle.bidi_browser.specs.declared.users.Users.{Users}
 use Rattle.bidi_browser.specs.declared.context.Context as declared_context
 use Rattle.bidi_browser.specs.declared.occurrence.Occurrence.{Occurrence}
 use Rattle.bidi_browser.specs.declared.session_history.Move.{Move}
@@ -18,10 +19,10 @@ use Rattle.bidi_browser.specs.declared.plan.Plan.{Plan}
 use Rattle.bidi_browser.specs.declared.plan.Navigation.{Navigation}
 use Rattle.bidi_browser.specs.declared.plan.Change.{Change}
 use Rattle.bidi_browser.specs.declared.plan.Edit.{Edit}
-use Rattle.bidi_browser.specs.declared.plan.Edit.TheVariants.{Keep, Add, Remove, Navigate, SetRow, Hold, Disown}
+use Rattle.bidi_browser.specs.declared.plan.Edit.TheVariants.{Keep, Add, Remove, Navigate, SetRow, Hold, Disown, AddUser, RemoveUser}
 use Rattle.bidi_handles.specs.declared.refusal.Refusal.{Refusal}
 use Rattle.bidi_handles.specs.declared.refusal.Refusal.TheVariants.{Code, NoMemory}
-use Rattle.bidi_browser.specs.Acts.{Act, Removed, Moved, Tabled, Ran, Disowned, Logged, Looked, Ending, gives, next_number}
+use Rattle.bidi_browser.specs.Acts.{Act, Removed, Moved, Tabled, Ran, Disowned, UserMade, UserRemoved, Logged, Looked, Ending, gives, next_number}
 use Rattle.bidi_handles.specs.Handles.{HasSpare}
 use Rattle.bidi_handles.specs.Ids.{has_id}
 use Rattle.bidi_browser.specs.Realms.{realm_of, value_of, handles_of}
@@ -58,12 +59,17 @@ HasRoomForHandle contexts number =
     (i : ℕ) (d : declared_context.Context)
     → position (λ c. c.number == number) contexts.live.items ≡ Some i → HasSpare (get_or contexts.live.items i d).handles
 
+-- there is room for one more user context
+abbrev pub HasRoomForUser : Users → Type 0
+HasRoomForUser users = vec_len users.live < vec_capacity users.live
+
 -- and for what a change puts in
 abbrev pub EditHasRoom : Browser → Edit → Type 0
 EditHasRoom browser (Add context opens_window) = HasRoomForOne browser.contexts
 EditHasRoom browser (Navigate n) = HasRoomIn browser.contexts n.context n.to
 EditHasRoom browser (SetRow script row) = HasRoomForRow browser.table
 EditHasRoom browser (Hold number handle) = HasRoomForHandle browser.contexts number
+EditHasRoom browser AddUser = HasRoomForUser browser.users
 EditHasRoom browser edit = ⊤
 
 abbrev pub HasRoom : Browser → Change → Type 0
@@ -121,6 +127,8 @@ EditMakes (Hold number handle) past act =
 EditMakes (Disown number numbers) past act =
     (ids : List (List ℕ)) × (is_alive past number ≡ true) × (act ≡ Disowned (realm_of past number) ids)
     × (numbers.items ≡ map (λ held. held.0) (filter (λ held. has_id ids held.0) (handles_of past (realm_of past number))))
+EditMakes AddUser past act = act ≡ UserMade
+EditMakes (RemoveUser number) past act = act ≡ UserRemoved number
 EditMakes (SetRow script row) past act = act ≡ Tabled (string_bytes script) (row_seen row)
 
 abbrev pub Makes : Change → List Act → Act → Type 0

@@ -9,7 +9,7 @@ use Rattle.bidi_browser.specs.Contexts.{contexts}
 -- the realm of a context: each birth and each navigation makes a new one
 abbrev pub realm_of : List Act → ℕ → ℕ
 realm_of [] c = 1
-realm_of (Made w ∷ past) c = if c == next_number past Context then next_number past Realm else realm_of past c
+realm_of (Made w u ∷ past) c = if c == next_number past Context then next_number past Realm else realm_of past c
 realm_of (Framed p url ∷ past) c = if c == next_number past Context then next_number past Realm else realm_of past c
 realm_of (Moved d move ∷ past) c = if c == d then next_number past Realm else realm_of past c
 realm_of (act ∷ past) c = realm_of past c

@@ -5,7 +5,7 @@ use Rattle.bidi_params.specs.declared.error_code.ErrorCode.{ErrorCode}
 use Rattle.bidi_params.specs.declared.error_code.ErrorCode.TheVariants.{UnsupportedOperation, UnknownError}
 use Rattle.bidi_values.specs.contracts.evaluate_result.EvaluateResultShape.TheImpl as results
 use Rattle.bidi_handles.specs.declared.handle.Ending as declared_ending
-use Rattle.bidi_handles.specs.declared.id.IdKind.TheVariants.{Handle, Realm}
+use Rattle.bidi_handles.specs.declared.id.IdKind.TheVariants.{Handle, Realm, UserContext}
 use Rattle.bidi_handles.specs.declared.refusal.Refusal.{Refusal}
 use Rattle.bidi_handles.specs.declared.refusal.Refusal.TheVariants.{Code, NoMemory}
 use Rattle.bidi_browser.specs.declared.scripts.Ran.{Ran as RanInHand}
@@ -17,6 +17,7 @@ use Rattle.bidi_browser.specs.Outcome.{ending_of, ending_outcome, this_resolved}
 use Rattle.bidi_browser.specs.Plans.{EditMakes}
 use Rattle.bidi_browser.specs.Realms.{realm_of, row_of, value_of, handles_of, held_value}
 use Rattle.bidi_browser.specs.TableInHand.{ending_seen}
+use Rattle.bidi_browser.specs.Users.{others}
 use Rattle.bidi_handles.specs.Values.{arguments, takes_handle}
 
 -- how a script of that text ends with these arguments; or the table has no row of it
@@ -43,6 +44,11 @@ HasReturned (Err NoMemory) value = ⊤
 abbrev pub IsNextHandle : Result ℕ ErrorCode → List Act → ℕ → Type 0
 IsNextHandle (Ok n) past r = (nat_lt (length (handles_of past r)) 1000 ≡ true) × (n ≡ next_number past Handle)
 IsNextHandle (Err code) past r = (nat_lt (length (handles_of past r)) 1000 ≡ false) × (code ≡ UnknownError)
+
+-- the number that the next user context gets, or there is no room for it
+abbrev pub IsNextUser : Result ℕ ErrorCode → List Act → Type 0
+IsNextUser (Ok n) past = (nat_lt (length (others past)) 64 ≡ true) × (n ≡ next_number past UserContext)
+IsNextUser (Err code) past = (nat_lt (length (others past)) 64 ≡ false) × (code ≡ UnknownError)
 
 -- what is told of an ending in a realm, with its value as it is shown
 abbrev pub result_told : ℕ → Ending → Node → Node

@@ -1,25 +1,27 @@
-//! Plans of the actions that add a context: `browsingContext.create`, and a frame that a page adds.
-ghost use Rattle.std.specs.Prelude.{◌≡◌, ◌≤◌, ◌<◌, ◌^◌, ℕ, List, Option, [], ◌∷◌, IfOk, IfSome, option_map, string_bytes};
+//! Plans of the actions that add a context: `browsingContext.create`, and a frame that a page adds; and of `browser.createUserContext`.
+ghost use Rattle.std.specs.Prelude.{◌≡◌, ◌≤◌, ◌<◌, ◌^◌, ℕ, List, Option, [], ◌∷◌, IfOk, IfSome, codes, option_map, string_bytes, unwrap_or};
+ghost use Rattle.std.proofs.Props.{props};
 ghost use Rattle.bidi_tree.specs.Node.{no_members};
 ghost use Rattle.bidi_browser.specs.Acts.{Act, Made};
-ghost use Rattle.bidi_browser.specs.Actions.{Frame};
+ghost use Rattle.bidi_browser.specs.Actions.{CreateUserContext, Frame};
 ghost use Rattle.bidi_browser.specs.Asked.{create_asked, create_type_of};
 ghost use Rattle.bidi_browser.specs.ContextRows.{row_of, row_at, created_in, realm_created_in};
 ghost use Rattle.bidi_browser.specs.Contexts.{tops};
 ghost use Rattle.bidi_browser.specs.Found.{IsChecked};
 ghost use Rattle.bidi_handles.specs.Maps.{◌being◌and◌, mapped, id_tree};
-ghost use Rattle.bidi_browser.specs.Outcome.{create_outcome, is_user, oldest_window, window_for};
+ghost use Rattle.bidi_browser.specs.Outcome.{create_outcome, oldest_window, user_checked, window_for};
 ghost use Rattle.bidi_browser.specs.Plans.{AreWell, HasIds, Plans, HasResultOf, IsWellPlanned, IsWellResult};
-ghost use Rattle.bidi_browser.specs.Stands.{IsTableOf, StandsFor};
+ghost use Rattle.bidi_browser.specs.Stands.{AreUsersOf, IsTableOf, StandsFor};
 ghost use Rattle.bidi_browser.specs.View.{result_method, result_tree, seen};
 
 use crate::browser::Browser;
 use crate::context::Context;
 use crate::contexts::Contexts;
-use crate::looking::{context_named, top_if_named};
+use crate::looking::{answered, context_named, top_if_named};
 use crate::occurrence::Occurrence;
 use crate::plan::{Change, Edit, Plan};
 use crate::urls::parsed;
+use crate::users::{DEFAULT, Users, user_info};
 use bidi_handles::{IdKind, Refusal, id_text};
 use bidi_methods::{Method, Payload, ResultData};
 use bidi_params::{ContextType, CreateParameters, CreateResult, ErrorCode};
@@ -35,7 +37,7 @@ const LOWEST_LEVEL: u64 = 16;
 /// The first that holds:
 /// - `no such frame`: the reference context is not live.
 /// - `invalid argument`: the reference context is a child of another.
-/// - `no such user context`: a user context other than the default one is asked for.
+/// - `no such user context`: no live user context has the id that is given; absent, it is the default one.
 /// - `unknown error`: 1,024 contexts are live, or no id is left.
 /// - No memory: an allocation failed.
 pub(crate) fn plan_create(browser: &Browser, params: &CreateParameters) -> Result<Plan, Refusal>
@@ -43,12 +45,13 @@ pub(crate) fn plan_create(browser: &Browser, params: &CreateParameters) -> Resul
     ensures well { IsWellPlanned result }
     ensures of_method { HasResultOf Method.BrowsingContextCreate result }
 {
-    let window = window_checked(browser, params)?;
-    let opens_window = window.is_none();
+    let place = place_checked(browser, params)?;
+    let opens_window = place.window.is_none();
     let context = Context::top_level(
         browser.alloc,
         browser.next_context,
-        window.unwrap_or(browser.next_window),
+        place.window.unwrap_or(browser.next_window),
+        place.user,
         browser.next_realm,
     )?;
     let before = births(browser.alloc, &context)?;
@@ -66,31 +69,44 @@ pub(crate) fn plan_create(browser: &Browser, params: &CreateParameters) -> Resul
     })
 }
 
-// Makes the checks of a create. Gives the window that the new context joins, or `None` where it opens one.
-fn window_checked(browser: &Browser, params: &CreateParameters) -> Result<Option<u64>, ErrorCode>
+// Where a new top-level context is to stand.
+#[derive(Drop)]
+struct Place {
+    // The window that it joins; `None` where it opens one.
+    window: Option<u64>,
+    // Its user context.
+    user: u64,
+    ghost window_fits: { IfSome window (λ n. n < 2 ^ 48) } by { Prim.hlevel props },
+    ghost user_fits: { user < 2 ^ 48 },
+}
+
+// Makes the checks of a create.
+fn place_checked(browser: &Browser, params: &CreateParameters) -> Result<Place, ErrorCode>
     ensures checked { (past : List Act) → StandsFor browser.now past → HasIds past
-        → IsChecked Made result (create_outcome past (create_type_of params.now.kind) (option_map string_bytes params.now.reference_context)
+        → IsChecked (λ p. Made p.window p.user) result (create_outcome past (create_type_of params.now.kind) (option_map string_bytes params.now.reference_context)
         (option_map string_bytes params.now.user_context)) }
     ensures ids { IfOk result (λ _. (browser.now.next_context < 2 ^ 48) × (browser.now.next_realm < 2 ^ 48) × (browser.now.next_window < 2 ^ 48)) }
-    ensures fits { IfOk result (λ window. IfSome window (λ n. n < 2 ^ 48)) }
 {
     let reference = top_if_named(&browser.contexts, &params.reference_context)?;
-    if !is_user(&params.user_context) {
-        return Err(ErrorCode::NoSuchUserContext);
-    }
+    let user = user_checked(&browser.users, &params.user_context)?;
     if !browser.has_room() {
         return Err(ErrorCode::UnknownError);
     }
-    Ok(window_for(&browser.contexts, params.kind, reference))
+    Ok(Place {
+        window: window_for(&browser.contexts, params.kind, reference),
+        user,
+    })
 }
 
-// Whether the user context is the default one, which is the only one.
-fn is_user(user: &Option<String>) -> bool
-    ensures { result ≡ is_user (option_map string_bytes user.now) }
+// The live user context of an id; absent, the default one.
+fn user_checked(users: &Users, id: &Option<String>) -> Result<u64, ErrorCode>
+    ensures checked { (past : List Act) → AreUsersOf users.now past
+        → IsChecked (λ n. n) result (user_checked past (unwrap_or (option_map string_bytes id.now) (codes "default"))) }
+    ensures fits { IfOk result (λ n. n < 2 ^ 48) }
 {
-    match user {
-        None => true,
-        Some(user) => user.as_str() == "default",
+    match id {
+        Some(id) => users.named(id).ok_or(ErrorCode::NoSuchUserContext),
+        None => Ok(DEFAULT),
     }
 }
 
@@ -177,4 +193,19 @@ fn created(alloc: Global, number: u64) -> Result<ResultData, AllocError>
         context,
         ext: Ext::empty(alloc),
     }))
+}
+
+/// Plans a new user context.
+///
+/// # Errors
+/// - `unknown error`: 64 are live besides the default one, or no id is left.
+/// - No memory: an allocation failed.
+pub(crate) fn plan_create_user(browser: &Browser) -> Result<Plan, Refusal>
+    ensures plans { (past : List Act) (moment : ℕ) → StandsFor browser.now past → HasIds past → Plans result past moment CreateUserContext }
+    ensures well { IsWellPlanned result }
+    ensures of_method { HasResultOf Method.BrowserCreateUserContext result }
+{
+    let number = browser.users.next()?;
+    let result = ResultData::BrowserCreateUserContext(user_info(browser.alloc, number)?);
+    Ok(answered(browser.alloc, result, Edit::AddUser))
 }

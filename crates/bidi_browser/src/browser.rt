@@ -8,25 +8,27 @@ ghost use Rattle.bidi_browser.specs.Actions as asked;
 ghost use Rattle.bidi_browser.specs.Asked.{action_of, command_asked};
 ghost use Rattle.bidi_browser.specs.ContextRows.{row_of, created_in, realm_created_in};
 ghost use Rattle.bidi_browser.specs.Contexts.{context_of, is_alive, top_of};
+ghost use Rattle.bidi_browser.specs.Users.{is_live_user, user_named};
 ghost use Rattle.bidi_browser.specs.Occurrences.{tree_events};
 ghost use Rattle.bidi_browser.specs.Outcome.{has_room, outcome};
 ghost use Rattle.bidi_browser.specs.Plans.{AreWell};
 ghost use Rattle.bidi_browser.specs.View.{EventIsWell, occurrence_of, seen};
 
 use crate::action::Action;
-use crate::births::{plan_create, plan_frame};
+use crate::births::{plan_create, plan_create_user, plan_frame};
 use crate::calling::plan_call_function;
 use crate::context::Context;
 use crate::contexts::Contexts;
 use crate::logging::plan_log;
-use crate::looking::{plan_activate, plan_get_realms, plan_get_tree};
+use crate::looking::{plan_activate, plan_get_realms, plan_get_tree, plan_get_users};
 use crate::navigation::{plan_navigate, plan_reload, plan_traverse_history};
 use crate::occurrence::Occurrence;
 use crate::plan::{Change, Edit, Numbers, Plan};
-use crate::removals::{plan_close, plan_unframe};
+use crate::removals::{plan_close, plan_remove_user, plan_unframe};
 use crate::script_table::ScriptTable;
 use crate::scripts::{plan_disown, plan_evaluate};
 use crate::tabling::plan_row;
+use crate::users::Users;
 use bidi_handles::Refusal;
 use bidi_methods::{BrowserCommand, EventData, EventName, Method, Payload};
 use bidi_params::ErrorCode;
@@ -50,6 +52,8 @@ pub struct Browser {
     pub(crate) alloc: Global,
     /// The live contexts.
     pub(crate) contexts: Contexts,
+    /// The live user contexts.
+    pub(crate) users: Users,
     /// The script table: the outcomes of scripts, by their texts.
     pub(crate) table: ScriptTable,
     /// The number of the next context.
@@ -70,6 +74,7 @@ impl Drop for Browser {
         let Browser {
             alloc: _,
             contexts: _,
+            users: _,
             table: _,
             next_context: _,
             next_realm: _,
@@ -95,6 +100,7 @@ impl Browser {
         Ok(Browser {
             alloc,
             contexts: Contexts::new(alloc)?,
+            users: Users::new(alloc),
             table: ScriptTable::new(alloc),
             next_context: 2,
             next_realm: 2,
@@ -151,6 +157,12 @@ impl Browser {
             BrowserCommand::CallFunction(params) => plan_call_function(self, params.as_ref()),
             BrowserCommand::Disown(params) => plan_disown(self, params.as_ref()),
             BrowserCommand::GetRealms(params) => plan_get_realms(self, params),
+            BrowserCommand::CreateUserContext(_) => plan_create_user(self),
+            BrowserCommand::GetUserContexts(_) => plan_get_users(self),
+            BrowserCommand::RemoveUserContext(params) => plan_remove_user(
+                self,
+                &params.user_context,
+            ),
         }
     }
 
@@ -169,6 +181,7 @@ impl Browser {
             Edit::Navigate(navigation) => self.contexts.reserve_in(navigation),
             Edit::SetRow(..) => self.table.reserve(),
             Edit::Hold(number, _) => self.contexts.reserve_handle(*number),
+            Edit::AddUser => self.users.reserve(),
             _ => Ok(()),
         }
     }
@@ -205,7 +218,30 @@ impl Browser {
                 self.contexts.hold(number, handle);
             }
             Edit::Disown(number, handles) => self.contexts.disown(number, handles),
+            Edit::AddUser => self.users.add(),
+            Edit::RemoveUser(user) => {
+                self.users.remove(user);
+                self.contexts.remove_user(user);
+            }
         }
+    }
+
+    /// The number of the live user context of this id, 0 for `default`. `None` where there is none. Takes no memory.
+    ///
+    /// After WebDriver BiDi, "The browser Module".
+    pub fn user_named(&self, user: &str) -> Option<u64>
+        ensures { (past : List Act) → StandsFor self.now past → result ≡ user_named past user.now }
+    {
+        self.users.named(user)
+    }
+
+    /// Whether a live user context has this id; `default` is always live. Takes no memory.
+    ///
+    /// After WebDriver BiDi, "The browser Module".
+    pub fn is_live_user(&self, user: &str) -> bool
+        ensures { (past : List Act) → StandsFor self.now past → result ≡ is_live_user past user.now }
+    {
+        self.users.named(user).is_some()
     }
 
     /// The number of the top-level context above the live context of this id, which may be that context

@@ -4,9 +4,10 @@ ghost use Rattle.std.specs.List.{All};
 ghost use Rattle.std.proofs.Props.{props};
 ghost use Rattle.bidi_browser.specs.View.{EventIsWell, occurrence_of};
 
-use crate::occurrence::Occurrence;
+use crate::occurrence::{Occurrence, Top};
 use crate::session_history::{Move, SessionHistory};
 use crate::urls::{about_blank, origin_text};
+use crate::users::user_text;
 use bidi_handles::{Handle, Handles, IdKind, id_text};
 use bidi_methods::{EventData, EventName, Payload};
 use bidi_params::{Info, NavigationInfo, RealmDestroyedParameters, RealmInfo};
@@ -29,6 +30,8 @@ pub(crate) struct Context {
     pub level: u64,
     /// The number of its client window.
     pub window: u64,
+    /// The number of its user context; 0 is the default one.
+    pub user: u64,
     /// The number of its realm.
     pub realm: u64,
     /// Its session history, which has its URL.
@@ -38,6 +41,7 @@ pub(crate) struct Context {
     ghost number_fits: { number < 2 ^ 48 },
     ghost parent_fits: { IfSome parent (λ p. p < 2 ^ 48) } by { Prim.hlevel props },
     ghost window_fits: { window < 2 ^ 48 },
+    ghost user_fits: { user < 2 ^ 48 },
     ghost realm_fits: { realm < 2 ^ 48 },
 }
 
@@ -54,15 +58,17 @@ impl Context {
     ghost use Rattle.bidi_browser.specs.InfosInHand.{children_node, parent_node, AreWithinIfTold, IsWithin};
     ghost use Rattle.bidi_methods.specs.declared.event_data.EventName.TheVariants.{ContextDestroyed, NavigationStarted, DomContentLoaded, Load, EntryAdded};
 
-    /// A new top-level context at `about:blank`.
+    /// A new top-level context at `about:blank`, in a user context.
     pub(crate) fn top_level(
         alloc: Global,
         number: u64,
         window: u64,
+        user: u64,
         realm: u64,
     ) -> Result<Context, AllocError>
         requires number { number < 2 ^ 48 }
         requires window { window < 2 ^ 48 }
+        requires user { user < 2 ^ 48 }
         requires realm { realm < 2 ^ 48 }
         ensures { IfOk result (λ c. row_of c
             ≡ record {
@@ -71,6 +77,7 @@ impl Context {
               top = number;
               level = 1;
               window = window;
+              user = user;
               realm = realm;
               entries = begun_at about_blank;
               handles = [];
@@ -83,13 +90,14 @@ impl Context {
             top: number,
             level: 1,
             window,
+            user,
             realm,
             history: SessionHistory::begun_at(alloc, url)?,
             handles: Handles::new(alloc),
         })
     }
 
-    /// A new child of this context, at a URL.
+    /// A new child of this context, at a URL, in the same user context.
     pub(crate) fn child(
         &self,
         alloc: Global,
@@ -107,6 +115,7 @@ impl Context {
               top = self.now.top;
               level = self.now.level + 1;
               window = self.now.window;
+              user = self.now.user;
               realm = realm;
               entries = begun_at url;
               handles = [];
@@ -118,6 +127,7 @@ impl Context {
             top: self.top,
             level: self.level.wrapping_add(1),
             window: self.window,
+            user: self.user,
             realm,
             history: SessionHistory::begun_at(alloc, url)?,
             handles: Handles::new(alloc),
@@ -204,7 +214,7 @@ impl Context {
             context: id_text(alloc, IdKind::Context, 0, self.number)?,
             original_opener: None,
             url: String::from_str(alloc, self.history.present().as_str())?,
-            user_context: String::from_str(alloc, "default")?,
+            user_context: user_text(alloc, self.user)?,
             parent,
             ext: Ext::empty(alloc),
         })
@@ -347,12 +357,15 @@ impl Context {
     fn occurrence(&self, event: EventData) -> Occurrence
         ensures event { result.event ≡ event }
         ensures context { result.context ≡ self.now.number }
-        ensures top { result.top ≡ self.now.top }
+        ensures top { result.top ≡ record { number = self.now.top; user = self.now.user } }
     {
         Occurrence {
             event,
             context: self.number,
-            top: self.top,
+            top: Top {
+                number: self.top,
+                user: self.user,
+            },
         }
     }
 }

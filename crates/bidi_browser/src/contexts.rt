@@ -9,7 +9,7 @@ ghost use Rattle.std.specs.List.{list_any, position, position_or_len};
 ghost use Rattle.std.specs.Option.{option_eq};
 ghost use Rattle.bidi_handles.specs.Ids.{id_of};
 ghost use Rattle.bidi_browser.specs.Accepted.{AreAccepted};
-ghost use Rattle.bidi_browser.specs.Acts.{Act, Removed, Moved, gives, next_number};
+ghost use Rattle.bidi_browser.specs.Acts.{Act, Removed, Moved, UserRemoved, gives, next_number};
 ghost use Rattle.bidi_browser.specs.Contexts.{contexts, context_of, is_alive, level_of, parent_of, tops, children_of, tree_order};
 ghost use Rattle.bidi_browser.specs.Info.{info_of, info_within, depth_below, children_tree};
 ghost use Rattle.bidi_browser.specs.ContextRows.{row_of, row_at, rows, moved_in, changed};
@@ -48,7 +48,7 @@ impl Contexts {
     pub(crate) fn new(alloc: Global) -> Result<Contexts, AllocError>
         ensures { IfOk result (λ contexts. IsTableOf contexts []) }
     {
-        let first = Context::top_level(alloc, 1, 1, 1)?;
+        let first = Context::top_level(alloc, 1, 1, 0, 1)?;
         let mut live = Vec::new(alloc);
         live.push(first)?;
         Ok(Contexts { alloc, live })
@@ -170,6 +170,13 @@ impl Contexts {
         if let Some((start, end)) = range_of(&self.live, number) {
             self.live.drain(start..end);
         }
+    }
+
+    /// Removes all contexts of the user context of this number. Takes no memory, and passes over the contexts.
+    pub(crate) fn remove_user(&mut self, user: u64)
+        ensures { (past : List Act) → IsTableOf self.old past → AreAccepted (UserRemoved user ∷ past) → IsTableOf self.new (UserRemoved user ∷ past) }
+    {
+        self.live.retain(|context| context.user != user);
     }
 
     /// Carries out a navigation: its context moves in the session history and gets a new realm, and all

@@ -1,13 +1,13 @@
-//! A browser in memory: contexts, session histories, realms, and a table of scripts.
+//! A browser in memory: user contexts, contexts, session histories, realms, and a table of scripts.
 //!
 //! [`Browser::plan`] works out what an [`Action`] does, and changes nothing. It answers with a [`Plan`],
 //! which has the events, the result of the command and a [`Change`], or with a [`Refusal`].
 //! [`Browser::reserve`] then makes room for the change, and [`Browser::apply`] puts it in place without
 //! allocating.
 //!
-//! Actions create, navigate, list and close contexts, list realms, evaluate scripts, call functions, release
-//! handles, log entries and set rows of the script table. No script is run: the table says what a script of a
-//! given text returns or throws.
+//! Actions create, navigate, list and close contexts, make, list and remove user contexts, list realms, evaluate
+//! scripts, call functions, release handles, log entries and set rows of the script table. No script is run:
+//! the table says what a script of a given text returns or throws.
 //!
 //! [`Browser::tree_events`] gives the events that tell a new subscription of the contexts and realms that
 //! exist already. [`id_text`] makes ids, and [`id_number`] reads one to its number. The specifications define
@@ -32,9 +32,10 @@ mod session_history;
 mod showing;
 mod tabling;
 mod urls;
+mod users;
 
 pub use action::Action;
 pub use bidi_handles::{IdKind, Refusal, id_number, id_text};
 pub use browser::Browser;
-pub use occurrence::Occurrence;
+pub use occurrence::{Occurrence, Top};
 pub use plan::{Change, Plan};

@@ -3,7 +3,7 @@ ghost use Rattle.std.specs.Prelude.{◌≡◌, ℕ, List, [], Some, true, map, i
 ghost use Rattle.std.specs.List.{AllByRecursion};
 ghost use Rattle.bidi_params.specs.Words.{realm_type_text};
 ghost use Rattle.bidi_browser.specs.Acts.{Act};
-ghost use Rattle.bidi_browser.specs.Actions.{Activate};
+ghost use Rattle.bidi_browser.specs.Actions.{Activate, GetUserContexts};
 ghost use Rattle.bidi_browser.specs.Asked.{get_realms_asked, get_tree_asked};
 ghost use Rattle.bidi_browser.specs.ContextRows.{row_of, row_at, realm_info_in};
 ghost use Rattle.bidi_browser.specs.Found.{AreShown, AreTold, IsFound, IsFoundIfNamed};
@@ -24,9 +24,9 @@ use bidi_handles::Refusal;
 use bidi_methods::{Method, Payload, ResultData};
 use bidi_params::{
     EmptyResult, ErrorCode, GetRealmsParameters, GetRealmsResult, GetTreeParameters, GetTreeResult,
-    Info, RealmInfo, RealmType,
+    GetUserContextsResult, Info, RealmInfo, RealmType,
 };
-use bidi_shape::{Ext, Shape};
+use bidi_shape::{Ext, OneOrMore, Shape};
 use std::alloc::{AllocError, Global};
 use std::slice::from_ref;
 
@@ -198,6 +198,23 @@ fn realm_infos(alloc: Global, contexts: &[Context]) -> Result<Vec<RealmInfo>, Al
         all.push(context.own_realm(alloc)?)?;
     }
     Ok(all)
+}
+
+/// Plans `browser.getUserContexts`: all that are live, the default one first, then by creation.
+///
+/// # Errors
+/// No memory: an allocation failed.
+pub(crate) fn plan_get_users(browser: &Browser) -> Result<Plan, Refusal>
+    ensures plans { (past : List Act) (moment : ℕ) → StandsFor browser.now past → Plans result past moment GetUserContexts }
+    ensures well { IsWellPlanned result }
+    ensures of_method { HasResultOf Method.BrowserGetUserContexts result }
+{
+    let items = browser.users.infos(browser.alloc)?;
+    let result = ResultData::BrowserGetUserContexts(GetUserContextsResult {
+        user_contexts: OneOrMore { items },
+        ext: Ext::empty(browser.alloc),
+    });
+    Ok(looked(browser.alloc, result))
 }
 
 /// The plan of a command that changes nothing: its result alone.

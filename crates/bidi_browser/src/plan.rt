@@ -50,6 +50,10 @@ pub(crate) enum Edit {
     Hold(u64, Handle),
     /// In the realm of the context of this number, the handles of these numbers are released.
     Disown(u64, Vec<u64>),
+    /// A user context is added.
+    AddUser,
+    /// The user context of this number is removed, with all contexts in it.
+    RemoveUser(u64),
 }
 
 /// A navigation: a context moves in its session history and gets a new realm, and loses its descendants.

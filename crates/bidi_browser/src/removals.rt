@@ -1,9 +1,9 @@
-//! Plans of the actions that remove contexts: `browsingContext.close`, and a frame that a page removes.
-ghost use Rattle.std.specs.Prelude.{◌≡◌, ◌++◌, ℕ, suc, List, map, flat_map, IfOk};
+//! Plans of the actions that remove contexts: `browsingContext.close`, `browser.removeUserContext`, and a frame that a page removes.
+ghost use Rattle.std.specs.Prelude.{◌≡◌, ◌++◌, ◌==◌, ℕ, suc, List, map, filter, flat_map, IfOk};
 ghost use Rattle.bidi_browser.specs.Acts.{Act};
-ghost use Rattle.bidi_browser.specs.Actions.{Close, Unframe};
+ghost use Rattle.bidi_browser.specs.Actions.{Close, RemoveUserContext, Unframe};
 ghost use Rattle.bidi_browser.specs.ContextRows.{row_of, row_at, realm_destroyed_in};
-ghost use Rattle.bidi_browser.specs.Contexts.{level_of, children_of};
+ghost use Rattle.bidi_browser.specs.Contexts.{level_of, user_of, children_of};
 ghost use Rattle.bidi_browser.specs.Occurrences.{removal};
 ghost use Rattle.bidi_browser.specs.Plans.{AreWell, Plans, HasResultOf, IsWellPlanned};
 ghost use Rattle.bidi_browser.specs.Stands.{StandsFor};
@@ -16,6 +16,7 @@ use crate::contexts::{len_below, whole_info};
 use crate::looking::{context_named, nothing, top_named};
 use crate::occurrence::Occurrence;
 use crate::plan::{Change, Edit, Plan};
+use crate::users::DEFAULT_ID;
 use bidi_handles::Refusal;
 use bidi_methods::{Method, ResultData};
 use bidi_params::ErrorCode;
@@ -72,6 +73,36 @@ pub(crate) fn plan_unframe(browser: &Browser, context: &str) -> Result<Plan, Ref
     })
 }
 
+/// Plans the removal of a user context, with all contexts in it.
+///
+/// # Errors
+/// The first that holds:
+/// - `invalid argument`: it is the default one.
+/// - `no such user context`: no live one has this id.
+/// - No memory: an allocation failed.
+pub(crate) fn plan_remove_user(browser: &Browser, id: &str) -> Result<Plan, Refusal>
+    ensures plans { (past : List Act) (moment : ℕ) → StandsFor browser.now past → Plans result past moment (RemoveUserContext id.now) }
+    ensures well { IsWellPlanned result }
+    ensures of_method { HasResultOf Method.BrowserRemoveUserContext result }
+{
+    if id == DEFAULT_ID {
+        return Err(Refusal::Code(ErrorCode::InvalidArgument));
+    }
+    let Some(user) = browser.users.named(id) else {
+        return Err(Refusal::Code(ErrorCode::NoSuchUserContext));
+    };
+    let before = removal_of_user(browser.alloc, browser.contexts.in_tree_order(), user)?;
+    let result = ResultData::BrowserRemoveUserContext(nothing(browser.alloc));
+    Ok(Plan {
+        before,
+        result: Some(result),
+        after: Vec::new(browser.alloc),
+        change: Change {
+            edit: Edit::RemoveUser(user),
+        },
+    })
+}
+
 // The events of removing a context with all its descendants.
 fn removal(browser: &Browser, context: &Context) -> Result<Vec<Occurrence>, AllocError>
     ensures told { (past : List Act) (c : ℕ) → StandsFor browser.now past → row_of context.now ≡ row_at past c
@@ -105,6 +136,29 @@ pub(crate) fn push_removals(
         rest = next;
     }
     Ok(())
+}
+
+// The events of removing all contexts of a user context, of all contexts in tree order: each top-level one with its
+// descendants, by creation.
+fn removal_of_user(
+    alloc: Global,
+    contexts: &[Context],
+    user: u64,
+) -> Result<Vec<Occurrence>, AllocError>
+    ensures told { (past : List Act) (cs : List ℕ) → AreSubtrees contexts.now past 1 cs
+        → IfOk result (λ all. seen all.items ≡ flat_map (removal past) (filter (λ c. user_of past c == user) cs)) }
+    ensures well { IfOk result (λ all. AreWell all.items) }
+{
+    let mut events = Vec::new(alloc);
+    let mut rest = contexts;
+    while let Some((context, behind)) = rest.split_first() {
+        let (below, next) = behind.split_at(len_below(context.level, behind));
+        if context.user == user {
+            push_removal(alloc, context, below, &mut events)?;
+        }
+        rest = next;
+    }
+    Ok(events)
 }
 
 // Adds the events of removing a context with all these descendants: realmDestroyed of each in tree order, then

@@ -1,6 +1,6 @@
 -- The first id of each kind, as its text.
 use Rattle.std.specs.Prelude.{◌≡◌, refl, codes}
-use Rattle.bidi_handles.specs.declared.id.IdKind.TheVariants.{Session, Context, Realm, Navigation, Subscription, Handle, Window}
+use Rattle.bidi_handles.specs.declared.id.IdKind.TheVariants.{Session, Context, Realm, Navigation, Subscription, Handle, Window, UserContext}
 use Rattle.bidi_handles.specs.Ids.{id_of, id_text}
 use Rattle.uuid.specs.Text.{by_index}
 
@@ -31,6 +31,10 @@ first_handle = refl
 pub first_window : id_of Window 1 ≡ codes "00000000-0007-8000-8000-000000000001"
 unfolding by_index
 first_window = refl
+
+pub first_user_context : id_of UserContext 1 ≡ codes "00000000-0008-8000-8000-000000000001"
+unfolding by_index
+first_user_context = refl
 
 -- digits above 9 are lower-case letters
 pub thousand_and_first_handle : id_of Handle 1001 ≡ codes "00000000-0006-8000-8000-0000000003e9"

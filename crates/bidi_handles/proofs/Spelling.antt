@@ -1,8 +1,8 @@
 -- How facts spell JSON: `'` stands for the quotation mark, and `$` with a letter and a digit for a whole id.
--- `$c2` is the id of the second context, `$u1` of the first subscription of session 1, `$v1` of the first of session 2.
+-- `$c2` is the id of the second context, `$u1` of the first subscription of session 1, `$v1` of the first of session 2, `$k1` of the first user context.
 use Prim.Native.String.{String}
 use Rattle.std.specs.Prelude.{ℕ, zero, suc, ◌-◌, ◌==◌, List, [], ◌∷◌, ◌++◌, slice_index, codes, if◌then◌else◌}
-use Rattle.bidi_handles.specs.declared.id.IdKind.TheVariants.{Session, Context, Realm, Navigation, Subscription, Handle, Window}
+use Rattle.bidi_handles.specs.declared.id.IdKind.TheVariants.{Session, Context, Realm, Navigation, Subscription, Handle, Window, UserContext}
 use Rattle.bidi_handles.specs.Ids.{id_of, id_text}
 
 -- the id of a letter and a number
@@ -15,7 +15,8 @@ id_at letter n =
     else if letter == slice_index (codes "u") 0 then id_text Subscription 1 n
     else if letter == slice_index (codes "v") 0 then id_text Subscription 2 n
     else if letter == slice_index (codes "h") 0 then id_of Handle n
-    else id_of Window n
+    else if letter == slice_index (codes "w") 0 then id_of Window n
+    else id_of UserContext n
 
 -- the id of the letter and the digit at the front
 abbrev pub id_ahead : List ℕ → List ℕ

@@ -4,7 +4,7 @@ use Rattle.std.specs.List.{list_any}
 use Rattle.std.specs.Int.{w16, w32, w64, to_be_bytes}
 use Rattle.uuid.specs.Text.{hyphenated_text, lower}
 use Rattle.bidi_handles.specs.declared.id.IdKind.{IdKind}
-use Rattle.bidi_handles.specs.declared.id.IdKind.TheVariants.{Session, Context, Realm, Navigation, Subscription, Handle, Window}
+use Rattle.bidi_handles.specs.declared.id.IdKind.TheVariants.{Session, Context, Realm, Navigation, Subscription, Handle, Window, UserContext}
 
 -- the number of a kind in its ids
 abbrev pub kind_number : IdKind → ℕ
@@ -15,6 +15,7 @@ kind_number Navigation = 4
 kind_number Subscription = 5
 kind_number Handle = 6
 kind_number Window = 7
+kind_number UserContext = 8
 
 -- the session in an id: that of a subscription, and 0 in the id of any other kind
 abbrev pub session_in : IdKind → ℕ → ℕ

@@ -23,6 +23,8 @@ pub enum IdKind {
     Handle,
     /// A client window.
     Window,
+    /// A user context other than `default`, whose id is that word.
+    UserContext,
 }
 
 /// The id of the `n`-th thing of a kind, counted from 1. Only the id of a subscription has `session` in it;
@@ -118,5 +120,6 @@ fn number_of(kind: IdKind) -> u16
         IdKind::Subscription => 5,
         IdKind::Handle => 6,
         IdKind::Window => 7,
+        IdKind::UserContext => 8,
     }
 }

@@ -25,8 +25,7 @@ capabilities =
 -- the modules of the draft whose name is no name of a subscription
 unfoldable pub modules : List (List ℕ)
 modules =
-    codes "browser"
-    ∷ codes "emulation"
+    codes "emulation"
     ∷ codes "input"
     ∷ codes "network"
     ∷ codes "storage"

@@ -9,14 +9,7 @@ use bidi_tree::Tree;
 use std::alloc::{AllocError, Global};
 
 /// The modules of the draft whose name is no name of a subscription.
-const MODULES: &[&str] = &[
-    "browser",
-    "emulation",
-    "input",
-    "network",
-    "storage",
-    "webExtension",
-];
+const MODULES: &[&str] = &["emulation", "input", "network", "storage", "webExtension"];
 
 /// The events of the draft that are not made.
 const EVENTS: &[&str] = &[
@@ -38,7 +31,7 @@ const EVENTS: &[&str] = &[
     "script.message",
 ];
 
-/// The module that has no events: a subscription to it is made, and holds nothing.
+/// A module without events: a subscription to it is made, and holds nothing.
 const NO_EVENTS: &str = "session";
 
 // What a name that is left out names: a module or an event.
@@ -124,7 +117,7 @@ fn ease_params(alloc: Global, params: &Tree) -> Result<Tree, AllocError>
     within(alloc, params, "events", |events| ease_events(alloc, events))
 }
 
-// Its events without it. Where none is left, the module that has none stands in their place.
+// Its events without it. Where none is left, a module that has none stands in their place.
 fn ease_events(alloc: Global, events: &Tree) -> Result<Tree, AllocError>
     ensures { IfOk result (λ t. node t ≡ events_eased (node events.now)) }
 {
@@ -146,7 +139,7 @@ fn keep_events(events: &mut Vec<Tree>)
     events.retain(|event| !is_left_out(event));
 }
 
-// Adds the module that has no events, where there is no event.
+// Adds a module that has no events, where there is no event.
 fn stand_in(alloc: Global, events: &mut Vec<Tree>) -> Result<(), AllocError>
     ensures { OnOk result (items_node events.new.items ≡ or_session (items_node events.old.items)) }
 {

@@ -8,7 +8,8 @@ use Rattle.bidi_methods.specs.declared.method.Method.TheVariants.{SessionUnsubsc
 use Rattle.bidi_methods.specs.declared.method.Method.TheVariants.{BrowsingContextCreate, BrowsingContextGetTree}
 use Rattle.bidi_methods.specs.declared.method.Method.TheVariants.{BrowsingContextNavigate, BrowsingContextReload}
 use Rattle.bidi_methods.specs.declared.method.Method.TheVariants.{BrowsingContextTraverseHistory, ScriptEvaluate, ScriptCallFunction}
-use Rattle.bidi_methods.specs.declared.method.Method.TheVariants.{ScriptDisown, ScriptGetRealms}
+use Rattle.bidi_methods.specs.declared.method.Method.TheVariants.{ScriptDisown, ScriptGetRealms, BrowserCreateUserContext}
+use Rattle.bidi_methods.specs.declared.method.Method.TheVariants.{BrowserGetUserContexts, BrowserRemoveUserContext}
 use Rattle.bidi_methods.specs.declared.command_data.SessionCommand.{SessionCommand}
 use Rattle.bidi_methods.specs.declared.command_data.SessionCommand.TheVariants as session
 use Rattle.bidi_methods.specs.declared.command_data.BrowserCommand.{BrowserCommand}
@@ -45,6 +46,9 @@ browser_asked (browser.Evaluate params) = (ScriptEvaluate, params.value)
 browser_asked (browser.CallFunction params) = (ScriptCallFunction, params.value)
 browser_asked (browser.Disown params) = (ScriptDisown, params.value)
 browser_asked (browser.GetRealms params) = (ScriptGetRealms, params)
+browser_asked (browser.CreateUserContext params) = (BrowserCreateUserContext, params)
+browser_asked (browser.GetUserContexts params) = (BrowserGetUserContexts, params)
+browser_asked (browser.RemoveUserContext params) = (BrowserRemoveUserContext, params)
 
 -- any command
 abbrev pub asked : CommandData → Asked

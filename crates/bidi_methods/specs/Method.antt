@@ -24,6 +24,9 @@ use Rattle.bidi_values.specs.contracts.call_function.CallFunctionParametersShape
 use Rattle.bidi_values.specs.contracts.call_function.DisownParametersShape.TheImpl as disown
 use Rattle.bidi_params.specs.contracts.script.realms.GetRealmsParametersShape.TheImpl as get_realms
 use Rattle.bidi_params.specs.contracts.script.realms.GetRealmsResultShape.TheImpl as get_realms_told
+use Rattle.bidi_params.specs.contracts.browser.UserContextInfoShape.TheImpl as user_context_told
+use Rattle.bidi_params.specs.contracts.browser.GetUserContextsResultShape.TheImpl as user_contexts_told
+use Rattle.bidi_params.specs.contracts.browser.RemoveUserContextParametersShape.TheImpl as remove_user_context
 use Rattle.bidi_shape.specs.Name as rule
 use Rattle.bidi_shape.specs.Name.{Name}
 use Rattle.bidi_shape.specs.Profile.{session_status_row, further_commands}
@@ -35,7 +38,8 @@ use Rattle.bidi_methods.specs.declared.method.Method.TheVariants.{SessionUnsubsc
 use Rattle.bidi_methods.specs.declared.method.Method.TheVariants.{BrowsingContextCreate, BrowsingContextGetTree}
 use Rattle.bidi_methods.specs.declared.method.Method.TheVariants.{BrowsingContextNavigate, BrowsingContextReload}
 use Rattle.bidi_methods.specs.declared.method.Method.TheVariants.{BrowsingContextTraverseHistory, ScriptEvaluate, ScriptCallFunction}
-use Rattle.bidi_methods.specs.declared.method.Method.TheVariants.{ScriptDisown, ScriptGetRealms}
+use Rattle.bidi_methods.specs.declared.method.Method.TheVariants.{ScriptDisown, ScriptGetRealms, BrowserCreateUserContext}
+use Rattle.bidi_methods.specs.declared.method.Method.TheVariants.{BrowserGetUserContexts, BrowserRemoveUserContext}
 
 -- the params of a command that has none, and the results of one that gives nothing, of one that navigates and of one that runs a script
 abbrev nothing_asked : Part
@@ -68,6 +72,9 @@ method_text ScriptEvaluate = codes "script.evaluate"
 method_text ScriptCallFunction = codes "script.callFunction"
 method_text ScriptDisown = codes "script.disown"
 method_text ScriptGetRealms = codes "script.getRealms"
+method_text BrowserCreateUserContext = codes "browser.createUserContext"
+method_text BrowserGetUserContexts = codes "browser.getUserContexts"
+method_text BrowserRemoveUserContext = codes "browser.removeUserContext"
 
 -- what the commands of a method ask, and what they give
 pub record MethodRow : Type 1 where
@@ -104,6 +111,10 @@ method_row ScriptDisown = row (part rule.disown_parameters disown.ghosts.shape r
 method_row ScriptGetRealms =
     row (part rule.get_realms_parameters get_realms.ghosts.shape refl refl)
     (part rule.get_realms_result get_realms_told.ghosts.shape refl refl)
+method_row BrowserCreateUserContext = row nothing_asked (part rule.user_context_info user_context_told.ghosts.shape refl refl)
+method_row BrowserGetUserContexts = row nothing_asked (part rule.get_user_contexts_result user_contexts_told.ghosts.shape refl refl)
+method_row BrowserRemoveUserContext =
+    row (part rule.remove_user_context_parameters remove_user_context.ghosts.shape refl refl) nothing_given
 
 abbrev pub params_part : Method → Part
 params_part m = (method_row m).params
@@ -135,6 +146,9 @@ further_methods = SessionNew
     ∷ ScriptCallFunction
     ∷ ScriptDisown
     ∷ ScriptGetRealms
+    ∷ BrowserCreateUserContext
+    ∷ BrowserGetUserContexts
+    ∷ BrowserRemoveUserContext
     ∷ []
 
 -- they are those of the profile, with the same rules
@@ -164,6 +178,9 @@ method_named ScriptEvaluate = refl
 method_named ScriptCallFunction = refl
 method_named ScriptDisown = refl
 method_named ScriptGetRealms = refl
+method_named BrowserCreateUserContext = refl
+method_named BrowserGetUserContexts = refl
+method_named BrowserRemoveUserContext = refl
 
 abbrev pub method_words : Words Method
 method_words = record {
@@ -172,6 +189,7 @@ method_words = record {
   rest = method_rest;
   text_of = method_text;
   is_rule = refl;
-  has_texts = (refl, (refl, (refl, (refl, (refl, (refl, (refl, (refl, (refl, (refl, (refl, (refl, (refl, (refl, (refl, refl)))))))))))))));
+  has_texts =
+      (refl, (refl, (refl, (refl, (refl, (refl, (refl, (refl, (refl, (refl, (refl, (refl, (refl, (refl, (refl, (refl, (refl, (refl, refl))))))))))))))))));
   names_it = method_named;
 }

@@ -7,7 +7,8 @@ use Rattle.bidi_methods.specs.declared.method.Method.TheVariants.{SessionUnsubsc
 use Rattle.bidi_methods.specs.declared.method.Method.TheVariants.{BrowsingContextCreate, BrowsingContextGetTree}
 use Rattle.bidi_methods.specs.declared.method.Method.TheVariants.{BrowsingContextNavigate, BrowsingContextReload}
 use Rattle.bidi_methods.specs.declared.method.Method.TheVariants.{BrowsingContextTraverseHistory, ScriptEvaluate, ScriptCallFunction}
-use Rattle.bidi_methods.specs.declared.method.Method.TheVariants.{ScriptDisown, ScriptGetRealms}
+use Rattle.bidi_methods.specs.declared.method.Method.TheVariants.{ScriptDisown, ScriptGetRealms, BrowserCreateUserContext}
+use Rattle.bidi_methods.specs.declared.method.Method.TheVariants.{BrowserGetUserContexts, BrowserRemoveUserContext}
 use Rattle.bidi_methods.specs.declared.result_data.ResultData.{ResultData}
 use Rattle.bidi_methods.specs.declared.result_data.ResultData.TheVariants as of
 
@@ -29,6 +30,9 @@ given (of.ScriptEvaluate result) = (ScriptEvaluate, result)
 given (of.ScriptCallFunction result) = (ScriptCallFunction, result)
 given (of.ScriptDisown result) = (ScriptDisown, result)
 given (of.ScriptGetRealms result) = (ScriptGetRealms, result)
+given (of.BrowserCreateUserContext result) = (BrowserCreateUserContext, result)
+given (of.BrowserGetUserContexts result) = (BrowserGetUserContexts, result)
+given (of.BrowserRemoveUserContext result) = (BrowserRemoveUserContext, result)
 
 abbrev pub result_payload : PayloadOf ResultData Method
 result_payload = one_by_kind result_part given

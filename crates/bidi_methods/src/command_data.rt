@@ -12,8 +12,8 @@ use crate::payload::Payload;
 use bidi_params::session::NewParameters;
 use bidi_params::{
     ActivateParameters, CloseParameters, CreateParameters, EmptyParams, GetRealmsParameters,
-    GetTreeParameters, NavigateParameters, ReloadParameters, SubscribeParameters,
-    TraverseHistoryParameters, UnsubscribeParameters,
+    GetTreeParameters, NavigateParameters, ReloadParameters, RemoveUserContextParameters,
+    SubscribeParameters, TraverseHistoryParameters, UnsubscribeParameters,
 };
 use bidi_shape::{Parsed, Shape, ShapeFault};
 use bidi_tree::{Outline, Tree};
@@ -27,7 +27,7 @@ use std::alloc::{AllocError, Global};
 pub enum CommandData {
     /// A command of the module session, which a remote end answers by itself.
     Session(SessionCommand),
-    /// A command of the modules browsingContext and script, which its browser answers.
+    /// A command of the modules browsingContext, script and browser, which its browser answers.
     Browser(BrowserCommand),
 }
 
@@ -60,7 +60,7 @@ pub enum SessionCommand {
 
 /// A command of the browser. The params that take most room stand in a block of their own.
 ///
-/// After WebDriver BiDi, "The browsingContext Module" and "The script Module".
+/// After WebDriver BiDi, "The browsingContext Module", "The script Module" and "The browser Module".
 #[derive(Drop)]
 pub enum BrowserCommand {
     /// `browsingContext.activate`, with a top-level context.
@@ -85,6 +85,12 @@ pub enum BrowserCommand {
     Disown(Box<DisownParameters>),
     /// `script.getRealms`, with a context and a type, where only such realms are asked for.
     GetRealms(GetRealmsParameters),
+    /// `browser.createUserContext`, which asks without parameters.
+    CreateUserContext(EmptyParams),
+    /// `browser.getUserContexts`, which asks without parameters.
+    GetUserContexts(EmptyParams),
+    /// `browser.removeUserContext`, with a user context.
+    RemoveUserContext(RemoveUserContextParameters),
 }
 
 impl Payload<Method> for CommandData {
@@ -149,6 +155,17 @@ impl Payload<Method> for CommandData {
             Method::ScriptGetRealms => Ok(CommandData::Browser(BrowserCommand::GetRealms(
                 GetRealmsParameters::from_tree(alloc, tree)?,
             ))),
+            Method::BrowserCreateUserContext => Ok(CommandData::Browser(
+                BrowserCommand::CreateUserContext(EmptyParams::from_tree(alloc, tree)?),
+            )),
+            Method::BrowserGetUserContexts => Ok(CommandData::Browser(
+                BrowserCommand::GetUserContexts(EmptyParams::from_tree(alloc, tree)?),
+            )),
+            Method::BrowserRemoveUserContext => Ok(CommandData::Browser(
+                BrowserCommand::RemoveUserContext(RemoveUserContextParameters::from_tree(
+                    alloc, tree,
+                )?),
+            )),
         }
     }
 
@@ -209,6 +226,9 @@ impl BrowserCommand {
             BrowserCommand::CallFunction(_) => Method::ScriptCallFunction,
             BrowserCommand::Disown(_) => Method::ScriptDisown,
             BrowserCommand::GetRealms(_) => Method::ScriptGetRealms,
+            BrowserCommand::CreateUserContext(_) => Method::BrowserCreateUserContext,
+            BrowserCommand::GetUserContexts(_) => Method::BrowserGetUserContexts,
+            BrowserCommand::RemoveUserContext(_) => Method::BrowserRemoveUserContext,
         }
     }
 
@@ -228,6 +248,9 @@ impl BrowserCommand {
             BrowserCommand::CallFunction(params) => params.as_ref().outline(alloc),
             BrowserCommand::Disown(params) => params.as_ref().outline(alloc),
             BrowserCommand::GetRealms(params) => params.outline(alloc),
+            BrowserCommand::CreateUserContext(params) => params.outline(alloc),
+            BrowserCommand::GetUserContexts(params) => params.outline(alloc),
+            BrowserCommand::RemoveUserContext(params) => params.outline(alloc),
         }
     }
 }

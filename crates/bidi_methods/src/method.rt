@@ -38,6 +38,12 @@ pub enum Method {
     ScriptDisown,
     /// `script.getRealms`: lists realms.
     ScriptGetRealms,
+    /// `browser.createUserContext`: makes a user context.
+    BrowserCreateUserContext,
+    /// `browser.getUserContexts`: lists user contexts.
+    BrowserGetUserContexts,
+    /// `browser.removeUserContext`: removes a user context, with its top-level contexts and all below them.
+    BrowserRemoveUserContext,
 }
 
 impl Named for Method {
@@ -63,6 +69,9 @@ impl Named for Method {
             Method::ScriptCallFunction,
             Method::ScriptDisown,
             Method::ScriptGetRealms,
+            Method::BrowserCreateUserContext,
+            Method::BrowserGetUserContexts,
+            Method::BrowserRemoveUserContext,
         ]
     }
 
@@ -84,6 +93,9 @@ impl Named for Method {
             Method::ScriptCallFunction => "script.callFunction",
             Method::ScriptDisown => "script.disown",
             Method::ScriptGetRealms => "script.getRealms",
+            Method::BrowserCreateUserContext => "browser.createUserContext",
+            Method::BrowserGetUserContexts => "browser.getUserContexts",
+            Method::BrowserRemoveUserContext => "browser.removeUserContext",
         }
     }
 }

@@ -11,8 +11,8 @@ use crate::method::Method;
 use crate::payload::Payload;
 use bidi_params::session::NewResult;
 use bidi_params::{
-    CreateResult, EmptyResult, GetRealmsResult, GetTreeResult, NavigateResult, StatusResult,
-    SubscribeResult,
+    CreateResult, EmptyResult, GetRealmsResult, GetTreeResult, GetUserContextsResult,
+    NavigateResult, StatusResult, SubscribeResult, UserContextInfo,
 };
 use bidi_shape::{Parsed, Shape, ShapeFault};
 use bidi_tree::{Members, Outline, Tree, copy_members};
@@ -56,6 +56,12 @@ pub enum ResultData {
     ScriptDisown(EmptyResult),
     /// Of `script.getRealms`: the realms.
     ScriptGetRealms(GetRealmsResult),
+    /// Of `browser.createUserContext`: the new user context.
+    BrowserCreateUserContext(UserContextInfo),
+    /// Of `browser.getUserContexts`: the user contexts, of which there is always one.
+    BrowserGetUserContexts(GetUserContextsResult),
+    /// Of `browser.removeUserContext`: nothing.
+    BrowserRemoveUserContext(EmptyResult),
 }
 
 impl Payload<Method> for ResultData {
@@ -81,6 +87,9 @@ impl Payload<Method> for ResultData {
             ResultData::ScriptCallFunction(_) => Method::ScriptCallFunction,
             ResultData::ScriptDisown(_) => Method::ScriptDisown,
             ResultData::ScriptGetRealms(_) => Method::ScriptGetRealms,
+            ResultData::BrowserCreateUserContext(_) => Method::BrowserCreateUserContext,
+            ResultData::BrowserGetUserContexts(_) => Method::BrowserGetUserContexts,
+            ResultData::BrowserRemoveUserContext(_) => Method::BrowserRemoveUserContext,
         }
     }
 
@@ -130,6 +139,15 @@ impl Payload<Method> for ResultData {
             Method::ScriptGetRealms => Ok(ResultData::ScriptGetRealms(GetRealmsResult::from_tree(
                 alloc, tree,
             )?)),
+            Method::BrowserCreateUserContext => Ok(ResultData::BrowserCreateUserContext(
+                UserContextInfo::from_tree(alloc, tree)?,
+            )),
+            Method::BrowserGetUserContexts => Ok(ResultData::BrowserGetUserContexts(
+                GetUserContextsResult::from_tree(alloc, tree)?,
+            )),
+            Method::BrowserRemoveUserContext => Ok(ResultData::BrowserRemoveUserContext(
+                EmptyResult::from_tree(alloc, tree)?,
+            )),
         }
     }
 
@@ -151,6 +169,9 @@ impl Payload<Method> for ResultData {
             ResultData::ScriptCallFunction(result) => result.outline(alloc),
             ResultData::ScriptDisown(result) => result.outline(alloc),
             ResultData::ScriptGetRealms(result) => result.outline(alloc),
+            ResultData::BrowserCreateUserContext(result) => result.outline(alloc),
+            ResultData::BrowserGetUserContexts(result) => result.outline(alloc),
+            ResultData::BrowserRemoveUserContext(result) => result.outline(alloc),
         }
     }
 }

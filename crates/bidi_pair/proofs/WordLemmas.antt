@@ -19,7 +19,8 @@ use Rattle.bidi_methods.specs.declared.method.Method.TheVariants.{SessionUnsubsc
 use Rattle.bidi_methods.specs.declared.method.Method.TheVariants.{BrowsingContextCreate, BrowsingContextGetTree}
 use Rattle.bidi_methods.specs.declared.method.Method.TheVariants.{BrowsingContextNavigate, BrowsingContextReload}
 use Rattle.bidi_methods.specs.declared.method.Method.TheVariants.{BrowsingContextTraverseHistory, ScriptEvaluate, ScriptCallFunction}
-use Rattle.bidi_methods.specs.declared.method.Method.TheVariants.{ScriptDisown, ScriptGetRealms}
+use Rattle.bidi_methods.specs.declared.method.Method.TheVariants.{ScriptDisown, ScriptGetRealms, BrowserCreateUserContext}
+use Rattle.bidi_methods.specs.declared.method.Method.TheVariants.{BrowserGetUserContexts, BrowserRemoveUserContext}
 use Rattle.bidi_methods.specs.declared.command_data.CommandData.{CommandData}
 use Rattle.bidi_methods.specs.contracts.command_data.CommandDataPayloadMethod.TheImpl as asks
 use Rattle.bidi_remote.specs.Machine.Step as play
@@ -55,6 +56,9 @@ no_space_in ScriptEvaluate = refl
 no_space_in ScriptCallFunction = refl
 no_space_in ScriptDisown = refl
 no_space_in ScriptGetRealms = refl
+no_space_in BrowserCreateUserContext = refl
+no_space_in BrowserGetUserContexts = refl
+no_space_in BrowserRemoveUserContext = refl
 
 -- a search for the first space behind `send ` finds the link
 pub link_first : (rest method params : List ℕ) (l : ℕ) (Parts : List ℕ → List ℕ → Type 0) → Splits rest Parts → l < 2 ^ 53

@@ -5,20 +5,22 @@ use Rattle.std.proofs.lemmas.Bool.Decides.{nat_tests}
 use Rattle.std.proofs.lemmas.List.Elements.{filter-append}
 use Rattle.bidi_methods.specs.declared.event_data.EventName.{EventName}
 use Rattle.bidi_methods.specs.declared.event_data.EventName.TheVariants.{ContextCreated, RealmCreated}
+use Rattle.bidi_browser.specs.declared.occurrence.Top.{Top}
 use Rattle.bidi_browser.specs.Acts.{Act}
-use Rattle.bidi_browser.specs.Contexts.{is_alive, top_of, tree_order}
-use Rattle.bidi_browser.specs.Occurrences.{Occurrence, context_created, realm_created, tree_events, is_among}
-use Rattle.bidi_remote.specs.Machine.History.{Scope, All, Below}
+use Rattle.bidi_browser.specs.Contexts.{is_alive, tree_order}
+use Rattle.bidi_browser.specs.Occurrences.{Occurrence, top_at, context_created, realm_created, tree_events, is_among}
+use Rattle.bidi_remote.specs.Machine.History.{Scope, All, Below, Within}
 use Rattle.bidi_remote.specs.Machine.Subscriptions.{is_global, covers}
 use Rattle.bidi_remote.specs.State.SubscriptionRows.{SubscriptionRow, any_covers, any_global, is_new, may_be_new}
 use Rattle.bidi_remote.proofs.ListLemmas.{map-filter, filter-none}
 
 -- what a global subscription holds for it covers everywhere
-everywhere : (scope : Scope) (has : Bool) (top : ℕ) → (is_global scope && has) ≡ true → (has && covers scope top) ≡ true
+everywhere : (scope : Scope) (has : Bool) (top : Top) → (is_global scope && has) ≡ true → (has && covers scope top) ≡ true
 everywhere All has top held = grind (arith, nat_tests, held)
 everywhere (Below tops) has top held = absurd (true≢false (sym held))
+everywhere (Within users) has top held = absurd (true≢false (sym held))
 
-any_global-covers : (rows : List SubscriptionRow) (e : EventName) (top : ℕ) → any_global rows e ≡ true → any_covers rows e top ≡ true
+any_global-covers : (rows : List SubscriptionRow) (e : EventName) (top : Top) → any_global rows e ≡ true → any_covers rows e top ≡ true
 any_global-covers [] e top held = held
 any_global-covers (r ∷ rows) e top held =
     first_or (is_global r.scope && is_among r.events e) (any_global rows e) (is_among r.events e && covers r.scope top) (any_covers rows e top)
@@ -28,10 +30,10 @@ any_global-covers (r ∷ rows) e top held =
     first_or a b c d f g h = grind (arith, nat_tests, f, g, h)
 
 -- an event that can be new nowhere
-pub never-new : (past : List Act) (held : List SubscriptionRow) (es : List EventName) (scope : Scope) (e : EventName) (top : ℕ)
+pub never-new : (past : List Act) (held : List SubscriptionRow) (es : List EventName) (scope : Scope) (e : EventName) (top : Top)
     → may_be_new held es e ≡ false → is_new past held es scope e top ≡ false
 never-new past held es scope e top never =
-    by (is_alive past top) (any_covers held e top) (any_global held e) (is_among es e) (covers scope top) (any_global-covers held e top) never
+    by (is_alive past top.number) (any_covers held e top) (any_global held e) (is_among es e) (covers scope top) (any_global-covers held e top) never
   where
     by : (live was globally named within : Bool) → (globally ≡ true → was ≡ true) → (named && not globally) ≡ false
         → (live && (not was && (named && within))) ≡ false
@@ -56,5 +58,5 @@ nothing-told past held es scope never =
     let all = tree_order past in
     let both = neither (may_be_new held es ContextCreated) (may_be_new held es RealmCreated) never in
     filter-append new (map (context_created past) all) (map (realm_created past) all)
-    ∙ ap₂ (λ xs ys. xs ++ ys) (none-of-contexts new (context_created past) all (λ c. never-new past held es scope ContextCreated (top_of past c) both.0))
-    (none-of-contexts new (realm_created past) all (λ c. never-new past held es scope RealmCreated (top_of past c) both.1))
+    ∙ ap₂ (λ xs ys. xs ++ ys) (none-of-contexts new (context_created past) all (λ c. never-new past held es scope ContextCreated (top_at past c) both.0))
+    (none-of-contexts new (realm_created past) all (λ c. never-new past held es scope RealmCreated (top_at past c) both.1))

@@ -9,7 +9,8 @@ use Rattle.bidi_methods.specs.declared.result_data.ResultData.{ResultData}
 use Rattle.bidi_browser.specs.declared.plan.Plan.{Plan}
 use Rattle.bidi_browser.specs.Acts.{Act, Logged, Looked, Ending}
 use Rattle.bidi_browser.specs.Actions.{Action, Activate, Close, Create, GetTree, Navigate, Reload, TraverseHistory, Evaluate}
-use Rattle.bidi_browser.specs.Actions.{CallFunction, Disown, GetRealms, Frame, Unframe, Log, TableRow, is_asked}
+use Rattle.bidi_browser.specs.Actions.{CallFunction, Disown, GetRealms, CreateUserContext, GetUserContexts, RemoveUserContext}
+use Rattle.bidi_browser.specs.Actions.{Frame, Unframe, Log, TableRow, is_asked}
 use Rattle.bidi_handles.specs.Checks.{◌>>=◌}
 use Rattle.bidi_browser.specs.Outcome as browser
 use Rattle.bidi_browser.specs.Occurrences.{Occurrence, entry_added}
@@ -102,6 +103,9 @@ ends-quiet past (Evaluate expression target owned depth) other = search (quiet-t
 ends-quiet past (CallFunction declaration target values this owned depth) other = search (quiet-then, quiet-ending)
 ends-quiet past (Disown ids target) other = search (quiet-then, quiet-ok)
 ends-quiet past (GetRealms context type) other = quiet-at past context
+ends-quiet past CreateUserContext other = search (quiet-then, quiet-ok)
+ends-quiet past GetUserContexts other = quiet-ok Looked tt
+ends-quiet past (RemoveUserContext id) other = search (quiet-then, quiet-ok)
 ends-quiet past (Frame id address) other = search (quiet-then, quiet-ok)
 ends-quiet past (Unframe id) other = search (quiet-then, quiet-ok)
 ends-quiet past (Log id level line) other = absurd (cc)

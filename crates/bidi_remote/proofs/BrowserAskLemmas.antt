@@ -22,8 +22,10 @@ use Rattle.bidi_params.specs.contracts.browsing_context.navigate.NavigateParamet
 use Rattle.bidi_params.specs.contracts.browsing_context.navigate.ReloadParametersShape.TheImpl as reload
 use Rattle.bidi_params.specs.contracts.browsing_context.navigate.TraverseHistoryParametersShape.TheImpl as traverse
 use Rattle.bidi_params.specs.contracts.script.realms.GetRealmsParametersShape.TheImpl as get_realms
+use Rattle.bidi_params.specs.contracts.browser.RemoveUserContextParametersShape.TheImpl as remove_user
 use Rattle.bidi_params.specs.declared.script.realms.RealmType.{RealmType}
 use Rattle.bidi_params.specs.declared.script.realms.GetRealmsParameters.{GetRealmsParameters}
+use Rattle.bidi_params.specs.declared.browser.RemoveUserContextParameters.{RemoveUserContextParameters}
 use Rattle.bidi_params.specs.declared.browsing_context.navigate.Wait as declared_wait
 use Rattle.bidi_params.specs.declared.browsing_context.navigate.Wait.TheVariants as wait
 use Rattle.bidi_params.specs.declared.browsing_context.navigate.NavigateParameters.{NavigateParameters}
@@ -43,7 +45,7 @@ use Rattle.bidi_methods.specs.Method.{params_part}
 use Rattle.bidi_handles.specs.Params.{natural}
 use Rattle.bidi_browser.specs.Actions.{OwnWindow, Tab, Started, Interactive, Complete, is_text}
 use Rattle.bidi_browser.specs.Asked.{create_type_of, wait_of, activate_asked, close_asked, create_asked, get_tree_asked}
-use Rattle.bidi_browser.specs.Asked.{navigate_asked, reload_asked, traverse_asked, get_realms_asked, command_asked}
+use Rattle.bidi_browser.specs.Asked.{navigate_asked, reload_asked, traverse_asked, get_realms_asked, remove_user_asked, command_asked}
 use Rattle.bidi_remote.specs.Machine.Commands.{OfBrowser, command_in}
 use Rattle.bidi_remote.proofs.TargetAskLemmas.{evaluate-asks, call-asks, disown-asks}
 
@@ -163,6 +165,12 @@ get_realms-asks p w =
     (unnamed (names_of rs) others w.1.no_known) in
     rw (at.0, at.1.0, text-optional p.context, realm_type-optional p.kind) refl
 
+-- a `browser.removeUserContext` asks for its user context
+remove_user-asks : (p : RemoveUserContextParameters) → remove_user.ghosts.shape.well p
+    → command_in (codes "browser.removeUserContext") (remove_user.ghosts.shape.tree_of p)
+    ≡ Some (OfBrowser (remove_user_asked p))
+remove_user-asks p w = rw (get_member-put (codes "userContext") (text_tree p.user_context) (others_of p.ext)) refl
+
 -- a method and its params ask what a command of the browser asks
 pub browser-asks : (c : BrowserCommand) → (params_part (browser_asked c).0).shape.well (browser_asked c).1
     → command_in (method_text (browser_asked c).0) (asked_tree (browser_asked c)) ≡ Some (OfBrowser (command_asked c))
@@ -177,3 +185,6 @@ browser-asks (browser.Evaluate p) w = evaluate-asks p.value w
 browser-asks (browser.CallFunction p) w = call-asks p.value w
 browser-asks (browser.Disown p) w = disown-asks p.value w
 browser-asks (browser.GetRealms p) w = get_realms-asks p w
+browser-asks (browser.CreateUserContext p) w = refl
+browser-asks (browser.GetUserContexts p) w = refl
+browser-asks (browser.RemoveUserContext p) w = remove_user-asks p w

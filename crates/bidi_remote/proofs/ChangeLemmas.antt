@@ -6,6 +6,7 @@ use Rattle.std.specs.List.{AllByRecursion}
 use Rattle.std.proofs.lemmas.List.{length-map}
 use Rattle.bidi_handles.specs.declared.id.IdKind.TheVariants.{Session as OfSession}
 use Rattle.bidi_handles.specs.Ids.{id_of}
+use Rattle.bidi_browser.specs.declared.occurrence.Top.{Top}
 use Rattle.bidi_browser.specs.declared.browser.Browser.{Browser}
 use Rattle.bidi_browser.specs.Acts.{Act, Logged}
 use Rattle.bidi_browser.specs.Occurrences.{entry_added}
@@ -129,7 +130,7 @@ if_none : (b : Bool) (ms : List Missed) → AllByRecursion IsEntry ms → AllByR
 if_none true ms all = tt
 if_none false ms all = all
 
-if_announced : (b : Bool) (p : ℕ → Bool) (ms : List Missed) → AllByRecursion IsEntry ms → AllByRecursion IsEntry (cond b (map (announced_at p) ms) ms)
+if_announced : (b : Bool) (p : Top → Bool) (ms : List Missed) → AllByRecursion IsEntry ms → AllByRecursion IsEntry (cond b (map (announced_at p) ms) ms)
 if_announced true p ms all = entries-announced p ms all
 if_announced false p ms all = all
 

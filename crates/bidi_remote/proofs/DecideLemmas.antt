@@ -11,6 +11,7 @@ use Rattle.bidi_methods.specs.declared.event_data.EventName.{EventName}
 use Rattle.bidi_methods.specs.declared.event_data.EventName.TheVariants.{EntryAdded}
 use Rattle.bidi_methods.specs.declared.result_data.ResultData.{ResultData}
 use Rattle.bidi_handles.specs.Checks.{◌>>=◌, need, found}
+use Rattle.bidi_browser.specs.declared.occurrence.Top.{Top}
 use Rattle.bidi_browser.specs.Acts.{Act, Looked}
 use Rattle.bidi_browser.specs.Contexts.{is_alive}
 use Rattle.bidi_browser.specs.Occurrences.{Occurrence, tree_events, is_among}
@@ -109,8 +110,8 @@ new-began past c request fits same fit room = rw (sym same ∙ no_error fits fit
 -- ---- `session.subscribe`
 
 -- whether an event is new, by the three answers
-pub is-new : (past : List Act) (held : List SubscriptionRow) (es : List EventName) (scope : Scope) (e : EventName) (top : ℕ) (live was is : Bool)
-    → live ≡ is_alive past top → was ≡ any_covers held e top → is ≡ (is_among es e && covers scope top)
+pub is-new : (past : List Act) (held : List SubscriptionRow) (es : List EventName) (scope : Scope) (e : EventName) (top : Top) (live was is : Bool)
+    → live ≡ is_alive past top.number → was ≡ any_covers held e top → is ≡ (is_among es e && covers scope top)
     → (live && (not was && is)) ≡ is_new past held es scope e top
 is-new past held es scope e top live was is lives covered covers = ap₂ (λ a b. a && b) lives (ap₂ (λ a b. not a && b) covered covers)
 

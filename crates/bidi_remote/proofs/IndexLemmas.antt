@@ -19,12 +19,13 @@ use Rattle.bidi_methods.specs.declared.event_data.EventName.{EventName}
 use Rattle.bidi_methods.specs.EventName.{events as all_events}
 use Rattle.bidi_methods.specs.declared.event_data.EventName.TheVariants.{ContextCreated, ContextDestroyed, NavigationStarted}
 use Rattle.bidi_methods.specs.declared.event_data.EventName.TheVariants.{DomContentLoaded, Load, RealmCreated, RealmDestroyed, EntryAdded}
+use Rattle.bidi_browser.specs.declared.occurrence.Top.{Top}
 use Rattle.bidi_browser.specs.Occurrences.{event_place, is_among}
-use Rattle.bidi_remote.specs.Machine.History.{Scope, All, Below}
+use Rattle.bidi_remote.specs.Machine.History.{Scope, All, Below, Within}
 use Rattle.bidi_remote.specs.Machine.Subscriptions.{is_global, is_listed}
 use Rattle.bidi_remote.specs.State.SubscriptionRows.{SubscriptionRow, row_covers, any_covers, row_holds, any_global, without, loses_all, stripped, dismissed}
-use Rattle.bidi_remote.specs.State.IndexRows.{Pair, pairs_at, pairs_for, global_numbers, scoped_pairs, IndexRow, index_row, index}
-use Rattle.bidi_remote.specs.State.IndexRows.{tops_of, AreInOrder, is_held, hears, global_of, with_row, without_numbers, without_global}
+use Rattle.bidi_remote.specs.State.IndexRows.{Pair, pairs_at, global_numbers, scoped_pairs, IndexRow, index_row, index}
+use Rattle.bidi_remote.specs.State.IndexRows.{tops_of, users_of, named_in, AreInOrder, is_held, hears, global_of, with_row, without_numbers, without_global}
 use Rattle.bidi_remote.specs.State.IndexView.{index_row_of, HasRoomFor}
 use Rattle.bidi_remote.specs.declared.event_index.EventIndex.{EventIndex}
 use Rattle.bidi_remote.proofs.BeginLemmas.{over, over-all, over-next}
@@ -99,17 +100,30 @@ global_numbers-more : (e : EventName) (rows : List SubscriptionRow) (r : Subscri
 global_numbers-more e rows r =
     ap (map (λ x. x.number)) (filter-append (row_holds e) rows (r ∷ [])) ∙ map-append (λ x. x.number) (filter (row_holds e) rows) (filter (row_holds e) (r ∷ []))
 
-scoped_pairs-more : (e : EventName) (rows : List SubscriptionRow) (r : SubscriptionRow) (t : Pair → Bool)
-    → list_any t (scoped_pairs e (rows ++ r ∷ [])) ≡ (list_any t (scoped_pairs e rows) || list_any t (scoped_pairs e (r ∷ [])))
-scoped_pairs-more e rows r t =
-    let has = λ (x : SubscriptionRow). is_among x.events e in
-    let pairs = λ (x : SubscriptionRow). pairs_for x.number x.scope in
-    ap (λ xs. list_any t (flat_map pairs xs)) (filter-append has rows (r ∷ []))
-    ∙ (ap (list_any t) (flat_map-append pairs (filter has rows) (filter has (r ∷ []))) ∙ list_any-append t (scoped_pairs e rows) (scoped_pairs e (r ∷ [])))
-
 or-false : (b : Bool) → (b || false) ≡ b
 or-false true = refl
 or-false false = refl
+
+-- its pairs by what its scope names, where it has the event and where it has not
+module _ (named : Scope → List ℕ) (e : EventName) (rows : List SubscriptionRow) (r : SubscriptionRow) (t : Pair → Bool) where
+  scoped_pairs-more : list_any t (scoped_pairs named e (rows ++ r ∷ [])) ≡ (list_any t (scoped_pairs named e rows) || list_any t (scoped_pairs named e (r ∷ [])))
+  scoped_pairs-more =
+      let has = λ (x : SubscriptionRow). is_among x.events e in
+      let pairs = λ (x : SubscriptionRow). pairs_at x.number (named x.scope) in
+      ap (λ xs. list_any t (flat_map pairs xs)) (filter-append has rows (r ∷ []))
+      ∙ (ap (list_any t) (flat_map-append pairs (filter has rows) (filter has (r ∷ [])))
+      ∙ list_any-append t (scoped_pairs named e rows) (scoped_pairs named e (r ∷ [])))
+
+  pairs-one : is_among r.events e ≡ true
+      → list_any t (scoped_pairs named e (rows ++ r ∷ [])) ≡ (list_any t (scoped_pairs named e rows) || list_any t (pairs_at r.number (named r.scope)))
+  pairs-one has =
+      let one : scoped_pairs named e (r ∷ []) ≡ pairs_at r.number (named r.scope) = rw has (append-nil (pairs_at r.number (named r.scope))) in
+      scoped_pairs-more ∙ ap (λ ps. list_any t (scoped_pairs named e rows) || list_any t ps) one
+
+  pairs-none : is_among r.events e ≡ false → list_any t (scoped_pairs named e (rows ++ r ∷ [])) ≡ list_any t (scoped_pairs named e rows)
+  pairs-none has =
+      let one : scoped_pairs named e (r ∷ []) ≡ [] = rw has refl in
+      scoped_pairs-more ∙ (ap (λ ps. list_any t (scoped_pairs named e rows) || list_any t ps) one ∙ or-false (list_any t (scoped_pairs named e rows)))
 
 -- its row has one subscription more
 index_row-more : (rows : List SubscriptionRow) (r : SubscriptionRow) (e : EventName) → index_row (rows ++ r ∷ []) e ≡ with_row r (index_row rows e)
@@ -118,14 +132,20 @@ index_row-more rows r e = by (is_among r.events e) refl
     by : (b : Bool) → is_among r.events e ≡ b → index_row (rows ++ r ∷ []) e ≡ with_row r (index_row rows e)
     by true has =
         let numbers = global_numbers-more e rows r ∙ ap (λ ns. global_numbers e rows ++ ns) (global_numbers-one e r has) in
-        let one : scoped_pairs e (r ∷ []) ≡ pairs_for r.number r.scope = rw has (append-nil (pairs_for r.number r.scope)) in
-        let pairs = λ (t : Pair → Bool). scoped_pairs-more e rows r t ∙ ap (λ ps. list_any t (scoped_pairs e rows) || list_any t ps) one in
-        (λ i. record { event = e; global = numbers i; any_scoped = λ t. pairs t i }) ∙ rw has refl
+        (λ i. record {
+          event = e;
+          global = numbers i;
+          any_below = λ t. pairs-one tops_of e rows r t has i;
+          any_within = λ t. pairs-one users_of e rows r t has i;
+        }) ∙ rw has refl
     by false has =
         let numbers = global_numbers-more e rows r ∙ (ap (λ ns. global_numbers e rows ++ ns) (global_numbers-none e r has) ∙ append-nil (global_numbers e rows)) in
-        let one : scoped_pairs e (r ∷ []) ≡ [] = rw has refl in
-        let pairs = λ (t : Pair → Bool). scoped_pairs-more e rows r t ∙ (ap (λ ps. list_any t (scoped_pairs e rows) || list_any t ps) one ∙ or-false (list_any t (scoped_pairs e rows))) in
-        (λ i. record { event = e; global = numbers i; any_scoped = λ t. pairs t i }) ∙ rw has refl
+        (λ i. record {
+          event = e;
+          global = numbers i;
+          any_below = λ t. pairs-none tops_of e rows r t has i;
+          any_within = λ t. pairs-none users_of e rows r t has i;
+        }) ∙ rw has refl
 
 -- ---- some that go
 
@@ -134,10 +154,6 @@ pairs-kept : (q : ℕ → Bool) (t : Pair → Bool) (n : ℕ) (tops : List ℕ)
     → list_any (λ p. q p.1 && t p) (pairs_at n tops) ≡ (q n && list_any t (pairs_at n tops))
 pairs-kept q t n [] = grind arith
 pairs-kept q t n (top ∷ tops) = let ih = pairs-kept q t n tops in grind (arith, nat_tests, ih)
-
-pairs_for-kept : (q : ℕ → Bool) (t : Pair → Bool) (n : ℕ) (scope : Scope)
-    → list_any (λ p. q p.1 && t p) (pairs_for n scope) ≡ (q n && list_any t (pairs_for n scope))
-pairs_for-kept q t n scope = pairs-kept q t n (tops_of scope)
 
 global_numbers-without : (e : EventName) (q : ℕ → Bool) (rows : List SubscriptionRow)
     → global_numbers e (filter (λ r. q r.number) rows) ≡ filter q (global_numbers e rows)
@@ -155,14 +171,14 @@ any-scoped has pairs t (r ∷ rows) = by (has r) refl (any-scoped has pairs t ro
     by true is rest = rw is (list_any-append t (pairs r) (flat_map pairs (filter has rows)) ∙ ap (λ b. list_any t (pairs r) || b) rest)
     by false is rest = rw is rest
 
-scoped_pairs-without : (e : EventName) (q : ℕ → Bool) (rows : List SubscriptionRow) (t : Pair → Bool)
-    → list_any t (scoped_pairs e (filter (λ r. q r.number) rows)) ≡ list_any (λ p. q p.1 && t p) (scoped_pairs e rows)
-scoped_pairs-without e q rows t =
+scoped_pairs-without : (named : Scope → List ℕ) (e : EventName) (q : ℕ → Bool) (rows : List SubscriptionRow) (t : Pair → Bool)
+    → list_any t (scoped_pairs named e (filter (λ r. q r.number) rows)) ≡ list_any (λ p. q p.1 && t p) (scoped_pairs named e rows)
+scoped_pairs-without named e q rows t =
     let has = λ (x : SubscriptionRow). is_among x.events e in
-    let pairs = λ (x : SubscriptionRow). pairs_for x.number x.scope in
+    let pairs = λ (x : SubscriptionRow). pairs_at x.number (named x.scope) in
     any-scoped has pairs t (filter (λ r. q r.number) rows)
     ∙ (any-filter (λ r. q r.number) (λ r. has r && list_any t (pairs r)) rows
-    ∙ ((λ i. list_any (λ r. swap (q r.number) (has r) (list_any t (pairs r)) (pairs_for-kept q t r.number r.scope) i) rows)
+    ∙ ((λ i. list_any (λ r. swap (q r.number) (has r) (list_any t (pairs r)) (pairs-kept q t r.number (named r.scope)) i) rows)
     ∙ sym (any-scoped has pairs (λ p. q p.1 && t p) rows)))
   where
     swap : (q has some : Bool) {kept : Bool} → kept ≡ (q && some) → (q && (has && some)) ≡ (has && kept)
@@ -172,7 +188,12 @@ scoped_pairs-without e q rows t =
 index_row-without : (ns : List ℕ) (rows : List SubscriptionRow) (e : EventName) → index_row (without ns rows) e ≡ without_numbers ns (index_row rows e)
 index_row-without ns rows e =
     let q = λ (n : ℕ). not (is_listed ns n) in
-    λ i. record { event = e; global = global_numbers-without e q rows i; any_scoped = λ t. scoped_pairs-without e q rows t i }
+    λ i. record {
+      event = e;
+      global = global_numbers-without e q rows i;
+      any_below = λ t. scoped_pairs-without tops_of e q rows t i;
+      any_within = λ t. scoped_pairs-without users_of e q rows t i;
+    }
 
 -- ---- events that global subscriptions lose
 
@@ -231,28 +252,31 @@ global_numbers-dismissed es rows e =
     numbers-kept (stripped es) (λ r. not (loses_all es r)) (row_holds e) rows (number-stripped es)
     ∙ (λ i. map (λ r. r.number) (filter (λ r. holds-kept es r e i) rows))
 
--- a scoped one is as it was, and a global one has no pairs
-scoped-kept : (es : List EventName) (t : Pair → Bool) (n : ℕ) (fs : List EventName) (scope : Scope) (e : EventName)
+-- a scoped one is as it was, and a global one, which names nothing, has no pairs
+scoped-kept : (named : Scope → List ℕ) → named All ≡ [] → (es : List EventName) (t : Pair → Bool) (n : ℕ) (fs : List EventName) (scope : Scope) (e : EventName)
     → (let r : SubscriptionRow = record { number = n; events = fs; scope = scope } in
-    (not (loses_all es r) && (is_among (stripped es r).events e && list_any t (pairs_for (stripped es r).number (stripped es r).scope)))
-    ≡ (is_among fs e && list_any t (pairs_for n scope)))
-scoped-kept es t n fs All e =
+    (not (loses_all es r) && (is_among (stripped es r).events e && list_any t (pairs_at (stripped es r).number (named (stripped es r).scope))))
+    ≡ (is_among fs e && list_any t (pairs_at n (named scope))))
+scoped-kept named none es t n fs All e =
+    let empty : list_any t (pairs_at n (named All)) ≡ false = ap (λ xs. list_any t (pairs_at n xs)) none in
     by (not (loses_all es (record { number = n; events = fs; scope = All }))) (is_among (filter (λ f. not (is_among es f)) fs) e) (is_among fs e)
+    (list_any t (pairs_at n (named All))) empty
   where
-    by : (a b c : Bool) → (a && (b && false)) ≡ (c && false)
-    by a b c = grind arith
-scoped-kept es t n fs (Below tops) e = refl
+    by : (a b c d : Bool) → d ≡ false → (a && (b && d)) ≡ (c && d)
+    by a b c d empty = grind (arith, empty)
+scoped-kept named none es t n fs (Below tops) e = refl
+scoped-kept named none es t n fs (Within users) e = refl
 
-scoped_pairs-dismissed : (es : List EventName) (rows : List SubscriptionRow) (e : EventName) (t : Pair → Bool)
-    → list_any t (scoped_pairs e (dismissed es rows)) ≡ list_any t (scoped_pairs e rows)
-scoped_pairs-dismissed es rows e t =
+scoped_pairs-dismissed : (named : Scope → List ℕ) → named All ≡ [] → (es : List EventName) (rows : List SubscriptionRow) (e : EventName) (t : Pair → Bool)
+    → list_any t (scoped_pairs named e (dismissed es rows)) ≡ list_any t (scoped_pairs named e rows)
+scoped_pairs-dismissed named none es rows e t =
     let has = λ (x : SubscriptionRow). is_among x.events e in
-    let pairs = λ (x : SubscriptionRow). pairs_for x.number x.scope in
+    let pairs = λ (x : SubscriptionRow). pairs_at x.number (named x.scope) in
     let keep = λ (x : SubscriptionRow). not (loses_all es x) in
     any-scoped has pairs t (dismissed es rows)
     ∙ (any-map (stripped es) (λ r. has r && list_any t (pairs r)) (filter keep rows)
     ∙ (any-filter keep (λ r. has (stripped es r) && list_any t (pairs (stripped es r))) rows
-    ∙ ((λ i. list_any (λ r. scoped-kept es t r.number r.events r.scope e i) rows) ∙ sym (any-scoped has pairs t rows))))
+    ∙ ((λ i. list_any (λ r. scoped-kept named none es t r.number r.events r.scope e i) rows) ∙ sym (any-scoped has pairs t rows))))
 
 -- its row has no global one, where it is one of these
 index_row-dismissed : (es : List EventName) (rows : List SubscriptionRow) (e : EventName)
@@ -263,11 +287,21 @@ index_row-dismissed es rows e = by (is_among es e) refl
     by true is =
         let numbers = global_numbers-dismissed es rows e ∙ (ap (λ b. map (λ r. r.number) (filter (λ r. row_holds e r && not b) rows)) is
         ∙ ap (map (λ r. r.number)) (filter-none (λ r. row_holds e r && false) rows (λ r. and-false (row_holds e r)))) in
-        (λ i. record { event = e; global = numbers i; any_scoped = λ t. scoped_pairs-dismissed es rows e t i }) ∙ rw is refl
+        (λ i. record {
+          event = e;
+          global = numbers i;
+          any_below = λ t. scoped_pairs-dismissed tops_of refl es rows e t i;
+          any_within = λ t. scoped_pairs-dismissed users_of refl es rows e t i;
+        }) ∙ rw is refl
     by false is =
         let numbers = global_numbers-dismissed es rows e ∙ (ap (λ b. map (λ r. r.number) (filter (λ r. row_holds e r && not b) rows)) is
         ∙ (λ i. map (λ r. r.number) (filter (λ r. and-true (row_holds e r) i) rows))) in
-        (λ i. record { event = e; global = numbers i; any_scoped = λ t. scoped_pairs-dismissed es rows e t i }) ∙ rw is refl
+        (λ i. record {
+          event = e;
+          global = numbers i;
+          any_below = λ t. scoped_pairs-dismissed tops_of refl es rows e t i;
+          any_within = λ t. scoped_pairs-dismissed users_of refl es rows e t i;
+        }) ∙ rw is refl
 
 -- ---- what the index answers
 
@@ -276,24 +310,48 @@ pub is_held-global : (rows : List SubscriptionRow) (e : EventName) → is_held (
 is_held-global rows e = any-length (row_holds e) (λ r. r.number) rows
 
 -- a subscription covers an event by its being global, or by a pair
-covers-parts : (n : ℕ) (fs : List EventName) (scope : Scope) (e : EventName) (top : ℕ)
+covers-parts : (n : ℕ) (fs : List EventName) (scope : Scope) (e : EventName) (top : Top)
     → (let r : SubscriptionRow = record { number = n; events = fs; scope = scope } in
-    row_covers e top r ≡ (row_holds e r || (is_among fs e && list_any (λ p. p.0 == top) (pairs_for n scope))))
+    row_covers e top r
+    ≡ (row_holds e r || ((is_among fs e && list_any (λ p. p.0 == top.number) (pairs_at n (tops_of scope)))
+    || (is_among fs e && list_any (λ p. p.0 == top.user) (pairs_at n (users_of scope))))))
 covers-parts n fs All e top = by (is_among fs e)
   where
-    by : (a : Bool) → (a && true) ≡ ((true && a) || (a && false))
+    by : (a : Bool) → (a && true) ≡ ((true && a) || ((a && false) || (a && false)))
     by a = grind arith
-covers-parts n fs (Below tops) e top = ap (λ b. is_among fs e && b) (sym (any-map (λ t. (t, n)) (λ p. p.0 == top) tops))
+covers-parts n fs (Below tops) e top =
+    by (is_among fs e) (list_any (λ t. t == top.number) tops) _ (sym (any-map (λ t. (t, n)) (λ p. p.0 == top.number) tops))
+  where
+    by : (a b c : Bool) → b ≡ c → (a && b) ≡ ((false && a) || ((a && c) || (a && false)))
+    by a b c same = grind (arith, same)
+covers-parts n fs (Within users) e top =
+    by (is_among fs e) (list_any (λ u. u == top.user) users) _ (sym (any-map (λ u. (u, n)) (λ p. p.0 == top.user) users))
+  where
+    by : (a b c : Bool) → b ≡ c → (a && b) ≡ ((false && a) || ((a && false) || (a && c)))
+    by a b c same = grind (arith, same)
 
 -- whether some subscription covers it below a context
-pub hears-covers : (rows : List SubscriptionRow) (e : EventName) (top : ℕ) → hears top (index_row rows e) ≡ any_covers rows e top
+pub hears-covers : (rows : List SubscriptionRow) (e : EventName) (top : Top) → hears top (index_row rows e) ≡ any_covers rows e top
 hears-covers rows e top =
     let has = λ (x : SubscriptionRow). is_among x.events e in
-    let pairs = λ (x : SubscriptionRow). pairs_for x.number x.scope in
-    let t = λ (p : Pair). p.0 == top in
-    ap₂ (λ a b. a || b) (is_held-global rows e) (any-scoped has pairs t rows)
-    ∙ (sym (any-either (row_holds e) (λ r. has r && list_any t (pairs r)) rows)
+    let below = λ (x : SubscriptionRow). has x && list_any (λ p. p.0 == top.number) (pairs_at x.number (tops_of x.scope)) in
+    let within = λ (x : SubscriptionRow). has x && list_any (λ p. p.0 == top.user) (pairs_at x.number (users_of x.scope)) in
+    ap₂ (λ a b. a || b) (is_held-global rows e)
+    (ap₂ (λ a b. a || b) (any-scoped has (λ x. pairs_at x.number (tops_of x.scope)) (λ p. p.0 == top.number) rows)
+    (any-scoped has (λ x. pairs_at x.number (users_of x.scope)) (λ p. p.0 == top.user) rows)
+    ∙ sym (any-either below within rows))
+    ∙ (sym (any-either (row_holds e) (λ r. below r || within r) rows)
     ∙ sym (λ i. list_any (λ r. covers-parts r.number r.events r.scope e top i) rows))
+
+-- a search of the pairs tells whether one has a number
+pub names-any : (pairs items : List Pair) (number : ℕ) (found : Bool) → pairs ≡ items → IsNonDecreasingBy (λ p. p.0) items
+    → (IsNonDecreasingBy (λ p. p.0) pairs → found ≡ list_any (λ p. p.0 == number) pairs) → found ≡ list_any (λ p. p.0 == number) items
+names-any pairs items number found same up tells =
+    subst (λ (ps : List Pair). IsNonDecreasingBy (λ p. p.0) ps → found ≡ list_any (λ p. p.0 == number) ps) same tells up
+
+-- the last of three answers decides, where the others let it
+pub last-decides : (held below within : Bool) {found : Bool} → held ≡ false → below ≡ false → found ≡ within → found ≡ (held || (below || within))
+last-decides held below within none nothing is = rw (none, nothing) is
 
 -- ---- the eight rows
 
@@ -335,36 +393,73 @@ index-dismissed xs ys rows es = moved (without_global es) xs ys rows (dismissed 
 -- ---- a row in hand
 
 -- its lists without those numbers
-pub row-cancelled : (ns : List ℕ) (e : EventName) (numbers left : List ℕ) (pairs stay : List Pair)
-    → left ≡ filter (λ n. not (is_listed ns n)) numbers → stay ≡ filter (λ p. not (is_listed ns p.1)) pairs
-    → (let new : IndexRow = record { event = e; global = left; any_scoped = λ t. list_any t stay } in
-    new ≡ without_numbers ns (record { event = e; global = numbers; any_scoped = λ t. list_any t pairs }))
-row-cancelled ns e numbers left pairs stay is kept =
-    λ i. record { event = e; global = is i; any_scoped = λ t. (ap (list_any t) kept ∙ any-filter (λ p. not (is_listed ns p.1)) t pairs) i }
+pub row-cancelled : (ns : List ℕ) (e : EventName) (numbers left : List ℕ) (below below_left within within_left : List Pair)
+    → left ≡ filter (λ n. not (is_listed ns n)) numbers
+    → below_left ≡ filter (λ p. not (is_listed ns p.1)) below → within_left ≡ filter (λ p. not (is_listed ns p.1)) within
+    → (let new : IndexRow = record { event = e; global = left; any_below = λ t. list_any t below_left; any_within = λ t. list_any t within_left } in
+    new ≡ without_numbers ns (record { event = e; global = numbers; any_below = λ t. list_any t below; any_within = λ t. list_any t within }))
+row-cancelled ns e numbers left below below_left within within_left is kept stayed =
+    λ i. record {
+      event = e;
+      global = is i;
+      any_below = λ t. (ap (list_any t) kept ∙ any-filter (λ p. not (is_listed ns p.1)) t below) i;
+      any_within = λ t. (ap (list_any t) stayed ∙ any-filter (λ p. not (is_listed ns p.1)) t within) i;
+    }
 
--- the pairs of some contexts in order are those of the scope that names them
-any-ordered : (t : Pair → Bool) (n : ℕ) (scope : Scope) (tops : List ℕ) → AreInOrder scope tops → list_any t (pairs_at n tops) ≡ list_any t (pairs_for n scope)
-any-ordered t n scope tops so =
-    sym (list_any-IsPermutation t (pairs_for n scope) (pairs_at n tops) (IsPermutation-map (λ top. (top, n)) (tops_of scope) tops so.moved))
+-- the pairs of what a scope names are the same in order
+any-ordered : (t : Pair → Bool) (n : ℕ) (scope : Scope) (named : List ℕ) → AreInOrder scope named
+    → list_any t (pairs_at n named) ≡ list_any t (pairs_at n (named_in scope))
+any-ordered t n scope named so =
+    sym (list_any-IsPermutation t (pairs_at n (named_in scope)) (pairs_at n named) (IsPermutation-map (λ m. (m, n)) (named_in scope) named so.moved))
 
--- where there is room for a scope, there is for its contexts in order
-pub room-scoped : (es : List EventName) (scope : Scope) (x : EventIndex) (ts tops : List ℕ) → scope ≡ Below ts → AreInOrder scope tops
-    → is_among es x.event ≡ true → HasRoomFor es scope x → vec_len x.scoped + length tops ≤ vec_capacity x.scoped
-room-scoped es scope x ts tops is so has room =
+-- where there is room for a scope, there is for what it names in order
+pub room-below : (es : List EventName) (scope : Scope) (x : EventIndex) (ts named : List ℕ) → scope ≡ Below ts → AreInOrder scope named
+    → is_among es x.event ≡ true → HasRoomFor es scope x → vec_len x.below + length named ≤ vec_capacity x.below
+room-below es scope x ts named is so has room =
     let free = subst (λ (s : Scope). HasRoomFor es s x) is room has in
-    let named = ap (λ (s : Scope). length (tops_of s)) is in
-    let long = length_permutation (tops_of scope) tops so.moved in
-    omega (arith, free, named, long)
+    let all = ap (λ (s : Scope). length (named_in s)) is in
+    let long = length_permutation (named_in scope) named so.moved in
+    omega (arith, free, all, long)
 
--- its row has a scoped subscription more
-pub row-scoped : (r : SubscriptionRow) (e : EventName) (global : List ℕ) (was now : List Pair) (tops : List ℕ)
-    → is_among r.events e ≡ true → is_global r.scope ≡ false → AreInOrder r.scope tops
-    → ((t : Pair → Bool) → list_any t now ≡ (list_any t was || list_any t (pairs_at r.number tops)))
-    → (let new : IndexRow = record { event = e; global = global; any_scoped = λ t. list_any t now } in
-    new ≡ with_row r (record { event = e; global = global; any_scoped = λ t. list_any t was }))
-row-scoped r e global was now tops has scoped so added =
-    let pairs = λ (t : Pair → Bool). added t ∙ ap (λ b. list_any t was || b) (any-ordered t r.number r.scope tops so) in
-    rw (has, scoped) (λ i. record { event = e; global = sym (append-nil global) i; any_scoped = λ t. pairs t i })
+pub room-within : (es : List EventName) (scope : Scope) (x : EventIndex) (us named : List ℕ) → scope ≡ Within us → AreInOrder scope named
+    → is_among es x.event ≡ true → HasRoomFor es scope x → vec_len x.within + length named ≤ vec_capacity x.within
+room-within es scope x us named is so has room =
+    let free = subst (λ (s : Scope). HasRoomFor es s x) is room has in
+    let all = ap (λ (s : Scope). length (named_in s)) is in
+    let long = length_permutation (named_in scope) named so.moved in
+    omega (arith, free, all, long)
+
+-- its row has a subscription more that names top-level contexts
+pub row-below : (r : SubscriptionRow) (e : EventName) (global : List ℕ) (was now within : List Pair) (ts named : List ℕ)
+    → is_among r.events e ≡ true → r.scope ≡ Below ts → AreInOrder r.scope named
+    → ((t : Pair → Bool) → list_any t now ≡ (list_any t was || list_any t (pairs_at r.number named)))
+    → (let new : IndexRow = record { event = e; global = global; any_below = λ t. list_any t now; any_within = λ t. list_any t within } in
+    new ≡ with_row r (record { event = e; global = global; any_below = λ t. list_any t was; any_within = λ t. list_any t within }))
+row-below r e global was now within ts named has is so added =
+    let pairs = λ (t : Pair → Bool). added t ∙ ap (λ b. list_any t was || b) (any-ordered t r.number r.scope named so
+    ∙ ap (λ (s : Scope). list_any t (pairs_at r.number (named_in s))) is) in
+    rw (has, is) (λ i. record {
+      event = e;
+      global = sym (append-nil global) i;
+      any_below = λ t. pairs t i;
+      any_within = λ t. sym (or-false (list_any t within)) i;
+    })
+
+-- or user contexts
+pub row-within : (r : SubscriptionRow) (e : EventName) (global : List ℕ) (was now below : List Pair) (us named : List ℕ)
+    → is_among r.events e ≡ true → r.scope ≡ Within us → AreInOrder r.scope named
+    → ((t : Pair → Bool) → list_any t now ≡ (list_any t was || list_any t (pairs_at r.number named)))
+    → (let new : IndexRow = record { event = e; global = global; any_below = λ t. list_any t below; any_within = λ t. list_any t now } in
+    new ≡ with_row r (record { event = e; global = global; any_below = λ t. list_any t below; any_within = λ t. list_any t was }))
+row-within r e global was now below us named has is so added =
+    let pairs = λ (t : Pair → Bool). added t ∙ ap (λ b. list_any t was || b) (any-ordered t r.number r.scope named so
+    ∙ ap (λ (s : Scope). list_any t (pairs_at r.number (named_in s))) is) in
+    rw (has, is) (λ i. record {
+      event = e;
+      global = sym (append-nil global) i;
+      any_below = λ t. sym (or-false (list_any t below)) i;
+      any_within = λ t. pairs t i;
+    })
 
 -- ---- a loop over the eight
 

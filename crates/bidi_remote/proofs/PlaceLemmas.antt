@@ -7,6 +7,7 @@ use Rattle.bidi_messages.specs.contracts.message.MessageShape.TheImpl.{ghosts}
 use Rattle.bidi_methods.specs.declared.event_data.EventName.{EventName}
 use Rattle.bidi_methods.specs.declared.event_data.EventName.TheVariants.{EntryAdded}
 use Rattle.bidi_messages.specs.Reading.{IsMessageText}
+use Rattle.bidi_browser.specs.declared.occurrence.Top.{Top}
 use Rattle.bidi_browser.specs.Occurrences.{Occurrence}
 use Rattle.bidi_remote.specs.Machine.History.{Deed}
 use Rattle.bidi_remote.specs.Machine.LogBuffer.{Missed, missed, just_missed, announced_at, last_hundred, waiting_for}
@@ -50,8 +51,8 @@ places-more all o =
     ∙ ap (λ ps. drop (length ps - 100) ps) (map-append place_of (last_hundred all) (just_missed o ∷ [])))
 
 -- those of some top-level contexts are announced
-pub places-announced : (p q : ℕ → Bool) (all : List Missed)
-    → ((top : ℕ) → p top ≡ q top) → map place_of (last_hundred (map (announced_at p) all)) ≡ all_left q (map place_of (last_hundred all))
+pub places-announced : (p q : Top → Bool) (all : List Missed)
+    → ((top : Top) → p top ≡ q top) → map place_of (last_hundred (map (announced_at p) all)) ≡ all_left q (map place_of (last_hundred all))
 places-announced p q all same = ap (map place_of) (hundred-map (announced_at p) all) ∙ each (last_hundred all)
   where
     one : (m : Missed) (b : Bool) → m.announced ≡ b → place_of (announced_at p m) ≡ left q (place_of m)
@@ -63,17 +64,17 @@ places-announced p q all same = ap (map place_of) (hundred-map (announced_at p) 
     each (m ∷ ms) = ap₂ (λ x xs. x ∷ xs) (one m m.announced refl) (each ms)
 
 -- a place is left where its entry is announced, and only there
-pub left-new : (p : ℕ → Bool) (x : Option Written) (w : Written) → x ≡ Some w → p w.top ≡ true → None ≡ left p x
+pub left-new : (p : Top → Bool) (x : Option Written) (w : Written) → x ≡ Some w → p w.top ≡ true → None ≡ left p x
 left-new p x w is new = rw is (ap (λ b. if b then None else Some w) (sym new))
 
-pub left-old : (p : ℕ → Bool) (x : Option Written) (w : Written) → x ≡ Some w → p w.top ≡ false → x ≡ left p x
+pub left-old : (p : Top → Bool) (x : Option Written) (w : Written) → x ≡ Some w → p w.top ≡ false → x ≡ left p x
 left-old p x w is old = is ∙ (ap (λ b. if b then None else Some w) (sym old) ∙ ap (left p) (sym is))
 
-pub left-empty : (p : ℕ → Bool) (x : Option Written) → x ≡ None → x ≡ left p x
+pub left-empty : (p : Top → Bool) (x : Option Written) → x ≡ None → x ≡ left p x
 left-empty p x is = is ∙ ap (left p) (sym is)
 
 -- each stays where no entry is announced
-pub none-left : (p : ℕ → Bool) (all : List (Option Written)) → ((top : ℕ) → p top ≡ false) → all ≡ all_left p all
+pub none-left : (p : Top → Bool) (all : List (Option Written)) → ((top : Top) → p top ≡ false) → all ≡ all_left p all
 none-left p [] never = refl
 none-left p (None ∷ all) never = ap (λ xs. None ∷ xs) (none-left p all never)
 none-left p (Some w ∷ all) never = ap₂ (λ x xs. x ∷ xs) (left-old p (Some w) w refl (never w.top)) (none-left p all never)
@@ -95,13 +96,13 @@ pub waiting-places : (past : List Deed) (s : ℕ) → waiting (places past s) �
 waiting-places past s = waiting-in (last_hundred (missed past s))
 
 -- of some entries, those that are new
-new-next : (n : EventName → ℕ → Bool) (o : Occurrence) (os : List Occurrence) (b : Bool) → n EntryAdded o.top ≡ b → n o.event o.top ≡ n EntryAdded o.top
+new-next : (n : EventName → Top → Bool) (o : Occurrence) (os : List Occurrence) (b : Bool) → n EntryAdded o.top ≡ b → n o.event o.top ≡ n EntryAdded o.top
     → filter (λ w. n EntryAdded w.top) (map written os) ≡ map written (filter (λ x. n x.event x.top) os)
     → filter (λ w. n EntryAdded w.top) (map written (o ∷ os)) ≡ map written (filter (λ x. n x.event x.top) (o ∷ os))
 new-next n o os true is same rest = rw (same, is) (ap (λ ws. written o ∷ ws) rest)
 new-next n o os false is same rest = rw (same, is) rest
 
-pub new-written : (n : EventName → ℕ → Bool) (os : List Occurrence) → AllByRecursion (λ o. o.event ≡ EntryAdded) os
+pub new-written : (n : EventName → Top → Bool) (os : List Occurrence) → AllByRecursion (λ o. o.event ≡ EntryAdded) os
     → filter (λ w. n EntryAdded w.top) (map written os) ≡ map written (filter (λ o. n o.event o.top) os)
 new-written n [] all = refl
 new-written n (o ∷ os) all = new-next n o os (n EntryAdded o.top) refl (ap (λ e. n e o.top) all.0) (new-written n os all.1)
@@ -115,7 +116,7 @@ all-dropped P (suc n) [] all = tt
 all-dropped P (suc n) (x ∷ xs) all = all-dropped P n xs all.1
 
 -- an announced entry is one
-pub entries-announced : (p : ℕ → Bool) (ms : List Missed) → AllByRecursion IsEntry ms → AllByRecursion IsEntry (map (announced_at p) ms)
+pub entries-announced : (p : Top → Bool) (ms : List Missed) → AllByRecursion IsEntry ms → AllByRecursion IsEntry (map (announced_at p) ms)
 entries-announced p [] all = tt
 entries-announced p (m ∷ ms) all = (record { event = all.0.event; reads_back = all.0.reads_back }, entries-announced p ms all.1)
 

@@ -16,6 +16,7 @@ use Rattle.bidi_methods.specs.declared.event_data.EventName.TheVariants.{DomCont
 use Rattle.bidi_methods.specs.EventName.{events as all_events}
 use Rattle.bidi_handles.specs.declared.id.IdKind.TheVariants.{Subscription}
 use Rattle.bidi_handles.specs.Ids.{id_text}
+use Rattle.bidi_browser.specs.declared.occurrence.Top.{Top}
 use Rattle.bidi_browser.specs.Contexts.{up_to, is_alive}
 use Rattle.bidi_browser.specs.Occurrences.{event_place, is_among}
 use Rattle.bidi_remote.specs.Machine.History.{Deed, Began, Ended, Subscribed, Cancelled, Dismissed, Scope, acts}
@@ -334,13 +335,13 @@ any_both p q [] = refl
 any_both p q (n ∷ ns) = let ih = any_both p q ns in grind (arith, nat_tests, ih)
 
 -- a live subscription covers what it holds for, and no other does
-live_covers : (past : List Deed) (s n : ℕ) (e : EventName) (b : Bool) (top : ℕ)
+live_covers : (past : List Deed) (s n : ℕ) (e : EventName) (b : Bool) (top : Top)
     → holds past s n e ≡ b → (is_live past s n && row_covers e top (row_at past s n)) ≡ (b && covers (scope_of past s n) top)
 live_covers past s n e true top held = rw (left_holds past s n e, held, holds_live past s n e held) refl
 live_covers past s n e false top held = rw (left_holds past s n e, held) (and-false (is_live past s n))
 
 -- they tell whether an event is enabled
-pub covers-enabled : (past : List Deed) (s : ℕ) (e : EventName) (top : ℕ)
+pub covers-enabled : (past : List Deed) (s : ℕ) (e : EventName) (top : Top)
     → is_enabled past s e top ≡ (is_active past s && any_covers (subscription_rows past s) e top)
 covers-enabled past s e top =
     let all = up_to (subscriptions_made past s) in
@@ -359,9 +360,9 @@ newly : (alive before new : Bool) → (alive && not before && (before || (new ||
 newly alive before new = grind arith
 
 -- a new subscription enables what it names and covers, and no row covered before
-pub newly-enabled : (past : List Deed) (s : ℕ) (es : List EventName) (scope : Scope) (e : EventName) (top : ℕ) → is_active past s ≡ true
+pub newly-enabled : (past : List Deed) (s : ℕ) (es : List EventName) (scope : Scope) (e : EventName) (top : Top) → is_active past s ≡ true
     → is_newly_enabled past (Subscribed s es scope) s e top
-    ≡ (is_alive (acts past) top && (not (any_covers (subscription_rows past s) e top) && (is_among es e && covers scope top)))
+    ≡ (is_alive (acts past) top.number && (not (any_covers (subscription_rows past s) e top) && (is_among es e && covers scope top)))
 newly-enabled past s es scope e top active =
     let next = Subscribed s es scope ∷ past in
     let rows = subscription_rows past s in
@@ -369,7 +370,7 @@ newly-enabled past s es scope e top active =
     let after = covers-enabled next s e top ∙ (ap (λ b. b && any_covers (subscription_rows next s) e top) active
     ∙ (ap (λ all. any_covers all e top) (rows-subscribed past s es scope)
     ∙ list_any-append (row_covers e top) rows (record { number = next_subscription past s; events = es; scope = scope } ∷ []))) in
-    (λ i. is_alive (acts past) top && not (before i) && after i) ∙ newly (is_alive (acts past) top) (any_covers rows e top) (is_among es e && covers scope top)
+    (λ i. is_alive (acts past) top.number && not (before i) && after i) ∙ newly (is_alive (acts past) top.number) (any_covers rows e top) (is_among es e && covers scope top)
 
 -- ---- the table of sessions
 

@@ -8,6 +8,7 @@ use Rattle.std.proofs.lemmas.Grind.{flat_map-append}
 use Rattle.bidi_methods.specs.declared.event_data.EventName.{EventName}
 use Rattle.bidi_messages.specs.contracts.message.MessageShape.TheImpl.{ghosts}
 use Rattle.bidi_messages.specs.Reading.{IsMessageText}
+use Rattle.bidi_browser.specs.declared.occurrence.Top.{Top}
 use Rattle.bidi_browser.specs.Contexts.{up_to}
 use Rattle.bidi_browser.specs.Occurrences.{Occurrence}
 use Rattle.bidi_browser.specs.Occurs.{Item, Happens}
@@ -30,7 +31,7 @@ use Rattle.bidi_remote.proofs.SubscriptionLemmas.{covers-enabled}
 
 -- ---- the sessions that hear an event, one after another
 
-module _ (rows : List connections.ConnectionRow) (text : List ℕ) (e : EventName) (top : ℕ) where
+module _ (rows : List connections.ConnectionRow) (text : List ℕ) (e : EventName) (top : Top) where
   abbrev pub heard : List SessionRow → List Sent
   heard all = flat_map (λ r. to_each (λ n. Text n text) r.number rows) (filter (λ r. any_covers r.subscriptions e top) all)
 
@@ -148,7 +149,7 @@ module _ (rows : List connections.ConnectionRow) (text : List ℕ) (is : IsMessa
   each-reads s = all-map ReadsBack (λ row. Text row.0 text) (λ row. is) (filter (λ row. is_for s row.1) rows)
 
   -- and to those of all sessions that hear an event
-  pub heard-read : (e : EventName) (top : ℕ) (all : List SessionRow) → AllReadBack (heard rows text e top all)
+  pub heard-read : (e : EventName) (top : Top) (all : List SessionRow) → AllReadBack (heard rows text e top all)
   heard-read e top all =
       all-flat_map ReadsBack (λ r. to_each (λ n. Text n text) r.number rows) (λ r. each-reads r.number)
       (filter (λ r. any_covers r.subscriptions e top) all)

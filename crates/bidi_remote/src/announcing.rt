@@ -13,7 +13,7 @@ ghost use Rattle.bidi_remote.specs.State.SubscriptionRows.{is_new, may_be_new};
 use crate::event_texts::EventText;
 use crate::subscription_table::Subscriptions;
 use crate::subscriptions::{Scope, covers, is_among};
-use bidi_browser::Browser;
+use bidi_browser::{Browser, Top};
 use bidi_messages::EventName;
 use std::collections::VecDeque;
 use std::rc::Rc;
@@ -29,11 +29,11 @@ pub(crate) fn is_new(
     events: &[EventName],
     scope: &Scope,
     event: EventName,
-    top: u64,
+    top: Top,
 ) -> bool
     ensures { (past : List Act) → StandsFor browser.now past → result ≡ is_new past (rows_of held.now) events.now (scope_of scope.now) event top }
 {
-    covers(events, scope, event, top) && !held.hears(event, top) && browser.is_live(top)
+    covers(events, scope, event, top) && !held.hears(event, top) && browser.is_live(top.number)
 }
 
 /// Whether a subscription to these events may newly enable the event for some context: it has the event, and

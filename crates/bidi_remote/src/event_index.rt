@@ -7,6 +7,7 @@ ghost use Rattle.bidi_remote.specs.State.SubscriptionView.{scope_of, row_of};
 ghost use Rattle.bidi_remote.specs.State.IndexRows.{Pair, IndexRow, index_row, is_held, hears, with_row, without_numbers, without_global, pairs_at, AreInOrder};
 
 use crate::subscriptions::{Scope, Subscription, is_among, is_listed};
+use bidi_browser::Top;
 use bidi_messages::EventName;
 use std::alloc::{AllocError, Global};
 
@@ -17,9 +18,13 @@ pub(crate) struct EventIndex {
     pub event: EventName,
     /// The numbers of the global ones.
     pub global: Vec<u32>,
-    /// The others, by what they cover: a top-level context, and the number of a subscription. Ordered by context.
-    pub scoped: Vec<(u64, u32)>,
-    ghost order: { IsNonDecreasingBy (λ p. p.0) scoped.items } by { Prim.hlevel props },
+    /// Those that name top-level contexts: such a context, and the number of a subscription. Ordered by context.
+    pub below: Vec<(u64, u32)>,
+    /// Those that name user contexts: a user context, and the number of a subscription. Ordered by user
+    /// context.
+    pub within: Vec<(u64, u32)>,
+    ghost below_order: { IsNonDecreasingBy (λ p. p.0) below.items } by { Prim.hlevel props },
+    ghost within_order: { IsNonDecreasingBy (λ p. p.0) within.items } by { Prim.hlevel props },
 }
 
 impl EventIndex {
@@ -32,7 +37,8 @@ impl EventIndex {
         EventIndex {
             event,
             global: Vec::new(alloc),
-            scoped: Vec::new(alloc),
+            below: Vec::new(alloc),
+            within: Vec::new(alloc),
         }
     }
 
@@ -43,11 +49,11 @@ impl EventIndex {
         !self.global.is_empty()
     }
 
-    /// Whether a subscription has the event in the tree of this top-level context. Does a binary search.
-    pub(crate) fn hears(&self, top: u64) -> bool
+    /// Whether a subscription has the event in the tree of this top-level context. Does two binary searches.
+    pub(crate) fn hears(&self, top: Top) -> bool
         ensures { result ≡ hears top (index_row_of self.now) }
     {
-        self.is_global() || has_top(&self.scoped, top)
+        self.is_global() || names(&self.below, top.number) || names(&self.within, top.user)
     }
 
     /// Makes room for a subscription to these events in this scope.
@@ -60,15 +66,16 @@ impl EventIndex {
         }
         match scope {
             Scope::All => self.global.reserve(1),
-            Scope::Below(tops) => self.scoped.reserve(tops.len()),
+            Scope::Below(tops) => self.below.reserve(tops.len()),
+            Scope::Within(users) => self.within.reserve(users.len()),
         }
     }
 
-    /// Adds a subscription, if it has the event. The contexts that its scope names are given in order, so each
-    /// pair moves once. Takes no memory.
-    pub(crate) fn add(&mut self, subscription: &Subscription, tops: &[u64])
+    /// Adds a subscription, if it has the event. What its scope names is given in order, so each pair moves
+    /// once. Takes no memory.
+    pub(crate) fn add(&mut self, subscription: &Subscription, named: &[u64])
         requires room { HasRoomFor (row_of subscription.now).events (row_of subscription.now).scope self.now }
-        requires order { AreInOrder (row_of subscription.now).scope tops.now }
+        requires order { AreInOrder (row_of subscription.now).scope named.now }
         ensures { index_row_of self.new ≡ with_row (row_of subscription.now) (index_row_of self.old) }
     {
         if !is_among(&subscription.events, self.event) {
@@ -76,7 +83,8 @@ impl EventIndex {
         }
         match &subscription.scope {
             Scope::All => self.global.push_reserved(subscription.number),
-            Scope::Below(_) => put_pairs(&mut self.scoped, tops, subscription.number),
+            Scope::Below(_) => put_pairs(&mut self.below, named, subscription.number),
+            Scope::Within(_) => put_pairs(&mut self.within, named, subscription.number),
         }
     }
 
@@ -86,7 +94,8 @@ impl EventIndex {
         ensures { index_row_of self.new ≡ without_numbers numbers.now (index_row_of self.old) }
     {
         self.global.retain(|number| !is_listed(numbers, *number));
-        self.scoped.retain(|pair| !is_listed(numbers, pair.1));
+        self.below.retain(|pair| !is_listed(numbers, pair.1));
+        self.within.retain(|pair| !is_listed(numbers, pair.1));
     }
 
     /// Removes the global subscriptions, if the event is one of these. Takes no memory.
@@ -99,14 +108,14 @@ impl EventIndex {
     }
 }
 
-// Whether a pair has this top-level context.
-fn has_top(pairs: &[(u64, u32)], top: u64) -> bool
-    ensures { IsNonDecreasingBy (λ p. p.0) pairs.now → result ≡ list_any (λ p. p.0 == top) pairs.now }
+// Whether a pair has this context, or user context.
+fn names(pairs: &[(u64, u32)], number: u64) -> bool
+    ensures { IsNonDecreasingBy (λ p. p.0) pairs.now → result ≡ list_any (λ p. p.0 == number) pairs.now }
 {
-    pairs.binary_search_by_key(&top, |pair| pair.0).is_ok()
+    pairs.binary_search_by_key(&number, |pair| pair.0).is_ok()
 }
 
-// Adds a pair for each of these top-level contexts, which ascend. Each pair that is there moves once.
+// Adds a pair for each of these contexts, or user contexts, which ascend. Each pair that is there moves once.
 fn put_pairs(pairs: &mut Vec<(u64, u32)>, tops: &[u64], number: u32)
     requires { vec_len pairs.now + length tops.now ≤ vec_capacity pairs.now }
     ensures order { IsNonDecreasing tops.now → IsNonDecreasingBy (λ p. p.0) pairs.old.items → IsNonDecreasingBy (λ p. p.0) pairs.new.items }

@@ -6,7 +6,7 @@ ghost use Rattle.bidi_messages.specs.Reading.{IsMessageText};
 ghost use Rattle.bidi_remote.specs.State.EventTexts.{written, written_of, written_in, AreMessages};
 ghost use Rattle.bidi_messages.specs.Payloads.{EventIsWell};
 
-use bidi_browser::Occurrence;
+use bidi_browser::{Occurrence, Top};
 use bidi_messages::{EventData, EventName, Message, Payload, event_text};
 use bidi_shape::Shape;
 use std::alloc::{AllocError, Global};
@@ -15,8 +15,8 @@ use std::rc::Rc;
 /// The text of an event. It is made once and shared.
 #[derive(Drop)]
 pub(crate) struct EventText {
-    /// The number of the top-level context in whose tree the event occurred.
-    pub top: u64,
+    /// The top-level context in whose tree the event occurred.
+    pub top: Top,
     /// The event as it is sent.
     pub text: String,
 }

@@ -4,9 +4,9 @@
 //! does no input or output. What it sends depends on the steps that it has taken, and on nothing else; the
 //! specifications define it as a function of their list.
 //!
-//! It keeps connections, sessions and subscriptions. Commands of the modules browsingContext and script, and
-//! the steps of pages, go to a browser in memory. Each event is sent to the sessions that are subscribed to
-//! it. The log entries that a session misses are kept until it subscribes to them.
+//! It keeps connections, sessions and subscriptions. Commands of the modules browser, browsingContext and
+//! script, and the steps of pages, go to a browser in memory. Each event is sent to the sessions that are
+//! subscribed to it. The log entries that a session misses are kept until it subscribes to them.
 #![tactic(auto)]
 
 mod announcing;

@@ -15,7 +15,7 @@ use crate::event_texts::EventText;
 use crate::log_buffer::LogBuffer;
 use crate::subscription_table::Subscriptions;
 use crate::subscriptions::{Scope, Subscription};
-use bidi_browser::{Browser, IdKind, id_number};
+use bidi_browser::{Browser, IdKind, Top, id_number};
 use bidi_messages::EventName;
 use std::alloc::{AllocError, Global};
 use std::rc::Rc;
@@ -61,7 +61,7 @@ impl Session {
     ghost use Rattle.bidi_remote.specs.State.SubscriptionsView.{HasRoomFor};
 
     /// Whether the event is enabled for it in the tree of this top-level context.
-    pub(crate) fn hears(&self, event: EventName, top: u64) -> bool
+    pub(crate) fn hears(&self, event: EventName, top: Top) -> bool
         ensures { result ≡ any_covers (session_row_of self.now).subscriptions event top }
     {
         self.subscriptions.hears(event, top)

@@ -4,11 +4,12 @@ ghost use Rattle.std.specs.List.{list_all};
 ghost use Rattle.bidi_browser.specs.Occurrences.{event_place};
 ghost use Rattle.bidi_remote.specs.State.SubscriptionView.{scope_of, row_of};
 ghost use Rattle.bidi_remote.specs.State.SubscriptionRows.{any_covers, any_global, without, dismissed};
-ghost use Rattle.bidi_remote.specs.State.IndexRows.{index, with_row, without_numbers, without_global, tops_of, AreInOrder};
+ghost use Rattle.bidi_remote.specs.State.IndexRows.{index, with_row, without_numbers, without_global, named_in, AreInOrder};
 ghost use Rattle.bidi_remote.specs.State.IndexView.{index_row_of, HaveRoomFor};
 
 use crate::event_index::EventIndex;
 use crate::subscriptions::{Scope, Subscription, cancel, dismiss};
+use bidi_browser::Top;
 use bidi_messages::EventName;
 use std::alloc::{AllocError, Global};
 
@@ -19,8 +20,8 @@ pub(crate) struct Subscriptions {
     pub rows: Vec<Subscription>,
     /// For each event, those that have it.
     pub by_event: [EventIndex; 8],
-    /// Room to put the contexts of a new one in order.
-    tops: Vec<u64>,
+    /// Room to put what a new one names in order.
+    named: Vec<u64>,
     ghost index: { ∥ map index_row_of by_event ≡ index (map row_of rows.items) ∥₁ },
 }
 
@@ -34,7 +35,7 @@ impl Subscriptions {
         Subscriptions {
             rows: Vec::new(alloc),
             by_event: no_index(alloc),
-            tops: Vec::new(alloc),
+            named: Vec::new(alloc),
         }
     }
 
@@ -45,9 +46,9 @@ impl Subscriptions {
         &self.rows
     }
 
-    /// Whether one covers the event in the tree of this top-level context. Does a binary search, whatever their
-    /// number is.
-    pub(crate) fn hears(&self, event: EventName, top: u64) -> bool
+    /// Whether one covers the event in the tree of this top-level context. Does two binary searches, whatever
+    /// their number is.
+    pub(crate) fn hears(&self, event: EventName, top: Top) -> bool
         ensures { result ≡ any_covers (rows_of self.now) event top }
     {
         self.by_event[place_of(event)].hears(top)
@@ -73,18 +74,18 @@ impl Subscriptions {
         ensures room { OnOk result (HasRoomFor events.now (scope_of scope.now) self.new) }
     {
         self.rows.reserve(1)?;
-        reserve_tops(&mut self.tops, scope)?;
+        reserve_named(&mut self.named, scope)?;
         reserve_each(&mut self.by_event, events, scope)
     }
 
-    /// Adds one. Puts the contexts that it names in order, and passes once over the pairs of each event that it
-    /// has. Takes no memory.
+    /// Adds one. Puts what it names in order, and passes once over the pairs of each event that it has. Takes
+    /// no memory.
     pub(crate) fn add(&mut self, subscription: Subscription)
         requires { HasRoomFor (row_of subscription).events (row_of subscription).scope self.now }
         ensures { rows_of self.new ≡ rows_of self.old ++ row_of subscription ∷ [] }
     {
-        put_in_order(&mut self.tops, &subscription.scope);
-        add_each(&mut self.by_event, &subscription, &self.tops);
+        put_in_order(&mut self.named, &subscription.scope);
+        add_each(&mut self.by_event, &subscription, &self.named);
         self.rows.push_reserved(subscription);
     }
 
@@ -145,46 +146,49 @@ fn reserve_each(
     Ok(())
 }
 
-// Makes room to put the contexts that a scope names in order.
-fn reserve_tops(room: &mut Vec<u64>, scope: &Scope) -> Result<(), AllocError>
-    ensures { OnOk result (length (tops_of (scope_of scope.now)) ≤ vec_capacity room.new) }
+// Makes room to put what a scope names in order.
+fn reserve_named(room: &mut Vec<u64>, scope: &Scope) -> Result<(), AllocError>
+    ensures { OnOk result (length (named_in (scope_of scope.now)) ≤ vec_capacity room.new) }
 {
     match scope {
         Scope::All => Ok(()),
-        Scope::Below(tops) => room.reserve(tops.len()),
+        Scope::Below(named) | Scope::Within(named) => room.reserve(named.len()),
     }
 }
 
-// Puts the contexts that a scope names in order, in this room.
+// Puts what a scope names in order, in this room.
 fn put_in_order(room: &mut Vec<u64>, scope: &Scope)
-    requires { length (tops_of (scope_of scope.now)) ≤ vec_capacity room.now }
+    requires { length (named_in (scope_of scope.now)) ≤ vec_capacity room.now }
     ensures { AreInOrder (scope_of scope.now) room.new.items }
 {
     room.clear();
-    if let Scope::Below(tops) = scope {
-        push_each(room, tops);
-        room.sort_unstable();
+    match scope {
+        Scope::All => {}
+        Scope::Below(named) | Scope::Within(named) => {
+            push_each(room, named);
+            room.sort_unstable();
+        }
     }
 }
 
 // Adds these behind the others.
-fn push_each(room: &mut Vec<u64>, tops: &[u64])
-    requires { vec_len room.now + length tops.now ≤ vec_capacity room.now }
-    ensures { room.new.items ≡ room.old.items ++ tops.now }
+fn push_each(room: &mut Vec<u64>, named: &[u64])
+    requires { vec_len room.now + length named.now ≤ vec_capacity room.now }
+    ensures { room.new.items ≡ room.old.items ++ named.now }
 {
-    for top in tops {
-        room.push_reserved(*top);
+    for number in named {
+        room.push_reserved(*number);
     }
 }
 
-// Adds a subscription for the events that it has. The contexts that its scope names are given in order.
-fn add_each(by_event: &mut [EventIndex], subscription: &Subscription, tops: &[u64])
+// Adds a subscription for the events that it has. What its scope names is given in order.
+fn add_each(by_event: &mut [EventIndex], subscription: &Subscription, named: &[u64])
     requires room { HaveRoomFor (row_of subscription.now).events (row_of subscription.now).scope by_event.now }
-    requires order { AreInOrder (row_of subscription.now).scope tops.now }
+    requires order { AreInOrder (row_of subscription.now).scope named.now }
     ensures { map index_row_of by_event.new ≡ map (with_row (row_of subscription.now)) (map index_row_of by_event.old) }
 {
     for index in by_event.iter_mut() {
-        index.add(subscription, tops);
+        index.add(subscription, named);
     }
 }
 

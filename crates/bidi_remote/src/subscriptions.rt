@@ -8,7 +8,7 @@ ghost use Rattle.bidi_remote.specs.State.SubscriptionView.{scope_of, row_of};
 ghost use Rattle.bidi_handles.specs.Ids.{id_text};
 ghost use Rattle.bidi_browser.specs.Occurrences.{is_among};
 
-use bidi_browser::{IdKind, Refusal, id_number};
+use bidi_browser::{IdKind, Refusal, Top, id_number};
 use bidi_messages::{ErrorCode, EventName};
 use std::alloc::Global;
 
@@ -19,6 +19,9 @@ pub(crate) enum Scope {
     All,
     /// The contexts in the trees of some top-level ones, which are named by their numbers.
     Below(Vec<u64>),
+    /// The contexts in some user contexts, also those that come later. The user contexts are named by their
+    /// numbers.
+    Within(Vec<u64>),
 }
 
 impl Scope {
@@ -28,17 +31,18 @@ impl Scope {
     {
         match self {
             Scope::All => true,
-            Scope::Below(_) => false,
+            Scope::Below(_) | Scope::Within(_) => false,
         }
     }
 
     // Whether it has the contexts in the tree of this top-level one.
-    fn covers(&self, top: u64) -> bool
+    fn covers(&self, top: Top) -> bool
         ensures { result ≡ covers (scope_of self.now) top }
     {
         match self {
             Scope::All => true,
-            Scope::Below(tops) => tops.contains(&top),
+            Scope::Below(tops) => tops.contains(&top.number),
+            Scope::Within(users) => users.contains(&top.user),
         }
     }
 }
@@ -64,7 +68,7 @@ impl Subscription {
 }
 
 /// Whether these events in this scope cover the event in the tree of this top-level context.
-pub(crate) fn covers(events: &[EventName], scope: &Scope, event: EventName, top: u64) -> bool
+pub(crate) fn covers(events: &[EventName], scope: &Scope, event: EventName, top: Top) -> bool
     ensures { result ≡ (is_among events.now event && covers (scope_of scope.now) top) }
 {
     is_among(events, event) && scope.covers(top)

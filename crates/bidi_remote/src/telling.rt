@@ -28,7 +28,7 @@ use crate::sessions::Session;
 use crate::state::State;
 use crate::step::Sent;
 use crate::turn::{Change, Reply, Telling};
-use bidi_browser::Occurrence;
+use bidi_browser::{Occurrence, Top};
 use bidi_messages::{
     EventData, EventName, Message, Method, Payload, ResultData, event_text, response_text,
 };
@@ -231,7 +231,7 @@ fn push_event(
 }
 
 // Whether the event is enabled for some session in the tree of this top-level context.
-fn is_heard(sessions: &[Session], event: EventName, top: u64) -> bool
+fn is_heard(sessions: &[Session], event: EventName, top: Top) -> bool
     ensures { result ≡ list_any (λ s. any_covers (session_row_of s).subscriptions event top) sessions.now }
 {
     sessions.iter().any(|session| session.hears(event, top))
@@ -243,7 +243,7 @@ fn push_heard(
     sessions: &[Session],
     connections: &Connections,
     event: EventName,
-    top: u64,
+    top: Top,
     text: &str,
     sent: &mut Vec<Sent>,
 ) -> Result<(), AllocError>

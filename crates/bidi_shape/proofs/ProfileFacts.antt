@@ -6,12 +6,14 @@ use Rattle.bidi_tree.specs.Node.{Node, no_items, item, Members, no_members, put,
 use Rattle.bidi_tree.specs.View.{items_of}
 use Rattle.bidi_tree.proofs.TextFacts.{nested, status_tree}
 use Rattle.bidi_shape.specs.Name.{command, command_response, console_entry, context_target, create_parameters, empty_params}
-use Rattle.bidi_shape.specs.Name.{error_response, generic_log_entry, get_tree_parameters, info, javascript_entry, local_pair}
+use Rattle.bidi_shape.specs.Name.{error_response, generic_log_entry, get_tree_parameters, get_user_contexts_result, info}
+use Rattle.bidi_shape.specs.Name.{javascript_entry, local_pair}
 use Rattle.bidi_shape.specs.Name.{local_value, log_entry, message, navigate_result, primitive, realm_target, reference}
-use Rattle.bidi_shape.specs.Name.{remote_object_reference, remote_value, serialization_options, shared_reference, stack_trace}
+use Rattle.bidi_shape.specs.Name.{remote_object_reference, remote_value, remove_user_context_parameters, serialization_options}
+use Rattle.bidi_shape.specs.Name.{shared_reference, stack_trace}
 use Rattle.bidi_shape.specs.Name.{subscribe_parameters, table_row}
 use Rattle.bidi_shape.specs.Name.{target, traverse_history_parameters, unsubscribe_by_events, unsubscribe_by_id, unsubscribe_parameters}
-use Rattle.bidi_shape.specs.Name.{wait}
+use Rattle.bidi_shape.specs.Name.{user_context_info, wait}
 use Rattle.bidi_shape.specs.Term.{text, js_uint, js_int, any, rule, any_number_of, at_least_one}
 use Rattle.bidi_shape.specs.Fits.{Fits}
 use Rattle.bidi_shape.proofs.FitsTest.{fits_by, misfits_by}
@@ -520,18 +522,42 @@ unknown_command_misfits = misfits_by 1000 refl
 pub command_without_params_misfits : Fits (mapped ("id" being number 1 and "method" being word "session.status" and no_members)) (rule command) → ⊥
 command_without_params_misfits = misfits_by 1000 refl
 
--- the last alternative is reached: script.getRealms fits
-pub last_command_fits : Fits (command_of (number 1) "script.getRealms" (mapped ("type" being word "window" and no_members))) (rule command)
+-- the last alternative is reached: browser.removeUserContext fits
+pub last_command_fits : Fits (command_of (number 1) "browser.removeUserContext" (mapped ("userContext" being word "u" and no_members))) (rule command)
 last_command_fits = fits_by 1000 refl
 
 -- params that do not fit the rule of that very method do not
-pub params_of_another_command_misfit : Fits (command_of (number 1) "script.getRealms" (mapped ("type" being word "tab" and no_members))) (rule command) → ⊥
+pub params_of_another_command_misfit : Fits (command_of (number 1) "browser.removeUserContext" (mapped ("context" being word "u" and no_members)))
+    (rule command) → ⊥
 params_of_another_command_misfit = misfits_by 1000 refl
 
 -- a command may have a further member
 pub command_with_a_further_member_fits : Fits (mapped ("id" being number 1 and "method" being word "session.end" and "params" being mapped
     no_members and "x" being node.null and no_members)) (rule command)
 command_with_a_further_member_fits = fits_by 1000 refl
+
+-- ---- user contexts
+
+-- `{"userContext":"u","x":null}` fits UserContextInfo, which is open
+pub user_context_fits : Fits (mapped ("userContext" being word "u" and "x" being node.null and no_members)) (rule user_context_info)
+user_context_fits = fits_by 1000 refl
+
+-- `{"userContexts":[{"userContext":"u"}]}` fits GetUserContextsResult
+pub one_user_context_fits : Fits (mapped ("userContexts" being listed (mapped ("userContext" being word "u" and no_members) ∷ []) and no_members))
+    (rule get_user_contexts_result)
+one_user_context_fits = fits_by 1000 refl
+
+-- with no item it does not
+pub no_user_context_misfits : Fits (mapped ("userContexts" being listed [] and no_members)) (rule get_user_contexts_result) → ⊥
+no_user_context_misfits = misfits_by 1000 refl
+
+-- nor with one that is a text
+pub user_context_as_a_text_misfits : Fits (mapped ("userContexts" being listed (word "u" ∷ []) and no_members)) (rule get_user_contexts_result) → ⊥
+user_context_as_a_text_misfits = misfits_by 1000 refl
+
+-- `{"userContext":null}` does not fit RemoveUserContextParameters
+pub removal_of_null_misfits : Fits (mapped ("userContext" being node.null and no_members)) (rule remove_user_context_parameters) → ⊥
+removal_of_null_misfits = misfits_by 1000 refl
 
 -- ---- messages
 

@@ -73,3 +73,7 @@ pub data Name : Type 0 where
   console_entry : Name
   javascript_entry : Name
   generic_log_entry : Name
+  -- browser
+  user_context_info : Name
+  get_user_contexts_result : Name
+  remove_user_context_parameters : Name

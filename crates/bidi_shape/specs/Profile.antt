@@ -12,7 +12,8 @@ use Rattle.bidi_shape.specs.Name.{evaluate_parameters, call_function_parameters,
 use Rattle.bidi_shape.specs.Name.{realm_info, realm_destroyed_parameters, primitive, reg_exp_value, reference, shared_reference}
 use Rattle.bidi_shape.specs.Name.{remote_object_reference, local_value, local_pair, remote_value, remote_pair, opaque, evaluate_result}
 use Rattle.bidi_shape.specs.Name.{exception_details, stack_trace, stack_frame, source, table_row, log_entry, console_entry}
-use Rattle.bidi_shape.specs.Name.{javascript_entry, generic_log_entry}
+use Rattle.bidi_shape.specs.Name.{javascript_entry, generic_log_entry, user_context_info, get_user_contexts_result}
+use Rattle.bidi_shape.specs.Name.{remove_user_context_parameters}
 use Rattle.bidi_shape.specs.Term.{Term, Rows, no_more, text, bool, null, js_uint, js_int, pair_of, rule, capped, ◌is◌and◌}
 use Rattle.bidi_shape.specs.Term.{◌may_be◌and◌, ◌or◌, the, any_number_of, at_least_one, open_map, closed_map}
 
@@ -56,6 +57,9 @@ further_commands =
     ∷ command_row "script.callFunction" call_function_parameters evaluate_result
     ∷ command_row "script.disown" disown_parameters empty_result
     ∷ command_row "script.getRealms" get_realms_parameters get_realms_result
+    ∷ command_row "browser.createUserContext" empty_params user_context_info
+    ∷ command_row "browser.getUserContexts" empty_params get_user_contexts_result
+    ∷ command_row "browser.removeUserContext" remove_user_context_parameters empty_result
     ∷ []
 
 abbrev pub context_created_row : EventRow
@@ -364,3 +368,10 @@ term_of javascript_entry = closed_map (base (
     "type" is the "javascript" and no_more))
 term_of generic_log_entry = open_map (base (
     "type" is text and no_more))
+-- browser
+term_of user_context_info = open_map (
+    "userContext" is text and no_more)
+term_of get_user_contexts_result = open_map (
+    "userContexts" is at_least_one (rule user_context_info) and no_more)
+term_of remove_user_context_parameters = open_map (
+    "userContext" is text and no_more)

@@ -12,7 +12,8 @@ use Rattle.bidi_handles.specs.Ids.{id_of}
 use Rattle.bidi_browser.specs.Acts.{Act, Logged, Looked}
 use Rattle.bidi_browser.specs.Actions.{Action}
 use Rattle.bidi_browser.specs.Contexts.{up_to, top_of, is_alive}
-use Rattle.bidi_browser.specs.Occurrences.{is_among, entry_added, tree_events}
+use Rattle.bidi_browser.specs.Occurrences.{is_among, top_at, entry_added, tree_events}
+use Rattle.bidi_browser.specs.declared.occurrence.Top.{Top}
 use Rattle.bidi_browser.specs.Occurs.{occurs}
 use Rattle.bidi_browser.specs.Outcome as browser
 use Rattle.bidi_remote.specs.Machine.History.{Deed, Time, Opened, Dropped, Began, Ended, Subscribed, Cancelled, Dismissed, Did}
@@ -26,7 +27,7 @@ use Rattle.bidi_remote.specs.Machine.LogBuffer.{just_missed, announced_at, misse
 use Rattle.bidi_remote.specs.Machine.Outcome.{session_of_resource, may_open, is_ready}
 use Rattle.bidi_remote.specs.Machine.Sent.{announcements}
 use Rattle.bidi_strike.specs.Own.{own}
-use Rattle.bidi_strike.proofs.LookLemmas.{unlooked, top_of-unlooked, is_alive-unlooked, tree_events-unlooked, entry_added-unlooked}
+use Rattle.bidi_strike.proofs.LookLemmas.{unlooked, top_of-unlooked, top_at-unlooked, user_checked-unlooked, is_alive-unlooked, tree_events-unlooked, entry_added-unlooked}
 use Rattle.bidi_strike.proofs.LookLemmas.{occurs-unlooked, outcome-unlooked, context_named-unlooked}
 
 -- what a question comes to, whether the deed stands in the past or not
@@ -147,6 +148,9 @@ of-browser question same s past = ap question (acts-own s past) ∙ same (acts p
 pub top_of-own : (s : ℕ) (past : List Deed) (c : ℕ) → top_of (acts (own s past)) c ≡ top_of (acts past) c
 top_of-own s past c = of-browser (λ p. top_of p c) (λ p. top_of-unlooked p c) s past
 
+top_at-own : (s : ℕ) (past : List Deed) (c : ℕ) → top_at (acts (own s past)) c ≡ top_at (acts past) c
+top_at-own s past c = of-browser (λ p. top_at p c) (λ p. top_at-unlooked p c) s past
+
 is_alive-own : (s : ℕ) (past : List Deed) (c : ℕ) → is_alive (acts (own s past)) c ≡ is_alive (acts past) c
 is_alive-own s past c = of-browser (λ p. is_alive p c) (λ p. is_alive-unlooked p c) s past
 
@@ -156,6 +160,9 @@ tree_events-own s past = of-browser tree_events tree_events-unlooked s past
 entry_added-own : (s : ℕ) (past : List Deed) (m c : ℕ) (level : Level) (line : List ℕ)
     → entry_added (acts (own s past)) m c level line ≡ entry_added (acts past) m c level line
 entry_added-own s past m c level line = of-browser (λ p. entry_added p m c level line) (λ p. entry_added-unlooked p m c level line) s past
+
+pub user_checked-own : (s : ℕ) (past : List Deed) (id : List ℕ) → browser.user_checked (acts (own s past)) id ≡ browser.user_checked (acts past) id
+user_checked-own s past id = of-browser (λ p. browser.user_checked p id) (λ p. user_checked-unlooked p id) s past
 
 pub outcome-own : (s : ℕ) (past : List Deed) (action : Action) → browser.outcome (acts (own s past)) action ≡ browser.outcome (acts past) action
 outcome-own s past action = of-browser (λ p. browser.outcome p action) (λ p. outcome-unlooked p action) s past
@@ -259,13 +266,13 @@ subscriptions-own s past = λ i. filter (λ n. is_live-own s past n i) (up_to (s
 pub holds_globally-own : (s : ℕ) (past : List Deed) (e : EventName) → holds_globally (own s past) s e ≡ holds_globally past s e
 holds_globally-own s past e = λ i. list_any (λ n. is_global (scope_of-own s past n i) && holds-own s past n e i) (subscriptions-own s past i)
 
-pub is_enabled-own : (s : ℕ) (past : List Deed) (e : EventName) (top : ℕ) → is_enabled (own s past) s e top ≡ is_enabled past s e top
+pub is_enabled-own : (s : ℕ) (past : List Deed) (e : EventName) (top : Top) → is_enabled (own s past) s e top ≡ is_enabled past s e top
 is_enabled-own s past e top =
     λ i. is_active-own s past s i
     && list_any (λ n. holds-own s past n e i && covers (scope_of-own s past n i) top) (up_to (subscriptions_made-own s past i))
 
 -- the same with one more subscription, of whatever session
-enabled-subscribed-own : (s : ℕ) (past : List Deed) (t : ℕ) (es : List EventName) (scope : Scope) (e : EventName) (top : ℕ)
+enabled-subscribed-own : (s : ℕ) (past : List Deed) (t : ℕ) (es : List EventName) (scope : Scope) (e : EventName) (top : Top)
     → is_enabled (Subscribed t es scope ∷ own s past) s e top ≡ is_enabled (Subscribed t es scope ∷ past) s e top
 enabled-subscribed-own s past t es scope e top =
     let made = subscriptions_made-own s past in
@@ -273,10 +280,10 @@ enabled-subscribed-own s past t es scope e top =
     && list_any (λ n. (if s == t && n == suc (made i) then is_among es e else holds-own s past n e i)
     && covers (if s == t && n == suc (made i) then scope else scope_of-own s past n i) top) (up_to (if s == t then suc (made i) else made i))
 
-pub is_newly_enabled-own : (s : ℕ) (past : List Deed) (t : ℕ) (es : List EventName) (scope : Scope) (e : EventName) (top : ℕ)
+pub is_newly_enabled-own : (s : ℕ) (past : List Deed) (t : ℕ) (es : List EventName) (scope : Scope) (e : EventName) (top : Top)
     → is_newly_enabled (own s past) (Subscribed t es scope) s e top ≡ is_newly_enabled past (Subscribed t es scope) s e top
 is_newly_enabled-own s past t es scope e top =
-    λ i. (is_alive-own s past top i && not (is_enabled-own s past e top i)) && enabled-subscribed-own s past t es scope e top i
+    λ i. (is_alive-own s past top.number i && not (is_enabled-own s past e top i)) && enabled-subscribed-own s past t es scope e top i
 
 -- ---- the log
 
@@ -284,7 +291,7 @@ missed-own : (s : ℕ) (past : List Deed) → missed (own s past) s ≡ missed p
 missed-own s [] = refl
 missed-own s (Began c ∷ past) = λ i. if s == suc (sessions_made-own s past i) then [] else missed-own s past i
 missed-own s (Did (Logged c level line) ∷ past) =
-    λ i. if is_enabled-own s past EntryAdded (top_of-own s past c i) i then missed-own s past i
+    λ i. if is_enabled-own s past EntryAdded (top_at-own s past c i) i then missed-own s past i
     else missed-own s past i ++ just_missed (entry_added-own s past (moment-own s past i) c level line i) ∷ []
 missed-own s (Subscribed t es scope ∷ past) =
     let ih = missed-own s past in

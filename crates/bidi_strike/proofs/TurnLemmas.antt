@@ -16,16 +16,16 @@ use Rattle.bidi_messages.specs.Verdict.{Accepted, Refused}
 use Rattle.bidi_remote.specs.Machine.Capabilities.{matching}
 use Rattle.bidi_remote.specs.Machine.Commands.{Command, Status, New, End, Subscribe, UnsubscribeById, UnsubscribeByEvents, OfBrowser, command_of, id_of_command}
 use Rattle.bidi_remote.specs.Machine.History.{Input, At, Open, Drop, Heard, NotText, OfPage, Deed, Opened, Dropped, Began}
-use Rattle.bidi_remote.specs.Machine.History.{Subscribed, Cancelled, Dismissed, Did, Told, Below, acts}
+use Rattle.bidi_remote.specs.Machine.History.{Subscribed, Cancelled, Dismissed, Did, Told, Below, Within, acts}
 use Rattle.bidi_remote.specs.Machine.Connections.{Attachment, Shut, Alone, SpeaksFor, attachment_of, is_open}
 use Rattle.bidi_remote.specs.Machine.Subscriptions.{subscriptions, holds_globally}
-use Rattle.bidi_remote.specs.Machine.Outcome.{all_named, tops_named, scope_asked, subscriptions_named}
+use Rattle.bidi_remote.specs.Machine.Outcome.{all_named, tops_named, users_named, scope_asked, subscriptions_named}
 use Rattle.bidi_remote.specs.Machine.Outcome.{did, outcome_in, outcome_alone, outcome, opening, replied}
 use Rattle.bidi_remote.specs.Machine.Outcome.{NotTaken, Denied, Lost, Error, asked, answered, in_page, turn, with_turn}
 use Rattle.bidi_remote.specs.Machine.Strike.{is_for_another, is_quiet, is_idle, is_struck}
 use Rattle.bidi_strike.specs.Own.{own}
 use Rattle.bidi_strike.proofs.OwnLemmas.{either-way, attachment_of-own, is_open-own, session_of_resource-own, may_open-own, is_ready-own, outcome-own}
-use Rattle.bidi_strike.proofs.OwnLemmas.{context_named-own, top_of-own, subscriptions-own, holds_globally-own}
+use Rattle.bidi_strike.proofs.OwnLemmas.{context_named-own, top_of-own, user_checked-own, subscriptions-own, holds_globally-own}
 use Rattle.bidi_strike.proofs.QuietLemmas.{asks_quietly, command-quiet}
 
 -- ---- the commands of the session itself
@@ -37,12 +37,21 @@ tops_named-own s past (id ∷ ids) = λ i. do
   tops ← tops_named-own s past ids i
   Ok (top_of-own s past c i ∷ tops)
 
+users_named-own : (s : ℕ) (past : List Deed) (ids : List (List ℕ)) → users_named (acts (own s past)) ids ≡ users_named (acts past) ids
+users_named-own s past [] = refl
+users_named-own s past (id ∷ ids) = λ i. do
+  u ← user_checked-own s past id i
+  users ← users_named-own s past ids i
+  Ok (u ∷ users)
+
 scope_asked-own : (s : ℕ) (past : List Deed) (contexts users : Option (List (List ℕ))) → scope_asked (acts (own s past)) contexts users ≡ scope_asked (acts past) contexts users
 scope_asked-own s past None None = refl
 scope_asked-own s past (Some ids) None = λ i. do
   tops ← tops_named-own s past ids i
   Ok (Below tops)
-scope_asked-own s past None (Some users) = refl
+scope_asked-own s past None (Some ids) = λ i. do
+  users ← users_named-own s past ids i
+  Ok (Within users)
 scope_asked-own s past (Some ids) (Some users) = refl
 
 subscriptions_named-own : (s : ℕ) (past : List Deed) (ids : List (List ℕ)) → subscriptions_named (own s past) s ids ≡ subscriptions_named past s ids

@@ -89,11 +89,14 @@ fn result_rule(method: Method) -> Name
         Method::BrowsingContextNavigate | Method::BrowsingContextReload => Name::NavigateResult,
         Method::ScriptEvaluate | Method::ScriptCallFunction => Name::EvaluateResult,
         Method::ScriptGetRealms => Name::GetRealmsResult,
+        Method::BrowserCreateUserContext => Name::UserContextInfo,
+        Method::BrowserGetUserContexts => Name::GetUserContextsResult,
         Method::SessionEnd
         | Method::SessionUnsubscribe
         | Method::BrowsingContextActivate
         | Method::BrowsingContextClose
         | Method::BrowsingContextTraverseHistory
-        | Method::ScriptDisown => Name::EmptyResult,
+        | Method::ScriptDisown
+        | Method::BrowserRemoveUserContext => Name::EmptyResult,
     }
 }

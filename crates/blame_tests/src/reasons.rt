@@ -61,8 +61,8 @@ Command {"id":1,"method":"session.status","params":{}} -> fits
 Command 5 -> : wants a map, has 5 (Command)
 Command {"method":"session.status","params":{}} -> /id: wants a whole number from 0 to 9007199254740991, has nothing (Command)
 Command {"id":-1,"method":"session.status","params":{}} -> /id: wants a whole number from 0 to 9007199254740991, has -1 (Command)
-Command {"id":1,"method":"page.open","params":{}} -> /method: wants "session.status" or "session.new" or "session.end" or "session.subscribe" or "session.unsubscribe" or "browsingContext.activate" or "browsingContext.close" or "browsingContext.create" or "browsingContext.getTree" or "browsingContext.navigate" or "browsingContext.reload" or "browsingContext.traverseHistory" or "script.evaluate" or "script.callFunction" or "script.disown" or "script.getRealms", has "page.open" (Command)
-Command {"id":1,"params":{}} -> /method: wants "session.status" or "session.new" or "session.end" or "session.subscribe" or "session.unsubscribe" or "browsingContext.activate" or "browsingContext.close" or "browsingContext.create" or "browsingContext.getTree" or "browsingContext.navigate" or "browsingContext.reload" or "browsingContext.traverseHistory" or "script.evaluate" or "script.callFunction" or "script.disown" or "script.getRealms", has nothing (Command)
+Command {"id":1,"method":"page.open","params":{}} -> /method: wants "session.status" or "session.new" or "session.end" or "session.subscribe" or "session.unsubscribe" or "browsingContext.activate" or "browsingContext.close" or "browsingContext.create" or "browsingContext.getTree" or "browsingContext.navigate" or "browsingContext.reload" or "browsingContext.traverseHistory" or "script.evaluate" or "script.callFunction" or "script.disown" or "script.getRealms" or "browser.createUserContext" or "browser.getUserContexts" or "browser.removeUserContext", has "page.open" (Command)
+Command {"id":1,"params":{}} -> /method: wants "session.status" or "session.new" or "session.end" or "session.subscribe" or "session.unsubscribe" or "browsingContext.activate" or "browsingContext.close" or "browsingContext.create" or "browsingContext.getTree" or "browsingContext.navigate" or "browsingContext.reload" or "browsingContext.traverseHistory" or "script.evaluate" or "script.callFunction" or "script.disown" or "script.getRealms" or "browser.createUserContext" or "browser.getUserContexts" or "browser.removeUserContext", has nothing (Command)
 Command {"id":1,"method":"session.status"} -> /params: wants EmptyParams, has nothing (Command)
 Command {"id":1,"method":"browsingContext.navigate","params":{"context":5,"url":"u"}} -> /params/context: wants a text, has 5 (NavigateParameters)
 Command {"id":1,"method":"session.end","params":{},"x":1.5} -> /x: wants whole numbers in range and at most 60 levels, has a number with a fraction or out of range (Command)
@@ -225,4 +225,17 @@ GenericLogEntry {"level":"info","source":{"realm":"r"},"text":5,"timestamp":1,"t
 #[test]
 fn reasons_of_the_module_log(rt: HostRuntime) -> Result<(), Fail> {
     check_rows::<Reasons>(rt.alloc(), LOG)
+}
+
+const BROWSER: &str = r#"
+UserContextInfo {"userContext":"u","x":1} -> fits
+UserContextInfo {"userContext":null} -> /userContext: wants a text, has null (UserContextInfo)
+GetUserContextsResult {"userContexts":[]} -> /userContexts: wants a list with at least one item, has an empty list (GetUserContextsResult)
+GetUserContextsResult {"userContexts":[{"userContext":"u"},{}]} -> /userContexts/1/userContext: wants a text, has nothing (UserContextInfo)
+RemoveUserContextParameters {} -> /userContext: wants a text, has nothing (RemoveUserContextParameters)
+"#;
+
+#[test]
+fn reasons_of_the_module_browser(rt: HostRuntime) -> Result<(), Fail> {
+    check_rows::<Reasons>(rt.alloc(), BROWSER)
 }

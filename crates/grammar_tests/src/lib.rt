@@ -4,6 +4,8 @@
 #![tactic(auto)]
 
 #[cfg(test)]
+mod browser;
+#[cfg(test)]
 mod browsing;
 #[cfg(test)]
 mod info;

@@ -83,11 +83,11 @@ pub reference_of_a_window_is_checked_too :
 unfolding machine_on_literals
 reference_of_a_window_is_checked_too = refl
 
-pub user_context_has_to_be_default :
+pub user_context_has_to_be_live :
     after (begun ++ frame "$c1" "http://a.test" ∷ []) (ask "{'id':1,'method':'browsingContext.create','params':{'type':'tab','userContext':'x'}}")
     ≡ refusal 1 1 "no such user context" ∷ []
 unfolding machine_on_literals
-user_context_has_to_be_default = refl
+user_context_has_to_be_live = refl
 
 pub reference_is_checked_before_the_user_context :
     after (begun ++ frame "$c1" "http://a.test" ∷ [])

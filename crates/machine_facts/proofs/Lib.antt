@@ -4,6 +4,7 @@ pub mod SessionFacts
 pub mod SubscriptionFacts
 pub mod LogFacts
 pub mod ContextFacts
+pub mod UserFacts
 pub mod NavigationFacts
 pub mod ScriptFacts
 pub mod TableFacts

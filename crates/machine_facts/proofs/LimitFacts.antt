@@ -3,7 +3,7 @@ use Rattle.std.specs.Prelude.{◌≡◌, ℕ, List, [], ◌∷◌, ◌++◌, map
 use Rattle.bidi_tree.specs.Node.{Node, no_members}
 use Rattle.bidi_handles.specs.declared.id.IdKind.TheVariants.{Handle}
 use Rattle.bidi_handles.specs.Ids.{id_of}
-use Rattle.bidi_browser.specs.Acts.{Made, Removed, Tabled, Ran, Disowned, Returned, EndsIn, GivesBack}
+use Rattle.bidi_browser.specs.Acts.{Made, Removed, Tabled, Ran, Disowned, UserMade, UserRemoved, Returned, EndsIn, GivesBack}
 use Rattle.bidi_browser.specs.Contexts.{up_to}
 use Rattle.bidi_handles.specs.Maps.{◌being◌and◌, mapped, word}
 use Rattle.bidi_browser.specs.Outcome.{undefined}
@@ -24,7 +24,7 @@ after_deeds deeds step =
 
 -- so many tabs were made
 abbrev pub tabs : ℕ → List Deed
-tabs n = replicate n (Did (Made (Some 1)))
+tabs n = replicate n (Did (Made (Some 1) 0))
 
 -- `{"type":"object"}`
 abbrev pub empty : Node
@@ -39,6 +39,10 @@ handles n =
 -- so many global subscriptions to log entries
 abbrev pub subscribed : ℕ → List Deed
 subscribed n = replicate n (Subscribed 1 (EntryAdded ∷ []) All)
+
+-- so many user contexts were made
+abbrev pub users : ℕ → List Deed
+users n = replicate n (Did UserMade)
 
 -- so many rows, each with its number alone for a text
 abbrev pub rows : ℕ → List Deed
@@ -63,6 +67,27 @@ pub closed_context_makes_room :
     ≡ success 1 1 "{'context':'00000000-0002-8000-8000-000000000401'}" ∷ []
 unfolding machine_on_literals
 closed_context_makes_room = refl
+
+-- ---- user contexts
+
+pub sixty_fourth_user_context_is_made :
+    after_deeds (users 63) (ask "{'id':1,'method':'browser.createUserContext','params':{}}")
+    ≡ success 1 1 "{'userContext':'00000000-0008-8000-8000-000000000040'}" ∷ []
+unfolding machine_on_literals
+sixty_fourth_user_context_is_made = refl
+
+pub sixty_fifth_user_context_is_not :
+    after_deeds (users 64) (ask "{'id':1,'method':'browser.createUserContext','params':{}}")
+    ≡ refusal 1 1 "unknown error" ∷ []
+unfolding machine_on_literals
+sixty_fifth_user_context_is_not = refl
+
+-- and its number is not given again
+pub removed_user_context_makes_room :
+    after_deeds (Did (UserRemoved 7) ∷ users 64) (ask "{'id':1,'method':'browser.createUserContext','params':{}}")
+    ≡ success 1 1 "{'userContext':'00000000-0008-8000-8000-000000000041'}" ∷ []
+unfolding machine_on_literals
+removed_user_context_makes_room = refl
 
 -- ---- subscriptions
 
@@ -96,6 +121,12 @@ pub unknown_context_is_refused_before_the_number :
 unfolding machine_on_literals
 unknown_context_is_refused_before_the_number = refl
 
+pub unknown_user_context_is_refused_before_the_number :
+    after_deeds (subscribed 256) (ask "{'id':1,'method':'session.subscribe','params':{'events':['log'],'userContexts':['$k1']}}")
+    ≡ refusal 1 1 "no such user context" ∷ []
+unfolding machine_on_literals
+unknown_user_context_is_refused_before_the_number = refl
+
 -- ---- handles
 
 pub thousand_and_first_handle_is_not_given :
@@ -127,7 +158,7 @@ unfolding machine_on_literals
 value_that_takes_no_handle_is_told_beside_a_thousand = refl
 
 pub handles_are_limited_realm_by_realm :
-    after_deeds (Did (Made (Some 1)) ∷ handles 1000)
+    after_deeds (Did (Made (Some 1) 0) ∷ handles 1000)
     (ask "{'id':1,'method':'script.evaluate','params':{'awaitPromise':false,'expression':'o','resultOwnership':'root','target':{'context':'$c2'}}}")
     ≡ success 1 1 "{'realm':'$r2','result':{'handle':'00000000-0006-8000-8000-0000000003e9','type':'object'},'type':'success'}" ∷ []
 unfolding machine_on_literals

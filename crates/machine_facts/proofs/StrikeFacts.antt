@@ -58,6 +58,19 @@ pub command_that_others_see_is_kept : kept (begun ++ ask "{'id':1,'method':'brow
 unfolding machine_on_literals
 command_that_others_see_is_kept = refl
 
+-- also the list of them, which changes nothing
+pub commands_for_user_contexts_are_kept : kept (begun ++ ask "{'id':1,'method':'browser.createUserContext','params':{}}"
+    ∷ ask "{'id':2,'method':'browser.getUserContexts','params':{}}" ∷ ask "{'id':3,'method':'browser.removeUserContext','params':{'userContext':'$k1'}}" ∷ []) 2
+    ≡ begun ++ ask "{'id':1,'method':'browser.createUserContext','params':{}}"
+    ∷ ask "{'id':2,'method':'browser.getUserContexts','params':{}}" ∷ ask "{'id':3,'method':'browser.removeUserContext','params':{'userContext':'$k1'}}" ∷ []
+unfolding machine_on_literals
+commands_for_user_contexts_are_kept = refl
+
+pub refused_removal_of_a_user_context_is_struck :
+    kept (begun ++ ask "{'id':1,'method':'browser.removeUserContext','params':{'userContext':'default'}}" ∷ []) 2 ≡ begun
+unfolding machine_on_literals
+refused_removal_of_a_user_context_is_struck = refl
+
 pub first_session_sees_its_own_connection : sees (map heard two_sessions) 1 ≡ success 1 1
     "{'capabilities':{'acceptInsecureCerts':false,'browserName':'memory-browser','browserVersion':'1.0','platformName':'none','setWindowRect':false,'userAgent':'memory-browser/1.0'},'sessionId':'$s1'}" ∷ []
 unfolding machine_on_literals

@@ -120,7 +120,7 @@ unfolding machine_on_literals
 unknown_event_is_refused = refl
 
 pub unknown_module_is_refused :
-    after begun (ask "{'id':1,'method':'session.subscribe','params':{'events':['browser']}}")
+    after begun (ask "{'id':1,'method':'session.subscribe','params':{'events':['network']}}")
     ≡ refusal 1 1 "invalid argument" ∷ []
 unfolding machine_on_literals
 unknown_module_is_refused = refl
@@ -131,11 +131,17 @@ pub contexts_and_user_contexts_exclude_each_other :
 unfolding machine_on_literals
 contexts_and_user_contexts_exclude_each_other = refl
 
-pub user_contexts_are_not_supported :
+pub user_context_is_taken :
     after begun (ask "{'id':1,'method':'session.subscribe','params':{'events':['log.entryAdded'],'userContexts':['default']}}")
-    ≡ refusal 1 1 "unsupported operation" ∷ []
+    ≡ success 1 1 "{'subscription':'$u1'}" ∷ []
 unfolding machine_on_literals
-user_contexts_are_not_supported = refl
+user_context_is_taken = refl
+
+pub each_user_context_has_to_be_live :
+    after begun (ask "{'id':1,'method':'session.subscribe','params':{'events':['log.entryAdded'],'userContexts':['default','$k1']}}")
+    ≡ refusal 1 1 "no such user context" ∷ []
+unfolding machine_on_literals
+each_user_context_has_to_be_live = refl
 
 pub no_event_does_not_fit :
     after begun (ask "{'id':1,'method':'session.subscribe','params':{'events':[]}}")
@@ -144,7 +150,7 @@ unfolding machine_on_literals
 no_event_does_not_fit = refl
 
 pub event_names_are_checked_before_user_contexts :
-    after begun (ask "{'id':1,'method':'session.subscribe','params':{'events':['log.nothing'],'userContexts':['default']}}")
+    after begun (ask "{'id':1,'method':'session.subscribe','params':{'events':['log.nothing'],'userContexts':['$k1']}}")
     ≡ refusal 1 1 "invalid argument" ∷ []
 unfolding machine_on_literals
 event_names_are_checked_before_user_contexts = refl
@@ -160,6 +166,12 @@ pub both_members_are_checked_before_contexts :
     ≡ refusal 1 1 "invalid argument" ∷ []
 unfolding machine_on_literals
 both_members_are_checked_before_contexts = refl
+
+pub both_members_are_checked_before_user_contexts :
+    after begun (ask "{'id':1,'method':'session.subscribe','params':{'events':['log.entryAdded'],'contexts':['$c1'],'userContexts':['$k1']}}")
+    ≡ refusal 1 1 "invalid argument" ∷ []
+unfolding machine_on_literals
+both_members_are_checked_before_user_contexts = refl
 
 pub refused_subscription_uses_no_number :
     after (begun

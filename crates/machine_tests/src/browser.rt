@@ -1,5 +1,5 @@
 //! Ids and their texts, and what a browser says and tells as it starts.
-use bidi_browser::{Browser, IdKind, Occurrence, id_number, id_text};
+use bidi_browser::{Browser, IdKind, Occurrence, Top, id_number, id_text};
 use bidi_messages::{EventData, EventName, Payload, event_text};
 use std::alloc::{AllocError, Global};
 use std::test::Fail;
@@ -13,6 +13,7 @@ impl Asked for Browsers {
             "number" => number(alloc, text),
             "live" => live(alloc, text),
             "top" => top(alloc, text),
+            "user" => user(alloc, text),
             "events" => events(alloc),
             _ => id(alloc, kind_of(word).ok_or("no such word")?, text),
         }
@@ -30,6 +31,7 @@ Navigation 0 1 -> 00000000-0004-8000-8000-000000000001
 Subscription 1 1 -> 00000001-0005-8000-8000-000000000001
 Handle 0 1 -> 00000000-0006-8000-8000-000000000001
 Window 0 1 -> 00000000-0007-8000-8000-000000000001
+UserContext 0 1 -> 00000000-0008-8000-8000-000000000001
 Handle 7 1 -> 00000000-0006-8000-8000-000000000001
 Context 3 2 -> 00000000-0002-8000-8000-000000000002
 Handle 0 1001 -> 00000000-0006-8000-8000-0000000003e9
@@ -50,6 +52,7 @@ fn kind_of(word: &str) -> Option<IdKind> {
         "Subscription" => Some(IdKind::Subscription),
         "Handle" => Some(IdKind::Handle),
         "Window" => Some(IdKind::Window),
+        "UserContext" => Some(IdKind::UserContext),
         _ => None,
     }
 }
@@ -89,6 +92,7 @@ braces | number Handle 0 {00000000-0006-8000-8000-0000000003e9} -> None
 a name | number Handle 0 urn:uuid:00000000-0006-8000-8000-0000000003e9 -> None
 no hexadecimal digit | number Handle 0 00000000-0006-8000-8000-0000000003g9 -> None
 no text | number Handle 0  -> None
+the word that is no id | number UserContext 0 default -> None
 ";
 
 #[test]
@@ -106,8 +110,8 @@ fn number(alloc: Global, text: &str) -> Result<String, Fail> {
 
 // ---- a browser as it starts
 
-/// Which numbers of contexts are alive, the number of the top of an id, and the events that tell of all that stands, each
-/// behind the numbers of its context and of its top.
+/// Which numbers of contexts are alive, the number of the top of an id, whether an id is that of a live user context, with its
+/// number, and the events that tell of all that stands, each behind the numbers of its context, its top and their user context.
 const START: &str = r#"
 live 0 -> false
 live 1 -> true
@@ -117,7 +121,12 @@ top 00000000-0002-8000-8000-000000000002 -> None
 top 00000000-0002-8000-8000-00000000000A -> None
 top 00000000-0003-8000-8000-000000000001 -> None
 top  -> None
-the context before its realm | events  -> [1 1 {"method":"browsingContext.contextCreated","params":{"children":null,"clientWindow":"00000000-0007-8000-8000-000000000001","context":"00000000-0002-8000-8000-000000000001","originalOpener":null,"parent":null,"url":"about:blank","userContext":"default"},"type":"event"}][1 1 {"method":"script.realmCreated","params":{"context":"00000000-0002-8000-8000-000000000001","origin":"null","realm":"00000000-0003-8000-8000-000000000001","type":"window"},"type":"event"}]
+user default -> true Some(0)
+user Default -> false None
+user 00000000-0008-8000-8000-000000000001 -> false None
+the number of the default one has no id | user 00000000-0008-8000-8000-000000000000 -> false None
+user  -> false None
+the context before its realm | events  -> [1 1 0 {"method":"browsingContext.contextCreated","params":{"children":null,"clientWindow":"00000000-0007-8000-8000-000000000001","context":"00000000-0002-8000-8000-000000000001","originalOpener":null,"parent":null,"url":"about:blank","userContext":"default"},"type":"event"}][1 1 0 {"method":"script.realmCreated","params":{"context":"00000000-0002-8000-8000-000000000001","origin":"null","realm":"00000000-0003-8000-8000-000000000001","type":"window"},"type":"event"}]
 "#;
 
 #[test]
@@ -136,6 +145,13 @@ fn top(alloc: Global, text: &str) -> Result<String, Fail> {
     Ok(format!(in alloc; "{top:?}")?)
 }
 
+fn user(alloc: Global, text: &str) -> Result<String, Fail> {
+    let browser = Browser::new(alloc)?;
+    let is_live = browser.is_live_user(text);
+    let number = browser.user_named(text);
+    Ok(format!(in alloc; "{is_live} {number:?}")?)
+}
+
 fn events(alloc: Global) -> Result<String, Fail> {
     let mut told = String::new(alloc);
     for occurrence in Browser::new(alloc)?.tree_events()? {
@@ -144,8 +160,8 @@ fn events(alloc: Global) -> Result<String, Fail> {
     Ok(told)
 }
 
-/// The numbers of the context and of the top, and the text of the event.
-fn parts_of(alloc: Global, occurrence: Occurrence) -> (u64, u64, Result<String, AllocError>)
+/// The number of the context, its top, and the text of the event.
+fn parts_of(alloc: Global, occurrence: Occurrence) -> (u64, Top, Result<String, AllocError>)
     requires { ⟦<EventData as Payload<EventName>>⟧.payload.well occurrence.event }
 {
     let text = event_text(alloc, &occurrence.event);
@@ -154,9 +170,9 @@ fn parts_of(alloc: Global, occurrence: Occurrence) -> (u64, u64, Result<String, 
 
 fn push_told(
     told: &mut String,
-    (context, top, text): (u64, u64, Result<String, AllocError>),
+    (context, top, text): (u64, Top, Result<String, AllocError>),
 ) -> Result<(), Fail> {
     let text = text?;
-    write!(told, "[{context} {top} {text}]")?;
+    write!(told, "[{context} {} {} {text}]", top.number, top.user)?;
     Ok(())
 }

@@ -63,6 +63,9 @@ command script.evaluate {"awaitPromise":false,"expression":"1","serializationOpt
 command script.callFunction {"awaitPromise":false,"functionDeclaration":"f","serializationOptions":{"maxObjectDepth":null},"target":{"realm":"r"}} -> 1 script.callFunction same
 command script.disown {"handles":[],"target":{"context":"c"}} -> 1 script.disown same
 command script.getRealms {"type":"window"} -> 1 script.getRealms same
+command browser.createUserContext {"x":{}} -> 1 browser.createUserContext same
+command browser.getUserContexts {} -> 1 browser.getUserContexts same
+command browser.removeUserContext {"userContext":"default"} -> 1 browser.removeUserContext same
 command session.status [] -> 1 invalid argument
 command session.new {} -> 1 invalid argument
 command session.new {"capabilities":{"alwaysMatch":{"acceptInsecureCerts":1}}} -> 1 invalid argument
@@ -85,6 +88,9 @@ command script.evaluate {"awaitPromise":false,"expression":"1","serializationOpt
 command script.callFunction {"awaitPromise":false,"functionDeclaration":"f","serializationOptions":5,"target":{"realm":"r"}} -> 1 invalid argument
 command script.disown {"handles":"h","target":{"context":"c"}} -> 1 invalid argument
 command script.getRealms {"type":"page"} -> 1 invalid argument
+command browser.createUserContext [] -> 1 invalid argument
+command browser.getUserContexts {"x":1.5} -> 1 invalid argument
+command browser.removeUserContext {"userContexts":["u"]} -> 1 invalid argument
 "#;
 
 const VERDICTS: &str = r#"
@@ -212,6 +218,9 @@ result script.evaluate {"realm":"r","result":{"type":"undefined"},"type":"succes
 result script.callFunction {"exceptionDetails":{"columnNumber":0,"exception":{"type":"error"},"lineNumber":0,"stackTrace":{"callFrames":[]},"text":"thrown"},"realm":"r","type":"exception"} -> same
 result script.disown {} -> same
 result script.getRealms {"realms":[{"context":"c","origin":"null","realm":"r","type":"window"}]} -> same
+result browser.createUserContext {"userContext":"u"} -> same
+result browser.getUserContexts {"userContexts":[{"userContext":"default"},{"userContext":"u"}]} -> same
+result browser.removeUserContext {} -> same
 result session.status {"ready":true} -> NoFit
 result session.new {"sessionId":"s"} -> NoFit
 result session.subscribe {"subscription":1} -> NoFit
@@ -222,12 +231,15 @@ result browsingContext.reload {"navigation":1,"url":"about:blank"} -> NoFit
 result script.evaluate {"realm":"r","result":{"type":"undefined"},"type":"success","x":1} -> NoFit
 result script.callFunction {"realm":"r","type":"exception"} -> NoFit
 result script.getRealms {"realms":[{"context":"c","origin":"null","realm":"r","type":"worker"}]} -> NoFit
+result browser.createUserContext {} -> NoFit
+result browser.getUserContexts {"userContexts":[]} -> NoFit
 result session.end {"x":1.5} -> NoFit
 result session.unsubscribe {"x":1.5} -> NoFit
 result browsingContext.activate {"x":1.5} -> NoFit
 result browsingContext.close {"x":1.5} -> NoFit
 result browsingContext.traverseHistory {"x":1.5} -> NoFit
 result script.disown {"x":1.5} -> NoFit
+result browser.removeUserContext {"x":1.5} -> NoFit
 "#;
 
 #[test]
@@ -391,6 +403,9 @@ method script.evaluate -> same
 method script.callFunction -> same
 method script.disown -> same
 method script.getRealms -> same
+method browser.createUserContext -> same
+method browser.getUserContexts -> same
+method browser.removeUserContext -> same
 event-name browsingContext.contextCreated -> same
 event-name browsingContext.contextDestroyed -> same
 event-name browsingContext.navigationStarted -> same

@@ -200,9 +200,9 @@ fn tell_plan<W: Write>(output: &mut W, told: Told) -> Result<(), RowFault> {
     Ok(())
 }
 
-/// Writes the name of an event, and the numbers of its context and of the top-level context.
+/// Writes the name of an event, and the numbers of its context, of the top-level context and of their user context.
 fn tell_event<W: Write>(output: &mut W, occurrence: &Occurrence) -> Result<(), RowFault> {
     let name = occurrence.event.event().name();
     let (context, top) = (occurrence.context, occurrence.top);
-    Ok(writeln!(output, "{name} {context} {top}")?)
+    Ok(writeln!(output, "{name} {context} {} {}", top.number, top.user)?)
 }

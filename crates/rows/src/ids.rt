@@ -2,7 +2,7 @@
 use std::alloc::{AllocError, Global};
 
 /// The letter of each kind of id, and how such an id begins.
-const KINDS: [(&str, &str); 8] = [
+const KINDS: [(&str, &str); 9] = [
     ("s", "00000000-0001"),
     ("c", "00000000-0002"),
     ("r", "00000000-0003"),
@@ -11,13 +11,14 @@ const KINDS: [(&str, &str); 8] = [
     ("v", "00000002-0005"),
     ("h", "00000000-0006"),
     ("w", "00000000-0007"),
+    ("k", "00000000-0008"),
 ];
 
 /// The text with the ids for which its words stand.
 ///
 /// `@c1` stands for the id of the first context, and so `@r1` for that of a realm, `@n1` of a navigation, `@h1` of a
-/// handle, `@w1` of a window, `@s1` of a session, `@u1` of a subscription of the first session and `@v1` of one of the
-/// second.
+/// handle, `@w1` of a window, `@s1` of a session, `@u1` of a subscription of the first session, `@v1` of one of the
+/// second, and `@k1` of the first user context that was made.
 pub fn with_ids(alloc: Global, text: &str) -> Result<String, AllocError> {
     let mut pieces = text.split('@');
     let mut whole = String::from_str(alloc, pieces.next().unwrap_or(""))?;

@@ -167,6 +167,7 @@ for (const [method, params, code] of [
   ['browsingContext.navigate', { context: 'none', url: 'http://a.test' }, 'no such frame'],
   ['browsingContext.navigate', { context: TAB, url: '/relative' }, 'invalid argument'],
   ['browsingContext.traverseHistory', { context: TAB, delta: -1 }, 'no such history entry'],
+  ['browser.removeUserContext', { userContext: 'default' }, 'invalid argument'],
   ['script.evaluate', { expression: '1', target: { context: TAB }, awaitPromise: false }, 'unsupported operation'],
 ]) {
   check(`${method} is refused: ${code}`, async () => {

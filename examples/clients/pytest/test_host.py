@@ -167,6 +167,7 @@ async def test_a_log_entry_has_its_level_and_moment(host):
     ("browsingContext.navigate", {"context": "none", "url": "http://a.test"}, "no such frame"),
     ("browsingContext.navigate", {"context": TAB, "url": "/relative"}, "invalid argument"),
     ("browsingContext.traverseHistory", {"context": TAB, "delta": -1}, "no such history entry"),
+    ("browser.removeUserContext", {"userContext": "default"}, "invalid argument"),
     ("script.evaluate", {"expression": "1", "target": {"context": TAB}, "awaitPromise": False}, "unsupported operation"),
 ])
 async def test_a_bad_command_is_refused(host, method, params, code):

@@ -139,6 +139,30 @@ pub(crate) static COMMAND: Term = OneOf(
             ],
             Extensible,
         ),
+        MapOf(
+            &[
+                ("id", Required, JsUint),
+                ("method", Required, Exactly("browser.createUserContext")),
+                ("params", Required, Rule(Name::EmptyParams)),
+            ],
+            Extensible,
+        ),
+        MapOf(
+            &[
+                ("id", Required, JsUint),
+                ("method", Required, Exactly("browser.getUserContexts")),
+                ("params", Required, Rule(Name::EmptyParams)),
+            ],
+            Extensible,
+        ),
+        MapOf(
+            &[
+                ("id", Required, JsUint),
+                ("method", Required, Exactly("browser.removeUserContext")),
+                ("params", Required, Rule(Name::RemoveUserContextParameters)),
+            ],
+            Extensible,
+        ),
     ],
 );
 

@@ -15,8 +15,8 @@ use std::alloc::{AllocError, Global};
 ///
 /// `{ events: [+text], ? contexts: [+text], ? userContexts: [+text], Extensible }`
 ///
-/// `events` are names of events, or of modules for each of their events. Without `contexts` the subscription holds for
-/// all contexts. `userContexts` are not supported here.
+/// `events` are names of events, or of modules for each of their events. Without `contexts` and `userContexts` the
+/// subscription holds for all contexts.
 ///
 /// After WebDriver BiDi, "The session.subscribe Command".
 #[derive(Drop)]

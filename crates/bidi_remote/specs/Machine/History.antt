@@ -59,10 +59,11 @@ AreHeardAs (x ∷ steps) (i ∷ inputs) = IsHeardAs x i × AreHeardAs steps inpu
 
 -- ---- what came of it
 
--- a subscription is for all contexts, or for those below some top-level ones
+-- a subscription is for all contexts, for those below some top-level ones, or for those in some user contexts
 pub data Scope : Type 0 where
   All : Scope
   Below : (tops : List ℕ) → Scope
+  Within : (users : List ℕ) → Scope
 
 -- What a step did that was taken, in numbers that are already resolved. A past is a list of deeds, the newest first.
 pub data Deed : Type 0 where

@@ -1,9 +1,9 @@
 -- The log entries that wait for a session to subscribe. After WebDriver BiDi, "The log.entryAdded Event"; the limit of a hundred is this project's own.
 use Rattle.std.specs.Prelude.{ℕ, ◌-◌, ◌==◌, Bool, false, not, ◌||◌, if◌then◌else◌, List, [], ◌∷◌, ◌++◌, length, drop, map, filter}
+use Rattle.bidi_browser.specs.declared.occurrence.Top.{Top}
 use Rattle.bidi_browser.specs.Acts.{Logged}
-use Rattle.bidi_browser.specs.Contexts.{top_of}
 use Rattle.bidi_methods.specs.declared.event_data.EventName.TheVariants.{EntryAdded}
-use Rattle.bidi_browser.specs.Occurrences.{Occurrence, entry_added}
+use Rattle.bidi_browser.specs.Occurrences.{Occurrence, top_at, entry_added}
 use Rattle.bidi_remote.specs.Machine.History.{Deed, Began, Subscribed, Did, acts, moment}
 use Rattle.bidi_remote.specs.Machine.Sessions.{next_session}
 use Rattle.bidi_remote.specs.Machine.Subscriptions.{is_enabled, is_newly_enabled}
@@ -18,7 +18,7 @@ abbrev pub just_missed : Occurrence → Missed
 just_missed entry = record { entry = entry; announced = false }
 
 -- the entry is announced with those of its top-level context
-abbrev pub announced_at : (ℕ → Bool) → Missed → Missed
+abbrev pub announced_at : (Top → Bool) → Missed → Missed
 announced_at is_announced m = record m { announced = m.announced || is_announced m.entry.top }
 
 -- the entries since the session was made that were not enabled for it when logged, the oldest first
@@ -26,7 +26,7 @@ abbrev pub missed : List Deed → ℕ → List Missed
 missed [] s = []
 missed (Began c ∷ past) s = if s == next_session past then [] else missed past s
 missed (Did (Logged c level text) ∷ past) s =
-    if is_enabled past s EntryAdded (top_of (acts past) c) then missed past s
+    if is_enabled past s EntryAdded (top_at (acts past) c) then missed past s
     else missed past s ++ just_missed (entry_added (acts past) (moment past) c level text) ∷ []
 missed (Subscribed t events scope ∷ past) s =
     if s == t then map (announced_at (is_newly_enabled past (Subscribed t events scope) s EntryAdded)) (missed past s) else missed past s

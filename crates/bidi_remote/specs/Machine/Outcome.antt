@@ -4,7 +4,7 @@ use Rattle.std.specs.Prelude.{codes, bytes_eq, Option, Some, None, option_map, R
 use Rattle.std.specs.List.{list_all}
 use Rattle.bidi_params.specs.declared.error_code.ErrorCode.{ErrorCode}
 use Rattle.bidi_params.specs.declared.error_code.ErrorCode.TheVariants.{InvalidArgument, InvalidSessionId, SessionNotCreated}
-use Rattle.bidi_params.specs.declared.error_code.ErrorCode.TheVariants.{UnknownCommand, UnknownError, UnsupportedOperation}
+use Rattle.bidi_params.specs.declared.error_code.ErrorCode.TheVariants.{UnknownCommand, UnknownError}
 use Rattle.bidi_handles.specs.declared.id.IdKind.TheVariants.{Session, Subscription}
 use Rattle.bidi_handles.specs.Ids.{id_of, id_text}
 use Rattle.bidi_browser.specs.Acts.{Act}
@@ -19,7 +19,7 @@ use Rattle.bidi_messages.specs.Verdict.{Verdict, Accepted, Refused}
 use Rattle.bidi_remote.specs.Machine.Capabilities.{Request, matching}
 use Rattle.bidi_remote.specs.Machine.Commands.{Command, Status, New, End, Subscribe, UnsubscribeById, UnsubscribeByEvents, OfBrowser, command_of, id_of_command}
 use Rattle.bidi_remote.specs.Machine.History.{Input, At, Open, Drop, Heard, NotText, OfPage, Deed, Time, Opened, Dropped, Began}
-use Rattle.bidi_remote.specs.Machine.History.{Ended, Subscribed, Cancelled, Dismissed, Did, Told, Scope, All, Below, acts}
+use Rattle.bidi_remote.specs.Machine.History.{Ended, Subscribed, Cancelled, Dismissed, Did, Told, Scope, All, Below, Within, acts}
 use Rattle.bidi_remote.specs.Machine.Sessions.{sessions}
 use Rattle.bidi_remote.specs.Machine.Connections.{Attachment, Shut, Alone, SpeaksFor, is_open, attachment_of, open_connections}
 use Rattle.bidi_remote.specs.Machine.Subscriptions.{subscriptions, holds_globally}
@@ -33,6 +33,7 @@ events_of_module name =
     else if bytes_eq name (codes "browsingContext") then Some (ContextCreated ∷ ContextDestroyed ∷ NavigationStarted ∷ DomContentLoaded ∷ Load ∷ [])
     else if bytes_eq name (codes "script") then Some (RealmCreated ∷ RealmDestroyed ∷ [])
     else if bytes_eq name (codes "log") then Some (EntryAdded ∷ [])
+    else if bytes_eq name (codes "browser") then Some []
     else None
 
 -- one event by its name, or else those of a module
@@ -62,13 +63,23 @@ tops_named past (id ∷ ids) = do
   tops ← tops_named past ids
   Ok (top_of past c ∷ tops)
 
--- the scope that is asked for: not by contexts and user contexts at once, and not by user contexts, which are not here
+-- the user contexts of some ids
+abbrev pub users_named : List Act → List (List ℕ) → Result (List ℕ) ErrorCode
+users_named past [] = Ok []
+users_named past (id ∷ ids) = do
+  u ← browser.user_checked past id
+  users ← users_named past ids
+  Ok (u ∷ users)
+
+-- the scope that is asked for: not by contexts and user contexts at once
 abbrev pub scope_asked : List Act → Option (List (List ℕ)) → Option (List (List ℕ)) → Result Scope ErrorCode
 scope_asked past None None = Ok All
 scope_asked past (Some ids) None = do
   tops ← tops_named past ids
   Ok (Below tops)
-scope_asked past None (Some users) = Err UnsupportedOperation
+scope_asked past None (Some ids) = do
+  users ← users_named past ids
+  Ok (Within users)
 scope_asked past (Some ids) (Some users) = Err InvalidArgument
 
 -- the event names, then the scope, then the number of live subscriptions

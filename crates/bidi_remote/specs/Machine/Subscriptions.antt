@@ -4,8 +4,9 @@ use Rattle.std.specs.List.{list_any}
 use Rattle.bidi_browser.specs.Contexts.{up_to, is_alive}
 use Rattle.bidi_methods.specs.declared.event_data.EventName.{EventName}
 use Rattle.bidi_methods.specs.EventName.{events as all_events}
+use Rattle.bidi_browser.specs.declared.occurrence.Top.{Top}
 use Rattle.bidi_browser.specs.Occurrences.{is_among}
-use Rattle.bidi_remote.specs.Machine.History.{Deed, Subscribed, Cancelled, Dismissed, Scope, All, Below, acts}
+use Rattle.bidi_remote.specs.Machine.History.{Deed, Subscribed, Cancelled, Dismissed, Scope, All, Below, Within, acts}
 use Rattle.bidi_remote.specs.Machine.Sessions.{is_active}
 
 -- how many subscriptions a session has made
@@ -34,6 +35,7 @@ scope_of (d ∷ past) s n = scope_of past s n
 abbrev pub is_global : Scope → Bool
 is_global All = true
 is_global (Below tops) = false
+is_global (Within users) = false
 
 -- the number is one of these
 abbrev pub is_listed : List ℕ → ℕ → Bool
@@ -68,16 +70,17 @@ holds_globally past s e = list_any (λ n. is_global (scope_of past s n) && holds
 
 -- ---- which events are enabled
 
--- a scope covers the contexts below a top-level one
-abbrev pub covers : Scope → ℕ → Bool
+-- a scope covers the contexts below a top-level one; in a user context those that come later, too
+abbrev pub covers : Scope → Top → Bool
 covers All top = true
-covers (Below tops) top = is_listed tops top
+covers (Below tops) top = is_listed tops top.number
+covers (Within users) top = is_listed users top.user
 
 -- the event is enabled for the session, for contexts below the top-level one
-abbrev pub is_enabled : List Deed → ℕ → EventName → ℕ → Bool
+abbrev pub is_enabled : List Deed → ℕ → EventName → Top → Bool
 is_enabled past s e top =
     is_active past s && list_any (λ n. holds past s n e && covers (scope_of past s n) top) (up_to (subscriptions_made past s))
 
 -- the top-level context is alive, and the deed enables the event for it, which was not enabled before
-abbrev pub is_newly_enabled : List Deed → Deed → ℕ → EventName → ℕ → Bool
-is_newly_enabled past d s e top = is_alive (acts past) top && not (is_enabled past s e top) && is_enabled (d ∷ past) s e top
+abbrev pub is_newly_enabled : List Deed → Deed → ℕ → EventName → Top → Bool
+is_newly_enabled past d s e top = is_alive (acts past) top.number && not (is_enabled past s e top) && is_enabled (d ∷ past) s e top

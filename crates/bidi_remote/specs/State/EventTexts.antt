@@ -5,13 +5,14 @@ use Rattle.std.specs.declared.alloc.Global.{Global}
 use Rattle.std.specs.declared.rc.Rc.{Rc}
 use Rattle.bidi_messages.specs.contracts.message.MessageShape.TheImpl.{ghosts}
 use Rattle.bidi_messages.specs.Reading.{IsMessageText}
+use Rattle.bidi_browser.specs.declared.occurrence.Top.{Top}
 use Rattle.bidi_browser.specs.Occurrences.{Occurrence}
 use Rattle.bidi_remote.specs.declared.event_texts.EventText.{EventText}
 use Rattle.bidi_remote.specs.Machine.Sent.{occurrence_text}
 
 -- an event as it is sent: its top-level context, and its text
 pub record Written : Type 0 where
-  pub top : ℕ
+  pub top : Top
   pub text : List ℕ
 
 -- an occurrence, written

@@ -4,16 +4,17 @@ use Rattle.std.specs.List.{list_any, All as Each}
 use Rattle.bidi_methods.specs.declared.event_data.EventName.{EventName}
 use Rattle.bidi_browser.specs.Occurrences.{is_among}
 use Rattle.bidi_remote.specs.declared.event_index.EventIndex.{EventIndex}
-use Rattle.bidi_remote.specs.Machine.History.{Scope, All, Below}
+use Rattle.bidi_remote.specs.Machine.History.{Scope, All, Below, Within}
 use Rattle.bidi_remote.specs.State.IndexRows.{IndexRow}
 
 abbrev pub index_row_of : EventIndex → IndexRow
-index_row_of x = record { event = x.event; global = x.global.items; any_scoped = λ t. list_any t x.scoped.items }
+index_row_of x = record { event = x.event; global = x.global.items; any_below = λ t. list_any t x.below.items; any_within = λ t. list_any t x.within.items }
 
 -- there is room for a subscription to these events in this scope
 abbrev pub HasRoomFor : List EventName → Scope → EventIndex → Type 0
 HasRoomFor es All x = is_among es x.event ≡ true → vec_len x.global < vec_capacity x.global
-HasRoomFor es (Below tops) x = is_among es x.event ≡ true → vec_len x.scoped + length tops ≤ vec_capacity x.scoped
+HasRoomFor es (Below tops) x = is_among es x.event ≡ true → vec_len x.below + length tops ≤ vec_capacity x.below
+HasRoomFor es (Within users) x = is_among es x.event ≡ true → vec_len x.within + length users ≤ vec_capacity x.within
 
 -- for each event
 abbrev pub HaveRoomFor : List EventName → Scope → List EventIndex → Type 0

@@ -3,6 +3,7 @@ use Rattle.std.specs.Prelude.{◌≡◌, ℕ, ◌-◌, Bool, if◌then◌else◌
 use Rattle.bidi_messages.specs.contracts.message.MessageShape.TheImpl.{ghosts}
 use Rattle.bidi_methods.specs.declared.event_data.EventName.TheVariants.{EntryAdded}
 use Rattle.bidi_messages.specs.Reading.{IsMessageText}
+use Rattle.bidi_browser.specs.declared.occurrence.Top.{Top}
 use Rattle.bidi_remote.specs.Machine.History.{Deed}
 use Rattle.bidi_remote.specs.Machine.LogBuffer.{Missed, missed, last_hundred}
 use Rattle.bidi_remote.specs.Machine.Sent.{occurrence_text}
@@ -25,12 +26,12 @@ abbrev pub with_missed : Written → List (Option Written) → List (Option Writ
 with_missed w all = let more = all ++ Some w ∷ [] in drop (length more - 100) more
 
 -- an entry leaves its place where those of its top-level context are announced
-abbrev pub left : (ℕ → Bool) → Option Written → Option Written
+abbrev pub left : (Top → Bool) → Option Written → Option Written
 left is_announced None = None
 left is_announced (Some w) = if is_announced w.top then None else Some w
 
 -- each does
-abbrev pub all_left : (ℕ → Bool) → List (Option Written) → List (Option Written)
+abbrev pub all_left : (Top → Bool) → List (Option Written) → List (Option Written)
 all_left is_announced all = map (left is_announced) all
 
 -- what was missed is an entry of the log, of which a message was made

@@ -11,6 +11,7 @@ use Rattle.bidi_browser.specs.Acts.{Act}
 use Rattle.bidi_browser.specs.Contexts.{is_alive}
 use Rattle.bidi_handles.specs.Ids.{id_text}
 use Rattle.bidi_handles.specs.Checks.{◌>>=◌, found}
+use Rattle.bidi_browser.specs.declared.occurrence.Top.{Top}
 use Rattle.bidi_browser.specs.Occurrences.{is_among}
 use Rattle.bidi_remote.specs.Machine.History.{Deed, Scope}
 use Rattle.bidi_remote.specs.Machine.Sessions.{sessions}
@@ -54,16 +55,16 @@ session_rows past = map (session_row past) (sessions past)
 -- ---- what the rows tell
 
 -- the subscription holds for the event, in contexts below the top-level one
-abbrev pub row_covers : EventName → ℕ → SubscriptionRow → Bool
+abbrev pub row_covers : EventName → Top → SubscriptionRow → Bool
 row_covers e top r = is_among r.events e && covers r.scope top
 
 -- one of them does
-abbrev pub any_covers : List SubscriptionRow → EventName → ℕ → Bool
+abbrev pub any_covers : List SubscriptionRow → EventName → Top → Bool
 any_covers rows e top = list_any (row_covers e top) rows
 
 -- the top-level context is alive, none of these subscriptions covers the event there, and these events in this scope do
-abbrev pub is_new : List Act → List SubscriptionRow → List EventName → Scope → EventName → ℕ → Bool
-is_new past held events scope e top = is_alive past top && (not (any_covers held e top) && (is_among events e && covers scope top))
+abbrev pub is_new : List Act → List SubscriptionRow → List EventName → Scope → EventName → Top → Bool
+is_new past held events scope e top = is_alive past top.number && (not (any_covers held e top) && (is_among events e && covers scope top))
 
 -- it is global, and holds for the event
 abbrev pub row_holds : EventName → SubscriptionRow → Bool

@@ -52,6 +52,7 @@ fn events_of_module(name: &str) -> Option<&'static [EventName]>
         ]),
         "script" => Some(&[EventName::RealmCreated, EventName::RealmDestroyed]),
         "log" => Some(&[EventName::EntryAdded]),
+        "browser" => Some(&[]),
         _ => None,
     }
 }

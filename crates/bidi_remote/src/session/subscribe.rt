@@ -7,7 +7,7 @@ ghost use Rattle.bidi_browser.specs.View.{result_tree};
 ghost use Rattle.bidi_remote.specs.Machine.History.{Deed, Subscribed};
 ghost use Rattle.bidi_remote.specs.Machine.Sessions.{is_active};
 ghost use Rattle.bidi_remote.specs.Machine.Subscriptions.{subscriptions_made};
-ghost use Rattle.bidi_remote.specs.Machine.Outcome.{tops_named, scope_asked, outcome_in};
+ghost use Rattle.bidi_remote.specs.Machine.Outcome.{tops_named, users_named, scope_asked, outcome_in};
 ghost use Rattle.bidi_remote.specs.Machine.Sent.{announcements, subscription_tree};
 ghost use Rattle.bidi_remote.specs.State.Asked.{texts, subscribe_asked};
 ghost use Rattle.bidi_remote.specs.State.Checked.{IfChecked};
@@ -51,7 +51,7 @@ const MOST_SUBSCRIPTIONS: usize = 256;
 /// The first that holds:
 /// - `invalid argument`: a name is no event's and no module's, or `contexts` and `userContexts` are both
 ///   given.
-/// - `unsupported operation`: `userContexts` is given.
+/// - `no such user context`: a user context is not live.
 /// - `no such frame`: a context is not live.
 /// - `unknown error`: the session has 256 live subscriptions.
 /// - No memory: an allocation failed.
@@ -178,7 +178,7 @@ fn scope_asked(
     match (&params.contexts, &params.user_contexts) {
         (None, None) => Ok(Scope::All),
         (Some(contexts), None) => Ok(Scope::Below(tops_named(alloc, browser, &contexts.items)?)),
-        (None, Some(_)) => Err(Refusal::Code(ErrorCode::UnsupportedOperation)),
+        (None, Some(users)) => Ok(Scope::Within(users_named(alloc, browser, &users.items)?)),
         (Some(_), Some(_)) => Err(Refusal::Code(ErrorCode::InvalidArgument)),
     }
 }
@@ -195,6 +195,20 @@ fn tops_named(alloc: Global, browser: &Browser, ids: &[String]) -> Result<Vec<u6
         }
     }
     Ok(tops)
+}
+
+// The numbers of the user contexts of these ids.
+fn users_named(alloc: Global, browser: &Browser, ids: &[String]) -> Result<Vec<u64>, Refusal>
+    ensures { (past : List Act) → StandsFor browser.now past → IfChecked result (λ users. users.items) (users_named past (map string_bytes ids.now)) }
+{
+    let mut users = Vec::new(alloc);
+    for id in ids {
+        match browser.user_named(id) {
+            Some(user) => users.push(user)?,
+            None => return Err(Refusal::Code(ErrorCode::NoSuchUserContext)),
+        }
+    }
+    Ok(users)
 }
 
 // The result: the id of the subscription of this number.

@@ -11,14 +11,15 @@ use Rattle.bidi_browser.proofs.births.plan_create.Goals as goal
 
 pub returns-clause-plans : goal.returns-clause-plans
 returns-clause-plans c = λ past moment stands ids.
-    let w = c.in_ok-window.window in
+    let w = c.in_ok-place.place.window in
+    let u = c.in_ok-place.place.user in
     let context = c.in_ok-context.context in
-    let row = made-row past w (row_of context) _ _ _ _ stands.contexts.accepted stands.next_context stands.next_realm stands.next_window
+    let row = made-row past w u (row_of context) _ _ _ _ stands.contexts.accepted stands.next_context stands.next_realm stands.next_window
     c.unwrap_or.ensures c.in_ok-context.ensures in
     let number = ap (λ r. r.number) c.in_ok-context.ensures ∙ stands.next_context in (
-      Made w,
-      c.in_ok-window.ensures.checked past stands ids,
-      asked-birth past (Made w) (row_of context) c.in_ok-before.before.items _ (Some c.in_ok-result.result) _ row c.in_ok-before.ensures.told
+      Made w u,
+      c.in_ok-place.ensures.checked past stands ids,
+      asked-birth past (Made w u) (row_of context) c.in_ok-before.before.items _ (Some c.in_ok-result.result) _ row c.in_ok-before.ensures.told
           (ap (λ t. Replies t ∷ []) (c.in_ok-result.ensures.tree ∙ ap (λ n. mapped ("context" being id_tree Context n and no_members)) number))
           c.new.ensures.items,
       refl,

@@ -1,6 +1,7 @@
 use Rattle.std.proofs.Common.{◌∷◌, [], Some, sym, ap, subst, refl, arith}
 use Rattle.bidi_methods.specs.declared.result_data.ResultData.TheVariants.{BrowsingContextClose}
 use Rattle.bidi_browser.specs.Acts.{Removed}
+use Rattle.bidi_browser.specs.Occurrences.{removal}
 use Rattle.bidi_browser.specs.Occurs.{Replies}
 use Rattle.bidi_browser.specs.Plans.{AreWell}
 use Rattle.bidi_browser.proofs.PlanLemmas.{asked-removal, result-well}
@@ -12,7 +13,7 @@ returns-clause-plans c = λ past moment stands.
     let told = c.in_ok-before.ensures.told past found.0 stands found.2 in (
       Removed found.0,
       rw found.1 refl,
-      asked-removal past found.0 c.in_ok-before.before.items _ (Some (BrowsingContextClose c.nothing.result)) told
+      asked-removal (removal past found.0) c.in_ok-before.before.items _ (Some (BrowsingContextClose c.nothing.result)) told
           (ap (λ t. Replies t ∷ []) c.nothing.ensures.tree) c.new.ensures.items,
       refl,
       ap (λ r. Removed r.number) (sym found.2),

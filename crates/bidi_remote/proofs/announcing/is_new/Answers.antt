@@ -23,7 +23,7 @@ returns-else-not-hears c = λ past stands.
     let held = rows_of c.args.held.now in
     let e = c.args.event in
     let top = c.args.top in
-    let live = is_alive past top in
+    let live = is_alive past top.number in
     let scope = scope_of c.args.scope.now in
     elim c.if-covers.branch [
       | then-covers w ↦

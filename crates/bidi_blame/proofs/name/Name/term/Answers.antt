@@ -95,6 +95,9 @@ returns-in-GetTreeParameters-clause-says c = rw c.in-GetTreeParameters.is (simp 
 pub returns-in-GetTreeResult-clause-says : goal.returns-in-GetTreeResult-clause-says
 returns-in-GetTreeResult-clause-says c = rw c.in-GetTreeResult.is (simp (grammar-Exactly, grammar-Text, grammar-Bool, grammar-Null, grammar-JsUint, grammar-JsInt, grammar-Any, grammar-ListOf, grammar-PairOf, grammar-MapOf, grammar-OneOf, grammar-Rule, grammar-Capped))
 
+pub returns-in-GetUserContextsResult-clause-says : goal.returns-in-GetUserContextsResult-clause-says
+returns-in-GetUserContextsResult-clause-says c = rw c.in-GetUserContextsResult.is (simp (grammar-Exactly, grammar-Text, grammar-Bool, grammar-Null, grammar-JsUint, grammar-JsInt, grammar-Any, grammar-ListOf, grammar-PairOf, grammar-MapOf, grammar-OneOf, grammar-Rule, grammar-Capped))
+
 pub returns-in-Info-clause-says : goal.returns-in-Info-clause-says
 returns-in-Info-clause-says c = rw c.in-Info.is (simp (grammar-Exactly, grammar-Text, grammar-Bool, grammar-Null, grammar-JsUint, grammar-JsInt, grammar-Any, grammar-ListOf, grammar-PairOf, grammar-MapOf, grammar-OneOf, grammar-Rule, grammar-Capped))
 
@@ -194,6 +197,9 @@ returns-in-RemoteValue-clause-rank c = simp (c.in-RemoteValue.is, weight-Exactly
 pub returns-in-RemoteValue-clause-says : goal.returns-in-RemoteValue-clause-says
 returns-in-RemoteValue-clause-says c = rw c.in-RemoteValue.is (simp (grammar-Exactly, grammar-Text, grammar-Bool, grammar-Null, grammar-JsUint, grammar-JsInt, grammar-Any, grammar-ListOf, grammar-PairOf, grammar-MapOf, grammar-OneOf, grammar-Rule, grammar-Capped))
 
+pub returns-in-RemoveUserContextParameters-clause-says : goal.returns-in-RemoveUserContextParameters-clause-says
+returns-in-RemoveUserContextParameters-clause-says c = rw c.in-RemoveUserContextParameters.is (simp (grammar-Exactly, grammar-Text, grammar-Bool, grammar-Null, grammar-JsUint, grammar-JsInt, grammar-Any, grammar-ListOf, grammar-PairOf, grammar-MapOf, grammar-OneOf, grammar-Rule, grammar-Capped))
+
 pub returns-in-SerializationOptions-clause-says : goal.returns-in-SerializationOptions-clause-says
 returns-in-SerializationOptions-clause-says c = rw c.in-SerializationOptions.is (simp (grammar-Exactly, grammar-Text, grammar-Bool, grammar-Null, grammar-JsUint, grammar-JsInt, grammar-Any, grammar-ListOf, grammar-PairOf, grammar-MapOf, grammar-OneOf, grammar-Rule, grammar-Capped))
 
@@ -244,6 +250,9 @@ returns-in-UnsubscribeParameters-clause-rank c = simp (c.in-UnsubscribeParameter
 
 pub returns-in-UnsubscribeParameters-clause-says : goal.returns-in-UnsubscribeParameters-clause-says
 returns-in-UnsubscribeParameters-clause-says c = rw c.in-UnsubscribeParameters.is (simp (grammar-Exactly, grammar-Text, grammar-Bool, grammar-Null, grammar-JsUint, grammar-JsInt, grammar-Any, grammar-ListOf, grammar-PairOf, grammar-MapOf, grammar-OneOf, grammar-Rule, grammar-Capped))
+
+pub returns-in-UserContextInfo-clause-says : goal.returns-in-UserContextInfo-clause-says
+returns-in-UserContextInfo-clause-says c = rw c.in-UserContextInfo.is (simp (grammar-Exactly, grammar-Text, grammar-Bool, grammar-Null, grammar-JsUint, grammar-JsInt, grammar-Any, grammar-ListOf, grammar-PairOf, grammar-MapOf, grammar-OneOf, grammar-Rule, grammar-Capped))
 
 pub returns-in-Wait-clause-rank : goal.returns-in-Wait-clause-rank
 returns-in-Wait-clause-rank c = simp (c.in-Wait.is, weight-Exactly, weight-Text, weight-Bool, weight-Null, weight-JsUint, weight-JsInt, weight-Any, weight-ListOf, weight-PairOf, weight-MapOf, weight-OneOf, weight-Rule, weight-Capped)

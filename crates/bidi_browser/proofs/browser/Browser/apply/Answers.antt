@@ -1,4 +1,4 @@
-use Rattle.std.proofs.Common.{◌∙◌, refl, sym, ap, ap₂, subst}
+use Rattle.std.proofs.Common.{◌≡◌, ◌∙◌, ◌∷◌, refl, sym, ap, ap₂, subst}
 use Rattle.std.specs.Prelude.{ℕ, string_bytes}
 use Rattle.std.proofs.Common.{rules, arith}
 use Rattle.bidi_tree.specs.Node.{Node}
@@ -8,8 +8,12 @@ use Rattle.bidi_browser.specs.TableInHand.{row_seen}
 use Rattle.bidi_handles.specs.ValuesInHand.{handle_seen}
 use Rattle.bidi_browser.specs.declared.plan.Navigation.{Navigation}
 use Rattle.bidi_browser.specs.Plans.{EditMakes, EditHasRoom, HasRoomIn, HasRoomForHandle}
-use Rattle.bidi_browser.proofs.TableLemmas.{kept-stands, row-stands, handle-stands, disowned-stands}
+use Rattle.bidi_browser.proofs.TableLemmas.{kept-stands, row-stands, handle-stands, disowned-stands, user-made-stands, user-removed-stands}
+use Rattle.bidi_browser.proofs.UserLemmas.{users_born}
+use Rattle.bidi_browser.specs.declared.browser.Browser.{Browser}
+use Rattle.bidi_browser.specs.Stands.{AreUsersOf}
 use Rattle.bidi_browser.proofs.browser.Browser.apply.Goals as goal
+use Rattle.bidi_browser.proofs.browser.Browser.apply.Goals.{then-opens_window, else-opens_window}
 
 pub returns-in-Keep : goal.returns-in-Keep
 returns-in-Keep c = λ past action act stands ids accepted makes.
@@ -45,3 +49,24 @@ returns-in-Disown c = λ past action act stands ids accepted makes.
     let is = subst (λ e. EditMakes e past act) c.in-Disown.is makes in
     disowned-stands c.args.self.now c.disown.new.self past action c.in-Disown.number is.0 act _ is.2 is.1
     (search (rules, c.in-Disown.handles-is, c.in-Disown.is, is.3)) accepted stands c.disown.ensures
+
+pub returns-after-opens_window : goal.returns-after-opens_window
+returns-after-opens_window c = λ past action act stands ids accepted makes.
+    let is = subst (λ e. EditMakes e past act) c.in-Add.is makes in
+    let same : c.if-opens_window.self.users ≡ c.args.self.now.users = elim c.if-opens_window.branch [
+      | then-opens_window w ↦ ap (λ (b : Browser). b.users) w.self-is
+      | else-opens_window w ↦ ap (λ (b : Browser). b.users) w.self-is
+    ] in
+    let users = subst (λ u. AreUsersOf u (act ∷ past)) (sym same) (users_born c.args.self.now.users past act is.0 stands.users) in
+    search (rules, users)
+
+pub returns-in-AddUser : goal.returns-in-AddUser
+returns-in-AddUser c = λ past action act stands ids accepted makes.
+    user-made-stands c.args.self.now c.add-in-AddUser.new.self past action act (subst (λ e. EditMakes e past act) c.in-AddUser.is makes) accepted
+    (c.add-in-AddUser.ensures past stands.users ids stands.contexts.accepted) stands
+
+pub returns-in-RemoveUser : goal.returns-in-RemoveUser
+returns-in-RemoveUser c = λ past action act stands ids accepted makes.
+    user-removed-stands c.args.self.now c.remove-in-RemoveUser.new.self c.remove_user.new.self past action act c.in-RemoveUser.user
+    (subst (λ e. EditMakes e past act) c.in-RemoveUser.is makes) accepted (c.remove-in-RemoveUser.ensures past stands.users)
+    (λ all. c.remove_user.ensures past stands.contexts all) stands

@@ -33,3 +33,12 @@ returns-in-Disown c = rw (c.in-Disown.is, sym c.as_ref-in-Disown.ensures) c.outl
 
 pub returns-in-GetRealms : goal.returns-in-GetRealms
 returns-in-GetRealms c = rw c.in-GetRealms.is c.outline-in-GetRealms.ensures
+
+pub returns-in-CreateUserContext : goal.returns-in-CreateUserContext
+returns-in-CreateUserContext c = rw c.in-CreateUserContext.is c.outline-in-CreateUserContext.ensures
+
+pub returns-in-GetUserContexts : goal.returns-in-GetUserContexts
+returns-in-GetUserContexts c = rw c.in-GetUserContexts.is c.outline-in-GetUserContexts.ensures
+
+pub returns-in-RemoveUserContext : goal.returns-in-RemoveUserContext
+returns-in-RemoveUserContext c = rw c.in-RemoveUserContext.is c.outline-in-RemoveUserContext.ensures

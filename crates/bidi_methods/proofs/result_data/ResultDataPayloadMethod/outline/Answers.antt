@@ -47,3 +47,12 @@ returns-in-ScriptDisown c = rw c.in-ScriptDisown.is c.outline-in-ScriptDisown.en
 
 pub returns-in-ScriptGetRealms : goal.returns-in-ScriptGetRealms
 returns-in-ScriptGetRealms c = rw c.in-ScriptGetRealms.is c.outline-in-ScriptGetRealms.ensures
+
+pub returns-in-BrowserCreateUserContext : goal.returns-in-BrowserCreateUserContext
+returns-in-BrowserCreateUserContext c = rw c.in-BrowserCreateUserContext.is c.outline-in-BrowserCreateUserContext.ensures
+
+pub returns-in-BrowserGetUserContexts : goal.returns-in-BrowserGetUserContexts
+returns-in-BrowserGetUserContexts c = rw c.in-BrowserGetUserContexts.is c.outline-in-BrowserGetUserContexts.ensures
+
+pub returns-in-BrowserRemoveUserContext : goal.returns-in-BrowserRemoveUserContext
+returns-in-BrowserRemoveUserContext c = rw c.in-BrowserRemoveUserContext.is c.outline-in-BrowserRemoveUserContext.ensures
