@@ -300,7 +300,7 @@ fn with_play<'a>(alloc: Global) -> Result<Command<'a>, AllocError>
     Command::new(alloc, "bidi")
         .about("The two ends of WebDriver BiDi")
         .after_help(
-            "`bidi SUBCOMMAND --help` has the lines and statuses of each, and `bidi --version` the version.",
+            "`bidi SUBCOMMAND --help` has the lines and statuses of each, and `bidi --version` the version and the profile.",
         )
         .bin_name("bidi")?
         .no_binary_name(true)

@@ -192,7 +192,7 @@ Commands:
 Options:
   -h, --help  Print help
 
-`bidi SUBCOMMAND --help` has the lines and statuses of each, and `bidi --version` the version.
+`bidi SUBCOMMAND --help` has the lines and statuses of each, and `bidi --version` the version and the profile.
 ";
 
 const USAGE: &str = "usage
