@@ -1,1 +1,7 @@
+pub mod Closing
+pub mod Origins
+pub mod Requests
+pub mod Sending
+pub mod Taking
 pub mod Telling
+pub mod Waiting

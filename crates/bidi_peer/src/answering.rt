@@ -18,6 +18,8 @@ pub(crate) enum Answer {
     Ready,
     /// What came is no request, or its head is too long.
     NotHttp,
+    /// The head has too many header fields.
+    TooManyFields,
     /// Another method than GET.
     NotGet,
     /// A key that is missing, or is not 16 bytes in base64.
@@ -35,7 +37,9 @@ impl Answer {
     fn status(self) -> &'static str {
         match self {
             Answer::Ready => "200 OK",
-            Answer::NotHttp | Answer::NotGet | Answer::BadKey => "400 Bad Request",
+            Answer::NotHttp | Answer::TooManyFields | Answer::NotGet | Answer::BadKey => {
+                "400 Bad Request"
+            }
             Answer::Foreign => "403 Forbidden",
             Answer::NoUpgrade => "426 Upgrade Required",
             Answer::Refused(Refusal::NotFound) => "404 Not Found",
@@ -56,7 +60,8 @@ impl Answer {
         match self {
             Answer::Ready => "ready",
             Answer::NotHttp =>
-                "bad request: not an HTTP/1.1 request with a head of at most 65536 bytes",
+                "bad request: not an HTTP/1.x request with a head of at most 65536 bytes",
+            Answer::TooManyFields => "bad request: a head has at most 124 header fields",
             Answer::NotGet => "bad request: the method must be GET",
             Answer::BadKey => "bad request: Sec-WebSocket-Key must be 16 bytes in base64",
             Answer::Foreign =>

@@ -1,10 +1,13 @@
 //! What the head of a request asks for.
-ghost use Rattle.std.specs.Prelude.{◌≤◌, length, All};
-ghost use Rattle.httparse.specs.Spans.{IsHeaderWithin, IsRequestWithin};
+ghost use Rattle.std.specs.Prelude.{◌≡◌, ◌≤◌, ◌↔◌, length, All, IsTrue, IfOk, MatchResult, option_map};
+ghost use Rattle.httparse.specs.Spans.{IsHeaderWithin, IsRequestOf, IsRequestWithin};
+ghost use Rattle.websocket.specs.Headers.{eq_ignore_case, fields_of, header_value};
+ghost use Rattle.bidi_peer.specs.Requests.{AcceptsKey, AreLetIn, IsAskedBy, IsLetIn, IsPlain, IsRefusedBy, Opens, longest_head, spanned_request};
 
 use super::answering::Answer;
-use httparse::Status;
+use super::origins;
 use httparse::spans::{EMPTY_HEADER_SPAN, HeaderSpan, RequestSpans, parse_request};
+use httparse::{Error, Status};
 use std::alloc::{AllocError, Global};
 use std::str;
 use websocket::handshake::server::accept_key;
@@ -38,13 +41,16 @@ pub(crate) fn is_to_judge(bytes: &[u8], known: usize) -> bool {
 }
 
 /// Judges the bytes at the front of a stream.
-pub(crate) fn judge(alloc: Global, bytes: &[u8]) -> Result<Asked, AllocError> {
+pub(crate) fn judge(alloc: Global, bytes: &[u8]) -> Result<Asked, AllocError>
+    ensures { IfOk result (IsAskedBy bytes.now) }
+{
     let mut spans = [EMPTY_HEADER_SPAN; MOST_HEADERS];
     match parse_request(bytes, &mut spans) {
         Ok(Status::Partial) if bytes.len() <= LONGEST_HEAD => Ok(Asked::Part),
         Ok(Status::Complete(request)) if request.len <= LONGEST_HEAD => {
             judge_request(alloc, bytes, &request, &spans)
         }
+        Err(Error::TooManyHeaders) => Ok(Asked::Other(Answer::TooManyFields)),
         _ => Ok(Asked::Other(Answer::NotHttp)),
     }
 }
@@ -56,7 +62,10 @@ fn judge_request(
     request: &RequestSpans,
     spans: &[HeaderSpan],
 ) -> Result<Asked, AllocError>
-    requires { IsRequestWithin bytes.now spans.now request.now }
+    requires within { IsRequestWithin bytes.now spans.now request.now }
+    requires head { IsRequestOf bytes.now spans.now request.now }
+    requires short { request.now.len ≤ longest_head }
+    ensures { IfOk result (IsAskedBy bytes.now) }
 {
     let target = request.path.of(bytes);
     match checked(bytes, request, spans) {
@@ -67,7 +76,8 @@ fn judge_request(
                 accept,
                 length: request.len,
             }),
-            Err(_) => Ok(Asked::Other(Answer::NotHttp)),
+            // The grammar of a head has a target in UTF-8.
+            Err(_) => unreachable!(),
         },
     }
 }
@@ -75,9 +85,10 @@ fn judge_request(
 // The key that accepts a request, or the answer to one that asks for no WebSocket.
 fn checked(bytes: &[u8], request: &RequestSpans, spans: &[HeaderSpan]) -> Result<[u8; 28], Answer>
     requires { IsRequestWithin bytes.now spans.now request.now }
+    ensures { MatchResult result (Opens (spanned_request bytes.now spans.now request.now)) (IsRefusedBy (spanned_request bytes.now spans.now request.now)) }
 {
     let headers = &spans[..request.headers];
-    if !is_local(bytes, headers) {
+    if !names_only_local(bytes, headers) {
         return Err(Answer::Foreign);
     }
     if request.method.of(bytes) != b"GET".as_slice() {
@@ -93,7 +104,9 @@ fn checked(bytes: &[u8], request: &RequestSpans, spans: &[HeaderSpan]) -> Result
 }
 
 // The answer to a GET without an upgrade.
-fn plain_answer(target: &[u8]) -> Answer {
+fn plain_answer(target: &[u8]) -> Answer
+    ensures { IsPlain target.now result }
+{
     if target == b"/status".as_slice() {
         Answer::Ready
     } else {
@@ -104,6 +117,7 @@ fn plain_answer(target: &[u8]) -> Answer {
 // The key that accepts the key of a request.
 fn accepted(bytes: &[u8], headers: &[HeaderSpan]) -> Result<[u8; 28], Answer>
     requires { All (IsHeaderWithin (length bytes.now)) headers.now }
+    ensures { AcceptsKey (fields_of bytes.now headers.now) result }
 {
     match value_of(bytes, headers, b"Sec-WebSocket-Key") {
         Some(key) => accept_key(key).map_err(|_| Answer::BadKey),
@@ -112,37 +126,30 @@ fn accepted(bytes: &[u8], headers: &[HeaderSpan]) -> Result<[u8; 28], Answer>
 }
 
 // Whether a request names no origin but this machine.
-fn is_local(bytes: &[u8], headers: &[HeaderSpan]) -> bool
+fn names_only_local(bytes: &[u8], headers: &[HeaderSpan]) -> bool
     requires { All (IsHeaderWithin (length bytes.now)) headers.now }
+    ensures { IsTrue result ↔ AreLetIn (fields_of bytes.now headers.now) }
 {
-    for header in headers {
-        let is_origin = header.name.of(bytes).eq_ignore_ascii_case(b"Origin");
-        if is_origin && !is_local_origin(header.value.of(bytes)) {
-            return false;
+    match headers {
+        [] => true,
+        [first, rest @ ..] => {
+            is_let_in(first.name.of(bytes), first.value.of(bytes)) && names_only_local(bytes, rest)
         }
-    }
-    true
-}
-
-// Whether an origin is this machine, by http or https and at any port.
-fn is_local_origin(origin: &[u8]) -> bool {
-    let secure = origin.strip_prefix(b"https://");
-    let plain = origin.strip_prefix(b"http://");
-    match secure.or(plain) {
-        Some(host) => {
-            is_host_at_any_port(host, b"127.0.0.1") || is_host_at_any_port(host, b"localhost")
-        }
-        None => false,
     }
 }
 
-// Whether a text is this host, alone or with a port.
-fn is_host_at_any_port(text: &[u8], host: &[u8]) -> bool {
-    match text.strip_prefix(host) {
-        Some([]) => true,
-        Some([b':', port @ ..]) => !port.is_empty() && port.iter().all(|b| b.is_ascii_digit()),
-        _ => false,
-    }
+// Whether a field is not `Origin`, or names this machine.
+fn is_let_in(name: &[u8], value: &[u8]) -> bool
+    ensures { IsTrue result ↔ IsLetIn (name.now, value.now) }
+{
+    !is_same(name, b"Origin") || origins::is_local(value)
+}
+
+// Whether two names are the same, in any case.
+fn is_same(name: &[u8], other: &[u8]) -> bool
+    ensures { result ≡ eq_ignore_case name.now other.now }
+{
+    name.eq_ignore_ascii_case(other)
 }
 
 // Whether a request asks for an upgrade to a WebSocket.
@@ -158,7 +165,7 @@ fn has_token(bytes: &[u8], headers: &[HeaderSpan], name: &[u8], word: &[u8]) -> 
     requires { All (IsHeaderWithin (length bytes.now)) headers.now }
 {
     for header in headers {
-        let is_named = header.name.of(bytes).eq_ignore_ascii_case(name);
+        let is_named = is_same(header.name.of(bytes), name);
         if is_named && lists(header.value.of(bytes), word) {
             return true;
         }
@@ -181,6 +188,7 @@ fn is_word(piece: &[u8], word: &[u8]) -> bool {
 // Whether the first header of this name has this value.
 fn has_value(bytes: &[u8], headers: &[HeaderSpan], name: &[u8], value: &[u8]) -> bool
     requires { All (IsHeaderWithin (length bytes.now)) headers.now }
+    ensures { IsTrue result ↔ (header_value (fields_of bytes.now headers.now) name.now ≡ Some value.now) }
 {
     match value_of(bytes, headers, name) {
         Some(found) => found == value,
@@ -191,9 +199,10 @@ fn has_value(bytes: &[u8], headers: &[HeaderSpan], name: &[u8], value: &[u8]) ->
 // The value of the first header of this name.
 fn value_of<'b>(bytes: &'b [u8], headers: &[HeaderSpan], name: &[u8]) -> Option<&'b [u8]>
     requires { All (IsHeaderWithin (length bytes.now)) headers.now }
+    ensures { option_map (λ v. v.now) result ≡ header_value (fields_of bytes.now headers.now) name.now }
 {
     for header in headers {
-        if header.name.of(bytes).eq_ignore_ascii_case(name) {
+        if is_same(header.name.of(bytes), name) {
             return Some(header.value.of(bytes));
         }
     }

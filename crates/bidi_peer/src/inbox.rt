@@ -1,9 +1,10 @@
 //! Bytes that came and were not taken yet.
-ghost use Rattle.std.specs.Prelude.{◌≤◌, List, ℕ, length, slice_range};
+ghost use Rattle.std.specs.Prelude.{◌≡◌, []};
+ghost use Rattle.bidi_peer.specs.Waiting.{untaken};
 
+use super::waiting::Inbox;
 use std::alloc::{AllocError, Global};
 use std::io::{ErrorKind, Read};
-use std::marker::Model;
 
 /// How many bytes a read asks for at least.
 const LEAST_ROOM: usize = 4 * 1024;
@@ -24,26 +25,11 @@ pub(crate) enum Filled {
     Failed,
 }
 
-/// The bytes from `start` to `end`; those behind are room for a read.
-#[derive(Drop)]
-pub(crate) struct Inbox {
-    alloc: Global,
-    bytes: Vec<u8>,
-    start: usize,
-    end: usize,
-}
-
-impl Model for Inbox {
-    ghost Value = { List ℕ };
-
-    ghost view = { λ a. slice_range a.bytes.items a.start a.end };
-
-    ghost invariant = { λ a. (a.start ≤ a.end) × (a.end ≤ length a.bytes.items) };
-}
-
 impl Inbox {
     /// An empty one. Takes no memory.
-    pub(crate) fn new(alloc: Global) -> Inbox {
+    pub(crate) fn new(alloc: Global) -> Inbox
+        ensures { untaken result ≡ [] }
+    {
         Inbox {
             alloc,
             bytes: Vec::new(alloc),
@@ -53,13 +39,10 @@ impl Inbox {
     }
 
     /// The bytes that wait.
-    pub(crate) fn waiting(&self) -> &[u8] {
+    pub(crate) fn waiting(&self) -> &[u8]
+        ensures { result.now ≡ untaken self.now }
+    {
         &self.bytes[self.start..self.end]
-    }
-
-    /// The bytes that wait, to be unmasked in place.
-    pub(crate) fn waiting_mut(&mut self) -> &mut [u8] {
-        &mut self.bytes[self.start..self.end]
     }
 
     /// Takes so many bytes off the front, or all where there are fewer.
@@ -70,8 +53,19 @@ impl Inbox {
         }
     }
 
+    /// Takes all bytes, and gives back all room.
+    pub(crate) fn give_back(&mut self)
+        ensures { untaken self.new ≡ [] }
+    {
+        self.start = 0;
+        self.end = 0;
+        self.bytes = Vec::new(self.alloc);
+    }
+
     /// Takes all bytes, and gives back what a long message needed.
-    pub(crate) fn clear(&mut self) {
+    pub(crate) fn clear(&mut self)
+        ensures { untaken self.new ≡ [] }
+    {
         self.start = 0;
         self.end = 0;
         if self.bytes.len() > ROOM {

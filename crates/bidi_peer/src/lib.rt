@@ -10,13 +10,19 @@
 //! - [`Peer::send`] sends a text, [`Peer::close`] ends the connection, [`Peer::flush`] writes what the stream did not
 //!   take before.
 //! - [`Peer::is_open`], [`Peer::waits_to_write`] and [`Peer::is_over`] tell where it stands.
+//! - [`Peer::held`] counts the bytes that it holds, and [`Peer::shed`] fails it where the host holds too much.
 #![tactic(auto)]
 
 mod answering;
 mod asking;
+mod framing;
 mod inbox;
+mod origins;
 mod outbox;
 mod peer;
+mod standing;
+mod waiting;
 
 pub use answering::Refusal;
-pub use peer::{Came, Ending, MOST_WAITING, Peer};
+pub use peer::{Came, Ending, MOST_WAITING};
+pub use standing::Peer;

@@ -1,21 +1,25 @@
 //! One connection of a client.
-ghost use Rattle.std.specs.Prelude.{◌≡◌, ◌≢◌, ◌↔◌, ◌⊎◌, IfOk, IfSome, IsTrue, OnErr, OnOk};
-ghost use Rattle.bidi_peer.specs.Telling.{IsAsked, IsNew, IsTimely, StaysKnown, StaysUnlessDone, TellsOnce};
-ghost use Rattle.bidi_peer.specs.declared.peer.End.TheVariants.{Known};
-ghost use Rattle.bidi_peer.specs.declared.peer.State.TheVariants.{Done, Leaving, Open};
-ghost use Rattle.websocket.specs.Content.{IsReceivedInside, HasValidText, received_content};
+ghost use Rattle.std.specs.Prelude.{◌≡◌, ◌≢◌, ◌⊎◌, ◌↔◌, ◌+◌, ◌-◌, ◌^◌, [], true, min, length, IfOk, IfSome, IsTrue, OnErr, OnOk};
+ghost use Rattle.websocket.specs.Connection.{can_read, read_step};
+ghost use Rattle.bidi_peer.specs.Closing.{ending_code};
+ghost use Rattle.bidi_peer.specs.Sending.{Flushes, Puts, SendsText};
+ghost use Rattle.bidi_peer.specs.Taking.{IsTakenFor};
+ghost use Rattle.bidi_peer.specs.Telling.{HasEnded, IsAsked, IsInHandshake, IsNew, IsOver, IsQuiet, IsTimely, IsUnclosed, MayTell, SameKnown, StaysKnown, StaysUnlessDone, TellsOnce, owed};
+ghost use Rattle.bidi_peer.specs.Waiting.{untaken, unwritten};
+ghost use Rattle.bidi_peer.specs.declared.standing.End.TheVariants.{Known};
+ghost use Rattle.bidi_peer.specs.declared.standing.State.TheVariants.{Closing, Done, Leaving, Open};
 
 use super::answering::{Answer, Refusal};
 use super::asking::{Asked, is_to_judge, judge};
-use super::inbox::{Filled, Inbox};
-use super::outbox::Outbox;
+use super::framing::{Fault, Frame, frame_len, read_frame};
+use super::inbox::Filled;
+use super::standing::{End, Peer, State};
+use super::waiting::{Inbox, Outbox};
 use std::alloc::{AllocError, Global};
 use std::io::{Read, Write};
-use websocket::error::Error as FrameError;
 use websocket::handshake::server::write_response;
 use websocket::protocol::{
-    CloseCode, CloseFrame, FrameStatus, Message, NoMask, Received, Role, Step, WebSocketConfig,
-    WebSocketContext,
+    CloseCode, CloseFrame, Message, NoMask, Role, WebSocketConfig, WebSocketContext,
 };
 
 /// How many bytes of frames may wait to be written, unless [`Peer::with_bound`] says otherwise: 64 MiB.
@@ -56,77 +60,6 @@ pub enum Ending {
     GoingAway,
 }
 
-/// Why the server fails a connection.
-#[derive(Clone, Copy, Debug, PartialEq, Eq)]
-enum Fault {
-    /// A frame breaks the protocol.
-    Protocol,
-    /// A text is not UTF-8.
-    NotUtf8,
-    /// A frame or a message is past its limit.
-    TooLong,
-    /// Too much waits to be written.
-    Slow,
-}
-
-/// Where a connection stands.
-#[derive(Clone, Copy, Debug, PartialEq, Eq)]
-enum State {
-    /// The head of a request is being read.
-    Head,
-    /// A request for a WebSocket waits for its answer, which has this key.
-    Asked([u8; 28]),
-    /// Messages go both ways.
-    Open,
-    /// A close frame was sent, and the peer's is not here yet.
-    Closing,
-    /// Nothing more is read. It is over once what waits is written.
-    Leaving,
-    /// Nothing more is read or written.
-    Done,
-}
-
-/// Whether the caller knows that no more comes.
-#[derive(Clone, Copy, Debug, PartialEq, Eq)]
-enum End {
-    /// It is not so yet.
-    Ahead,
-    /// The next take tells it.
-    Due,
-    /// It knows.
-    Known,
-}
-
-/// What stands at the front of what came.
-#[derive(Drop)]
-enum Frame {
-    /// No whole frame.
-    Part,
-    /// A frame that the caller has nothing to do with: a ping or a pong, or a part of a message.
-    Inner,
-    /// The end of a text.
-    Text(String),
-    /// The end of a binary message.
-    NotText,
-    /// The peer's close frame.
-    Close,
-    /// A frame that fails the connection.
-    Bad(Fault),
-}
-
-/// One connection of a client: its handshake, its messages, its end.
-#[derive(Drop)]
-pub struct Peer<S> {
-    alloc: Global,
-    stream: S,
-    state: State,
-    end: End,
-    context: WebSocketContext,
-    inbox: Inbox,
-    outbox: Outbox,
-    most_waiting: usize,
-}
-
 impl<S: Read + Write + Drop> Peer<S> {
     /// A connection whose client has asked for nothing yet. At most [`MOST_WAITING`] bytes wait to be written. Takes
     /// no memory.
@@ -147,7 +80,8 @@ impl<S: Read + Write + Drop> Peer<S> {
             stream,
             state: State::Head,
             end: End::Ahead,
-            context: WebSocketContext::new(alloc, Role::Server, WebSocketConfig::default()),
+            context: new_context(alloc),
+            fragments: 0,
             inbox: Inbox::new(alloc),
             outbox: Outbox::new(alloc),
             most_waiting,
@@ -161,9 +95,15 @@ impl<S: Read + Write + Drop> Peer<S> {
     /// # Errors
     /// No memory: an allocation failed. The connection is over, and the next take gives `Ended`.
     pub fn take(&mut self) -> Result<Came, AllocError>
+        // What the caller knows stays known.
         ensures stays_known { StaysKnown self.old.end self.new.end }
+        // The end is told exactly once.
         ensures tells_once { IfOk result (TellsOnce self.old.end self.new.end) }
+        // Where nothing more is read, the caller knows it.
+        ensures told { OnOk result (HasEnded self.new.state → self.new.end ≡ Known) }
+        // A request is told where it waits for its answer, and a message where the connection is open.
         ensures timely { IfOk result (IsTimely self.new.state) }
+        // After a failed allocation nothing more is read or written.
         ensures err { OnErr result (self.new.state ≡ Done) }
     {
         let came = self.take_one();
@@ -177,23 +117,25 @@ impl<S: Read + Write + Drop> Peer<S> {
     fn take_one(&mut self) -> Result<Came, AllocError>
         ensures stays_known { StaysKnown self.old.end self.new.end }
         ensures tells_once { IfOk result (TellsOnce self.old.end self.new.end) }
+        ensures told { OnOk result (HasEnded self.new.state → self.new.end ≡ Known) }
         ensures timely { IfOk result (IsTimely self.new.state) }
     {
         if self.end == End::Due {
-            self.end = End::Known;
-            return Ok(Came::Ended);
+            return Ok(self.tell_end());
         }
         match self.state {
             State::Head => self.take_head(),
             State::Open | State::Closing => self.take_message(),
-            State::Asked(_) | State::Leaving | State::Done => Ok(Came::Nothing),
+            State::Asked(_) | State::Leaving | State::Done => Ok(self.or_end(Came::Nothing)),
         }
     }
 
     // Reads until the head of a request is whole.
     fn take_head(&mut self) -> Result<Came, AllocError>
+        requires { HasEnded self.old.state → ⊥ }
         ensures stays_known { StaysKnown self.old.end self.new.end }
         ensures tells_once { IfOk result (TellsOnce self.old.end self.new.end) }
+        ensures told { OnOk result (HasEnded self.new.state → self.new.end ≡ Known) }
         ensures timely { IfOk result (IsTimely self.new.state) }
     {
         for _ in 0..usize::MAX {
@@ -213,8 +155,11 @@ impl<S: Read + Write + Drop> Peer<S> {
 
     // What a head comes to, or nothing where more of it has to be read.
     fn hear(&mut self, asked: Asked) -> Result<Option<Came>, AllocError>
+        requires { HasEnded self.old.state → ⊥ }
+        ensures waits { IfOk result (λ came. came ≡ None → self.new.state ≡ self.old.state) }
         ensures stays_known { StaysKnown self.old.end self.new.end }
-        ensures tells_once { IfOk result (λ came. IfSome came (TellsOnce self.old.end self.new.end)) }
+        ensures tells_once { IfOk result (MayTell self.old.end self.new.end) }
+        ensures told { IfOk result (λ came. IfSome came (λ _. HasEnded self.new.state → self.new.end ≡ Known)) }
         ensures timely { IfOk result (λ came. IfSome came (IsTimely self.new.state)) }
     {
         match asked {
@@ -237,13 +182,14 @@ impl<S: Read + Write + Drop> Peer<S> {
 
     // Puts an answer behind what waits, and leaves.
     fn answer(&mut self, answer: Answer) -> Result<(), AllocError>
-        ensures stays_known { StaysKnown self.old.end self.new.end }
+        requires { HasEnded self.old.state → ⊥ }
+        ensures known { SameKnown self.old.end self.new.end }
         ensures ok { OnOk result (StaysUnlessDone Leaving self.new.state) }
         ensures err { OnErr result (self.new.state ≡ self.old.state) }
     {
         let text = answer.text(self.alloc)?;
-        self.outbox.back().extend_from_slice(text.as_bytes())?;
-        self.state = State::Leaving;
+        self.outbox.second.extend_from_slice(text.as_bytes())?;
+        self.leave();
         self.flush();
         Ok(())
     }
@@ -252,54 +198,100 @@ impl<S: Read + Write + Drop> Peer<S> {
     fn take_message(&mut self) -> Result<Came, AllocError>
         ensures stays_known { StaysKnown self.old.end self.new.end }
         ensures tells_once { IfOk result (TellsOnce self.old.end self.new.end) }
+        ensures told { OnOk result (HasEnded self.new.state → self.new.end ≡ Known) }
         ensures timely { IfOk result (IsTimely self.new.state) }
     {
         for _ in 0..MOST_STEPS {
-            if self.state == State::Done {
-                return Ok(self.tell_end());
+            if self.has_ended() {
+                break;
             }
             let frame = self.next_frame()?;
             if let Some(came) = self.receive(frame)? {
                 return Ok(came);
             }
         }
-        Ok(Came::More)
+        Ok(self.or_end(Came::More))
     }
 
-    // Takes the next frame. Where the peer broke the protocol there are none any more.
+    // This, or the end where nothing more is read.
+    fn or_end(&mut self, came: Came) -> Came
+        requires { IsQuiet came }
+        ensures stays_known { StaysKnown self.old.end self.new.end }
+        ensures tells_once { TellsOnce self.old.end self.new.end result }
+        ensures told { HasEnded self.new.state → self.new.end ≡ Known }
+        ensures timely { IsTimely self.new.state result }
+    {
+        if self.has_ended() {
+            self.tell_end()
+        } else {
+            came
+        }
+    }
+
+    // Whether nothing more is read.
+    fn has_ended(&self) -> bool
+        ensures { IsTrue result ↔ HasEnded self.now.state }
+    {
+        matches!(self.state, State::Leaving | State::Done)
+    }
+
+    // Takes the next frame. Where the peer broke the protocol there are none any more. A connection whose protocol sends
+    // nothing more is not open.
     fn next_frame(&mut self) -> Result<Frame, AllocError>
-        ensures { self.new.end ≡ self.old.end }
+        requires { HasEnded self.old.state → ⊥ }
+        ensures end { self.new.end ≡ self.old.end }
+        ensures reads { HasEnded self.new.state → ⊥ }
+        ensures shows { can_read self.old.context.state ≡ true → IfOk result (IsTakenFor (read_step self.old.context (untaken self.old.inbox))) }
     {
         if !self.context.can_read() {
             self.inbox.clear();
             return Ok(Frame::Part);
         }
-        let (length, frame) = read_frame(
+        let frame = read_frame(
             self.alloc,
             &mut self.context,
-            self.inbox.waiting_mut(),
-            self.outbox.back(),
-        )?;
-        self.inbox.take(length);
+            &mut self.inbox,
+            &mut self.outbox.second,
+        );
+        if self.is_open() && !self.context.can_write() {
+            self.state = State::Closing;
+        }
+        let frame = frame?;
+        self.count(&frame);
         Ok(frame)
+    }
+
+    // Counts what the context holds of a message whose end has not come.
+    fn count(&mut self, frame: &Frame)
+        ensures end { self.new.end ≡ self.old.end }
+        ensures state { self.new.state ≡ self.old.state }
+    {
+        match frame {
+            Frame::Fragment(length) => self.fragments = self.fragments.saturating_add(*length),
+            Frame::Text(_) | Frame::NotText | Frame::Bad(_) => self.fragments = 0,
+            Frame::Part | Frame::Control | Frame::Close => {}
+        }
     }
 
     // What a frame comes to, or nothing where a further one has to be taken.
     fn receive(&mut self, frame: Frame) -> Result<Option<Came>, AllocError>
+        requires { HasEnded self.old.state → ⊥ }
         ensures stays_known { StaysKnown self.old.end self.new.end }
-        ensures tells_once { IfOk result (λ came. IfSome came (TellsOnce self.old.end self.new.end)) }
+        ensures tells_once { IfOk result (MayTell self.old.end self.new.end) }
+        ensures told { IfOk result (λ came. IfSome came (λ _. HasEnded self.new.state → self.new.end ≡ Known)) }
         ensures timely { IfOk result (λ came. IfSome came (IsTimely self.new.state)) }
     {
         match frame {
             Frame::Part => self.read_on(),
-            Frame::Inner => {
+            Frame::Control | Frame::Fragment(_) => {
                 self.flush();
                 self.bound()
             }
-            Frame::Text(text) => Ok(self.told(Came::Text(text))),
-            Frame::NotText => Ok(self.told(Came::NotText)),
+            Frame::Text(text) if self.is_open() => Ok(Some(Came::Text(text))),
+            Frame::NotText if self.is_open() => Ok(Some(Came::NotText)),
+            Frame::Text(_) | Frame::NotText => Ok(None),
             Frame::Close => {
-                self.state = State::Leaving;
+                self.leave();
                 self.flush();
                 Ok(Some(self.tell_end()))
             }
@@ -307,18 +299,11 @@ impl<S: Read + Write + Drop> Peer<S> {
         }
     }
 
-    // A message, where the caller still takes some.
-    fn told(&self, came: Came) -> Option<Came>
-        ensures same { IfSome result (λ told. told ≡ came) }
-        ensures open { IfSome result (λ _. self.now.state ≡ Open) }
-    {
-        if self.is_open() { Some(came) } else { None }
-    }
-
     // Fails a connection whose answers to pings would pass the bound.
     fn bound(&mut self) -> Result<Option<Came>, AllocError>
         ensures stays_known { StaysKnown self.old.end self.new.end }
-        ensures tells_once { IfOk result (λ came. IfSome came (TellsOnce self.old.end self.new.end)) }
+        ensures tells_once { IfOk result (MayTell self.old.end self.new.end) }
+        ensures told { IfOk result (λ came. IfSome came (λ _. HasEnded self.new.state → self.new.end ≡ Known)) }
         ensures timely { IfOk result (λ came. IfSome came (IsTimely self.new.state)) }
     {
         if self.is_open() && self.outbox.len() > self.most_waiting {
@@ -330,12 +315,13 @@ impl<S: Read + Write + Drop> Peer<S> {
 
     // Sends a close frame for a fault, and tells the end if the caller does not know it.
     fn fail(&mut self, fault: Fault) -> Result<Option<Came>, AllocError>
+        requires { HasEnded self.old.state → ⊥ }
         ensures stays_known { StaysKnown self.old.end self.new.end }
-        ensures tells_once { IfOk result (λ came. IfSome came (TellsOnce self.old.end self.new.end)) }
+        ensures tells_once { IfOk result (MayTell self.old.end self.new.end) }
+        ensures told { IfOk result (λ came. IfSome came (λ _. HasEnded self.new.state → self.new.end ≡ Known)) }
         ensures timely { IfOk result (λ came. IfSome came (IsTimely self.new.state)) }
     {
         self.put_close(fault.code(), fault.reason())?;
-        self.state = State::Closing;
         self.flush();
         if self.end == End::Known {
             return Ok(None);
@@ -345,15 +331,18 @@ impl<S: Read + Write + Drop> Peer<S> {
 
     // Reads the stream once. Nothing where bytes came.
     fn read_on(&mut self) -> Result<Option<Came>, AllocError>
+        requires { HasEnded self.old.state → ⊥ }
+        ensures waits { IfOk result (λ came. came ≡ None → self.new.state ≡ self.old.state) }
         ensures stays_known { StaysKnown self.old.end self.new.end }
-        ensures tells_once { IfOk result (λ came. IfSome came (TellsOnce self.old.end self.new.end)) }
+        ensures tells_once { IfOk result (MayTell self.old.end self.new.end) }
+        ensures told { IfOk result (λ came. IfSome came (λ _. HasEnded self.new.state → self.new.end ≡ Known)) }
         ensures timely { IfOk result (λ came. IfSome came (IsTimely self.new.state)) }
     {
         match self.inbox.fill(&mut self.stream)? {
             Filled::Some => Ok(None),
             Filled::Nothing => Ok(Some(Came::Nothing)),
             Filled::Ended => {
-                self.state = State::Leaving;
+                self.leave();
                 Ok(Some(self.tell_end()))
             }
             Filled::Failed => {
@@ -384,7 +373,7 @@ impl<S: Read + Write + Drop> Peer<S> {
     /// # Errors
     /// No memory: an allocation failed, and nothing has changed.
     pub fn open(&mut self) -> Result<(), AllocError>
-        ensures stays_known { StaysKnown self.old.end self.new.end }
+        ensures known { SameKnown self.old.end self.new.end }
         ensures else_same { (IsAsked self.old.state → ⊥) → self.new ≡ self.old }
         ensures ok { IsAsked self.old.state → OnOk result (StaysUnlessDone Open self.new.state) }
         ensures err { OnErr result (self.new.state ≡ self.old.state) }
@@ -392,7 +381,7 @@ impl<S: Read + Write + Drop> Peer<S> {
         let State::Asked(accept) = self.state else {
             return Ok(());
         };
-        if write_response(&accept, &[], self.outbox.back()).is_err() {
+        if write_response(&accept, &[], &mut self.outbox.second).is_err() {
             return Err(AllocError);
         }
         self.state = State::Open;
@@ -430,51 +419,120 @@ impl<S: Read + Write + Drop> Peer<S> {
     /// # Errors
     /// No memory: an allocation failed. The text is not sent.
     pub fn send(&mut self, text: &str) -> Result<(), AllocError>
-        ensures stays_known { StaysKnown self.old.end self.new.end }
+        // No end is told, and what the caller knows stays known.
+        ensures known { SameKnown self.old.end self.new.end }
+        // A connection that is not open does not change.
         ensures else_same { self.old.state ≢ Open → self.new ≡ self.old }
+        // Where it was open and stays open, the frame of the text joined what is to be written, behind all of it.
+        ensures sends { self.old.state ≡ Open → OnOk result (self.new.state ≡ Open → SendsText S.contents text.now self.old self.new) }
+        // After an error it stands where it stood, unless its stream failed.
         ensures err { OnErr result (StaysUnlessDone self.old.state self.new.state) }
     {
+        let frame = frame_len(text.len());
+        self.make_room(frame);
         if !self.is_open() {
             return Ok(());
         }
-        if !self.has_room(text.len()) {
-            return self.give_up();
+        if !self.has_room(frame) {
+            return self.give_up(Fault::Slow);
         }
-        if self
-            .context
-            .write(Message::Text(text), self.outbox.back(), &mut NoMask)
-            .is_err()
-        {
-            return Err(AllocError);
-        }
-        if self.outbox.len() >= MUCH {
-            self.flush();
-        }
+        self.put_text(text)?;
+        self.write_much();
         Ok(())
     }
 
-    // Whether a text of so many bytes may wait behind what does, once the stream has taken what it takes.
-    fn has_room(&mut self, length: usize) -> bool
-        ensures stays_known { StaysKnown self.old.end self.new.end }
+    // Writes what waits, where the connection is open and so many bytes have no room behind it.
+    fn make_room(&mut self, frame: usize)
+        ensures else_same { self.old.state ≢ Open → self.new ≡ self.old }
         ensures state { StaysUnlessDone self.old.state self.new.state }
+        ensures flushes { (self.new.state ≡ Done) ⊎ Flushes S.contents self.old self.new }
+        ensures known { SameKnown self.old.end self.new.end }
     {
-        let frame = frame_len(length);
-        if self.outbox.len().saturating_add(frame) > self.most_waiting {
+        if self.is_open() && !self.has_room(frame) {
             self.flush();
         }
+    }
+
+    // Whether so many bytes may wait behind what does.
+    fn has_room(&self, frame: usize) -> bool {
         self.outbox.len().saturating_add(frame) <= self.most_waiting
     }
 
-    // Closes a connection whose peer reads too slowly.
-    fn give_up(&mut self) -> Result<(), AllocError>
-        ensures stays_known { StaysKnown self.old.end self.new.end }
-        ensures ok { OnOk result (self.new.state ≢ Open) }
+    // Puts the frame of a text behind what waits.
+    fn put_text(&mut self, text: &str) -> Result<(), AllocError>
+        requires { self.old.state ≡ Open }
+        ensures puts { OnOk result (Puts text.now self.old self.new) }
+        ensures state { self.new.state ≡ self.old.state }
+        ensures end { self.new.end ≡ self.old.end }
+    {
+        match self
+            .context
+            .write(Message::Text(text), &mut self.outbox.second, &mut NoMask)
+        {
+            Ok(()) => Ok(()),
+            Err(_) => Err(AllocError),
+        }
+    }
+
+    // Writes what waits, where it is much.
+    fn write_much(&mut self)
+        ensures state { StaysUnlessDone self.old.state self.new.state }
+        ensures flushes { (self.new.state ≡ Done) ⊎ Flushes S.contents self.old self.new }
+        ensures known { SameKnown self.old.end self.new.end }
+    {
+        if self.outbox.len() >= MUCH {
+            self.flush();
+        }
+    }
+
+    // Fails a connection by a close frame behind what waits. The next take tells the end, unless the caller knows it.
+    fn give_up(&mut self, fault: Fault) -> Result<(), AllocError>
+        requires { HasEnded self.old.state → ⊥ }
+        ensures known { SameKnown self.old.end self.new.end }
+        ensures ok { OnOk result (StaysUnlessDone Closing self.new.state) }
         ensures err { OnErr result (self.new.state ≡ self.old.state) }
     {
-        self.put_close(Fault::Slow.code(), Fault::Slow.reason())?;
-        self.state = State::Closing;
+        self.put_close(fault.code(), fault.reason())?;
         self.owe_end();
         self.flush();
+        Ok(())
+    }
+
+    /// Fails the connection, because the host holds too much in all and this connection holds most of it.
+    ///
+    /// If more came than waits to be written, the close code is 1009, and what came is forgotten at once; all that
+    /// comes later is thrown away. Otherwise the close code is 1013. The reason is `too much is held in all`, the frame
+    /// is behind what waits, and the next take gives `Ended`. In the handshake the connection is over at once, and
+    /// `Ended` is not told. If it is closing or has ended, it is cut: what came and what waits is given back, and
+    /// the next take gives `Ended`, unless an earlier one did.
+    ///
+    /// # Errors
+    /// No memory: an allocation failed, and nothing has changed.
+    pub fn shed(&mut self) -> Result<(), AllocError>
+        ensures stays_known { StaysKnown self.old.end self.new.end }
+        // It is not open any more.
+        ensures ok { OnOk result (self.new.state ≢ Open) }
+        // In the handshake, and where it is closing or has ended, nothing more is read or written.
+        ensures cut { self.old.state ≢ Open → self.new.state ≡ Done }
+        // In the handshake the caller knows the end.
+        ensures handshake { IsInHandshake self.old.state → self.new.end ≡ Known }
+        // At any other time no end is told by this call.
+        ensures known { (IsInHandshake self.old.state → ⊥) → SameKnown self.old.end self.new.end }
+        // After an error nothing has changed.
+        ensures err { OnErr result (self.new.state ≡ self.old.state) }
+    {
+        match self.state {
+            State::Open if self.came() > self.outbox.len() => {
+                self.give_up(Fault::CrowdedIn)?;
+                self.forget();
+            }
+            State::Open => self.give_up(Fault::CrowdedOut)?,
+            State::Head | State::Asked(_) => {
+                self.end = End::Known;
+                self.cut();
+            }
+            State::Closing | State::Leaving | State::Done => self.cut(),
+        }
         Ok(())
     }
 
@@ -486,17 +544,26 @@ impl<S: Read + Write + Drop> Peer<S> {
     /// No memory: an allocation failed, and nothing has changed.
     pub fn close(&mut self, ending: Ending) -> Result<(), AllocError>
         ensures stays_known { StaysKnown self.old.end self.new.end }
+        // It is not open any more.
         ensures ok { OnOk result (self.new.state ≢ Open) }
+        // An open connection then closes, unless the stream failed.
+        ensures closes { self.old.state ≡ Open → OnOk result (StaysUnlessDone Closing self.new.state) }
+        // In the handshake the connection is over, and the caller knows it.
+        ensures handshake { IsInHandshake self.old.state → (self.new.state ≡ Done) × (self.new.end ≡ Known) }
+        // At any other time no end is told by this call.
+        ensures known { (IsInHandshake self.old.state → ⊥) → SameKnown self.old.end self.new.end }
+        // A connection that is closed does not change.
+        ensures else_same { (IsUnclosed self.old.state → ⊥) → self.new ≡ self.old }
+        // After an error it stands where it stood.
         ensures err { OnErr result (self.new.state ≡ self.old.state) }
     {
         match self.state {
             State::Head | State::Asked(_) => {
-                self.state = State::Done;
                 self.end = End::Known;
+                self.cut();
             }
             State::Open => {
                 self.put_close(ending.code(), "")?;
-                self.state = State::Closing;
                 self.flush();
             }
             State::Closing | State::Leaving | State::Done => {}
@@ -504,26 +571,38 @@ impl<S: Read + Write + Drop> Peer<S> {
         Ok(())
     }
 
-    // Puts a close frame behind what waits, unless one was sent.
+    // Puts a close frame behind what waits, unless one was sent. The connection is then no more open.
     fn put_close(&mut self, code: CloseCode, reason: &str) -> Result<(), AllocError>
+        requires { HasEnded self.old.state → ⊥ }
         ensures end { self.new.end ≡ self.old.end }
-        ensures state { self.new.state ≡ self.old.state }
+        ensures ok { OnOk result (self.new.state ≡ Closing) }
+        ensures err { OnErr result (self.new.state ≡ self.old.state) }
     {
         let frame = CloseFrame { code, reason };
         match self
             .context
-            .close(Some(frame), self.outbox.back(), &mut NoMask)
+            .close(Some(frame), &mut self.outbox.second, &mut NoMask)
         {
-            Ok(()) => Ok(()),
+            Ok(()) => {
+                self.state = State::Closing;
+                Ok(())
+            }
             Err(_) => Err(AllocError),
         }
     }
 
     /// Writes what waits, as far as the stream takes it. Call it when the stream can be written again.
     pub fn flush(&mut self)
-        ensures stays_known { StaysKnown self.old.end self.new.end }
+        // No end is told, and what the caller knows stays known.
+        ensures known { SameKnown self.old.end self.new.end }
+        // It stands where it stood, unless its stream failed.
         ensures state { StaysUnlessDone self.old.state self.new.state }
+        // The stream took some bytes off the front of what waits, and the rest waits still, unless the stream failed.
+        ensures flushes { (self.new.state ≡ Done) ⊎ Flushes S.contents self.old self.new }
     {
+        if matches!(self.state, State::Done) {
+            return;
+        }
         if !self.outbox.write_to(&mut self.stream) {
             self.cut();
         }
@@ -531,27 +610,74 @@ impl<S: Read + Write + Drop> Peer<S> {
 
     // Ends a connection whose stream failed. The next take tells it, unless the caller knows it.
     fn cut(&mut self)
-        ensures stays_known { StaysKnown self.old.end self.new.end }
+        ensures end { self.new.end ≡ owed self.old.end }
         ensures state { self.new.state ≡ Done }
     {
-        self.state = State::Done;
         self.outbox.clear();
-        self.inbox.clear();
+        self.stop(State::Done);
+    }
+
+    // Reads nothing more. What waits is still written.
+    fn leave(&mut self)
+        ensures end { self.new.end ≡ owed self.old.end }
+        ensures state { self.new.state ≡ Leaving }
+    {
+        self.stop(State::Leaving);
+    }
+
+    // Gives back what came, and reads nothing more. The next take tells the end, unless the caller knows it.
+    fn stop(&mut self, state: State)
+        requires ended { HasEnded state }
+        requires cut { state ≡ Done → unwritten self.old.outbox ≡ [] }
+        ensures end { self.new.end ≡ owed self.old.end }
+        ensures state { self.new.state ≡ state }
+    {
         self.owe_end();
+        self.state = state;
+        self.forget();
+    }
+
+    // Gives back what came. Frames that come later are thrown away.
+    fn forget(&mut self)
+        ensures end { self.new.end ≡ self.old.end }
+        ensures state { self.new.state ≡ self.old.state }
+    {
+        self.inbox.give_back();
+        self.context = new_context(self.alloc);
+        let _ = self.context.end_of_input();
+        self.fragments = 0;
     }
 
     // The next take tells the end, unless the caller knows it.
     fn owe_end(&mut self)
-        ensures stays_known { StaysKnown self.old.end self.new.end }
+        ensures end { self.new.end ≡ owed self.old.end }
         ensures state { self.new.state ≡ self.old.state }
+        ensures outbox { unwritten self.new.outbox ≡ unwritten self.old.outbox }
     {
         if self.end == End::Ahead {
             self.end = End::Due;
         }
     }
 
+    /// How many bytes the connection holds: what came and was not told yet, also the parts of a message whose end has not
+    /// come, and what waits to be written.
+    pub fn held(&self) -> usize
+        ensures { result ≡ min (length (untaken self.now.inbox) + self.now.fragments + length (unwritten self.now.outbox)) (2 ^ 64 - 1) }
+    {
+        self.came().saturating_add(self.outbox.len())
+    }
+
+    // How many bytes came and were not told yet.
+    fn came(&self) -> usize
+        ensures { result ≡ min (length (untaken self.now.inbox) + self.now.fragments) (2 ^ 64 - 1) }
+    {
+        self.inbox.waiting().len().saturating_add(self.fragments)
+    }
+
     /// Whether bytes wait that the stream did not take.
-    pub fn waits_to_write(&self) -> bool {
+    pub fn waits_to_write(&self) -> bool
+        ensures { IsTrue result ↔ (unwritten self.now.outbox ≢ []) }
+    {
         !self.outbox.is_empty()
     }
 
@@ -564,6 +690,10 @@ impl<S: Read + Write + Drop> Peer<S> {
 
     /// Whether nothing more will come or go, and the caller knows it: the stream can be dropped.
     pub fn is_over(&self) -> bool
+        // Exactly: the stream is not used any more, or nothing is read and nothing waits to be written; and the end is known.
+        ensures over { IsTrue result ↔ IsOver self.now.state self.now.end (unwritten self.now.outbox) }
+        // Nothing waits to be written.
+        ensures written { IsTrue result → unwritten self.now.outbox ≡ [] }
         ensures known { IsTrue result → self.now.end ≡ Known }
         ensures done { self.now.state ≡ Done → self.now.end ≡ Known → IsTrue result }
         ensures open { IsTrue result → self.now.state ≢ Open }
@@ -584,92 +714,19 @@ impl<S: Read + Write + Drop> Peer<S> {
     }
 }
 
-// Reads the frame at the front of these bytes: how many it takes, and what it is. A pong or a close frame that answers it
-// is added to `output`.
-fn read_frame(
-    alloc: Global,
-    context: &mut WebSocketContext,
-    input: &mut [u8],
-    output: &mut Vec<u8>,
-) -> Result<(usize, Frame), AllocError> {
-    match context.read(input, output, &mut NoMask) {
-        Ok(FrameStatus::Partial(_)) => Ok((0, Frame::Part)),
-        Ok(FrameStatus::Complete(step)) => {
-            let frame = frame_of(alloc, &step.message, input)?;
-            Ok((step.consumed, frame))
-        }
-        Err(error) => Ok((0, Frame::Bad(fault_of(error)?))),
-    }
-}
-
-// What a frame gave.
-fn frame_of(alloc: Global, message: &Option<Received>, input: &[u8]) -> Result<Frame, AllocError>
-    requires inside { IfSome message.now (IsReceivedInside input.now) }
-    requires text { IfSome message.now (λ m. HasValidText (received_content input.now m)) }
-{
-    let Some(received) = message else {
-        return Ok(Frame::Inner);
-    };
-    match received.message(input) {
-        Message::Text(text) => Ok(Frame::Text(String::from_str(alloc, text)?)),
-        Message::Binary(_) => Ok(Frame::NotText),
-        Message::Ping(_) | Message::Pong(_) => Ok(Frame::Inner),
-        Message::Close(_) => Ok(Frame::Close),
-    }
-}
-
-// Why a frame fails the connection.
-fn fault_of(error: FrameError) -> Result<Fault, AllocError> {
-    match error {
-        FrameError::OutOfMemory => Err(AllocError),
-        FrameError::Utf8 => Ok(Fault::NotUtf8),
-        FrameError::Capacity(_) => Ok(Fault::TooLong),
-        FrameError::Protocol(_) | FrameError::ConnectionClosed | FrameError::AlreadyClosed => {
-            Ok(Fault::Protocol)
-        }
-    }
-}
-
-// How many bytes a server's frame has with a payload of so many.
-fn frame_len(payload: usize) -> usize {
-    let head = if payload < 126 {
-        2
-    } else if payload < 65_536 {
-        4
-    } else {
-        10
-    };
-    payload.saturating_add(head)
+// The protocol of a server whose handshake is done.
+fn new_context(alloc: Global) -> WebSocketContext {
+    WebSocketContext::new(alloc, Role::Server, WebSocketConfig::default())
 }
 
 impl Ending {
     // The code of its close frame.
-    fn code(self) -> CloseCode {
+    fn code(self) -> CloseCode
+        ensures { result ≡ ending_code self }
+    {
         match self {
             Ending::Done => CloseCode::Normal,
             Ending::GoingAway => CloseCode::Away,
-        }
-    }
-}
-
-impl Fault {
-    // The code of its close frame.
-    fn code(self) -> CloseCode {
-        match self {
-            Fault::Protocol => CloseCode::Protocol,
-            Fault::NotUtf8 => CloseCode::Invalid,
-            Fault::TooLong => CloseCode::Size,
-            Fault::Slow => CloseCode::Again,
-        }
-    }
-
-    // The reason in its close frame.
-    fn reason(self) -> &'static str {
-        match self {
-            Fault::Protocol => "a frame breaks the WebSocket protocol",
-            Fault::NotUtf8 => "a text is not UTF-8",
-            Fault::TooLong => "a message is too long",
-            Fault::Slow => "too much waits to be read",
         }
     }
 }

@@ -21,6 +21,40 @@ impl Asked for Answers {
     }
 }
 
+/// The same lines, where `FIELDS` stands for as many header fields as the word says; found is the line of text.
+struct Lines;
+
+impl Asked for Lines {
+    fn found(alloc: Global, word: &str, lines: &str) -> Result<String, Fail> {
+        let fields = ";A: b".repeat(alloc, number_of(word, "fields")?.unwrap_or(0))?;
+        let lines = lines.replace(alloc, ";FIELDS", fields.as_str())?;
+        let written = answered(alloc, word, head_of(alloc, lines.as_str())?)?;
+        let (_, body) = str::from_utf8(&written)?
+            .split_once("\r\n\r\n")
+            .ok_or("no head")?;
+        let line = body.strip_suffix("\n").ok_or("no line")?;
+        Ok(String::from_str(alloc, line)?)
+    }
+}
+
+const LINES: &str = "
+a status | whole GET /status HTTP/1.1 -> ready
+by an old HTTP | whole GET /status HTTP/1.0 -> ready
+no request | whole hello -> bad request: not an HTTP/1.x request with a head of at most 65536 bytes
+124 fields | whole+fields124 GET /status HTTP/1.1;FIELDS -> ready
+125 fields | whole+fields125 GET /status HTTP/1.1;FIELDS -> bad request: a head has at most 124 header fields
+125 fields, in single bytes | ones+fields125 GET /status HTTP/1.1;FIELDS -> bad request: a head has at most 124 header fields
+another method | whole PUT /status HTTP/1.1 -> bad request: the method must be GET
+another host | whole GET /status HTTP/1.1;Origin: http://a.test -> forbidden: an Origin must be http(s)://127.0.0.1 or http(s)://localhost, with any port
+no upgrade | whole GET /session HTTP/1.1 -> upgrade required: connect by WebSocket, version 13
+no key | whole GET /session HTTP/1.1;UPGRADE;Sec-WebSocket-Version: 13 -> bad request: Sec-WebSocket-Key must be 16 bytes in base64
+";
+
+#[test]
+fn an_answer_says_what_is_wrong(rt: HostRuntime) -> Result<(), Fail> {
+    check_rows::<Lines>(rt.alloc(), LINES)
+}
+
 /// What a head has for an upgrade, but its version and its key.
 const UPGRADE: &str = "Upgrade: websocket;Connection: keep-alive, Upgrade";
 

@@ -143,6 +143,73 @@ fn a_reader_that_is_too_slow_is_closed(rt: HostRuntime) -> Result<(), Fail> {
     check_rows::<Codes>(rt.alloc(), TOO_SLOW)
 }
 
+// ---- what is held
+
+const HELD: &str = "
+nothing | whole HEAD / held take held open held -> 0 Asks(/session) 0 0 / 101
+a part of a head | whole 47 45 54 20 / take held -> - 4 /
+what waits | takes1 HEAD / take open held flushes held -> Asks(/session) 128 0 / 101
+a text that waits | takes129 HEAD / take open send held -> Asks(/session) 4 / 101
+a part of a frame | whole HEAD . 81 85 00 00 00 00 7b / take open take take held -> Asks(/session) - - 7 / 101
+a part of a message | whole HEAD . 01 83 00 00 00 00 78 78 78 / take open take take held -> Asks(/session) - - 3 / 101
+two parts, and a pong | whole HEAD . 02 83 00 00 00 00 78 78 78 8a 82 00 00 00 00 68 69 00 82 00 00 00 00 78 78 / take open take take held -> Asks(/session) - - 5 / 101
+a part of 256 bytes | whole HEAD . 01 fe 01 00 00 00 00 00 78*256 / take open take take held -> Asks(/session) - - 256 / 101
+a whole message | whole HEAD . 01 81 00 00 00 00 7b . 80 81 00 00 00 00 7d / take open take take held take held -> Asks(/session) - - 1 {} 0 / 101
+a message behind another | whole HEAD . {} {} / take open take take held take held -> Asks(/session) - {} 8 {} 0 / 101
+behind a close of the peer | whole HEAD . 01 81 00 00 00 00 7b 88 80 00 00 00 00 {} / take open take take held -> Asks(/session) - Ended 0 / 101 88 00
+behind an end | whole+ends HEAD . 01 81 00 00 00 00 7b 81 / take open take take held state -> Asks(/session) - Ended 0 over / 101
+";
+
+#[test]
+fn what_is_held_is_counted(rt: HostRuntime) -> Result<(), Fail> {
+    check_rows::<Peers>(rt.alloc(), HELD)
+}
+
+/// A connection that is shed before it is open, or while it ends, is over without a close frame.
+const SHED_AT_ONCE: &str = "
+before it asks | whole 47 45 54 20 / take shed state held take -> - over 0 - /
+while it asks | whole HEAD / take shed state take -> Asks(/session) over - /
+while it closes | takes129 HEAD / take open send done shed state held take state take -> Asks(/session) busy 0 Ended over - / 101 81 02 7b 7d
+while its answer waits | takes129 HEAD . 88 80 00 00 00 00 / take open take take state shed state held take -> Asks(/session) - Ended waits over 0 - / 101
+behind its end | whole+ends HEAD / take open take shed state take -> Asks(/session) Ended over - / 101
+";
+
+#[test]
+fn a_connection_that_is_not_open_is_shed_at_once(rt: HostRuntime) -> Result<(), Fail> {
+    check_rows::<Peers>(rt.alloc(), SHED_AT_ONCE)
+}
+
+/// The answers, how many frames were written before the close frame, and its code with the words of its reason.
+struct Reasons;
+
+impl Asked for Reasons {
+    fn found(alloc: Global, word: &str, text: &str) -> Result<String, Fail> {
+        let text = format!(in alloc; "HEAD . {text}")?;
+        let (mut told, written) = played(alloc, word, text.as_str())?;
+        let (count, payload) = close_frame(written.as_slice())?;
+        write!(&mut told, "/ {count} ")?;
+        push_reason(&mut told, payload)?;
+        Ok(told)
+    }
+}
+
+const SHED: &str = "
+more came | whole 01 83 00 00 00 00 78 78 78 / take open take take held shed held take take state -> Asks(/session) - - 3 0 Ended - busy / 0 1009 too much is held in all
+more came, in part | whole 81 85 00 00 00 00 7b / take open take take held shed held take state -> Asks(/session) - - 7 0 Ended busy / 0 1009 too much is held in all
+what comes later is thrown away | whole 01 83 00 00 00 00 78 . 78 {} . {} / take open take take shed take take take take held state -> Asks(/session) - - Ended - - - 0 busy / 0 1009 too much is held in all
+and then the end | whole+ends 01 83 00 00 00 00 78 . 78 {} / take open take take shed take take take state -> Asks(/session) - - Ended - - over / 0 1009 too much is held in all
+more waits | takes1 / take open shed take flushes state -> Asks(/session) Ended busy / 0 1013 too much is held in all
+more waits than came | takes129 01 81 00 00 00 00 78 / take open take take send held shed flushes take state -> Asks(/session) - - 5 Ended busy / 1 1013 too much is held in all
+nothing is held | whole / take open shed take state send -> Asks(/session) Ended busy / 0 1013 too much is held in all
+twice | whole / take open shed shed state take state -> Asks(/session) busy Ended over / 0 1013 too much is held in all
+behind its end | whole / take open shed take shed state -> Asks(/session) Ended over / 0 1013 too much is held in all
+";
+
+#[test]
+fn a_connection_that_holds_too_much_is_shed(rt: HostRuntime) -> Result<(), Fail> {
+    check_rows::<Reasons>(rt.alloc(), SHED)
+}
+
 // ---- connections
 
 /// The answers of the calls, and the bytes that were written.
@@ -223,6 +290,8 @@ fn push_call(
         "away" => peer.close(Ending::GoingAway)?,
         "flush" => peer.flush(),
         "flushes" => flush_all(peer),
+        "shed" => peer.shed()?,
+        "held" => write!(told, "{held} ", held = peer.held())?,
         "state" => push_state(told, peer)?,
         _ => send_long(alloc, peer, call)?,
     }
@@ -313,6 +382,20 @@ fn push_written(told: &mut String, written: &[u8]) -> Result<(), Fail> {
 }
 
 fn push_close(told: &mut String, written: &[u8]) -> Result<(), Fail> {
+    let (count, payload) = close_frame(written)?;
+    let (code, reason) = code_and_reason(payload)?;
+    let reason = if reason.is_empty() { "none" } else { "words" };
+    Ok(write!(told, "/ {count} {code} {reason}")?)
+}
+
+fn push_reason(told: &mut String, payload: &[u8]) -> Result<(), Fail> {
+    let (code, reason) = code_and_reason(payload)?;
+    let reason = str::from_utf8(reason)?;
+    Ok(write!(told, "{code} {reason}")?)
+}
+
+/// How many frames were written before the close frame, and its payload.
+fn close_frame(written: &[u8]) -> Result<(u32, &[u8]), Fail> {
     let mut rest = written.strip_prefix(OPENED).ok_or("not opened")?;
     for count in 0..1000u32 {
         let [first, length, after @ ..] = rest else {
@@ -322,23 +405,24 @@ fn push_close(told: &mut String, written: &[u8]) -> Result<(), Fail> {
         let payload = after.get(..length).ok_or("a cut frame")?;
         rest = after.get(length..).ok_or("a cut frame")?;
         if *first == 0x88 {
-            write!(told, "/ {count} ")?;
-            return push_code(told, payload, rest.is_empty());
+            return last_frame(count, payload, rest);
         }
     }
     Err(Fail::from("no close frame"))
 }
 
-fn push_code(told: &mut String, payload: &[u8], is_last: bool) -> Result<(), Fail> {
-    let [high, low, reason @ ..] = payload else {
-        return Err(Fail::from("no code"));
-    };
-    let code = u16::from_be_bytes([*high, *low]);
-    let reason = if reason.is_empty() { "none" } else { "words" };
-    write!(told, "{code} {reason}")?;
-    if is_last {
-        Ok(())
+/// The close frame, if no byte is behind it.
+fn last_frame<'a>(count: u32, payload: &'a [u8], rest: &[u8]) -> Result<(u32, &'a [u8]), Fail> {
+    if rest.is_empty() {
+        Ok((count, payload))
     } else {
         Err(Fail::from("bytes behind a close frame"))
     }
+}
+
+fn code_and_reason(payload: &[u8]) -> Result<(u16, &[u8]), Fail> {
+    let [high, low, reason @ ..] = payload else {
+        return Err(Fail::from("no code"));
+    };
+    Ok((u16::from_be_bytes([*high, *low]), reason))
 }

@@ -1,0 +1,4 @@
+pub mod AskingLemmas
+pub mod FrontLemmas
+pub mod SendingLemmas
+pub mod WaitingLemmas

@@ -1,0 +1,20 @@
+-- What waits in a connection: bytes that came, and bytes that go.
+use Rattle.std.specs.Prelude.{◌≡◌, ℕ, List, ◌++◌, Option, drop, slice_range}
+use Rattle.std.specs.Io.KnownBytes.{Appends}
+use Rattle.bidi_peer.specs.declared.waiting.Inbox.{Inbox}
+use Rattle.bidi_peer.specs.declared.waiting.Outbox.{Outbox}
+
+-- the bytes that came and were not taken yet
+abbrev pub untaken : Inbox → List ℕ
+untaken i = slice_range i.bytes.items i.start i.end
+
+-- the bytes that wait to be written
+abbrev pub unwritten : Outbox → List ℕ
+unwritten o = drop o.sent o.first.items ++ o.second.items
+
+module _ {S : Type 0} where
+  -- A stream took some bytes off the front of what waits, and the rest waits still.
+  pub record Writes (contents : S → Option (List ℕ)) (waited : List ℕ) (left : List ℕ) (old new : S) : Type 0 where
+    pub went : List ℕ
+    pub parts : waited ≡ went ++ left
+    pub taken : Appends (contents old) (contents new) went

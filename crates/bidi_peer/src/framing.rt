@@ -1,0 +1,161 @@
+//! The frame at the front of what came, and why a server fails a connection.
+ghost use Rattle.std.specs.Prelude.{◌≡◌, IfOk, IfSome, option_map};
+ghost use Rattle.websocket.specs.Connection.{read_step};
+ghost use Rattle.bidi_peer.specs.Taking.{IsFaultOf, IsTakenFor, Shows};
+ghost use Rattle.bidi_peer.specs.Waiting.{untaken};
+ghost use Rattle.bidi_peer.specs.Closing.{code_of, reason_of};
+ghost use Rattle.websocket.specs.Content.{IsReceivedInside, HasValidText, received_content};
+
+use super::waiting::Inbox;
+use std::alloc::{AllocError, Global};
+use websocket::error::Error as FrameError;
+use websocket::protocol::frame::FrameHeader;
+use websocket::protocol::{CloseCode, FrameStatus, Message, NoMask, Received, WebSocketContext};
+
+/// What is at the front of what came.
+#[derive(Drop)]
+pub(crate) enum Frame {
+    /// No whole frame.
+    Part,
+    /// A ping or a pong. The caller has nothing to do with it.
+    Control,
+    /// A part of a message, with so many bytes of payload. More of the message follows.
+    Fragment(usize),
+    /// The end of a text.
+    Text(String),
+    /// The end of a binary message.
+    NotText,
+    /// The peer's close frame.
+    Close,
+    /// A frame that fails the connection.
+    Bad(Fault),
+}
+
+/// Why the server fails a connection.
+#[derive(Clone, Copy, Debug, PartialEq, Eq)]
+pub(crate) enum Fault {
+    /// A frame breaks the protocol.
+    Protocol,
+    /// A text is not UTF-8.
+    NotUtf8,
+    /// A frame or a message is past its limit.
+    TooLong,
+    /// Too much waits to be written.
+    Slow,
+    /// The host holds too much, and most of this connection's share came from the peer.
+    CrowdedIn,
+    /// The host holds too much, and most of this connection's share waits to be written.
+    CrowdedOut,
+}
+
+impl Fault {
+    /// The code of its close frame.
+    pub(crate) fn code(self) -> CloseCode
+        ensures { result ≡ code_of self }
+    {
+        match self {
+            Fault::Protocol => CloseCode::Protocol,
+            Fault::NotUtf8 => CloseCode::Invalid,
+            Fault::TooLong | Fault::CrowdedIn => CloseCode::Size,
+            Fault::Slow | Fault::CrowdedOut => CloseCode::Again,
+        }
+    }
+
+    /// The reason in its close frame.
+    pub(crate) fn reason(self) -> &'static str
+        ensures { result.now ≡ reason_of self }
+    {
+        match self {
+            Fault::Protocol => "a frame breaks the WebSocket protocol",
+            Fault::NotUtf8 => "a text is not UTF-8",
+            Fault::TooLong => "a message is too long",
+            Fault::Slow => "too much waits to be read",
+            Fault::CrowdedIn | Fault::CrowdedOut => "too much is held in all",
+        }
+    }
+}
+
+/// Takes the frame at the front of what came. A pong or a close frame that answers it is added to `output`.
+pub(crate) fn read_frame(
+    alloc: Global,
+    context: &mut WebSocketContext,
+    inbox: &mut Inbox,
+    output: &mut Vec<u8>,
+) -> Result<Frame, AllocError>
+    ensures { IfOk result (IsTakenFor (read_step context.old (untaken inbox.old))) }
+{
+    let input = &mut inbox.bytes[inbox.start..inbox.end];
+    let (length, frame) = frame_at(alloc, context, input, output)?;
+    inbox.take(length);
+    Ok(frame)
+}
+
+// The frame at the front of these bytes, and how many it takes.
+fn frame_at(
+    alloc: Global,
+    context: &mut WebSocketContext,
+    input: &mut [u8],
+    output: &mut Vec<u8>,
+) -> Result<(usize, Frame), AllocError>
+    ensures { IfOk result (λ taken. IsTakenFor (read_step context.old input.old) taken.1) }
+{
+    match context.read(input, output, &mut NoMask) {
+        Ok(FrameStatus::Partial(_)) => Ok((0, Frame::Part)),
+        Ok(FrameStatus::Complete(step)) => {
+            let frame = frame_of(alloc, &step.message, input)?;
+            Ok((step.consumed, frame))
+        }
+        Err(error) => Ok((0, Frame::Bad(fault_of(error)?))),
+    }
+}
+
+// What a frame gave.
+fn frame_of(alloc: Global, message: &Option<Received>, input: &[u8]) -> Result<Frame, AllocError>
+    requires inside { IfSome message.now (IsReceivedInside input.now) }
+    requires text { IfSome message.now (λ m. HasValidText (received_content input.now m)) }
+    ensures { IfOk result (Shows (option_map (received_content input.now) message.now)) }
+{
+    let Some(received) = message else {
+        return Ok(Frame::Fragment(payload_len(input)));
+    };
+    match received.message(input) {
+        Message::Text(text) => Ok(Frame::Text(String::from_str(alloc, text)?)),
+        Message::Binary(_) => Ok(Frame::NotText),
+        Message::Ping(_) | Message::Pong(_) => Ok(Frame::Control),
+        Message::Close(_) => Ok(Frame::Close),
+    }
+}
+
+// How many bytes of payload the frame at the front of these bytes has.
+fn payload_len(input: &[u8]) -> usize {
+    match FrameHeader::parse(input) {
+        Ok(Some((_, length))) => length as usize,
+        Ok(None) | Err(_) => 0,
+    }
+}
+
+// Why a frame fails the connection.
+fn fault_of(error: FrameError) -> Result<Fault, AllocError>
+    ensures { IfOk result (IsFaultOf error) }
+{
+    match error {
+        FrameError::OutOfMemory => Err(AllocError),
+        FrameError::Utf8 => Ok(Fault::NotUtf8),
+        FrameError::Capacity(_) => Ok(Fault::TooLong),
+        FrameError::Protocol(_) | FrameError::ConnectionClosed | FrameError::AlreadyClosed => {
+            Ok(Fault::Protocol)
+        }
+    }
+}
+
+/// How many bytes a server's frame has with a payload of so many.
+pub(crate) fn frame_len(payload: usize) -> usize {
+    let head = if payload < 126 {
+        2
+    } else if payload < 65_536 {
+        4
+    } else {
+        10
+    };
+    payload.saturating_add(head)
+}

@@ -1,0 +1,57 @@
+//! Where a connection stands.
+ghost use Rattle.std.specs.Prelude.{◌≡◌, ◌≢◌, []};
+ghost use Rattle.bidi_peer.specs.Telling.{HasEnded};
+ghost use Rattle.bidi_peer.specs.Waiting.{unwritten};
+ghost use Rattle.bidi_peer.specs.declared.standing.End.TheVariants.{Ahead};
+ghost use Rattle.bidi_peer.specs.declared.standing.State.TheVariants.{Done};
+
+use super::waiting::{Inbox, Outbox};
+use std::alloc::Global;
+use websocket::protocol::WebSocketContext;
+
+/// Where a connection stands.
+#[derive(Clone, Copy, Debug, PartialEq, Eq)]
+pub(crate) enum State {
+    /// The head of a request is being read.
+    Head,
+    /// A request for a WebSocket waits for its answer, which has this key.
+    Asked([u8; 28]),
+    /// Messages go both ways.
+    Open,
+    /// A close frame was sent, and the peer's is not here yet.
+    Closing,
+    /// Nothing more is read. It is over once what waits is written.
+    Leaving,
+    /// Nothing more is read or written.
+    Done,
+}
+
+/// Whether the caller knows that no more comes.
+#[derive(Clone, Copy, Debug, PartialEq, Eq)]
+pub(crate) enum End {
+    /// It is not so yet.
+    Ahead,
+    /// The next take tells it.
+    Due,
+    /// It knows.
+    Known,
+}
+
+/// One connection of a client: its handshake, its messages, its end.
+#[derive(Drop)]
+pub struct Peer<S> {
+    pub(crate) alloc: Global,
+    pub(crate) stream: S,
+    pub(crate) state: State,
+    pub(crate) end: End,
+    pub(crate) context: WebSocketContext,
+    /// How many bytes of payload came of a message whose end has not come.
+    pub(crate) fragments: usize,
+    pub(crate) inbox: Inbox,
+    pub(crate) outbox: Outbox,
+    pub(crate) most_waiting: usize,
+    // Nothing waits for a stream that is not written any more.
+    ghost cut: { state ≡ Done → unwritten outbox ≡ [] },
+    // Where nothing more is read, the end was told, or the next take tells it.
+    ghost owes: { HasEnded state → end ≢ Ahead },
+}
