@@ -13,7 +13,7 @@ mod system;
 use bidi_command_line::{
     HostFiles, HostOptions, LineFault, Run, ServeOptions, command_line, host_files,
 };
-use bidi_hosting::{Door, Hosted, HostingFault, MOST_WAITING, Manners};
+use bidi_hosting::{Door, Hosted, HostingFault, MOST_CONNECTIONS, MOST_WAITING, Manners};
 use bidi_lines::{Device, Sink, write_all};
 use bidi_programs::{hosting_status, run, serving_status};
 use bidi_serve::{ServeFault, serve};
@@ -36,6 +36,9 @@ fn main(rt: HostRuntime) -> ExitCode {
 
 /// The line of a program that has no memory for its command line.
 const OUT_OF_MEMORY: &[u8] = b"bidi: out of memory\n";
+
+/// How many bytes a MiB has.
+const MIB: usize = 1 << 20;
 
 /// What `--version` tells.
 const VERSION: &[u8] = b"bidi 0.1.0, profile P2\n";
@@ -70,10 +73,10 @@ fn status(rt: &HostRuntime) -> io::Result<u8> {
     }
     match command_line(alloc, &words) {
         Ok(Run::Serve(asked)) => Ok(serving_status(served(rt, asked), &mut faults)),
-        Ok(Run::Host(asked)) => Ok(match host_files(alloc, &words) {
-            Ok(files) => hosting_status(hosted(rt, asked, files), &mut faults),
-            Err(_) => told(rt, OUT_OF_MEMORY, 3),
-        }),
+        Ok(Run::Host(asked)) => match host_files(alloc, &words) {
+            Ok(files) => host_status(rt, asked, files),
+            Err(_) => Ok(told(rt, OUT_OF_MEMORY, 3)),
+        },
         Ok(asked) => {
             let mut input = Device::new(rt.reader());
             Ok(run(alloc, &asked, &mut input, &mut output, &mut faults))
@@ -100,8 +103,55 @@ fn local(port: u16) -> SocketAddr {
     SocketAddr::V4(SocketAddrV4::new(Ipv4Addr::LOCALHOST, port))
 }
 
+/// Why a host ended.
+enum Ended {
+    /// It was told to end, or met a fault.
+    Hosted(Result<(), HostingFault>),
+    /// It cannot listen on its port, for a reason of the system's.
+    NoPort(io::ErrorKind),
+}
+
+// Hosts, and returns the status of the program.
+fn host_status(rt: &HostRuntime, asked: HostOptions, files: HostFiles) -> io::Result<u8> {
+    match hosted(rt, asked, files) {
+        Ended::Hosted(ended) => Ok(hosting_status(ended, &mut Device::new(rt.stderr()))),
+        Ended::NoPort(kind) => {
+            let (port, reason) = (asked.port, reason(kind));
+            let line = format!(in rt.alloc();
+                "bidi: cannot listen on 127.0.0.1:{port}: {reason}\n"
+            )?;
+            Ok(told(rt, line.as_bytes(), 3))
+        }
+    }
+}
+
+// Why the system gives no port, in words.
+fn reason(kind: io::ErrorKind) -> &'static str {
+    match kind {
+        io::ErrorKind::AddrInUse => "the port is in use",
+        io::ErrorKind::PermissionDenied => "permission denied",
+        _ => "the system refuses",
+    }
+}
+
 // Hosts on 127.0.0.1. The lines of the page are played before it listens.
-fn hosted(rt: &HostRuntime, asked: HostOptions, files: HostFiles) -> Result<(), HostingFault> {
+fn hosted(rt: &HostRuntime, asked: HostOptions, files: HostFiles) -> Ended {
+    let (mut hosted, mut system) = match begun(rt, asked, files) {
+        Ok(begun) => begun,
+        Err(fault) => return Ended::Hosted(Err(fault)),
+    };
+    match Listener::bind(rt, local(asked.port)) {
+        Ok(listener) => Ended::Hosted(served_by(rt, listener, &mut hosted, &mut system)),
+        Err(error) => Ended::NoPort(error.kind()),
+    }
+}
+
+// A host that has played the lines of the page, and its surroundings.
+fn begun<'a>(
+    rt: &'a HostRuntime,
+    asked: HostOptions,
+    files: HostFiles,
+) -> Result<(Hosted, System<'a>), HostingFault> {
     let HostFiles {
         page_file,
         record_file,
@@ -110,8 +160,7 @@ fn hosted(rt: &HostRuntime, asked: HostOptions, files: HostFiles) -> Result<(), 
     let mut system = System::new(rt, record_file)?;
     let mut hosted = Hosted::new(rt.alloc(), manners(asked), page)?;
     hosted.begin(&mut system)?;
-    let mut door = door(rt, asked.port)?;
-    hosted.serve(&mut door, &mut system)
+    Ok((hosted, system))
 }
 
 // How clients are treated.
@@ -121,16 +170,21 @@ fn manners(asked: HostOptions) -> Manners {
         is_lenient: asked.is_lenient,
         reads_input: asked.reads_input,
         most_waiting: MOST_WAITING,
+        most_held: (asked.most_buffered as usize) * MIB,
+        most_connections: MOST_CONNECTIONS,
     }
 }
 
-// A listener on this port.
-fn door(rt: &HostRuntime, port: u16) -> Result<Door, HostingFault> {
-    let Ok(listener) = Listener::bind(rt, local(port)) else {
-        return Err(HostingFault::Listen);
-    };
+// Serves the connections of a listener.
+fn served_by(
+    rt: &HostRuntime,
+    listener: Listener,
+    hosted: &mut Hosted,
+    system: &mut System,
+) -> Result<(), HostingFault> {
     let Ok(poll) = Poll::new(rt) else {
         return Err(HostingFault::Listen);
     };
-    Door::new(rt.alloc(), poll, listener)
+    let mut door = Door::new(rt.alloc(), poll, listener)?;
+    hosted.serve(&mut door, system)
 }

@@ -265,7 +265,7 @@ host_words port page record_file stdin sessions lenient =
 
 host_reads : (port page record_file : Option Text) (stdin sessions lenient : Bool)
     → Reads (codes "host" ∷ host_words port page record_file stdin sessions lenient)
-    (option_map Host (hosted (number_within 0 65535 (unwrap_or port default_port)) stdin sessions lenient))
+    (option_map Host (hosted (number_within 0 65535 (unwrap_or port default_port)) stdin sessions lenient (Some 1024)))
 unfolding clap_on_literals
 host_reads None None None true true true = (refl, refl)
 host_reads None None None true true false = (refl, refl)
@@ -332,6 +332,12 @@ host_reads (Some p) (Some f) (Some r) false true false = (refl, refl)
 host_reads (Some p) (Some f) (Some r) false false true = (refl, refl)
 host_reads (Some p) (Some f) (Some r) false false false = (refl, refl)
 
+-- `--max-buffered` alone
+buffered_reads : (value : Text) → Reads (codes "host" ∷ value_words (codes "max-buffered") (Some value))
+    (option_map Host (hosted (Some 9222) false false false (number_within 1 65536 value)))
+unfolding clap_on_literals
+buffered_reads value = (refl, refl)
+
 -- a line that clap reads so, by another name and with the run in hand
 read_as : (line other : List Text) (run : Run) (found : Option Run) → line ≡ other → found ≡ Some run → Reads other found → IsReadAs line run
 read_as line other run found same is reads = subst (λ l. IsReadAs l run) (sym same) (reads.0, reads.1 ∙ is)
@@ -366,6 +372,9 @@ said_asks line (Serve s) (p, c, m, port, connections, messages, inl e) =
     (serve_reads (plain_number 0 65535 s.port p port) (plain_number 1 1000 s.connections c connections) (plain_number 1 100000 s.messages m messages))
 said_asks line (Serve s) (p, c, m, port, connections, messages, inr e) =
     read_as line _ (Serve s) _ e (λ i. option_map Serve (served (port i) (connections i) (messages i))) (serve_reads_joined p c m)
-said_asks line (Host h) (port, page, record_file, number, e) =
-    read_as line _ (Host h) _ e (ap (λ n. option_map Host (hosted n h.reads_input h.ends_sessions h.is_lenient)) number)
+said_asks line (Host h) (inl (port, page, record_file, number, most, e)) =
+    read_as line _ (Host h) _ e (λ i. option_map Host (hosted (number i) h.reads_input h.ends_sessions h.is_lenient (Some (sym most i))))
     (host_reads port page record_file h.reads_input h.ends_sessions h.is_lenient)
+said_asks line (Host h) (inr (value, number, others, e)) =
+    read_as line _ (Host h) _ e (ap (λ n. option_map Host (hosted (Some 9222) false false false n)) number ∙ ap (λ o. Some (Host o)) (sym others))
+    (buffered_reads value)

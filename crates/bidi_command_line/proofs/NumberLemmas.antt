@@ -71,8 +71,9 @@ served-same a a' b b' m m' p q r =
 pub checked-same : (a a' : Option Text) (b b' c c' d d' : Bool) → a ≡ a' → b ≡ b' → c ≡ c' → d ≡ d' → checked a b c d ≡ checked a' b' c' d'
 checked-same a a' b b' c c' d d' p q r s = λ i. checked (p i) (q i) (r i) (s i)
 
-pub hosted-same : (a a' : Option ℕ) (b b' c c' d d' : Bool) → a ≡ a' → b ≡ b' → c ≡ c' → d ≡ d' → hosted a b c d ≡ hosted a' b' c' d'
-hosted-same a a' b b' c c' d d' p q r s = λ i. hosted (p i) (q i) (r i) (s i)
+pub hosted-same : (a a' : Option ℕ) (b b' c c' d d' : Bool) (e e' : Option ℕ)
+    → a ≡ a' → b ≡ b' → c ≡ c' → d ≡ d' → e ≡ e' → hosted a b c d e ≡ hosted a' b' c' d' e'
+hosted-same a a' b b' c c' d d' e e' p q r s t = λ i. hosted (p i) (q i) (r i) (s i) (t i)
 
 -- ---- bounds
 
@@ -107,10 +108,12 @@ served-from None b m s e = cc
 served-from (Some p) None m s e = cc
 served-from (Some p) (Some k) None s e = cc
 
--- what is hosted has the port that was found
-hosted-from : (port : Option ℕ) (stdin sessions lenient : Bool) (o : HostOptions) → hosted port stdin sessions lenient ≡ Some o → port ≡ Some o.port
-hosted-from (Some p) stdin sessions lenient o e = cc
-hosted-from None stdin sessions lenient o e = cc
+-- what is hosted has the numbers that were found
+hosted-from : (port : Option ℕ) (stdin sessions lenient : Bool) (most : Option ℕ) (o : HostOptions)
+    → hosted port stdin sessions lenient most ≡ Some o → (port ≡ Some o.port) × (most ≡ Some o.most_buffered)
+hosted-from (Some p) stdin sessions lenient (Some n) o e = (cc, cc)
+hosted-from (Some p) stdin sessions lenient None o e = cc
+hosted-from None stdin sessions lenient most o e = cc
 
 -- a run, where one was found, has its numbers within their bounds
 abbrev AreWithin : Option Run → Type 0
@@ -152,9 +155,11 @@ served_within rows = made_within Serve (serving_in rows) (λ s e.
 
 hosted_within : (rows : List Row) → AreWithin (option_map Host (hosting_in rows))
 hosted_within rows = made_within Host (hosting_in rows) (λ o e.
-    let port = hosted-from (number_in (codes "port") 0 65535 rows) (is_given (codes "stdin") rows) (is_given (codes "end-sessions") rows)
-    (is_given (codes "lenient") rows) o e in
-    (within_found 0 65535 o.port (first_of (codes "port") rows) port).1)
+    let from = hosted-from (number_in (codes "port") 0 65535 rows) (is_given (codes "stdin") rows) (is_given (codes "end-sessions") rows)
+    (is_given (codes "lenient") rows) (number_in (codes "max-buffered") 1 65536 rows) o e in
+    let port = within_found 0 65535 o.port (first_of (codes "port") rows) from.0 in
+    let most = within_found 1 65536 o.most_buffered (first_of (codes "max-buffered") rows) from.1 in
+    (port.1, most.0, most.1))
 
 -- the run by the names that a subcommand has
 abbrev run_by : Bool → Bool → Bool → Bool → Bool → Bool → Bool → List Row → Option Run

@@ -74,13 +74,23 @@ default_port = codes "9222"
 abbrev pub port_rule : Rule
 port_rule = record (value_rule (codes "port")) { defaults = default_port ∷ [] }
 
+-- how many MiB are held at most where no number is given
+abbrev pub default_buffered : Text
+default_buffered = codes "1024"
+
+-- the option `--max-buffered` of `host`
+abbrev pub buffered_rule : Rule
+buffered_rule = record (value_rule (codes "max-buffered")) { defaults = default_buffered ∷ [] }
+
 -- the subcommand `host`, with what it says of the port and of the input
 abbrev pub host_app : App
 host_app = with_rule (with_rule (with_rule (new_app (codes "host")) port_rule) (value_rule (codes "page"))) (flag_rule (codes "stdin"))
 
--- the same, with what it says of the record and of sessions
+-- the same, with what it says of the record, of sessions and of memory
 abbrev pub host_shape : Shape
-host_shape = (with_rule (with_rule (with_rule host_app (value_rule (codes "record"))) (flag_rule (codes "end-sessions"))) (flag_rule (codes "lenient"))).top
+host_shape =
+    (with_rule (with_rule (with_rule (with_rule host_app (value_rule (codes "record"))) (flag_rule (codes "end-sessions"))) (flag_rule (codes "lenient")))
+    buffered_rule).top
 
 -- the program's command before it has subcommands
 abbrev pub bare_app : App
@@ -166,15 +176,17 @@ served port connections messages = None
 abbrev pub serving_in : List Row → Option ServeOptions
 serving_in rows = served (number_in (codes "port") 0 65535 rows) (number_in (codes "connections") 1 1000 rows) (number_in (codes "messages") 1 100000 rows)
 
--- how connections are to be hosted, where the port is there
-abbrev pub hosted : Option ℕ → Bool → Bool → Bool → Option HostOptions
-hosted port reads_input ends_sessions is_lenient =
-    option_map (λ p. record { port = p; reads_input = reads_input; ends_sessions = ends_sessions; is_lenient = is_lenient }) port
+-- how connections are to be hosted, where both numbers are there
+abbrev pub hosted : Option ℕ → Bool → Bool → Bool → Option ℕ → Option HostOptions
+hosted (Some port) reads_input ends_sessions is_lenient (Some most) =
+    Some (record { port = port; reads_input = reads_input; ends_sessions = ends_sessions; is_lenient = is_lenient; most_buffered = most })
+hosted port reads_input ends_sessions is_lenient most = None
 
--- how the port and the flags ask for it
+-- how the numbers and the flags ask for it
 abbrev pub hosting_in : List Row → Option HostOptions
 hosting_in rows =
     hosted (number_in (codes "port") 0 65535 rows) (is_given (codes "stdin") rows) (is_given (codes "end-sessions") rows) (is_given (codes "lenient") rows)
+    (number_in (codes "max-buffered") 1 65536 rows)
 
 -- the run of the subcommand of this name, whose options name this end or this session, or say what is to be checked, served or hosted
 abbrev pub run_named : Text → Option Side → Option ℕ → Option Run → Option ServeOptions → Option HostOptions → Option Run
@@ -239,6 +251,21 @@ value_words name (Some value) = ((codes "--" ++ name) ++ 61 ∷ value) ∷ []
 abbrev pub flag_words : Text → Bool → List Text
 flag_words name is_given = if is_given then (codes "--" ++ name) ∷ [] else []
 
+-- the words of `host` without `--max-buffered`, each of its other options given or not, in this order
+abbrev pub SaysHost : HostOptions → List Text → Type 0
+SaysHost h line =
+    (port : Option Text) × (page : Option Text) × (record_file : Option Text)
+    × (number_within 0 65535 (unwrap_or port default_port) ≡ Some h.port) × (h.most_buffered ≡ 1024)
+    × (line ≡ codes "host" ∷ value_words (codes "port") port ++ value_words (codes "page") page ++ flag_words (codes "stdin") h.reads_input
+    ++ value_words (codes "record") record_file ++ flag_words (codes "end-sessions") h.ends_sessions ++ flag_words (codes "lenient") h.is_lenient)
+
+-- the words of `host` with `--max-buffered` and no other option
+abbrev pub SaysBuffered : HostOptions → List Text → Type 0
+SaysBuffered h line =
+    (value : Text) × (number_within 1 65536 value ≡ Some h.most_buffered)
+    × (h ≡ record { port = 9222; reads_input = false; ends_sessions = false; is_lenient = false; most_buffered = h.most_buffered })
+    × (line ≡ codes "host" ∷ value_words (codes "max-buffered") (Some value))
+
 -- the words that are given for a run, with its options in this order
 abbrev pub IsSaidBy : Run → List Text → Type 0
 IsSaidBy Play line = line ≡ codes "play" ∷ []
@@ -259,17 +286,13 @@ IsSaidBy (Serve s) line =
     × (number_within 1 100000 messages ≡ Some s.messages)
     × ((line ≡ codes "serve" ∷ codes "--port" ∷ port ∷ codes "--connections" ∷ connections ∷ codes "--messages" ∷ messages ∷ [])
     ⊎ (line ≡ codes "serve" ∷ (codes "--port=" ++ port) ∷ (codes "--connections=" ++ connections) ∷ (codes "--messages=" ++ messages) ∷ []))
-IsSaidBy (Host h) line =
-    (port : Option Text) × (page : Option Text) × (record_file : Option Text)
-    × (number_within 0 65535 (unwrap_or port default_port) ≡ Some h.port)
-    × (line ≡ codes "host" ∷ value_words (codes "port") port ++ value_words (codes "page") page ++ flag_words (codes "stdin") h.reads_input
-    ++ value_words (codes "record") record_file ++ flag_words (codes "end-sessions") h.ends_sessions ++ flag_words (codes "lenient") h.is_lenient)
+IsSaidBy (Host h) line = SaysHost h line ⊎ SaysBuffered h line
 
 -- the numbers of a run are within their bounds
 abbrev pub IsWithinBounds : Run → Type 0
 IsWithinBounds (Reduce session) = session ≤ 4294967295
 IsWithinBounds (Serve s) = (s.port ≤ 65535) × (1 ≤ s.connections) × (s.connections ≤ 1000) × (1 ≤ s.messages) × (s.messages ≤ 100000)
-IsWithinBounds (Host h) = h.port ≤ 65535
+IsWithinBounds (Host h) = (h.port ≤ 65535) × (1 ≤ h.most_buffered) × (h.most_buffered ≤ 65536)
 IsWithinBounds run = ⊤
 
 -- help, or the version, was asked for

@@ -5,7 +5,7 @@ ghost use Rattle.clap.specs.Words.{app_of, found_of, first_value, kind_of, rows_
 ghost use Rattle.clap.specs.declared.builder.command.Command.TheViews.{out-Command};
 ghost use Rattle.clap.specs.declared.error.kind.ErrorKind.TheVariants.{InvalidValue};
 ghost use Rattle.bidi_command_line.specs.declared.asked.Run.{Run};
-ghost use Rattle.bidi_command_line.specs.CommandLine.{AsksFor, Causes, IsRefusedFor, IsSaidBy, IsWithinBounds, app_without_host, bare_app, bidi_app};
+ghost use Rattle.bidi_command_line.specs.CommandLine.{AsksFor, Causes, IsRefusedFor, IsSaidBy, IsWithinBounds, app_without_host, bare_app, bidi_app, buffered_rule};
 ghost use Rattle.bidi_command_line.specs.CommandLine.{check_app, check_shape, checked, checking_in, flag_rule};
 ghost use Rattle.bidi_command_line.specs.CommandLine.{host_app, host_shape, hosted, hosting_in, is_true, line_of, number_within};
 ghost use Rattle.bidi_command_line.specs.CommandLine.{option_rule, pair_shape, play_shape, port_rule, reduce_shape, run_in, run_named};
@@ -80,6 +80,9 @@ pub struct HostOptions {
     pub ends_sessions: bool,
     /// `--lenient`: what real libraries send first is taken, also where the profile refuses it.
     pub is_lenient: bool,
+    /// `--max-buffered`: how many MiB unfinished messages and waiting texts take in all, 1 to 65,536. It is 1,024 if none is
+    /// given.
+    pub most_buffered: u32,
 }
 
 /// Why a command line gives no run.
@@ -114,13 +117,13 @@ const SHOW_HELP: &str =
     "Lines in: a text each, as it was sent.\nLines out: `accepted ID METHOD TEXT` or `refused ID CODE` of a local end;\n`response ID TEXT`, `error ID TEXT`, `event METHOD TEXT`, `no fit` or `not json` of a remote end.\nStatus: 0 where all was shown, 2 at a bad line, 3 where input, output or memory failed.\nThe rest stands in docs/FORMATS.md.";
 
 const CHECK_HELP: &str =
-    "Lines in: a text each, as it was sent.\nLines out: `line N: refused ID CODE` of a local end; `line N: no fit` or `line N: not json` of a remote end.\nWith --both: a conversation; `> TEXT` is of the local end, `< TEXT` of the remote end. Answers are held against commands:\n`line N: stray ID`, `line N: bad result ID METHOD` or `line N: error ID METHOD CODE`, and at the end `unanswered ID METHOD`.\nWith --why: `line N: LABEL: POINTER: wants WHAT, has WHAT (RULE)`, where LABEL is the method or the type of the text,\nand at the end, on the standard error, how many lines are refused, and each cause with its number.\nWith --why --json: a JSON object for each refused line.\nStatus: 0 where no text is refused, 1 where one is, or with --both anything but an error is told,\n2 at a bad line (with --why or --both it is one that is refused), 3 where input, output or memory failed.\nThe rest stands in docs/FORMATS.md.";
+    "Lines in: a text each, as it was sent.\nLines out: `line N: refused ID CODE` of a local end; `line N: no fit` or `line N: not json` of a remote end.\nWith --both: a conversation; `> TEXT` is of the local end, `< TEXT` of the remote end. Answers are held against commands:\n`line N: stray ID`, `line N: bad result ID METHOD` or `line N: error ID METHOD CODE`, and at the end `unanswered ID METHOD (line N)`.\nThe line of a refused text that answers a command ends in `(answers ID)`.\nWith --why: `line N: LABEL: POINTER: wants WHAT, has WHAT (RULE)`, where LABEL is the method or the type of the text,\nand at the end, on the standard error, how many lines are refused, and each cause with its number.\nWith --why --json: a JSON object for each refused line.\nStatus: 0 where no text is refused, 1 where one is, or with --both anything but an error is told,\n2 at a bad line (with --why or --both it is one that is refused), 3 where input, output or memory failed.\nThe rest stands in docs/FORMATS.md.";
 
 const SERVE_HELP: &str =
     "A client connects to ws://127.0.0.1:PORT/session, and makes a session by `session.new`;\na connection to /session/ID speaks for that session.\nStatus: 0 where all connections were served, 3 where it cannot listen or memory failed.\nThe rest stands in docs/CLIENTS.md.";
 
 const HOST_HELP: &str =
-    "A client connects to ws://127.0.0.1:PORT/session, and makes a session by `session.new`;\na connection to /session/ID speaks for that session.\nOne to /page is a page: each text is a line of a play (`at`, `frame`, `unframe`, `log`, `value`),\nor `reset`, which makes the browser new, or `end`.\nWhen it listens it writes `WebDriver BiDi listening on ws://127.0.0.1:PORT` to the standard error.\nStatus: 0 where it was told to end, 2 at a bad line in the file of a page,\n3 where it cannot listen, or a file, the record or memory failed.\nThe rest stands in docs/FORMATS.md.";
+    "A client connects to ws://127.0.0.1:PORT/session, and makes a session by `session.new`;\na connection to /session/ID speaks for that session.\nOne to /page is a page: each text is a line of a play (`at`, `frame`, `unframe`, `log`, `value`),\nor `reset`, which makes the browser new, or `end`.\nEach line of a page is answered by `ok`, `no effect: REASON` or `no line of a page: REASON`.\nWhen it listens it writes `WebDriver BiDi listening on ws://127.0.0.1:PORT` to the standard error.\nStatus: 0 where it was told to end, 2 at a bad line in the file of a page,\n3 where it cannot listen, or input, output, a file, the record or memory failed.\nThe rest stands in docs/FORMATS.md.";
 
 /// The run that the words after the program's name ask for.
 ///
@@ -243,7 +246,7 @@ fn serve_command<'a>(alloc: Global) -> Result<Command<'a>, AllocError>
         .arg(messages)
 }
 
-// The subcommand `host`, with its three options and three flags.
+// The subcommand `host`, with its four options and three flags.
 fn host_command<'a>(alloc: Global) -> Result<Command<'a>, AllocError>
     ensures app { IfOk result (λ command. (app_of command).top ≡ host_shape) }
     ensures local { IfOk result (λ command. (out-Command command).has_globals ≡ false) }
@@ -265,7 +268,12 @@ fn host_command<'a>(alloc: Global) -> Result<Command<'a>, AllocError>
         "lenient",
         "Takes what real libraries send first and the profile refuses",
     );
-    command.arg(record)?.arg(end_sessions)?.arg(lenient)
+    let buffered = buffered_option(alloc);
+    command
+        .arg(record)?
+        .arg(end_sessions)?
+        .arg(lenient)?
+        .arg(buffered)
 }
 
 // The subcommand `host`, with the arguments for its port and its input.
@@ -399,6 +407,18 @@ fn port_option<'a>(alloc: Global) -> Arg<'a>
         .default_value("9222")
 }
 
+// The option `--max-buffered` of `host`, which has a default.
+fn buffered_option<'a>(alloc: Global) -> Arg<'a>
+    ensures rule { rule_of result ≡ buffered_rule }
+    ensures local { result.global ≡ false }
+{
+    Arg::new(alloc, "max-buffered")
+        .long("max-buffered")
+        .value_name("MIB")
+        .help("The most MiB that unfinished messages and waiting texts take in all: 1 to 65536")
+        .default_value("1024")
+}
+
 // The option of this name, with a value, which may be left out.
 fn optional<'a>(alloc: Global, name: &'a str, value: &'a str, help: &'a str) -> Arg<'a>
     ensures rule { rule_of result ≡ value_rule name.entry.now }
@@ -526,23 +546,26 @@ fn hosting_of(matches: &ArgMatches<'_>) -> Option<HostOptions>
     let reads_input = is_given(matches, "stdin");
     let ends_sessions = is_given(matches, "end-sessions");
     let is_lenient = is_given(matches, "lenient");
-    hosted(port, reads_input, ends_sessions, is_lenient)
+    let most_buffered = number_of(matches, "max-buffered", 1, 65_536);
+    hosted(port, reads_input, ends_sessions, is_lenient, most_buffered)
 }
 
-// The options of `host`, where the port is valid.
+// The options of `host`, where both numbers are valid.
 fn hosted(
     port: Option<u16>,
     reads_input: bool,
     ends_sessions: bool,
     is_lenient: bool,
+    most_buffered: Option<u32>,
 ) -> Option<HostOptions>
-    ensures { result ≡ hosted port reads_input ends_sessions is_lenient }
+    ensures { result ≡ hosted port reads_input ends_sessions is_lenient most_buffered }
 {
     Some(HostOptions {
         port: port?,
         reads_input,
         ends_sessions,
         is_lenient,
+        most_buffered: most_buffered?,
     })
 }
 
@@ -686,6 +709,8 @@ fn bad_option(matches: &ArgMatches<'_>) -> (&'static str, &'static str) {
         ("session", "0 to 4294967295")
     } else if port_of(matches).is_none() {
         ("port", "0 to 65535")
+    } else if matches.get_str("max-buffered").is_some() {
+        ("max-buffered", "1 to 65536")
     } else if number_of(matches, "connections", 1, 1_000).is_none() {
         ("connections", "1 to 1000")
     } else {

@@ -210,6 +210,13 @@ impl Host {
         Ok(())
     }
 
+    /// The remote end that takes the inputs.
+    pub fn remote_end(&self) -> &RemoteEnd
+        ensures { result.now ≡ self.now.end }
+    {
+        &self.end
+    }
+
     /// Whether the connection of this number is open. Takes no memory.
     ///
     /// Passes over at most 64 connections.

@@ -1,17 +1,26 @@
 //! Lines that come by standard input, some bytes at a time.
+use crate::fault::HostingFault;
 use crate::surroundings::Surroundings;
 use bidi_lines::LONGEST_LINE;
 use std::alloc::{AllocError, Global};
+use std::io::ErrorKind;
 
 /// How many bytes one read asks for at most. They stand on the stack.
 const CHUNK: usize = 8192;
+
+/// Why bytes are no line.
+const TOO_LONG: &str = "more than 2097152 bytes";
+
+const NOT_UTF8: &str = "not UTF-8";
+
+const NO_LINE_FEED: &str = "no line feed at its end";
 
 /// What a console has.
 pub(crate) enum Said {
     /// A line, without its line feed.
     Line(String),
-    /// A line that is too long, or not UTF-8.
-    NoLine,
+    /// No line of a page can be read, for this reason.
+    NoLine(&'static str),
     /// No whole line yet.
     Nothing,
 }
@@ -43,16 +52,21 @@ impl Console {
         self.has_ended
     }
 
-    /// Reads once. A read that fails ends the input.
-    pub(crate) fn read<W: Surroundings>(&mut self, world: &mut W) -> Result<(), AllocError> {
+    /// Reads once.
+    ///
+    /// # Errors
+    /// - `Read`: the input cannot be read.
+    /// - `NoMemory`: an allocation failed.
+    pub(crate) fn read<W: Surroundings>(&mut self, world: &mut W) -> Result<(), HostingFault> {
         let mut chunk = [0u8; CHUNK];
         match world.read(&mut chunk) {
-            Ok(n) if n > 0 => self.add(&chunk[..n.min(CHUNK)]),
-            _ => {
-                self.has_ended = true;
-                Ok(())
-            }
+            Ok(0) => self.has_ended = true,
+            Ok(n) => self.add(&chunk[..n.min(CHUNK)])?,
+            Err(error) if error.kind() == ErrorKind::Interrupted => {}
+            Err(error) if error.kind() == ErrorKind::WouldBlock => {}
+            Err(_) => return Err(HostingFault::Read),
         }
+        Ok(())
     }
 
     // Adds bytes at the end, and forgets those that were given.
@@ -77,12 +91,16 @@ impl Console {
             self.start = start.saturating_add(end).saturating_add(1);
             return Ok(said);
         }
-        if held.len() > LONGEST_LINE || (self.has_ended && !held.is_empty()) {
-            self.start = self.bytes.len();
-            self.is_passing = true;
-            return Ok(Said::NoLine);
-        }
-        Ok(Said::Nothing)
+        let reason = if held.len() > LONGEST_LINE {
+            TOO_LONG
+        } else if self.has_ended && !held.is_empty() {
+            NO_LINE_FEED
+        } else {
+            return Ok(Said::Nothing);
+        };
+        self.start = self.bytes.len();
+        self.is_passing = true;
+        Ok(Said::NoLine(reason))
     }
 
     // Passes over the rest of a line that was too long, up to its line feed.
@@ -101,10 +119,10 @@ impl Console {
 // What the bytes of a line are.
 fn line_said(alloc: Global, line: &[u8]) -> Result<Said, AllocError> {
     if line.len() > LONGEST_LINE {
-        return Ok(Said::NoLine);
+        return Ok(Said::NoLine(TOO_LONG));
     }
     match std::str::from_utf8(line) {
         Ok(line) => Ok(Said::Line(String::from_str(alloc, line)?)),
-        Err(_) => Ok(Said::NoLine),
+        Err(_) => Ok(Said::NoLine(NOT_UTF8)),
     }
 }

@@ -9,9 +9,12 @@ pub enum HostingFault {
     /// The line of this number, counted from 1, of the file of a page is no line of a page.
     #[error("line {0} is no line of a page")]
     BadLine(u64),
-    /// The file of a page cannot be read. Of standard input a failed read is its end.
+    /// The file of a page, or standard input, cannot be read.
     #[error("input cannot be read")]
     Read,
+    /// An answer cannot be written to standard output.
+    #[error("output cannot be written")]
+    Answer,
     /// The record cannot be written. What was recorded is whole lines.
     #[error("record cannot be written")]
     Write,

@@ -8,6 +8,7 @@ use crate::sessions::Sessions;
 use crate::surroundings::Surroundings;
 use bidi_host::{Host, Taken};
 use bidi_lenient::{Eased, ease};
+use bidi_page::{no_effect, no_line};
 use bidi_peer::{Came, Peer, Refusal};
 use bidi_remote::Sent;
 use bidi_tree::JsUint;
@@ -23,6 +24,12 @@ const MOST_ACCEPTED: u32 = 256;
 
 /// How many connections a remote end has at most.
 const MOST_CLIENTS: usize = 64;
+
+/// How many connections of pages are open at most.
+const MOST_PAGES: usize = 64;
+
+/// How many connections the program holds at most: 512.
+pub const MOST_CONNECTIONS: usize = 512;
 
 /// How many seconds a handshake may take, and the end of a connection.
 const PATIENCE: u64 = 10;
@@ -52,6 +59,10 @@ pub struct Manners {
     pub reads_input: bool,
     /// How many bytes wait for a slow reader at most.
     pub most_waiting: usize,
+    /// How many bytes all connections may hold at most: what came and is no whole message yet, and what waits to be sent.
+    pub most_held: usize,
+    /// How many connections are held at most, those in their handshake and those that are closing counted.
+    pub most_connections: usize,
 }
 
 /// What a page, or standard input, asks for.
@@ -113,7 +124,7 @@ impl Hosted {
             manners,
             host: Host::new(alloc)?,
             page,
-            peers: Peers::new(alloc),
+            peers: Peers::new(alloc, manners.most_connections),
             sessions: Sessions::new(alloc),
             console: Console::new(alloc),
             is_console_ready: false,
@@ -157,10 +168,13 @@ impl Hosted {
     /// on standard error.
     ///
     /// Memory holds the remote end, and for each connection what came in of one message and at most `most_waiting`
-    /// bytes that wait for it.
+    /// bytes that wait for it. If all connections together hold more than `most_held` bytes, the one that holds most is
+    /// closed.
     ///
     /// # Errors
     /// - `Listen`: no connection can be waited for.
+    /// - `Read`: standard input cannot be read.
+    /// - `Answer`: an answer cannot be written to standard output.
     /// - `Write`: the record cannot be written.
     /// - `NoMemory`: an allocation failed.
     /// - `WornOut`: the remote end takes no more steps.
@@ -266,7 +280,8 @@ impl Hosted {
         door.ask_again()
     }
 
-    // Holds a connection, where there is a place and the host is not ending.
+    // Holds a connection, unless the host is ending. If all places are taken, the connection that would be dropped next
+    // gives way.
     fn accept(
         &mut self,
         door: &mut Door,
@@ -276,7 +291,7 @@ impl Hosted {
         if self.end.is_some() {
             return Ok(());
         }
-        let Some(place) = self.peers.free() else {
+        let Some(place) = self.peers.place() else {
             return Ok(());
         };
         if let Some(stream) = door.watch(stream, place) {
@@ -303,7 +318,7 @@ impl Hosted {
             }
             match self.console.next(self.alloc)? {
                 Said::Line(line) => self.take_line(world, line)?,
-                Said::NoLine => self.answer(world, NO_LINE),
+                Said::NoLine(reason) => self.answer_no_line(world, reason)?,
                 Said::Nothing => break,
             }
         }
@@ -323,13 +338,17 @@ impl Hosted {
     ) -> Result<(), HostingFault> {
         let answer = self.page_says(world, line.as_str())?;
         self.peers.flush();
-        self.answer(world, answer);
-        Ok(())
+        answer_line(world, answer.as_str())
     }
 
-    // Writes a line of standard output. Where that fails there is nobody to read it, and the host goes on.
-    fn answer<W: Surroundings>(&mut self, world: &mut W, line: &str) {
-        let _ = world.answer(line);
+    // Answers bytes of standard input that are no line of a page.
+    fn answer_no_line<W: Surroundings>(
+        &mut self,
+        world: &mut W,
+        reason: &str,
+    ) -> Result<(), HostingFault> {
+        let answer = Answer::because(self.alloc, NO_LINE, reason)?;
+        answer_line(world, answer.as_str())
     }
 
     // Takes what came in on all connections.
@@ -337,6 +356,7 @@ impl Hosted {
         for place in 0..self.peers.len() {
             if self.peers.is_ready(place) {
                 self.take_some(world, place)?;
+                self.peers.hold_at_most(self.manners.most_held)?;
             }
         }
         Ok(())
@@ -383,8 +403,7 @@ impl Hosted {
         resource: String,
     ) -> Result<(), HostingFault> {
         if resource.as_str() == PAGE {
-            self.peers.open(place, Role::Page)?;
-            return Ok(());
+            return self.asked_for_page(place);
         }
         let conn = self.next_conn()?;
         let taken = self.host.opened(conn, resource.as_str())?;
@@ -397,6 +416,16 @@ impl Hosted {
         } else {
             let refusal = self.refusal(resource.as_str());
             self.peers.refuse(place, refusal)?;
+        }
+        Ok(())
+    }
+
+    // A client asks to speak for a page.
+    fn asked_for_page(&mut self, place: usize) -> Result<(), HostingFault> {
+        if self.peers.pages() < MOST_PAGES {
+            self.peers.open(place, Role::Page)?;
+        } else {
+            self.peers.refuse(place, Refusal::Full)?;
         }
         Ok(())
     }
@@ -488,7 +517,7 @@ impl Hosted {
     ) -> Result<(), HostingFault> {
         let answer = self.page_says(world, text.as_str())?;
         self.peers.flush();
-        self.peers.send_to(place, answer)?;
+        self.peers.send_to(place, answer.as_str())?;
         self.close_pages_at_end(world)
     }
 
@@ -497,19 +526,22 @@ impl Hosted {
         &mut self,
         world: &mut W,
         text: &str,
-    ) -> Result<&'static str, HostingFault> {
+    ) -> Result<Answer, HostingFault> {
         match asked_for(text) {
             Asked::Reset => {
                 self.reset(world)?;
-                Ok(DONE)
+                Ok(Answer::Done)
             }
             Asked::End => {
                 self.begin_end(world)?;
-                Ok(DONE)
+                Ok(Answer::Done)
             }
             Asked::Line => match self.host.page_line(text)? {
-                Some(taken) => self.deliver_page(world, taken),
-                None => Ok(NO_LINE),
+                Some(taken) => self.deliver_page(world, text, taken),
+                None => {
+                    let reason = no_line(self.alloc, text)?;
+                    Answer::because(self.alloc, NO_LINE, reason.as_str())
+                }
             },
         }
     }
@@ -518,12 +550,14 @@ impl Hosted {
     fn deliver_page<W: Surroundings>(
         &mut self,
         world: &mut W,
+        line: &str,
         taken: Taken,
-    ) -> Result<&'static str, HostingFault> {
+    ) -> Result<Answer, HostingFault> {
         let answer = if has_no_effect(&taken.sent) {
-            NO_EFFECT
+            let reason = no_effect(self.alloc, self.host.remote_end(), line)?;
+            Answer::because(self.alloc, NO_EFFECT, reason.as_str())?
         } else {
-            DONE
+            Answer::Done
         };
         self.deliver(world, taken)?;
         Ok(answer)
@@ -570,7 +604,10 @@ impl Hosted {
                 let taken = self.host.heard_no_text(conn)?;
                 self.deliver(world, taken)
             }
-            Role::Page => Ok(self.peers.send_to(place, NO_LINE)?),
+            Role::Page => {
+                let answer = Answer::because(self.alloc, NO_LINE, BINARY)?;
+                Ok(self.peers.send_to(place, answer.as_str())?)
+            }
             Role::Arriving | Role::Leaving => Ok(()),
         }
     }
@@ -642,12 +679,48 @@ impl Hosted {
     }
 }
 
-/// The answers to a page.
-const DONE: &str = "ok";
-
+/// How the answer to a line begins that did nothing.
 const NO_EFFECT: &str = "no effect";
 
 const NO_LINE: &str = "no line of a page";
+
+/// Why a message of bytes is no line.
+const BINARY: &str = "a message of bytes";
+
+/// The answer to a line of a page.
+#[derive(Drop)]
+enum Answer {
+    /// The line was done.
+    Done,
+    /// It did nothing: how the answer begins, and the reason.
+    Because(String),
+}
+
+impl Answer {
+    // The answer to a line that did nothing, for this reason.
+    fn because(alloc: Global, what: &str, reason: &str) -> Result<Answer, HostingFault> {
+        if reason.is_empty() {
+            return Ok(Answer::Because(String::from_str(alloc, what)?));
+        }
+        Ok(Answer::Because(format!(in alloc; "{what}: {reason}")?))
+    }
+
+    // The text of the answer.
+    fn as_str(&self) -> &str {
+        match self {
+            Answer::Done => "ok",
+            Answer::Because(text) => text.as_str(),
+        }
+    }
+}
+
+// Writes a line of standard output.
+fn answer_line<W: Surroundings>(world: &mut W, line: &str) -> Result<(), HostingFault> {
+    match world.answer(line) {
+        Ok(()) => Ok(()),
+        Err(_) => Err(HostingFault::Answer),
+    }
+}
 
 // What a text of a page asks for.
 fn asked_for(text: &str) -> Asked {

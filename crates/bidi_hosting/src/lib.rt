@@ -17,6 +17,6 @@ mod surroundings;
 pub use bidi_peer::MOST_WAITING;
 pub use door::Door;
 pub use fault::HostingFault;
-pub use hosting::{Hosted, Manners};
+pub use hosting::{Hosted, MOST_CONNECTIONS, Manners};
 pub use page_file::page_lines;
 pub use surroundings::Surroundings;

@@ -7,9 +7,6 @@ use std::io::{ErrorKind, Read};
 use std::net::Shutdown;
 use std::time::Instant;
 
-/// How many connections are held at most, those in their handshake and those that are closing counted.
-const MOST_PEERS: usize = 512;
-
 /// How many bytes that nobody takes are read at once, and how often in a turn at most.
 const UNREAD: usize = 4096;
 
@@ -103,6 +100,13 @@ impl Slot {
         }
     }
 
+    // The host holds too much, and this connection most of it.
+    fn shed(&mut self) -> Result<(), AllocError> {
+        self.is_ready = true;
+        self.is_due = true;
+        self.peer.shed()
+    }
+
     // The connection is closed behind what waits, and dropped at the deadline.
     fn close(&mut self, ending: Ending, deadline: Option<Instant>) -> Result<(), AllocError> {
         self.role = Role::Leaving;
@@ -135,14 +139,17 @@ struct Route {
 pub(crate) struct Peers {
     slots: Vec<Option<Slot>>,
     routes: Vec<Route>,
+    // How many places there may be.
+    most: usize,
 }
 
 impl Peers {
-    /// No connection. Takes no memory.
-    pub(crate) fn new(alloc: Global) -> Peers {
+    /// No connection, and at most so many places. Takes no memory.
+    pub(crate) fn new(alloc: Global, most: usize) -> Peers {
         Peers {
             slots: Vec::new(alloc),
             routes: Vec::new(alloc),
+            most,
         }
     }
 
@@ -161,12 +168,46 @@ impl Peers {
         self.routes.len()
     }
 
-    /// The first free place, if there is one.
-    pub(crate) fn free(&self) -> Option<usize> {
-        match self.slots.iter().position(|slot| slot.is_none()) {
-            Some(place) => Some(place),
-            None if self.slots.len() < MOST_PEERS => Some(self.slots.len()),
-            None => None,
+    /// How many connections of pages are open.
+    pub(crate) fn pages(&self) -> usize {
+        self.slots.iter().filter(|slot| is_page(*slot)).count()
+    }
+
+    /// A free place. If all are taken, the connection whose deadline comes first is dropped for it; `None` if none has a
+    /// deadline.
+    pub(crate) fn place(&mut self) -> Option<usize> {
+        if let Some(place) = self.slots.iter().position(|slot| slot.is_none()) {
+            return Some(place);
+        }
+        if self.slots.len() < self.most {
+            return Some(self.slots.len());
+        }
+        let place = first_to_go(&self.slots)?;
+        if let Some(slot) = self.slots.get_mut(place) {
+            *slot = None;
+        }
+        Some(place)
+    }
+
+    /// If all connections together hold more than so many bytes, fails the one that holds most.
+    pub(crate) fn hold_at_most(&mut self, most: usize) -> Result<(), AllocError> {
+        let mut held: usize = 0;
+        let mut largest: usize = 0;
+        let mut place = 0;
+        for at in 0..self.slots.len() {
+            let here = held_at(&self.slots, at);
+            held = held.saturating_add(here);
+            if here > largest {
+                largest = here;
+                place = at;
+            }
+        }
+        if held <= most {
+            return Ok(());
+        }
+        match self.slots.get_mut(place) {
+            Some(Some(slot)) => slot.shed(),
+            _ => Ok(()),
         }
     }
 
@@ -363,6 +404,40 @@ impl Peers {
             }
         }
         next
+    }
+}
+
+// How many bytes the connection at a place holds.
+fn held_at(slots: &[Option<Slot>], place: usize) -> usize {
+    match slots.get(place) {
+        Some(Some(slot)) => slot.peer.held(),
+        _ => 0,
+    }
+}
+
+// Whether a connection speaks for a page.
+fn is_page(slot: &Option<Slot>) -> bool {
+    match slot {
+        Some(slot) => slot.role == Role::Page,
+        None => false,
+    }
+}
+
+// The place of the connection whose deadline comes first.
+fn first_to_go(slots: &[Option<Slot>]) -> Option<usize> {
+    let mut first = None;
+    for place in 0..slots.len() {
+        let Some(deadline) = deadline_of(&slots[place]) else {
+            continue;
+        };
+        first = match first {
+            Some((earliest, _)) if earliest <= deadline => first,
+            _ => Some((deadline, place)),
+        };
+    }
+    match first {
+        Some((_, place)) => Some(place),
+        None => None,
     }
 }
 

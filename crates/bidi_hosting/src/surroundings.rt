@@ -30,7 +30,7 @@ pub trait Surroundings {
     /// Writes a line, and its line feed, to standard output.
     ///
     /// # Errors
-    /// Any failure of the stream; the host then goes on without answers.
+    /// Any failure of the stream. It ends the host.
     fn answer(&mut self, line: &str) -> io::Result<()>;
 
     /// Writes a line, and its line feed, to standard error. A failure of it changes nothing.

@@ -76,6 +76,7 @@ of_listing list.TooManyLines = omega arith
 of_hosting : (f : HostingFault) → 2 ≤ status_of (Host f)
 of_hosting (host.BadLine n) = omega arith
 of_hosting host.Read = omega arith
+of_hosting host.Answer = omega arith
 of_hosting host.Write = omega arith
 of_hosting host.Listen = omega arith
 of_hosting host.NoMemory = omega arith

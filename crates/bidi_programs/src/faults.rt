@@ -68,7 +68,8 @@ impl RunFault {
             | RunFault::Host(HostingFault::Read) => (None, "bidi: input cannot be read\n"),
             RunFault::Play(PlayFault::Write)
             | RunFault::Pair(PairFault::Write)
-            | RunFault::Listing(ShowFault::Write) => (None, "bidi: output cannot be written\n"),
+            | RunFault::Listing(ShowFault::Write)
+            | RunFault::Host(HostingFault::Answer) => (None, "bidi: output cannot be written\n"),
             RunFault::Play(PlayFault::NoMemory)
             | RunFault::Pair(PairFault::NoMemory)
             | RunFault::Listing(ShowFault::NoMemory)

@@ -18,6 +18,7 @@ pub mod OpeningLemmas
 pub mod TurnLemmas
 pub mod ChangeLemmas
 pub mod TakeLemmas
+pub mod RefusalLemmas
 pub mod RowReadLemmas
 pub mod BrowseLemmas
 pub mod TellLemmas

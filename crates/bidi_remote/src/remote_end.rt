@@ -2,17 +2,19 @@
 ghost use Rattle.std.specs.Prelude.{◌≡◌, ℕ, ◌<◌, ◌≤◌, ◌↔◌, List, [], ◌∷◌, map, true, IsTrue, IfOk, OnOk, OnErr, IsOk, IsErrOf, length};
 ghost use Rattle.bidi_remote.specs.Machine.Step as steps;
 ghost use Rattle.bidi_remote.specs.State.Messages.{AllReadBack};
-ghost use Rattle.bidi_remote.specs.State.View.{step_of, sent_of};
-ghost use Rattle.bidi_remote.specs.Machine.History.{Input, IsHeardAs};
+ghost use Rattle.bidi_remote.specs.State.View.{page_of, step_of, sent_of};
+ghost use Rattle.bidi_browser.specs.Actions.{Action};
+ghost use Rattle.bidi_remote.specs.Machine.History.{Input, IsHeardAs, IsTakenAs};
 ghost use Rattle.bidi_remote.specs.Machine.Connections.{is_open};
-ghost use Rattle.bidi_remote.specs.Machine.Outcome.{deeds};
+ghost use Rattle.bidi_remote.specs.Machine.Outcome.{deeds, page_refusal};
 ghost use Rattle.bidi_remote.specs.Machine.Replies.{IsAnsweredOnce};
 ghost use Rattle.bidi_remote.specs.Machine.Sent.{out};
 ghost use Rattle.bidi_remote.specs.Machine.Strike as strike;
 ghost use Rattle.bidi_remote.specs.declared.remote_end.RemoteFault.TheVariants.{NoMemory};
 
 use crate::state::State;
-use crate::step::{Sent, Step};
+use crate::step::{PageStep, Sent, Step};
+use bidi_messages::ErrorCode;
 use bidi_tree::JsUint;
 use json::Scratch;
 use std::alloc::{AllocError, Global};
@@ -144,6 +146,20 @@ impl RemoteEnd {
             self.state
                 .is_struck(self.alloc, session, step, self.scratch.as_mut())?,
         )
+    }
+
+    /// The code for which a step of a page would have no effect; `None` if it would have one. The end stays as it is.
+    ///
+    /// Costs the planning of the step.
+    ///
+    /// # Errors
+    /// No memory: an allocation failed.
+    pub fn page_refusal(&self, page: &PageStep) -> Result<Option<ErrorCode>, AllocError>
+        // The code is that of the first check of the browser that fails, whatever history the end stands for.
+        ensures { IfOk result (λ code. (action : Action) × IsTakenAs (page_of page.now) action
+            × ((h : List Input) → StandsFor self.now h → length h < 1000000000 → code ≡ page_refusal (deeds h) action)) }
+    {
+        self.state.page_refusal(self.alloc, page)
     }
 
     /// Whether the connection of this number is open. Takes no memory.

@@ -18,7 +18,7 @@ ghost use Rattle.bidi_remote.specs.Machine.Replies.{IsAnsweredOnce, ReadsAs};
 ghost use Rattle.bidi_remote.specs.Machine.Sent.{Text};
 ghost use Rattle.bidi_remote.specs.Machine.History.{Input, Open, Drop, Heard, NotText, OfPage, IsTakenAs, IsHeardAs, acts, moment};
 ghost use Rattle.bidi_remote.specs.Machine.Connections.{is_open, attachment_of, is_shut};
-ghost use Rattle.bidi_remote.specs.Machine.Outcome.{deeds, turn};
+ghost use Rattle.bidi_remote.specs.Machine.Outcome.{deeds, turn, page_refusal};
 ghost use Rattle.bidi_remote.specs.State.Asked.{Asks, IsWellAsked, asked_of};
 ghost use Rattle.bidi_remote.specs.State.ConnectionRows.{attachment_in_hand, opening_by};
 ghost use Rattle.bidi_remote.specs.State.Messages.{AllReadBack};
@@ -266,6 +266,45 @@ impl State {
                 let row = read_row(alloc, text.as_str())?;
                 self.browse(alloc, Action::TableRow(row))
             }
+        }
+    }
+
+    /// The code with which the browser refuses a step of a page; none if the step has an effect.
+    pub(crate) fn page_refusal(
+        &self,
+        alloc: Global,
+        page: &PageStep,
+    ) -> Result<Option<ErrorCode>, AllocError>
+        ensures { IfOk result (λ code. (action : asked.Action) × IsTakenAs (page_of page.now) action
+            × ((h : List Input) → IsShort h → AgreeWith self.now (deeds h) → code ≡ page_refusal (deeds h) action)) }
+    {
+        match page {
+            PageStep::Frame(context, url) => {
+                self.refusal_of(Action::Frame(context.as_str(), url.as_str()))
+            }
+            PageStep::Unframe(context) => self.refusal_of(Action::Unframe(context.as_str())),
+            PageStep::Log(context, level, text) => {
+                self.refusal_of(Action::Log(context.as_str(), *level, text.as_str()))
+            }
+            PageStep::TableRow(text) => {
+                let row = read_row(alloc, text.as_str())?;
+                self.refusal_of(Action::TableRow(row))
+            }
+        }
+    }
+
+    // The code with which the browser refuses an action; none if it plans it.
+    fn refusal_of(&self, action: Action) -> Result<Option<ErrorCode>, AllocError>
+        ensures { (h : List Input) → IsShort h → AgreeWith self.now (deeds h)
+            → IfOk result (λ code. code ≡ page_refusal (deeds h) (action_of action.entry)) }
+    {
+        match self.browser.plan(action, self.moment) {
+            Ok(plan) => {
+                drop(told_by(plan));
+                Ok(None)
+            }
+            Err(Refusal::Code(code)) => Ok(Some(code)),
+            Err(Refusal::NoMemory) => Err(AllocError),
         }
     }
 

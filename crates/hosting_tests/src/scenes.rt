@@ -1,5 +1,5 @@
 //! Scenes: what clients and pages do, and what they get. The steps are told in `steps`.
-use crate::steps::{PLAIN, check_scene};
+use crate::steps::{PLAIN, TYPING, check_scene};
 use bidi_hosting::Manners;
 use std::test::Fail;
 
@@ -96,39 +96,57 @@ page hears ok
 page says unframe @c2
 page hears ok
 page says unframe @c2
-page hears no effect
+page hears no effect: unknown context
+page says unframe @c1
+page hears no effect: a top-level context
 page says frame @c9 about:blank
-page hears no effect
+page hears no effect: unknown context
+page says frame @c1 side.html
+page hears no effect: not an absolute URL
 page says log @c9 info x
-page hears no effect
-page says value {"text":"x"}
-page hears no effect
+page hears no effect: unknown context
 page says at 05
-page hears no line of a page
+page hears no line of a page: "05" is no moment, a whole number from 0 to 9007199254740991
 page says open 1 /session
-page hears no line of a page
+page hears no line of a page: "open" is none of at, frame, unframe, log, value, reset and end
 page says drop 1
-page hears no line of a page
+page hears no line of a page: "drop" is none of at, frame, unframe, log, value, reset and end
 page says > 1 STATUS
-page hears no line of a page
+page hears no line of a page: ">" is none of at, frame, unframe, log, value, reset and end
 page says binary 1
-page hears no line of a page
+page hears no line of a page: "binary" is none of at, frame, unframe, log, value, reset and end
 page says log @c1 fatal x
-page hears no line of a page
+page hears no line of a page: "fatal" is no level: debug, info, warn or error
+page says log @c1 info
+page hears no line of a page: wants log CONTEXT LEVEL TEXT
+page says log @c1
+page hears no line of a page: wants log CONTEXT LEVEL TEXT
+page says frame @c1
+page hears no line of a page: wants frame CONTEXT URL
+page says unframe @c1 x
+page hears no line of a page: wants unframe CONTEXT
+page says value
+page hears no line of a page: wants value ROW
+page says at
+page hears no line of a page: wants at N
 page says resets
-page hears no line of a page
+page hears no line of a page: "resets" is none of at, frame, unframe, log, value, reset and end
+page says reset now
+page hears no line of a page: nothing may stand behind `reset` and `end`
+page says ‹70 x› y
+page hears no line of a page: a word of 70 bytes is none of at, frame, unframe, log, value, reset and end
 page says
-page hears no line of a page
+page hears no line of a page: "" is none of at, frame, unframe, log, value, reset and end
 page says at 5\n
-page hears no line of a page
+page hears no line of a page: a line feed in it
 page says at 5\nat 6
-page hears no line of a page
+page hears no line of a page: a line feed in it
 page sends 82 82 00 00 00 00 61 74
-page hears no line of a page
+page hears no line of a page: a message of bytes
 page says log @c1 info ‹2097106 x›
 page hears ok
 page says log @c1 info ‹2097107 x›
-page hears no line of a page
+page hears no line of a page: more than 2097152 bytes
 other opens /page
 other says at 7
 other hears ok
@@ -141,6 +159,35 @@ record ends at 6
 #[test]
 fn each_line_of_a_page_is_answered(rt: HostRuntime) -> Result<(), Fail> {
     check_scene(&rt, PLAIN, "", ANSWERS)
+}
+
+const ROWS: &str = r##"page opens /page
+page says value {"text":5,"returns":{"type":"undefined"}}
+page hears no effect: /text: wants a text, has 5 (TableRow)
+page says value {"text":"x","returns":{"type":"string","value":2}}
+page hears no effect: /returns/value: wants a text, has 2 (Primitive)
+page says value {"text":"x","returns":{"type":"array","value":[{"type":"error","handle":"h"}]}}
+page hears no effect: a value of a row has no `handle` and no `internalId`
+page says value {"text":"x"
+page hears no effect: not json
+page says value {"text":"‹1048576 x›","argument":0}
+page hears no effect: more than 1048576 bytes
+page says value {"text":"x","throws":«29 {"type":"array","value":[»{"type":"array","value":[]}«29 ]}»}
+page hears no effect: a value that is thrown has at most 59 levels of nesting
+«1 to 1024 page says value {"text":"#","argument":0}
+page hears ok
+»page says value {"text":"one more","argument":0}
+page hears no effect: 1024 scripts have rows
+page says value {"text":"1","argument":1}
+page hears ok
+«1 to 1023 page says frame @c1 about:blank
+page hears ok
+»page says frame @c1 about:blank
+page hears no effect: 1024 contexts are live, or the context is at level 16"##;
+
+#[test]
+fn a_row_that_is_refused_says_where_and_why(rt: HostRuntime) -> Result<(), Fail> {
+    check_scene(&rt, PLAIN, "", ROWS)
 }
 
 /// The lines of a page that each new browser is played.
@@ -291,6 +338,14 @@ page hears ok
 79 gets 200 ready
 81 asks POST /session HTTP/1.1|Host: x||‹1000000 x›
 81 gets 400 bad request
+82 asks GET /status HTTP/1.0
+82 gets 200 ready
+83 asks GET /session HTTP/1.0|FIELDS
+83 gets 426 upgrade required
+84 asks GET /status HTTP/1.1‹124 |a: b›
+84 gets 200 ready
+85 asks GET /status HTTP/1.1‹125 |a: b›
+85 gets 400 bad request: a head has at most 124 header fields
 «14 to 77 # is served
 »20 leaves
 record ends drop 11
@@ -329,6 +384,94 @@ clock goes 1
 #[test]
 fn a_handshake_has_its_time_and_stops_nobody(rt: HostRuntime) -> Result<(), Fail> {
     check_scene(&rt, PLAIN, "", PATIENCE)
+}
+
+const FULL: &str = r#"1 begins @s1
+page opens /page
+early connects
+clock goes 1
+late connects
+2 opens /session/@s1
+early is cut
+late is there
+2 is served
+3 opens /session
+late is cut
+3 is served
+1 leaves
+record ends drop 1
+4 is denied 404 /nowhere
+page says at 5
+page hears ok"#;
+
+#[test]
+fn the_oldest_handshake_gives_way_to_a_new_connection(rt: HostRuntime) -> Result<(), Fail> {
+    let manners = Manners {
+        most_connections: 4,
+        ..PLAIN
+    };
+    check_scene(&rt, manners, "", FULL)
+}
+
+const PAGES: &str = r#"«1 to 64 p# opens /page
+»last is denied 503 /page
+p64 says at 5
+p64 hears ok
+p1 leaves
+host rests
+next opens /page
+1 opens /session
+1 is served"#;
+
+#[test]
+fn so_many_pages_are_open(rt: HostRuntime) -> Result<(), Fail> {
+    check_scene(&rt, PLAIN, "", PAGES)
+}
+
+const UNFINISHED: &str = r#"1 begins @s1
+2 begins @s2
+3 begins @s3
+1 sends 01 fe 75 30 00 00 00 00 «30000 61 »
+2 sends 01 fe 75 30 00 00 00 00 «30000 62 »
+3 sends 01 fe 75 30 00 00 00 00 «30000 63 »
+host rests
+1 is there
+2 sends 00 fe 4e 20 00 00 00 00 «20000 62 »
+2 is closed 1009
+1 sends 80 82 00 00 00 00 61 61
+1 hears REFUSED
+1 is served
+3 sends 80 82 00 00 00 00 63 63
+3 hears REFUSED
+3 is served"#;
+
+#[test]
+fn unfinished_messages_have_a_bound_in_all(rt: HostRuntime) -> Result<(), Fail> {
+    let manners = Manners {
+        most_held: 100_000,
+        ..PLAIN
+    };
+    check_scene(&rt, manners, "", UNFINISHED)
+}
+
+const WAITING: &str = r#"page opens /page
+page says value {"text":"long","returns":{"type":"string","value":"‹100000 x›"}}
+page hears ok
+slow begins @s1
+quick begins @s2
+«60 slow says {"id":2,"method":"script.evaluate","params":{"awaitPromise":false,"expression":"long","target":{"context":"@c1"}}}
+»host rests
+record ends drop 1
+quick is served
+slow leaves"#;
+
+#[test]
+fn texts_that_wait_have_a_bound_in_all(rt: HostRuntime) -> Result<(), Fail> {
+    let manners = Manners {
+        most_held: 300_000,
+        ..PLAIN
+    };
+    check_scene(&rt, manners, "", WAITING)
 }
 
 const SLOW: &str = r#"page opens /page
@@ -418,9 +561,9 @@ input types unframe @c9
 input types open 1 /session
 input types
 input types at 5
-input hears no effect
-input hears no line of a page
-input hears no line of a page
+input hears no effect: unknown context
+input hears no line of a page: "open" is none of at, frame, unframe, log, value, reset and end
+input hears no line of a page: "" is none of at, frame, unframe, log, value, reset and end
 input hears ok
 page opens /page
 input types reset
@@ -452,14 +595,6 @@ host ends"#;
 fn an_end_comes_by_standard_input(rt: HostRuntime) -> Result<(), Fail> {
     check_scene(&rt, TYPING, "", TYPED_END)
 }
-
-/// A host that reads standard input.
-const TYPING: Manners = Manners {
-    ends_sessions: false,
-    is_lenient: false,
-    reads_input: true,
-    most_waiting: 64 << 20,
-};
 
 const FEEDS: &str = r#"1 opens /session
 1 says {\n"id":1,\n "method":"session.status",\n "params":{}}\n

@@ -2,8 +2,10 @@
 use crate::frames::{CLOSE, TEXT, push_frame};
 use crate::lab::{Awaited, Lab};
 use crate::records::check_records;
-use crate::steps::{PLAIN, ask_for, hears};
+use crate::steps::{PLAIN, TYPING, ask_for, hears};
 use crate::words::spelled_out;
+use bidi_hosting::HostingFault;
+use std::io::Write;
 use std::test::Fail;
 
 #[test]
@@ -51,4 +53,33 @@ fn reads(lab: &mut Lab, place: usize, text: &str) -> Result<bool, Fail> {
     lab.has_already(place, Awaited::End)?;
     let client = lab.client(place)?;
     Ok(client.has_ended && client.closed.is_some() && hears(client, text)?)
+}
+
+#[test]
+fn it_ends_if_an_answer_cannot_be_written(rt: HostRuntime) -> Result<(), Fail> {
+    let mut lab = Lab::idle(&rt, TYPING, "")?;
+    lab.world.output_fails = true;
+    fails_in(lab, HostingFault::Answer)
+}
+
+#[test]
+fn it_ends_if_standard_input_cannot_be_read(rt: HostRuntime) -> Result<(), Fail> {
+    let mut lab = Lab::idle(&rt, TYPING, "")?;
+    lab.world.input_fails = true;
+    fails_in(lab, HostingFault::Read)
+}
+
+/// Serves in a lab where a line of standard input waits, and holds the end against a fault.
+fn fails_in(lab: Lab, fault: HostingFault) -> Result<(), Fail> {
+    let mut lab = lab;
+    if let Some(typist) = &mut lab.typist {
+        typist.write_all(b"at 5\n")?;
+    }
+    let ended = lab.serve();
+    drop(lab);
+    match ended {
+        Err(found) if found == fault => Ok(()),
+        Err(found) => Err(Fail::new(format_args!("it ends with {found}"))),
+        Ok(()) => Err(Fail::from("it ends without a fault")),
+    }
 }

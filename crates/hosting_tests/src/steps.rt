@@ -324,4 +324,14 @@ pub const PLAIN: Manners = Manners {
     is_lenient: false,
     reads_input: false,
     most_waiting: 64 << 20,
+    most_held: 1 << 30,
+    most_connections: 512,
+};
+
+/// A host that reads standard input.
+pub const TYPING: Manners = Manners {
+    ends_sessions: false,
+    is_lenient: false,
+    reads_input: true,
+    ..PLAIN
 };

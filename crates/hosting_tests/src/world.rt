@@ -2,7 +2,7 @@
 use bidi_hosting::{HostingFault, Surroundings};
 use std::alloc::{AllocError, Global};
 use std::io;
-use std::io::Read;
+use std::io::{ErrorKind, Read};
 use std::net::TcpStream;
 use std::os::fd::{AsRawFd, RawFd};
 use std::time::{Duration, Instant};
@@ -22,6 +22,10 @@ pub struct World {
     pub answers: Vec<String>,
     // Standard input, if there is one.
     input: Option<TcpStream>,
+    /// Whether reads of standard input fail.
+    pub input_fails: bool,
+    /// Whether writes of standard output fail.
+    pub output_fails: bool,
 }
 
 impl World {
@@ -37,6 +41,8 @@ impl World {
             notes: Vec::new(alloc),
             answers: Vec::new(alloc),
             input,
+            input_fails: false,
+            output_fails: false,
         })
     }
 
@@ -78,6 +84,9 @@ impl Surroundings for World {
     }
 
     fn read(&mut self, buffer: &mut [u8]) -> io::Result<usize> {
+        if self.input_fails {
+            return Err(io::Error::from(ErrorKind::Other));
+        }
         match &mut self.input {
             Some(input) => input.read(buffer),
             None => Ok(0),
@@ -85,6 +94,9 @@ impl Surroundings for World {
     }
 
     fn answer(&mut self, line: &str) -> io::Result<()> {
+        if self.output_fails {
+            return Err(io::Error::from(ErrorKind::BrokenPipe));
+        }
         keep(self.alloc, &mut self.answers, line);
         Ok(())
     }

@@ -126,6 +126,14 @@ host 9222 end-sessions - -: host --end-sessions
 host 9222 lenient - -: host --lenient
 host 9222 p.txt -: host --page p.txt
 host 9222 - r.txt: host --record r.txt
+host 9222 - -: host --max-buffered 1
+host 9222 stdin - r.txt: host --max-buffered=65536 --stdin --record r.txt
+usage: host --max-buffered
+usage: host --max-buffered 0
+usage: host --max-buffered 65537
+usage: host --max-buffered x
+usage: host --max-buffered 1 --max-buffered 1
+usage: serve --max-buffered 1
 host 9222 -x -: host --page=-x
 host 9222 a=b -: host --page=a=b
 help: host --help

@@ -47,7 +47,7 @@ const REFUSED: &str = "line 1: refused null invalid argument\n\nline 2: not json
 
 const ASKED: &str = "> {\"id\":1,\"method\":\"session.status\",\"params\":{}}\n< [\n";
 
-const UNANSWERED: &str = "line 2: not json\n\nunanswered 1 session.status\n";
+const UNANSWERED: &str = "line 2: not json\n\nunanswered 1 session.status (line 1)\n";
 
 /// A schedule of both ends, and what became of its command.
 const PAIR: &str = "open 1 /session\nsend 1 session.status {}\nup 1\ndown 1\n";

@@ -8,6 +8,7 @@ use Rattle.bidi_params.specs.declared.error_code.ErrorCode.TheVariants.{UnknownC
 use Rattle.bidi_handles.specs.declared.id.IdKind.TheVariants.{Session, Subscription}
 use Rattle.bidi_handles.specs.Ids.{id_of, id_text}
 use Rattle.bidi_browser.specs.Acts.{Act}
+use Rattle.bidi_browser.specs.Actions.{Action}
 use Rattle.bidi_browser.specs.Contexts.{top_of}
 use Rattle.bidi_handles.specs.Checks.{◌>>=◌, need, found}
 use Rattle.bidi_methods.specs.declared.event_data.EventName.{EventName}
@@ -198,6 +199,15 @@ if_open past c turn = if is_open past c then turn else Err (Lost c)
 abbrev pub in_page : Result Act ErrorCode → Result Deed NotTaken
 in_page (Ok act) = Ok (Did act)
 in_page (Err code) = Err NoEffect
+
+-- the code of a refusal; none of an act
+abbrev pub refusal_in : Result Act ErrorCode → Option ErrorCode
+refusal_in (Ok act) = None
+refusal_in (Err code) = Some code
+
+-- the code with which the browser refuses a step of a page; none of a step that has an effect
+abbrev pub page_refusal : List Deed → Action → Option ErrorCode
+page_refusal past action = refusal_in (browser.outcome (acts past) action)
 
 -- what an input does, asked of the past before it, or why it is not taken
 abbrev pub turn : List Deed → Input → Result Deed NotTaken
