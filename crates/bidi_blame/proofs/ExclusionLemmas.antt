@@ -52,15 +52,15 @@ mutual
   -- a reason excludes that the tree fits
   pub excludes : {t : Node} {τ : Term} {r : Reason} → Blames t τ r → Fits t τ → ⊥
   excludes (not_taken t τ e) f = true≢false (sym (taken f) ∙ e)
-  excludes (in_any_list ts r b) f = items_exclude b (list_any_inside ts f)
-  excludes (in_any_map ms r b) f = others_exclude b (map_any_inside ms f)
+  excludes (in_any_list ts r e b) f = items_exclude b (list_any_inside ts f)
+  excludes (in_any_map ms r e b) f = others_exclude b (map_any_inside ms f)
   excludes (in_list ts least τ r b) f = items_exclude b (list_inside f).1
   excludes (in_first t u σ τ r b) f = excludes b (pair_inside f).0
   excludes (in_second t u σ τ r g b) f = excludes b (pair_inside f).1
   excludes (in_map ms rows o r b) f = rows_exclude b (map_inside f).0 (map_inside f).1
   excludes (of_both t σ τ a b p q) f = elim (either_inside f) [ inl g ↦ excludes p g | inr g ↦ excludes q g ]
   excludes (of_rule t n r b) f = excludes b (rule_inside f)
-  excludes (of_capped t τ r b) f = excludes b (capped_inside f).1
+  excludes (of_capped t τ r e b) f = excludes b (capped_inside f).1
 
   items_exclude : {i : ℕ} {ts : Items} {τ : Term} {r : Reason} → ItemsBlame i ts τ r → AllFit ts τ → ⊥
   items_exclude (this_item i t ts τ r b) f = excludes b (item_inside f).0

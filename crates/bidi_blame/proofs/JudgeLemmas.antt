@@ -39,9 +39,9 @@ pub blames_rule : (t : Node) (n : Name) (τ : Term) (r : Reason) → τ ≡ term
 blames_rule t n τ r e b = of_rule t n r (subst (λ x. Blames t x r) e b)
 
 -- of a tree of few levels the cap says nothing
-pub judged_capped : (t : Node) (τ : Term) (o : Option Reason) → levels t ≤ 60 → Judged t τ o → Judged t (capped τ) o
-judged_capped t τ None h f = fits_capped t τ h f
-judged_capped t τ (Some r) h b = of_capped t τ r b
+pub judged_capped : (t : Node) (τ : Term) (o : Option Reason) → takes t (capped τ) ≡ true → Judged t τ o → Judged t (capped τ) o
+judged_capped t τ None e f = fits_capped t τ (leb-true (levels t) 60 e) f
+judged_capped t τ (Some r) e b = of_capped t τ r e b
 
 -- ---- others
 
@@ -97,11 +97,11 @@ map_of_members t ms e = absurd (cc)
 
 any_items : (ts : Items) (o : Option Reason) → takes (node.list ts) any ≡ true → ItemsJudged ts any o → Judged (node.list ts) any o
 any_items ts None e f = fits_any (node.list ts) (no_odd_items ts f, few_levels (node.list ts) e)
-any_items ts (Some r) e b = in_any_list ts r b
+any_items ts (Some r) e b = in_any_list ts r e b
 
 any_members : (ms : Members) (o : Option Reason) → takes (node.map ms) any ≡ true → OthersJudged extensible 0 ms o → Judged (node.map ms) any o
 any_members ms None e f = fits_any (node.map ms) (f.0, few_levels (node.map ms) e)
-any_members ms (Some r) e b = in_any_map ms r b
+any_members ms (Some r) e b = in_any_map ms r e b
 
 pub judged_any_list : (t : Node) (ts : Items) (o : Option Reason) → takes t any ≡ true → Some ts ≡ list_in t → ItemsJudged ts any o → Judged t any o
 judged_any_list t ts o e is j =

@@ -42,8 +42,9 @@ mutual
   -- a tree does not fit a term for a reason
   pub data Blames : Node → Term → Reason → Type 0 where
     not_taken : (t : Node) (τ : Term) → takes t τ ≡ false → Blames t τ (here τ t)
-    in_any_list : (ts : Items) (r : Reason) → ItemsBlame 0 ts any r → Blames (node.list ts) any r
-    in_any_map : (ms : Members) (r : Reason) → OthersBlame extensible 0 ms r → Blames (node.map ms) any r
+    -- the levels of a tree are counted before anything in it is to blame, so the outermost place with too many is told
+    in_any_list : (ts : Items) (r : Reason) → takes (node.list ts) any ≡ true → ItemsBlame 0 ts any r → Blames (node.list ts) any r
+    in_any_map : (ms : Members) (r : Reason) → takes (node.map ms) any ≡ true → OthersBlame extensible 0 ms r → Blames (node.map ms) any r
     in_list : (ts : Items) (least : ℕ) (τ : Term) (r : Reason) → ItemsBlame 0 ts τ r → Blames (node.list ts) (list_of least τ) r
     in_first : (t u : Node) (σ τ : Term) (r : Reason) → Blames t σ r
         → Blames (node.list (item t (item u no_items))) (pair_of σ τ) (under 0 (step.item 0) r)
@@ -53,7 +54,7 @@ mutual
         → Blames (node.map ms) (map_of rows o) r
     of_both : (t : Node) (σ τ : Term) (a b : Reason) → Blames t σ a → Blames t τ b → Blames t (either σ τ) (told t (either σ τ) a b)
     of_rule : (t : Node) (n : Name) (r : Reason) → Blames t (term_of n) r → Blames t (rule n) (by n r)
-    of_capped : (t : Node) (τ : Term) (r : Reason) → Blames t τ r → Blames t (capped τ) r
+    of_capped : (t : Node) (τ : Term) (r : Reason) → takes t (capped τ) ≡ true → Blames t τ r → Blames t (capped τ) r
 
   -- the first item that does not fit is to blame, where so many stand before these
   pub data ItemsBlame : ℕ → Items → Term → Reason → Type 0 where

@@ -49,6 +49,8 @@ EmptyParams {"a/b":{"m~n":1e2}} -> /a~1b/m~0n: wants whole numbers in range and 
 EmptyResult {"x":{"y":[1,-0]}} -> /x/y/1: wants whole numbers in range and at most 60 levels, has a number with a fraction or out of range (EmptyResult)
 EmptyResult {"x":«60 [»«60 ]»} -> fits
 EmptyResult {"x":«61 [»«61 ]»} -> /x: wants whole numbers in range and at most 60 levels, has a list of one item (EmptyResult)
+EmptyResult {"x":«70 [»«70 ]»} -> /x: wants whole numbers in range and at most 60 levels, has a list of one item (EmptyResult)
+EmptyResult {"x":[1,«70 [»«70 ]»]} -> /x: wants whole numbers in range and at most 60 levels, has a list of 2 items (EmptyResult)
 "#;
 
 #[test]
@@ -183,6 +185,7 @@ LocalValue {"type":"array","value":[{"type":"null"},{"type":"array","value":5}]}
 LocalValue {"type":"object","value":[["k"]]} -> /value/0: wants a list of two items, has a list of one item (LocalPair)
 LocalValue «30 {"type":"array","value":[»«30 ]}» -> fits
 LocalValue «31 {"type":"array","value":[»«31 ]}» -> : wants at most 60 levels, has a map of 2 members (LocalValue)
+LocalValue «35 {"type":"array","value":[»«35 ]}» -> : wants at most 60 levels, has a map of 2 members (LocalValue)
 LocalPair ["k"] -> : wants a list of two items, has a list of one item (LocalPair)
 LocalPair [5,{"type":"null"}] -> /0: wants a map or a text, has 5 (LocalPair)
 LocalPair ["k",{"type":"string","value":5}] -> /1/value: wants a text, has 5 (Primitive)

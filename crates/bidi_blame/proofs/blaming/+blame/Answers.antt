@@ -1,4 +1,4 @@
-use Rattle.std.proofs.Common.{◌≡◌, ◌∙◌, ◌+◌, ◌<◌, List, [], ◌∷◌, map, drop, length, get_or, slice_index_or, true, arith, sym, ap, subst, leb-true}
+use Rattle.std.proofs.Common.{◌≡◌, ◌∙◌, ◌+◌, ◌<◌, List, [], ◌∷◌, map, drop, length, get_or, slice_index_or, true, arith, sym, ap, subst}
 use Rattle.std.proofs.lemmas.List.{drop_all}
 use Rattle.std.proofs.lemmas.Result.{IfOk-weaker}
 use Rattle.std.specs.Prelude.{◌≤◌, IfOk}
@@ -145,8 +145,8 @@ fits_inside-returns-in-Capped t c =
     let u = outline_node c.args.tree.now in
     let τ = grammar c.in-Capped.capped.now in
     let says : grammar c.args.term.now ≡ capped τ = ap grammar c.in-Capped.is ∙ grammar-Capped c.in-Capped.capped in
-    let few = leb-true (levels u) 60 (subst (λ x. takes u x ≡ true) says c.requires.taken) in
-    IfOk-weaker c.fits_term.result _ _ (λ o j. subst (λ x. Judged u x (reason_if o c.fits_term.new.draft)) (sym says) (judged_capped u τ (reason_if o c.fits_term.new.draft) few j)) c.fits_term.ensures
+    let low = subst (λ x. takes u x ≡ true) says c.requires.taken in
+    IfOk-weaker c.fits_term.result _ _ (λ o j. subst (λ x. Judged u x (reason_if o c.fits_term.new.draft)) (sym says) (judged_capped u τ (reason_if o c.fits_term.new.draft) low j)) c.fits_term.ensures
 
 pub fits_inside-returns-in-Some : goal.fits_inside-returns-in-Some
 fits_inside-returns-in-Some t c =
