@@ -8,14 +8,14 @@ use Rattle.std.proofs.lemmas.List.Folds.{list_any-append}
 use Rattle.bidi_tree.specs.declared.number.JsUint.{JsUint}
 use Rattle.bidi_methods.specs.declared.method.Method.{Method}
 use Rattle.bidi_local.specs.Pending.{Pending}
-use Rattle.bidi_why.specs.Conversing.{Converses, HearsEach, HearsLine, IsTranscript, Standing, StopsConversation, TellsConversation, any_waits, at_line, has_fault, remark_lines, silence}
+use Rattle.bidi_why.specs.Conversing.{Converses, HearsEach, HearsLine, IsTranscript, Standing, StopsConversation, TellsConversation, any_waits, at_line, has_fault, remark_lines, silence, unanswered_lines}
 use Rattle.bidi_why.specs.Telling.{StopsLine, Whole, last_line}
 use Rattle.bidi_why.proofs.TellingLemmas.{whole_as}
 use Rattle.bidi_local.specs.View.{waiting_in}
 use Rattle.bidi_show.specs.declared.showing.ShowFault.{ShowFault}
 use Rattle.bidi_show.specs.declared.showing.ShowFault.TheVariants.{Read, Write, BadLine, NoMemory, TooManyLines}
 use Rattle.std.specs.Io.KnownBytes.{Appends}
-use Rattle.bidi_why.specs.Remark.{Remark, is_fault, remark_line, unanswered_line}
+use Rattle.bidi_why.specs.Remark.{Remark, is_fault, line_of as line_at, remark_line, unanswered_line}
 use Rattle.bidi_why.specs.Explainers.{HasConversed, standing_of}
 use Rattle.bidi_why.specs.declared.conversation.Conversation.{Conversation}
 use Rattle.bidi_why.specs.declared.texts.Form.{Form}
@@ -104,21 +104,20 @@ conversed_more first before now number lines line text more some bad o p counted
 
 -- ---- the commands that wait
 
--- the parts of a line, one behind the other
-pub unanswered_grouped : (id method : List ℕ)
-    → codes "unanswered " ++ (id ++ (32 ∷ (method ++ 10 ∷ []))) ≡ codes "unanswered " ++ id ++ 32 ∷ method ++ 10 ∷ []
-unanswered_grouped id method = ap (λ l. codes "unanswered " ++ l) (sym (append_assoc id (32 ∷ method) (10 ∷ [])))
-
 -- what is written for them, by the ids that the end gives
-pub waiting_lines : (form : Option Form) (ws seen : List (JsUint × Method)) (waiting : Pending) → seen ≡ ws → map (λ w. (w.0.value, w.1)) ws ≡ waiting
-    → flat_map (λ (w : JsUint × Method). unanswered_line form (w.0.value, w.1)) seen ≡ flat_map (unanswered_line form) waiting
-waiting_lines form ws seen waiting same is =
-    ap (flat_map (λ (w : JsUint × Method). unanswered_line form (w.0.value, w.1))) same ∙ lines ws ∙ ap (flat_map (unanswered_line form)) is
+pub waiting_lines : (form : Option Form) (lines seen_lines : List (ℕ × ℕ)) (ws seen : List (JsUint × Method)) (waiting : Pending)
+    → seen_lines ≡ lines → seen ≡ ws → map (λ w. (w.0.value, w.1)) ws ≡ waiting
+    → flat_map (λ (w : JsUint × Method). unanswered_line form (line_at seen_lines w.0.value) (w.0.value, w.1)) seen
+    ≡ flat_map (λ (w : ℕ × Method). unanswered_line form (line_at lines w.0) w) waiting
+waiting_lines form lines seen_lines ws seen waiting at same is =
+    ap (λ (ls : List (ℕ × ℕ)). flat_map (λ (w : JsUint × Method). unanswered_line form (line_at ls w.0.value) (w.0.value, w.1)) seen) at
+    ∙ ap (flat_map (λ (w : JsUint × Method). unanswered_line form (line_at lines w.0.value) (w.0.value, w.1))) same ∙ each ws
+    ∙ ap (flat_map (λ (w : ℕ × Method). unanswered_line form (line_at lines w.0) w)) is
   where
-    lines : (ws : List (JsUint × Method)) → flat_map (λ (w : JsUint × Method). unanswered_line form (w.0.value, w.1)) ws
-        ≡ flat_map (unanswered_line form) (map (λ w. (w.0.value, w.1)) ws)
-    lines [] = refl
-    lines (w ∷ ws) = ap (λ l. unanswered_line form (w.0.value, w.1) ++ l) (lines ws)
+    each : (ws : List (JsUint × Method)) → flat_map (λ (w : JsUint × Method). unanswered_line form (line_at lines w.0.value) (w.0.value, w.1)) ws
+        ≡ flat_map (λ (w : ℕ × Method). unanswered_line form (line_at lines w.0) w) (map (λ w. (w.0.value, w.1)) ws)
+    each [] = refl
+    each (w ∷ ws) = ap (λ l. unanswered_line form (line_at lines w.0.value) (w.0.value, w.1) ++ l) (each ws)
 
 -- ---- the whole
 
@@ -140,12 +139,12 @@ module _ (form : Option Form) (first now : Conversation) (some : Bool) (same : f
 
   -- all was told, and then the commands that wait
   pub tells_both : (b c : Option (List ℕ)) (some' : Bool) (read wrote : List ℕ) → Whole (λ lines text. HasConversed first now lines text some) read wrote
-      → Appends b c (flat_map (unanswered_line now.form) (waiting_in now.end)) → some' ≡ (some || any_waits (waiting_in now.end))
+      → Appends b c (unanswered_lines now.form (standing_of now)) → some' ≡ (some || any_waits (waiting_in now.end))
       → (text : List ℕ) × Appends b c text × TellsConversation form some' read (wrote ++ text)
   tells_both b c some' read wrote (lines, last, parts, one, p) appends is =
       let of_form : now.form ≡ form = p.form ∙ same in (
-        flat_map (unanswered_line form) (waiting_in now.end),
-        subst (λ (f : Option Form). Appends b c (flat_map (unanswered_line f) (waiting_in now.end))) of_form appends,
+        unanswered_lines form (standing_of now),
+        subst (λ (f : Option Form). Appends b c (unanswered_lines f (standing_of now))) of_form appends,
         (
           wrote,
           some,

@@ -159,7 +159,7 @@ value_refused t o m some refuses misfit line read = (refused Remote line o some 
 
 -- what is told of a refused line
 pub explained : (form : Form) (side : Side) (n : ℕ) (line text cause : List ℕ) (x : Trouble) → ((why : List ℕ) × Refuses side line (Some why))
-    → IsTroubleAt side n line x → text ≡ told_text form n x → cause ≡ cause_text x → Explains form side n line (Some (text, cause))
+    → IsTroubleAt side n line x → text ≡ told_text form n (Some side) None x → cause ≡ cause_text x → Explains form side n line (Some (text, cause))
 explained form side n line text cause x (why, refuses) at t c =
     let pair : List ℕ → List ℕ → List ℕ × List ℕ = λ a b. (a, b) in
     subst (λ (e : List ℕ × List ℕ). Explains form side n line (Some e)) (sym (ap₂ pair t c)) (is_refused why x refuses at)
@@ -176,7 +176,7 @@ tells_text form side n l text seen (Err e) is same h = tt
 
 -- of one that is too long only that
 pub tells_long : {E : Type 0} (form : Form) (side : Side) (n : ℕ) (l : Line) (r : Result (Option Explained) E) → l ≡ line.TooLong
-    → IfOk r (λ found. written (option_map explained_of found) ≡ told_text form n (bad TooLong))
+    → IfOk r (λ found. written (option_map explained_of found) ≡ told_text form n (Some side) None (bad TooLong))
     → IfOk r (λ found. (is : List ℕ) → IsOf l is → Tells form side n is (written (option_map explained_of found)))
 tells_long form side n l (Ok found) is h = λ bytes at.
     subst (λ (s : List ℕ). Tells form side n bytes s) (sym h) (is_too_long (subst (λ (x : Line). IsOf x bytes) is at))

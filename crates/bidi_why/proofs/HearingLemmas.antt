@@ -25,6 +25,7 @@ use Rattle.bidi_show.specs.MessageLines as shows
 use Rattle.bidi_show.specs.MessageLines.{HasVerdict, Refuses, verdict_shown}
 use Rattle.bidi_lines.specs.declared.side.Side.TheVariants.{Local, Remote}
 use Rattle.bidi_why.specs.Conversing.{Hears, HearsLine, Standing, is_marked, is_no_text, is_refused, is_text, is_too_long, mark_of, refused_words, is_message, is_one_too_many, is_sent, is_sent_twice, IsTold, behind, kind_in, of_answer, of_event, of_failure, of_refused, of_result, of_stray, was_refused, with_command, with_refused, without_refused}
+use Rattle.bidi_why.specs.Conversing.{answered, id_of, is_no_message, lines_left, settled_id, with_answer, without_command}
 use Rattle.bidi_why.specs.Hearing.{HasBadResult, Notes, Takes}
 use Rattle.bidi_why.specs.Hearing as hearing
 use Rattle.bidi_why.specs.Trouble.{IsTrouble, Trouble, begins_with_mark}
@@ -38,7 +39,7 @@ use Rattle.bidi_messages.specs.Reading.{IsCause}
 use Rattle.bidi_messages.specs.declared.text.MessageFault.{MessageFault}
 use Rattle.bidi_messages.specs.declared.text.MessageFault.TheVariants.{NotJson, NoFit}
 use Rattle.bidi_why.specs.Hearing.{IsJudged, IsSender, IsStray, TellsBadResult, to_none, to_refused}
-use Rattle.bidi_why.specs.Remark.{Remark, bad_line, fault, failed, id_waits, stray, too_many}
+use Rattle.bidi_why.specs.Remark.{Remark, bad_line, fault, failed, id_waits, no_message, stray, too_many}
 use Rattle.bidi_why.specs.declared.conversation.Judged.{Judged}
 use Rattle.bidi_why.specs.declared.conversation.Judged.TheVariants as judged
 use Rattle.bidi_params.specs.declared.error_code.ErrorCode.{ErrorCode}
@@ -67,16 +68,16 @@ use Rattle.bidi_local.specs.declared.local_end.NoteFault.TheVariants.{IdWaits, T
 -- ---- texts of the local end
 
 -- an accepted command is heard as it is noted
-pub noted : (s : Standing) (text : List ℕ) (t : Node) (id : ℕ) (method : Method) (s' : Standing) (o : Option Remark)
-    → HasVerdict text (verdict.Accepted t) → id_in t ≡ id → method_in t ≡ method_text method → Notes s id method o s' → Hears s text Local o s'
-noted s text t id method s' o judged is_id is_method (hearing.waits e) =
-    subst (λ (n : ℕ). Hears s text Local None (with_command n method s)) is_id
+pub noted : (n : ℕ) (s : Standing) (text : List ℕ) (t : Node) (id : ℕ) (method : Method) (s' : Standing) (o : Option Remark)
+    → HasVerdict text (verdict.Accepted t) → id_in t ≡ id → method_in t ≡ method_text method → Notes n s id method o s' → Hears n s text Local o s'
+noted n s text t id method s' o judged is_id is_method (hearing.waits e) =
+    subst (λ (i : ℕ). Hears n s text Local None (with_command n i method s)) is_id
     (is_sent t method judged is_method (ap (note_refusal s.waiting) is_id ∙ e))
-noted s text t id method s' o judged is_id is_method (hearing.is_twice e) =
-    subst (λ (n : ℕ). Hears s text Local (Some (id_waits n method)) s) is_id
+noted n s text t id method s' o judged is_id is_method (hearing.is_twice e) =
+    subst (λ (i : ℕ). Hears n s text Local (Some (id_waits i method)) s) is_id
     (is_sent_twice t method judged is_method (ap (note_refusal s.waiting) is_id ∙ e))
-noted s text t id method s' o judged is_id is_method (hearing.is_one_too_many e) =
-    subst (λ (n : ℕ). Hears s text Local (Some (too_many n method)) (with_refused (Some n) s)) is_id
+noted n s text t id method s' o judged is_id is_method (hearing.is_one_too_many e) =
+    subst (λ (i : ℕ). Hears n s text Local (Some (too_many i method)) (with_refused (Some i) s)) is_id
     (is_one_too_many t method judged is_method (ap (note_refusal s.waiting) is_id ∙ e))
 
 -- ---- texts of the remote end
@@ -93,9 +94,9 @@ no_fit_refused : (line : List ℕ) → IsUtf8 line → ((t : Node) × (tree_of_t
 no_fit_refused line is (t, tree, misfit) = (_, shows.fits_none t (is, tree) misfit, refl)
 
 -- a message is heard as it is taken
-taken : (s s' : Standing) (line text : List ℕ) (t : Node) (o : Option Remark) → (text ≡ line) × IsUtf8 line → tree_of text ≡ Some t → Takes s t o s'
-    → Hears s line Remote o s'
-taken s s' line text t o (same, is) tree (meaning, means, told) =
+taken : (n : ℕ) (s s' : Standing) (line text : List ℕ) (t : Node) (o : Option Remark) → (text ≡ line) × IsUtf8 line → tree_of text ≡ Some t → Takes s t o s'
+    → Hears n s line Remote o s'
+taken n s s' line text t o (same, is) tree (meaning, means, told) =
     let here : tree_of line ≡ Some t = subst (λ (l : List ℕ). tree_of l ≡ Some t) same tree in
     is_message t meaning o s' is here (means line here) told
 
@@ -168,37 +169,39 @@ from_event m e id kind well is =
 
 -- ---- noting
 
-module _ (old new : LocalEnd) (refused : List ℕ) (id : ℕ) (method : Method) (last : ℕ) where
+module _ (n : ℕ) (old new : LocalEnd) (lines : List (ℕ × ℕ)) (refused : List ℕ) (id : ℕ) (method : Method) (last : ℕ) where
+  abbrev unsaid : Standing
+  unsaid = record { waiting = waiting_in old; lines = lines; refused = refused }
+
   -- a command that is noted waits
-  pub notes_sent : note_refusal (waiting_in old) id ≡ None → Stands new last (waiting_in old ++ (id, method) ∷ [])
-      → Notes (record { waiting = waiting_in old; refused = refused }) id method None (record { waiting = waiting_in new; refused = refused })
-  notes_sent e stands =
-      subst (λ (w : Pending). Notes (record { waiting = waiting_in old; refused = refused }) id method None (record { waiting = w; refused = refused }))
-      (sym stands.waiting) (hearing.waits e)
+  pub notes_sent : (lines' : List (ℕ × ℕ)) → note_refusal (waiting_in old) id ≡ None → Stands new last (waiting_in old ++ (id, method) ∷ [])
+      → lines' ≡ lines ++ (id, n) ∷ []
+      → Notes n unsaid id method None (record { waiting = waiting_in new; lines = lines'; refused = refused })
+  notes_sent lines' e stands more =
+      subst (λ (w : Pending). Notes n unsaid id method None (record { waiting = w; lines = lines'; refused = refused })) (sym stands.waiting)
+      (subst (λ (ls : List (ℕ × ℕ)). Notes n unsaid id method None (record { waiting = waiting_in old ++ (id, method) ∷ []; lines = ls; refused = refused }))
+      (sym more) (hearing.waits e))
 
   -- one that is not changes nothing
   pub notes_twice : (A : Type 0) (f : NoteFault) (o : Remark) → f ≡ IdWaits
       → IsNoted (let r : Result A NoteFault = Err f in r) (note_refusal (waiting_in old) id) → Stands new last (waiting_in old) → o ≡ id_waits id method
-      → Notes (record { waiting = waiting_in old; refused = refused }) id method (Some o) (record { waiting = waiting_in new; refused = refused })
+      → Notes n unsaid id method (Some o) (record { waiting = waiting_in new; lines = lines; refused = refused })
   notes_twice A f o is noted stands e =
       let refusal = subst (λ (x : NoteFault). IsNoted (let r : Result A NoteFault = Err x in r) (note_refusal (waiting_in old) id)) is noted in
-      subst (λ (w : Pending). Notes (record { waiting = waiting_in old; refused = refused }) id method (Some o) (record { waiting = w; refused = refused }))
-      (sym stands.waiting)
-      (subst (λ (x : Remark). Notes (record { waiting = waiting_in old; refused = refused }) id method (Some x)
-      (record { waiting = waiting_in old; refused = refused })) (sym e) (hearing.is_twice refusal))
+      subst (λ (w : Pending). Notes n unsaid id method (Some o) (record { waiting = w; lines = lines; refused = refused })) (sym stands.waiting)
+      (subst (λ (x : Remark). Notes n unsaid id method (Some x) unsaid) (sym e) (hearing.is_twice refusal))
 
   -- nor does one too many, whose id is kept
   pub notes_too_many : (A : Type 0) (f : NoteFault) (o : Remark) (s' : Standing) → f ≡ TooManyPending
       → IsNoted (let r : Result A NoteFault = Err f in r) (note_refusal (waiting_in old) id) → Stands new last (waiting_in old) → o ≡ too_many id method
-      → s' ≡ with_refused (Some id) (record { waiting = waiting_in new; refused = refused })
-      → Notes (record { waiting = waiting_in old; refused = refused }) id method (Some o) s'
+      → s' ≡ with_refused (Some id) (record { waiting = waiting_in new; lines = lines; refused = refused })
+      → Notes n unsaid id method (Some o) s'
   notes_too_many A f o s' is noted stands e after =
       let refusal = subst (λ (x : NoteFault). IsNoted (let r : Result A NoteFault = Err x in r) (note_refusal (waiting_in old) id)) is noted in
-      let same : s' ≡ with_refused (Some id) (record { waiting = waiting_in old; refused = refused }) =
-      after ∙ ap (λ (w : Pending). with_refused (Some id) (record { waiting = w; refused = refused })) stands.waiting in
-      subst (λ (z : Standing). Notes (record { waiting = waiting_in old; refused = refused }) id method (Some o) z) (sym same)
-      (subst (λ (x : Remark). Notes (record { waiting = waiting_in old; refused = refused }) id method (Some x)
-      (with_refused (Some id) (record { waiting = waiting_in old; refused = refused }))) (sym e) (hearing.is_one_too_many refusal))
+      let same : s' ≡ with_refused (Some id) unsaid =
+      after ∙ ap (λ (w : Pending). with_refused (Some id) (record { waiting = w; lines = lines; refused = refused })) stands.waiting in
+      subst (λ (z : Standing). Notes n unsaid id method (Some o) z) (sym same)
+      (subst (λ (x : Remark). Notes n unsaid id method (Some x) (with_refused (Some id) unsaid)) (sym e) (hearing.is_one_too_many refusal))
 
 -- ---- answers to none that waits
 
@@ -224,23 +227,23 @@ judged_refused line j id code h is =
     (_, (verdict_shown v, (v, here, refl), refl))
 
 -- and heard so
-pub heard_refused : (s s' : Standing) (line : List ℕ) (j : Judged) (id : Option JsUint) (code : ErrorCode) (brief : List ℕ) (why : Trouble) → IsJudged line j
+pub heard_refused : (n : ℕ) (s s' : Standing) (line : List ℕ) (j : Judged) (id : Option JsUint) (code : ErrorCode) (brief : List ℕ) (why : Trouble) → IsJudged line j
     → j ≡ judged.Refused id code → brief ≡ refused_words (option_map (λ n. n.value) id) code → IsTrouble Local line why
-    → s' ≡ with_refused (option_map (λ n. n.value) id) s → Hears s line Local (Some (fault brief why)) s'
-heard_refused s s' line j id code brief why h is words trouble after =
+    → s' ≡ with_refused (option_map (λ n. n.value) id) s → Hears n s line Local (Some (fault (Some Local) None brief why)) s'
+heard_refused n s s' line j id code brief why h is words trouble after =
     let here = subst (IsJudged line) is h in
-    subst (λ (z : Standing). Hears s line Local (Some (fault brief why)) z) (sym after)
-    (subst (λ (b : List ℕ). Hears s line Local (Some (fault b why)) (with_refused (option_map (λ n. n.value) id) s)) (sym words)
+    subst (λ (z : Standing). Hears n s line Local (Some (fault (Some Local) None brief why)) z) (sym after)
+    (subst (λ (b : List ℕ). Hears n s line Local (Some (fault (Some Local) None b why)) (with_refused (option_map (λ n. n.value) id) s)) (sym words)
     (is_refused (option_map (λ n. n.value) id) code why here trouble))
 
 -- what is judged accepted is heard as it is noted
-pub judged_noted : {E : Type 0} {R : Type 0} (s s' : Standing) (line : List ℕ) (j : Judged) (id : JsUint) (method : Method) (view : R → Option Remark)
-    (r : Result R E) → IsJudged line j → j ≡ judged.Accepted id method → IfOk r (λ found. Notes s id.value method (view found) s')
-    → IfOk r (λ found. Hears s line Local (view found) s')
-judged_noted s s' line j id method view (Ok found) h is notes =
+pub judged_noted : {E : Type 0} {R : Type 0} (n : ℕ) (s s' : Standing) (line : List ℕ) (j : Judged) (id : JsUint) (method : Method) (view : R → Option Remark)
+    (r : Result R E) → IsJudged line j → j ≡ judged.Accepted id method → IfOk r (λ found. Notes n s id.value method (view found) s')
+    → IfOk r (λ found. Hears n s line Local (view found) s')
+judged_noted n s s' line j id method view (Ok found) h is notes =
     let (t, judged, is_id, is_method) = subst (IsJudged line) is h in
-    noted s line t id.value method s' (view found) judged is_id is_method notes
-judged_noted s s' line j id method view (Err e) h is notes = tt
+    noted n s line t id.value method s' (view found) judged is_id is_method notes
+judged_noted n s s' line j id method view (Err e) h is notes = tt
 
 -- ---- taking
 
@@ -285,16 +288,21 @@ stray_as s s' t id kind o (hearing.of_answer is_id is_kind) none (to_none was) =
     (subst (λ (k : List ℕ). IsTold s t local.Stray (Some (stray (echoed_id t) k)) s) (sym is_kind) (of_stray (ap (λ x. was_refused x s) (sym is_id) ∙ was)))
 stray_as s s' t id kind o (hearing.of_event f) none h = absurd (none f)
 
-module _ (old new : LocalEnd) (refused : List ℕ) (text : List ℕ) (t : Node) (m : Meaning) (last : ℕ) (means : IsMeaningOf (waiting_in old) t m)
-    (stands : Stands new last (settled (waiting_in old) m)) (tree : tree_of text ≡ Some t) (r : outcome.Outcome) (told : IsOutcomeOf (waiting_in old) m r) where
+module _ (old new : LocalEnd) (lines lines' : List (ℕ × ℕ)) (refused : List ℕ) (text : List ℕ) (t : Node) (m : Meaning) (last : ℕ) (means : IsMeaningOf (waiting_in old) t m)
+    (stands : Stands new last (settled (waiting_in old) m)) (left : lines' ≡ lines_left (settled_id m) lines) (tree : tree_of text ≡ Some t) (r : outcome.Outcome) (told : IsOutcomeOf (waiting_in old) m r) where
   abbrev before : Standing
-  before = record { waiting = waiting_in old; refused = refused }
+  before = record { waiting = waiting_in old; lines = lines; refused = refused }
 
   abbrev after : Standing
-  after = record { waiting = waiting_in new; refused = refused }
+  after = record { waiting = waiting_in new; lines = lines'; refused = refused }
 
   takes : (o : Option Remark) → IsTold before t m o (behind m before) → Takes before t o after
-  takes o h = (m, means, subst (λ (w : Pending). IsTold before t m o (record { waiting = w; refused = refused })) (sym stands.waiting) h)
+  takes o h = (
+    m,
+    means,
+    subst (λ (w : Pending). IsTold before t m o (record { waiting = w; lines = lines'; refused = refused })) (sym stands.waiting)
+        (subst (λ (ls : List (ℕ × ℕ)). IsTold before t m o (record { waiting = settled (waiting_in old) m; lines = ls; refused = refused })) (sym left) h),
+  )
 
   pub takes_fine : r ≡ out.Fine → Takes before t None after
   takes_fine e = takes None (fine m told)
@@ -382,14 +390,16 @@ module _ (old new : LocalEnd) (refused : List ℕ) (text : List ℕ) (t : Node) 
       let is = stray_meant m told e in
       let none = no_stray_event (waiting_in old) text t m (means text tree) is tree in
       let same : waiting_in new ≡ waiting_in old = stands.waiting ∙ ap (settled (waiting_in old)) is in
-      let here = subst (λ (w : Pending). IsStray (record { waiting = w; refused = refused }) id kind (view o) s') same h in
+      let lines_same : lines' ≡ lines = left ∙ ap (λ (x : Meaning). lines_left (settled_id x) lines) is in
+      let here = subst (λ (w : Pending). IsStray (record { waiting = w; lines = lines; refused = refused }) id kind (view o) s') same
+      (subst (λ (ls : List (ℕ × ℕ)). IsStray (record { waiting = waiting_in new; lines = ls; refused = refused }) id kind (view o) s') lines_same h) in
       (local.Stray, subst (IsMeaningOf (waiting_in old) t) is means, stray_as before s' t id kind (view o) from none here)
 
 -- ---- lines
 
 -- a text is heard as one of its end
 pub heard_text : {E R : Type 0} (n : ℕ) (s s' : Standing) (line text : List ℕ) (side : Side) (view : R → Option Remark) (r : Result R E)
-    → begins_with_mark n line ≡ false → line ≡ mark_of side ++ text → IfOk r (λ found. Hears s text side (view found) s')
+    → begins_with_mark n line ≡ false → line ≡ mark_of side ++ text → IfOk r (λ found. Hears n s text side (view found) s')
     → IfOk r (λ found. IsLine line → HearsLine n s line (view found) s')
 heard_text n s s' line text side view (Ok found) none e h = λ is. is_text side text (view found) s' is none e h
 heard_text n s s' line text side view (Err x) none e h = tt
@@ -431,7 +441,19 @@ no_fit_line line text f (same, is) e h =
     (subst (λ (l : List ℕ). (t : Node) × (tree_of_text None l ≡ Some t) × (Fits t (rule message) → ⊥)) same (fault_is f NoFit text e h))
 
 -- a message is heard as it is taken
-pub heard_message : {E R : Type 0} (s s' : Standing) (line text : List ℕ) (t : Node) (view : R → Option Remark) (r : Result R E)
-    → (text ≡ line) × IsUtf8 line → tree_of text ≡ Some t → IfOk r (λ found. Takes s t (view found) s') → IfOk r (λ found. Hears s line Remote (view found) s')
-heard_message s s' line text t view (Ok found) is tree h = taken s s' line text t (view found) is tree h
-heard_message s s' line text t view (Err x) is tree h = tt
+pub heard_message : {E R : Type 0} (n : ℕ) (s s' : Standing) (line text : List ℕ) (t : Node) (view : R → Option Remark) (r : Result R E)
+    → (text ≡ line) × IsUtf8 line → tree_of text ≡ Some t → IfOk r (λ found. Takes s t (view found) s')
+    → IfOk r (λ found. Hears n s line Remote (view found) s')
+heard_message n s s' line text t view (Ok found) is tree h = taken n s s' line text t (view found) is tree h
+heard_message n s s' line text t view (Err x) is tree h = tt
+
+-- one that is none is heard as it is told, and what it answers has its answer
+pub heard_none : (n : ℕ) (s s' : Standing) (line brief : List ℕ) (why : Trouble) (id answers : Option ℕ) (o : Remark) → Refuses Remote line (Some brief)
+    → IsTrouble Remote line why → id ≡ id_of why → answers ≡ answered id s → s' ≡ with_answer id s → o ≡ no_message answers brief why
+    → Hears n s line Remote (Some o) s'
+heard_none n s s' line brief why id answers o refuses trouble is told after same =
+    subst (λ (z : Standing). Hears n s line Remote (Some o) z)
+    (sym (after ∙ ap (λ (x : Option ℕ). with_answer x s) is))
+    (subst (λ (x : Remark). Hears n s line Remote (Some x) (with_answer (id_of why) s)) (sym same)
+    (subst (λ (a : Option ℕ). Hears n s line Remote (Some (no_message a brief why)) (with_answer (id_of why) s))
+    (sym (told ∙ ap (λ (x : Option ℕ). answered x s) is)) (is_no_message brief why refuses trouble)))

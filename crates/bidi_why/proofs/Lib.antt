@@ -3,3 +3,4 @@ pub mod InputLemmas
 pub mod TellingLemmas
 pub mod ConversationLemmas
 pub mod HearingLemmas
+pub mod SettlingLemmas

@@ -1,7 +1,7 @@
 -- A conversation of both ends: what is told of its lines, and of the commands that are never answered. Who answers what is decided as by a local end
 -- that sent just the commands which are accepted.
-use Rattle.std.specs.Prelude.{◌≡◌, ℕ, ◌+◌, ◌⊎◌, Bool, false, true, ◌||◌, ◌==◌, not, nat_lt, List, [], ◌∷◌, ◌++◌, filter, length, codes, IsUtf8, if◌then◌else◌}
-use Rattle.std.specs.Prelude.{Option, Some, None, option_and_then, unwrap_or}
+use Rattle.std.specs.Prelude.{◌≡◌, ℕ, ◌+◌, ◌⊎◌, Bool, false, true, ◌||◌, ◌==◌, not, nat_lt, List, [], ◌∷◌, ◌++◌, filter, length, position, remove, codes, IsUtf8, if◌then◌else◌}
+use Rattle.std.specs.Prelude.{Option, Some, None, is_some, option_and_then, unwrap_or}
 use Rattle.std.specs.List.{flat_map, list_any}
 use Rattle.bidi_tree.specs.Node.{Node, get_of}
 use Rattle.bidi_tree.specs.Kind.{text_in}
@@ -14,7 +14,7 @@ use Rattle.bidi_methods.specs.declared.method.Method.{Method}
 use Rattle.bidi_methods.specs.Method.{method_text, result_of}
 use Rattle.bidi_messages.specs.Command.{id_in, method_in}
 use Rattle.bidi_messages.specs.Verdict.{Accepted, Refused, echoed_id}
-use Rattle.bidi_local.specs.Pending.{Pending, method_of, note_refusal}
+use Rattle.bidi_local.specs.Pending.{Pending, method_of, note_refusal, without}
 use Rattle.bidi_local.specs.Received as local
 use Rattle.bidi_local.specs.Received.{Meaning, Means, result_in, settled}
 use Rattle.bidi_local.specs.declared.local_end.NoteFault.TheVariants.{IdWaits, TooManyPending}
@@ -27,9 +27,9 @@ use Rattle.bidi_show.specs.declared.showing.ShowFault.{ShowFault}
 use Rattle.bidi_show.specs.declared.showing.ShowFault.TheVariants.{Write, NoMemory}
 use Rattle.bidi_blame.specs.Blames.{Blames}
 use Rattle.bidi_blame.specs.Reason.{Reason}
-use Rattle.bidi_why.specs.Trouble.{IsTrouble, Trouble, begins_with_mark}
+use Rattle.bidi_why.specs.Trouble.{IsTrouble, Trouble, bad, no_fit, begins_with_mark}
 use Rattle.bidi_why.specs.Telling.{StopsBy, Whole}
-use Rattle.bidi_why.specs.Remark.{Remark, bad_line, bad_result, failed, fault, id_waits, is_fault, remark_line, stray, too_many, unanswered_line}
+use Rattle.bidi_why.specs.Remark.{Remark, bad_line, bad_result, failed, fault, id_waits, is_fault, line_of, no_message, remark_line, stray, too_many, unanswered_line}
 use Rattle.bidi_why.specs.declared.bad_text.BadText.TheVariants.{ByteOrderMark, NoDirection, TooLong}
 use Rattle.bidi_why.specs.declared.texts.Form.{Form}
 
@@ -38,16 +38,26 @@ use Rattle.bidi_why.specs.declared.texts.Form.{Form}
 pub record Standing : Type 0 where
   -- the commands that wait for an answer
   pub waiting : Pending
-  -- ids of commands that were refused; of an answer to one nothing is told
+  -- the id of each of them, and the number of its line
+  pub lines : List (ℕ × ℕ)
+  -- the ids of commands that were refused and have no answer yet
   pub refused : List ℕ
 
 -- nothing was said
 abbrev pub silence : Standing
-silence = record { waiting = []; refused = [] }
+silence = record { waiting = []; lines = []; refused = [] }
 
--- the command waits, too
-abbrev pub with_command : ℕ → Method → Standing → Standing
-with_command id method s = record { waiting = s.waiting ++ (id, method) ∷ []; refused = s.refused }
+-- the command at line n waits, too
+abbrev pub with_command : ℕ → ℕ → Method → Standing → Standing
+with_command n id method s = record { waiting = s.waiting ++ (id, method) ∷ []; lines = s.lines ++ (id, n) ∷ []; refused = s.refused }
+
+-- the lines of commands, without that of the command with this id
+abbrev pub lines_without : ℕ → List (ℕ × ℕ) → List (ℕ × ℕ)
+lines_without id lines = filter (λ l. not (l.0 == id)) lines
+
+-- the command of this id waits no longer
+abbrev pub without_command : ℕ → Standing → Standing
+without_command id s = record { waiting = without s.waiting id; lines = lines_without id s.lines; refused = s.refused }
 
 -- so many are kept at most
 abbrev pub kept : List ℕ → ℕ → List ℕ
@@ -56,21 +66,62 @@ kept ids id = if nat_lt (length ids) 1024 then ids ++ id ∷ [] else ids
 -- the command is refused, which has an id or none
 abbrev pub with_refused : Option ℕ → Standing → Standing
 with_refused None s = s
-with_refused (Some id) s = record { waiting = s.waiting; refused = kept s.refused id }
+with_refused (Some id) s = record { waiting = s.waiting; lines = s.lines; refused = kept s.refused id }
 
 -- whether a command of that id was refused, and has no answer
 abbrev pub was_refused : Option ℕ → Standing → Bool
 was_refused None s = false
 was_refused (Some id) s = list_any (λ x. x == id) s.refused
 
--- that one has its answer
+-- the ids without the one at this place
+abbrev pub without_at : Option ℕ → List ℕ → List ℕ
+without_at None ids = ids
+without_at (Some i) ids = remove ids i
+
+-- the ids without the first that is this one
+abbrev pub without_first : ℕ → List ℕ → List ℕ
+without_first id ids = without_at (position (λ x. x == id) ids) ids
+
+-- one command of this id that was refused has its answer
 abbrev pub without_refused : Option ℕ → Standing → Standing
 without_refused None s = s
-without_refused (Some id) s = record { waiting = s.waiting; refused = filter (λ x. not (x == id)) s.refused }
+without_refused (Some id) s = record { waiting = s.waiting; lines = s.lines; refused = without_first id s.refused }
+
+-- the id of the command that a message settles, if it settles one
+abbrev pub settled_id : Meaning → Option ℕ
+settled_id (local.Answer id method result) = Some id
+settled_id (local.BadResult id) = Some id
+settled_id (local.Refusal id code) = Some id
+settled_id meaning = None
+
+-- the lines of commands that are left after a command is settled, or none is
+abbrev pub lines_left : Option ℕ → List (ℕ × ℕ) → List (ℕ × ℕ)
+lines_left None lines = lines
+lines_left (Some id) lines = lines_without id lines
 
 -- a message with that meaning came
 abbrev pub behind : Meaning → Standing → Standing
-behind meaning s = record { waiting = settled s.waiting meaning; refused = s.refused }
+behind meaning s = record { waiting = settled s.waiting meaning; lines = lines_left (settled_id meaning) s.lines; refused = s.refused }
+
+-- ---- answers that are no message
+
+-- the id in a text that is no message
+abbrev pub id_of : Trouble → Option ℕ
+id_of (bad b) = None
+id_of (no_fit m) = m.id
+
+-- the command that such a text answers for all that: the one of its id, if it waits, or if it was refused and has no answer yet
+abbrev pub answered : Option ℕ → Standing → Option ℕ
+answered None s = None
+answered (Some id) s = if is_some (method_of s.waiting id) || was_refused (Some id) s then Some id else None
+
+-- a text with this id came: it settles the command that waits under the id, or else one that was refused
+abbrev pub with_answer : Option ℕ → Standing → Standing
+with_answer None s = s
+with_answer (Some id) s =
+    if is_some (method_of s.waiting id) then without_command id s
+    else if was_refused (Some id) s then without_refused (Some id) s
+    else s
 
 -- ---- one line
 
@@ -98,24 +149,25 @@ mark_of Remote = codes "< "
 abbrev pub refused_words : Option ℕ → ErrorCode → List ℕ
 refused_words id code = codes "refused " ++ id_text id ++ 32 ∷ error_code_text code
 
--- what is told of a text, and what stands behind it
-pub data Hears (s : Standing) (text : List ℕ) : Side → Option Remark → Standing → Type 0 where
+-- what is told of a text in the line of this number, and what stands behind it
+pub data Hears (n : ℕ) (s : Standing) (text : List ℕ) : Side → Option Remark → Standing → Type 0 where
   -- a command is accepted, and waits from now on
   is_sent : (t : Node) (method : Method) → HasVerdict text (Accepted t) → method_in t ≡ method_text method → note_refusal s.waiting (id_in t) ≡ None
-      → Hears s text Local None (with_command (id_in t) method s)
+      → Hears n s text Local None (with_command n (id_in t) method s)
   -- its id waits, or too many do
   is_sent_twice : (t : Node) (method : Method) → HasVerdict text (Accepted t) → method_in t ≡ method_text method
-      → note_refusal s.waiting (id_in t) ≡ Some IdWaits → Hears s text Local (Some (id_waits (id_in t) method)) s
+      → note_refusal s.waiting (id_in t) ≡ Some IdWaits → Hears n s text Local (Some (id_waits (id_in t) method)) s
   is_one_too_many : (t : Node) (method : Method) → HasVerdict text (Accepted t) → method_in t ≡ method_text method
       → note_refusal s.waiting (id_in t) ≡ Some TooManyPending
-      → Hears s text Local (Some (too_many (id_in t) method)) (with_refused (Some (id_in t)) s)
+      → Hears n s text Local (Some (too_many (id_in t) method)) (with_refused (Some (id_in t)) s)
   is_refused : (id : Option ℕ) (code : ErrorCode) (why : Trouble) → HasVerdict text (Refused id code) → IsTrouble Local text why
-      → Hears s text Local (Some (fault (refused_words id code) why)) (with_refused id s)
+      → Hears n s text Local (Some (fault (Some Local) None (refused_words id code) why)) (with_refused id s)
   -- a message means what it means to the local end
   is_message : (t : Node) (meaning : Meaning) (o : Option Remark) (s' : Standing) → IsUtf8 text → tree_of text ≡ Some t → Means s.waiting text meaning
-      → IsTold s t meaning o s' → Hears s text Remote o s'
+      → IsTold s t meaning o s' → Hears n s text Remote o s'
+  -- a text that is no message may answer a command for all that
   is_no_message : (brief : List ℕ) (why : Trouble) → Refuses Remote text (Some brief) → IsTrouble Remote text why
-      → Hears s text Remote (Some (fault brief why)) s
+      → Hears n s text Remote (Some (no_message (answered (id_of why) s) brief why)) (with_answer (id_of why) s)
 
 -- what is told of the line of this number, and what stands behind it
 pub data HearsLine (n : ℕ) (s : Standing) (line : List ℕ) : Option Remark → Standing → Type 0 where
@@ -124,7 +176,7 @@ pub data HearsLine (n : ℕ) (s : Standing) (line : List ℕ) : Option Remark �
   is_no_text : IsLine line → begins_with_mark n line ≡ false → ((side : Side) (text : List ℕ) → line ≡ mark_of side ++ text → ⊥)
       → HearsLine n s line (Some (bad_line NoDirection)) s
   is_text : (side : Side) (text : List ℕ) (o : Option Remark) (s' : Standing) → IsLine line → begins_with_mark n line ≡ false
-      → line ≡ mark_of side ++ text → Hears s text side o s' → HearsLine n s line o s'
+      → line ≡ mark_of side ++ text → Hears n s text side o s' → HearsLine n s line o s'
 
 -- ---- all lines
 
@@ -158,12 +210,16 @@ abbrev pub any_waits : Pending → Bool
 any_waits [] = false
 any_waits (w ∷ ws) = true
 
+-- what is written for the commands that were never answered
+abbrev pub unanswered_lines : Option Form → Standing → List ℕ
+unanswered_lines form s = flat_map (λ w. unanswered_line form (line_of s.lines w.0) w) s.waiting
+
 -- The bytes are a conversation. What is written is what is told of its lines and then of each command that waits; it has a fault where a line has one,
 -- or where a command waits.
 abbrev pub TellsConversation : Option Form → Bool → List ℕ → List ℕ → Type 0
 TellsConversation form some bytes wrote =
     (text : List ℕ) × (among : Bool) × (s : Standing) × Whole (λ lines written. Converses form lines written among s) bytes text
-    × (wrote ≡ text ++ flat_map (unanswered_line form) s.waiting) × (some ≡ (among || any_waits s.waiting))
+    × (wrote ≡ text ++ unanswered_lines form s) × (some ≡ (among || any_waits s.waiting))
 
 -- some lines at the front were told of by this text
 abbrev pub IsTranscript : Option Form → List (List ℕ) → List ℕ → Type 0

@@ -25,7 +25,7 @@ pub record HasExplained (first : OneSide) (now : OneSide) (lines : List (List �
 
 -- what stands behind the lines that it was told
 abbrev pub standing_of : Conversation → Standing
-standing_of c = record { waiting = waiting_in c.end; refused = c.refused.items }
+standing_of c = record { waiting = waiting_in c.end; lines = c.lines.items; refused = c.refused.items }
 
 -- Since it was the first it has told of these lines, which are the beginning of a conversation, by this text.
 pub record HasConversed (first : Conversation) (now : Conversation) (lines : List (List ℕ)) (text : List ℕ) (some : Bool) : Type 0 where

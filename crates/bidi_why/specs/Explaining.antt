@@ -15,4 +15,4 @@ explained_of e = (e.text.items, e.cause.items)
 pub data Explains (form : Form) (side : Side) (n : ℕ) (line : List ℕ) : Option (List ℕ × List ℕ) → Type 0 where
   is_taken : Refuses side line None → Explains form side n line None
   is_refused : (why : List ℕ) (x : Trouble) → Refuses side line (Some why) → IsTroubleAt side n line x
-      → Explains form side n line (Some (told_text form n x, cause_text x))
+      → Explains form side n line (Some (told_text form n (Some side) None x, cause_text x))

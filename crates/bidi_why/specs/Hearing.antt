@@ -28,11 +28,11 @@ abbrev pub IsJudged : List ℕ → Judged → Type 0
 IsJudged text (Accepted id method) = (t : Node) × HasVerdict text (verdict.Accepted t) × (id_in t ≡ id.value) × (method_in t ≡ method_text method)
 IsJudged text (Refused id code) = HasVerdict text (verdict.Refused (option_map (λ n. n.value) id) code)
 
--- what is told of an accepted command of this id and method, and what stands behind it
-pub data Notes (s : Standing) (id : ℕ) (method : Method) : Option Remark → Standing → Type 0 where
-  waits : note_refusal s.waiting id ≡ None → Notes s id method None (with_command id method s)
-  is_twice : note_refusal s.waiting id ≡ Some IdWaits → Notes s id method (Some (id_waits id method)) s
-  is_one_too_many : note_refusal s.waiting id ≡ Some TooManyPending → Notes s id method (Some (too_many id method)) (with_refused (Some id) s)
+-- what is told of an accepted command of this id and method in the line of this number, and what stands behind it
+pub data Notes (n : ℕ) (s : Standing) (id : ℕ) (method : Method) : Option Remark → Standing → Type 0 where
+  waits : note_refusal s.waiting id ≡ None → Notes n s id method None (with_command n id method s)
+  is_twice : note_refusal s.waiting id ≡ Some IdWaits → Notes n s id method (Some (id_waits id method)) s
+  is_one_too_many : note_refusal s.waiting id ≡ Some TooManyPending → Notes n s id method (Some (too_many id method)) (with_refused (Some id) s)
 
 -- the id and the `type` of a response or an error of this tree
 pub data IsSender (t : Node) (id : Option ℕ) (kind : List ℕ) : Type 0 where

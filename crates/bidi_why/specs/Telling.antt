@@ -23,7 +23,7 @@ written (Some e) = e.0
 -- This is written for the line of this number.
 pub data Tells (form : Form) (side : Side) (n : ℕ) (line : List ℕ) : List ℕ → Type 0 where
   is_line : (o : Option (List ℕ × List ℕ)) → IsLine line → Explains form side n line o → Tells form side n line (written o)
-  is_too_long : IsTooLong line → Tells form side n line (told_text form n (bad TooLong))
+  is_too_long : IsTooLong line → Tells form side n line (told_text form n (Some side) None (bad TooLong))
 
 -- this is written for the lines, the first of which has this number
 abbrev pub TellsEach : Form → Side → ℕ → List (List ℕ) → List ℕ → Type 0

@@ -2,6 +2,8 @@
 use Rattle.std.specs.Prelude.{ℕ, List, [], ◌∷◌, ◌++◌, Option, Some, None, option_map, codes, decimal}
 use Rattle.json.specs.Print.{escape, quoted}
 use Rattle.bidi_why.specs.Trouble.{Misfit, Trouble, bad, no_fit, bad_words, bad_cause}
+use Rattle.bidi_lines.specs.declared.side.Side.{Side}
+use Rattle.bidi_lines.specs.declared.side.Side.TheVariants.{Local, Remote}
 use Rattle.bidi_why.specs.declared.bad_text.BadText.{BadText}
 use Rattle.bidi_why.specs.declared.texts.Form.{Form}
 use Rattle.bidi_why.specs.declared.texts.Form.TheVariants.{Words, Json}
@@ -28,9 +30,18 @@ abbrev pub trouble_words : Trouble → List ℕ
 trouble_words (bad b) = bad_words b
 trouble_words (no_fit m) = misfit_words m
 
+-- ` (answers ID)`, if the text answers the command of this id
+abbrev pub answers_words : Option ℕ → List ℕ
+answers_words None = []
+answers_words (Some id) = codes " (answers " ++ decimal id ++ codes ")"
+
 -- `line N: WORDS`
 abbrev pub words_line : ℕ → List ℕ → List ℕ
 words_line n words = codes "line " ++ decimal n ++ codes ": " ++ words ++ 10 ∷ []
+
+-- the same, then the command that the line answers
+abbrev pub answering_line : ℕ → List ℕ → Option ℕ → List ℕ
+answering_line n words answers = codes "line " ++ decimal n ++ codes ": " ++ words ++ answers_words answers ++ 10 ∷ []
 
 -- `PATTERN: wants WANTS (RULE)`
 abbrev pub misfit_cause : Misfit → List ℕ
@@ -51,6 +62,13 @@ pub record Row : Type 0 where
   pub named : Option (List ℕ)
   pub wants : Option (List ℕ)
   pub has : List ℕ
+  pub side : Option (List ℕ)
+  pub answers : Option ℕ
+
+-- the name of an end
+abbrev pub side_text : Side → List ℕ
+side_text Local = codes "local"
+side_text Remote = codes "remote"
 
 -- a number in decimal, or `null`
 abbrev pub number_or_null : Option ℕ → List ℕ
@@ -66,7 +84,7 @@ text_or_null (Some s) = quoted s
 abbrev pub named : List ℕ → List ℕ
 named name = 34 ∷ (name ++ 34 ∷ 58 ∷ [])
 
--- `{"line":N,"id":ID,"method":METHOD,"pointer":POINTER,"rule":RULE,"wants":WANTS,"has":HAS}`; what is told behind the last line has no number
+-- `{"line":N,"id":ID,"method":METHOD,"pointer":POINTER,"rule":RULE,"wants":WANTS,"has":HAS,"side":SIDE,"answers":ID}`
 abbrev pub json_line : Option ℕ → Row → List ℕ
 json_line n r =
     123 ∷ named (codes "line") ++ number_or_null n
@@ -76,6 +94,8 @@ json_line n r =
     ++ 44 ∷ named (codes "rule") ++ text_or_null r.named
     ++ 44 ∷ named (codes "wants") ++ text_or_null r.wants
     ++ 44 ∷ named (codes "has") ++ text_or_null (Some r.has)
+    ++ 44 ∷ named (codes "side") ++ text_or_null r.side
+    ++ 44 ∷ named (codes "answers") ++ number_or_null r.answers
     ++ 125 ∷ 10 ∷ []
 
 abbrev pub row_of : declared_row.Row → Row
@@ -86,24 +106,44 @@ row_of r = record {
   named = option_map (λ s. s.now) r.rule;
   wants = option_map (λ s. s.now) r.wants;
   has = r.has.now;
+  side = option_map (λ s. s.now) r.side;
+  answers = r.answers;
 }
 
 -- the row of a line that is no text to judge
-abbrev pub bad_row : BadText → Row
-bad_row b = record { id = None; method = None; pointer = None; named = None; wants = None; has = bad_words b }
+abbrev pub bad_row : Option Side → Option ℕ → BadText → Row
+bad_row side answers b = record {
+  id = None;
+  method = None;
+  pointer = None;
+  named = None;
+  wants = None;
+  has = bad_words b;
+  side = option_map side_text side;
+  answers = answers;
+}
 
 -- that of a tree that does not fit
-abbrev pub misfit_row : Misfit → Row
-misfit_row m = record { id = m.id; method = m.method; pointer = Some m.pointer; named = m.named; wants = Some m.wants; has = m.has }
+abbrev pub misfit_row : Option Side → Option ℕ → Misfit → Row
+misfit_row side answers m = record {
+  id = m.id;
+  method = m.method;
+  pointer = Some m.pointer;
+  named = m.named;
+  wants = Some m.wants;
+  has = m.has;
+  side = option_map side_text side;
+  answers = answers;
+}
 
--- the row of what is wrong
-abbrev pub trouble_row : Trouble → Row
-trouble_row (bad b) = bad_row b
-trouble_row (no_fit m) = misfit_row m
+-- the row of what is wrong with a text of this end, which answers the command of this id
+abbrev pub trouble_row : Option Side → Option ℕ → Trouble → Row
+trouble_row side answers (bad b) = bad_row side answers b
+trouble_row side answers (no_fit m) = misfit_row side answers m
 
 -- ---- of both
 
--- what is written for the refused line of this number
-abbrev pub told_text : Form → ℕ → Trouble → List ℕ
-told_text Words n x = words_line n (trouble_words x)
-told_text Json n x = json_line (Some n) (trouble_row x)
+-- what is written for the refused line of this number, a text of this end, which answers the command of this id
+abbrev pub told_text : Form → ℕ → Option Side → Option ℕ → Trouble → List ℕ
+told_text Words n side answers x = answering_line n (trouble_words x) answers
+told_text Json n side answers x = json_line (Some n) (trouble_row side answers x)

@@ -116,7 +116,7 @@ pub data Trouble : Type 0 where
 
 abbrev pub misfit_of : declared_misfit.Misfit → Misfit
 misfit_of m = record {
-  id = m.id;
+  id = option_map (λ n. n.value) m.id;
   method = option_map string_bytes m.method;
   pointer = string_bytes m.pointer;
   pattern = string_bytes m.pattern;

@@ -1,30 +1,41 @@
 //! What tells of the lines of a conversation.
-ghost use Rattle.std.specs.Prelude.{◌≡◌, ◌++◌, ℕ, List, true, false, Some, None, IfOk, OnOk, MatchOption, filter, not, ◌==◌, option_map, if◌then◌else◌};
+ghost use Rattle.std.specs.Prelude.{◌≡◌, ◌++◌, ℕ, ◌<◌, List, true, false, Some, None, length, position, IfOk, IfSome, OnOk, MatchOption, ◌==◌, is_some, option_map, if◌then◌else◌};
 ghost use Rattle.std.specs.List.{list_any};
 ghost use Rattle.bidi_tree.specs.Text.{tree_of};
 ghost use Rattle.bidi_lines.specs.InputLines.{IsLine};
 ghost use Rattle.bidi_lines.specs.declared.side.Side.TheVariants.{Local, Remote};
+ghost use Rattle.bidi_messages.specs.Message.{error_text, error_tree};
+ghost use Rattle.bidi_messages.specs.Reading.{IsMessageText};
 ghost use Rattle.bidi_messages.specs.View.{verdict_of};
 ghost use Rattle.bidi_show.specs.MessageLines.{HasVerdict, Refuses};
-ghost use Rattle.bidi_why.specs.Conversing.{Hears, HearsLine, Standing, silence, was_refused, with_refused, without_refused};
+ghost use Rattle.bidi_local.specs.Pending.{Pending, method_of};
+ghost use Rattle.bidi_local.specs.Received.{IsSettledBy};
+ghost use Rattle.bidi_local.specs.View.{meaning_of};
+ghost use Rattle.bidi_local.specs.Outcome.{IsOutcomeOf};
+ghost use Rattle.bidi_why.specs.Conversing.{Hears, HearsLine, Standing, answered, id_of, lines_left, lines_without, settled_id, silence, was_refused, with_answer};
+ghost use Rattle.bidi_why.specs.Conversing.{with_refused, without_command, without_first, without_refused};
 ghost use Rattle.bidi_why.specs.Explainers.{HasConversed, standing_of};
 ghost use Rattle.bidi_why.specs.Hearing.{IsJudged, IsSender, IsStray, Notes, Takes};
 ghost use Rattle.bidi_why.specs.Input.{IsOf};
 ghost use Rattle.bidi_why.specs.Remark as told;
 ghost use Rattle.bidi_why.specs.Remark.{remark_of};
+ghost use Rattle.bidi_why.specs.Trouble.{trouble_of};
 
 use crate::bad_text::BadText;
 use crate::explainer::{Explainer, Told};
-use crate::finding::{begins_with_mark, trouble_in};
+use crate::finding::{Trouble, begins_with_mark, trouble_in};
 use crate::next_line::Line;
 use crate::one_side::boxed_scratch;
-use crate::remark::{Remark, bad_line, id_waits, remark_cause, remark_line, stray, too_many};
+use crate::remark::{
+    Remark, bad_line, id_waits, no_message, remark_cause, remark_line, stray, too_many,
+};
 use crate::result_misfit::bad_result;
 use crate::texts::Form;
 use bidi_lines::Side;
-use bidi_local::{LocalEnd, NoteFault, Outcome};
+use bidi_local::{LocalEnd, NoteFault, Outcome, Received, Taken};
 use bidi_messages::{
-    Command, ErrorCode, Message, MessageFault, Method, Payload, Verdict, read_message_with,
+    Command, ErrorCode, Message, MessageFault, Method, Payload, Verdict, error_text,
+    read_message_with,
 };
 use bidi_shape::Shape;
 use bidi_show::{line_verdict, refused_line};
@@ -41,6 +52,8 @@ pub(crate) struct Conversation {
     pub form: Option<Form>,
     /// A local end that sent the commands which were accepted, and was told the texts of the other end.
     pub end: LocalEnd,
+    /// The id of each command that waits, and the number of its line.
+    pub lines: Vec<(u64, u64)>,
     // The ids of commands that were refused and have no answer yet.
     refused: Vec<u64>,
     // What the lines are read in.
@@ -85,7 +98,7 @@ fn is_fault(remark: &Remark) -> bool
     ensures { result ≡ told.is_fault (remark_of remark.now) }
 {
     match remark {
-        Remark::Fault(_, _) => true,
+        Remark::Fault(_, _, _, _) => true,
         Remark::Failed(_, _, _) => false,
     }
 }
@@ -102,6 +115,7 @@ impl Conversation {
         Ok(Conversation {
             form,
             end: LocalEnd::new(alloc),
+            lines: Vec::new(alloc),
             refused: Vec::new(alloc),
             scratch: boxed_scratch(alloc)?,
         })
@@ -139,7 +153,7 @@ impl Conversation {
             return Ok(Some(bad_line(alloc, BadText::ByteOrderMark)?));
         }
         if let Some(text) = text_behind(line, b"> ") {
-            return self.hear_local(alloc, text);
+            return self.hear_local(alloc, number, text);
         }
         if let Some(text) = text_behind(line, b"< ") {
             return self.hear_remote(alloc, text);
@@ -148,33 +162,42 @@ impl Conversation {
     }
 
     // What is told of a text of the local end.
-    fn hear_local(&mut self, alloc: Global, text: &[u8]) -> Result<Option<Remark>, AllocError>
+    fn hear_local(
+        &mut self,
+        alloc: Global,
+        number: u64,
+        text: &[u8],
+    ) -> Result<Option<Remark>, AllocError>
         ensures form { self.new.form ≡ self.old.form }
-        ensures heard { IfOk result (λ found. Hears (standing_of self.old) text.now Local (option_map remark_of found) (standing_of self.new)) }
+        ensures heard { IfOk result (λ found. Hears number (standing_of self.old) text.now Local (option_map remark_of found) (standing_of self.new)) }
     {
         match judge_text(alloc, text, self.scratch.as_mut())? {
-            Judged::Accepted(id, method) => self.note(alloc, id, method),
+            Judged::Accepted(id, method) => self.note(alloc, number, id, method),
             Judged::Refused(id, code) => {
                 self.refuse(id)?;
                 let brief = refused_line(alloc, id, code)?;
                 let why = trouble_in(alloc, Side::Local, text, self.scratch.as_mut())?;
-                Ok(Some(Remark::Fault(brief, why)))
+                Ok(Some(Remark::Fault(Some(Side::Local), None, brief, why)))
             }
         }
     }
 
-    // A command was accepted.
+    // The command in the line of this number was accepted.
     fn note(
         &mut self,
         alloc: Global,
+        number: u64,
         id: JsUint,
         method: Method,
     ) -> Result<Option<Remark>, AllocError>
         ensures form { self.new.form ≡ self.old.form }
-        ensures noted { IfOk result (λ found. Notes (standing_of self.old) id.value method (option_map remark_of found) (standing_of self.new)) }
+        ensures noted { IfOk result (λ found. Notes number (standing_of self.old) id.value method (option_map remark_of found) (standing_of self.new)) }
     {
         match self.end.note(id, method) {
-            Ok(()) => Ok(None),
+            Ok(()) => {
+                self.lines.push((id.value, number))?;
+                Ok(None)
+            }
             Err(NoteFault::IdWaits) => Ok(Some(id_waits(alloc, id, method)?)),
             Err(NoteFault::TooManyPending) => {
                 self.refuse(Some(id))?;
@@ -200,20 +223,15 @@ impl Conversation {
     // What is told of a text of the remote end.
     fn hear_remote(&mut self, alloc: Global, line: &[u8]) -> Result<Option<Remark>, AllocError>
         ensures form { self.new.form ≡ self.old.form }
-        ensures heard { IfOk result (λ found. Hears (standing_of self.old) line.now Remote (option_map remark_of found) (standing_of self.new)) }
+        ensures heard { (n : ℕ) → IfOk result (λ found. Hears n (standing_of self.old) line.now Remote (option_map remark_of found) (standing_of self.new)) }
     {
         let Ok(text) = std::str::from_utf8(line) else {
-            return no_message(alloc, "not json", line, self.scratch.as_mut());
+            return self.no_message(alloc, "not json", line);
         };
         match read_message_with(alloc, text, self.scratch.as_mut()) {
             Ok(message) => self.take(alloc, text, message),
-            Err(MessageFault::NotJson) => no_message(
-                alloc,
-                "not json",
-                line,
-                self.scratch.as_mut(),
-            ),
-            Err(MessageFault::NoFit) => no_message(alloc, "no fit", line, self.scratch.as_mut()),
+            Err(MessageFault::NotJson) => self.no_message(alloc, "not json", line),
+            Err(MessageFault::NoFit) => self.no_message(alloc, "no fit", line),
             Err(MessageFault::NoMemory) => Err(AllocError),
         }
     }
@@ -231,7 +249,9 @@ impl Conversation {
         ensures taken { IfOk result (λ found. Takes (standing_of self.old) (⟦<Message as Shape>⟧.shape.tree_of message) (option_map remark_of found) (standing_of self.new)) }
     {
         let (id, kind) = sender(&message);
-        match self.end.take_message(message)?.outcome() {
+        let (settled, outcome) = in_brief(self.end.take_message(message)?);
+        forget(&mut self.lines, settled);
+        match outcome {
             Outcome::Fine => Ok(None),
             Outcome::BadResult(id, method) => Ok(Some(bad_result(
                 alloc,
@@ -274,8 +294,132 @@ impl Conversation {
         if !is_among(&self.refused, id.value) {
             return false;
         }
-        remove(&mut self.refused, id.value);
+        remove_first(&mut self.refused, id.value);
         true
+    }
+
+    // What is told of a text of the remote end that is no message. It may answer a command for all that.
+    fn no_message(
+        &mut self,
+        alloc: Global,
+        brief: &str,
+        line: &[u8],
+    ) -> Result<Option<Remark>, AllocError>
+        requires { Refuses Remote line.now (Some brief.now) }
+        ensures form { self.new.form ≡ self.old.form }
+        ensures heard { (n : ℕ) → IfOk result (λ found. Hears n (standing_of self.old) line.now Remote (option_map remark_of found) (standing_of self.new)) }
+    {
+        let why = trouble_in(alloc, Side::Remote, line, self.scratch.as_mut())?;
+        let answers = self.answer(alloc, id_of(&why))?;
+        Ok(Some(no_message(alloc, answers, brief, why)?))
+    }
+
+    // The command of this id has its answer, which is no message: the one that waits, or else one that was refused. Tells the id where there is one.
+    fn answer(&mut self, alloc: Global, id: Option<JsUint>) -> Result<Option<u64>, AllocError>
+        ensures form { self.new.form ≡ self.old.form }
+        ensures told { IfOk result (λ a. a ≡ answered (option_map (λ n. n.value) id) (standing_of self.old)) }
+        ensures behind { OnOk result (standing_of self.new ≡ with_answer (option_map (λ n. n.value) id) (standing_of self.old)) }
+    {
+        let Some(id) = id else {
+            return Ok(None);
+        };
+        if self.settle(alloc, id)? {
+            return Ok(Some(id.value));
+        }
+        if self.answers_refused(Some(id)) {
+            return Ok(Some(id.value));
+        }
+        Ok(None)
+    }
+
+    // Whether the command of this id waits. It waits no longer: the local end takes it for one that failed.
+    fn settle(&mut self, alloc: Global, id: JsUint) -> Result<bool, AllocError>
+        ensures form { self.new.form ≡ self.old.form }
+        ensures waits { IfOk result (λ b. b ≡ is_some (method_of (standing_of self.old).waiting id.value)) }
+        ensures behind { IfOk result (λ b. standing_of self.new ≡ (if b then without_command id.value (standing_of self.old) else standing_of self.old)) }
+    {
+        let text = error_text(alloc, Some(id), ErrorCode::UnknownError)?;
+        self.settle_text(alloc, id, text.as_str())
+    }
+
+    // The same, by the text of an error.
+    fn settle_text(&mut self, alloc: Global, id: JsUint, text: &str) -> Result<bool, AllocError>
+        requires error { text.now ≡ error_text (Some id.value) ErrorCode.UnknownError }
+        requires reads { IsMessageText ⟦<Message as Shape>⟧.shape text.now }
+        ensures form { self.new.form ≡ self.old.form }
+        ensures waits { IfOk result (λ b. b ≡ is_some (method_of (standing_of self.old).waiting id.value)) }
+        ensures behind { IfOk result (λ b. standing_of self.new ≡ (if b then without_command id.value (standing_of self.old) else standing_of self.old)) }
+    {
+        match read_message_with(alloc, text, self.scratch.as_mut()) {
+            Ok(message) => self.settle_by(id, message),
+            Err(MessageFault::NoMemory) => Err(AllocError),
+            Err(MessageFault::NotJson) => unreachable!(),
+            Err(MessageFault::NoFit) => unreachable!(),
+        }
+    }
+
+    // The same, by this error.
+    fn settle_by(&mut self, id: JsUint, error: Message) -> Result<bool, AllocError>
+        requires { ⟦<Message as Shape>⟧.shape.well error
+            × (⟦<Message as Shape>⟧.shape.tree_of error ≡ error_tree (Some id.value) ErrorCode.UnknownError) }
+        ensures form { self.new.form ≡ self.old.form }
+        ensures waits { IfOk result (λ b. b ≡ is_some (method_of (standing_of self.old).waiting id.value)) }
+        ensures behind { IfOk result (λ b. standing_of self.new ≡ (if b then without_command id.value (standing_of self.old) else standing_of self.old)) }
+    {
+        let (settled, _) = in_brief(self.end.take_message(error)?);
+        forget(&mut self.lines, settled);
+        match settled {
+            Some(_) => Ok(true),
+            None => Ok(false),
+        }
+    }
+}
+
+// The id of the command that a message settles, and what became of the command.
+fn in_brief(taken: Taken) -> (Option<u64>, Outcome)
+    ensures settled { result.0 ≡ settled_id (meaning_of taken.received) }
+    ensures outcome { (waiting : Pending) → IsSettledBy waiting (meaning_of taken.received) taken.method
+        → IsOutcomeOf waiting (meaning_of taken.received) result.1 }
+{
+    let settled = settled_by(&taken.received);
+    (settled, taken.outcome())
+}
+
+// The id of the command that what was received settles.
+fn settled_by(received: &Received) -> Option<u64>
+    ensures { result ≡ settled_id (meaning_of received.now) }
+{
+    match received {
+        Received::Answer(id, _) | Received::BadResult(id) | Received::Refusal(id, _) => {
+            Some(id.value)
+        }
+        Received::Event(_) | Received::Stray | Received::NotInProfile | Received::NotJson => None,
+    }
+}
+
+// Leaves out the line of this command.
+fn forget(lines: &mut Vec<(u64, u64)>, id: Option<u64>)
+    ensures { lines.new.items ≡ lines_left id lines.old.items }
+{
+    if let Some(id) = id {
+        leave_out(lines, id);
+    }
+}
+
+// Leaves out the line of the command with this id.
+fn leave_out(lines: &mut Vec<(u64, u64)>, id: u64)
+    ensures { lines.new.items ≡ lines_without id lines.old.items }
+{
+    lines.retain(|line| line.0 != id);
+}
+
+// The id in a text that is no message.
+fn id_of(why: &Trouble) -> Option<JsUint>
+    ensures { option_map (λ n. n.value) result ≡ id_of (trouble_of why.now) }
+{
+    match why {
+        Trouble::Bad(_) => None,
+        Trouble::NoFit(misfit) => misfit.id,
     }
 }
 
@@ -293,11 +437,21 @@ fn is_among(ids: &[u64], id: u64) -> bool
     ids.iter().any(|other| *other == id)
 }
 
-// Removes the id from these.
-fn remove(ids: &mut Vec<u64>, id: u64)
-    ensures { ids.new.items ≡ filter (λ x. not (x == id)) ids.old.items }
+// Removes the first of these ids that is this one.
+fn remove_first(ids: &mut Vec<u64>, id: u64)
+    ensures { ids.new.items ≡ without_first id ids.old.items }
 {
-    ids.retain(|other| *other != id);
+    if let Some(i) = place_of(ids, id) {
+        ids.remove(i);
+    }
+}
+
+// The place of the first of these ids that is this one.
+fn place_of(ids: &[u64], id: u64) -> Option<usize>
+    ensures place { result ≡ position (λ x. x == id) ids.now }
+    ensures within { IfSome result (λ i. i < length ids.now) }
+{
+    ids.iter().position(|other| *other == id)
 }
 
 // What a text of the local end is judged to be.
@@ -335,18 +489,4 @@ fn sender(message: &Message) -> (Option<JsUint>, &'static str)
         Message::Error(error) => (error.id, "error"),
         Message::Event(_) => (None, "event"),
     }
-}
-
-// A text of the remote end is refused.
-fn no_message(
-    alloc: Global,
-    brief: &str,
-    line: &[u8],
-    scratch: &mut Scratch,
-) -> Result<Option<Remark>, AllocError>
-    requires { Refuses Remote line.now (Some brief.now) }
-    ensures { (s : Standing) → IfOk result (λ found. Hears s line.now Remote (option_map remark_of found) s) }
-{
-    let why = trouble_in(alloc, Side::Remote, line, scratch)?;
-    Ok(Some(Remark::Fault(String::from_str(alloc, brief)?, why)))
 }

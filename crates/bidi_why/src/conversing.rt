@@ -5,7 +5,8 @@ ghost use Rattle.std.specs.List.{flat_map};
 ghost use Rattle.bidi_lines.specs.Devices.{Moves};
 ghost use Rattle.bidi_local.specs.View.{waiting_in};
 ghost use Rattle.bidi_show.specs.Listings.{failed_reads, failed_writes};
-ghost use Rattle.bidi_why.specs.Conversing.{StopsConversation, TellsConversation, any_waits};
+ghost use Rattle.bidi_why.specs.Conversing.{StopsConversation, TellsConversation, any_waits, unanswered_lines};
+ghost use Rattle.bidi_why.specs.Explainers.{standing_of};
 ghost use Rattle.bidi_why.specs.Remark as told;
 ghost use Rattle.bidi_why.specs.Telling.{StopsLine};
 
@@ -28,6 +29,8 @@ use std::alloc::{AllocError, Global};
 /// while 1,024 wait; where a response or an error answers no command that waits; where a result does not fit the rule of its command's method; where a
 /// command failed, which is no fault; and, behind the last line, which commands were never answered. Of an answer to a command that was refused nothing
 /// is told, as long as its id is one of the first 1,024 such ids without an answer.
+///
+/// A refused text of the remote end answers the command whose id it has. Its line says so, and the command no longer waits.
 ///
 /// Without a form each line says in brief what is wrong. With one it says where and why, and behind all, where there was a fault, `faults` is told how
 /// many lines have one and why, as [`explain`](crate::explain) tells it. Lines are read as there.
@@ -82,14 +85,14 @@ fn tell_waiting<W: Sink>(
 ) -> Result<(), ShowFault>
     ensures fault { OnOk result (sum.new.has_fault ≡ (sum.old.has_fault || any_waits (waiting_in conversation.now.end))) }
     ensures ok { OnOk result (Appends (W.contents sink.old) (W.contents sink.new)
-        (flat_map (told.unanswered_line conversation.now.form) (waiting_in conversation.now.end))) }
+        (unanswered_lines conversation.now.form (standing_of conversation.now))) }
     ensures err { IfErr result (λ fault. (more : List ℕ) × Appends (W.contents sink.old) (W.contents sink.new) more × StopsLine fault more) }
     ensures writes { MatchResult result (λ _. W.failures sink.new ≡ W.failures sink.old)
         (λ fault. W.failures sink.new ≡ W.failures sink.old + failed_writes fault) }
 {
     let waiting = conversation.end.waiting()?;
     sum.count_unanswered(alloc, waiting.len())?;
-    let text = unanswered_lines(alloc, conversation.form, &waiting)?;
+    let text = unanswered_lines(alloc, conversation.form, &conversation.lines, &waiting)?;
     write(sink, &text)
 }
 
@@ -97,13 +100,23 @@ fn tell_waiting<W: Sink>(
 fn unanswered_lines(
     alloc: Global,
     form: Option<Form>,
+    lines: &[(u64, u64)],
     waiting: &[(JsUint, Method)],
 ) -> Result<Vec<u8>, AllocError>
-    ensures { IfOk result (λ text. text.items ≡ flat_map (λ w. told.unanswered_line form (w.0.value, w.1)) waiting.now) }
+    ensures { IfOk result (λ text. text.items
+        ≡ flat_map (λ w. told.unanswered_line form (told.line_of lines.now w.0.value) (w.0.value, w.1)) waiting.now) }
 {
     let mut text = Vec::new(alloc);
     for (id, method) in waiting {
-        text.extend_from_slice(&unanswered_line(alloc, form, *id, *method)?)?;
+        let number = line_of(lines, id.value);
+        text.extend_from_slice(&unanswered_line(alloc, form, number, *id, *method)?)?;
     }
     Ok(text)
+}
+
+// The line of the command with this id, if these lines have it.
+fn line_of(lines: &[(u64, u64)], id: u64) -> Option<u64>
+    ensures { result ≡ told.line_of lines.now id }
+{
+    lines.iter().find(|line| line.0 == id).map(|line| line.1)
 }

@@ -38,7 +38,7 @@ pub fn explain_line(
         return Ok(None);
     };
     Ok(Some(Explained {
-        text: told(alloc, form, number, &trouble)?,
+        text: told(alloc, form, number, Some(side), None, &trouble)?,
         cause: cause(alloc, &trouble)?,
     }))
 }

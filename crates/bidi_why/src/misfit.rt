@@ -21,7 +21,7 @@ use std::alloc::{AllocError, Global};
 #[derive(Drop)]
 pub(crate) struct Misfit {
     /// The member `id` of the tree, where it is a js-uint.
-    pub id: Option<u64>,
+    pub id: Option<JsUint>,
     /// The member `method` of the tree, or else its `type`, where that is a text.
     pub method: Option<String>,
     /// The place, as a JSON Pointer.
@@ -64,11 +64,11 @@ fn rule_for(side: Side) -> Name
 /// The reason why a tree with this id and this method does not fit, in words.
 pub(crate) fn in_words(
     alloc: Global,
-    id: Option<u64>,
+    id: Option<JsUint>,
     method: Option<String>,
     reason: &Reason<'_, '_>,
 ) -> Result<Misfit, AllocError>
-    ensures { IfOk result (λ m. misfit_of m ≡ reason_parts id (option_map string_bytes method) (reason_of reason.now)) }
+    ensures { IfOk result (λ m. misfit_of m ≡ reason_parts (option_map (λ n. n.value) id) (option_map string_bytes method) (reason_of reason.now)) }
 {
     let pointer = pointer(alloc, &reason.steps)?;
     let pattern = pattern(alloc, &reason.steps, pointer.as_str())?;
@@ -94,8 +94,8 @@ fn rule_name(name: Option<Name>) -> Option<&'static str>
 }
 
 // The id of a tree, where it is a js-uint.
-fn id(tree: &Outline<'_>) -> Option<u64>
-    ensures { result ≡ echoed_id (outline_node tree.now) }
+fn id(tree: &Outline<'_>) -> Option<JsUint>
+    ensures { option_map (λ n. n.value) result ≡ echoed_id (outline_node tree.now) }
 {
     match member(tree, "id") {
         Some(id) => js_uint(id),
@@ -104,14 +104,11 @@ fn id(tree: &Outline<'_>) -> Option<u64>
 }
 
 // The number, where the tree is a js-uint.
-fn js_uint(tree: &Outline<'_>) -> Option<u64>
-    ensures { result ≡ js_uint_in (outline_node tree.now) }
+fn js_uint(tree: &Outline<'_>) -> Option<JsUint>
+    ensures { option_map (λ n. n.value) result ≡ js_uint_in (outline_node tree.now) }
 {
     match tree.as_int() {
-        Some(n) if n.value >= 0 => match JsUint::new(n.value as u64) {
-            Some(id) => Some(id.value),
-            None => None,
-        },
+        Some(n) if n.value >= 0 => JsUint::new(n.value as u64),
         _ => None,
     }
 }

@@ -1,5 +1,5 @@
 //! What tells of the lines of one end.
-ghost use Rattle.std.specs.Prelude.{◌≡◌, List, ℕ, option_map, IfOk};
+ghost use Rattle.std.specs.Prelude.{◌≡◌, List, ℕ, Some, None, option_map, IfOk};
 ghost use Rattle.bidi_why.specs.Explaining.{explained_of};
 ghost use Rattle.bidi_why.specs.Explainers.{HasExplained};
 ghost use Rattle.bidi_why.specs.Input.{IsOf};
@@ -87,17 +87,22 @@ fn explain(
 {
     match line {
         Line::Text(line) => explain_line(alloc, form, side, number, &line, scratch),
-        Line::TooLong => too_long(alloc, form, number),
+        Line::TooLong => too_long(alloc, form, side, number),
     }
 }
 
 // What is told of a line that is too long.
-fn too_long(alloc: Global, form: Form, number: u64) -> Result<Option<Explained>, AllocError>
-    ensures { IfOk result (λ found. written (option_map explained_of found) ≡ told_text form number (bad BadText.TooLong)) }
+fn too_long(
+    alloc: Global,
+    form: Form,
+    side: Side,
+    number: u64,
+) -> Result<Option<Explained>, AllocError>
+    ensures { IfOk result (λ found. written (option_map explained_of found) ≡ told_text form number (Some side) None (bad BadText.TooLong)) }
 {
     let trouble = Trouble::Bad(BadText::TooLong);
     Ok(Some(Explained {
-        text: told(alloc, form, number, &trouble)?,
+        text: told(alloc, form, number, Some(side), None, &trouble)?,
         cause: cause(alloc, &trouble)?,
     }))
 }

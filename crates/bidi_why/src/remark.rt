@@ -1,26 +1,29 @@
 //! What is told of a line of a conversation, and how.
-ghost use Rattle.std.specs.Prelude.{◌≡◌, ◌∷◌, ◌++◌, [], Some, None, IfOk, codes, decimal, option_map, string_bytes};
+ghost use Rattle.std.specs.Prelude.{◌≡◌, ◌∷◌, ◌++◌, [], Some, None, IfOk, OnOk, codes, decimal, option_map, string_bytes};
 ghost use Rattle.bidi_params.specs.ErrorCode.{error_code_text};
 ghost use Rattle.bidi_methods.specs.Method.{method_text};
 ghost use Rattle.bidi_show.specs.MessageLines.{id_text};
-ghost use Rattle.bidi_why.specs.Trouble.{misfit_of, no_fit};
+ghost use Rattle.bidi_lines.specs.declared.side.Side.TheVariants.{Local, Remote};
+ghost use Rattle.bidi_why.specs.Trouble.{misfit_of, no_fit, trouble_of};
 ghost use Rattle.bidi_why.specs.Remark as told;
-ghost use Rattle.bidi_why.specs.Remark.{failure_row, misfit_at, remark_cause, remark_line, remark_of, unanswered_line, within};
+ghost use Rattle.bidi_why.specs.Remark.{at_words, failure_row, misfit_at, remark_cause, remark_line, remark_of, unanswered_line, within};
 ghost use Rattle.bidi_why.specs.Texts.{json_line, words_line};
 
 use crate::bad_text::BadText;
 use crate::finding::Trouble;
 use crate::misfit::Misfit;
-use crate::texts::{Form, Row, cause, json_line, line_of_words, told};
+use crate::texts::{Form, Row, cause, json_line, line_of_words, put, side_name, told};
+use bidi_lines::Side;
 use bidi_messages::{ErrorCode, Method, Named};
 use bidi_tree::JsUint;
+use itoa::Buffer;
 use std::alloc::{AllocError, Global};
 
 /// What is told of a line of a conversation.
 #[derive(Drop)]
 pub(crate) enum Remark {
-    /// Something is wrong: that it is, in brief, and why.
-    Fault(String, Trouble),
+    /// Something is wrong: the end that sent the text, the id of the command that the text answers, the fault in brief, and the reason.
+    Fault(Option<Side>, Option<u64>, String, Trouble),
     /// A command failed.
     Failed(JsUint, Method, ErrorCode),
 }
@@ -31,7 +34,15 @@ pub(crate) enum Remark {
 pub(crate) fn bad_line(alloc: Global, bad: BadText) -> Result<Remark, AllocError>
     ensures { IfOk result (λ r. remark_of r ≡ told.bad_line bad) }
 {
-    Ok(Remark::Fault(bad.words(alloc)?, Trouble::Bad(bad)))
+    let brief = bad.words(alloc)?;
+    Ok(Remark::Fault(None, None, brief, Trouble::Bad(bad)))
+}
+
+// A command of a local end is no command that may be sent now.
+fn by_local(brief: String, misfit: Misfit) -> Remark
+    ensures { remark_of result ≡ told.fault (Some Local) None (string_bytes brief) (no_fit (misfit_of misfit)) }
+{
+    Remark::Fault(Some(Side::Local), None, brief, Trouble::NoFit(misfit))
 }
 
 /// A command has the id of one that waits.
@@ -49,7 +60,7 @@ pub(crate) fn id_waits(alloc: Global, id: JsUint, method: Method) -> Result<Rema
         has.as_str(),
     )?;
     let brief = format!(in alloc; "id waits {} {name}", id.value)?;
-    Ok(Remark::Fault(brief, Trouble::NoFit(misfit)))
+    Ok(by_local(brief, misfit))
 }
 
 /// As many commands wait as may.
@@ -66,7 +77,7 @@ pub(crate) fn too_many(alloc: Global, id: JsUint, method: Method) -> Result<Rema
         "1024",
     )?;
     let brief = format!(in alloc; "too many wait {} {name}", id.value)?;
-    Ok(Remark::Fault(brief, Trouble::NoFit(misfit)))
+    Ok(by_local(brief, misfit))
 }
 
 /// A response or an error, which has this `type`, answers no command that waits.
@@ -83,7 +94,23 @@ pub(crate) fn stray(alloc: Global, id: Option<JsUint>, kind: &str) -> Result<Rem
         has.as_str(),
     )?;
     let brief = format!(in alloc; "stray {has}")?;
-    Ok(Remark::Fault(brief, Trouble::NoFit(misfit)))
+    Ok(Remark::Fault(Some(Side::Remote), None, brief, Trouble::NoFit(misfit)))
+}
+
+/// A text of the remote end is no message, and answers the command of this id for all that, or none.
+pub(crate) fn no_message(
+    alloc: Global,
+    answers: Option<u64>,
+    brief: &str,
+    why: Trouble,
+) -> Result<Remark, AllocError>
+    ensures { IfOk result (λ r. remark_of r ≡ told.no_message answers brief.now (trouble_of why)) }
+{
+    let brief = match answers {
+        Some(id) => format!(in alloc; "{brief} (answers {id})")?,
+        None => String::from_str(alloc, brief)?,
+    };
+    Ok(Remark::Fault(Some(Side::Remote), answers, brief, why))
 }
 
 /// A result does not fit the rule of its command's method; the misfit is that of the result.
@@ -93,13 +120,18 @@ pub(crate) fn with_bad_result(
     method: Method,
     misfit: Misfit,
 ) -> Result<Remark, AllocError>
-    ensures { IfOk result (λ r. remark_of r ≡ told.fault (codes "bad result " ++ decimal id.value ++ 32 ∷ method_text method)
+    ensures { IfOk result (λ r. remark_of r ≡ told.fault (Some Remote) (Some id.value) (codes "bad result " ++ decimal id.value ++ 32 ∷ method_text method)
         (no_fit (within (codes "/result") (misfit_of misfit)))) }
 {
     let name = method.name();
     let brief = format!(in alloc; "bad result {} {name}", id.value)?;
     let misfit = within(alloc, "/result", misfit)?;
-    Ok(Remark::Fault(brief, Trouble::NoFit(misfit)))
+    Ok(Remark::Fault(
+        Some(Side::Remote),
+        Some(id.value),
+        brief,
+        Trouble::NoFit(misfit),
+    ))
 }
 
 // The misfit of what stands at this place is one of the whole.
@@ -140,7 +172,7 @@ fn misfit_at(
     ensures { IfOk result (λ m. misfit_of m ≡ misfit_at (option_map (λ n. n.value) id) label.now place.now wants.now has.now) }
 {
     Ok(Misfit {
-        id: number(id),
+        id,
         method: Some(String::from_str(alloc, label)?),
         pointer: String::from_str(alloc, place)?,
         pattern: String::from_str(alloc, place)?,
@@ -148,16 +180,6 @@ fn misfit_at(
         has: String::from_str(alloc, has)?,
         rule: None,
     })
-}
-
-// The number of an id.
-fn number(id: Option<JsUint>) -> Option<u64>
-    ensures { result ≡ option_map (λ n. n.value) id }
-{
-    match id {
-        Some(id) => Some(id.value),
-        None => None,
-    }
 }
 
 // The id in decimal, or `null`.
@@ -185,8 +207,8 @@ pub(crate) fn remark_line(
     ensures { IfOk result (λ text. text.items ≡ remark_line form number (remark_of remark.now)) }
 {
     match remark {
-        Remark::Fault(brief, why) => match form {
-            Some(form) => told(alloc, form, number, why),
+        Remark::Fault(side, answers, brief, why) => match form {
+            Some(form) => told(alloc, form, number, *side, *answers, why),
             None => line_of_words(alloc, number, brief.as_bytes()),
         },
         Remark::Failed(id, method, code) => failure_line(alloc, form, number, *id, *method, *code),
@@ -272,40 +294,70 @@ fn failure_in_json(
         rule: None,
         wants: None,
         has: code.name(),
+        side: Some(side_name(Side::Remote)),
+        answers: Some(id.value),
     };
     json_line(alloc, Some(number), &row)
 }
 
-/// What is written for a command without an answer.
+/// What is written for a command that was never answered, which stood at this line.
 ///
 /// # Errors
 /// No memory: an allocation failed.
 pub(crate) fn unanswered_line(
     alloc: Global,
     form: Option<Form>,
+    number: Option<u64>,
     id: JsUint,
     method: Method,
 ) -> Result<Vec<u8>, AllocError>
-    ensures { IfOk result (λ text. text.items ≡ unanswered_line form (id.value, method)) }
+    ensures { IfOk result (λ text. text.items ≡ unanswered_line form number (id.value, method)) }
 {
     match form {
-        Some(Form::Json) => unanswered_in_json(alloc, id, method),
-        Some(Form::Words) | None => unanswered_in_words(alloc, id, method),
+        Some(Form::Json) => unanswered_in_json(alloc, number, id, method),
+        Some(Form::Words) | None => unanswered_in_words(alloc, number, id, method),
     }
 }
 
-// `unanswered ID METHOD`
-fn unanswered_in_words(alloc: Global, id: JsUint, method: Method) -> Result<Vec<u8>, AllocError>
-    ensures { IfOk result (λ text. text.items ≡ codes "unanswered " ++ decimal id.value ++ 32 ∷ method_text method ++ 10 ∷ []) }
+// `unanswered ID METHOD (line N)`
+fn unanswered_in_words(
+    alloc: Global,
+    number: Option<u64>,
+    id: JsUint,
+    method: Method,
+) -> Result<Vec<u8>, AllocError>
+    ensures { IfOk result (λ text. text.items ≡ codes "unanswered " ++ decimal id.value ++ codes " " ++ method_text method ++ at_words number ++ 10 ∷ []) }
 {
-    let name = method.name();
-    let text = format!(in alloc; "unanswered {} {name}\n", id.value)?;
-    Ok(text.into_bytes())
+    let mut text = Vec::new(alloc);
+    put(&mut text, b"unanswered ")?;
+    put(&mut text, Buffer::new().format(id.value).as_bytes())?;
+    put(&mut text, b" ")?;
+    put(&mut text, method.name().as_bytes())?;
+    put_at(&mut text, number)?;
+    put(&mut text, b"\n")?;
+    Ok(text)
 }
 
-// The object of a command without an answer.
-fn unanswered_in_json(alloc: Global, id: JsUint, method: Method) -> Result<Vec<u8>, AllocError>
-    ensures { IfOk result (λ text. text.items ≡ json_line None (told.unanswered_row id.value method)) }
+// Puts ` (line N)` behind, or nothing.
+fn put_at(text: &mut Vec<u8>, number: Option<u64>) -> Result<(), AllocError>
+    ensures { OnOk result (text.new.items ≡ text.old.items ++ at_words number) }
+{
+    if let Some(number) = number {
+        put(text, b" (line ")?;
+        put(text, Buffer::new().format(number).as_bytes())?;
+        put(text, b")")?;
+    }
+    Ok(())
+}
+
+// The object of a command that was never answered.
+fn unanswered_in_json(
+    alloc: Global,
+    number: Option<u64>,
+    id: JsUint,
+    method: Method,
+) -> Result<Vec<u8>, AllocError>
+    ensures { IfOk result (λ text. text.items ≡ json_line number (told.unanswered_row id.value method)) }
 {
     let row = Row {
         id: Some(id.value),
@@ -314,8 +366,10 @@ fn unanswered_in_json(alloc: Global, id: JsUint, method: Method) -> Result<Vec<u
         rule: None,
         wants: None,
         has: "unanswered",
+        side: Some(side_name(Side::Local)),
+        answers: None,
     };
-    json_line(alloc, None, &row)
+    json_line(alloc, number, &row)
 }
 
 /// The cause, by which lines are counted.
@@ -326,7 +380,7 @@ pub(crate) fn remark_cause(alloc: Global, remark: &Remark) -> Result<Vec<u8>, Al
     ensures { IfOk result (λ text. text.items ≡ remark_cause (remark_of remark.now)) }
 {
     match remark {
-        Remark::Fault(_, why) => cause(alloc, why),
+        Remark::Fault(_, _, _, why) => cause(alloc, why),
         Remark::Failed(_, _, code) => {
             let code = code.name();
             Ok(format!(in alloc; "error {code}")?.into_bytes())

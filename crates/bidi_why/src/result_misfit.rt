@@ -73,7 +73,7 @@ fn misfit_of_result(
         unreachable!();
     };
     let label = String::from_str(alloc, method.name())?;
-    in_words(alloc, Some(id.value), Some(label), &reason)
+    in_words(alloc, Some(id), Some(label), &reason)
 }
 
 // The rule of a method's result.

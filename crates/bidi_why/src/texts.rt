@@ -2,23 +2,25 @@
 ghost use Rattle.std.specs.Prelude.{◌≡◌, ◌++◌, Some, IfOk, OnOk, codes, decimal, option_map, string_bytes};
 ghost use Rattle.json.specs.Print.{escape, quoted};
 ghost use Rattle.bidi_why.specs.Trouble.{misfit_of, trouble_of};
-ghost use Rattle.bidi_why.specs.Texts.{bad_row, cause_text, json_line, label, misfit_cause, misfit_row, misfit_words, number_or_null};
-ghost use Rattle.bidi_why.specs.Texts.{row_of, rule_words, text_or_null, told_text, trouble_row, trouble_words, words_line};
+ghost use Rattle.bidi_why.specs.Texts.{answering_line, answers_words, bad_row, cause_text, json_line, label, misfit_cause, misfit_row, misfit_words, number_or_null};
+ghost use Rattle.bidi_why.specs.Texts.{row_of, rule_words, side_text, text_or_null, told_text, trouble_row, trouble_words, words_line};
 
 use crate::bad_text::BadText;
 use crate::finding::Trouble;
 use crate::misfit::Misfit;
 use bidi_blame::has_escapes;
+use bidi_lines::Side;
+use bidi_tree::JsUint;
 use itoa::Buffer;
 use json::Writer;
 use std::alloc::{AllocError, Global};
 use std::mem;
 
 /// The most bytes that stand around the words of a line, or around those of a cause.
-const AROUND_WORDS: usize = 64;
+const AROUND_WORDS: usize = 96;
 
 /// The most bytes that stand around the texts of an object.
-const AROUND_TEXTS: usize = 128;
+const AROUND_TEXTS: usize = 192;
 
 /// How a refused line is told.
 #[derive(Clone, Copy, Debug, PartialEq, Eq)]
@@ -29,20 +31,22 @@ pub enum Form {
     Json,
 }
 
-/// The text that tells of a refused line of this number, with its line feed.
+/// The text that tells of a refused line of this number, a text of this end that answers the command of this id, with its line feed.
 ///
 /// It is written where it stays. Of a tree that does not fit it takes one block of memory, unless a text has escapes.
 pub(crate) fn told(
     alloc: Global,
     form: Form,
     number: u64,
+    side: Option<Side>,
+    answers: Option<u64>,
     trouble: &Trouble,
 ) -> Result<Vec<u8>, AllocError>
-    ensures { IfOk result (λ text. text.items ≡ told_text form number (trouble_of trouble.now)) }
+    ensures { IfOk result (λ text. text.items ≡ told_text form number side answers (trouble_of trouble.now)) }
 {
     match form {
-        Form::Words => told_in_words(alloc, number, trouble),
-        Form::Json => told_in_json(alloc, number, trouble),
+        Form::Words => told_in_words(alloc, number, answers, trouble),
+        Form::Json => told_in_json(alloc, number, side, answers, trouble),
     }
 }
 
@@ -72,22 +76,63 @@ pub(crate) fn line_of_words(alloc: Global, number: u64, words: &[u8]) -> Result<
     Ok(text)
 }
 
+// `line N: WORDS`, and the id of the command that the line answers, if it answers one.
+fn answering_line(
+    alloc: Global,
+    number: u64,
+    words: &[u8],
+    answers: Option<u64>,
+) -> Result<Vec<u8>, AllocError>
+    ensures { IfOk result (λ text. text.items ≡ answering_line number words.now answers) }
+{
+    let mut text = line_head(alloc, number, words.len())?;
+    put(&mut text, words)?;
+    put_answers(&mut text, answers)?;
+    put(&mut text, b"\n")?;
+    Ok(text)
+}
+
+// Puts ` (answers ID)` behind, or nothing.
+fn put_answers(text: &mut Vec<u8>, answers: Option<u64>) -> Result<(), AllocError>
+    ensures { OnOk result (text.new.items ≡ text.old.items ++ answers_words answers) }
+{
+    if let Some(id) = answers {
+        put(text, b" (answers ")?;
+        put(text, Buffer::new().format(id).as_bytes())?;
+        put(text, b")")?;
+    }
+    Ok(())
+}
+
 // The line of what is wrong.
-fn told_in_words(alloc: Global, number: u64, trouble: &Trouble) -> Result<Vec<u8>, AllocError>
-    ensures { IfOk result (λ text. text.items ≡ words_line number (trouble_words (trouble_of trouble.now))) }
+fn told_in_words(
+    alloc: Global,
+    number: u64,
+    answers: Option<u64>,
+    trouble: &Trouble,
+) -> Result<Vec<u8>, AllocError>
+    ensures { IfOk result (λ text. text.items ≡ answering_line number (trouble_words (trouble_of trouble.now)) answers) }
 {
     match trouble {
-        Trouble::Bad(bad) => line_of_words(alloc, number, bad.words(alloc)?.as_bytes()),
-        Trouble::NoFit(misfit) => misfit_line(alloc, number, misfit),
+        Trouble::Bad(bad) => {
+            answering_line(alloc, number, bad.words(alloc)?.as_bytes(), answers)
+        }
+        Trouble::NoFit(misfit) => misfit_line(alloc, number, answers, misfit),
     }
 }
 
-// `line N: LABEL: POINTER: wants WANTS, has HAS (RULE)`
-fn misfit_line(alloc: Global, number: u64, misfit: &Misfit) -> Result<Vec<u8>, AllocError>
-    ensures { IfOk result (λ text. text.items ≡ words_line number (misfit_words (misfit_of misfit.now))) }
+// `line N: LABEL: POINTER: wants WANTS, has HAS (RULE)`, and the id of the command that the line answers.
+fn misfit_line(
+    alloc: Global,
+    number: u64,
+    answers: Option<u64>,
+    misfit: &Misfit,
+) -> Result<Vec<u8>, AllocError>
+    ensures { IfOk result (λ text. text.items ≡ answering_line number (misfit_words (misfit_of misfit.now)) answers) }
 {
     let mut text = line_head(alloc, number, room_of(misfit))?;
     put_misfit(alloc, &mut text, misfit)?;
+    put_answers(&mut text, answers)?;
     put(&mut text, b"\n")?;
     Ok(text)
 }
@@ -180,21 +225,57 @@ pub(crate) struct Row<'a> {
     pub rule: Option<&'a str>,
     pub wants: Option<&'a str>,
     pub has: &'a str,
+    /// The end that sent the text.
+    pub side: Option<&'a str>,
+    /// The id of the command that the text answers.
+    pub answers: Option<u64>,
+}
+
+/// The name of an end.
+pub(crate) fn side_name(side: Side) -> &'static str
+    ensures { result.now ≡ side_text side }
+{
+    match side {
+        Side::Local => "local",
+        Side::Remote => "remote",
+    }
+}
+
+// The same of an end, if there is one.
+fn side_if(side: Option<Side>) -> Option<&'static str>
+    ensures { option_map (λ s. s.now) result ≡ option_map side_text side }
+{
+    match side {
+        Some(side) => Some(side_name(side)),
+        None => None,
+    }
 }
 
 // The object of a line that is refused.
-fn told_in_json(alloc: Global, number: u64, trouble: &Trouble) -> Result<Vec<u8>, AllocError>
-    ensures { IfOk result (λ text. text.items ≡ json_line (Some number) (trouble_row (trouble_of trouble.now))) }
+fn told_in_json(
+    alloc: Global,
+    number: u64,
+    side: Option<Side>,
+    answers: Option<u64>,
+    trouble: &Trouble,
+) -> Result<Vec<u8>, AllocError>
+    ensures { IfOk result (λ text. text.items ≡ json_line (Some number) (trouble_row side answers (trouble_of trouble.now))) }
 {
     match trouble {
-        Trouble::Bad(bad) => bad_in_json(alloc, number, *bad),
-        Trouble::NoFit(misfit) => misfit_in_json(alloc, number, misfit),
+        Trouble::Bad(bad) => bad_in_json(alloc, number, side, answers, *bad),
+        Trouble::NoFit(misfit) => misfit_in_json(alloc, number, side, answers, misfit),
     }
 }
 
 // That of a line that is no text to judge.
-fn bad_in_json(alloc: Global, number: u64, bad: BadText) -> Result<Vec<u8>, AllocError>
-    ensures { IfOk result (λ text. text.items ≡ json_line (Some number) (bad_row bad)) }
+fn bad_in_json(
+    alloc: Global,
+    number: u64,
+    side: Option<Side>,
+    answers: Option<u64>,
+    bad: BadText,
+) -> Result<Vec<u8>, AllocError>
+    ensures { IfOk result (λ text. text.items ≡ json_line (Some number) (bad_row side answers bad)) }
 {
     let words = bad.words(alloc)?;
     let row = Row {
@@ -204,23 +285,43 @@ fn bad_in_json(alloc: Global, number: u64, bad: BadText) -> Result<Vec<u8>, Allo
         rule: None,
         wants: None,
         has: words.as_str(),
+        side: side_if(side),
+        answers,
     };
     json_line(alloc, Some(number), &row)
 }
 
 // That of a line whose tree does not fit.
-fn misfit_in_json(alloc: Global, number: u64, misfit: &Misfit) -> Result<Vec<u8>, AllocError>
-    ensures { IfOk result (λ text. text.items ≡ json_line (Some number) (misfit_row (misfit_of misfit.now))) }
+fn misfit_in_json(
+    alloc: Global,
+    number: u64,
+    side: Option<Side>,
+    answers: Option<u64>,
+    misfit: &Misfit,
+) -> Result<Vec<u8>, AllocError>
+    ensures { IfOk result (λ text. text.items ≡ json_line (Some number) (misfit_row side answers (misfit_of misfit.now))) }
 {
     let row = Row {
-        id: misfit.id,
+        id: value_of(misfit.id),
         method: text_of(&misfit.method),
         pointer: Some(misfit.pointer.as_str()),
         rule: misfit.rule,
         wants: Some(misfit.wants.as_str()),
         has: misfit.has.as_str(),
+        side: side_if(side),
+        answers,
     };
     json_line(alloc, Some(number), &row)
+}
+
+// The number of an id, if there is one.
+fn value_of(id: Option<JsUint>) -> Option<u64>
+    ensures { result ≡ option_map (λ n. n.value) id }
+{
+    match id {
+        Some(id) => Some(id.value),
+        None => None,
+    }
 }
 
 // The text, if there is one.
@@ -233,7 +334,7 @@ fn text_of(text: &Option<String>) -> Option<&str>
     }
 }
 
-/// `{"line":N,"id":ID,"method":METHOD,"pointer":POINTER,"rule":RULE,"wants":WANTS,"has":HAS}`, with `null` where there is no number.
+/// `{"line":N,"id":ID,"method":METHOD,"pointer":POINTER,"rule":RULE,"wants":WANTS,"has":HAS,"side":SIDE,"answers":ID}`.
 ///
 /// Takes one block of memory, unless more than one byte in eight of its texts has an escape.
 pub(crate) fn json_line(
@@ -253,6 +354,9 @@ pub(crate) fn json_line(
     put_member(alloc, &mut text, b",\"rule\":", row.rule)?;
     put_member(alloc, &mut text, b",\"wants\":", row.wants)?;
     put_member(alloc, &mut text, b",\"has\":", Some(row.has))?;
+    put_member(alloc, &mut text, b",\"side\":", row.side)?;
+    put(&mut text, b",\"answers\":")?;
+    put_number(&mut text, row.answers)?;
     put(&mut text, b"}\n")?;
     Ok(text)
 }
@@ -333,8 +437,8 @@ fn put_within_quotes(alloc: Global, text: &mut Vec<u8>, value: &str) -> Result<(
     put(text, &quoted[1..quoted.len() - 1])
 }
 
-// Puts bytes behind those that are there.
-fn put(text: &mut Vec<u8>, bytes: &[u8]) -> Result<(), AllocError>
+/// Puts bytes behind those that are there.
+pub(crate) fn put(text: &mut Vec<u8>, bytes: &[u8]) -> Result<(), AllocError>
     ensures { OnOk result (text.new.items ≡ text.old.items ++ bytes.now) }
 {
     text.extend_from_slice(bytes)

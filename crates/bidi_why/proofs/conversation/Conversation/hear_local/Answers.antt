@@ -10,11 +10,11 @@ trouble_in-requires c = judged_refused c.args.text.now c.in_ok-id.field-0 c.in-R
 
 pub returns-in-Accepted-clause-heard : goal.returns-in-Accepted-clause-heard
 returns-in-Accepted-clause-heard c =
-    judged_noted (standing_of c.args.self.now) (standing_of c.note.new.self) c.args.text.now c.in_ok-id.field-0 c.in-Accepted.id c.in-Accepted.method
+    judged_noted c.args.number (standing_of c.args.self.now) (standing_of c.note.new.self) c.args.text.now c.in_ok-id.field-0 c.in-Accepted.id c.in-Accepted.method
     (option_map remark_of) c.note.result c.in_ok-id.ensures c.in-Accepted.is c.note.ensures.noted
 
 pub returns-in_ok-why-in-Refused-clause-heard : goal.returns-in_ok-why-in-Refused-clause-heard
 returns-in_ok-why-in-Refused-clause-heard c =
-    heard_refused (standing_of c.args.self.now) (standing_of c.refuse.new.self) c.args.text.now c.in_ok-id.field-0 c.in-Refused.id c.in-Refused.code
+    heard_refused c.args.number (standing_of c.args.self.now) (standing_of c.refuse.new.self) c.args.text.now c.in_ok-id.field-0 c.in-Refused.id c.in-Refused.code
     (string_bytes c.in_ok-brief-in-Refused.brief) (trouble_of c.in_ok-why-in-Refused.why) c.in_ok-id.ensures c.in-Refused.is
     c.in_ok-brief-in-Refused.ensures c.in_ok-why-in-Refused.ensures c.in_ok-refuse-in-Refused.ensures.refused

@@ -17,7 +17,7 @@ no_message-requires-in-Err-NoFit c =
     no_fit_line c.args.line.now c.in-Ok.text.now c.in-Err-NoFit.field-0 c.in-Ok.ensures.cases c.in-Err-NoFit.field-0-is c.in-Err-NoFit.ensures.err
 
 pub returns-in-Ok-read_message_with-clause-heard : goal.returns-in-Ok-read_message_with-clause-heard
-returns-in-Ok-read_message_with-clause-heard c =
-    heard_message (standing_of c.args.self.now) (standing_of c.take.new.self) c.args.line.now c.in-Ok.text.now
+returns-in-Ok-read_message_with-clause-heard c n =
+    heard_message n (standing_of c.args.self.now) (standing_of c.take.new.self) c.args.line.now c.in-Ok.text.now
     (ghosts.shape.tree_of c.in-Ok-read_message_with.message) (option_map remark_of) c.take.result c.in-Ok.ensures.cases
     c.in-Ok-read_message_with.ensures.ok.0 c.take.ensures.taken

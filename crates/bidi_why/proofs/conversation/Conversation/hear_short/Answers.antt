@@ -18,7 +18,7 @@ returns-in-Some-clause-heard c =
 pub returns-in-Some-text_behind-clause-heard : goal.returns-in-Some-text_behind-clause-heard
 returns-in-Some-text_behind-clause-heard c =
     heard_text c.args.number (standing_of c.args.self.now) (standing_of c.hear_remote.new.self) c.args.line.now c.in-Some-text_behind.text.now Remote
-    (option_map remark_of) c.hear_remote.result (sym c.if-begins_with_mark.ensures) c.in-Some-text_behind.ensures c.hear_remote.ensures.heard
+    (option_map remark_of) c.hear_remote.result (sym c.if-begins_with_mark.ensures) c.in-Some-text_behind.ensures (c.hear_remote.ensures.heard c.args.number)
 
 pub returns-clause-heard : goal.returns-clause-heard
 returns-clause-heard c =
