@@ -6,6 +6,8 @@ mod browser;
 #[cfg(test)]
 mod link;
 #[cfg(test)]
+mod long;
+#[cfg(test)]
 mod remote;
 #[cfg(test)]
 mod strike;
