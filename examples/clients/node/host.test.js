@@ -2,9 +2,13 @@
 //
 // `Client` stands where the client that is to be tested would stand.
 const assert = require('node:assert/strict')
+const { execFile, spawnSync } = require('node:child_process')
+const fs = require('node:fs')
 const http = require('node:http')
-const { after, before, beforeEach, test } = require('node:test')
-const { Host, connect } = require('./host.js')
+const os = require('node:os')
+const path = require('node:path')
+const { after, test } = require('node:test')
+const { Host, withHost } = require('./host.js')
 
 const TAB = '00000000-0002-8000-8000-000000000001' // the tab that stands at the start
 const SESSION = '00000000-0001-8000-8000-000000000001' // the first session
@@ -18,13 +22,13 @@ class Client {
   }
 
   // A client on a connection without a session, or on one more of a session.
-  static async connected(resource = '/session') {
-    return new Client(await connect(host.url + resource))
+  static async connected(host, resource) {
+    return new Client(await host.connect(resource))
   }
 
   // A client with a session of its own, which is subscribed to these events and has heard what was told at once.
-  static async driving(...events) {
-    const client = await Client.connected()
+  static async driving(host, ...events) {
+    const client = await Client.connected(host)
     await client.ask('session.new', { capabilities: {} })
     if (events.length > 0) await client.ask('session.subscribe', { events })
     await client.heard()
@@ -70,25 +74,21 @@ class Client {
   }
 }
 
-let host
-before(async () => { host = await Host.start() })
-beforeEach(async () => assert.equal(await host.page('reset'), 'ok'))
-after(async () => { if (host) assert.equal(await host.end(), 0) })
-
-function check(name, run) {
-  test(name, { timeout: 10_000 }, run)
+// Whether an answer of a page begins with these words. A reason may follow.
+function tells(answer, words) {
+  return answer === words || answer.startsWith(`${words}: `)
 }
 
-check('a session begins and ends', async () => {
-  const client = await Client.connected()
+test('a session begins and ends', withHost(async host => {
+  const client = await Client.connected(host)
   assert.deepEqual(await client.ask('session.status'), { ready: true, message: 'ready' })
   assert.equal((await client.ask('session.new', { capabilities: {} })).sessionId, SESSION)
   assert.deepEqual(await client.ask('session.end'), {})
   assert.deepEqual(await client.closed, [1000, ''])
-})
+}))
 
-check('only subscribed events are told', async () => {
-  const client = await Client.driving()
+test('only subscribed events are told', withHost(async host => {
+  const client = await Client.driving(host)
   await client.ask('browsingContext.create', { type: 'tab' })
   assert.deepEqual(await client.heard(), ['success'])
   await client.ask('session.subscribe', { events: ['browsingContext.contextDestroyed'] })
@@ -99,10 +99,10 @@ check('only subscribed events are told', async () => {
   await client.heard()
   await client.ask('browsingContext.close', { context: TAB })
   assert.deepEqual(await client.heard(), ['success'])
-})
+}))
 
-check('frames come and go', async () => {
-  const client = await Client.driving('browsingContext.contextCreated', 'browsingContext.contextDestroyed')
+test('frames come and go', withHost(async host => {
+  const client = await Client.driving(host, 'browsingContext.contextCreated', 'browsingContext.contextDestroyed')
   assert.equal(await host.page(`frame ${TAB} http://a.test/side`), 'ok')
   const { context, parent, url } = await client.event()
   assert.deepEqual([parent, url], [TAB, 'http://a.test/side'])
@@ -110,17 +110,17 @@ check('frames come and go', async () => {
   assert.deepEqual(children.map(child => child.context), [context])
   assert.equal(await host.page(`unframe ${context}`), 'ok')
   assert.equal((await client.event()).context, context)
-  assert.equal(await host.page(`unframe ${TAB}`), 'no effect')
-})
+  assert.ok(tells(await host.page(`unframe ${TAB}`), 'no effect'))
+}))
 
 for (const [wait, place] of [['none', 1], ['interactive', 2], ['complete', 3]]) {
-  check(`a navigation that waits for ${wait} is answered behind ${place} of its events`, async () => {
+  test(`a navigation that waits for ${wait} is answered behind ${place} of its events`, withHost(async host => {
     const events = ['browsingContext.navigationStarted', 'browsingContext.domContentLoaded', 'browsingContext.load']
-    const client = await Client.driving(...events)
+    const client = await Client.driving(host, ...events)
     const there = await client.ask('browsingContext.navigate', { context: TAB, url: 'http://a.test', wait })
     assert.equal(there.url, 'http://a.test/')
     assert.deepEqual(await client.heard(), events.toSpliced(place, 0, 'success'))
-  })
+  }))
 }
 
 for (const [row, result] of [
@@ -128,37 +128,37 @@ for (const [row, result] of [
   ['{"text":"run()","returns":{"type":"array","value":[{"type":"null"}]}}', { type: 'array', value: [{ type: 'null' }] }],
   ['{"text":"run()","argument":0}', { type: 'undefined' }],
 ]) {
-  check(`a script gives what its row says: ${row}`, async () => {
-    const client = await Client.driving()
+  test(`a script gives what its row says: ${row}`, withHost(async host => {
+    const client = await Client.driving(host)
     assert.equal(await host.page(`value ${row}`), 'ok')
     const answer = await client.ask('script.evaluate', { expression: 'run()', target: { context: TAB }, awaitPromise: false })
     assert.deepEqual([answer.type, answer.result], ['success', result])
-  })
+  }))
 }
 
-check('a function gives its argument', async () => {
-  const client = await Client.driving()
+test('a function gives its argument', withHost(async host => {
+  const client = await Client.driving(host)
   await host.page('value {"text":"x => x","argument":0}')
   const given = { type: 'string', value: 'same' }
   const call = { functionDeclaration: 'x => x', arguments: [given], target: { context: TAB }, awaitPromise: false }
   assert.deepEqual((await client.ask('script.callFunction', call)).result, given)
-})
+}))
 
-check('a script that throws is no error', async () => {
-  const client = await Client.driving()
+test('a script that throws is no error', withHost(async host => {
+  const client = await Client.driving(host)
   await host.page('value {"text":"pay()","throws":{"type":"error"}}')
   const answer = await client.ask('script.evaluate', { expression: 'pay()', target: { context: TAB }, awaitPromise: true })
   assert.equal(answer.type, 'exception')
   assert.deepEqual(answer.exceptionDetails.exception, { type: 'error' })
-})
+}))
 
-check('a log entry has its level and moment', async () => {
-  const client = await Client.driving('log.entryAdded')
+test('a log entry has its level and moment', withHost(async host => {
+  const client = await Client.driving(host, 'log.entryAdded')
   await host.page('at 1500')
   assert.equal(await host.page(`log ${TAB} warn the page is slow`), 'ok')
   const { level, text, timestamp, source } = await client.event()
   assert.deepEqual([level, text, timestamp, source.context], ['warn', 'the page is slow', 1500, TAB])
-})
+}))
 
 for (const [method, params, code] of [
   ['session.fly', {}, 'unknown command'],
@@ -170,22 +170,22 @@ for (const [method, params, code] of [
   ['browser.removeUserContext', { userContext: 'default' }, 'invalid argument'],
   ['script.evaluate', { expression: '1', target: { context: TAB }, awaitPromise: false }, 'unsupported operation'],
 ]) {
-  check(`${method} is refused: ${code}`, async () => {
-    const client = await Client.driving()
+  test(`${method} is refused: ${code}`, withHost(async host => {
+    const client = await Client.driving(host)
     assert.equal((await client.answer(method, params)).error, code)
-  })
+  }))
 }
 
-check('a text that is no JSON is answered', async () => {
-  const client = await Client.connected()
+test('a text that is no JSON is answered', withHost(async host => {
+  const client = await Client.connected(host)
   const answer = new Promise(resolve => client.asked.set(null, resolve))
   client.socket.send('{"id":1')
   assert.equal((await answer).error, 'invalid argument')
-})
+}))
 
-check('two sessions share a browser and no subscription', async () => {
-  const one = await Client.driving('browsingContext.contextCreated')
-  const other = await Client.driving('log.entryAdded')
+test('two sessions share a browser and no subscription', withHost(async host => {
+  const one = await Client.driving(host, 'browsingContext.contextCreated')
+  const other = await Client.driving(host, 'log.entryAdded')
   const { context } = await other.ask('browsingContext.create', { type: 'tab' })
   assert.equal((await one.event()).context, context)
   await host.page(`log ${context} info to one of two`)
@@ -195,10 +195,10 @@ check('two sessions share a browser and no subscription', async () => {
   assert.deepEqual(await one.closed, [1000, ''])
   await host.page(`log ${context} info still there`)
   assert.equal((await other.event()).text, 'still there')
-})
+}))
 
-check('a late subscriber is told what there is', async () => {
-  const client = await Client.driving()
+test('a late subscriber is told what there is', withHost(async host => {
+  const client = await Client.driving(host)
   const events = ['browsingContext.contextCreated', 'log.entryAdded']
   await host.page(`frame ${TAB} http://a.test/side`)
   await host.page(`log ${TAB} info before the subscription`)
@@ -209,62 +209,73 @@ check('a late subscriber is told what there is', async () => {
   await client.heard()
   await client.ask('session.subscribe', { events })
   assert.deepEqual(await client.heard(), ['success'])
-})
+}))
 
-check('the session of a client that left lives on', async () => {
-  const client = await Client.driving('log.entryAdded')
+test('the session of a client that left lives on', withHost(async host => {
+  const client = await Client.driving(host, 'log.entryAdded')
   client.socket.close()
   await client.closed
-  const again = await Client.connected(`/session/${SESSION}`)
+  const again = await Client.connected(host, `/session/${SESSION}`)
   await host.page(`log ${TAB} error heard again`)
   assert.equal((await again.event()).text, 'heard again')
-})
+}))
 
-check('two connections speak for one session', async () => {
-  const one = await Client.driving()
-  const two = await Client.connected(`/session/${SESSION}`)
+test('two connections speak for one session', withHost(async host => {
+  const one = await Client.driving(host)
+  const two = await Client.connected(host, `/session/${SESSION}`)
   await two.ask('session.subscribe', { events: ['log.entryAdded'] })
   await host.page(`log ${TAB} info to both`)
   assert.deepEqual([(await one.event()).text, (await two.event()).text], ['to both', 'to both'])
   assert.deepEqual(await one.ask('browsingContext.getTree'), await two.ask('browsingContext.getTree'))
   await two.ask('session.end')
   assert.deepEqual(await Promise.all([one.closed, two.closed]), [[1000, ''], [1000, '']])
-})
+}))
 
-check('a reset makes a new browser', async () => {
-  const client = await Client.driving()
+test('a reset makes a new browser', withHost(async host => {
+  const client = await Client.driving(host)
   await host.page(`frame ${TAB} http://a.test/side`)
   await client.ask('browsingContext.navigate', { context: TAB, url: 'http://a.test' })
   assert.equal(await host.page('reset'), 'ok')
   assert.deepEqual(await client.closed, [1001, ''])
-  const { contexts } = await (await Client.driving()).ask('browsingContext.getTree')
+  const { contexts } = await (await Client.driving(host)).ask('browsingContext.getTree')
   assert.deepEqual(contexts.map(({ context, url, children }) => [context, url, children]), [[TAB, 'about:blank', []]])
-})
+}))
 
-check('a line of no page is told', async () => {
-  assert.equal(await host.page('fly'), 'no line of a page')
+test('a page may be a connection', withHost(async host => {
+  const client = await Client.driving(host, 'log.entryAdded')
+  const page = await host.connect('/page')
+  for (const [line, words] of [[`log ${TAB} info by a socket`, 'ok'], ['unframe none', 'no effect'], ['fly', 'no line of a page']]) {
+    const answer = new Promise(resolve => { page.onmessage = ({ data }) => resolve(data) })
+    page.send(line)
+    assert.ok(tells(await answer, words))
+  }
+  assert.equal((await client.event()).text, 'by a socket')
+}))
+
+test('a line of no page is told', withHost(async host => {
+  assert.ok(tells(await host.page('fly'), 'no line of a page'))
   assert.equal(await host.page(`log ${TAB} info to nobody`), 'ok')
-})
+}))
 
 for (const resource of ['/', '/session/', '/session/none', '/devtools']) {
-  check(`there is no resource ${resource}`, async () => {
-    await assert.rejects(Client.connected(resource))
+  test(`there is no resource ${resource}`, withHost(async host => {
+    await assert.rejects(Client.connected(host, resource))
     const headers = { connection: 'upgrade', upgrade: 'websocket', 'sec-websocket-version': 13, 'sec-websocket-key': 'dGhlIHNhbXBsZSBub25jZQ==' }
-    assert.deepEqual((await got(resource, headers)).status, 404)
-  })
+    assert.deepEqual((await got(host, resource, headers)).status, 404)
+  }))
 }
 
-check('the status is told over HTTP', async () => {
-  const { status, text } = await got('/status')
+test('the status is told over HTTP', withHost(async host => {
+  const { status, text } = await got(host, '/status')
   assert.deepEqual([status, text.trim()], [200, 'ready'])
-})
+}))
 
-check('a request that asks for no upgrade is told so', async () => {
-  assert.equal((await got('/session')).status, 426)
-})
+test('a request that asks for no upgrade is told so', withHost(async host => {
+  assert.equal((await got(host, '/session')).status, 426)
+}))
 
 // The status and the text of an answer by HTTP.
-function got(resource, headers = {}) {
+function got(host, resource, headers = {}) {
   return new Promise((resolve, reject) => {
     const request = http.get(host.url.replace('ws:', 'http:') + resource, { headers }, async answer => {
       let text = ''
@@ -273,4 +284,137 @@ function got(resource, headers = {}) {
     })
     request.on('error', reject)
   })
+}
+
+// From here on tests of the fixture: of what it does for a test that forgets to close, that fails, or whose host ends.
+
+const INNER = `
+const assert = require('node:assert/strict')
+const { test } = require('node:test')
+const { withHost } = require(process.env.FIXTURE)
+const left = []
+
+async function asked(host) {
+  const socket = await host.connect()
+  socket.send('{"id":1,"method":"session.status","params":{}}')
+  await new Promise(resolve => { socket.onmessage = resolve })
+  return socket
+}
+
+test('leaves a client open', withHost(async host => left.push(await asked(host))))
+test('finds it closed', withHost(async () => {
+  if (left[0].readyState !== left[0].CLOSED) await new Promise(resolve => { left[0].onclose = resolve })
+}, { timeout: 5000 }))
+test('fails', withHost(async host => {
+  await asked(host)
+  assert.equal('this', 'that')
+}))
+test('takes too long', withHost(async host => {
+  await asked(host)
+  await new Promise(() => {})
+}, { timeout: 700 }))
+test('is stopped by Node', { timeout: 700 }, withHost(async host => {
+  await asked(host)
+  await new Promise(() => {})
+}))
+test('waits for a host that dies', withHost(async host => {
+  await asked(host)
+  host.child.kill('SIGKILL')
+  await new Promise(() => {})
+}))
+test('does not see that the host dies', withHost(async host => {
+  await asked(host)
+  host.child.kill('SIGKILL')
+}))
+test('has a new host', withHost(async host => { await asked(host) }))
+`
+
+// The program, also from another folder.
+const PROGRAM = process.env.BIDI?.includes('/') ? path.resolve(process.env.BIDI) : process.env.BIDI || 'bidi'
+
+// A run of these tests beside the tests above. A record of an earlier run is there for a test that passes now.
+const folder = fs.mkdtempSync(path.join(os.tmpdir(), 'bidi-'))
+const records = path.join(folder, 'records')
+const ran = runInner()
+
+// The output of the run, and the seconds that it took.
+function runInner() {
+  fs.mkdirSync(records)
+  fs.writeFileSync(path.join(records, 'inner-js-has-a-new-host.play'), 'at 1500\n')
+  fs.writeFileSync(path.join(folder, 'inner.js'), INNER)
+  const { NODE_TEST_CONTEXT, ...others } = process.env
+  const env = { ...others, BIDI: PROGRAM, BIDI_RECORD: records, FIXTURE: path.join(__dirname, 'host.js') }
+  const words = [...process.execArgv.filter(word => word !== '--test'), 'inner.js']
+  const start = performance.now()
+  return new Promise(resolve => {
+    execFile(process.execPath, words, { cwd: folder, env }, (_, output) => resolve({ output, seconds: (performance.now() - start) / 1000 }))
+  })
+}
+
+after(() => fs.rmSync(folder, { recursive: true }))
+
+test('a test need not close its clients, and ends with its host', async () => {
+  const { output, seconds } = await ran
+  const outcomes = output.match(/^(not ok|ok) \d+ - .*$/gm).map(line => line.replace(/ \d+ -/, ':'))
+  assert.deepEqual(outcomes, [
+    'ok: leaves a client open', 'ok: finds it closed', 'not ok: fails', 'not ok: takes too long', 'not ok: is stopped by Node',
+    'not ok: waits for a host that dies', 'not ok: does not see that the host dies', 'ok: has a new host'])
+  assert.equal(output.match(/error: (\|-\s+)?.*was ended by signal 9 \(SIGKILL\)\. /g).length, 2)
+  assert.ok(seconds < 25) // A test that waits for ever would take thirty.
+})
+
+test('only the record of a test that fails is kept', async () => {
+  const { output } = await ran
+  const files = ['does-not-see-that-the-host-dies', 'fails', 'is-stopped-by-Node', 'takes-too-long', 'waits-for-a-host-that-dies']
+    .map(name => `inner-js-${name}.play`)
+  assert.deepEqual(fs.readdirSync(records).sort(), files)
+  for (const file of files.map(file => path.join(records, file))) {
+    assert.ok(output.includes(`# record: ${file}; look at it: python3 tools/look.py ${file} > look.html\n`), file)
+  }
+})
+
+test('a record is a play', async () => {
+  await ran
+  const input = fs.readFileSync(path.join(records, 'inner-js-fails.play'))
+  const lines = spawnSync(PROGRAM, ['play'], { input, encoding: 'utf8' }).stdout.split('\n')
+  assert.deepEqual(lines.slice(0, 2), ['opened 1', '< 1 {"id":1,"result":{"message":"ready","ready":true},"type":"success"}'])
+})
+
+test('the end of a host rejects all that waits, and is told with its standard error', async () => {
+  const other = await Host.start('--lenient')
+  const client = await Client.connected(other)
+  await client.ask('session.new', { capabilities: { alwaysMatch: { webSocketUrl: true } } })
+  other.child.kill('SIGSTOP')
+  const waiting = [other.page('at 1500'), other.page('at 1600')]
+  other.child.kill('SIGKILL')
+  const told = /signal 9 \(SIGKILL\)\.[^]*bidi: left out .*webSocketUrl/
+  await Promise.all(waiting.map(answer => assert.rejects(answer, told)))
+  await assert.rejects(other.page('at 1700'), told)
+})
+
+test('a host that does not start is told with its status', async () => {
+  await assert.rejects(Host.start('--page', path.join(folder, 'none')), /ended with status 3\.[^]*bidi: input cannot be read/)
+})
+
+test('a program that is not found is told in one line', async () => {
+  await assert.rejects(withProgram('no-such-program', () => Host.start()), /^Error: cannot run `no-such-program` .*BIDI.*$/)
+})
+
+test('further lines of standard error are read', async () => {
+  const script = path.join(folder, 'bidi')
+  fs.writeFileSync(script, `#!/bin/sh\nyes 'a line before' | head -n 10000 >&2\nexec ${PROGRAM} "$@"\n`, { mode: 0o755 })
+  const other = await withProgram(script, () => Host.start())
+  assert.equal(await other.page('at 1500'), 'ok')
+  other.child.kill('SIGKILL')
+  await assert.rejects(other.page('at 1600'), /SIGKILL[^]*a line before/)
+})
+
+// Starts something while BIDI names another program.
+function withProgram(program, start) {
+  const { BIDI } = process.env
+  process.env.BIDI = program
+  const started = start()
+  if (BIDI === undefined) delete process.env.BIDI
+  else process.env.BIDI = BIDI
+  return started
 }
