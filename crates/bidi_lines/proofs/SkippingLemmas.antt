@@ -1,7 +1,7 @@
 -- Why what is thrown away is a line that is too long.
 use Rattle.std.proofs.Common.{◌≡◌, ℕ, ◌<◌, ◌≤◌, Bool, true, false, List, [], ◌∷◌, ◌++◌, length, take, take_all, Option, Ok, Err}
 use Rattle.std.proofs.Common.{length-append, append_assoc, append-nil, refl, sym, ◌∙◌, ap, ap₂, subst, arith, true≢false, inl, inr}
-use Rattle.std.specs.Prelude.{Result, IsErr, ◌⊎◌, ◌≢◌}
+use Rattle.std.specs.Prelude.{Result, IsErr, IsErrAnd, ◌⊎◌, ◌≢◌}
 use Rattle.std.specs.Global.{Vec}
 use Rattle.std.proofs.Math.Nat.{lt_of_not-le}
 use Rattle.std.proofs.lemmas.List.{take-append-le}
@@ -12,6 +12,7 @@ use Rattle.bidi_lines.specs.Feeds.{has_feed, ended}
 use Rattle.bidi_lines.specs.InputLines.{BeginsBadly}
 use Rattle.bidi_lines.specs.Skipping.{SkipsLine, skips}
 use Rattle.bidi_lines.specs.declared.line_reader.InputFault.{InputFault}
+use Rattle.bidi_lines.specs.declared.line_reader.InputFault.TheVariants.{Read, BadLine, NoMemory}
 use Rattle.bidi_lines.specs.declared.line_reader.Skipped.{Skipped}
 use Rattle.bidi_lines.specs.declared.line_reader.Skipped.TheVariants.{TooLong, TooLongLast, Unended}
 use Rattle.bidi_lines.proofs.DeviceLemmas.{ReadsOn-nil}
@@ -61,11 +62,14 @@ skip_last a c at_end old gone held new (bs, e, p) none clear ended_now nothing l
       (record { one_line = no_feed_append gone held none clear; long = omega (arith, whole, l, m, n, long) }, (ended_now, nothing)),
     )
 
--- a fault leaves no whole line gone
-pub skip_fault : (a c : Option (List ℕ)) (r : Result Skipped InputFault) (at_end : Bool) (old gone new : List ℕ) → IsErr r → ReadsOn a c old (gone ++ new)
-    → has_feed gone ≡ false → SkipsLine a c old new (skips r at_end)
-skip_fault a c (Ok x) at_end old gone new e reads none = absurd (no_truth e)
-skip_fault a c (Err f) at_end old gone new e reads none = (gone, reads, none)
+-- a fault of a read leaves no whole line gone, and nothing held
+pub skip_fault : (a c : Option (List ℕ)) (r : Result Skipped InputFault) (fault : InputFault) (at_end : Bool) (old gone new : List ℕ)
+    → IsErr r × IsErrAnd r (λ x. x ≡ fault) → fault ≢ BadLine → ReadsOn a c old (gone ++ new) → has_feed gone ≡ false → new ≡ []
+    → SkipsLine a c old new (skips r at_end)
+skip_fault a c (Ok x) fault at_end old gone new e good reads none nothing = absurd (no_truth e.0)
+skip_fault a c (Err Read) fault at_end old gone new e good reads none nothing = (gone, reads, (none, nothing))
+skip_fault a c (Err BadLine) fault at_end old gone new e good reads none nothing = absurd (good (sym e.1))
+skip_fault a c (Err NoMemory) fault at_end old gone new e good reads none nothing = (gone, reads, none)
 
 -- bytes that are held and begin no line, and that are not too many, are the last of the input
 pub skip_unended : (a : Option (List ℕ)) (at_end : Bool) (old new : List ℕ) (last : Vec ℕ) → BeginsBadly at_end old → length old ≤ 2097152

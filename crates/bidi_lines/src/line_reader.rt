@@ -122,7 +122,7 @@ impl LineReader {
     ///
     /// # Errors
     /// 1. `Read`: a read of the source failed, and a beginning of the line is thrown away. Give up the input.
-    /// 2. `BadLine`: the line goes on behind 2^64 - 1 reads.
+    /// 2. `BadLine`: the first 2^64 - 1 bytes of the line have no line feed. They are thrown away. Give up the input.
     /// 3. `NoMemory`: an allocation failed.
     pub fn skip<S: Source>(&mut self, alloc: Global, source: &mut S) -> Result<Skipped, InputFault>
         // As `BadLine` leaves it.
@@ -151,7 +151,7 @@ impl LineReader {
         ensures failures { MatchResult result (λ _. S.failures source.new ≡ S.failures source.old)
             (λ fault. S.failures source.new ≡ S.failures source.old + failed_reads fault) }
     {
-        'skips: for _ in 0..u64::MAX {
+        'skips: for _turn in 0..u64::MAX {
             let held = self.held();
             if let Some(end) = feed_behind(held, 0) {
                 self.give(end + 1);
