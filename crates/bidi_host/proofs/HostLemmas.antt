@@ -1,9 +1,7 @@
 -- What an end has played that took one more line, or none.
-use Rattle.std.proofs.Common.{◌≡◌, false, ℕ, ◌+◌, ◌<◌, ◌≤◌, IsUtf8, Result, Ok, Err, Some, String, IfOk, List, [], ◌∷◌, ◌++◌, length, map, reverse, string_bytes, refl, ap, subst, sym, ◌∙◌, arith}
-use Rattle.std.specs.declared.alloc.Global.{Global}
+use Rattle.std.proofs.Common.{◌≡◌, false, ℕ, ◌<◌, ◌≤◌, ◌^◌, IsUtf8, List, [], ◌∷◌, length, map, reverse, string_bytes, refl, ap, subst, arith}
 use Rattle.std.proofs.lemmas.List.{length-reverse}
-use Rattle.bidi_tree.specs.Node.{Node}
-use Rattle.bidi_messages.specs.Verdict.{Verdict, Accepted, IsVerdict, is_command, is_not_json, is_no_command, command_tree}
+use Rattle.bidi_messages.specs.Verdict.{Verdict, IsVerdict}
 use Rattle.bidi_lines.specs.Feeds.{has_feed}
 use Rattle.bidi_lines.specs.InputLines.{IsLine}
 use Rattle.bidi_remote.specs.declared.remote_end.RemoteEnd.{RemoteEnd}
@@ -17,9 +15,9 @@ use Rattle.bidi_remote.proofs.HeardLemmas.{length-heard}
 use Rattle.bidi_play.specs.Lines.{line_of, CanBeSaid, IsSayable, written}
 use Rattle.bidi_play.specs.Players.{HasPlayed}
 use Rattle.bidi_play.proofs.PlayLemmas.{played_more}
-use Rattle.bidi_host.specs.declared.host.HostFault.{HostFault}
 use Rattle.bidi_host.specs.declared.host.Taken.{Taken}
 use Rattle.bidi_host.specs.Hosting.{IsTaken, Stays, IsSaidAs}
+use Rattle.bidi_host.proofs.LineLemmas.{one_line, short}
 
 -- a new end has played no line
 pub nothing_played : (end : RemoteEnd) → StandsFor end [] → HasPlayed end [] []
@@ -94,14 +92,11 @@ said_line x line e parts utf8 is = record {
   short = subst (λ (z : List ℕ). length z ≤ 2097152) e is.short;
 }
 
--- a text that has the tree of a command that was accepted is accepted as it
-same_verdict : {text : List ℕ} {v : Verdict} (said : List ℕ) (t : Node) → IsVerdict text v → v ≡ Accepted t → command_tree said ≡ Some t → IsVerdict said v
-same_verdict said t (is_command u e f) same tree = is_command u (tree ∙ cc) f
-same_verdict said t (is_not_json h) same tree = absurd cc
-same_verdict said t (is_no_command u h misfit) same tree = absurd cc
-
--- a text that is made of a command is judged as the text of that command
-pub accepted_same : (text : List ℕ) (t : Node) (r : Result (String Global) HostFault) → ((w : Verdict) → IsVerdict text w → w ≡ Accepted t)
-    → IfOk r (λ said. command_tree (string_bytes said) ≡ Some t) → IfOk r (λ said. (v : Verdict) → IsVerdict text v → IsVerdict (string_bytes said) v)
-accepted_same text t (Ok said) other tree = λ v is. same_verdict (string_bytes said) t is (other v is) tree
-accepted_same text t (Err fault) other tree = tt
+-- a short text in one line can be said
+pub said_short : (c : ℕ) (said : List ℕ) → c < 2 ^ 53 → IsUtf8 (line_of (Text c said)) → has_feed said ≡ false → length said ≤ 1048576 → CanBeSaid (Text c said)
+said_short c said small utf8 none few = record {
+  parts = record { number = small; context = tt };
+  utf8 = utf8;
+  one_line = one_line c said small none;
+  short = short c said small few;
+}

@@ -1,1 +1,4 @@
+pub mod FeedLemmas
+pub mod SayingLemmas
+pub mod LineLemmas
 pub mod HostLemmas

@@ -1,3 +1,4 @@
+pub mod OneLine
 pub mod PageSteps
 pub mod Hosting
 pub mod Faults

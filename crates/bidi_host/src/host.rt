@@ -113,20 +113,20 @@ impl Host {
 
     /// A text came in on a connection.
     ///
-    /// Where no line can say it, as it has a line feed or is longer than a line, a text with the same verdict is
-    /// taken in its place: that of its command, compact, or a short one that is refused as it is. Costs a copy of
-    /// the text, and the step.
+    /// If no line can say it, because it has a line feed or is longer than a line, a text with the same verdict is
+    /// taken in its place: the text with a carriage return in place of each line feed, or `{` if it is longer than a
+    /// command may be. Costs a copy of the text, and the step; such a text costs two copies more.
     ///
     /// # Errors
     /// The host is then as it was.
     /// 1. `NoMemory`: an allocation failed.
-    /// 2. `Unsaid`: no line can say the text, and none was found that can say another with its verdict.
-    /// 3. `WornOut`: 1,000,000,000 inputs were taken.
+    /// 2. `WornOut`: 1,000,000,000 inputs were taken.
     pub fn heard(&mut self, conn: JsUint, text: String) -> Result<Taken, HostFault>
         ensures taken { IfOk result (λ t. (said : List ℕ) × IsSaidAs conn.value (string_bytes text) said
             × IsTaken (Text conn.value said) self.old.end self.new.end t) }
         ensures err { OnErr result (Stays self.old.end self.new.end) }
-        ensures unsaid { IsErrOf result HostFault.Unsaid → CanBeSaid (Text conn.value (string_bytes text)) → ⊥ }
+        // No text ends the host, whatever line feeds stand in it and however long it is.
+        ensures unsaid { IsErrOf result HostFault.Unsaid → ⊥ }
         ensures worn_out { (h : List Input) → StandsFor self.old.end h → IsErrOf result HostFault.WornOut → 1000000000 ≤ length h }
     {
         let line = text_line(self.alloc, conn, text.as_str())?;

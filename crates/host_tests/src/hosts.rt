@@ -6,7 +6,7 @@ use std::alloc::{AllocError, Global};
 use std::test::Fail;
 
 /// Calls in order, and what each gives: its line, and behind `, ` each thing that is sent. In a text `\n` stands for a line feed,
-/// and `LONG` for 2,097,152 letters.
+/// `\r` for a carriage return, and `LONG` for 2,097,152 letters.
 const CALLS: &str = r#"is_open 1 -> no
 heard 1 STATUS -> > 1 STATUS, lost 1
 opened 1 /session -> open 1 /session, opened 1
@@ -18,12 +18,13 @@ opened 2  -> open 2 , denied 2
 opened 2 /a\nb -> a text cannot be recorded
 opened 2 LONG -> a text cannot be recorded
 heard 1 STATUS -> > 1 STATUS, < 1 READY
-heard 1 {\n"params":{},\n"method":"session.status",\n"id":1} -> > 1 STATUS, < 1 READY
+heard 1 {\n"params":{},\n"method":"session.status",\n"id":1} -> > 1 {\r"params":{},\r"method":"session.status",\r"id":1}, < 1 READY
 heard 1 nonsense -> > 1 nonsense, < 1 REFUSED
-heard 1 nonsense\n -> > 1 {, < 1 REFUSED
-heard 1 {"method":"none"\n} -> > 1 {"method":""}, < 1 {"error":"unknown command","id":null,"message":"unknown command","type":"error"}
-heard 1 {"id":7,\n"method":"none"} -> > 1 {"id":7,"method":""}, < 1 {"error":"unknown command","id":7,"message":"unknown command","type":"error"}
-heard 1 {"id":7,"method":\n"session.status"} -> > 1 {"id":7}, < 1 {"error":"invalid argument","id":7,"message":"invalid argument","type":"error"}
+heard 1 nonsense\n -> > 1 nonsense\r, < 1 REFUSED
+heard 1 {"id":7,"method":"none\n"} -> > 1 {"id":7,"method":"none\r"}, < 1 REFUSED
+heard 1 {"method":"none"\n} -> > 1 {"method":"none"\r}, < 1 {"error":"unknown command","id":null,"message":"unknown command","type":"error"}
+heard 1 {"id":7,\n"method":"none"} -> > 1 {"id":7,\r"method":"none"}, < 1 {"error":"unknown command","id":7,"message":"unknown command","type":"error"}
+heard 1 {"id":7,"method":\n"session.status"} -> > 1 {"id":7,"method":\r"session.status"}, < 1 {"error":"invalid argument","id":7,"message":"invalid argument","type":"error"}
 heard 1 LONG -> > 1 {, < 1 REFUSED
 heard_no_text 1 -> binary 1, < 1 REFUSED
 heard_no_text 3 -> binary 3, lost 3
@@ -56,7 +57,8 @@ heard 1 {"id":2,"method":"session.end","params":{}} -> > 1 {"id":2,"method":"ses
 is_open 1 -> no"#;
 
 /// What words of the table stand for.
-const WORDS: [(&str, &str); 7] = [
+const WORDS: [(&str, &str); 8] = [
+    (r"\r", "\r"),
     (
         "STATUS",
         r#"{"id":1,"method":"session.status","params":{}}"#,

@@ -597,12 +597,12 @@ fn an_end_comes_by_standard_input(rt: HostRuntime) -> Result<(), Fail> {
 }
 
 const FEEDS: &str = r#"1 opens /session
-1 says {\n"id":1,\n "method":"session.status",\n "params":{}}\n
+1 says {\n"id":1,\n "method":"session.status",\n "params":{}}
 1 hears READY
-record ends > 1 STATUS
+record ends > 1 {\r"id":1,\r "method":"session.status",\r "params":{}}
 1 says {\n"id":2
 1 hears REFUSED
-record ends > 1 {
+record ends > 1 {\r"id":2
 1 says {"id":3,\n"method":"none","params":{}}
 1 hears {"error":"unknown command","id":3,"message":"unknown command","type":"error"}
 1 says {"id":4,\n"method":"session.status"}

@@ -17,7 +17,7 @@
 //! | `NAME is there`, `NAME is cut` | its stream has not ended, or ends with nothing read |
 //! | `NAME leaves` | it closes its stream |
 //! | `clock goes N` | N seconds pass |
-//! | `record ends LINE` | the last line of the record becomes this |
+//! | `record ends LINE` | the last line of the record becomes this; `\r` stands for a carriage return |
 //! | `input types LINE`, `input closes` | a line of standard input, or its end |
 //! | `input hears LINE` | the next line of standard output is this |
 //! | `host rests` | the host does all that is to be done |

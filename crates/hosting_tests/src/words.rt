@@ -13,7 +13,8 @@ const KINDS: [(&str, &str); 5] = [
 ];
 
 /// The words that stand for a part of a text.
-const WORDS: [(&str, &str); 4] = [
+const WORDS: [(&str, &str); 5] = [
+    (r"\r", "\r"),
     (
         "STATUS",
         r#"{"id":1,"method":"session.status","params":{}}"#,
