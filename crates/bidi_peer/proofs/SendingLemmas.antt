@@ -1,27 +1,44 @@
 -- What a text that is sent adds to what waits.
-use Rattle.std.proofs.Common.{◌≡◌, ◌∙◌, ◌++◌, ℕ, List, Option, Result, Ok, Err, ap, append_assoc, inl, inr, subst, sym, ◌⊎◌}
-use Rattle.websocket.specs.Connection.{Connection, IsMaskOf, check_can_write, send, write_step}
+use Rattle.std.proofs.Common.{◌≡◌, ◌∙◌, ◌++◌, ◌+◌, ◌<◌, ℕ, List, Option, None, Some, Result, Ok, Err, ap, append_assoc, arith, inl, inr, length, refl, subst, sym, ◌⊎◌}
+use Rattle.std.proofs.lemmas.List.{length-append}
+use Rattle.websocket.specs.Connection.{Connection, IsMaskOf, check_can_write, send, whole_header, write_step}
 use Rattle.websocket.specs.Content.{text}
-use Rattle.websocket.specs.Frame.{Checked, after_check}
+use Rattle.websocket.specs.Frame.{Checked, after_check, encode_frame}
+use Rattle.websocket.specs.FrameHeader.{encode_header, extended_len}
+use Rattle.websocket.proofs.FrameHeaderLemmas.{length-encode_header}
 use Rattle.websocket.specs.View.{Leaves}
 use Rattle.websocket.specs.declared.error.Error.{Error}
+use Rattle.websocket.specs.declared.protocol.config.Role.TheVariants.{Server}
 use Rattle.websocket.specs.declared.protocol.frame.coding.Data.TheVariants.{Text}
 use Rattle.websocket.specs.declared.protocol.frame.coding.OpCode.TheVariants.{Data}
 use Rattle.bidi_peer.specs.declared.standing.Peer.{Peer}
-use Rattle.bidi_peer.specs.declared.standing.State.TheVariants.{Done, Open}
-use Rattle.bidi_peer.specs.Sending.{Flushes, Puts, SendsText, text_frame}
+use Rattle.bidi_peer.specs.declared.standing.State.TheVariants.{Closing, Done, Open}
+use Rattle.bidi_peer.specs.Sending.{Flushes, HasNoRoom, IsLittle, Puts, SendsText, text_frame}
+use Rattle.bidi_peer.specs.Telling.{StaysUnlessDone}
 use Rattle.bidi_peer.specs.Waiting.{Writes, unwritten}
 use Rattle.bidi_peer.proofs.WaitingLemmas.{writes_then}
 
 -- a write of a text that succeeds appends its frame
 checked-frame : (check : Checked Error) (c n : Connection) (t old out : List ℕ) → Leaves (after_check check (send c (Data Text) t)) n old out
-    → (mask : Option (List ℕ)) × IsMaskOf c.role mask × (out ≡ old ++ text_frame mask t)
+    → (mask : Option (List ℕ)) × IsMaskOf c.role mask × (out ≡ old ++ encode_frame (whole_header (Data Text) mask) t)
 checked-frame (Ok x) c n t old out leaves = (leaves.1.0, subst (λ (k : Connection). IsMaskOf k.role leaves.1.0) leaves.0 leaves.1.1, leaves.1.2)
 checked-frame (Err e) c n t old out leaves = absurd leaves
 
-pub written-frame : (c n : Connection) (t old out : List ℕ) → Leaves (write_step c (text t)) n old out
-    → (mask : Option (List ℕ)) × IsMaskOf c.role mask × (out ≡ old ++ text_frame mask t)
-written-frame c n t old out leaves = checked-frame (check_can_write c.state) c n t old out leaves
+no-mask : (mask : Option (List ℕ)) → IsMaskOf Server mask → mask ≡ None
+no-mask None role = refl
+no-mask (Some key) role = absurd (cc role.0)
+
+-- a server's text has no mask
+pub server_frame : (c n : Connection) (t old out : List ℕ) → Leaves (write_step c (text t)) n old out → c.role ≡ Server → out ≡ old ++ text_frame t
+server_frame c n t old out leaves server =
+    let w = checked-frame (check_can_write c.state) c n t old out leaves in
+    w.2 ∙ ap (λ mask. old ++ encode_frame (whole_header (Data Text) mask) t) (no-mask w.0 (subst (λ r. IsMaskOf r w.0) server w.1))
+
+-- how long the frame of a text is
+pub text_frame_length : (t : List ℕ) → length (text_frame t) ≡ length t + (2 + extended_len (length t))
+text_frame_length t =
+    let h = whole_header (Data Text) None in
+    length-append (encode_header h (length t)) t ∙ omega (arith, length-encode_header h (length t) tt)
 
 -- what joins the back joins what waits
 pub joins-back : (front back out frame : List ℕ) → out ≡ back ++ frame → front ++ out ≡ (front ++ back) ++ frame
@@ -33,14 +50,10 @@ open-done e = cc
 module _ {S : Type 0} (contents : S → Option (List ℕ)) where
   -- a text that is put between two flushes is sent
   pub puts-sends : (t : List ℕ) (a b c d : Peer S) → Flushes contents a b → Puts t b c → Flushes contents c d → SendsText contents t a d
-  puts-sends t a b c d before put after = record {
-    mask = put.mask;
-    of_role = subst (λ (k : Connection). IsMaskOf k.role put.mask) before.context put.of_role;
-    writes =
-        writes_then contents (unwritten a.outbox) (unwritten b.outbox) (unwritten d.outbox) (text_frame put.mask t) a.stream b.stream d.stream before.writes
-        (subst (λ s. Writes contents (unwritten b.outbox ++ text_frame put.mask t) (unwritten d.outbox) s d.stream) put.stream
-        (subst (λ w. Writes contents w (unwritten d.outbox) c.stream d.stream) put.joins after.writes));
-  }
+  puts-sends t a b c d before put after =
+      writes_then contents (unwritten a.outbox) (unwritten b.outbox) (unwritten d.outbox) (text_frame t) a.stream b.stream d.stream before.writes
+      (subst (λ s. Writes contents (unwritten b.outbox ++ text_frame t) (unwritten d.outbox) s d.stream) put.stream
+      (subst (λ w. Writes contents w (unwritten d.outbox) c.stream d.stream) put.joins after.writes))
 
   -- where it is open after each of these, it was not cut by any
   pub sent : (t : List ℕ) (a b c d : Peer S) → (b.state ≡ Done) ⊎ Flushes contents a b → b.state ≡ Open → Puts t b c
@@ -48,3 +61,26 @@ module _ {S : Type 0} (contents : S → Option (List ℕ)) where
   sent t a b c d (inl done) stays put after still = absurd (open-done (sym stays ∙ done))
   sent t a b c d (inr before) stays put (inl done) still = absurd (open-done (sym still ∙ done))
   sent t a b c d (inr before) stays put (inr after) still = puts-sends t a b c d before put after
+
+  -- where it is open, a text without room closes it, unless its stream fails
+  pub no_room : (t : List ℕ) (a b d : Peer S) → (b.state ≡ Done) ⊎ Flushes contents a b → b.state ≡ Open → b.most_waiting < length (unwritten b.outbox) + length (text_frame t)
+      → StaysUnlessDone Closing d.state → StaysUnlessDone Open d.state ⊎ HasNoRoom contents t a d
+  no_room t a b d (inl done) opened full ends = absurd (open-done (sym opened ∙ done))
+  no_room t a b d (inr before) opened full (inl closing) = inr (record {
+    closes = closing;
+    rest = unwritten b.outbox;
+    stream = b.stream;
+    writes = before.writes;
+    full = subst (λ m. m < length (unwritten b.outbox) + length (text_frame t)) before.bound full;
+  })
+  no_room t a b d (inr before) opened full (inr done) = inl (inr done)
+
+module _ {S : Type 0} where
+  -- a little text waits
+  pub waited : (t : List ℕ) (a b c d : Peer S) → b ≡ a → Puts t b c → c.state ≡ b.state → (length (unwritten c.outbox) < 65536 → d ≡ c) → a.state ≡ Open → IsLittle t a
+      → (d.state ≡ Open) × Puts t a d
+  waited t a b c d same put stays little opened is =
+      let joins : unwritten c.outbox ≡ unwritten a.outbox ++ text_frame t = subst (λ (p : Peer S). unwritten c.outbox ≡ unwritten p.outbox ++ text_frame t) same put.joins in
+      let short : length (unwritten c.outbox) < 65536 = omega (arith, ap length joins, length-append (unwritten a.outbox) (text_frame t), is.1) in
+      subst (λ (p : Peer S). (p.state ≡ Open) × Puts t a p) (sym (little short))
+      (stays ∙ ap (λ (p : Peer S). p.state) same ∙ opened, record { stream = put.stream ∙ ap (λ (p : Peer S). p.stream) same; joins = joins })

@@ -1,4 +1,6 @@
+pub mod Answering
 pub mod Closing
+pub mod Hearing
 pub mod Origins
 pub mod Requests
 pub mod Sending

@@ -66,7 +66,7 @@ IsQuiet came.Nothing = ⊤
 IsQuiet came.More = ⊤
 IsQuiet c = ⊥
 
--- nothing was read yet
+-- no request was told yet
 abbrev pub IsNew : State → End → Type 0
 IsNew s e = (s ≡ Head) × (e ≡ Ahead)
 

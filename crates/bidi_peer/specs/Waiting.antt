@@ -1,6 +1,8 @@
 -- What waits in a connection: bytes that came, and bytes that go.
-use Rattle.std.specs.Prelude.{◌≡◌, ℕ, List, ◌++◌, Option, drop, slice_range}
-use Rattle.std.specs.Io.KnownBytes.{Appends}
+use Rattle.std.specs.Prelude.{◌≡◌, ◌≢◌, ℕ, List, [], ◌++◌, Option, drop, slice_range}
+use Rattle.std.specs.Io.KnownBytes.{Appends, Consumes, IsAtEnd}
+use Rattle.bidi_peer.specs.declared.inbox.Filled.{Filled}
+use Rattle.bidi_peer.specs.declared.inbox.Filled.TheVariants as filled
 use Rattle.bidi_peer.specs.declared.waiting.Inbox.{Inbox}
 use Rattle.bidi_peer.specs.declared.waiting.Outbox.{Outbox}
 
@@ -18,3 +20,16 @@ module _ {S : Type 0} where
     pub went : List ℕ
     pub parts : waited ≡ went ++ left
     pub taken : Appends (contents old) (contents new) went
+
+  -- A stream gave some bytes, and they joined the back of what waits.
+  pub record Reads (remaining : S → Option (List ℕ)) (waited : List ℕ) (left : List ℕ) (old new : S) : Type 0 where
+    pub came : List ℕ
+    pub joins : left ≡ waited ++ came
+    pub given : Consumes (remaining old) (remaining new) came
+
+-- What a read made of what waits: it got more, or it stayed; at the end the stream has nothing left.
+abbrev pub IsFilled : Option (List ℕ) → List ℕ → List ℕ → Filled → Type 0
+IsFilled rest waited left filled.Some = left ≢ waited
+IsFilled rest waited left filled.Nothing = left ≡ waited
+IsFilled rest waited left filled.Ended = (left ≡ waited) × IsAtEnd rest
+IsFilled rest waited left filled.Failed = left ≡ waited

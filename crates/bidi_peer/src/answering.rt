@@ -1,4 +1,6 @@
 //! The answers of a server to a request that it does not open.
+ghost use Rattle.std.specs.Prelude.{◌≡◌, IfOk, string_bytes};
+ghost use Rattle.bidi_peer.specs.Answering.{answer_bytes, line_of, own_lines_of, response_of, status_of};
 
 use std::alloc::{AllocError, Global};
 
@@ -34,7 +36,9 @@ pub(crate) enum Answer {
 
 impl Answer {
     // The status with its reason.
-    fn status(self) -> &'static str {
+    fn status(self) -> &'static str
+        ensures { result.now ≡ status_of self }
+    {
         match self {
             Answer::Ready => "200 OK",
             Answer::NotHttp | Answer::TooManyFields | Answer::NotGet | Answer::BadKey => {
@@ -48,7 +52,9 @@ impl Answer {
     }
 
     // The header lines that this answer alone has.
-    fn own_lines(self) -> &'static str {
+    fn own_lines(self) -> &'static str
+        ensures { result.now ≡ own_lines_of self }
+    {
         match self {
             Answer::NoUpgrade => "Upgrade: websocket\r\nSec-WebSocket-Version: 13\r\n",
             _ => "",
@@ -56,7 +62,9 @@ impl Answer {
     }
 
     // The line of text, without its end.
-    fn line(self) -> &'static str {
+    fn line(self) -> &'static str
+        ensures { result.now ≡ line_of self }
+    {
         match self {
             Answer::Ready => "ready",
             Answer::NotHttp =>
@@ -74,11 +82,19 @@ impl Answer {
     }
 
     /// The whole answer, head and body.
-    pub(crate) fn text(self, alloc: Global) -> Result<String, AllocError> {
-        let (status, own_lines, line) = (self.status(), self.own_lines(), self.line());
-        let length = line.len() + 1;
-        format!(in alloc;
-            "HTTP/1.1 {status}\r\n{own_lines}Connection: close\r\nContent-Type: text/plain; charset=utf-8\r\nContent-Length: {length}\r\n\r\n{line}\n"
-        )
+    pub(crate) fn text(self, alloc: Global) -> Result<String, AllocError>
+        ensures { IfOk result (λ text. string_bytes text ≡ answer_bytes self) }
+    {
+        response(alloc, self.status(), self.own_lines(), self.line())
     }
+}
+
+// An answer with this status, these own header lines and this line of text.
+fn response(alloc: Global, status: &str, own_lines: &str, line: &str) -> Result<String, AllocError>
+    ensures { IfOk result (λ text. string_bytes text ≡ response_of status.now own_lines.now line.now) }
+{
+    let length = line.len() + 1;
+    format!(in alloc;
+        "HTTP/1.1 {status}\r\n{own_lines}Connection: close\r\nContent-Type: text/plain; charset=utf-8\r\nContent-Length: {length}\r\n\r\n{line}\n"
+    )
 }

@@ -1,5 +1,8 @@
 //! The frame at the front of what came, and why a server fails a connection.
-ghost use Rattle.std.specs.Prelude.{◌≡◌, IfOk, IfSome, option_map};
+ghost use Rattle.std.specs.Prelude.{◌≡◌, ◌+◌, ◌-◌, ◌^◌, ◌++◌, length, min, IfOk, IfSome, OnOk, option_map};
+ghost use Rattle.websocket.specs.FrameHeader.{extended_len};
+ghost use Rattle.websocket.specs.declared.protocol.config.Role.TheVariants.{Server};
+ghost use Rattle.bidi_peer.specs.Sending.{text_frame};
 ghost use Rattle.websocket.specs.Connection.{read_step};
 ghost use Rattle.bidi_peer.specs.Taking.{IsFaultOf, IsTakenFor, Shows};
 ghost use Rattle.bidi_peer.specs.Waiting.{untaken};
@@ -10,7 +13,9 @@ use super::waiting::Inbox;
 use std::alloc::{AllocError, Global};
 use websocket::error::Error as FrameError;
 use websocket::protocol::frame::FrameHeader;
-use websocket::protocol::{CloseCode, FrameStatus, Message, NoMask, Received, WebSocketContext};
+use websocket::protocol::{
+    CloseCode, CloseFrame, FrameStatus, Message, NoMask, Received, WebSocketContext,
+};
 
 /// What is at the front of what came.
 #[derive(Drop)]
@@ -82,7 +87,8 @@ pub(crate) fn read_frame(
     inbox: &mut Inbox,
     output: &mut Vec<u8>,
 ) -> Result<Frame, AllocError>
-    ensures { IfOk result (IsTakenFor (read_step context.old (untaken inbox.old))) }
+    ensures shows { IfOk result (IsTakenFor (read_step context.old (untaken inbox.old))) }
+    ensures role { context.new.role ≡ context.old.role }
 {
     let input = &mut inbox.bytes[inbox.start..inbox.end];
     let (length, frame) = frame_at(alloc, context, input, output)?;
@@ -97,7 +103,8 @@ fn frame_at(
     input: &mut [u8],
     output: &mut Vec<u8>,
 ) -> Result<(usize, Frame), AllocError>
-    ensures { IfOk result (λ taken. IsTakenFor (read_step context.old input.old) taken.1) }
+    ensures shows { IfOk result (λ taken. IsTakenFor (read_step context.old input.old) taken.1) }
+    ensures role { context.new.role ≡ context.old.role }
 {
     match context.read(input, output, &mut NoMask) {
         Ok(FrameStatus::Partial(_)) => Ok((0, Frame::Part)),
@@ -148,14 +155,53 @@ fn fault_of(error: FrameError) -> Result<Fault, AllocError>
     }
 }
 
-/// How many bytes a server's frame has with a payload of so many.
-pub(crate) fn frame_len(payload: usize) -> usize {
-    let head = if payload < 126 {
+/// Puts the frame of a text behind what is in `output`.
+pub(crate) fn write_text(
+    context: &mut WebSocketContext,
+    text: &str,
+    output: &mut Vec<u8>,
+) -> Result<(), AllocError>
+    ensures role { context.new.role ≡ context.old.role }
+    ensures joins { OnOk result (context.old.role ≡ Server → output.new.items ≡ output.old.items ++ text_frame text.now) }
+{
+    match context.write(Message::Text(text), output, &mut NoMask) {
+        Ok(()) => Ok(()),
+        Err(_) => Err(AllocError),
+    }
+}
+
+/// Puts a close frame behind what is in `output`, unless one was sent.
+pub(crate) fn write_close(
+    context: &mut WebSocketContext,
+    code: CloseCode,
+    reason: &str,
+    output: &mut Vec<u8>,
+) -> Result<(), AllocError>
+    ensures role { context.new.role ≡ context.old.role }
+{
+    let frame = CloseFrame { code, reason };
+    match context.close(Some(frame), output, &mut NoMask) {
+        Ok(()) => Ok(()),
+        Err(_) => Err(AllocError),
+    }
+}
+
+/// How many bytes the frame of a text has.
+pub(crate) fn frame_len(text: &str) -> usize
+    ensures { result ≡ min (length (text_frame text.now)) (2 ^ 64 - 1) }
+{
+    text.len().saturating_add(header_len(text.len()))
+}
+
+// How many bytes the header of a server's frame has, with a payload of so many.
+fn header_len(payload: usize) -> usize
+    ensures { result ≡ 2 + extended_len payload }
+{
+    if payload < 126 {
         2
     } else if payload < 65_536 {
         4
     } else {
         10
-    };
-    payload.saturating_add(head)
+    }
 }

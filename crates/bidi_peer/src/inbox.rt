@@ -1,10 +1,11 @@
 //! Bytes that came and were not taken yet.
-ghost use Rattle.std.specs.Prelude.{◌≡◌, []};
-ghost use Rattle.bidi_peer.specs.Waiting.{untaken};
+ghost use Rattle.std.specs.Prelude.{◌≡◌, ◌≤◌, ◌<◌, ◌+◌, [], drop, length, take, vec_len, IfOk, OnErr, OnOk};
+ghost use Rattle.std.specs.Io.KnownBytes.{Consumes, IsAtEnd, Keeps};
+ghost use Rattle.bidi_peer.specs.Waiting.{IsFilled, Reads, untaken};
 
 use super::waiting::Inbox;
 use std::alloc::{AllocError, Global};
-use std::io::{ErrorKind, Read};
+use std::io::{self, ErrorKind, Read};
 
 /// How many bytes a read asks for at least.
 const LEAST_ROOM: usize = 4 * 1024;
@@ -46,7 +47,9 @@ impl Inbox {
     }
 
     /// Takes so many bytes off the front, or all where there are fewer.
-    pub(crate) fn take(&mut self, count: usize) {
+    pub(crate) fn take(&mut self, count: usize)
+        ensures { untaken self.new ≡ drop count (untaken self.old) }
+    {
         self.start += count.min(self.end - self.start);
         if self.start == self.end {
             self.clear();
@@ -74,10 +77,13 @@ impl Inbox {
     }
 
     /// Reads the stream once.
-    pub(crate) fn fill<S: Read>(&mut self, stream: &mut S) -> Result<Filled, AllocError> {
+    pub(crate) fn fill<S: Read>(&mut self, stream: &mut S) -> Result<Filled, AllocError>
+        ensures reads { Reads S.remaining (untaken self.old) (untaken self.new) stream.old stream.new }
+        ensures filled { IfOk result (IsFilled (S.remaining stream.new) (untaken self.old) (untaken self.new)) }
+    {
         self.make_room()?;
         for _ in 0..usize::MAX {
-            match stream.read(&mut self.bytes[self.end..]) {
+            match self.read_once(stream) {
                 Ok(0) => return Ok(Filled::Ended),
                 Ok(count) => {
                     self.end += count;
@@ -93,9 +99,26 @@ impl Inbox {
         Ok(Filled::Nothing)
     }
 
+    // Reads the stream once into the room behind what waits.
+    fn read_once<S: Read>(&mut self, stream: &mut S) -> Result<usize, io::Error>
+        requires { self.old.end < vec_len self.old.bytes }
+        ensures same { untaken self.new ≡ untaken self.old }
+        ensures end_stays { self.new.end ≡ self.old.end }
+        ensures room { vec_len self.new.bytes ≡ vec_len self.old.bytes }
+        ensures fits { IfOk result (λ count. self.new.end + count ≤ vec_len self.new.bytes) }
+        ensures ok { IfOk result (λ count. Consumes (S.remaining stream.old) (S.remaining stream.new) (take count (drop self.new.end self.new.bytes.items))) }
+        ensures end { IfOk result (λ count. count ≡ 0 → IsAtEnd (S.remaining stream.new)) }
+        ensures err { OnErr result (Keeps (S.remaining stream.old) (S.remaining stream.new)) }
+    {
+        read_behind(stream, self.bytes.as_mut_slice(), self.end)
+    }
+
     // Makes room for a read. Only the bytes of a frame that is not whole are moved, at most once, and copied where the
     // room doubles.
-    fn make_room(&mut self) -> Result<(), AllocError> {
+    fn make_room(&mut self) -> Result<(), AllocError>
+        ensures same { untaken self.new ≡ untaken self.old }
+        ensures room { OnOk result (self.new.end + 4096 ≤ vec_len self.new.bytes) }
+    {
         if self.bytes.len() - self.end >= LEAST_ROOM {
             return Ok(());
         }
@@ -108,9 +131,23 @@ impl Inbox {
     }
 
     // Moves what waits to the front of the room.
-    fn move_to_front(&mut self) {
+    fn move_to_front(&mut self)
+        ensures same { untaken self.new ≡ untaken self.old }
+    {
         self.bytes.copy_within(self.start..self.end, 0);
         self.end -= self.start;
         self.start = 0;
     }
+}
+
+// Reads the stream once into the bytes from `start` on.
+fn read_behind<S: Read>(stream: &mut S, bytes: &mut [u8], start: usize) -> Result<usize, io::Error>
+    requires { start < length bytes.old }
+    ensures front { take start bytes.new ≡ take start bytes.old }
+    ensures fits { IfOk result (λ count. start + count ≤ length bytes.new) }
+    ensures ok { IfOk result (λ count. Consumes (S.remaining stream.old) (S.remaining stream.new) (take count (drop start bytes.new))) }
+    ensures end { IfOk result (λ count. count ≡ 0 → IsAtEnd (S.remaining stream.new)) }
+    ensures err { OnErr result (Keeps (S.remaining stream.old) (S.remaining stream.new)) }
+{
+    stream.read(&mut bytes[start..])
 }

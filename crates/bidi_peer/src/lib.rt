@@ -15,11 +15,15 @@
 
 mod answering;
 mod asking;
+mod ending;
 mod framing;
+mod handshake;
 mod inbox;
 mod origins;
 mod outbox;
 mod peer;
+mod receiving;
+mod sending;
 mod standing;
 mod waiting;
 

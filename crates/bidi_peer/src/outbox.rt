@@ -1,9 +1,9 @@
 //! Bytes that wait to be written.
-ghost use Rattle.std.specs.Prelude.{◌≡◌, ◌↔◌, [], drop, length, IsTrue};
+ghost use Rattle.std.specs.Prelude.{◌≡◌, ◌↔◌, ◌++◌, [], drop, length, IsTrue, OnOk};
 ghost use Rattle.bidi_peer.specs.Waiting.{Writes, unwritten};
 
 use super::waiting::Outbox;
-use std::alloc::Global;
+use std::alloc::{AllocError, Global};
 use std::io::{ErrorKind, Write};
 use std::mem;
 
@@ -35,6 +35,13 @@ impl Outbox {
         ensures { IsTrue result ↔ (unwritten self.now ≡ []) }
     {
         self.len() == 0
+    }
+
+    /// Puts bytes behind what waits.
+    pub(crate) fn put(&mut self, bytes: &[u8]) -> Result<(), AllocError>
+        ensures { OnOk result (unwritten self.new ≡ unwritten self.old ++ bytes.now) }
+    {
+        self.second.extend_from_slice(bytes)
     }
 
     /// Drops what waits.

@@ -1,0 +1,119 @@
+-- What a take hears in a handshake, over several reads.
+use Rattle.std.proofs.Common.{◌≡◌, ◌≢◌, ◌∙◌, ◌++◌, ◌⊎◌, ℕ, List, [], Option, None, Some, ap, append-nil, append_assoc, drop, inl, inr, refl, subst, sym}
+use Rattle.std.specs.Io.KnownBytes.{Consumes, IsAtEnd, Keeps}
+use Rattle.bidi_peer.specs.Answering.{answer_bytes}
+use Rattle.bidi_peer.specs.Hearing.{Answers, Hears, IsHeard, Receives}
+use Rattle.bidi_peer.specs.Requests.{IsAskedBy}
+use Rattle.bidi_peer.specs.Waiting.{Writes, untaken, unwritten}
+use Rattle.bidi_peer.specs.declared.answering.Answer.{Answer}
+use Rattle.bidi_peer.specs.declared.asking.Asked.{Asked}
+use Rattle.bidi_peer.specs.declared.asking.Asked.TheVariants as asked
+use Rattle.bidi_peer.specs.declared.peer.Came.{Came}
+use Rattle.bidi_peer.specs.declared.peer.Came.TheVariants as telling
+use Rattle.bidi_peer.specs.Sending.{Flushes}
+use Rattle.bidi_peer.specs.Telling.{owed}
+use Rattle.bidi_peer.specs.declared.standing.End.{End}
+use Rattle.bidi_peer.specs.declared.standing.End.TheVariants.{Ahead, Known}
+use Rattle.bidi_peer.specs.declared.standing.Peer.{Peer}
+use Rattle.bidi_peer.specs.declared.standing.State.{State}
+use Rattle.bidi_peer.specs.declared.standing.State.TheVariants as standing
+use Rattle.bidi_peer.proofs.WaitingLemmas.{consumes-then, keeps-consumes, reads_nothing, reads_then}
+
+kept-self : (u : Option (List ℕ)) → Keeps u u
+kept-self None = tt
+kept-self (Some xs) = refl
+
+module _ {S : Type 0} (remaining contents : S → Option (List ℕ)) where
+  -- it receives nothing
+  pub receives_nothing : (p : Peer S) → Receives remaining p p
+  receives_nothing p = record {
+    state = refl;
+    end = refl;
+    context = refl;
+    outbox = refl;
+    reads = reads_nothing remaining (untaken p.inbox) (untaken p.inbox) p.stream p.stream refl (kept-self (remaining p.stream));
+  }
+
+  -- it receives once more
+  pub receives_then : (a b c : Peer S) → Receives remaining a b → Receives remaining b c → Receives remaining a c
+  receives_then a b c x y = record {
+    state = y.state ∙ x.state;
+    end = y.end ∙ x.end;
+    context = y.context ∙ x.context;
+    outbox = y.outbox ∙ x.outbox;
+    reads = reads_then remaining (untaken a.inbox) (untaken b.inbox) (untaken c.inbox) a.stream b.stream c.stream x.reads y.reads;
+  }
+
+  joined : (a b : Peer S) (x : Receives remaining a b) (more : List ℕ) → untaken b.inbox ++ more ≡ untaken a.inbox ++ (x.reads.came ++ more)
+  joined a b x more = ap (λ l. l ++ more) x.reads.joins ∙ append_assoc (untaken a.inbox) x.reads.came more
+
+  hears-then : (what : Asked) (a b : Peer S) (s : S) → Receives remaining a b → Hears remaining what b s → Hears remaining what a s
+  hears-then what a b s x h = record {
+    bytes = x.reads.came ++ h.bytes;
+    given = consumes-then (remaining a.stream) (remaining b.stream) (remaining s) x.reads.came h.bytes x.reads.given h.given;
+    asks = subst (λ l. IsAskedBy l what) (joined a b x h.bytes) h.asks;
+  }
+
+  -- what is heard after some more bytes came
+  pub heard_then : (a b c : Peer S) (told : Came) → Receives remaining a b → IsHeard remaining contents b c told → IsHeard remaining contents a c told
+  unfolding hears-then
+  heard_then a b c telling.Nothing x h = receives_then a b c x h
+  heard_then a b c telling.More x h = absurd h
+  heard_then a b c (telling.Asks target) x h =
+      (h.0, h.1, hears-then (asked.Socket target h.0 h.1) a b c.stream x h.2, h.3, h.4 ∙ ap (drop h.1) (joined a b x h.2.bytes))
+  heard_then a b c (telling.Text t) x h = absurd h
+  heard_then a b c telling.NotText x h = absurd h
+  heard_then a b c telling.Ended x (inl done) = inl done
+  heard_then a b c telling.Ended x (inr (inl ended)) = inr (inl ended)
+  heard_then a b c telling.Ended x (inr (inr h)) = inr (inr (record {
+    answer = h.answer;
+    stream = h.stream;
+    hears = hears-then (asked.Other h.answer) a b h.stream x h.hears;
+    writes = subst (λ l. Writes contents (l ++ answer_bytes h.answer) (unwritten c.outbox) h.stream c.stream) x.outbox h.writes;
+  }))
+
+  hears-now : (what : Asked) (a : Peer S) (s : S) → s ≡ a.stream → IsAskedBy (untaken a.inbox) what → Hears remaining what a s
+  hears-now what a s at asks = record {
+    bytes = [];
+    given = keeps-consumes (remaining a.stream) (remaining s) (subst (λ x. Keeps (remaining a.stream) (remaining x)) (sym at) (kept-self (remaining a.stream)));
+    asks = subst (λ l. IsAskedBy l what) (sym (append-nil (untaken a.inbox))) asks;
+  }
+
+  -- a request that is told, with what is left of the bytes
+  pub request_heard : (a : Peer S) (left : List ℕ) (s : S) (stands : State) (target : _) (accept : List ℕ) (n : ℕ) → IsAskedBy (untaken a.inbox) (asked.Socket target accept n)
+      → s ≡ a.stream → stands ≡ standing.Asked accept → left ≡ drop n (untaken a.inbox)
+      → (key : List ℕ) × (m : ℕ) × (heard : Hears remaining (asked.Socket target key m) a s) × (stands ≡ standing.Asked key) × (left ≡ drop m (untaken a.inbox ++ heard.bytes))
+  unfolding hears-now
+  request_heard a left s stands target accept n asks stream waits rest =
+      (accept, n, hears-now (asked.Socket target accept n) a s stream asks, waits, rest ∙ ap (drop n) (sym (append-nil (untaken a.inbox))))
+
+  -- a request that is answered
+  pub answer_heard : (a m b : Peer S) (told : Came) (answer : Answer) → told ≡ telling.Ended → IsAskedBy (untaken a.inbox) (asked.Other answer)
+      → (m.state ≡ standing.Done) ⊎ Writes contents (unwritten a.outbox ++ answer_bytes answer) (unwritten m.outbox) a.stream m.stream
+      → b.state ≡ m.state → unwritten b.outbox ≡ unwritten m.outbox → b.stream ≡ m.stream → IsHeard remaining contents a b told
+  answer_heard a m b told answer is asks (inl done) state outbox stream = subst (λ c. IsHeard remaining contents a b c) (sym is) (inl (state ∙ done))
+  answer_heard a m b told answer is asks (inr writes) state outbox stream =
+      let sent : Writes contents (unwritten a.outbox ++ answer_bytes answer) (unwritten b.outbox) a.stream b.stream =
+      subst (λ w. Writes contents (unwritten a.outbox ++ answer_bytes answer) w a.stream b.stream) (sym outbox)
+      (subst (λ s. Writes contents (unwritten a.outbox ++ answer_bytes answer) (unwritten m.outbox) a.stream s) (sym stream) writes) in
+      subst (λ c. IsHeard remaining contents a b c) (sym is)
+      (inr (inr (record { answer = answer; stream = a.stream; hears = hears-now (asked.Other answer) a a.stream refl asks; writes = sent })))
+
+  -- the end of the stream
+  pub ended_heard : (a b : Peer S) (told : Came) → told ≡ telling.Ended → IsAtEnd (remaining b.stream) → IsHeard remaining contents a b told
+  ended_heard a b told is ended = subst (λ c. IsHeard remaining contents a b c) (sym is) (inr (inl ended))
+
+  -- a stream that failed
+  pub cut_heard : (a b : Peer S) (told : Came) → told ≡ telling.Ended → b.state ≡ standing.Done → IsHeard remaining contents a b told
+  cut_heard a b told is done = subst (λ c. IsHeard remaining contents a b c) (sym is) (inl done)
+
+  -- what a flush makes of what waits
+  pub after_flush : (b c : Peer S) (s : S) (waits : List ℕ) → (c.state ≡ standing.Done) ⊎ Flushes contents b c → unwritten b.outbox ≡ waits → b.stream ≡ s
+      → (c.state ≡ standing.Done) ⊎ Writes contents waits (unwritten c.outbox) s c.stream
+  after_flush b c s waits (inl done) same at = inl done
+  after_flush b c s waits (inr f) same at =
+      inr (subst (λ x. Writes contents x (unwritten c.outbox) s c.stream) same (subst (λ x. Writes contents (unwritten b.outbox) (unwritten c.outbox) x c.stream) at f.writes))
+
+-- an end that is owed is not known yet
+pub owed_unknown : (e n : End) → e ≡ Ahead → n ≡ owed e → n ≢ Known
+owed_unknown e n ahead is known = cc (sym known ∙ is ∙ ap owed ahead)

@@ -1,0 +1,212 @@
+//! How a connection ends, and how its end is told.
+ghost use Rattle.std.specs.Prelude.{◌≡◌, ◌≢◌, ◌↔◌, [], IsTrue, OnErr, OnOk};
+ghost use Rattle.bidi_peer.specs.Telling.{HasEnded, IsInHandshake, IsQuiet, IsTimely, IsUnclosed, SameKnown, StaysKnown, StaysUnlessDone, TellsOnce, owed};
+ghost use Rattle.bidi_peer.specs.Waiting.{unwritten};
+ghost use Rattle.bidi_peer.specs.declared.peer.Came.TheVariants.{Ended};
+ghost use Rattle.bidi_peer.specs.declared.standing.End.TheVariants.{Known};
+ghost use Rattle.bidi_peer.specs.declared.standing.State.TheVariants.{Closing, Done, Leaving, Open};
+
+use super::framing::{Fault, write_close};
+use super::peer::{Came, Ending, new_context};
+use super::standing::{End, Peer, State};
+use std::alloc::AllocError;
+use std::io::{Read, Write};
+use websocket::protocol::CloseCode;
+
+impl<S: Read + Write + Drop> Peer<S> {
+    /// Closes the connection by a close frame with an empty reason, behind what waits. What the peer sends before its
+    /// own close frame is not told; a take that finds that frame, or the end of the stream, gives `Ended`. In the
+    /// handshake the connection is over at once, and `Ended` is not told. Does nothing where it is closed already.
+    ///
+    /// # Errors
+    /// No memory: an allocation failed, and nothing has changed.
+    pub fn close(&mut self, ending: Ending) -> Result<(), AllocError>
+        ensures stays_known { StaysKnown self.old.end self.new.end }
+        // It is not open any more.
+        ensures ok { OnOk result (self.new.state ≢ Open) }
+        // An open connection then closes, unless the stream failed.
+        ensures closes { self.old.state ≡ Open → OnOk result (StaysUnlessDone Closing self.new.state) }
+        // In the handshake the connection is over, and the caller knows it.
+        ensures handshake { IsInHandshake self.old.state → (self.new.state ≡ Done) × (self.new.end ≡ Known) }
+        // At any other time no end is told by this call.
+        ensures known { (IsInHandshake self.old.state → ⊥) → SameKnown self.old.end self.new.end }
+        // A connection that is closed does not change.
+        ensures else_same { (IsUnclosed self.old.state → ⊥) → self.new ≡ self.old }
+        // After an error it stands where it stood.
+        ensures err { OnErr result (self.new.state ≡ self.old.state) }
+    {
+        match self.state {
+            State::Head | State::Asked(_) => {
+                self.end = End::Known;
+                self.cut();
+            }
+            State::Open => {
+                self.put_close(ending.code(), "")?;
+                self.flush();
+            }
+            State::Closing | State::Leaving | State::Done => {}
+        }
+        Ok(())
+    }
+
+    /// Fails the connection, because the host holds too much in all and this connection holds most of it.
+    ///
+    /// If more came than waits to be written, the close code is 1009, and what came is forgotten at once; all that
+    /// comes later is thrown away. Otherwise the close code is 1013. The reason is `too much is held in all`, the frame
+    /// is behind what waits, and the next take gives `Ended`. In the handshake the connection is over at once, and
+    /// `Ended` is not told. If it is closing or has ended, it is cut: what came and what waits is given back, and
+    /// the next take gives `Ended`, unless an earlier one did.
+    ///
+    /// # Errors
+    /// No memory: an allocation failed, and nothing has changed.
+    pub fn shed(&mut self) -> Result<(), AllocError>
+        ensures stays_known { StaysKnown self.old.end self.new.end }
+        // It is not open any more.
+        ensures ok { OnOk result (self.new.state ≢ Open) }
+        // In the handshake, and where it is closing or has ended, nothing more is read or written.
+        ensures cut { self.old.state ≢ Open → self.new.state ≡ Done }
+        // In the handshake the caller knows the end.
+        ensures handshake { IsInHandshake self.old.state → self.new.end ≡ Known }
+        // At any other time no end is told by this call.
+        ensures known { (IsInHandshake self.old.state → ⊥) → SameKnown self.old.end self.new.end }
+        // After an error nothing has changed.
+        ensures err { OnErr result (self.new.state ≡ self.old.state) }
+    {
+        match self.state {
+            State::Open if self.came() > self.outbox.len() => {
+                self.give_up(Fault::CrowdedIn)?;
+                self.forget();
+            }
+            State::Open => self.give_up(Fault::CrowdedOut)?,
+            State::Head | State::Asked(_) => {
+                self.end = End::Known;
+                self.cut();
+            }
+            State::Closing | State::Leaving | State::Done => self.cut(),
+        }
+        Ok(())
+    }
+
+    /// Fails a connection by a close frame behind what waits. The next take tells the end, unless the caller knows it.
+    pub(crate) fn give_up(&mut self, fault: Fault) -> Result<(), AllocError>
+        requires { HasEnded self.old.state → ⊥ }
+        ensures known { SameKnown self.old.end self.new.end }
+        ensures ok { OnOk result (StaysUnlessDone Closing self.new.state) }
+        ensures err { OnErr result (self.new.state ≡ self.old.state) }
+    {
+        self.put_close(fault.code(), fault.reason())?;
+        self.owe_end();
+        self.flush();
+        Ok(())
+    }
+
+    /// Puts a close frame behind what waits, unless one was sent. The connection is then no more open.
+    pub(crate) fn put_close(&mut self, code: CloseCode, reason: &str) -> Result<(), AllocError>
+        requires { HasEnded self.old.state → ⊥ }
+        ensures end { self.new.end ≡ self.old.end }
+        ensures ok { OnOk result (self.new.state ≡ Closing) }
+        ensures err { OnErr result (self.new.state ≡ self.old.state) }
+    {
+        write_close(&mut self.context, code, reason, &mut self.outbox.second)?;
+        self.state = State::Closing;
+        Ok(())
+    }
+
+    /// Tells the end, unless the caller knows it.
+    pub(crate) fn tell_end(&mut self) -> Came
+        ensures known { self.new.end ≡ Known }
+        ensures tells_once { TellsOnce self.old.end self.new.end result }
+        ensures timely { IsTimely self.new.state result }
+        ensures ended { self.old.end ≢ Known → result ≡ Ended }
+        ensures state { self.new.state ≡ self.old.state }
+        ensures stream { self.new.stream ≡ self.old.stream }
+        ensures outbox { unwritten self.new.outbox ≡ unwritten self.old.outbox }
+    {
+        if self.end == End::Known {
+            Came::Nothing
+        } else {
+            self.end = End::Known;
+            Came::Ended
+        }
+    }
+
+    /// This, or the end where nothing more is read.
+    pub(crate) fn or_end(&mut self, came: Came) -> Came
+        requires { IsQuiet came }
+        ensures stays_known { StaysKnown self.old.end self.new.end }
+        ensures tells_once { TellsOnce self.old.end self.new.end result }
+        ensures told { HasEnded self.new.state → self.new.end ≡ Known }
+        ensures timely { IsTimely self.new.state result }
+    {
+        if self.has_ended() {
+            self.tell_end()
+        } else {
+            came
+        }
+    }
+
+    /// Whether nothing more is read.
+    pub(crate) fn has_ended(&self) -> bool
+        ensures { IsTrue result ↔ HasEnded self.now.state }
+    {
+        matches!(self.state, State::Leaving | State::Done)
+    }
+
+    /// Ends a connection whose stream failed. The next take tells it, unless the caller knows it.
+    pub(crate) fn cut(&mut self)
+        ensures end { self.new.end ≡ owed self.old.end }
+        ensures state { self.new.state ≡ Done }
+    {
+        self.outbox.clear();
+        self.stop(State::Done);
+    }
+
+    /// Reads nothing more. What waits is still written.
+    pub(crate) fn leave(&mut self)
+        ensures end { self.new.end ≡ owed self.old.end }
+        ensures state { self.new.state ≡ Leaving }
+        ensures stream { self.new.stream ≡ self.old.stream }
+        ensures outbox { unwritten self.new.outbox ≡ unwritten self.old.outbox }
+    {
+        self.stop(State::Leaving);
+    }
+
+    // Gives back what came, and reads nothing more. The next take tells the end, unless the caller knows it.
+    fn stop(&mut self, state: State)
+        requires ended { HasEnded state }
+        requires cut { state ≡ Done → unwritten self.old.outbox ≡ [] }
+        ensures end { self.new.end ≡ owed self.old.end }
+        ensures state { self.new.state ≡ state }
+        ensures stream { self.new.stream ≡ self.old.stream }
+        ensures outbox { unwritten self.new.outbox ≡ unwritten self.old.outbox }
+    {
+        self.owe_end();
+        self.state = state;
+        self.forget();
+    }
+
+    /// Gives back what came. Frames that come later are thrown away.
+    pub(crate) fn forget(&mut self)
+        ensures end { self.new.end ≡ self.old.end }
+        ensures state { self.new.state ≡ self.old.state }
+        ensures stream { self.new.stream ≡ self.old.stream }
+        ensures outbox { unwritten self.new.outbox ≡ unwritten self.old.outbox }
+    {
+        self.inbox.give_back();
+        self.context = new_context(self.alloc);
+        let _ = self.context.end_of_input();
+        self.fragments = 0;
+    }
+
+    /// The next take tells the end, unless the caller knows it.
+    pub(crate) fn owe_end(&mut self)
+        ensures end { self.new.end ≡ owed self.old.end }
+        ensures state { self.new.state ≡ self.old.state }
+        ensures outbox { unwritten self.new.outbox ≡ unwritten self.old.outbox }
+        ensures stream { self.new.stream ≡ self.old.stream }
+    {
+        if self.end == End::Ahead {
+            self.end = End::Due;
+        }
+    }
+}

@@ -1,0 +1,134 @@
+//! The handshake of a connection: its request, and the answer.
+ghost use Rattle.std.specs.Prelude.{◌≡◌, ◌⊎◌, ◌++◌, IfOk, IfSome, OnErr, OnOk};
+ghost use Rattle.bidi_peer.specs.Answering.{answer_bytes};
+ghost use Rattle.bidi_peer.specs.Hearing.{IsHeard};
+ghost use Rattle.bidi_peer.specs.Requests.{IsAskedBy};
+ghost use Rattle.bidi_peer.specs.Waiting.{Writes, untaken, unwritten};
+ghost use Rattle.bidi_peer.specs.declared.answering.Answer.TheVariants.{Refused};
+ghost use Rattle.bidi_peer.specs.Telling.{HasEnded, IsAsked, IsTimely, MayTell, SameKnown, StaysKnown, StaysUnlessDone, TellsOnce};
+ghost use Rattle.bidi_peer.specs.declared.standing.End.TheVariants.{Ahead, Known};
+ghost use Rattle.bidi_peer.specs.declared.standing.State.TheVariants.{Done, Leaving, Open};
+
+use super::answering::{Answer, Refusal};
+use super::asking::{Asked, is_to_judge, judge};
+use super::peer::Came;
+use super::standing::{End, Peer, State};
+use std::alloc::AllocError;
+use std::io::{Read, Write};
+use websocket::handshake::server::write_response;
+
+impl<S: Read + Write + Drop> Peer<S> {
+    /// Reads until the head of a request is whole.
+    #[tactic(auto, using(crate::proofs::HearingLemmas::heard_then, crate::proofs::HearingLemmas::receives_then, crate::proofs::HearingLemmas::receives_nothing))]
+    pub(crate) fn read_request(&mut self) -> Result<Came, AllocError>
+        requires { HasEnded self.old.state → ⊥ }
+        ensures stays_known { StaysKnown self.old.end self.new.end }
+        ensures tells_once { IfOk result (TellsOnce self.old.end self.new.end) }
+        ensures told { OnOk result (HasEnded self.new.state → self.new.end ≡ Known) }
+        ensures timely { IfOk result (IsTimely self.new.state) }
+        ensures heard { self.old.end ≡ Ahead → IfOk result (IsHeard S.remaining S.contents self.old self.new) }
+    {
+        for _ in 0..usize::MAX {
+            let known = self.inbox.waiting().len();
+            if let Some(came) = self.read_on()? {
+                return Ok(came);
+            }
+            if is_to_judge(self.inbox.waiting(), known) {
+                let asked = judge(self.alloc, self.inbox.waiting())?;
+                if let Some(came) = self.hear(asked)? {
+                    return Ok(came);
+                }
+            }
+        }
+        Ok(Came::Nothing)
+    }
+
+    // What a head comes to, or nothing where more of it has to be read.
+    #[tactic(auto, using(crate::proofs::HearingLemmas::answer_heard, crate::proofs::HearingLemmas::owed_unknown))]
+    fn hear(&mut self, asked: Asked) -> Result<Option<Came>, AllocError>
+        requires reads { HasEnded self.old.state → ⊥ }
+        requires asks { IsAskedBy (untaken self.old.inbox) asked }
+        ensures stays_known { StaysKnown self.old.end self.new.end }
+        ensures tells_once { IfOk result (MayTell self.old.end self.new.end) }
+        ensures told { IfOk result (λ came. IfSome came (λ _. HasEnded self.new.state → self.new.end ≡ Known)) }
+        ensures timely { IfOk result (λ came. IfSome came (IsTimely self.new.state)) }
+        ensures heard { self.old.end ≡ Ahead → IfOk result (λ came. IfSome came (IsHeard S.remaining S.contents self.old self.new)) }
+        ensures part { IfOk result (λ came. came ≡ None → self.new ≡ self.old) }
+    {
+        match asked {
+            Asked::Part => Ok(None),
+            Asked::Socket {
+                target,
+                accept,
+                length,
+            } => {
+                self.inbox.take(length);
+                self.state = State::Asked(accept);
+                Ok(Some(Came::Asks(target)))
+            }
+            Asked::Other(answer) => {
+                self.answer(answer)?;
+                Ok(Some(self.tell_end()))
+            }
+        }
+    }
+
+    // Puts an answer behind what waits, and leaves.
+    fn answer(&mut self, answer: Answer) -> Result<(), AllocError>
+        requires { HasEnded self.old.state → ⊥ }
+        ensures known { SameKnown self.old.end self.new.end }
+        ensures ok { OnOk result (StaysUnlessDone Leaving self.new.state) }
+        ensures err { OnErr result (self.new.state ≡ self.old.state) }
+        ensures writes { OnOk result ((self.new.state ≡ Done) ⊎ Writes S.contents (unwritten self.old.outbox ++ answer_bytes answer) (unwritten self.new.outbox) self.old.stream self.new.stream) }
+    {
+        let text = answer.text(self.alloc)?;
+        self.outbox.put(text.as_bytes())?;
+        self.leave();
+        self.flush();
+        Ok(())
+    }
+
+    /// Opens a connection whose request was told by [`Came::Asks`]: answers 101, and from now on takes and sends
+    /// messages; take again then, since what came behind the request was not looked at. Does nothing at any other
+    /// time.
+    ///
+    /// # Errors
+    /// No memory: an allocation failed, and nothing has changed.
+    pub fn open(&mut self) -> Result<(), AllocError>
+        ensures known { SameKnown self.old.end self.new.end }
+        ensures else_same { (IsAsked self.old.state → ⊥) → self.new ≡ self.old }
+        ensures ok { IsAsked self.old.state → OnOk result (StaysUnlessDone Open self.new.state) }
+        ensures err { OnErr result (self.new.state ≡ self.old.state) }
+    {
+        let State::Asked(accept) = self.state else {
+            return Ok(());
+        };
+        if write_response(&accept, &[], &mut self.outbox.second).is_err() {
+            return Err(AllocError);
+        }
+        self.state = State::Open;
+        self.flush();
+        Ok(())
+    }
+
+    /// Refuses a connection whose request was told by [`Came::Asks`], by an HTTP answer; [`Came::Ended`] is not told.
+    /// Does nothing at any other time.
+    ///
+    /// # Errors
+    /// No memory: an allocation failed, and nothing has changed.
+    pub fn refuse(&mut self, refusal: Refusal) -> Result<(), AllocError>
+        ensures stays_known { StaysKnown self.old.end self.new.end }
+        ensures else_same { (IsAsked self.old.state → ⊥) → self.new ≡ self.old }
+        ensures ok { IsAsked self.old.state → OnOk result (StaysUnlessDone Leaving self.new.state × (self.new.end ≡ Known)) }
+        ensures err { OnErr result (self.new.state ≡ self.old.state) }
+        // The answer is behind what waits, unless the stream failed.
+        ensures answers { IsAsked self.old.state → OnOk result ((self.new.state ≡ Done) ⊎ Writes S.contents (unwritten self.old.outbox ++ answer_bytes (Refused refusal)) (unwritten self.new.outbox) self.old.stream self.new.stream) }
+    {
+        let State::Asked(_) = self.state else {
+            return Ok(());
+        };
+        self.answer(Answer::Refused(refusal))?;
+        self.end = End::Known;
+        Ok(())
+    }
+}

@@ -1,0 +1,159 @@
+//! What a connection takes of the bytes that come: frames, and the messages in them.
+ghost use Rattle.std.specs.Prelude.{◌≡◌, true, IfOk, IfSome, OnOk};
+ghost use Rattle.websocket.specs.Connection.{can_read, read_step};
+ghost use Rattle.bidi_peer.specs.Hearing.{IsHeard, Receives};
+ghost use Rattle.bidi_peer.specs.Taking.{IsTakenFor};
+ghost use Rattle.bidi_peer.specs.Telling.{HasEnded, IsTimely, MayTell, StaysKnown, TellsOnce};
+ghost use Rattle.bidi_peer.specs.Waiting.{untaken};
+ghost use Rattle.bidi_peer.specs.declared.standing.End.TheVariants.{Ahead, Known};
+
+use super::framing::{Fault, Frame, read_frame};
+use super::inbox::Filled;
+use super::peer::Came;
+use super::standing::{End, Peer, State};
+use std::alloc::AllocError;
+use std::io::{Read, Write};
+
+/// How many reads and frames one take is at most.
+const MOST_STEPS: u32 = 1024;
+
+impl<S: Read + Write + Drop> Peer<S> {
+    /// Takes frames until one is for the caller, or there is none for now, or others should have their turn.
+    pub(crate) fn read_messages(&mut self) -> Result<Came, AllocError>
+        ensures stays_known { StaysKnown self.old.end self.new.end }
+        ensures tells_once { IfOk result (TellsOnce self.old.end self.new.end) }
+        ensures told { OnOk result (HasEnded self.new.state → self.new.end ≡ Known) }
+        ensures timely { IfOk result (IsTimely self.new.state) }
+    {
+        for _ in 0..MOST_STEPS {
+            if self.has_ended() {
+                break;
+            }
+            let frame = self.next_frame()?;
+            if let Some(came) = self.receive(frame)? {
+                return Ok(came);
+            }
+        }
+        Ok(self.or_end(Came::More))
+    }
+
+    // Takes the next frame. Where the peer broke the protocol there are none any more. A connection whose protocol sends
+    // nothing more is not open.
+    fn next_frame(&mut self) -> Result<Frame, AllocError>
+        requires { HasEnded self.old.state → ⊥ }
+        ensures end { self.new.end ≡ self.old.end }
+        ensures reads { HasEnded self.new.state → ⊥ }
+        ensures shows { can_read self.old.context.state ≡ true → IfOk result (IsTakenFor (read_step self.old.context (untaken self.old.inbox))) }
+    {
+        if !self.context.can_read() {
+            self.inbox.clear();
+            return Ok(Frame::Part);
+        }
+        let frame = read_frame(
+            self.alloc,
+            &mut self.context,
+            &mut self.inbox,
+            &mut self.outbox.second,
+        );
+        if self.is_open() && !self.context.can_write() {
+            self.state = State::Closing;
+        }
+        let frame = frame?;
+        self.count(&frame);
+        Ok(frame)
+    }
+
+    // Counts what the context holds of a message whose end has not come.
+    fn count(&mut self, frame: &Frame)
+        ensures end { self.new.end ≡ self.old.end }
+        ensures state { self.new.state ≡ self.old.state }
+    {
+        match frame {
+            Frame::Fragment(length) => self.fragments = self.fragments.saturating_add(*length),
+            Frame::Text(_) | Frame::NotText | Frame::Bad(_) => self.fragments = 0,
+            Frame::Part | Frame::Control | Frame::Close => {}
+        }
+    }
+
+    // What a frame comes to, or nothing where a further one has to be taken.
+    fn receive(&mut self, frame: Frame) -> Result<Option<Came>, AllocError>
+        requires { HasEnded self.old.state → ⊥ }
+        ensures stays_known { StaysKnown self.old.end self.new.end }
+        ensures tells_once { IfOk result (MayTell self.old.end self.new.end) }
+        ensures told { IfOk result (λ came. IfSome came (λ _. HasEnded self.new.state → self.new.end ≡ Known)) }
+        ensures timely { IfOk result (λ came. IfSome came (IsTimely self.new.state)) }
+    {
+        match frame {
+            Frame::Part => self.read_on(),
+            Frame::Control | Frame::Fragment(_) => {
+                self.flush();
+                self.bound()
+            }
+            Frame::Text(text) if self.is_open() => Ok(Some(Came::Text(text))),
+            Frame::NotText if self.is_open() => Ok(Some(Came::NotText)),
+            Frame::Text(_) | Frame::NotText => Ok(None),
+            Frame::Close => {
+                self.leave();
+                self.flush();
+                Ok(Some(self.tell_end()))
+            }
+            Frame::Bad(fault) => self.fail(fault),
+        }
+    }
+
+    // Fails a connection whose answers to pings would pass the bound.
+    fn bound(&mut self) -> Result<Option<Came>, AllocError>
+        ensures stays_known { StaysKnown self.old.end self.new.end }
+        ensures tells_once { IfOk result (MayTell self.old.end self.new.end) }
+        ensures told { IfOk result (λ came. IfSome came (λ _. HasEnded self.new.state → self.new.end ≡ Known)) }
+        ensures timely { IfOk result (λ came. IfSome came (IsTimely self.new.state)) }
+    {
+        if self.is_open() && self.outbox.len() > self.most_waiting {
+            self.fail(Fault::Slow)
+        } else {
+            Ok(None)
+        }
+    }
+
+    // Sends a close frame for a fault, and tells the end if the caller does not know it.
+    fn fail(&mut self, fault: Fault) -> Result<Option<Came>, AllocError>
+        requires { HasEnded self.old.state → ⊥ }
+        ensures stays_known { StaysKnown self.old.end self.new.end }
+        ensures tells_once { IfOk result (MayTell self.old.end self.new.end) }
+        ensures told { IfOk result (λ came. IfSome came (λ _. HasEnded self.new.state → self.new.end ≡ Known)) }
+        ensures timely { IfOk result (λ came. IfSome came (IsTimely self.new.state)) }
+    {
+        self.put_close(fault.code(), fault.reason())?;
+        self.flush();
+        if self.end == End::Known {
+            return Ok(None);
+        }
+        Ok(Some(self.tell_end()))
+    }
+
+    /// Reads the stream once. Nothing where bytes came.
+    #[tactic(auto, using(crate::proofs::HearingLemmas::ended_heard, crate::proofs::HearingLemmas::cut_heard, crate::proofs::HearingLemmas::owed_unknown))]
+    pub(crate) fn read_on(&mut self) -> Result<Option<Came>, AllocError>
+        requires { HasEnded self.old.state → ⊥ }
+        ensures waits { IfOk result (λ came. came ≡ None → self.new.state ≡ self.old.state) }
+        ensures stays_known { StaysKnown self.old.end self.new.end }
+        ensures tells_once { IfOk result (MayTell self.old.end self.new.end) }
+        ensures told { IfOk result (λ came. IfSome came (λ _. HasEnded self.new.state → self.new.end ≡ Known)) }
+        ensures timely { IfOk result (λ came. IfSome came (IsTimely self.new.state)) }
+        ensures heard { self.old.end ≡ Ahead → IfOk result (λ came. IfSome came (IsHeard S.remaining S.contents self.old self.new)) }
+        ensures receives { IfOk result (λ came. came ≡ None → Receives S.remaining self.old self.new) }
+    {
+        match self.inbox.fill(&mut self.stream)? {
+            Filled::Some => Ok(None),
+            Filled::Nothing => Ok(Some(Came::Nothing)),
+            Filled::Ended => {
+                self.leave();
+                Ok(Some(self.tell_end()))
+            }
+            Filled::Failed => {
+                self.cut();
+                Ok(Some(self.tell_end()))
+            }
+        }
+    }
+}

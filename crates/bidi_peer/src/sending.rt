@@ -1,0 +1,114 @@
+//! What a connection sends: texts, as far as there is room and the stream takes them.
+ghost use Rattle.std.specs.Prelude.{◌≡◌, ◌≢◌, ◌≤◌, ◌<◌, ◌⊎◌, ◌+◌, length, IsFalse, IsTrue, OnErr, OnOk};
+ghost use Rattle.bidi_peer.specs.Sending.{Flushes, HasNoRoom, IsLittle, Puts, SendsText};
+ghost use Rattle.bidi_peer.specs.Telling.{SameKnown, StaysUnlessDone};
+ghost use Rattle.bidi_peer.specs.Waiting.{unwritten};
+ghost use Rattle.bidi_peer.specs.declared.standing.State.TheVariants.{Done, Open};
+
+use super::framing::{Fault, frame_len, write_text};
+use super::standing::{Peer, State};
+use std::alloc::AllocError;
+use std::io::{Read, Write};
+
+/// From how many bytes on a text is written at once.
+const MUCH: usize = 64 * 1024;
+
+impl<S: Read + Write + Drop> Peer<S> {
+    /// Sends a text in one frame: it waits for [`Peer::flush`], so that several go out in one write, or is written at
+    /// once where 64 KiB wait. Does nothing where the connection is not open.
+    ///
+    /// Where the stream does not take enough, and the frame would make more wait than may, it is not sent: the
+    /// connection is closed with code 1013 behind what waits, and the next take gives `Ended`.
+    ///
+    /// Costs a copy of the text.
+    ///
+    /// # Errors
+    /// No memory: an allocation failed. The text is not sent.
+    pub fn send(&mut self, text: &str) -> Result<(), AllocError>
+        // No end is told, and what the caller knows stays known.
+        ensures known { SameKnown self.old.end self.new.end }
+        // A connection that is not open does not change.
+        ensures else_same { self.old.state ≢ Open → self.new ≡ self.old }
+        // Where it was open and stays open, the frame of the text joined what is to be written, behind all of it.
+        ensures sends { self.old.state ≡ Open → OnOk result (self.new.state ≡ Open → SendsText S.contents text.now self.old self.new) }
+        // A little text waits, and the stream is not used.
+        ensures waits { self.old.state ≡ Open → IsLittle text.now self.old → OnOk result ((self.new.state ≡ Open) × Puts text.now self.old self.new) }
+        // An open connection stays open, unless its stream failed or the text has no room.
+        ensures gives_up { self.old.state ≡ Open → OnOk result (StaysUnlessDone Open self.new.state ⊎ HasNoRoom S.contents text.now self.old self.new) }
+        // After an error it stands where it stood, unless its stream failed.
+        ensures err { OnErr result (StaysUnlessDone self.old.state self.new.state) }
+    {
+        let frame = frame_len(text);
+        self.make_room(frame);
+        if !self.is_open() {
+            return Ok(());
+        }
+        if !self.has_room(frame) {
+            self.give_up(Fault::Slow)?;
+            return Ok(());
+        }
+        self.put_text(text)?;
+        self.write_much();
+        Ok(())
+    }
+
+    // Writes what waits, where the connection is open and so many bytes have no room behind it.
+    fn make_room(&mut self, frame: usize)
+        ensures else_same { self.old.state ≢ Open → self.new ≡ self.old }
+        ensures room { length (unwritten self.old.outbox) + frame ≤ self.old.most_waiting → self.new ≡ self.old }
+        ensures state { StaysUnlessDone self.old.state self.new.state }
+        ensures flushes { (self.new.state ≡ Done) ⊎ Flushes S.contents self.old self.new }
+        ensures known { SameKnown self.old.end self.new.end }
+    {
+        if self.is_open() && !self.has_room(frame) {
+            self.flush();
+        }
+    }
+
+    // Whether so many bytes may wait behind what does.
+    fn has_room(&self, frame: usize) -> bool
+        ensures full { IsFalse result → self.now.most_waiting < length (unwritten self.now.outbox) + frame }
+        ensures room { length (unwritten self.now.outbox) + frame ≤ self.now.most_waiting → IsTrue result }
+    {
+        self.outbox.len().saturating_add(frame) <= self.most_waiting
+    }
+
+    // Puts the frame of a text behind what waits.
+    fn put_text(&mut self, text: &str) -> Result<(), AllocError>
+        requires { self.old.state ≡ Open }
+        ensures puts { OnOk result (Puts text.now self.old self.new) }
+        ensures state { self.new.state ≡ self.old.state }
+        ensures end { self.new.end ≡ self.old.end }
+    {
+        write_text(&mut self.context, text, &mut self.outbox.second)
+    }
+
+    // Writes what waits, where it is much.
+    fn write_much(&mut self)
+        ensures little { length (unwritten self.old.outbox) < 65536 → self.new ≡ self.old }
+        ensures state { StaysUnlessDone self.old.state self.new.state }
+        ensures flushes { (self.new.state ≡ Done) ⊎ Flushes S.contents self.old self.new }
+        ensures known { SameKnown self.old.end self.new.end }
+    {
+        if self.outbox.len() >= MUCH {
+            self.flush();
+        }
+    }
+
+    /// Writes what waits, as far as the stream takes it. Call it when the stream can be written again.
+    pub fn flush(&mut self)
+        // No end is told, and what the caller knows stays known.
+        ensures known { SameKnown self.old.end self.new.end }
+        // It stands where it stood, unless its stream failed.
+        ensures state { StaysUnlessDone self.old.state self.new.state }
+        // The stream took some bytes off the front of what waits, and the rest waits still, unless the stream failed.
+        ensures flushes { (self.new.state ≡ Done) ⊎ Flushes S.contents self.old self.new }
+    {
+        if matches!(self.state, State::Done) {
+            return;
+        }
+        if !self.outbox.write_to(&mut self.stream) {
+            self.cut();
+        }
+    }
+}
