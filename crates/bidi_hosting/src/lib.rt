@@ -5,18 +5,25 @@
 //! lies round it, as the clock, the record and standard input, is a [`Surroundings`].
 #![tactic(auto)]
 
+mod arrivals;
+mod clients;
+mod clock;
 mod console;
 mod door;
 mod fault;
 mod hosting;
+mod manners;
 mod page_file;
+mod pages;
 mod peers;
 mod sessions;
+mod slot;
 mod surroundings;
 
 pub use bidi_peer::MOST_WAITING;
 pub use door::Door;
 pub use fault::HostingFault;
-pub use hosting::{Hosted, MOST_CONNECTIONS, Manners};
+pub use hosting::Hosted;
+pub use manners::{MOST_CONNECTIONS, Manners};
 pub use page_file::page_lines;
 pub use surroundings::Surroundings;

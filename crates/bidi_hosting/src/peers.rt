@@ -1,131 +1,11 @@
 //! The connections that are held, each at a place of its own.
+use crate::clock::earlier;
+use crate::slot::{Role, Slot, deadline_of, flushed_is_over, is_page, is_past};
 use bidi_peer::{Came, Ending, Peer, Refusal};
 use bidi_tree::JsUint;
 use mio::net::TcpStream;
 use std::alloc::{AllocError, Global};
-use std::io::{ErrorKind, Read};
-use std::net::Shutdown;
 use std::time::Instant;
-
-/// How many bytes that nobody takes are read at once, and how often in a turn at most.
-const UNREAD: usize = 4096;
-
-const MOST_READS: u32 = 16;
-
-/// How far a stream is from which nobody takes any more.
-#[derive(Clone, Copy, Debug, PartialEq, Eq)]
-enum Rest {
-    /// It has ended, or it failed.
-    Ended,
-    /// It has no more for now.
-    Nothing,
-    /// It may have more.
-    More,
-}
-
-/// What a connection is to the host.
-#[derive(Clone, Copy, Debug, PartialEq, Eq)]
-pub(crate) enum Role {
-    /// Its handshake is not done.
-    Arriving,
-    /// A connection of the remote end, by its number.
-    Client(JsUint),
-    /// A connection that speaks lines of a page.
-    Page,
-    /// It is being closed.
-    Leaving,
-}
-
-/// A connection that is held.
-#[derive(Drop)]
-struct Slot {
-    peer: Peer<TcpStream>,
-    role: Role,
-    // When it is dropped, whatever it does.
-    deadline: Option<Instant>,
-    // It was answered in its handshake, and opens no connection.
-    is_answered: bool,
-    // Something may have come in that was not taken.
-    is_ready: bool,
-    // Something may wait that can be written.
-    is_due: bool,
-}
-
-impl Slot {
-    // Whether the connection has ended and nobody has taken note of it.
-    fn has_failed(&self) -> bool {
-        let speaks = matches!(self.role, Role::Client(_) | Role::Page);
-        speaks && !self.peer.is_open()
-    }
-
-    // What came in, and what the connection is.
-    fn take(&mut self) -> Result<(Role, Came), AllocError> {
-        let came = self.peer.take()?;
-        if let Came::Nothing = &came {
-            self.is_ready = false;
-        }
-        Ok((self.role, came))
-    }
-
-    // Writes what waits, as far as the stream takes it.
-    fn flush(&mut self) {
-        self.peer.flush();
-        self.is_due = false;
-        if self.has_failed() {
-            self.is_ready = true;
-        }
-    }
-
-    // Writes what waits, if something may. Tells whether the connection can be dropped.
-    fn flushed_is_over(&mut self) -> bool {
-        let is_due = self.is_due;
-        if is_due {
-            self.flush();
-        }
-        self.role == Role::Leaving
-            && self.peer.is_over()
-            && (!self.is_answered || is_due && self.is_read_out())
-    }
-
-    // Whether all that comes behind an answer was read. A stream that is dropped over unread bytes is reset, and the answer lost.
-    fn is_read_out(&mut self) -> bool {
-        match read_out(self.peer.stream()) {
-            Rest::Ended => true,
-            Rest::Nothing => false,
-            Rest::More => {
-                self.is_ready = true;
-                self.is_due = true;
-                false
-            }
-        }
-    }
-
-    // The host holds too much, and this connection most of it.
-    fn shed(&mut self) -> Result<(), AllocError> {
-        self.is_ready = true;
-        self.is_due = true;
-        self.peer.shed()
-    }
-
-    // The connection is closed behind what waits, and dropped at the deadline.
-    fn close(&mut self, ending: Ending, deadline: Option<Instant>) -> Result<(), AllocError> {
-        self.role = Role::Leaving;
-        self.deadline = deadline;
-        self.is_ready = true;
-        self.is_due = true;
-        self.peer.close(ending)
-    }
-
-    // Queues a text.
-    fn send(&mut self, text: &str) -> Result<(), AllocError> {
-        self.is_due = true;
-        self.peer.send(text)?;
-        if self.has_failed() {
-            self.is_ready = true;
-        }
-        Ok(())
-    }
-}
 
 /// The place of the connection of a number.
 #[derive(Clone, Copy)]
@@ -415,14 +295,6 @@ fn held_at(slots: &[Option<Slot>], place: usize) -> usize {
     }
 }
 
-// Whether a connection speaks for a page.
-fn is_page(slot: &Option<Slot>) -> bool {
-    match slot {
-        Some(slot) => slot.role == Role::Page,
-        None => false,
-    }
-}
-
 // The place of the connection whose deadline comes first.
 fn first_to_go(slots: &[Option<Slot>]) -> Option<usize> {
     let mut first = None;
@@ -447,56 +319,5 @@ fn is_closed_with(role: Role, pages: bool) -> bool {
         Role::Client(_) => true,
         Role::Page | Role::Arriving => pages,
         Role::Leaving => false,
-    }
-}
-
-// Writes what waits for a connection, if something may. Tells whether it can be dropped.
-fn flushed_is_over(slot: &mut Option<Slot>) -> bool {
-    match slot {
-        Some(slot) => slot.flushed_is_over(),
-        None => false,
-    }
-}
-
-// Sends no more on a stream, and throws away what came.
-fn read_out(stream: &TcpStream) -> Rest {
-    if stream.shutdown(Shutdown::Write).is_err() {
-        return Rest::Ended;
-    }
-    let mut stream = stream;
-    let mut unread = [0; UNREAD];
-    for _ in 0..MOST_READS {
-        match stream.read(&mut unread) {
-            Ok(0) => return Rest::Ended,
-            Ok(_) => {}
-            Err(error) if error.kind() == ErrorKind::WouldBlock => return Rest::Nothing,
-            Err(_) => return Rest::Ended,
-        }
-    }
-    Rest::More
-}
-
-// When a connection is dropped.
-fn deadline_of(slot: &Option<Slot>) -> Option<Instant> {
-    match slot {
-        Some(slot) => slot.deadline,
-        None => None,
-    }
-}
-
-// Whether a connection's deadline has passed.
-fn is_past(slot: &Option<Slot>, now: Instant) -> bool {
-    match deadline_of(slot) {
-        Some(deadline) => deadline <= now,
-        None => false,
-    }
-}
-
-// The earlier of two moments.
-fn earlier(first: Option<Instant>, second: Option<Instant>) -> Option<Instant> {
-    match (first, second) {
-        (Some(first), Some(second)) => Some(first.min(second)),
-        (None, other) => other,
-        (first, None) => first,
     }
 }
