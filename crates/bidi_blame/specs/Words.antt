@@ -1,11 +1,13 @@
 -- A reason in words: the place as a JSON Pointer, what may stand there, and what does. Pointers after RFC 6901, 3 and 4; the words are this project's own.
-use Rattle.std.specs.Prelude.{ℕ, suc, List, [], ◌∷◌, ◌++◌, length, flat_map, codes, decimal, bytes_eq, nat_le, ◌==◌, Option, Some, None, if◌then◌else◌}
+use Rattle.std.specs.Prelude.{ℕ, suc, List, [], ◌∷◌, ◌++◌, length, flat_map, codes, decimal, bytes_eq, nat_le, ◌==◌, Bool, true, false, Option, Some, None, if◌then◌else◌}
 use Rattle.std.specs.Fmt.{signed_decimal}
 use Rattle.std.specs.List.{list_any}
 use Rattle.json.specs.Print.{quoted}
 use Rattle.bidi_tree.specs.Node as node
 use Rattle.bidi_tree.specs.Node.{Node, Members}
+use Rattle.bidi_shape.specs.Name.{Name}
 use Rattle.bidi_shape.specs.Term.{Term, exactly, text, bool, null, js_uint, js_int, any, list_of, pair_of, map_of, either, rule, capped}
+use Rattle.bidi_shape.specs.Profile.{term_of}
 use Rattle.bidi_shape.specs.Fits.{count}
 use Rattle.bidi_blame.specs.Names.{rule_text}
 use Rattle.bidi_blame.specs.Reason.{Step, member, item}
@@ -35,6 +37,16 @@ pointer_text (s ∷ ss) = pointer_text ss ++ 47 ∷ step_text s
 abbrev pub list_words : ℕ → List ℕ
 list_words least = if least == 0 then codes "a list" else codes "a list with at least one item"
 
+-- whether a term says which members a map has
+abbrev pub is_map : Term → Bool
+is_map (map_of rows o) = true
+is_map (capped τ) = is_map τ
+is_map τ = false
+
+-- a rule by its name; a rule that is a map is called a map
+abbrev pub rule_words : Name → List ℕ
+rule_words n = if is_map (term_of n) then codes "a map" else rule_text n
+
 -- the words of a term, and of each alternative where it is a choice
 abbrev pub alternatives : Term → List (List ℕ)
 alternatives (exactly s) = quoted s ∷ []
@@ -48,7 +60,7 @@ alternatives (list_of least τ) = list_words least ∷ []
 alternatives (pair_of σ τ) = codes "a list of two items" ∷ []
 alternatives (map_of rows o) = codes "a map" ∷ []
 alternatives (either σ τ) = alternatives σ ++ alternatives τ
-alternatives (rule n) = rule_text n ∷ []
+alternatives (rule n) = rule_words n ∷ []
 alternatives (capped τ) = codes "at most 60 levels" ∷ []
 
 -- words once more, unless they are among those told so far
@@ -70,8 +82,17 @@ abbrev pub choice_text : List (List ℕ) → List ℕ
 choice_text [] = codes "nothing"
 choice_text (w ∷ ws) = w ++ or_each ws
 
+-- the words of each alternative once, in their order
+abbrev pub choices : List Term → List (List ℕ)
+choices τs = each_once [] (flat_map alternatives τs)
+
+-- whether a map is one of them
+abbrev pub has_map : List Term → Bool
+has_map τs = list_any (bytes_eq (codes "a map")) (choices τs)
+
+-- the alternatives as one text
 abbrev pub wants_text : List Term → List ℕ
-wants_text τs = choice_text (each_once [] (flat_map alternatives τs))
+wants_text τs = choice_text (choices τs)
 
 -- ---- what stands there
 

@@ -26,5 +26,5 @@ pub use name::Name;
 pub use quoting::has_escapes;
 pub use reason::{Reason, Step, Want};
 pub use term::{Need, Openness, Row, Term};
-pub use wanting::wanted;
+pub use wanting::{Alternatives, wanted};
 pub use words::{found_words, pointer};

@@ -1,12 +1,14 @@
 //! What may stand at a place, in words.
-ghost use Rattle.std.specs.Prelude.{◌≡◌, ◌++◌, ◌∷◌, [], IfOk, OnOk, map, flat_map, string_bytes, bytes_eq, take};
+ghost use Rattle.std.specs.Prelude.{◌≡◌, ◌++◌, ◌∷◌, [], IfOk, OnOk, length, map, flat_map, string_bytes, bytes_eq, take};
 ghost use Rattle.std.specs.List.{list_any};
 ghost use Rattle.json.specs.Print.{quoted};
 ghost use Rattle.bidi_blame.specs.Grammar.{grammar};
+ghost use Rattle.bidi_blame.specs.Names.{name_of};
 ghost use Rattle.bidi_blame.specs.View.{want_of};
-ghost use Rattle.bidi_blame.specs.Words.{alternatives, choice_text, each_once, list_words, wants_text};
+ghost use Rattle.bidi_blame.specs.Words.{alternatives, choice_text, choices, each_once, has_map, is_map, list_words, rule_words, wants_text};
 ghost use Rattle.bidi_blame.specs.Said.{said_text};
 
+use crate::name::Name;
 use crate::quoting::{push_quoted, quote};
 use crate::reason::Want;
 use crate::term::Term;
@@ -74,18 +76,38 @@ fn begins_with_quote(words: &str) -> bool
     words.as_bytes().starts_with(b"\"")
 }
 
-/// What may stand at a place, in words: each alternative once, in its order, with ` or ` between them; `nothing` where nothing may.
+/// The alternatives of a place, in words.
+#[derive(Drop)]
+pub struct Alternatives {
+    /// Each of them once, in its order, with ` or ` between them; `nothing` where nothing may stand there.
+    pub text: String,
+    /// How many the text has.
+    pub count: usize,
+    /// Whether one of them is a map.
+    pub has_map: bool,
+}
+
+/// What may stand at a place, in words.
 ///
 /// # Errors
 /// No memory: an allocation failed.
-pub fn wanted(alloc: Global, wants: &[Want]) -> Result<String, AllocError>
-    ensures { IfOk result (λ s. string_bytes s ≡ wants_text (map want_of wants.now)) }
+pub fn wanted(alloc: Global, wants: &[Want]) -> Result<Alternatives, AllocError>
+    // The text is the words of all that may stand there.
+    ensures text { IfOk result (λ w. string_bytes w.text ≡ wants_text (map want_of wants.now)) }
+    // The count is that of the alternatives in the text.
+    ensures count { IfOk result (λ w. w.count ≡ length (choices (map want_of wants.now))) }
+    // A map may stand there if the alternatives say so.
+    ensures map { IfOk result (λ w. w.has_map ≡ has_map (map want_of wants.now)) }
 {
     let mut told = Vec::with_capacity(alloc, wants.len())?;
     for want in wants {
         tell_want(alloc, &mut told, want)?;
     }
-    choice(alloc, &told)
+    Ok(Alternatives {
+        text: choice(alloc, &told)?,
+        count: told.len(),
+        has_map: is_told(alloc, &told, &Said::Plain("a map"))?,
+    })
 }
 
 // Tells the alternatives of what may stand at a place.
@@ -128,7 +150,7 @@ fn tell_term(alloc: Global, told: &mut Vec<Said>, term: &'static Term) -> Result
             tell_term(alloc, told, first)?;
             tell_terms(alloc, told, rest)
         }
-        Term::Rule(name) => tell(alloc, told, Said::Plain(name.text())),
+        Term::Rule(name) => tell(alloc, told, Said::Plain(rule_words(*name))),
         Term::Capped(_) => tell(alloc, told, Said::Plain("at most 60 levels")),
     }
 }
@@ -152,6 +174,38 @@ fn list_words(least: usize) -> &'static str
         "a list"
     } else {
         "a list with at least one item"
+    }
+}
+
+// A rule by its name, or `a map`.
+fn rule_words(name: Name) -> &'static str
+    ensures { result.now ≡ rule_words (name_of name) }
+{
+    if is_map(name.term()) {
+        "a map"
+    } else {
+        name.text()
+    }
+}
+
+// Whether a term says which members a map has.
+fn is_map(term: &Term) -> bool
+    ensures { result ≡ is_map (grammar term.now) }
+{
+    match term {
+        Term::MapOf(_, _) => true,
+        Term::Capped(inner) => is_map(inner),
+        Term::OneOf(first, rest) => rest.is_empty() && is_map(first),
+        Term::Exactly(_)
+        | Term::Text
+        | Term::Bool
+        | Term::Null
+        | Term::JsUint
+        | Term::JsInt
+        | Term::Any
+        | Term::ListOf(_, _)
+        | Term::PairOf(_, _)
+        | Term::Rule(_) => false,
     }
 }
 

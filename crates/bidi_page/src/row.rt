@@ -46,7 +46,7 @@ fn fitting_fault(row: &Outline<'_>) -> &'static str {
 // `POINTER: wants WANTS, has HAS (RULE)`, without the pointer at the row itself.
 fn reason_words(alloc: Global, reason: &Reason<'_, '_>) -> Result<String, AllocError> {
     let place = pointer(alloc, &reason.steps)?;
-    let wants = wanted(alloc, &reason.wants)?;
+    let wants = wanted(alloc, &reason.wants)?.text;
     let has = found_words(alloc, reason.found)?;
     let colon = if place.is_empty() { "" } else { ": " };
     match reason.named {

@@ -34,7 +34,7 @@ fn named(text: &str) -> Result<Name, Fail> {
 /// `POINTER: wants WHAT, has WHAT (RULE)`
 fn told(alloc: Global, reason: &Reason<'_, '_>) -> Result<String, Fail> {
     let place = pointer(alloc, &reason.steps)?;
-    let wants = wanted(alloc, &reason.wants)?;
+    let wants = wanted(alloc, &reason.wants)?.text;
     let found = found_words(alloc, reason.found)?;
     let rule = reason.named.map_or("no rule", |name| name.text());
     Ok(format!(in alloc; "{place}: wants {wants}, has {found} ({rule})")?)
@@ -65,7 +65,7 @@ Command {"method":"session.status","params":{}} -> /id: wants a whole number fro
 Command {"id":-1,"method":"session.status","params":{}} -> /id: wants a whole number from 0 to 9007199254740991, has -1 (Command)
 Command {"id":1,"method":"page.open","params":{}} -> /method: wants "session.status" or "session.new" or "session.end" or "session.subscribe" or "session.unsubscribe" or "browsingContext.activate" or "browsingContext.close" or "browsingContext.create" or "browsingContext.getTree" or "browsingContext.navigate" or "browsingContext.reload" or "browsingContext.traverseHistory" or "script.evaluate" or "script.callFunction" or "script.disown" or "script.getRealms" or "browser.createUserContext" or "browser.getUserContexts" or "browser.removeUserContext", has "page.open" (Command)
 Command {"id":1,"params":{}} -> /method: wants "session.status" or "session.new" or "session.end" or "session.subscribe" or "session.unsubscribe" or "browsingContext.activate" or "browsingContext.close" or "browsingContext.create" or "browsingContext.getTree" or "browsingContext.navigate" or "browsingContext.reload" or "browsingContext.traverseHistory" or "script.evaluate" or "script.callFunction" or "script.disown" or "script.getRealms" or "browser.createUserContext" or "browser.getUserContexts" or "browser.removeUserContext", has nothing (Command)
-Command {"id":1,"method":"session.status"} -> /params: wants EmptyParams, has nothing (Command)
+Command {"id":1,"method":"session.status"} -> /params: wants a map, has nothing (Command)
 Command {"id":1,"method":"browsingContext.navigate","params":{"context":5,"url":"u"}} -> /params/context: wants a text, has 5 (NavigateParameters)
 Command {"id":1,"method":"session.end","params":{},"x":1.5} -> /x: wants whole numbers in range and at most 60 levels, has a number with a fraction or out of range (Command)
 Message {"type":"success","id":1,"result":{}} -> fits
@@ -74,7 +74,7 @@ Message {} -> /type: wants "success" or "error" or "event", has nothing (Message
 Message {"type":"answer"} -> /type: wants "success" or "error" or "event", has "answer" (Message)
 Message {"type":"success","id":1} -> /result: wants a map, has nothing (CommandResponse)
 Message {"type":"event","method":"network.responseCompleted","params":{}} -> /method: wants "browsingContext.contextCreated" or "browsingContext.contextDestroyed" or "browsingContext.navigationStarted" or "browsingContext.domContentLoaded" or "browsingContext.load" or "script.realmCreated" or "script.realmDestroyed" or "log.entryAdded", has "network.responseCompleted" (Event)
-Message {"type":"event","method":"browsingContext.load"} -> /params: wants NavigationInfo, has nothing (Event)
+Message {"type":"event","method":"browsingContext.load"} -> /params: wants a map, has nothing (Event)
 CommandResponse {"type":"success","id":1,"result":{"x":1.5}} -> /result/x: wants whole numbers in range and at most 60 levels, has a number with a fraction or out of range (CommandResponse)
 CommandResponse {"type":"success","id":null,"result":{}} -> /id: wants a whole number from 0 to 9007199254740991, has null (CommandResponse)
 ErrorResponse {"type":"error","id":"1","error":"unknown error","message":"m"} -> /id: wants a whole number from 0 to 9007199254740991 or null, has "1" (ErrorResponse)
@@ -90,18 +90,18 @@ fn reasons_of_commands_and_messages(rt: HostRuntime) -> Result<(), Fail> {
 
 const SESSION: &str = r#"
 StatusResult {"ready":1,"message":"m"} -> /ready: wants true or false, has 1 (StatusResult)
-NewParameters {} -> /capabilities: wants CapabilitiesRequest, has nothing (NewParameters)
+NewParameters {} -> /capabilities: wants a map, has nothing (NewParameters)
 NewParameters {"capabilities":[]} -> /capabilities: wants a map, has an empty list (CapabilitiesRequest)
 CapabilitiesRequest {"firstMatch":{}} -> /firstMatch: wants a list, has an empty map (CapabilitiesRequest)
 CapabilitiesRequest {"firstMatch":[{},{"browserName":5}]} -> /firstMatch/1/browserName: wants a text, has 5 (CapabilityRequest)
 CapabilityRequest {"acceptInsecureCerts":"yes"} -> /acceptInsecureCerts: wants true or false, has "yes" (CapabilityRequest)
-NewResult {"sessionId":"s"} -> /capabilities: wants Capabilities, has nothing (NewResult)
+NewResult {"sessionId":"s"} -> /capabilities: wants a map, has nothing (NewResult)
 Capabilities {"acceptInsecureCerts":true,"browserName":"b","browserVersion":"v","platformName":"p","setWindowRect":true} -> /userAgent: wants a text, has nothing (Capabilities)
 SubscribeParameters {"events":[]} -> /events: wants a list with at least one item, has an empty list (SubscribeParameters)
 SubscribeParameters {"events":["a",5]} -> /events/1: wants a text, has 5 (SubscribeParameters)
 SubscribeResult {"subscription":null} -> /subscription: wants a text, has null (SubscribeResult)
 UnsubscribeParameters {"events":[]} -> /events: wants a list with at least one item, has an empty list (UnsubscribeByEvents)
-UnsubscribeParameters {} -> : wants UnsubscribeById or UnsubscribeByEvents, has an empty map (UnsubscribeParameters)
+UnsubscribeParameters {} -> : wants a map, has an empty map (UnsubscribeParameters)
 UnsubscribeById {} -> /subscriptions: wants a list with at least one item, has nothing (UnsubscribeById)
 UnsubscribeByEvents {"events":null} -> /events: wants a list with at least one item, has null (UnsubscribeByEvents)
 "#;
@@ -136,10 +136,10 @@ fn reasons_of_the_module_browsing_context(rt: HostRuntime) -> Result<(), Fail> {
 }
 
 const SCRIPT: &str = r#"
-Target {} -> : wants ContextTarget or RealmTarget, has an empty map (Target)
+Target {} -> : wants a map, has an empty map (Target)
 Target {"context":5} -> /context: wants a text, has 5 (ContextTarget)
 Target {"realm":null} -> /realm: wants a text, has null (RealmTarget)
-Target {"context":5,"realm":6} -> : wants ContextTarget or RealmTarget, has a map of 2 members (Target)
+Target {"context":5,"realm":6} -> : wants a map, has a map of 2 members (Target)
 ContextTarget {"context":"c","sandbox":null} -> /sandbox: wants a text, has null (ContextTarget)
 RealmTarget {} -> /realm: wants a text, has nothing (RealmTarget)
 Ownership true -> : wants "root" or "none", has true (Ownership)
