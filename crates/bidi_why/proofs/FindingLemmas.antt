@@ -24,11 +24,12 @@ use Rattle.bidi_show.specs.MessageLines.{HasTree, Refuses}
 use Rattle.bidi_lines.specs.declared.side.Side.{Side}
 use Rattle.bidi_lines.specs.declared.side.Side.TheVariants.{Local, Remote}
 use Rattle.bidi_why.specs.Trouble.{HasMisfit, HasNoTree, HasTrouble, IsTrouble, IsTroubleAt, Misfit, Trouble, bad, no_fit, is_too_large}
-use Rattle.bidi_why.specs.Trouble.{fits_none, is_no_text, is_not_json}
+use Rattle.bidi_why.specs.Trouble.{fits_none, is_beyond, is_no_text, is_not_json}
 use Rattle.bidi_why.specs.Texts.{cause_text, told_text}
 use Rattle.bidi_why.specs.Explaining.{Explains, explained_of, is_refused}
+use Rattle.bidi_lines.specs.InputLines.{IsLine}
 use Rattle.bidi_why.specs.Input.{IsOf}
-use Rattle.bidi_why.specs.Telling.{Tells, is_line, is_too_long, written}
+use Rattle.bidi_why.specs.Telling.{Tells, is_line, is_too_long, kept, written}
 use Rattle.bidi_why.specs.declared.bad_text.BadText.TheVariants.{ByteOrderMark, NotJson, NoUtf8, TooLarge, TooLong, NoDirection}
 use Rattle.bidi_why.specs.declared.bad_text.BadText.{BadText}
 use Rattle.bidi_why.specs.declared.explaining.Explained.{Explained}
@@ -158,26 +159,36 @@ value_refused t o m some refuses misfit line read = (refused Remote line o some 
 -- ---- what is told
 
 -- what is told of a refused line
-pub explained : (form : Form) (side : Side) (n : ℕ) (line text cause : List ℕ) (x : Trouble) → ((why : List ℕ) × Refuses side line (Some why))
-    → IsTroubleAt side n line x → text ≡ told_text form n (Some side) None x → cause ≡ cause_text x → Explains form side n line (Some (text, cause))
-explained form side n line text cause x (why, refuses) at t c =
-    let pair : List ℕ → List ℕ → List ℕ × List ℕ = λ a b. (a, b) in
-    subst (λ (e : List ℕ × List ℕ). Explains form side n line (Some e)) (sym (ap₂ pair t c)) (is_refused why x refuses at)
+pub explained : (form : Form) (side : Side) (n : ℕ) (line text cause : List ℕ) (beyond : Bool) (x : Trouble) → ((why : List ℕ) × Refuses side line (Some why))
+    → IsTroubleAt side n line x → text ≡ told_text form n (Some side) None x → cause ≡ cause_text x → beyond ≡ is_beyond x
+    → Explains form side n line (Some (text, cause, beyond))
+explained form side n line text cause beyond x (why, refuses) at t c b =
+    let to_text = λ (e : List ℕ). Explains form side n line (Some (e, cause_text x, is_beyond x)) in
+    let to_cause = λ (e : List ℕ). Explains form side n line (Some (text, e, is_beyond x)) in
+    let to_beyond = λ (e : Bool). Explains form side n line (Some (text, cause, e)) in
+    subst to_beyond (sym b) (subst to_cause (sym c) (subst to_text (sym t) (is_refused why x refuses at)))
+
+-- what is told of a line that is not too long is what is kept of what explains it
+pub tells_kept : (form : Form) (side : Side) (only : Bool) (n : ℕ) (seen : List ℕ) (found : Option Explained) (o : Option Explained)
+    → option_map explained_of o ≡ kept only (option_map explained_of found) → Explains form side n seen (option_map explained_of found)
+    → IsLine seen → Tells form side only n seen (written (option_map explained_of o))
+tells_kept form side only n seen found o is h at =
+    subst (λ (e : Option (List ℕ × List ℕ × Bool)). Tells form side only n seen (written e)) (sym is) (is_line (option_map explained_of found) at h)
 
 -- of a line that is not too long it is told as it explains itself
-pub tells_text : {E : Type 0} (form : Form) (side : Side) (n : ℕ) (l : Line) (text : Vec ℕ) (seen : List ℕ) (r : Result (Option Explained) E)
-    → l ≡ line.Text text → seen ≡ text.items → IfOk r (λ found. Explains form side n seen (option_map explained_of found))
-    → IfOk r (λ found. (is : List ℕ) → IsOf l is → Tells form side n is (written (option_map explained_of found)))
-tells_text form side n l text seen (Ok found) is same h = λ bytes at.
+pub tells_text : {E : Type 0} (form : Form) (side : Side) (only : Bool) (n : ℕ) (l : Line) (text : Vec ℕ) (seen : List ℕ) (r : Result (Option Explained) E)
+    → l ≡ line.Text text → seen ≡ text.items → IfOk r (λ found. IsLine seen → Tells form side only n seen (written (option_map explained_of found)))
+    → IfOk r (λ found. (is : List ℕ) → IsOf l is → Tells form side only n is (written (option_map explained_of found)))
+tells_text form side only n l text seen (Ok found) is same h = λ bytes at.
     let here = subst (λ (x : Line). IsOf x bytes) is at in
-    is_line (option_map explained_of found) here.1
-    (subst (λ (s : List ℕ). Explains form side n s (option_map explained_of found)) (same ∙ sym here.0) h)
-tells_text form side n l text seen (Err e) is same h = tt
+    let alike : seen ≡ bytes = same ∙ sym here.0 in
+    subst (λ (s : List ℕ). Tells form side only n s (written (option_map explained_of found))) alike (h (subst IsLine (sym alike) here.1))
+tells_text form side only n l text seen (Err e) is same h = tt
 
 -- of one that is too long only that
-pub tells_long : {E : Type 0} (form : Form) (side : Side) (n : ℕ) (l : Line) (r : Result (Option Explained) E) → l ≡ line.TooLong
+pub tells_long : {E : Type 0} (form : Form) (side : Side) (only : Bool) (n : ℕ) (l : Line) (r : Result (Option Explained) E) → l ≡ line.TooLong
     → IfOk r (λ found. written (option_map explained_of found) ≡ told_text form n (Some side) None (bad TooLong))
-    → IfOk r (λ found. (is : List ℕ) → IsOf l is → Tells form side n is (written (option_map explained_of found)))
-tells_long form side n l (Ok found) is h = λ bytes at.
-    subst (λ (s : List ℕ). Tells form side n bytes s) (sym h) (is_too_long (subst (λ (x : Line). IsOf x bytes) is at))
-tells_long form side n l (Err e) is h = tt
+    → IfOk r (λ found. (is : List ℕ) → IsOf l is → Tells form side only n is (written (option_map explained_of found)))
+tells_long form side only n l (Ok found) is h = λ bytes at.
+    subst (λ (s : List ℕ). Tells form side only n bytes s) (sym h) (is_too_long (subst (λ (x : Line). IsOf x bytes) is at))
+tells_long form side only n l (Err e) is h = tt

@@ -40,8 +40,8 @@ use Rattle.bidi_messages.specs.declared.text.MessageFault.{MessageFault}
 use Rattle.bidi_messages.specs.declared.text.MessageFault.TheVariants.{NotJson, NoFit}
 use Rattle.bidi_why.specs.Hearing.{IsJudged, IsSender, IsStray, TellsBadResult, to_none, to_refused}
 use Rattle.bidi_why.specs.Remark.{Remark, bad_line, fault, failed, id_waits, no_message, stray, too_many}
-use Rattle.bidi_why.specs.declared.conversation.Judged.{Judged}
-use Rattle.bidi_why.specs.declared.conversation.Judged.TheVariants as judged
+use Rattle.bidi_why.specs.declared.judging.Judged.{Judged}
+use Rattle.bidi_why.specs.declared.judging.Judged.TheVariants as judged
 use Rattle.bidi_params.specs.declared.error_code.ErrorCode.{ErrorCode}
 use Rattle.bidi_tree.specs.declared.number.JsUint.{JsUint}
 use Rattle.bidi_messages.specs.contracts.message.MessageShape.TheImpl as message_shape

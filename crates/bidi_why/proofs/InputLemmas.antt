@@ -1,10 +1,11 @@
 -- What comes next in an input.
-use Rattle.std.proofs.Common.{◌≡◌, ◌<◌, ◌++◌, ℕ, Bool, false, length, arith, List, [], Option, Ok, Err, sym, ap, subst}
+use Rattle.std.proofs.Common.{◌≡◌, ◌<◌, ◌++◌, ℕ, Bool, false, length, append-nil, arith, List, [], Option, Ok, Err, sym, ◌∙◌, ap, subst}
 use Rattle.std.specs.Prelude.{Result}
 use Rattle.bidi_lines.specs.Devices.{ReadsOn}
 use Rattle.bidi_lines.specs.Feeds.{has_feed}
 use Rattle.bidi_lines.specs.Skipping.{SkipsLine, skips}
 use Rattle.bidi_lines.specs.declared.line_reader.InputFault.{InputFault}
+use Rattle.bidi_lines.specs.declared.line_reader.InputFault.TheVariants.{Read, BadLine, NoMemory}
 use Rattle.bidi_lines.specs.declared.line_reader.Skipped.{Skipped}
 use Rattle.bidi_lines.specs.declared.line_reader.Skipped.TheVariants as skipped
 use Rattle.bidi_lines.proofs.DeviceLemmas.{ReadsOn-trans}
@@ -21,7 +22,9 @@ found_by_skip (Ok skipped.TooLongLast) at_end gone held (long, last) = (long, so
     some_bytes : (bytes : List ℕ) → 2097152 < length bytes → bytes ≡ [] → ⊥
     some_bytes bytes long e = let l = ap length e in absurd (omega (arith, l, long))
 found_by_skip (Ok (skipped.Unended text)) at_end gone held (same, is, some, last) = ((same, is), some, last)
-found_by_skip (Err fault) at_end gone held none = none
+found_by_skip (Err Read) at_end gone held (none, nothing) = ap (λ (z : List ℕ). has_feed (gone ++ z)) nothing ∙ ap has_feed (append-nil gone) ∙ none
+found_by_skip (Err BadLine) at_end gone held endless = endless
+found_by_skip (Err NoMemory) at_end gone held none = none
 
 -- a line is skipped behind what was read of it
 pub finds_skipped : (a b c : Option (List ℕ)) (old mid new : List ℕ) (r : Result Skipped InputFault) (found : Result Found InputFault) (at_end : Bool)

@@ -1,6 +1,6 @@
 -- A conversation of both ends: what is told of its lines, and of the commands that are never answered. Who answers what is decided as by a local end
 -- that sent just the commands which are accepted.
-use Rattle.std.specs.Prelude.{◌≡◌, ℕ, ◌+◌, ◌⊎◌, Bool, false, true, ◌||◌, ◌==◌, not, nat_lt, List, [], ◌∷◌, ◌++◌, filter, length, position, remove, codes, IsUtf8, if◌then◌else◌}
+use Rattle.std.specs.Prelude.{◌≡◌, ℕ, ◌+◌, ◌⊎◌, Bool, false, true, ◌||◌, ◌&&◌, ◌==◌, not, nat_lt, List, [], ◌∷◌, ◌++◌, filter, length, position, remove, codes, IsUtf8, if◌then◌else◌}
 use Rattle.std.specs.Prelude.{Option, Some, None, is_some, option_and_then, unwrap_or}
 use Rattle.std.specs.List.{flat_map, list_any}
 use Rattle.bidi_tree.specs.Node.{Node, get_of}
@@ -28,8 +28,8 @@ use Rattle.bidi_show.specs.declared.showing.ShowFault.TheVariants.{Write, NoMemo
 use Rattle.bidi_blame.specs.Blames.{Blames}
 use Rattle.bidi_blame.specs.Reason.{Reason}
 use Rattle.bidi_why.specs.Trouble.{IsTrouble, Trouble, bad, no_fit, begins_with_mark}
-use Rattle.bidi_why.specs.Telling.{StopsBy, Whole}
-use Rattle.bidi_why.specs.Remark.{Remark, bad_line, bad_result, failed, fault, id_waits, is_fault, line_of, no_message, remark_line, stray, too_many, unanswered_line}
+use Rattle.bidi_why.specs.Telling.{IsCutOff, StopsBy, Whole}
+use Rattle.bidi_why.specs.Remark.{Remark, bad_line, bad_result, failed, fault, id_waits, is_beyond, is_fault, line_of, no_message, remark_line, stray, too_many, unanswered_line}
 use Rattle.bidi_why.specs.declared.bad_text.BadText.TheVariants.{ByteOrderMark, NoDirection, TooLong}
 use Rattle.bidi_why.specs.declared.texts.Form.{Form}
 
@@ -200,10 +200,15 @@ remark_lines form told = flat_map (λ r. remark_line form r.0 r.1) told
 abbrev pub has_fault : List (ℕ × Remark) → Bool
 has_fault told = list_any (λ r. is_fault r.1) told
 
+-- what is told where only the profile is asked for: nothing of what is wrong for the profile and not for the draft
+abbrev pub kept_remarks : Bool → List (ℕ × Remark) → List (ℕ × Remark)
+kept_remarks only told = filter (λ r. not (only && is_beyond r.1)) told
+
 -- These lines are the beginning of a conversation; this is written for them, with a fault among it or not, and this stands behind them.
-abbrev pub Converses : Option Form → List (List ℕ) → List ℕ → Bool → Standing → Type 0
-Converses form lines text some s =
-    (told : List (ℕ × Remark)) × HearsEach 1 silence lines told s × (text ≡ remark_lines form told) × (some ≡ has_fault told)
+abbrev pub Converses : Option Form → Bool → List (List ℕ) → List ℕ → Bool → Standing → Type 0
+Converses form only lines text some s =
+    (told : List (ℕ × Remark)) × HearsEach 1 silence lines told s
+    × (text ≡ remark_lines form (kept_remarks only told)) × (some ≡ has_fault (kept_remarks only told))
 
 -- whether any command waits
 abbrev pub any_waits : Pending → Bool
@@ -216,21 +221,26 @@ unanswered_lines form s = flat_map (λ w. unanswered_line form (line_of s.lines 
 
 -- The bytes are a conversation. What is written is what is told of its lines and then of each command that waits; it has a fault where a line has one,
 -- or where a command waits.
-abbrev pub TellsConversation : Option Form → Bool → List ℕ → List ℕ → Type 0
-TellsConversation form some bytes wrote =
-    (text : List ℕ) × (among : Bool) × (s : Standing) × Whole (λ lines written. Converses form lines written among s) bytes text
+abbrev pub TellsConversation : Option Form → Bool → Bool → List ℕ → List ℕ → Type 0
+TellsConversation form only some bytes wrote =
+    (text : List ℕ) × (among : Bool) × (s : Standing) × Whole (λ lines written. Converses form only lines written among s) bytes text
     × (wrote ≡ text ++ unanswered_lines form s) × (some ≡ (among || any_waits s.waiting))
 
 -- some lines at the front were told of by this text
-abbrev pub IsTranscript : Option Form → List (List ℕ) → List ℕ → Type 0
-IsTranscript form lines text = (some : Bool) × (s : Standing) × Converses form lines text some s
+abbrev pub IsTranscript : Option Form → Bool → List (List ℕ) → List ℕ → Type 0
+IsTranscript form only lines text = (some : Bool) × (s : Standing) × Converses form only lines text some s
 
--- What a fault behind the last line says: all lines were told of, and of the commands that wait a part.
-abbrev pub StopsBehind : Option Form → ShowFault → List ℕ → List ℕ → Type 0
-StopsBehind form Write read wrote = (text : List ℕ) × (more : List ℕ) × Whole (IsTranscript form) read text × (wrote ≡ text ++ more)
-StopsBehind form NoMemory read wrote = Whole (IsTranscript form) read wrote
-StopsBehind form f read wrote = ⊥
+-- What a fault behind the last line of an input says, whose end was told: all lines were told of.
+abbrev pub StopsBehind : Option Form → Bool → ShowFault → List ℕ → List ℕ → Type 0
+-- and a beginning was written of what is told of the commands that wait
+StopsBehind form only Write read wrote =
+    (text : List ℕ) × (among : Bool) × (s : Standing) × (part : List ℕ) × Whole (λ lines written. Converses form only lines written among s) read text
+    × IsCutOff part (unanswered_lines form s) × (wrote ≡ text ++ part)
+-- and nothing else
+StopsBehind form only NoMemory read wrote = Whole (IsTranscript form only) read wrote
+StopsBehind form only f read wrote = ⊥
 
--- What a fault says of the bytes that were read, and of what was written.
-abbrev pub StopsConversation : Option Form → ShowFault → List ℕ → List ℕ → Type 0
-StopsConversation form f read wrote = StopsBy (IsTranscript form) f read wrote ⊎ StopsBehind form f read wrote
+-- What a fault says of the bytes that were read, the last of them or not, and of what was written.
+abbrev pub StopsConversation : Option Form → Bool → ShowFault → Bool → List ℕ → List ℕ → Type 0
+StopsConversation form only f at_end read wrote =
+    StopsBy (IsTranscript form only) f at_end read wrote ⊎ ((at_end ≡ true) × StopsBehind form only f read wrote)

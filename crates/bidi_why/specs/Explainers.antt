@@ -20,7 +20,8 @@ fault_in (Some t) = t.is_fault
 pub record HasExplained (first : OneSide) (now : OneSide) (lines : List (List ℕ)) (text : List ℕ) (some : Bool) : Type 0 where
   pub form : now.form ≡ first.form
   pub side : now.side ≡ first.side
-  pub tells : TellsEach first.form first.side 1 lines text
+  pub only : now.profile_only ≡ first.profile_only
+  pub tells : TellsEach first.form first.side first.profile_only 1 lines text
   pub is_some : some ≡ nat_lt 0 (length text)
 
 -- what stands behind the lines that it was told
@@ -30,4 +31,5 @@ standing_of c = record { waiting = waiting_in c.end; lines = c.lines.items; refu
 -- Since it was the first it has told of these lines, which are the beginning of a conversation, by this text.
 pub record HasConversed (first : Conversation) (now : Conversation) (lines : List (List ℕ)) (text : List ℕ) (some : Bool) : Type 0 where
   pub form : now.form ≡ first.form
-  pub told : Converses first.form lines text some (standing_of now)
+  pub only : now.profile_only ≡ first.profile_only
+  pub told : Converses first.form first.profile_only lines text some (standing_of now)

@@ -20,8 +20,8 @@ use Rattle.bidi_blame.specs.Reason.{Reason}
 use Rattle.bidi_why.specs.Trouble.{Misfit, reason_parts}
 use Rattle.bidi_why.specs.Conversing.{IsTold, Standing, kind_in, was_refused, with_command, with_refused, without_refused}
 use Rattle.bidi_why.specs.Remark.{Remark, bad_result, id_waits, stray, too_many}
-use Rattle.bidi_why.specs.declared.conversation.Judged.{Judged}
-use Rattle.bidi_why.specs.declared.conversation.Judged.TheVariants.{Accepted, Refused}
+use Rattle.bidi_why.specs.declared.judging.Judged.{Judged}
+use Rattle.bidi_why.specs.declared.judging.Judged.TheVariants.{Accepted, Refused}
 
 -- the text has a verdict: a command of this id and method, or a refusal
 abbrev pub IsJudged : List ℕ → Judged → Type 0

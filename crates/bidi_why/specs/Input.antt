@@ -1,9 +1,10 @@
 -- An input of lines of any length, the last of which may have no line feed.
-use Rattle.std.specs.Prelude.{◌≡◌, ◌≢◌, ℕ, Bool, false, List, [], Result, Ok, Err}
+use Rattle.std.specs.Prelude.{◌≡◌, ◌≢◌, ℕ, ◌++◌, Bool, false, List, [], Result, Ok, Err}
 use Rattle.bidi_lines.specs.Feeds.{has_feed, ended}
 use Rattle.bidi_lines.specs.InputLines.{IsLine}
-use Rattle.bidi_lines.specs.Skipping.{IsLast, IsTooLong}
+use Rattle.bidi_lines.specs.Skipping.{IsEndless, IsLast, IsTooLong}
 use Rattle.bidi_lines.specs.declared.line_reader.InputFault.{InputFault}
+use Rattle.bidi_lines.specs.declared.line_reader.InputFault.TheVariants.{Read, BadLine, NoMemory}
 use Rattle.bidi_lines.specs.declared.line_reader.Skipped.{Skipped}
 use Rattle.bidi_lines.specs.declared.line_reader.Skipped.TheVariants as skipped
 use Rattle.bidi_why.specs.declared.next_line.Line.{Line}
@@ -25,8 +26,12 @@ finds (Ok (next.Line l)) at_end gone held = (bytes : List ℕ) × IsOf l bytes �
 finds (Ok (Last l)) at_end gone held = IsOf l gone × (gone ≢ []) × IsLast at_end held
 -- nothing is left
 finds (Ok End) at_end gone held = (gone ≡ []) × IsLast at_end held
+-- no whole line was read
+finds (Err Read) at_end gone held = has_feed (gone ++ held) ≡ false
+-- the beginning of an endless line is gone
+finds (Err BadLine) at_end gone held = IsEndless gone
 -- no whole line is gone
-finds (Err fault) at_end gone held = has_feed gone ≡ false
+finds (Err NoMemory) at_end gone held = has_feed gone ≡ false
 
 -- what comes next, where a line was skipped
 abbrev pub found_of : Result Skipped InputFault → Result found.Found InputFault

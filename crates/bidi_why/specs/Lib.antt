@@ -1,3 +1,5 @@
+pub mod Beyond
+pub mod Claim
 pub mod Trouble
 pub mod Texts
 pub mod Explaining

@@ -6,11 +6,13 @@ use Rattle.bidi_methods.specs.declared.method.Method.{Method}
 use Rattle.bidi_methods.specs.Method.{method_text}
 use Rattle.bidi_blame.specs.Reason.{Reason}
 use Rattle.bidi_show.specs.MessageLines.{id_text}
+use Rattle.bidi_why.specs.Trouble as trouble
 use Rattle.bidi_why.specs.Trouble.{Misfit, Trouble, bad, no_fit, bad_words, reason_parts, trouble_of}
 use Rattle.bidi_lines.specs.declared.side.Side.{Side}
 use Rattle.bidi_lines.specs.declared.side.Side.TheVariants.{Local, Remote}
 use Rattle.bidi_why.specs.Texts.{Row, answers_words, cause_text, json_line, side_text, told_text, words_line}
 use Rattle.bidi_why.specs.declared.bad_text.BadText.{BadText}
+use Rattle.bidi_why.specs.declared.claim.Kind.TheVariants.{Wrong}
 use Rattle.bidi_why.specs.declared.remark.Remark as declared_remark
 use Rattle.bidi_why.specs.declared.remark.Remark.TheVariants as code
 use Rattle.bidi_why.specs.declared.texts.Form.{Form}
@@ -27,6 +29,11 @@ abbrev pub is_fault : Remark → Bool
 is_fault (fault side answers brief why) = true
 is_fault (failed id method code) = false
 
+-- whether it is wrong for the profile alone
+abbrev pub is_beyond : Remark → Bool
+is_beyond (fault side answers brief why) = trouble.is_beyond why
+is_beyond (failed id method code) = false
+
 -- ---- what is wrong
 
 -- the line is no text of either end
@@ -35,7 +42,18 @@ bad_line b = fault None None (bad_words b) (bad b)
 
 -- at this place of a text something else is wanted
 abbrev pub misfit_at : Option ℕ → List ℕ → List ℕ → List ℕ → List ℕ → Misfit
-misfit_at id label place wants has = record { id = id; method = Some label; pointer = place; pattern = place; wants = wants; has = has; named = None }
+misfit_at id label place wants has = record {
+  id = id;
+  method = Some label;
+  kind = Wrong;
+  pointer = place;
+  pattern = place;
+  wants = wants;
+  short = wants;
+  has = has;
+  named = None;
+  is_beyond = false;
+}
 
 -- a command has the id of one that waits
 abbrev pub id_waits : ℕ → Method → Remark
@@ -59,11 +77,14 @@ abbrev pub within : List ℕ → Misfit → Misfit
 within place m = record {
   id = m.id;
   method = m.method;
+  kind = m.kind;
   pointer = place ++ m.pointer;
   pattern = place ++ m.pattern;
   wants = m.wants;
+  short = m.short;
   has = m.has;
   named = m.named;
+  is_beyond = m.is_beyond;
 }
 
 -- a text of the remote end is no message, and answers the command of this id for all that, or none
@@ -90,6 +111,7 @@ failure_row id method code =
       has = error_code_text code;
       side = Some (side_text Remote);
       answers = Some id;
+      is_beyond = false;
     }
 
 -- the JSON object of a command that was never answered
@@ -103,6 +125,7 @@ unanswered_row id method = record {
   has = codes "unanswered";
   side = Some (side_text Local);
   answers = None;
+  is_beyond = false;
 }
 
 -- what is written for the line of this number, in brief where no form is given

@@ -1,9 +1,11 @@
 -- What is written for the lines of an input, and why it may stop before its end.
-use Rattle.std.specs.Prelude.{◌≡◌, ◌≢◌, ℕ, ◌+◌, ◌≤◌, Bool, false, List, [], ◌∷◌, ◌++◌, length, Option, Some, None, ⊤}
+use Rattle.std.specs.Prelude.{◌≡◌, ◌≢◌, ℕ, ◌+◌, ◌≤◌, ◌&&◌, Bool, true, false, List, [], ◌∷◌, ◌++◌, length, Option, Some, None, if◌then◌else◌}
 use Rattle.std.specs.List.{AllByRecursion}
-use Rattle.bidi_lines.specs.Feeds.{has_feed}
+use Rattle.std.specs.Io.KnownBytes.{Appends}
+use Rattle.bidi_lines.specs.Devices.{AppendsBeginning}
+use Rattle.bidi_lines.specs.Feeds.{has_feed, ended}
 use Rattle.bidi_lines.specs.InputLines.{IsLine, joined}
-use Rattle.bidi_lines.specs.Skipping.{IsTooLong}
+use Rattle.bidi_lines.specs.Skipping.{IsEndless, IsTooLong}
 use Rattle.bidi_lines.specs.declared.line_reader.InputFault.{InputFault}
 use Rattle.bidi_lines.specs.declared.line_reader.InputFault.TheVariants as input
 use Rattle.bidi_lines.specs.declared.side.Side.{Side}
@@ -12,24 +14,31 @@ use Rattle.bidi_show.specs.declared.showing.ShowFault.TheVariants.{Read, Write, 
 use Rattle.bidi_why.specs.Trouble.{bad}
 use Rattle.bidi_why.specs.Texts.{told_text}
 use Rattle.bidi_why.specs.Explaining.{Explains}
+use Rattle.bidi_why.specs.Input.{IsOf}
 use Rattle.bidi_why.specs.declared.bad_text.BadText.TheVariants.{TooLong}
+use Rattle.bidi_why.specs.declared.next_line.Line.{Line}
 use Rattle.bidi_why.specs.declared.texts.Form.{Form}
 
 -- the text, where there is one
-abbrev pub written : Option (List ℕ × List ℕ) → List ℕ
+abbrev pub written : Option (List ℕ × List ℕ × Bool) → List ℕ
 written None = []
 written (Some e) = e.0
 
--- This is written for the line of this number.
-pub data Tells (form : Form) (side : Side) (n : ℕ) (line : List ℕ) : List ℕ → Type 0 where
-  is_line : (o : Option (List ℕ × List ℕ)) → IsLine line → Explains form side n line o → Tells form side n line (written o)
-  is_too_long : IsTooLong line → Tells form side n line (told_text form n (Some side) None (bad TooLong))
+-- what is told where only the profile is asked for: nothing of what is wrong for the profile and not for the draft
+abbrev pub kept : Bool → Option (List ℕ × List ℕ × Bool) → Option (List ℕ × List ℕ × Bool)
+kept only None = None
+kept only (Some e) = if only && e.2 then None else Some e
+
+-- This is written for the line of this number, of the profile alone or not.
+pub data Tells (form : Form) (side : Side) (only : Bool) (n : ℕ) (line : List ℕ) : List ℕ → Type 0 where
+  is_line : (o : Option (List ℕ × List ℕ × Bool)) → IsLine line → Explains form side n line o → Tells form side only n line (written (kept only o))
+  is_too_long : IsTooLong line → Tells form side only n line (told_text form n (Some side) None (bad TooLong))
 
 -- this is written for the lines, the first of which has this number
-abbrev pub TellsEach : Form → Side → ℕ → List (List ℕ) → List ℕ → Type 0
-TellsEach form side n [] wrote = wrote ≡ []
-TellsEach form side n (line ∷ lines) wrote =
-    (text : List ℕ) × (more : List ℕ) × Tells form side n line text × TellsEach form side (n + 1) lines more × (wrote ≡ text ++ more)
+abbrev pub TellsEach : Form → Side → Bool → ℕ → List (List ℕ) → List ℕ → Type 0
+TellsEach form side only n [] wrote = wrote ≡ []
+TellsEach form side only n (line ∷ lines) wrote =
+    (text : List ℕ) × (more : List ℕ) × Tells form side only n line text × TellsEach form side only (n + 1) lines more × (wrote ≡ text ++ more)
 
 -- no line feed stands in the line
 abbrev pub IsOneLine : List ℕ → Type 0
@@ -50,8 +59,8 @@ abbrev pub Whole : (List (List ℕ) → List ℕ → Type 0) → List ℕ → Li
 Whole P bytes wrote = (lines : List (List ℕ)) × (last : List ℕ) × Parts bytes lines last × IsOneLine last × P (lines ++ last_line last) wrote
 
 -- the bytes are lines, and this is written for them
-abbrev pub TellsAll : Form → Side → List ℕ → List ℕ → Type 0
-TellsAll form side bytes wrote = Whole (TellsEach form side 1) bytes wrote
+abbrev pub TellsAll : Form → Side → Bool → List ℕ → List ℕ → Type 0
+TellsAll form side only bytes wrote = Whole (TellsEach form side only 1) bytes wrote
 
 -- The bytes begin with these lines, with this rest behind them, and this holds of the lines and of what was written.
 pub record Told (P : List (List ℕ) → List ℕ → Type 0) (bytes : List ℕ) (lines : List (List ℕ)) (rest : List ℕ) (wrote : List ℕ) : Type 0 where
@@ -59,30 +68,53 @@ pub record Told (P : List (List ℕ) → List ℕ → Type 0) (bytes : List ℕ)
   pub text : P lines wrote
   pub few : length lines ≤ 1000000000
 
--- What a fault says of the bytes that were read, and of what was written, where this holds of lines and of what is written for them.
-abbrev pub StopsBy : (List (List ℕ) → List ℕ → Type 0) → ShowFault → List ℕ → List ℕ → Type 0
--- some of what is written for the next line may stand behind what is written for the lines
-StopsBy P Write read wrote =
-    (lines : List (List ℕ)) × (rest : List ℕ) × (text : List ℕ) × (more : List ℕ) × Told P read lines rest text × (wrote ≡ text ++ more)
+-- The bytes begin with this line: it has its line feed, or it is the last of the input, and all of them.
+pub data IsNext (at_end : Bool) (line : List ℕ) (bytes : List ℕ) : Type 0 where
+  is_ended : (more : List ℕ) → IsOneLine line → bytes ≡ ended line ++ more → IsNext at_end line bytes
+  is_last : IsOneLine line → line ≢ [] → at_end ≡ true → bytes ≡ line → IsNext at_end line bytes
+
+-- the text is a beginning of the whole, and not all of it
+abbrev pub IsCutOff : List ℕ → List ℕ → Type 0
+IsCutOff text whole = (left : List ℕ) × (whole ≡ text ++ left) × (left ≢ [])
+
+-- What a fault says of the bytes that were read, the last of them or not, and of what was written, where this holds of lines and of what is written for them.
+abbrev pub StopsBy : (List (List ℕ) → List ℕ → Type 0) → ShowFault → Bool → List ℕ → List ℕ → Type 0
+-- each whole line that was read was told of
+StopsBy P Read at_end read wrote = (lines : List (List ℕ)) × (rest : List ℕ) × Told P read lines rest wrote × IsOneLine rest
+-- some lines at the front were told of, and of the next one a beginning was written of what is told of it
+StopsBy P Write at_end read wrote =
+    (lines : List (List ℕ)) × (line : List ℕ) × (rest : List ℕ) × (text : List ℕ) × (part : List ℕ) × (whole : List ℕ)
+    × Told P read lines rest text × IsNext at_end line rest × P (lines ++ line ∷ []) (text ++ whole) × IsCutOff part whole × (wrote ≡ text ++ part)
+-- all lines before line n were told of, and line n is endless
+StopsBy P (BadLine n) at_end read wrote =
+    (lines : List (List ℕ)) × (front : List ℕ) × (rest : List ℕ) × Told P read lines (front ++ rest) wrote × IsEndless front × (n ≡ length lines + 1)
 -- as many lines as are taken were told of, and the input goes on
-StopsBy P TooManyLines read wrote =
+StopsBy P TooManyLines at_end read wrote =
     (lines : List (List ℕ)) × (rest : List ℕ) × Told P read lines rest wrote × (length lines ≡ 1000000000) × (rest ≢ [])
 -- what was written is what is written for some lines at the front
-StopsBy P fault read wrote = (lines : List (List ℕ)) × (rest : List ℕ) × Told P read lines rest wrote
+StopsBy P NoMemory at_end read wrote = (lines : List (List ℕ)) × (rest : List ℕ) × Told P read lines rest wrote
 
 -- since the first of its states something has told of these lines by this text
 abbrev pub SoFar : {T : Type 0} → (T → T → List (List ℕ) → List ℕ → Bool → Type 0) → T → List (List ℕ) → List ℕ → Type 0
 SoFar {T} has_told first lines text = (t : T) × (some : Bool) × has_told first t lines text some
 
 -- the same of what is written for the lines of an end
-abbrev pub StopsAt : Form → Side → ShowFault → List ℕ → List ℕ → Type 0
-StopsAt form side fault read wrote = StopsBy (TellsEach form side 1) fault read wrote
+abbrev pub StopsAt : Form → Side → Bool → ShowFault → Bool → List ℕ → List ℕ → Type 0
+StopsAt form side only fault at_end read wrote = StopsBy (TellsEach form side only 1) fault at_end read wrote
 
--- what a fault at a line says of what was written for it
-abbrev pub StopsLine : ShowFault → List ℕ → Type 0
-StopsLine Write more = ⊤
-StopsLine NoMemory more = more ≡ []
-StopsLine fault more = ⊥
+-- With this text something tells of one line more than these n, from one of its states to another: since any first state it has told of that one too.
+abbrev pub TellsNext : {T : Type 0} → (T → T → List (List ℕ) → List ℕ → Bool → Type 0) → T → T → Bool → Bool → ℕ → Line → List ℕ → Type 0
+TellsNext {T} has_told old new some some' n line text =
+    (first : T) (lines : List (List ℕ)) (before : List ℕ) (is : List ℕ) → has_told first old lines before some → n ≡ length lines → IsOf line is
+    → has_told first new (lines ++ is ∷ []) (before ++ text) some'
+
+-- What a fault at a line says of what a sink held and holds, where this holds of the text for the line.
+abbrev pub StopsLine : (List ℕ → Type 0) → ShowFault → Option (List ℕ) → Option (List ℕ) → Type 0
+-- a beginning of the text was written, and not all
+StopsLine P Write held held' = (text : List ℕ) × P text × AppendsBeginning held held' text
+-- nothing was written
+StopsLine P NoMemory held held' = Appends held held' []
+StopsLine P fault held held' = ⊥
 
 -- the fault that a fault of the input is, at the line of this number
 abbrev pub input_fault : InputFault → ℕ → ShowFault

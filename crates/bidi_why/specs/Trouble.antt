@@ -1,6 +1,6 @@
 -- What is wrong with a line that is refused. The kinds and their words are this project's own.
 use Rattle.std.specs.Prelude.{◌≡◌, ◌+◌, ◌==◌, ◌&&◌, ◌++◌, ℕ, List, [], ◌∷◌, length, take, nat_lt, Bool, true, false, Option, Some, None}
-use Rattle.std.specs.Prelude.{option_map, option_and_then, string_bytes, codes, decimal, IsUtf8}
+use Rattle.std.specs.Prelude.{option_map, option_and_then, unwrap_or, string_bytes, codes, decimal, IsUtf8}
 use Rattle.std.specs.Str.{IsValidUpTo, bytes_eq}
 use Rattle.bidi_tree.specs.Node.{Node, get_of}
 use Rattle.bidi_tree.specs.Kind.{text_in}
@@ -11,12 +11,15 @@ use Rattle.bidi_messages.specs.Verdict.{echoed_id}
 use Rattle.bidi_blame.specs.Names.{rule_text}
 use Rattle.bidi_blame.specs.Reason.{Reason, Step, member, item}
 use Rattle.bidi_blame.specs.Blames.{Blames}
-use Rattle.bidi_blame.specs.Words.{pointer_text, wants_text, found_text}
+use Rattle.bidi_blame.specs.Words.{pointer_text, wants_text}
 use Rattle.bidi_show.specs.MessageLines.{HasTree, Refuses}
+use Rattle.bidi_why.specs.Beyond as reason
+use Rattle.bidi_why.specs.Claim.{has_text, kind_of, short_text}
 use Rattle.bidi_lines.specs.declared.side.Side.{Side}
 use Rattle.bidi_lines.specs.declared.side.Side.TheVariants.{Local, Remote}
 use Rattle.bidi_why.specs.declared.bad_text.BadText.{BadText}
 use Rattle.bidi_why.specs.declared.bad_text.BadText.TheVariants.{ByteOrderMark, NoUtf8, TooLong, TooLarge, NotJson, NoDirection}
+use Rattle.bidi_why.specs.declared.claim.Kind.{Kind}
 use Rattle.bidi_why.specs.declared.misfit.Misfit as declared_misfit
 use Rattle.bidi_why.specs.declared.finding.Trouble as declared_trouble
 use Rattle.bidi_why.specs.declared.finding.Trouble.TheVariants as code
@@ -53,11 +56,16 @@ HasNoTree line b = ⊥
 pub record Misfit : Type 0 where
   pub id : Option ℕ
   pub method : Option (List ℕ)
+  pub kind : Kind
   pub pointer : List ℕ
   pub pattern : List ℕ
   pub wants : List ℕ
+  -- the same in short
+  pub short : List ℕ
   pub has : List ℕ
   pub named : Option (List ℕ)
+  -- it is wrong for the profile, and not for the draft
+  pub is_beyond : Bool
 
 -- the rule of the texts of an end
 abbrev pub rule_of : Side → rules.Name
@@ -92,11 +100,14 @@ abbrev pub reason_parts : Option ℕ → Option (List ℕ) → Reason → Misfit
 reason_parts id method r = record {
   id = id;
   method = method;
+  kind = kind_of r;
   pointer = pointer_text r.steps;
   pattern = pattern_text r.steps;
   wants = wants_text r.wants;
-  has = found_text r.found;
+  short = short_text r;
+  has = has_text (kind_of r) r.found;
   named = option_map rule_text r.named;
+  is_beyond = reason.is_beyond r;
 }
 
 -- a tree and the reason why it does not fit, in words
@@ -114,15 +125,23 @@ pub data Trouble : Type 0 where
   bad : BadText → Trouble
   no_fit : Misfit → Trouble
 
+-- whether it is wrong for the profile alone
+abbrev pub is_beyond : Trouble → Bool
+is_beyond (bad b) = false
+is_beyond (no_fit m) = m.is_beyond
+
 abbrev pub misfit_of : declared_misfit.Misfit → Misfit
 misfit_of m = record {
   id = option_map (λ n. n.value) m.id;
   method = option_map string_bytes m.method;
+  kind = m.kind;
   pointer = string_bytes m.pointer;
   pattern = string_bytes m.pattern;
   wants = string_bytes m.wants;
+  short = unwrap_or (option_map string_bytes m.short) (string_bytes m.wants);
   has = string_bytes m.has;
   named = option_map (λ s. s.now) m.rule;
+  is_beyond = m.is_beyond;
 }
 
 abbrev pub trouble_of : declared_trouble.Trouble → Trouble

@@ -1,5 +1,5 @@
 //! What tells of the lines of a conversation.
-ghost use Rattle.std.specs.Prelude.{◌≡◌, ◌++◌, ℕ, ◌<◌, List, true, false, Some, None, length, position, IfOk, IfSome, OnOk, MatchOption, ◌==◌, is_some, option_map, if◌then◌else◌};
+ghost use Rattle.std.specs.Prelude.{◌≡◌, ◌∷◌, [], ◌++◌, ℕ, ◌<◌, List, true, false, Some, None, length, position, IfOk, IfSome, OnOk, MatchOption, ◌==◌, is_some, option_map, if◌then◌else◌};
 ghost use Rattle.std.specs.List.{list_any};
 ghost use Rattle.bidi_tree.specs.Text.{tree_of};
 ghost use Rattle.bidi_lines.specs.InputLines.{IsLine};
@@ -24,12 +24,13 @@ ghost use Rattle.bidi_why.specs.Trouble.{trouble_of};
 use crate::bad_text::BadText;
 use crate::explainer::{Explainer, Told};
 use crate::finding::{Trouble, begins_with_mark, trouble_in};
+use crate::ids::{forget, is_among, remove_first};
+use crate::judging::{Judged, judge_text, sender};
 use crate::next_line::Line;
 use crate::one_side::boxed_scratch;
-use crate::remark::{
-    Remark, bad_line, id_waits, no_message, remark_cause, remark_line, stray, too_many,
-};
+use crate::remark::{Remark, bad_line, id_waits, no_message, stray, too_many};
 use crate::result_misfit::bad_result;
+use crate::telling::told_if;
 use crate::texts::Form;
 use bidi_lines::Side;
 use bidi_local::{LocalEnd, NoteFault, Outcome, Received, Taken};
@@ -50,6 +51,8 @@ const MOST_REFUSED: usize = 1024;
 #[derive(Drop)]
 pub(crate) struct Conversation {
     pub form: Option<Form>,
+    /// Whether nothing is told of what is wrong for the profile and not for the W3C's draft.
+    pub profile_only: bool,
     /// A local end that sent the commands which were accepted, and was told the texts of the other end.
     pub end: LocalEnd,
     /// The id of each command that waits, and the number of its line.
@@ -70,36 +73,9 @@ impl Explainer for Conversation {
         line: Line,
     ) -> Result<Option<Told>, AllocError> {
         match self.hear_line(alloc, number, line)? {
-            Some(remark) => Ok(Some(told_of(alloc, self.form, number, &remark)?)),
+            Some(remark) => told_if(alloc, self.form, self.profile_only, number, &remark),
             None => Ok(None),
         }
-    }
-}
-
-// What is told of the line of this number.
-fn told_of(
-    alloc: Global,
-    form: Option<Form>,
-    number: u64,
-    remark: &Remark,
-) -> Result<Told, AllocError>
-    ensures text { IfOk result (λ t. t.text.items ≡ told.remark_line form number (remark_of remark.now)) }
-    ensures fault { IfOk result (λ t. t.is_fault ≡ told.is_fault (remark_of remark.now)) }
-{
-    Ok(Told {
-        text: remark_line(alloc, form, number, remark)?,
-        cause: remark_cause(alloc, remark)?,
-        is_fault: is_fault(remark),
-    })
-}
-
-// Whether something is wrong.
-fn is_fault(remark: &Remark) -> bool
-    ensures { result ≡ told.is_fault (remark_of remark.now) }
-{
-    match remark {
-        Remark::Fault(_, _, _, _) => true,
-        Remark::Failed(_, _, _) => false,
     }
 }
 
@@ -108,12 +84,18 @@ impl Conversation {
     ///
     /// # Errors
     /// No memory: an allocation failed.
-    pub(crate) fn new(alloc: Global, form: Option<Form>) -> Result<Conversation, AllocError>
+    pub(crate) fn new(
+        alloc: Global,
+        form: Option<Form>,
+        profile_only: bool,
+    ) -> Result<Conversation, AllocError>
         ensures form { IfOk result (λ c. c.form ≡ form) }
+        ensures only { IfOk result (λ c. c.profile_only ≡ profile_only) }
         ensures silent { IfOk result (λ c. standing_of c ≡ silence) }
     {
         Ok(Conversation {
             form,
+            profile_only,
             end: LocalEnd::new(alloc),
             lines: Vec::new(alloc),
             refused: Vec::new(alloc),
@@ -129,6 +111,7 @@ impl Conversation {
         line: Line,
     ) -> Result<Option<Remark>, AllocError>
         ensures form { self.new.form ≡ self.old.form }
+        ensures only { self.new.profile_only ≡ self.old.profile_only }
         ensures heard { IfOk result (λ found. (is : List ℕ) → IsOf line is
             → HearsLine number (standing_of self.old) is (option_map remark_of found) (standing_of self.new)) }
     {
@@ -146,6 +129,7 @@ impl Conversation {
         line: &[u8],
     ) -> Result<Option<Remark>, AllocError>
         ensures form { self.new.form ≡ self.old.form }
+        ensures only { self.new.profile_only ≡ self.old.profile_only }
         ensures heard { IfOk result (λ found. IsLine line.now
             → HearsLine number (standing_of self.old) line.now (option_map remark_of found) (standing_of self.new)) }
     {
@@ -169,6 +153,7 @@ impl Conversation {
         text: &[u8],
     ) -> Result<Option<Remark>, AllocError>
         ensures form { self.new.form ≡ self.old.form }
+        ensures only { self.new.profile_only ≡ self.old.profile_only }
         ensures heard { IfOk result (λ found. Hears number (standing_of self.old) text.now Local (option_map remark_of found) (standing_of self.new)) }
     {
         match judge_text(alloc, text, self.scratch.as_mut())? {
@@ -191,6 +176,7 @@ impl Conversation {
         method: Method,
     ) -> Result<Option<Remark>, AllocError>
         ensures form { self.new.form ≡ self.old.form }
+        ensures only { self.new.profile_only ≡ self.old.profile_only }
         ensures noted { IfOk result (λ found. Notes number (standing_of self.old) id.value method (option_map remark_of found) (standing_of self.new)) }
     {
         match self.end.note(id, method) {
@@ -210,6 +196,7 @@ impl Conversation {
     // A command of this id was refused.
     fn refuse(&mut self, id: Option<JsUint>) -> Result<(), AllocError>
         ensures form { self.new.form ≡ self.old.form }
+        ensures only { self.new.profile_only ≡ self.old.profile_only }
         ensures refused { OnOk result (standing_of self.new ≡ with_refused (option_map (λ n. n.value) id) (standing_of self.old)) }
     {
         if let Some(id) = id {
@@ -223,6 +210,7 @@ impl Conversation {
     // What is told of a text of the remote end.
     fn hear_remote(&mut self, alloc: Global, line: &[u8]) -> Result<Option<Remark>, AllocError>
         ensures form { self.new.form ≡ self.old.form }
+        ensures only { self.new.profile_only ≡ self.old.profile_only }
         ensures heard { (n : ℕ) → IfOk result (λ found. Hears n (standing_of self.old) line.now Remote (option_map remark_of found) (standing_of self.new)) }
     {
         let Ok(text) = std::str::from_utf8(line) else {
@@ -246,6 +234,7 @@ impl Conversation {
         requires well { ⟦<Message as Shape>⟧.shape.well message }
         requires read { tree_of text.now ≡ Some (⟦<Message as Shape>⟧.shape.tree_of message) }
         ensures form { self.new.form ≡ self.old.form }
+        ensures only { self.new.profile_only ≡ self.old.profile_only }
         ensures taken { IfOk result (λ found. Takes (standing_of self.old) (⟦<Message as Shape>⟧.shape.tree_of message) (option_map remark_of found) (standing_of self.new)) }
     {
         let (id, kind) = sender(&message);
@@ -274,6 +263,7 @@ impl Conversation {
         kind: &str,
     ) -> Result<Option<Remark>, AllocError>
         ensures form { self.new.form ≡ self.old.form }
+        ensures only { self.new.profile_only ≡ self.old.profile_only }
         ensures told { IfOk result (λ found. IsStray (standing_of self.old) (option_map (λ n. n.value) id) kind.now (option_map remark_of found) (standing_of self.new)) }
     {
         if self.answers_refused(id) {
@@ -285,6 +275,7 @@ impl Conversation {
     // Whether the id is that of a refused command without an answer; it has one now.
     fn answers_refused(&mut self, id: Option<JsUint>) -> bool
         ensures form { self.new.form ≡ self.old.form }
+        ensures only { self.new.profile_only ≡ self.old.profile_only }
         ensures was { result ≡ was_refused (option_map (λ n. n.value) id) (standing_of self.old) }
         ensures no_more { standing_of self.new ≡ (if result then without_refused (option_map (λ n. n.value) id) (standing_of self.old) else standing_of self.old) }
     {
@@ -307,6 +298,7 @@ impl Conversation {
     ) -> Result<Option<Remark>, AllocError>
         requires { Refuses Remote line.now (Some brief.now) }
         ensures form { self.new.form ≡ self.old.form }
+        ensures only { self.new.profile_only ≡ self.old.profile_only }
         ensures heard { (n : ℕ) → IfOk result (λ found. Hears n (standing_of self.old) line.now Remote (option_map remark_of found) (standing_of self.new)) }
     {
         let why = trouble_in(alloc, Side::Remote, line, self.scratch.as_mut())?;
@@ -317,6 +309,7 @@ impl Conversation {
     // The command of this id has its answer, which is no message: the one that waits, or else one that was refused. Tells the id where there is one.
     fn answer(&mut self, alloc: Global, id: Option<JsUint>) -> Result<Option<u64>, AllocError>
         ensures form { self.new.form ≡ self.old.form }
+        ensures only { self.new.profile_only ≡ self.old.profile_only }
         ensures told { IfOk result (λ a. a ≡ answered (option_map (λ n. n.value) id) (standing_of self.old)) }
         ensures behind { OnOk result (standing_of self.new ≡ with_answer (option_map (λ n. n.value) id) (standing_of self.old)) }
     {
@@ -335,6 +328,7 @@ impl Conversation {
     // Whether the command of this id waits. It waits no longer: the local end takes it for one that failed.
     fn settle(&mut self, alloc: Global, id: JsUint) -> Result<bool, AllocError>
         ensures form { self.new.form ≡ self.old.form }
+        ensures only { self.new.profile_only ≡ self.old.profile_only }
         ensures waits { IfOk result (λ b. b ≡ is_some (method_of (standing_of self.old).waiting id.value)) }
         ensures behind { IfOk result (λ b. standing_of self.new ≡ (if b then without_command id.value (standing_of self.old) else standing_of self.old)) }
     {
@@ -347,6 +341,7 @@ impl Conversation {
         requires error { text.now ≡ error_text (Some id.value) ErrorCode.UnknownError }
         requires reads { IsMessageText ⟦<Message as Shape>⟧.shape text.now }
         ensures form { self.new.form ≡ self.old.form }
+        ensures only { self.new.profile_only ≡ self.old.profile_only }
         ensures waits { IfOk result (λ b. b ≡ is_some (method_of (standing_of self.old).waiting id.value)) }
         ensures behind { IfOk result (λ b. standing_of self.new ≡ (if b then without_command id.value (standing_of self.old) else standing_of self.old)) }
     {
@@ -363,6 +358,7 @@ impl Conversation {
         requires { ⟦<Message as Shape>⟧.shape.well error
             × (⟦<Message as Shape>⟧.shape.tree_of error ≡ error_tree (Some id.value) ErrorCode.UnknownError) }
         ensures form { self.new.form ≡ self.old.form }
+        ensures only { self.new.profile_only ≡ self.old.profile_only }
         ensures waits { IfOk result (λ b. b ≡ is_some (method_of (standing_of self.old).waiting id.value)) }
         ensures behind { IfOk result (λ b. standing_of self.new ≡ (if b then without_command id.value (standing_of self.old) else standing_of self.old)) }
     {
@@ -397,22 +393,6 @@ fn settled_by(received: &Received) -> Option<u64>
     }
 }
 
-// Leaves out the line of this command.
-fn forget(lines: &mut Vec<(u64, u64)>, id: Option<u64>)
-    ensures { lines.new.items ≡ lines_left id lines.old.items }
-{
-    if let Some(id) = id {
-        leave_out(lines, id);
-    }
-}
-
-// Leaves out the line of the command with this id.
-fn leave_out(lines: &mut Vec<(u64, u64)>, id: u64)
-    ensures { lines.new.items ≡ lines_without id lines.old.items }
-{
-    lines.retain(|line| line.0 != id);
-}
-
 // The id in a text that is no message.
 fn id_of(why: &Trouble) -> Option<JsUint>
     ensures { option_map (λ n. n.value) result ≡ id_of (trouble_of why.now) }
@@ -428,65 +408,4 @@ fn text_behind<'a>(line: &'a [u8], mark: &[u8]) -> Option<&'a [u8]>
     ensures { MatchOption result ((text : List ℕ) → line.now ≡ mark.now ++ text → ⊥) (λ text. line.now ≡ mark.now ++ text.now) }
 {
     line.strip_prefix(mark)
-}
-
-// Whether the id is among these.
-fn is_among(ids: &[u64], id: u64) -> bool
-    ensures { result ≡ list_any (λ x. x == id) ids.now }
-{
-    ids.iter().any(|other| *other == id)
-}
-
-// Removes the first of these ids that is this one.
-fn remove_first(ids: &mut Vec<u64>, id: u64)
-    ensures { ids.new.items ≡ without_first id ids.old.items }
-{
-    if let Some(i) = place_of(ids, id) {
-        ids.remove(i);
-    }
-}
-
-// The place of the first of these ids that is this one.
-fn place_of(ids: &[u64], id: u64) -> Option<usize>
-    ensures place { result ≡ position (λ x. x == id) ids.now }
-    ensures within { IfSome result (λ i. i < length ids.now) }
-{
-    ids.iter().position(|other| *other == id)
-}
-
-// What a text of the local end is judged to be.
-#[derive(Clone, Copy)]
-enum Judged {
-    Accepted(JsUint, Method),
-    Refused(Option<JsUint>, ErrorCode),
-}
-
-// Judges a text of the local end.
-fn judge_text(alloc: Global, text: &[u8], scratch: &mut Scratch) -> Result<Judged, AllocError>
-    ensures { IfOk result (IsJudged text.now) }
-{
-    let verdict = line_verdict(alloc, text, scratch)?;
-    Ok(in_short(verdict))
-}
-
-// A verdict without the params of its command.
-fn in_short(verdict: Verdict) -> Judged
-    ensures { (text : List ℕ) → HasVerdict text (verdict_of ⟦<Command as Shape>⟧.shape verdict) → IsJudged text result }
-{
-    match verdict {
-        Verdict::Accepted(command) => Judged::Accepted(command.id, command.data.method()),
-        Verdict::Refused { id, code } => Judged::Refused(id, code),
-    }
-}
-
-// The id and the `type` of a response or an error.
-fn sender(message: &Message) -> (Option<JsUint>, &'static str)
-    requires { ⟦<Message as Shape>⟧.shape.well message.now }
-    ensures { IsSender (⟦<Message as Shape>⟧.shape.tree_of message.now) (option_map (λ n. n.value) result.0) result.1.now }
-{
-    match message {
-        Message::Response(response) => (Some(response.id), "success"),
-        Message::Error(error) => (error.id, "error"),
-        Message::Event(_) => (None, "event"),
-    }
 }

@@ -32,6 +32,8 @@ use std::alloc::{AllocError, Global};
 ///
 /// A refused text of the remote end answers the command whose id it has. Its line says so, and the command no longer waits.
 ///
+/// With `profile_only` nothing is told of what is wrong for the profile and not for the W3C's draft.
+///
 /// Without a form each line says in brief what is wrong. With one it says where and why, and behind all, where there was a fault, `faults` is told how
 /// many lines have one and why, as [`explain`](crate::explain) tells it. Lines are read as there.
 ///
@@ -42,13 +44,14 @@ use std::alloc::{AllocError, Global};
 pub fn explain_both<R: Source, W: Sink, F: Sink>(
     alloc: Global,
     form: Option<Form>,
+    profile_only: bool,
     source: &mut R,
     sink: &mut W,
     faults: &mut F,
 ) -> Result<bool, ShowFault>
     // All that the source had was lines, and what is told of them and of the commands without an answer was written.
     ensures ok { IfOk result (λ some. Moves (R.left source.old) (R.left source.new) (W.contents sink.old) (W.contents sink.new)
-        (TellsConversation form some)) }
+        (TellsConversation form profile_only some)) }
     ensures end { OnOk result (IsTrue (R.has_ended source.new)) }
 
     // Where there is no fault, where only that is told, and where a fault of a device ends the listing, `faults` is told nothing.
@@ -58,7 +61,7 @@ pub fn explain_both<R: Source, W: Sink, F: Sink>(
 
     // A fault says what was read and written before it.
     ensures err { IfErr result (λ fault. Moves (R.left source.old) (R.left source.new) (W.contents sink.old) (W.contents sink.new)
-        (StopsConversation form fault)) }
+        (StopsConversation form profile_only fault (R.has_ended source.new))) }
 
     // A device is blamed where it failed, and no listing succeeds after a failure.
     ensures reads { MatchResult result (λ _. R.failures source.new ≡ R.failures source.old)
@@ -66,7 +69,7 @@ pub fn explain_both<R: Source, W: Sink, F: Sink>(
     ensures writes { MatchResult result (λ _. W.failures sink.new ≡ W.failures sink.old)
         (λ fault. W.failures sink.new ≡ W.failures sink.old + failed_writes fault) }
 {
-    let mut conversation = Conversation::new(alloc, form)?;
+    let mut conversation = Conversation::new(alloc, form, profile_only)?;
     let mut sum = Sum::new(alloc);
     tell_lines(alloc, &mut conversation, &mut sum, source, sink)?;
     tell_waiting(alloc, &conversation, &mut sum, sink)?;
@@ -86,7 +89,8 @@ fn tell_waiting<W: Sink>(
     ensures fault { OnOk result (sum.new.has_fault ≡ (sum.old.has_fault || any_waits (waiting_in conversation.now.end))) }
     ensures ok { OnOk result (Appends (W.contents sink.old) (W.contents sink.new)
         (unanswered_lines conversation.now.form (standing_of conversation.now))) }
-    ensures err { IfErr result (λ fault. (more : List ℕ) × Appends (W.contents sink.old) (W.contents sink.new) more × StopsLine fault more) }
+    ensures err { IfErr result (λ fault. StopsLine (λ text. text ≡ unanswered_lines conversation.now.form (standing_of conversation.now)) fault
+        (W.contents sink.old) (W.contents sink.new)) }
     ensures writes { MatchResult result (λ _. W.failures sink.new ≡ W.failures sink.old)
         (λ fault. W.failures sink.new ≡ W.failures sink.old + failed_writes fault) }
 {

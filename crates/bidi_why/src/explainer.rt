@@ -15,6 +15,8 @@ pub(crate) struct Told {
     pub cause: Vec<u8>,
     /// Whether something is wrong.
     pub is_fault: bool,
+    /// Whether it is wrong for the profile, and not for the W3C's draft.
+    pub is_beyond: bool,
 }
 
 /// What tells of the lines of an input one by one.

@@ -2,7 +2,7 @@
 ghost use Rattle.std.specs.Prelude.{IfOk, option_map};
 ghost use Rattle.bidi_why.specs.Explaining.{Explains, explained_of};
 
-use crate::finding::look_for_trouble;
+use crate::finding::{is_beyond, look_for_trouble};
 use crate::texts::{Form, cause, told};
 use bidi_lines::Side;
 use json::Scratch;
@@ -15,6 +15,8 @@ pub struct Explained {
     pub text: Vec<u8>,
     /// Where lines of its kind go wrong: two lines with one cause differ in numbers of items, or in what stands at the place, alone.
     pub cause: Vec<u8>,
+    /// Whether the line is wrong for the profile and not for the W3C's draft.
+    pub is_beyond: bool,
 }
 
 /// What is written for a line of this number; `None` for one that the end takes.
@@ -40,5 +42,6 @@ pub fn explain_line(
     Ok(Some(Explained {
         text: told(alloc, form, number, Some(side), None, &trouble)?,
         cause: cause(alloc, &trouble)?,
+        is_beyond: is_beyond(&trouble),
     }))
 }

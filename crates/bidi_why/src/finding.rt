@@ -5,7 +5,7 @@ ghost use Rattle.bidi_shape.specs.Term.{rule};
 ghost use Rattle.bidi_shape.specs.Fits.{Fits};
 ghost use Rattle.bidi_show.specs.MessageLines.{HasTree, Refuses};
 ghost use Rattle.bidi_lines.specs.declared.side.Side.TheVariants.{Local, Remote};
-ghost use Rattle.bidi_why.specs.Trouble.{HasMisfit, HasNoTree, HasTrouble, HasTroubleAt, IsTrouble, begins_with_mark, is_too_large, misfit_of, rule_of, trouble_of};
+ghost use Rattle.bidi_why.specs.Trouble.{HasMisfit, HasNoTree, HasTrouble, HasTroubleAt, IsTrouble, begins_with_mark, is_beyond, is_too_large, misfit_of, rule_of, trouble_of};
 
 use crate::bad_text::BadText;
 use crate::misfit::{Misfit, find_misfit};
@@ -24,6 +24,16 @@ pub(crate) enum Trouble {
     Bad(BadText),
     /// Its tree does not fit the rule of its end.
     NoFit(Misfit),
+}
+
+/// Whether it is wrong for the profile, and not for the W3C's draft.
+pub(crate) fn is_beyond(trouble: &Trouble) -> bool
+    ensures { result ≡ is_beyond (trouble_of trouble.now) }
+{
+    match trouble {
+        Trouble::Bad(_) => false,
+        Trouble::NoFit(misfit) => misfit.is_beyond,
+    }
 }
 
 /// The most bytes of a command.

@@ -5,19 +5,26 @@
 #![tactic(auto)]
 
 mod bad_text;
+mod beyond;
+mod claim;
 mod conversation;
 mod conversing;
 mod counting;
 mod explainer;
 mod explaining;
 mod finding;
+mod ids;
+mod json_lines;
+mod judging;
 mod listing;
 mod misfit;
 mod next_line;
 mod one_side;
+mod putting;
 mod remark;
 mod result_misfit;
 mod sum;
+mod telling;
 mod texts;
 
 pub use conversing::explain_both;

@@ -11,7 +11,9 @@ ghost use Rattle.bidi_blame.specs.View.{reason_of, step_of};
 ghost use Rattle.bidi_blame.specs.Words.{pointer_text};
 ghost use Rattle.bidi_why.specs.Trouble.{HasMisfit, method_of, misfit_of, pattern_text, reason_parts, rule_of};
 
-use bidi_blame::{Name, Reason, Step, blame, found_words, pointer, wanted};
+use crate::beyond::is_beyond;
+use crate::claim::{Kind, has, kind_of, no_key, short};
+use bidi_blame::{Name, Reason, Step, blame, pointer, wanted};
 use bidi_lines::Side;
 use bidi_shape::Parsed;
 use bidi_tree::{JsUint, Outline, find_outline};
@@ -24,16 +26,22 @@ pub(crate) struct Misfit {
     pub id: Option<JsUint>,
     /// The member `method` of the tree, or else its `type`, where that is a text.
     pub method: Option<String>,
+    /// What is wrong there.
+    pub kind: Kind,
     /// The place, as a JSON Pointer.
     pub pointer: String,
     /// The same, with `*` for the number of each item.
     pub pattern: String,
     /// What may stand there.
     pub wants: String,
+    /// The same in short; `None` where it is short enough.
+    pub short: Option<String>,
     /// What stands there.
     pub has: String,
     /// The innermost rule that speaks of the place.
     pub rule: Option<&'static str>,
+    /// Whether it is wrong for the profile, and not for the draft.
+    pub is_beyond: bool,
 }
 
 /// The misfit of a tree that does not fit the rule of its end.
@@ -70,16 +78,24 @@ pub(crate) fn in_words(
 ) -> Result<Misfit, AllocError>
     ensures { IfOk result (λ m. misfit_of m ≡ reason_parts (option_map (λ n. n.value) id) (option_map string_bytes method) (reason_of reason.now)) }
 {
+    let wants = wanted(alloc, &reason.wants)?;
+    let is_beyond = is_beyond(reason, wants.text.as_str(), wants.count);
+    let no_key = no_key(reason, wants.has_map);
+    let kind = kind_of(reason, wants.text.as_str(), no_key.is_some());
+    let short = short(alloc, kind, no_key, reason.named, wants.count)?;
     let pointer = pointer(alloc, &reason.steps)?;
     let pattern = pattern(alloc, &reason.steps, pointer.as_str())?;
     Ok(Misfit {
         id,
         method,
+        kind,
         pointer,
         pattern,
-        wants: wanted(alloc, &reason.wants)?,
-        has: found_words(alloc, reason.found)?,
+        wants: wants.text,
+        short,
+        has: has(alloc, kind, reason.found)?,
         rule: rule_name(reason.named),
+        is_beyond,
     })
 }
 

@@ -3,7 +3,8 @@ ghost use Rattle.std.specs.Prelude.{◌≡◌, List, ℕ, Some, None, option_map
 ghost use Rattle.bidi_why.specs.Explaining.{explained_of};
 ghost use Rattle.bidi_why.specs.Explainers.{HasExplained};
 ghost use Rattle.bidi_why.specs.Input.{IsOf};
-ghost use Rattle.bidi_why.specs.Telling.{Tells, written};
+ghost use Rattle.bidi_lines.specs.InputLines.{IsLine};
+ghost use Rattle.bidi_why.specs.Telling.{Tells, kept, written};
 ghost use Rattle.bidi_why.specs.Texts.{told_text};
 ghost use Rattle.bidi_why.specs.Trouble.{bad};
 
@@ -22,6 +23,8 @@ use std::alloc::{AllocError, Global};
 pub(crate) struct OneSide {
     pub form: Form,
     pub side: Side,
+    /// Whether nothing is told of what is wrong for the profile and not for the W3C's draft.
+    pub profile_only: bool,
     // What the lines are read in.
     scratch: Box<Scratch>,
 }
@@ -31,13 +34,20 @@ impl OneSide {
     ///
     /// # Errors
     /// No memory: an allocation failed.
-    pub(crate) fn new(alloc: Global, form: Form, side: Side) -> Result<OneSide, AllocError>
+    pub(crate) fn new(
+        alloc: Global,
+        form: Form,
+        side: Side,
+        profile_only: bool,
+    ) -> Result<OneSide, AllocError>
         ensures form { IfOk result (λ one. one.form ≡ form) }
         ensures side { IfOk result (λ one. one.side ≡ side) }
+        ensures only { IfOk result (λ one. one.profile_only ≡ profile_only) }
     {
         Ok(OneSide {
             form,
             side,
+            profile_only,
             scratch: boxed_scratch(alloc)?,
         })
     }
@@ -56,17 +66,25 @@ impl Explainer for OneSide {
             alloc,
             self.form,
             self.side,
+            self.profile_only,
             number,
             line,
             self.scratch.as_mut(),
         )?;
         match explained {
-            Some(Explained { text, cause }) => {
+            Some(
+                Explained {
+                    text,
+                    cause,
+                    is_beyond,
+                },
+            ) => {
                 let is_fault = !text.is_empty();
                 Ok(Some(Told {
                     text,
                     cause,
                     is_fault,
+                    is_beyond,
                 }))
             }
             None => Ok(None),
@@ -79,15 +97,44 @@ fn explain(
     alloc: Global,
     form: Form,
     side: Side,
+    profile_only: bool,
     number: u64,
     line: Line,
     scratch: &mut Scratch,
 ) -> Result<Option<Explained>, AllocError>
-    ensures { IfOk result (λ found. (is : List ℕ) → IsOf line is → Tells form side number is (written (option_map explained_of found))) }
+    ensures { IfOk result (λ found. (is : List ℕ) → IsOf line is → Tells form side profile_only number is (written (option_map explained_of found))) }
 {
     match line {
-        Line::Text(line) => explain_line(alloc, form, side, number, &line, scratch),
+        Line::Text(line) => {
+            explain_kept(alloc, form, side, profile_only, number, &line, scratch)
+        }
         Line::TooLong => too_long(alloc, form, side, number),
+    }
+}
+
+// What is told of a line of this number, which is not too long.
+fn explain_kept(
+    alloc: Global,
+    form: Form,
+    side: Side,
+    profile_only: bool,
+    number: u64,
+    line: &[u8],
+    scratch: &mut Scratch,
+) -> Result<Option<Explained>, AllocError>
+    ensures { IfOk result (λ found. IsLine line.now → Tells form side profile_only number line.now (written (option_map explained_of found))) }
+{
+    let found = explain_line(alloc, form, side, number, line, scratch)?;
+    Ok(kept(profile_only, found))
+}
+
+// What is told: nothing, where it is wrong for the profile alone and nothing of that is asked for.
+fn kept(profile_only: bool, found: Option<Explained>) -> Option<Explained>
+    ensures { option_map explained_of result ≡ kept profile_only (option_map explained_of found) }
+{
+    match found {
+        Some(found) if profile_only && found.is_beyond => None,
+        found => found,
     }
 }
 
@@ -104,6 +151,7 @@ fn too_long(
     Ok(Some(Explained {
         text: told(alloc, form, number, Some(side), None, &trouble)?,
         cause: cause(alloc, &trouble)?,
+        is_beyond: false,
     }))
 }
 

@@ -10,9 +10,12 @@ ghost use Rattle.bidi_why.specs.Remark.{at_words, failure_row, misfit_at, remark
 ghost use Rattle.bidi_why.specs.Texts.{json_line, words_line};
 
 use crate::bad_text::BadText;
+use crate::claim::Kind;
 use crate::finding::Trouble;
+use crate::json_lines::{Row, json_line, side_name};
 use crate::misfit::Misfit;
-use crate::texts::{Form, Row, cause, json_line, line_of_words, put, side_name, told};
+use crate::putting::put;
+use crate::texts::{Form, cause, line_of_words, told};
 use bidi_lines::Side;
 use bidi_messages::{ErrorCode, Method, Named};
 use bidi_tree::JsUint;
@@ -143,11 +146,14 @@ fn within(alloc: Global, place: &str, misfit: Misfit) -> Result<Misfit, AllocErr
     Ok(Misfit {
         id: misfit.id,
         method: misfit.method,
+        kind: misfit.kind,
         pointer,
         pattern,
         wants: misfit.wants,
+        short: misfit.short,
         has: misfit.has,
         rule: misfit.rule,
+        is_beyond: misfit.is_beyond,
     })
 }
 
@@ -174,11 +180,14 @@ fn misfit_at(
     Ok(Misfit {
         id,
         method: Some(String::from_str(alloc, label)?),
+        kind: Kind::Wrong,
         pointer: String::from_str(alloc, place)?,
         pattern: String::from_str(alloc, place)?,
         wants: String::from_str(alloc, wants)?,
+        short: None,
         has: String::from_str(alloc, has)?,
         rule: None,
+        is_beyond: false,
     })
 }
 
@@ -296,6 +305,7 @@ fn failure_in_json(
         has: code.name(),
         side: Some(side_name(Side::Remote)),
         answers: Some(id.value),
+        is_beyond: false,
     };
     json_line(alloc, Some(number), &row)
 }
@@ -368,6 +378,7 @@ fn unanswered_in_json(
         has: "unanswered",
         side: Some(side_name(Side::Local)),
         answers: None,
+        is_beyond: false,
     };
     json_line(alloc, number, &row)
 }

@@ -1,26 +1,20 @@
-//! How a refused line is told: in words, or as JSON.
-ghost use Rattle.std.specs.Prelude.{◌≡◌, ◌++◌, Some, IfOk, OnOk, codes, decimal, option_map, string_bytes};
-ghost use Rattle.json.specs.Print.{escape, quoted};
+//! How a refused line is told in words, and by which cause it is counted.
+ghost use Rattle.std.specs.Prelude.{◌≡◌, ◌++◌, IfOk, OnOk, codes, decimal, option_map};
 ghost use Rattle.bidi_why.specs.Trouble.{misfit_of, trouble_of};
-ghost use Rattle.bidi_why.specs.Texts.{answering_line, answers_words, bad_row, cause_text, json_line, label, misfit_cause, misfit_row, misfit_words, number_or_null};
-ghost use Rattle.bidi_why.specs.Texts.{row_of, rule_words, side_text, text_or_null, told_text, trouble_row, trouble_words, words_line};
+ghost use Rattle.bidi_why.specs.Texts.{answering_line, answers_words, beyond_words, cause_text, claim_cause, claim_words, is_quoted, label, misfit_cause, misfit_words};
+ghost use Rattle.bidi_why.specs.Texts.{name_words, rule_words, told_text, trouble_words, words_line};
 
-use crate::bad_text::BadText;
+use crate::claim::Kind;
 use crate::finding::Trouble;
+use crate::json_lines::told_in_json;
 use crate::misfit::Misfit;
-use bidi_blame::has_escapes;
+use crate::putting::{put, put_escaped};
 use bidi_lines::Side;
-use bidi_tree::JsUint;
 use itoa::Buffer;
-use json::Writer;
 use std::alloc::{AllocError, Global};
-use std::mem;
 
 /// The most bytes that stand around the words of a line, or around those of a cause.
 const AROUND_WORDS: usize = 96;
-
-/// The most bytes that stand around the texts of an object.
-const AROUND_TEXTS: usize = 192;
 
 /// How a refused line is told.
 #[derive(Clone, Copy, Debug, PartialEq, Eq)]
@@ -61,8 +55,6 @@ pub(crate) fn cause(alloc: Global, trouble: &Trouble) -> Result<Vec<u8>, AllocEr
         Trouble::NoFit(misfit) => misfit_cause(alloc, misfit),
     }
 }
-
-// ---- in words
 
 /// `line N: WORDS`
 ///
@@ -121,7 +113,7 @@ fn told_in_words(
     }
 }
 
-// `line N: LABEL: POINTER: wants WANTS, has HAS (RULE)`, and the id of the command that the line answers.
+// `line N: LABEL: POINTER: CLAIM (RULE)`, and the id of the command that the line answers.
 fn misfit_line(
     alloc: Global,
     number: u64,
@@ -165,31 +157,120 @@ fn room_of(misfit: &Misfit) -> usize {
         .saturating_add(rule)
 }
 
-// Puts `LABEL: POINTER: wants WANTS, has HAS (RULE)` behind.
+// Puts `LABEL: POINTER: CLAIM (RULE)` behind, and `beyond the profile: ` before it where it is.
 fn put_misfit(alloc: Global, text: &mut Vec<u8>, misfit: &Misfit) -> Result<(), AllocError>
     ensures { OnOk result (text.new.items ≡ text.old.items ++ misfit_words (misfit_of misfit.now)) }
 {
+    put_beyond(text, misfit.is_beyond)?;
     put_label(alloc, text, misfit)?;
     put(text, b": ")?;
     put_escaped(alloc, text, misfit.pointer.as_str())?;
-    put(text, b": wants ")?;
-    put(text, misfit.wants.as_bytes())?;
-    put(text, b", has ")?;
-    put(text, misfit.has.as_bytes())?;
+    put(text, b": ")?;
+    put_claim(text, misfit)?;
     put_rule(text, misfit.rule)
 }
 
-// `PATTERN: wants WANTS (RULE)`
+// Puts `beyond the profile: ` behind, or nothing.
+fn put_beyond(text: &mut Vec<u8>, is_beyond: bool) -> Result<(), AllocError>
+    ensures { OnOk result (text.new.items ≡ text.old.items ++ beyond_words is_beyond) }
+{
+    if is_beyond {
+        put(text, b"beyond the profile: ")?;
+    }
+    Ok(())
+}
+
+// Puts what is wrong at a place behind.
+fn put_claim(text: &mut Vec<u8>, misfit: &Misfit) -> Result<(), AllocError>
+    ensures { OnOk result (text.new.items ≡ text.old.items
+        ++ claim_words misfit.now.kind (misfit_of misfit.now).short (misfit_of misfit.now).has) }
+{
+    let short = short_of(misfit).as_bytes();
+    let has = misfit.has.as_bytes();
+    match misfit.kind {
+        Kind::Missing => put_two(text, b"missing; wants ", short),
+        Kind::Unexpected => put_two(text, b"unexpected property, ", has),
+        Kind::Deep => {
+            put_two(text, has, b", ")?;
+            put(text, short)
+        }
+        Kind::Keyless => put_two(text, b"wants ", short),
+        Kind::Wrong => {
+            put_two(text, b"wants ", short)?;
+            put_two(text, b", has ", has)
+        }
+    }
+}
+
+// What may stand there, in short.
+fn short_of(misfit: &Misfit) -> &str
+    ensures { result.now ≡ (misfit_of misfit.now).short }
+{
+    match &misfit.short {
+        Some(short) => short.as_str(),
+        None => misfit.wants.as_str(),
+    }
+}
+
+// Puts two texts behind.
+fn put_two(text: &mut Vec<u8>, front: &[u8], words: &[u8]) -> Result<(), AllocError>
+    ensures { OnOk result (text.new.items ≡ text.old.items ++ (front.now ++ words.now)) }
+{
+    put(text, front)?;
+    put(text, words)
+}
+
+// `PATTERN: CLAIM (RULE)`, and `beyond the profile: ` before it where it is.
 fn misfit_cause(alloc: Global, misfit: &Misfit) -> Result<Vec<u8>, AllocError>
     ensures { IfOk result (λ text. text.items ≡ misfit_cause (misfit_of misfit.now)) }
 {
-    let room = misfit.pattern.len().saturating_add(misfit.wants.len());
+    let room = misfit
+        .pattern
+        .len()
+        .saturating_add(misfit.wants.len())
+        .saturating_add(misfit.has.len());
     let mut text = Vec::with_capacity(alloc, room.saturating_add(AROUND_WORDS))?;
+    put_beyond(&mut text, misfit.is_beyond)?;
     put_escaped(alloc, &mut text, misfit.pattern.as_str())?;
-    put(&mut text, b": wants ")?;
-    put(&mut text, misfit.wants.as_bytes())?;
+    put(&mut text, b": ")?;
+    put_claim_cause(&mut text, misfit)?;
     put_rule(&mut text, misfit.rule)?;
     Ok(text)
+}
+
+// Puts what is wrong at a place behind, as it is counted.
+fn put_claim_cause(text: &mut Vec<u8>, misfit: &Misfit) -> Result<(), AllocError>
+    ensures { OnOk result (text.new.items ≡ text.old.items
+        ++ claim_cause misfit.now.kind (misfit_of misfit.now).wants (misfit_of misfit.now).short (misfit_of misfit.now).has) }
+{
+    let short = short_of(misfit).as_bytes();
+    match misfit.kind {
+        Kind::Missing => put_two(text, b"missing; wants ", short),
+        Kind::Unexpected => put(text, b"unexpected property"),
+        Kind::Deep => put_two(text, b"levels of nesting, ", short),
+        Kind::Keyless => put_two(text, b"wants ", short),
+        Kind::Wrong => {
+            put_two(text, b"wants ", short)?;
+            put_name(text, misfit.wants.as_bytes(), misfit.has.as_bytes())
+        }
+    }
+}
+
+// Puts which text stands at a place behind, if certain texts may.
+fn put_name(text: &mut Vec<u8>, wants: &[u8], has: &[u8]) -> Result<(), AllocError>
+    ensures { OnOk result (text.new.items ≡ text.old.items ++ name_words wants.now has.now) }
+{
+    if is_quoted(wants) && is_quoted(has) {
+        put_two(text, b", has ", has)?;
+    }
+    Ok(())
+}
+
+// Whether words begin with a quotation mark, as those of a text do.
+fn is_quoted(words: &[u8]) -> bool
+    ensures { result ≡ is_quoted words.now }
+{
+    words.starts_with(b"\"")
 }
 
 // Puts the label of a tree behind: its method, or `-`.
@@ -212,234 +293,4 @@ fn put_rule(text: &mut Vec<u8>, rule: Option<&'static str>) -> Result<(), AllocE
         put(text, b")")?;
     }
     Ok(())
-}
-
-// ---- as JSON
-
-/// What a line of JSON has behind its number.
-#[derive(Clone, Copy)]
-pub(crate) struct Row<'a> {
-    pub id: Option<u64>,
-    pub method: Option<&'a str>,
-    pub pointer: Option<&'a str>,
-    pub rule: Option<&'a str>,
-    pub wants: Option<&'a str>,
-    pub has: &'a str,
-    /// The end that sent the text.
-    pub side: Option<&'a str>,
-    /// The id of the command that the text answers.
-    pub answers: Option<u64>,
-}
-
-/// The name of an end.
-pub(crate) fn side_name(side: Side) -> &'static str
-    ensures { result.now ≡ side_text side }
-{
-    match side {
-        Side::Local => "local",
-        Side::Remote => "remote",
-    }
-}
-
-// The same of an end, if there is one.
-fn side_if(side: Option<Side>) -> Option<&'static str>
-    ensures { option_map (λ s. s.now) result ≡ option_map side_text side }
-{
-    match side {
-        Some(side) => Some(side_name(side)),
-        None => None,
-    }
-}
-
-// The object of a line that is refused.
-fn told_in_json(
-    alloc: Global,
-    number: u64,
-    side: Option<Side>,
-    answers: Option<u64>,
-    trouble: &Trouble,
-) -> Result<Vec<u8>, AllocError>
-    ensures { IfOk result (λ text. text.items ≡ json_line (Some number) (trouble_row side answers (trouble_of trouble.now))) }
-{
-    match trouble {
-        Trouble::Bad(bad) => bad_in_json(alloc, number, side, answers, *bad),
-        Trouble::NoFit(misfit) => misfit_in_json(alloc, number, side, answers, misfit),
-    }
-}
-
-// That of a line that is no text to judge.
-fn bad_in_json(
-    alloc: Global,
-    number: u64,
-    side: Option<Side>,
-    answers: Option<u64>,
-    bad: BadText,
-) -> Result<Vec<u8>, AllocError>
-    ensures { IfOk result (λ text. text.items ≡ json_line (Some number) (bad_row side answers bad)) }
-{
-    let words = bad.words(alloc)?;
-    let row = Row {
-        id: None,
-        method: None,
-        pointer: None,
-        rule: None,
-        wants: None,
-        has: words.as_str(),
-        side: side_if(side),
-        answers,
-    };
-    json_line(alloc, Some(number), &row)
-}
-
-// That of a line whose tree does not fit.
-fn misfit_in_json(
-    alloc: Global,
-    number: u64,
-    side: Option<Side>,
-    answers: Option<u64>,
-    misfit: &Misfit,
-) -> Result<Vec<u8>, AllocError>
-    ensures { IfOk result (λ text. text.items ≡ json_line (Some number) (misfit_row side answers (misfit_of misfit.now))) }
-{
-    let row = Row {
-        id: value_of(misfit.id),
-        method: text_of(&misfit.method),
-        pointer: Some(misfit.pointer.as_str()),
-        rule: misfit.rule,
-        wants: Some(misfit.wants.as_str()),
-        has: misfit.has.as_str(),
-        side: side_if(side),
-        answers,
-    };
-    json_line(alloc, Some(number), &row)
-}
-
-// The number of an id, if there is one.
-fn value_of(id: Option<JsUint>) -> Option<u64>
-    ensures { result ≡ option_map (λ n. n.value) id }
-{
-    match id {
-        Some(id) => Some(id.value),
-        None => None,
-    }
-}
-
-// The text, if there is one.
-fn text_of(text: &Option<String>) -> Option<&str>
-    ensures { option_map (λ s. s.now) result ≡ option_map string_bytes text.now }
-{
-    match text {
-        Some(text) => Some(text.as_str()),
-        None => None,
-    }
-}
-
-/// `{"line":N,"id":ID,"method":METHOD,"pointer":POINTER,"rule":RULE,"wants":WANTS,"has":HAS,"side":SIDE,"answers":ID}`.
-///
-/// Takes one block of memory, unless more than one byte in eight of its texts has an escape.
-pub(crate) fn json_line(
-    alloc: Global,
-    number: Option<u64>,
-    row: &Row<'_>,
-) -> Result<Vec<u8>, AllocError>
-    ensures { IfOk result (λ text. text.items ≡ json_line number (row_of row.now)) }
-{
-    let mut text = Vec::with_capacity(alloc, room_of_row(row))?;
-    put(&mut text, b"{\"line\":")?;
-    put_number(&mut text, number)?;
-    put(&mut text, b",\"id\":")?;
-    put_number(&mut text, row.id)?;
-    put_member(alloc, &mut text, b",\"method\":", row.method)?;
-    put_member(alloc, &mut text, b",\"pointer\":", row.pointer)?;
-    put_member(alloc, &mut text, b",\"rule\":", row.rule)?;
-    put_member(alloc, &mut text, b",\"wants\":", row.wants)?;
-    put_member(alloc, &mut text, b",\"has\":", Some(row.has))?;
-    put_member(alloc, &mut text, b",\"side\":", row.side)?;
-    put(&mut text, b",\"answers\":")?;
-    put_number(&mut text, row.answers)?;
-    put(&mut text, b"}\n")?;
-    Ok(text)
-}
-
-// The room for an object.
-fn room_of_row(row: &Row<'_>) -> usize {
-    let texts = length_of(row.method)
-        .saturating_add(length_of(row.pointer))
-        .saturating_add(length_of(row.rule))
-        .saturating_add(length_of(row.wants))
-        .saturating_add(row.has.len());
-    texts.saturating_add(texts / 8).saturating_add(AROUND_TEXTS)
-}
-
-// How many bytes a text has, where there is one.
-fn length_of(text: Option<&str>) -> usize {
-    match text {
-        Some(text) => text.len(),
-        None => 0,
-    }
-}
-
-// Puts a member behind: its name, and its text or `null`.
-fn put_member(
-    alloc: Global,
-    text: &mut Vec<u8>,
-    name: &[u8],
-    value: Option<&str>,
-) -> Result<(), AllocError>
-    ensures { OnOk result (text.new.items ≡ text.old.items ++ name.now ++ text_or_null (option_map (λ s. s.now) value.entry)) }
-{
-    put(text, name)?;
-    match value {
-        Some(value) => put_quoted(alloc, text, value),
-        None => put(text, b"null"),
-    }
-}
-
-// Puts a number in decimal behind, or `null`.
-fn put_number(text: &mut Vec<u8>, number: Option<u64>) -> Result<(), AllocError>
-    ensures { OnOk result (text.new.items ≡ text.old.items ++ number_or_null number) }
-{
-    match number {
-        Some(number) => put(text, Buffer::new().format(number).as_bytes()),
-        None => put(text, b"null"),
-    }
-}
-
-// ---- of both
-
-// Puts a text as JSON writes it behind.
-fn put_quoted(alloc: Global, text: &mut Vec<u8>, value: &str) -> Result<(), AllocError>
-    ensures { OnOk result (text.new.items ≡ text.old.items ++ quoted value.now) }
-{
-    let mut out = Writer::new(mem::replace(text, Vec::new(alloc)));
-    out.string(value)?;
-    *text = out.into_inner();
-    Ok(())
-}
-
-// Puts the same without its quotation marks behind. One without an escape is copied once.
-fn put_escaped(alloc: Global, text: &mut Vec<u8>, value: &str) -> Result<(), AllocError>
-    ensures { OnOk result (text.new.items ≡ text.old.items ++ escape value.now) }
-{
-    if has_escapes(value) {
-        put_within_quotes(alloc, text, value)
-    } else {
-        put(text, value.as_bytes())
-    }
-}
-
-// Puts what JSON writes within the quotation marks behind.
-fn put_within_quotes(alloc: Global, text: &mut Vec<u8>, value: &str) -> Result<(), AllocError>
-    ensures { OnOk result (text.new.items ≡ text.old.items ++ escape value.now) }
-{
-    let mut quoted = Vec::new(alloc);
-    put_quoted(alloc, &mut quoted, value)?;
-    put(text, &quoted[1..quoted.len() - 1])
-}
-
-/// Puts bytes behind those that are there.
-pub(crate) fn put(text: &mut Vec<u8>, bytes: &[u8]) -> Result<(), AllocError>
-    ensures { OnOk result (text.new.items ≡ text.old.items ++ bytes.now) }
-{
-    text.extend_from_slice(bytes)
 }

@@ -1,28 +1,40 @@
-use Rattle.std.proofs.Common.{◌∙◌, ◌++◌}
+use Rattle.std.proofs.Common.{◌∙◌, ◌++◌, inl}
 use Rattle.std.proofs.KnownBytes.{Appends-trans}
 use Rattle.bidi_lines.proofs.ResultLemmas.{by_fault}
-use Rattle.bidi_why.proofs.ConversationLemmas.{stops_behind, tells_both}
+use Rattle.bidi_why.proofs.ConversationLemmas.{stops_behind, tells_both, transcript_so}
+use Rattle.bidi_why.proofs.TellingLemmas.{stops_as}
 use Rattle.bidi_why.proofs.conversing.explain_both.Goals as goal
+
+pub returns-in_err-tell_lines-clause-err : goal.returns-in_err-tell_lines-clause-err
+returns-in_err-tell_lines-clause-err g c =
+    let fault = c.in_err-tell_lines.field-0.0 in
+    let made = c.in_ok-conversation.ensures in
+    let (read, wrote, consumes, appends, stops) = c.in_err-tell_lines.ensures.err in
+    let told = transcript_so c.args.form c.args.profile_only c.in_ok-conversation.conversation made.form made.only in
+    by_fault c.from_residual-in_err-tell_lines.result fault _ c.from_residual-in_err-tell_lines.ensures
+    (read, wrote, consumes, appends, inl (stops_as told fault _ read wrote stops))
 
 pub returns-in_err-tell_waiting-clause-err : goal.returns-in_err-tell_waiting-clause-err
 returns-in_err-tell_waiting-clause-err g c =
     let fault = c.in_err-tell_waiting.field-0.0 in
     let (read, wrote, consumes, appends, whole) = c.in_ok-tell_lines.ensures.ok in
-    let (more, part, stops) = c.in_err-tell_waiting.ensures.err in
+    let (more, part, stops) =
+    stops_behind c.args.form c.args.profile_only c.in_ok-conversation.conversation c.tell_lines.new.explainer c.tell_lines.new.sum.has_fault
+    c.in_ok-conversation.ensures.form c.in_ok-conversation.ensures.only fault _ _ (g.R.Source.has_ended c.tell_lines.new.source) read wrote whole c.in_ok-tell_lines.ensures.end c.in_err-tell_waiting.ensures.err in
     by_fault c.from_residual-in_err-tell_waiting.result fault _ c.from_residual-in_err-tell_waiting.ensures (
       read,
       wrote ++ more,
       consumes,
       Appends-trans _ _ _ _ _ appends part,
-      stops_behind c.args.form c.in_ok-conversation.conversation c.tell_lines.new.explainer c.tell_lines.new.sum.has_fault c.in_ok-conversation.ensures.form
-          fault read wrote more whole stops,
+      stops,
     )
 
 pub returns-then-is_none-clause-ok : goal.returns-then-is_none-clause-ok
 returns-then-is_none-clause-ok g c =
     let (read, wrote, consumes, appends, whole) = c.in_ok-tell_lines.ensures.ok in
     let (text, rest, tells) =
-    tells_both c.args.form c.in_ok-conversation.conversation c.tell_lines.new.explainer c.tell_lines.new.sum.has_fault c.in_ok-conversation.ensures.form _ _
+    tells_both c.args.form c.args.profile_only c.in_ok-conversation.conversation c.tell_lines.new.explainer c.tell_lines.new.sum.has_fault
+    c.in_ok-conversation.ensures.form c.in_ok-conversation.ensures.only _ _
     c.tell_waiting.new.sum.has_fault read wrote whole c.in_ok-tell_waiting.ensures.ok c.in_ok-tell_waiting.ensures.fault in
     (read, wrote ++ text, consumes, Appends-trans _ _ _ _ _ appends rest, tells)
 
@@ -30,6 +42,7 @@ pub returns-clause-ok : goal.returns-clause-ok
 returns-clause-ok g c =
     let (read, wrote, consumes, appends, whole) = c.in_ok-tell_lines.ensures.ok in
     let (text, rest, tells) =
-    tells_both c.args.form c.in_ok-conversation.conversation c.tell_lines.new.explainer c.tell_lines.new.sum.has_fault c.in_ok-conversation.ensures.form _ _
+    tells_both c.args.form c.args.profile_only c.in_ok-conversation.conversation c.tell_lines.new.explainer c.tell_lines.new.sum.has_fault
+    c.in_ok-conversation.ensures.form c.in_ok-conversation.ensures.only _ _
     c.tell.result read wrote whole c.in_ok-tell_waiting.ensures.ok (c.tell.ensures.some ∙ c.in_ok-tell_waiting.ensures.fault) in
     (read, wrote ++ text, consumes, Appends-trans _ _ _ _ _ appends rest, tells)

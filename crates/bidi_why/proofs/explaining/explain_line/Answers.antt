@@ -11,4 +11,5 @@ pub returns : goal.returns
 returns c =
     let x = trouble_of c.in-Some.trouble in
     let h : HasTroubleAt c.args.side c.args.number c.args.line.now (Some x) = rw c.in-Some.is at c.in_ok-trouble.ensures in
-    explained c.args.form c.args.side c.args.number c.args.line.now _ _ x h.0 h.1 c.in_ok-told.ensures c.in_ok-cause.ensures
+    explained c.args.form c.args.side c.args.number c.args.line.now _ _ _ x h.0 h.1 c.in_ok-told.ensures c.in_ok-cause.ensures
+    c.is_beyond.ensures

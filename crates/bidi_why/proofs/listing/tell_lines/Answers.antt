@@ -1,10 +1,10 @@
-use Rattle.std.proofs.Common.{◌++◌, ◌∷◌, [], ℕ, List, length-append, refl, sym, ◌∙◌, ap₂, arith}
+use Rattle.std.proofs.Common.{◌+◌, ◌++◌, ◌∷◌, [], ℕ, List, length-append, refl, sym, ◌∙◌, ap₂, arith}
 use Rattle.std.proofs.KnownBytes.{Appends-nil, Appends-trans, Consumes-nil, Consumes-trans}
 use Rattle.bidi_lines.proofs.ResultLemmas.{by_fault}
 use Rattle.bidi_why.specs.declared.next_line.Found.TheVariants.{End, Last, Line}
 use Rattle.bidi_why.proofs.InputLemmas.{found_as, one_line}
-use Rattle.bidi_why.specs.Telling.{SoFar}
-use Rattle.bidi_why.proofs.TellingLemmas.{if_err, on_ok, parts_more, parts_read, stops_input, stops_line, whole_all, whole_last}
+use Rattle.bidi_why.specs.Telling.{SoFar, TellsNext}
+use Rattle.bidi_why.proofs.TellingLemmas.{if_err, leaves_found, leaves_nothing, next_ended, next_last, on_ok, parts_more, parts_read, stops_input, stops_line, whole_all, whole_last}
 use Rattle.bidi_why.proofs.listing.tell_lines.Goals as goal
 
 pub lines-init : goal.lines-init
@@ -27,18 +27,21 @@ lines-init g c = (
 pub returns-in-Err-clause-err : goal.returns-in-Err-clause-err
 returns-in-Err-clause-err g c =
     let (read, lines, text, s) = c.lines.invariant in
-    let (gone, (bytes, more, consumes), none) = c.in-Err.ensures.finds in (
+    let at_end = g.R.Source.has_ended c.next_line.new.source in
+    let count = s.count in
+    let (gone, (bytes, more, consumes), found) = c.in-Err.ensures.finds in (
       read ++ bytes,
       text,
       Consumes-trans _ _ _ _ _ s.reads consumes,
       s.writes,
-      stops_input (SoFar g.E.Explainer.has_told c.args.explainer.now) c.in-Err.fault _ c.show_fault.result (read ++ bytes) (gone ++ c.next_line.new.reader) text lines
-          c.show_fault.ensures
+      stops_input (SoFar g.E.Explainer.has_told c.args.explainer.now) c.in-Err.fault (c.lines.sum.lines + 1) c.show_fault.result at_end (read ++ bytes)
+          (gone ++ c.next_line.new.reader) text lines c.show_fault.ensures
           (record {
             parts = parts_read read bytes c.lines.reader (gone ++ c.next_line.new.reader) lines s.parts more;
             text = (c.lines.explainer, c.lines.sum.has_fault, s.told);
             few = s.few;
-          }),
+          })
+          (leaves_found c.in-Err.fault (c.lines.sum.lines + 1) lines at_end gone c.next_line.new.reader (omega (arith, count)) found),
     )
 
 pub returns-in-Ok-End-clause-ok : goal.returns-in-Ok-End-clause-ok
@@ -75,18 +78,26 @@ returns-in-Ok-Last-clause-ok g c =
 pub returns-in-Ok-Last-clause-err : goal.returns-in-Ok-Last-clause-err
 returns-in-Ok-Last-clause-err g c =
     let (read, lines, text, s) = c.lines.invariant in
-    let (gone, (bytes, more, consumes), found) = c.in-Ok-Last.ensures.finds in
-    if_err c.answer.result c.answer.ensures.err (λ fault stop. (
+    let line = c.in-Ok-Last.line in
+    let at_end = g.R.Source.has_ended c.next_line.new.source in
+    let (gone, (bytes, more, consumes), (is, some, last)) =
+    found_as _ _ c.lines.reader c.next_line.new.reader at_end c.in-Ok-Last.field-0 (Last line) c.in-Ok-Last.field-0-is c.in-Ok-Last.ensures.finds in
+    if_err c.answer.result c.answer.ensures.err (λ fault stop.
+    let (part, appends, stops) =
+    stops_line (SoFar g.E.Explainer.has_told c.args.explainer.now) fault _ _ at_end (read ++ bytes) (gone ++ c.next_line.new.reader) text gone lines
+    (λ t. TellsNext g.E.Explainer.has_told c.lines.explainer c.answer.new.explainer c.lines.sum.has_fault c.answer.new.sum.has_fault c.lines.sum.lines line t)
+    stop (λ t tells. (c.answer.new.explainer, c.answer.new.sum.has_fault, tells c.args.explainer.now lines text gone s.told s.count is))
+    (next_last at_end gone c.next_line.new.reader (one_line line gone is) some last.0 last.1)
+    (record {
+      parts = parts_read read bytes c.lines.reader (gone ++ c.next_line.new.reader) lines s.parts more;
+      text = (c.lines.explainer, c.lines.sum.has_fault, s.told);
+      few = s.few;
+    }) in (
       read ++ bytes,
-      text ++ stop.0,
+      text ++ part,
       Consumes-trans _ _ _ _ _ s.reads consumes,
-      Appends-trans _ _ _ _ _ s.writes stop.1,
-      stops_line (SoFar g.E.Explainer.has_told c.args.explainer.now) fault (read ++ bytes) (gone ++ c.next_line.new.reader) text stop.0 lines stop.2
-          (record {
-            parts = parts_read read bytes c.lines.reader (gone ++ c.next_line.new.reader) lines s.parts more;
-            text = (c.lines.explainer, c.lines.sum.has_fault, s.told);
-            few = s.few;
-          }),
+      Appends-trans _ _ _ _ _ s.writes appends,
+      stops,
     ))
 
 pub lines-preserved : goal.lines-preserved
@@ -118,37 +129,47 @@ lines-preserved g c =
 pub returns-in_err-answer-in-Ok-Line-clause-err : goal.returns-in_err-answer-in-Ok-Line-clause-err
 returns-in_err-answer-in-Ok-Line-clause-err g c =
     let (read, lines, text, s) = c.lines.invariant in
-    let (gone, (bytes, more, consumes), found) = c.in-Ok-Line.ensures.finds in
+    let line = c.in-Ok-Line.line in
+    let at_end = g.R.Source.has_ended c.next_line.new.source in
+    let (gone, (bytes, more, consumes), (is, at, whole)) =
+    found_as _ _ c.lines.reader c.next_line.new.reader at_end c.in-Ok-Line.field-0 (Line line) c.in-Ok-Line.field-0-is c.in-Ok-Line.ensures.finds in
     let fault = c.in_err-answer-in-Ok-Line.field-0.0 in
-    let (stop, appends, stops) = c.in_err-answer-in-Ok-Line.ensures.err in
+    let (part, appends, stops) =
+    stops_line (SoFar g.E.Explainer.has_told c.args.explainer.now) fault _ _ at_end (read ++ bytes) (gone ++ c.next_line.new.reader) text is lines
+    (λ t. TellsNext g.E.Explainer.has_told c.lines.explainer c.answer-in-Ok-Line.new.explainer c.lines.sum.has_fault c.answer-in-Ok-Line.new.sum.has_fault c.lines.sum.lines line t)
+    c.in_err-answer-in-Ok-Line.ensures.err
+    (λ t tells. (c.answer-in-Ok-Line.new.explainer, c.answer-in-Ok-Line.new.sum.has_fault, tells c.args.explainer.now lines text is s.told s.count at))
+    (next_ended at_end is gone c.next_line.new.reader (one_line line is at) whole)
+    (record {
+      parts = parts_read read bytes c.lines.reader (gone ++ c.next_line.new.reader) lines s.parts more;
+      text = (c.lines.explainer, c.lines.sum.has_fault, s.told);
+      few = s.few;
+    }) in
     by_fault c.from_residual.result fault _ c.from_residual.ensures (
       read ++ bytes,
-      text ++ stop,
+      text ++ part,
       Consumes-trans _ _ _ _ _ s.reads consumes,
       Appends-trans _ _ _ _ _ s.writes appends,
-      stops_line (SoFar g.E.Explainer.has_told c.args.explainer.now) fault (read ++ bytes) (gone ++ c.next_line.new.reader) text stop lines stops
-          (record {
-            parts = parts_read read bytes c.lines.reader (gone ++ c.next_line.new.reader) lines s.parts more;
-            text = (c.lines.explainer, c.lines.sum.has_fault, s.told);
-            few = s.few;
-          }),
+      stops,
     )
 
 pub returns-in-Err-goes_on-clause-err : goal.returns-in-Err-goes_on-clause-err
 returns-in-Err-goes_on-clause-err g c =
     let (read, lines, text, s) = c.lines.invariant in
+    let none = c.in-Err-goes_on.ensures.err in
     let (bytes, more, consumes) = c.in-Err-goes_on.ensures.bytes in (
       read ++ bytes,
       text,
       Consumes-trans _ _ _ _ _ s.reads consumes,
       s.writes,
-      stops_input (SoFar g.E.Explainer.has_told c.args.explainer.now) c.in-Err-goes_on.fault _ c.show_fault-in-Err-goes_on.result (read ++ bytes) c.goes_on.new.self text lines
-          c.show_fault-in-Err-goes_on.ensures
+      stops_input (SoFar g.E.Explainer.has_told c.args.explainer.now) c.in-Err-goes_on.fault c.lines.sum.lines c.show_fault-in-Err-goes_on.result
+          (g.R.Source.has_ended c.goes_on.new.source) (read ++ bytes) c.goes_on.new.self text lines c.show_fault-in-Err-goes_on.ensures
           (record {
             parts = parts_read read bytes c.lines.reader c.goes_on.new.self lines s.parts more;
             text = (c.lines.explainer, c.lines.sum.has_fault, s.told);
             few = s.few;
-          }),
+          })
+          (leaves_nothing c.in-Err-goes_on.fault c.lines.sum.lines lines c.goes_on.new.self none.0 none.1),
     )
 
 pub returns-in-Ok-true-clause-err : goal.returns-in-Ok-true-clause-err

@@ -1,7 +1,7 @@
 use Rattle.std.proofs.Common.{◌≡◌, ◌∙◌, ℕ, List, [], ◌∷◌, ◌++◌, append-nil, ap, ap₂}
 use Rattle.json.specs.Print.{print, print_from, quoted}
 use Rattle.json.specs.Token.{Token, string}
-use Rattle.bidi_why.proofs.texts.put_quoted.Goals as goal
+use Rattle.bidi_why.proofs.putting.put_quoted.Goals as goal
 
 -- what is written of one text alone
 print-string : (s : List ℕ) → print (string s ∷ []) ≡ quoted s

@@ -1,7 +1,7 @@
 use Rattle.std.proofs.Common.{◌∙◌, ap}
 use Rattle.std.specs.Prelude.{◌==◌, position}
 use Rattle.bidi_why.specs.Conversing.{without_at}
-use Rattle.bidi_why.proofs.conversation.remove_first.Goals as goal
+use Rattle.bidi_why.proofs.ids.remove_first.Goals as goal
 
 pub returns-in-Some : goal.returns-in-Some
 returns-in-Some c =

@@ -4,7 +4,7 @@ use Rattle.bidi_messages.specs.View.{verdict_of}
 use Rattle.bidi_messages.specs.contracts.command.CommandShape.TheImpl.{ghosts}
 use Rattle.bidi_messages.proofs.CommandLemmas.{id_in-tree, method_in-tree}
 use Rattle.bidi_show.specs.MessageLines.{HasVerdict}
-use Rattle.bidi_why.proofs.conversation.in_short.Goals as goal
+use Rattle.bidi_why.proofs.judging.in_short.Goals as goal
 
 pub returns-in-Accepted : goal.returns-in-Accepted
 returns-in-Accepted c text judged =

@@ -1,5 +1,5 @@
 use Rattle.bidi_why.proofs.HearingLemmas.{from_error, from_event, from_response}
-use Rattle.bidi_why.proofs.conversation.sender.Goals as goal
+use Rattle.bidi_why.proofs.judging.sender.Goals as goal
 
 pub returns-in-Response : goal.returns-in-Response
 returns-in-Response c = from_response c.args.message.now c.in-Response.response c.requires c.in-Response.is
