@@ -3,7 +3,8 @@
 //! `bidi play` reads a play from standard input, a step a line, and writes what the remote end sends.
 //! `bidi pair` reads steps of both ends, and writes what became of each command and which events each link received.
 //! `bidi reduce` writes the lines of a play that are kept for a session.
-//! `bidi show` writes a line for each text of a local or a remote end, and `bidi check` one for each that is refused.
+//! `bidi show` writes a line for each text of a local or a remote end, and `bidi check` one for each that is refused. Both
+//! read standard input, or a file that the command line names.
 //! `bidi serve` serves WebSocket connections on 127.0.0.1, one after another.
 //! `bidi host` serves many at once, and takes lines of a page.
 #![tactic(auto)]
@@ -11,7 +12,7 @@
 mod system;
 
 use bidi_command_line::{
-    HostFiles, HostOptions, LineFault, Run, ServeOptions, command_line, host_files,
+    HostFiles, HostOptions, LineFault, Run, ServeOptions, command_line, host_files, input_file,
 };
 use bidi_hosting::{Door, Hosted, HostingFault, MOST_CONNECTIONS, MOST_WAITING, Manners};
 use bidi_lines::{Device, Sink, write_all};
@@ -19,9 +20,10 @@ use bidi_programs::{hosting_status, run, serving_status};
 use bidi_serve::{ServeFault, serve};
 use mio::Poll;
 use mio::net::TcpListener as Listener;
+use std::alloc::Global;
 use std::net::{Ipv4Addr, SocketAddr, SocketAddrV4, TcpListener};
 use std::process::ExitCode;
-use std::{env, io};
+use std::{env, fs, io};
 use system::{System, page_of};
 
 fn main(rt: HostRuntime) -> ExitCode {
@@ -57,8 +59,7 @@ fn told(rt: &HostRuntime, line: &[u8], status: u8) -> u8 {
     status
 }
 
-// Runs what the command line asks for over the standard streams, and returns the status. A word that is not
-// UTF-8 is `InvalidData`.
+// Runs what the command line asks for, and returns the status. A word that is not UTF-8 is `InvalidData`.
 fn status(rt: &HostRuntime) -> io::Result<u8> {
     let alloc = rt.alloc();
     let words = env::args(rt)?.skip(1).collect::<Vec<String>>(alloc)?;
@@ -77,10 +78,20 @@ fn status(rt: &HostRuntime) -> io::Result<u8> {
             Ok(files) => host_status(rt, asked, files),
             Err(_) => Ok(told(rt, OUT_OF_MEMORY, 3)),
         },
-        Ok(asked) => {
-            let mut input = Device::new(rt.reader());
-            Ok(run(alloc, &asked, &mut input, &mut output, &mut faults))
-        }
+        Ok(asked) => match input_of(alloc, &asked, &words) {
+            Ok(None) => {
+                let mut input = Device::new(rt.reader());
+                Ok(run(alloc, &asked, &mut input, &mut output, &mut faults))
+            }
+            Ok(Some(name)) => match fs::open(rt, name.as_str()) {
+                Ok(file) => {
+                    let mut input = Device::new(file);
+                    Ok(run(alloc, &asked, &mut input, &mut output, &mut faults))
+                }
+                Err(error) => cannot_read(rt, name.as_str(), error.kind()),
+            },
+            Err(_) => Ok(told(rt, OUT_OF_MEMORY, 3)),
+        },
         Err(LineFault::Help(text)) => { Ok(answered(rt, &mut output, text.as_bytes())) }
         Err(LineFault::Usage(text)) => {
             let _ = write_all(&mut faults, text.as_bytes());
@@ -88,6 +99,25 @@ fn status(rt: &HostRuntime) -> io::Result<u8> {
         }
         Err(LineFault::NoMemory) => Ok(told(rt, OUT_OF_MEMORY, 3)),
     }
+}
+
+// The file that a run reads in place of the standard input: `show` and `check` may have one.
+fn input_of(alloc: Global, asked: &Run, words: &[&str]) -> Result<Option<String>, LineFault> {
+    match asked {
+        Run::Show(_) | Run::Check(_) | Run::Why(_) | Run::Both(_) => input_file(alloc, words),
+        _ => Ok(None),
+    }
+}
+
+// Tells that a file cannot be opened, and returns the status.
+fn cannot_read(rt: &HostRuntime, name: &str, kind: io::ErrorKind) -> io::Result<u8> {
+    let reason = match kind {
+        io::ErrorKind::NotFound | io::ErrorKind::NotADirectory => "no such file",
+        io::ErrorKind::PermissionDenied => "permission denied",
+        _ => "the system refuses",
+    };
+    let line = format!(in rt.alloc(); "bidi: cannot read {name}: {reason}\n")?;
+    Ok(told(rt, line.as_bytes(), 3))
 }
 
 // Serves on 127.0.0.1.

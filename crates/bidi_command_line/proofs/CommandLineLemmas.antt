@@ -20,8 +20,8 @@ use Rattle.bidi_command_line.specs.declared.asked.ServeOptions.{ServeOptions}
 use Rattle.bidi_command_line.specs.declared.asked.HostOptions.{HostOptions}
 use Rattle.bidi_lines.specs.declared.side.Side.{Side}
 use Rattle.bidi_lines.specs.declared.side.Side.TheVariants.{Local, Remote}
-use Rattle.bidi_command_line.specs.CommandLine.{AsksFor, Causes, Gives, GivesNumber, IsReadAs, IsRefusedFor, IsRequest, IsSaidBy, bidi_app, faults_of}
-use Rattle.bidi_command_line.specs.CommandLine.{checked, default_port, flag_words, hosted, number_within, run_in, run_named, served, side_named, side_text, value_words}
+use Rattle.bidi_command_line.specs.CommandLine.{AsksFor, Causes, FileWords, Gives, GivesNumber, IsReadAs, IsRefusedFor, IsRequest, IsSaidBy, bidi_app, faults_of}
+use Rattle.bidi_command_line.specs.CommandLine.{checked, default_port, flag_words, hosted, is_name, number_within, run_in, run_named, served, side_named, side_text, value_words}
 use Rattle.bidi_command_line.proofs.PlayLines.{play_lines, pair_lines}
 
 -- the command is one whose faults clap lists, and whose reading it states
@@ -204,41 +204,88 @@ reduce_reads (apart b value e) =
     (rw (q, l, s) refl, rw (q, l, s) refl)
 reduce_reads (joined value) = (refl, refl)
 
-show_reads : {value : Text} {words : List Text} → Given (codes "from") value words → Reads (codes "show" ∷ words) (option_map Show (side_named value))
-unfolding clap_on_literals
-show_reads (apart b value e) =
-    let l = no_long b value e in let s = no_short b value e in let q = no_mark b value e in
-    (rw (q, l, s) refl, rw (q, l, s) refl)
-show_reads (joined value) = (refl, refl)
+-- a name that stands for a file names no option either, and is not the mark
+is_file_word : (name : Text) → IsTrue (is_name name) → (bytes_eq name (codes "--") ≡ false) × (long_of name ≡ None) × (short_of name ≡ None)
+is_file_word [] is = (refl, refl, refl)
+is_file_word (b ∷ []) is = of (b == 45) refl
+  where
+    of : (minus : Bool) → (b == 45) ≡ minus → (bytes_eq (b ∷ []) (codes "--") ≡ false) × (long_of (b ∷ []) ≡ None) × (short_of (b ∷ []) ≡ None)
+    of true e = (rw (e) refl, rw (e) refl, rw (e) refl)
+    of false e = (no_mark b [] e, no_long b [] e, no_short b [] e)
+is_file_word (b ∷ c ∷ rest) is =
+    let e : (b == 45) ≡ false = grind (arith, nat_tests, is) in
+    (no_mark b (c ∷ rest) e, no_long b (c ∷ rest) e, no_short b (c ∷ rest) e)
 
-check_reads : {value : Text} {words : List Text} → Given (codes "from") value words → Reads (codes "check" ∷ words) (checked (Some value) false false false)
+-- The word of a file, by what `clap` asks of it, where there is one.
+data File : List Text → Type 0 where
+  unnamed : File []
+  named : (name : Text) → bytes_eq name (codes "--") ≡ false → long_of name ≡ None → short_of name ≡ None → File (name ∷ [])
+
+file_is : (words : List Text) → FileWords words → File words
+file_is words (inl e) = subst File (sym e) unnamed
+file_is words (inr (name, is, e)) =
+    let word = is_file_word name is in
+    subst File (sym e) (named name word.0 word.1 word.2)
+
+show_reads : {value : Text} {words file : List Text}
+    → Given (codes "from") value words → File file → Reads (codes "show" ∷ words ++ file) (option_map Show (side_named value))
 unfolding clap_on_literals
-check_reads (apart b value e) =
+show_reads (apart b value e) unnamed =
     let l = no_long b value e in let s = no_short b value e in let q = no_mark b value e in
     (rw (q, l, s) refl, rw (q, l, s) refl)
-check_reads (joined value) = (refl, refl)
+show_reads (apart b value e) (named name q2 l2 s2) =
+    let l = no_long b value e in let s = no_short b value e in let q = no_mark b value e in
+    (rw (q) (rw (l) (rw (s) (rw (q2) (rw (l2) (rw (s2) refl))))), rw (q) (rw (l) (rw (s) (rw (q2) (rw (l2) (rw (s2) refl))))))
+show_reads (joined value) unnamed = (refl, refl)
+show_reads (joined value) (named name q l s) = (rw (q) (rw (l) (rw (s) refl)), rw (q) (rw (l) (rw (s) refl)))
+
+check_reads : {value : Text} {words file : List Text}
+    → Given (codes "from") value words → File file → Reads (codes "check" ∷ words ++ file) (checked (Some value) false false false false)
+unfolding clap_on_literals
+check_reads (apart b value e) unnamed =
+    let l = no_long b value e in let s = no_short b value e in let q = no_mark b value e in
+    (rw (q, l, s) refl, rw (q, l, s) refl)
+check_reads (apart b value e) (named name q2 l2 s2) =
+    let l = no_long b value e in let s = no_short b value e in let q = no_mark b value e in
+    (rw (q) (rw (l) (rw (s) (rw (q2) (rw (l2) (rw (s2) refl))))), rw (q) (rw (l) (rw (s) (rw (q2) (rw (l2) (rw (s2) refl))))))
+check_reads (joined value) unnamed = (refl, refl)
+check_reads (joined value) (named name q l s) = (rw (q) (rw (l) (rw (s) refl)), rw (q) (rw (l) (rw (s) refl)))
 
 -- the flags behind the option
-why_reads : {value : Text} {words : List Text} (json : Bool) → Given (codes "from") value words
-    → Reads (codes "check" ∷ words ++ codes "--why" ∷ flag_words (codes "json") json) (checked (Some value) false true json)
+why_reads : {value : Text} {words : List Text} (json profile : Bool) → Given (codes "from") value words
+    → Reads (codes "check" ∷ words ++ codes "--why" ∷ flag_words (codes "json") json ++ flag_words (codes "profile-only") profile)
+    (checked (Some value) false true json profile)
 unfolding clap_on_literals
-why_reads true (apart b value e) =
+why_reads true true (apart b value e) =
     let l = no_long b value e in let s = no_short b value e in let q = no_mark b value e in
     (rw (q, l, s) refl, rw (q, l, s) refl)
-why_reads false (apart b value e) =
+why_reads true true (joined value) = (refl, refl)
+why_reads true false (apart b value e) =
     let l = no_long b value e in let s = no_short b value e in let q = no_mark b value e in
     (rw (q, l, s) refl, rw (q, l, s) refl)
-why_reads true (joined value) = (refl, refl)
-why_reads false (joined value) = (refl, refl)
+why_reads true false (joined value) = (refl, refl)
+why_reads false true (apart b value e) =
+    let l = no_long b value e in let s = no_short b value e in let q = no_mark b value e in
+    (rw (q, l, s) refl, rw (q, l, s) refl)
+why_reads false true (joined value) = (refl, refl)
+why_reads false false (apart b value e) =
+    let l = no_long b value e in let s = no_short b value e in let q = no_mark b value e in
+    (rw (q, l, s) refl, rw (q, l, s) refl)
+why_reads false false (joined value) = (refl, refl)
 
 -- the flags alone
-both_reads : (why json : Bool)
-    → Reads (codes "check" ∷ codes "--both" ∷ flag_words (codes "why") why ++ flag_words (codes "json") json) (checked None true why json)
+both_reads : (why json profile : Bool)
+    → Reads (codes "check" ∷ codes "--both" ∷ flag_words (codes "why") why ++ flag_words (codes "json") json ++ flag_words (codes "profile-only") profile)
+    (checked None true why json profile)
 unfolding clap_on_literals
-both_reads true true = (refl, refl)
-both_reads true false = (refl, refl)
-both_reads false true = (refl, refl)
-both_reads false false = (refl, refl)
+both_reads true true true = (refl, refl)
+both_reads true true false = (refl, refl)
+both_reads true false true = (refl, refl)
+both_reads true false false = (refl, refl)
+both_reads false true true = (refl, refl)
+both_reads false true false = (refl, refl)
+both_reads false false true = (refl, refl)
+both_reads false false false = (refl, refl)
 
 serve_reads : {p c m : Text} → Plain p → Plain c → Plain m
     → Reads (codes "serve" ∷ codes "--port" ∷ p ∷ codes "--connections" ∷ c ∷ codes "--messages" ∷ m ∷ [])
@@ -347,10 +394,11 @@ side_is Local = refl
 side_is Remote = refl
 
 -- `--both` asks for both, where `--json` has its `--why`
-both_is : (why json : Bool) → (IsTrue json → IsTrue why) → checked None true why json ≡ Some (Both (record { is_why = why; is_json = json }))
-both_is true json goes = refl
-both_is false true goes = let given : false ≡ true = goes refl in cc
-both_is false false goes = refl
+both_is : (why json profile : Bool) → (IsTrue json → IsTrue why)
+    → checked None true why json profile ≡ Some (Both (record { is_why = why; is_json = json; profile_only = profile }))
+both_is true json profile goes = refl
+both_is false true profile goes = let given : false ≡ true = goes refl in cc
+both_is false false profile goes = refl
 
 -- clap reads the words that are given for a run as that run
 pub said_asks : (line : List Text) (run : Run) → IsSaidBy run line → AsksFor line run
@@ -359,14 +407,17 @@ said_asks line Pair e = inl e
 said_asks line (Reduce session) (words, gives, e) =
     read_as line (codes "reduce" ∷ words) (Reduce session) _ e (ap (option_map Reduce) gives.1)
     (reduce_reads (given_number (codes "session") 0 4294967295 session words gives))
-said_asks line (Show side) (words, gives, e) =
-    read_as line (codes "show" ∷ words) (Show side) _ e (ap (option_map Show) (side_is side)) (show_reads (given_side side words gives))
-said_asks line (Check side) (words, gives, e) =
-    read_as line (codes "check" ∷ words) (Check side) _ e (ap (option_map Check) (side_is side)) (check_reads (given_side side words gives))
+said_asks line (Show side) (words, file, gives, names, e) =
+    read_as line (codes "show" ∷ words ++ file) (Show side) _ e (ap (option_map Show) (side_is side))
+    (show_reads (given_side side words gives) (file_is file names))
+said_asks line (Check side) (words, file, gives, names, e) =
+    read_as line (codes "check" ∷ words ++ file) (Check side) _ e (ap (option_map Check) (side_is side))
+    (check_reads (given_side side words gives) (file_is file names))
 said_asks line (Why o) (words, gives, e) =
-    read_as line _ (Why o) _ e (ap (option_map (λ s. Why (record { side = s; is_json = o.is_json }))) (side_is o.side))
-    (why_reads o.is_json (given_side o.side words gives))
-said_asks line (Both o) (goes, e) = read_as line _ (Both o) _ e (both_is o.is_why o.is_json goes) (both_reads o.is_why o.is_json)
+    read_as line _ (Why o) _ e (ap (option_map (λ s. Why (record { side = s; is_json = o.is_json; profile_only = o.profile_only }))) (side_is o.side))
+    (why_reads o.is_json o.profile_only (given_side o.side words gives))
+said_asks line (Both o) (goes, e) =
+    read_as line _ (Both o) _ e (both_is o.is_why o.is_json o.profile_only goes) (both_reads o.is_why o.is_json o.profile_only)
 said_asks line (Serve s) (p, c, m, port, connections, messages, inl e) =
     read_as line _ (Serve s) _ e (λ i. option_map Serve (served (port i) (connections i) (messages i)))
     (serve_reads (plain_number 0 65535 s.port p port) (plain_number 1 1000 s.connections c connections) (plain_number 1 100000 s.messages m messages))

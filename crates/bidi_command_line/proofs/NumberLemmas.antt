@@ -68,8 +68,9 @@ pub served-same : (a a' b b' m m' : Option ℕ) → a ≡ a' → b ≡ b' → m 
 served-same a a' b b' m m' p q r =
     subst (λ x. served a b m ≡ served x b' m') p (subst (λ x. served a b m ≡ served a x m') q (subst (λ x. served a b m ≡ served a b x) r refl))
 
-pub checked-same : (a a' : Option Text) (b b' c c' d d' : Bool) → a ≡ a' → b ≡ b' → c ≡ c' → d ≡ d' → checked a b c d ≡ checked a' b' c' d'
-checked-same a a' b b' c c' d d' p q r s = λ i. checked (p i) (q i) (r i) (s i)
+pub checked-same : (a a' : Option Text) (b b' c c' d d' e e' : Bool)
+    → a ≡ a' → b ≡ b' → c ≡ c' → d ≡ d' → e ≡ e' → checked a b c d e ≡ checked a' b' c' d' e'
+checked-same a a' b b' c c' d d' e e' p q r s t = λ i. checked (p i) (q i) (r i) (s i) (t i)
 
 pub hosted-same : (a a' : Option ℕ) (b b' c c' d d' : Bool) (e e' : Option ℕ)
     → a ≡ a' → b ≡ b' → c ≡ c' → d ≡ d' → e ≡ e' → hosted a b c d e ≡ hosted a' b' c' d' e'
@@ -131,15 +132,17 @@ made_within f None is = none_within
 made_within f (Some x) is = one_within (f x) (is x refl)
 
 -- a run that checks has no numbers
-checked_within : (end : Option Text) (both why json : Bool) → AreWithin (checked end both why json)
-checked_within None false why json = none_within
-checked_within None true true json = one_within (Both (record { is_why = true; is_json = json })) tt
-checked_within None true false true = none_within
-checked_within None true false false = one_within (Both (record { is_why = false; is_json = false })) tt
-checked_within (Some end) true why json = none_within
-checked_within (Some end) false true json = made_within (λ side. Why (record { side = side; is_json = json })) (side_named end) (λ side e. tt)
-checked_within (Some end) false false true = none_within
-checked_within (Some end) false false false = made_within Check (side_named end) (λ side e. tt)
+checked_within : (end : Option Text) (both why json profile : Bool) → AreWithin (checked end both why json profile)
+checked_within None false why json profile = none_within
+checked_within None true true json profile = one_within (Both (record { is_why = true; is_json = json; profile_only = profile })) tt
+checked_within None true false true profile = none_within
+checked_within None true false false profile = one_within (Both (record { is_why = false; is_json = false; profile_only = profile })) tt
+checked_within (Some end) true why json profile = none_within
+checked_within (Some end) false true json profile =
+    made_within (λ side. Why (record { side = side; is_json = json; profile_only = profile })) (side_named end) (λ side e. tt)
+checked_within (Some end) false false true profile = none_within
+checked_within (Some end) false false false true = none_within
+checked_within (Some end) false false false false = made_within Check (side_named end) (λ side e. tt)
 
 reduced_within : (rows : List Row) → AreWithin (option_map Reduce (session_in rows))
 reduced_within rows = made_within Reduce (session_in rows) (λ n e. (within_found 0 4294967295 n (first_of (codes "session") rows) e).1)
@@ -175,6 +178,7 @@ named_within false false true r t u h rows = reduced_within rows
 named_within false false false true t u h rows = made_within Show (side_in rows) (λ side e. tt)
 named_within false false false false true u h rows =
     checked_within (first_of (codes "from") rows) (is_given (codes "both") rows) (is_given (codes "why") rows) (is_given (codes "json") rows)
+    (is_given (codes "profile-only") rows)
 named_within false false false false false true h rows = served_within rows
 named_within false false false false false false true rows = hosted_within rows
 named_within false false false false false false false rows = none_within

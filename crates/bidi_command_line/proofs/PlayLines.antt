@@ -308,22 +308,25 @@ abbrev IsNoCheck : Run → Type 0
 IsNoCheck run = ((side : Side) → Check side ≡ run → ⊥) × ((o : WhyOptions) → Why o ≡ run → ⊥) × ((o : BothOptions) → Both o ≡ run → ⊥)
 
 -- nor is a run that checks
-no_checked : (run : Run) → IsNoCheck run → (end : Option Text) (both why json : Bool) → checked end both why json ≡ Some run → ⊥
-no_checked run differs None false why json e = cc
-no_checked run differs None true true json e = differs.2 (record { is_why = true; is_json = json }) (same_some e)
-no_checked run differs None true false true e = cc
-no_checked run differs None true false false e = differs.2 (record { is_why = false; is_json = false }) (same_some e)
-no_checked run differs (Some end) true why json e = cc
-no_checked run differs (Some end) false true json e =
-    no_other (λ side. Why (record { side = side; is_json = json })) run (λ side. differs.1 (record { side = side; is_json = json })) (side_named end) e
-no_checked run differs (Some end) false false true e = cc
-no_checked run differs (Some end) false false false e = no_other Check run differs.0 (side_named end) e
+no_checked : (run : Run) → IsNoCheck run → (end : Option Text) (both why json profile : Bool) → checked end both why json profile ≡ Some run → ⊥
+no_checked run differs None false why json profile e = cc
+no_checked run differs None true true json profile e = differs.2 (record { is_why = true; is_json = json; profile_only = profile }) (same_some e)
+no_checked run differs None true false true profile e = cc
+no_checked run differs None true false false profile e = differs.2 (record { is_why = false; is_json = false; profile_only = profile }) (same_some e)
+no_checked run differs (Some end) true why json profile e = cc
+no_checked run differs (Some end) false true json profile e =
+    no_other (λ side. Why (record { side = side; is_json = json; profile_only = profile })) run
+    (λ side. differs.1 (record { side = side; is_json = json; profile_only = profile })) (side_named end) e
+no_checked run differs (Some end) false false true profile e = cc
+no_checked run differs (Some end) false false false true e = cc
+no_checked run differs (Some end) false false false false e = no_other Check run differs.0 (side_named end) e
 
 no_check_met : (run : Run) → IsNoCheck run → (met : Option (Text × List Row)) → option_map (λ m. m.0) met ≡ Some check → run_in met ≡ Some run → ⊥
 unfolding clap_on_literals
 no_check_met run differs None named e = cc
 no_check_met run differs (Some (name, rows)) named e =
     no_checked run differs (first_of (codes "from") rows) (is_given (codes "both") rows) (is_given (codes "why") rows) (is_given (codes "json") rows)
+    (is_given (codes "profile-only") rows)
     (subst (λ n. run_in (Some (n, rows)) ≡ Some run) (same_some named) e)
 
 entered_check : (run : Run) → IsNoCheck run → (line : List Text) → run_in (entered app (Some (check, line))) ≡ Some run → ⊥

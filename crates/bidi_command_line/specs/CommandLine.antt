@@ -1,5 +1,5 @@
 -- What the words of a command line ask for, as `clap` reads them.
-use Rattle.std.specs.Prelude.{◌≡◌, ◌≢◌, ◌⊎◌, ◌≤◌, ℕ, Bool, true, false, ◌&&◌, IsTrue, nat_lt, nat_le, List, [], ◌∷◌, ◌++◌, length, ⊤}
+use Rattle.std.specs.Prelude.{◌≡◌, ◌≢◌, ◌⊎◌, ◌≤◌, ℕ, Bool, true, false, not, ◌==◌, ◌&&◌, IsTrue, nat_lt, nat_le, List, [], ◌∷◌, ◌++◌, length, ⊤}
 use Rattle.std.specs.Prelude.{Option, Some, None, option_and_then, option_map, unwrap_or, if◌then◌else◌, codes, map, string_bytes}
 use Rattle.std.specs.Option.{option_map_or}
 use Rattle.std.specs.Char.{digit_value}
@@ -48,17 +48,23 @@ flag_rule name = record (new_rule name) { long = Some name; action = Some SetTru
 abbrev pub reduce_shape : Shape
 reduce_shape = (with_rule (new_app (codes "reduce")) (option_rule (codes "session"))).top
 
--- the subcommand `show`, with its option
+-- the file that a subcommand reads: a word of its own, which may be left out
+abbrev pub file_rule : Rule
+file_rule = record (new_rule (codes "file")) { value_names = 1 }
+
+-- the subcommand `show`, with its option and its file
 abbrev pub show_shape : Shape
-show_shape = (with_rule (new_app (codes "show")) (option_rule (codes "from"))).top
+show_shape = (with_rule (with_rule (new_app (codes "show")) (option_rule (codes "from"))) file_rule).top
 
 -- the subcommand `check`, with what it says of the end or the ends whose texts it reads
 abbrev pub check_app : App
 check_app = with_rule (with_rule (new_app (codes "check")) (value_rule (codes "from"))) (flag_rule (codes "both"))
 
--- the same, with its two other flags
+-- the same, with its three other flags and its file
 abbrev pub check_shape : Shape
-check_shape = (with_rule (with_rule check_app (flag_rule (codes "why"))) (flag_rule (codes "json"))).top
+check_shape =
+    (with_rule (with_rule (with_rule (with_rule check_app (flag_rule (codes "why"))) (flag_rule (codes "json"))) (flag_rule (codes "profile-only")))
+    file_rule).top
 
 -- the subcommand `serve`, with its three options
 abbrev pub serve_shape : Shape
@@ -154,18 +160,21 @@ is_true text = bytes_eq text (codes "true")
 abbrev pub is_given : Text → List Row → Bool
 is_given name rows = option_map_or is_true (first_of name rows) false
 
--- The run of `check`, by what `--from` gives, and whether `--both`, `--why` and `--json` are given: it reads the texts of the end of that
--- name, or those of both ends; with `--why` it tells why, and `--json` goes with `--why` alone.
-abbrev pub checked : Option Text → Bool → Bool → Bool → Option Run
-checked (Some end) false true is_json = option_map (λ side. Why (record { side = side; is_json = is_json })) (side_named end)
-checked (Some end) false false false = option_map Check (side_named end)
-checked None true true is_json = Some (Both (record { is_why = true; is_json = is_json }))
-checked None true false false = Some (Both (record { is_why = false; is_json = false }))
-checked end is_both is_why is_json = None
+-- The run of `check`, by what `--from` gives, and whether `--both`, `--why`, `--json` and `--profile-only` are given: it reads the texts of
+-- the end of that name, or those of both ends; with `--why` it tells why. `--json` goes with `--why`, and `--profile-only` with `--why` or `--both`.
+abbrev pub checked : Option Text → Bool → Bool → Bool → Bool → Option Run
+checked (Some end) false true is_json profile_only =
+    option_map (λ side. Why (record { side = side; is_json = is_json; profile_only = profile_only })) (side_named end)
+checked (Some end) false false false false = option_map Check (side_named end)
+checked None true true is_json profile_only = Some (Both (record { is_why = true; is_json = is_json; profile_only = profile_only }))
+checked None true false false profile_only = Some (Both (record { is_why = false; is_json = false; profile_only = profile_only }))
+checked end is_both is_why is_json profile_only = None
 
 -- the run that its option and its flags ask for
 abbrev pub checking_in : List Row → Option Run
-checking_in rows = checked (first_of (codes "from") rows) (is_given (codes "both") rows) (is_given (codes "why") rows) (is_given (codes "json") rows)
+checking_in rows =
+    checked (first_of (codes "from") rows) (is_given (codes "both") rows) (is_given (codes "why") rows) (is_given (codes "json") rows)
+    (is_given (codes "profile-only") rows)
 
 -- what is to be served, where all three numbers are there
 abbrev pub served : Option ℕ → Option ℕ → Option ℕ → Option ServeOptions
@@ -204,7 +213,7 @@ abbrev pub run_in : Option (Text × List Row) → Option Run
 run_in None = None
 run_in (Some (name, rows)) = run_named name (side_in rows) (session_in rows) (checking_in rows) (serving_in rows) (hosting_in rows)
 
--- the file that a subcommand's option of this name gives
+-- the file that a subcommand's argument of this name gives
 abbrev pub file_in : Text → Option (Text × List Row) → Option Text
 file_in name met = option_and_then (λ p. first_of name p.1) met
 
@@ -212,6 +221,14 @@ file_in name met = option_and_then (λ p. first_of name p.1) met
 abbrev pub AreFilesIn : Option (Text × List Row) → HostFiles → Type 0
 AreFilesIn met files =
     (option_map string_bytes files.page_file ≡ file_in (codes "page") met) × (option_map string_bytes files.record_file ≡ file_in (codes "record") met)
+
+-- the file of this name; `-` is the name of standard input, which is none
+abbrev pub file_named : Text → Option Text
+file_named name = if bytes_eq name (codes "-") then None else Some name
+
+-- the file that a subcommand reads in place of standard input, where its last word names one
+abbrev pub input_in : Option (Text × List Row) → Option Text
+input_in met = option_and_then file_named (file_in (codes "file") met)
 
 -- clap takes the line, and reads it as the run
 abbrev pub IsReadAs : List Text → Run → Type 0
@@ -251,6 +268,15 @@ value_words name (Some value) = ((codes "--" ++ name) ++ 61 ∷ value) ∷ []
 abbrev pub flag_words : Text → Bool → List Text
 flag_words name is_given = if is_given then (codes "--" ++ name) ∷ [] else []
 
+-- a name that stands for a file without the mark before it: it is `-`, or begins with another byte
+abbrev pub is_name : Text → Bool
+is_name (b ∷ c ∷ rest) = not (b == 45)
+is_name name = true
+
+-- the word that names a file, where there is one
+abbrev pub FileWords : List Text → Type 0
+FileWords words = (words ≡ []) ⊎ ((name : Text) × IsTrue (is_name name) × (words ≡ name ∷ []))
+
 -- the words of `host` without `--max-buffered`, each of its other options given or not, in this order
 abbrev pub SaysHost : HostOptions → List Text → Type 0
 SaysHost h line =
@@ -271,14 +297,17 @@ abbrev pub IsSaidBy : Run → List Text → Type 0
 IsSaidBy Play line = line ≡ codes "play" ∷ []
 IsSaidBy Pair line = line ≡ codes "pair" ∷ []
 IsSaidBy (Reduce session) line = (words : List Text) × GivesNumber (codes "session") 0 4294967295 session words × (line ≡ codes "reduce" ∷ words)
-IsSaidBy (Show side) line = (words : List Text) × Gives (codes "from") (side_text side) words × (line ≡ codes "show" ∷ words)
-IsSaidBy (Check side) line = (words : List Text) × Gives (codes "from") (side_text side) words × (line ≡ codes "check" ∷ words)
+IsSaidBy (Show side) line =
+    (words : List Text) × (file : List Text) × Gives (codes "from") (side_text side) words × FileWords file × (line ≡ codes "show" ∷ words ++ file)
+IsSaidBy (Check side) line =
+    (words : List Text) × (file : List Text) × Gives (codes "from") (side_text side) words × FileWords file × (line ≡ codes "check" ∷ words ++ file)
 IsSaidBy (Why o) line =
     (words : List Text) × Gives (codes "from") (side_text o.side) words
-    × (line ≡ codes "check" ∷ words ++ codes "--why" ∷ flag_words (codes "json") o.is_json)
+    × (line ≡ codes "check" ∷ words ++ codes "--why" ∷ flag_words (codes "json") o.is_json ++ flag_words (codes "profile-only") o.profile_only)
 IsSaidBy (Both o) line =
     (IsTrue o.is_json → IsTrue o.is_why)
-    × (line ≡ codes "check" ∷ codes "--both" ∷ flag_words (codes "why") o.is_why ++ flag_words (codes "json") o.is_json)
+    × (line ≡ codes "check" ∷ codes "--both" ∷ flag_words (codes "why") o.is_why ++ flag_words (codes "json") o.is_json
+    ++ flag_words (codes "profile-only") o.profile_only)
 IsSaidBy (Serve s) line =
     (port : Text) × (connections : Text) × (messages : Text)
     × (number_within 0 65535 port ≡ Some s.port)

@@ -6,7 +6,7 @@ ghost use Rattle.clap.specs.declared.builder.command.Command.TheViews.{out-Comma
 ghost use Rattle.clap.specs.declared.error.kind.ErrorKind.TheVariants.{InvalidValue};
 ghost use Rattle.bidi_command_line.specs.declared.asked.Run.{Run};
 ghost use Rattle.bidi_command_line.specs.CommandLine.{AsksFor, Causes, IsRefusedFor, IsSaidBy, IsWithinBounds, app_without_host, bare_app, bidi_app, buffered_rule};
-ghost use Rattle.bidi_command_line.specs.CommandLine.{check_app, check_shape, checked, checking_in, flag_rule};
+ghost use Rattle.bidi_command_line.specs.CommandLine.{check_app, check_shape, checked, checking_in, file_rule, flag_rule};
 ghost use Rattle.bidi_command_line.specs.CommandLine.{host_app, host_shape, hosted, hosting_in, is_true, line_of, number_within};
 ghost use Rattle.bidi_command_line.specs.CommandLine.{option_rule, pair_shape, play_shape, port_rule, reduce_shape, run_in, run_named};
 ghost use Rattle.bidi_command_line.specs.CommandLine.{serve_shape, served, serving_in, show_shape, side_named, value_rule};
@@ -26,13 +26,14 @@ pub enum Run {
     Pair,
     /// `reduce`: writes the lines of the standard input that are kept for the session of this number.
     Reduce(u32),
-    /// `show`: writes a line for each line of the standard input, read as a text of this end.
+    /// `show`: writes a line for each line of the input, read as a text of this end.
+    /// [`input_file`](crate::input_file) says which file is the input of `show` and `check`, if one is.
     Show(Side),
-    /// `check`: writes a line for each line of the standard input that is no text of this end.
+    /// `check`: writes a line for each line of the input that is no text of this end.
     Check(Side),
-    /// `check --why`: tells of each line of the standard input that is no text of this end where and why.
+    /// `check --why`: tells of each line of the input that is no text of this end where and why.
     Why(WhyOptions),
-    /// `check --both`: tells of each line of the standard input, a conversation of both ends, what is wrong with it.
+    /// `check --both`: tells of each line of the input, a conversation of both ends, what is wrong with it.
     Both(BothOptions),
     /// `serve`: serves WebSocket connections on 127.0.0.1, one after another.
     Serve(ServeOptions),
@@ -47,6 +48,8 @@ pub struct WhyOptions {
     pub side: Side,
     /// `--json`: each refused line is told as a JSON object.
     pub is_json: bool,
+    /// `--profile-only`: what the W3C's draft has and the profile lacks is left out.
+    pub profile_only: bool,
 }
 
 /// The options of `check --both`.
@@ -56,6 +59,8 @@ pub struct BothOptions {
     pub is_why: bool,
     /// `--json`: each is told as a JSON object.
     pub is_json: bool,
+    /// `--profile-only`: what the W3C's draft has and the profile lacks is left out.
+    pub profile_only: bool,
 }
 
 /// The options of `serve`.
@@ -187,7 +192,7 @@ fn with_listings<'a>(alloc: Global) -> Result<Command<'a>, AllocError>
     command.subcommand(check)
 }
 
-// The subcommand `check`, with its option and its three flags.
+// The subcommand `check`, with its option, its four flags and its file.
 fn check_command<'a>(alloc: Global) -> Result<Command<'a>, AllocError>
     ensures app { IfOk result (λ command. (app_of command).top ≡ check_shape) }
     ensures local { IfOk result (λ command. (out-Command command).has_globals ≡ false) }
@@ -199,7 +204,13 @@ fn check_command<'a>(alloc: Global) -> Result<Command<'a>, AllocError>
         "Tells where and why each is refused, and counts the causes",
     );
     let json = flag(alloc, "json", "With --why: tells each as a JSON object");
-    command.arg(why)?.arg(json)
+    let profile_only = flag(
+        alloc,
+        "profile-only",
+        "With --why or --both: leaves out what the W3C's draft has and the profile lacks",
+    );
+    let file = file_word(alloc);
+    command.arg(why)?.arg(json)?.arg(profile_only)?.arg(file)
 }
 
 // The subcommand `check`, with the arguments for the end or the ends whose texts it reads.
@@ -371,16 +382,28 @@ fn with_show<'a>(alloc: Global) -> Result<Command<'a>, AllocError>
     command.subcommand(show)
 }
 
-// The subcommand `show`, with its option.
+// The subcommand `show`, with its option and its file.
 fn show_command<'a>(alloc: Global) -> Result<Command<'a>, AllocError>
     ensures app { IfOk result (λ command. (app_of command).top ≡ show_shape) }
     ensures local { IfOk result (λ command. (out-Command command).has_globals ≡ false) }
 {
     let from = value_option(alloc, "from", "END", FROM_HELP);
+    let file = file_word(alloc);
     Command::new(alloc, "show")
         .about("Writes a line for each text of the standard input")
         .after_help(SHOW_HELP)
-        .arg(from)
+        .arg(from)?
+        .arg(file)
+}
+
+// The file that `show` or `check` reads.
+fn file_word<'a>(alloc: Global) -> Arg<'a>
+    ensures rule { rule_of result ≡ file_rule }
+    ensures local { result.global ≡ false }
+{
+    Arg::new(alloc, "file").value_name("FILE").help(
+        "Reads this file; without it, or if it is -, the standard input",
+    )
 }
 
 // The option of this name, with a value.
@@ -474,43 +497,58 @@ fn checking_of(matches: &ArgMatches<'_>) -> Option<Run>
     let is_both = is_given(matches, "both");
     let is_why = is_given(matches, "why");
     let is_json = is_given(matches, "json");
-    checked(end, is_both, is_why, is_json)
+    let profile_only = is_given(matches, "profile-only");
+    checked(end, is_both, is_why, is_json, profile_only)
 }
 
 // The run of `check`, where either `--from` gives an end or `--both` is given.
-fn checked(end: Option<&str>, is_both: bool, is_why: bool, is_json: bool) -> Option<Run>
-    ensures { result ≡ checked (option_map (λ text. text.now) end.entry) is_both is_why is_json }
+fn checked(
+    end: Option<&str>,
+    is_both: bool,
+    is_why: bool,
+    is_json: bool,
+    profile_only: bool,
+) -> Option<Run>
+    ensures { result ≡ checked (option_map (λ text. text.now) end.entry) is_both is_why is_json profile_only }
 {
     match end {
         Some(_) if is_both => None,
-        Some(end) => checked_from(end, is_why, is_json),
-        None if is_both => checked_both(is_why, is_json),
+        Some(end) => checked_from(end, is_why, is_json, profile_only),
+        None if is_both => checked_both(is_why, is_json, profile_only),
         None => None,
     }
 }
 
-// The run of `check` over the texts of the end of this name. `--json` goes with `--why`.
-fn checked_from(end: &str, is_why: bool, is_json: bool) -> Option<Run>
-    ensures { result ≡ checked (Some end.now) false is_why is_json }
+// The run of `check` over the texts of the end of this name. `--json` and `--profile-only` go with `--why`.
+fn checked_from(end: &str, is_why: bool, is_json: bool, profile_only: bool) -> Option<Run>
+    ensures { result ≡ checked (Some end.now) false is_why is_json profile_only }
 {
     let side = side_named(end)?;
     if is_why {
-        Some(Run::Why(WhyOptions { side, is_json }))
-    } else if is_json {
+        Some(Run::Why(WhyOptions {
+            side,
+            is_json,
+            profile_only,
+        }))
+    } else if is_json || profile_only {
         None
     } else {
         Some(Run::Check(side))
     }
 }
 
-// The run of `check` over the texts of both ends, so too.
-fn checked_both(is_why: bool, is_json: bool) -> Option<Run>
-    ensures { result ≡ checked None true is_why is_json }
+// The run of `check` over the texts of both ends. `--json` goes with `--why`.
+fn checked_both(is_why: bool, is_json: bool, profile_only: bool) -> Option<Run>
+    ensures { result ≡ checked None true is_why is_json profile_only }
 {
     if is_json && !is_why {
         return None;
     }
-    Some(Run::Both(BothOptions { is_why, is_json }))
+    Some(Run::Both(BothOptions {
+        is_why,
+        is_json,
+        profile_only,
+    }))
 }
 
 // What the three options of `serve` ask for.
@@ -697,7 +735,10 @@ fn bad_company(name: &str, matches: &ArgMatches<'_>) -> Option<&'static str> {
         (None, false) => Some("`check` takes `--from END` or `--both`"),
         (Some(_), true) => Some("`check --both` goes without `--from`"),
         (Some(end), false) if side_named(end).is_none() => None,
-        _ => Some("`check --json` goes with `--why`"),
+        _ if is_given(matches, "json") && !is_given(matches, "why") => {
+            Some("`check --json` goes with `--why`")
+        }
+        _ => Some("`check --profile-only` goes with `--why` or `--both`"),
     }
 }
 

@@ -1,7 +1,7 @@
-//! The files that a command line names for `host`.
-ghost use Rattle.std.specs.Prelude.{◌≡◌, [], IfErr, IfOk, option_map, string_bytes};
+//! The files that a command line names: those of `host`, and the input of `show` and `check`.
+ghost use Rattle.std.specs.Prelude.{◌≡◌, [], IfErr, IfOk, codes, option_and_then, option_map, string_bytes};
 ghost use Rattle.clap.specs.Words.{first_of, found_of, rows_of, subcommand_of, subcommand_rows_of};
-ghost use Rattle.bidi_command_line.specs.CommandLine.{AreFilesIn, IsRefusedFor, bidi_app, faults_of, line_of};
+ghost use Rattle.bidi_command_line.specs.CommandLine.{AreFilesIn, IsRefusedFor, bidi_app, faults_of, file_named, input_in, line_of};
 
 use super::asked::{LineFault, command, fault};
 use clap::ArgMatches;
@@ -62,7 +62,72 @@ fn files_of(alloc: Global, matches: &ArgMatches<'_>) -> Result<HostFiles, LineFa
     })
 }
 
-// The text that an option gives, if it gives one.
+/// The file that the words after the program's name have `show` or `check` read in place of the standard input, if they
+/// name one. `-` names the standard input.
+///
+/// Call it where [`command_line`](crate::command_line) gives a run of `show` or `check` for the same words: then it
+/// fails only for want of memory. A line of another run names no such file.
+///
+/// # Errors
+/// - `Help`, `Usage`: `command_line` refuses the words so too.
+/// - `NoMemory`: an allocation failed.
+pub fn input_file(alloc: Global, words: &[&str]) -> Result<Option<String>, LineFault>
+    // The file is the one that the line names.
+    ensures ok { IfOk result (λ file. option_map string_bytes file ≡ input_in (subcommand_of bidi_app (line_of words.now))) }
+
+    // A line that `clap` takes is refused only where an allocation failed.
+    ensures taken { faults_of (line_of words.now) ≡ [] → IfErr result (λ fault. fault ≡ LineFault.NoMemory) }
+
+    // Any other refusal has its cause among the faults that `clap` finds in the line.
+    ensures err { IfErr result (IsRefusedFor (line_of words.now)) }
+{
+    let Ok(command) = command(alloc) else {
+        return Err(LineFault::NoMemory);
+    };
+    match command.try_get_matches_from(words) {
+        Ok(matches) => input_of(alloc, &matches),
+        Err(error) => Err(fault(alloc, &error)),
+    }
+}
+
+// The file that the subcommand reads.
+fn input_of(alloc: Global, matches: &ArgMatches<'_>) -> Result<Option<String>, LineFault>
+    ensures ok { IfOk result (λ file. option_map string_bytes file ≡ input_in (subcommand_rows_of matches.now)) }
+    ensures err { IfErr result (λ fault. fault ≡ LineFault.NoMemory) }
+{
+    let Some((_, inner)) = matches.subcommand() else {
+        return Ok(None);
+    };
+    named_file(alloc, inner)
+}
+
+// The file that a subcommand names; `-` names none.
+fn named_file(alloc: Global, matches: &ArgMatches<'_>) -> Result<Option<String>, LineFault>
+    ensures ok { IfOk result (λ file. option_map string_bytes file
+        ≡ option_and_then file_named (first_of (codes "file") (rows_of (found_of matches.now)))) }
+    ensures err { IfErr result (λ fault. fault ≡ LineFault.NoMemory) }
+{
+    match matches.get_str("file") {
+        Some(name) => file_named(alloc, name),
+        None => Ok(None),
+    }
+}
+
+// The file of this name; `-` is the name of none.
+fn file_named(alloc: Global, name: &str) -> Result<Option<String>, LineFault>
+    ensures ok { IfOk result (λ file. option_map string_bytes file ≡ file_named name.now) }
+    ensures err { IfErr result (λ fault. fault ≡ LineFault.NoMemory) }
+{
+    if name == "-" {
+        return Ok(None);
+    }
+    match String::from_str(alloc, name) {
+        Ok(name) => Ok(Some(name)),
+        Err(_) => Err(LineFault::NoMemory),
+    }
+}
+
+// The text that an argument gives, if it gives one.
 fn text_of(alloc: Global, matches: &ArgMatches<'_>, name: &str) -> Result<Option<String>, LineFault>
     ensures ok { IfOk result (λ text. option_map string_bytes text ≡ first_of name.now (rows_of (found_of matches.now))) }
     ensures err { IfErr result (λ fault. fault ≡ LineFault.NoMemory) }

@@ -100,6 +100,7 @@ fn finish<R: Source, W: Sink, F: Sink>(
                 alloc,
                 form_of(options.is_json),
                 options.side,
+                options.profile_only,
                 source,
                 sink,
                 faults,
@@ -109,7 +110,14 @@ fn finish<R: Source, W: Sink, F: Sink>(
             }
         }
         Run::Both(options) => {
-            match explain_both(alloc, both_form(*options), source, sink, faults) {
+            match explain_both(
+                alloc,
+                both_form(*options),
+                options.profile_only,
+                source,
+                sink,
+                faults,
+            ) {
                 Ok(found) => Ok(if found { 1 } else { 0 }),
                 Err(fault) => Err(RunFault::Listing(fault)),
             }

@@ -2,6 +2,7 @@
 use super::told::check_text;
 use bidi_command_line::{
     BothOptions, HostFiles, HostOptions, LineFault, Run, WhyOptions, command_line, host_files,
+    input_file,
 };
 use bidi_lines::Side;
 use std::alloc::{AllocError, Global};
@@ -47,7 +48,6 @@ usage: show --from both
 usage: show local
 usage: show -f local
 usage: show --fro local
-usage: show --from local remote
 usage: show --from local --from local
 usage: show -- --from local
 usage: --from local show
@@ -69,7 +69,6 @@ usage: check --from local --why --json --json
 usage: check --from local --why=true
 usage: check --from local --why --json=
 usage: check --from local --wh
-usage: check --from local --why extra
 usage: show --from local --why
 usage: show --from local --json
 usage: play --why
@@ -94,10 +93,86 @@ usage: check --from --both
 usage: check --from=--both
 usage: check --both --both
 usage: check --both=true
-usage: check --both local
 usage: check --bo
 usage: show --both
 usage: play --both
+show local of f.texts: show --from local f.texts
+show remote of f.texts: show f.texts --from=remote
+show local of remote: show --from local remote
+check local of f.texts: check --from local f.texts
+check remote of f.texts: check f.texts --from remote
+why remote of f.texts: check --from remote --why f.texts
+why local of f.texts: check f.texts --why --from=local
+why remote json of f.texts: check --from remote f.texts --why --json
+both of f.texts: check --both f.texts
+both of local: check --both local
+both why of f.texts: check f.texts --both --why
+both why json of f.texts: check --both --why f.texts --json
+both profile-only of f.texts: check --both --profile-only f.texts
+show local: show --from local -
+check remote: check - --from remote
+why local json: check --from local --why --json -
+both: check --both -- -
+both why: check --both --why -
+check local of f.texts: check --from local -- f.texts
+check local of -x: check --from local -- -x
+show remote of --from: show --from remote -- --from
+both of --why: check --both -- --why
+both of a/b.texts: check --both a/b.texts
+both of a=b: check --both a=b
+check local of --: check --from local -- --
+both of : check --both ''
+usage: show f.texts
+usage: show -
+usage: check f.texts
+usage: check -
+usage: check --why f.texts
+usage: check --json f.texts
+usage: check --from local --json f.texts
+usage: check --both --json f.texts
+usage: check --from local --both f.texts
+usage: check --from x f.texts
+usage: show --from local a b
+usage: show --from local - -
+usage: check --from local a b
+usage: check --from local --why a b
+usage: check --both a b
+usage: check --both a --why b
+usage: check --both - a
+usage: check --both a -- b
+usage: check --both -x
+usage: check --both -f.texts
+usage: check --both --file f.texts
+usage: play f.texts
+usage: pair f.texts
+usage: pair -
+usage: reduce --session 1 f.texts
+usage: serve --port 0 --connections 1 --messages 1 f.texts
+usage: host f.texts
+why local profile-only: check --from local --why --profile-only
+why remote profile-only: check --profile-only --why --from=remote --
+why local json profile-only: check --from local --why --json --profile-only
+why remote json profile-only: check --profile-only --json --from remote --why
+both profile-only: check --both --profile-only
+both profile-only: check --profile-only --both --
+both why profile-only: check --both --why --profile-only
+both why json profile-only: check --both --why --json --profile-only
+both why json profile-only: check --profile-only --json --why --both
+help: check --profile-only --help
+usage: check --profile-only
+usage: check --why --profile-only
+usage: check --from local --profile-only
+usage: check --from=remote --profile-only f.texts
+usage: check --from local --json --profile-only
+usage: check --both --json --profile-only
+usage: check --both --from local --profile-only
+usage: check --from x --why --profile-only
+usage: check --both --profile-only --profile-only
+usage: check --both --profile-only=true
+usage: check --both --profile
+usage: show --from local --profile-only
+usage: play --profile-only
+usage: host --profile-only
 serve 9222 10 1000: serve --port 9222 --connections 10 --messages 1000
 serve 0 1 1: serve --port=0 --connections=1 --messages=1
 serve 65535 1000 100000: serve --messages 100000 --port 65535 --connections 1000
@@ -227,6 +302,17 @@ const MISTAKES: &str = "`check` takes `--from END` or `--both`: check
 `check --json` goes with `--why`: check --from local --json
 `check --json` goes with `--why`: check --json --from=remote
 `check --json` goes with `--why`: check --both --json
+`check --json` goes with `--why`: check --both --json f.texts
+`check --json` goes with `--why`: check --from local --json --profile-only
+`check --json` goes with `--why`: check --both --json --profile-only
+`check --profile-only` goes with `--why` or `--both`: check --from local --profile-only
+`check --profile-only` goes with `--why` or `--both`: check --profile-only --from=remote f.texts
+`check` takes `--from END` or `--both`: check f.texts
+`check` takes `--from END` or `--both`: check --why --profile-only -
+`check --both` goes without `--from`: check --both --from local --profile-only
+`check --from` takes `local` or `remote`, not `x`: check --from x --profile-only
+`check --from` takes `local` or `remote`, not `x`: check --from x f.texts
+`show --from` takes `local` or `remote`, not `x`: show --from x f.texts
 `show --from` takes `local` or `remote`, not `both`: show --from both
 `reduce --session` takes 0 to 4294967295, not `x`: reduce --session x
 `host --port` takes 0 to 65535, not `65536`: host --port 65536";
@@ -235,7 +321,7 @@ const NO_OPTION: &str = "usage
 error: the following required arguments were not provided:
   --from <END>
 
-Usage: bidi show --from <END>
+Usage: bidi show --from <END> [FILE]
 
 For more information, try '--help'.
 ";
@@ -289,8 +375,18 @@ fn answer(alloc: Global, line: &str) -> Result<String, AllocError> {
         .collect::<Vec<&str>>(alloc)?;
     match command_line(alloc, &words) {
         Ok(Run::Host(options)) => host_text(alloc, options, &words),
-        Ok(run) => run_text(alloc, run),
+        Ok(run) => run_and_input(alloc, run, &words),
         Err(fault) => kind_and_text(alloc, fault),
+    }
+}
+
+/// What a run asks for, and behind it ` of ` and the file that it reads, if it reads one.
+fn run_and_input(alloc: Global, run: Run, words: &[&str]) -> Result<String, AllocError> {
+    let text = run_text(alloc, run)?;
+    match input_file(alloc, words) {
+        Ok(None) => Ok(text),
+        Ok(Some(name)) => format!(in alloc; "{text} of {name}"),
+        Err(_) => String::from_str(alloc, "no input"),
     }
 }
 
@@ -313,17 +409,19 @@ fn run_text(alloc: Global, run: Run) -> Result<String, AllocError> {
     }
 }
 
-/// What `check --why` asks for: the end, and whether JSON is written.
+/// What `check --why` asks for: the end, whether JSON is written, and whether only the profile is looked at.
 fn why_text(alloc: Global, asked: WhyOptions) -> Result<String, AllocError> {
     let json = flag_text(asked.is_json, " json");
-    format!(in alloc; "why {}{json}", side_name(asked.side))
+    let profile = flag_text(asked.profile_only, " profile-only");
+    format!(in alloc; "why {}{json}{profile}", side_name(asked.side))
 }
 
-/// What `check --both` asks for: whether it tells why, and whether JSON is written.
+/// What `check --both` asks for: whether it tells why, whether JSON is written, and whether only the profile is looked at.
 fn both_text(alloc: Global, asked: BothOptions) -> Result<String, AllocError> {
     let why = flag_text(asked.is_why, " why");
     let json = flag_text(asked.is_json, " json");
-    format!(in alloc; "both{why}{json}")
+    let profile = flag_text(asked.profile_only, " profile-only");
+    format!(in alloc; "both{why}{json}{profile}")
 }
 
 /// What `host` asks for: the port, the flags that are given, and its two files, each `-` where there is none.

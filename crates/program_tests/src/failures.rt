@@ -29,6 +29,7 @@ const CHECKED: &str = "line 1: refused 1 unknown command\n\nline 2: refused 2 un
 const WHY: Run = Run::Why(WhyOptions {
     side: Side::Remote,
     is_json: false,
+    profile_only: false,
 });
 
 const NO_JSON: &str = "x\n[\n";
@@ -39,6 +40,7 @@ const EXPLAINED: &str = "line 1: not json\n\nline 2: not json\n";
 const BOTH: Run = Run::Both(BothOptions {
     is_why: false,
     is_json: false,
+    profile_only: false,
 });
 
 const NO_TEXTS: &str = "> x\n< [\n";
