@@ -1,9 +1,9 @@
 -- What a take hears in a handshake, over several reads.
 use Rattle.std.proofs.Common.{◌≡◌, ◌≢◌, ◌∙◌, ◌++◌, ◌⊎◌, ℕ, List, [], Option, None, Some, ap, append-nil, append_assoc, drop, inl, inr, refl, subst, sym}
-use Rattle.std.specs.Io.KnownBytes.{Consumes, IsAtEnd, Keeps}
+use Rattle.std.specs.Io.KnownBytes.{IsAtEnd, Keeps}
 use Rattle.bidi_peer.specs.Answering.{answer_bytes}
-use Rattle.bidi_peer.specs.Hearing.{Answers, Hears, IsHeard, Receives}
-use Rattle.bidi_peer.specs.Requests.{IsAskedBy}
+use Rattle.bidi_peer.specs.Hearing.{Hears, IsHeard, Receives}
+use Rattle.bidi_peer.specs.Requests.{IsAskedBy, IsUnfinished}
 use Rattle.bidi_peer.specs.Waiting.{Writes, untaken, unwritten}
 use Rattle.bidi_peer.specs.declared.answering.Answer.{Answer}
 use Rattle.bidi_peer.specs.declared.asking.Asked.{Asked}
@@ -30,9 +30,14 @@ module _ {S : Type 0} (remaining contents : S → Option (List ℕ)) where
     state = refl;
     end = refl;
     context = refl;
+    bound = refl;
     outbox = refl;
     reads = reads_nothing remaining (untaken p.inbox) (untaken p.inbox) p.stream p.stream refl (kept-self (remaining p.stream));
   }
+
+  -- nothing is heard, and what waited is as it was
+  pub nothing_heard : (a b : Peer S) → Receives remaining a b → untaken b.inbox ≡ untaken a.inbox → IsHeard remaining contents a b telling.Nothing
+  nothing_heard a b x same = (x, subst IsUnfinished (sym same))
 
   -- it receives once more
   pub receives_then : (a b c : Peer S) → Receives remaining a b → Receives remaining b c → Receives remaining a c
@@ -40,6 +45,7 @@ module _ {S : Type 0} (remaining contents : S → Option (List ℕ)) where
     state = y.state ∙ x.state;
     end = y.end ∙ x.end;
     context = y.context ∙ x.context;
+    bound = y.bound ∙ x.bound;
     outbox = y.outbox ∙ x.outbox;
     reads = reads_then remaining (untaken a.inbox) (untaken b.inbox) (untaken c.inbox) a.stream b.stream c.stream x.reads y.reads;
   }
@@ -54,23 +60,39 @@ module _ {S : Type 0} (remaining contents : S → Option (List ℕ)) where
     asks = subst (λ l. IsAskedBy l what) (joined a b x h.bytes) h.asks;
   }
 
-  -- what is heard after some more bytes came
-  pub heard_then : (a b c : Peer S) (told : Came) → Receives remaining a b → IsHeard remaining contents b c told → IsHeard remaining contents a c told
+  asked-then : (a b c : Peer S) (target : _) → Receives remaining a b → IsHeard remaining contents b c (telling.Asks target) → IsHeard remaining contents a c (telling.Asks target)
   unfolding hears-then
-  heard_then a b c telling.Nothing x h = receives_then a b c x h
-  heard_then a b c telling.More x h = absurd h
-  heard_then a b c (telling.Asks target) x h =
+  asked-then a b c target x h =
       (h.0, h.1, hears-then (asked.Socket target h.0 h.1) a b c.stream x h.2, h.3, h.4 ∙ ap (drop h.1) (joined a b x h.2.bytes))
-  heard_then a b c (telling.Text t) x h = absurd h
-  heard_then a b c telling.NotText x h = absurd h
-  heard_then a b c telling.Ended x (inl done) = inl done
-  heard_then a b c telling.Ended x (inr (inl ended)) = inr (inl ended)
-  heard_then a b c telling.Ended x (inr (inr h)) = inr (inr (record {
+
+  ended-then : (a b c : Peer S) → Receives remaining a b → IsHeard remaining contents b c telling.Ended → IsHeard remaining contents a c telling.Ended
+  ended-then a b c x (inl done) = inl done
+  ended-then a b c x (inr (inl ended)) = inr (inl ended)
+  ended-then a b c x (inr (inr h)) = inr (inr (record {
     answer = h.answer;
     stream = h.stream;
     hears = hears-then (asked.Other h.answer) a b h.stream x h.hears;
     writes = subst (λ l. Writes contents (l ++ answer_bytes h.answer) (unwritten c.outbox) h.stream c.stream) x.outbox h.writes;
   }))
+
+  -- what is heard after some more bytes came
+  pub heard_then : (a b c : Peer S) (told : Came) → Receives remaining a b → (IsUnfinished (untaken a.inbox) → IsUnfinished (untaken b.inbox)) → IsHeard remaining contents b c told
+      → IsHeard remaining contents a c told
+  heard_then a b c telling.Nothing x waits h = (receives_then a b c x h.0, λ was. h.1 (waits was))
+  heard_then a b c telling.More x waits h = absurd h
+  heard_then a b c (telling.Asks target) x waits h = asked-then a b c target x h
+  heard_then a b c (telling.Text t) x waits h = absurd h
+  heard_then a b c telling.NotText x waits h = absurd h
+  heard_then a b c telling.Ended x waits h = ended-then a b c x h
+
+  -- what is told of a head after some more bytes came
+  pub heard_behind : (a b c : Peer S) (told : Came) → Receives remaining a b → told ≢ telling.Nothing → IsHeard remaining contents b c told → IsHeard remaining contents a c told
+  heard_behind a b c telling.Nothing x speaks h = absurd (speaks refl)
+  heard_behind a b c telling.More x speaks h = absurd h
+  heard_behind a b c (telling.Asks target) x speaks h = asked-then a b c target x h
+  heard_behind a b c (telling.Text t) x speaks h = absurd h
+  heard_behind a b c telling.NotText x speaks h = absurd h
+  heard_behind a b c telling.Ended x speaks h = ended-then a b c x h
 
   hears-now : (what : Asked) (a : Peer S) (s : S) → s ≡ a.stream → IsAskedBy (untaken a.inbox) what → Hears remaining what a s
   hears-now what a s at asks = record {

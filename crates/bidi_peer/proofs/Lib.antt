@@ -1,6 +1,9 @@
 pub mod AskingLemmas
 pub mod FrontLemmas
 pub mod HearingLemmas
+pub mod MessageLemmas
 pub mod RoleLemmas
 pub mod SendingLemmas
+pub mod TakingLemmas
+pub mod UnfinishedLemmas
 pub mod WaitingLemmas

@@ -1,5 +1,5 @@
 -- What a text that is sent adds to what waits.
-use Rattle.std.proofs.Common.{◌≡◌, ◌∙◌, ◌++◌, ◌+◌, ◌<◌, ℕ, List, Option, None, Some, Result, Ok, Err, ap, append_assoc, arith, inl, inr, length, refl, subst, sym, ◌⊎◌}
+use Rattle.std.proofs.Common.{◌≡◌, ◌∙◌, ◌++◌, ◌+◌, ◌<◌, ℕ, List, Option, None, Some, Ok, Err, ap, append_assoc, arith, inl, inr, length, refl, subst, sym, ◌⊎◌}
 use Rattle.std.proofs.lemmas.List.{length-append}
 use Rattle.websocket.specs.Connection.{Connection, IsMaskOf, check_can_write, send, whole_header, write_step}
 use Rattle.websocket.specs.Content.{text}
@@ -13,7 +13,7 @@ use Rattle.websocket.specs.declared.protocol.frame.coding.Data.TheVariants.{Text
 use Rattle.websocket.specs.declared.protocol.frame.coding.OpCode.TheVariants.{Data}
 use Rattle.bidi_peer.specs.declared.standing.Peer.{Peer}
 use Rattle.bidi_peer.specs.declared.standing.State.TheVariants.{Closing, Done, Open}
-use Rattle.bidi_peer.specs.Sending.{Flushes, HasNoRoom, IsLittle, Puts, SendsText, text_frame}
+use Rattle.bidi_peer.specs.Sending.{Flushes, HasNoRoom, IsLittle, KeepsWhatCame, Puts, SendsText, text_frame}
 use Rattle.bidi_peer.specs.Telling.{StaysUnlessDone}
 use Rattle.bidi_peer.specs.Waiting.{Writes, unwritten}
 use Rattle.bidi_peer.proofs.WaitingLemmas.{writes_then}
@@ -24,7 +24,7 @@ checked-frame : (check : Checked Error) (c n : Connection) (t old out : List ℕ
 checked-frame (Ok x) c n t old out leaves = (leaves.1.0, subst (λ (k : Connection). IsMaskOf k.role leaves.1.0) leaves.0 leaves.1.1, leaves.1.2)
 checked-frame (Err e) c n t old out leaves = absurd leaves
 
-no-mask : (mask : Option (List ℕ)) → IsMaskOf Server mask → mask ≡ None
+pub no-mask : (mask : Option (List ℕ)) → IsMaskOf Server mask → mask ≡ None
 no-mask None role = refl
 no-mask (Some key) role = absurd (cc role.0)
 
@@ -83,4 +83,22 @@ module _ {S : Type 0} where
       let joins : unwritten c.outbox ≡ unwritten a.outbox ++ text_frame t = subst (λ (p : Peer S). unwritten c.outbox ≡ unwritten p.outbox ++ text_frame t) same put.joins in
       let short : length (unwritten c.outbox) < 65536 = omega (arith, ap length joins, length-append (unwritten a.outbox) (text_frame t), is.1) in
       subst (λ (p : Peer S). (p.state ≡ Open) × Puts t a p) (sym (little short))
-      (stays ∙ ap (λ (p : Peer S). p.state) same ∙ opened, record { stream = put.stream ∙ ap (λ (p : Peer S). p.stream) same; joins = joins })
+      (stays ∙ ap (λ (p : Peer S). p.state) same ∙ opened, record { stream = put.stream ∙ ap (λ (p : Peer S). p.stream) same; came = subst (λ (p : Peer S). KeepsWhatCame p c) same put.came; joins = joins })
+
+  keeps-then : (a b c : Peer S) → KeepsWhatCame a b → KeepsWhatCame b c → KeepsWhatCame a c
+  keeps-then a b c x y = record { context = y.context ∙ x.context; bytes = y.bytes ∙ x.bytes }
+
+module _ {S : Type 0} (contents : S → Option (List ℕ)) where
+  -- a flush after which the connection is open touches nothing that came
+  pub flush_keeps : (a b : Peer S) → (b.state ≡ Done) ⊎ Flushes contents a b → b.state ≡ Open → KeepsWhatCame a b
+  flush_keeps a b (inl done) stays = absurd (open-done (sym stays ∙ done))
+  flush_keeps a b (inr f) stays = record { context = f.context; bytes = f.inbox }
+
+  -- nor does what is done behind it, and then what is done behind that
+  pub flush_keeps_then : (a b c : Peer S) → (b.state ≡ Done) ⊎ Flushes contents a b → b.state ≡ Open → KeepsWhatCame b c → KeepsWhatCame a c
+  flush_keeps_then a b c before stays keeps = keeps-then a b c (flush_keeps a b before stays) keeps
+
+  -- nor does a flush, a text that is put, and a flush
+  pub came_kept : (a b c d : Peer S) → (b.state ≡ Done) ⊎ Flushes contents a b → b.state ≡ Open → KeepsWhatCame b c → (d.state ≡ Done) ⊎ Flushes contents c d → d.state ≡ Open
+      → KeepsWhatCame a d
+  came_kept a b c d before stays keeps after still = keeps-then a c d (flush_keeps_then a b c before stays keeps) (flush_keeps c d after still)

@@ -7,7 +7,7 @@ use Rattle.bidi_peer.specs.declared.framing.Fault.TheVariants as fault
 use Rattle.bidi_peer.specs.declared.peer.Ending.{Ending}
 use Rattle.bidi_peer.specs.declared.peer.Ending.TheVariants as ending
 
--- The code by which a fault closes a connection: RFC 6455, 7.4.1. 1013 is Again: try again later.
+-- the code by which a fault closes a connection (RFC 6455, 7.4.1); Again is 1013, try again later
 abbrev pub code_of : Fault → CloseCode
 code_of fault.Protocol = status.Protocol
 code_of fault.NotUtf8 = status.Invalid
@@ -16,7 +16,7 @@ code_of fault.CrowdedIn = status.Size
 code_of fault.Slow = status.Again
 code_of fault.CrowdedOut = status.Again
 
--- the reason that goes with it
+-- the reason in the close frame of a fault
 abbrev pub reason_of : Fault → List ℕ
 reason_of fault.Protocol = codes "a frame breaks the WebSocket protocol"
 reason_of fault.NotUtf8 = codes "a text is not UTF-8"
@@ -25,7 +25,7 @@ reason_of fault.Slow = codes "too much waits to be read"
 reason_of fault.CrowdedIn = codes "too much is held in all"
 reason_of fault.CrowdedOut = codes "too much is held in all"
 
--- the code by which a server ends a connection: 1000 where it is done, 1001 where the server goes away
+-- the code by which a server closes a connection: 1000 if the connection is done, 1001 if the server stops
 abbrev pub ending_code : Ending → CloseCode
 ending_code ending.Done = status.Normal
 ending_code ending.GoingAway = status.Away

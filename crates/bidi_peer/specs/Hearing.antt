@@ -1,8 +1,8 @@
--- What a take tells of a handshake. What a head asks for is in Requests, how it is answered in Answering.
+-- What a take reports during a handshake. Requests says what a head asks for, Answering how it is answered.
 use Rattle.std.specs.Prelude.{◌≡◌, ◌⊎◌, ℕ, List, ◌++◌, Option, drop}
 use Rattle.std.specs.Io.KnownBytes.{Consumes, IsAtEnd}
 use Rattle.bidi_peer.specs.Answering.{answer_bytes}
-use Rattle.bidi_peer.specs.Requests.{IsAskedBy}
+use Rattle.bidi_peer.specs.Requests.{IsAskedBy, IsUnfinished}
 use Rattle.bidi_peer.specs.Waiting.{Reads, Writes, untaken, unwritten}
 use Rattle.bidi_peer.specs.declared.answering.Answer.{Answer}
 use Rattle.bidi_peer.specs.declared.asking.Asked.{Asked}
@@ -13,35 +13,36 @@ use Rattle.bidi_peer.specs.declared.standing.Peer.{Peer}
 use Rattle.bidi_peer.specs.declared.standing.State.TheVariants as standing
 
 module _ {S : Type 0} where
-  -- The stream gave some bytes, and nothing else changed but that they wait to be taken.
+  -- The stream gave some bytes, which now wait to be taken; nothing else changed.
   pub record Receives (remaining : S → Option (List ℕ)) (old new : Peer S) : Type 0 where
     pub state : new.state ≡ old.state
     pub end : new.end ≡ old.end
     pub context : new.context ≡ old.context
+    pub bound : new.most_waiting ≡ old.most_waiting
     pub outbox : unwritten new.outbox ≡ unwritten old.outbox
     pub reads : Reads remaining (untaken old.inbox) (untaken new.inbox) old.stream new.stream
 
-  -- What came before, and then some bytes that the stream gave, ask for this.
+  -- The bytes that waited, followed by bytes that the stream gave, ask for this.
   pub record Hears (remaining : S → Option (List ℕ)) (what : Asked) (old : Peer S) (stream : S) : Type 0 where
     pub bytes : List ℕ
     pub given : Consumes (remaining old.stream) (remaining stream) bytes
     pub asks : IsAskedBy (untaken old.inbox ++ bytes) what
 
-  -- They ask for no WebSocket: the answer joined what waits, and the stream took some bytes off the front of this.
+  -- The bytes that came ask for no WebSocket: the answer follows what waited to be written, and the stream took bytes off the front of that.
   pub record Answers (remaining contents : S → Option (List ℕ)) (old new : Peer S) : Type 0 where
     pub answer : Answer
     pub stream : S
     pub hears : Hears remaining (asked.Other answer) old stream
     pub writes : Writes contents (unwritten old.outbox ++ answer_bytes answer) (unwritten new.outbox) stream new.stream
 
-  -- What a take in a handshake tells.
+  -- What a take reports during a handshake.
   abbrev pub IsHeard : (S → Option (List ℕ)) → (S → Option (List ℕ)) → Peer S → Peer S → Came → Type 0
-  -- nothing yet: what came waits
-  IsHeard remaining contents old new telling.Nothing = Receives remaining old new
-  -- a request for a WebSocket: what came behind its head waits
+  -- nothing yet: the bytes that came wait, and if they held no whole head before, they hold none now
+  IsHeard remaining contents old new telling.Nothing = Receives remaining old new × (IsUnfinished (untaken old.inbox) → IsUnfinished (untaken new.inbox))
+  -- a request for a WebSocket: the bytes after its head wait
   IsHeard remaining contents old new (telling.Asks target) =
       (accept : List ℕ) × (n : ℕ) × (heard : Hears remaining (asked.Socket target accept n) old new.stream)
       × (new.state ≡ standing.Asked accept) × (untaken new.inbox ≡ drop n (untaken old.inbox ++ heard.bytes))
-  -- the end: the stream failed or has nothing left, or what came is answered
+  -- the end: the stream failed, or it has ended, or the request is answered
   IsHeard remaining contents old new telling.Ended = (new.state ≡ standing.Done) ⊎ (IsAtEnd (remaining new.stream) ⊎ Answers remaining contents old new)
   IsHeard remaining contents old new c = ⊥

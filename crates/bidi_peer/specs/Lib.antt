@@ -1,6 +1,7 @@
 pub mod Answering
 pub mod Closing
 pub mod Hearing
+pub mod Messages
 pub mod Origins
 pub mod Requests
 pub mod Sending

@@ -1,24 +1,24 @@
--- Which origins a request may name: those of this machine alone. Own; after RFC 6455, 10.2.
+-- Which origins a request may name: only those of this machine. Own; after RFC 6455, 10.2.
 use Rattle.std.specs.Prelude.{◌≡◌, ◌<◌, ◌⊎◌, ℕ, List, [], ◌∷◌, ◌++◌, length, All, IsTrue, codes, ⊤}
 use Rattle.std.specs.Char.{is_ascii_digit}
 
--- a port is nothing, or a colon and digits
+-- The bytes are empty, or a colon and digits.
 abbrev pub IsPort : List ℕ → Type 0
 IsPort [] = ⊤
 IsPort (first ∷ digits) = (first ∷ [] ≡ codes ":") × (0 < length digits) × All (λ b. IsTrue (is_ascii_digit b)) digits
 
--- a place is this host, and maybe a port
+-- A place is this host, with or without a port.
 abbrev pub IsAtHost : List ℕ → List ℕ → Type 0
 IsAtHost host place = (port : List ℕ) × (place ≡ host ++ port) × IsPort port
 
--- a place is this machine: 127.0.0.1 or localhost
+-- A place is this machine: 127.0.0.1 or localhost.
 abbrev pub IsThisMachine : List ℕ → Type 0
 IsThisMachine place = IsAtHost (codes "127.0.0.1") place ⊎ IsAtHost (codes "localhost") place
 
--- an origin has this scheme, and is this machine
+-- An origin has this scheme and is this machine.
 abbrev pub IsLocalBy : List ℕ → List ℕ → Type 0
 IsLocalBy scheme origin = (place : List ℕ) × (origin ≡ scheme ++ place) × IsThisMachine place
 
--- an origin is this machine, by http or https
+-- An origin is this machine, by http or https.
 abbrev pub IsLocal : List ℕ → Type 0
 IsLocal origin = IsLocalBy (codes "http://") origin ⊎ IsLocalBy (codes "https://") origin

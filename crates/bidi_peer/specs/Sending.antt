@@ -1,4 +1,4 @@
--- What a connection sends. A frame is that of RFC 6455, 5.2; a server's has no mask.
+-- What a connection sends, in frames of RFC 6455, 5.2. A server's frame has no mask.
 use Rattle.std.specs.Prelude.{◌≡◌, ◌<◌, ◌≤◌, ◌+◌, ℕ, List, ◌++◌, length, None, Option}
 use Rattle.websocket.specs.Connection.{whole_header}
 use Rattle.websocket.specs.Frame.{encode_frame}
@@ -6,34 +6,41 @@ use Rattle.websocket.specs.declared.protocol.frame.coding.Data.TheVariants.{Text
 use Rattle.websocket.specs.declared.protocol.frame.coding.OpCode.TheVariants.{Data}
 use Rattle.bidi_peer.specs.declared.standing.Peer.{Peer}
 use Rattle.bidi_peer.specs.declared.standing.State.TheVariants.{Closing}
-use Rattle.bidi_peer.specs.Waiting.{Writes, unwritten}
+use Rattle.bidi_peer.specs.Waiting.{Writes, untaken, unwritten}
 
 -- the frame of a text
 abbrev pub text_frame : List ℕ → List ℕ
 text_frame text = encode_frame (whole_header (Data Text) None) text
 
 module _ {S : Type 0} where
-  -- The stream took some bytes off the front of what waits, and nothing else changed that is to be sent.
+  -- The state of the protocol and the bytes that came are unchanged.
+  pub record KeepsWhatCame (old new : Peer S) : Type 0 where
+    pub context : new.context ≡ old.context
+    pub bytes : untaken new.inbox ≡ untaken old.inbox
+
+  -- The stream took some bytes off the front of what waited; nothing else that is to be sent or was received has changed.
   pub record Flushes (contents : S → Option (List ℕ)) (old new : Peer S) : Type 0 where
     pub state : new.state ≡ old.state
     pub context : new.context ≡ old.context
+    pub inbox : untaken new.inbox ≡ untaken old.inbox
     pub bound : new.most_waiting ≡ old.most_waiting
     pub writes : Writes contents (unwritten old.outbox) (unwritten new.outbox) old.stream new.stream
 
-  -- The frame of a text joined what waits, and the stream took nothing.
+  -- The frame of a text follows what waited, the stream took nothing, and the bytes that came are unchanged.
   pub record Puts (text : List ℕ) (old new : Peer S) : Type 0 where
     pub stream : new.stream ≡ old.stream
+    pub came : KeepsWhatCame old new
     pub joins : unwritten new.outbox ≡ unwritten old.outbox ++ text_frame text
 
-  -- The frame of a text joined what waits; the stream took some bytes off the front of all this, and the rest waits still.
+  -- The frame of a text follows what waited; the stream took some bytes off the front of all this, and the rest still waits.
   abbrev pub SendsText : (S → Option (List ℕ)) → List ℕ → Peer S → Peer S → Type 0
   SendsText contents text old new = Writes contents (unwritten old.outbox ++ text_frame text) (unwritten new.outbox) old.stream new.stream
 
-  -- With the frame of a text, what waits is within the bound and less than 64 KiB.
+  -- With the frame of a text, the bytes that wait are within the bound and fewer than 64 KiB.
   abbrev pub IsLittle : List ℕ → Peer S → Type 0
   IsLittle text old = (length (unwritten old.outbox) + length (text_frame text) ≤ old.most_waiting) × (length (unwritten old.outbox) + length (text_frame text) < 65536)
 
-  -- The stream took what it would, and with the frame of a text the rest is past the bound: the connection closes.
+  -- The stream took what it could, and with the frame of a text the rest is past the bound: the connection closes.
   pub record HasNoRoom (contents : S → Option (List ℕ)) (text : List ℕ) (old new : Peer S) : Type 0 where
     pub closes : new.state ≡ Closing
     pub rest : List ℕ

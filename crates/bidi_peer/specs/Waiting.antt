@@ -1,12 +1,12 @@
--- What waits in a connection: bytes that came, and bytes that go.
-use Rattle.std.specs.Prelude.{◌≡◌, ◌≢◌, ℕ, List, [], ◌++◌, Option, drop, slice_range}
+-- What waits in a connection: bytes that came, and bytes to be written.
+use Rattle.std.specs.Prelude.{◌≡◌, ◌≢◌, ℕ, List, ◌++◌, Option, drop, slice_range}
 use Rattle.std.specs.Io.KnownBytes.{Appends, Consumes, IsAtEnd}
 use Rattle.bidi_peer.specs.declared.inbox.Filled.{Filled}
 use Rattle.bidi_peer.specs.declared.inbox.Filled.TheVariants as filled
 use Rattle.bidi_peer.specs.declared.waiting.Inbox.{Inbox}
 use Rattle.bidi_peer.specs.declared.waiting.Outbox.{Outbox}
 
--- the bytes that came and were not taken yet
+-- the bytes that came and are not taken yet
 abbrev pub untaken : Inbox → List ℕ
 untaken i = slice_range i.bytes.items i.start i.end
 
@@ -15,19 +15,19 @@ abbrev pub unwritten : Outbox → List ℕ
 unwritten o = drop o.sent o.first.items ++ o.second.items
 
 module _ {S : Type 0} where
-  -- A stream took some bytes off the front of what waits, and the rest waits still.
+  -- The stream took some bytes off the front of what waited, and the rest still waits.
   pub record Writes (contents : S → Option (List ℕ)) (waited : List ℕ) (left : List ℕ) (old new : S) : Type 0 where
     pub went : List ℕ
     pub parts : waited ≡ went ++ left
     pub taken : Appends (contents old) (contents new) went
 
-  -- A stream gave some bytes, and they joined the back of what waits.
+  -- The stream gave some bytes, and they follow what waited.
   pub record Reads (remaining : S → Option (List ℕ)) (waited : List ℕ) (left : List ℕ) (old new : S) : Type 0 where
     pub came : List ℕ
     pub joins : left ≡ waited ++ came
     pub given : Consumes (remaining old) (remaining new) came
 
--- What a read made of what waits: it got more, or it stayed; at the end the stream has nothing left.
+-- What a read did to the bytes that wait: there are more of them, or they are unchanged; at the end the stream has nothing left.
 abbrev pub IsFilled : Option (List ℕ) → List ℕ → List ℕ → Filled → Type 0
 IsFilled rest waited left filled.Some = left ≢ waited
 IsFilled rest waited left filled.Nothing = left ≡ waited

@@ -1,8 +1,9 @@
 //! What the head of a request asks for.
-ghost use Rattle.std.specs.Prelude.{◌≡◌, ◌≤◌, ◌↔◌, length, All, IsTrue, IfOk, MatchResult, option_map};
+ghost use Rattle.std.specs.Prelude.{◌≡◌, ◌≤◌, ◌↔◌, length, All, IsFalse, IsTrue, IfOk, MatchResult, drop, false, min, ◌==◌, option_map};
+ghost use Rattle.std.specs.List.{list_any};
 ghost use Rattle.httparse.specs.Spans.{IsHeaderWithin, IsRequestOf, IsRequestWithin};
 ghost use Rattle.websocket.specs.Headers.{eq_ignore_case, fields_of, header_value};
-ghost use Rattle.bidi_peer.specs.Requests.{AcceptsKey, AreLetIn, IsAskedBy, IsLetIn, IsPlain, IsRefusedBy, Opens, longest_head, spanned_request};
+ghost use Rattle.bidi_peer.specs.Requests.{AcceptsKey, AreLetIn, AsksUpgrade, IsAskedBy, IsLetIn, IsPlain, IsRefusedBy, Opens, has_word, is_word, lists, longest_head, spanned_request};
 
 use super::answering::Answer;
 use super::origins;
@@ -33,11 +34,20 @@ pub(crate) enum Asked {
     Other(Answer),
 }
 
-/// Whether the bytes at the front of a stream are to be judged, where the first `known` were judged before: at their first,
-/// at the end of a line, and where they are too long. So a head that comes in single bytes costs little more than one that
+/// Whether to judge the bytes at the front of a stream, if the first `known` of them were judged before: when the first come,
+/// when a line ends, and when there are too many. So a head that comes in single bytes costs little more than a head that
 /// comes whole.
-pub(crate) fn is_to_judge(bytes: &[u8], known: usize) -> bool {
-    known == 0 || bytes.len() > LONGEST_HEAD || bytes.iter().skip(known).any(|byte| *byte == b'\n')
+pub(crate) fn is_to_judge(bytes: &[u8], known: usize) -> bool
+    ensures { IsFalse result → (length bytes.now ≤ longest_head) × (list_any (λ b. b == 10) (drop (min known (length bytes.now)) bytes.now) ≡ false) }
+{
+    known == 0 || bytes.len() > LONGEST_HEAD || has_line_end(&bytes[known.min(bytes.len())..])
+}
+
+// Whether a line ends in these bytes.
+fn has_line_end(bytes: &[u8]) -> bool
+    ensures { result ≡ list_any (λ b. b == 10) bytes.now }
+{
+    bytes.iter().any(|byte| *byte == b'\n')
 }
 
 /// Judges the bytes at the front of a stream.
@@ -155,6 +165,7 @@ fn is_same(name: &[u8], other: &[u8]) -> bool
 // Whether a request asks for an upgrade to a WebSocket.
 fn asks_upgrade(bytes: &[u8], headers: &[HeaderSpan]) -> bool
     requires { All (IsHeaderWithin (length bytes.now)) headers.now }
+    ensures { IsTrue result ↔ AsksUpgrade (fields_of bytes.now headers.now) }
 {
     has_token(bytes, headers, b"Connection", b"upgrade")
         && has_token(bytes, headers, b"Upgrade", b"websocket")
@@ -163,6 +174,7 @@ fn asks_upgrade(bytes: &[u8], headers: &[HeaderSpan]) -> bool
 // Whether a header line of this name lists this word, in any case.
 fn has_token(bytes: &[u8], headers: &[HeaderSpan], name: &[u8], word: &[u8]) -> bool
     requires { All (IsHeaderWithin (length bytes.now)) headers.now }
+    ensures { result ≡ has_word (fields_of bytes.now headers.now) name.now word.now }
 {
     for header in headers {
         let is_named = is_same(header.name.of(bytes), name);
@@ -174,15 +186,19 @@ fn has_token(bytes: &[u8], headers: &[HeaderSpan], name: &[u8], word: &[u8]) -> 
 }
 
 // Whether one of the pieces between commas is this word, in any case.
-fn lists(value: &[u8], word: &[u8]) -> bool {
+fn lists(value: &[u8], word: &[u8]) -> bool
+    ensures { result ≡ lists value.now word.now }
+{
     value
         .split(|byte| *byte == b',')
         .any(|piece| is_word(piece, word))
 }
 
 // Whether a piece is this word, in any case and with white space around it.
-fn is_word(piece: &[u8], word: &[u8]) -> bool {
-    piece.trim_ascii().eq_ignore_ascii_case(word)
+fn is_word(piece: &[u8], word: &[u8]) -> bool
+    ensures { result ≡ is_word word.now piece.now }
+{
+    is_same(piece.trim_ascii(), word)
 }
 
 // Whether the first header of this name has this value.

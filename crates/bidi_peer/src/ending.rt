@@ -2,6 +2,7 @@
 ghost use Rattle.std.specs.Prelude.{◌≡◌, ◌≢◌, ◌↔◌, [], IsTrue, OnErr, OnOk};
 ghost use Rattle.bidi_peer.specs.Telling.{HasEnded, IsInHandshake, IsQuiet, IsTimely, IsUnclosed, SameKnown, StaysKnown, StaysUnlessDone, TellsOnce, owed};
 ghost use Rattle.bidi_peer.specs.Waiting.{unwritten};
+ghost use Rattle.bidi_peer.specs.Sending.{KeepsWhatCame};
 ghost use Rattle.bidi_peer.specs.declared.peer.Came.TheVariants.{Ended};
 ghost use Rattle.bidi_peer.specs.declared.standing.End.TheVariants.{Known};
 ghost use Rattle.bidi_peer.specs.declared.standing.State.TheVariants.{Closing, Done, Leaving, Open};
@@ -21,18 +22,19 @@ impl<S: Read + Write + Drop> Peer<S> {
     /// # Errors
     /// No memory: an allocation failed, and nothing has changed.
     pub fn close(&mut self, ending: Ending) -> Result<(), AllocError>
+        // If the caller already knew of the end, it still does.
         ensures stays_known { StaysKnown self.old.end self.new.end }
-        // It is not open any more.
+        // The connection is no longer open.
         ensures ok { OnOk result (self.new.state ≢ Open) }
-        // An open connection then closes, unless the stream failed.
+        // An open connection is now closing, unless its stream failed.
         ensures closes { self.old.state ≡ Open → OnOk result (StaysUnlessDone Closing self.new.state) }
-        // In the handshake the connection is over, and the caller knows it.
+        // A connection in its handshake is over, and the caller knows it.
         ensures handshake { IsInHandshake self.old.state → (self.new.state ≡ Done) × (self.new.end ≡ Known) }
-        // At any other time no end is told by this call.
+        // At any other time this call does not report the end.
         ensures known { (IsInHandshake self.old.state → ⊥) → SameKnown self.old.end self.new.end }
-        // A connection that is closed does not change.
+        // A connection that is already closed does not change.
         ensures else_same { (IsUnclosed self.old.state → ⊥) → self.new ≡ self.old }
-        // After an error it stands where it stood.
+        // After an error the state is unchanged.
         ensures err { OnErr result (self.new.state ≡ self.old.state) }
     {
         match self.state {
@@ -60,16 +62,17 @@ impl<S: Read + Write + Drop> Peer<S> {
     /// # Errors
     /// No memory: an allocation failed, and nothing has changed.
     pub fn shed(&mut self) -> Result<(), AllocError>
+        // If the caller already knew of the end, it still does.
         ensures stays_known { StaysKnown self.old.end self.new.end }
-        // It is not open any more.
+        // The connection is no longer open.
         ensures ok { OnOk result (self.new.state ≢ Open) }
-        // In the handshake, and where it is closing or has ended, nothing more is read or written.
+        // If it was not open, nothing more is read or written.
         ensures cut { self.old.state ≢ Open → self.new.state ≡ Done }
         // In the handshake the caller knows the end.
         ensures handshake { IsInHandshake self.old.state → self.new.end ≡ Known }
-        // At any other time no end is told by this call.
+        // At any other time this call does not report the end.
         ensures known { (IsInHandshake self.old.state → ⊥) → SameKnown self.old.end self.new.end }
-        // After an error nothing has changed.
+        // After an error the state is unchanged.
         ensures err { OnErr result (self.new.state ≡ self.old.state) }
     {
         match self.state {
@@ -93,6 +96,7 @@ impl<S: Read + Write + Drop> Peer<S> {
         ensures known { SameKnown self.old.end self.new.end }
         ensures ok { OnOk result (StaysUnlessDone Closing self.new.state) }
         ensures err { OnErr result (self.new.state ≡ self.old.state) }
+        ensures came { OnErr result (KeepsWhatCame self.old self.new) }
     {
         self.put_close(fault.code(), fault.reason())?;
         self.owe_end();
@@ -106,6 +110,7 @@ impl<S: Read + Write + Drop> Peer<S> {
         ensures end { self.new.end ≡ self.old.end }
         ensures ok { OnOk result (self.new.state ≡ Closing) }
         ensures err { OnErr result (self.new.state ≡ self.old.state) }
+        ensures came { OnErr result (KeepsWhatCame self.old self.new) }
     {
         write_close(&mut self.context, code, reason, &mut self.outbox.second)?;
         self.state = State::Closing;
@@ -133,6 +138,9 @@ impl<S: Read + Write + Drop> Peer<S> {
     /// This, or the end where nothing more is read.
     pub(crate) fn or_end(&mut self, came: Came) -> Came
         requires { IsQuiet came }
+        ensures same { (HasEnded self.old.state → ⊥) → (result ≡ came) × (self.new ≡ self.old) }
+        ensures ended { HasEnded self.old.state → self.old.end ≢ Known → result ≡ Ended }
+        ensures state { self.new.state ≡ self.old.state }
         ensures stays_known { StaysKnown self.old.end self.new.end }
         ensures tells_once { TellsOnce self.old.end self.new.end result }
         ensures told { HasEnded self.new.state → self.new.end ≡ Known }
@@ -187,6 +195,7 @@ impl<S: Read + Write + Drop> Peer<S> {
 
     /// Gives back what came. Frames that come later are thrown away.
     pub(crate) fn forget(&mut self)
+        requires { self.old.state ≢ Open }
         ensures end { self.new.end ≡ self.old.end }
         ensures state { self.new.state ≡ self.old.state }
         ensures stream { self.new.stream ≡ self.old.stream }

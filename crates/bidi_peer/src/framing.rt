@@ -1,10 +1,10 @@
 //! The frame at the front of what came, and why a server fails a connection.
-ghost use Rattle.std.specs.Prelude.{◌≡◌, ◌+◌, ◌-◌, ◌^◌, ◌++◌, length, min, IfOk, IfSome, OnOk, option_map};
+ghost use Rattle.std.specs.Prelude.{◌≡◌, ◌+◌, ◌-◌, ◌^◌, ◌++◌, drop, length, min, IfOk, IfSome, OnErr, OnOk, option_map};
 ghost use Rattle.websocket.specs.FrameHeader.{extended_len};
 ghost use Rattle.websocket.specs.declared.protocol.config.Role.TheVariants.{Server};
 ghost use Rattle.bidi_peer.specs.Sending.{text_frame};
 ghost use Rattle.websocket.specs.Connection.{read_step};
-ghost use Rattle.bidi_peer.specs.Taking.{IsFaultOf, IsTakenFor, Shows};
+ghost use Rattle.bidi_peer.specs.Taking.{HasTaken, IsFaultOf, IsTakenFor, Shows};
 ghost use Rattle.bidi_peer.specs.Waiting.{untaken};
 ghost use Rattle.bidi_peer.specs.Closing.{code_of, reason_of};
 ghost use Rattle.websocket.specs.Content.{IsReceivedInside, HasValidText, received_content};
@@ -34,6 +34,17 @@ pub(crate) enum Frame {
     Close,
     /// A frame that fails the connection.
     Bad(Fault),
+}
+
+impl Frame {
+    /// How many bytes of payload there are of an unfinished message after this frame, if there were so many before it.
+    pub(crate) fn unfinished(&self, before: usize) -> usize {
+        match self {
+            Frame::Fragment(length) => before.saturating_add(*length),
+            Frame::Text(_) | Frame::NotText | Frame::Bad(_) => 0,
+            Frame::Part | Frame::Control | Frame::Close => before,
+        }
+    }
 }
 
 /// Why the server fails a connection.
@@ -88,6 +99,7 @@ pub(crate) fn read_frame(
     output: &mut Vec<u8>,
 ) -> Result<Frame, AllocError>
     ensures shows { IfOk result (IsTakenFor (read_step context.old (untaken inbox.old))) }
+    ensures takes { context.old.role ≡ Server → OnOk result (HasTaken (read_step context.old (untaken inbox.old)) context.old (untaken inbox.old) output.old.items context.new (untaken inbox.new) output.new.items) }
     ensures role { context.new.role ≡ context.old.role }
 {
     let input = &mut inbox.bytes[inbox.start..inbox.end];
@@ -104,6 +116,7 @@ fn frame_at(
     output: &mut Vec<u8>,
 ) -> Result<(usize, Frame), AllocError>
     ensures shows { IfOk result (λ taken. IsTakenFor (read_step context.old input.old) taken.1) }
+    ensures takes { context.old.role ≡ Server → IfOk result (λ taken. HasTaken (read_step context.old input.old) context.old input.old output.old.items context.new (drop taken.0 input.new) output.new.items) }
     ensures role { context.new.role ≡ context.old.role }
 {
     match context.read(input, output, &mut NoMask) {
@@ -162,6 +175,7 @@ pub(crate) fn write_text(
     output: &mut Vec<u8>,
 ) -> Result<(), AllocError>
     ensures role { context.new.role ≡ context.old.role }
+    ensures same { context.new ≡ context.old }
     ensures joins { OnOk result (context.old.role ≡ Server → output.new.items ≡ output.old.items ++ text_frame text.now) }
 {
     match context.write(Message::Text(text), output, &mut NoMask) {
@@ -178,6 +192,7 @@ pub(crate) fn write_close(
     output: &mut Vec<u8>,
 ) -> Result<(), AllocError>
     ensures role { context.new.role ≡ context.old.role }
+    ensures err { OnErr result (context.new ≡ context.old) }
 {
     let frame = CloseFrame { code, reason };
     match context.close(Some(frame), output, &mut NoMask) {

@@ -1,17 +1,19 @@
 //! The handshake of a connection: its request, and the answer.
-ghost use Rattle.std.specs.Prelude.{◌≡◌, ◌⊎◌, ◌++◌, IfOk, IfSome, OnErr, OnOk};
+ghost use Rattle.std.specs.Prelude.{◌≡◌, ◌≢◌, ◌⊎◌, ◌++◌, IfOk, IfSome, OnErr, OnOk};
 ghost use Rattle.bidi_peer.specs.Answering.{answer_bytes};
 ghost use Rattle.bidi_peer.specs.Hearing.{IsHeard};
-ghost use Rattle.bidi_peer.specs.Requests.{IsAskedBy};
+ghost use Rattle.bidi_peer.specs.Messages.{IsFresh};
+ghost use Rattle.bidi_peer.specs.Requests.{IsAskedBy, IsUnfinished};
 ghost use Rattle.bidi_peer.specs.Waiting.{Writes, untaken, unwritten};
 ghost use Rattle.bidi_peer.specs.declared.answering.Answer.TheVariants.{Refused};
 ghost use Rattle.bidi_peer.specs.Telling.{HasEnded, IsAsked, IsTimely, MayTell, SameKnown, StaysKnown, StaysUnlessDone, TellsOnce};
+ghost use Rattle.bidi_peer.specs.declared.peer.Came.TheVariants.{Nothing};
 ghost use Rattle.bidi_peer.specs.declared.standing.End.TheVariants.{Ahead, Known};
 ghost use Rattle.bidi_peer.specs.declared.standing.State.TheVariants.{Done, Leaving, Open};
 
 use super::answering::{Answer, Refusal};
 use super::asking::{Asked, is_to_judge, judge};
-use super::peer::Came;
+use super::peer::{Came, new_context};
 use super::standing::{End, Peer, State};
 use std::alloc::AllocError;
 use std::io::{Read, Write};
@@ -54,6 +56,8 @@ impl<S: Read + Write + Drop> Peer<S> {
         ensures timely { IfOk result (λ came. IfSome came (IsTimely self.new.state)) }
         ensures heard { self.old.end ≡ Ahead → IfOk result (λ came. IfSome came (IsHeard S.remaining S.contents self.old self.new)) }
         ensures part { IfOk result (λ came. came ≡ None → self.new ≡ self.old) }
+        ensures speaks { self.old.end ≡ Ahead → IfOk result (λ came. came ≢ Some Nothing) }
+        ensures unfinished { IfOk result (λ came. came ≡ None → IsUnfinished (untaken self.old.inbox)) }
     {
         match asked {
             Asked::Part => Ok(None),
@@ -95,9 +99,15 @@ impl<S: Read + Write + Drop> Peer<S> {
     /// # Errors
     /// No memory: an allocation failed, and nothing has changed.
     pub fn open(&mut self) -> Result<(), AllocError>
+        // The call does not report the end.
         ensures known { SameKnown self.old.end self.new.end }
+        // If no request waits for an answer, nothing changes.
         ensures else_same { (IsAsked self.old.state → ⊥) → self.new ≡ self.old }
+        // If a request waited, the connection is now open, unless its stream failed.
         ensures ok { IsAsked self.old.state → OnOk result (StaysUnlessDone Open self.new.state) }
+        // An open connection starts with a fresh protocol and with the bytes that came after the request.
+        ensures begins { IsAsked self.old.state → OnOk result (self.new.state ≡ Open → IsFresh self.new.context × (untaken self.new.inbox ≡ untaken self.old.inbox)) }
+        // After an error the state is unchanged.
         ensures err { OnErr result (self.new.state ≡ self.old.state) }
     {
         let State::Asked(accept) = self.state else {
@@ -106,6 +116,7 @@ impl<S: Read + Write + Drop> Peer<S> {
         if write_response(&accept, &[], &mut self.outbox.second).is_err() {
             return Err(AllocError);
         }
+        self.context = new_context(self.alloc);
         self.state = State::Open;
         self.flush();
         Ok(())
@@ -117,11 +128,15 @@ impl<S: Read + Write + Drop> Peer<S> {
     /// # Errors
     /// No memory: an allocation failed, and nothing has changed.
     pub fn refuse(&mut self, refusal: Refusal) -> Result<(), AllocError>
+        // If the caller already knew of the end, it still does.
         ensures stays_known { StaysKnown self.old.end self.new.end }
+        // If no request waits for an answer, nothing changes.
         ensures else_same { (IsAsked self.old.state → ⊥) → self.new ≡ self.old }
+        // If a request waited, nothing more is read, and the caller knows the end.
         ensures ok { IsAsked self.old.state → OnOk result (StaysUnlessDone Leaving self.new.state × (self.new.end ≡ Known)) }
+        // After an error the state is unchanged.
         ensures err { OnErr result (self.new.state ≡ self.old.state) }
-        // The answer is behind what waits, unless the stream failed.
+        // The bytes of the answer follow what waited to be written, unless the stream failed.
         ensures answers { IsAsked self.old.state → OnOk result ((self.new.state ≡ Done) ⊎ Writes S.contents (unwritten self.old.outbox ++ answer_bytes (Refused refusal)) (unwritten self.new.outbox) self.old.stream self.new.stream) }
     {
         let State::Asked(_) = self.state else {

@@ -3,6 +3,7 @@ ghost use Rattle.std.specs.Prelude.{◌≡◌, ◌≢◌, ◌↔◌, ◌+◌, �
 ghost use Rattle.websocket.specs.declared.protocol.config.Role.TheVariants.{Server};
 ghost use Rattle.bidi_peer.specs.Closing.{ending_code};
 ghost use Rattle.bidi_peer.specs.Hearing.{IsHeard};
+ghost use Rattle.bidi_peer.specs.Messages.{IsFresh, IsTold};
 ghost use Rattle.bidi_peer.specs.Telling.{HasEnded, IsNew, IsOver, IsTimely, StaysKnown, TellsOnce};
 ghost use Rattle.bidi_peer.specs.Waiting.{untaken, unwritten};
 ghost use Rattle.bidi_peer.specs.declared.standing.End.TheVariants.{Known};
@@ -50,16 +51,24 @@ impl<S: Read + Write + Drop> Peer<S> {
     /// A connection whose client has asked for nothing yet. At most [`MOST_WAITING`] bytes wait to be written. Takes
     /// no memory.
     pub fn new(alloc: Global, stream: S) -> Peer<S>
+        // No request and no end has been reported.
         ensures fresh { IsNew result.state result.end }
+        // The connection uses the given stream.
         ensures stream { result.stream ≡ stream }
+        // No bytes have come, and none wait to be written.
+        ensures empty { (untaken result.inbox ≡ []) × (unwritten result.outbox ≡ []) }
     {
         Peer::with_bound(alloc, stream, MOST_WAITING)
     }
 
     /// The same, where at most so many bytes wait to be written.
     pub fn with_bound(alloc: Global, stream: S, most_waiting: usize) -> Peer<S>
+        // No request and no end has been reported.
         ensures fresh { IsNew result.state result.end }
+        // The connection uses the given stream.
         ensures stream { result.stream ≡ stream }
+        // No bytes have come, and none wait to be written.
+        ensures empty { (untaken result.inbox ≡ []) × (unwritten result.outbox ≡ []) }
     {
         Peer {
             alloc,
@@ -81,16 +90,18 @@ impl<S: Read + Write + Drop> Peer<S> {
     /// # Errors
     /// No memory: an allocation failed. The connection is over, and the next take gives `Ended`.
     pub fn take(&mut self) -> Result<Came, AllocError>
-        // What the caller knows stays known.
+        // If the caller already knew of the end, it still does.
         ensures stays_known { StaysKnown self.old.end self.new.end }
-        // The end is told exactly once.
+        // The end is reported exactly once.
         ensures tells_once { IfOk result (TellsOnce self.old.end self.new.end) }
-        // Where nothing more is read, the caller knows it.
+        // If nothing more is read, the caller knows it.
         ensures told { OnOk result (HasEnded self.new.state → self.new.end ≡ Known) }
-        // A request is told where it waits for its answer, and a message where the connection is open.
+        // A request is reported only while it waits for its answer, and a message only while the connection is open.
         ensures timely { IfOk result (IsTimely self.new.state) }
-        // Until a request is told, what came is judged by its head: a request for a WebSocket is told, any other is answered.
+        // Until a request is reported, the bytes that came are judged: a request for a WebSocket is reported, and any other is answered.
         ensures heard { IsNew self.old.state self.old.end → IfOk result (IsHeard S.remaining S.contents self.old self.new) }
+        // An open connection reports the next message of the bytes that came, and `Nothing` only if no whole frame is left.
+        ensures messages { self.old.state ≡ Open → self.old.end ≢ Known → IfOk result (IsTold S.remaining S.contents self.old self.new) }
         // After a failed allocation nothing more is read or written.
         ensures err { OnErr result (self.new.state ≡ Done) }
     {
@@ -108,6 +119,7 @@ impl<S: Read + Write + Drop> Peer<S> {
         ensures told { OnOk result (HasEnded self.new.state → self.new.end ≡ Known) }
         ensures timely { IfOk result (IsTimely self.new.state) }
         ensures heard { IsNew self.old.state self.old.end → IfOk result (IsHeard S.remaining S.contents self.old self.new) }
+        ensures messages { self.old.state ≡ Open → self.old.end ≢ Known → IfOk result (IsTold S.remaining S.contents self.old self.new) }
     {
         if self.end == End::Due {
             return Ok(self.tell_end());
@@ -122,6 +134,7 @@ impl<S: Read + Write + Drop> Peer<S> {
     /// How many bytes the connection holds: what came and was not told yet, also the parts of a message whose end has not
     /// come, and what waits to be written.
     pub fn held(&self) -> usize
+        // It adds the bytes that wait to be taken, those of an unfinished message, and those that wait to be written.
         ensures { result ≡ min (length (untaken self.now.inbox) + self.now.fragments + length (unwritten self.now.outbox)) (2 ^ 64 - 1) }
     {
         self.came().saturating_add(self.outbox.len())
@@ -136,6 +149,7 @@ impl<S: Read + Write + Drop> Peer<S> {
 
     /// Whether bytes wait that the stream did not take.
     pub fn waits_to_write(&self) -> bool
+        // True exactly if bytes wait to be written.
         ensures { IsTrue result ↔ (unwritten self.now.outbox ≢ []) }
     {
         !self.outbox.is_empty()
@@ -143,6 +157,7 @@ impl<S: Read + Write + Drop> Peer<S> {
 
     /// Whether texts can be sent.
     pub fn is_open(&self) -> bool
+        // True exactly if the connection is open.
         ensures { IsTrue result ↔ (self.now.state ≡ Open) }
     {
         matches!(self.state, State::Open)
@@ -150,12 +165,15 @@ impl<S: Read + Write + Drop> Peer<S> {
 
     /// Whether nothing more will come or go, and the caller knows it: the stream can be dropped.
     pub fn is_over(&self) -> bool
-        // Exactly: the stream is not used any more, or nothing is read and nothing waits to be written; and the end is known.
+        // True exactly if nothing more is read or written and the caller knows the end.
         ensures over { IsTrue result ↔ IsOver self.now.state self.now.end (unwritten self.now.outbox) }
-        // Nothing waits to be written.
+        // If it is over, nothing waits to be written.
         ensures written { IsTrue result → unwritten self.now.outbox ≡ [] }
+        // If it is over, the caller knows the end.
         ensures known { IsTrue result → self.now.end ≡ Known }
+        // A connection whose stream failed is over once the caller knows the end.
         ensures done { self.now.state ≡ Done → self.now.end ≡ Known → IsTrue result }
+        // If it is over, it is not open.
         ensures open { IsTrue result → self.now.state ≢ Open }
     {
         let is_left = match self.state {
@@ -168,6 +186,7 @@ impl<S: Read + Write + Drop> Peer<S> {
 
     /// The stream.
     pub fn stream(&self) -> &S
+        // The result is the stream of the connection.
         ensures { result.now ≡ self.now.stream }
     {
         &self.stream
@@ -176,7 +195,8 @@ impl<S: Read + Write + Drop> Peer<S> {
 
 /// The protocol of a server whose handshake is done.
 pub(crate) fn new_context(alloc: Global) -> WebSocketContext
-    ensures { result.role ≡ Server }
+    ensures role { result.role ≡ Server }
+    ensures fresh { IsFresh result }
 {
     WebSocketContext::new(alloc, Role::Server, WebSocketConfig::default())
 }

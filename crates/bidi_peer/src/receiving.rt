@@ -1,11 +1,14 @@
 //! What a connection takes of the bytes that come: frames, and the messages in them.
-ghost use Rattle.std.specs.Prelude.{◌≡◌, true, IfOk, IfSome, OnOk};
+ghost use Rattle.std.specs.Prelude.{◌≡◌, ◌≢◌, ◌<◌, ◌⊎◌, length, true, IfOk, IfSome, OnOk};
 ghost use Rattle.websocket.specs.Connection.{can_read, read_step};
 ghost use Rattle.bidi_peer.specs.Hearing.{IsHeard, Receives};
-ghost use Rattle.bidi_peer.specs.Taking.{IsTakenFor};
+ghost use Rattle.bidi_peer.specs.Messages.{IsTold};
+ghost use Rattle.bidi_peer.specs.Taking.{HasTaken, IsLast, IsReceived, IsTakenFor, IsWaited};
 ghost use Rattle.bidi_peer.specs.Telling.{HasEnded, IsTimely, MayTell, StaysKnown, TellsOnce};
-ghost use Rattle.bidi_peer.specs.Waiting.{untaken};
+ghost use Rattle.bidi_peer.specs.Waiting.{untaken, unwritten};
+ghost use Rattle.bidi_peer.specs.declared.peer.Came.TheVariants.{Ended};
 ghost use Rattle.bidi_peer.specs.declared.standing.End.TheVariants.{Ahead, Known};
+ghost use Rattle.bidi_peer.specs.declared.standing.State.TheVariants.{Open};
 
 use super::framing::{Fault, Frame, read_frame};
 use super::inbox::Filled;
@@ -24,6 +27,7 @@ impl<S: Read + Write + Drop> Peer<S> {
         ensures tells_once { IfOk result (TellsOnce self.old.end self.new.end) }
         ensures told { OnOk result (HasEnded self.new.state → self.new.end ≡ Known) }
         ensures timely { IfOk result (IsTimely self.new.state) }
+        ensures messages { self.old.state ≡ Open → self.old.end ≢ Known → IfOk result (IsTold S.remaining S.contents self.old self.new) }
     {
         for _ in 0..MOST_STEPS {
             if self.has_ended() {
@@ -44,6 +48,10 @@ impl<S: Read + Write + Drop> Peer<S> {
         ensures end { self.new.end ≡ self.old.end }
         ensures reads { HasEnded self.new.state → ⊥ }
         ensures shows { can_read self.old.context.state ≡ true → IfOk result (IsTakenFor (read_step self.old.context (untaken self.old.inbox))) }
+        ensures takes { self.old.state ≡ Open → OnOk result (HasTaken (read_step self.old.context (untaken self.old.inbox)) self.old.context (untaken self.old.inbox) (unwritten self.old.outbox) self.new.context (untaken self.new.inbox) (unwritten self.new.outbox)) }
+        ensures stays { self.old.state ≡ Open → IfOk result (λ frame. IsLast frame ⊎ (self.new.state ≡ Open)) }
+        ensures stream { self.new.stream ≡ self.old.stream }
+        ensures bound { self.new.most_waiting ≡ self.old.most_waiting }
     {
         if !self.context.can_read() {
             self.inbox.clear();
@@ -55,24 +63,12 @@ impl<S: Read + Write + Drop> Peer<S> {
             &mut self.inbox,
             &mut self.outbox.second,
         );
-        if self.is_open() && !self.context.can_write() {
+        if matches!(self.state, State::Open) && !self.context.can_write() {
             self.state = State::Closing;
         }
         let frame = frame?;
-        self.count(&frame);
+        self.fragments = frame.unfinished(self.fragments);
         Ok(frame)
-    }
-
-    // Counts what the context holds of a message whose end has not come.
-    fn count(&mut self, frame: &Frame)
-        ensures end { self.new.end ≡ self.old.end }
-        ensures state { self.new.state ≡ self.old.state }
-    {
-        match frame {
-            Frame::Fragment(length) => self.fragments = self.fragments.saturating_add(*length),
-            Frame::Text(_) | Frame::NotText | Frame::Bad(_) => self.fragments = 0,
-            Frame::Part | Frame::Control | Frame::Close => {}
-        }
     }
 
     // What a frame comes to, or nothing where a further one has to be taken.
@@ -82,6 +78,7 @@ impl<S: Read + Write + Drop> Peer<S> {
         ensures tells_once { IfOk result (MayTell self.old.end self.new.end) }
         ensures told { IfOk result (λ came. IfSome came (λ _. HasEnded self.new.state → self.new.end ≡ Known)) }
         ensures timely { IfOk result (λ came. IfSome came (IsTimely self.new.state)) }
+        ensures received { IsLast frame ⊎ (self.old.state ≡ Open) → self.old.end ≢ Known → IfOk result (IsReceived S.remaining S.contents frame self.old self.new) }
     {
         match frame {
             Frame::Part => self.read_on(),
@@ -107,6 +104,8 @@ impl<S: Read + Write + Drop> Peer<S> {
         ensures tells_once { IfOk result (MayTell self.old.end self.new.end) }
         ensures told { IfOk result (λ came. IfSome came (λ _. HasEnded self.new.state → self.new.end ≡ Known)) }
         ensures timely { IfOk result (λ came. IfSome came (IsTimely self.new.state)) }
+        ensures goes_on { self.old.end ≢ Known → IfOk result (λ came. came ≡ None → self.new ≡ self.old) }
+        ensures slow { self.old.end ≢ Known → IfOk result (λ came. IfSome came (λ told. (told ≡ Ended) × (self.old.state ≡ Open) × (self.old.most_waiting < length (unwritten self.old.outbox)))) }
     {
         if self.is_open() && self.outbox.len() > self.most_waiting {
             self.fail(Fault::Slow)
@@ -122,6 +121,7 @@ impl<S: Read + Write + Drop> Peer<S> {
         ensures tells_once { IfOk result (MayTell self.old.end self.new.end) }
         ensures told { IfOk result (λ came. IfSome came (λ _. HasEnded self.new.state → self.new.end ≡ Known)) }
         ensures timely { IfOk result (λ came. IfSome came (IsTimely self.new.state)) }
+        ensures ended { self.old.end ≢ Known → IfOk result (λ came. came ≡ Some Ended) }
     {
         self.put_close(fault.code(), fault.reason())?;
         self.flush();
@@ -132,7 +132,7 @@ impl<S: Read + Write + Drop> Peer<S> {
     }
 
     /// Reads the stream once. Nothing where bytes came.
-    #[tactic(auto, using(crate::proofs::HearingLemmas::ended_heard, crate::proofs::HearingLemmas::cut_heard, crate::proofs::HearingLemmas::owed_unknown))]
+    #[tactic(auto, using(crate::proofs::HearingLemmas::ended_heard, crate::proofs::HearingLemmas::cut_heard, crate::proofs::HearingLemmas::nothing_heard, crate::proofs::HearingLemmas::owed_unknown))]
     pub(crate) fn read_on(&mut self) -> Result<Option<Came>, AllocError>
         requires { HasEnded self.old.state → ⊥ }
         ensures waits { IfOk result (λ came. came ≡ None → self.new.state ≡ self.old.state) }
@@ -142,6 +142,7 @@ impl<S: Read + Write + Drop> Peer<S> {
         ensures timely { IfOk result (λ came. IfSome came (IsTimely self.new.state)) }
         ensures heard { self.old.end ≡ Ahead → IfOk result (λ came. IfSome came (IsHeard S.remaining S.contents self.old self.new)) }
         ensures receives { IfOk result (λ came. came ≡ None → Receives S.remaining self.old self.new) }
+        ensures waited { self.old.end ≢ Known → IfOk result (λ came. IfSome came (IsWaited S.remaining self.old self.new)) }
     {
         match self.inbox.fill(&mut self.stream)? {
             Filled::Some => Ok(None),

@@ -1,6 +1,6 @@
 //! What a connection sends: texts, as far as there is room and the stream takes them.
 ghost use Rattle.std.specs.Prelude.{◌≡◌, ◌≢◌, ◌≤◌, ◌<◌, ◌⊎◌, ◌+◌, length, IsFalse, IsTrue, OnErr, OnOk};
-ghost use Rattle.bidi_peer.specs.Sending.{Flushes, HasNoRoom, IsLittle, Puts, SendsText};
+ghost use Rattle.bidi_peer.specs.Sending.{Flushes, HasNoRoom, IsLittle, KeepsWhatCame, Puts, SendsText};
 ghost use Rattle.bidi_peer.specs.Telling.{SameKnown, StaysUnlessDone};
 ghost use Rattle.bidi_peer.specs.Waiting.{unwritten};
 ghost use Rattle.bidi_peer.specs.declared.standing.State.TheVariants.{Done, Open};
@@ -25,17 +25,19 @@ impl<S: Read + Write + Drop> Peer<S> {
     /// # Errors
     /// No memory: an allocation failed. The text is not sent.
     pub fn send(&mut self, text: &str) -> Result<(), AllocError>
-        // No end is told, and what the caller knows stays known.
+        // The call does not report the end.
         ensures known { SameKnown self.old.end self.new.end }
         // A connection that is not open does not change.
         ensures else_same { self.old.state ≢ Open → self.new ≡ self.old }
-        // Where it was open and stays open, the frame of the text joined what is to be written, behind all of it.
+        // If the connection was open and still is, the frame of the text follows everything that waited to be written.
         ensures sends { self.old.state ≡ Open → OnOk result (self.new.state ≡ Open → SendsText S.contents text.now self.old self.new) }
-        // A little text waits, and the stream is not used.
+        // If the connection was open and still is, the bytes that came and the state of the protocol are unchanged.
+        ensures came { self.old.state ≡ Open → self.new.state ≡ Open → KeepsWhatCame self.old self.new }
+        // A short text waits, and the stream is not used.
         ensures waits { self.old.state ≡ Open → IsLittle text.now self.old → OnOk result ((self.new.state ≡ Open) × Puts text.now self.old self.new) }
         // An open connection stays open, unless its stream failed or the text has no room.
         ensures gives_up { self.old.state ≡ Open → OnOk result (StaysUnlessDone Open self.new.state ⊎ HasNoRoom S.contents text.now self.old self.new) }
-        // After an error it stands where it stood, unless its stream failed.
+        // After an error the state is unchanged, unless the stream failed.
         ensures err { OnErr result (StaysUnlessDone self.old.state self.new.state) }
     {
         let frame = frame_len(text);
@@ -77,6 +79,7 @@ impl<S: Read + Write + Drop> Peer<S> {
     fn put_text(&mut self, text: &str) -> Result<(), AllocError>
         requires { self.old.state ≡ Open }
         ensures puts { OnOk result (Puts text.now self.old self.new) }
+        ensures came { KeepsWhatCame self.old self.new }
         ensures state { self.new.state ≡ self.old.state }
         ensures end { self.new.end ≡ self.old.end }
     {
@@ -97,11 +100,11 @@ impl<S: Read + Write + Drop> Peer<S> {
 
     /// Writes what waits, as far as the stream takes it. Call it when the stream can be written again.
     pub fn flush(&mut self)
-        // No end is told, and what the caller knows stays known.
+        // The call does not report the end.
         ensures known { SameKnown self.old.end self.new.end }
-        // It stands where it stood, unless its stream failed.
+        // The state is unchanged, unless the stream failed.
         ensures state { StaysUnlessDone self.old.state self.new.state }
-        // The stream took some bytes off the front of what waits, and the rest waits still, unless the stream failed.
+        // Unless the stream failed, it took bytes off the front of what waited, and the rest still waits.
         ensures flushes { (self.new.state ≡ Done) ⊎ Flushes S.contents self.old self.new }
     {
         if matches!(self.state, State::Done) {

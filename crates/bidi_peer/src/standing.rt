@@ -3,8 +3,9 @@ ghost use Rattle.std.specs.Prelude.{◌≡◌, ◌≢◌, []};
 ghost use Rattle.bidi_peer.specs.Telling.{HasEnded};
 ghost use Rattle.bidi_peer.specs.Waiting.{unwritten};
 ghost use Rattle.bidi_peer.specs.declared.standing.End.TheVariants.{Ahead};
-ghost use Rattle.bidi_peer.specs.declared.standing.State.TheVariants.{Done};
+ghost use Rattle.bidi_peer.specs.declared.standing.State.TheVariants.{Done, Open};
 ghost use Rattle.websocket.specs.declared.protocol.config.Role.TheVariants.{Server};
+ghost use Rattle.websocket.specs.declared.protocol.state.WebSocketState.TheVariants.{Active};
 
 use super::waiting::{Inbox, Outbox};
 use std::alloc::Global;
@@ -55,6 +56,8 @@ pub struct Peer<S> {
     ghost cut: { state ≡ Done → unwritten outbox ≡ [] },
     // Where nothing more is read, the end was told, or the next take tells it.
     ghost owes: { HasEnded state → end ≢ Ahead },
+    // The protocol of an open connection reads and writes.
+    ghost active: { state ≡ Open → context.state ≡ Active },
     // The protocol is that of a server, which masks no frame.
     ghost server: { context.role ≡ Server },
 }

@@ -1,8 +1,7 @@
 use Rattle.std.proofs.Common.{rules, ◌≡◌, codes, arith}
 use Rattle.std.specs.Prelude.{Some}
-use Rattle.httparse.specs.Spans.{span_bytes}
-use Rattle.websocket.specs.Headers.{fields_of, header_value}
-use Rattle.bidi_peer.specs.Requests.{AreLetIn, spanned_request}
+use Rattle.websocket.specs.Headers.{header_value}
+use Rattle.bidi_peer.specs.Requests.{AreLetIn, AsksUpgrade, spanned_request}
 use Rattle.bidi_peer.proofs.AskingLemmas.{key-decides}
 use Rattle.bidi_peer.proofs.asking.checked.Goals as goal
 
@@ -13,4 +12,5 @@ returns c =
     let get : r.method ≡ codes "GET" = search rules in
     let minor : r.minor ≡ 1 = omega (arith, c.requires.version, c.if-request-eq0.false) in
     let version : header_value r.fields (codes "Sec-WebSocket-Version") ≡ Some (codes "13") = c.has_value.ensures.0 (search rules) in
-    key-decides r c.accepted.result here get minor version c.accepted.ensures
+    let upgrade : AsksUpgrade r.fields = c.asks_upgrade.ensures.0 (search rules) in
+    key-decides r c.accepted.result here get minor upgrade version c.accepted.ensures

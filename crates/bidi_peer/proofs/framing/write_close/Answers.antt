@@ -2,7 +2,6 @@ use Rattle.std.proofs.Common.{Some}
 use Rattle.bidi_peer.proofs.RoleLemmas.{close_leaves_role}
 use Rattle.bidi_peer.proofs.framing.write_close.Goals as goal
 
-pub returns-in-Ok : goal.returns-in-Ok
-returns-in-Ok c = record {
-  role = close_leaves_role c.args.context.now c.close.new.self (Some (c.args.code, c.args.reason.now)) c.args.output.now.items c.close.new.output.items c.in-Ok.ensures.ok;
-}
+pub returns-in-Ok-clause-role : goal.returns-in-Ok-clause-role
+returns-in-Ok-clause-role c =
+    close_leaves_role c.args.context.now c.close.new.self (Some (c.args.code, c.args.reason.now)) c.args.output.now.items c.close.new.output.items c.in-Ok.ensures.ok

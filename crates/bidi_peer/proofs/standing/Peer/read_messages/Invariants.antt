@@ -1,5 +1,13 @@
+use Rattle.std.proofs.Common.{◌≡◌, ◌≢◌}
 use Rattle.bidi_peer.specs.Telling.{SameKnown}
+use Rattle.bidi_peer.specs.declared.standing.End.TheVariants.{Known}
+use Rattle.bidi_peer.specs.declared.standing.State.TheVariants.{Open}
+use Rattle.bidi_peer.proofs.MessageLemmas.{GoesOn}
 use Rattle.bidi_peer.proofs.standing.Peer.read_messages.Given as goal
 
+-- only frames that tell nothing were taken, one or a read at each step
 abbrev pub invariant-loop : goal.invariant-loop
-invariant-loop g l = SameKnown l.initial.self.end l.self.end
+invariant-loop g l = record {
+  known : SameKnown l.initial.self.end l.self.end;
+  goes_on : l.initial.self.state ≡ Open → l.initial.self.end ≢ Known → GoesOn g.S.Read.remaining g.S.Write.contents l.initial.self l.counter l.self;
+}

@@ -1,7 +1,11 @@
-use Rattle.std.proofs.Common.{rules, ◌≡◌, ◌∙◌, subst, sym}
-use Rattle.bidi_peer.specs.Hearing.{Receives}
+use Rattle.std.proofs.Common.{rules, ◌≡◌, ◌∙◌, ap, length, Some, subst, sym}
+use Rattle.std.specs.Prelude.{IfSome}
+use Rattle.bidi_peer.specs.Hearing.{IsHeard, Receives}
 use Rattle.bidi_peer.specs.Telling.{HasEnded}
-use Rattle.bidi_peer.proofs.HearingLemmas.{receives_then}
+use Rattle.bidi_peer.specs.Requests.{IsUnfinished}
+use Rattle.bidi_peer.specs.Waiting.{untaken}
+use Rattle.bidi_peer.proofs.HearingLemmas.{heard_behind, heard_then, receives_then}
+use Rattle.bidi_peer.proofs.UnfinishedLemmas.{still_unfinished}
 use Rattle.bidi_peer.proofs.standing.Peer.read_request.Goals as goal
 use Rattle.bidi_peer.proofs.standing.Peer.read_request.Goals.{then-is_to_judge+in_ok-asked+in_ok-came-2+in_default-2, else-is_to_judge}
 
@@ -19,11 +23,38 @@ loop-preserved g c =
             known = (λ k. heard.end ∙ k, λ k. sym heard.end ∙ k);
             reads = subst (λ s. HasEnded s → ⊥) (sym heard.state) c.requires;
             receives = heard;
+            waits = λ was. subst (λ p. IsUnfinished (untaken p.inbox)) (sym same) (w.in_ok-came-2.ensures.unfinished (search rules));
           })
       | else-is_to_judge w ↦
           rw w.self-is (record {
             known = (λ k. came.end ∙ k, λ k. sym came.end ∙ k);
             reads = subst (λ s. HasEnded s → ⊥) (sym came.state) c.requires;
             receives = came;
+            waits = λ was.
+                let reads = (c.in_ok-came.ensures.receives (search rules)).reads in
+                subst IsUnfinished c.waiting.ensures
+                (still_unfinished (untaken c.loop.self.inbox) reads.came c.waiting.result.now (length c.waiting-known.result.now) (c.waiting.ensures ∙ reads.joins)
+                (ap length c.waiting-known.ensures) (c.is_to_judge.ensures (search rules)) (c.loop.invariant.waits was));
           })
     ]
+
+pub returns-in-Some-clause-heard : goal.returns-in-Some-clause-heard
+returns-in-Some-clause-heard g c =
+    λ ahead.
+    let was = c.loop.invariant in
+    heard_then g.S.Read.remaining g.S.Write.contents c.args.self.now c.loop.self c.read_on.new.self c.in-Some.came was.receives was.waits
+    (subst (λ o. IfSome o (IsHeard g.S.Read.remaining g.S.Write.contents c.loop.self c.read_on.new.self)) c.in-Some.is (c.in_ok-came.ensures.heard (was.receives.end ∙ ahead)))
+
+pub returns-in-Some-2-clause-heard : goal.returns-in-Some-2-clause-heard
+returns-in-Some-2-clause-heard g c =
+    λ ahead.
+    let remaining = g.S.Read.remaining in
+    let read = c.read_on.new.self in
+    let came : Receives remaining c.args.self.now read =
+    receives_then remaining g.S.Write.contents c.args.self.now c.loop.self read c.loop.invariant.receives (c.in_ok-came.ensures.receives (search rules)) in
+    heard_behind remaining g.S.Write.contents c.args.self.now read c.hear.new.self c.in-Some-2.came came
+    (λ same. c.in_ok-came-2.ensures.speaks (came.end ∙ ahead) (c.in-Some-2.is ∙ ap (λ x. Some x) same))
+    (subst (λ o. IfSome o (IsHeard remaining g.S.Write.contents read c.hear.new.self)) c.in-Some-2.is (c.in_ok-came-2.ensures.heard (came.end ∙ ahead)))
+
+pub returns-clause-heard : goal.returns-clause-heard
+returns-clause-heard g c = λ ahead. (c.loop.invariant.receives, c.loop.invariant.waits)

@@ -1,5 +1,5 @@
-use Rattle.std.proofs.Common.{rules, ◌≡◌, ◌∙◌, ap, arith}
-use Rattle.bidi_peer.proofs.SendingLemmas.{no_room, sent, waited}
+use Rattle.std.proofs.Common.{arith}
+use Rattle.bidi_peer.proofs.SendingLemmas.{came_kept, no_room, sent, waited}
 use Rattle.bidi_peer.proofs.standing.Peer.send.Goals as goal
 
 pub returns-then-not-has_room-clause-gives_up : goal.returns-then-not-has_room-clause-gives_up
@@ -19,3 +19,9 @@ returns-clause-sends g c =
     λ was still.
     sent g.S.Write.contents c.args.text.now c.args.self.now c.make_room.new.self c.put_text.new.self c.write_much.new.self c.make_room.ensures.flushes
     (c.is_open.ensures.0 c.if-not-is_open.false) c.in_ok-put_text.ensures.puts c.write_much.ensures.flushes still
+
+pub returns-clause-came : goal.returns-clause-came
+returns-clause-came g c =
+    λ was still.
+    came_kept g.S.Write.contents c.args.self.now c.make_room.new.self c.put_text.new.self c.write_much.new.self c.make_room.ensures.flushes
+    (c.is_open.ensures.0 c.if-not-is_open.false) c.put_text.ensures.came c.write_much.ensures.flushes still

@@ -1,4 +1,4 @@
-use Rattle.std.proofs.Common.{rules, ◌≡◌, ◌∙◌}
+use Rattle.std.proofs.Common.{rules, ◌∙◌}
 use Rattle.std.proofs.lemmas.List.{places}
 use Rattle.bidi_peer.specs.Waiting.{untaken}
 use Rattle.bidi_peer.proofs.WaitingLemmas.{grows, reads_more}

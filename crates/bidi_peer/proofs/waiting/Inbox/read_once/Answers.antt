@@ -1,4 +1,4 @@
-use Rattle.std.proofs.Common.{rules, ◌≡◌, ◌∙◌, ap, take}
+use Rattle.std.proofs.Common.{rules, ◌∙◌, ap, take}
 use Rattle.std.proofs.lemmas.List.{places, with_items_is}
 use Rattle.std.specs.Prelude.{slice_range}
 use Rattle.bidi_peer.proofs.WaitingLemmas.{kept-front}
