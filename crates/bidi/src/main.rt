@@ -12,11 +12,13 @@
 mod system;
 
 use bidi_command_line::{
-    HostFiles, HostOptions, LineFault, Run, ServeOptions, command_line, host_files, input_file,
+    HostFiles, HostOptions, LineFault, Run, ServeOptions, StreamRun, command_line, host_files,
+    input_file,
 };
-use bidi_hosting::{Door, Hosted, HostingFault, MOST_CONNECTIONS, MOST_WAITING, Manners};
+use bidi_host_loop::{Door, Hosted, MOST_CONNECTIONS, MOST_WAITING, Manners};
 use bidi_lines::{Device, Sink, write_all};
-use bidi_programs::{hosting_status, run, serving_status};
+use bidi_recorder::HostingFault;
+use bidi_run::{hosting_status, run, serving_status};
 use bidi_serve::{ServeFault, serve};
 use mio::Poll;
 use mio::net::TcpListener as Listener;
@@ -78,7 +80,7 @@ fn status(rt: &HostRuntime) -> io::Result<u8> {
             Ok(files) => host_status(rt, asked, files),
             Err(_) => Ok(told(rt, OUT_OF_MEMORY, 3)),
         },
-        Ok(asked) => match input_of(alloc, &asked, &words) {
+        Ok(Run::Stream(asked)) => match input_of(alloc, asked, &words) {
             Ok(None) => {
                 let mut input = Device::new(rt.reader());
                 Ok(run(alloc, &asked, &mut input, &mut output, &mut faults))
@@ -102,10 +104,10 @@ fn status(rt: &HostRuntime) -> io::Result<u8> {
 }
 
 // The file that a run reads in place of the standard input: `show` and `check` may have one.
-fn input_of(alloc: Global, asked: &Run, words: &[&str]) -> Result<Option<String>, LineFault> {
+fn input_of(alloc: Global, asked: StreamRun, words: &[&str]) -> Result<Option<String>, LineFault> {
     match asked {
-        Run::Show(_) | Run::Check(_) | Run::Why(_) | Run::Both(_) => input_file(alloc, words),
-        _ => Ok(None),
+        StreamRun::Play | StreamRun::Pair | StreamRun::Reduce(_) => Ok(None),
+        _ => input_file(alloc, words),
     }
 }
 

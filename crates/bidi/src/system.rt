@@ -1,5 +1,6 @@
 //! What lies round a host: the system's clock, files and standard streams.
-use bidi_hosting::{HostingFault, Surroundings, page_lines};
+use bidi_host_loop::{Surroundings, page_lines};
+use bidi_recorder::HostingFault;
 use std::fs::{self, File};
 use std::io;
 use std::io::{Read, Write};

@@ -16,7 +16,7 @@ use Rattle.bidi_shape.specs.Profile.{term_of}
 use Rattle.bidi_shape.specs.Fits.{count, without, OthersFit, Fits, fits_any, fits_list, fits_pair, fits_map, fits_first, fits_rule, fits_capped}
 use Rattle.bidi_shape.specs.Fits.{AllFit, RowsFit}
 use Rattle.bidi_shape.proofs.FitsLemmas.{any_inside, item_inside}
-use Rattle.bidi_blame.specs.Grammar.{one_of}
+use Rattle.bidi_rules.specs.Grammar.{one_of}
 use Rattle.bidi_blame.specs.Reason as step
 use Rattle.bidi_blame.specs.Reason.{Reason, missing, under, by, is_tag, tags_with}
 use Rattle.bidi_blame.specs.Blames.{takes, is_odd, Judged, ItemsJudged, RowsJudged, OthersJudged, Blames, in_any_list, in_any_map, in_list, in_first, in_second, in_map, of_rule, of_capped}

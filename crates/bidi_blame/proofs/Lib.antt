@@ -2,6 +2,5 @@ pub mod ExclusionLemmas
 pub mod PlainLemmas
 pub mod LevelLemmas
 pub mod JudgeLemmas
-pub mod GrammarLemmas
 pub mod WordLemmas
 pub mod WordFacts

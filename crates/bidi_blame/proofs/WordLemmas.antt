@@ -1,6 +1,6 @@
 -- What pointers, told words and counts are made of.
 use Rattle.std.proofs.Common.{◌≡◌, ◌≢◌, ℕ, zero, suc, ◌+◌, ◌<◌, List, [], ◌∷◌, ◌++◌, map, flat_map, length, get_or, drop, codes, decimal, eqb, false, rules}
-use Rattle.std.proofs.Common.{refl, sym, ap, ap₂, subst, ◌∙◌, append_assoc, append-nil, arith, lit<, ne_eqb, encode_utf8, encode_utf8_all}
+use Rattle.std.proofs.Common.{refl, sym, ap, ap₂, subst, ◌∙◌, append_assoc, append-nil, arith, lit<, ne_eqb, encode_utf8, encode_utf8_all, take}
 use Rattle.std.proofs.Common.{◌≤◌, ◌⊎◌, inl, inr, Bool, true, cond, nat_lt, length-append, bytes_eq, Some}
 use Rattle.std.proofs.lemmas.Bool.{lt-ltb}
 use Rattle.std.proofs.Math.Seq.{drop-cons}
@@ -20,10 +20,10 @@ use Rattle.bidi_tree.specs.declared.outline.Outline.{Outline, Map as MapOf, the_
 use Rattle.bidi_tree.proofs.OutlineLemmas.{OutlineMember}
 use Rattle.bidi_shape.specs.Fits.{count}
 use Rattle.bidi_shape.specs.Term.{Term, bool, js_uint, js_int, any}
-use Rattle.bidi_blame.specs.Grammar.{grammar, one_of}
-use Rattle.bidi_blame.specs.Words.{escaped_byte, escaped, alternatives, told_with, each_once, count_words, count_members}
-use Rattle.bidi_blame.specs.declared.term.Term as code_term
-use Rattle.bidi_blame.specs.declared.term.Term.{the_lemmas}
+use Rattle.bidi_rules.specs.Grammar.{grammar, one_of}
+use Rattle.bidi_blame.specs.Words.{escaped_byte, escaped, alternatives, told_with, each_once, choice_text, count_words, count_members}
+use Rattle.bidi_rules.specs.declared.term.Term as code_term
+use Rattle.bidi_rules.specs.declared.term.Term.{the_lemmas}
 use Rattle.bidi_blame.proofs.JudgeLemmas.{count-items_of}
 
 -- ---- pointers
@@ -106,6 +106,12 @@ quoted-same s u e =
     let here = tree_of-compact_text (node.text s) tt (refl, omega arith) in
     let there = tree_of-compact_text (node.text u) tt (refl, omega arith) in
     let same : Some (node.text s) ≡ Some (node.text u) = sym here ∙ (ap tree_of e ∙ there) in cc
+
+-- the words of some alternatives begin as those of the first
+pub text_begins : (w : List ℕ) (ws : List (List ℕ)) → bytes_eq (34 ∷ []) (take 1 w) ≡ bytes_eq (34 ∷ []) (take 1 (choice_text (w ∷ ws)))
+text_begins [] [] = refl
+text_begins [] (x ∷ ws) = refl
+text_begins (b ∷ bs) ws = refl
 
 pub quoted-eq : (s u : List ℕ) → bytes_eq s u ≡ bytes_eq (quoted s) (quoted u)
 quoted-eq s u =

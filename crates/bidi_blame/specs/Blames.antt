@@ -14,10 +14,12 @@ use Rattle.bidi_shape.specs.Fits.{Fits, AllFit, RowsFit, OthersFit, count, witho
 use Rattle.bidi_blame.specs.Reason as step
 use Rattle.bidi_blame.specs.Reason.{Reason, here, missing, unknown, under, by, tags_with, told}
 
+-- the number is a js-uint: from 0 to 2^53 - 1
 abbrev pub is_js_uint : ℤ → Bool
 is_js_uint (pos n) = nat_lt n (2 ^ 53)
 is_js_uint z = false
 
+-- the tree is a number that is not whole, or out of range
 abbrev pub is_odd : Node → Bool
 is_odd node.odd = true
 is_odd t = false
@@ -40,6 +42,7 @@ takes t (capped τ) = nat_le (levels t) 60
 
 mutual
   -- a tree does not fit a term for a reason
+  -- example: 70 lists, each in the next, have one reason
   pub data Blames : Node → Term → Reason → Type 0 where
     not_taken : (t : Node) (τ : Term) → takes t τ ≡ false → Blames t τ (here τ t)
     -- the levels of a tree are counted before anything in it is to blame, so the outermost place with too many is told
@@ -84,18 +87,22 @@ mutual
 
 -- ---- what an answer says: a reason, or none where the tree fits
 
+-- with no reason the tree fits the rule; with a reason, the tree does not fit because of it
 abbrev pub Judged : Node → Term → Option Reason → Type 0
 Judged t τ None = Fits t τ
 Judged t τ (Some r) = Blames t τ r
 
+-- the same of the items of a list
 abbrev pub ItemsJudged : Items → Term → Option Reason → Type 0
 ItemsJudged ts τ None = AllFit ts τ
 ItemsJudged ts τ (Some r) = ItemsBlame 0 ts τ r
 
+-- the same of the members of a map and the rows of its rule
 abbrev pub RowsJudged : Members → Rows → Openness → Option Reason → Type 0
 RowsJudged ms rows o None = RowsFit ms rows × OthersFit o (without (names_of rows) ms)
 RowsJudged ms rows o (Some r) = RowsBlame o (without (names_of rows) ms) 0 ms rows r
 
+-- the same of the members that no row names
 abbrev pub OthersJudged : Openness → ℕ → Members → Option Reason → Type 0
 OthersJudged o n others None = OthersFit o others
 OthersJudged o n others (Some r) = OthersBlame o n others r

@@ -1,6 +1,3 @@
-pub mod Names
-pub mod Grammar
-pub mod Weight
 pub mod Reason
 pub mod Blames
 pub mod View

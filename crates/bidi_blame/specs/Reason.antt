@@ -4,13 +4,14 @@ use Rattle.std.specs.Str.{bytes_eq}
 use Rattle.bidi_tree.specs.Node.{Node}
 use Rattle.bidi_shape.specs.Name.{Name}
 use Rattle.bidi_shape.specs.Term.{Term}
-use Rattle.bidi_blame.specs.Names.{rule_text}
+use Rattle.bidi_rules.specs.Names.{rule_text}
 
 -- a step into a tree: to the member of a name, or to the item that has so many before it
 pub data Step : Type 0 where
   member : List ℕ → Step
   item : ℕ → Step
 
+-- Why a tree does not fit: the place, what may be there, and what is there.
 pub record Reason : Type 0 where
   -- the steps from the tree to the place, the last one first
   pub steps : List Step
@@ -46,6 +47,7 @@ abbrev pub or_name : Option Name → Name → Name
 or_name None n = n
 or_name (Some m) n = m
 
+-- the reason, named by this rule if no inner rule names it
 abbrev pub by : Name → Reason → Reason
 by n r = record { steps = r.steps; wants = r.wants; found = r.found; named = Some (or_name r.named n); tags = r.tags }
 
@@ -59,12 +61,14 @@ tags_with n k = if is_tag k then suc n else n
 
 -- ---- which of the reasons against two alternatives is told
 
+-- both steps lead to the same member or item
 abbrev pub same_step : Step → Step → Bool
 same_step (member k) (member l) = bytes_eq k l
 same_step (item i) (item j) = i == j
 same_step (member k) (item j) = false
 same_step (item i) (member l) = false
 
+-- both lists of steps lead to the same place
 abbrev pub same_place : List Step → List Step → Bool
 same_place [] [] = true
 same_place [] (t ∷ ts) = false
@@ -77,6 +81,7 @@ depth_at (Some t) steps = length steps
 depth_at None [] = 0
 depth_at None (s ∷ steps) = length steps
 
+-- how deep the place of a reason is
 abbrev pub depth : Reason → ℕ
 depth r = depth_at r.found r.steps
 
@@ -92,6 +97,7 @@ both a b = record { steps = a.steps; wants = a.wants ++ b.wants; found = a.found
 
 -- The reason against the alternative that more tags say is meant; else the one that stands deeper; of reasons at one place, both; and where none of this
 -- tells them apart, that the tree is neither.
+-- example: `{"context":5}` is no Target because `/context` is no text, not because `/realm` is missing
 abbrev pub told : Node → Term → Reason → Reason → Reason
 told t choice a b =
     if nat_lt b.tags a.tags then a

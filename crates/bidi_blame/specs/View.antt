@@ -2,8 +2,8 @@
 use Rattle.std.specs.Prelude.{Bool, true, false, List, [], ◌∷◌, Option, Some, None, map, option_map}
 use Rattle.bidi_tree.specs.Outline.{outline_node}
 use Rattle.bidi_shape.specs.Term.{Term}
-use Rattle.bidi_blame.specs.Grammar.{grammar, one_of}
-use Rattle.bidi_blame.specs.Names.{name_of}
+use Rattle.bidi_rules.specs.Grammar.{grammar, one_of}
+use Rattle.bidi_rules.specs.Names.{name_of}
 use Rattle.bidi_blame.specs.Reason as told
 use Rattle.bidi_blame.specs.declared.draft.Draft.{Draft}
 use Rattle.bidi_blame.specs.declared.few.Few.{Few}
@@ -13,13 +13,16 @@ use Rattle.bidi_blame.specs.declared.reason.Step.TheVariants.{Member, Item}
 use Rattle.bidi_blame.specs.declared.reason.Want.{Want}
 use Rattle.bidi_blame.specs.declared.reason.Reason.{Reason}
 
+-- a step of the code
 abbrev pub step_of : Step → told.Step
 step_of (Member name) = told.member name.now
 step_of (Item i) = told.item i
 
+-- what the code says may be at a place: one of these rules
 abbrev pub want_of : Want → Term
 want_of w = one_of (grammar w.first.now) (map grammar w.rest.now)
 
+-- a reason of the code
 abbrev pub reason_of : Reason → told.Reason
 reason_of r = record {
   steps = map step_of r.steps.items;
@@ -35,7 +38,7 @@ listed Nothing = []
 listed (One x) = x ∷ []
 listed (Many xs) = xs.items
 
--- the same of one that is looked for
+-- a reason that the code is still looking for
 abbrev pub draft_of : Draft → told.Reason
 draft_of r = record {
   steps = map step_of (listed r.steps);

@@ -9,7 +9,7 @@ use Rattle.bidi_shape.specs.Name.{Name}
 use Rattle.bidi_shape.specs.Term.{Term, exactly, text, bool, null, js_uint, js_int, any, list_of, pair_of, map_of, either, rule, capped}
 use Rattle.bidi_shape.specs.Profile.{term_of}
 use Rattle.bidi_shape.specs.Fits.{count}
-use Rattle.bidi_blame.specs.Names.{rule_text}
+use Rattle.bidi_rules.specs.Names.{rule_text}
 use Rattle.bidi_blame.specs.Reason.{Step, member, item}
 
 -- ---- the place
@@ -18,6 +18,7 @@ use Rattle.bidi_blame.specs.Reason.{Step, member, item}
 abbrev pub escaped_byte : ℕ → List ℕ
 escaped_byte b = if b == 126 then codes "~0" else if b == 47 then codes "~1" else b ∷ []
 
+-- a name with `~0` for each `~` and `~1` for each `/`
 abbrev pub escaped : List ℕ → List ℕ
 escaped = flat_map escaped_byte
 
@@ -27,6 +28,7 @@ step_text (member k) = escaped k
 step_text (item i) = decimal i
 
 -- a slash and its text for each step; the first step of the list is the last one of the pointer
+-- example: `/params/a~1b/0`
 abbrev pub pointer_text : List Step → List ℕ
 pointer_text [] = []
 pointer_text (s ∷ ss) = pointer_text ss ++ 47 ∷ step_text s
@@ -90,7 +92,13 @@ choices τs = each_once [] (flat_map alternatives τs)
 abbrev pub has_map : List Term → Bool
 has_map τs = list_any (bytes_eq (codes "a map")) (choices τs)
 
+-- whether these words are the only alternative
+abbrev pub is_only : List ℕ → List (List ℕ) → Bool
+is_only words (w ∷ []) = bytes_eq words w
+is_only words ws = false
+
 -- the alternatives as one text
+-- example: `"tab" or "window"`
 abbrev pub wants_text : List Term → List ℕ
 wants_text τs = choice_text (choices τs)
 
@@ -107,10 +115,12 @@ count_words kind part n =
     else if n == 1 then codes "a " ++ kind ++ codes " of one " ++ part
     else codes "a " ++ kind ++ codes " of " ++ decimal n ++ 32 ∷ part ++ codes "s"
 
+-- the number of members
 abbrev pub count_members : Members → ℕ
 count_members node.no_members = 0
 count_members (node.member k t ms) = suc (count_members ms)
 
+-- what is at a place, in words
 abbrev pub node_text : Node → List ℕ
 node_text node.null = codes "null"
 node_text (node.boolean b) = if b then codes "true" else codes "false"
@@ -121,6 +131,7 @@ node_text (node.list ts) = count_words (codes "list") (codes "item") (count ts)
 node_text (node.map ms) = count_words (codes "map") (codes "member") (count_members ms)
 
 -- `nothing` where nothing stands
+-- example: `a list of 2 items`
 abbrev pub found_text : Option Node → List ℕ
 found_text None = codes "nothing"
 found_text (Some t) = node_text t

@@ -7,17 +7,16 @@ ghost use Rattle.bidi_tree.specs.Outline.{outline_node, outline_items, outline_m
 ghost use Rattle.bidi_shape.specs.Term.{any, rule, pair_of, names_of};
 ghost use Rattle.bidi_shape.specs.Fits.{Fits, without};
 ghost use Rattle.bidi_blame.specs.Blames.{takes, Judged, ItemsJudged, RowsJudged, OthersJudged};
-ghost use Rattle.bidi_blame.specs.Grammar.{grammar, one_of, openness_of, grammar_rows};
-ghost use Rattle.bidi_blame.specs.Names.{name_of};
+ghost use Rattle.bidi_rules.specs.Grammar.{grammar, one_of, openness_of, grammar_rows};
+ghost use Rattle.bidi_rules.specs.Names.{name_of};
 ghost use Rattle.bidi_blame.specs.View.{reason_if, reason_of};
-ghost use Rattle.bidi_blame.specs.Weight.{is_ready, are_ready, rows_are_ready};
+ghost use Rattle.bidi_rules.specs.Weight.{is_ready, are_ready, rows_are_ready};
 ghost use Rattle.bidi_tree.specs.Node as kind;
 
 use crate::draft::{Draft, tags_with};
-use crate::name::Name;
 use crate::reason::{Reason, Step, Want};
 use crate::taking::takes;
-use crate::term::{ANY, Need, Openness, Row, Term};
+use bidi_rules::{ANY, Name, Need, Openness, Row, Term};
 use bidi_shape::Parsed;
 use bidi_tree::{Outline, OutlineMembers, find_outline};
 use std::alloc::{AllocError, Global};
@@ -38,7 +37,9 @@ pub fn blame<'a, 'b>(
     tree: &'a Outline<'b>,
     name: Name,
 ) -> Result<Option<Reason<'a, 'b>>, AllocError>
+    // `None` means that the tree fits the rule; otherwise the definition gives this reason.
     ensures judged { IfOk result (λ found. Judged (outline_node tree.now) (rule (name_of name)) (option_map reason_of found)) }
+    // If there is a reason, the tree does not fit the rule.
     ensures excludes { IfOk result (λ found. IfSome found (λ r. Fits (outline_node tree.now) (rule (name_of name)) → ⊥)) }
 {
     let mut draft = Draft::new();

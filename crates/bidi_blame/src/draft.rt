@@ -1,15 +1,14 @@
 //! Reasons while they are looked for. Most are not told, and so they take no memory while they are short.
 ghost use Rattle.std.specs.Prelude.{◌≡◌, ◌<◌, ◌+◌, ◌^◌, IfOk, OnOk, map, option_map};
 ghost use Rattle.bidi_tree.specs.Outline.{outline_node};
-ghost use Rattle.bidi_blame.specs.Grammar.{grammar};
-ghost use Rattle.bidi_blame.specs.Names.{name_of};
+ghost use Rattle.bidi_rules.specs.Grammar.{grammar};
+ghost use Rattle.bidi_rules.specs.Names.{name_of};
 ghost use Rattle.bidi_blame.specs.Reason.{here, missing, unknown, under, by, is_tag, tags_with, same_place, same_name, depth, both, told};
 ghost use Rattle.bidi_blame.specs.View.{step_of, want_of, draft_of, listed, reason_of};
 
 use crate::few::Few;
-use crate::name::Name;
 use crate::reason::{Reason, Step, Want};
-use crate::term::Term;
+use bidi_rules::{Name, Term};
 use bidi_tree::Outline;
 use std::alloc::{AllocError, Global};
 use std::slice;

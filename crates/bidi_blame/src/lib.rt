@@ -1,30 +1,24 @@
 //! Why a tree does not fit a rule of the grammar.
 //!
-//! [`blame`] gives a [`Reason`] exactly where a tree does not fit the rule of a [`Name`]: the place, what may stand there, and
-//! what does.
+//! [`blame`] takes a tree and the [`Name`] of a rule. If the tree does not fit, it returns a [`Reason`]: the place, what may be
+//! there, and what is there. [`pointer`], [`wanted`] and [`found_words`] put the parts of a reason into words, and [`has_escapes`]
+//! says whether JSON needs escapes for a string.
 //!
-//! [`pointer`], [`wanted`] and [`found_words`] have the words for it, and [`has_escapes`] tells of a text whether JSON writes it as it stands.
-//!
-//! The rules are data here, each proved equal to the definition of its name; `bidi_shape` and the crates above it read values by
-//! the same definitions.
+//! The rules are those of `bidi_rules`. A call fails only if an allocation fails.
 #![tactic(auto)]
 
 mod blaming;
 mod draft;
 mod few;
-mod name;
 mod quoting;
 mod reason;
-mod rules;
 mod taking;
-mod term;
 mod wanting;
 mod words;
 
+pub use bidi_rules::{Name, Need, Openness, Row, Term};
 pub use blaming::blame;
-pub use name::Name;
 pub use quoting::has_escapes;
 pub use reason::{Reason, Step, Want};
-pub use term::{Need, Openness, Row, Term};
 pub use wanting::{Alternatives, wanted};
 pub use words::{found_words, pointer};

@@ -30,6 +30,7 @@ pub(crate) fn push_quoted(alloc: Global, out: &mut String, text: &str) -> Result
 ///
 /// It looks at all of them, so that it can look at many at once. Takes no memory.
 pub fn has_escapes(text: &str) -> bool
+    // Without escapes, the string is written as it is; with one, it is written differently.
     ensures { (result ≡ false → escape text.now ≡ text.now) × (result ≡ true → escape text.now ≢ text.now) }
 {
     let mut has_escapes = false;

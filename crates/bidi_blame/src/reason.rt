@@ -1,11 +1,10 @@
 //! Where a tree does not fit a rule, and why.
 ghost use Rattle.std.specs.Prelude.{◌≡◌};
-ghost use Rattle.bidi_blame.specs.Grammar.{grammar};
+ghost use Rattle.bidi_rules.specs.Grammar.{grammar};
 ghost use Rattle.bidi_blame.specs.Reason.{same_step};
 ghost use Rattle.bidi_blame.specs.View.{step_of, want_of};
 
-use crate::name::Name;
-use crate::term::Term;
+use bidi_rules::{Name, Term};
 use bidi_tree::Outline;
 
 /// A step into a tree.

@@ -2,9 +2,9 @@
 ghost use Rattle.std.specs.Prelude.{◌≡◌};
 ghost use Rattle.bidi_tree.specs.Outline.{outline_node};
 ghost use Rattle.bidi_blame.specs.Blames.{takes};
-ghost use Rattle.bidi_blame.specs.Grammar.{grammar};
+ghost use Rattle.bidi_rules.specs.Grammar.{grammar};
 
-use crate::term::Term;
+use bidi_rules::Term;
 use bidi_shape::{MAX_LEVELS, Parsed};
 use bidi_tree::Outline;
 

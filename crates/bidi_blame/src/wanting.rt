@@ -1,17 +1,16 @@
 //! What may stand at a place, in words.
-ghost use Rattle.std.specs.Prelude.{◌≡◌, ◌++◌, ◌∷◌, [], IfOk, OnOk, length, map, flat_map, string_bytes, bytes_eq, take};
+ghost use Rattle.std.specs.Prelude.{◌≡◌, ◌++◌, ◌∷◌, [], IfOk, OnOk, codes, false, length, map, flat_map, string_bytes, bytes_eq, take};
 ghost use Rattle.std.specs.List.{list_any};
 ghost use Rattle.json.specs.Print.{quoted};
-ghost use Rattle.bidi_blame.specs.Grammar.{grammar};
-ghost use Rattle.bidi_blame.specs.Names.{name_of};
+ghost use Rattle.bidi_rules.specs.Grammar.{grammar};
+ghost use Rattle.bidi_rules.specs.Names.{name_of};
 ghost use Rattle.bidi_blame.specs.View.{want_of};
-ghost use Rattle.bidi_blame.specs.Words.{alternatives, choice_text, choices, each_once, has_map, is_map, list_words, rule_words, wants_text};
-ghost use Rattle.bidi_blame.specs.Said.{said_text};
+ghost use Rattle.bidi_blame.specs.Words.{alternatives, choice_text, choices, each_once, is_map, is_only, list_words, rule_words};
+ghost use Rattle.bidi_blame.specs.Said.{said_text, told_by};
 
-use crate::name::Name;
 use crate::quoting::{push_quoted, quote};
 use crate::reason::Want;
-use crate::term::Term;
+use bidi_rules::{Name, Term};
 use std::alloc::{AllocError, Global};
 
 /// Words for an alternative.
@@ -37,6 +36,17 @@ impl Said {
                 Said::Plain(words) => is_quoted(alloc, words, text),
                 Said::Quoted(others) => Ok(text == others),
             },
+        }
+    }
+
+    // Whether they are these words, which do not begin with a quotation mark.
+    fn is_plain(&self, words: &str) -> bool
+        requires { bytes_eq (34 ∷ []) (take 1 words.now) ≡ false }
+        ensures { result ≡ bytes_eq words.now (said_text self.now) }
+    {
+        match self {
+            Said::Plain(own) => words == *own,
+            Said::Quoted(_) => false,
         }
     }
 
@@ -76,15 +86,76 @@ fn begins_with_quote(words: &str) -> bool
     words.as_bytes().starts_with(b"\"")
 }
 
-/// The alternatives of a place, in words.
+/// The alternatives of a place, each once and in their order. Their text is made where it is asked for.
 #[derive(Drop)]
 pub struct Alternatives {
-    /// Each of them once, in its order, with ` or ` between them; `nothing` where nothing may stand there.
-    pub text: String,
-    /// How many the text has.
-    pub count: usize,
+    said: Vec<Said>,
+}
+
+impl Alternatives {
+    /// How many they are. Takes no memory.
+    pub fn count(&self) -> usize
+        // The result is the number of the alternatives.
+        ensures { result ≡ length (told_by self.now) }
+    {
+        self.said.len()
+    }
+
+    /// Whether these words, which do not begin with a quotation mark, are the only alternative. Takes no memory.
+    pub fn is_only(&self, words: &str) -> bool
+        // The words do not begin with a quotation mark.
+        requires { bytes_eq (34 ∷ []) (take 1 words.now) ≡ false }
+        // The result says whether the words are the only alternative.
+        ensures { result ≡ is_only words.now (told_by self.now) }
+    {
+        match self.said.as_slice() {
+            [said] => said.is_plain(words),
+            _ => false,
+        }
+    }
+
+    /// Whether the first alternative is a text, as JSON writes it. Takes no memory.
+    pub fn begins_with_text(&self) -> bool
+        // A text is first if the alternatives as one text begin with a quotation mark.
+        ensures { result ≡ bytes_eq (34 ∷ []) (take 1 (choice_text (told_by self.now))) }
+    {
+        match self.said.as_slice() {
+            [] => false,
+            [first, rest @ ..] => begins_with_text(first, rest),
+        }
+    }
+
     /// Whether one of them is a map.
-    pub has_map: bool,
+    ///
+    /// # Errors
+    /// No memory: an allocation failed.
+    pub fn has_map(&self, alloc: Global) -> Result<bool, AllocError>
+        // The result says whether a map is one of the alternatives.
+        ensures { IfOk result (λ b. b ≡ list_any (bytes_eq (codes "a map")) (told_by self.now)) }
+    {
+        is_told(alloc, &self.said, &Said::Plain("a map"))
+    }
+
+    /// All of them as one text, with ` or ` between them; `nothing` where there are none.
+    ///
+    /// # Errors
+    /// No memory: an allocation failed.
+    pub fn text(&self, alloc: Global) -> Result<String, AllocError>
+        // The text has the words of each alternative, in their order.
+        ensures { IfOk result (λ s. string_bytes s ≡ choice_text (told_by self.now)) }
+    {
+        choice(alloc, &self.said)
+    }
+}
+
+// Whether the first of some alternatives is a text, as JSON writes it.
+fn begins_with_text(first: &Said, rest: &[Said]) -> bool
+    ensures { result ≡ bytes_eq (34 ∷ []) (take 1 (choice_text (said_text first.now ∷ map said_text rest.now))) }
+{
+    match first {
+        Said::Plain(words) => begins_with_quote(words),
+        Said::Quoted(_) => true,
+    }
 }
 
 /// What may stand at a place, in words.
@@ -92,22 +163,14 @@ pub struct Alternatives {
 /// # Errors
 /// No memory: an allocation failed.
 pub fn wanted(alloc: Global, wants: &[Want]) -> Result<Alternatives, AllocError>
-    // The text is the words of all that may stand there.
-    ensures text { IfOk result (λ w. string_bytes w.text ≡ wants_text (map want_of wants.now)) }
-    // The count is that of the alternatives in the text.
-    ensures count { IfOk result (λ w. w.count ≡ length (choices (map want_of wants.now))) }
-    // A map may stand there if the alternatives say so.
-    ensures map { IfOk result (λ w. w.has_map ≡ has_map (map want_of wants.now)) }
+    // The alternatives are all that may stand there, each of them once.
+    ensures { IfOk result (λ a. told_by a ≡ choices (map want_of wants.now)) }
 {
     let mut told = Vec::with_capacity(alloc, wants.len())?;
     for want in wants {
         tell_want(alloc, &mut told, want)?;
     }
-    Ok(Alternatives {
-        text: choice(alloc, &told)?,
-        count: told.len(),
-        has_map: is_told(alloc, &told, &Said::Plain("a map"))?,
-    })
+    Ok(Alternatives { said: told })
 }
 
 // Tells the alternatives of what may stand at a place.

@@ -25,6 +25,7 @@ const ROOM: usize = 16;
 ///
 /// After RFC 6901, 3 and 4.
 pub fn pointer(alloc: Global, steps: &[Step<'_>]) -> Result<String, AllocError>
+    // The string is the JSON Pointer of the steps.
     ensures { IfOk result (λ s. string_bytes s ≡ pointer_text (map step_of steps.now)) }
 {
     let mut text = String::with_capacity(alloc, steps.len().saturating_mul(ROOM))?;
@@ -115,6 +116,7 @@ fn push_number(text: &mut String, number: usize) -> Result<(), AllocError>
 /// # Errors
 /// No memory: an allocation failed.
 pub fn found_words(alloc: Global, found: Option<&Outline<'_>>) -> Result<String, AllocError>
+    // The string says what is at the place, in the words of the definition.
     ensures { IfOk result (λ s. string_bytes s ≡ found_text (option_map (λ t. outline_node t.now) found.entry)) }
 {
     match found {

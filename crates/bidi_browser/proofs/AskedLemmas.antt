@@ -6,7 +6,7 @@ use Rattle.bidi_methods.specs.declared.command_data.BrowserCommand.{BrowserComma
 use Rattle.bidi_methods.specs.declared.command_data.BrowserCommand.TheVariants.{Activate, Close, Create, GetTree, Navigate, Reload}
 use Rattle.bidi_methods.specs.declared.command_data.BrowserCommand.TheVariants.{TraverseHistory, Evaluate, CallFunction, Disown, GetRealms}
 use Rattle.bidi_methods.specs.declared.command_data.BrowserCommand.TheVariants.{CreateUserContext, GetUserContexts, RemoveUserContext}
-use Rattle.bidi_browser.specs.Actions.{method_of, is_asked}
+use Rattle.bidi_contexts.specs.Actions.{method_of, is_asked}
 use Rattle.bidi_browser.specs.Asked.{command_asked}
 
 -- its method is that of what it asks

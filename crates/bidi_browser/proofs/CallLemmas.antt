@@ -11,13 +11,13 @@ use Rattle.bidi_browser.specs.declared.plan.Edit.{Edit}
 use Rattle.bidi_browser.specs.declared.plan.Plan.{Plan}
 use Rattle.bidi_handles.specs.declared.refusal.Refusal.{Refusal}
 use Rattle.bidi_handles.specs.declared.refusal.Refusal.TheVariants.{Code, NoMemory}
-use Rattle.bidi_browser.specs.Acts.{Act, Ending, ScriptEffect, GivesBack}
-use Rattle.bidi_browser.specs.Actions.{Action, Target, is_asked}
+use Rattle.bidi_contexts.specs.Acts.{Act, Ending, ScriptEffect, GivesBack}
+use Rattle.bidi_contexts.specs.Actions.{Action, Target, is_asked}
 use Rattle.bidi_handles.specs.Checks.{◌>>=◌, found}
 use Rattle.bidi_browser.specs.Occurs.{Replies, occurs}
-use Rattle.bidi_browser.specs.Outcome.{call_outcome, ending_of, ending_outcome, outcome, realm_targeted, this_resolved, undefined}
+use Rattle.bidi_contexts.specs.Outcome.{call_outcome, ending_of, ending_outcome, outcome, realm_targeted, this_resolved, undefined}
 use Rattle.bidi_browser.specs.Plans.{Plans, EditMakes}
-use Rattle.bidi_browser.specs.Realms.{held_value, realm_of, row_of}
+use Rattle.bidi_contexts.specs.Realms.{held_value, realm_of, row_of}
 use Rattle.bidi_handles.specs.Resolves.{Gives, Passes, this_argument}
 use Rattle.bidi_browser.specs.Runs.{HasReturned, HasRun, IsEnding, call_ending}
 use Rattle.bidi_browser.specs.TableInHand.{ending_seen}

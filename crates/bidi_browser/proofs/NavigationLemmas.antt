@@ -12,25 +12,27 @@ use Rattle.bidi_methods.specs.declared.event_data.EventName.{EventName}
 use Rattle.bidi_methods.specs.declared.event_data.EventName.TheVariants.{NavigationStarted, DomContentLoaded, Load}
 use Rattle.bidi_methods.specs.declared.result_data.ResultData.{ResultData}
 use Rattle.bidi_handles.specs.declared.id.IdKind.TheVariants.{Realm, Navigation}
-use Rattle.bidi_browser.specs.declared.occurrence.Occurrence as in_hand
+use Rattle.bidi_contexts.specs.declared.occurrence.Occurrence as in_hand
 use Rattle.bidi_browser.specs.declared.navigation.Told.{Told}
 use Rattle.bidi_browser.specs.declared.plan.Plan.{Plan}
-use Rattle.bidi_browser.specs.declared.plan.Navigation as planned
+use Rattle.bidi_contexts.specs.declared.navigation.Navigation as planned
 use Rattle.bidi_browser.specs.declared.plan.Edit.TheVariants.{Navigate}
-use Rattle.bidi_browser.specs.Urls.{about_blank}
-use Rattle.bidi_browser.specs.Acts.{Act, Moved, Move, next_number}
-use Rattle.bidi_browser.specs.Actions.{Wait, Started, Interactive, Complete, Action, is_asked}
-use Rattle.bidi_browser.specs.Contexts.{children_of}
-use Rattle.bidi_browser.specs.Places.{Entries, with_entry, present, entries_of, place_across, shifted}
-use Rattle.bidi_browser.specs.HistoryInHand.{move_of, Leads}
-use Rattle.bidi_browser.specs.Occurrences.{Occurrence, realm_created, realm_destroyed, removal, navigation_event}
+use Rattle.bidi_contexts.specs.Urls.{about_blank}
+use Rattle.bidi_contexts.specs.Acts.{Act, Moved, Move, next_number}
+use Rattle.bidi_contexts.specs.Actions.{Wait, Started, Interactive, Complete, Action, is_asked}
+use Rattle.bidi_contexts.specs.Contexts.{children_of}
+use Rattle.bidi_contexts.specs.Places.{Entries, with_entry, present, entries_of, place_across, shifted}
+use Rattle.bidi_contexts.specs.HistoryInHand.{move_of, Leads}
+use Rattle.bidi_contexts.specs.Occurrences.{Occurrence, realm_created, realm_destroyed, removal, navigation_event}
 use Rattle.bidi_browser.specs.Occurs.{Item, Happens, Replies, led_to, replying, unloading, navigating, navigated_result, wait_in}
-use Rattle.bidi_browser.specs.Outcome.{outcome}
-use Rattle.bidi_browser.specs.ContextRows.{ContextRow, row_at, occurrence_in, realm_began_in, navigation_info_in}
+use Rattle.bidi_contexts.specs.Outcome.{outcome}
+use Rattle.bidi_contexts.specs.ContextRows.{ContextRow, row_at, occurrence_in, realm_began_in, navigation_info_in}
 use Rattle.bidi_browser.specs.Navigations.{navigation_events, before_reply, IsTold}
-use Rattle.bidi_browser.specs.Plans.{Plans, AreWell}
-use Rattle.bidi_browser.specs.View.{occurrence_of, seen, result_tree}
-use Rattle.bidi_browser.proofs.BirthLemmas.{same-number}
+use Rattle.bidi_browser.specs.Plans.{Plans}
+use Rattle.bidi_contexts.specs.View.{AreWell}
+use Rattle.bidi_contexts.specs.View.{occurrence_of, seen}
+use Rattle.bidi_browser.specs.View.{result_tree}
+use Rattle.bidi_contexts.proofs.BirthLemmas.{same-number}
 
 -- ---- where it leads
 

@@ -1,12 +1,10 @@
 -- Why a plan in hand is that of the definitions.
 use Rattle.std.proofs.Common.{◌≡◌, ◌∙◌, ◌≤◌, ◌+◌, ℕ, suc, Bool, true, false, List, [], ◌∷◌, ◌++◌}
-use Rattle.std.proofs.Common.{append-nil, cond, map, filter, Option, Some, None, Result, Ok, Err, unwrap_or, refl, sym, ap, ap₂, subst, arith}
-use Rattle.std.specs.Prelude.{◌==◌, flat_map, not, find, nat_lt, if◌then◌else◌, is_none, is_some, Vec, option_map, option_to_list, IfSome, IfOk, IfErr}
+use Rattle.std.proofs.Common.{map, Option, Some, None, Result, Ok, Err, unwrap_or, refl, sym, ap, ap₂, subst, arith}
+use Rattle.std.specs.Prelude.{not, find, nat_lt, if◌then◌else◌, is_none, is_some, Vec, option_map, option_to_list, IfSome, IfOk, IfErr}
 use Rattle.std.specs.Borrow.{Bor}
 use Rattle.std.specs.Result.{IsErrAnd}
 use Rattle.std.specs.declared.alloc.Global.{Global}
-use Rattle.std.proofs.lemmas.Bool.Decides.{Decides-eqb}
-use Rattle.std.proofs.lemmas.List.{append_assoc}
 use Rattle.std.proofs.lemmas.Simd.{map-map}
 use Rattle.url.specs.Parts.{Parts}
 use Rattle.bidi_tree.specs.Node.{Node, levels, items_levels}
@@ -14,34 +12,35 @@ use Rattle.bidi_tree.specs.View.{items_of}
 use Rattle.bidi_methods.specs.declared.result_data.ResultData.{ResultData}
 use Rattle.bidi_params.specs.declared.error_code.ErrorCode.TheVariants.{NoSuchFrame}
 use Rattle.bidi_methods.specs.contracts.result_data.ResultDataPayloadMethod.TheImpl as results
-use Rattle.bidi_values.specs.declared.log_entry.Level.{Level}
+use Rattle.bidi_scripts.specs.declared.log_entry.Level.{Level}
 use Rattle.bidi_handles.specs.declared.refusal.Refusal.{Refusal}
 use Rattle.bidi_handles.specs.declared.refusal.Refusal.TheVariants.{Code, NoMemory}
-use Rattle.bidi_browser.specs.declared.occurrence.Occurrence as in_hand
-use Rattle.bidi_browser.specs.declared.context.Context as declared_context
+use Rattle.bidi_contexts.specs.declared.occurrence.Occurrence as in_hand
+use Rattle.bidi_contexts.specs.declared.context.Context as declared_context
 use Rattle.bidi_browser.specs.declared.plan.Plan.{Plan}
 use Rattle.bidi_browser.specs.declared.plan.Edit.TheVariants.{Keep}
 use Rattle.bidi_handles.specs.declared.id.IdKind.TheVariants.{Context, Realm, Window}
-use Rattle.bidi_browser.specs.Urls.{about_blank, parsed}
-use Rattle.bidi_browser.specs.Acts.{Act, Made, Framed, Tabled, Logged, Looked, next_number}
-use Rattle.bidi_browser.specs.Places.{begun_at}
-use Rattle.bidi_browser.specs.Accepted.{AreAccepted}
-use Rattle.bidi_browser.specs.Actions.{Action, Log, TableRow, is_asked}
+use Rattle.bidi_contexts.specs.Urls.{about_blank, parsed}
+use Rattle.bidi_contexts.specs.Acts.{Act, Made, Framed, Tabled, Logged, Looked, next_number}
+use Rattle.bidi_contexts.specs.Places.{begun_at}
+use Rattle.bidi_contexts.specs.Accepted.{AreAccepted}
+use Rattle.bidi_contexts.specs.Actions.{Action, Log, TableRow, is_asked}
 use Rattle.bidi_browser.specs.Found.{AreTold}
 use Rattle.bidi_handles.specs.Maps.{nothing}
-use Rattle.bidi_browser.specs.Contexts.{parent_of, top_of, level_of, window_of, user_of, contexts, context_of, tops, children_of, subtree_of, tree_order}
+use Rattle.bidi_contexts.specs.Contexts.{parent_of, top_of, level_of, window_of, user_of, contexts, context_of, tops}
 use Rattle.bidi_handles.specs.Checks.{found}
-use Rattle.bidi_browser.specs.Outcome.{outcome, context_named, looked, looked_at, has_room, frame_outcome, log_outcome, oldest_window, row_in, row_checked}
-use Rattle.bidi_browser.specs.Occurrences.{Occurrence, realm_info, realm_destroyed, context_destroyed, removal, tree_events}
+use Rattle.bidi_contexts.specs.Limits.{lowest_level}
+use Rattle.bidi_contexts.specs.Outcome.{outcome, context_named, looked, looked_at, has_room, frame_outcome, log_outcome, oldest_window, row_in, row_checked}
+use Rattle.bidi_contexts.specs.Occurrences.{Occurrence, realm_info, removal}
 use Rattle.bidi_browser.specs.Occurs.{Happens, Replies, roots, realm_holders, birth, occurs}
-use Rattle.bidi_browser.specs.ContextRows.{ContextRow, row_of, row_at, realm_info_in, created_in, realm_created_in, realm_destroyed_in, entry_added_in}
+use Rattle.bidi_contexts.specs.ContextRows.{ContextRow, row_of, row_at, realm_info_in, created_in, realm_created_in, entry_added_in}
 use Rattle.bidi_handles.specs.Params.{text_at}
-use Rattle.bidi_browser.specs.Plans.{Plans, Makes, AreWell, IsWellResult, IsWellTold, reply_in, leaves_tables}
-use Rattle.bidi_browser.specs.View.{seen, result_tree}
-use Rattle.bidi_browser.proofs.BirthLemmas.{row-made, row-framed}
-use Rattle.bidi_browser.proofs.MemberLemmas.{fails}
-use Rattle.bidi_browser.proofs.RowLemmas.{oldest-window, created-stand, realms-stand, realms_gone-stand}
-use Rattle.bidi_browser.proofs.TreeLemmas.{subtree-parts}
+use Rattle.bidi_browser.specs.Plans.{Plans, Makes, IsWellResult, IsWellTold, reply_in, leaves_tables}
+use Rattle.bidi_contexts.specs.View.{AreWell}
+use Rattle.bidi_contexts.specs.View.{seen}
+use Rattle.bidi_browser.specs.View.{result_tree}
+use Rattle.bidi_contexts.proofs.BirthLemmas.{row-made, row-framed}
+use Rattle.bidi_contexts.proofs.RowLemmas.{oldest-window}
 
 -- ---- what only looks
 
@@ -137,7 +136,7 @@ told-well plan r before reply after well = record {
 
 -- the checks of a frame
 pub frame-passes : (past : List Act) (id address : List ℕ) (p : ℕ) (url : Parts)
-    → context_named past id ≡ Ok p → parsed address ≡ Some url → has_room past ≡ true → nat_lt (level_of past p) 16 ≡ true
+    → context_named past id ≡ Ok p → parsed address ≡ Some url → has_room past ≡ true → nat_lt (level_of past p) lowest_level ≡ true
     → frame_outcome past id address ≡ Ok (Framed p url)
 frame-passes past id address p url named read room high = rw (named, read, room, high) refl
 
@@ -247,7 +246,7 @@ framed-row past p url parent row number realm accepted n r is made =
 -- ---- windows
 
 -- the window of the oldest top-level context in hand
-pub window-stands : (past : List Act) (o : Option (Bor declared_context.Context)) (window : Option ℕ) → window ≡ option_map (λ c. c.now.window) o
+pub window-stands : (past : List Act) (o : Option (Bor declared_context.Context)) (window : Option ℕ) → window ≡ option_map (λ c. (row_of c.now).window) o
     → option_map (λ c. row_of c.now) o ≡ option_map (row_at past) (find (λ c. is_none (parent_of past c)) (contexts past))
     → window ≡ oldest_window past (tops past)
 window-stands past o window is found =
@@ -255,23 +254,13 @@ window-stands past o window is found =
     ∙ (window-at (find (λ c. is_none (parent_of past c)) (contexts past)) ∙ sym (oldest-window past))))
   where
     window-rows : (o : Option (Bor declared_context.Context))
-        → option_map (λ c. c.now.window) o ≡ option_map (λ (r : ContextRow). r.window) (option_map (λ c. row_of c.now) o)
+        → option_map (λ c. (row_of c.now).window) o ≡ option_map (λ (r : ContextRow). r.window) (option_map (λ c. row_of c.now) o)
     window-rows None = refl
     window-rows (Some c) = refl
 
     window-at : (o : Option ℕ) → option_map (λ (r : ContextRow). r.window) (option_map (row_at past) o) ≡ option_map (window_of past) o
     window-at None = refl
     window-at (Some c) = refl
-
--- ---- several contexts
-
--- each context, then each realm, tells of the whole tree
-pub events-told : (past : List Act) (first second : List ContextRow) (none some all : List Occurrence)
-    → first ≡ map (row_at past) (tree_order past) → second ≡ map (row_at past) (tree_order past) → none ≡ []
-    → some ≡ none ++ map created_in first → all ≡ some ++ map realm_created_in second → all ≡ tree_events past
-events-told past first second none some all one two empty came realms =
-    realms ∙ ap₂ (λ xs ys. xs ++ ys) (came ∙ (ap₂ (λ xs rs. xs ++ map created_in rs) empty one ∙ created-stand past (tree_order past)))
-    (ap (map realm_created_in) two ∙ realms-stand past (tree_order past))
 
 -- ---- removals
 
@@ -280,51 +269,6 @@ pub asked-removal : (gone : List Occurrence) (before after : List in_hand.Occurr
     → seen before ≡ gone → reply_in reply ≡ Replies nothing ∷ [] → after ≡ []
     → map Happens (seen before) ++ (reply_in reply ++ map Happens (seen after)) ≡ map Happens gone ++ Replies nothing ∷ []
 asked-removal gone before after reply told replied none = ap₂ (λ os xs. map Happens os ++ xs) told (ap₂ (λ xs os. xs ++ map Happens (seen os)) replied none)
-
--- what is told of a context, where it goes with a user context
-abbrev pub removal_with : List Act → ℕ → ℕ → List Occurrence
-removal_with past u c = if user_of past c == u then removal past c else []
-
--- of several, what is told of those that go
-pub removals-with : (past : List Act) (u : ℕ) (cs : List ℕ) → flat_map (removal_with past u) cs ≡ flat_map (removal past) (filter (λ c. user_of past c == u) cs)
-removals-with past u [] = refl
-removals-with past u (c ∷ cs) = step (user_of past c == u) (removals-with past u cs)
-  where
-    rest : List ℕ
-    rest = filter (λ c. user_of past c == u) cs
-
-    step : (b : Bool) → flat_map (removal_with past u) cs ≡ flat_map (removal past) rest
-        → (if b then removal past c else []) ++ flat_map (removal_with past u) cs ≡ flat_map (removal past) (cond b (c ∷ rest) rest)
-    step true ih = ap (λ xs. removal past c ++ xs) ih
-    step false ih = ih
-
--- behind what was told, that of one that goes
-pub removal-gone : (past : List Act) (u c : ℕ) (row : ContextRow) (told after : List Occurrence)
-    → row ≡ row_at past c → row.user ≡ u → after ≡ told ++ removal past c → after ≡ told ++ removal_with past u c
-removal-gone past u c row told after is same made =
-    made ∙ ap (λ t. told ++ (if t then removal past c else [])) (sym ((Decides-eqb (user_of past c) u).1 (sym (ap (λ (r : ContextRow). r.user) is) ∙ same)))
-
--- and nothing of one that stays
-pub removal-stays : (past : List Act) (u c : ℕ) (row : ContextRow) (told after : List Occurrence)
-    → row ≡ row_at past c → (row.user ≡ u → ⊥) → after ≡ told → after ≡ told ++ removal_with past u c
-removal-stays past u c row told after is other made =
-    let stays = fails (user_of past c == u) (λ e. absurd (other (ap (λ (r : ContextRow). r.user) is ∙ (Decides-eqb (user_of past c) u).0 e))) in
-    made ∙ (sym (append-nil told) ∙ ap (λ t. told ++ (if t then removal past c else [])) (sym stays))
-
--- behind what was told, the realm of a context, those of all below it, then the context
-pub removal-told : (past : List Act) (c : ℕ) → AreAccepted past → (rows : List ContextRow) (before first realms all : List Occurrence) (realm last : Occurrence)
-    → rows ≡ map (row_at past) (flat_map (subtree_of past) (children_of past c)) → realm ≡ realm_destroyed past c → first ≡ before ++ realm ∷ []
-    → realms ≡ first ++ map realm_destroyed_in rows → all ≡ realms ++ last ∷ [] → last ≡ context_destroyed past c → all ≡ before ++ removal past c
-removal-told past c acc rows before first realms all realm last below one begun gone added is =
-    let inner = flat_map (subtree_of past) (children_of past c) in
-    let ends = map (realm_destroyed past) inner in
-    let whole : realm_destroyed past c ∷ ends ≡ map (realm_destroyed past) (subtree_of past c) = sym (ap (map (realm_destroyed past)) (subtree-parts past acc c)) in
-    added
-    ∙ (ap₂ (λ xs x. xs ++ x ∷ [])
-    (gone ∙ (ap₂ (λ xs ys. xs ++ ys) (begun ∙ ap (λ x. before ++ x ∷ []) one) (ap (map realm_destroyed_in) below ∙ realms_gone-stand past inner)
-    ∙ (append_assoc before (realm_destroyed past c ∷ []) ends ∙ ap (λ xs. before ++ xs) whole)))
-    is
-    ∙ append_assoc before (map (realm_destroyed past) (subtree_of past c)) (context_destroyed past c ∷ []))
 
 -- ---- the log
 

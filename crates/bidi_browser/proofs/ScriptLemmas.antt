@@ -3,8 +3,8 @@ use Rattle.std.proofs.Common.{◌≡◌, ◌∙◌, ℕ, Bool, true, false, List
 use Rattle.std.specs.Prelude.{find, option_map}
 use Rattle.std.specs.Borrow.{Bor}
 use Rattle.bidi_params.specs.declared.error_code.ErrorCode.TheVariants.{NoSuchFrame}
-use Rattle.bidi_browser.specs.declared.context.Context.{Context}
-use Rattle.bidi_browser.specs.Acts.{Act}
+use Rattle.bidi_contexts.specs.declared.context.Context.{Context}
+use Rattle.bidi_contexts.specs.Acts.{Act}
 use Rattle.bidi_handles.specs.Checks.{found}
 use Rattle.std.specs.Prelude.{map, filter, bytes_eq, ◌∷◌, Vec}
 use Rattle.std.specs.declared.alloc.Global.{Global}
@@ -13,32 +13,32 @@ use Rattle.bidi_methods.specs.declared.result_data.ResultData.{ResultData}
 use Rattle.bidi_handles.specs.declared.id.IdKind.TheVariants as kind
 use Rattle.bidi_browser.specs.declared.plan.Plan.{Plan}
 use Rattle.bidi_browser.specs.declared.plan.Edit.TheVariants.{Disown}
-use Rattle.bidi_browser.specs.Acts.{Disowned, given}
-use Rattle.bidi_browser.specs.Actions.{Action, ContextTarget, is_asked}
+use Rattle.bidi_contexts.specs.Acts.{Disowned, given}
+use Rattle.bidi_contexts.specs.Actions.{Action, ContextTarget, is_asked}
 use Rattle.std.specs.Prelude.{◌&&◌, nat_lt, length}
 use Rattle.std.proofs.Common.{ap₂}
 use Rattle.bidi_tree.specs.Node.{Node}
 use Rattle.bidi_browser.specs.declared.plan.Edit.TheVariants.{Keep}
-use Rattle.bidi_browser.specs.Acts.{Ran, Ending, Returned, Threw, next_number}
+use Rattle.bidi_contexts.specs.Acts.{Ran, Ending, Returned, Threw, next_number}
 use Rattle.bidi_browser.specs.Occurs.{script_result}
-use Rattle.bidi_browser.specs.Outcome.{ending_outcome}
+use Rattle.bidi_contexts.specs.Outcome.{ending_outcome}
 use Rattle.bidi_browser.specs.Plans.{EditMakes}
-use Rattle.bidi_browser.specs.Realms.{value_of}
+use Rattle.bidi_contexts.specs.Realms.{value_of}
 use Rattle.bidi_browser.specs.Runs.{result_told}
 use Rattle.bidi_values.specs.Cut.{cut_to}
 use Rattle.bidi_handles.specs.Values.{takes_handle, shown_as}
-use Rattle.bidi_browser.specs.Contexts.{contexts, is_alive, up_to}
+use Rattle.bidi_contexts.specs.Contexts.{contexts, is_alive, up_to}
 use Rattle.bidi_browser.specs.Occurs.{Replies, occurs}
-use Rattle.bidi_browser.specs.Outcome.{context_named, realm_targeted, outcome}
+use Rattle.bidi_contexts.specs.Outcome.{context_named, realm_targeted, outcome}
 use Rattle.bidi_browser.specs.Plans.{Plans}
 use Rattle.bidi_browser.specs.View.{result_tree}
-use Rattle.bidi_browser.proofs.AcceptedLemmas.{find-passes, named-alive}
-use Rattle.bidi_browser.specs.ContextRows as rows
-use Rattle.bidi_browser.specs.ContextRows.{row_at}
+use Rattle.bidi_contexts.proofs.AcceptedLemmas.{find-passes, named-alive}
+use Rattle.bidi_contexts.specs.ContextRows as rows
+use Rattle.bidi_contexts.specs.ContextRows.{row_at}
 use Rattle.bidi_browser.specs.Found.{IsTargeted}
 use Rattle.bidi_handles.specs.Ids.{has_id}
-use Rattle.bidi_browser.specs.Realms.{realm_of, realms, handles_of}
-use Rattle.bidi_browser.proofs.RowLemmas.{realm-found}
+use Rattle.bidi_contexts.specs.Realms.{realm_of, realms, handles_of}
+use Rattle.bidi_contexts.proofs.RowLemmas.{realm-found}
 
 -- the context in hand whose realm passes, where there is one
 pub realm-targeted : (past : List Act) (p : ℕ → Bool) (o : Option (Bor Context))

@@ -4,8 +4,8 @@ use Rattle.std.proofs.Common.{Some, None, Result, Ok, Err, String, Global, IfOk,
 use Rattle.std.specs.Prelude.{if◌then◌else◌, is_some, option_map, IsOk, OnOk}
 use Rattle.std.specs.String.{string_eq}
 use Rattle.std.specs.HashMap.{HashMap, get, hash_map_len, Updates}
-use Rattle.bidi_browser.specs.Acts.{Act, Tabled, ScriptEffect}
-use Rattle.bidi_browser.specs.Realms.{row_of, tabled_texts}
+use Rattle.bidi_contexts.specs.Acts.{Act, Tabled, ScriptEffect}
+use Rattle.bidi_contexts.specs.Realms.{row_of, tabled_texts}
 
 -- what an insert does that succeeds
 pub inserted : {R S E : Type 0} (m n : HashMap (String Global) R S) (key : String Global) (row : R) (r : Result (Option R) E)

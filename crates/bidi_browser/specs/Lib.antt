@@ -1,19 +1,5 @@
-pub mod Urls
-pub mod Acts
-pub mod Contexts
-pub mod Users
-pub mod Places
-pub mod Realms
-pub mod Actions
-pub mod Info
-pub mod Occurrences
-pub mod Outcome
-pub mod Accepted
 pub mod Occurs
 pub mod View
-pub mod HistoryInHand
-pub mod ContextRows
-pub mod InfosInHand
 pub mod Found
 pub mod TableInHand
 pub mod Asked
@@ -21,4 +7,3 @@ pub mod Navigations
 pub mod Plans
 pub mod Runs
 pub mod Stands
-pub mod Subtrees

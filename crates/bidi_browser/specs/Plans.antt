@@ -1,69 +1,37 @@
--- What a plan in hand is: what it tells, and what its change makes of the tables.
-use Rattle.std.specs.Prelude.{◌≡◌, ◌≤◌, ◌<◌, ◌^◌, ◌==◌, ℕ, Bool, true, false, not, List, [], ◌∷◌, ◌++◌, map, filter, get_or}
-use Rattle.std.specs.Prelude.{Option, Some, None, Result, Ok, Err, is_some, IfSome, ⊤, string_bytes, vec_len, vec_capacity}
-use Rattle.std.specs.List.{AllByRecursion, position}
+-- What a plan that the code has reports, and how its change of the tables corresponds to an act.
+use Rattle.std.specs.Prelude.{◌≡◌, ◌≤◌, ℕ, Bool, true, false, not, List, [], ◌∷◌, ◌++◌, map, filter}
+use Rattle.std.specs.Prelude.{Option, Some, None, Result, Ok, Err, is_some, IfSome, ⊤, string_bytes}
 use Rattle.bidi_tree.specs.Node.{levels}
 use Rattle.bidi_methods.specs.declared.method.Method.{Method}
 use Rattle.bidi_methods.specs.declared.result_data.ResultData.{ResultData}
 use Rattle.bidi_methods.specs.contracts.event_data.EventDataPayloadEventName.TheImpl as events
 use Rattle.bidi_methods.specs.contracts.result_data.ResultDataPayloadMethod.TheImpl as results
-use Rattle.bidi_handles.specs.declared.id.IdKind.{IdKind}
-use Rattle.bidi_handles.specs.declared.id.IdKind.TheVariants.{Context, Realm, Handle, Window}
+use Rattle.bidi_handles.specs.declared.id.IdKind.TheVariants.{Context, Handle, Window}
 use Rattle.bidi_browser.specs.declared.browser.Browser.{Browser}
-use Rattle.bidi_browser.specs.declared.contexts.Contexts.{Contexts}
-use Rattle.bidi_browser.specs.declared.users.Users.{Users}
-use Rattle.bidi_browser.specs.declared.context.Context as declared_context
-use Rattle.bidi_browser.specs.declared.occurrence.Occurrence.{Occurrence}
-use Rattle.bidi_browser.specs.declared.session_history.Move.{Move}
 use Rattle.bidi_browser.specs.declared.plan.Plan.{Plan}
-use Rattle.bidi_browser.specs.declared.plan.Navigation.{Navigation}
 use Rattle.bidi_browser.specs.declared.plan.Change.{Change}
 use Rattle.bidi_browser.specs.declared.plan.Edit.{Edit}
 use Rattle.bidi_browser.specs.declared.plan.Edit.TheVariants.{Keep, Add, Remove, Navigate, SetRow, Hold, Disown, AddUser, RemoveUser}
 use Rattle.bidi_handles.specs.declared.refusal.Refusal.{Refusal}
 use Rattle.bidi_handles.specs.declared.refusal.Refusal.TheVariants.{Code, NoMemory}
-use Rattle.bidi_browser.specs.Acts.{Act, Removed, Moved, Tabled, Ran, Disowned, UserMade, UserRemoved, Logged, Looked, Ending, gives, next_number}
-use Rattle.bidi_handles.specs.Handles.{HasSpare}
+use Rattle.bidi_contexts.specs.Acts.{Act, Removed, Moved, Tabled, Ran, Disowned, UserMade, UserRemoved, Logged, Looked, Ending, gives, next_number}
 use Rattle.bidi_handles.specs.Ids.{has_id}
-use Rattle.bidi_browser.specs.Realms.{realm_of, value_of, handles_of}
+use Rattle.bidi_contexts.specs.Realms.{realm_of, value_of, handles_of}
 use Rattle.bidi_handles.specs.ValuesInHand.{handle_seen}
-use Rattle.bidi_browser.specs.Contexts.{is_alive}
-use Rattle.bidi_browser.specs.Actions.{Action, is_asked}
-use Rattle.bidi_browser.specs.Outcome.{outcome}
+use Rattle.bidi_contexts.specs.Contexts.{is_alive}
+use Rattle.bidi_contexts.specs.Actions.{Action, is_asked}
+use Rattle.bidi_contexts.specs.Outcome.{outcome}
 use Rattle.bidi_browser.specs.Occurs.{Item, Happens, Replies, occurs}
-use Rattle.bidi_browser.specs.Places.{entries_of}
-use Rattle.bidi_browser.specs.ContextRows.{row_of, row_at}
-use Rattle.bidi_browser.specs.HistoryInHand.{move_of, Leads, HasRoomFor}
+use Rattle.bidi_contexts.specs.ContextRows.{row_of, row_at}
+use Rattle.bidi_contexts.specs.HistoryInHand.{move_of}
 use Rattle.bidi_browser.specs.TableInHand.{row_seen, HasRoomForRow}
-use Rattle.bidi_browser.specs.View.{seen, result_tree}
+use Rattle.bidi_contexts.specs.Tables.{HasRoomForOne, HasRoomIn, HasRoomForHandle, HasRoomForUser, IsNavigation}
+use Rattle.bidi_contexts.specs.View.{AreWell, seen}
+use Rattle.bidi_browser.specs.View.{result_tree}
 
--- ---- ids and room
+-- ---- room
 
--- the next thing of each kind gets a number that an id can show
-abbrev pub HasIds : List Act → Type 0
-HasIds past = (kind : IdKind) → next_number past kind < 2 ^ 48
-
--- there is room for one more context
-abbrev pub HasRoomForOne : Contexts → Type 0
-HasRoomForOne contexts = vec_len contexts.live < vec_capacity contexts.live
-
--- there is room for what a move adds to the session history of the context of that number, where it is there
-abbrev pub HasRoomIn : Contexts → ℕ → Move → Type 0
-HasRoomIn contexts number move =
-    (i : ℕ) (d : declared_context.Context)
-    → position (λ c. c.number == number) contexts.live.items ≡ Some i → HasRoomFor (get_or contexts.live.items i d).history move
-
--- there is room for one more handle in the realm of the context of that number, where it is there
-abbrev pub HasRoomForHandle : Contexts → ℕ → Type 0
-HasRoomForHandle contexts number =
-    (i : ℕ) (d : declared_context.Context)
-    → position (λ c. c.number == number) contexts.live.items ≡ Some i → HasSpare (get_or contexts.live.items i d).handles
-
--- there is room for one more user context
-abbrev pub HasRoomForUser : Users → Type 0
-HasRoomForUser users = vec_len users.live < vec_capacity users.live
-
--- and for what a change puts in
+-- The tables have room for what the edit adds.
 abbrev pub EditHasRoom : Browser → Edit → Type 0
 EditHasRoom browser (Add context opens_window) = HasRoomForOne browser.contexts
 EditHasRoom browser (Navigate n) = HasRoomIn browser.contexts n.context n.to
@@ -72,29 +40,26 @@ EditHasRoom browser (Hold number handle) = HasRoomForHandle browser.contexts num
 EditHasRoom browser AddUser = HasRoomForUser browser.users
 EditHasRoom browser edit = ⊤
 
+-- The tables have room for what the change adds.
 abbrev pub HasRoom : Browser → Change → Type 0
 HasRoom browser change = EditHasRoom browser change.edit
 
 -- ---- what a plan tells
 
--- the reply, where somebody asked
+-- The reply, if a client asked for one.
 abbrev pub reply_in : Option ResultData → List Item
 reply_in None = []
 reply_in (Some r) = Replies (result_tree r) ∷ []
 
--- the events, with the reply in its place
+-- The events of a plan, with the reply in its place.
 abbrev pub items_in : Plan → List Item
 items_in p = map Happens (seen p.before.items) ++ (reply_in p.result ++ map Happens (seen p.after.items))
 
--- events of which a message can be made
-abbrev pub AreWell : List Occurrence → Type 0
-AreWell os = AllByRecursion (λ o. events.ghosts.payload.well o.event) os
-
--- a result of which a message can be made: a response holds members of at most 60 levels, so a result has at most 61
+-- A response can be made of the result: it is well formed and has at most 61 levels, since the members of a response have at most 60.
 abbrev pub IsWellResult : ResultData → Type 0
 IsWellResult r = results.ghosts.payload.well r × (levels (result_tree r) ≤ 61)
 
--- a message can be made of each event and of the result
+-- A message can be made of each event and of the result.
 pub record IsWellTold (p : Plan) : Type 0 where
   pub before : AreWell p.before.items
   pub result : IfSome p.result IsWellResult
@@ -102,19 +67,14 @@ pub record IsWellTold (p : Plan) : Type 0 where
 
 -- ---- what a plan changes
 
--- the act leaves the tables as they are
+-- The act leaves the tables as they are.
 abbrev pub leaves_tables : Act → Bool
 leaves_tables Looked = true
 leaves_tables (Logged c level text) = true
 leaves_tables (Ran r ending held) = not held
 leaves_tables act = false
 
--- a navigation in hand is that of the past: its realm is the next, and an entry stands where it leads or comes with it
-pub record IsNavigation (n : Navigation) (past : List Act) : Type 0 where
-  pub realm : n.realm ≡ next_number past Realm
-  pub leads : Leads (entries_of past n.context) (move_of n.to)
-
--- what an edit makes of the tables, an act makes of the past
+-- Applying the edit to the tables corresponds to adding the act to the past.
 abbrev pub EditMakes : Edit → List Act → Act → Type 0
 EditMakes Keep past act = leaves_tables act ≡ true
 EditMakes (Add context opens_window) past act =
@@ -131,12 +91,14 @@ EditMakes AddUser past act = act ≡ UserMade
 EditMakes (RemoveUser number) past act = act ≡ UserRemoved number
 EditMakes (SetRow script row) past act = act ≡ Tabled (string_bytes script) (row_seen row)
 
+-- Applying the change to the tables corresponds to adding the act to the past.
 abbrev pub Makes : Change → List Act → Act → Type 0
 Makes change past act = EditMakes change.edit past act
 
 -- ---- what a plan is
 
--- the act of an action, all that it brings about, with a reply where somebody asked, and the change that it makes; or the code of the check that fails. Behind no reply stands nothing.
+-- The plan has what the act of the action causes, a reply if a client asked for one, and the change that the act makes; or the code is that of
+-- the check that fails. Without a reply no event comes after it.
 abbrev pub Plans : Result Plan Refusal → List Act → ℕ → Action → Type 0
 Plans (Ok plan) past moment action =
     (act : Act) × (outcome past action ≡ Ok act)
@@ -145,12 +107,12 @@ Plans (Ok plan) past moment action =
 Plans (Err (Code code)) past moment action = outcome past action ≡ Err code
 Plans (Err NoMemory) past moment action = ⊤
 
--- where there is a plan, it is told well
+-- If there is a plan, a message can be made of each of its events and of its result.
 abbrev pub IsWellPlanned : Result Plan Refusal → Type 0
 IsWellPlanned (Ok plan) = IsWellTold plan
 IsWellPlanned (Err refusal) = ⊤
 
--- the result of a plan, where somebody asked, is of that method
+-- If the plan has a result, it is of the method.
 abbrev pub HasResultOf : Method → Result Plan Refusal → Type 0
 HasResultOf method (Ok plan) = IfSome plan.result (λ r. results.ghosts.payload.kind r ≡ method)
 HasResultOf method (Err refusal) = ⊤

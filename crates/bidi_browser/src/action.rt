@@ -1,6 +1,6 @@
 //! What the browser is asked to do.
 use bidi_methods::BrowserCommand;
-use bidi_values::{Level, TableRow};
+use bidi_scripts::{Level, TableRow};
 
 /// What the browser is asked to do: a command, or a step of a page.
 ///

@@ -1,35 +1,34 @@
 //! Plans of the actions that add a context: `browsingContext.create`, and a frame that a page adds; and of `browser.createUserContext`.
-ghost use Rattle.std.specs.Prelude.{◌≡◌, ◌≤◌, ◌<◌, ◌^◌, ℕ, List, Option, [], ◌∷◌, IfOk, IfSome, codes, option_map, string_bytes, unwrap_or};
+ghost use Rattle.std.specs.Prelude.{◌≡◌, ◌<◌, ◌^◌, ℕ, List, Option, [], ◌∷◌, IfOk, IfSome, codes, option_map, string_bytes, unwrap_or};
 ghost use Rattle.std.proofs.Props.{props};
 ghost use Rattle.bidi_tree.specs.Node.{no_members};
-ghost use Rattle.bidi_browser.specs.Acts.{Act, Made};
-ghost use Rattle.bidi_browser.specs.Actions.{CreateUserContext, Frame};
+ghost use Rattle.bidi_contexts.specs.Acts.{Act, Made};
+ghost use Rattle.bidi_contexts.specs.Actions.{CreateUserContext, Frame};
 ghost use Rattle.bidi_browser.specs.Asked.{create_asked, create_type_of};
-ghost use Rattle.bidi_browser.specs.ContextRows.{row_of, row_at, created_in, realm_created_in};
-ghost use Rattle.bidi_browser.specs.Contexts.{tops};
+ghost use Rattle.bidi_contexts.specs.ContextRows.{row_of, row_at, created_in, realm_created_in};
+ghost use Rattle.bidi_contexts.specs.Contexts.{tops};
 ghost use Rattle.bidi_browser.specs.Found.{IsChecked};
 ghost use Rattle.bidi_handles.specs.Maps.{◌being◌and◌, mapped, id_tree};
-ghost use Rattle.bidi_browser.specs.Outcome.{create_outcome, oldest_window, user_checked, window_for};
-ghost use Rattle.bidi_browser.specs.Plans.{AreWell, HasIds, Plans, HasResultOf, IsWellPlanned, IsWellResult};
-ghost use Rattle.bidi_browser.specs.Stands.{AreUsersOf, IsTableOf, StandsFor};
-ghost use Rattle.bidi_browser.specs.View.{result_method, result_tree, seen};
+ghost use Rattle.bidi_contexts.specs.Outcome.{create_outcome, oldest_window, user_checked, window_for};
+ghost use Rattle.bidi_contexts.specs.View.{AreWell};
+ghost use Rattle.bidi_contexts.specs.Tables.{HasIds};
+ghost use Rattle.bidi_browser.specs.Plans.{Plans, HasResultOf, IsWellPlanned, IsWellResult};
+ghost use Rattle.bidi_contexts.specs.Tables.{AreUsersOf, IsTableOf};
+ghost use Rattle.bidi_browser.specs.Stands.{StandsFor};
+ghost use Rattle.bidi_browser.specs.View.{result_method, result_tree};
+ghost use Rattle.bidi_contexts.specs.View.{seen};
 
 use crate::browser::Browser;
-use crate::context::Context;
-use crate::contexts::Contexts;
 use crate::looking::{answered, context_named, top_if_named};
-use crate::occurrence::Occurrence;
 use crate::plan::{Change, Edit, Plan};
-use crate::urls::parsed;
-use crate::users::{DEFAULT, Users, user_info};
+use bidi_contexts::{
+    Context, Contexts, DEFAULT_USER, LOWEST_LEVEL, Occurrence, Users, parsed, user_info,
+};
 use bidi_handles::{IdKind, Refusal, id_text};
 use bidi_methods::{Method, Payload, ResultData};
 use bidi_params::{ContextType, CreateParameters, CreateResult, ErrorCode};
 use bidi_shape::Ext;
 use std::alloc::{AllocError, Global};
-
-/// The deepest level of a context. A top-level context is at level 1.
-const LOWEST_LEVEL: u64 = 16;
 
 /// Plans a new top-level context at `about:blank`.
 ///
@@ -55,7 +54,7 @@ pub(crate) fn plan_create(browser: &Browser, params: &CreateParameters) -> Resul
         browser.next_realm,
     )?;
     let before = births(browser.alloc, &context)?;
-    let result = created(browser.alloc, context.number)?;
+    let result = created(browser.alloc, context.number())?;
     Ok(Plan {
         before,
         result: Some(result),
@@ -106,7 +105,7 @@ fn user_checked(users: &Users, id: &Option<String>) -> Result<u64, ErrorCode>
 {
     match id {
         Some(id) => users.named(id).ok_or(ErrorCode::NoSuchUserContext),
-        None => Ok(DEFAULT),
+        None => Ok(DEFAULT_USER),
     }
 }
 
@@ -121,7 +120,7 @@ fn window_for(contexts: &Contexts, kind: ContextType, reference: Option<&Context
     match kind {
         ContextType::Window => None,
         ContextType::Tab => match reference {
-            Some(context) => Some(context.window),
+            Some(context) => Some(context.window()),
             None => oldest_window(contexts),
         },
     }
@@ -133,7 +132,7 @@ fn oldest_window(contexts: &Contexts) -> Option<u64>
     ensures fits { IfSome result (λ n. n < 2 ^ 48) }
 {
     match contexts.oldest() {
-        Some(context) => Some(context.window),
+        Some(context) => Some(context.window()),
         None => None,
     }
 }
@@ -152,7 +151,7 @@ pub(crate) fn plan_frame(browser: &Browser, context: &str, url: &str) -> Result<
 {
     let parent = context_named(&browser.contexts, context)?;
     let url = parsed(browser.alloc, url)?;
-    if !browser.has_room() || parent.level >= LOWEST_LEVEL {
+    if !browser.has_room() || parent.level() >= LOWEST_LEVEL {
         return Err(Refusal::Code(ErrorCode::UnknownError));
     }
     let context = parent.child(browser.alloc, browser.next_context, browser.next_realm, url)?;

@@ -1,10 +1,11 @@
 //! The plan of `script.callFunction`.
 ghost use Rattle.std.specs.Prelude.{◌≡◌, ℕ, List, map, option_map, string_bytes};
-ghost use Rattle.bidi_browser.specs.Acts.{Act};
+ghost use Rattle.bidi_contexts.specs.Acts.{Act};
 ghost use Rattle.bidi_browser.specs.Asked.{arguments_asked, call_function_asked};
-ghost use Rattle.bidi_browser.specs.ContextRows.{row_of, row_at};
-ghost use Rattle.bidi_browser.specs.Plans.{HasIds, Plans, HasResultOf, IsWellPlanned};
-ghost use Rattle.bidi_browser.specs.Realms.{realm_of};
+ghost use Rattle.bidi_contexts.specs.ContextRows.{row_of, row_at};
+ghost use Rattle.bidi_contexts.specs.Tables.{HasIds};
+ghost use Rattle.bidi_browser.specs.Plans.{Plans, HasResultOf, IsWellPlanned};
+ghost use Rattle.bidi_contexts.specs.Realms.{realm_of};
 ghost use Rattle.bidi_handles.specs.Resolves.{Gives};
 ghost use Rattle.bidi_browser.specs.Runs.{call_ending};
 ghost use Rattle.bidi_browser.specs.Stands.{StandsFor};
@@ -12,13 +13,14 @@ ghost use Rattle.bidi_browser.specs.TableInHand.{ending_seen};
 ghost use Rattle.bidi_handles.specs.ValuesInHand.{local_tree};
 
 use crate::browser::Browser;
-use crate::context::Context;
 use crate::looking::answered;
 use crate::plan::Plan;
 use crate::scripts::{Ran, ending_of, is_owned, object_depth, run, targeted};
+use bidi_contexts::Context;
 use bidi_handles::{Ending, Refusal, check_arguments, check_this};
 use bidi_methods::{Method, ResultData};
-use bidi_values::{CallFunctionParameters, LocalValue};
+use bidi_scripts::CallFunctionParameters;
+use bidi_values::LocalValue;
 
 /// Plans the call of a function in the realm of a target. The script table has its outcome.
 ///
@@ -61,8 +63,9 @@ fn called(
         (arguments_asked params.now) (option_map local_tree params.now.this)) }
 {
     let values = arguments_of(params);
-    let arguments = check_arguments(browser.alloc, &context.handles, values)?;
-    check_this(browser.alloc, &context.handles, &params.this)?;
+    let held = context.handles();
+    let arguments = check_arguments(browser.alloc, held, values)?;
+    check_this(browser.alloc, held, &params.this)?;
     ending_of(browser, &params.function_declaration, &arguments)
 }
 

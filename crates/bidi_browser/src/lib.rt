@@ -1,5 +1,8 @@
 //! A browser in memory: user contexts, contexts, session histories, realms, and a table of scripts.
 //!
+//! Its contexts and user contexts stand in the tables of `bidi_contexts`; this crate has the table of scripts, and
+//! works out and makes the changes.
+//!
 //! [`Browser::plan`] works out what an [`Action`] does, and changes nothing. It answers with a [`Plan`],
 //! which has the events, the result of the command and a [`Change`], or with a [`Refusal`].
 //! [`Browser::reserve`] then makes room for the change, and [`Browser::apply`] puts it in place without
@@ -15,27 +18,24 @@
 #![tactic(auto)]
 
 mod action;
+mod applying;
 mod births;
 mod browser;
 mod calling;
-mod context;
-mod contexts;
 mod logging;
 mod looking;
 mod navigation;
-mod occurrence;
+mod numbers;
 mod plan;
+mod planning;
 mod removals;
 mod script_table;
 mod scripts;
-mod session_history;
 mod showing;
 mod tabling;
-mod urls;
-mod users;
 
 pub use action::Action;
+pub use bidi_contexts::{Occurrence, Top};
 pub use bidi_handles::{IdKind, Refusal, id_number, id_text};
 pub use browser::Browser;
-pub use occurrence::{Occurrence, Top};
 pub use plan::{Change, Plan};

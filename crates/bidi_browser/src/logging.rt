@@ -1,26 +1,25 @@
 //! The plan of a step that logs a text.
-ghost use Rattle.std.specs.Prelude.{◌≡◌, ℕ, List, [], ◌∷◌, IfOk};
+ghost use Rattle.std.specs.Prelude.{◌≡◌, List, [], ◌∷◌, IfOk};
 ghost use Rattle.bidi_tree.specs.Node.{no_members, text};
-ghost use Rattle.bidi_browser.specs.Acts.{Act};
-ghost use Rattle.bidi_browser.specs.Actions.{Log};
-ghost use Rattle.bidi_browser.specs.ContextRows.{row_of, entry_added_in};
+ghost use Rattle.bidi_contexts.specs.Acts.{Act};
+ghost use Rattle.bidi_contexts.specs.Actions.{Log};
+ghost use Rattle.bidi_contexts.specs.ContextRows.{row_of, entry_added_in};
 ghost use Rattle.bidi_handles.specs.Maps.{◌being◌and◌, mapped, word, id_tree};
-ghost use Rattle.bidi_browser.specs.Occurrences.{console_entry};
-ghost use Rattle.bidi_browser.specs.Plans.{AreWell, Plans, IsWellPlanned};
+ghost use Rattle.bidi_contexts.specs.Occurrences.{console_entry};
+ghost use Rattle.bidi_contexts.specs.View.{AreWell};
+ghost use Rattle.bidi_browser.specs.Plans.{Plans, IsWellPlanned};
 ghost use Rattle.bidi_browser.specs.Stands.{StandsFor};
-ghost use Rattle.bidi_browser.specs.View.{seen};
+ghost use Rattle.bidi_contexts.specs.View.{seen};
 
 use crate::browser::Browser;
-use crate::context::Context;
 use crate::looking::context_named;
-use crate::occurrence::Occurrence;
 use crate::plan::{Change, Edit, Plan};
+use bidi_contexts::{Context, Occurrence};
 use bidi_handles::{IdKind, Refusal, id_text};
+use bidi_scripts::{BaseLogEntry, ConsoleEntry, Level, LogEntry, Source};
 use bidi_shape::{Named, Shape};
 use bidi_tree::JsUint;
-use bidi_values::{
-    BaseLogEntry, ConsoleEntry, Level, LogEntry, Primitive, RemotePlain, RemoteValue, Source,
-};
+use bidi_values::{Primitive, RemotePlain, RemoteValue};
 use std::alloc::{AllocError, Global};
 
 /// Plans a console log entry in a context. The browser makes its event, and keeps nothing of it.
@@ -75,7 +74,7 @@ fn entry(
     text: &str,
 ) -> Result<ConsoleEntry, AllocError>
     ensures tree { IfOk result (λ e. ⟦<ConsoleEntry as Shape>⟧.shape.tree_of e
-        ≡ console_entry moment.value context.now.number context.now.realm level text.now) }
+        ≡ console_entry moment.value (row_of context.now).number (row_of context.now).realm level text.now) }
     ensures well { IfOk result ⟦<ConsoleEntry as Shape>⟧.shape.well }
 {
     let base = BaseLogEntry {
@@ -97,11 +96,11 @@ fn entry(
 // The context as the source of an entry, with its realm.
 fn source(alloc: Global, context: &Context) -> Result<Source, AllocError>
     ensures { IfOk result (λ s. ⟦<Source as Shape>⟧.shape.tree_of s
-        ≡ mapped ("context" being id_tree IdKind.Context context.now.number and "realm" being id_tree IdKind.Realm context.now.realm and no_members)) }
+        ≡ mapped ("context" being id_tree IdKind.Context (row_of context.now).number and "realm" being id_tree IdKind.Realm (row_of context.now).realm and no_members)) }
 {
     Ok(Source {
-        realm: id_text(alloc, IdKind::Realm, 0, context.realm)?,
-        context: Some(id_text(alloc, IdKind::Context, 0, context.number)?),
+        realm: id_text(alloc, IdKind::Realm, 0, context.realm())?,
+        context: Some(id_text(alloc, IdKind::Context, 0, context.number())?),
     })
 }
 

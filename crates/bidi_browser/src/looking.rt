@@ -1,31 +1,30 @@
 //! Look-ups of contexts that refuse with an error code, and plans of the commands that change nothing.
 ghost use Rattle.std.specs.Prelude.{◌≡◌, ℕ, List, [], Some, true, map, if◌then◌else◌, IfOk, option_map, string_bytes};
 ghost use Rattle.std.specs.List.{AllByRecursion};
-ghost use Rattle.bidi_params.specs.Words.{realm_type_text};
-ghost use Rattle.bidi_browser.specs.Acts.{Act};
-ghost use Rattle.bidi_browser.specs.Actions.{Activate, GetUserContexts};
+ghost use Rattle.bidi_scripts.specs.RealmType.{realm_type_text};
+ghost use Rattle.bidi_contexts.specs.Acts.{Act};
+ghost use Rattle.bidi_contexts.specs.Actions.{Activate, GetUserContexts};
 ghost use Rattle.bidi_browser.specs.Asked.{get_realms_asked, get_tree_asked};
-ghost use Rattle.bidi_browser.specs.ContextRows.{row_of, row_at, realm_info_in};
+ghost use Rattle.bidi_contexts.specs.ContextRows.{row_of, row_at, realm_info_in};
 ghost use Rattle.bidi_browser.specs.Found.{AreShown, AreTold, IsFound, IsFoundIfNamed};
-ghost use Rattle.bidi_browser.specs.InfosInHand.{AreWithin};
-ghost use Rattle.bidi_browser.specs.Info.{info_of};
+ghost use Rattle.bidi_contexts.specs.InfosInHand.{AreWithin};
+ghost use Rattle.bidi_contexts.specs.Info.{info_of};
 ghost use Rattle.bidi_handles.specs.Maps.{nothing};
-ghost use Rattle.bidi_browser.specs.Occurrences.{realm_info};
 ghost use Rattle.bidi_browser.specs.Occurs.{realm_holders, roots, takes_windows};
-ghost use Rattle.bidi_browser.specs.Outcome.{context_named, looked_at, top_named, top_if_named};
+ghost use Rattle.bidi_contexts.specs.Outcome.{context_named, looked_at, top_named, top_if_named};
 ghost use Rattle.bidi_browser.specs.Plans.{Plans, HasResultOf, IsWellPlanned};
-ghost use Rattle.bidi_browser.specs.Stands.{IsTableOf, StandsFor};
+ghost use Rattle.bidi_contexts.specs.Tables.{IsTableOf};
+ghost use Rattle.bidi_browser.specs.Stands.{StandsFor};
 
 use crate::browser::Browser;
-use crate::context::Context;
-use crate::contexts::Contexts;
 use crate::plan::{Change, Edit, Plan};
+use bidi_contexts::{Context, Contexts};
 use bidi_handles::Refusal;
 use bidi_methods::{Method, Payload, ResultData};
 use bidi_params::{
-    EmptyResult, ErrorCode, GetRealmsParameters, GetRealmsResult, GetTreeParameters, GetTreeResult,
-    GetUserContextsResult, Info, RealmInfo, RealmType,
+    EmptyResult, ErrorCode, GetTreeParameters, GetTreeResult, GetUserContextsResult, Info,
 };
+use bidi_scripts::{GetRealmsParameters, GetRealmsResult, RealmInfo, RealmType};
 use bidi_shape::{Ext, OneOrMore, Shape};
 use std::alloc::{AllocError, Global};
 use std::slice::from_ref;
@@ -54,7 +53,7 @@ pub(crate) fn top_named<'a>(contexts: &'a Contexts, id: &str) -> Result<&'a Cont
     ensures { (past : List Act) → IsTableOf contexts.now past → IsFound result past (top_named past id.now) }
 {
     let context = context_named(contexts, id)?;
-    if context.parent.is_some() {
+    if !context.is_top() {
         return Err(ErrorCode::InvalidArgument);
     }
     Ok(context)

@@ -1,25 +1,24 @@
 //! Plans of the commands that navigate: `navigate`, `reload` and `traverseHistory`.
 ghost use Rattle.std.specs.Prelude.{◌≡◌, ◌≤◌, ◌<◌, ◌^◌, ℕ, List, Some, IfOk, vec_len};
 ghost use Rattle.bidi_tree.specs.Node.{no_members, text};
-ghost use Rattle.bidi_browser.specs.Acts.{Act, Move as Led};
+ghost use Rattle.bidi_contexts.specs.Acts.{Act, Move as Led};
 ghost use Rattle.bidi_browser.specs.Asked.{navigate_asked, reload_asked, traverse_asked, wait_of};
-ghost use Rattle.bidi_browser.specs.ContextRows.{row_of, row_at};
+ghost use Rattle.bidi_contexts.specs.ContextRows.{row_of, row_at};
 ghost use Rattle.bidi_handles.specs.Maps.{◌being◌and◌, mapped, id_tree};
 ghost use Rattle.bidi_browser.specs.Navigations.{AreNext, navigation_events, before_reply, IsTold};
 ghost use Rattle.bidi_browser.specs.Occurs.{led_to};
-ghost use Rattle.bidi_browser.specs.Plans.{AreWell, HasIds, Plans, HasResultOf, IsWellPlanned};
+ghost use Rattle.bidi_contexts.specs.View.{AreWell};
+ghost use Rattle.bidi_contexts.specs.Tables.{HasIds};
+ghost use Rattle.bidi_browser.specs.Plans.{Plans, HasResultOf, IsWellPlanned};
 ghost use Rattle.bidi_browser.specs.Stands.{StandsFor};
-ghost use Rattle.bidi_browser.specs.Urls.{url_text};
-ghost use Rattle.bidi_browser.specs.View.{seen};
+ghost use Rattle.bidi_contexts.specs.Urls.{url_text};
+ghost use Rattle.bidi_contexts.specs.View.{seen};
 
 use crate::browser::Browser;
-use crate::context::Context;
 use crate::looking::{context_named, nothing, top_named};
-use crate::occurrence::Occurrence;
-use crate::plan::{Change, Edit, Navigation, Numbers, Plan};
-use crate::removals::push_removals;
-use crate::session_history::Move;
-use crate::urls::parsed;
+use crate::numbers::Numbers;
+use crate::plan::{Change, Edit, Plan};
+use bidi_contexts::{Context, Move, Navigation, Occurrence, parsed, push_removals_below};
 use bidi_handles::{IdKind, Refusal, id_text};
 use bidi_methods::{Method, ResultData};
 use bidi_params::{
@@ -60,7 +59,7 @@ pub(crate) fn plan_navigate(
     let result = navigated(browser.alloc, numbers.navigation, &url)?;
     let told = parted_events(browser, numbers, moment, context, &url, params.wait)?;
     let navigation = Navigation {
-        context: context.number,
+        context: context.number(),
         realm: numbers.realm,
         to: Move::To(url),
     };
@@ -88,12 +87,12 @@ pub(crate) fn plan_reload(
     ensures of_method { HasResultOf Method.BrowsingContextReload result }
 {
     let context = context_named(&browser.contexts, &params.context)?;
-    let url = context.history.present();
+    let url = context.history().present();
     let numbers = browser.numbers()?;
     let result = navigated(browser.alloc, numbers.navigation, url)?;
     let told = parted_events(browser, numbers, moment, context, url, params.wait)?;
     let navigation = Navigation {
-        context: context.number,
+        context: context.number(),
         realm: numbers.realm,
         to: Move::Again,
     };
@@ -119,14 +118,14 @@ pub(crate) fn plan_traverse_history(
     ensures of_method { HasResultOf Method.BrowsingContextTraverseHistory result }
 {
     let context = top_named(&browser.contexts, &params.context)?;
-    let Some((place, url)) = context.history.across(params.delta) else {
+    let Some((place, url)) = context.history().across(params.delta) else {
         return Err(Refusal::Code(ErrorCode::NoSuchHistoryEntry));
     };
     let numbers = browser.numbers()?;
     let told = parted_events(browser, numbers, moment, context, url, Some(Wait::Complete))?;
     let result = nothing(browser.alloc);
     let navigation = Navigation {
-        context: context.number,
+        context: context.number(),
         realm: numbers.realm,
         to: Move::Across(place),
     };
@@ -205,7 +204,7 @@ fn events(
     let mut all = Vec::new(browser.alloc);
     let info = context.navigation_info(browser.alloc, moment, numbers.navigation, url)?;
     all.push(context.navigation_started(info))?;
-    push_removals(browser.alloc, browser.contexts.below(context), &mut all)?;
+    push_removals_below(browser.alloc, &browser.contexts, context, &mut all)?;
     all.push(context.realm_destroyed(browser.alloc)?)?;
     all.push(context.realm_began(browser.alloc, numbers.realm, url)?)?;
     let info = context.navigation_info(browser.alloc, moment, numbers.navigation, url)?;

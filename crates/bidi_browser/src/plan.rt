@@ -1,10 +1,6 @@
 //! What an action does, worked out before anything is changed.
-ghost use Rattle.std.specs.Prelude.{◌<◌, ◌^◌};
-
-use crate::context::Context;
-use crate::occurrence::Occurrence;
 use crate::script_table::ScriptRow;
-use crate::session_history::Move;
+use bidi_contexts::{Context, Navigation, Occurrence};
 use bidi_handles::Handle;
 use bidi_methods::ResultData;
 
@@ -54,27 +50,4 @@ pub(crate) enum Edit {
     AddUser,
     /// The user context of this number is removed, with all contexts in it.
     RemoveUser(u64),
-}
-
-/// A navigation: a context moves in its session history and gets a new realm, and loses its descendants.
-#[derive(Drop)]
-pub(crate) struct Navigation {
-    /// The number of the context.
-    pub context: u64,
-    /// The number of its new realm.
-    pub realm: u64,
-    /// Where it leads in the session history.
-    pub to: Move,
-    ghost realm_fits: { realm < 2 ^ 48 },
-}
-
-/// The numbers that a navigation uses.
-#[derive(Clone, Copy)]
-pub(crate) struct Numbers {
-    /// The number of the navigation.
-    pub navigation: u64,
-    /// The number of the realm that it begins.
-    pub realm: u64,
-    ghost navigation_fits: { navigation < 2 ^ 48 },
-    ghost realm_fits: { realm < 2 ^ 48 },
 }

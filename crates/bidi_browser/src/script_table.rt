@@ -24,9 +24,9 @@ pub(crate) struct ScriptTable {
 }
 
 impl ScriptTable {
-    ghost use Rattle.bidi_browser.specs.Acts.{Act, Tabled};
-    ghost use Rattle.bidi_browser.specs.Outcome.{takes_row};
-    ghost use Rattle.bidi_browser.specs.Realms.{row_of};
+    ghost use Rattle.bidi_contexts.specs.Acts.{Act, Tabled};
+    ghost use Rattle.bidi_contexts.specs.Outcome.{takes_row};
+    ghost use Rattle.bidi_contexts.specs.Realms.{row_of};
     ghost use Rattle.bidi_browser.specs.TableInHand.{AreTabled, HasRoomForRow, row_seen};
 
     /// A table without rows. Takes no memory.

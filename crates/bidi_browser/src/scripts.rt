@@ -1,11 +1,11 @@
 //! Plans of `script.evaluate` and `script.disown`, and what an evaluation and a call have in common.
 ghost use Rattle.std.specs.Prelude.{◌≡◌, ◌≤◌, ◌<◌, ◌^◌, ℕ, List, [], true, Ok, IfOk, IfErr, bytes_eq, map, not, option_map, slice_get, string_bytes, unwrap_or};
-ghost use Rattle.bidi_browser.specs.Acts.{Act};
-ghost use Rattle.bidi_browser.specs.Actions as asked;
+ghost use Rattle.bidi_contexts.specs.Acts.{Act};
+ghost use Rattle.bidi_contexts.specs.Actions as asked;
 ghost use Rattle.bidi_browser.specs.Asked.{disown_asked, evaluate_asked, is_owned, object_depth, target_of};
-ghost use Rattle.bidi_browser.specs.Contexts.{is_alive};
-ghost use Rattle.bidi_browser.specs.ContextRows.{row_of, row_at};
-ghost use Rattle.bidi_browser.specs.Realms.{realm_of, value_of};
+ghost use Rattle.bidi_contexts.specs.Contexts.{is_alive};
+ghost use Rattle.bidi_contexts.specs.ContextRows.{row_of, row_at};
+ghost use Rattle.bidi_contexts.specs.Realms.{realm_of, value_of};
 ghost use Rattle.bidi_browser.specs.Runs.{HasReturned, HasRun, IsEnding, IsNextHandle};
 ghost use Rattle.bidi_browser.specs.TableInHand.{ending_seen};
 ghost use Rattle.bidi_handles.specs.Resolves.{stands_for};
@@ -13,28 +13,29 @@ ghost use Rattle.bidi_handles.specs.ValuesInHand.{held_tree};
 ghost use Rattle.bidi_handles.specs.declared.refusal.Refusal.TheVariants as refused;
 ghost use Rattle.bidi_tree.specs.Node.{levels};
 ghost use Rattle.bidi_browser.specs.Found.{IsTargeted};
-ghost use Rattle.bidi_browser.specs.Outcome.{realm_targeted, undefined};
-ghost use Rattle.bidi_browser.specs.Plans.{HasIds, Plans, HasResultOf, IsWellPlanned};
-ghost use Rattle.bidi_browser.specs.Stands.{IsTableOf, StandsFor};
+ghost use Rattle.bidi_contexts.specs.Outcome.{realm_targeted, undefined};
+ghost use Rattle.bidi_contexts.specs.Tables.{HasIds};
+ghost use Rattle.bidi_browser.specs.Plans.{Plans, HasResultOf, IsWellPlanned};
+ghost use Rattle.bidi_contexts.specs.Tables.{IsTableOf};
+ghost use Rattle.bidi_browser.specs.Stands.{StandsFor};
 
-use crate::browser::{Browser, NO_ID};
-use crate::context::Context;
-use crate::contexts::Contexts;
+use crate::browser::Browser;
 use crate::looking::{answered, context_named, nothing};
 use crate::plan::{Edit, Plan};
 use crate::script_table::ScriptRow;
 use crate::showing::result_of_ending;
+use bidi_contexts::{Context, Contexts, NO_ID};
 use bidi_handles::{
     Argument, Ending, Handle, HeldValue, Refusal, ThrownValue, given_back, held, takes_handle,
 };
 use bidi_methods::{Method, ResultData};
 use bidi_params::ErrorCode;
+use bidi_scripts::{
+    DisownParameters, EvaluateParameters, EvaluateResult, Ownership, SerializationOptions, Target,
+};
 use bidi_shape::Shape;
 use bidi_tree::JsUint;
-use bidi_values::{
-    DisownParameters, EvaluateParameters, EvaluateResult, Ownership, Primitive, RemotePlain,
-    RemoteValue, SerializationOptions, Target,
-};
+use bidi_values::{Primitive, RemotePlain, RemoteValue};
 use std::alloc::{AllocError, Global};
 use std::rc::Rc;
 
@@ -175,21 +176,21 @@ pub(crate) fn run(
         × (levels (⟦<EvaluateResult as Shape>⟧.shape.tree_of ran.result) ≤ 61)) }
 {
     if !owned || !takes_handle(&value_of(&ending).value) {
-        let result = result_of_ending(browser.alloc, context.realm, &ending, depth, None)?;
+        let result = result_of_ending(browser.alloc, context.realm(), &ending, depth, None)?;
         return Ok(Ran {
             result,
             edit: Edit::Keep,
         });
     }
     let number = next_handle(browser, context)?;
-    let result = result_of_ending(browser.alloc, context.realm, &ending, depth, Some(number))?;
+    let result = result_of_ending(browser.alloc, context.realm(), &ending, depth, Some(number))?;
     let handle = Handle {
         number,
         value: into_value(ending),
     };
     Ok(Ran {
         result,
-        edit: Edit::Hold(context.number, handle),
+        edit: Edit::Hold(context.number(), handle),
     })
 }
 
@@ -199,7 +200,7 @@ fn next_handle(browser: &Browser, context: &Context) -> Result<u64, ErrorCode>
         → StandsFor browser.now past → HasIds past → row_of context.now ≡ row_at past c → IsNextHandle result past (realm_of past c) }
     ensures fits { IfOk result (λ n. n < 2 ^ 48) }
 {
-    if context.handles.len() < MOST_HANDLES && browser.next_handle < NO_ID {
+    if context.handles().len() < MOST_HANDLES && browser.next_handle < NO_ID {
         Ok(browser.next_handle)
     } else {
         Err(ErrorCode::UnknownError)
@@ -239,9 +240,11 @@ pub(crate) fn plan_disown(browser: &Browser, params: &DisownParameters) -> Resul
     ensures of_method { HasResultOf Method.ScriptDisown result }
 {
     let context = targeted(&browser.contexts, &params.target)?;
-    let numbers = context.handles.numbers_of(browser.alloc, &params.handles)?;
+    let numbers = context
+        .handles()
+        .numbers_of(browser.alloc, &params.handles)?;
     let result = ResultData::ScriptDisown(nothing(browser.alloc));
-    let edit = Edit::Disown(context.number, numbers);
+    let edit = Edit::Disown(context.number(), numbers);
     Ok(answered(browser.alloc, result, edit))
 }
 

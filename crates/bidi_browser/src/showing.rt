@@ -1,21 +1,21 @@
 //! The result that `script.evaluate` and `script.callFunction` give of a script that ended.
 ghost use Rattle.std.specs.Prelude.{◌≡◌, ◌≤◌, ◌<◌, ◌^◌, true, IfOk, IfSome, option_map};
-ghost use Rattle.bidi_tree.specs.Node.{levels, no_members};
+ghost use Rattle.bidi_tree.specs.Node.{levels};
 ghost use Rattle.bidi_values.specs.Cut.{cut_to};
-ghost use Rattle.bidi_handles.specs.Maps.{◌being◌and◌, mapped, word, id_tree};
 ghost use Rattle.bidi_browser.specs.Occurs.{exception_details};
-ghost use Rattle.bidi_browser.specs.Realms.{value_of};
+ghost use Rattle.bidi_contexts.specs.Realms.{value_of};
 ghost use Rattle.bidi_browser.specs.Runs.{result_told};
 ghost use Rattle.bidi_browser.specs.TableInHand.{ending_seen};
 ghost use Rattle.bidi_handles.specs.Values.{shown_as, takes_handle};
 ghost use Rattle.bidi_values.specs.RemoteView.{remote_tree, RemoteIsWell};
 
 use bidi_handles::{Ending, IdKind, id_text, shown};
+use bidi_scripts::{
+    EvaluateException, EvaluateResult, EvaluateSuccess, ExceptionDetails, StackTrace,
+};
 use bidi_shape::Shape;
 use bidi_tree::JsUint;
-use bidi_values::{
-    EvaluateException, EvaluateResult, EvaluateSuccess, ExceptionDetails, RemoteValue, StackTrace,
-};
+use bidi_values::RemoteValue;
 use std::alloc::{AllocError, Global};
 
 /// The result of a script that ended in a realm. Its value is cut at this depth, if one was asked for, and shows this

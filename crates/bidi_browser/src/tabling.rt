@@ -1,23 +1,21 @@
 //! The plan of a step that sets a row of the script table.
-ghost use Rattle.std.specs.Prelude.{◌≡◌, ◌≤◌, ℕ, List, [], None, IfOk, IfErr, OnOk, if◌then◌else◌, string_bytes};
-ghost use Rattle.bidi_browser.specs.Acts.{Act, Tabled};
+ghost use Rattle.std.specs.Prelude.{◌≡◌, ℕ, List, [], None, IfOk, IfErr, OnOk, if◌then◌else◌, string_bytes};
+ghost use Rattle.bidi_contexts.specs.Acts.{Act, Tabled};
 ghost use Rattle.bidi_browser.specs.Asked.{row_asked};
-ghost use Rattle.bidi_browser.specs.Outcome.{row_in};
+ghost use Rattle.bidi_contexts.specs.Outcome.{row_in};
 ghost use Rattle.bidi_handles.specs.Params.{text_at};
 ghost use Rattle.bidi_browser.specs.Plans.{Makes, Plans, IsWellPlanned};
 ghost use Rattle.bidi_browser.specs.Stands.{StandsFor};
 ghost use Rattle.bidi_browser.specs.TableInHand.{IsFew, IsRowChecked, row_tree, throws};
-ghost use Rattle.bidi_values.specs.RemoteView.{remote_tree};
 ghost use Rattle.bidi_handles.specs.declared.refusal.Refusal.TheVariants as Refusal;
-ghost use Rattle.bidi_tree.specs.Node.{levels};
 
 use crate::browser::Browser;
 use crate::plan::{Change, Edit, Plan};
 use crate::script_table::ScriptRow;
 use bidi_handles::{Ending, Refusal, ThrownValue, has_handle, held};
 use bidi_params::ErrorCode;
+use bidi_scripts::TableRow;
 use bidi_shape::{MAX_LEVELS, Shape};
-use bidi_values::TableRow;
 use std::alloc::Global;
 
 /// The most levels of the tree of a row; its value has one fewer.

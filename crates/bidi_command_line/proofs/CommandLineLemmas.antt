@@ -1,4 +1,4 @@
--- What `clap`'s faults of a line, and its reading, say of the answer to it.
+-- From the faults that `clap` finds, and from its reading, to the answer for a command line.
 use Rattle.std.proofs.Common.{◌≡◌, ◌∙◌, ℕ, Bool, true, false, List, [], ◌∷◌, ◌++◌, codes, refl, sym, ap, subst, inl, inr, arith, bytes_eq, Some, None}
 use Rattle.std.specs.Prelude.{◌==◌, ◌&&◌, if◌then◌else◌, Box, IsTrue, Option, option_map, unwrap_or, nat_lt}
 use Rattle.std.specs.Char.{digit_value}
@@ -12,12 +12,14 @@ use Rattle.clap.specs.declared.error.Error.{Error}
 use Rattle.clap.specs.declared.error.kind.ErrorKind.{ErrorKind}
 use Rattle.clap.specs.declared.error.kind.ErrorKind.TheVariants.{InvalidValue, OutOfMemory}
 use Rattle.clap.proofs.OnLiterals.{clap_on_literals}
-use Rattle.bidi_command_line.specs.declared.asked.LineFault.{LineFault}
-use Rattle.bidi_command_line.specs.declared.asked.LineFault.TheVariants.{Help, Usage, NoMemory}
-use Rattle.bidi_command_line.specs.declared.asked.Run.{Run}
-use Rattle.bidi_command_line.specs.declared.asked.Run.TheVariants.{Play, Pair, Reduce, Show, Check, Why, Both, Serve, Host}
-use Rattle.bidi_command_line.specs.declared.asked.ServeOptions.{ServeOptions}
-use Rattle.bidi_command_line.specs.declared.asked.HostOptions.{HostOptions}
+use Rattle.bidi_command_line.specs.declared.fault.LineFault.{LineFault}
+use Rattle.bidi_command_line.specs.declared.fault.LineFault.TheVariants.{Help, Usage, NoMemory}
+use Rattle.bidi_command_line.specs.declared.run.Run.{Run}
+use Rattle.bidi_command_line.specs.declared.run.Run.TheVariants.{Stream, Serve, Host}
+use Rattle.bidi_command_line.specs.declared.run.StreamRun.{StreamRun}
+use Rattle.bidi_command_line.specs.declared.run.StreamRun.TheVariants.{Play, Pair, Reduce, Show, Check, Why, Both}
+use Rattle.bidi_command_line.specs.declared.run.ServeOptions.{ServeOptions}
+use Rattle.bidi_command_line.specs.declared.run.HostOptions.{HostOptions}
 use Rattle.bidi_lines.specs.declared.side.Side.{Side}
 use Rattle.bidi_lines.specs.declared.side.Side.TheVariants.{Local, Remote}
 use Rattle.bidi_command_line.specs.CommandLine.{AsksFor, Causes, FileWords, Gives, GivesNumber, IsReadAs, IsRefusedFor, IsRequest, IsSaidBy, bidi_app, faults_of}
@@ -33,45 +35,45 @@ pub is_read : is_simple bidi_app ≡ true
 unfolding clap_on_literals
 is_read = refl
 
-reads_name : IsReadAs (codes "play" ∷ []) Play
+reads_name : IsReadAs (codes "play" ∷ []) (Stream Play)
 unfolding clap_on_literals
 reads_name = (refl, refl)
 
-reads_mark : IsReadAs (codes "play" ∷ codes "--" ∷ []) Play
+reads_mark : IsReadAs (codes "play" ∷ codes "--" ∷ []) (Stream Play)
 unfolding clap_on_literals
 reads_mark = (refl, refl)
 
-reads_pair : IsReadAs (codes "pair" ∷ []) Pair
+reads_pair : IsReadAs (codes "pair" ∷ []) (Stream Pair)
 unfolding clap_on_literals
 reads_pair = (refl, refl)
 
-reads_pair_mark : IsReadAs (codes "pair" ∷ codes "--" ∷ []) Pair
+reads_pair_mark : IsReadAs (codes "pair" ∷ codes "--" ∷ []) (Stream Pair)
 unfolding clap_on_literals
 reads_pair_mark = (refl, refl)
 
 -- clap reads a line that asks for a run as that run
 pub asked_read : (line : List Text) (run : Run) → AsksFor line run → IsReadAs line run
-asked_read line Play (inl e) = subst (λ l. IsReadAs l Play) (sym e) reads_name
-asked_read line Play (inr e) = subst (λ l. IsReadAs l Play) (sym e) reads_mark
-asked_read line Pair (inl e) = subst (λ l. IsReadAs l Pair) (sym e) reads_pair
-asked_read line Pair (inr e) = subst (λ l. IsReadAs l Pair) (sym e) reads_pair_mark
-asked_read line (Reduce session) asks = asks
-asked_read line (Show side) asks = asks
-asked_read line (Check side) asks = asks
-asked_read line (Why o) asks = asks
-asked_read line (Both o) asks = asks
+asked_read line (Stream Play) (inl e) = subst (λ l. IsReadAs l (Stream Play)) (sym e) reads_name
+asked_read line (Stream Play) (inr e) = subst (λ l. IsReadAs l (Stream Play)) (sym e) reads_mark
+asked_read line (Stream Pair) (inl e) = subst (λ l. IsReadAs l (Stream Pair)) (sym e) reads_pair
+asked_read line (Stream Pair) (inr e) = subst (λ l. IsReadAs l (Stream Pair)) (sym e) reads_pair_mark
+asked_read line (Stream (Reduce session)) asks = asks
+asked_read line (Stream (Show side)) asks = asks
+asked_read line (Stream (Check side)) asks = asks
+asked_read line (Stream (Why o)) asks = asks
+asked_read line (Stream (Both o)) asks = asks
 asked_read line (Serve s) asks = asks
 asked_read line (Host h) asks = asks
 
 -- and a line that clap reads as a run asks for it
 pub read_asked : (line : List Text) (run : Run) → IsReadAs line run → AsksFor line run
-read_asked line Play read = play_lines line read.0 read.1
-read_asked line Pair read = pair_lines line read.0 read.1
-read_asked line (Reduce session) read = read
-read_asked line (Show side) read = read
-read_asked line (Check side) read = read
-read_asked line (Why o) read = read
-read_asked line (Both o) read = read
+read_asked line (Stream Play) read = play_lines line read.0 read.1
+read_asked line (Stream Pair) read = pair_lines line read.0 read.1
+read_asked line (Stream (Reduce session)) read = read
+read_asked line (Stream (Show side)) read = read
+read_asked line (Stream (Check side)) read = read
+read_asked line (Stream (Why o)) read = read
+read_asked line (Stream (Both o)) read = read
 read_asked line (Serve s) read = read
 read_asked line (Host h) read = read
 
@@ -96,7 +98,7 @@ refused_end line (Help text) (inl h) takes none = absurd cc
 refused_end line (Help text) (inr h) takes none = absurd cc
 refused_end line (Usage text) cause takes none = inr (takes, none)
 
--- where clap has no fault to list, the fault is a want of memory, and is told as such
+-- if `clap` has no fault to list, the fault is a failed allocation, and is reported as one
 pub no_memory : (faults : Kinds) (error : Error) (fault : LineFault) → faults ≡ [] → HasKind faults error → Causes (kind_of error) fault → fault ≡ NoMemory
 no_memory faults error NoMemory none kind cause = refl
 no_memory [] error (Help text) none (inl memory) cause = absurd (no_request (kind_of error) memory cause)
@@ -105,7 +107,7 @@ no_memory [] error (Help text) none (inr among) cause = absurd among
 no_memory [] error (Usage text) none (inr among) cause = absurd among
 no_memory (k ∷ ks) error fault none kind cause = absurd cc
 
--- one run, where two are the same option
+-- equal options have the same run
 pub same_run : (run other : Run) → Some run ≡ Some other → run ≡ other
 same_run run other e = cc
 
@@ -120,8 +122,8 @@ pub met : {Z : Type 0} (sub : Option (Box SubCommand Z)) (name : Text) (rows : L
 met None name rows named found = absurd cc
 met (Some b) name rows named found = cc
 
--- the run of the same name and options
-pub named-same : (name : Text) (side side' : Option Side) (session session' : Option ℕ) (checking checking' : Option Run)
+-- equal options give the same run
+pub named-same : (name : Text) (side side' : Option Side) (session session' : Option ℕ) (checking checking' : Option StreamRun)
     (serving serving' : Option ServeOptions) (hosting hosting' : Option HostOptions)
     → side ≡ side' → session ≡ session' → checking ≡ checking' → serving ≡ serving' → hosting ≡ hosting'
     → run_named name side session checking serving hosting ≡ run_named name side' session' checking' serving' hosting'
@@ -193,18 +195,18 @@ given_side Local words (inl e) = subst (Given (codes "from") (side_text Local)) 
 given_side Remote words (inl e) = subst (Given (codes "from") (side_text Remote)) (sym e) (apart 114 (codes "emote") refl)
 given_side side words (inr e) = subst (Given (codes "from") (side_text side)) (sym e) (joined (side_text side))
 
--- clap takes the line, and reads of it what the values say
+-- `clap` accepts the line, and reads the values from it
 abbrev Reads : List Text → Option Run → Type 0
 Reads line run = (faults_of line ≡ []) × (run_in (subcommand_of bidi_app line) ≡ run)
 
-reduce_reads : {value : Text} {words : List Text} → Given (codes "session") value words → Reads (codes "reduce" ∷ words) (option_map Reduce (number_within 0 4294967295 value))
+reduce_reads : {value : Text} {words : List Text} → Given (codes "session") value words → Reads (codes "reduce" ∷ words) (option_map (λ n. Stream (Reduce n)) (number_within 0 4294967295 value))
 unfolding clap_on_literals
 reduce_reads (apart b value e) =
     let l = no_long b value e in let s = no_short b value e in let q = no_mark b value e in
     (rw (q, l, s) refl, rw (q, l, s) refl)
 reduce_reads (joined value) = (refl, refl)
 
--- a name that stands for a file names no option either, and is not the mark
+-- the name of a file is not that of an option, and is not `--`
 is_file_word : (name : Text) → IsTrue (is_name name) → (bytes_eq name (codes "--") ≡ false) × (long_of name ≡ None) × (short_of name ≡ None)
 is_file_word [] is = (refl, refl, refl)
 is_file_word (b ∷ []) is = of (b == 45) refl
@@ -228,7 +230,7 @@ file_is words (inr (name, is, e)) =
     subst File (sym e) (named name word.0 word.1 word.2)
 
 show_reads : {value : Text} {words file : List Text}
-    → Given (codes "from") value words → File file → Reads (codes "show" ∷ words ++ file) (option_map Show (side_named value))
+    → Given (codes "from") value words → File file → Reads (codes "show" ∷ words ++ file) (option_map (λ s. Stream (Show s)) (side_named value))
 unfolding clap_on_literals
 show_reads (apart b value e) unnamed =
     let l = no_long b value e in let s = no_short b value e in let q = no_mark b value e in
@@ -240,7 +242,7 @@ show_reads (joined value) unnamed = (refl, refl)
 show_reads (joined value) (named name q l s) = (rw (q) (rw (l) (rw (s) refl)), rw (q) (rw (l) (rw (s) refl)))
 
 check_reads : {value : Text} {words file : List Text}
-    → Given (codes "from") value words → File file → Reads (codes "check" ∷ words ++ file) (checked (Some value) false false false false)
+    → Given (codes "from") value words → File file → Reads (codes "check" ∷ words ++ file) (option_map Stream (checked (Some value) false false false false))
 unfolding clap_on_literals
 check_reads (apart b value e) unnamed =
     let l = no_long b value e in let s = no_short b value e in let q = no_mark b value e in
@@ -251,10 +253,10 @@ check_reads (apart b value e) (named name q2 l2 s2) =
 check_reads (joined value) unnamed = (refl, refl)
 check_reads (joined value) (named name q l s) = (rw (q) (rw (l) (rw (s) refl)), rw (q) (rw (l) (rw (s) refl)))
 
--- the flags behind the option
+-- the flags after the option
 why_reads : {value : Text} {words : List Text} (json profile : Bool) → Given (codes "from") value words
     → Reads (codes "check" ∷ words ++ codes "--why" ∷ flag_words (codes "json") json ++ flag_words (codes "profile-only") profile)
-    (checked (Some value) false true json profile)
+    (option_map Stream (checked (Some value) false true json profile))
 unfolding clap_on_literals
 why_reads true true (apart b value e) =
     let l = no_long b value e in let s = no_short b value e in let q = no_mark b value e in
@@ -273,10 +275,10 @@ why_reads false false (apart b value e) =
     (rw (q, l, s) refl, rw (q, l, s) refl)
 why_reads false false (joined value) = (refl, refl)
 
--- the flags alone
+-- only the flags
 both_reads : (why json profile : Bool)
     → Reads (codes "check" ∷ codes "--both" ∷ flag_words (codes "why") why ++ flag_words (codes "json") json ++ flag_words (codes "profile-only") profile)
-    (checked None true why json profile)
+    (option_map Stream (checked None true why json profile))
 unfolding clap_on_literals
 both_reads true true true = (refl, refl)
 both_reads true true false = (refl, refl)
@@ -304,7 +306,7 @@ serve_reads_joined : (p c m : Text) → Reads (codes "serve" ∷ (codes "--port=
 unfolding clap_on_literals
 serve_reads_joined p c m = (refl, refl)
 
--- the words of `host`, of which each may be left out
+-- the arguments of `host`, each of which may be left out
 abbrev host_words : Option Text → Option Text → Option Text → Bool → Bool → Bool → List Text
 host_words port page record_file stdin sessions lenient =
     value_words (codes "port") port ++ value_words (codes "page") page ++ flag_words (codes "stdin") stdin
@@ -379,13 +381,13 @@ host_reads (Some p) (Some f) (Some r) false true false = (refl, refl)
 host_reads (Some p) (Some f) (Some r) false false true = (refl, refl)
 host_reads (Some p) (Some f) (Some r) false false false = (refl, refl)
 
--- `--max-buffered` alone
+-- only `--max-buffered`
 buffered_reads : (value : Text) → Reads (codes "host" ∷ value_words (codes "max-buffered") (Some value))
     (option_map Host (hosted (Some 9222) false false false (number_within 1 65536 value)))
 unfolding clap_on_literals
 buffered_reads value = (refl, refl)
 
--- a line that clap reads so, by another name and with the run in hand
+-- a line that `clap` reads as this run, under another name
 read_as : (line other : List Text) (run : Run) (found : Option Run) → line ≡ other → found ≡ Some run → Reads other found → IsReadAs line run
 read_as line other run found same is reads = subst (λ l. IsReadAs l run) (sym same) (reads.0, reads.1 ∙ is)
 
@@ -393,7 +395,7 @@ side_is : (side : Side) → side_named (side_text side) ≡ Some side
 side_is Local = refl
 side_is Remote = refl
 
--- `--both` asks for both, where `--json` has its `--why`
+-- `--both` asks for both ends, if `--json` comes with `--why`
 both_is : (why json profile : Bool) → (IsTrue json → IsTrue why)
     → checked None true why json profile ≡ Some (Both (record { is_why = why; is_json = json; profile_only = profile }))
 both_is true json profile goes = refl
@@ -402,22 +404,23 @@ both_is false false profile goes = refl
 
 -- clap reads the words that are given for a run as that run
 pub said_asks : (line : List Text) (run : Run) → IsSaidBy run line → AsksFor line run
-said_asks line Play e = inl e
-said_asks line Pair e = inl e
-said_asks line (Reduce session) (words, gives, e) =
-    read_as line (codes "reduce" ∷ words) (Reduce session) _ e (ap (option_map Reduce) gives.1)
+said_asks line (Stream Play) e = inl e
+said_asks line (Stream Pair) e = inl e
+said_asks line (Stream (Reduce session)) (words, gives, e) =
+    read_as line (codes "reduce" ∷ words) (Stream (Reduce session)) _ e (ap (option_map (λ n. Stream (Reduce n))) gives.1)
     (reduce_reads (given_number (codes "session") 0 4294967295 session words gives))
-said_asks line (Show side) (words, file, gives, names, e) =
-    read_as line (codes "show" ∷ words ++ file) (Show side) _ e (ap (option_map Show) (side_is side))
+said_asks line (Stream (Show side)) (words, file, gives, names, e) =
+    read_as line (codes "show" ∷ words ++ file) (Stream (Show side)) _ e (ap (option_map (λ s. Stream (Show s))) (side_is side))
     (show_reads (given_side side words gives) (file_is file names))
-said_asks line (Check side) (words, file, gives, names, e) =
-    read_as line (codes "check" ∷ words ++ file) (Check side) _ e (ap (option_map Check) (side_is side))
+said_asks line (Stream (Check side)) (words, file, gives, names, e) =
+    read_as line (codes "check" ∷ words ++ file) (Stream (Check side)) _ e (ap (λ s. option_map Stream (option_map Check s)) (side_is side))
     (check_reads (given_side side words gives) (file_is file names))
-said_asks line (Why o) (words, gives, e) =
-    read_as line _ (Why o) _ e (ap (option_map (λ s. Why (record { side = s; is_json = o.is_json; profile_only = o.profile_only }))) (side_is o.side))
+said_asks line (Stream (Why o)) (words, gives, e) =
+    read_as line _ (Stream (Why o)) _ e
+    (ap (λ side. option_map Stream (option_map (λ s. Why (record { side = s; is_json = o.is_json; profile_only = o.profile_only })) side)) (side_is o.side))
     (why_reads o.is_json o.profile_only (given_side o.side words gives))
-said_asks line (Both o) (goes, e) =
-    read_as line _ (Both o) _ e (both_is o.is_why o.is_json o.profile_only goes) (both_reads o.is_why o.is_json o.profile_only)
+said_asks line (Stream (Both o)) (goes, e) =
+    read_as line _ (Stream (Both o)) _ e (ap (option_map Stream) (both_is o.is_why o.is_json o.profile_only goes)) (both_reads o.is_why o.is_json o.profile_only)
 said_asks line (Serve s) (p, c, m, port, connections, messages, inl e) =
     read_as line _ (Serve s) _ e (λ i. option_map Serve (served (port i) (connections i) (messages i)))
     (serve_reads (plain_number 0 65535 s.port p port) (plain_number 1 1000 s.connections c connections) (plain_number 1 100000 s.messages m messages))

@@ -8,19 +8,21 @@ use Rattle.std.specs.Prelude.{option_and_then, option_map}
 use Rattle.std.specs.Prelude.{codes}
 use Rattle.std.specs.Str.{bytes_eq}
 use Rattle.clap.specs.Words.{Row, Text, first_of}
-use Rattle.bidi_command_line.specs.declared.asked.Run.{Run}
-use Rattle.bidi_command_line.specs.declared.asked.Run.TheVariants.{Play, Pair, Reduce, Show, Check, Why, Both, Serve, Host}
-use Rattle.bidi_command_line.specs.declared.asked.ServeOptions.{ServeOptions}
-use Rattle.bidi_command_line.specs.declared.asked.HostOptions.{HostOptions}
+use Rattle.bidi_command_line.specs.declared.run.Run.{Run}
+use Rattle.bidi_command_line.specs.declared.run.Run.TheVariants.{Stream, Serve, Host}
+use Rattle.bidi_command_line.specs.declared.run.StreamRun.{StreamRun}
+use Rattle.bidi_command_line.specs.declared.run.StreamRun.TheVariants.{Play, Pair, Reduce, Show, Check, Why, Both}
+use Rattle.bidi_command_line.specs.declared.run.ServeOptions.{ServeOptions}
+use Rattle.bidi_command_line.specs.declared.run.HostOptions.{HostOptions}
 use Rattle.bidi_command_line.specs.CommandLine.{IsWithinBounds, all_digits, checked, checking_in, hosted, hosting_in, is_given, is_numeral, number_in}
 use Rattle.bidi_command_line.specs.CommandLine.{number_within, run_in, served, serving_in, session_in, side_in, side_named}
 
--- what both hold
+-- both of two tests hold
 both : (a b : Bool) → (a && b) ≡ true → (a ≡ true) × (b ≡ true)
 both true b e = (refl, e)
 both false b e = cc
 
--- digits are told truly
+-- the test of digits is right
 told : (ds : List ℕ) → AllDigits 10 ds → all_digits ds ≡ true
 told [] a = refl
 told (c ∷ cs) a = let h = a.0 in let ih = told cs a.1 in grind (arith, nat_tests, h, ih)
@@ -63,7 +65,7 @@ number-refused k least most bs r e is fits parses = of (is_numeral ds && (nat_le
         let within : v ≤ most = grind (arith, nat_tests, q) in
         absurd (subst (ParsesUnsigned k 10 bs) is parses (is_one ds p.0, omega (arith, within, fits)))
 
--- the same of equal numbers
+-- equal numbers give equal options
 pub served-same : (a a' b b' m m' : Option ℕ) → a ≡ a' → b ≡ b' → m ≡ m' → served a b m ≡ served a' b' m'
 served-same a a' b b' m m' p q r =
     subst (λ x. served a b m ≡ served x b' m') p (subst (λ x. served a b m ≡ served a x m') q (subst (λ x. served a b m ≡ served a b x) r refl))
@@ -102,21 +104,21 @@ within_found : (least most n : ℕ) (text : Option Text) → option_and_then (nu
 within_found least most n None e = cc
 within_found least most n (Some text) e = within least most n text e
 
--- what is served has the numbers that were found
+-- the options of `serve` have the numbers that were found
 served-from : (a b m : Option ℕ) (s : ServeOptions) → served a b m ≡ Some s → (a ≡ Some s.port) × (b ≡ Some s.connections) × (m ≡ Some s.messages)
 served-from (Some p) (Some k) (Some n) s e = (cc, cc, cc)
 served-from None b m s e = cc
 served-from (Some p) None m s e = cc
 served-from (Some p) (Some k) None s e = cc
 
--- what is hosted has the numbers that were found
+-- the options of `host` have the numbers that were found
 hosted-from : (port : Option ℕ) (stdin sessions lenient : Bool) (most : Option ℕ) (o : HostOptions)
     → hosted port stdin sessions lenient most ≡ Some o → (port ≡ Some o.port) × (most ≡ Some o.most_buffered)
 hosted-from (Some p) stdin sessions lenient (Some n) o e = (cc, cc)
 hosted-from (Some p) stdin sessions lenient None o e = cc
 hosted-from None stdin sessions lenient most o e = cc
 
--- a run, where one was found, has its numbers within their bounds
+-- if a run was found, its numbers are within their bounds
 abbrev AreWithin : Option Run → Type 0
 AreWithin found = (run : Run) → found ≡ Some run → IsWithinBounds run
 
@@ -126,26 +128,31 @@ none_within run e = cc
 one_within : (one : Run) → IsWithinBounds one → AreWithin (Some one)
 one_within one is run e = let same : one ≡ run = cc in subst IsWithinBounds same is
 
--- so has one that is made of what was found
+-- a run that is made of the numbers found has them within their bounds
 made_within : {A : Type 0} (f : A → Run) (found : Option A) → ((x : A) → found ≡ Some x → IsWithinBounds (f x)) → AreWithin (option_map f found)
 made_within f None is = none_within
 made_within f (Some x) is = one_within (f x) (is x refl)
 
+-- a run over streams that has no numbers is within them
+streamed_within : {A : Type 0} (f : A → StreamRun) (found : Option A) → ((x : A) → IsWithinBounds (Stream (f x))) → AreWithin (option_map Stream (option_map f found))
+streamed_within f None is = none_within
+streamed_within f (Some x) is = one_within (Stream (f x)) (is x)
+
 -- a run that checks has no numbers
-checked_within : (end : Option Text) (both why json profile : Bool) → AreWithin (checked end both why json profile)
+checked_within : (end : Option Text) (both why json profile : Bool) → AreWithin (option_map Stream (checked end both why json profile))
 checked_within None false why json profile = none_within
-checked_within None true true json profile = one_within (Both (record { is_why = true; is_json = json; profile_only = profile })) tt
+checked_within None true true json profile = one_within (Stream (Both (record { is_why = true; is_json = json; profile_only = profile }))) tt
 checked_within None true false true profile = none_within
-checked_within None true false false profile = one_within (Both (record { is_why = false; is_json = false; profile_only = profile })) tt
+checked_within None true false false profile = one_within (Stream (Both (record { is_why = false; is_json = false; profile_only = profile }))) tt
 checked_within (Some end) true why json profile = none_within
 checked_within (Some end) false true json profile =
-    made_within (λ side. Why (record { side = side; is_json = json; profile_only = profile })) (side_named end) (λ side e. tt)
+    streamed_within (λ side. Why (record { side = side; is_json = json; profile_only = profile })) (side_named end) (λ side. tt)
 checked_within (Some end) false false true profile = none_within
 checked_within (Some end) false false false true = none_within
-checked_within (Some end) false false false false = made_within Check (side_named end) (λ side e. tt)
+checked_within (Some end) false false false false = streamed_within Check (side_named end) (λ side. tt)
 
-reduced_within : (rows : List Row) → AreWithin (option_map Reduce (session_in rows))
-reduced_within rows = made_within Reduce (session_in rows) (λ n e. (within_found 0 4294967295 n (first_of (codes "session") rows) e).1)
+reduced_within : (rows : List Row) → AreWithin (option_map (λ n. Stream (Reduce n)) (session_in rows))
+reduced_within rows = made_within (λ n. Stream (Reduce n)) (session_in rows) (λ n e. (within_found 0 4294967295 n (first_of (codes "session") rows) e).1)
 
 served_within : (rows : List Row) → AreWithin (option_map Serve (serving_in rows))
 served_within rows = made_within Serve (serving_in rows) (λ s e.
@@ -167,15 +174,15 @@ hosted_within rows = made_within Host (hosting_in rows) (λ o e.
 -- the run by the names that a subcommand has
 abbrev run_by : Bool → Bool → Bool → Bool → Bool → Bool → Bool → List Row → Option Run
 run_by is_play is_pair is_reduce is_show is_check is_serve is_host rows =
-    if is_play then Some Play else (if is_pair then Some Pair else (if is_reduce then option_map Reduce (session_in rows)
-    else (if is_show then option_map Show (side_in rows) else (if is_check then checking_in rows
+    if is_play then Some (Stream Play) else (if is_pair then Some (Stream Pair) else (if is_reduce then option_map (λ n. Stream (Reduce n)) (session_in rows)
+    else (if is_show then option_map (λ s. Stream (Show s)) (side_in rows) else (if is_check then option_map Stream (checking_in rows)
     else (if is_serve then option_map Serve (serving_in rows) else (if is_host then option_map Host (hosting_in rows) else None))))))
 
 named_within : (p q d r t u h : Bool) (rows : List Row) → AreWithin (run_by p q d r t u h rows)
-named_within true q d r t u h rows = one_within Play tt
-named_within false true d r t u h rows = one_within Pair tt
+named_within true q d r t u h rows = one_within (Stream Play) tt
+named_within false true d r t u h rows = one_within (Stream Pair) tt
 named_within false false true r t u h rows = reduced_within rows
-named_within false false false true t u h rows = made_within Show (side_in rows) (λ side e. tt)
+named_within false false false true t u h rows = made_within (λ s. Stream (Show s)) (side_in rows) (λ side e. tt)
 named_within false false false false true u h rows =
     checked_within (first_of (codes "from") rows) (is_given (codes "both") rows) (is_given (codes "why") rows) (is_given (codes "json") rows)
     (is_given (codes "profile-only") rows)

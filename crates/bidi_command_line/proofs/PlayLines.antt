@@ -1,4 +1,4 @@
--- The lines that clap takes and reads as a play are `play` and `play --`, and so are those of a pair.
+-- The arguments that `clap` accepts as a play are `play` and `play --`; those of a pair are `pair` and `pair --`.
 use Rattle.std.proofs.Common.{◌≡◌, ◌⊎◌, ℕ, Bool, true, false, zero, suc, List, [], ◌∷◌, ◌++◌, Option, None}
 use Rattle.std.proofs.Common.{Some, codes, refl, sym, ap, ap₂, subst, ◌||◌, ◌∙◌, inl, inr, cond, slice_get}
 use Rattle.std.proofs.Common.{length, bytes_eq, is_some, option_map, append-nil, append_assoc}
@@ -17,12 +17,14 @@ use Rattle.clap.specs.Kinds.{Kinds, or_else}
 use Rattle.std.specs.Option.{option_map_or}
 use Rattle.std.proofs.lemmas.Slice.Eq.{bytes_eq-Decides}
 use Rattle.clap.proofs.OnLiterals.{clap_on_literals}
-use Rattle.bidi_command_line.specs.declared.asked.Run.{Run}
-use Rattle.bidi_command_line.specs.declared.asked.Run.TheVariants.{Play, Pair, Reduce, Show, Check, Why, Both, Serve, Host}
-use Rattle.bidi_command_line.specs.declared.asked.WhyOptions.{WhyOptions}
-use Rattle.bidi_command_line.specs.declared.asked.BothOptions.{BothOptions}
-use Rattle.bidi_command_line.specs.declared.asked.ServeOptions.{ServeOptions}
-use Rattle.bidi_command_line.specs.declared.asked.HostOptions.{HostOptions}
+use Rattle.bidi_command_line.specs.declared.run.Run.{Run}
+use Rattle.bidi_command_line.specs.declared.run.Run.TheVariants.{Stream, Serve, Host}
+use Rattle.bidi_command_line.specs.declared.run.StreamRun.{StreamRun}
+use Rattle.bidi_command_line.specs.declared.run.StreamRun.TheVariants.{Play, Pair, Reduce, Show, Check, Why, Both}
+use Rattle.bidi_command_line.specs.declared.run.WhyOptions.{WhyOptions}
+use Rattle.bidi_command_line.specs.declared.run.BothOptions.{BothOptions}
+use Rattle.bidi_command_line.specs.declared.run.ServeOptions.{ServeOptions}
+use Rattle.bidi_command_line.specs.declared.run.HostOptions.{HostOptions}
 use Rattle.bidi_lines.specs.declared.side.Side.{Side}
 use Rattle.bidi_command_line.specs.CommandLine.{AsksFor, bare_app, bidi_app, checked, faults_of, is_given, run_in, side_named}
 
@@ -33,7 +35,7 @@ help = with_index 1 (filled help_rule)
 abbrev rules : List Rule
 rules = help ∷ []
 
--- what follows a first fault comes only where there is none
+-- a second fault comes only if there is no first
 or_else-nil : (a b : Kinds) → or_else a b ≡ [] → (a ≡ []) × (b ≡ [])
 or_else-nil [] b none = (refl, none)
 or_else-nil (k ∷ ks) b none = absurd cc
@@ -45,14 +47,14 @@ abbrev step_part : Kinds → Step → Kinds
 step_part stray walk.value = stray
 step_part stray _ = []
 
--- `--name`, where the option is known or not
+-- `--name`, whether the option is known or not
 long_refused : (is_known : Bool) (value : Option Text) (next : Kinds)
     → or_else (long_fault rules false (cond is_known (Some help) None) value nothing_held) next ≡ [] → ⊥
 long_refused true (Some value) next none = cc
 long_refused true None next none = cc
 long_refused false value next none = cc
 
--- the first character of `-abc`, where the option is known or not
+-- the first character of `-abc`, whether the option is known or not
 short_refused : (is_known : Bool) (rest : Text) (more : Held → Kinds) (next : Kinds)
     → or_else (short_fault rules false (cond is_known (Some help) None) rest nothing_held more) next ≡ [] → ⊥
 short_refused true rest more next none = cc
@@ -117,7 +119,7 @@ first_shape (s ∷ rest) = s
 abbrev leaf : Text → Shape
 leaf name = first_shape (built (with_subcommand bare_app (new_app name).top)).subs
 
--- what is found after the walk
+-- the faults and values that are found after the walk
 abbrev later : Shape → Names → List Text → Bool → Kinds
 later s known line has_subcommand =
     let end = (walk.walk s.rules known nothing_held line).held in
@@ -249,7 +251,7 @@ stop_host : (line : List Text) → stop_of (host ∷ line) ≡ Some (host, line)
 unfolding clap_on_literals
 stop_host line = ap (λ (w : Walk). w.stopped) (stays host line [])
 
--- what is found in a line that begins with a subcommand is found there in the words after it
+-- a value in a line that begins with a subcommand is found in the words after it
 below : (word : Text) (line : List Text) → faults_of (word ∷ line) ≡ [] → entered_fault app (stop_of (word ∷ line)) ≡ []
 below word line none =
     let stop = stop_of (word ∷ line) in
@@ -257,7 +259,7 @@ below word line none =
     let part = or_else-nil (walk_fault top names (walk_from nothing_held) (word ∷ line)) (or_else (entered_fault app stop) rest) none in
     (or_else-nil (entered_fault app stop) rest part.1).0
 
-entered_play : (line : List Text) → faults_of (play ∷ line) ≡ [] → AsksFor (play ∷ line) Play
+entered_play : (line : List Text) → faults_of (play ∷ line) ≡ [] → AsksFor (play ∷ line) (Stream Play)
 entered_play line none =
     let at_leaf : level_fault (leaf play) [] nothing_held line false [] ≡ [] = subst (λ s. entered_fault app s ≡ []) (stop_play line) (below play line none) in
     elim (leaf_lines play line at_leaf) [
@@ -265,7 +267,7 @@ entered_play line none =
       | inr e ↦ inr (ap (λ rest. play ∷ rest) e)
     ]
 
-entered_pair : (line : List Text) → faults_of (pair ∷ line) ≡ [] → AsksFor (pair ∷ line) Pair
+entered_pair : (line : List Text) → faults_of (pair ∷ line) ≡ [] → AsksFor (pair ∷ line) (Stream Pair)
 entered_pair line none =
     let at_leaf : level_fault (leaf pair) [] nothing_held line false [] ≡ [] = subst (λ s. entered_fault app s ≡ []) (stop_pair line) (below pair line none) in
     elim (leaf_lines pair line at_leaf) [
@@ -273,13 +275,13 @@ entered_pair line none =
       | inr e ↦ inr (ap (λ rest. pair ∷ rest) e)
     ]
 
--- ---- what a line that begins with a subcommand is read as
+-- ---- reading a line that begins with a subcommand
 
-read_play : (line : List Text) → run_in (subcommand_of bidi_app (play ∷ line)) ≡ Some Play
+read_play : (line : List Text) → run_in (subcommand_of bidi_app (play ∷ line)) ≡ Some (Stream Play)
 unfolding clap_on_literals
 read_play line = ap (λ s. run_in (entered app s)) (stop_play line)
 
-read_pair : (line : List Text) → run_in (subcommand_of bidi_app (pair ∷ line)) ≡ Some Pair
+read_pair : (line : List Text) → run_in (subcommand_of bidi_app (pair ∷ line)) ≡ Some (Stream Pair)
 unfolding clap_on_literals
 read_pair line = ap (λ s. run_in (entered app s)) (stop_pair line)
 
@@ -292,34 +294,41 @@ no_other : {A : Type 0} (f : A → Run) (run : Run) → ((x : A) → f x ≡ run
 no_other f run differs None e = cc
 no_other f run differs (Some x) e = differs x (same_some e)
 
-entered_reduce : (run : Run) → ((n : ℕ) → Reduce n ≡ run → ⊥) → (line : List Text) → run_in (entered app (Some (reduce, line))) ≡ Some run → ⊥
-unfolding clap_on_literals
-entered_reduce run differs line e = no_other Reduce run differs _ e
+-- nor is a run over streams
+no_stream : {A : Type 0} (f : A → StreamRun) (run : Run) → ((x : A) → Stream (f x) ≡ run → ⊥) → (x : Option A)
+    → option_map Stream (option_map f x) ≡ Some run → ⊥
+no_stream f run differs None e = cc
+no_stream f run differs (Some x) e = differs x (same_some e)
 
-read_reduce : (run : Run) → ((n : ℕ) → Reduce n ≡ run → ⊥) → (line : List Text) → run_in (subcommand_of bidi_app (reduce ∷ line)) ≡ Some run → ⊥
+entered_reduce : (run : Run) → ((n : ℕ) → Stream (Reduce n) ≡ run → ⊥) → (line : List Text) → run_in (entered app (Some (reduce, line))) ≡ Some run → ⊥
+unfolding clap_on_literals
+entered_reduce run differs line e = no_other (λ n. Stream (Reduce n)) run differs _ e
+
+read_reduce : (run : Run) → ((n : ℕ) → Stream (Reduce n) ≡ run → ⊥) → (line : List Text) → run_in (subcommand_of bidi_app (reduce ∷ line)) ≡ Some run → ⊥
 read_reduce run differs line e = entered_reduce run differs line (subst (λ s. run_in (entered app s) ≡ Some run) (stop_reduce line) e)
 
-entered_show : (run : Run) → ((side : Side) → Show side ≡ run → ⊥) → (line : List Text) → run_in (entered app (Some (show, line))) ≡ Some run → ⊥
+entered_show : (run : Run) → ((side : Side) → Stream (Show side) ≡ run → ⊥) → (line : List Text) → run_in (entered app (Some (show, line))) ≡ Some run → ⊥
 unfolding clap_on_literals
-entered_show run differs line e = no_other Show run differs _ e
+entered_show run differs line e = no_other (λ s. Stream (Show s)) run differs _ e
 
--- a run is none that checks, whatever it tells and of whichever end
+-- the run is not one of `check`
 abbrev IsNoCheck : Run → Type 0
-IsNoCheck run = ((side : Side) → Check side ≡ run → ⊥) × ((o : WhyOptions) → Why o ≡ run → ⊥) × ((o : BothOptions) → Both o ≡ run → ⊥)
+IsNoCheck run = ((side : Side) → Stream (Check side) ≡ run → ⊥) × ((o : WhyOptions) → Stream (Why o) ≡ run → ⊥) × ((o : BothOptions) → Stream (Both o) ≡ run → ⊥)
 
--- nor is a run that checks
-no_checked : (run : Run) → IsNoCheck run → (end : Option Text) (both why json profile : Bool) → checked end both why json profile ≡ Some run → ⊥
+-- a run that is not one of `check` does not come from the options of `check`
+no_checked : (run : Run) → IsNoCheck run → (end : Option Text) (both why json profile : Bool)
+    → option_map Stream (checked end both why json profile) ≡ Some run → ⊥
 no_checked run differs None false why json profile e = cc
 no_checked run differs None true true json profile e = differs.2 (record { is_why = true; is_json = json; profile_only = profile }) (same_some e)
 no_checked run differs None true false true profile e = cc
 no_checked run differs None true false false profile e = differs.2 (record { is_why = false; is_json = false; profile_only = profile }) (same_some e)
 no_checked run differs (Some end) true why json profile e = cc
 no_checked run differs (Some end) false true json profile e =
-    no_other (λ side. Why (record { side = side; is_json = json; profile_only = profile })) run
+    no_stream (λ side. Why (record { side = side; is_json = json; profile_only = profile })) run
     (λ side. differs.1 (record { side = side; is_json = json; profile_only = profile })) (side_named end) e
 no_checked run differs (Some end) false false true profile e = cc
 no_checked run differs (Some end) false false false true e = cc
-no_checked run differs (Some end) false false false false e = no_other Check run differs.0 (side_named end) e
+no_checked run differs (Some end) false false false false e = no_stream Check run differs.0 (side_named end) e
 
 no_check_met : (run : Run) → IsNoCheck run → (met : Option (Text × List Row)) → option_map (λ m. m.0) met ≡ Some check → run_in met ≡ Some run → ⊥
 unfolding clap_on_literals
@@ -333,7 +342,7 @@ entered_check : (run : Run) → IsNoCheck run → (line : List Text) → run_in 
 unfolding clap_on_literals
 entered_check run differs line e = no_check_met run differs (entered app (Some (check, line))) refl e
 
-read_show : (run : Run) → ((side : Side) → Show side ≡ run → ⊥) → (line : List Text) → run_in (subcommand_of bidi_app (show ∷ line)) ≡ Some run → ⊥
+read_show : (run : Run) → ((side : Side) → Stream (Show side) ≡ run → ⊥) → (line : List Text) → run_in (subcommand_of bidi_app (show ∷ line)) ≡ Some run → ⊥
 read_show run differs line e = entered_show run differs line (subst (λ s. run_in (entered app s) ≡ Some run) (stop_show line) e)
 
 read_check : (run : Run) → IsNoCheck run → (line : List Text) → run_in (subcommand_of bidi_app (check ∷ line)) ≡ Some run → ⊥
@@ -353,37 +362,37 @@ entered_host run differs line e = no_other Host run differs _ e
 read_host : (run : Run) → ((h : HostOptions) → Host h ≡ run → ⊥) → (line : List Text) → run_in (subcommand_of bidi_app (host ∷ line)) ≡ Some run → ⊥
 read_host run differs line e = entered_host run differs line (subst (λ s. run_in (entered app s) ≡ Some run) (stop_host line) e)
 
-host_is_no_play : (h : HostOptions) → Host h ≡ Play → ⊥
+host_is_no_play : (h : HostOptions) → Host h ≡ (Stream Play) → ⊥
 host_is_no_play h e = cc
 
-host_is_no_pair : (h : HostOptions) → Host h ≡ Pair → ⊥
+host_is_no_pair : (h : HostOptions) → Host h ≡ (Stream Pair) → ⊥
 host_is_no_pair h e = cc
 
-serve_is_no_play : (s : ServeOptions) → Serve s ≡ Play → ⊥
+serve_is_no_play : (s : ServeOptions) → Serve s ≡ (Stream Play) → ⊥
 serve_is_no_play s e = cc
 
-serve_is_no_pair : (s : ServeOptions) → Serve s ≡ Pair → ⊥
+serve_is_no_pair : (s : ServeOptions) → Serve s ≡ (Stream Pair) → ⊥
 serve_is_no_pair s e = cc
 
-reduce_is_no_play : (n : ℕ) → Reduce n ≡ Play → ⊥
+reduce_is_no_play : (n : ℕ) → Stream (Reduce n) ≡ (Stream Play) → ⊥
 reduce_is_no_play n e = cc
 
-reduce_is_no_pair : (n : ℕ) → Reduce n ≡ Pair → ⊥
+reduce_is_no_pair : (n : ℕ) → Stream (Reduce n) ≡ (Stream Pair) → ⊥
 reduce_is_no_pair n e = cc
 
-show_is_no_play : (side : Side) → Show side ≡ Play → ⊥
+show_is_no_play : (side : Side) → Stream (Show side) ≡ (Stream Play) → ⊥
 show_is_no_play side e = cc
 
-show_is_no_pair : (side : Side) → Show side ≡ Pair → ⊥
+show_is_no_pair : (side : Side) → Stream (Show side) ≡ (Stream Pair) → ⊥
 show_is_no_pair side e = cc
 
-play_is_no_check : IsNoCheck Play
+play_is_no_check : IsNoCheck (Stream Play)
 play_is_no_check = (λ side e. cc, λ o e. cc, λ o e. cc)
 
-pair_is_no_check : IsNoCheck Pair
+pair_is_no_check : IsNoCheck (Stream Pair)
 pair_is_no_check = (λ side e. cc, λ o e. cc, λ o e. cc)
 
-pair_is_no_play : Pair ≡ Play → ⊥
+pair_is_no_play : (Stream Pair) ≡ (Stream Play) → ⊥
 pair_is_no_play e = cc
 
 or_false : (b : Bool) → (b || false) ≡ true → b ≡ true
@@ -437,32 +446,32 @@ begins word line none =
 abbrev IsRead : Run → List Text → Text → Type 0
 IsRead run line word = run_in (subcommand_of bidi_app (word ∷ line)) ≡ Some run
 
-play_from : (word : Text) (line : List Text) → Begins word → faults_of (word ∷ line) ≡ [] → IsRead Play line word → AsksFor (word ∷ line) Play
-play_from word line (with_play e) none read = subst (λ w. AsksFor (w ∷ line) Play) e (entered_play line (subst (λ w. faults_of (w ∷ line) ≡ []) (sym e) none))
-play_from word line (with_pair e) none read = absurd (pair_is_no_play (same_some (sym (read_pair line) ∙ subst (IsRead Play line) (sym e) read)))
-play_from word line (with_reduce e) none read = absurd (read_reduce Play reduce_is_no_play line (subst (IsRead Play line) (sym e) read))
-play_from word line (with_show e) none read = absurd (read_show Play show_is_no_play line (subst (IsRead Play line) (sym e) read))
-play_from word line (with_check e) none read = absurd (read_check Play play_is_no_check line (subst (IsRead Play line) (sym e) read))
-play_from word line (with_serve e) none read = absurd (read_serve Play serve_is_no_play line (subst (IsRead Play line) (sym e) read))
-play_from word line (with_host e) none read = absurd (read_host Play host_is_no_play line (subst (IsRead Play line) (sym e) read))
+play_from : (word : Text) (line : List Text) → Begins word → faults_of (word ∷ line) ≡ [] → IsRead (Stream Play) line word → AsksFor (word ∷ line) (Stream Play)
+play_from word line (with_play e) none read = subst (λ w. AsksFor (w ∷ line) (Stream Play)) e (entered_play line (subst (λ w. faults_of (w ∷ line) ≡ []) (sym e) none))
+play_from word line (with_pair e) none read = absurd (pair_is_no_play (same_some (sym (read_pair line) ∙ subst (IsRead (Stream Play) line) (sym e) read)))
+play_from word line (with_reduce e) none read = absurd (read_reduce (Stream Play) reduce_is_no_play line (subst (IsRead (Stream Play) line) (sym e) read))
+play_from word line (with_show e) none read = absurd (read_show (Stream Play) show_is_no_play line (subst (IsRead (Stream Play) line) (sym e) read))
+play_from word line (with_check e) none read = absurd (read_check (Stream Play) play_is_no_check line (subst (IsRead (Stream Play) line) (sym e) read))
+play_from word line (with_serve e) none read = absurd (read_serve (Stream Play) serve_is_no_play line (subst (IsRead (Stream Play) line) (sym e) read))
+play_from word line (with_host e) none read = absurd (read_host (Stream Play) host_is_no_play line (subst (IsRead (Stream Play) line) (sym e) read))
 
-pair_from : (word : Text) (line : List Text) → Begins word → faults_of (word ∷ line) ≡ [] → IsRead Pair line word → AsksFor (word ∷ line) Pair
-pair_from word line (with_play e) none read = absurd (pair_is_no_play (sym (same_some (sym (read_play line) ∙ subst (IsRead Pair line) (sym e) read))))
-pair_from word line (with_pair e) none read = subst (λ w. AsksFor (w ∷ line) Pair) e (entered_pair line (subst (λ w. faults_of (w ∷ line) ≡ []) (sym e) none))
-pair_from word line (with_reduce e) none read = absurd (read_reduce Pair reduce_is_no_pair line (subst (IsRead Pair line) (sym e) read))
-pair_from word line (with_show e) none read = absurd (read_show Pair show_is_no_pair line (subst (IsRead Pair line) (sym e) read))
-pair_from word line (with_check e) none read = absurd (read_check Pair pair_is_no_check line (subst (IsRead Pair line) (sym e) read))
-pair_from word line (with_serve e) none read = absurd (read_serve Pair serve_is_no_pair line (subst (IsRead Pair line) (sym e) read))
-pair_from word line (with_host e) none read = absurd (read_host Pair host_is_no_pair line (subst (IsRead Pair line) (sym e) read))
+pair_from : (word : Text) (line : List Text) → Begins word → faults_of (word ∷ line) ≡ [] → IsRead (Stream Pair) line word → AsksFor (word ∷ line) (Stream Pair)
+pair_from word line (with_play e) none read = absurd (pair_is_no_play (sym (same_some (sym (read_play line) ∙ subst (IsRead (Stream Pair) line) (sym e) read))))
+pair_from word line (with_pair e) none read = subst (λ w. AsksFor (w ∷ line) (Stream Pair)) e (entered_pair line (subst (λ w. faults_of (w ∷ line) ≡ []) (sym e) none))
+pair_from word line (with_reduce e) none read = absurd (read_reduce (Stream Pair) reduce_is_no_pair line (subst (IsRead (Stream Pair) line) (sym e) read))
+pair_from word line (with_show e) none read = absurd (read_show (Stream Pair) show_is_no_pair line (subst (IsRead (Stream Pair) line) (sym e) read))
+pair_from word line (with_check e) none read = absurd (read_check (Stream Pair) pair_is_no_check line (subst (IsRead (Stream Pair) line) (sym e) read))
+pair_from word line (with_serve e) none read = absurd (read_serve (Stream Pair) serve_is_no_pair line (subst (IsRead (Stream Pair) line) (sym e) read))
+pair_from word line (with_host e) none read = absurd (read_host (Stream Pair) host_is_no_pair line (subst (IsRead (Stream Pair) line) (sym e) read))
 
--- clap takes `play` and `play --` alone as a play
-pub play_lines : (line : List Text) → faults_of line ≡ [] → run_in (subcommand_of bidi_app line) ≡ Some Play → AsksFor line Play
+-- `clap` accepts only `play` and `play --` as a play
+pub play_lines : (line : List Text) → faults_of line ≡ [] → run_in (subcommand_of bidi_app line) ≡ Some (Stream Play) → AsksFor line (Stream Play)
 unfolding clap_on_literals
 play_lines [] none read = absurd cc
 play_lines (word ∷ line) none read = play_from word line (begins word line none) none read
 
--- and `pair` and `pair --` alone as a pair
-pub pair_lines : (line : List Text) → faults_of line ≡ [] → run_in (subcommand_of bidi_app line) ≡ Some Pair → AsksFor line Pair
+-- `clap` accepts only `pair` and `pair --` as a pair
+pub pair_lines : (line : List Text) → faults_of line ≡ [] → run_in (subcommand_of bidi_app line) ≡ Some (Stream Pair) → AsksFor line (Stream Pair)
 unfolding clap_on_literals
 pair_lines [] none read = absurd cc
 pair_lines (word ∷ line) none read = pair_from word line (begins word line none) none read

@@ -3,35 +3,36 @@ ghost use Rattle.std.specs.Prelude.{◌≡◌, [], IfErr, IfOk, codes, option_an
 ghost use Rattle.clap.specs.Words.{first_of, found_of, rows_of, subcommand_of, subcommand_rows_of};
 ghost use Rattle.bidi_command_line.specs.CommandLine.{AreFilesIn, IsRefusedFor, bidi_app, faults_of, file_named, input_in, line_of};
 
-use super::asked::{LineFault, command, fault};
+use crate::fault::{LineFault, fault};
+use crate::grammar::command;
 use clap::ArgMatches;
 use std::alloc::Global;
 
-/// The files that a command line of `host` names: the texts of its options.
+/// The files that a command line of `host` names, as its options give them.
 #[derive(Debug, Drop)]
 pub struct HostFiles {
-    /// `--page`: the file whose lines of a page are played before the program listens.
+    /// `--page`: the file whose page lines are played before the program listens.
     pub page_file: Option<String>,
     /// `--record`: the file to which each input is appended.
     pub record_file: Option<String>,
 }
 
-/// The files that the words after the program's name give to `host`.
+/// Reads the files of `host` from the arguments after the program's name.
 ///
-/// Call it where [`command_line`](crate::command_line) gives `Run::Host` for the same words: then it fails only
-/// for want of memory. A line of another run names no file.
+/// Call it if [`command_line`](crate::command_line) gives `Run::Host` for the same arguments: then it fails
+/// only if an allocation fails. The arguments of another run name no such files.
 ///
 /// # Errors
-/// - `Help`, `Usage`: `command_line` refuses the words so too.
+/// - `Help`, `Usage`: the arguments are refused, as `command_line` refuses them.
 /// - `NoMemory`: an allocation failed.
 pub fn host_files(alloc: Global, words: &[&str]) -> Result<HostFiles, LineFault>
-    // The texts are those that the line gives `--page` and `--record`.
+    // The files are the values of `--page` and `--record`.
     ensures ok { IfOk result (AreFilesIn (subcommand_of bidi_app (line_of words.now))) }
 
-    // A line that `clap` takes is refused only where an allocation failed.
+    // If `clap` accepts the arguments, the only fault is `NoMemory`.
     ensures taken { faults_of (line_of words.now) ≡ [] → IfErr result (λ fault. fault ≡ LineFault.NoMemory) }
 
-    // Any other refusal has its cause among the faults that `clap` finds in the line.
+    // `Help` and `Usage` have their cause among the faults that `clap` finds in the arguments.
     ensures err { IfErr result (IsRefusedFor (line_of words.now)) }
 {
     let Ok(command) = command(alloc) else {
@@ -62,23 +63,23 @@ fn files_of(alloc: Global, matches: &ArgMatches<'_>) -> Result<HostFiles, LineFa
     })
 }
 
-/// The file that the words after the program's name have `show` or `check` read in place of the standard input, if they
-/// name one. `-` names the standard input.
+/// Reads the input file of `show` or `check` from the arguments after the program's name; `None` and `-` mean
+/// standard input.
 ///
-/// Call it where [`command_line`](crate::command_line) gives a run of `show` or `check` for the same words: then it
-/// fails only for want of memory. A line of another run names no such file.
+/// Call it if [`command_line`](crate::command_line) gives a run of `show` or `check` for the same arguments:
+/// then it fails only if an allocation fails. The arguments of another run name no such file.
 ///
 /// # Errors
-/// - `Help`, `Usage`: `command_line` refuses the words so too.
+/// - `Help`, `Usage`: the arguments are refused, as `command_line` refuses them.
 /// - `NoMemory`: an allocation failed.
 pub fn input_file(alloc: Global, words: &[&str]) -> Result<Option<String>, LineFault>
-    // The file is the one that the line names.
+    // The result is the file that the last argument names, or `None` for standard input.
     ensures ok { IfOk result (λ file. option_map string_bytes file ≡ input_in (subcommand_of bidi_app (line_of words.now))) }
 
-    // A line that `clap` takes is refused only where an allocation failed.
+    // If `clap` accepts the arguments, the only fault is `NoMemory`.
     ensures taken { faults_of (line_of words.now) ≡ [] → IfErr result (λ fault. fault ≡ LineFault.NoMemory) }
 
-    // Any other refusal has its cause among the faults that `clap` finds in the line.
+    // `Help` and `Usage` have their cause among the faults that `clap` finds in the arguments.
     ensures err { IfErr result (IsRefusedFor (line_of words.now)) }
 {
     let Ok(command) = command(alloc) else {
@@ -101,7 +102,7 @@ fn input_of(alloc: Global, matches: &ArgMatches<'_>) -> Result<Option<String>, L
     named_file(alloc, inner)
 }
 
-// The file that a subcommand names; `-` names none.
+// The file that a subcommand names, if it names one; `-` is not a file.
 fn named_file(alloc: Global, matches: &ArgMatches<'_>) -> Result<Option<String>, LineFault>
     ensures ok { IfOk result (λ file. option_map string_bytes file
         ≡ option_and_then file_named (first_of (codes "file") (rows_of (found_of matches.now)))) }
@@ -113,7 +114,7 @@ fn named_file(alloc: Global, matches: &ArgMatches<'_>) -> Result<Option<String>,
     }
 }
 
-// The file of this name; `-` is the name of none.
+// The file of this name; `-` is not a file.
 fn file_named(alloc: Global, name: &str) -> Result<Option<String>, LineFault>
     ensures ok { IfOk result (λ file. option_map string_bytes file ≡ file_named name.now) }
     ensures err { IfErr result (λ fault. fault ≡ LineFault.NoMemory) }
@@ -127,7 +128,7 @@ fn file_named(alloc: Global, name: &str) -> Result<Option<String>, LineFault>
     }
 }
 
-// The text that an argument gives, if it gives one.
+// The string that an argument gives, if it is given.
 fn text_of(alloc: Global, matches: &ArgMatches<'_>, name: &str) -> Result<Option<String>, LineFault>
     ensures ok { IfOk result (λ text. option_map string_bytes text ≡ first_of name.now (rows_of (found_of matches.now))) }
     ensures err { IfErr result (λ fault. fault ≡ LineFault.NoMemory) }

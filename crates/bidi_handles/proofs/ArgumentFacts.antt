@@ -1,4 +1,4 @@
--- The bytes of an argument: 1,048,576 of compact text are met, and one more is passed.
+-- The limit of an argument: 1,048,576 bytes of compact text are accepted, and one more is refused.
 use Rattle.std.proofs.Common.{◌≡◌, ℕ, zero, suc, ◌+◌, ◌≤◌, ◌<◌, [], ◌∷◌, ◌++◌, length, replicate, Ok, Err, refl, ap, arith, length-append}
 use Rattle.std.proofs.lemmas.List.{length-replicate}
 use Rattle.std.proofs.lemmas.Bool.Decides.{leb_tells}

@@ -1,4 +1,4 @@
--- Arguments that are checked one by one, and one that is given back.
+-- Checking arguments one by one, and building the value of one.
 use Rattle.std.proofs.Common.{◌≡◌, ◌∙◌, ◌<◌, ◌≤◌, ◌+◌, ℕ, Bool, true, false, List, [], ◌∷◌, ◌++◌, drop, get_or, length, map, append-nil}
 use Rattle.std.proofs.Common.{Result, Ok, Err, Vec, Global, IfErr, refl, sym, ap, subst, arith}
 use Rattle.std.specs.Prelude.{◌&&◌, nat_le}
@@ -53,7 +53,7 @@ module _ (held : Held) (values : List (Nested LocalPlain ListKind PairsKind)) wh
   rest : (i : ℕ) (v : Nested LocalPlain ListKind PairsKind) → i < length values → v ≡ get_or values i v → drop i values ≡ v ∷ drop (i + 1) values
   rest i v less at = drop_more values i v less ∙ ap (λ w. w ∷ drop (i + 1) values) (sym at)
 
-  -- what is done stands before what comes of the rest
+  -- the arguments that are done come before the results of the rest
   abbrev pub IsFront : List Argument → ℕ → Type 0
   IsFront done i = with_front (map stands_for done) (arguments held (map local_tree (drop i values))) ≡ arguments held (map local_tree values)
 
@@ -88,7 +88,7 @@ module _ (held : Held) (values : List (Nested LocalPlain ListKind PairsKind)) wh
 abbrev within : Node → Result Node ErrorCode
 within v = need (nat_le (levels v) 60 && nat_le (length (compact_text v)) 1048576) UnknownError >>= λ small. Ok v
 
--- what an argument is resolved to that passes
+-- the value that a passing argument resolves to
 pub given-value : (held : Held) (t v : Node) (P : Node → Type 0) → resolved held t ≡ Ok v → IsOkAnd (argument held t) P
     → (levels v ≤ 60) × P v × (argument held t ≡ Ok v)
 given-value held t v P is passes =
@@ -101,7 +101,7 @@ given-value held t v P is passes =
     by true false e passes = absurd passes
     by false c e passes = absurd passes
 
--- it is refused for want of memory alone
+-- the only refusal is a failed allocation
 pub no-code : {A : Type 0} (view : A → Node) (held : Held) (t : Node) (e : Refusal) (P : Node → Type 0)
     → IsOkAnd (argument held t) P → Gives view (Err e) (resolved held t) → e ≡ NoMemory
 no-code view held t (Code code) P passes gives = absurd (subst (λ (r : Result Node ErrorCode). IsOkAnd (r >>= within) P) gives passes)

@@ -1,4 +1,4 @@
--- The first id of each kind, as its text.
+-- The first id of each kind, as a string.
 use Rattle.std.specs.Prelude.{◌≡◌, refl, codes}
 use Rattle.bidi_handles.specs.declared.id.IdKind.TheVariants.{Session, Context, Realm, Navigation, Subscription, Handle, Window, UserContext}
 use Rattle.bidi_handles.specs.Ids.{id_of, id_text}

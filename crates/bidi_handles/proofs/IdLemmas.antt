@@ -1,4 +1,4 @@
--- The text of an id parses to its bytes.
+-- The string of an id parses to its bytes.
 use Rattle.std.proofs.Common.{◌≡◌, ◌∙◌, ◌<◌, ◌%◌, ◌↔◌, ℕ, true, List, All, Some, Result, Ok, IsOk, IfOk, inl, refl, sym, ap, arith}
 use Rattle.std.specs.Prelude.{bytes_eq}
 use Rattle.std.proofs.lemmas.List.Elements.{All-from_recursion}
@@ -17,7 +17,7 @@ bytes-fit kind session n =
     All-from_recursion (λ b. b < 256) (id_bytes kind session n)
     (byte _, (byte _, (byte _, (byte _, (byte _, (byte _, (half, (zero, (half, (zero, (byte _, (byte _, (byte _, (byte _, (byte _, (byte _, tt))))))))))))))))
 
--- what parses, and is an id, gave the bytes of that id
+-- a text that parses and is an id has the bytes of that id
 pub parses-to : {E : Type 0} (r : Result (List ℕ) E) (id : List ℕ) (kind : IdKind) (session n : ℕ)
     → (IsOk r ↔ ((u : List ℕ) × (parsed id ≡ Some u))) → IfOk r (λ u. Some u ≡ parsed id)
     → bytes_eq id (id_text kind session n) ≡ true → r ≡ Ok (id_bytes kind session n)

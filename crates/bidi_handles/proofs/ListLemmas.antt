@@ -1,11 +1,11 @@
--- What is found in a list, and what passes a test there.
+-- Laws of finding and filtering in lists.
 use Rattle.std.proofs.Common.{◌≡◌, ◌∙◌, ◌+◌, ◌<◌, ℕ, suc, Bool, true, false, List, [], ◌∷◌, ◌++◌, length, get_or}
 use Rattle.std.proofs.Common.{take, map, filter, append-nil, Option, Some, None, refl, sym, ap, arith}
 use Rattle.std.specs.Prelude.{find, option_map, if◌then◌else◌}
 use Rattle.std.proofs.lemmas.List.{map-append, take_more}
 use Rattle.std.proofs.lemmas.List.Elements.{filter-append}
 
--- two tests agree where each follows from the other
+-- two tests agree if each implies the other
 pub agree : (x y : Bool) → (x ≡ true → y ≡ true) → (y ≡ true → x ≡ true) → x ≡ y
 agree true y there back = sym (there refl)
 agree false true there back = back refl
@@ -21,12 +21,12 @@ pub find-map : {A B : Type 0} (f : A → B) (p : B → Bool) (xs : List A) → o
 find-map f p [] = refl
 find-map f p (x ∷ xs) = let ih = find-map f p xs in grind (arith, ih)
 
--- there is none where each fails
+-- if each item fails, none is found
 pub find-none : {X : Type 0} (p : X → Bool) (xs : List X) → ((k : ℕ) (d : X) → k < length xs → p (get_or xs k d) ≡ false) → find p xs ≡ None
 find-none p [] fails = refl
 find-none p (x ∷ xs) fails = rw (fails 0 x (omega arith)) (find-none p xs (λ k d less. fails (suc k) d (omega arith)))
 
--- two tests that agree find the same
+-- two tests that agree find the same item
 pub find-same : {A : Type 0} (p q : A → Bool) (xs : List A) → ((x : A) → p x ≡ q x) → find p xs ≡ find q xs
 find-same p q [] same = refl
 find-same p q (x ∷ xs) same = let ih = find-same p q xs same in let here = same x in grind (arith, ih, here)

@@ -1,4 +1,4 @@
--- Numbers that ascend: what is among them says which they are. So the handles of some numbers are found by either.
+-- Lists of ascending numbers are equal if they have the same members.
 use Rattle.std.proofs.Common.{◌≡◌, ◌∙◌, ◌<◌, ◌+◌, ◌^◌, ℕ, suc, Bool, true, false, List, [], ◌∷◌}
 use Rattle.std.proofs.Common.{length, get_or, map, take, filter, refl, sym, ap, ap₂, subst, arith}
 use Rattle.std.specs.Prelude.{◌==◌, ◌&&◌, ◌||◌, not, if◌then◌else◌, find, is_some, Some}
@@ -20,7 +20,7 @@ among n xs = list_any (λ m. m == n) xs
 
 -- ---- each once
 
--- a number behind others is among them where it is the first, or behind it
+-- a number is in a list if it is the first item, or in the rest
 either : (a b c : Bool) → (b ≡ true → a ≡ true) → (a || c) ≡ (a || (b || c))
 either true b c same = refl
 either false true c same = absurd (let wrong = same refl in cc)
@@ -35,14 +35,14 @@ among-from n k (x ∷ xs) = by (x == k) refl (among-from n k xs) (among-from n x
     by true e kept first = kept ∙ either (k == n) (x == n) (among n xs) (λ t. grind (arith, nat_tests, e, t))
     by false e kept first = ap (λ b. k == n || b) first
 
--- the same are among some where each is left once
+-- removing duplicates keeps the same numbers
 pub among-dedup : (n : ℕ) (xs : List ℕ) → among n (dedup eqb xs) ≡ among n xs
 among-dedup n [] = refl
 among-dedup n (x ∷ xs) = among-from n x xs
 
 -- ---- those that ascend
 
--- what is behind the first is above it
+-- every number after the first is greater
 module _ (x : ℕ) (xs : List ℕ) (ascend : IsStrictlyIncreasing (x ∷ xs)) where
   first-below : (k : ℕ) → k < length xs → x < get_or xs k 0
   first-below k less = AllPairs-from_increasing (x ∷ xs) ascend 0 (suc k) 0 (omega arith) (omega arith)
@@ -59,7 +59,7 @@ above x (y ∷ ys) low n e =
     let later = above x ys (λ k less. low (suc k) (omega arith)) n in
     grind (arith, nat_tests, here, later, e)
 
--- lists that ascend are equal where the same numbers are among them
+-- ascending lists are equal if the same numbers are in them
 same-numbers : (xs ys : List ℕ) → IsStrictlyIncreasing xs → IsStrictlyIncreasing ys → ((n : ℕ) → among n xs ≡ among n ys) → xs ≡ ys
 same-numbers [] [] ascend too same = refl
 same-numbers [] (y ∷ ys) ascend too same = let e = same y in grind (arith, nat_tests, e)
@@ -85,7 +85,7 @@ same-numbers (x ∷ xs) (y ∷ ys) ascend too same = ap₂ (λ m ms. m ∷ ms) f
 
 -- ---- of two lists
 
--- what is among those that pass is among all, and passes
+-- a number that is left by a filter is in the list, and passes
 among-filter : (n : ℕ) (p : ℕ → Bool) (xs : List ℕ) → among n (filter p xs) ≡ (p n && among n xs)
 among-filter n p xs = any-filter_same (λ m. m == n) p (p n) (λ k e. ap p ((Decides-eqb k n).0 e)) xs
 
@@ -104,7 +104,7 @@ both-ways ns ms ascend too =
 
 -- ---- of handles
 
--- there is one where some pass
+-- if some number passes, there is one
 pub find-any : {X : Type 0} (p : X → Bool) (xs : List X) → is_some (find p xs) ≡ list_any p xs
 find-any p [] = refl
 find-any p (x ∷ xs) = by (p x) (find-any p xs)
@@ -135,7 +135,7 @@ numbers-picked t ns hs ascend too named =
 
 -- ---- one after another
 
--- what is left of what is left
+-- filtering twice
 left-of : {X : Type 0} (p q : X → Bool) (xs : List X) → filter q (filter p xs) ≡ filter (λ x. p x && q x) xs
 left-of p q [] = refl
 left-of p q (x ∷ xs) = by (p x) (left-of p q xs)

@@ -1,4 +1,4 @@
--- Arguments that are resolved, one by one and part by part.
+-- Resolving arguments one by one and part by part.
 use Rattle.std.proofs.Common.{◌≡◌, ◌∙◌, ◌<◌, ◌≤◌, ◌+◌, ℕ, List, [], ◌∷◌, ◌++◌, drop, get_or, length, map, codes, true, false, true≢false}
 use Rattle.std.proofs.Common.{String, string_bytes, Option, Some, None, Result, Ok, Err, Vec, Global, refl, sym, ap, subst}
 use Rattle.std.specs.Prelude.{◌||◌, is_some, option_map}
@@ -83,7 +83,7 @@ shared-refused held r s is =
     ap (λ r. resolved held (references.ghosts.shape.tree_of r)) is
     ∙ by-shared held (shared.ghosts.shape.tree_of s) (text (string_bytes s.shared_id)) (shared-there s)
 
--- a reference has a member `sharedId` where it has a shared id, or a further member of that name
+-- a reference has a member `sharedId` if it has a shared id, or a further member of that name
 pub shared_id-there : (r : RemoteObjectReference)
     → is_some (get_of (codes "sharedId") (objects.ghosts.shape.tree_of r)) ≡ (is_some r.shared_id || is_some (get_member (codes "sharedId") (others_of r.ext)))
 shared_id-there r =
@@ -119,7 +119,7 @@ this-passes held t u is = rw is refl
 
 -- ---- the items of a list
 
--- some items behind those that are done
+-- some items after those that are done
 abbrev pub behind : List Node → Items → Items
 behind [] ts = ts
 behind (d ∷ done) ts = item d (behind done ts)
@@ -204,7 +204,7 @@ local-pairs : (v : Nested LocalPlain ListKind PairsKind) (k : PairsKind) (ps : V
     → v ≡ PairsOf k ps → local_tree v ≡ typed (pairs_text k) (list_node (items_of (map local_pair_tree ps.items)))
 local-pairs v k ps is = ap local_tree is ∙ (of_pairs_tree local.ghosts.nesting k ps ∙ around-pairs k _)
 
--- and what they come to
+-- the value that an array, or an object of pairs, resolves to
 pub list-given : (held : Held) (v : Nested LocalPlain ListKind PairsKind) (k : ListKind) (vs : Vec (Nested LocalPlain ListKind PairsKind) Global)
     (us : Vec (Nested RemotePlain (HeldBy ListKind) (HeldBy PairsKind)) Global) → v ≡ ListOf k vs
     → resolved_items held (items_of (map local_tree vs.items)) ≡ Ok (remote_trees us)
@@ -237,13 +237,13 @@ pairs-refused held v k ps NoMemory is gives = tt
 
 -- ---- one by one
 
--- a refusal that is handed on
+-- a refusal that is returned early
 pub handed : {A B : Type 0} (view : A → B) (r : Result A Refusal) (e : Refusal) (answer : Result B ErrorCode)
     → IsErrAnd r (λ f. f ≡ e) → Gives view (Err e) answer → Gives view r answer
 handed view (Ok x) e answer is gives = absurd is
 handed view (Err f) e answer is gives = subst (λ g. Gives view (Err g) answer) (sym is) gives
 
--- the first of those that are left, where a list is of what is seen of some
+-- the first of the items that are left
 module _ {A B : Type 0} (local : A → Node) (tree : B → Node) (held : Held) (xs zs : List A) (same : zs ≡ xs) where
   pub seen-more : (done after : List B) (x : A) (y : B) (i : ℕ)
       → i < length zs → x ≡ get_or zs i x → after ≡ done ++ y ∷ [] → resolved held (local x) ≡ Ok (tree y)

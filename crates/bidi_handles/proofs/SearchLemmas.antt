@@ -1,4 +1,4 @@
--- Handles whose numbers ascend: one more that comes, and what a search by halves finds among them.
+-- Handles whose numbers ascend: adding one, and a binary search among them.
 use Rattle.std.proofs.Common.{◌≡◌, ◌∙◌, ◌<◌, ◌≤◌, ◌+◌, ◌^◌, ◌||◌, ℕ, zero, suc, Bool, true, false, List, [], ◌∷◌, ◌++◌}
 use Rattle.std.proofs.Common.{length, get_or, map, take, filter, All, Option, Some, None, IfSome, option_to_list, Result, Ok, Err}
 use Rattle.std.proofs.Common.{String, Global, string_bytes, refl, sym, ap, ap₂, subst, arith}
@@ -23,14 +23,14 @@ use Rattle.bidi_handles.proofs.ValueLemmas.{same-either}
 
 -- ---- the first that passes a test
 
--- it stands where none before it passes
+-- the item is the first one that passes
 find-here : {X : Type 0} (p : X → Bool) (xs : List X) (i : ℕ) (d : X)
     → i < length xs → ((k : ℕ) → k < i → p (get_or xs k d) ≡ false) → p (get_or xs i d) ≡ true → find p xs ≡ Some (get_or xs i d)
 find-here p [] i d less before here = absurd (omega arith)
 find-here p (x ∷ xs) zero d less before here = rw here refl
 find-here p (x ∷ xs) (suc i) d less before here = rw (before 0 (omega arith)) (find-here p xs i d (omega arith) (λ k lower. before (suc k) (omega arith)) here)
 
--- all are left that pass, and all but one that fails alone
+-- if all items pass, a filter keeps them all; if only one fails, it removes that one
 all-kept : {X : Type 0} (p : X → Bool) (xs : List X) → ((k : ℕ) (d : X) → k < length xs → p (get_or xs k d) ≡ true) → filter p xs ≡ xs
 all-kept p [] pass = refl
 all-kept p (x ∷ xs) pass = rw (pass 0 x (omega arith)) (ap (λ ys. x ∷ ys) (all-kept p xs (λ k d less. pass (suc k) d (omega arith))))
@@ -47,7 +47,7 @@ taken-here p (x ∷ xs) (suc i) d less fails before after =
 -- ---- by number
 
 module _ {X : Type 0} (number : X → ℕ) (xs : List X) (ascend : IsStrictlyIncreasing (map number xs)) where
-  -- each number is below those behind it
+  -- each number is less than those after it
   below-later : (i j : ℕ) (d : X) → i < j → j < length xs → number (get_or xs i d) < number (get_or xs j d)
   below-later i j d less within =
       let all = AllPairs-from_increasing (map number xs) ascend i j 0 less (omega (arith, length-map xs number)) in
@@ -62,14 +62,14 @@ module _ {X : Type 0} (number : X → ℕ) (xs : List X) (ascend : IsStrictlyInc
         grind (arith, nat_tests, later, same)
 
     module _ (i : ℕ) (within : IsSearchInRange (Err i) (length xs)) (parted : IsBinarySearchResult (λ x. nat_cmp (number x) n) xs (Err i)) where
-      -- where nothing is found, each number is another
+      -- if nothing is found, no handle has the number
       apart : (k : ℕ) (d : X) → k < length xs → (number (get_or xs k d) == n) ≡ false
       apart k d inside =
           let before : k < i → number (get_or xs k d) < n = λ lower. ranked _ n _ (sym ((parted comparisons-rise).0 k d (omega arith) lower)) in
           let after : i ≤ k → n < number (get_or xs k d) = λ higher. ranked _ n _ (sym ((parted comparisons-rise).1 k d higher inside)) in
           grind (arith, nat_tests, before, after)
 
-    -- what is found is the one of that number
+    -- the handle that is found is the one with that number
     pub found : (i : ℕ) (d : X) → IsSearchInRange (Ok i) (length xs)
         → IsBinarySearchResult (λ x. nat_cmp (number x) n) xs (Ok i) → find (λ x. number x == n) xs ≡ Some (get_or xs i d)
     found i d within at =
@@ -78,7 +78,7 @@ module _ {X : Type 0} (number : X → ℕ) (xs : List X) (ascend : IsStrictlyInc
         (λ k lower. let less = below-later k i d lower within in grind (arith, nat_tests, less, here))
         (grind (arith, nat_tests, here))
 
-    -- and those of other numbers are left where it is taken out
+    -- the handles with other numbers are left when it is removed
     pub taken : (i : ℕ) (d : X) → IsSearchInRange (Ok i) (length xs)
         → IsBinarySearchResult (λ x. nat_cmp (number x) n) xs (Ok i) → remove xs i ≡ filter (λ x. not (n == number x)) xs
     taken i d within at =
@@ -87,7 +87,7 @@ module _ {X : Type 0} (number : X → ℕ) (xs : List X) (ascend : IsStrictlyInc
         (λ k lower. let less = below-later k i d lower within in grind (arith, nat_tests, less, here))
         (λ k higher inside. let more = below-later i k d higher inside in grind (arith, nat_tests, more, here))
 
-    -- where nothing is found there is none
+    -- if nothing is found, there is no such handle
     pub not-found : (i : ℕ) → IsSearchInRange (Err i) (length xs)
         → IsBinarySearchResult (λ x. nat_cmp (number x) n) xs (Err i) → find (λ x. number x == n) xs ≡ None
     not-found i within parted = find-none (λ x. number x == n) xs (apart i within parted)
@@ -113,7 +113,7 @@ value-seen t hs o is = seen o ∙ ap (option_map (λ held. held.1)) (ap (option_
 
 -- ---- the numbers of handles
 
--- what holds of each that is seen holds of each handle, as it is seen
+-- a fact about each handle as contracts see it holds of each handle
 pub all-seen : (P : ℕ × Node → Type 0) (hs : List Handle) → All P (map handle_seen hs) → All (λ h. P (handle_seen h)) hs
 all-seen P hs all k d less = subst P (get_or-map handle_seen hs k d (handle_seen d) less) (all k (handle_seen d) (omega (arith, length-map hs handle_seen)))
 
@@ -122,7 +122,7 @@ number_at [] k d = refl
 number_at (h ∷ hs) zero d = refl
 number_at (h ∷ hs) (suc k) d = number_at hs k d
 
--- a number that ascends behind those of handles is above them
+-- a number that comes after those of handles in ascending order is greater than them
 pub all-below : (hs : List Handle) (n : ℕ) → IsStrictlyIncreasing (map (λ h. h.number) hs ++ n ∷ []) → All (λ held. held.0 < n) (map handle_seen hs)
 all-below hs n up k d less =
     let ns : List ℕ = map (λ h. h.number) hs in

@@ -1,4 +1,4 @@
--- A value as it is told, cut and with a handle: it takes a handle where the whole one does, and has no more levels.
+-- A value in a reply: it can have a handle if the whole value can, and it has no more levels.
 use Prim.Native.String as native
 use Rattle.std.proofs.Common.{◌≡◌, ◌≤◌, ℕ, List, [], ◌∷◌, Option, Some, None, Ordering, Less, Equal, Greater, nat_cmp, codes, refl, ap, arith}
 use Rattle.std.proofs.Common.{unwrap_or, option_and_then}

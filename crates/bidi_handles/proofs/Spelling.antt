@@ -1,5 +1,4 @@
--- How facts spell JSON: `'` stands for the quotation mark, and `$` with a letter and a digit for a whole id.
--- `$c2` is the id of the second context, `$u1` of the first subscription of session 1, `$v1` of the first of session 2, `$k1` of the first user context.
+-- The spelling of JSON in facts: `'` means a quotation mark, and `$` with a letter and a digit means a whole id.
 use Prim.Native.String.{String}
 use Rattle.std.specs.Prelude.{ℕ, zero, suc, ◌-◌, ◌==◌, List, [], ◌∷◌, ◌++◌, slice_index, codes, if◌then◌else◌}
 use Rattle.bidi_handles.specs.declared.id.IdKind.TheVariants.{Session, Context, Realm, Navigation, Subscription, Handle, Window, UserContext}

@@ -1,4 +1,4 @@
--- Values: a local value as a remote one, which values take a handle, and which may stand in the table. After WebDriver BiDi, "The script.LocalValue Type" and "The script.RemoteValue Type".
+-- Resolving local values, and handles of remote values. After WebDriver BiDi, "The script.LocalValue Type", "The script.RemoteValue Type".
 use Prim.Native.String.{String}
 use Rattle.std.specs.Prelude.{ℕ, Bool, false, not, ◌&&◌, ◌||◌, nat_le, List, [], ◌∷◌, length, codes, bytes_eq, Option, Some, None, Result, Ok, Err}
 use Rattle.std.specs.List.{list_any}
@@ -13,34 +13,35 @@ use Rattle.bidi_handles.specs.Checks.{◌>>=◌, need, found}
 
 -- ---- resolving a local value
 
--- the value that each handle of a realm holds
+-- the value of each handle of a realm, by the handle's id; None if there is no such handle
 abbrev pub Held : Type 0
 Held = List ℕ → Option Node
 
--- what a handle's tree gives
+-- the value of the handle that the member `handle` names
 abbrev pub handle_value : Held → Node → Result Node ErrorCode
 handle_value held (text id) = found (held id) NoSuchHandle
 handle_value held t = Err NoSuchHandle
 
--- what stands for a map: by a shared id there is no node, a handle has its value, and any other map stays
+-- the value of an object: `no such node` if it has a `sharedId`, the value of its handle if it has a `handle`, and else the object resolved inside
 abbrev pub referred : Held → Option Node → Option Node → Result Node ErrorCode → Result Node ErrorCode
 referred held (Some id) handle other = Err NoSuchNode
 referred held None (Some id) other = handle_value held id
 referred held None None other = other
 
--- the map of these members
+-- the object of these members, or the code of their failure
 abbrev pub in_map : Result Members ErrorCode → Result Node ErrorCode
 in_map (Ok ms) = Ok (map ms)
 in_map (Err code) = Err code
 
--- the list of these items
+-- the array of these items, or the code of their failure
 abbrev pub in_list : Result Items ErrorCode → Result Node ErrorCode
 in_list (Ok ts) = Ok (list ts)
 in_list (Err code) = Err code
 
--- A local value with the value of its handle in place of each reference, in list order and in a pair first the key, or the code of the first that fails.
--- What is no reference stays: a local and a remote value of one type and content have one tree.
+-- A local value with each reference replaced by the value of its handle, or the code of the first reference that fails. In a pair the key
+-- comes first. Everything else stays, because a local and a remote value of the same type and content have the same tree.
 abbrev mutual
+  -- example: a shared id is `no such node`
   pub resolved : Held → Node → Result Node ErrorCode
   resolved held null = Ok null
   resolved held (boolean b) = Ok (boolean b)
@@ -50,6 +51,7 @@ abbrev mutual
   resolved held (list ts) = in_list (resolved_items held ts)
   resolved held (map ms) = referred held (get_member (codes "sharedId") ms) (get_member (codes "handle") ms) (in_map (resolved_members held ms))
 
+  -- the items resolved in order, or the code of the first that fails
   pub resolved_items : Held → Items → Result Items ErrorCode
   resolved_items held no_items = Ok no_items
   resolved_items held (item t ts) = do
@@ -57,6 +59,7 @@ abbrev mutual
     us ← resolved_items held ts
     Ok (item u us)
 
+  -- the members resolved in order, or the code of the first that fails
   pub resolved_members : Held → Members → Result Members ErrorCode
   resolved_members held no_members = Ok no_members
   resolved_members held (member k t ms) = do
@@ -64,14 +67,22 @@ abbrev mutual
     us ← resolved_members held ms
     Ok (member k u us)
 
--- an argument, or `this`, resolved: it has at most 60 levels and 1,048,576 bytes of compact text
+-- the most levels of an argument once it is resolved
+abbrev pub most_levels : ℕ
+most_levels = 60
+
+-- the most bytes of its compact text
+abbrev pub most_bytes : ℕ
+most_bytes = 1048576
+
+-- an argument, or `this`, resolved; `unknown error` if the result has more than 60 levels or 1,048,576 bytes of compact text
 abbrev pub argument : Held → Node → Result Node ErrorCode
 argument held value = do
   v ← resolved held value
-  small ← need (nat_le (levels v) 60 && nat_le (length (compact_text v)) 1048576) UnknownError
+  small ← need (nat_le (levels v) most_levels && nat_le (length (compact_text v)) most_bytes) UnknownError
   Ok v
 
--- each argument in order
+-- the arguments resolved in order, or the code of the first that fails
 abbrev pub arguments : Held → List Node → Result (List Node) ErrorCode
 arguments held [] = Ok []
 arguments held (value ∷ values) = do
@@ -81,27 +92,27 @@ arguments held (value ∷ values) = do
 
 -- ---- handles
 
--- the text is one of these words
+-- the string is one of these words
 abbrev pub is_one_of : List String → List ℕ → Bool
 is_one_of words s = list_any (λ word. bytes_eq (codes word) s) words
 
--- a primitive value takes no handle, and each other one does
+-- the value can have a handle: all values can except primitive ones
 abbrev pub takes_handle : Node → Bool
 takes_handle v = not (is_one_of ("undefined" ∷ "null" ∷ "string" ∷ "number" ∷ "boolean" ∷ "bigint" ∷ []) (text_at "type" v))
 
--- the map with a tree at a name
+-- the object with this tree at this name; any other tree is left as it is
 abbrev pub with_member : String → Node → Node → Node
 with_member name t (map ms) = map (put (codes name) t ms)
 with_member name t u = u
 
--- the value with its handle, where it gets one
+-- the value with its handle, if it has one
 abbrev pub shown_as : Option ℕ → Node → Node
 shown_as None value = value
 shown_as (Some n) value = with_member "handle" (id_tree Handle n) value
 
 -- ---- the table
 
--- a member `handle` or `internalId` stands in the tree, at any depth
+-- the tree has a member `handle` or `internalId`, at any depth
 abbrev mutual
   pub has_handle : Node → Bool
   has_handle null = false
@@ -112,10 +123,12 @@ abbrev mutual
   has_handle (list ts) = items_have_handle ts
   has_handle (map ms) = members_have_handle ms
 
+  -- some item has a member `handle` or `internalId`, at any depth
   pub items_have_handle : Items → Bool
   items_have_handle no_items = false
   items_have_handle (item t ts) = has_handle t || items_have_handle ts
 
+  -- some member is named `handle` or `internalId`, or has such a member at any depth
   pub members_have_handle : Members → Bool
   members_have_handle no_members = false
   members_have_handle (member k t ms) = is_one_of ("handle" ∷ "internalId" ∷ []) k || (has_handle t || members_have_handle ms)

@@ -1,4 +1,4 @@
--- What contracts see of values in hand: the tree of one, and what a handle holds.
+-- The values of the code as contracts see them: their trees, and the contents of handles. After WebDriver BiDi, "The script.RemoteValue Type".
 use Rattle.std.specs.Prelude.{ℕ, map, Vec}
 use Rattle.std.specs.declared.alloc.Global.{Global}
 use Rattle.std.specs.declared.rc.Rc.{Rc}
@@ -18,30 +18,34 @@ use Rattle.bidi_values.specs.declared.held.Held.{Held as HeldBy}
 use Rattle.bidi_handles.specs.declared.handle.Handle.{Handle}
 use Rattle.bidi_handles.specs.declared.handle.HeldValue.{HeldValue}
 
--- the tree of a local value in hand, of a pair of an object or a map, and of its key
+-- the tree of a local value
 abbrev pub local_tree : Nested LocalPlain ListKind PairsKind → Node
 local_tree v = nested_tree local.ghosts.nesting v
 
+-- the tree of a pair of a local object or map
 abbrev pub local_pair_tree : NestedPair LocalPlain ListKind PairsKind → Node
 local_pair_tree p = nested_pair_tree local.ghosts.nesting p
 
+-- the tree of the key of a pair of a local object or map
 abbrev pub local_key_tree : NestedKey LocalPlain ListKind PairsKind → Node
 local_key_tree k = nested_key_tree local.ghosts.nesting k
 
--- those of some values, and of some pairs
+-- the trees of some remote values
 abbrev pub remote_trees : Vec (Nested RemotePlain (HeldBy ListKind) (HeldBy PairsKind)) Global → Items
 remote_trees vs = items_of (map remote_tree vs.items)
 
+-- the trees of some pairs of a remote object or map
 abbrev pub remote_pair_trees : Vec (NestedPair RemotePlain (HeldBy ListKind) (HeldBy PairsKind)) Global → Items
 remote_pair_trees ps = items_of (map remote_pair_tree ps.items)
 
--- that of a value that may be held, also where it is shared
+-- the tree of a value that handles and table rows hold
 abbrev pub held_tree : HeldValue → Node
 held_tree held = remote_tree held.value
 
+-- the tree of a value that is shared
 abbrev pub shared_tree : Rc HeldValue Global → Node
 shared_tree shared = held_tree shared.value
 
--- a handle by its number, with the value that it holds
+-- a handle by its number, with the tree of its value
 abbrev pub handle_seen : Handle → ℕ × Node
 handle_seen handle = (handle.number, held_tree handle.value.value)

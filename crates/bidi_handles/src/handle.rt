@@ -15,16 +15,20 @@ pub struct HeldValue {
     pub value: RemoteValue,
     /// The levels and bytes of its tree, counted once.
     pub(crate) size: Size,
+    // The value has at most 60 levels.
     ghost few: { levels (nested_tree ⟦<RemotePlain as Nests<RemoteList, RemotePairs>>⟧.nesting value) ≤ 60 },
+    // The size has the levels of the value's tree.
     ghost levels: { size.levels ≡ (size_of (nested_tree ⟦<RemotePlain as Nests<RemoteList, RemotePairs>>⟧.nesting value)).levels },
+    // The size has the bytes of the value's compact text.
     ghost bytes: { size.bytes ≡ (size_of (nested_tree ⟦<RemotePlain as Nests<RemoteList, RemotePairs>>⟧.nesting value)).bytes },
 }
 
-/// A value that a script throws. It has one level fewer than others, since the exception details wrap it.
+/// A value that a script throws. It has one level less than others, because the exception details wrap it.
 #[derive(Drop)]
 pub struct ThrownValue {
     /// The value itself.
     pub held: Rc<HeldValue>,
+    // The value has at most 59 levels.
     ghost few: { levels (nested_tree ⟦<RemotePlain as Nests<RemoteList, RemotePairs>>⟧.nesting held.value.value) ≤ 59 },
 }
 
@@ -44,5 +48,6 @@ pub struct Handle {
     pub number: u64,
     /// The value that it holds.
     pub value: Rc<HeldValue>,
+    // The number fits in an id.
     ghost number_fits: { number < 2 ^ 48 },
 }

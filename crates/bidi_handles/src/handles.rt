@@ -11,10 +11,11 @@ use crate::id::{IdKind, id_number};
 use std::alloc::{AllocError, Global};
 use std::rc::Rc;
 
-/// The handles of a realm, in order of number.
+/// The handles of a realm, in the order of their numbers.
 #[derive(Drop)]
 pub struct Handles {
     items: Vec<Handle>,
+    // The numbers of the handles ascend, so no two are the same.
     ghost ascend: { IsStrictlyIncreasing (map (λ h. h.number) items.items) } by { Prim.hlevel props },
 }
 
@@ -22,8 +23,9 @@ impl Handles {
     ghost use Rattle.bidi_handles.specs.Handles.{handles_seen, values_in, HasSpare};
     ghost use Rattle.bidi_handles.specs.ValuesInHand.{handle_seen, held_tree};
 
-    /// No handles, as a new realm has. Takes no memory.
+    /// Makes an empty collection, as a new realm has. Takes no memory.
     pub fn new(alloc: Global) -> Handles
+        // There are no handles.
         ensures { handles_seen result ≡ [] }
     {
         Handles {
@@ -31,28 +33,31 @@ impl Handles {
         }
     }
 
-    /// How many handles there are.
+    /// The number of handles.
     pub fn len(&self) -> usize
+        // The result counts the handles.
         ensures { result ≡ length (handles_seen self.now) }
     {
         self.items.len()
     }
 
-    /// The value that the handle of this id holds. Does a binary search, and takes no memory.
+    /// Finds the value of the handle with this id. Does a binary search, and takes no memory.
     pub fn held(&self, id: &str) -> Option<&Rc<HeldValue>>
+        // The result is the value of that handle, or `None` if no handle has exactly this id.
         ensures { option_map (λ h. held_tree h.now.value) result ≡ values_in self.now id.now }
     {
         let handle = handle_of_id(&self.items, id)?;
         Some(&handle.value)
     }
 
-    /// The numbers of the handles whose id is one of these, in ascending order.
+    /// Finds the numbers of the handles whose ids are given, in ascending order.
     ///
     /// Sorts the numbers of the ids, and does a binary search among the handles for each.
     ///
     /// # Errors
     /// No memory: an allocation failed.
     pub fn numbers_of(&self, alloc: Global, ids: &Vec<String>) -> Result<Vec<u64>, AllocError>
+        // The result has the number of each handle whose id is given, once, and no others.
         ensures { IfOk result (λ numbers. numbers.items ≡ map (λ h. h.0) (filter (λ h. has_id (map string_bytes ids.now.items) h.0) (handles_seen self.now))) }
     {
         let mut numbers = handle_numbers(alloc, ids)?;
@@ -70,20 +75,24 @@ impl Handles {
     /// Makes room for one more handle.
     ///
     /// # Errors
-    /// No memory: an allocation failed. The handles are as they were.
+    /// No memory: an allocation failed.
     pub fn reserve(&mut self) -> Result<(), AllocError>
+        // The handles stay as they were, even after an error.
         ensures kept { handles_seen self.new ≡ handles_seen self.old }
+        // After an Ok there is room for one more handle.
         ensures room { OnOk result (HasSpare self.new) }
     {
         self.items.reserve(1)
     }
 
-    /// Adds a handle whose number is above those of all others. A handle of any other number is dropped, and nothing
-    /// changes. Takes no memory.
+    /// Adds a handle whose number is greater than all others. Takes no memory.
     pub fn hold(&mut self, handle: Handle)
+        // There is room for one more handle.
         requires { HasSpare self.now }
+        // If its number is greater than all others, the new handle is added at the end.
         ensures added { All (λ held. held.0 < handle.number) (handles_seen self.old)
             → handles_seen self.new ≡ handles_seen self.old ++ handle_seen handle ∷ [] }
+        // Otherwise the new handle is dropped, and the others stay as they were.
         ensures kept { ¬ All (λ held. held.0 < handle.number) (handles_seen self.old) → handles_seen self.new ≡ handles_seen self.old }
     {
         if may_come(&self.items, handle.number) {
@@ -91,9 +100,10 @@ impl Handles {
         }
     }
 
-    /// Releases the handles of these numbers. Does a binary search for each, and moves the handles behind it. Takes
-    /// no memory.
+    /// Releases the handles with these numbers. Does a binary search for each, and moves the handles that
+    /// come after it. Takes no memory.
     pub fn disown(&mut self, numbers: &[u64])
+        // All handles stay except those with these numbers.
         ensures { handles_seen self.new ≡ filter (λ held. not (list_any (λ n. n == held.0) numbers.now)) (handles_seen self.old) }
     {
         for number in numbers {
@@ -115,6 +125,7 @@ impl Handles {
 
     /// Releases all handles. Takes no memory.
     pub fn clear(&mut self)
+        // There are no handles.
         ensures { handles_seen self.new ≡ [] }
     {
         self.items.clear();
@@ -139,7 +150,7 @@ fn handle_at(handles: &[Handle], number: u64) -> Option<&Handle>
     }
 }
 
-// Whether a handle of this number keeps the ascending order where it is added last.
+// Whether adding a handle of this number at the end keeps the ascending order.
 fn may_come(handles: &[Handle], number: u64) -> bool
     ensures may { result ≡ true → IsStrictlyIncreasing (map (λ h. h.number) handles.now)
         → IsStrictlyIncreasing (map (λ h. h.number) handles.now ++ number ∷ []) }
@@ -151,7 +162,7 @@ fn may_come(handles: &[Handle], number: u64) -> bool
     }
 }
 
-// The numbers of the handles that these ids can stand for, each once and in ascending order.
+// The numbers of the handles that can have these ids, each once and in ascending order.
 fn handle_numbers(alloc: Global, ids: &[String]) -> Result<Vec<u64>, AllocError>
     ensures order { IfOk result (λ numbers. IsStrictlyIncreasing numbers.items) }
     ensures ids { (n : ℕ) → n < 2 ^ 48 → IfOk result (λ numbers. list_any (λ m. m == n) numbers.items ≡ has_id (map string_bytes ids.now) n) }

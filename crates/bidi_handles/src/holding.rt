@@ -12,13 +12,16 @@ use bidi_values::RemoteValue;
 use std::alloc::Global;
 use std::rc::Rc;
 
-/// Puts a value into shared memory, with the size of its tree. Costs an outline.
+/// Puts a value into shared memory, with the size of its tree. Makes an outline to measure it.
 ///
 /// # Errors
 /// `NoMemory`: an allocation failed.
 pub fn held(alloc: Global, value: RemoteValue) -> Result<Rc<HeldValue>, Refusal>
+    // The value has at most 60 levels.
     requires { levels (remote_tree value) ≤ 60 }
+    // After an Ok, the shared value is this one.
     ensures ok { IfOk result (λ held. held.value.value ≡ value) }
+    // The only error is `NoMemory`.
     ensures err { IfErr result (λ e. e ≡ Refusal.NoMemory) }
 {
     let size = size_of(&value.outline(alloc)?);

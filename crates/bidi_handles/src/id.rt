@@ -1,4 +1,4 @@
-//! Ids: the text of one, the number that a text stands for, and the comparison of a text with one.
+//! Ids: making one, and reading the number of one.
 ghost use Rattle.std.specs.Prelude.{◌≡◌, ◌<◌, ◌^◌, ℕ, true, bytes_eq, string_bytes, IfOk, IfSome, Some};
 ghost use Rattle.bidi_handles.specs.Ids.{kind_number, session_in, id_bytes, id_text};
 ghost use Rattle.bidi_handles.specs.declared.id.IdKind.{IdKind};
@@ -23,21 +23,23 @@ pub enum IdKind {
     Handle,
     /// A client window.
     Window,
-    /// A user context other than `default`, whose id is that word.
+    /// A user context other than `default`, whose id is the word `default`.
     UserContext,
 }
 
-/// The id of the `n`-th thing of a kind, counted from 1. Only the id of a subscription has `session` in it;
-/// that of any other kind has 0 in its place.
+/// Makes the id of the `n`-th thing of a kind, counted from 1. Only the id of a subscription contains
+/// `session`; that of any other kind contains 0 instead.
 ///
 /// `ssssssss-kkkk-8000-8000-nnnnnnnnnnnn`: the session, the kind and the number, in lower-case hexadecimal.
 ///
 /// # Errors
 /// No memory: an allocation failed.
 ///
-/// After RFC 9562, 4 and 5.8; what stands in the bytes is this project's own.
+/// After RFC 9562, 4 and 5.8; the layout of the bytes is this project's own.
 pub fn id_text(alloc: Global, kind: IdKind, session: u32, n: u64) -> Result<String, AllocError>
+    // The number fits in the six bytes that an id has for it.
     requires { n < 2 ^ 48 }
+    // The result is the id of that kind, session and number.
     ensures { IfOk result (λ s. string_bytes s ≡ id_text kind session n) }
 {
     let mut buffer = Uuid::encode_buffer();
@@ -47,7 +49,7 @@ pub fn id_text(alloc: Global, kind: IdKind, session: u32, n: u64) -> Result<Stri
     String::from_str(alloc, text)
 }
 
-// Whether a text is exactly the id that `id_text` gives.
+// Whether a string is exactly the id that `id_text` makes.
 fn is_id(text: &str, kind: IdKind, session: u32, n: u64) -> bool
     requires { n < 2 ^ 48 }
     ensures { result ≡ bytes_eq text.now (id_text kind session n) }
@@ -59,10 +61,12 @@ fn is_id(text: &str, kind: IdKind, session: u32, n: u64) -> bool
     text == id
 }
 
-/// The number of the thing of this kind that has exactly this id, if the text is such an id; upper-case letters
-/// differ. Takes no memory.
+/// Reads the number of the thing of this kind that has this id. Takes no memory.
 pub fn id_number(id: &str, kind: IdKind, session: u32) -> Option<u64>
+    // If there is a number, it is below 2^48 and the string is exactly its id; upper-case letters
+    // differ.
     ensures some { IfSome result (λ n. (n < 2 ^ 48) × (bytes_eq id.now (id_text kind session n) ≡ true)) }
+    // If the string is the id of a number below 2^48, the result is that number.
     ensures every { (n : ℕ) → n < 2 ^ 48 → bytes_eq id.now (id_text kind session n) ≡ true → result ≡ Some n }
 {
     let number = match Uuid::try_parse(id) {
@@ -98,7 +102,7 @@ fn id_of(kind: IdKind, session: u32, n: u64) -> Uuid
     ])
 }
 
-/// The session that stands in an id of this kind: 0 but for a subscription.
+/// The session that an id of this kind contains: 0 except for a subscription.
 fn session_in(kind: IdKind, session: u32) -> u32
     ensures { result ≡ session_in kind session }
 {
@@ -108,7 +112,7 @@ fn session_in(kind: IdKind, session: u32) -> u32
     }
 }
 
-/// The number that stands for a kind in its ids.
+/// The number that an id of this kind contains.
 fn number_of(kind: IdKind) -> u16
     ensures { result ≡ kind_number kind }
 {

@@ -1,10 +1,28 @@
-//! Ids, the values that handles hold in a realm, and what references to them stand for.
+//! Ids, the values that handles hold in a realm, and the arguments that refer to them.
 //!
-//! [`held`] makes a value that handles and rows of the script table share, and [`Handles`] has those of a realm.
-//! [`check_arguments`] and [`check_this`] measure what a call is given, [`given_back`] builds one [`Argument`] with the
-//! values of its handles in place of references, and [`shown`] copies a value with its handle. [`id_text`] makes
-//! ids, and [`id_number`] reads one to its number. A [`Refusal`] says why an action is refused; `specs/Checks.antt` says what
-//! checks made in order come to.
+//! # Calls
+//! - [`id_text`] makes an id, and [`id_number`] reads the number of one.
+//! - [`held`] makes a value that handles and rows of the script table share. [`Handles`] has the handles of a
+//!   realm: call [`Handles::reserve`] before [`Handles::hold`].
+//! - [`check_arguments`] and [`check_this`] check the arguments of a call without building a value.
+//!   [`given_back`] then builds the value of one [`Argument`], if the script returns it.
+//! - [`shown`] copies a value for a reply, cut at a depth and with its handle; [`takes_handle`] says whether
+//!   it can have one.
+//!
+//! # Example
+//! `id_text(alloc, IdKind::Context, 0, 1)?` is `00000000-0002-8000-8000-000000000001`.
+//!
+//! # Limits
+//! - 60 levels in a value that is held, and 59 in one that a script throws.
+//! - 60 levels and 1,048,576 bytes of compact text in an argument, with the values of its handles counted.
+//! - Numbers below 2^48 in ids.
+//!
+//! # Faults
+//! A [`Refusal`] is the error code to reply with, or `NoMemory`. A call that fails has changed nothing.
+//!
+//! # Memory and time
+//! Handles share their values. An argument is measured by its outline, and each handle is found by a binary
+//! search. The order of checks is that of `specs/Checks.antt`: the first that fails gives its code.
 #![tactic(auto)]
 
 mod argument;

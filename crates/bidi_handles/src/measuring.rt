@@ -1,4 +1,4 @@
-//! The size of the value that an outline stands for, found without building the value.
+//! The size of the value that an outline resolves to, found without building that value.
 ghost use Rattle.std.specs.Prelude.{◌≡◌, Some};
 ghost use Rattle.bidi_tree.specs.Node.{map};
 ghost use Rattle.bidi_tree.specs.Outline.{outline_node, outline_items, outline_members};
@@ -14,7 +14,7 @@ use crate::size::{Size, decimal_bytes, quoted_bytes};
 use bidi_params::ErrorCode;
 use bidi_tree::{Outline, OutlineMembers, find_outline};
 
-/// The size of the tree of an outline as it is.
+/// The size of an outline's tree as it is.
 pub(crate) fn size_of(outline: &Outline<'_>) -> Size
     ensures { result ≡ size_of (outline_node outline.now) }
 {
@@ -24,11 +24,11 @@ pub(crate) fn size_of(outline: &Outline<'_>) -> Size
     }
 }
 
-/// The size of the value that an outline stands for: with the handles of a realm, a reference counts as the value
-/// that its handle holds. Without a realm it is the size of its tree as it is. Takes no memory.
+/// The size of the value that an outline resolves to. With the handles of a realm, a reference counts as the
+/// value of its handle; without a realm the tree counts as it is. Takes no memory.
 ///
 /// # Errors
-/// Of the first reference that fails, and only in a realm:
+/// The code of the first reference that fails, which only happens in a realm:
 /// - `no such node`: it has a shared id.
 /// - `no such handle`: the realm has no such handle.
 #[cycle(measure)]
@@ -50,7 +50,7 @@ pub(crate) fn measured(realm: Option<&Handles>, outline: &Outline<'_>) -> Result
     }
 }
 
-// The size of a map in a realm. With a member `sharedId` or `handle` it is a reference.
+// The size of an object in a realm. If it has a member `sharedId` or `handle`, it is a reference.
 #[cycle(measure)]
 fn measured_map(handles: &Handles, members: &OutlineMembers<'_>) -> Result<Size, ErrorCode>
     ensures { result ≡ sized (seen (Some (values_in handles.now)) (map (outline_members members.now))) }
@@ -84,7 +84,7 @@ fn size_named(handles: &Handles, id: &str) -> Result<Size, ErrorCode>
     }
 }
 
-// The size of a list of these items.
+// The size of an array of these items.
 #[cycle(measure)]
 fn measured_items(realm: Option<&Handles>, items: &Vec<Outline<'_>>) -> Result<Size, ErrorCode>
     ensures { result ≡ items_sized (seen_items (in_realm realm.entry) (outline_items items.now.items)) }
@@ -98,7 +98,7 @@ fn measured_items(realm: Option<&Handles>, items: &Vec<Outline<'_>>) -> Result<S
     Ok(size.in_brackets())
 }
 
-// The size of a map of these members.
+// The size of an object of these members.
 #[cycle(measure)]
 fn measured_members(
     realm: Option<&Handles>,

@@ -7,7 +7,7 @@ use std::alloc::{AllocError, AllocFailed};
 /// Why an action or a command is refused. Nothing has changed.
 #[derive(Clone, Copy)]
 pub enum Refusal {
-    /// A check failed, with this error code to reply with. A step of a page has no reply, and no effect.
+    /// A check failed; reply with this error code. A step of a page has no reply, and has no effect.
     Code(ErrorCode),
     /// An allocation failed. The action may be tried again.
     NoMemory,

@@ -1,6 +1,6 @@
-//! Local values resolved to remote ones, with the values of their handles in place of references.
+//! Resolving local values to remote ones, with the values of their handles in place of references.
 //!
-//! A value is measured before anything of it is built, and is built only where a script returns it.
+//! A value is measured before it is built, and is built only if a script returns it.
 ghost use Rattle.std.specs.Prelude.{◌≡◌, IfOk, IfErr, codes, is_some, map, option_map};
 ghost use Rattle.bidi_params.specs.declared.error_code.ErrorCode.TheVariants.{NoSuchHandle};
 ghost use Rattle.bidi_tree.specs.Node.{get_of};
@@ -32,23 +32,25 @@ use bidi_values::{
 use std::alloc::{AllocError, Global};
 use std::rc::Rc;
 
-/// Checks the arguments of a call in the realm of these handles, in their order, and gives each with the size of
-/// what it stands for.
+/// Checks the arguments of a call in the realm of these handles, in order, and measures each.
 ///
-/// Builds no value. Costs an outline of each argument, and a look-up of each reference. Without arguments it takes
+/// Builds no value. Makes an outline of each argument, and looks up each reference. Takes no memory if there
+/// are no arguments.
 /// no memory.
 ///
 /// # Errors
-/// The error is that of the first argument that fails, and the first of these that holds of this argument:
+/// The error of the first argument that fails, and the first of these that applies to it:
 /// - `no such node`, `no such handle`: a reference in it has a shared id, or a handle that the realm does not
-///   have. The first such reference counts, in the order of lists; in a pair the key comes first.
-/// - `unknown error`: it has more than 60 levels, or its compact text more than 1,048,576 bytes.
+///   have. The first such reference counts; arrays are read in order, and the key of a pair comes first.
+/// - `unknown error`: it has more than 60 levels, or more than 1,048,576 bytes of compact text.
 /// - No memory: an allocation failed.
 pub fn check_arguments<'a>(
     alloc: Global,
     handles: &'a Handles,
     values: &'a [LocalValue],
 ) -> Result<Vec<Argument<'a>>, Refusal>
+    // Either all arguments resolve to the values that the definition gives, or the error code is
+    // the one that it gives.
     ensures { Gives (λ all. map stands_for all.items) result (arguments (values_in handles.now) (map local_tree values.now)) }
 {
     let mut all = Vec::with_capacity(alloc, values.len())?;
@@ -58,12 +60,14 @@ pub fn check_arguments<'a>(
     Ok(all)
 }
 
-/// Checks the `this` of a call, where one is given. Errors are those of [`check_arguments`].
+/// Checks the `this` of a call, if it is given. The errors are those of [`check_arguments`].
 pub fn check_this(
     alloc: Global,
     handles: &Handles,
     this: &Option<LocalValue>,
 ) -> Result<(), Refusal>
+    // The check passes exactly if the definition resolves `this`, and an error code is the one that
+    // it gives.
     ensures { Passes result (this_argument (values_in handles.now) (option_map local_tree this.now)) }
 {
     match this {
@@ -75,12 +79,14 @@ pub fn check_this(
     }
 }
 
-/// Builds the value that an argument stands for, made to be shared. Measures nothing.
+/// Builds the value that an argument resolves to, in shared memory. Measures nothing.
 ///
 /// # Errors
 /// `NoMemory`: an allocation failed.
 pub fn given_back(alloc: Global, given: &Argument<'_>) -> Result<Rc<HeldValue>, Refusal>
+    // After an Ok, the result has the tree of the value that the argument resolves to.
     ensures ok { IfOk result (λ held. shared_tree held ≡ stands_for given.now) }
+    // The only error is `NoMemory`.
     ensures err { IfErr result (λ e. e ≡ Refusal.NoMemory) }
 {
     let value = resolved(alloc, given.handles, given.value)?;
@@ -88,7 +94,8 @@ pub fn given_back(alloc: Global, given: &Argument<'_>) -> Result<Rc<HeldValue>, 
     Ok(Rc::new(alloc, HeldValue { value, size })?)
 }
 
-// The argument with the size of what it stands for, or the error of one that fails.
+// The argument with the size of the value that it resolves to, or the error of an argument that
+// fails.
 fn checked<'a>(
     alloc: Global,
     handles: &'a Handles,
@@ -104,7 +111,7 @@ fn checked<'a>(
     })
 }
 
-// The size of the value that an argument stands for, or the error of an argument that fails.
+// The size of the value that an argument resolves to, or the error of an argument that fails.
 fn sized(alloc: Global, handles: &Handles, value: &LocalValue) -> Result<Size, Refusal>
     ensures { IsSized result (argument (values_in handles.now) (local_tree value.now)) }
 {
@@ -117,7 +124,7 @@ fn sized(alloc: Global, handles: &Handles, value: &LocalValue) -> Result<Size, R
     }
 }
 
-// The remote value of the same type and content, with copies of what handles hold.
+// Builds the remote value of the same type and content, with copies of the values of handles.
 #[cycle(resolve)]
 fn resolved(alloc: Global, handles: &Handles, value: &LocalValue) -> Result<RemoteValue, Refusal>
     ensures { Gives remote_tree result (resolved (values_in handles.now) (local_tree value.now)) }
@@ -145,7 +152,7 @@ fn resolved(alloc: Global, handles: &Handles, value: &LocalValue) -> Result<Remo
     }
 }
 
-// The remote values of a list.
+// Builds the remote values of an array.
 #[cycle(resolve)]
 fn resolved_values(
     alloc: Global,
@@ -161,7 +168,7 @@ fn resolved_values(
     Ok(all)
 }
 
-// The remote pairs of an object or a map.
+// Builds the remote pairs of an object or a map.
 #[cycle(resolve)]
 fn resolved_pairs(
     alloc: Global,
@@ -177,7 +184,7 @@ fn resolved_pairs(
     Ok(all)
 }
 
-// The remote pair of a local one: the key is resolved before the value.
+// Builds the remote pair of a local one. The key is resolved before the value.
 #[cycle(resolve)]
 fn resolved_pair(alloc: Global, handles: &Handles, pair: &LocalPair) -> Result<RemotePair, Refusal>
     ensures { Gives remote_pair_tree result (resolved (values_in handles.now) (local_pair_tree pair.now)) }
@@ -187,7 +194,7 @@ fn resolved_pair(alloc: Global, handles: &Handles, pair: &LocalPair) -> Result<R
     Ok(NestedPair { key, value })
 }
 
-// The remote key of a local one.
+// Builds the remote key of a local one.
 #[cycle(resolve)]
 fn resolved_key(alloc: Global, handles: &Handles, key: &LocalKey) -> Result<RemoteKey, Refusal>
     ensures { Gives remote_key_tree result (resolved (values_in handles.now) (local_key_tree key.now)) }
@@ -201,7 +208,7 @@ fn resolved_key(alloc: Global, handles: &Handles, key: &LocalKey) -> Result<Remo
     }
 }
 
-// The remote value of a local value that holds no others.
+// Builds the remote value of a local value that has no others inside.
 fn resolved_plain(
     alloc: Global,
     handles: &Handles,
@@ -234,7 +241,8 @@ fn resolved_plain(
     }
 }
 
-// The value that a reference stands for. There are no nodes, so a shared id is `no such node`.
+// Builds the value that a reference resolves to. There are no nodes, so a shared id is `no such
+// node`.
 fn referred(alloc: Global, handles: &Handles, reference: &Reference) -> Result<RemoteValue, Refusal>
     ensures { Gives remote_tree result (resolved (values_in handles.now) (⟦<Reference as Shape>⟧.shape.tree_of reference.now)) }
 {
@@ -244,7 +252,8 @@ fn referred(alloc: Global, handles: &Handles, reference: &Reference) -> Result<R
     }
 }
 
-// The value that the handle of a reference holds. One that also has a member `sharedId` is `no such node`.
+// Builds the value that the handle of a reference holds. A reference that also has a `sharedId` is
+// `no such node`.
 fn held_by(
     alloc: Global,
     handles: &Handles,
@@ -265,7 +274,7 @@ fn has_shared_id(object: &RemoteObjectReference) -> bool
     object.shared_id.is_some() || find_member(&object.ext.members, "sharedId").is_some()
 }
 
-// A copy of the value that a handle holds.
+// Copies the value that a handle holds.
 fn copy_held(alloc: Global, handles: &Handles, handle: &str) -> Result<RemoteValue, Refusal>
     ensures { Gives remote_tree result (found (values_in handles.now handle.now) NoSuchHandle) }
 {

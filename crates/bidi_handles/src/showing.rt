@@ -1,4 +1,4 @@
-//! What a reply shows of a value that is held: a copy, cut as deep as was asked, with its handle.
+//! A value in a reply: a copy, cut at the depth that was asked for, with its handle.
 ghost use Rattle.std.specs.Prelude.{◌≡◌, ◌≤◌, ◌<◌, ◌^◌, true, IfOk, IfSome, option_map, string_bytes};
 ghost use Rattle.bidi_tree.specs.Node.{levels, text};
 ghost use Rattle.bidi_values.specs.Cut.{cut_to};
@@ -13,25 +13,32 @@ use bidi_tree::JsUint;
 use bidi_values::{Nested, RemotePlain, RemoteValue};
 use std::alloc::{AllocError, Global};
 
-/// Whether a value can have a handle: all but primitive values can.
+/// Whether a value can have a handle.
 pub fn takes_handle(value: &RemoteValue) -> bool
+    // The result is true exactly if the value is not a primitive one.
     ensures { result ≡ takes_handle (remote_tree value.now) }
 {
     !matches!(value, Nested::Plain(RemotePlain::Primitive(_)))
 }
 
-/// A copy of a value, cut at this depth if there is one, and with this handle if there is one. What is held stays
-/// whole.
+/// Copies a value, cut at this depth if there is one, and with this handle if there is one. The held value
+/// stays whole.
 pub fn shown(
     alloc: Global,
     held: &HeldValue,
     depth: Option<JsUint>,
     handle: Option<u64>,
 ) -> Result<RemoteValue, AllocError>
+    // The number of the handle is below 2^48.
     requires handle { IfSome handle (λ n. n < 2 ^ 48) }
+    // A handle is given only for a value that can have one.
     requires takes { IfSome handle (λ n. takes_handle (held_tree held.now) ≡ true) }
+    // The copy has the tree of the value, cut at the depth if there is one, and with the id of the
+    // handle if there is one.
     ensures tree { IfOk result (λ v. remote_tree v ≡ shown_as handle (cut_to (option_map (λ d. d.value) depth) (held_tree held.now))) }
+    // The copy is valid, so it can be part of a result.
     ensures well { IfOk result (λ v. RemoteIsWell v) }
+    // The copy has at most as many levels as the value.
     ensures few { IfOk result (λ v. levels (remote_tree v) ≤ levels (held_tree held.now)) }
 {
     let copy = cut_to(held.value.copy(alloc)?, depth);
@@ -44,7 +51,7 @@ pub fn shown(
     }
 }
 
-// The value, cut at this depth if there is one. Takes no memory.
+// Cuts the value at this depth, if there is one. Takes no memory.
 fn cut_to(value: RemoteValue, depth: Option<JsUint>) -> RemoteValue
     ensures { remote_tree result ≡ cut_to (option_map (λ d. d.value) depth) (remote_tree value) }
 {
@@ -54,7 +61,7 @@ fn cut_to(value: RemoteValue, depth: Option<JsUint>) -> RemoteValue
     }
 }
 
-// The value with this handle, in place of any that it has. Takes no memory.
+// Gives the value this handle, in place of any that it has. Takes no memory.
 fn with_handle(value: RemoteValue, handle: String) -> RemoteValue
     requires { takes_handle (remote_tree value) ≡ true }
     ensures { remote_tree result ≡ with_member "handle" (text (string_bytes handle)) (remote_tree value) }
@@ -72,7 +79,7 @@ fn with_handle(value: RemoteValue, handle: String) -> RemoteValue
     }
 }
 
-// The same for a value that holds no others.
+// Gives a value that has no others inside this handle. Takes no memory.
 fn plain_with_handle(plain: RemotePlain, handle: String) -> RemotePlain
     requires { takes_handle (⟦<RemotePlain as Shape>⟧.shape.tree_of plain) ≡ true }
     ensures { ⟦<RemotePlain as Shape>⟧.shape.tree_of result ≡ with_member "handle" (text (string_bytes handle)) (⟦<RemotePlain as Shape>⟧.shape.tree_of plain) }

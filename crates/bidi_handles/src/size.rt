@@ -1,4 +1,4 @@
-//! How large a tree is: its levels, and the bytes of its compact text.
+//! The size of a tree: its levels, and the bytes of its compact text.
 ghost use Rattle.std.specs.Prelude.{◌≡◌, ◌<◌, ◌+◌, length, max, nat_lt};
 ghost use Rattle.std.specs.Fmt.{signed_decimal};
 ghost use Rattle.json.specs.Print.{escape_byte, escape_letter, quoted};
@@ -6,17 +6,17 @@ ghost use Rattle.bidi_handles.specs.Sizes.{counted};
 
 use itoa::Buffer;
 
-/// The size of a tree. A count that passes 64 bits stops at the greatest `u64`.
+/// The size of a tree. A count that does not fit in 64 bits stops at the greatest `u64`.
 #[derive(Clone, Copy)]
 pub(crate) struct Size {
-    /// How deep lists and maps nest.
+    /// How deep arrays and objects nest.
     pub levels: u64,
     /// The bytes of the compact text.
     pub bytes: u64,
 }
 
 impl Size {
-    /// The size of a tree of so many bytes that is no list and no map.
+    /// The size of a tree of so many bytes that is not an array or an object.
     pub(crate) fn flat(bytes: u64) -> Size
         ensures levels { result.levels ≡ 0 }
         ensures bytes { result.bytes ≡ bytes }
@@ -24,7 +24,7 @@ impl Size {
         Size { levels: 0, bytes }
     }
 
-    /// The size with one more item behind the items so far; `before` counts the bytes that separate them.
+    /// The size with one more item after those so far; `before` counts the bytes that separate them.
     pub(crate) fn and(self, before: u64, item: Size) -> Size
         ensures levels { result.levels ≡ max self.levels item.levels }
         ensures bytes { result.bytes ≡ counted (counted (self.bytes + before) + item.bytes) }
@@ -39,7 +39,7 @@ impl Size {
         }
     }
 
-    /// The size of a list or a map of these items: one more level, and two brackets.
+    /// The size of an array or an object of these items: one more level, and two brackets.
     pub(crate) fn in_brackets(self) -> Size
         ensures levels { result.levels ≡ counted (self.levels + 1) }
         ensures bytes { result.bytes ≡ counted (self.bytes + 2) }
@@ -51,7 +51,7 @@ impl Size {
     }
 }
 
-/// The bytes of a text in JSON, with its quotation marks and escapes.
+/// The bytes of a string in JSON, with its quotation marks and escapes.
 pub(crate) fn quoted_bytes(text: &str) -> u64
     ensures { result ≡ counted (length (quoted text.now)) }
 {
@@ -62,7 +62,7 @@ pub(crate) fn quoted_bytes(text: &str) -> u64
     bytes
 }
 
-// The bytes that stand for one byte of a text in JSON.
+// The bytes that JSON needs for one byte of a string.
 fn escaped_bytes(byte: u8) -> u64
     ensures { result ≡ length (escape_byte byte) }
 {

@@ -1,13 +1,14 @@
-//! The search for handles in a value that a play sets.
+//! Searching a value that a play sets for handles.
 ghost use Rattle.std.specs.Prelude.{◌≡◌, ◌∷◌, []};
 ghost use Rattle.bidi_tree.specs.Outline.{outline_node, outline_items, outline_members};
 ghost use Rattle.bidi_handles.specs.Values.{is_one_of, has_handle, items_have_handle, members_have_handle};
 
 use bidi_tree::{Outline, OutlineMembers};
 
-/// Whether the tree of an outline has a member `handle` or `internalId`, at any depth. Takes no memory.
+/// Whether a tree has a handle in it. Takes no memory.
 #[cycle(handles)]
 pub fn has_handle(outline: &Outline<'_>) -> bool
+    // The result is true exactly if the tree has a member `handle` or `internalId`, at any depth.
     ensures { result ≡ has_handle (outline_node outline.now) }
 {
     match outline {

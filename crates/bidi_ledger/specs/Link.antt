@@ -1,31 +1,32 @@
--- One link as the past of both ends leaves it, and what becomes of its commands, by places in lists. This project's own.
+-- One link after a past of both ends, and the fates of its commands. Defined by this project.
 use Rattle.std.specs.Prelude.{ℕ, suc, ◌^◌, nat_eq, nat_lt, nat_le, Bool, true, false, not, ◌&&◌, if◌then◌else◌}
 use Rattle.std.specs.Prelude.{List, [], ◌∷◌, map, filter, find, take, length, Option, Some, None, unwrap_or}
 use Rattle.std.specs.Option.{option_eq}
 use Rattle.bidi_tree.specs.Node.{Node, null, text, no_members}
 use Rattle.bidi_tree.specs.Text.{tree_of, compact_text}
-use Rattle.bidi_browser.specs.Contexts.{up_to}
-use Rattle.bidi_browser.specs.Actions.{is_text}
+use Rattle.bidi_contexts.specs.Contexts.{up_to}
+use Rattle.bidi_contexts.specs.Actions.{is_text}
 use Rattle.bidi_handles.specs.Params.{tree_if_at, text_if_at, number_if_at, text_at}
 use Rattle.bidi_handles.specs.Maps.{◌being◌and◌, mapped, number}
+use Rattle.bidi_messages.specs.Limits.{most_bytes, most_pending}
 use Rattle.bidi_ledger.specs.Pairing as past
 use Rattle.bidi_ledger.specs.Pairing.{Sending, Deed}
 
--- what was sent on a link, what was carried on it, and whether it was cut
+-- a link: the commands sent on it, the texts carried on it, and whether it was cut
 pub record Link : Type 0 where
-  -- the commands, in order; their ids count from 1
+  -- the commands, in order; their ids start at 1
   pub commands : List Sending
-  -- how many were taken up
+  -- how many commands were taken up
   pub ups : ℕ
-  -- all texts for it, in order
+  -- all texts that the remote end sent on it, in order
   pub texts : List (List ℕ)
-  -- how many were taken down
+  -- how many texts were taken down
   pub downs : ℕ
   pub is_cut : Bool
   -- how many commands could not be sent
   pub not_sent : ℕ
 
--- a link after the past of both ends
+-- the link of this number after a past
 abbrev pub link : List Deed → ℕ → Link
 link deeds l = record {
   commands = past.commands deeds l;
@@ -36,7 +37,7 @@ link deeds l = record {
   not_sent = past.unsent deeds l;
 }
 
--- ---- what was received
+-- ---- the messages that were received
 
 -- the trees of the texts that were taken down
 abbrev pub messages : Link → List Node
@@ -46,23 +47,24 @@ messages v = map (λ s. unwrap_or (tree_of s) null) (take v.downs v.texts)
 abbrev pub is_event : Node → Bool
 is_event t = is_text "event" (text_if_at "type" t)
 
--- the response or the error with that id
+-- the message is the response or the error with that id
 abbrev pub is_reply_to : ℕ → Node → Bool
 is_reply_to id t = not (is_event t) && option_eq nat_eq (number_if_at "id" t) (Some id)
 
--- ---- what became of a command
+-- ---- the fates of commands
 
+-- the fate of a command: it was answered or refused, is lost, or is pending
 pub data Fate : Type 0 where
   Answered : (result : Node) → Fate
   Refused : (code : List ℕ) → Fate
   Lost : Fate
   Waiting : Fate
 
--- a response answers, an error refuses
+-- the fate that a reply gives: a response answers the command, and an error refuses it
 abbrev pub fate_by : Node → Fate
 fate_by t = if is_text "success" (text_if_at "type" t) then Answered (unwrap_or (tree_if_at "result" t) null) else Refused (text_at "error" t)
 
--- with no reply a command is lost where its link was cut, and waits else
+-- the fate by the reply, if there is one; without a reply the command is lost if its link was cut, and pending otherwise
 abbrev pub fate_with : Option Node → Bool → Fate
 fate_with (Some reply) cut = fate_by reply
 fate_with None true = Lost
@@ -72,50 +74,50 @@ fate_with None false = Waiting
 abbrev pub fate_of : Link → ℕ → Fate
 fate_of v id = fate_with (find (is_reply_to id) (messages v)) v.is_cut
 
--- it waits
+-- the command is pending
 abbrev pub is_waiting : Fate → Bool
 is_waiting (Answered result) = false
 is_waiting (Refused code) = false
 is_waiting Lost = false
 is_waiting Waiting = true
 
--- the commands that wait
+-- the ids of the pending commands
 abbrev pub unsettled : Link → List ℕ
 unsettled v = filter (λ id. is_waiting (fate_of v id)) (up_to (length v.commands))
 
 -- ---- sending
 
--- the tree of a command, with its id
+-- the tree of a command with its id
 abbrev pub tree_of_sending : ℕ → Sending → Node
 tree_of_sending id c = mapped ("id" being number id and "method" being text c.method and "params" being c.params and no_members)
 
--- fewer than 1,024 commands wait, its text is within the limit, and an id is left
+-- the command can be sent: fewer than 1,024 are pending, its text is within the limit, and there is an id for it
 abbrev pub may_send : Link → Sending → Bool
 may_send v c =
     let id = suc (length v.commands) in
-    nat_lt (length (unsettled v)) 1024 && nat_le (length (compact_text (tree_of_sending id c))) 1048576 && nat_lt id (2 ^ 53)
+    nat_lt (length (unsettled v)) most_pending && nat_le (length (compact_text (tree_of_sending id c))) most_bytes && nat_lt id (2 ^ 53)
 
--- ---- its account
+-- ---- the account of a link
 
--- a command in the ledger
+-- a command in the ledger: its id, its method and its fate
 pub record Entry : Type 0 where
   pub id : ℕ
   pub method : List ℕ
   pub fate : Fate
 
--- an event that was received
+-- an event that was received: its method and its params
 pub record Received : Type 0 where
   pub method : List ℕ
   pub params : Node
 
--- what became of a link
+-- the account of a link: its commands with their fates, the events received, and how many commands were not sent
 pub record Account : Type 0 where
   pub link : ℕ
   pub entries : List Entry
   pub events : List Received
   pub not_sent : ℕ
 
--- the entries of some commands, whose ids count on from the first
+-- the entries of these commands, the first of which has this id
 abbrev pub entries_from : ℕ → Link → List Sending → List Entry
 entries_from id v [] = []
 entries_from id v (c ∷ cs) = record { id = id; method = c.method; fate = fate_of v id } ∷ entries_from (suc id) v cs

@@ -1,47 +1,47 @@
-//! The ledger: what became of each command, and what each link received.
+//! The ledger: the fate of each command, and the events of each link.
 use bidi_messages::{ErrorCode, EventData, Method, ResultData};
 use bidi_tree::JsUint;
 
-/// What became of all links: an account of each, in order of opening.
+/// The accounts of all links.
 #[derive(Drop)]
 pub struct Ledger {
-    /// The accounts, in order of opening of their links.
+    /// The accounts, in the order in which their links were opened.
     pub accounts: Vec<Account>,
 }
 
-/// What became of the commands of one link, and what it received.
+/// The account of one link: its commands with their fates, and the events that it received.
 #[derive(Drop)]
 pub struct Account {
     /// The number of the link.
     pub link: JsUint,
-    /// The commands that its local end sent, in order; their ids count from 1.
+    /// The commands that its local end sent, in order. Their ids start at 1.
     pub commands: Vec<Entry>,
     /// The events that it received, in order.
     pub events: Vec<EventData>,
-    /// How many commands its local end refused to send.
+    /// The number of commands that its local end refused to send.
     pub unsent: u64,
 }
 
-/// A command that was sent, and what became of it.
+/// A command that was sent, and its fate.
 #[derive(Drop)]
 pub struct Entry {
     /// The id of the command.
     pub id: JsUint,
     /// The method of the command.
     pub method: Method,
-    /// What became of it.
+    /// The fate of the command.
     pub fate: Fate,
 }
 
-/// What became of a command.
+/// The fate of a command.
 #[derive(Drop)]
 pub enum Fate {
     /// It succeeded, with this result of its method.
     Answered(ResultData),
     /// It failed, with this error code.
     Refused(ErrorCode),
-    /// Its link was cut before its answer was carried down.
+    /// Its link was cut before its reply was taken down.
     Lost,
-    /// Its answer was not carried down yet, and its link was not cut.
+    /// Its reply was not taken down yet, and its link was not cut.
     Waiting,
 }

@@ -1,9 +1,11 @@
-//! The steps of both ends together, and the ledger: what became of each command.
+//! The steps of both ends together, and the ledger of what they did.
 //!
-//! A [`PairStep`] is what a play of both ends is made of: links are opened and cut, commands are sent, texts are
-//! carried up and down one at a time and in any order, and pages take their steps. A [`Ledger`] tells what became of
-//! each command, and which events each link received. `specs/Ledger.antt` says which ledger steps come to; what
-//! plays them is `bidi_link`, and `bidi_pair` reads and writes their lines.
+//! A [`PairStep`] is one step of a play of both ends: a link is opened or cut, a command is sent, one text is
+//! carried up or down, or a page takes a step. A [`Ledger`] has an [`Account`] for each link: the [`Fate`] of
+//! each command, and the events that were received.
+//!
+//! This crate has types and definitions only. `specs/Ledger.antt` says which ledger the steps have;
+//! `bidi_link` plays steps, and `bidi_pair_lines` reads steps and writes the ledger, as lines.
 #![tactic(auto)]
 
 mod ledger;

@@ -1,4 +1,4 @@
--- What stays of members and items, beside the filters of the lists that hold them.
+-- The members and items that are kept, compared with filters of lists.
 use Rattle.std.proofs.Common.{◌≡◌, ℕ, ◌==◌, Bool, true, false, not, cond, true≢false, List, [], ◌∷◌, length, map, filter, refl, sym, ap, subst, string_bytes}
 use Rattle.bidi_tree.specs.Node.{Items, item, Members, member}
 use Rattle.bidi_tree.specs.View.{node, items_of, items_node, members_node}
@@ -32,7 +32,7 @@ pub items_eased-map : (ts : List Tree) → items_of (map (λ t. request_eased (n
 items_eased-map [] = refl
 items_eased-map (t ∷ ts) = ap (item (request_eased (node t))) (items_eased-map ts)
 
--- where there is an item, no module stands in
+-- if there is an item, no module takes its place
 pub or_session-same : (ts : List Tree) (n : ℕ) → n ≡ length ts → false ≡ (n == 0) → items_node ts ≡ or_session (items_node ts)
 or_session-same [] n is some = absurd (true≢false (sym (subst (λ m. false ≡ (m == 0)) is some)))
 or_session-same (t ∷ ts) n is some = refl

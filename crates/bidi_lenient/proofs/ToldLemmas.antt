@@ -1,4 +1,4 @@
--- The names that are told, and what a command becomes with them.
+-- The names that are reported as left out, and the command without them.
 use Rattle.std.proofs.Common.{◌≡◌, ℕ, ◌==◌, Bool, true, false, cond, true≢false, List, [], ◌∷◌, ◌++◌, length, map, codes, Option, Some, None}
 use Rattle.std.proofs.Common.{refl, sym, ap, ◌∙◌, subst, arith, append_assoc, String, Global, string_bytes}
 use Rattle.std.proofs.lemmas.Bool.Decides.{nat_tests}
@@ -11,7 +11,7 @@ use Rattle.bidi_lenient.specs.Eased.{eased, with_names, eased_command}
 abbrev Name : Type 0
 Name = String Global
 
--- one more name is told of a member that is left out
+-- one more name is reported for a member that is left out
 pub told-member : (old new : List Name) (s : Name) (k : List ℕ) (t : Node) (ms : Members) (all : List (List ℕ))
     → is_capability k ≡ true → string_bytes s ≡ codes "capability " ++ k → new ≡ old ++ s ∷ []
     → map string_bytes old ++ members_told (member k t ms) ≡ all → map string_bytes new ++ members_told ms ≡ all
@@ -36,7 +36,7 @@ when_whole false x y is e = absurd (true≢false (sym is))
 is_whole-true : (t : Node) (l : ℕ) → IsWhole t l → is_whole t l ≡ true
 is_whole-true t l w = let odd = w.0 in let few = w.1 in grind (arith, nat_tests)
 
--- a command of which something is left out
+-- a command with something left out
 pub command-eased : (t : Node) (s : List ℕ) (names : List Name) (n : ℕ) → IsWhole t 100 → s ≡ compact_text (eased t) → map string_bytes names ≡ told t
     → n ≡ length names → false ≡ (n == 0) → Some (s, map string_bytes names) ≡ eased_command t
 command-eased t s names n w text all is some =

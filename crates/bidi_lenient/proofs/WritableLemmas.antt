@@ -1,4 +1,4 @@
--- What is left of a command that can be written can be written.
+-- If a command can be written, so can the command without the left-out parts.
 use Rattle.std.proofs.Common.{◌≡◌, ℕ, ◌-◌, Bool, true, false, cond, List, codes, Option, Some, None, Ordering, Less, Equal, Greater, refl, arith}
 use Rattle.std.proofs.lemmas.Bool.{or_parts, or_from}
 use Rattle.std.specs.Option.{option_map_or}
@@ -24,7 +24,7 @@ whole-get_member k no_members m l w e = absurd (cc)
 whole-get_member k (member j n ms) m l w e =
     found_whole _ _ n m l (whole-head j n ms l w) (whole-get_member k ms m l (whole-rest j n ms l w)) e
 
--- what f makes of a tree has whole numbers alone and no more levels, where the tree has
+-- f of a whole tree is whole within the same levels
 abbrev Keeps : (Node → Node) → Type 0
 Keeps f = (t : Node) (l : ℕ) → IsWhole t l → IsWhole (f t) l
 

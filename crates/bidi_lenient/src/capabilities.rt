@@ -1,4 +1,4 @@
-//! What is left out of `session.new`.
+//! Leaving capabilities out of `session.new`.
 ghost use Rattle.std.specs.Prelude.{◌≡◌, ◌++◌, IfOk, OnOk, codes, map, string_bytes};
 ghost use Rattle.bidi_tree.specs.View.{node, items_node, members_node};
 ghost use Rattle.bidi_lenient.specs.Names.{is_capability, request_told, items_told, capabilities_told, new_told};
@@ -30,7 +30,7 @@ fn is_left_out(name: &str) -> bool
     is_among(LEFT_OUT, name)
 }
 
-// Adds the names of what is left out of a `session.new`: those of `alwaysMatch`, then those of each item of `firstMatch`.
+// Adds the report on a `session.new`: on `alwaysMatch`, and then on each item of `firstMatch`.
 pub(crate) fn tell_new(
     alloc: Global,
     command: &Tree,
@@ -47,7 +47,7 @@ pub(crate) fn tell_new(
     tell_capabilities(alloc, capabilities, told)
 }
 
-// The same of its capabilities.
+// Adds the report on the capabilities.
 fn tell_capabilities(
     alloc: Global,
     capabilities: &Tree,
@@ -64,7 +64,7 @@ fn tell_capabilities(
     }
 }
 
-// The same of some requests.
+// Adds the reports on some requests.
 fn tell_requests(
     alloc: Global,
     requests: &Vec<Tree>,
@@ -78,7 +78,7 @@ fn tell_requests(
     Ok(())
 }
 
-// The same of one request.
+// Adds the report on one request.
 fn tell_request(alloc: Global, request: &Tree, told: &mut Vec<String>) -> Result<(), AllocError>
     ensures { OnOk result (map string_bytes told.new.items ≡ map string_bytes told.old.items ++ request_told (node request.now)) }
 {
@@ -93,7 +93,7 @@ fn tell_request(alloc: Global, request: &Tree, told: &mut Vec<String>) -> Result
     Ok(())
 }
 
-// A `session.new` without what is left out.
+// Makes a `session.new` without the left-out capabilities.
 pub(crate) fn ease_new(alloc: Global, command: &Tree) -> Result<Tree, AllocError>
     ensures { IfOk result (λ t. node t ≡ new_eased (node command.now)) }
 {
@@ -105,7 +105,7 @@ pub(crate) fn ease_new(alloc: Global, command: &Tree) -> Result<Tree, AllocError
     )
 }
 
-// Its params without it.
+// Makes its params without them.
 fn ease_params(alloc: Global, params: &Tree) -> Result<Tree, AllocError>
     ensures { IfOk result (λ t. node t ≡ within (codes "capabilities") capabilities_eased (node params.now)) }
 {
@@ -117,7 +117,7 @@ fn ease_params(alloc: Global, params: &Tree) -> Result<Tree, AllocError>
     )
 }
 
-// Its capabilities without it.
+// Makes its capabilities without them.
 fn ease_capabilities(alloc: Global, capabilities: &Tree) -> Result<Tree, AllocError>
     ensures { IfOk result (λ t. node t ≡ capabilities_eased (node capabilities.now)) }
 {
@@ -130,7 +130,7 @@ fn ease_capabilities(alloc: Global, capabilities: &Tree) -> Result<Tree, AllocEr
     )
 }
 
-// Some requests without it.
+// Makes some requests without them.
 fn ease_requests(alloc: Global, requests: &Tree) -> Result<Tree, AllocError>
     ensures { IfOk result (λ t. node t ≡ requests_eased (node requests.now)) }
 {
@@ -144,7 +144,7 @@ fn ease_requests(alloc: Global, requests: &Tree) -> Result<Tree, AllocError>
     Ok(Tree::List(eased))
 }
 
-// One request without it.
+// Makes one request without them.
 fn ease_request(request: &Tree) -> Result<Tree, AllocError>
     ensures { IfOk result (λ t. node t ≡ request_eased (node request.now)) }
 {
@@ -158,7 +158,7 @@ fn ease_request(request: &Tree) -> Result<Tree, AllocError>
     }
 }
 
-// Takes out what is left out.
+// Removes the members that are left out.
 fn keep_members(members: &mut Members)
     ensures { members_node members.new.entries ≡ members_kept (members_node members.old.entries) }
 {

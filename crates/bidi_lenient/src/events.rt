@@ -1,4 +1,4 @@
-//! What is left out of `session.subscribe`.
+//! Leaving events out of `session.subscribe`.
 ghost use Rattle.std.specs.Prelude.{◌≡◌, ◌++◌, IfOk, OnOk, codes, map, option_map, string_bytes};
 ghost use Rattle.bidi_tree.specs.View.{node, items_node};
 ghost use Rattle.bidi_lenient.specs.Names.{kind_of, is_event, event_told, each_told, subscribe_told};
@@ -8,10 +8,10 @@ use crate::members::{is_among, within};
 use bidi_tree::Tree;
 use std::alloc::{AllocError, Global};
 
-/// The modules of the draft whose name is no name of a subscription.
+/// The modules of the draft that the profile does not have.
 const MODULES: &[&str] = &["emulation", "input", "network", "storage", "webExtension"];
 
-/// The events of the draft that are not made.
+/// The events of the draft that the profile does not have.
 const EVENTS: &[&str] = &[
     "browsingContext.downloadEnd",
     "browsingContext.downloadWillBegin",
@@ -31,10 +31,10 @@ const EVENTS: &[&str] = &[
     "script.message",
 ];
 
-/// A module without events: a subscription to it is made, and holds nothing.
+/// A module without events: a subscription to it is made, but enables nothing.
 const NO_EVENTS: &str = "session";
 
-// What a name that is left out names: a module or an event.
+// Whether a name that is left out is that of a module or of an event.
 #[tactic(auto, unfolding(crate::specs::Names::modules, crate::specs::Names::events))]
 fn kind_of(name: &str) -> Option<&'static str>
     ensures { option_map (λ kind. kind.now) result ≡ kind_of name.now }
@@ -58,7 +58,7 @@ fn is_left_out(event: &Tree) -> bool
     }
 }
 
-// Adds the names of what is left out of a `session.subscribe`.
+// Adds the report on a `session.subscribe`.
 pub(crate) fn tell_subscribe(
     alloc: Global,
     command: &Tree,
@@ -75,7 +75,7 @@ pub(crate) fn tell_subscribe(
     }
 }
 
-// The same of its events.
+// Adds the report on its events.
 fn tell_events(alloc: Global, events: &Vec<Tree>, told: &mut Vec<String>) -> Result<(), AllocError>
     ensures { OnOk result (map string_bytes told.new.items ≡ map string_bytes told.old.items ++ each_told (items_node events.now.items)) }
 {
@@ -85,7 +85,7 @@ fn tell_events(alloc: Global, events: &Vec<Tree>, told: &mut Vec<String>) -> Res
     Ok(())
 }
 
-// The same of one of them.
+// Adds the report on one of them.
 fn tell_event(alloc: Global, event: &Tree, told: &mut Vec<String>) -> Result<(), AllocError>
     ensures { OnOk result (map string_bytes told.new.items ≡ map string_bytes told.old.items ++ event_told (node event.now)) }
 {
@@ -98,7 +98,7 @@ fn tell_event(alloc: Global, event: &Tree, told: &mut Vec<String>) -> Result<(),
     Ok(())
 }
 
-// A `session.subscribe` without what is left out.
+// Makes a `session.subscribe` without the left-out names.
 pub(crate) fn ease_subscribe(alloc: Global, command: &Tree) -> Result<Tree, AllocError>
     ensures { IfOk result (λ t. node t ≡ subscribe_eased (node command.now)) }
 {
@@ -110,14 +110,14 @@ pub(crate) fn ease_subscribe(alloc: Global, command: &Tree) -> Result<Tree, Allo
     )
 }
 
-// Its params without it.
+// Makes its params without them.
 fn ease_params(alloc: Global, params: &Tree) -> Result<Tree, AllocError>
     ensures { IfOk result (λ t. node t ≡ within (codes "events") events_eased (node params.now)) }
 {
     within(alloc, params, "events", |events| ease_events(alloc, events))
 }
 
-// Its events without it. Where none is left, a module that has none stands in their place.
+// Makes its events without them. If no event is left, a module without events takes their place.
 fn ease_events(alloc: Global, events: &Tree) -> Result<Tree, AllocError>
     ensures { IfOk result (λ t. node t ≡ events_eased (node events.now)) }
 {
@@ -132,14 +132,14 @@ fn ease_events(alloc: Global, events: &Tree) -> Result<Tree, AllocError>
     }
 }
 
-// Takes out what is left out.
+// Removes the items that are left out.
 fn keep_events(events: &mut Vec<Tree>)
     ensures { items_node events.new.items ≡ items_kept (items_node events.old.items) }
 {
     events.retain(|event| !is_left_out(event));
 }
 
-// Adds a module that has no events, where there is no event.
+// Adds a module without events, if there is no event.
 fn stand_in(alloc: Global, events: &mut Vec<Tree>) -> Result<(), AllocError>
     ensures { OnOk result (items_node events.new.items ≡ or_session (items_node events.old.items)) }
 {

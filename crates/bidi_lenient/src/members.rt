@@ -1,4 +1,4 @@
-//! Members by name, and trees with another member at a name.
+//! Members of objects, by name.
 ghost use Rattle.std.specs.Prelude.{◌≡◌, IfOk, bytes_eq, map, option_map, string_bytes};
 ghost use Rattle.std.specs.List.{list_any};
 ghost use Rattle.std.specs.Fn.{FnOnceReturnsAt};
@@ -21,7 +21,7 @@ pub(crate) fn is_among(names: &[&str], name: &str) -> bool
     false
 }
 
-// A copy of the tree, with what `ease` makes of the member of that name where there is one.
+// Copies the tree, with `ease` applied to the member of that name if there is one.
 pub(crate) fn within<F: FnOnce(&Tree) -> Result<Tree, AllocError>>(
     alloc: Global,
     tree: &Tree,
@@ -37,7 +37,7 @@ pub(crate) fn within<F: FnOnce(&Tree) -> Result<Tree, AllocError>>(
     }
 }
 
-// A copy of the tree with another member of that name, where it is a map.
+// Copies the tree, with another member of that name if it is an object.
 fn with_member(alloc: Global, tree: &Tree, name: &str, member: Tree) -> Result<Tree, AllocError>
     ensures { IfOk result (λ t. node t ≡ put_in name.now (node member) (node tree.now)) }
 {

@@ -1,4 +1,4 @@
--- One more line of an input that is answered, and why its answers stop.
+-- Answering one more line of an input, and stopping.
 use Rattle.std.proofs.Common.{◌≡◌, ◌≢◌, ℕ, ◌+◌, ◌<◌, ◌≤◌, Bool, List, [], ◌∷◌, ◌++◌, length, length-append, length-drop, take, drop}
 use Rattle.std.proofs.Common.{take-append-drop, append_assoc, arith, refl, sym, ◌∙◌, ap, subst, inl, inr, true, false, true≢false, take_all, Err}
 use Rattle.std.proofs.Math.Nat.{lt_of_not-le}
@@ -20,7 +20,7 @@ use Rattle.bidi_lines.specs.declared.line_reader.InputFault.{InputFault}
 use Rattle.bidi_lines.specs.declared.line_reader.InputFault.TheVariants as fault
 use Rattle.bidi_lines.proofs.FeedLemmas.{feed_there, first_feed, no_feed_front, one_front, regroup}
 
--- what holds of each of some, and of one more
+-- a property of each item of a list, and of one more item
 pub all_more : {X : Type 0} (P : X → Type 0) (xs : List X) (x : X) → AllByRecursion P xs → P x → AllByRecursion P (xs ++ x ∷ [])
 all_more P [] x a p = (p, tt)
 all_more P (y ∷ ys) x a p = (a.0, all_more P ys x a.1 p)
@@ -30,7 +30,7 @@ pub no_part : (xs ys : List ℕ) → xs ++ ys ≡ [] → ys ≡ []
 no_part [] ys e = e
 no_part (x ∷ xs) ys e = cc
 
--- ---- what stands at the front
+-- ---- the front of the bytes
 
 -- more bytes were read, of no whole line
 pub begins_read : (read bytes rest rest' : List ℕ) (lines : List (List ℕ))
@@ -40,11 +40,11 @@ begins_read read bytes rest rest' lines b e = record {
   each = b.each;
 }
 
--- nothing is left of what was read
+-- all bytes that were read are used up
 pub begins_all : (read rest : List ℕ) (lines : List (List ℕ)) → BeginsWith read lines rest → rest ≡ [] → BeginsWith read lines []
 begins_all read rest lines b none = subst (λ (r : List ℕ). BeginsWith read lines r) none b
 
--- one more line, of which the last bytes were just read
+-- one more line, whose last bytes were just read
 pub begins_more : (read bytes line rest rest' : List ℕ) (lines : List (List ℕ))
     → BeginsWith read lines rest → ended line ++ rest' ≡ rest ++ bytes → IsLine line → BeginsWith (read ++ bytes) (lines ++ line ∷ []) rest'
 begins_more read bytes line rest rest' lines b e is = record {
@@ -94,7 +94,7 @@ begins_badly at_end rest has none =
         inl (lt_of_not-le (λ short. true≢false (sym some ∙ (ap has_feed (sym (take_all 2097153 rest (omega (arith, short)))) ∙ clear))))
     too_long at_end rest clear (inr enough) = enough
 
--- an answer to a line, where the line and the answer are known by other names
+-- an answer to a line, if the line and the answer have other names
 pub answered_now : (has_answered : List (List ℕ) → List ℕ → Type 0) (lines : List (List ℕ)) (line seen text bytes written : List ℕ)
     → seen ≡ line → written ≡ bytes → has_answered (lines ++ seen ∷ []) (text ++ bytes) → has_answered (lines ++ line ∷ []) (text ++ written)
 answered_now has_answered lines line seen text bytes written same is answered =
@@ -120,7 +120,7 @@ input_stop a first t most count f shown at_end read rest text lines is counted b
     let same : lines_fault_of f (length lines + 1) ≡ shown = ap (λ (n : ℕ). lines_fault_of f (n + 1)) (sym counted) ∙ sym is in
     subst (λ (x : LinesFault). StopsAt a first most x at_end read text) same (stops_next a first t most f at_end read rest text lines b done few says)
 
--- the same behind the last line that is taken, where nothing is left of what was read
+-- after the last allowed line, with all bytes used up, a fault of the input stops the answers too
 stops_last : {T : Type 0} (a : AnswersOf T) (first t : T) (most n : ℕ) (f : InputFault) (at_end : Bool) (read text : List ℕ) (lines : List (List ℕ))
     → BeginsWith read lines [] → a.has_answered first t lines text → length lines ≤ most → (f ≡ fault.BadLine → ⊥)
     → StopsAt a first most (lines_fault_of f n) at_end read text
@@ -154,7 +154,7 @@ line_stop a first t most count at_end read line seen rest text lines b done is s
       ),
     )
 
--- so does a fault of an answer
+-- a fault of an answer stops the answers too
 pub answer_stop : {T : Type 0} (a : AnswersOf T) (first t : T) (most : ℕ) (f : AnswerFault) (at_end : Bool) (read line seen rest text : List ℕ)
     (lines : List (List ℕ))
     → BeginsWith read lines (ended line ++ rest) → a.has_answered first t lines text → IsLine line → seen ≡ line → length lines < most

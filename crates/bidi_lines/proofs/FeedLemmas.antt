@@ -44,7 +44,7 @@ none_cond : (b : Bool) (n : ℕ) → None ≡ cond b (Some n) None → b ≡ fal
 none_cond true n e = cc
 none_cond false n e = refl
 
--- the first byte that is one stands where no byte before it is
+-- the first line feed has no line feed before it
 first-place : (bs : List ℕ) (k : ℕ) → k < length bs → slice_index bs k ≡ 10 → ((j : ℕ) → j < k → slice_index bs j ≡ 10 → ⊥) → place bs ≡ k
 first-place [] k less is before = absurd (omega arith)
 first-place (b ∷ bs) zero less is before = grind (arith, nat_tests, is)
@@ -60,7 +60,7 @@ no-place (b ∷ bs) none =
     let ih = no-place bs (λ j lower. none (suc j) (omega arith)) in
     grind (arith, nat_tests, here, ih)
 
--- what a search for the first line feed finds is its place
+-- a search for the first line feed finds its place
 pub feed_found : (bs : List ℕ) (r : Option ℕ) → IsFirstByte (is_byte 10) bs r → r ≡ position (λ b. b == 10) bs
 feed_found bs None none =
     let at = no-place bs (λ j lower is. none j (omega arith) lower (eq-eqb (slice_index bs j) 10 is)) in
@@ -92,7 +92,7 @@ feed_none bs e = let t = none_cond (ltb (place bs) (length bs)) (place bs) (e �
 pub rest_whole : (bs : List ℕ) (i : ℕ) → take (length bs - i) (drop i bs) ≡ drop i bs
 rest_whole bs i = let l = length-drop i bs in take_all (length bs - i) (drop i bs) (omega (arith, l))
 
--- what stands before the first separator, and what stands behind it, are determined
+-- the parts before and after the first separator are determined
 pub one_front : (sep : ℕ) (xs ys us vs : List ℕ) → list_any (λ b. b == sep) xs ≡ false → list_any (λ b. b == sep) us ≡ false
     → xs ++ sep ∷ ys ≡ us ++ sep ∷ vs → (xs ≡ us) × (ys ≡ vs)
 one_front sep [] ys [] vs a b e = (refl, cc)
@@ -104,7 +104,7 @@ one_front sep (x ∷ xs) ys (u ∷ us) vs a b e =
     let ih = one_front sep xs ys us vs (grind (arith, nat_tests)) (grind (arith, nat_tests)) t in
     let i = ih.0 in (cc, ih.1)
 
--- bytes with a line feed are those before the first one, and those behind it
+-- bytes with a line feed are those before the first one, the line feed, and those after it
 pub first_feed : (bs : List ℕ) → has_feed bs ≡ true
     → (line : List ℕ) × (more : List ℕ) × (bs ≡ line ++ 10 ∷ more) × (has_feed line ≡ false) × (length line < length bs)
 first_feed bs some =
@@ -112,7 +112,7 @@ first_feed bs some =
     let short = length-take (place bs) bs in
     (take (place bs) bs, drop (suc (place bs)) bs, split bs within, before bs, omega (arith, short, within))
 
--- a line feed behind a line
+-- a line feed after a line
 pub feed_there : (line more bytes : List ℕ) → bytes ≡ line ++ 10 ∷ more → has_feed bytes ≡ true
 feed_there line more bytes e = ap (λ (bs : List ℕ). has_feed bs) e ∙ (list_any-append (λ b. b == 10) line (10 ∷ more) ∙ grind (arith, nat_tests))
 
@@ -120,11 +120,11 @@ feed_there line more bytes e = ap (λ (bs : List ℕ). has_feed bs) e ∙ (list_
 take_sum : (bs : List ℕ) (n i : ℕ) → take (n + i) bs ≡ take n bs ++ take i (drop n bs)
 take_sum bs n i = sym (take-append-drop n (take (n + i) bs)) ∙ ap₂ (λ (a b : List ℕ). a ++ b) (take-take n (n + i) bs (omega arith)) (drop-take n i bs)
 
--- no line feed stands in two parts, so none in both together
+-- two parts without a line feed have none together
 pub no_feed_append : (a b : List ℕ) → has_feed a ≡ false → has_feed b ≡ false → has_feed (a ++ b) ≡ false
 no_feed_append a b p q = let whole = list_any-append (λ b. b == 10) a b in grind (arith, whole, p, q)
 
--- the first line feed behind a beginning that has none
+-- the first line feed after a beginning that has none
 pub feed_behind_some : (bs : List ℕ) (n i : ℕ) → has_feed (take n bs) ≡ false → Some i ≡ position (λ b. b == 10) (drop n bs)
     → (bs ≡ take (n + i) bs ++ 10 ∷ drop (n + i + 1) bs) × (has_feed (take (n + i) bs) ≡ false)
 feed_behind_some bs n i seen e =
@@ -144,7 +144,7 @@ left_false : (a b : Bool) → (a || b) ≡ false → a ≡ false
 left_false true b e = e
 left_false false b e = refl
 
--- where no line feed stands among the first bytes, none stands among fewer
+-- if the first bytes have no line feed, neither do fewer of them
 pub no_feed_front : (bs : List ℕ) (m n : ℕ) → m ≤ n → has_feed (take n bs) ≡ false → has_feed (take m bs) ≡ false
 no_feed_front bs m n le none =
     let front = take m (take n bs) in
@@ -152,13 +152,13 @@ no_feed_front bs m n le none =
     let whole : has_feed (front ++ back) ≡ false = ap has_feed (take-append-drop m (take n bs)) ∙ none in
     ap has_feed (sym (take-take m n bs le)) ∙ left_false (has_feed front) (has_feed back) (sym (list_any-append (λ b. b == 10) front back) ∙ whole)
 
--- a line with its line feed behind others, grouped to the right
+-- a line with its line feed after other bytes, grouped to the right
 pub regroup : (front line more : List ℕ) → (front ++ (ended line ++ [])) ++ more ≡ front ++ (line ++ 10 ∷ more)
 regroup front line more =
     append_assoc front (ended line ++ []) more
     ∙ ap (λ (z : List ℕ). front ++ z) (append_assoc (ended line) [] more ∙ append_assoc line (10 ∷ []) more)
 
--- ---- bytes that are read behind others
+-- ---- bytes that are added by a read
 
 take-front : (s post tail : List ℕ) (n : ℕ) → n ≤ length s → take n ((s ++ post) ++ tail) ≡ take n s
 take-front s post tail zero le = refl
@@ -181,7 +181,7 @@ take-whole : (old rest : List ℕ) → take (length old) (old ++ rest) ≡ old
 take-whole [] rest = refl
 take-whole (b ∷ old) rest = ap (λ bs. b ∷ bs) (take-whole old rest)
 
--- those that were there, in front of what they were filled up with
+-- the bytes that were there, before those that were added
 pub filled : (old rest : List ℕ) (h most : ℕ) → length old ≡ h → h ≤ most → take h (take most old ++ rest) ≡ old
 filled old rest h most len le =
     ap (λ bs. take h (bs ++ rest)) (take_all most old (omega (arith, len)))

@@ -1,4 +1,4 @@
--- Why an answer of a line reader holds.
+-- The answers of a line reader are right.
 use Rattle.std.proofs.Common.{◌≡◌, ◌≢◌, ℕ, ◌+◌, ◌<◌, ◌≤◌, Bool, true, false, List, [], ◌++◌, length, take}
 use Rattle.std.proofs.Common.{take_all, length-append, append-nil, sym, ◌∙◌, ap, arith, inl, inr, subst, Ok, Err, Some, None}
 use Rattle.std.specs.Prelude.{Option, Result, IsErr, IsErrAnd}
@@ -33,7 +33,7 @@ pub no_more : (old new more : List ℕ) → new ≡ old ++ more → length new �
 no_more old new [] e same = e ∙ append-nil old
 no_more old new more e same = let l = ap length e in absurd (omega (arith, l, length-append old more))
 
--- a fault of a read says that what is held may be the beginning of a line
+-- after a fault of a read, the held bytes may be the beginning of a line
 pub says_fault : (r : Result (Option (Vec ℕ)) InputFault) (fault : InputFault) (at_end : Bool) (held : List ℕ) → IsErr r × IsErrAnd r (λ x. x ≡ fault)
     → fault ≢ BadLine → has_feed held ≡ false → length held ≤ 2097152 → Says r at_end held
 says_fault (Ok x) fault at_end held e good none short = absurd (no_truth e.0)

@@ -36,12 +36,12 @@ pub if_none_when : {A : Type 0} (o : Option A) (N Q : Type 0) (P : A → Type 0)
 if_none_when None N Q P h f = f h
 if_none_when (Some x) N Q P h f = tt
 
--- what holds of the fault that a call gives holds of its result
+-- a fact about the fault of a call holds of its result
 pub by_fault : {T F : Type 0} (r : Result T F) (f : F) (P : F → Type 0) → IsErr r × IsErrAnd r (λ x. x ≡ f) → P f → IfErr r P
 by_fault (Ok x) f P e p = tt
 by_fault (Err x) f P e p = subst P (sym e.1) p
 
--- of a value that is there, and where there is none
+-- a fact about a value if there is one, and about None
 pub match_some : {A : Type 0} (o : Option A) (x : A) (N : Type 0) (P : A → Type 0) → MatchOption o N P → o ≡ Some x → P x
 match_some None x N P h e = cc
 match_some (Some y) x N P h e = let same : y ≡ x = cc in subst P same h

@@ -1,4 +1,4 @@
--- Why what is thrown away is a line that is too long.
+-- The bytes that are skipped are a line that is too long.
 use Rattle.std.proofs.Common.{◌≡◌, ℕ, ◌<◌, ◌≤◌, Bool, true, false, List, [], ◌∷◌, ◌++◌, length, take, take_all, Option, Ok, Err}
 use Rattle.std.proofs.Common.{length-append, append_assoc, append-nil, refl, sym, ◌∙◌, ap, ap₂, subst, arith, true≢false, inl, inr}
 use Rattle.std.specs.Prelude.{Result, IsErr, IsErrAnd, ◌⊎◌, ◌≢◌}
@@ -30,7 +30,7 @@ long_line held bytes line rest none long e = lt_of_not-le (λ short.
     let clear = no_feed_front (held ++ bytes) (length whole) 2097153 (omega (arith, l, short)) (ap has_feed same ∙ none) in
     absurd (true≢false (sym (feed_there line [] whole refl) ∙ (ap has_feed (sym front) ∙ clear))))
 
--- a line feed behind what is gone, grouped to the left
+-- a line feed after the skipped bytes, grouped to the left
 skip_found : (gone here more : List ℕ) → gone ++ (here ++ 10 ∷ more) ≡ ended (gone ++ here) ++ more
 skip_found gone here more = sym (append_assoc (gone ++ here) (10 ∷ []) more ∙ append_assoc gone here (10 ∷ more))
 
@@ -44,12 +44,12 @@ skip_done a b at_end old gone held here more new (bs, e, p) none is clear same f
     sym (ap (λ (z : List ℕ). gone ++ z) is ∙ (skip_found gone here more ∙ ap (λ (z : List ℕ). ended line ++ z) (sym same))) ∙ e in
     (ended line, (bs, whole, p), (line, record { one_line = no_feed_append gone here none clear; long = long_line old bs line new front long whole }, refl))
 
--- what was held is gone too, and more was read
+-- the held bytes are skipped too, and more were read
 pub skip_more : (a b c : Option (List ℕ)) (old gone held new : List ℕ) → ReadsOn a b old (gone ++ held) → ReadsOn b c [] new → ReadsOn a c old ((gone ++ held) ++ new)
 skip_more a b c old gone held new (bs, e, p) (cs, f, q) =
     (bs ++ cs, ap₂ (λ (x y : List ℕ). x ++ y) e f ∙ append_assoc old bs cs, Consumes-trans a b c bs cs p q)
 
--- nothing is left behind what is gone
+-- no bytes are left after the skipped ones
 pub skip_last : (a c : Option (List ℕ)) (at_end : Bool) (old gone held new : List ℕ) → ReadsOn a c old ((gone ++ held) ++ new) → has_feed gone ≡ false
     → has_feed held ≡ false → at_end ≡ true → new ≡ [] → 2097152 < length old → SkipsLine a c old new (skips (Ok TooLongLast) at_end)
 skip_last a c at_end old gone held new (bs, e, p) none clear ended_now nothing long =

@@ -1,4 +1,4 @@
-//! Answering an input line by line.
+//! Reading an input line by line, and answering each line.
 ghost use Rattle.std.specs.Prelude.{◌≡◌, ℕ, ◌+◌, List, [], ◌∷◌, ◌++◌, length, IfOk, IfErr, OnOk, IsErrOf, IsTrue, MatchOption, MatchResult};
 ghost use Rattle.std.specs.Io.KnownBytes.{IsAtEnd};
 ghost use Rattle.bidi_lines.specs.Devices.{Moves};
@@ -12,13 +12,13 @@ use super::line_reader::{InputFault, LineReader};
 use std::alloc::{AllocError, Global};
 use thiserror::Error;
 
-/// Why a line has no answer.
+/// Why the answerer has no answer to a line.
 #[derive(Clone, Copy, Debug, PartialEq, Eq, Error)]
 pub enum AnswerFault {
     /// An allocation failed.
     #[error("out of memory")]
     NoMemory,
-    /// The [`Answerer`] takes no more lines: it has answered as many as it can.
+    /// The [`Answerer`] takes no more lines, because it has answered as many as it can.
     #[error("too many steps")]
     WornOut,
 }
@@ -34,22 +34,22 @@ impl From<AllocError> for AnswerFault {
 /// Why not all lines of an input were answered.
 #[derive(Clone, Copy, Debug, PartialEq, Eq, Error)]
 pub enum LinesFault {
-    /// A read of the source failed. All whole lines that were read are answered.
+    /// A read of the source failed. All whole lines that were read before are answered.
     #[error("input cannot be read")]
     Read,
     /// A write of the sink failed. The last answer may be written in part.
     #[error("output cannot be written")]
     Write,
-    /// The line of this number, counted from 1, is refused, too long, or without its line feed.
+    /// The line of this number, counted from 1, is refused, is too long, or has no line feed.
     #[error("line {0} is refused")]
     BadLine(u64),
-    /// An allocation failed. Nothing is written for the line at hand.
+    /// An allocation failed. Nothing is written for the current line.
     #[error("out of memory")]
     NoMemory,
-    /// The input has more lines than the caller allowed. Those that are allowed were answered.
+    /// The input has more lines than the caller allowed. As many as allowed were answered.
     #[error("too many lines")]
     TooManyLines,
-    /// The [`Answerer`] answers no more lines. Nothing is written for the line at hand.
+    /// The [`Answerer`] takes no more lines. Nothing is written for the current line.
     #[error("too many steps")]
     WornOut,
 }
@@ -73,32 +73,36 @@ impl From<AnswerFault> for LinesFault {
     }
 }
 
-/// What answers to the lines of an input, one after another.
+/// Answers the lines of an input, one after another.
 pub trait Answerer {
-    // What it has answered, which lines it refuses, and where it takes no more.
+    // Its answers so far, which lines it refuses, and when it takes no more lines.
     ghost answers: { AnswersOf Self };
 
-    /// The answer to the next line, which has this number, counted from 1, and no line feed; `None` where it is
-    /// refused.
+    /// Answers the next line, which is given without its line feed, and its number, counted from 1. `None`
+    /// refuses the line.
     ///
     /// # Errors
     /// 1. `NoMemory`: an allocation failed.
-    /// 2. `WornOut`: no more lines are taken.
+    /// 2. `WornOut`: it takes no more lines.
     fn answer(
         &mut self,
         alloc: Global,
         number: u64,
         line: &[u8],
     ) -> Result<Option<Vec<u8>>, AnswerFault>
+        // The line has no line feed in it, and at most 2,097,152 bytes.
         requires { IsLine line.now }
+        // If `number` is the next number, bytes are the answer to this line after all before it,
+        // and `None` means that the line is refused.
         ensures ok { (first : Self) (lines : List (List ℕ)) (text : List ℕ) → answers.has_answered first self.old lines text
             → number ≡ length lines + 1 → IfOk result (λ found. MatchOption found (answers.refuses line.now)
             (λ bytes. answers.has_answered first self.new (lines ++ line.now ∷ []) (text ++ bytes.items))) }
+        // `WornOut` comes only if the answerer takes no more lines after those before.
         ensures worn_out { (first : Self) (lines : List (List ℕ)) (text : List ℕ) → answers.has_answered first self.old lines text
             → IsErrOf result refusal.WornOut → answers.is_worn_out lines line.now };
 }
 
-/// Reads the lines of a source, at most `most`, and writes the answer to each.
+/// Reads the lines of a source, at most `most`, and writes the answer to each to the sink.
 ///
 /// The answer to a line is written before the next line is read. Memory holds one line and its answer.
 ///
@@ -108,7 +112,7 @@ pub trait Answerer {
 /// 2. `Write`: a write of the sink failed.
 /// 3. `BadLine`: a line is refused, or has more than 2,097,152 bytes, or the input ends without its line feed.
 /// 4. `NoMemory`: an allocation failed.
-/// 5. `TooManyLines`: the input goes on behind `most` lines.
+/// 5. `TooManyLines`: the input has more than `most` lines.
 /// 6. `WornOut`: `answerer` takes no more lines.
 pub fn answer_lines<R: Source, W: Sink, A: Answerer>(
     alloc: Global,
@@ -117,21 +121,23 @@ pub fn answer_lines<R: Source, W: Sink, A: Answerer>(
     source: &mut R,
     sink: &mut W,
 ) -> Result<(), LinesFault>
-    // The answerer has answered no line yet.
+    // The answerer has not answered any line yet.
     requires { A.answers.has_answered answerer.old answerer.old [] [] }
 
-    // All that the source had was lines that it took, at most `most`, and its answers were written.
+    // After an Ok, the source gave whole lines only, at most `most`, and all answers were written.
     ensures ok { OnOk result (Moves (R.left source.old) (R.left source.new) (W.contents sink.old) (W.contents sink.new)
         (AnswersAll (A.answers.has_answered answerer.old answerer.new) most)) }
+    // After an Ok, the source has ended, and none of its bytes is left.
     ensures end { OnOk result (IsTrue (R.has_ended source.new) × IsAtEnd (R.left source.new)) }
 
-    // A fault says what was read and written before it.
+    // A fault says which lines were answered and written before it, and why the next was not.
     ensures err { IfErr result (λ fault. Moves (R.left source.old) (R.left source.new) (W.contents sink.old) (W.contents sink.new)
         (StopsAt A.answers answerer.old most fault (R.has_ended source.new))) }
 
-    // A device is blamed where it failed, and no run succeeds after a failure.
+    // The source failed once if the fault is `Read`, and not at all otherwise.
     ensures reads { MatchResult result (λ _. R.failures source.new ≡ R.failures source.old)
         (λ fault. R.failures source.new ≡ R.failures source.old + failed_reads fault) }
+    // The sink failed once if the fault is `Write`, and not at all otherwise.
     ensures writes { MatchResult result (λ _. W.failures sink.new ≡ W.failures sink.old)
         (λ fault. W.failures sink.new ≡ W.failures sink.old + failed_writes fault) }
 {
@@ -157,7 +163,7 @@ pub fn answer_lines<R: Source, W: Sink, A: Answerer>(
     }
 }
 
-// The fault of a fault of the input, at the line of this number.
+// The fault for a fault of the input, at the line of this number.
 fn lines_fault(fault: InputFault, number: u64) -> LinesFault
     ensures { result ≡ lines_fault_of fault number }
 {

@@ -14,16 +14,20 @@ use std::alloc::Global;
 use std::marker::Model;
 use thiserror::Error;
 
-/// How many bytes a line can have, without its line feed.
+/// The most lines of an input.
+pub const MOST_LINES: u64 = 1_000_000_000;
+
+/// The most bytes of a line, without its line feed.
 pub const LONGEST_LINE: usize = 2_097_152;
 
-/// Why a line could not be read. The end of the input is no fault.
+/// Why a line could not be read. The end of the input is not a fault.
 #[derive(Clone, Copy, Debug, PartialEq, Eq, Error)]
 pub enum InputFault {
     /// A read of the source failed. No byte is lost, and the next call goes on from there.
     #[error("input cannot be read")]
     Read,
-    /// The line has more than 2,097,152 bytes, or the input ends without its line feed. Give up the input.
+    /// The line has more than 2,097,152 bytes, or the input ends without its line feed. Call
+    /// [`LineReader::skip`], or give up the input.
     #[error("bad line")]
     BadLine,
     /// An allocation failed. No byte is lost, and the next call goes on from there.
@@ -31,36 +35,41 @@ pub enum InputFault {
     NoMemory,
 }
 
-/// What became of a line that [`LineReader::next`] does not give.
+/// What was done with a line that [`LineReader::next`] does not give.
 #[derive(Drop)]
 pub enum Skipped {
-    /// It has more than 2,097,152 bytes. It is thrown away, with its line feed.
+    /// It has more than 2,097,152 bytes. It was skipped, with its line feed.
     TooLong,
-    /// It has more than 2,097,152 bytes and no line feed. It is thrown away, and was the last of the input.
+    /// It has more than 2,097,152 bytes and no line feed. It was skipped, and was the last of the input.
     TooLongLast,
-    /// It has no line feed, and this is all of it: the last bytes of the input.
+    /// It has no line feed. These are all its bytes, the last of the input.
     Unended(Vec<u8>),
 }
 
-/// Reads the lines of a source one by one. Contracts see it as the bytes that it has read and not given yet.
+/// Reads the lines of a source one by one. In contracts its value is the bytes that it has read and not
+/// handed out yet.
 #[derive(Drop)]
 pub struct LineReader {
     buffer: Vec<u8>,
-    // How many bytes at the front of the buffer were given already.
+    // How many bytes at the front of the buffer were handed out already.
     start: usize,
 }
 
 impl Model for LineReader {
+    // In contracts a reader is a list of bytes.
     ghost Value = { List ℕ };
 
+    // The bytes that were read but not handed out yet.
     ghost view = { λ r. drop r.start r.buffer.items };
 
+    // The bytes that were handed out are part of the buffer.
     ghost invariant = { λ r. r.start ≤ vec_len r.buffer };
 }
 
 impl LineReader {
-    /// A reader that has read nothing. Takes no memory.
+    /// Makes a reader that has read nothing. Takes no memory.
     pub fn new(alloc: Global) -> LineReader
+        // The reader holds no bytes.
         ensures { result ≡ [] }
     {
         LineReader {
@@ -69,7 +78,7 @@ impl LineReader {
         }
     }
 
-    /// The next line without its line feed, or `None` at the end of the input.
+    /// Reads the next line, without its line feed, or `None` at the end of the input.
     ///
     /// # Errors
     /// The first of these in the order of the input:
@@ -81,10 +90,15 @@ impl LineReader {
         alloc: Global,
         source: &mut S,
     ) -> Result<Option<Vec<u8>>, InputFault>
-        // The bytes that were held, and those that the source gave, are the line and what is held now.
+        // No byte is lost: the bytes held and read are those of the returned line and those held
+        // now.
         ensures bytes { ReadsOn (S.left source.old) (S.left source.new) self.old (given result ++ self.new) }
+        // The answer is right: a line has no line feed and at most 2,097,152 bytes, and a fault has
+        // its cause.
         ensures says { Says result (S.has_ended source.new) self.new }
+        // `None` comes only if no byte of the source is left.
         ensures end { IfOk result (λ found. IfNone found (IsAtEnd (S.left source.new))) }
+        // The source failed once if the fault is `Read`, and not at all otherwise.
         ensures failures { MatchResult result (λ _. S.failures source.new ≡ S.failures source.old)
             (λ fault. S.failures source.new ≡ S.failures source.old + failed_reads fault) }
     {
@@ -115,21 +129,23 @@ impl LineReader {
         }
     }
 
-    /// Goes on behind a line that [`LineReader::next`] answered `BadLine` to.
+    /// Skips the line that [`LineReader::next`] answered with `BadLine`.
     ///
-    /// A line that is too long is thrown away as it is read, so memory holds a chunk of it. The last bytes of an input that ends without
-    /// a line feed are given.
+    /// A line that is too long is thrown away as it is read, so memory holds only a chunk of it. If the input
+    /// ends without a line feed, its last bytes are returned instead.
     ///
     /// # Errors
-    /// 1. `Read`: a read of the source failed, and a beginning of the line is thrown away. Give up the input.
-    /// 2. `BadLine`: the first 2^64 - 1 bytes of the line have no line feed. They are thrown away. Give up the input.
+    /// 1. `Read`: a read of the source failed, and a beginning of the line was skipped. Give up the input.
+    /// 2. `BadLine`: the first 2^64 - 1 bytes of the line have no line feed. They were skipped. Give up the
+    ///    input.
     /// 3. `NoMemory`: an allocation failed.
     pub fn skip<S: Source>(&mut self, alloc: Global, source: &mut S) -> Result<Skipped, InputFault>
-        // As `BadLine` leaves it.
+        // The reader is as `next` leaves it after `BadLine`.
         requires { BeginsBadly (S.has_ended source.old) self.old }
 
-        // The bytes that were held, and those that the source gave, are those that are gone and what is held now.
+        // The bytes held and read are the skipped ones and those held now, as the answer says.
         ensures skips { SkipsLine (S.left source.old) (S.left source.new) self.old self.new (skips result (S.has_ended source.new)) }
+        // The source failed once if the fault is `Read`, and not at all otherwise.
         ensures failures { MatchResult result (λ _. S.failures source.new ≡ S.failures source.old)
             (λ fault. S.failures source.new ≡ S.failures source.old + failed_reads fault) }
     {
@@ -143,7 +159,7 @@ impl LineReader {
         Ok(Skipped::Unended(last))
     }
 
-    // Throws away what is held, and what follows up to a line feed or the end of the input.
+    // Skips what is held, and what follows up to a line feed or the end of the input.
     fn skip_long<S: Source>(&mut self, source: &mut S) -> Result<Skipped, InputFault>
         requires long { 2097152 < length self.old }
         requires no_feed { has_feed (take 2097153 self.old) ≡ false }
@@ -166,16 +182,21 @@ impl LineReader {
         Err(InputFault::BadLine)
     }
 
-    /// Whether the input has more bytes. Reads some where none is held.
+    /// Whether the input has more bytes. Reads some if none is held.
     ///
     /// # Errors
     /// - `Read`: a read of the source failed.
     /// - `NoMemory`: an allocation failed.
     pub fn goes_on<S: Source>(&mut self, source: &mut S) -> Result<bool, InputFault>
+        // No byte is lost: the bytes held and read are all held now.
         ensures bytes { ReadsOn (S.left source.old) (S.left source.new) self.old self.new }
+        // The result is true only if some bytes are held.
         ensures more { IfOk result (λ more. IsTrue more → self.new ≢ []) }
+        // The result is false only if no bytes are held and the source has ended.
         ensures end { IfOk result (λ more. more ≡ false → (self.new ≡ []) × IsTrue (S.has_ended source.new) × IsAtEnd (S.left source.new)) }
+        // A fault is `Read` or `NoMemory`, and then no bytes are held.
         ensures err { IfErr result (λ fault. (fault ≢ BadLine) × (self.new ≡ [])) }
+        // The source failed once if the fault is `Read`, and not at all otherwise.
         ensures failures { MatchResult result (λ _. S.failures source.new ≡ S.failures source.old)
             (λ fault. S.failures source.new ≡ S.failures source.old + failed_reads fault) }
     {
@@ -185,14 +206,14 @@ impl LineReader {
         Ok(self.read_more(source)? > 0)
     }
 
-    // The bytes that were read and not given yet.
+    // The bytes that were read but not handed out yet.
     fn held(&self) -> &[u8]
         ensures { result.now ≡ self.now }
     {
         &self.buffer[self.start..]
     }
 
-    // Counts so many of the bytes that are held as given.
+    // Counts so many of the held bytes as handed out.
     fn give(&mut self, n: usize)
         requires { n ≤ length self.old }
         ensures { self.new ≡ drop n self.old }
@@ -200,7 +221,8 @@ impl LineReader {
         self.start += n;
     }
 
-    // Reads once, and holds the bytes behind the others. Bytes that were given are dropped first.
+    // Reads once, and adds the bytes to those that are held. Drops bytes that were handed out
+    // first.
     fn read_more<S: Source>(&mut self, source: &mut S) -> Result<usize, InputFault>
         ensures bytes { ReadsOn (S.left source.old) (S.left source.new) self.old self.new }
         ensures count { IfOk result (λ n. length self.new ≡ length self.old + n) }
@@ -215,10 +237,11 @@ impl LineReader {
     }
 }
 
-// How many bytes one read asks for at most.
+// The most bytes that one read asks for.
 const CHUNK: usize = 65_536;
 
-// Reads once, and adds the bytes at the end of the buffer. Room is made first, so that no byte is lost.
+// Reads once, and adds the bytes at the end of the buffer. Reserves room before that, so that no
+// byte is lost.
 fn read_some<S: Source>(source: &mut S, buffer: &mut Vec<u8>) -> Result<usize, InputFault>
     ensures bytes { ReadsOn (S.left source.old) (S.left source.new) buffer.old.items buffer.new.items }
     ensures count { IfOk result (λ n. vec_len buffer.new ≡ vec_len buffer.old + n) }
@@ -256,7 +279,7 @@ fn drop_front(bytes: &mut Vec<u8>, n: usize)
     }
 }
 
-// The place of the first line feed, where none stands among the first `seen` bytes.
+// The place of the first line feed, if there is none among the first `seen` bytes.
 fn feed_behind(bytes: &[u8], seen: usize) -> Option<usize>
     requires seen { seen ≤ length bytes.now }
     requires none_seen { has_feed (take seen bytes.now) ≡ false }

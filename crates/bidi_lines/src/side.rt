@@ -1,10 +1,10 @@
-//! Whose texts the lines of an input are.
+//! Which end sent the messages of an input.
 
-/// The end that sends the texts.
+/// The end that sends the messages.
 #[derive(Clone, Copy, Debug, PartialEq, Eq)]
 pub enum Side {
-    /// Texts of a local end: commands.
+    /// The local end, which sends commands.
     Local,
-    /// Texts of a remote end: responses, errors and events.
+    /// The remote end, which sends responses, errors and events.
     Remote,
 }

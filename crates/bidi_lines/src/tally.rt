@@ -4,7 +4,7 @@ ghost use Rattle.std.specs.Borrow.{ftrue};
 
 use std::marker::Model;
 
-/// How often something happened. It takes no bytes.
+/// How often something happened. It takes no space.
 #[derive(Drop)]
 pub struct Tally {
     pub ghost count: { ℕ },
@@ -15,14 +15,14 @@ impl Model for Tally {
 }
 
 impl Tally {
-    /// A tally of nothing.
+    /// Makes a count of 0.
     pub(crate) fn new() -> Tally
         ensures { result.count ≡ 0 }
     {
         Tally {}
     }
 
-    /// The tally with one more.
+    /// Makes a count that is one greater.
     pub(crate) fn then(_before: &Tally) -> Tally
         ensures { result.count ≡ _before.now.count + 1 }
     {

@@ -1,4 +1,4 @@
--- Steps of which some are done, and the others are left, the last of them first.
+-- Steps of which some are done; the others are left in reverse order.
 use Rattle.std.proofs.Common.{◌≡◌, ◌∙◌, ◌≤◌, List, [], ◌∷◌, ◌++◌, length, take, reverse, append_assoc, append-nil, length-append, refl, sym, ap, arith}
 use Rattle.std.specs.List.{AllByRecursion}
 use Rattle.std.proofs.lemmas.List.{reverse-append, reverse-reverse}
@@ -18,14 +18,14 @@ module _ {A : Type 0} (all done left : List A) where
   more-done after x split last =
       split ∙ (ap (λ xs. done ++ reverse xs) last ∙ (ap (λ xs. done ++ xs) (reverse-append after (x ∷ [])) ∙ sym (append_assoc done (x ∷ []) (reverse after))))
 
-  -- those that are done are no more than all, and stand at the front
+  -- the steps that are done are no more than all, and come first
   pub few-done : all ≡ done ++ reverse left → length done ≤ length all
   few-done split = let n = ap length split in let m = length-append done (reverse left) in omega (arith, n, m)
 
   pub front-done : all ≡ done ++ reverse left → take (length done) all ≡ done
   front-done split = ap (take (length done)) split ∙ take-append_seam done (reverse left)
 
--- what holds of each holds of one between others
+-- a fact about each item holds of one between others
 pub all-among : {A : Type 0} (P : A → Type 0) (done rest : List A) (x : A) → AllByRecursion P ((done ++ x ∷ []) ++ rest) → P x
 all-among P [] rest x a = a.0
 all-among P (y ∷ done) rest x a = all-among P done rest x a.1

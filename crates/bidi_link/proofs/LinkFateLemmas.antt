@@ -1,10 +1,10 @@
--- The entries of a link in hand, place by place: their ids, which of them wait, and one whose fate changes.
+-- The entries of a link of the code by place: their ids, which are pending, and a change of one fate.
 use Rattle.std.proofs.Common.{◌≡◌, ◌∙◌, ◌<◌, ◌+◌, ℕ, suc, zero, Bool, true, false, true≢false, cond, not, List, [], ◌∷◌, map, length}
 use Rattle.std.proofs.Common.{Option, Some, None, option_map, refl, sym, ap, ap₂, subst, arith, rules, filter, find, unwrap_or}
 use Rattle.std.specs.Prelude.{◌==◌, slice_get, slice_set, if◌then◌else◌}
 use Rattle.std.proofs.lemmas.Bool.{ne_eqb}
 use Rattle.bidi_tree.specs.Node.{Node, null}
-use Rattle.bidi_browser.specs.Actions.{is_text}
+use Rattle.bidi_contexts.specs.Actions.{is_text}
 use Rattle.bidi_handles.specs.Params.{tree_if_at, text_if_at, text_at}
 use Rattle.bidi_tree.specs.declared.number.JsUint.{JsUint}
 use Rattle.bidi_methods.specs.declared.method.Method.{Method}
@@ -61,7 +61,7 @@ entry_at zero k n v (e ∷ es) (d ∷ cs) c place is at =
     (e, refl, record { id = ap (λ x. x.id) h ∙ here; method = ap (λ x. x.method) h ∙ ap (λ x. x.method) same; fate = ap (λ x. x.fate) h ∙ ap (fate_of v) here })
 entry_at (suc p) k n v (e ∷ es) (d ∷ cs) c place is at = entry_at p (suc k) n v es cs c (omega (arith, place)) (same_tail is) at
 
--- the entries where one fate changes
+-- the entries after one fate has changed
 pub entries-set : (p k n : ℕ) (v w : Link) (f : Fate) (e : Entry) (es : List Entry) (cs : List Sending)
     → n ≡ k + p → map entry_seen es ≡ entries_from k v cs → slice_get es p ≡ Some e
     → fate_seen f ≡ fate_of w n → ((id : ℕ) → (id ≡ n → ⊥) → fate_of v id ≡ fate_of w id)
@@ -179,7 +179,7 @@ method_of-waiting (suc p) k n e (x ∷ es) place numbered at waiting =
 
 -- ---- those that a cut loses
 
--- where it waits, it is lost
+-- a command that is pending is lost
 abbrev pub lost_fate : seen.Fate → seen.Fate
 lost_fate f = if is_waiting f then seen.Lost else f
 
@@ -270,7 +270,7 @@ replied : (b : Bool) (answered refused : seen.Fate) → is_waiting answered ≡ 
 replied true answered refused a r = ap (λ b. if b then seen.Lost else answered) a
 replied false answered refused a r = ap (λ b. if b then seen.Lost else refused) r
 
--- a reply stays, and what has none is lost
+-- a command with a reply keeps its fate, and one without is lost
 fate-cut : (o : Option Node) (b : Bool) → b ≡ false → lost_fate (fate_with o b) ≡ fate_with o true
 fate-cut o true is = absurd (true≢false is)
 fate-cut None false is = refl

@@ -1,4 +1,4 @@
--- What a link in hand stands for as its queues change: what is taken from them, and what is put there.
+-- The state of a link of the code as texts are added to its queues and taken from them.
 use Rattle.std.proofs.Common.{◌≡◌, ◌∙◌, ◌≤◌, ℕ, suc, zero, Bool, true, false, List, [], ◌∷◌, ◌++◌, map, length, take, drop, filter, find}
 use Rattle.std.proofs.Common.{Option, Some, None, option_to_list, unwrap_or, Result, Ok, Err, refl, sym, ap, ap₂, subst, arith}
 use Rattle.std.specs.Prelude.{slice_get, if◌then◌else◌, IfNone, IfSome, OnOk}
@@ -32,14 +32,14 @@ own_rest : {A : Type 0} (xs : List A) → xs ≡ drop 1 xs → xs ≡ []
 own_rest [] e = refl
 own_rest (x ∷ xs) e = let short : suc (length xs) ≡ length xs = ap length e in absurd (omega (arith, short))
 
--- where none is taken from a queue, it was empty and is
+-- if none is taken from a queue, the queue was empty and still is
 pub none_taken : {A : Type 0} (r : Option A) (old new : List A) → old ≡ option_to_list r ++ new → new ≡ drop 1 old → r ≡ None → (old ≡ []) × (new ≡ [])
 none_taken r old new items rest is =
     let e : old ≡ new = items ∙ ap (λ o. option_to_list o ++ new) is in
     let empty = own_rest old (e ∙ rest) in
     (empty, sym e ∙ empty)
 
--- where one is taken, it was the first
+-- if one is taken, it was the first
 pub one_taken : {A : Type 0} (r : Option A) (old new : List A) (x : A) → old ≡ option_to_list r ++ new → r ≡ Some x → old ≡ x ∷ new
 one_taken r old new x items is = items ∙ ap (λ o. option_to_list o ++ new) is
 
@@ -75,14 +75,14 @@ next_up-some v s ss uncut up =
     let p = some_up (suc v.ups) v.ups v.commands s ss up in
     (p.0, ap (λ b. if b then None else slice_get v.commands v.ups) uncut ∙ p.1, p.2, p.3)
 
--- what carries something was not cut
+-- a link that carries something was not cut
 pub uncut : {A : Type 0} (b : Bool) (x : A) (xs : List A) → (b ≡ true → x ∷ xs ≡ []) → b ≡ false
 uncut true x xs empty = let e = empty refl in cc
 uncut false x xs empty = refl
 
 -- ---- entries
 
--- the entries depend on the fates alone
+-- the entries depend only on the fates
 pub entries-same : (k : ℕ) (v w : Link) (cs : List Sending) → ((id : ℕ) → fate_of v id ≡ fate_of w id) → entries_from k v cs ≡ entries_from k w cs
 entries-same k v w [] same = refl
 entries-same k v w (c ∷ cs) same =
@@ -106,7 +106,7 @@ drop-append zero xs ys within = refl
 drop-append (suc d) [] ys within = absurd (omega (arith, within))
 drop-append (suc d) (x ∷ xs) ys within = drop-append d xs ys (omega (arith, within))
 
--- a place behind which something lies
+-- a place with something after it
 pub dropped : {A : Type 0} (d : ℕ) (xs : List A) (x : A) (ys : List A)
     → drop d xs ≡ x ∷ ys → (drop (suc d) xs ≡ ys) × (take (suc d) xs ≡ take d xs ++ x ∷ []) × (suc d ≤ length xs)
 dropped zero [] x ys is = cc
@@ -114,7 +114,7 @@ dropped zero (z ∷ xs) x ys is = (let e : xs ≡ ys = cc in e, let e : z ≡ x 
 dropped (suc d) [] x ys is = cc
 dropped (suc d) (z ∷ xs) x ys is = let p = dropped d xs x ys is in (p.0, ap (λ l. z ∷ l) p.1, omega (arith, p.2))
 
--- a place behind which nothing lies
+-- a place with nothing after it
 pub all_dropped : {A : Type 0} (d : ℕ) (xs : List A) → drop d xs ≡ [] → length xs ≤ d
 all_dropped zero [] is = omega arith
 all_dropped zero (x ∷ xs) is = cc

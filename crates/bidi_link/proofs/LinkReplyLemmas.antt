@@ -1,4 +1,4 @@
--- The texts on the way down, place by place: which command each replies to, and what it is read as.
+-- The queued texts of a link by place: the command that each answers, and the message that it is read as.
 use Rattle.std.proofs.Common.{◌≡◌, ◌∙◌, ◌≤◌, ◌<◌, ◌^◌, ◌⊎◌, inl, inr, ℕ, suc, zero, true, false, true≢false, not, cond}
 use Rattle.std.proofs.Common.{nat_eq, List, [], ◌∷◌, map, length, get_or, take, drop, Option, Some, None}
 use Rattle.std.proofs.Common.{option_and_then, unwrap_or, codes, find, refl, sym, ap, ap₂, subst, arith, rules}
@@ -27,9 +27,9 @@ use Rattle.bidi_methods.specs.EventData.{event_of}
 use Rattle.bidi_messages.specs.Message.{response_tree, error_tree, error_text}
 use Rattle.bidi_methods.specs.Method.{method_text, result_of}
 use Rattle.bidi_messages.specs.Reading.{IsMessageText, IsEvent}
-use Rattle.bidi_browser.specs.Actions.{is_text}
+use Rattle.bidi_contexts.specs.Actions.{is_text}
 use Rattle.bidi_handles.specs.Params.{number_if_at}
-use Rattle.bidi_remote.specs.Machine.Replies.{IsEventText, IsReply, is_result, is_code}
+use Rattle.bidi_remote.specs.Replies.{IsEventText, IsReply, is_result, is_code}
 use Rattle.bidi_ledger.specs.Pairing.{Sending}
 use Rattle.bidi_ledger.specs.Link.{is_event, is_reply_to}
 use Rattle.bidi_link.specs.Spoken.{AreSpoken, nothing, an_event, a_reply}
@@ -38,7 +38,7 @@ use Rattle.bidi_link.specs.Spoken.{AreSpoken, nothing, an_event, a_reply}
 abbrev pub tree_in : List ℕ → Node
 tree_in s = unwrap_or (tree_of s) null
 
--- ---- what the texts are read as
+-- ---- the messages that the texts are read as
 
 -- an error reads back
 pub error_reads : (id : ℕ) (code : ErrorCode) → id < 2 ^ 53 → tree_of (error_text (Some id) code) ≡ Some (error_tree (Some id) code)
@@ -81,11 +81,11 @@ replies_itself id t r = ap₂ {B = Option ℕ} (λ b o. not b && option_eq nat_e
     same : (n : ℕ) → nat_eq n n ≡ true
     same n = search rules
 
--- what replies to a command replies to no other
+-- a reply to a command is no reply to another
 replies_one : (id k : ℕ) (t : Node) → Replies id t → is_reply_to k t ≡ true → id ≡ k
 replies_one id k t r is = eqb-true id k (sym (ap₂ {B = Option ℕ} (λ b o. not b && option_eq nat_eq o (Some k)) r.no_event r.to) ∙ is)
 
--- the text of an event is that of an event in hand
+-- the text of an event is that of an event of the code
 pub record ReadsAsEvent (s : List ℕ) (e : Event) : Type 0 where
   pub reads : tree_of s ≡ Some (event.ghosts.shape.tree_of e)
 
@@ -145,7 +145,7 @@ none_replies cs (suc d) k (a_reply n m p c method s ts after at named is rest) s
     (replies_alone (suc p) k (tree_in s) (reply_reads (suc p) method (omega (arith, bound, small)) is) (λ same. omega (arith, bound, above, same)))
     (none_replies cs d k rest small reads.1 above)
 
--- a reply among the texts is to a command behind the first so many, and up to the last of so many
+-- a reply among the texts answers a command after the first n, and among the first m
 pub reply_among : (cs : List Sending) (j k : ℕ) (s : List ℕ) {n m : ℕ} {ts : List (List ℕ)}
     → AreSpoken cs n m ts → m < 2 ^ 53 → AllByRecursion (IsMessageText ghosts.shape) ts → j < length ts → get_or ts j s ≡ s
     → is_reply_to (suc k) (tree_in s) ≡ true → (n ≤ k) × (k < m)

@@ -1,4 +1,4 @@
--- A link in hand where a command is sent: how many wait, why it may not be sent, and that it waits.
+-- Sending a command on a link of the code: how many are pending, why it cannot be sent, and that it is pending afterwards.
 use Rattle.std.proofs.Common.{◌≡◌, ◌∙◌, ◌<◌, ◌+◌, ◌-◌, ◌^◌, ℕ, suc, zero, min, Bool, true, false, true≢false, not, cond, List, [], ◌∷◌}
 use Rattle.std.proofs.Common.{◌++◌, map, length, drop, filter, Option, Some, None, Err, refl, sym, ap, ap₂, subst, arith, rules, tests}
 use Rattle.std.specs.Prelude.{nat_lt, nat_le, ◌&&◌, if◌then◌else◌, string_bytes}
@@ -13,7 +13,7 @@ use Rattle.bidi_methods.specs.Method.{method_text}
 use Rattle.bidi_messages.specs.Verdict.{IsVerdict, Accepted}
 use Rattle.bidi_methods.specs.contracts.command_data.CommandDataPayloadMethod.TheImpl as asks
 use Rattle.bidi_tree.specs.declared.number.JsUint.{JsUint}
-use Rattle.bidi_browser.specs.Contexts.{up_to}
+use Rattle.bidi_contexts.specs.Contexts.{up_to}
 use Rattle.bidi_ledger.specs.declared.ledger.Entry.{Entry}
 use Rattle.bidi_link.specs.declared.link_end.LinkEnd.{LinkEnd}
 use Rattle.bidi_link.specs.Spoken.{IsSound}
@@ -22,7 +22,7 @@ use Rattle.bidi_ledger.specs.Link as seen
 use Rattle.bidi_ledger.specs.Link.{Link, is_waiting, is_reply_to, messages, fate_with, fate_of, unsettled, entries_from, may_send}
 use Rattle.bidi_link.specs.Rows.{Agrees, waiting_among, IsUpward, AreUpward, with_sending, sent_on}
 use Rattle.bidi_ledger.specs.Steps.{fate_seen, entry_seen, event_seen, sending_of, FateIsWell, EntriesAreWell, EventsAreWell}
-use Rattle.bidi_remote.proofs.ListLemmas.{all-append}
+use Rattle.bidi_sessions.proofs.ListLemmas.{all-append}
 use Rattle.bidi_link.proofs.LinkFateLemmas.{row, waits, same_head, same_tail}
 use Rattle.bidi_link.proofs.LinkLemmas.{drop-append, entries-same}
 use Rattle.bidi_link.proofs.LinkReplyLemmas.{none_replies}
@@ -59,7 +59,7 @@ waiting-from k v (e ∷ es) (c ∷ cs) is =
     (filter (λ id. is_waiting (fate_of v id)) (from (suc k) (length cs)))
     (ap (λ x. is_waiting x.fate) (same_head is)) (waiting-from (suc k) v es cs (same_tail is))
 
--- as many wait in hand as are unsettled
+-- the local end has as many pending commands as the link
 pub waiting-unsettled : (v : Link) (es : List Entry) → map entry_seen es ≡ entries_from 1 v v.commands → length (waiting_among es) ≡ length (unsettled v)
 waiting-unsettled v es is =
     length-map (filter (λ e. is_waiting (fate_seen e.fate)) es) (λ e. (e.id.value, e.method))
@@ -137,9 +137,9 @@ waiting-last (x ∷ es) e is = by_case (is_waiting (fate_seen x.fate)) refl (wai
     by_case true waiting rest = waits x (es ++ e ∷ []) true waiting ∙ (ap (λ ws. row x ∷ ws) rest ∙ ap (λ ws. ws ++ row e ∷ []) (sym (waits x es true waiting)))
     by_case false settled rest = waits x (es ++ e ∷ []) false settled ∙ (rest ∙ ap (λ ws. ws ++ row e ∷ []) (sym (waits x es false settled)))
 
--- ---- the link in hand
+-- ---- the link of the code
 
--- the local end stands for that many commands, and may send this one where the link may
+-- the local end has sent that many commands, and may send this one if the link may
 same_may : (v : Link) (es : List Entry) (d : CommandData) (sent : ℕ) (waiting : Pending)
     → map entry_seen es ≡ entries_from 1 v v.commands → sent ≡ length v.commands → waiting ≡ waiting_among es
     → may sent (length waiting) (length (command_text sent (asks.ghosts.payload.kind d) (asks.ghosts.payload.tree_of d))) ≡ may_send v (sending_of d)
@@ -178,7 +178,7 @@ next_waits v sound whole =
     ap₂ {B = Bool} fate_with (none_replies v.commands v.downs (suc (length v.commands)) sound.spoken (omega (arith, sound.taken, sound.ids))
     sound.read_back (omega (arith, sound.taken))) whole
 
--- what stays of a link in hand, where a command is sent
+-- the parts of a link of the code that stay when a command is sent
 pub record IsRest (end new : LinkEnd) : Type 0 where
   pub number : new.number ≡ end.number
   pub down : new.down ≡ end.down
@@ -261,7 +261,7 @@ counts end new l v a whole rest commands up unsent stands =
       empty = λ u. absurd (true≢false (sym u ∙ whole));
     }
 
--- a command that is refused for a cause, beside memory, is refused for that one
+-- a fault other than `NoMemory` is the refusal itself
 pub refused_for : (f : LocalFault) (o : Option LocalFault) → (f ≡ NoMemory → ⊥) → IsAnswered {A = JsUint × Unit {0}} (Err f) o → o ≡ Some f
 refused_for NoMemory o not_so is = absurd (not_so refl)
 refused_for IdsUsedUp o not_so is = is

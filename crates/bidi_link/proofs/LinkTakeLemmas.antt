@@ -1,4 +1,4 @@
--- A link in hand where a text is taken down: what the local end makes of it, and what is noted.
+-- Taking a text down on a link of the code: its meaning to the local end, and the note of it.
 use Rattle.std.proofs.Common.{◌≡◌, ◌∙◌, ◌≤◌, ◌<◌, ◌^◌, ◌⊎◌, ℕ, suc, Bool, true, false, true≢false, not, cond, bytes_eq, List, []}
 use Rattle.std.proofs.Common.{◌∷◌, ◌++◌, map, length, take, drop, filter, find, codes, Option, Some, None, option_and_then}
 use Rattle.std.proofs.Common.{unwrap_or, Result, inl, inr, refl, sym, ap, ap₂, subst, arith, rules, tests, append-nil, lt-ltb}
@@ -41,7 +41,7 @@ use Rattle.bidi_local.specs.Received.{Meaning, Answer, Refusal, Event as Told, M
 use Rattle.bidi_local.specs.View.{Stands, sent_by, waiting_in, meaning_of}
 use Rattle.bidi_local.specs.declared.received.Received.{Received}
 use Rattle.bidi_local.specs.declared.received.Received.TheVariants as received
-use Rattle.bidi_remote.specs.Machine.Replies.{IsEventText}
+use Rattle.bidi_remote.specs.Replies.{IsEventText}
 use Rattle.bidi_remote.proofs.ReplyLemmas.{one-method}
 use Rattle.bidi_ledger.specs.declared.ledger.Entry.{Entry}
 use Rattle.bidi_ledger.specs.declared.ledger.Fate.{Fate}
@@ -59,7 +59,7 @@ use Rattle.bidi_link.proofs.LinkReplyLemmas.{tree_in, ResultOf, CodeOf, result_o
 use Rattle.bidi_link.proofs.LinkReplyLemmas.{replies_itself, reply_reads, ReadsAsEvent, event_reads, event_type_in}
 use Rattle.bidi_link.proofs.LinkReplyLemmas.{is_event_text, events_reply, IsNext, next_event, next_reply, next_text}
 
--- ---- what fits a message, by its type
+-- ---- trees that fit a message, by their type
 
 abbrev type_in : Node → List ℕ
 type_in t = unwrap_or (option_and_then text_in (get_of (codes "type") t)) []
@@ -106,7 +106,7 @@ fits_error t fit is =
     cases (Fits t (rule error_response)) (either_inside (rule_inside fit)) (λ f. absurd (differ (codes "success") (codes "error") refl (response_type t f) is))
     (λ f. cases (Fits t (rule error_response)) (either_inside f) (λ g. g) (λ g. absurd (differ (codes "event") (codes "error") refl (event_is_typed t g) is)))
 
--- what is on its way down fits a message
+-- a text that is queued for the local end fits a message
 fits_message : (s : List ℕ) (t : Node) → tree_of s ≡ Some t → IsMessageText ghosts.shape s → Fits t (rule message_name)
 fits_message s t reads m =
     let same : Some m.0 ≡ Some t = sym m.3 ∙ reads in
@@ -146,7 +146,7 @@ module _ (v : Link) (s : List ℕ) (more : take (suc v.downs) v.texts ≡ take v
       ∙ (ap (map event_in) (filter-append is_event (messages v) (tree_in s ∷ []) ∙ ap (λ d. filter is_event (messages v) ++ cond d (tree_in s ∷ []) []) is)
       ∙ map-append event_in (filter is_event (messages v)) (cond b (tree_in s ∷ []) []))
 
--- ---- what was received
+-- ---- the messages that were received
 
 record ToldAs (r : Received) (n : EventName) (p : Node) (d : EventData) : Type 0 where
   is : r ≡ received.Event d
@@ -192,14 +192,14 @@ refused_as received.NotJson n code is = cc is
 two : {x y : List ℕ} {t u : Node} → x ≡ y → t ≡ u → ◌≡◌ {A = seen.Received} (record { method = x; params = t }) (record { method = y; params = u })
 two p q = cc
 
--- an event in hand is that of its message
+-- an event of the code is that of its message
 seen_in : (d : EventData) (n : EventName) (t : Node) → told.ghosts.payload.kind d ≡ n
     → told.ghosts.payload.tree_of d ≡ params_in t → method_in t ≡ event_name_text n → event_seen d ≡ event_in t
 seen_in d n t kind tree method = two (ap event_name_text kind ∙ sym method) tree
 
--- ---- the link in hand
+-- ---- the link of the code
 
--- what stays of a link in hand, where a text is taken down
+-- the parts of a link of the code that stay when a text is taken down
 pub record IsKept (end new : LinkEnd) (rest : List (List ℕ)) : Type 0 where
   pub number : new.number ≡ end.number
   pub up : new.up ≡ end.up
@@ -207,7 +207,7 @@ pub record IsKept (end new : LinkEnd) (rest : List (List ℕ)) : Type 0 where
   pub is_cut : new.is_cut ≡ end.is_cut
   pub unsent : new.unsent ≡ end.unsent
 
--- what is noted of what was received
+-- the note of a message that was received
 pub record IsNoted {E : Type 0} (end new : LinkEnd) (r : Received) (q : Result (Unit {0}) E) : Type 0 where
   pub answer : (p : ℕ) (e : Entry) (id : JsUint) (d : ResultData) → r ≡ received.Answer id d → id.value ≡ suc p → slice_get end.commands.items p ≡ Some e
       → OnOk q ((new.commands.items ≡ slice_set end.commands.items p (record e { fate = in_hand.Answered d })) × (new.events.items ≡ end.events.items))
@@ -227,11 +227,11 @@ module _ {E : Type 0} (end new : LinkEnd) (l : ℕ) (v : Link) (s : List ℕ) (r
   more : take (suc v.downs) v.texts ≡ take v.downs v.texts ++ s ∷ []
   more = (dropped v.downs v.texts s rest here).1
 
-  -- what was noted before, and is noted now, is well
+  -- the results and events that were noted before and are noted now are valid
   is_well : OnOk q (EntriesAreWell new.commands.items × EventsAreWell new.events.items)
   is_well = noted.well a.results_well a.events_well
 
-  -- what agrees whatever was received
+  -- the parts that agree whatever was received
   agrees : EntriesAreWell new.commands.items × EventsAreWell new.events.items → map entry_seen new.commands.items ≡ entries_from 1 w v.commands
       → map event_seen new.events.items ≡ events w → settled (waiting_in end.local) (meaning_of r) ≡ waiting_among new.commands.items
       → Agrees new l w
@@ -341,7 +341,7 @@ module _ {E : Type 0} (end new : LinkEnd) (l : ℕ) (v : Link) (s : List ℕ) (r
       (of_result p e method small found.1 (one-method e.method method (found.2.method ∙ named)) replies none waits reads)
       (of_code p e small found.1 replies none waits reads)
 
-  -- the link in hand stands for the link that has taken it down
+  -- the link of the code has the state after the text was taken down
   pub taken : OnOk q (Agrees new l (with_down v))
   taken =
       let next = next_text v.commands v.downs s rest sound.spoken (omega (arith, sound.taken, sound.ids)) sound.read_back here in

@@ -1,4 +1,4 @@
--- Each reply on a link is what the machine sends at its command, at one place of the past; and so is each fate that a reply makes.
+-- Each reply on a link, and each fate that it gives, is what the machine sends for its command, at one place of the past.
 use Rattle.std.proofs.Common.{◌≡◌, ◌∙◌, ◌<◌, ◌^◌, ℕ, suc, Bool, true, false, true≢false, cond, List, [], ◌∷◌, ◌++◌, map, take, drop}
 use Rattle.std.proofs.Common.{find, Contains, Option, Some, None, ⊎_elim, refl, sym, ap, subst, take-append-drop, arith}
 use Rattle.std.specs.Prelude.{slice_get, reverse}
@@ -10,7 +10,7 @@ use Rattle.bidi_messages.specs.Reading.{IsMessageText}
 use Rattle.bidi_messages.specs.Verdict.{Accepted}
 use Rattle.bidi_messages.specs.contracts.message.MessageShape.TheImpl.{ghosts}
 use Rattle.bidi_remote.specs.Machine.History.{Input, Heard}
-use Rattle.bidi_remote.specs.Machine.Replies.{IsEventText}
+use Rattle.bidi_remote.specs.Replies.{IsEventText}
 use Rattle.bidi_remote.specs.Machine.Sent.{out, answers, texts_on}
 use Rattle.bidi_ledger.specs.Pairing.{Sending, Deed, Handed, TakenUp, history, is_cut, commands, ups, downs, texts}
 use Rattle.bidi_ledger.specs.Link.{Link, Fate, link, messages, is_reply_to, fate_by, fate_with, tree_of_sending}

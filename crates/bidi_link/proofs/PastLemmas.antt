@@ -1,4 +1,4 @@
--- What one more deed makes of each question about the past of both ends.
+-- The answer to each question about the past of both ends, after one more deed.
 use Rattle.std.proofs.Common.{◌≡◌, ◌∙◌, ℕ, suc, Bool, true, false, true≢false, List, [], ◌∷◌, ◌++◌, refl, sym, ap, rules}
 use Rattle.std.specs.Prelude.{◌==◌, ◌||◌, reverse}
 use Rattle.std.specs.List.{list_any}
@@ -22,7 +22,7 @@ other l k e = search (rules, e)
 
 -- ---- texts
 
--- what is sent at one more input comes last
+-- the texts that are sent at one more input come last
 pub texts-handed : (past : List Deed) (i : Input) (l : ℕ) → texts (Handed i ∷ past) l ≡ texts past l ++ texts_on l (out (history past) i)
 texts-handed past i l =
     let h = history past in
@@ -35,7 +35,7 @@ link-handed past i l = ap (λ ts. record (link past l) { texts = ts }) (texts-ha
 
 -- ---- deeds of one link
 
--- the deed is of one link alone: it becomes this, each other stays, and nothing is handed on
+-- the deed concerns only this link: the link has this state, all others are unchanged, and nothing is handed to the remote end
 pub record IsOf (l : ℕ) (d : Deed) (past : List Deed) (v : Link) : Type 0 where
   pub own : link (d ∷ past) l ≡ v
   pub others : (k : ℕ) → (k == l) ≡ false → link (d ∷ past) k ≡ link past k
@@ -90,7 +90,7 @@ cut-of l past = record {
 
 -- ---- which numbers are links
 
--- a number is a link where it stands among the links
+-- a number is that of a link if it is among the links
 pub is_link-links : (past : List Deed) (l : ℕ) → is_link past l ≡ list_any (λ k. l == k) (links past)
 is_link-links [] l = refl
 is_link-links (Linked k ∷ past) l = ap (λ b. l == k || b) (is_link-links past l) ∙ any-last (links past)
@@ -111,7 +111,7 @@ is_link-links (TakenUp k ∷ past) l = is_link-links past l
 is_link-links (TakenDown k ∷ past) l = is_link-links past l
 is_link-links (Cut k ∷ past) l = is_link-links past l
 
--- two numbers, of which one is a link and the other none, are two
+-- two numbers are different if only one of them is that of a link
 pub apart : (past : List Deed) (l k : ℕ) → is_link past l ≡ true → is_link past k ≡ false → (k == l) ≡ false
 apart past l k there none = of (k == l) refl
   where

@@ -1,4 +1,4 @@
--- One link in hand is written, and both ends stand for the past with the step.
+-- A step that changes one link: the state of both ends corresponds to the past with that step.
 use Rattle.std.proofs.Common.{◌≡◌, ◌∙◌, ◌<◌, ◌^◌, ℕ, suc, Bool, true, false, nat_eq, List, [], ◌∷◌, ◌++◌, length, Option}
 use Rattle.std.proofs.Common.{Some, None, Result, Ok, Err, String, Global, string_bytes, append-nil, refl, sym, ap}
 use Rattle.std.specs.Prelude.{◌&&◌, not, if◌then◌else◌, nat_lt, nat_le, OnOk, IfSome, IfNone}

@@ -1,4 +1,4 @@
--- What holds of each past of both ends holds after each step.
+-- The facts of every past of both ends hold after each step.
 use Rattle.std.proofs.Common.{◌≡◌, ◌∙◌, ◌≤◌, ◌<◌, ◌^◌, ℕ, suc, Bool, true, false, List, [], ◌∷◌, ◌++◌}
 use Rattle.std.proofs.Common.{length, Some, refl, sym, ap, subst, length-append, arith, rules}
 use Rattle.std.specs.Prelude.{◌==◌, ◌||◌, slice_get}
@@ -12,10 +12,10 @@ use Rattle.bidi_messages.specs.Verdict.{Accepted}
 use Rattle.bidi_remote.specs.Machine.History.{Input, Open, Heard}
 use Rattle.bidi_remote.specs.Machine.Connections.{is_open}
 use Rattle.bidi_remote.specs.Machine.Outcome.{deeds}
-use Rattle.bidi_remote.specs.Machine.Replies.{IsAnsweredOnce}
+use Rattle.bidi_remote.specs.Replies.{IsAnsweredOnce}
 use Rattle.bidi_remote.specs.Machine.Sent.{out, texts_on}
-use Rattle.bidi_remote.specs.State.Messages.{AllReadBack}
-use Rattle.bidi_remote.proofs.ListLemmas.{all-append}
+use Rattle.bidi_remote.specs.Machine.Messages.{AllReadBack}
+use Rattle.bidi_sessions.proofs.ListLemmas.{all-append}
 use Rattle.bidi_remote.proofs.RouteLemmas.{AreEvents, Answers, answers-heard, IsUnheard, events-unheard, IsApart, stays-shut}
 use Rattle.bidi_ledger.specs.Pairing.{Sending, Deed, Handed, Linked, TakenUp, history, is_link, commands, ups, texts}
 use Rattle.bidi_ledger.specs.Link.{Link, link, tree_of_sending}
@@ -36,7 +36,7 @@ sane-nothing = record {
   replies = λ l p c s among at reply. (let none : among.0 < 0 = among.1 in absurd (omega (arith, none)));
 }
 
--- ---- what is handed on
+-- ---- inputs that are handed to the remote end
 
 -- with events more a link is as sound
 sound-events : (past : List Deed) (i : Input) (l : ℕ) → IsSound (link past l) → AllReadBack (out (history past) i)
@@ -108,7 +108,7 @@ sane-linked past l resource s reads = record {
           stays-shut (history past) k (Open l resource) e before.1,
         )
 
--- a command that is taken up and handed on
+-- a command that is taken up and handed to the remote end
 pub sane-up : (past : List Deed) (l : ℕ) (c : Sending) (method : Method)
     → IsSane past → is_link past l ≡ true → slice_get (commands past l) (ups past l) ≡ Some c → c.method ≡ method_text method
     → (let i = Heard l (Accepted (tree_of_sending (suc (ups past l)) c)) in
@@ -177,7 +177,7 @@ sane-up past l c method s there at named once reads = record {
 
 -- ---- deeds of one link
 
--- a deed of one link leaves what holds, where the link is sound after it, with its commands and perhaps more
+-- a deed of one link keeps the facts, if the link is sound after it and its commands are kept
 pub sane-of : (l : ℕ) (d : Deed) (past : List Deed) (v : Link) (more : List Sending)
     → IsOf l d past v → v.commands ≡ commands past l ++ more → IsSane past → is_link past l ≡ true → IsSound v → IsSane (d ∷ past)
 sane-of l d past v more is sent s there sound = record {
@@ -208,7 +208,7 @@ sound-sent v c s fits =
     let more = length-append v.commands (c ∷ []) in
     record { spoken = spoken-sent v.commands (c ∷ []) s.spoken; read_back = s.read_back; taken = omega (arith, s.taken, more); ids = omega (arith, more, fits) }
 
--- what a link has received or could not send, and whether it was cut, does not matter
+-- the facts do not depend on what a link has received or could not send, nor on whether it was cut
 pub sound-so : (v w : Link) → v.commands ≡ w.commands → v.ups ≡ w.ups → v.texts ≡ w.texts → IsSound v → IsSound w
 sound-so v w commands ups texts s = record {
   spoken =

@@ -1,4 +1,4 @@
--- What is spoken on a link stays so, as more is sent, taken up and handed on.
+-- The texts for a link stay sound as more is sent, taken up and handed to the remote end.
 use Rattle.std.proofs.Common.{◌≡◌, ◌∙◌, ◌≤◌, ◌<◌, ℕ, suc, zero, Bool, true, false, List, [], ◌∷◌, ◌++◌, length, Some, refl, sym, ap, subst, arith}
 use Rattle.std.specs.Prelude.{◌==◌, slice_get, if◌then◌else◌}
 use Rattle.std.specs.List.{AllByRecursion}
@@ -6,10 +6,10 @@ use Rattle.bidi_methods.specs.declared.method.Method.{Method}
 use Rattle.bidi_methods.specs.Method.{method_text}
 use Rattle.bidi_messages.specs.Reading.{IsMessageText}
 use Rattle.bidi_messages.specs.contracts.message.MessageShape.TheImpl.{ghosts}
-use Rattle.bidi_remote.specs.Machine.Replies.{IsEventText}
+use Rattle.bidi_remote.specs.Replies.{IsEventText}
 use Rattle.bidi_remote.specs.Machine.Sent.{Sent, Text, Close, Opened, Denied, Lost, NoEffect, texts_on, text_on}
-use Rattle.bidi_remote.specs.State.Messages.{AllReadBack, ReadsBack}
-use Rattle.bidi_remote.proofs.ListLemmas.{all-append}
+use Rattle.bidi_remote.specs.Machine.Messages.{AllReadBack, ReadsBack}
+use Rattle.bidi_sessions.proofs.ListLemmas.{all-append}
 use Rattle.bidi_remote.proofs.RouteLemmas.{AreEvents, MayReply, no_reply, one_reply, Answers, events-append}
 use Rattle.bidi_remote.specs.Machine.History.{Deed}
 use Rattle.bidi_remote.specs.Machine.Connections.{is_open}
@@ -21,7 +21,7 @@ get-before [] ds p c e = cc
 get-before (x ∷ cs) ds zero c e = e
 get-before (x ∷ cs) ds (suc p) c e = get-before cs ds p c e
 
--- what stands at a place of the first ones
+-- an item at a place of the first ones
 pub get-first : (cs ds : List Sending) (p : ℕ) (c : Sending) → p < length cs → slice_get (cs ++ ds) p ≡ Some c → slice_get cs p ≡ Some c
 get-first [] ds p c within e = absurd (omega (arith, within))
 get-first (x ∷ cs) ds zero c within e = e
@@ -66,7 +66,7 @@ one-spoken cs u c method l d past at named no_reply = nothing u (suc u) (omega a
 one-spoken cs u c method l d past at named (one_reply s same is) =
     a_reply u (suc u) u c method s [] (omega arith) at named is (nothing (suc u) (suc u) (omega arith))
 
--- what is sent at a command, on the connection that asked
+-- the texts that are sent at a command, on the connection that asked
 pub spoken-answers : (cs : List Sending) (u : ℕ) (c : Sending) (method : Method) (l d : ℕ) (past : List Deed) (ts : List (List ℕ))
     → slice_get cs u ≡ Some c → c.method ≡ method_text method
     → Answers past l d (suc u) method ts → AreSpoken cs u (suc u) ts
@@ -86,7 +86,7 @@ events-answers l d id method past ts apart a =
     subst (AreEvents (is_open past l)) (sym (a.is ∙ ap (λ rs. a.before ++ (rs ++ a.after)) (none-elsewhere l d id method past apart a.replies)))
     (events-append (is_open past l) a.before a.after a.events a.later)
 
--- ---- what reads back
+-- ---- reading back
 
 -- the texts on one connection read back
 pub read-on : (l : ℕ) (all : List Sent) → AllReadBack all → AllByRecursion (IsMessageText ghosts.shape) (texts_on l all)

@@ -1,4 +1,4 @@
--- Both ends in hand stand for one deed more.
+-- The state of both ends after one more deed.
 use Rattle.std.proofs.Common.{◌≡◌, ◌∙◌, ℕ, Bool, true, false, nat_eq, List, [], ◌∷◌, ◌++◌, Option, Some, None, refl, sym, ap, subst}
 use Rattle.std.specs.Prelude.{◌==◌, ◌&&◌, not, is_some, slice_get, if◌then◌else◌}
 use Rattle.std.specs.List.{IsDistinct, list_any}
@@ -16,7 +16,7 @@ use Rattle.bidi_link.specs.Stands.{StandsFor, RowsAgree, numbers}
 use Rattle.bidi_link.proofs.PastLemmas.{IsOf, link-handed, is_link-links, other}
 use Rattle.bidi_link.proofs.TableLemmas.{row-found, rows-same, rows-written, rows-added, numbers-added, found-numbers}
 
--- a number has a link in hand where it is a link of the past
+-- a number has a link of the code if it is that of a link of the past
 pub found-link : (ends : Ends) (past : List Deed) (l : ℕ) → StandsFor ends past → is_some (lookup (nat_eq l) ends.links.entries) ≡ is_link past l
 found-link ends past l s = found-numbers l ends.links.entries ∙ (ap (list_any (λ k. l == k)) s.numbers ∙ sym (is_link-links past l))
 
@@ -36,7 +36,7 @@ none-of (Some x) e = cc e
 pub not-there : (ends : Ends) (past : List Deed) (l : ℕ) → StandsFor ends past → is_link past l ≡ false → lookup (nat_eq l) ends.links.entries ≡ None
 not-there ends past l s none = none-of (lookup (nat_eq l) ends.links.entries) (found-link ends past l s ∙ none)
 
--- it stands for the link
+-- the link of the code has this state
 pub found-agrees : (ends : Ends) (past : List Deed) (l : ℕ) (x : LinkEnd)
     → StandsFor ends past → Some x ≡ lookup (nat_eq l) ends.links.entries → Agrees x l (link past l)
 found-agrees ends past l x s found = row-found l x (link past) ends.links.entries (sym found) s.rows
@@ -55,7 +55,7 @@ stands-written ends new past l d v w s is same written kept distinct agree = rec
       ends.links.entries distinct s.rows);
 }
 
--- the same past, where a link is written that stands for what it stood for
+-- the same past, if a link is written that keeps its state
 pub stands-still : (ends new : Ends) (past : List Deed) (l : ℕ) (w : LinkEnd)
     → StandsFor ends past → new.remote ≡ ends.remote → new.links.entries ≡ set_value (nat_eq l) ends.links.entries w
     → numbers new.links.entries ≡ numbers ends.links.entries → IsDistinct nat_eq (numbers ends.links.entries) → Agrees w l (link past l) → StandsFor new past
@@ -67,7 +67,7 @@ stands-still ends new past l w s same written kept distinct agree = record {
       (rows-written l w (link past) (link past) agree (λ k e. refl) ends.links.entries distinct s.rows);
 }
 
--- the same past, where the tables are as they were
+-- the same past, if the tables are unchanged
 pub stands-same : (ends new : Ends) (past : List Deed)
     → StandsFor ends past → new.remote ≡ ends.remote → new.links.entries ≡ ends.links.entries → StandsFor new past
 stands-same ends new past s same kept = record {
@@ -76,7 +76,7 @@ stands-same ends new past s same kept = record {
   rows = subst (λ rows. RowsAgree rows (link past)) (sym kept) s.rows;
 }
 
--- an input is handed on, and its texts are delivered
+-- an input is handed to the remote end, and its texts are delivered
 pub stands-handed : (ends new : Ends) (past : List Deed) (i : Input) (sent : List Sent)
     → StandsFor ends past → remote.StandsFor new.remote (i ∷ history past) → sent ≡ out (history past) i
     → numbers new.links.entries ≡ numbers ends.links.entries
@@ -118,7 +118,7 @@ up-nothing past l none = at (is_link past l) (is_cut past l) none
 pub up-none : (past : List Deed) (l : ℕ) → is_link past l ≡ false → with_step past (Up l) ≡ past
 up-none past l none = rw none refl
 
--- what a link takes up it takes up while it is whole
+-- a link that takes up a text was not cut
 pub next-whole : (past : List Deed) (l : ℕ) (c : Sending) → is_link past l ≡ true
     → next_up (link past l) ≡ Some c → (is_whole past l ≡ true) × (slice_get (commands past l) (ups past l) ≡ Some c)
 next-whole past l c there next = at (is_cut past l) next

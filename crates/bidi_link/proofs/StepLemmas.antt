@@ -1,19 +1,19 @@
--- Both ends in hand, after each step, stand for the past with it.
+-- After each step, the state of both ends corresponds to the past with that step.
 use Rattle.std.proofs.Common.{◌≡◌, ◌∙◌, ◌<◌, ◌≤◌, ◌+◌, ◌^◌, ℕ, suc, Bool, true, false, List, [], ◌∷◌, ◌++◌, map, length}
 use Rattle.std.proofs.Common.{Option, Some, None, Result, Ok, Err, append-nil, refl, sym, ap, ap₂, subst, arith}
 use Rattle.std.specs.Prelude.{◌==◌, ◌&&◌, take, get_or, IsErrOf, not, slice_get, if◌then◌else◌, nat_lt, OnOk, IfOk}
 use Rattle.bidi_messages.specs.Verdict.{Verdict, Accepted}
 use Rattle.bidi_methods.specs.declared.method.Method.{Method}
 use Rattle.bidi_methods.specs.Method.{method_text}
-use Rattle.bidi_values.specs.declared.log_entry.Level.{Level}
-use Rattle.bidi_remote.specs.Machine.Step as steps
-use Rattle.bidi_remote.specs.Machine.Step.{Text}
+use Rattle.bidi_scripts.specs.declared.log_entry.Level.{Level}
+use Rattle.bidi_sessions.specs.Step as steps
+use Rattle.bidi_sessions.specs.Step.{Text}
 use Rattle.bidi_remote.specs.Machine.History.{Input, At, Open, Drop, Heard, OfPage, IsHeardAs}
 use Rattle.bidi_remote.specs.Machine.Connections.{is_open}
 use Rattle.bidi_remote.specs.Machine.Outcome.{deeds}
-use Rattle.bidi_remote.specs.Machine.Replies.{IsAnsweredOnce}
+use Rattle.bidi_remote.specs.Replies.{IsAnsweredOnce}
 use Rattle.bidi_remote.specs.Machine.Sent.{out}
-use Rattle.bidi_remote.specs.State.Messages.{AllReadBack}
+use Rattle.bidi_remote.specs.Machine.Messages.{AllReadBack}
 use Rattle.bidi_messages.proofs.VerdictLemmas.{one_verdict}
 use Rattle.bidi_remote.proofs.RouteLemmas.{IsUnheard, IsApart, events-unheard}
 use Rattle.std.specs.Result.{IsErrAnd}
@@ -111,7 +111,7 @@ up-handed new past l c method v i sane whole next named judged heard stands once
     step : with_step past (Up l) ≡ Handed (Heard l (Accepted (tree_of_sending (suc (ups past l)) c))) ∷ TakenUp l ∷ past
     step = rw (whole, next) refl
 
--- the text that a link takes up is handed on
+-- the text that a link takes up is handed to the remote end
 pub up-carried : {E : Type 0} (r : Result (Unit {0}) E) (taken new : Ends) (past : List Deed) (l : ℕ) (s : List ℕ)
     → ((c : Sending) × IsNextUp past l c s × StandsFor taken (TakenUp l ∷ past)) → IsSane past
     → IfOk r (λ u. (i : Input) × IsHeardAs (Text l s) i
@@ -146,7 +146,7 @@ whole-dropped past l = at (is_connected past l)
     at true = refl
     at false = refl
 
--- the connection is dropped, where it is open
+-- the connection is dropped, if it is open
 pub drop-done : {E : Type 0} (r : Result (Unit {0}) E) (ends new : Ends) (past : List Deed) (l : ℕ)
     → StandsFor ends past → IsSane past → is_connected past l ≡ true
     → IfOk r (λ u. (i : Input) × IsHeardAs (steps.Drop l) i
@@ -205,7 +205,7 @@ page-quiet page i heard = quiet-at i (OfPage heard.0) heard.2 (tt, λ h k. tt)
 
 -- ---- any step
 
--- whatever past they stood for, they stand for it with the step
+-- the state corresponds to the past with the step, for every past that it corresponded to
 abbrev pub Does : Ends → Ends → PairInput → Type 0
 Does ends new q = (p : List Deed) → StandsFor ends p → IsSane p → CanCount p → Both new (with_step p q)
 
@@ -216,14 +216,14 @@ pub step-done : {E : Type 0} (r : Result (Unit {0}) E) (ends new : Ends) (x : Pa
 step-done (Err e) ends new x q heard done = tt
 step-done (Ok u) ends new x q heard done = (q, heard, done)
 
--- of a step in hand the same is said by its variant
+-- a step of the code is described by its variant
 pub of-step : {S E : Type 0} (r : Result S E) (x y : PairStep) (P : PairInput → Type 0)
     → x ≡ y → IfOk r (λ u. (q : PairInput) × IsHeardAsPair y q × P q) → IfOk r (λ u. (q : PairInput) × IsHeardAsPair x q × P q)
 of-step r x y P is done = subst (λ z. IfOk r (λ u. (q : PairInput) × IsHeardAsPair z q × P q)) (sym is) done
 
 -- ---- the accounts
 
--- each link in hand leaves the account of its link
+-- each link of the code leaves the account of its link
 pub rows-accounts : (f : ℕ → Link) (rows : List (ℕ × LinkEnd))
     → RowsAgree rows f → map account_in_hand (map (λ row. row.1) rows) ≡ map (λ l. account l (f l)) (numbers rows)
 rows-accounts f [] agree = refl
@@ -303,7 +303,7 @@ counts-after past (q ∷ inputs) l =
 pub can-count : (xs : List PairStep) (inputs : List PairInput) → AreHeardAs xs inputs → length xs < 2 ^ 63 → CanCount (past_after [] inputs)
 can-count xs inputs heard few = λ l. (let n = counts-after [] inputs l in let m = heard-length xs inputs heard in omega (arith, n, m, few))
 
--- the steps so far stand at the front, and so with one more
+-- the steps so far are a beginning of all, and so are they with one more
 pub front-more : {A : Type 0} (all xs : List A) (x : A)
     → take (length xs) all ≡ xs → length xs < length all → x ≡ get_or all (length xs) x → take (length (xs ++ x ∷ [])) all ≡ xs ++ x ∷ []
 front-more [] xs x front within is = absurd (omega (arith, within))
@@ -316,7 +316,7 @@ front-more (y ∷ all) (z ∷ xs) x front within is = ap₂ (λ w ws. w ∷ ws) 
     tail : y ∷ take (length xs) all ≡ z ∷ xs → take (length xs) all ≡ xs
     tail e = cc e
 
--- a fault that is handed on is that fault
+-- a fault that is returned early is that fault
 fault-of : {A : Type 0} → RemoteFault → Result A RemoteFault → RemoteFault
 fault-of d (Ok x) = d
 fault-of d (Err e) = e

@@ -1,11 +1,11 @@
--- Links in hand, as one of them is written or one more comes.
+-- The table of links after one link changes or a new one is added.
 use Rattle.std.proofs.Common.{◌≡◌, ◌∙◌, ℕ, Bool, true, false, cond, nat_eq, List, [], ◌∷◌, ◌++◌, Some, None}
 use Rattle.std.proofs.Common.{Result, Ok, Err, refl, sym, ap, subst, append-nil, append_assoc, rules}
 use Rattle.std.specs.Prelude.{◌==◌, ◌||◌, is_some, OnOk}
 use Rattle.std.specs.List.{AllByRecursion, IsDistinct, list_any}
 use Rattle.std.specs.Map.{lookup, set_value}
 use Rattle.bidi_remote.specs.Machine.Sent.{Sent, Text, text_on, texts_on}
-use Rattle.bidi_remote.proofs.ListLemmas.{all-append}
+use Rattle.bidi_sessions.proofs.ListLemmas.{all-append}
 use Rattle.bidi_remote.proofs.RouteLemmas.{texts_on-append}
 use Rattle.bidi_link.specs.declared.link_end.LinkEnd.{LinkEnd}
 use Rattle.bidi_ledger.specs.Link.{Link}
@@ -16,14 +16,14 @@ use Rattle.bidi_link.proofs.PastLemmas.{same, other}
 one : (l k : ℕ) → nat_eq l k ≡ true → l ≡ k
 one l k e = search (rules, e)
 
--- the same is said of each number
+-- equal states agree with the same links
 pub rows-same : (f g : ℕ → Link) → ((l : ℕ) → f l ≡ g l) → (rows : List (ℕ × LinkEnd)) → RowsAgree rows f → RowsAgree rows g
 rows-same f g same [] agree = tt
 rows-same f g same (row ∷ rows) agree = (subst (Agrees row.1 row.0) (same row.0) agree.0, rows-same f g same rows agree.1)
 
 -- ---- one link
 
--- the link of a number stands for what is said of it
+-- the link of a number agrees with the state that is given for it
 pub row-found : (l : ℕ) (w : LinkEnd) (f : ℕ → Link) (rows : List (ℕ × LinkEnd)) → lookup (nat_eq l) rows ≡ Some w → RowsAgree rows f → Agrees w l (f l)
 row-found l w f [] found agree = cc found
 row-found l w f (row ∷ rows) found agree = at (nat_eq l row.0) refl found (λ is. row-found l w f rows is agree.1)
@@ -36,7 +36,7 @@ row-found l w f (row ∷ rows) found agree = at (nat_eq l row.0) refl found (λ 
         subst (λ x. Agrees x l (f l)) same (subst (λ k. Agrees row.1 k (f k)) (sym n) agree.0)
     at false e is later = later is
 
--- where there is none, nothing is said of it
+-- a change of the state of a number without a link keeps the agreement
 pub rows-none : (l : ℕ) (f g : ℕ → Link) → ((k : ℕ) → nat_eq l k ≡ false → g k ≡ f k)
     → (rows : List (ℕ × LinkEnd)) → lookup (nat_eq l) rows ≡ None → RowsAgree rows f → RowsAgree rows g
 rows-none l f g same [] none agree = tt
@@ -47,7 +47,7 @@ rows-none l f g same (row ∷ rows) none agree = at (nat_eq l row.0) refl none (
     at true e is later = cc is
     at false e is later = (subst (Agrees row.1 row.0) (sym (same row.0 e)) agree.0, later is)
 
--- other numbers alone
+-- a change of the state of a number that is not among the links keeps the agreement
 rows-others : (l : ℕ) (f g : ℕ → Link) → ((k : ℕ) → nat_eq l k ≡ false → g k ≡ f k)
     → (rows : List (ℕ × LinkEnd)) → AllByRecursion (λ k. nat_eq l k ≡ false) (numbers rows) → RowsAgree rows f → RowsAgree rows g
 rows-others l f g same [] others agree = tt
@@ -79,7 +79,7 @@ pub numbers-added : (l : ℕ) (w : LinkEnd) (rows : List (ℕ × LinkEnd)) → n
 numbers-added l w [] = refl
 numbers-added l w (row ∷ rows) = ap (λ ns. row.0 ∷ ns) (numbers-added l w rows)
 
--- a number has a link where it stands among the numbers
+-- a number has a link if it is among the numbers
 pub found-numbers : (l : ℕ) (rows : List (ℕ × LinkEnd)) → is_some (lookup (nat_eq l) rows) ≡ list_any (λ k. l == k) (numbers rows)
 found-numbers l [] = refl
 found-numbers l (row ∷ rows) = at (nat_eq l row.0) (found-numbers l rows)
@@ -97,7 +97,7 @@ with_texts-none v = ap (λ ts. record v { texts = ts }) (append-nil v.texts)
 pub with_texts-more : (v : Link) (ts us : List (List ℕ)) → with_texts (with_texts v ts) us ≡ with_texts v (ts ++ us)
 with_texts-more v ts us = ap (λ xs. record v { texts = xs }) (append_assoc v.texts ts us)
 
--- ---- what is delivered
+-- ---- delivering texts
 
 -- to the link of that number
 pub delivered-some : {E : Type 0} (r : Result (Unit {0}) E) (l : ℕ) (s : List ℕ) (sent : Sent) (w x : LinkEnd) (rows new : List (ℕ × LinkEnd))

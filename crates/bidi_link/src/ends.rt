@@ -1,12 +1,12 @@
-//! Both ends: the local side of each link, and the remote end.
+//! Both ends: the local ends of all links, and the remote end.
 ghost use Rattle.std.specs.Prelude.{◌≡◌, ◌≤◌, ℕ, true, false, List, [], ◌∷◌, map, length, string_bytes, IfOk, OnOk, IfSome, IfNone, IsErrOf};
 ghost use Rattle.bidi_messages.specs.Verdict.{Accepted};
 ghost use Rattle.bidi_remote.specs.Machine.History.{Input, IsHeardAs as IsHeardByRemote};
 ghost use Rattle.bidi_remote.specs.Machine.Outcome.{deeds};
-ghost use Rattle.bidi_remote.specs.Machine.Replies.{IsAnsweredOnce};
+ghost use Rattle.bidi_remote.specs.Replies.{IsAnsweredOnce};
 ghost use Rattle.bidi_remote.specs.Machine.Sent.{out};
-ghost use Rattle.bidi_remote.specs.State.Messages.{AllReadBack};
-ghost use Rattle.bidi_remote.specs.State.View.{step_of};
+ghost use Rattle.bidi_remote.specs.Machine.Messages.{AllReadBack};
+ghost use Rattle.bidi_sessions.specs.View.{step_of};
 ghost use Rattle.bidi_ledger.specs.Ledger.{PairInput, Opens, Sends, Up, Down, Cuts, with_step, is_whole, dropped};
 ghost use Rattle.bidi_ledger.specs.Link.{link, account};
 ghost use Rattle.bidi_ledger.specs.Pairing.{Sending, Deed, Handed, Linked, TakenUp, Cut, history, links, is_link};
@@ -24,7 +24,7 @@ use indexmap::IndexMap;
 use json::Scratch;
 use std::alloc::{AllocError, Global};
 
-/// The links by their numbers, in order of opening, and the remote end.
+/// The links by number, in the order of opening, and the remote end.
 #[derive(Drop)]
 pub(crate) struct Ends {
     alloc: Global,
@@ -35,7 +35,7 @@ pub(crate) struct Ends {
 impl Ends {
     ghost use Rattle.bidi_link.specs.Stands.{StandsFor, IsSane, Both, CanCount, IsNextUp};
 
-    /// The state before the first step: no link, and a new remote end.
+    /// Makes the state before the first step: no links, and a new remote end.
     pub(crate) fn new(alloc: Global) -> Result<Ends, AllocError>
         ensures { IfOk result (λ ends. StandsFor ends []) }
     {
@@ -46,7 +46,8 @@ impl Ends {
         })
     }
 
-    /// Takes one step. A text that is carried down is read in a scratch that the caller keeps from step to step.
+    /// Takes one step. A text that is taken down is read in a scratch that the caller keeps from step to
+    /// step.
     pub(crate) fn take(&mut self, step: PairStep, scratch: &mut Scratch) -> Result<(), RemoteFault>
         requires { IsWell step }
         ensures ok { IfOk result (λ _. (p : PairInput) × IsHeardAs step p
@@ -64,7 +65,7 @@ impl Ends {
         }
     }
 
-    // Hands a step to the remote end, and puts each text that it sends on its way.
+    // Gives a step to the remote end, and queues each text that it sends.
     fn hand(&mut self, step: Step) -> Result<(), RemoteFault>
         ensures ok { IfOk result (λ _. (i : Input) × IsHeardByRemote (step_of step) i × ((past : List Deed) → StandsFor self.old past
             → StandsFor self.new (Handed i ∷ past) × IsAnsweredOnce (deeds (history past)) i × AllReadBack (out (history past) i))) }
@@ -117,7 +118,7 @@ impl Ends {
         }
     }
 
-    // Carries the oldest text of a link to the remote end.
+    // Carries the oldest queued text of a link up to the remote end.
     fn carry_up(&mut self, number: JsUint) -> Result<(), RemoteFault>
         ensures ok { (past : List Deed) → StandsFor self.old past → IsSane past
             → OnOk result (Both self.new (with_step past (Up number.value))) }
@@ -129,7 +130,7 @@ impl Ends {
         }
     }
 
-    // Removes and returns the oldest text of a link on its way to the remote end.
+    // Removes and returns the oldest text of a link that is queued for the remote end.
     fn next_up(&mut self, number: JsUint) -> Option<String>
         ensures none { (past : List Deed) → StandsFor self.old past → IfNone result ((with_step past (Up number.value) ≡ past) × StandsFor self.new past) }
         ensures some { (past : List Deed) → StandsFor self.old past
@@ -141,7 +142,7 @@ impl Ends {
         }
     }
 
-    // Carries the oldest text of a link to its local end.
+    // Carries the oldest queued text of a link down to its local end.
     fn carry_down(&mut self, number: JsUint, scratch: &mut Scratch) -> Result<(), AllocError>
         ensures { (past : List Deed) → StandsFor self.old past → IsSane past → OnOk result (Both self.new (with_step past (Down number.value))) }
     {
@@ -197,7 +198,7 @@ impl Ends {
         }
     }
 
-    /// The ledger of all links.
+    /// Makes the ledger of all links.
     pub(crate) fn into_ledger(self) -> Result<Ledger, AllocError>
         ensures accounts { (past : List Deed) → StandsFor self past → IfOk result (λ ledger. accounts_of ledger ≡ map (λ l. account l (link past l)) (links past)) }
         ensures well { (past : List Deed) → StandsFor self past → IfOk result LedgerIsWell }

@@ -1,10 +1,13 @@
-//! Both ends together in memory, over queues of texts.
+//! Both ends together in memory, connected by queues of texts.
 //!
-//! [`pair`] plays a list of steps over several local ends and one remote end. Its [`Ledger`] tells what became of
-//! each command, and which events each link received.
+//! [`pair`] plays a list of [`PairStep`]s: any number of local ends, each on a link of its own, and one
+//! remote end. Its [`Ledger`] has the fate of each command, and the events of each link. Steps and ledger are
+//! those of `bidi_ledger`; a [`Link`] over a real stream is that of `bidi_socket`, which this crate also
+//! names.
 //!
-//! Steps and ledger are those of `bidi_ledger`, and a [`Link`] over a real stream that of `bidi_socket`; both can be
-//! named here too.
+//! A text is made once and moved from end to end. `pair` fails with `NoMemory` if an allocation fails, and
+//! with `WornOut` after 1,000,000,000 steps of the remote end; there is no ledger then. Memory holds the
+//! steps that are left, the queued texts and the ledger so far.
 #![tactic(auto)]
 
 mod ends;

@@ -23,24 +23,24 @@ use json::Scratch;
 use std::alloc::{AllocError, Global};
 use std::collections::VecDeque;
 
-/// A link: its local end, the texts that it carries, and what became of its commands so far.
+/// A link: its local end, its queued texts, and the fates of its commands so far.
 #[derive(Drop)]
 pub(crate) struct LinkEnd {
     number: JsUint,
     local: LocalEnd,
-    /// The texts on their way to the remote end, the oldest first.
+    /// The texts queued for the remote end, the oldest first.
     up: VecDeque<String>,
-    /// The texts on their way to the local end, the oldest first.
+    /// The texts queued for the local end, the oldest first.
     down: VecDeque<String>,
     is_cut: bool,
-    /// The commands that were sent: the one of id n at place n - 1.
+    /// The commands that were sent; the command with id n is at place n - 1.
     commands: Vec<Entry>,
     events: Vec<EventData>,
     unsent: u64,
 }
 
 impl LinkEnd {
-    /// A new link, which has carried nothing. Takes no memory.
+    /// Makes a link that has carried nothing. Takes no memory.
     pub(crate) fn new(alloc: Global, number: JsUint) -> LinkEnd
         ensures { Agrees result number.value blank }
     {
@@ -63,7 +63,7 @@ impl LinkEnd {
         self.is_cut
     }
 
-    /// Sends a command, or counts one that the local end refuses. On a link that was cut it does nothing.
+    /// Sends a command, or counts one that the local end refuses. Does nothing if the link was cut.
     pub(crate) fn send(&mut self, data: CommandData) -> Result<(), AllocError>
         requires { CommandIsWell «data» }
         ensures { (l : ℕ) (v : Link) → Agrees self.old l v → IsSound v → v.not_sent < 2 ^ 63 → OnOk result (Agrees self.new l (sent_on v (sending_of «data»))) }
@@ -78,7 +78,7 @@ impl LinkEnd {
         }
     }
 
-    /// Removes and returns the oldest text on its way to the remote end.
+    /// Removes and returns the oldest text that is queued for the remote end.
     pub(crate) fn next_up(&mut self) -> Option<String>
         ensures none { (l : ℕ) (v : Link) → Agrees self.old l v → IfNone result ((next_up v ≡ None) × Agrees self.new l v) }
         ensures some { (l : ℕ) (v : Link) → Agrees self.old l v
@@ -87,7 +87,7 @@ impl LinkEnd {
         self.up.pop_front()
     }
 
-    /// Puts a text on its way to the local end, unless the link was cut.
+    /// Queues a text for the local end, unless the link was cut.
     pub(crate) fn push_down(&mut self, text: String) -> Result<(), AllocError>
         ensures { (l : ℕ) (v : Link) → Agrees self.old l v → OnOk result (Agrees self.new l (with_texts v (string_bytes text ∷ []))) }
     {
@@ -97,7 +97,7 @@ impl LinkEnd {
         Ok(())
     }
 
-    /// Hands the local end the oldest text on its way there, if there is one.
+    /// Hands the local end the oldest text that is queued for it, if there is one.
     pub(crate) fn take_down(&mut self, scratch: &mut Scratch) -> Result<(), AllocError>
         ensures { (l : ℕ) (v : Link) → Agrees self.old l v → IsSound v → OnOk result (Agrees self.new l (with_down v)) }
     {
@@ -110,7 +110,7 @@ impl LinkEnd {
         }
     }
 
-    /// Cuts the link: the texts on their way are gone, and the commands that wait are lost.
+    /// Cuts the link: the queued texts are gone, and the pending commands are lost.
     pub(crate) fn cut(&mut self) -> Result<(), AllocError>
         ensures { (l : ℕ) (v : Link) → Agrees self.old l v → v.is_cut ≡ false → OnOk result (Agrees self.new l (with_cut v)) }
     {
@@ -122,7 +122,7 @@ impl LinkEnd {
         Ok(())
     }
 
-    /// The account of the link in the ledger.
+    /// Makes the account of the link for the ledger.
     pub(crate) fn into_account(self) -> Account
         ensures account { account_seen result ≡ account_in_hand self }
         ensures well { (l : ℕ) (v : Link) → Agrees self l v → AccountIsWell result }
@@ -136,7 +136,7 @@ impl LinkEnd {
     }
 }
 
-// Puts a command on its way to the remote end.
+// Queues the text of a command for the remote end.
 fn push_up(
     commands: &mut Vec<Entry>,
     up: &mut VecDeque<String>,
@@ -166,7 +166,8 @@ fn count(unsent: &mut u64, fault: LocalFault) -> Result<(), AllocError>
     }
 }
 
-// Notes what was received. A remote end sends answers, refusals and events, so no other case comes.
+// Notes what was received. A remote end sends only answers, refusals and events, so no other case
+// comes.
 fn note(
     commands: &mut Vec<Entry>,
     events: &mut Vec<EventData>,
@@ -212,7 +213,7 @@ fn lose(commands: &mut Vec<Entry>, lost: Vec<JsUint>)
     }
 }
 
-// Notes what became of a command.
+// Notes the fate of a command.
 fn settle(commands: &mut Vec<Entry>, id: JsUint, fate: Fate)
     ensures set { (p : ℕ) (e : declared_entry.Entry) → id.value ≡ suc p
         → slice_get commands.old.items p ≡ Some e → commands.new.items ≡ slice_set commands.old.items p (record e { fate = fate }) }

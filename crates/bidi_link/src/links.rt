@@ -1,7 +1,7 @@
-//! The links by their numbers, in order of opening.
+//! The links by their numbers, in the order of opening.
 ghost use Rattle.std.specs.Prelude.{◌≡◌, ℕ, List, [], if◌then◌else◌, map, string_bytes, OnOk};
 ghost use Rattle.bidi_remote.specs.Machine.Sent.{text_on, texts_on};
-ghost use Rattle.bidi_remote.specs.State.View.{sent_of};
+ghost use Rattle.bidi_sessions.specs.View.{sent_of};
 ghost use Rattle.bidi_ledger.specs.Link.{Link};
 ghost use Rattle.bidi_link.specs.Rows.{with_texts};
 ghost use Rattle.bidi_link.specs.Stands.{RowsAgree, numbers};
@@ -11,7 +11,7 @@ use bidi_remote::Sent;
 use indexmap::IndexMap;
 use std::alloc::AllocError;
 
-/// Puts each text that the remote end sent on its way down its link.
+/// Queues each text that the remote end sent on its link.
 pub(crate) fn deliver(links: &mut IndexMap<u64, LinkEnd>, all: Vec<Sent>) -> Result<(), AllocError>
     ensures rows { (f : ℕ → Link) → RowsAgree links.old.entries f
         → OnOk result (RowsAgree links.new.entries (λ l. with_texts (f l) (texts_on l (map sent_of all.items)))) }
@@ -23,7 +23,7 @@ pub(crate) fn deliver(links: &mut IndexMap<u64, LinkEnd>, all: Vec<Sent>) -> Res
     Ok(())
 }
 
-// Puts one thing that the remote end sent on its way, if it is a text.
+// Queues one thing that the remote end sent, if it is a text.
 fn deliver_one(links: &mut IndexMap<u64, LinkEnd>, sent: Sent) -> Result<(), AllocError>
     ensures rows { (f : ℕ → Link) → RowsAgree links.old.entries f
         → OnOk result (RowsAgree links.new.entries (λ l. with_texts (f l) (text_on l (sent_of sent)))) }

@@ -1,4 +1,4 @@
--- What the trees of responses, errors and events mean while some commands wait.
+-- The meanings of responses, errors and events, given the pending commands.
 use Rattle.std.proofs.Common.{◌≡◌, ◌∙◌, ◌==◌, not, Result, Ok, Err, IfOk, OnErr, ℕ, List, [], codes, Option, Some, None, option_map}
 use Rattle.std.proofs.Common.{option_and_then, unwrap_or, bytes_eq, false, string_bytes, refl, sym, ap, ap₂, subst, pos}
 use Rattle.std.specs.List.{AllByRecursion}
@@ -36,9 +36,9 @@ use Rattle.bidi_local.specs.declared.received.Taken.{Taken}
 use Rattle.bidi_local.proofs.PendingLemmas.{AllByRecursion-filter}
 use Rattle.bidi_local.specs.Receiving.{IsMeaningOf, IsOutcome, is_good, is_bad, IsRefusal, refuses, is_stray}
 
--- ---- what the trees tell beside an id
+-- ---- the members of the trees other than an id
 
--- a member behind two of other names
+-- a member after two with other names
 third : (i j k : List ℕ) (x y z : Node) (ms : Members) → bytes_eq k i ≡ false → bytes_eq k j ≡ false → get_member k (put i x (put j y (put k z ms))) ≡ Some z
 third i j k x y z ms one two =
     get_member-put_other k i x (put j y (put k z ms)) (apart k i one) ∙ get_member-put_other k j y (put k z ms) (apart k j two) ∙ get_member-put k z ms
@@ -69,7 +69,7 @@ params_in-event e =
     (third (codes "type") (codes "method") (codes "params") (text (codes "event")) (text (event_name_text (event_of e.«data»)))
     (told.ghosts.payload.tree_of e.«data») (others_of e.ext) refl refl)
 
--- ---- what a tree means
+-- ---- the meaning of a tree
 
 module _ (waiting : Pending) (t : Node) where
   -- the method of the command with the id of the tree
@@ -96,7 +96,7 @@ module _ (waiting : Pending) (t : Node) where
       (is_refusal t method code is fit (asked id (Some method) has_id waits) has_code)
   refusal_means id code m fit has_id has_code (is_stray none) = λ s is. is_stray_error t is fit (asked id None has_id none)
 
--- ---- what a message means
+-- ---- the meaning of a message
 
 -- a response for no command that waits
 pub response_stray : (waiting : Pending) (r : Response)
@@ -144,9 +144,9 @@ event_means waiting e well = λ s is.
     subst (λ p. Means waiting s (Event (event_of e.«data») p)) (params_in-event e)
     (is_event (event.ghosts.shape.tree_of e) (event_of e.«data») is (event.ghosts.shape.fits e well) (method_in-event e))
 
--- ---- what is left
+-- ---- the pending commands that are left
 
--- what holds of all that wait holds of those that wait after a message
+-- a fact about all pending commands holds of those that are pending after a message
 settled_holds : (P : ℕ × Method → Type 0) (waiting : Pending) (m : Meaning) → AllByRecursion P waiting → AllByRecursion P (settled waiting m)
 settled_holds P waiting (Answer id method outcome) all = AllByRecursion-filter P (λ w. not (id == w.0)) waiting all
 settled_holds P waiting (BadResult id) all = AllByRecursion-filter P (λ w. not (id == w.0)) waiting all

@@ -1,4 +1,4 @@
--- A text has one meaning: two questions, whether its tree fits a message and whether it is a good response, decide it.
+-- A text has one meaning. Two questions decide it: whether its tree fits a message, and whether it is a good response.
 use Rattle.std.proofs.Common.{◌≡◌, ◌∙◌, ℕ, Bool, true, false, if◌then◌else◌, bytes_eq, List, [], codes, Option, Some}
 use Rattle.std.proofs.Common.{None, option_and_then, unwrap_or, refl, sym, ap, ap₂, subst}
 use Rattle.bidi_tree.specs.Node.{Node, get_of}
@@ -51,7 +51,7 @@ error_type t fit = typed_map (rule_inside fit)
 pub event_is_typed : (t : Node) → Fits t (rule event) → type_in t ≡ codes "event"
 event_is_typed t fit = typed_map (envelope_inside (codes "type") (word_shape event_type_words) event_words told.ghosts.payload (rule event) refl t fit).1
 
--- ---- what decides
+-- ---- the two questions that decide
 
 -- the answer to a question
 data Holds (P : Type 0) : Bool → Type 0 where
@@ -88,14 +88,14 @@ of_response t None good = Stray
 of_response t (Some method) true = Answer (id_in t) method (result_in t)
 of_response t (Some method) false = BadResult (id_in t)
 
--- what a message of that type means
+-- the meaning of a message of this type
 abbrev of_type : Pending → Node → Bool → List ℕ → Meaning
 of_type waiting t good s =
     if bytes_eq s (codes "event") then of_event t (value_named event_words.first event_words.rest (method_in t))
     else if bytes_eq s (codes "error") then of_error t (asked_by waiting t) (value_named error_code_words.first error_code_words.rest (error_in t))
     else of_response t (asked_by waiting t) good
 
--- what a text with that tree means, where the answers are these
+-- the meaning of a text with this tree, given these answers
 abbrev decided : Pending → Option Node → Bool → Bool → Meaning
 decided waiting None is_message good = NotJson
 decided waiting (Some t) false good = NotInProfile

@@ -1,4 +1,4 @@
--- What a message means, in short.
+-- The meaning of a message in short.
 use Rattle.std.proofs.Common.{◌≡◌, ◌∙◌, Option, Some, None, refl, sym, subst}
 use Rattle.std.specs.Prelude.{MatchOption, ⊤}
 use Rattle.bidi_tree.specs.declared.number.JsUint.{JsUint}
@@ -14,7 +14,7 @@ use Rattle.bidi_local.specs.declared.outcome.Outcome as outcome
 use Rattle.bidi_local.specs.declared.outcome.Outcome.TheVariants.{BadResult, Refusal}
 use Rattle.bidi_local.specs.Outcome.{IsOutcomeOf}
 
--- of a method that is known the outcome tells it
+-- if the method is known, the outcome has it
 module _ (waiting : Pending) (id : JsUint) (r : outcome.Outcome) where
   bad_by : (o : Option Method) → IsSettledBy waiting (means.BadResult id.value) o → MatchOption o ⊤ (λ m. r ≡ BadResult id m)
       → IsOutcomeOf waiting (means.BadResult id.value) r

@@ -1,4 +1,4 @@
--- What a look-up, a removal and an insertion in the table are to the commands that wait.
+-- Looking up, removing and adding in the table, in terms of the pending commands.
 use Rattle.std.proofs.Common.{◌≡◌, ◌≤◌, ◌+◌, ℕ, suc, Bool, true, false, cond, not, List, [], ◌∷◌, ◌++◌, filter, find}
 use Rattle.std.proofs.Common.{map, Option, Some, None, option_map, is_some, nat_eq, true≢false, refl, ap, sym, arith}
 use Rattle.std.specs.List.{AllByRecursion}
@@ -25,7 +25,7 @@ module _ {K X : Type 0} (test : K → Bool) where
   stays true e rest es left none is = absurd (true≢false (ap is_some none))
   stays false e rest es left none is = ap (λ l. e ∷ l) is
 
-  -- where no entry passes, all are left
+  -- if no entry passes, all are left
   all_left : (es : List (K × X)) → lookup test es ≡ None → filter (λ w. not (test w.0)) es ≡ es
   all_left [] none = refl
   all_left (e ∷ es) none =
@@ -42,7 +42,7 @@ module _ {K X : Type 0} (test : K → Bool) where
   remove_entry-filter (e ∷ es) none =
       first_goes (test e.0) e es (remove_entry test es) (filter (λ w. not (test w.0)) es) (all_left es) (remove_entry-filter es) none
 
--- what holds of all that wait holds of those that are left
+-- a fact about all pending commands holds of those that are left
 left_holds : {A : Type 0} (P : A → Type 0) (b : Bool) (x : A) (left : List A) → P x → AllByRecursion P left → AllByRecursion P (cond b (x ∷ left) left)
 left_holds P true x left one rest = (one, rest)
 left_holds P false x left one rest = rest
@@ -51,7 +51,7 @@ pub AllByRecursion-filter : {A : Type 0} (P : A → Type 0) (test : A → Bool) 
 AllByRecursion-filter P test [] all = tt
 AllByRecursion-filter P test (x ∷ xs) all = left_holds P (test x) x (filter test xs) all.0 (AllByRecursion-filter P test xs all.1)
 
--- what holds of the ids of all holds of all ids
+-- a fact about the ids of all entries holds of all ids
 pub AllByRecursion-ids : {X : Type 0} (P : ℕ → Type 0) (es : List (ℕ × X)) → AllByRecursion (λ w. P w.0) es → AllByRecursion P (map (λ w. w.0) es)
 AllByRecursion-ids P [] all = tt
 AllByRecursion-ids P (e ∷ es) all = (all.0, AllByRecursion-ids P es all.1)
@@ -70,7 +70,7 @@ insert_entry-next n v (e ∷ es) all =
     is_new (nat_eq (n + 1) e.0) e ((e.0, v) ∷ es) (insert_entry nat_eq es (n + 1) v) (es ++ (suc n, v) ∷ [])
     (ne_eqb (n + 1) e.0 (λ is. omega (arith, all.0, is))) (insert_entry-next n v es all.1)
 
--- where no entry is found, it is not the first, and not in the rest
+-- if no entry is found, it is neither the first nor in the rest
 differs : {X : Type 0} (b : Bool) (e : ℕ × X) (found : Option (ℕ × X))
     → is_some (option_map (λ w. w.1) (cond b (Some e) found)) ≡ false → (b ≡ false) × (is_some (option_map (λ w. w.1) found) ≡ false)
 differs true e found none = absurd (true≢false none)

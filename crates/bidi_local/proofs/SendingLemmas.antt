@@ -1,4 +1,4 @@
--- A command that is sent is well, so that its text may be made.
+-- A command that is sent is valid, so its text can be made.
 use Rattle.std.proofs.Common.{◌≡◌, ◌∙◌, ◌≤◌, ℕ, List, length, Some, refl, sym, ap, subst, zero-le}
 use Rattle.std.proofs.lemmas.Bool.{le-leb}
 use Rattle.bidi_tree.specs.Text.{tree_of}
@@ -16,7 +16,7 @@ use Rattle.bidi_messages.specs.contracts.command.CommandShape.TheImpl as command
 use Rattle.bidi_messages.specs.Verdict.{IsVerdict, is_command, Accepted}
 use Rattle.bidi_local.specs.Pending.{command_tree}
 
--- no member stands beside those of the rule
+-- there are no members except those of the rule
 none_beside : (rs : Rows) (ms : Members) → ms ≡ no_members → TableWell rs extensible ms
 none_beside rs ms none = record { no_known = ap (without (names_of rs)) none ∙ sym none; may = subst (λ x. MembersAreWhole x 60) (sym none) (refl, zero-le) }
 

@@ -1,4 +1,4 @@
--- What a message means, without the result or the event that it bears.
+-- The meaning of a message in short, without the result or the event that it carries. Defined by this project.
 use Rattle.std.specs.Prelude.{◌≡◌, Some}
 use Rattle.bidi_tree.specs.declared.number.JsUint.{JsUint}
 use Rattle.bidi_methods.specs.declared.method.Method.{Method}
@@ -8,10 +8,11 @@ use Rattle.bidi_local.specs.Received.{Meaning}
 use Rattle.bidi_local.specs.declared.outcome.Outcome as in_hand
 use Rattle.bidi_local.specs.declared.outcome.Outcome.TheVariants.{Fine, BadResult, Refusal, Stray, NoMessage}
 
+-- the outcome is the meaning in short; a bad result and a refusal have the id and the method of the pending command
 abbrev pub IsOutcomeOf : Pending → Meaning → in_hand.Outcome → Type 0
 IsOutcomeOf waiting (means.Answer id method result) o = o ≡ Fine
 IsOutcomeOf waiting (means.Event event params) o = o ≡ Fine
--- of the command that waits under its id
+-- the command that is pending under this id has this method
 IsOutcomeOf waiting (means.BadResult id) o =
     (n : JsUint) × (method : Method) × (o ≡ BadResult n method) × (n.value ≡ id) × (method_of waiting id ≡ Some method)
 IsOutcomeOf waiting (means.Refusal id code) o =

@@ -1,4 +1,4 @@
-//! What became of a command, without its result.
+//! The meaning of a message in short.
 ghost use Rattle.std.specs.Prelude.{◌≡◌, ⊤, MatchOption};
 ghost use Rattle.bidi_local.specs.Pending.{Pending};
 ghost use Rattle.bidi_local.specs.Received.{IsSettledBy};
@@ -9,31 +9,32 @@ use crate::received::{Received, Taken};
 use bidi_messages::{ErrorCode, Method};
 use bidi_tree::JsUint;
 
-/// What a message means, without the result or the event that it bears.
+/// What a message means, without the result or the event that it carries.
 #[derive(Clone, Copy, Debug, PartialEq, Eq)]
 pub enum Outcome {
-    /// A command was carried out, or it is an event.
+    /// A command succeeded, or the message is an event.
     Fine,
-    /// The result does not fit the rule of this method, which is that of the command of this id.
+    /// The result does not fit the rule of this method, which is that of the command with this id.
     BadResult(JsUint, Method),
-    /// The command of this id and method failed, with this code.
+    /// The command with this id and method failed, with this code.
     Refusal(JsUint, Method, ErrorCode),
-    /// It answers no command that waits.
+    /// The message answers no pending command.
     Stray,
-    /// It is no message.
+    /// The text is not a message.
     NoMessage,
 }
 
 impl Taken {
-    /// What the message means, without the result or the event that it bears. Takes no memory.
+    /// Gives the meaning in short. Takes no memory.
     pub fn outcome(self) -> Outcome
+        // The result is the meaning in short, if `method` is that of the command that was settled.
         ensures { (waiting : Pending) → IsSettledBy waiting (meaning_of self.received) self.method
             → IsOutcomeOf waiting (meaning_of self.received) result }
     {
         self.in_short()
     }
 
-    // The same of one that is lent.
+    // Gives the meaning in short of a message that is borrowed.
     fn in_short(&self) -> Outcome
         ensures { (waiting : Pending) → IsSettledBy waiting (meaning_of self.now.received) self.now.method
             → IsOutcomeOf waiting (meaning_of self.now.received) result }
@@ -48,7 +49,7 @@ impl Taken {
     }
 }
 
-// A bad result of a command of this method.
+// The outcome of a bad result for a command of this method.
 fn bad_result(id: JsUint, method: Option<Method>) -> Outcome
     ensures { MatchOption method ⊤ (λ m. result ≡ Outcome.BadResult id m) }
 {
@@ -58,7 +59,7 @@ fn bad_result(id: JsUint, method: Option<Method>) -> Outcome
     }
 }
 
-// The refusal of a command of this method.
+// The outcome of a refusal for a command of this method.
 fn refusal(id: JsUint, method: Option<Method>, code: ErrorCode) -> Outcome
     ensures { MatchOption method ⊤ (λ m. result ≡ Outcome.Refusal id m code) }
 {

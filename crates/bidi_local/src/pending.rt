@@ -1,4 +1,4 @@
-//! The commands that wait for an answer, by their ids, in order of sending.
+//! The pending commands, by their ids, in the order in which they were sent.
 ghost use Rattle.std.specs.Prelude.{◌≡◌, ◌<◌, ◌^◌, map, IfOk};
 ghost use Rattle.std.specs.List.{AllByRecursion};
 ghost use Rattle.bidi_local.specs.Pending.{ids, method_of, without};
@@ -8,21 +8,21 @@ use bidi_tree::JsUint;
 use indexmap::IndexMap;
 use std::alloc::{AllocError, Global};
 
-/// The method of the command of this id, if it waits. Takes no memory.
+/// The method of the pending command with this id, if there is one. Takes no memory.
 pub(crate) fn method_of(pending: &IndexMap<u64, Method>, id: u64) -> Option<Method>
     ensures { result ≡ method_of pending.now.entries id }
 {
     pending.get(&id).copied()
 }
 
-/// Removes the command of this id; the others keep their order. Takes no memory.
+/// Removes the command with this id; the others keep their order. Takes no memory.
 pub(crate) fn settle(pending: &mut IndexMap<u64, Method>, id: u64)
     ensures { pending.new.entries ≡ without pending.old.entries id }
 {
     pending.shift_remove(&id);
 }
 
-/// The ids of the commands that wait, in order of sending.
+/// Lists the ids of the pending commands, in the order in which they were sent.
 ///
 /// # Errors
 /// No memory: an allocation failed.
@@ -40,7 +40,7 @@ pub(crate) fn ids_of(
     Ok(all)
 }
 
-/// The commands that wait, each by its id and its method, in order of sending.
+/// Lists the pending commands by id and method, in the order in which they were sent.
 ///
 /// # Errors
 /// No memory: an allocation failed.

@@ -1,4 +1,4 @@
-//! What a message means to a local end.
+//! The meaning of a message to a local end.
 ghost use Rattle.std.specs.Prelude.{◌≡◌, IfOk, OnErr};
 ghost use Rattle.bidi_tree.specs.Node as kind;
 ghost use Rattle.bidi_shape.specs.ValueLaws.{others_of};
@@ -15,7 +15,8 @@ use bidi_tree::JsUint;
 use indexmap::IndexMap;
 use std::alloc::{AllocError, Global};
 
-/// Tells what a message means while these commands wait, and settles the one that it answers, whose method it tells.
+/// Finds the meaning of a message, given the pending commands. Settles the command that it answers, and
+/// returns its method.
 ///
 /// # Errors
 /// No memory: an allocation failed. Each command still waits.
@@ -38,7 +39,7 @@ pub(crate) fn receive(
     }
 }
 
-// What a response means; it settles the command that it answers.
+// Finds the meaning of a response, and settles the command that it answers.
 fn receive_response(
     alloc: Global,
     pending: &mut IndexMap<u64, Method>,
@@ -67,7 +68,7 @@ fn receive_response(
     }
 }
 
-/// What the result of the command of this id and method means.
+/// Finds the meaning of the result of the command with this id and method.
 ///
 /// # Errors
 /// No memory: an allocation failed.
@@ -87,7 +88,7 @@ fn outcome_of(
     }
 }
 
-// What an error means; it settles the command that it answers.
+// Finds the meaning of an error, and settles the command that it answers.
 fn receive_error(pending: &mut IndexMap<u64, Method>, error: ErrorResponse) -> Taken
     requires { ⟦<ErrorResponse as Shape>⟧.shape.well error }
     ensures means { IsMeaningOf pending.old.entries (⟦<ErrorResponse as Shape>⟧.shape.tree_of error) (meaning_of result.received) }
@@ -104,7 +105,7 @@ fn receive_error(pending: &mut IndexMap<u64, Method>, error: ErrorResponse) -> T
     }
 }
 
-/// What an error of this id and code means; it settles the command that it answers.
+/// Finds the meaning of an error with this id and code, and settles the command that it answers.
 fn refusal_of(pending: &mut IndexMap<u64, Method>, id: JsUint, code: ErrorCode) -> Taken
     ensures refusal { IsRefusal pending.old.entries id.value code (meaning_of result.received) }
     ensures method { IsSettledBy pending.old.entries (meaning_of result.received) result.method }
@@ -126,7 +127,7 @@ fn refusal_of(pending: &mut IndexMap<u64, Method>, id: JsUint, code: ErrorCode) 
     }
 }
 
-// What an event means; it settles no command.
+// Finds the meaning of an event. It settles no command.
 fn receive_event(event: Event) -> Taken
     requires { ⟦<Event as Shape>⟧.shape.well event }
     ensures means { (waiting : Pending) → IsMeaningOf waiting (⟦<Event as Shape>⟧.shape.tree_of event) (meaning_of result.received) }

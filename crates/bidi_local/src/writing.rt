@@ -12,7 +12,7 @@ use bidi_shape::Ext;
 use bidi_tree::JsUint;
 use std::alloc::{AllocError, Global};
 
-/// The method of a command, and the command's text with this id. The command is used up.
+/// Makes the text of a command with this id, and returns its method too. The command is used up.
 ///
 /// # Errors
 /// No memory: an allocation failed.

@@ -1,4 +1,4 @@
--- What the tree of a command asks.
+-- The id, the method and the params in the tree of a command.
 use Rattle.std.proofs.Common.{◌≡◌, ◌≢◌, ◌∙◌, ◌^◌, ◌<◌, ℕ, pos, List, codes, Some, option_and_then, unwrap_or}
 use Rattle.std.proofs.Common.{nat_lt, if◌then◌else◌, None, [], bytes_eq, false, true≢false, sym, refl, ap}
 use Rattle.std.proofs.lemmas.Bool.{lt-ltb}

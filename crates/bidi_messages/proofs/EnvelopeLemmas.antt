@@ -1,4 +1,4 @@
--- What a reader of maps that say what they are about has found, and what it has not.
+-- Reading objects that carry a payload: the members that were found, and those that were not.
 use Rattle.std.proofs.Common.{◌≡◌, ℕ, List, codes, true, Option, Some, None, refl, sym, ap, subst}
 use Rattle.bidi_tree.specs.Node as tree
 use Rattle.bidi_tree.specs.Node.{Node, Members, get_member, AreAscending}

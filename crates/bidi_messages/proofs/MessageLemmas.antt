@@ -1,4 +1,4 @@
--- What the trees of responses, errors and events tell: an id, or a method.
+-- The id or the method in the trees of responses, errors and events.
 use Rattle.std.proofs.Common.{◌≡◌, ◌∙◌, ℕ, pos, List, [], codes, Option, Some, None, option_map}
 use Rattle.std.proofs.Common.{option_and_then, unwrap_or, bytes_eq, false, string_bytes, refl, ap}
 use Rattle.bidi_tree.specs.Node.{Node, Members, put, get_member, whole, text, map}
@@ -22,7 +22,7 @@ use Rattle.bidi_messages.specs.declared.event.Event.{Event}
 use Rattle.bidi_params.specs.ErrorCode.{error_code_text}
 use Rattle.bidi_messages.proofs.CommandLemmas.{apart, in_range}
 
--- a member behind one of another name
+-- a member after one with another name
 behind : (j k : List ℕ) (x y : Node) (ms : Members) → bytes_eq k j ≡ false → get_member k (put j x (put k y ms)) ≡ Some y
 behind j k x y ms differ = get_member-put_other k j x (put k y ms) (apart k j differ) ∙ get_member-put k y ms
 

@@ -1,4 +1,4 @@
--- The text of a well value reads as that value.
+-- The text of a valid value is read as that value.
 use Rattle.std.proofs.Common.{◌≡◌, ◌∙◌, ℕ, List, Some, None, Result, Ok, Err, IfOk, IfErr, sym, ap, subst}
 use Rattle.bidi_tree.specs.Node.{Node}
 use Rattle.bidi_tree.specs.Text.{tree_of_text, compact_text}
@@ -20,7 +20,7 @@ reads_as shape s t (Err NotJson) of reads ok err m = λ well is. err
 reads_as shape s t (Err NoFit) of reads ok err m =
     λ well is. err (subst (λ u. Fits u (rule message)) (same_some (sym is ∙ reads)) (subst (Fits (shape.tree_of m)) of (shape.fits m well)))
 
--- what a remote end sends reads as a well message, whose text it is
+-- a text that a remote end sends is read as a valid message whose text it is
 pub is_read_as : (shape : ShapeOf Message) (s : List ℕ) (t : Node) (r : Result Message MessageFault) → tree_of_text None s ≡ Some t
     → IfOk r (λ v. (shape.tree_of v ≡ t) × shape.well v) → IfErr r (λ e. IsMisfit e t) → IsMessageText shape s → IsReadAs shape s r
 is_read_as shape s t (Ok v) reads ok err is =

@@ -1,4 +1,4 @@
--- A whole map that has the type, the id and the result of a response is one, and each response has them.
+-- A whole object is a response exactly if it has the type, an id and the result of one.
 use Rattle.std.proofs.Common.{◌≡◌, ℕ, pos, List, [], ◌∷◌, codes, Bool, true, false, cond, nat_cmp, nat_lt, negsuc, ◌^◌, Option, Some, None, option_map, option_and_then}
 use Rattle.std.proofs.Common.{Ordering, Less, Equal, Greater, bytes_eq, refl, sym, ap, ◌∙◌, subst, arith, ltb-true, lt-ltb}
 use Rattle.std.specs.Prelude.{IfSome}
@@ -17,7 +17,7 @@ use Rattle.bidi_shape.specs.Fits.{Fits, fits_exactly, fits_js_uint, fits_map, fi
 use Rattle.bidi_shape.proofs.FitsLemmas.{rule_inside}
 use Rattle.bidi_messages.specs.Verdict.{js_uint_in, echoed_id}
 
--- ---- what is whole in a whole map
+-- ---- the parts of a whole object are whole
 
 found_at : (o : Ordering) (rest : Option Node) (u t : Node) (n : ℕ) → IsWhole u n → (rest ≡ Some t → IsWhole t n) → match_ordering o rest (Some u) rest ≡ Some t → IsWhole t n
 found_at Less rest u t n w later e = later e
@@ -87,7 +87,7 @@ pub fits_with : (t : Node) (o : Option JsUint) (r : Members) → get_member (cod
 fits_with t None r type same result w = tt
 fits_with t (Some id) r type same result w = response_fits t id.value r type (sym same) result w
 
--- ---- what a response has
+-- ---- the members of a response
 
 map_there : {t : Node} {rs : Rows} {o : Openness} → Fits t (map_of rs o) → (ms : Members) × (t ≡ map ms) × RowsFit ms rs
 map_there (fits_map ms rs o x h) = (ms, refl, x)

@@ -1,4 +1,4 @@
--- What a remote end sends may be written, and its tree fits the rule of messages.
+-- A message that a remote end sends may be written, and its tree fits the rule of messages.
 use Rattle.std.proofs.Common.{◌≡◌, ◌∙◌, ◌≤◌, ◌⊎◌, inl, inr, ℕ, nat_le, nat_eq, Bool, true, false, true≢false}
 use Rattle.std.proofs.Common.{bytes_eq, List, [], ◌∷◌, codes, Option, Some, None, option_map, Result, Ok, Err}
 use Rattle.std.proofs.Common.{IfOk, String, Global, string_bytes, refl, sym, ap, subst, zero-le, arith}
@@ -80,13 +80,13 @@ one_of_maps : {t : Node} {rs ss : Rows} {o p : Openness} → Fits t (map_of rs o
 one_of_maps (inl f) = map_kind f
 one_of_maps (inr f) = map_kind f
 
--- what fits the rule of a method's result is a map
+-- a tree that fits the rule of a method's result is an object
 result_is_map : (k : Method) (t : Node) → Fits t (rule (result_of k)) → (ms : Members) × (t ≡ map ms)
 result_is_map ScriptEvaluate t fit = one_of_maps (either_inside (rule_inside fit))
 result_is_map ScriptCallFunction t fit = one_of_maps (either_inside (rule_inside fit))
 result_is_map k t fit = map_kind (rule_inside fit)
 
--- ---- what is sent fits the rule of messages
+-- ---- the messages that are sent fit the rule of messages
 
 -- the members of a map of few levels
 inside : (ms : Members) (n : ℕ) → IsWhole (map ms) n → levels (map ms) ≤ 61 → MembersAreWhole ms 60
@@ -143,9 +143,9 @@ other_type n s u rs o ms of differ fit =
     let same : u ≡ s = cc there in
     apart u s differ same
 
--- ---- well messages with no members beside those of their rules
+-- ---- valid messages with only the members that their rules name
 
--- no member stands beside
+-- there are no further members
 none_beside : (rs : Rows) (ms : Members) → ms ≡ no_members → TableWell rs extensible ms
 none_beside rs ms none = record { no_known = ap (without (names_of rs)) none ∙ sym none; may = subst (λ x. MembersAreWhole x 60) (sym none) (refl, zero-le) }
 

@@ -1,4 +1,4 @@
--- A text has one verdict, and the text of a well command is accepted as that command.
+-- Each text has one verdict, and the text of a valid command is accepted as that command.
 use Rattle.std.proofs.Common.{◌≡◌, ◌∙◌, ℕ, List, Some, None, refl, sym, ap, subst}
 use Rattle.bidi_tree.specs.Node.{Node}
 use Rattle.bidi_shape.specs.Name.{command}
@@ -39,6 +39,6 @@ module _ (shape : ShapeOf Command) (of : shape.rule ≡ rule command) (s : List 
     refused_as misfit c good also =
         misfit (subst (λ t. Fits t (rule command)) (same_some (sym also ∙ seen)) (subst (Fits (shape.tree_of c)) of (shape.fits c good)))
 
-  -- nor has a text without a tree
+  -- a text without a tree has no other verdict
   pub no_tree_as : command_tree s ≡ None → (c : Command) → shape.well c → command_tree s ≡ Some (shape.tree_of c) → ⊥
   no_tree_as none c good also = none_some (sym none ∙ also)

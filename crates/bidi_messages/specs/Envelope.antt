@@ -1,5 +1,4 @@
--- The maps round a payload, as commands and events: `{ NAME: X, method: "M", params: P, Extensible }`,
--- one alternative for each of some rows (M, P).
+-- Objects that carry a payload: `{ NAME: X, method: "M", params: P, Extensible }`, one alternative for each M. After WebDriver BiDi, "Protocol".
 use Rattle.std.proofs.Common.{◌≡◌, ℕ, suc, max, List, [], ◌∷◌, codes, Bool, true, false, Option, Some}
 use Rattle.std.proofs.Common.{None, if◌then◌else◌, refl, zero-le, sym, subst, bytes_eq, arith}
 use Rattle.bidi_tree.specs.Node as tree
@@ -19,6 +18,7 @@ use Rattle.bidi_methods.specs.Payload.{PayloadOf}
 
 -- ---- one alternative for each of some values
 
+-- the choice of the terms of some values, one after the other
 abbrev pub one_each : {K : Type 0} → (K → Term) → Word K → List (Word K) → Term
 one_each f w [] = f w.value
 one_each f w (x ∷ xs) = either (f w.value) (one_each f x xs)
@@ -34,7 +34,7 @@ each_at : {K : Type 0} (b : Bool) (f : K → Term) (w : Word K) (rest : Option K
 each_at true f w rest σ k t e later fit = fits_first t (f w.value) σ (subst (λ x. Fits t (f x)) (sym (same_some e)) fit)
 each_at false f w rest σ k t e later fit = fits_second t (f w.value) σ (later e)
 
--- what fits the alternative of a value that is named fits the choice
+-- a tree that fits the term of a value in the table fits the choice
 each_fits : {K : Type 0} (f : K → Term) (w : Word K) (xs : List (Word K)) (s : List ℕ) (k : K) (t : Node)
     → value_named w xs s ≡ Some k → Fits t (f k) → Fits t (one_each f w xs)
 each_fits f w [] s k t e fit = last_fits (bytes_eq s w.text) f w k t e fit
@@ -45,35 +45,36 @@ split : {t : Node} {σ τ : Term} {P : Type 0} → (Fits t σ → P) → (Fits t
 split f g (fits_first t σ τ h) = f h
 split f g (fits_second t σ τ h) = g h
 
--- what fits the choice fits the alternative of some value
+-- a tree that fits the choice fits the term of some value
 some_fits : {K : Type 0} (f : K → Term) (w : Word K) (xs : List (Word K)) (t : Node) → Fits t (one_each f w xs) → (k : K) × Fits t (f k)
 some_fits f w [] t fit = (w.value, fit)
 some_fits f w (x ∷ xs) t fit = split (λ h. (w.value, h)) (some_fits f x xs t) fit
 
 -- ---- the maps
 
--- `NAME: X, method: "M", params: P`
+-- the rows `NAME: X, method: "M", params: P`
 abbrev pub envelope_rows : List ℕ → Term → List ℕ → Term → Rows
 envelope_rows name τ text ρ = row name required τ (row (codes "method") required (exactly text) (row (codes "params") required ρ no_more))
 
+-- the names of the first member, of `method` and of `params`
 abbrev pub envelope_names : List ℕ → List (List ℕ)
 envelope_names name = name ∷ codes "method" ∷ codes "params" ∷ []
 
 module _ {X D K : Type 0} (name : List ℕ) (s : ShapeOf X) (w : Words K) (d : PayloadOf D K) where
-  -- the rows of the maps of a kind
+  -- the rows of the objects of one kind
   abbrev pub rows_of : K → Rows
   rows_of k = envelope_rows name s.rule (w.text_of k) (d.rule k)
 
-  -- one alternative for each kind
+  -- the choice of the objects of all kinds, one alternative for each
   abbrev pub envelope_term : Term
   envelope_term = one_each (λ k. map_of (rows_of k) extensible) w.first w.rest
 
-  -- the map of a head, a payload and other members
+  -- the object of a first member, a payload and further members
   abbrev pub envelope_tree : X → D → Ext → Node
   envelope_tree x v e =
       tree.map (put name (s.tree_of x) (put (codes "method") (tree.text (w.text_of (d.kind v))) (put (codes "params") (d.tree_of v) (others_of e))))
 
-  -- well: each part is, and no other member has a known name
+  -- the object is valid: its first member and its payload are valid, and no further member has a known name
   pub record EnvelopeIsWell (x : X) (v : D) (e : Ext) : Type 0 where
     pub head : s.well x
     pub payload : d.well v
@@ -81,10 +82,11 @@ module _ {X D K : Type 0} (name : List ℕ) (s : ShapeOf X) (w : Words K) (d : P
 
   -- ---- laws
 
+  -- the parts of the first member, of `method` and of `params`
   abbrev pub parts_of : X → D → List (Option Node)
   parts_of x v = Some (s.tree_of x) ∷ Some (tree.text (w.text_of (d.kind v))) ∷ Some (d.tree_of v) ∷ []
 
-  -- what fits is a map of some kind
+  -- a tree that fits the rule is an object of some kind
   pub envelope_inside : (ρ : Term) → unfolded ρ ≡ envelope_term → (t : Node) → Fits t ρ → (k : K) × Fits t (map_of (rows_of k) extensible)
   envelope_inside ρ is t f = some_fits (λ k. map_of (rows_of k) extensible) w.first w.rest t (subst (Fits t) is (unfolded_fits t ρ f))
 
@@ -115,7 +117,7 @@ module _ {X D K : Type 0} (name : List ℕ) (s : ShapeOf X) (w : Words K) (d : P
         ((refl, zero-le), (whole_within (d.tree_of v) d.deepest n (omega arith) (d.whole v a.payload), tt)),
       ) a.others.may
 
-  -- the shape of such a type
+  -- the shape of a type whose values are objects that carry a payload
   abbrev pub envelope_shape : {V : Type 0} (ρ : Term) (m : V → X × (D × Ext)) → unfolded ρ ≡ envelope_term → distinct (envelope_names name) ≡ true → ShapeOf V
   envelope_shape ρ m is once = record {
     rule = ρ;

@@ -1,6 +1,7 @@
 pub mod Envelope
 pub mod Event
 pub mod Reading
+pub mod Limits
 pub mod Verdict
 pub mod View
 pub mod Message

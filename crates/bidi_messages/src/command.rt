@@ -15,10 +15,10 @@ use std::alloc::{AllocError, Global};
 /// After WebDriver BiDi, "Protocol".
 #[derive(Drop)]
 pub struct Command {
-    /// The number that the local end gave the command. Its response or error echoes it.
+    /// The number that the local end gave the command. The reply echoes it.
     pub id: JsUint,
     pub data: CommandData,
-    /// The members beside `id`, `method` and `params`. They have no effect.
+    /// The members other than `id`, `method` and `params`. They have no effect.
     pub ext: Ext,
 }
 

@@ -1,4 +1,5 @@
-//! Maps with the members `method` and `params`, of which the first says what the second is: commands and events.
+//! Objects with the members `method` and `params`, whose `method` decides the rule of `params`: commands and
+//! events.
 ghost use Rattle.std.specs.Prelude.{◌≡◌, IfOk, Some, true};
 ghost use Rattle.bidi_tree.specs.Node as kind;
 ghost use Rattle.bidi_tree.specs.Node.{get_member};
@@ -18,10 +19,10 @@ use bidi_shape::{
 use bidi_tree::{Outline, outline_members_of, put_outline};
 use std::alloc::{AllocError, Global};
 
-/// How many members such a map has by its rule.
+/// The number of members that the rule of such an object names.
 const ROOM: usize = 3;
 
-/// The map round a payload: its first member, its method with the params, and its other members.
+/// An object that carries a payload: its first member, its method with the params, and its further members.
 #[derive(Drop)]
 pub(crate) struct Envelope<X: Drop, D: Drop> {
     pub head: X,
@@ -29,10 +30,10 @@ pub(crate) struct Envelope<X: Drop, D: Drop> {
     pub ext: Ext,
 }
 
-/// Reads `{ NAME: X, method: "M", params: P, Extensible }`, where the params are those of the method.
+/// Reads `{ NAME: X, method: "M", params: P, Extensible }`, whose params are those of its method.
 ///
 /// # Errors
-/// - `NoFit`: the tree does not fit the rule of these members, under whatever name.
+/// - `NoFit`: the tree does not fit the rule that has these members.
 /// - `NoMemory`: an allocation failed.
 pub(crate) fn read_envelope<X: Shape, K: Named, D: Payload<K>, S: Parsed>(
     alloc: Global,
@@ -57,7 +58,7 @@ pub(crate) fn read_envelope<X: Shape, K: Named, D: Payload<K>, S: Parsed>(
     Ok(Envelope { head, payload, ext })
 }
 
-/// The value whose text a member is.
+/// Reads the value whose string a member is.
 fn word_at<K: Named, S: Parsed>(map: &S, name: &str) -> Result<K, ShapeFault>
     ensures ok { IfOk result (λ k. get_member name.now (members_in (S.tree map.now)) ≡ Some (kind.text (K.words.text_of k))) }
     ensures no_fit { IfNoFit result (PartFits required K.words.rule (get_member name.now (members_in (S.tree map.now))) → ⊥) }
@@ -68,7 +69,7 @@ fn word_at<K: Named, S: Parsed>(map: &S, name: &str) -> Result<K, ShapeFault>
     }
 }
 
-/// The value of a kind that a member is.
+/// Reads the value of a kind that a member is.
 fn content_at<K: Drop, D: Payload<K>, S: Parsed>(
     alloc: Global,
     map: &S,
@@ -85,7 +86,7 @@ fn content_at<K: Drop, D: Payload<K>, S: Parsed>(
     }
 }
 
-/// Makes the outline of the map of a first member, a payload and other members.
+/// Makes the outline of the object of a first member, a payload and further members.
 ///
 /// # Errors
 /// No memory: an allocation failed.

@@ -37,7 +37,7 @@ impl Named for EventType {
 #[derive(Drop)]
 pub struct Event {
     pub data: EventData,
-    /// The members beside `type`, `method` and `params`. They have no effect.
+    /// The members other than `type`, `method` and `params`. They have no effect.
     pub ext: Ext,
 }
 

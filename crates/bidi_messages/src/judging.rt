@@ -1,4 +1,4 @@
-//! How a text is judged.
+//! Deciding whether a text is a command.
 ghost use Rattle.std.specs.Prelude.{◌≡◌, IfOk, option_map};
 ghost use Rattle.bidi_tree.specs.Kind.{text_in};
 ghost use Rattle.bidi_tree.specs.Json.{parsed};
@@ -14,39 +14,44 @@ use bidi_tree::{JsUint, ReadFault, parse};
 use json::{Scratch, Value};
 use std::alloc::{AllocError, Global};
 
-/// What a text is judged to be: a command, or refused with the id and the code of its error.
+/// The verdict on a text: it is a command, or it is refused with the id and the code of an error.
 #[derive(Drop)]
 pub enum Verdict {
     /// The text is this command, which is to be carried out.
     Accepted(Command),
-    /// The text is no command. An error with this code answers it, with this id or, where there is none, null.
+    /// The text is not a command. Answer it with an error of this code and this id, or null if there is no
+    /// id.
     Refused { id: Option<JsUint>, code: ErrorCode },
 }
 
-/// Judges a text.
+/// Decides whether a text from the local end is a command.
 ///
-/// A text that is not JSON, or longer than 1,048,576 bytes, is refused as an invalid argument, with no id.
-/// A tree that fits no command is refused with its member `id` where that is a js-uint, else with none: as an
-/// unknown command where its `method` is a text that names none, else as an invalid argument.
+/// A text that is not JSON, or is longer than 1,048,576 bytes, is refused as an invalid argument, without an
+/// id. A tree that fits no command is refused with its member `id` if that is a js-uint, and otherwise
+/// without an id. The code is `unknown command` if its `method` is a string that names no command, and
+/// otherwise `invalid argument`.
 ///
 /// # Errors
 /// No memory: an allocation failed.
 ///
 /// After WebDriver BiDi, "Transport".
 pub fn judge(alloc: Global, text: &str) -> Result<Verdict, AllocError>
+    // The verdict is one that the definition allows for this text.
     ensures verdict { IfOk result (λ v. judged.IsVerdict text.now (verdict_of ⟦<Command as Shape>⟧.shape v)) }
+    // The definition allows no other verdict for this text.
     ensures no_other { IfOk result (λ v. (w : judged.Verdict) → judged.IsVerdict text.now w → w ≡ verdict_of ⟦<Command as Shape>⟧.shape v) }
+    // A command that is accepted is valid, so it has a text.
     ensures well { IfOk result (IsWell ⟦<Command as Shape>⟧.shape) }
-    // The text of a well command is accepted as that command.
+    // The text of a valid command is accepted as that command.
     ensures again { (c : Command) → IfOk result (AcceptsAs ⟦<Command as Shape>⟧.shape text.now c) }
 {
     let mut scratch = Scratch::new(alloc);
     judge_with(alloc, text, &mut scratch)
 }
 
-/// Judges a text as [`judge`] does, in a scratch that the caller keeps from text to text.
+/// Decides as [`judge`] does, with a scratch that the caller keeps from text to text.
 ///
-/// The text is read in one walk, and the command of what was read, with no tree between.
+/// Walks the text once, and reads the command without making a tree of it.
 ///
 /// # Errors
 /// No memory: an allocation failed.
@@ -55,10 +60,13 @@ pub fn judge_with<'a>(
     text: &'a str,
     scratch: &'a mut Scratch,
 ) -> Result<Verdict, AllocError>
+    // The verdict is one that the definition allows for this text.
     ensures verdict { IfOk result (λ v. judged.IsVerdict text.now (verdict_of ⟦<Command as Shape>⟧.shape v)) }
+    // The definition allows no other verdict for this text.
     ensures no_other { IfOk result (λ v. (w : judged.Verdict) → judged.IsVerdict text.now w → w ≡ verdict_of ⟦<Command as Shape>⟧.shape v) }
+    // A command that is accepted is valid, so it has a text.
     ensures well { IfOk result (IsWell ⟦<Command as Shape>⟧.shape) }
-    // The text of a well command is accepted as that command.
+    // The text of a valid command is accepted as that command.
     ensures again { (c : Command) → IfOk result (AcceptsAs ⟦<Command as Shape>⟧.shape text.now c) }
 {
     let Some(tree) = command_tree(alloc, text, scratch)? else {
@@ -77,7 +85,7 @@ pub fn judge_with<'a>(
     }
 }
 
-/// What a command text is read as, if it has a tree.
+/// Reads the text of a command as a JSON value, if it is one.
 fn command_tree<'a>(
     alloc: Global,
     text: &'a str,
@@ -93,7 +101,7 @@ fn command_tree<'a>(
     }
 }
 
-/// The id of a tree, where that is a js-uint: the one that its refusal echoes.
+/// The id that a refusal of this tree echoes: its member `id`, if that is a js-uint.
 pub(crate) fn echoed_id<S: Parsed>(tree: &S) -> Option<JsUint>
     ensures { option_map (λ n. n.value) result ≡ judged.echoed_id (S.tree tree.now) }
 {
@@ -112,7 +120,7 @@ fn js_uint_in<S: Parsed>(tree: &S) -> Option<JsUint>
     }
 }
 
-/// The code of a tree that fits no command.
+/// The error code for a tree that fits no command.
 fn refusal_code<S: Parsed>(tree: &S) -> ErrorCode
     ensures { result ≡ judged.refusal_code (S.tree tree.now) }
 {

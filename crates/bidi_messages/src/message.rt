@@ -13,19 +13,20 @@ use bidi_shape::{
 use bidi_tree::{JsUint, Outline};
 use std::alloc::{AllocError, Global};
 
-/// The answer to a command that was carried out, with its result.
+/// The reply to a command that succeeded, with its result.
 ///
-/// `CommandResponse = { type: "success", id: js-uint, result: { Extensible }, Extensible }`. The rule of the result
-/// is that of the command's method, which a response does not tell: see [`result_of`](crate::result_of).
+/// `CommandResponse = { type: "success", id: js-uint, result: { Extensible }, Extensible }`.
+/// The rule of the result depends on the command's method, which a response does not contain: see
+/// [`result_of`](crate::result_of).
 ///
 /// After WebDriver BiDi, "Protocol".
 #[derive(Drop)]
 pub struct Response {
-    /// The id of the command that it answers.
+    /// The id of the command that the response answers.
     pub id: JsUint,
     /// The members of the result.
     pub result: Ext,
-    /// The members beside `type`, `id` and `result`. They have no effect.
+    /// The members other than `type`, `id` and `result`. They have no effect.
     pub ext: Ext,
 }
 
@@ -52,20 +53,20 @@ impl Shape for Response {
     }
 }
 
-/// The answer to a command that failed, or to a text that is no command.
+/// The reply to a command that failed, or to a text that is not a command.
 ///
 /// `ErrorResponse = { type: "error", id: js-uint / null, error: ErrorCode, message: text, ? stacktrace: text, Extensible }`
 ///
 /// After WebDriver BiDi, "Protocol" and "Errors".
 #[derive(Drop)]
 pub struct ErrorResponse {
-    /// The id of the command that failed, or null where a text bore no id that could be read.
+    /// The id of the command that failed, or null if the text had no id that could be read.
     pub id: Option<JsUint>,
-    /// Why it failed, by the code to act on.
+    /// The error code, for programs.
     pub error: ErrorCode,
-    /// Why it failed, in words for a reader. The remote end of this project sends the text of the code.
+    /// A description of the error, for people. The remote end of this project sends the string of the code.
     pub message: String,
-    /// Where the remote end failed, for a reader. That of this project sends none.
+    /// The place of the failure in the remote end, for people. The remote end of this project sends none.
     pub stacktrace: Option<String>,
     /// The members that the rule does not name. They have no effect.
     pub ext: Ext,
@@ -116,11 +117,11 @@ impl Shape for ErrorResponse {
 /// After WebDriver BiDi, "Protocol".
 #[derive(Drop)]
 pub enum Message {
-    /// A command was carried out.
+    /// A command succeeded.
     Response(Response),
-    /// A command failed, or a text was none.
+    /// A command failed, or a text was not a command.
     Error(ErrorResponse),
-    /// Something happened that the session subscribed to.
+    /// An event happened to which the session is subscribed.
     Event(Event),
 }
 

@@ -1,4 +1,4 @@
-//! Recognising a response in a JSON value that borrows its text, without making a message of it.
+//! Recognizing a response in a JSON value that borrows from its text, without making a message of it.
 ghost use Rattle.std.specs.Prelude.{◌≡◌, ◌↔◌, Some, None, IsTrue, IfSome, codes};
 ghost use Rattle.json.specs.Value.{value_view};
 ghost use Rattle.bidi_tree.specs.Node as kind;
@@ -15,18 +15,22 @@ use bidi_shape::{MAX_LEVELS, Parsed};
 use bidi_tree::{JsUint, is_parsed_whole};
 use json::Value;
 
-/// The most levels of a response that is recognised here: the 60 of its members, and one more.
+/// The most levels of a response that is recognized here: the 60 of its members, and one more.
 const MOST_LEVELS: usize = MAX_LEVELS + 1;
 
-/// The id of the response that the value is; `None` where it is none. Takes no memory.
+/// Reads the id of a response; `None` if the value is not one. Takes no memory.
 ///
-/// `None` may also come for some responses, which [`message_of`](crate::message_of) reads: those that nest past 61
-/// levels, and those with a member that is not whole but is replaced by a later one of the same name.
+/// `None` also comes for some responses that [`message_of`](crate::message_of) reads: those that nest past 61
+/// levels, and those with a number that is not whole in a member that a later one of the same name replaces.
 pub fn response_id(value: &Value<'_>) -> Option<JsUint>
+    // If there is an id, the value fits the rule of responses.
     ensures fits { IfSome result (λ id. Fits (parsed value.now) (rule command_response)) }
+    // If there is an id, it is that of the response.
     ensures id { IfSome result (λ id. echoed_id (parsed value.now) ≡ Some id.value) }
-    // It may be written.
+    // If there is an id, the value's tree may be written: it has no `Odd` and at most 100 levels.
     ensures writable { IfSome result (λ id. IsWritable (parsed value.now)) }
+    // If all numbers are whole and nothing nests past 61 levels, `None` means that the value is no
+    // response.
     ensures none { result ≡ None → IsTrue (stands_whole (value_view value.now) 61) → Fits (parsed value.now) (rule command_response) → ⊥ }
 {
     if !is_success(value) || !has_result(value) || !is_parsed_whole(value, MOST_LEVELS) {
@@ -35,7 +39,7 @@ pub fn response_id(value: &Value<'_>) -> Option<JsUint>
     echoed_id(value)
 }
 
-/// Whether its type is that of a response.
+/// Whether the type is that of a response.
 fn is_success(value: &Value<'_>) -> bool
     ensures { IsTrue result ↔ (get_member (codes "type") (members_in (parsed value.now)) ≡ Some (kind.text (codes "success"))) }
 {
@@ -45,7 +49,7 @@ fn is_success(value: &Value<'_>) -> bool
     }
 }
 
-/// Whether it has a result that is a map.
+/// Whether there is a result, and it is an object.
 fn has_result(value: &Value<'_>) -> bool
     ensures { IsTrue result ↔ ((ms : Members) × (get_member (codes "result") (members_in (parsed value.now)) ≡ Some (kind.map ms))) }
 {

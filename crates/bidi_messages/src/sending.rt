@@ -1,4 +1,4 @@
-//! The texts that a remote end sends: no member stands beside those of the message's rule.
+//! The texts that a remote end sends. They have only the members that their rule names.
 ghost use Rattle.std.specs.Prelude.{◌≡◌, ◌≤◌, Some, IfOk, string_bytes, option_map};
 ghost use Rattle.bidi_tree.specs.Node.{levels, IsWritable};
 ghost use Rattle.bidi_tree.specs.Outline.{outline_node};
@@ -16,8 +16,9 @@ use bidi_shape::{Ext, Named, Shape};
 use bidi_tree::{JsUint, Outline, OutlineMembers, put_outline, write_outline};
 use std::alloc::{AllocError, Global};
 
-/// The text of the response to a command: compact, its members in byte order of their names.
-/// The result is used up. No text of it is copied but into the one that is written.
+/// Makes the text of the response to a command: compact, its members in byte order of their names.
+///
+/// The result is used up. Its strings are copied only into the text.
 ///
 /// # Errors
 /// No memory: an allocation failed.
@@ -26,20 +27,24 @@ pub fn response_text(
     id: JsUint,
     result_data: ResultData,
 ) -> Result<String, AllocError>
+    // The result is valid.
     requires well { ResultIsWell result_data }
-    // A response holds any members of at most 60 levels each, so a result has at most 61: one that is deeper could be
-    // written, and nobody could read it.
+    // A response holds members of at most 60 levels, so the result has at most 61. A deeper one
+    // could be written, but nobody could read it.
     requires small { levels (result_tree result_data) ≤ 61 }
+    // The text is that of the response with this id and this result.
     ensures text { IfOk result (λ s. string_bytes s
         ≡ response_text id.value (result_tree result_data)) }
+    // The text reads back as the tree of the response with this id and this result.
     ensures tree { IfOk result (λ s. tree_of (string_bytes s)
         ≡ Some (response_tree id.value (result_tree result_data))) }
+    // The text is that of a message, so `read_message` accepts it.
     ensures reads_back { IfOk result (λ s. IsMessageText ⟦<Message as Shape>⟧.shape (string_bytes s)) }
 {
     write_response(alloc, id, result_data)
 }
 
-/// The text of a response. The result is used up here, where its variants do not show.
+/// Makes the text of a response. The result is used up here, where its variants are not visible.
 fn write_response<D: Payload<Method>>(
     alloc: Global,
     id: JsUint,
@@ -68,14 +73,17 @@ fn outline_response<'a, D: Payload<Method>>(
     Ok(Outline::Map(members))
 }
 
-/// The text of an event.
+/// Makes the text of an event: compact, its members in byte order of their names.
 ///
 /// # Errors
 /// No memory: an allocation failed.
 pub fn event_text(alloc: Global, event: &EventData) -> Result<String, AllocError>
+    // The params of the event are valid.
     requires { EventIsWell event.now }
+    // The text is that of this event.
     ensures text { IfOk result (λ s. string_bytes s
         ≡ event_text (event_of event.now) (event_params event.now)) }
+    // The text is that of a message, so `read_message` accepts it.
     ensures reads_back { IfOk result (λ s. IsMessageText ⟦<Message as Shape>⟧.shape (string_bytes s)) }
 {
     let ext = Ext::empty(alloc);
@@ -83,12 +91,14 @@ pub fn event_text(alloc: Global, event: &EventData) -> Result<String, AllocError
     write_outline(alloc, &outline)
 }
 
-/// The text of an error, whose message is the code's text.
+/// Makes the text of an error, whose message is the string of the code.
 ///
 /// # Errors
 /// No memory: an allocation failed.
 pub fn error_text(alloc: Global, id: Option<JsUint>, code: ErrorCode) -> Result<String, AllocError>
+    // The text is that of the error with this id, or null, and this code.
     ensures text { IfOk result (λ s. string_bytes s ≡ error_text (option_map (λ n. n.value) id) code) }
+    // The text is that of a message, so `read_message` accepts it.
     ensures reads_back { IfOk result (λ s. IsMessageText ⟦<Message as Shape>⟧.shape (string_bytes s)) }
 {
     let outline = outline_error(alloc, &id, code)?;

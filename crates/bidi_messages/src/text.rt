@@ -1,4 +1,4 @@
-//! The texts of commands and messages, and the message of a text.
+//! The texts of commands and messages, and reading a message.
 ghost use Rattle.std.specs.Prelude.{◌≡◌, ℕ, Some, None, IfOk, IfErr, string_bytes, nat_le, true, refl};
 ghost use Rattle.bidi_tree.specs.Text.{tree_of, tree_of_text, compact_text};
 ghost use Rattle.bidi_messages.specs.Reading.{IsCause, IsMessageText, IsMisfit, IsReadAs, ReadsAs};
@@ -12,9 +12,9 @@ use json::Scratch;
 use std::alloc::{AllocError, Global};
 use thiserror::Error;
 
-/// What is sent over a connection as a text: a command, or a message.
+/// What is sent over a connection: a command, or a message of the remote end.
 pub trait Sendable: Shape {
-    // Its trees have few enough levels to be written.
+    // No tree of it has more than 100 levels, so each may be written.
     ghost writable: { nat_le Self.shape.deepest 100 ≡ true };
 }
 
@@ -38,29 +38,30 @@ impl Sendable for Message {
     ghost writable = { refl };
 }
 
-/// The text of a command or a message: compact, its members in byte order of their names.
-///
-/// It reads back: the tree of the text is that of the value, which is the one well value that has it.
+/// Makes the text of a command or a message: compact, its members in byte order of their names.
 ///
 /// # Errors
 /// No memory: an allocation failed.
 pub fn text_of<M: Sendable>(alloc: Global, value: &M) -> Result<String, AllocError>
+    // The value is valid.
     requires { M.shape.well value.now }
+    // The text is the compact text of the value's tree.
     ensures text { IfOk result (λ s. string_bytes s ≡ compact_text (M.shape.tree_of value.now)) }
+    // The text reads back as that tree, which no other valid value has.
     ensures reads_back { IfOk result (λ s. tree_of (string_bytes s) ≡ Some (M.shape.tree_of value.now)) }
 {
     let outline = value.outline(alloc)?;
     write_outline(alloc, &outline)
 }
 
-/// Why a text is no message of the remote end.
+/// Why a text is not a message of the remote end.
 #[derive(Clone, Copy, Debug, PartialEq, Eq, Error)]
 pub enum MessageFault {
-    /// The text is not JSON, or nests past 127 levels. It settles no command, and may be passed over.
+    /// The text is not JSON, or nests past 127 levels. It answers no command, and may be ignored.
     #[error("not JSON")]
     NotJson,
-    /// Its tree fits no message of the profile, as that of an event beyond the eight. It settles no
-    /// command, and may be passed over.
+    /// The text fits no message of the profile; it may be an event that the profile does not have. It answers
+    /// no command, and may be ignored.
     #[error("no message of the profile")]
     NoFit,
     /// An allocation failed. The same text may be read again.
@@ -68,29 +69,31 @@ pub enum MessageFault {
     NoMemory,
 }
 
-/// Reads a message of the remote end. Its text may have any length.
+/// Reads a message of the remote end, from a text of any length.
 ///
 /// # Errors
 /// 1. `NotJson`: the text is not JSON.
-/// 2. `NoFit`: its tree fits no message.
+/// 2. `NoFit`: the text fits no message.
 /// 3. `NoMemory`: an allocation failed.
 ///
 /// After WebDriver BiDi, "Transport".
 pub fn read_message(alloc: Global, text: &str) -> Result<Message, MessageFault>
+    // After an Ok, the message is valid and has the tree of the text.
     ensures ok { IfOk result (λ m. (tree_of_text None text.now ≡ Some (⟦<Message as Shape>⟧.shape.tree_of m)) × ⟦<Message as Shape>⟧.shape.well m) }
+    // `NotJson` comes only if the text has no tree, and `NoFit` only if its tree fits no message.
     ensures err { IfErr result (λ e. IsCause e text.now) }
-    // The text of a well message reads as that message.
+    // The text of a valid message is read as that message.
     ensures again { (m : Message) → ReadsAs ⟦<Message as Shape>⟧.shape text.now m result }
-    // What a remote end sends reads as a well message, whose text it is.
+    // A text that a remote end sends is read as a valid message whose text it is.
     ensures sent { IsMessageText ⟦<Message as Shape>⟧.shape text.now → IsReadAs ⟦<Message as Shape>⟧.shape text.now result }
 {
     let mut scratch = Scratch::new(alloc);
     read_message_with(alloc, text, &mut scratch)
 }
 
-/// Reads a message as [`read_message`] does, in a scratch that the caller keeps from text to text.
+/// Reads a message as [`read_message`] does, with a scratch that the caller keeps from text to text.
 ///
-/// The text is read in one walk, and the message of what was read, with no tree between.
+/// Walks the text once, and reads the message without making a tree of it.
 ///
 /// # Errors
 /// As [`read_message`].
@@ -99,11 +102,13 @@ pub fn read_message_with<'a>(
     text: &'a str,
     scratch: &'a mut Scratch,
 ) -> Result<Message, MessageFault>
+    // After an Ok, the message is valid and has the tree of the text.
     ensures ok { IfOk result (λ m. (tree_of_text None text.now ≡ Some (⟦<Message as Shape>⟧.shape.tree_of m)) × ⟦<Message as Shape>⟧.shape.well m) }
+    // `NotJson` comes only if the text has no tree, and `NoFit` only if its tree fits no message.
     ensures err { IfErr result (λ e. IsCause e text.now) }
-    // The text of a well message reads as that message.
+    // The text of a valid message is read as that message.
     ensures again { (m : Message) → ReadsAs ⟦<Message as Shape>⟧.shape text.now m result }
-    // What a remote end sends reads as a well message, whose text it is.
+    // A text that a remote end sends is read as a valid message whose text it is.
     ensures sent { IsMessageText ⟦<Message as Shape>⟧.shape text.now → IsReadAs ⟦<Message as Shape>⟧.shape text.now result }
 {
     match parse(alloc, text, None, scratch) {
@@ -114,13 +119,15 @@ pub fn read_message_with<'a>(
     }
 }
 
-/// The message of a tree, or of a JSON value that borrows its text.
+/// Reads a message from a tree, from an outline, or from a JSON value that borrows from its text.
 ///
 /// # Errors
-/// 1. `NoFit`: it fits no message.
+/// 1. `NoFit`: the tree fits no message.
 /// 2. `NoMemory`: an allocation failed.
 pub fn message_of<S: Parsed>(alloc: Global, tree: &S) -> Result<Message, MessageFault>
+    // After an Ok, the message is valid and has the tree that was read.
     ensures ok { IfOk result (λ m. (⟦<Message as Shape>⟧.shape.tree_of m ≡ S.tree tree.now) × ⟦<Message as Shape>⟧.shape.well m) }
+    // `NoFit` comes only if the tree fits no message; `NotJson` never comes.
     ensures err { IfErr result (λ e. IsMisfit e (S.tree tree.now)) }
 {
     match Message::from_tree(alloc, tree) {

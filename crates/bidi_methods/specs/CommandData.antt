@@ -1,4 +1,4 @@
--- What a command asks: its method, with the params of that method. After WebDriver BiDi, "Protocol".
+-- The data of a command: its method, with the params of that method. After WebDriver BiDi, "Protocol".
 use Rattle.bidi_tree.specs.Node.{Node}
 use Rattle.bidi_methods.specs.Payload.{PayloadOf, OfKind, one_by_kind}
 use Rattle.bidi_methods.specs.Method.{params_part}
@@ -17,15 +17,15 @@ use Rattle.bidi_methods.specs.declared.command_data.BrowserCommand.TheVariants a
 use Rattle.bidi_methods.specs.declared.command_data.CommandData.{CommandData}
 use Rattle.bidi_methods.specs.declared.command_data.CommandData.TheVariants.{Session, Browser}
 
--- a method, with params of it
+-- a method with its params
 abbrev pub Asked : Type 0
 Asked = OfKind params_part
 
--- the tree of the params
+-- the tree of a command's params
 abbrev pub asked_tree : Asked → Node
 asked_tree a = (params_part a.0).shape.tree_of a.1
 
--- a command of the module session
+-- a command of the session module, as its method with its params
 abbrev pub session_asked : SessionCommand → Asked
 session_asked (session.Status params) = (SessionStatus, params)
 session_asked (session.New params) = (SessionNew, params.value)
@@ -33,7 +33,7 @@ session_asked (session.End params) = (SessionEnd, params)
 session_asked (session.Subscribe params) = (SessionSubscribe, params.value)
 session_asked (session.Unsubscribe params) = (SessionUnsubscribe, params)
 
--- a command of the browser
+-- a command of the modules browsingContext, script and browser, as its method with its params
 abbrev pub browser_asked : BrowserCommand → Asked
 browser_asked (browser.Activate params) = (BrowsingContextActivate, params)
 browser_asked (browser.Close params) = (BrowsingContextClose, params)
@@ -50,14 +50,15 @@ browser_asked (browser.CreateUserContext params) = (BrowserCreateUserContext, pa
 browser_asked (browser.GetUserContexts params) = (BrowserGetUserContexts, params)
 browser_asked (browser.RemoveUserContext params) = (BrowserRemoveUserContext, params)
 
--- any command
+-- a command as its method with its params
 abbrev pub asked : CommandData → Asked
 asked (Session command) = session_asked command
 asked (Browser command) = browser_asked command
 
--- its method
+-- the method of a command
 abbrev pub method_of : CommandData → Method
 method_of d = (asked d).0
 
+-- the data of commands, by method: the rule of the params, their trees, and the laws
 abbrev pub command_payload : PayloadOf CommandData Method
 command_payload = one_by_kind params_part asked

@@ -1,4 +1,4 @@
--- The methods of commands: of each its text, and the params and the result of its commands. After WebDriver BiDi, "Protocol".
+-- The methods of commands, as strings, and the params and the result of each. After WebDriver BiDi, "Protocol".
 use Rattle.std.specs.Prelude.{◌≡◌, ℕ, List, [], ◌∷◌, Some, codes, map, refl}
 use Rattle.bidi_params.specs.contracts.base.EmptyParamsShape.TheImpl as none
 use Rattle.bidi_params.specs.contracts.base.EmptyResultShape.TheImpl as nothing
@@ -18,12 +18,12 @@ use Rattle.bidi_params.specs.contracts.browsing_context.navigate.NavigateParamet
 use Rattle.bidi_params.specs.contracts.browsing_context.navigate.ReloadParametersShape.TheImpl as reload
 use Rattle.bidi_params.specs.contracts.browsing_context.navigate.TraverseHistoryParametersShape.TheImpl as traverse
 use Rattle.bidi_params.specs.contracts.browsing_context.navigate.NavigateResultShape.TheImpl as navigate_told
-use Rattle.bidi_values.specs.contracts.evaluate.EvaluateParametersShape.TheImpl as evaluate
-use Rattle.bidi_values.specs.contracts.evaluate_result.EvaluateResultShape.TheImpl as script_told
-use Rattle.bidi_values.specs.contracts.call_function.CallFunctionParametersShape.TheImpl as call_function
-use Rattle.bidi_values.specs.contracts.call_function.DisownParametersShape.TheImpl as disown
-use Rattle.bidi_params.specs.contracts.script.realms.GetRealmsParametersShape.TheImpl as get_realms
-use Rattle.bidi_params.specs.contracts.script.realms.GetRealmsResultShape.TheImpl as get_realms_told
+use Rattle.bidi_scripts.specs.contracts.evaluate.EvaluateParametersShape.TheImpl as evaluate
+use Rattle.bidi_scripts.specs.contracts.evaluate_result.EvaluateResultShape.TheImpl as script_told
+use Rattle.bidi_scripts.specs.contracts.call_function.CallFunctionParametersShape.TheImpl as call_function
+use Rattle.bidi_scripts.specs.contracts.call_function.DisownParametersShape.TheImpl as disown
+use Rattle.bidi_scripts.specs.contracts.realms.GetRealmsParametersShape.TheImpl as get_realms
+use Rattle.bidi_scripts.specs.contracts.realms.GetRealmsResultShape.TheImpl as get_realms_told
 use Rattle.bidi_params.specs.contracts.browser.UserContextInfoShape.TheImpl as user_context_told
 use Rattle.bidi_params.specs.contracts.browser.GetUserContextsResultShape.TheImpl as user_contexts_told
 use Rattle.bidi_params.specs.contracts.browser.RemoveUserContextParametersShape.TheImpl as remove_user_context
@@ -41,7 +41,7 @@ use Rattle.bidi_methods.specs.declared.method.Method.TheVariants.{BrowsingContex
 use Rattle.bidi_methods.specs.declared.method.Method.TheVariants.{ScriptDisown, ScriptGetRealms, BrowserCreateUserContext}
 use Rattle.bidi_methods.specs.declared.method.Method.TheVariants.{BrowserGetUserContexts, BrowserRemoveUserContext}
 
--- the params of a command that has none, and the results of one that gives nothing, of one that navigates and of one that runs a script
+-- the params of commands that have none, and the results of commands that return nothing, that navigate, or that run a script
 abbrev nothing_asked : Part
 nothing_asked = part rule.empty_params none.ghosts.shape refl refl
 
@@ -54,7 +54,8 @@ navigation_given = part rule.navigate_result navigate_told.ghosts.shape refl ref
 abbrev script_given : Part
 script_given = part rule.evaluate_result script_told.ghosts.shape refl refl
 
--- the text of a method
+-- the string of a method
+-- example: `session.status`
 abbrev pub method_text : Method → List ℕ
 method_text SessionStatus = codes "session.status"
 method_text SessionNew = codes "session.new"
@@ -76,7 +77,7 @@ method_text BrowserCreateUserContext = codes "browser.createUserContext"
 method_text BrowserGetUserContexts = codes "browser.getUserContexts"
 method_text BrowserRemoveUserContext = codes "browser.removeUserContext"
 
--- what the commands of a method ask, and what they give
+-- the params and the result of a method's commands
 pub record MethodRow : Type 1 where
   pub params : Part
   pub result : Part
@@ -84,6 +85,7 @@ pub record MethodRow : Type 1 where
 abbrev row : Part → Part → MethodRow
 row p r = record { params = p; result = r }
 
+-- the params and the result of each method: their types, rules and shapes
 abbrev pub method_row : Method → MethodRow
 method_row SessionStatus = row nothing_asked (part rule.status_result status_told.ghosts.shape refl refl)
 method_row SessionNew =
@@ -116,16 +118,20 @@ method_row BrowserGetUserContexts = row nothing_asked (part rule.get_user_contex
 method_row BrowserRemoveUserContext =
     row (part rule.remove_user_context_parameters remove_user_context.ghosts.shape refl refl) nothing_given
 
+-- the params of a method
 abbrev pub params_part : Method → Part
 params_part m = (method_row m).params
 
+-- the result of a method
 abbrev pub result_part : Method → Part
 result_part m = (method_row m).result
 
--- the rules of its params and of its result
+-- the rule of a method's params
 abbrev pub params_of : Method → Name
 params_of m = (params_part m).name
 
+-- the rule of a method's result
+-- example: a `browsingContext.activate` gives the empty result
 abbrev pub result_of : Method → Name
 result_of m = (result_part m).name
 
@@ -151,16 +157,16 @@ further_methods = SessionNew
     ∷ BrowserRemoveUserContext
     ∷ []
 
--- they are those of the profile, with the same rules
+-- these methods and rules are those of the profile
 pub methods_are_the_profiles : map {B = List ℕ × (Name × Name)} (λ m. (method_text m, (params_of m, result_of m))) (SessionStatus ∷ further_methods)
     ≡ map {B = List ℕ × (Name × Name)} (λ r. (codes r.method, (r.params, r.result))) (session_status_row ∷ further_commands)
 methods_are_the_profiles = refl
 
--- their texts
+-- the strings of the methods after the first
 abbrev pub method_rest : List (Word Method)
 method_rest = map (word method_text) further_methods
 
--- each text names its method
+-- the string of each method names that method
 pub method_named : (m : Method) → value_named (word method_text SessionStatus) method_rest (method_text m) ≡ Some m
 method_named SessionStatus = refl
 method_named SessionNew = refl
@@ -182,6 +188,7 @@ method_named BrowserCreateUserContext = refl
 method_named BrowserGetUserContexts = refl
 method_named BrowserRemoveUserContext = refl
 
+-- the methods as a type whose values are a few strings
 abbrev pub method_words : Words Method
 method_words = record {
   rule = one_of (word method_text SessionStatus) method_rest;

@@ -1,4 +1,4 @@
--- Payloads: values of one of several kinds, each with a rule of its own, as what a message of that kind bears.
+-- Payloads: values of one of several kinds, each with a rule of its own, as a message of that kind carries. After WebDriver BiDi, "Protocol".
 use Rattle.std.proofs.Common.{◌≡◌, ℕ, nat_le, true, subst}
 use Rattle.std.proofs.lemmas.Bool.{leb-true}
 use Rattle.bidi_tree.specs.Node.{Node, IsWhole}
@@ -8,24 +8,24 @@ use Rattle.bidi_shape.specs.Fits.{Fits}
 use Rattle.bidi_shape.specs.Value.{ShapeOf}
 use Rattle.bidi_shape.specs.WholeLaws.{whole_within}
 
--- the kind of a value, the rule of each kind, the tree of a value, and the laws of these
+-- the specification of a payload type: the kind of each value, the rule of each kind, the tree of each value, and the laws of these
 pub record PayloadOf (D K : Type 0) : Type 1 where
   pub kind : D → K
   pub rule : K → Term
   pub tree_of : D → Node
   pub well : D → Type 0
   pub same : D → D → Type 0
-  -- the tree of a well value fits the rule of its kind
+  -- the tree of a valid value fits the rule of its kind
   pub fits : (d : D) → well d → Fits (tree_of d) (rule (kind d))
-  -- one tree is that of one value of a kind
+  -- valid values of the same kind with the same tree are the same
   pub one_value : (d e : D) → well d → well e → kind d ≡ kind e → tree_of d ≡ tree_of e → same d e
-  -- the most levels of such a tree, in which no Odd stands
+  -- the most levels of a valid value's tree, which has no Odd
   pub deepest : ℕ
   pub whole : (d : D) → well d → IsWhole (tree_of d) deepest
 
 -- ---- a type with one variant for each kind
 
--- of one kind, and the same there
+-- the two values are of one kind, and are the same
 pub data SameKind {K : Type 0} (P : K → Type 0) (s : (k : K) → ShapeOf (P k)) : (j : K) → P j → (k : K) → P k → Type 0 where
   same_kind : (k : K) (x y : P k) → (s k).same x y → SameKind P s k x k y
 
@@ -35,11 +35,11 @@ one_kind P s j k x y a b e t =
     subst (λ i. (z : P i) → (s i).well z → (s j).tree_of x ≡ (s i).tree_of z → SameKind P s j x i z) e
     (λ z c u. same_kind j x z ((s j).one_value x z a c u)) y b t
 
--- the most levels of what a message bears
+-- the most levels of a payload's tree
 abbrev pub most_levels : ℕ
 most_levels = 70
 
--- what a message of one kind bears: the type of its values, the rule that their trees fit, and their shape; no tree has more than so many levels
+-- the payload of one kind: the type of its values, the rule that their trees fit, and their shape, whose trees have at most 70 levels
 pub record Part : Type 1 where
   pub Value : Type 0
   pub name : Name
@@ -47,14 +47,15 @@ pub record Part : Type 1 where
   pub is_rule : shape.rule ≡ rule name
   pub within : nat_le shape.deepest most_levels ≡ true
 
+-- the payload with this rule and this shape
 abbrev pub part : {V : Type 0} (r : Name) (s : ShapeOf V) → s.rule ≡ rule r → nat_le s.deepest most_levels ≡ true → Part
 part {V = V} r s is_rule within = record { Value = V; name = r; shape = s; is_rule = is_rule; within = within }
 
--- a value of one of several kinds, with its kind
+-- a value of one of several kinds, together with its kind
 abbrev pub OfKind : {K : Type 0} → (K → Part) → Type 0
 OfKind {K = K} bears = (k : K) × (bears k).Value
 
--- such a type, of what each kind bears, and of how its values are seen
+-- the payload type whose values correspond to a kind and a value of that kind
 abbrev pub one_by_kind : {D K : Type 0} (bears : K → Part) → (D → OfKind bears) → PayloadOf D K
 one_by_kind bears seen = record {
   kind = λ d. (seen d).0;

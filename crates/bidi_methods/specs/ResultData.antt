@@ -1,4 +1,4 @@
--- What a command gives: its method, with the result of that method. After WebDriver BiDi, "Protocol".
+-- The data of a result: the method of its command, with the result of that method. After WebDriver BiDi, "Protocol".
 use Rattle.bidi_methods.specs.Payload.{PayloadOf, OfKind, one_by_kind}
 use Rattle.bidi_methods.specs.Method.{result_part}
 use Rattle.bidi_methods.specs.declared.method.Method.{Method}
@@ -12,7 +12,7 @@ use Rattle.bidi_methods.specs.declared.method.Method.TheVariants.{BrowserGetUser
 use Rattle.bidi_methods.specs.declared.result_data.ResultData.{ResultData}
 use Rattle.bidi_methods.specs.declared.result_data.ResultData.TheVariants as of
 
--- the method, with its result
+-- a result as its method with that result
 abbrev pub given : ResultData → OfKind result_part
 given (of.SessionStatus result) = (SessionStatus, result)
 given (of.SessionNew result) = (SessionNew, result)
@@ -34,5 +34,6 @@ given (of.BrowserCreateUserContext result) = (BrowserCreateUserContext, result)
 given (of.BrowserGetUserContexts result) = (BrowserGetUserContexts, result)
 given (of.BrowserRemoveUserContext result) = (BrowserRemoveUserContext, result)
 
+-- the data of results, by method: the rule of the result, its trees, and the laws
 abbrev pub result_payload : PayloadOf ResultData Method
 result_payload = one_by_kind result_part given

@@ -1,4 +1,4 @@
-//! What commands ask.
+//! The data of commands: method and params.
 ghost use Rattle.std.specs.Prelude.{◌≡◌, IfOk, refl};
 ghost use Rattle.bidi_tree.specs.Outline.{outline_node};
 ghost use Rattle.bidi_tree.specs.View.{node};
@@ -11,27 +11,29 @@ use crate::method::Method;
 use crate::payload::Payload;
 use bidi_params::session::NewParameters;
 use bidi_params::{
-    ActivateParameters, CloseParameters, CreateParameters, EmptyParams, GetRealmsParameters,
-    GetTreeParameters, NavigateParameters, ReloadParameters, RemoveUserContextParameters,
-    SubscribeParameters, TraverseHistoryParameters, UnsubscribeParameters,
+    ActivateParameters, CloseParameters, CreateParameters, EmptyParams, GetTreeParameters,
+    NavigateParameters, ReloadParameters, RemoveUserContextParameters, SubscribeParameters,
+    TraverseHistoryParameters, UnsubscribeParameters,
+};
+use bidi_scripts::{
+    CallFunctionParameters, DisownParameters, EvaluateParameters, GetRealmsParameters,
 };
 use bidi_shape::{Parsed, Shape, ShapeFault};
 use bidi_tree::{Outline, Tree};
-use bidi_values::{CallFunctionParameters, DisownParameters, EvaluateParameters};
 use std::alloc::{AllocError, Global};
 
-/// What a command asks: its method, with its params, by who answers it.
-/// Match on a reference: a value of this type cannot be moved out of, since it has a `Drop` of its own.
+/// A command: its method with its params, grouped by who carries it out. Match on a reference: a value of
+/// this type cannot be moved out of, because it has its own `Drop`.
 ///
 /// After WebDriver BiDi, "Protocol".
 pub enum CommandData {
-    /// A command of the module session, which a remote end answers by itself.
+    /// A command of the session module, which a remote end carries out by itself.
     Session(SessionCommand),
-    /// A command of the modules browsingContext, script and browser, which its browser answers.
+    /// A command of the modules browsingContext, script and browser, which its browser carries out.
     Browser(BrowserCommand),
 }
 
-// Not derived, so that it is proved here alone.
+// Not derived, so that its proof is made only here.
 impl Drop for CommandData {
     fn drop(self) {
         match self {
@@ -41,24 +43,24 @@ impl Drop for CommandData {
     }
 }
 
-/// A command of the module session. The params that take most room stand in a block of their own.
+/// A command of the session module. The largest params have a block of memory of their own.
 ///
 /// After WebDriver BiDi, "The session Module".
 #[derive(Drop)]
 pub enum SessionCommand {
-    /// `session.status`, which asks without parameters.
+    /// `session.status`, which has no params.
     Status(EmptyParams),
-    /// `session.new`, with the capabilities that the session is asked to have.
+    /// `session.new`, with the capabilities that are requested.
     New(Box<NewParameters>),
-    /// `session.end`, of the session that the connection belongs to.
+    /// `session.end`, for the session that the connection belongs to.
     End(EmptyParams),
-    /// `session.subscribe`, with events, and the contexts that they are wanted of.
+    /// `session.subscribe`, with events, and the contexts or user contexts to which they are limited.
     Subscribe(Box<SubscribeParameters>),
     /// `session.unsubscribe`, with ids of subscriptions, or with events.
     Unsubscribe(UnsubscribeParameters),
 }
 
-/// A command of the browser. The params that take most room stand in a block of their own.
+/// A command of the browser. The largest params have a block of memory of their own.
 ///
 /// After WebDriver BiDi, "The browsingContext Module", "The script Module" and "The browser Module".
 #[derive(Drop)]
@@ -67,27 +69,28 @@ pub enum BrowserCommand {
     Activate(ActivateParameters),
     /// `browsingContext.close`, with a top-level context.
     Close(CloseParameters),
-    /// `browsingContext.create`, with what is opened, a tab or a window, and beside which context.
+    /// `browsingContext.create`, with whether a tab or a window is opened, and the context that it is opened
+    /// from.
     Create(CreateParameters),
-    /// `browsingContext.getTree`, with the context at the root, and the depth.
+    /// `browsingContext.getTree`, with the root context and the depth.
     GetTree(GetTreeParameters),
-    /// `browsingContext.navigate`, with a context, a URL, and how long the reply waits.
+    /// `browsingContext.navigate`, with a context, a URL, and what the reply waits for.
     Navigate(NavigateParameters),
-    /// `browsingContext.reload`, with a context, and how long the reply waits.
+    /// `browsingContext.reload`, with a context, and what the reply waits for.
     Reload(ReloadParameters),
-    /// `browsingContext.traverseHistory`, with a top-level context, and how many entries it goes.
+    /// `browsingContext.traverseHistory`, with a top-level context, and by how many entries to go.
     TraverseHistory(TraverseHistoryParameters),
     /// `script.evaluate`, with an expression, and where it is evaluated.
     Evaluate(Box<EvaluateParameters>),
     /// `script.callFunction`, with a function, its arguments, and where it is called.
     CallFunction(Box<CallFunctionParameters>),
-    /// `script.disown`, with handles, and whose they are.
+    /// `script.disown`, with handles and the realm or context that they belong to.
     Disown(Box<DisownParameters>),
-    /// `script.getRealms`, with a context and a type, where only such realms are asked for.
+    /// `script.getRealms`, with a context or a type to which the list is limited, if any.
     GetRealms(GetRealmsParameters),
-    /// `browser.createUserContext`, which asks without parameters.
+    /// `browser.createUserContext`, which has no params.
     CreateUserContext(EmptyParams),
-    /// `browser.getUserContexts`, which asks without parameters.
+    /// `browser.getUserContexts`, which has no params.
     GetUserContexts(EmptyParams),
     /// `browser.removeUserContext`, with a user context.
     RemoveUserContext(RemoveUserContextParameters),
@@ -180,8 +183,9 @@ impl Payload<Method> for CommandData {
 impl SessionCommand {
     ghost use Rattle.bidi_methods.specs.CommandData.{session_asked, asked_tree};
 
-    /// The method. Takes no memory.
+    /// The method of the command. Takes no memory.
     pub fn method(&self) -> Method
+        // The result is the method of the variant.
         ensures { result ≡ (session_asked self.now).0 }
     {
         match self {
@@ -210,8 +214,9 @@ impl SessionCommand {
 impl BrowserCommand {
     ghost use Rattle.bidi_methods.specs.CommandData.{browser_asked, asked_tree};
 
-    /// The method. Takes no memory.
+    /// The method of the command. Takes no memory.
     pub fn method(&self) -> Method
+        // The result is the method of the variant.
         ensures { result ≡ (browser_asked self.now).0 }
     {
         match self {
@@ -256,15 +261,17 @@ impl BrowserCommand {
 }
 
 impl CommandData {
-    /// The method. Takes no memory.
+    /// The method of the command. Takes no memory.
     pub fn method(&self) -> Method
+        // The result is the method of the variant.
         ensures { result ≡ ⟦<CommandData as Payload<Method>>⟧.payload.kind self.now }
     {
         self.kind()
     }
 }
 
-// Reads params that stand in a block. A function of its own, so that no room is held for them where others are read.
+// Reads params that have a block of their own. A separate function, so that no room is reserved for
+// them when others are read.
 fn read_boxed<T: Shape, S: Parsed>(alloc: Global, tree: &S) -> Result<Box<T>, ShapeFault>
     ensures ok { IfOk result (λ it. (T.shape.tree_of it.value ≡ S.tree tree.now) × T.shape.well it.value) }
     ensures no_fit { IfNoFit result (Fits (S.tree tree.now) T.shape.rule → ⊥) }
@@ -275,15 +282,18 @@ fn read_boxed<T: Shape, S: Parsed>(alloc: Global, tree: &S) -> Result<Box<T>, Sh
     }
 }
 
-/// Reads the params of a method.
+/// Reads the params of a method from a tree.
 ///
 /// # Errors
 /// - `NoFit`: the tree does not fit the rule of the method's params.
 /// - `NoMemory`: an allocation failed.
 pub fn data_of(alloc: Global, method: Method, tree: &Tree) -> Result<CommandData, ShapeFault>
+    // After an Ok, the value is a valid command of that method, and its params have the tree that
+    // was read.
     ensures ok { IfOk result (λ v. (⟦<CommandData as Payload<Method>>⟧.payload.kind v ≡ method)
         × (⟦<CommandData as Payload<Method>>⟧.payload.tree_of v ≡ node tree.now)
         × ⟦<CommandData as Payload<Method>>⟧.payload.well v) }
+    // `NoFit` comes only if the tree does not fit the rule of the method's params.
     ensures no_fit { IfNoFit result (Fits (node tree.now) (named (params_rule method)) → ⊥) }
 {
     CommandData::read(alloc, method, tree)

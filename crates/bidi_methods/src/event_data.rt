@@ -1,12 +1,12 @@
-//! What events tell.
+//! The data of events: name and params.
 ghost use Rattle.std.specs.Prelude.{◌≡◌, IfOk, refl};
 ghost use Rattle.bidi_tree.specs.View.{node};
 
 use crate::payload::Payload;
-use bidi_params::{Info, NavigationInfo, RealmDestroyedParameters, RealmInfo};
+use bidi_params::{Info, NavigationInfo};
+use bidi_scripts::{LogEntry, RealmDestroyedParameters, RealmInfo};
 use bidi_shape::{Named, Parsed, Shape, ShapeFault};
 use bidi_tree::{Outline, Tree};
-use bidi_values::LogEntry;
 use std::alloc::{AllocError, Global};
 
 /// The name of an event: its member `method`.
@@ -14,21 +14,21 @@ use std::alloc::{AllocError, Global};
 /// After WebDriver BiDi, "Protocol".
 #[derive(Clone, Copy, Debug, PartialEq, Eq)]
 pub enum EventName {
-    /// `browsingContext.contextCreated`: a context was made, or was there when the event was enabled.
+    /// `browsingContext.contextCreated`: a context was created, or existed when the event was enabled.
     ContextCreated,
-    /// `browsingContext.contextDestroyed`: a context is gone, with all below it.
+    /// `browsingContext.contextDestroyed`: a context was destroyed, with all contexts below it.
     ContextDestroyed,
-    /// `browsingContext.navigationStarted`: a context began to go to a URL, perhaps its own once more.
+    /// `browsingContext.navigationStarted`: a context began to navigate to a URL, which may be its own again.
     NavigationStarted,
     /// `browsingContext.domContentLoaded`: the new document is parsed.
     DomContentLoaded,
-    /// `browsingContext.load`: the new document is loaded, with all that it needs.
+    /// `browsingContext.load`: the new document is loaded, with everything that it needs.
     Load,
-    /// `script.realmCreated`: a realm was made, or was there when the event was enabled.
+    /// `script.realmCreated`: a realm was created, or existed when the event was enabled.
     RealmCreated,
-    /// `script.realmDestroyed`: a realm is gone, with its handles.
+    /// `script.realmDestroyed`: a realm was destroyed, with its handles.
     RealmDestroyed,
-    /// `log.entryAdded`: an entry was added to the log, or waited there when the event was enabled.
+    /// `log.entryAdded`: an entry was added to the log, or was buffered when the event was enabled.
     EntryAdded,
 }
 
@@ -64,20 +64,20 @@ impl Named for EventName {
     }
 }
 
-/// What an event tells: its name, with its params.
+/// An event: its name with its params.
 ///
 /// After WebDriver BiDi, "Protocol".
 #[derive(Drop)]
 pub enum EventData {
-    /// `browsingContext.contextCreated`, with the context, and the id of the one above it.
+    /// `browsingContext.contextCreated`, with the context and the id of its parent.
     ContextCreated(Info),
-    /// `browsingContext.contextDestroyed`, with the context and all that were below it.
+    /// `browsingContext.contextDestroyed`, with the context and all contexts that were below it.
     ContextDestroyed(Info),
-    /// `browsingContext.navigationStarted`, with the navigation and where it leads.
+    /// `browsingContext.navigationStarted`, with the navigation and its URL.
     NavigationStarted(NavigationInfo),
-    /// `browsingContext.domContentLoaded`, with the navigation that brought the document.
+    /// `browsingContext.domContentLoaded`, with the navigation that led to the document.
     DomContentLoaded(NavigationInfo),
-    /// `browsingContext.load`, with the navigation that brought the document.
+    /// `browsingContext.load`, with the navigation that led to the document.
     Load(NavigationInfo),
     /// `script.realmCreated`, with the realm, its origin and its context.
     RealmCreated(RealmInfo),
@@ -145,18 +145,20 @@ impl Payload<EventName> for EventData {
 }
 
 impl EventData {
-    /// The event's name. Takes no memory.
+    /// The name of the event. Takes no memory.
     pub fn event(&self) -> EventName
+        // The result is the name of the variant.
         ensures { result ≡ ⟦<EventData as Payload<EventName>>⟧.payload.kind self.now }
     {
         self.kind()
     }
 
-    /// Makes the tree of the params.
+    /// Makes the tree of the event's params.
     ///
     /// # Errors
     /// No memory: an allocation failed.
     pub fn tree_of(&self, alloc: Global) -> Result<Tree, AllocError>
+        // The result is the tree of the params.
         ensures { IfOk result (λ t. node t ≡ ⟦<EventData as Payload<EventName>>⟧.payload.tree_of self.now) }
     {
         self.to_tree(alloc)

@@ -6,43 +6,44 @@ use bidi_shape::Named;
 /// After WebDriver BiDi, "Protocol".
 #[derive(Clone, Copy, Debug, PartialEq, Eq)]
 pub enum Method {
-    /// `session.status`: tells whether a session can be made. It needs none itself.
+    /// `session.status`: says whether a session can be created. It needs no session.
     SessionStatus,
-    /// `session.new`: makes a session, to which the connection then belongs.
+    /// `session.new`: creates a session, and the connection becomes part of it.
     SessionNew,
     /// `session.end`: ends the session, and closes its connections.
     SessionEnd,
-    /// `session.subscribe`: enables events for the session, in all contexts or in some.
+    /// `session.subscribe`: enables events for the session, in all contexts or in some of them.
     SessionSubscribe,
     /// `session.unsubscribe`: ends subscriptions, or takes events out of the global ones.
     SessionUnsubscribe,
     /// `browsingContext.activate`: brings a top-level context to the front, which has no effect here.
     BrowsingContextActivate,
-    /// `browsingContext.close`: closes a top-level context, with all below it.
+    /// `browsingContext.close`: closes a top-level context, with all contexts below it.
     BrowsingContextClose,
     /// `browsingContext.create`: opens a top-level context.
     BrowsingContextCreate,
-    /// `browsingContext.getTree`: tells contexts, with those below them.
+    /// `browsingContext.getTree`: returns contexts with those below them.
     BrowsingContextGetTree,
-    /// `browsingContext.navigate`: leads a context to a URL.
+    /// `browsingContext.navigate`: navigates a context to a URL.
     BrowsingContextNavigate,
-    /// `browsingContext.reload`: leads a context to its present URL once more.
+    /// `browsingContext.reload`: navigates a context to its current URL again.
     BrowsingContextReload,
-    /// `browsingContext.traverseHistory`: leads a top-level context to another entry of its session history.
+    /// `browsingContext.traverseHistory`: takes a top-level context to another entry of its session history.
     BrowsingContextTraverseHistory,
     /// `script.evaluate`: evaluates an expression in a realm.
     ScriptEvaluate,
     /// `script.callFunction`: calls a function in a realm, with arguments.
     ScriptCallFunction,
-    /// `script.disown`: lets go of handles of a realm.
+    /// `script.disown`: gives up handles of a realm.
     ScriptDisown,
     /// `script.getRealms`: lists realms.
     ScriptGetRealms,
-    /// `browser.createUserContext`: makes a user context.
+    /// `browser.createUserContext`: creates a user context.
     BrowserCreateUserContext,
     /// `browser.getUserContexts`: lists user contexts.
     BrowserGetUserContexts,
-    /// `browser.removeUserContext`: removes a user context, with its top-level contexts and all below them.
+    /// `browser.removeUserContext`: removes a user context, with its top-level contexts and all contexts
+    /// below them.
     BrowserRemoveUserContext,
 }
 

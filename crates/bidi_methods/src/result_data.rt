@@ -1,4 +1,4 @@
-//! The results of commands.
+//! The data of results: method and result.
 ghost use Rattle.std.specs.Prelude.{◌≡◌, IfOk, refl};
 ghost use Rattle.bidi_tree.specs.Node as kind;
 ghost use Rattle.bidi_tree.specs.View.{node, members_node};
@@ -11,56 +11,56 @@ use crate::method::Method;
 use crate::payload::Payload;
 use bidi_params::session::NewResult;
 use bidi_params::{
-    CreateResult, EmptyResult, GetRealmsResult, GetTreeResult, GetUserContextsResult,
-    NavigateResult, StatusResult, SubscribeResult, UserContextInfo,
+    CreateResult, EmptyResult, GetTreeResult, GetUserContextsResult, NavigateResult, StatusResult,
+    SubscribeResult, UserContextInfo,
 };
+use bidi_scripts::{EvaluateResult, GetRealmsResult};
 use bidi_shape::{Parsed, Shape, ShapeFault};
 use bidi_tree::{Members, Outline, Tree, copy_members};
-use bidi_values::EvaluateResult;
 use std::alloc::{AllocError, Global};
 
-/// What a command gives: its method, with its result.
+/// The result of a command: its method with the result of that method.
 ///
 /// After WebDriver BiDi, "Protocol".
 #[derive(Drop)]
 pub enum ResultData {
-    /// Of `session.status`: whether a session can be made.
+    /// The result of `session.status`: whether a session can be created.
     SessionStatus(StatusResult),
-    /// Of `session.new`: the id and the capabilities of the session.
+    /// The result of `session.new`: the id and the capabilities of the session.
     SessionNew(NewResult),
-    /// Of `session.end`: nothing. Each connection of the session is closed then.
+    /// The result of `session.end`, which is empty. All connections of the session are closed afterwards.
     SessionEnd(EmptyResult),
-    /// Of `session.subscribe`: the id of the subscription, by which it can be ended.
+    /// The result of `session.subscribe`: the id of the subscription, which can end it.
     SessionSubscribe(SubscribeResult),
-    /// Of `session.unsubscribe`: nothing.
+    /// The result of `session.unsubscribe`, which is empty.
     SessionUnsubscribe(EmptyResult),
-    /// Of `browsingContext.activate`: nothing.
+    /// The result of `browsingContext.activate`, which is empty.
     BrowsingContextActivate(EmptyResult),
-    /// Of `browsingContext.close`: nothing.
+    /// The result of `browsingContext.close`, which is empty.
     BrowsingContextClose(EmptyResult),
-    /// Of `browsingContext.create`: the id of the new context.
+    /// The result of `browsingContext.create`: the id of the new context.
     BrowsingContextCreate(CreateResult),
-    /// Of `browsingContext.getTree`: an [`Info`](bidi_params::Info) for each root.
+    /// The result of `browsingContext.getTree`: an [`Info`](bidi_params::Info) for each root.
     BrowsingContextGetTree(GetTreeResult),
-    /// Of `browsingContext.navigate`: the id of the navigation, and the URL as it is serialised.
+    /// The result of `browsingContext.navigate`: the id of the navigation, and the serialized URL.
     BrowsingContextNavigate(NavigateResult),
-    /// Of `browsingContext.reload`: the id of the navigation, and the URL that is shown again.
+    /// The result of `browsingContext.reload`: the id of the navigation, and the URL that is loaded again.
     BrowsingContextReload(NavigateResult),
-    /// Of `browsingContext.traverseHistory`: nothing.
+    /// The result of `browsingContext.traverseHistory`, which is empty.
     BrowsingContextTraverseHistory(EmptyResult),
-    /// Of `script.evaluate`: the value of the expression, or what it threw.
+    /// The result of `script.evaluate`: the value of the expression, or what it threw.
     ScriptEvaluate(EvaluateResult),
-    /// Of `script.callFunction`: the value that the function returned, or what it threw.
+    /// The result of `script.callFunction`: the value that the function returned, or what it threw.
     ScriptCallFunction(EvaluateResult),
-    /// Of `script.disown`: nothing.
+    /// The result of `script.disown`, which is empty.
     ScriptDisown(EmptyResult),
-    /// Of `script.getRealms`: the realms.
+    /// The result of `script.getRealms`: the realms.
     ScriptGetRealms(GetRealmsResult),
-    /// Of `browser.createUserContext`: the new user context.
+    /// The result of `browser.createUserContext`: the new user context.
     BrowserCreateUserContext(UserContextInfo),
-    /// Of `browser.getUserContexts`: the user contexts, of which there is always one.
+    /// The result of `browser.getUserContexts`: the user contexts, at least one.
     BrowserGetUserContexts(GetUserContextsResult),
-    /// Of `browser.removeUserContext`: nothing.
+    /// The result of `browser.removeUserContext`, which is empty.
     BrowserRemoveUserContext(EmptyResult),
 }
 
@@ -179,6 +179,7 @@ impl Payload<Method> for ResultData {
 impl ResultData {
     /// The method of the command. Takes no memory.
     pub fn method(&self) -> Method
+        // The result is the method of the variant.
         ensures { result ≡ ⟦<ResultData as Payload<Method>>⟧.payload.kind self.now }
     {
         self.kind()
@@ -189,21 +190,25 @@ impl ResultData {
     /// # Errors
     /// No memory: an allocation failed.
     pub fn tree_of(&self, alloc: Global) -> Result<Tree, AllocError>
+        // The tree that is made is that of the result.
         ensures { IfOk result (λ t. node t ≡ ⟦<ResultData as Payload<Method>>⟧.payload.tree_of self.now) }
     {
         self.to_tree(alloc)
     }
 }
 
-/// Reads the result of a method from the members of a response's result, which are copied once.
+/// Reads the result of a method from the members of a response's result. Copies the members once.
 ///
 /// # Errors
-/// - `NoFit`: the map does not fit the rule of the method's result.
+/// - `NoFit`: the object of these members does not fit the rule of the method's result.
 /// - `NoMemory`: an allocation failed.
 pub fn result_of(alloc: Global, method: Method, members: &Members) -> Result<ResultData, ShapeFault>
+    // After an Ok, the value is a valid result of that method, and its tree is the object of these
+    // members.
     ensures ok { IfOk result (λ v. (⟦<ResultData as Payload<Method>>⟧.payload.kind v ≡ method)
         × (⟦<ResultData as Payload<Method>>⟧.payload.tree_of v ≡ kind.map (members_node members.now.entries))
         × ⟦<ResultData as Payload<Method>>⟧.payload.well v) }
+    // `NoFit` comes only if that object does not fit the rule of the method's result.
     ensures no_fit { IfNoFit result (Fits (kind.map (members_node members.now.entries)) (named (result_rule method)) → ⊥) }
 {
     let tree = Tree::Map(copy_members(members)?);

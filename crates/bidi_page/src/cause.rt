@@ -1,10 +1,10 @@
-//! The cause why a step of a page has no effect.
+//! Why a step of a page has no effect.
 ghost use Rattle.std.specs.Prelude.{◌≡◌, ◌<◌, List, IfOk, length, option_map};
-ghost use Rattle.bidi_browser.specs.Actions.{Action};
+ghost use Rattle.bidi_contexts.specs.Actions.{Action};
 ghost use Rattle.bidi_remote.specs.Machine.History.{Input, IsTakenAs};
 ghost use Rattle.bidi_remote.specs.Machine.Outcome.{deeds, page_refusal};
 ghost use Rattle.bidi_remote.specs.State.Stands.{StandsFor};
-ghost use Rattle.bidi_remote.specs.State.View.{page_of};
+ghost use Rattle.bidi_sessions.specs.View.{page_of};
 ghost use Rattle.bidi_page.specs.Causes.{cause_of};
 
 use bidi_messages::ErrorCode;
@@ -28,14 +28,14 @@ pub enum Cause {
     FullTable,
 }
 
-/// The cause why a remote end would refuse a step of a page; `None` if the step would have an effect.
+/// Finds out why a remote end would refuse a step of a page; `None` if the step would have an effect.
 ///
-/// Costs the planning of the step.
+/// Plans the step, and changes nothing.
 ///
 /// # Errors
 /// No memory: an allocation failed.
 pub fn refusal(end: &RemoteEnd, page: &PageStep) -> Result<Option<Cause>, AllocError>
-    // The cause is that of the code of the first check that fails, whatever history the end stands for.
+    // The cause is that of the first check that fails, whatever the history of the end.
     ensures { IfOk result (λ found. (a : Action) × IsTakenAs (page_of page.now) a
         × ((h : List Input) → StandsFor end.now h → length h < 1000000000
         → found ≡ option_map (cause_of (page_of page.now)) (page_refusal (deeds h) a))) }
@@ -46,7 +46,7 @@ pub fn refusal(end: &RemoteEnd, page: &PageStep) -> Result<Option<Cause>, AllocE
     }
 }
 
-// The cause of a code.
+// The cause for a code.
 fn cause_of(page: &PageStep, code: ErrorCode) -> Cause
     ensures { result ≡ cause_of (page_of page.now) code }
 {

@@ -1,12 +1,16 @@
-//! Why a line of a page has no effect, or is no line of a page.
+//! Why a line of a page has no effect, or is not a line of a page.
 //!
-//! A host answers each line of a page. Where the line did nothing, these calls find what is wrong with it, in words for the
-//! author of a test:
+//! A host answers each line of a page. If the line did nothing, these calls say why, in words for the author
+//! of a test:
 //!
-//! - [`refusal`] asks a remote end for the cause why a step of a page has no effect; [`no_effect`] says it in words.
+//! - [`refusal`] asks a remote end why a step of a page has no effect, as a [`Cause`], and [`no_effect`] says
+//!   it in words.
 //! - [`no_line`] says which word keeps a text from being a line of a page.
 //!
-//! They change nothing, and are called only after a line did nothing, so a line that has an effect costs nothing more.
+//! For the line `at 05`, `no_line` gives `"05" is no moment, a whole number from 0 to 9007199254740991`.
+//!
+//! The calls change nothing. They are made only after a line did nothing, so a line that has an effect costs
+//! nothing extra.
 #![tactic(auto)]
 
 mod cause;

@@ -1,16 +1,16 @@
 //! Which word keeps a text from being a line of a page.
 use bidi_lines::LONGEST_LINE;
 use bidi_play::{read_number, split_at_space};
+use bidi_scripts::Level;
 use bidi_shape::Named;
-use bidi_values::Level;
 use std::alloc::{AllocError, Global};
 
 /// The most bytes of a word that is quoted.
 const LONGEST_WORD: usize = 60;
 
-/// Why a text is no line of a page, in words; empty if it is one.
+/// Says why a text is not a line of a page, in words; empty if it is one.
 ///
-/// The words that a line may begin with are told, or what is wrong behind the first.
+/// The words are a list of those that a line may begin with, or say what is wrong after the first word.
 ///
 /// # Errors
 /// No memory: an allocation failed.
@@ -35,7 +35,7 @@ fn fault_alone(alloc: Global, word: &str) -> Result<String, AllocError> {
     }
 }
 
-// What is wrong with what stands behind the first word and its space.
+// What is wrong with the text after the first word and its space.
 fn fault_behind(alloc: Global, word: &str, rest: &str) -> Result<String, AllocError> {
     match word {
         "at" => match read_number(rest) {
@@ -52,7 +52,7 @@ fn fault_behind(alloc: Global, word: &str, rest: &str) -> Result<String, AllocEr
     }
 }
 
-// What is wrong with what stands behind `log `.
+// What is wrong with the text after `log `.
 fn log_fault(alloc: Global, rest: &str) -> Result<String, AllocError> {
     let Some((_, entry)) = split_at_space(rest) else {
         return fault_alone(alloc, "log");
@@ -65,7 +65,7 @@ fn log_fault(alloc: Global, rest: &str) -> Result<String, AllocError> {
     }
 }
 
-// The form of the lines that begin with a word.
+// The form of the lines that begin with this word.
 fn usage(word: &str) -> Option<&'static str> {
     match word {
         "at" => Some("at N"),
@@ -77,7 +77,7 @@ fn usage(word: &str) -> Option<&'static str> {
     }
 }
 
-// A line of a page does not begin with this word.
+// Says that a line of a page does not begin with this word.
 fn unknown(alloc: Global, word: &str) -> Result<String, AllocError> {
     wrong(
         alloc,
@@ -86,7 +86,7 @@ fn unknown(alloc: Global, word: &str) -> Result<String, AllocError> {
     )
 }
 
-// A word is not what it should be.
+// Says what a word has to be.
 fn wrong(alloc: Global, word: &str, what: &str) -> Result<String, AllocError> {
     if word.len() > LONGEST_WORD {
         return format!(in alloc; "a word of {} bytes is {what}", word.len());

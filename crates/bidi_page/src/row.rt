@@ -1,4 +1,4 @@
-//! What keeps a text from being a row of the script table.
+//! Why a text is not a row of the script table.
 use bidi_blame::{Name, Reason, blame, found_words, pointer, wanted};
 use bidi_handles::has_handle;
 use bidi_shape::MAX_BYTES;
@@ -6,7 +6,7 @@ use bidi_tree::{Outline, ReadFault, outline_parsed, parse};
 use json::{Scratch, Value};
 use std::alloc::{AllocError, Global};
 
-/// What is wrong with a text that the browser does not take as a row, in words.
+/// What is wrong with a text that the browser does not accept as a row, in words.
 ///
 /// # Errors
 /// No memory: an allocation failed.
@@ -26,7 +26,8 @@ fn value_fault(alloc: Global, value: &Value<'_>) -> Result<String, AllocError> {
     tree_fault(alloc, &row)
 }
 
-// What is wrong with the tree of a row: it does not fit the rule, or its value may not stand in the table.
+// What is wrong with the tree of a row: it does not fit the rule, or the table does not accept its
+// value.
 fn tree_fault(alloc: Global, row: &Outline<'_>) -> Result<String, AllocError> {
     match blame(alloc, row, Name::TableRow)? {
         Some(reason) => reason_words(alloc, &reason),
@@ -46,7 +47,7 @@ fn fitting_fault(row: &Outline<'_>) -> &'static str {
 // `POINTER: wants WANTS, has HAS (RULE)`, without the pointer at the row itself.
 fn reason_words(alloc: Global, reason: &Reason<'_, '_>) -> Result<String, AllocError> {
     let place = pointer(alloc, &reason.steps)?;
-    let wants = wanted(alloc, &reason.wants)?.text;
+    let wants = wanted(alloc, &reason.wants)?.text(alloc)?;
     let has = found_words(alloc, reason.found)?;
     let colon = if place.is_empty() { "" } else { ": " };
     match reason.named {

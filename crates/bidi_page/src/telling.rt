@@ -5,12 +5,12 @@ use bidi_play::read_step_text;
 use bidi_remote::{PageStep, RemoteEnd, Step};
 use std::alloc::{AllocError, Global};
 
-/// Why a line of a page has no effect on this remote end, in words; empty if it would have one.
+/// Says why a line of a page has no effect on this remote end, in words; empty if it would have one.
 ///
-/// For a row of the script table the words are those of `bidi check --why`: the place in the row, what the rule wants there
-/// and what stands there.
+/// For a row of the script table the words are those of `bidi check --why`: the place in the row, what the
+/// rule wants there, and what is there.
 ///
-/// Costs the planning of the line's step; for a row also a reading of it and the search for what does not fit.
+/// Plans the step of the line; a row is also read, and searched for what does not fit.
 ///
 /// # Errors
 /// No memory: an allocation failed.
@@ -33,7 +33,7 @@ fn page_fault(alloc: Global, end: &RemoteEnd, page: &PageStep) -> Result<String,
 }
 
 impl Cause {
-    // What it is called.
+    // The cause in words.
     fn words(self) -> &'static str {
         match self {
             Cause::UnknownContext => "unknown context",

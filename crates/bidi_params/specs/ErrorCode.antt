@@ -12,6 +12,7 @@ use Rattle.bidi_params.specs.declared.error_code.ErrorCode.TheVariants.{NoSuchUs
 use Rattle.bidi_params.specs.declared.error_code.ErrorCode.TheVariants.{UnableToCloseBrowser, UnableToSetCookie, UnableToSetFileInput}
 use Rattle.bidi_params.specs.declared.error_code.ErrorCode.TheVariants.{UnknownCommand, UnknownError, UnsupportedOperation}
 
+-- the string of each error code
 abbrev pub error_code_text : ErrorCode → List ℕ
 error_code_text InvalidArgument = codes "invalid argument"
 error_code_text InvalidSelector = codes "invalid selector"
@@ -37,7 +38,7 @@ error_code_text UnknownCommand = codes "unknown command"
 error_code_text UnknownError = codes "unknown error"
 error_code_text UnsupportedOperation = codes "unsupported operation"
 
--- the codes after the first, by their texts
+-- the error codes after the first, each with its string
 abbrev pub error_code_rest : List (Word ErrorCode)
 error_code_rest =
     word error_code_text InvalidSelector
@@ -64,7 +65,7 @@ error_code_rest =
     ∷ word error_code_text UnsupportedOperation
     ∷ []
 
--- each text names its code
+-- the string of each error code names it
 pub error_code_named : (c : ErrorCode) → value_named (word error_code_text InvalidArgument) error_code_rest (error_code_text c) ≡ Some c
 error_code_named InvalidArgument = refl
 error_code_named InvalidSelector = refl
@@ -90,6 +91,7 @@ error_code_named UnknownCommand = refl
 error_code_named UnknownError = refl
 error_code_named UnsupportedOperation = refl
 
+-- the error codes as a table of their strings
 abbrev pub error_code_words : Words ErrorCode
 error_code_words = record {
   rule = rule error_code;

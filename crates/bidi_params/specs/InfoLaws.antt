@@ -21,20 +21,20 @@ use Rattle.bidi_params.specs.InfoContent.{Content, told, Children, left_out, lis
 abbrev pub names : List (List ℕ)
 names = codes "clientWindow" ∷ codes "context" ∷ codes "originalOpener" ∷ codes "url" ∷ codes "userContext" ∷ codes "parent" ∷ []
 
--- `children`, and then the rows of the other members
+-- a row for `children`, a list or null, and then the rows of the other members
 abbrev pub rows_with : {F : Type 0} → Table F → Term → Rows
 rows_with t τ = row (codes "children") required (either (list_of 0 τ) null) (t.rows names [])
 
--- the map of the members beside `children` and these
+-- the map of these children and the members beside them
 abbrev pub info_map : {F : Type 0} → Table F → F → Node → Node
 info_map t f c = node.map (put (codes "children") c (joined (t.rows names []) (t.parts [] f) (t.others f)))
 
--- the items of the children, or null where they are left out
+-- the list of the children, or null if they are left out
 abbrev pub children_node : Option Items → Node
 children_node None = node.null
 children_node (Some ts) = node.list ts
 
--- the members beside `children`, of which the rule of an Info is made
+-- the table of the members beside `children`, and that the rule of an Info is made of it
 pub record InfoOf (F : Type 0) : Type 1 where
   pub table : Table F
   pub is_info : term_of info ≡ capped (map_of (rows_with table (rule info)) table.openness)
@@ -43,48 +43,58 @@ pub record InfoOf (F : Type 0) : Type 1 where
 -- ---- trees
 
 abbrev mutual
+  -- the tree of an Info
   pub info_tree : {F : Type 0} → InfoOf F → Content F → Node
   info_tree n (told f c) = info_map n.table f (children_tree n c)
 
+  -- the tree of the children: a list, or null if they are left out
   pub children_tree : {F : Type 0} → InfoOf F → Children F → Node
   children_tree n left_out = node.null
   children_tree n (listed is) = node.list (infos_tree n is)
 
+  -- the trees of a list of Infos
   pub infos_tree : {F : Type 0} → InfoOf F → Contents F → Items
   infos_tree n no_more = no_items
   infos_tree n (next i is) = item (info_tree n i) (infos_tree n is)
 
--- the members beside `children` are well, and no other has a known name
+-- the members beside `children` are well-formed, and no further member has a known name
 abbrev pub OwnMembersAreWell : {F : Type 0} → InfoOf F → F → Type 0
 OwnMembersAreWell n f = n.table.well f × TableWell (rows_with n.table (rule info)) n.table.openness (n.table.others f)
 
 abbrev mutual
+  -- the members of an Info and of all Infos below it are well-formed; its levels are not counted
   pub PartsAreWell : {F : Type 0} → InfoOf F → Content F → Type 0
   PartsAreWell n (told f c) = OwnMembersAreWell n f × ChildrenAreWell n c
 
+  -- the parts of each child are well-formed
   pub ChildrenAreWell : {F : Type 0} → InfoOf F → Children F → Type 0
   ChildrenAreWell n left_out = Unit {0}
   ChildrenAreWell n (listed is) = InfosAreWell n is
 
+  -- the parts of each Info of a list are well-formed
   pub InfosAreWell : {F : Type 0} → InfoOf F → Contents F → Type 0
   InfosAreWell n no_more = Unit {0}
   InfosAreWell n (next i is) = PartsAreWell n i × InfosAreWell n is
 
 abbrev mutual
+  -- both Infos have equal members and equal children
   pub Same : {F : Type 0} → InfoOf F → Content F → Content F → Type 0
   Same n (told f c) (told g d) = n.table.same f g × SameChildren n c d
 
+  -- both children are left out, or list equal Infos
   pub SameChildren : {F : Type 0} → InfoOf F → Children F → Children F → Type 0
   SameChildren n left_out left_out = Unit {0}
   SameChildren n (listed is) (listed js) = SameInfos n is js
   SameChildren n c d = ⊥
 
+  -- both lists have equal Infos in the same order
   pub SameInfos : {F : Type 0} → InfoOf F → Contents F → Contents F → Type 0
   SameInfos n no_more no_more = Unit {0}
   SameInfos n (next i is) (next j js) = Same n i j × SameInfos n is js
   SameInfos n is js = ⊥
 
--- well: each part is, and the cap holds
+-- an Info is well-formed: each part is, and its tree has at most 60 levels
+-- example: 30 Infos within each other, the innermost with an empty list and no further members, have 60 levels; 31 have 62
 pub record IsWell {F : Type 0} (n : InfoOf F) (i : Content F) : Type 0 where
   pub parts : PartsAreWell n i
   pub cap : levels (info_tree n i) ≤ 60
@@ -95,7 +105,7 @@ children_null : {ts : Items} → node.null ≡ node.list ts → ⊥
 children_null e = cc
 
 module _ {F : Type 0} (n : InfoOf F) where
-  -- what fits the rule is a map
+  -- a tree that fits the rule of Infos is a map with these rows
   pub info_inside : (t : Node) → Fits t (rule info) → Fits t (map_of (rows_with n.table (rule info)) n.table.openness)
   info_inside t f = (capped_inside (subst (Fits t) n.is_info (rule_inside f))).1
 
@@ -115,22 +125,26 @@ module _ {F : Type 0} (n : InfoOf F) where
       (x, n.table.parts_fit names [] f w.0) w.1.no_known w.1.may)))
 
   mutual
+    -- the tree of an Info with well-formed parts fits the rule, if it has at most 60 levels
     pub info_fits : (i : Content F) → PartsAreWell n i → levels (info_tree n i) ≤ 60 → Fits (info_tree n i) (rule info)
     info_fits (told f c) w h =
         let below = children_levels f (children_tree n c) in
         one_map f (children_tree n c) w.0 h (children_fit c w.1 (omega (arith, below, h)))
 
+    -- the tree of the children fits a list of Infos, or null
     pub children_fit : (c : Children F) → ChildrenAreWell n c → levels (children_tree n c) ≤ 60 → Fits (children_tree n c) (either (list_of 0 (rule info)) null)
     children_fit left_out w h = fits_second node.null (list_of 0 (rule info)) null fits_null
     children_fit (listed is) w h =
         fits_first (node.list (infos_tree n is)) (list_of 0 (rule info)) null
         (fits_list (infos_tree n is) 0 (rule info) (omega arith) (infos_fit is w (omega (arith, h))))
 
+    -- the tree of each Info of a list fits the rule
     pub infos_fit : (is : Contents F) → InfosAreWell n is → items_levels (infos_tree n is) ≤ 60 → AllFit (infos_tree n is) (rule info)
     infos_fit no_more w h = no_item (rule info)
     infos_fit (next i is) w h = an_item (info_tree n i) (infos_tree n is) (rule info) (info_fits i w.0 (omega arith)) (infos_fit is w.1 (omega arith))
 
   mutual
+    -- two Infos with the same tree are equal
     pub info_one : (i j : Content F) → PartsAreWell n i → PartsAreWell n j → info_tree n i ≡ info_tree n j → Same n i j
     info_one (told f c) (told g d) a b e =
         let rows = rows_with n.table (rule info) in
@@ -142,12 +156,14 @@ module _ {F : Type 0} (n : InfoOf F) where
         aligned : (x : F) → OwnMembersAreWell n x → Aligned (n.table.rows names []) (n.table.parts [] x)
         aligned x w = Aligned-PartsFit (n.table.rows names []) (n.table.parts [] x) (n.table.parts_fit names [] x w.0)
 
+    -- children with the same tree are equal
     pub children_one : (c d : Children F) → ChildrenAreWell n c → ChildrenAreWell n d → children_tree n c ≡ children_tree n d → SameChildren n c d
     children_one left_out left_out a b e = tt
     children_one left_out (listed js) a b e = children_null e
     children_one (listed is) left_out a b e = children_null (sym e)
     children_one (listed is) (listed js) a b e = infos_one is js a b (same_items e)
 
+    -- two lists of Infos with the same trees are equal
     pub infos_one : (is js : Contents F) → InfosAreWell n is → InfosAreWell n js → infos_tree n is ≡ infos_tree n js → SameInfos n is js
     infos_one no_more no_more a b e = tt
     infos_one no_more (next j js) a b e = cc
@@ -164,18 +180,21 @@ module _ {F : Type 0} (n : InfoOf F) where
       (no_odd-joined rows (n.table.parts [] f) (n.table.others f) n.table.deepest (n.table.whole [] f w.0) others.0)
 
   mutual
+    -- the tree of an Info has no Odd in it
     pub info_no_odd : (i : Content F) → PartsAreWell n i → has_odd (info_tree n i) ≡ false
     info_no_odd (told f c) w = map_no_odd f (children_tree n c) w.0 (children_no_odd c w.1)
 
+    -- the tree of the children has no Odd in it
     pub children_no_odd : (c : Children F) → ChildrenAreWell n c → has_odd (children_tree n c) ≡ false
     children_no_odd left_out w = refl
     children_no_odd (listed is) w = infos_no_odd is w
 
+    -- the trees of a list of Infos have no Odd in them
     pub infos_no_odd : (is : Contents F) → InfosAreWell n is → items_have_odd (infos_tree n is) ≡ false
     infos_no_odd no_more w = refl
     infos_no_odd (next i is) w = or_from (has_odd (info_tree n i)) (items_have_odd (infos_tree n is)) (info_no_odd i w.0) (infos_no_odd is w.1)
 
-  -- the shape of Infos
+  -- the shape of a type whose values have such a content: its rule, trees, well-formed values and laws
   abbrev pub info_shape : {V : Type 0} → (V → Content F) → ShapeOf V
   info_shape content = record {
     rule = rule info;

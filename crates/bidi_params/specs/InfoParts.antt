@@ -12,7 +12,7 @@ use Rattle.bidi_params.specs.InfoLaws.{InfoOf, rows_with}
 use Rattle.bidi_params.specs.InfoView.{OwnMembers, tree_of_children}
 use Rattle.bidi_params.specs.declared.browsing_context.info.Info.{Info}
 
--- clientWindow, context, originalOpener, url, userContext, ? parent, and other members
+-- the members beside `children`: clientWindow, context, originalOpener, url, userContext, ? parent, and further members
 abbrev pub info_parts : InfoOf OwnMembers
 info_parts = record {
   table = required_table string_shape (required_table string_shape (required_table (nullable_shape string_shape)
@@ -21,7 +21,7 @@ info_parts = record {
   once = refl;
 }
 
--- the map of children, these members beside them, and further members
+-- the map of children, the members beside them, and further members
 abbrev pub map_of_parts : Option (Vec Info Global) → String Global
     → String Global → Option (String Global) → String Global → String Global → Option (Option (String Global)) → Members → Node
 map_of_parts children client_window context original_opener url user_context parent ext =

@@ -24,11 +24,13 @@ impl EmptyParams {
     /// # Errors
     /// `TooDeep`: a further member has an `Odd` in it, or more than 60 levels.
     pub fn new(ext: Members) -> Result<EmptyParams, MakeFault>
+        // Memory aside, the first cause that holds is the fault; with none, the value has these parts.
         ensures made { Makes result
             (has_named (names_in (named empty_params)) (members_node ext.entries) ≡ true)
             ⊥
             (¬ MembersAreWhole (members_node ext.entries) 60)
             (λ v. others_of v.ext ≡ members_node ext.entries) }
+        // The value is well-formed, so its tree fits the type's rule.
         ensures well { IfOk result (λ v. ⟦<EmptyParams as Shape>⟧.shape.well v) }
     {
         let ext = further(ext, &[])?;
@@ -65,11 +67,13 @@ impl EmptyResult {
     /// # Errors
     /// `TooDeep`: a further member has an `Odd` in it, or more than 60 levels.
     pub fn new(ext: Members) -> Result<EmptyResult, MakeFault>
+        // Memory aside, the first cause that holds is the fault; with none, the value has these parts.
         ensures made { Makes result
             (has_named (names_in (named empty_result)) (members_node ext.entries) ≡ true)
             ⊥
             (¬ MembersAreWhole (members_node ext.entries) 60)
             (λ v. others_of v.ext ≡ members_node ext.entries) }
+        // The value is well-formed, so its tree fits the type's rule.
         ensures well { IfOk result (λ v. ⟦<EmptyResult as Shape>⟧.shape.well v) }
     {
         let ext = further(ext, &[])?;

@@ -32,11 +32,13 @@ impl UserContextInfo {
     /// - `Clash`: a further member is called `userContext`.
     /// - `TooDeep`: a further member has an `Odd` in it, or more than 60 levels.
     pub fn new(user_context: String, ext: Members) -> Result<UserContextInfo, MakeFault>
+        // Memory aside, the first cause that holds is the fault; with none, the value has these parts.
         ensures made { Makes result
             (has_named (names_in (named user_context_info)) (members_node ext.entries) ≡ true)
             ⊥
             (¬ MembersAreWhole (members_node ext.entries) 60)
             (λ v. (v.user_context ≡ user_context) × (others_of v.ext ≡ members_node ext.entries)) }
+        // The value is well-formed, so its tree fits the type's rule.
         ensures well { IfOk result (λ v. ⟦<UserContextInfo as Shape>⟧.shape.well v) }
     {
         let ext = further(ext, Self::NAMES)?;
@@ -82,12 +84,15 @@ impl GetUserContextsResult {
         user_contexts: OneOrMore<UserContextInfo>,
         ext: Members,
     ) -> Result<GetUserContextsResult, MakeFault>
+        // The user contexts are well-formed: there is at least one.
         requires user_contexts { ⟦<OneOrMore<UserContextInfo> as Shape>⟧.shape.well user_contexts }
+        // Memory aside, the first cause that holds is the fault; with none, the value has these parts.
         ensures made { Makes result
             (has_named (names_in (named get_user_contexts_result)) (members_node ext.entries) ≡ true)
             ⊥
             (¬ MembersAreWhole (members_node ext.entries) 60)
             (λ v. (v.user_contexts ≡ user_contexts) × (others_of v.ext ≡ members_node ext.entries)) }
+        // The value is well-formed, so its tree fits the type's rule.
         ensures well { IfOk result (λ v. ⟦<GetUserContextsResult as Shape>⟧.shape.well v) }
     {
         let ext = further(ext, Self::NAMES)?;
@@ -131,11 +136,13 @@ impl RemoveUserContextParameters {
     /// - `Clash`: a further member is called `userContext`.
     /// - `TooDeep`: a further member has an `Odd` in it, or more than 60 levels.
     pub fn new(user_context: String, ext: Members) -> Result<RemoveUserContextParameters, MakeFault>
+        // Memory aside, the first cause that holds is the fault; with none, the value has these parts.
         ensures made { Makes result
             (has_named (names_in (named remove_user_context_parameters)) (members_node ext.entries) ≡ true)
             ⊥
             (¬ MembersAreWhole (members_node ext.entries) 60)
             (λ v. (v.user_context ≡ user_context) × (others_of v.ext ≡ members_node ext.entries)) }
+        // The value is well-formed, so its tree fits the type's rule.
         ensures well { IfOk result (λ v. ⟦<RemoveUserContextParameters as Shape>⟧.shape.well v) }
     {
         let ext = further(ext, Self::NAMES)?;

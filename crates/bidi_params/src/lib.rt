@@ -1,17 +1,23 @@
 //! The parameters and results of the commands, the parameters of the events, and the error codes.
 //!
-//! A folder or a file for each module of the protocol. The commands whose parameters bear values of a script stand with
-//! those, in `bidi_values`. Each type is a [`Shape`](bidi_shape::Shape): its values are the trees that fit
-//! its rule. A type that takes further members has a constructor, which refuses the parts that are no value of it.
-//! All stand at the root, but for [`session::NewParameters`] and [`session::NewResult`], whose names say what they are of
-//! only beside their module.
+//! # Parts
+//! - The `session`, `browser` and `browsingContext` modules of the protocol: a file or a folder each. The `script` and
+//!   `log` modules are in `bidi_scripts`.
+//! - [`EmptyParams`] and [`EmptyResult`], of the commands that have none of their own.
+//! - [`ErrorCode`], why a command was refused.
+//!
+//! All types stand at the root, except [`session::NewParameters`] and [`session::NewResult`]: their names are clear only
+//! beside the name of their module.
+//!
+//! # Values of the types
+//! Each type is a [`Shape`](bidi_shape::Shape): its values are the trees that fit its rule. A type with further members
+//! has a constructor, which refuses the parts that are no value of it.
 #![tactic(auto)]
 
 mod base;
 mod browser;
 mod browsing_context;
 mod error_code;
-mod script;
 pub mod session;
 
 pub use base::{EmptyParams, EmptyResult};
@@ -22,9 +28,6 @@ pub use browsing_context::{
     ReloadParameters, TraverseHistoryParameters, Wait,
 };
 pub use error_code::ErrorCode;
-pub use script::{
-    GetRealmsParameters, GetRealmsResult, RealmDestroyedParameters, RealmInfo, RealmType,
-};
 pub use session::{
     Capabilities, CapabilitiesRequest, CapabilityRequest, StatusResult, SubscribeParameters,
     SubscribeResult, UnsubscribeByEvents, UnsubscribeById, UnsubscribeParameters,

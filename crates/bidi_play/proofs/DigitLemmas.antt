@@ -1,4 +1,4 @@
--- The digits of a number: they hold no space, and have no plus sign or zeros before them.
+-- The digits of a number have no space, no plus sign and no leading zeros.
 use Rattle.std.proofs.Common.{◌≡◌, ◌≢◌, ℕ, zero, suc, ◌+◌, ◌%◌, ◌<◌, ◌^◌, ◌&&◌, ◌||◌, Bool, true, false, List, [], ◌∷◌, length, get_or, Result, Ok, Err, ◌∙◌, sym, ap, arith}
 use Rattle.std.specs.Prelude.{◌==◌, decimal, nat_lt, slice_index}
 use Rattle.std.specs.List.{list_any}

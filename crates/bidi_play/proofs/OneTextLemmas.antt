@@ -1,4 +1,4 @@
--- The play of some bytes writes one text, since a text has one verdict.
+-- A play of the same bytes writes the same text, because a text has one verdict.
 use Rattle.std.proofs.Common.{◌≡◌, ℕ, Option, List, [], ◌∷◌, ◌++◌, reverse, append_assoc, refl, sym, ◌∙◌, ap, subst}
 use Rattle.std.proofs.lemmas.Grind.{flat_map-append}
 use Rattle.bidi_tree.specs.Node.{Node}
@@ -6,11 +6,11 @@ use Rattle.bidi_shape.specs.Name.{table_row}
 use Rattle.bidi_shape.specs.Term.{rule}
 use Rattle.bidi_shape.specs.Fits.{Fits}
 use Rattle.bidi_shape.specs.Table.{same_some}
-use Rattle.bidi_browser.specs.Actions.{Action, TableRow}
+use Rattle.bidi_contexts.specs.Actions.{Action, TableRow}
 use Rattle.bidi_messages.specs.Verdict.{Verdict, IsVerdict}
 use Rattle.bidi_messages.proofs.VerdictLemmas.{one_verdict}
-use Rattle.bidi_remote.specs.Machine.Step as step
-use Rattle.bidi_remote.specs.Machine.Step.{Step}
+use Rattle.bidi_sessions.specs.Step as step
+use Rattle.bidi_sessions.specs.Step.{Step}
 use Rattle.bidi_remote.specs.Machine.History.{Input, Heard, OfPage, IsRow, is_row, is_not_json, is_no_row, IsTakenAs, IsHeardAs, AreHeardAs}
 use Rattle.bidi_remote.specs.Machine.Sent.{Sent, answers, answers_after}
 use Rattle.bidi_lines.specs.Feeds.{ended}
@@ -79,7 +79,7 @@ one_text one bytes text other (steps, rest, p, none) (others, end, q, end_none) 
     let heard = subst (λ (ss : List Step). AreHeardAs ss q.inputs) (sym same) q.heard in
     p.answer ∙ (ap (λ (is : List Input). written (answers is)) (one_inputs one steps p.inputs q.inputs p.heard heard) ∙ sym q.answer)
 
--- what was written for some of its lines is a beginning of it
+-- the text for some of its lines is a beginning of it
 pub begins_text : OneVerdict → (bytes wrote text : List ℕ) → PlaysPart bytes wrote → Plays bytes text → (more : List ℕ) × (text ≡ wrote ++ more)
 begins_text one bytes wrote text (steps, rest, whole, more, p, e) (all, end, q, none) =
     let front = front_steps steps all rest end p.each q.each (sym p.lines ∙ q.lines) none in

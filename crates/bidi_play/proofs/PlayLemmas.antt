@@ -1,13 +1,13 @@
--- One more line of a play, and why a play stops.
+-- Playing one more line, and stopping.
 use Rattle.std.proofs.Common.{◌≡◌, ℕ, ◌+◌, ◌<◌, Bool, List, [], ◌∷◌, ◌++◌, length, map, reverse}
 use Rattle.std.proofs.Common.{append-nil, length-append, arith, refl, sym, ◌∙◌, ap, subst}
 use Rattle.std.proofs.lemmas.Grind.{flat_map-append}
 use Rattle.std.proofs.lemmas.List.{reverse-append, map-append, length-map}
 use Rattle.bidi_remote.specs.declared.remote_end.RemoteEnd.{RemoteEnd}
-use Rattle.bidi_remote.specs.Machine.Step.{Step}
+use Rattle.bidi_sessions.specs.Step.{Step}
 use Rattle.bidi_remote.specs.Machine.History.{Input, IsHeardAs}
 use Rattle.bidi_remote.specs.Machine.Sent.{Sent, answers, out}
-use Rattle.bidi_remote.specs.State.Messages.{AllReadBack}
+use Rattle.bidi_remote.specs.Machine.Messages.{AllReadBack}
 use Rattle.bidi_remote.specs.State.Stands.{StandsFor}
 use Rattle.bidi_remote.proofs.AnswerLemmas.{answers_more}
 use Rattle.bidi_remote.proofs.HeardLemmas.{heard_more}
@@ -22,6 +22,7 @@ use Rattle.bidi_play.specs.Lines.{line_of, said, CanBeSaid, written, sent_line}
 use Rattle.bidi_play.specs.Plays.{Play, PlaysAll, HasNoPlayLine, StopsAt, play_fault_of}
 use Rattle.bidi_play.specs.Players.{HasPlayed, SaysNoStep, player_answers}
 use Rattle.bidi_play.specs.declared.playing.Player.{Player}
+use Rattle.bidi_sessions.specs.Limits.{most_steps}
 
 -- more that is sent reads back
 read_more : (xs ys : List Sent) → AllReadBack xs → AllReadBack ys → AllReadBack (xs ++ ys)
@@ -37,14 +38,14 @@ said-joined (s ∷ steps) = ap (λ (z : List ℕ). ended (line_of s) ++ z) (said
 pub length-said : (lines : List (List ℕ)) (steps : List Step) → lines ≡ map line_of steps → length lines ≡ length steps
 length-said lines steps e = ap length e ∙ length-map steps line_of
 
--- lines that say steps are what was read, but for the rest
+-- the bytes that were read are the lines of steps, except for the rest
 pub said_front : (read rest : List ℕ) (lines : List (List ℕ)) (steps : List Step)
     → BeginsWith read lines rest → lines ≡ map line_of steps → read ≡ said steps ++ rest
 said_front read rest lines steps b say = b.front ∙ ap (λ (z : List ℕ). z ++ rest) (ap joined say ∙ said-joined steps)
 
 -- a line more that is played
 pub played_more : (end after : RemoteEnd) (lines : List (List ℕ)) (line text sent : List ℕ) (s : Step) (i : Input) (p : HasPlayed end lines text)
-    → line ≡ line_of s → CanBeSaid s → IsHeardAs s i → length p.steps < 1000000000
+    → line ≡ line_of s → CanBeSaid s → IsHeardAs s i → length p.steps < most_steps
     → sent ≡ written (out (reverse p.inputs) i) → AllReadBack (out (reverse p.inputs) i) → StandsFor after (i ∷ reverse p.inputs)
     → HasPlayed after (lines ++ line ∷ []) (text ++ sent)
 played_more end after lines line text sent s i p is can heard short wrote reads stands =
@@ -63,7 +64,7 @@ played_more end after lines line text sent s i p is can heard short wrote reads 
       few = omega (arith, long, short);
     }
 
--- what was played of what was read
+-- the steps that were played from the bytes that were read
 play_of : (end : RemoteEnd) (read rest text : List ℕ) (lines : List (List ℕ)) → BeginsWith read lines rest → (p : HasPlayed end lines text) → Play read p.steps rest text
 play_of end read rest text lines b p = record {
   lines = said_front read rest lines p.steps b p.say;
@@ -78,13 +79,13 @@ play_of end read rest text lines b p = record {
 pub plays_all : (end : RemoteEnd) (most : ℕ) (read wrote : List ℕ) → lines.AnswersAll (HasPlayed end) most read wrote → PlaysAll read wrote
 plays_all end most read wrote (lines, b, p, few) = (p.steps, play_of end read [] wrote lines b p)
 
--- where the line at the front is that of no step, no step's line stands there
+-- if the first line is not that of any step, the bytes do not begin with a play line
 pub no_play_line : (rest : List ℕ) → LineIs SaysNoStep rest → HasNoPlayLine rest
 no_play_line rest none s more can e = none (line_of s) more (record { one_line = can.one_line; short = can.short }) e s can refl
 
 -- a fault of its lines stops a play
 pub play_stop : (first : Player) (f : LinesFault) (most : ℕ) (at_end : Bool) (read wrote : List ℕ)
-    → 1000000000 < most → lines.StopsAt player_answers first most f at_end read wrote → StopsAt (play_fault_of f) at_end read wrote
+    → most_steps < most → lines.StopsAt player_answers first most f at_end read wrote → StopsAt (play_fault_of f) at_end read wrote
 play_stop first fault.Read most at_end read wrote many (t, lines, rest, b, p, fits, is) = (p.steps, rest, play_of t.end read rest wrote lines b p, is)
 play_stop first (fault.BadLine n) most at_end read wrote many (t, lines, rest, b, p, fits, (has, none, counted)) = (
   p.steps,

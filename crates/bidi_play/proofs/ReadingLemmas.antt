@@ -1,12 +1,12 @@
--- Bytes say one list of steps.
+-- Bytes are the lines of at most one list of steps.
 use Rattle.std.proofs.Common.{◌≡◌, ℕ, ◌<◌, ◌^◌, Bool, true, false, true≢false, List, [], ◌∷◌, ◌++◌, drop, append_assoc, refl, sym, ◌∙◌, ap, ap₂, arith}
 use Rattle.std.specs.Prelude.{◌==◌, decimal, codes}
 use Rattle.std.proofs.lemmas.Bool.Decides.{nat_tests}
 use Rattle.std.specs.List.{AllByRecursion, list_any}
 use Rattle.std.proofs.lemmas.Fmt.{decimal_injective}
-use Rattle.bidi_values.specs.Level.{level_text}
-use Rattle.bidi_values.specs.declared.log_entry.Level.{Level}
-use Rattle.bidi_remote.specs.Machine.Step.{Step, PageStep, At, Open, Drop, Text, NotText, Page, Frame, Unframe, Log, TableRow}
+use Rattle.bidi_scripts.specs.Level.{level_text}
+use Rattle.bidi_scripts.specs.declared.log_entry.Level.{Level}
+use Rattle.bidi_sessions.specs.Step.{Step, PageStep, At, Open, Drop, Text, NotText, Page, Frame, Unframe, Log, TableRow}
 use Rattle.bidi_lines.specs.Feeds.{ended}
 use Rattle.bidi_play.specs.Lines.{line_of, said, IsContext, IsSayable, CanBeSaid}
 use Rattle.bidi_play.specs.Plays.{HasNoPlayLine}
@@ -22,17 +22,17 @@ first (b ∷ bs) = b
 apart : (a b : ℕ) → a ≡ b → (a == b) ≡ false → ⊥
 apart a b e f = no_truth (grind (arith, nat_tests))
 
--- a number and a text behind it are determined
+-- a number and the text after it are determined
 numbered : (c d : ℕ) (text other : List ℕ) → c < 2 ^ 53 → d < 2 ^ 53 → decimal c ++ 32 ∷ text ≡ decimal d ++ 32 ∷ other → (c ≡ d) × (text ≡ other)
 numbered c d text other a b e =
     let h = one_front 32 (decimal c) text (decimal d) other (no_space c (omega arith)) (no_space d (omega arith)) e in
     (decimal_injective c d (omega arith) (omega arith) h.0, h.1)
 
--- a context and a text behind it are determined
+-- a context and the text after it are determined
 named : (context id url other : List ℕ) → IsContext context → IsContext id → context ++ 32 ∷ url ≡ id ++ 32 ∷ other → (context ≡ id) × (url ≡ other)
 named context id url other a b e = one_front 32 context url id other a.1 b.1 e
 
--- a context, a level and a text behind it are determined
+-- a context, a level and the text after them are determined
 logged : (context id : List ℕ) (level grave : Level) (text other : List ℕ) → IsContext context → IsContext id
     → context ++ 32 ∷ level_text level ++ 32 ∷ text ≡ id ++ 32 ∷ level_text grave ++ 32 ∷ other → (context ≡ id) × (level ≡ grave) × (text ≡ other)
 logged context id level grave text other a b e =
@@ -82,7 +82,7 @@ one_step (Page page) t a b e = absurd (of_page page (first (line_of t)) (ap firs
 one_step s (Page page) a b e = absurd (of_page page (first (line_of s)) (sym (ap first e)) refl)
 one_step s t a b e = absurd (apart (first (line_of s)) (first (line_of t)) (ap first e) refl)
 
--- the first line, and what is behind it
+-- the first line, and the bytes after it
 first_line : (s t : Step) (more other : List ℕ) → CanBeSaid s → CanBeSaid t → ended (line_of s) ++ more ≡ ended (line_of t) ++ other → (s ≡ t) × (more ≡ other)
 first_line s t more other a b e =
     let h = one_front 10 (line_of s) more (line_of t) other a.one_line b.one_line

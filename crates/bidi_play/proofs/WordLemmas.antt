@@ -2,12 +2,12 @@
 use Rattle.std.proofs.Common.{◌≡◌, ℕ, false, List, ◌∷◌, ◌++◌, refl}
 use Rattle.std.specs.Prelude.{◌==◌, decimal, codes}
 use Rattle.std.specs.List.{list_any}
-use Rattle.bidi_values.specs.Level.{level_text}
-use Rattle.bidi_remote.specs.Machine.Step.{Step}
-use Rattle.bidi_remote.specs.Machine.Step as step
+use Rattle.bidi_scripts.specs.Level.{level_text}
+use Rattle.bidi_sessions.specs.Step.{Step}
+use Rattle.bidi_sessions.specs.Step as step
 use Rattle.bidi_play.specs.Lines.{line_of}
 
--- what a search for the first space answers
+-- the answer of a search for the first space
 abbrev pub Splits : List ℕ → (List ℕ → List ℕ → Type 0) → Type 0
 Splits line Parts = (xs ys : List ℕ) → line ≡ xs ++ 32 ∷ ys → list_any (λ b. b == 32) xs ≡ false → Parts xs ys
 
@@ -18,7 +18,7 @@ page_word (step.Unframe context) = codes "unframe"
 page_word (step.Log context level text) = codes "log"
 page_word (step.TableRow text) = codes "value"
 
--- what stands behind its word
+-- the text after its word
 abbrev pub page_rest : step.PageStep → List ℕ
 page_rest (step.Frame context url) = context ++ 32 ∷ url
 page_rest (step.Unframe context) = context

@@ -1,25 +1,26 @@
--- What a remote end has done that answers play lines one by one.
+-- A remote end that answers play lines one by one. Defined by this project.
 use Rattle.std.specs.Prelude.{◌≡◌, ℕ, ◌≤◌, List, length, map, reverse}
 use Rattle.std.specs.List.{AllByRecursion}
 use Rattle.bidi_lines.specs.Answering.{AnswersOf}
 use Rattle.bidi_remote.specs.declared.remote_end.RemoteEnd.{RemoteEnd}
-use Rattle.bidi_remote.specs.Machine.Step.{Step}
+use Rattle.bidi_sessions.specs.Step.{Step}
 use Rattle.bidi_remote.specs.Machine.History.{Input, AreHeardAs}
 use Rattle.bidi_remote.specs.Machine.Sent.{answers}
-use Rattle.bidi_remote.specs.State.Messages.{AllReadBack}
+use Rattle.bidi_remote.specs.Machine.Messages.{AllReadBack}
 use Rattle.bidi_remote.specs.State.Stands.{StandsFor}
 use Rattle.bidi_play.specs.Lines.{line_of, CanBeSaid, written}
 use Rattle.bidi_play.specs.declared.playing.Player.{Player}
+use Rattle.bidi_sessions.specs.Limits.{most_steps}
 
 -- the line is that of a step
 abbrev pub SaysAStep : List ℕ → Type 0
 SaysAStep line = (s : Step) × CanBeSaid s × (line ≡ line_of s)
 
--- the line is that of no step
+-- the line is not that of any step
 abbrev pub SaysNoStep : List ℕ → Type 0
 SaysNoStep line = (s : Step) → CanBeSaid s → line ≡ line_of s → ⊥
 
--- The end has taken the steps that these lines say, and the text is the lines of what the machine answers to them.
+-- the end has taken the steps of these lines, and the text has the lines of what the machine sends for them; each message reads back
 pub record HasPlayed (end : RemoteEnd) (lines : List (List ℕ)) (text : List ℕ) : Type 0 where
   pub steps : List Step
   pub say : lines ≡ map line_of steps
@@ -29,12 +30,12 @@ pub record HasPlayed (end : RemoteEnd) (lines : List (List ℕ)) (text : List �
   pub answer : text ≡ written (answers inputs)
   pub reads_back : AllReadBack (answers inputs)
   pub stands : StandsFor end (reverse inputs)
-  pub few : length steps ≤ 1000000000
+  pub few : length steps ≤ most_steps
 
--- a player answers play lines, refuses all others, and takes 1,000,000,000
+-- the answers of a player: it answers play lines, refuses all other lines, and takes 1,000,000,000 lines
 abbrev pub player_answers : AnswersOf Player
 player_answers = record {
   has_answered = λ first player lines text. HasPlayed player.end lines text;
   refuses = SaysNoStep;
-  is_worn_out = λ lines line. (length lines ≡ 1000000000) × SaysAStep line;
+  is_worn_out = λ lines line. (length lines ≡ most_steps) × SaysAStep line;
 }

@@ -2,29 +2,33 @@
 ghost use Rattle.std.specs.Prelude.{◌≡◌, ℕ, ◌<◌, ◌≤◌, ◌^◌, ◌==◌, ◌&&◌, ◌||◌, ◌↔◌, nat_lt, slice_index, List, [], ◌∷◌, ◌++◌, true, false, map, length};
 ghost use Rattle.std.specs.Prelude.{decimal, string_bytes, IsTrue, IfOk, OnOk, IfSome, IfNone, IsSomeAnd, position};
 ghost use Rattle.std.specs.List.{list_any};
-ghost use Rattle.bidi_values.specs.Level.{level_text};
-ghost use Rattle.bidi_remote.specs.Machine.Step as play;
-ghost use Rattle.bidi_remote.specs.State.View.{step_of, sent_of};
+ghost use Rattle.bidi_scripts.specs.Level.{level_text};
+ghost use Rattle.bidi_sessions.specs.Step as play;
+ghost use Rattle.bidi_sessions.specs.View.{step_of, sent_of};
 ghost use Rattle.bidi_lines.specs.Feeds.{has_feed, ended};
 ghost use Rattle.bidi_play.specs.Lines.{line_of, IsContext, IsSayable, CanBeSaid, sent_line, written};
 
 use bidi_lines::LONGEST_LINE;
 use bidi_remote::{PageStep, Sent, Step};
+use bidi_scripts::Level;
 use bidi_shape::Named;
 use bidi_tree::JsUint;
-use bidi_values::Level;
 use std::alloc::{AllocError, Global};
 
-/// The bytes of the longest line that a play writes, but for a text in it: `opened`, the greatest js-uint, and the line feed.
+/// The most bytes of a line that a play writes, apart from a text in it: `opened`, the greatest js-uint, and
+/// the line feed.
 const LONGEST_WORDS: usize = 24;
 
-/// Reads a line as a step; `None` where it is no play line.
+/// Reads a line as a step; `None` if it is not a play line.
 ///
 /// # Errors
 /// No memory: an allocation failed.
 pub fn read_step(alloc: Global, line: &[u8]) -> Result<Option<Step>, AllocError>
+    // The line is given without its line feed, and has no other.
     requires { has_feed line.now ≡ false }
+    // If there is a step, a play can have it, and the line is that of the step.
     ensures some { IfOk result (λ found. IfSome found (λ step. CanBeSaid (step_of step) × (line.now ≡ line_of (step_of step)))) }
+    // `None` comes only if the line is not that of any step.
     ensures none { IfOk result (λ found. IfNone found ((s : play.Step) → CanBeSaid s → line.now ≡ line_of s → ⊥)) }
 {
     if line.len() > LONGEST_LINE {
@@ -36,12 +40,14 @@ pub fn read_step(alloc: Global, line: &[u8]) -> Result<Option<Step>, AllocError>
     }
 }
 
-/// Reads the text of a play line as a step; `None` where it is none. The text may have any length.
+/// Reads a text as a step; `None` if it is not the line of one. The text may have any length.
 ///
 /// # Errors
 /// No memory: an allocation failed.
 pub fn read_step_text(alloc: Global, line: &str) -> Result<Option<Step>, AllocError>
+    // If there is a step, its fields fit on a line, and the text is the line of the step.
     ensures some { IfOk result (λ found. IfSome found (λ step. IsSayable (step_of step) × (line.now ≡ line_of (step_of step)))) }
+    // `None` comes only if the text is not the line of any step whose fields fit.
     ensures none { IfOk result (λ found. IfNone found ((s : play.Step) → IsSayable s → line.now ≡ line_of s → ⊥)) }
 {
     let Some((word, rest)) = split_at_space(line) else {
@@ -87,7 +93,7 @@ pub fn read_step_text(alloc: Global, line: &str) -> Result<Option<Step>, AllocEr
     }
 }
 
-// Reads a number, and the text behind the first space.
+// Reads a number, and the text after the first space.
 fn read_number_and_text(alloc: Global, rest: &str) -> Result<Option<(JsUint, String)>, AllocError>
     ensures some { IfOk result (λ found. IfSome found (λ x. rest.now ≡ decimal x.0.value ++ 32 ∷ string_bytes x.1)) }
     ensures none { IfOk result (λ found. IfNone found ((n : ℕ) (text : List ℕ) → n < 2 ^ 53 → rest.now ≡ decimal n ++ 32 ∷ text → ⊥)) }
@@ -101,7 +107,7 @@ fn read_number_and_text(alloc: Global, rest: &str) -> Result<Option<(JsUint, Str
     }
 }
 
-// Reads a context's id, and the text behind the first space.
+// Reads a context's id, and the text after the first space.
 fn read_context_and_text(alloc: Global, rest: &str) -> Result<Option<(String, String)>, AllocError>
     ensures some { IfOk result (λ found. IfSome found (λ x. IsContext (string_bytes x.0) × (rest.now ≡ string_bytes x.0 ++ 32 ∷ string_bytes x.1))) }
     ensures none { IfOk result (λ found. IfNone found ((context text : List ℕ) → IsContext context → rest.now ≡ context ++ 32 ∷ text → ⊥)) }
@@ -115,7 +121,7 @@ fn read_context_and_text(alloc: Global, rest: &str) -> Result<Option<(String, St
     }
 }
 
-// Reads a context's id, a level behind the first space, and the text behind the next.
+// Reads a context's id, a level after the first space, and the text after the next.
 fn read_entry(alloc: Global, rest: &str) -> Result<Option<(String, Level, String)>, AllocError>
     ensures some { IfOk result (λ found.
         IfSome found (λ x. IsContext (string_bytes x.0) × (rest.now ≡ string_bytes x.0 ++ 32 ∷ level_text x.1 ++ 32 ∷ string_bytes x.2))) }
@@ -134,7 +140,7 @@ fn read_entry(alloc: Global, rest: &str) -> Result<Option<(String, Level, String
     }
 }
 
-// Reads a level, and the text behind the first space.
+// Reads a level, and the text after the first space.
 fn level_and_text(rest: &str) -> Option<(Level, &str)>
     ensures some { IfSome result (λ x. rest.now ≡ level_text x.0 ++ 32 ∷ x.1.now) }
     ensures none { IfNone result ((level : Level) (text : List ℕ) → rest.now ≡ level_text level ++ 32 ∷ text → ⊥) }
@@ -155,16 +161,18 @@ fn read_context(alloc: Global, text: &str) -> Result<Option<String>, AllocError>
     Ok(Some(String::from_str(alloc, text)?))
 }
 
-// Whether a space stands in a text.
+// Whether a text has a space in it.
 fn has_space(text: &str) -> bool
     ensures { result ≡ list_any (λ b. b == 32) text.now }
 {
     text.as_bytes().iter().any(|b| *b == b' ')
 }
 
-/// Reads a js-uint in decimal, without sign or leading zeros; `None` for any other text. Takes no memory.
+/// Reads a js-uint in decimal, without sign or leading zeros. Takes no memory.
 pub fn read_number(text: &str) -> Option<JsUint>
+    // If there is a number, the text is that number in decimal.
     ensures some { IfSome result (λ n. text.now ≡ decimal n.value) }
+    // `None` comes only if the text is not a js-uint in that form.
     ensures none { IfNone result ((n : ℕ) → n < 2 ^ 53 → text.now ≡ decimal n → ⊥) }
 {
     if has_plus_or_zeros(text) {
@@ -176,16 +184,18 @@ pub fn read_number(text: &str) -> Option<JsUint>
     JsUint::new(n)
 }
 
-// Whether a number has a plus sign or leading zeros, which `parse` takes.
+// Whether a number has a plus sign or leading zeros, which `parse` accepts.
 fn has_plus_or_zeros(text: &str) -> bool
     ensures { result ≡ ((slice_index text.now 0 == 43) || ((slice_index text.now 0 == 48) && nat_lt 1 (length text.now))) }
 {
     text.starts_with('+') || text.starts_with('0') && text.len() > 1
 }
 
-/// The text before the first space, and the text behind it; `None` where there is no space.
+/// Splits a text at its first space; `None` if it has none.
 pub fn split_at_space(text: &str) -> Option<(&str, &str)>
+    // If there are two parts, the text is the first, a space, and the second.
     ensures some { IfSome result (λ x. text.now ≡ x.0.now ++ 32 ∷ x.1.now) }
+    // If the text has a space, the split is at the first one.
     ensures first { (xs ys : List ℕ) → text.now ≡ xs ++ 32 ∷ ys → list_any (λ b. b == 32) xs ≡ false
         → IsSomeAnd result (λ x. (x.0.now ≡ xs) × (x.1.now ≡ ys)) }
 {
@@ -194,16 +204,18 @@ pub fn split_at_space(text: &str) -> Option<(&str, &str)>
 
 /// Whether two texts are equal.
 pub fn is_same_text(text: &str, other: &str) -> bool
+    // The result is true exactly if both have the same bytes.
     ensures { IsTrue result ↔ (text.now ≡ other.now) }
 {
     text == other
 }
 
-/// The lines that a play writes for what is sent, each with its line feed. Costs one allocation.
+/// Makes the lines that a play writes for what is sent. Takes one allocation.
 ///
 /// # Errors
 /// No memory: an allocation failed.
 pub fn lines_of(alloc: Global, all: Vec<Sent>) -> Result<Vec<u8>, AllocError>
+    // The result has the line of each thing that is sent, in order, with its line feed.
     ensures { IfOk result (λ lines. lines.items ≡ written (map sent_of all.items)) }
 {
     let mut lines = String::with_capacity(alloc, room_for(&all))?;
@@ -213,7 +225,7 @@ pub fn lines_of(alloc: Global, all: Vec<Sent>) -> Result<Vec<u8>, AllocError>
     Ok(lines.into_bytes())
 }
 
-// Bytes that hold the lines of what is sent.
+// A number of bytes that is enough for the lines of what is sent.
 fn room_for(all: &[Sent]) -> usize {
     let mut room: usize = 0;
     for sent in all {
@@ -226,7 +238,7 @@ fn room_for(all: &[Sent]) -> usize {
     room
 }
 
-// Adds the line that a play writes for one thing that is sent, with its line feed.
+// Adds the line for one thing that is sent, with its line feed.
 fn push_line(lines: &mut String, sent: &Sent) -> Result<(), AllocError>
     ensures { OnOk result (string_bytes lines.new ≡ string_bytes lines.old ++ ended (sent_line (sent_of sent.now))) }
 {

@@ -12,20 +12,20 @@ use bidi_remote::{RemoteEnd, RemoteFault};
 use std::alloc::{AllocError, Global};
 use thiserror::Error;
 
-/// Why a play stopped before its end. What was written is a beginning of the text of the lines before. The
-/// remote end is gone, so a play can only be started anew.
+/// Why a play stopped before its end. The output is a beginning of the text for the lines before. The remote
+/// end is gone, so the play can only be started again.
 #[derive(Clone, Copy, Debug, PartialEq, Eq, Error)]
 pub enum PlayFault {
     /// A read of the source failed. All whole lines that were read are played.
     #[error("input cannot be read")]
     Read,
-    /// A write of the sink failed. The output of the line that was played last may be written in part.
+    /// A write of the sink failed. The output of the line that was played last may be partly written.
     #[error("output cannot be written")]
     Write,
-    /// The line of this number, counted from 1, is no play line. Mend it, and play again.
+    /// The line of this number, counted from 1, is not a play line. Fix it, and play again.
     #[error("line {0} is no play line")]
     BadLine(u64),
-    /// An allocation failed. Nothing is written for the line at hand.
+    /// An allocation failed. Nothing is written for the current line.
     #[error("out of memory")]
     NoMemory,
     /// The play has more than 1,000,000,000 lines, and the remote end takes no more steps. Split the play.
@@ -63,35 +63,37 @@ impl From<LinesFault> for PlayFault {
     }
 }
 
-/// Plays the lines of the source, and writes what is sent for each line, in order, to the sink.
+/// Plays the lines of the source, and writes what the remote end sends for each line, in order, to the sink.
 ///
-/// What a step sends is written before the next line is taken, so a client can talk to a play. Memory holds
-/// one line and the texts of one step, beside the remote end; time grows with the bytes that are read and
-/// written.
+/// What a step sends is written before the next line is read, so a client can talk to a play. Memory holds
+/// one line and what one step sends, in addition to the remote end. Time grows with the bytes that are read
+/// and written.
 ///
 /// # Errors
 /// The first of these in the order of the input ends the play:
 /// 1. `Read`: a read of the source failed, after the whole lines before.
 /// 2. `Write`: a write of the sink failed.
-/// 3. `BadLine`: a line is no play line.
+/// 3. `BadLine`: a line is not a play line.
 /// 4. `NoMemory`: an allocation failed.
-/// 5. `WornOut`: a play line stands behind 1,000,000,000 others.
+/// 5. `WornOut`: a play line comes after 1,000,000,000 others.
 pub fn play<R: Source, W: Sink>(
     alloc: Global,
     source: &mut R,
     sink: &mut W,
 ) -> Result<(), PlayFault>
-    // All that the source had was play lines, and their whole text was written.
+    // After an Ok, the source gave play lines only, and the whole text for them was written.
     ensures ok { OnOk result (Moves (R.left source.old) (R.left source.new) (W.contents sink.old) (W.contents sink.new) PlaysAll) }
+    // After an Ok, the source has ended, and none of its bytes is left.
     ensures end { OnOk result (IsTrue (R.has_ended source.new) × IsAtEnd (R.left source.new)) }
 
-    // A fault says what was read and written before it.
+    // A fault says which lines were played and written before it, and why the next was not.
     ensures err { IfErr result (λ fault. Moves (R.left source.old) (R.left source.new) (W.contents sink.old) (W.contents sink.new)
         (StopsAt fault (R.has_ended source.new))) }
 
-    // A device is blamed where it failed, and no play succeeds after a failure.
+    // The source failed once if the fault is `Read`, and not at all otherwise.
     ensures reads { MatchResult result (λ _. R.failures source.new ≡ R.failures source.old)
         (λ fault. R.failures source.new ≡ R.failures source.old + failed_reads fault) }
+    // The sink failed once if the fault is `Write`, and not at all otherwise.
     ensures writes { MatchResult result (λ _. W.failures sink.new ≡ W.failures sink.old)
         (λ fault. W.failures sink.new ≡ W.failures sink.old + failed_writes fault) }
 {

@@ -3,12 +3,12 @@ use Rattle.std.proofs.Common.{◌≡◌, ℕ, ◌+◌, Bool, true, false, List, 
 use Rattle.std.specs.Prelude.{if◌then◌else◌}
 use Rattle.std.proofs.lemmas.Grind.{flat_map-append}
 use Rattle.std.proofs.lemmas.List.{map-append}
-use Rattle.bidi_remote.specs.Machine.Step.{Step}
+use Rattle.bidi_sessions.specs.Step.{Step}
 use Rattle.bidi_remote.specs.Machine.History.{Input, IsHeardAs, AreHeardAs}
-use Rattle.bidi_remote.specs.Machine.Strike.{strike_steps}
+use Rattle.bidi_reduce.specs.Kept.{strike_steps}
 use Rattle.bidi_remote.proofs.HeardLemmas.{heard_more, length-heard}
-use Rattle.bidi_strike.specs.Follows.{Follows, is_kept}
-use Rattle.bidi_strike.proofs.StrikeLemmas.{strike_more, strikes}
+use Rattle.bidi_reduce.specs.Follows.{Follows, is_kept}
+use Rattle.bidi_reduce.proofs.StrikeLemmas.{strike_more, strikes}
 use Rattle.bidi_lines.specs.Feeds.{ended}
 use Rattle.bidi_lines.specs.Answering.{BeginsWith}
 use Rattle.bidi_lines.specs.Answering as lines
@@ -22,6 +22,7 @@ use Rattle.bidi_play.proofs.PlayLemmas.{length-said, no_play_line, said_front}
 use Rattle.bidi_reduce.specs.declared.reducing.Reducer.{Reducer}
 use Rattle.bidi_reduce.specs.Reduces.{ReducesAll, Says, StopsAt}
 use Rattle.bidi_reduce.specs.Reducers.{HasReduced, reducer_answers}
+use Rattle.bidi_sessions.specs.Limits.{most_steps}
 
 -- ---- one line more
 
@@ -82,7 +83,7 @@ says first reducer read rest text lines b p = record { lines = said_front read r
 
 -- all that was read is reduced to what is kept
 pub reduces_all : (first reducer : Reducer) (read text : List ℕ)
-    → lines.AnswersAll (HasReduced first reducer) 1000000000 read text → ReducesAll first.session read reducer.kept.items × (text ≡ [])
+    → lines.AnswersAll (HasReduced first reducer) most_steps read text → ReducesAll first.session read reducer.kept.items × (text ≡ [])
 reduces_all first reducer read text (lines, b, p, few) =
     let kept = strike_steps p.steps p.inputs first.session in (
       (
@@ -99,7 +100,7 @@ reduces_all first reducer read text (lines, b, p, few) =
 
 -- a fault of its lines stops it, and nothing was written
 pub reduce_stop : (first : Reducer) (f : LinesFault) (at_end : Bool) (read wrote : List ℕ)
-    → lines.StopsAt reducer_answers first 1000000000 f at_end read wrote → StopsAt first.session (play_fault_of f) at_end read wrote
+    → lines.StopsAt reducer_answers first most_steps f at_end read wrote → StopsAt first.session (play_fault_of f) at_end read wrote
 reduce_stop first fault.Read at_end read wrote (t, lines, rest, b, p, few, is) = (p.steps, rest, says first t read rest wrote lines b p, is, p.none)
 reduce_stop first (fault.BadLine n) at_end read wrote (t, lines, rest, b, p, few, (has, none, counted)) = (
   p.steps,

@@ -4,21 +4,20 @@ ghost use Rattle.std.specs.Io.KnownBytes.{IsAtEnd};
 ghost use Rattle.bidi_lines.specs.Devices.{Moves};
 ghost use Rattle.bidi_lines.specs.Feeds.{ended};
 ghost use Rattle.bidi_remote.specs.Machine.History.{Input};
-ghost use Rattle.bidi_remote.specs.Machine.Strike.{strike, sees};
-ghost use Rattle.bidi_remote.specs.State.View.{step_of};
+ghost use Rattle.bidi_reduce.specs.Kept.{strike};
+ghost use Rattle.bidi_reduce.specs.Seen.{sees};
+ghost use Rattle.bidi_sessions.specs.View.{step_of};
 ghost use Rattle.bidi_play.specs.Lines.{CanBeSaid, line_of};
 ghost use Rattle.bidi_play.specs.Plays.{failed_reads, failed_writes};
 ghost use Rattle.bidi_reduce.specs.Reduces.{ReducesAll, StopsAt};
 ghost use Rattle.bidi_reduce.specs.Reducers.{HasReduced, reducer_answers};
+ghost use Rattle.bidi_sessions.specs.Limits.{most_steps};
 
-use bidi_lines::{AnswerFault, Answerer, Sink, Source, answer_lines, write_all};
+use crate::striking::take_kept;
+use bidi_lines::{AnswerFault, Answerer, MOST_LINES, Sink, Source, answer_lines, write_all};
 use bidi_play::{PlayFault, read_step};
 use bidi_remote::{RemoteEnd, RemoteFault, Step};
-use bidi_strike::take_kept;
 use std::alloc::{AllocError, Global};
-
-/// How many lines an input can have.
-const MOST_LINES: u64 = 1_000_000_000;
 
 /// Writes the lines of the source that are kept for the session of this number, byte for byte.
 ///
@@ -43,15 +42,17 @@ pub fn reduce<R: Source, W: Sink>(
 ) -> Result<(), PlayFault>
     // All that the source had was play lines, and those that are kept for the session were written.
     ensures ok { OnOk result (Moves (R.left source.old) (R.left source.new) (W.contents sink.old) (W.contents sink.new) (ReducesAll session)) }
+    // After an Ok, the source has reported its end.
     ensures end { OnOk result (IsTrue (R.has_ended source.new) × IsAtEnd (R.left source.new)) }
 
     // A fault says what was read and written before it.
     ensures err { IfErr result (λ fault. Moves (R.left source.old) (R.left source.new) (W.contents sink.old) (W.contents sink.new)
         (StopsAt session fault (R.has_ended source.new))) }
 
-    // A device is blamed where it failed, and no run succeeds after a failure.
+    // `Read` comes exactly if a read failed, and no run succeeds after a failed read.
     ensures reads { MatchResult result (λ _. R.failures source.new ≡ R.failures source.old)
         (λ fault. R.failures source.new ≡ R.failures source.old + failed_reads fault) }
+    // `Write` comes exactly if a write failed, and no run succeeds after a failed write.
     ensures writes { MatchResult result (λ _. W.failures sink.new ≡ W.failures sink.old)
         (λ fault. W.failures sink.new ≡ W.failures sink.old + failed_writes fault) }
 
@@ -84,7 +85,7 @@ impl Reducer {
         ensures ok { (first : Reducer) (lines : List (List ℕ)) (text : List ℕ) → HasReduced first self.old lines text
             → OnOk result (HasReduced first self.new (lines ++ line.now ∷ []) (text ++ [])) }
         ensures worn_out { (first : Reducer) (lines : List (List ℕ)) (text : List ℕ) → HasReduced first self.old lines text
-            → IsErrOf result RemoteFault.WornOut → 1000000000 ≤ length lines }
+            → IsErrOf result RemoteFault.WornOut → most_steps ≤ length lines }
     {
         if take_kept(&mut self.end, self.session, step)? {
             keep_line(&mut self.kept, line)?;

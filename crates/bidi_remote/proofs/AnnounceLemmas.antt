@@ -5,14 +5,16 @@ use Rattle.std.proofs.lemmas.Bool.Decides.{nat_tests}
 use Rattle.std.proofs.lemmas.List.Elements.{filter-append}
 use Rattle.bidi_methods.specs.declared.event_data.EventName.{EventName}
 use Rattle.bidi_methods.specs.declared.event_data.EventName.TheVariants.{ContextCreated, RealmCreated}
-use Rattle.bidi_browser.specs.declared.occurrence.Top.{Top}
-use Rattle.bidi_browser.specs.Acts.{Act}
-use Rattle.bidi_browser.specs.Contexts.{is_alive, tree_order}
-use Rattle.bidi_browser.specs.Occurrences.{Occurrence, top_at, context_created, realm_created, tree_events, is_among}
+use Rattle.bidi_contexts.specs.declared.occurrence.Top.{Top}
+use Rattle.bidi_contexts.specs.Acts.{Act}
+use Rattle.bidi_contexts.specs.Contexts.{is_alive, tree_order}
+use Rattle.bidi_contexts.specs.Occurrences.{Occurrence, top_at, context_created, realm_created, tree_events}
+use Rattle.bidi_contexts.specs.Occurrences.{is_among}
 use Rattle.bidi_remote.specs.Machine.History.{Scope, All, Below, Within}
 use Rattle.bidi_remote.specs.Machine.Subscriptions.{is_global, covers}
-use Rattle.bidi_remote.specs.State.SubscriptionRows.{SubscriptionRow, any_covers, any_global, is_new, may_be_new}
-use Rattle.bidi_remote.proofs.ListLemmas.{map-filter, filter-none}
+use Rattle.bidi_sessions.specs.SubscriptionRows.{SubscriptionRow, any_covers, any_global, may_be_new}
+use Rattle.bidi_remote.specs.State.SessionRows.{is_new}
+use Rattle.bidi_sessions.proofs.ListLemmas.{map-filter, filter-none}
 
 -- what a global subscription holds for it covers everywhere
 everywhere : (scope : Scope) (has : Bool) (top : Top) → (is_global scope && has) ≡ true → (has && covers scope top) ≡ true

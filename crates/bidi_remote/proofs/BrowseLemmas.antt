@@ -7,20 +7,20 @@ use Rattle.std.specs.declared.rc.Rc.{Rc}
 use Rattle.bidi_params.specs.declared.error_code.ErrorCode.{ErrorCode}
 use Rattle.bidi_methods.specs.declared.result_data.ResultData.{ResultData}
 use Rattle.bidi_browser.specs.declared.plan.Plan.{Plan}
-use Rattle.bidi_browser.specs.Acts.{Act, Logged, Looked, Ending}
-use Rattle.bidi_browser.specs.Actions.{Action, Activate, Close, Create, GetTree, Navigate, Reload, TraverseHistory, Evaluate}
-use Rattle.bidi_browser.specs.Actions.{CallFunction, Disown, GetRealms, CreateUserContext, GetUserContexts, RemoveUserContext}
-use Rattle.bidi_browser.specs.Actions.{Frame, Unframe, Log, TableRow, is_asked}
+use Rattle.bidi_contexts.specs.Acts.{Act, Logged, Looked, Ending}
+use Rattle.bidi_contexts.specs.Actions.{Action, Activate, Close, Create, GetTree, Navigate, Reload, TraverseHistory, Evaluate}
+use Rattle.bidi_contexts.specs.Actions.{CallFunction, Disown, GetRealms, CreateUserContext, GetUserContexts, RemoveUserContext}
+use Rattle.bidi_contexts.specs.Actions.{Frame, Unframe, Log, TableRow, is_asked}
 use Rattle.bidi_handles.specs.Checks.{◌>>=◌}
-use Rattle.bidi_browser.specs.Outcome as browser
-use Rattle.bidi_browser.specs.Occurrences.{Occurrence, entry_added}
+use Rattle.bidi_contexts.specs.Outcome as browser
+use Rattle.bidi_contexts.specs.Occurrences.{Occurrence, entry_added}
 use Rattle.bidi_browser.specs.Occurs.{Item, Happens, Replies, occurs}
 use Rattle.bidi_browser.specs.Plans as planned
 use Rattle.bidi_browser.specs.Plans.{Plans}
-use Rattle.bidi_browser.specs.View.{seen}
-use Rattle.bidi_values.specs.declared.log_entry.Level.{Level}
+use Rattle.bidi_contexts.specs.View.{seen}
+use Rattle.bidi_scripts.specs.declared.log_entry.Level.{Level}
 use Rattle.bidi_remote.specs.declared.event_texts.EventText.{EventText}
-use Rattle.bidi_remote.specs.declared.step.Sent as declared_sent
+use Rattle.bidi_sessions.specs.declared.step.Sent as declared_sent
 use Rattle.bidi_remote.specs.declared.state.State.{State}
 use Rattle.bidi_remote.specs.declared.turn.Asker.{Asker}
 use Rattle.bidi_remote.specs.declared.turn.Change.TheVariants.{Browse}
@@ -30,12 +30,12 @@ use Rattle.bidi_remote.specs.Machine.Commands.{OfBrowser}
 use Rattle.bidi_remote.specs.Machine.History.{Input, OfPage, Deed, Did, acts, moment}
 use Rattle.bidi_remote.specs.Machine.Outcome.{deeds, did, in_page, turn}
 use Rattle.bidi_remote.specs.Machine.Sent.{Sent, sent_unasked, to_hearers, items, told}
-use Rattle.bidi_remote.specs.State.Messages.{AllReadBack}
+use Rattle.bidi_remote.specs.Machine.Messages.{AllReadBack}
 use Rattle.bidi_remote.specs.State.EventTexts.{Written, written_of, written_in, AreMessages}
 use Rattle.bidi_remote.specs.State.Stands.{AgreeWith, Takes}
 use Rattle.bidi_remote.specs.State.Turns.{Decides, IsMade, IsQuiet, is_log, deed_of, reply_in, asker_in, items_in, sent_of_item, sent_for}
-use Rattle.bidi_remote.specs.State.View.{sent_of}
-use Rattle.bidi_remote.proofs.ListLemmas.{flat_map-same}
+use Rattle.bidi_sessions.specs.View.{sent_of}
+use Rattle.bidi_sessions.proofs.ListLemmas.{flat_map-same}
 use Rattle.bidi_remote.proofs.TakeLemmas.{takes, all_taken}
 
 -- ---- the reply

@@ -13,7 +13,8 @@ use Rattle.bidi_shape.specs.Profile.{term_of}
 use Rattle.bidi_shape.specs.MapLaws.{PartsAt-joined, unnamed}
 use Rattle.bidi_shape.specs.Table.{rows_in}
 use Rattle.bidi_shape.specs.ValueLaws.{others_of}
-use Rattle.bidi_params.specs.Words.{context_type_text, wait_text, realm_type_text}
+use Rattle.bidi_params.specs.Words.{context_type_text, wait_text}
+use Rattle.bidi_scripts.specs.RealmType.{realm_type_text}
 use Rattle.bidi_params.specs.contracts.browsing_context.create.ActivateParametersShape.TheImpl as activate
 use Rattle.bidi_params.specs.contracts.browsing_context.create.CloseParametersShape.TheImpl as close
 use Rattle.bidi_params.specs.contracts.browsing_context.create.CreateParametersShape.TheImpl as create
@@ -21,10 +22,10 @@ use Rattle.bidi_params.specs.contracts.browsing_context.get_tree.GetTreeParamete
 use Rattle.bidi_params.specs.contracts.browsing_context.navigate.NavigateParametersShape.TheImpl as navigate
 use Rattle.bidi_params.specs.contracts.browsing_context.navigate.ReloadParametersShape.TheImpl as reload
 use Rattle.bidi_params.specs.contracts.browsing_context.navigate.TraverseHistoryParametersShape.TheImpl as traverse
-use Rattle.bidi_params.specs.contracts.script.realms.GetRealmsParametersShape.TheImpl as get_realms
+use Rattle.bidi_scripts.specs.contracts.realms.GetRealmsParametersShape.TheImpl as get_realms
 use Rattle.bidi_params.specs.contracts.browser.RemoveUserContextParametersShape.TheImpl as remove_user
-use Rattle.bidi_params.specs.declared.script.realms.RealmType.{RealmType}
-use Rattle.bidi_params.specs.declared.script.realms.GetRealmsParameters.{GetRealmsParameters}
+use Rattle.bidi_scripts.specs.declared.realms.RealmType.{RealmType}
+use Rattle.bidi_scripts.specs.declared.realms.GetRealmsParameters.{GetRealmsParameters}
 use Rattle.bidi_params.specs.declared.browser.RemoveUserContextParameters.{RemoveUserContextParameters}
 use Rattle.bidi_params.specs.declared.browsing_context.navigate.Wait as declared_wait
 use Rattle.bidi_params.specs.declared.browsing_context.navigate.Wait.TheVariants as wait
@@ -43,7 +44,7 @@ use Rattle.bidi_methods.specs.declared.command_data.BrowserCommand.{BrowserComma
 use Rattle.bidi_methods.specs.declared.command_data.BrowserCommand.TheVariants as browser
 use Rattle.bidi_methods.specs.Method.{params_part}
 use Rattle.bidi_handles.specs.Params.{natural}
-use Rattle.bidi_browser.specs.Actions.{OwnWindow, Tab, Started, Interactive, Complete, is_text}
+use Rattle.bidi_contexts.specs.Actions.{OwnWindow, Tab, Started, Interactive, Complete, is_text}
 use Rattle.bidi_browser.specs.Asked.{create_type_of, wait_of, activate_asked, close_asked, create_asked, get_tree_asked}
 use Rattle.bidi_browser.specs.Asked.{navigate_asked, reload_asked, traverse_asked, get_realms_asked, remove_user_asked, command_asked}
 use Rattle.bidi_remote.specs.Machine.Commands.{OfBrowser, command_in}

@@ -6,18 +6,18 @@ use Rattle.std.specs.List.{AllByRecursion}
 use Rattle.std.proofs.lemmas.List.{length-map}
 use Rattle.bidi_handles.specs.declared.id.IdKind.TheVariants.{Session as OfSession}
 use Rattle.bidi_handles.specs.Ids.{id_of}
-use Rattle.bidi_browser.specs.declared.occurrence.Top.{Top}
+use Rattle.bidi_contexts.specs.declared.occurrence.Top.{Top}
 use Rattle.bidi_browser.specs.declared.browser.Browser.{Browser}
-use Rattle.bidi_browser.specs.Acts.{Act, Logged}
-use Rattle.bidi_browser.specs.Occurrences.{entry_added}
+use Rattle.bidi_contexts.specs.Acts.{Act, Logged}
+use Rattle.bidi_contexts.specs.Occurrences.{entry_added}
 use Rattle.bidi_browser.specs.Stands.{StandsFor}
 use Rattle.bidi_tree.specs.declared.number.JsUint.{JsUint}
-use Rattle.bidi_values.specs.declared.log_entry.Level.{Level}
+use Rattle.bidi_scripts.specs.declared.log_entry.Level.{Level}
 use Rattle.bidi_messages.specs.contracts.message.MessageShape.TheImpl.{ghosts}
 use Rattle.bidi_messages.specs.Reading.{IsMessageText}
 use Rattle.bidi_methods.specs.declared.event_data.EventName.{EventName}
 use Rattle.bidi_methods.specs.declared.event_data.EventName.TheVariants.{EntryAdded}
-use Rattle.bidi_remote.specs.declared.connections.Connections.{Connections}
+use Rattle.bidi_sessions.specs.declared.connections.Connections.{Connections}
 use Rattle.bidi_remote.specs.declared.sessions.Sessions.{Sessions}
 use Rattle.bidi_remote.specs.declared.state.State.{State}
 use Rattle.bidi_remote.specs.Machine.History.{Input, Open, Deed, Scope, Time, Opened, Dropped, Began, Ended}
@@ -27,12 +27,13 @@ use Rattle.bidi_remote.specs.Machine.Subscriptions.{subscriptions_made, is_enabl
 use Rattle.bidi_remote.specs.Machine.LogBuffer.{Missed, missed, announced_at, last_hundred}
 use Rattle.bidi_remote.specs.Machine.Connections.{Attachment, Shut, is_shut, is_open, is_for, opened_for, attachment_of, open_connections}
 use Rattle.bidi_remote.specs.Machine.Outcome.{Denied, deeds, may_open, opening, session_of_resource, turn}
-use Rattle.bidi_remote.specs.State.ConnectionRows as connections
-use Rattle.bidi_remote.specs.State.ConnectionRows.{rows, attachment_in, attachment_in_hand, opening_by}
-use Rattle.bidi_remote.specs.declared.connections.Attachment as declared_attachment
-use Rattle.bidi_remote.specs.declared.connections.Attachment.TheVariants as in_code
+use Rattle.bidi_sessions.specs.ConnectionRows as connections
+use Rattle.bidi_remote.specs.State.ConnectionRows.{rows, opening_by}
+use Rattle.bidi_sessions.specs.ConnectionRows.{attachment_in, attachment_in_hand}
+use Rattle.bidi_sessions.specs.declared.connections.Attachment as declared_attachment
+use Rattle.bidi_sessions.specs.declared.connections.Attachment.TheVariants as in_code
 use Rattle.bidi_remote.specs.State.SessionView as in_hand
-use Rattle.bidi_remote.specs.State.SubscriptionRows.{SessionRow, session_rows, subscription_rows, begun, subscribed, cancelled, lost, logged, updated, changed}
+use Rattle.bidi_remote.specs.State.SessionRows.{SessionRow, session_rows, subscription_rows, begun, subscribed, cancelled, lost, logged, updated, changed}
 use Rattle.bidi_remote.specs.State.EventTexts.{Written, written}
 use Rattle.bidi_remote.specs.State.MissedRows.{place_of, IsEntry}
 use Rattle.bidi_remote.specs.State.Stands.{AgreeWith}
@@ -44,7 +45,8 @@ use Rattle.bidi_remote.proofs.OpeningLemmas.{was_opened}
 use Rattle.bidi_remote.proofs.SubscriptionLemmas.{session_rows-began, session_rows-ended, session_rows-subscribed}
 use Rattle.bidi_remote.proofs.SubscriptionLemmas.{session_rows-cancelled, session_rows-dismissed, numbers-session_rows}
 use Rattle.bidi_remote.proofs.RowLemmas.{changed-updated, one-row}
-use Rattle.bidi_remote.proofs.ListLemmas.{find-map}
+use Rattle.bidi_sessions.proofs.ListLemmas.{find-map}
+use Rattle.bidi_sessions.specs.Limits.{most_connections}
 
 -- ---- the tables after a deed
 
@@ -246,19 +248,19 @@ opening-may past c (Some s) room = rw room refl
 
 -- a connection that is shut may be opened where there is room
 pub opens : (t : State) (past : List Deed) (c : ℕ) (resource : List ℕ) (o : Option (Option ℕ)) (room : Bool)
-    → AgreeWith t past → attachment_of past c ≡ Shut → room ≡ nat_lt (length (connections.rows_in t.connections)) 64 → room ≡ true
+    → AgreeWith t past → attachment_of past c ≡ Shut → room ≡ nat_lt (length (connections.rows_in t.connections)) most_connections → room ≡ true
     → o ≡ (if bytes_eq resource (codes "/session") then Some None else option_map (λ r. Some r.number)
     (find (λ r. bytes_eq resource (codes "/session/" ++ id_of OfSession r.number)) (in_hand.rows_in t.sessions)))
     → opening_by c o ≡ turn past (Open c resource)
 opens t past c resource o room a shut has free is =
-    let may : may_open past c ≡ true = rw (shut, sym (ap (λ n. nat_lt n 64) (length-open t past a)) ∙ (sym has ∙ free)) refl in
+    let may : may_open past c ≡ true = rw (shut, sym (ap (λ n. nat_lt n most_connections) (length-open t past a)) ∙ (sym has ∙ free)) refl in
     sym (ap (opening past c) (resource-names t past resource o a is) ∙ opening-may past c o may)
 
 -- and is denied where there is none
 pub opens-full : (t : State) (past : List Deed) (c : ℕ) (resource : List ℕ) (room : Bool) → AgreeWith t past
-    → room ≡ nat_lt (length (connections.rows_in t.connections)) 64 → room ≡ false → Err (Denied c) ≡ turn past (Open c resource)
+    → room ≡ nat_lt (length (connections.rows_in t.connections)) most_connections → room ≡ false → Err (Denied c) ≡ turn past (Open c resource)
 opens-full t past c resource room a has none =
-    let may : may_open past c ≡ false = full (not (is_open past c)) (sym (ap (λ n. nat_lt n 64) (length-open t past a)) ∙ (sym has ∙ none)) in
+    let may : may_open past c ≡ false = full (not (is_open past c)) (sym (ap (λ n. nat_lt n most_connections) (length-open t past a)) ∙ (sym has ∙ none)) in
     sym (opening-denied past c (session_of_resource past resource) may)
   where
     full : (b : Bool) {r : Bool} → r ≡ false → (b && r) ≡ false

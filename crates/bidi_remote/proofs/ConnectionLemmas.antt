@@ -5,11 +5,11 @@ use Rattle.std.specs.List.{list_any}
 use Rattle.std.proofs.lemmas.Bool.Decides.{nat_tests}
 use Rattle.std.proofs.lemmas.List.{map-append}
 use Rattle.std.proofs.lemmas.List.Elements.{filter-append}
-use Rattle.bidi_remote.specs.declared.connections.Connection.{Connection}
 use Rattle.bidi_remote.specs.Machine.History.{Deed, Opened, Dropped, Began, Ended}
 use Rattle.bidi_remote.specs.Machine.Sessions.{next_session}
 use Rattle.bidi_remote.specs.Machine.Connections.{Attachment, Shut, Alone, SpeaksFor, is_shut, is_for, opened_for, attachment_of, openings, connections_of}
-use Rattle.bidi_remote.specs.State.ConnectionRows.{attachment_in, ConnectionRow, row_of, rows, begun, to_each}
+use Rattle.bidi_sessions.specs.ConnectionRows.{attachment_in, ConnectionRow, begun, to_each}
+use Rattle.bidi_remote.specs.State.ConnectionRows.{rows}
 use Rattle.bidi_remote.specs.Machine.Sent.{Sent}
 
 -- ---- rows
@@ -113,17 +113,6 @@ find-rows : (past : List Deed) (c : ℕ) (b : Bool)
     → b ≡ is_shut (attachment_of past c) → WasOpened past c → attachment_in (find (λ row. row.0 == c) (rows past)) ≡ attachment_of past c
 find-rows past c true is opened = ap attachment_in (find-shut (attachment_of past) c (openings past) (sym is)) ∙ sym (is_Shut (attachment_of past c) (sym is))
 find-rows past c false is opened = ap attachment_in (find-open (attachment_of past) c (openings past) (sym is) (opened (sym is)))
-
--- how the connection stands that was found; without one it is shut
-abbrev pub attachment_found : Option Connection → Attachment
-attachment_found None = Shut
-attachment_found (Some c) = opened_for c.session
-
--- it is found as its row is
-pub found-row : (c : ℕ) (items : List Connection)
-    → attachment_found (find (λ x. x.number.value == c) items) ≡ attachment_in (find (λ row. row.0 == c) (map row_of items))
-found-row c [] = refl
-found-row c (x ∷ items) = let ih = found-row c items in grind (arith, nat_tests, ih)
 
 -- the table says how a connection stands
 pub attachment-found : (past : List Deed) (c : ℕ) (all : List ConnectionRow)

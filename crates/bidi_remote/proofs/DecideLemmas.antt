@@ -11,18 +11,19 @@ use Rattle.bidi_methods.specs.declared.event_data.EventName.{EventName}
 use Rattle.bidi_methods.specs.declared.event_data.EventName.TheVariants.{EntryAdded}
 use Rattle.bidi_methods.specs.declared.result_data.ResultData.{ResultData}
 use Rattle.bidi_handles.specs.Checks.{◌>>=◌, need, found}
-use Rattle.bidi_browser.specs.declared.occurrence.Top.{Top}
-use Rattle.bidi_browser.specs.Acts.{Act, Looked}
-use Rattle.bidi_browser.specs.Contexts.{is_alive}
-use Rattle.bidi_browser.specs.Occurrences.{Occurrence, tree_events, is_among}
+use Rattle.bidi_contexts.specs.declared.occurrence.Top.{Top}
+use Rattle.bidi_contexts.specs.Acts.{Act, Looked}
+use Rattle.bidi_contexts.specs.Contexts.{is_alive}
+use Rattle.bidi_contexts.specs.Occurrences.{Occurrence, tree_events}
+use Rattle.bidi_contexts.specs.Occurrences.{is_among}
 use Rattle.bidi_browser.specs.Occurs.{Replies}
 use Rattle.bidi_remote.specs.declared.state.State.{State}
 use Rattle.bidi_remote.specs.declared.turn.Asker.{Asker}
 use Rattle.bidi_remote.specs.declared.turn.Change.{Change}
 use Rattle.bidi_remote.specs.declared.turn.Change.TheVariants.{Nothing, Begin, End, Subscribe, Cancel, Dismiss, Browse}
 use Rattle.bidi_remote.specs.declared.turn.Turn.{Turn}
-use Rattle.bidi_remote.specs.declared.subscriptions.Subscription.{Subscription}
-use Rattle.bidi_remote.specs.Machine.Capabilities.{Request, matching}
+use Rattle.bidi_sessions.specs.declared.subscriptions.Subscription.{Subscription}
+use Rattle.bidi_sessions.specs.Capabilities.{Request, matching}
 use Rattle.bidi_remote.specs.Machine.Commands.{Command}
 use Rattle.bidi_remote.specs.Machine.History.{Deed, Began, Subscribed, Dismissed, Scope, acts}
 use Rattle.bidi_remote.specs.Machine.Sessions.{is_active}
@@ -34,15 +35,18 @@ use Rattle.bidi_remote.specs.Machine.Sent.{items, action_in, announcements}
 use Rattle.bidi_remote.specs.State.EventTexts.{Written, written, written_in, AreMessages}
 use Rattle.bidi_remote.specs.State.MissedRows.{places, waiting, IsEntry}
 use Rattle.bidi_remote.specs.State.SessionView as in_hand
-use Rattle.bidi_remote.specs.State.SubscriptionView.{row_of}
+use Rattle.bidi_sessions.specs.SubscriptionView.{row_of}
 use Rattle.bidi_remote.specs.State.Stands.{AgreeWith}
-use Rattle.bidi_remote.specs.State.SubscriptionRows.{SubscriptionRow, session_row, session_rows, row_at, subscription_rows, row_in, begun}
-use Rattle.bidi_remote.specs.State.SubscriptionRows.{any_covers, any_global, is_new, numbers_named}
+use Rattle.bidi_sessions.specs.SubscriptionRows.{SubscriptionRow}
+use Rattle.bidi_remote.specs.State.SessionRows.{session_row, session_rows, row_at, subscription_rows, row_in, begun}
+use Rattle.bidi_sessions.specs.SubscriptionRows.{any_covers, any_global, numbers_named}
+use Rattle.bidi_remote.specs.State.SessionRows.{is_new}
 use Rattle.bidi_browser.specs.View.{result_tree}
 use Rattle.bidi_remote.specs.State.Turns.{Decides, IsMade, IsOfSessions, deed_of, announced_by}
-use Rattle.bidi_remote.proofs.ListLemmas.{filter-same, all-same}
+use Rattle.bidi_sessions.proofs.ListLemmas.{filter-same, all-same}
 use Rattle.bidi_remote.proofs.PlaceLemmas.{waiting-places, waiting-events, new-written}
 use Rattle.bidi_remote.proofs.SubscriptionLemmas.{newly-enabled, numbers-session_rows, find-active, named-subscription_rows, global-held}
+use Rattle.bidi_sessions.specs.Limits.{most_sessions, most_subscriptions}
 
 -- ---- a turn
 
@@ -83,9 +87,9 @@ module _ (turn : Turn) (past : List Deed) (asker : Asker) (asked : Command) (ans
 -- ---- the table of sessions
 
 -- whether there is room for a session
-pub is_ready-rows : (t : State) (past : List Deed) (b : Bool) → AgreeWith t past → b ≡ nat_lt (length (in_hand.rows_in t.sessions)) 8 → b ≡ is_ready past
+pub is_ready-rows : (t : State) (past : List Deed) (b : Bool) → AgreeWith t past → b ≡ nat_lt (length (in_hand.rows_in t.sessions)) most_sessions → b ≡ is_ready past
 is_ready-rows t past b a is =
-    is ∙ ap (λ n. nat_lt n 8) (ap length a.sessions ∙ (sym (length-map (session_rows past) (λ r. r.number)) ∙ ap length (numbers-session_rows past)))
+    is ∙ ap (λ n. nat_lt n most_sessions) (ap length a.sessions ∙ (sym (length-map (session_rows past) (λ r. r.number)) ∙ ap length (numbers-session_rows past)))
 
 -- an active session is found
 pub found-active : (t : State) (past : List Deed) (s : ℕ)
@@ -145,10 +149,10 @@ held-length past s held rows = sym (length-map held row_of) ∙ (ap length rows 
 -- the checks, one after another
 pub subscribe-checked : (past : List Deed) (s n : ℕ) (names : List (List ℕ)) (contexts users : Option (List (List ℕ)))
     (es : List EventName) (scope : Scope) (few : Bool)
-    → all_named names ≡ Ok es → scope_asked (acts past) contexts users ≡ Ok scope → n ≡ length (subscriptions past s) → nat_lt n 256 ≡ few
+    → all_named names ≡ Ok es → scope_asked (acts past) contexts users ≡ Ok scope → n ≡ length (subscriptions past s) → nat_lt n most_subscriptions ≡ few
     → subscribe_outcome past s names contexts users ≡ (need few UnknownError >>= λ room. Ok (Subscribed s es scope))
 subscribe-checked past s n names contexts users es scope few named scoped long is =
-    rw (named, scoped) (ap (λ (b : Bool). need b UnknownError >>= λ room. Ok (Subscribed s es scope)) (ap (λ k. nat_lt k 256) (sym long) ∙ is))
+    rw (named, scoped) (ap (λ (b : Bool). need b UnknownError >>= λ room. Ok (Subscribed s es scope)) (ap (λ k. nat_lt k most_subscriptions) (sym long) ∙ is))
 
 -- what is new by the table is what is announced: of the tree, then of the entries that wait
 pub new-announced : (past : List Deed) (s : ℕ) (held : List SubscriptionRow) (es : List EventName) (scope : Scope) (tree waits : List Written)

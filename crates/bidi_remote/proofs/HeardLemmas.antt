@@ -1,7 +1,7 @@
 -- Steps, and the inputs that they are heard as.
 use Rattle.std.proofs.Common.{◌≡◌, ℕ, Bool, true, false, List, [], ◌∷◌, ◌++◌, length, arith, refl}
 use Rattle.std.specs.List.{items_where_true}
-use Rattle.bidi_remote.specs.Machine.Step.{Step}
+use Rattle.bidi_sessions.specs.Step.{Step}
 use Rattle.bidi_remote.specs.Machine.History.{Input, IsHeardAs, AreHeardAs}
 
 -- one step more, and its input

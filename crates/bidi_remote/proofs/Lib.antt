@@ -1,16 +1,9 @@
 pub mod CommandLemmas
-pub mod CapabilityLemmas
-pub mod FindLemmas
-pub mod ListLemmas
-pub mod CheckLemmas
-pub mod BeginLemmas
 pub mod CopyLemmas
 pub mod ConnectionLemmas
 pub mod SessionLemmas
 pub mod PlaceLemmas
 pub mod SubscriptionLemmas
-pub mod IndexLemmas
-pub mod MergeLemmas
 pub mod LogLemmas
 pub mod SpeakingLemmas
 pub mod RowLemmas

@@ -1,17 +1,18 @@
 -- The table of sessions, where an entry was logged.
 use Rattle.std.proofs.Common.{◌≡◌, ◌∙◌, ℕ, Bool, true, false, ◌&&◌, List, ◌∷◌, map, refl, sym, ap}
-use Rattle.bidi_values.specs.declared.log_entry.Level.{Level}
+use Rattle.bidi_scripts.specs.declared.log_entry.Level.{Level}
 use Rattle.bidi_methods.specs.declared.event_data.EventName.TheVariants.{EntryAdded}
-use Rattle.bidi_browser.specs.Acts.{Logged}
-use Rattle.bidi_browser.specs.Contexts.{up_to}
-use Rattle.bidi_browser.specs.Occurrences.{Occurrence, entry_added}
+use Rattle.bidi_contexts.specs.Acts.{Logged}
+use Rattle.bidi_contexts.specs.Contexts.{up_to}
+use Rattle.bidi_contexts.specs.Occurrences.{Occurrence, entry_added}
 use Rattle.bidi_remote.specs.Machine.History.{Deed, Did, acts, moment}
 use Rattle.bidi_remote.specs.Machine.LogBuffer.{missed}
 use Rattle.bidi_remote.specs.Machine.Sessions.{is_active, sessions, sessions_made}
 use Rattle.bidi_remote.specs.Machine.Subscriptions.{is_enabled}
 use Rattle.bidi_remote.specs.State.EventTexts.{written}
-use Rattle.bidi_remote.specs.State.SubscriptionRows.{session_row, session_rows, subscription_rows, any_covers, logged}
-use Rattle.bidi_remote.proofs.ListLemmas.{each-passing, map-twice}
+use Rattle.bidi_remote.specs.State.SessionRows.{session_row, session_rows, subscription_rows, logged}
+use Rattle.bidi_sessions.specs.SubscriptionRows.{any_covers}
+use Rattle.bidi_sessions.proofs.ListLemmas.{each-passing, map-twice}
 use Rattle.bidi_remote.proofs.PlaceLemmas.{places-more}
 use Rattle.bidi_remote.proofs.SubscriptionLemmas.{covers-enabled}
 

@@ -9,22 +9,23 @@ use Rattle.bidi_params.specs.declared.error_code.ErrorCode.TheVariants.{InvalidA
 use Rattle.bidi_messages.specs.Verdict.{Verdict, Accepted, Refused}
 use Rattle.bidi_handles.specs.declared.id.IdKind.TheVariants.{Session}
 use Rattle.bidi_handles.specs.Ids.{id_of}
-use Rattle.bidi_browser.specs.Acts.{Act}
-use Rattle.bidi_browser.specs.Actions.{Action}
-use Rattle.bidi_browser.specs.Contexts.{up_to}
+use Rattle.bidi_contexts.specs.Acts.{Act}
+use Rattle.bidi_contexts.specs.Actions.{Action}
+use Rattle.bidi_contexts.specs.Contexts.{up_to}
 use Rattle.bidi_handles.specs.Checks.{◌>>=◌, need}
-use Rattle.bidi_browser.specs.Outcome as browser
+use Rattle.bidi_contexts.specs.Outcome as browser
 use Rattle.bidi_remote.specs.Machine.Commands.{Command, Status, New, End, Subscribe, UnsubscribeById, UnsubscribeByEvents, OfBrowser, command_of, id_of_command}
 use Rattle.bidi_remote.specs.Machine.History.{Input, At, Open, Drop, Heard, NotText, OfPage, Deed, Time, Opened, Dropped}
 use Rattle.bidi_remote.specs.Machine.History.{Began, Ended, Subscribed, Cancelled, Dismissed, Did, Told, acts}
 use Rattle.bidi_remote.specs.Machine.Sessions.{sessions_made, is_active, sessions}
 use Rattle.bidi_remote.specs.Machine.Connections.{Attachment, Shut, Alone, SpeaksFor, is_shut, is_open, attachment_of, openings}
-use Rattle.bidi_remote.specs.Machine.Capabilities.{matching}
+use Rattle.bidi_sessions.specs.Capabilities.{matching}
 use Rattle.bidi_remote.specs.Machine.Subscriptions.{subscriptions, holds_globally}
 use Rattle.bidi_remote.specs.Machine.Outcome.{NotTaken, Lost, outcome, replied, asked, answered, in_page, opening, is_ready}
 use Rattle.bidi_remote.specs.Machine.Outcome.{all_named, scope_asked, subscriptions_named, subscribe_outcome}
 use Rattle.bidi_remote.specs.Machine.Outcome.{unsubscribe_by_events_outcome, session_of_resource, may_open, turn, with_turn, deeds, did}
 use Rattle.bidi_remote.proofs.ConnectionLemmas.{WasOpened}
+use Rattle.bidi_sessions.specs.Limits.{most_subscriptions}
 
 -- ---- what each turn rests on
 
@@ -60,7 +61,7 @@ new_fair past c (Ok fit) false e = tt
 subscribe_fair : (past : List Deed) (c s : ℕ) (names : List (List ℕ)) (contexts users : Option (List (List ℕ)))
     → attachment_of past c ≡ SpeaksFor s → IsFairIfDone past (subscribe_outcome past s names contexts users)
 subscribe_fair past c s names contexts users e =
-    let few : Result (Unit {0}) ErrorCode = need (nat_lt (length (subscriptions past s)) 256) UnknownError in
+    let few : Result (Unit {0}) ErrorCode = need (nat_lt (length (subscriptions past s)) most_subscriptions) UnknownError in
     checked past (all_named names) (λ events. scope_asked (acts past) contexts users >>= λ scope. few >>= λ room. Ok (Subscribed s events scope))
     (λ events. checked past (scope_asked (acts past) contexts users) (λ scope. few >>= λ room. Ok (Subscribed s events scope))
     (λ scope. checked past few (λ room. Ok (Subscribed s events scope)) (λ room. (c, e))))

@@ -7,19 +7,20 @@ use Rattle.bidi_messages.specs.contracts.message.MessageShape.TheImpl.{ghosts}
 use Rattle.bidi_methods.specs.declared.event_data.EventName.{EventName}
 use Rattle.bidi_methods.specs.declared.event_data.EventName.TheVariants.{EntryAdded}
 use Rattle.bidi_messages.specs.Reading.{IsMessageText}
-use Rattle.bidi_browser.specs.declared.occurrence.Top.{Top}
-use Rattle.bidi_browser.specs.Occurrences.{Occurrence}
+use Rattle.bidi_contexts.specs.declared.occurrence.Top.{Top}
+use Rattle.bidi_contexts.specs.Occurrences.{Occurrence}
 use Rattle.bidi_remote.specs.Machine.History.{Deed}
 use Rattle.bidi_remote.specs.Machine.LogBuffer.{Missed, missed, just_missed, announced_at, last_hundred, waiting_for}
 use Rattle.bidi_remote.specs.Machine.Sent.{occurrence_text}
 use Rattle.bidi_remote.specs.State.EventTexts.{Written, written, AreMessages}
 use Rattle.bidi_remote.specs.State.MissedRows.{place_of, places, waiting, with_missed, left, all_left, IsEntry}
+use Rattle.bidi_sessions.specs.Limits.{most_missed}
 
 -- ---- the last hundred of a list
 
 -- they are those of the list, seen by f
-hundred-map : {A B : Type 0} (f : A → B) (xs : List A) → drop (length (map f xs) - 100) (map f xs) ≡ map f (drop (length xs - 100) xs)
-hundred-map f xs = ap (λ n. drop (n - 100) (map f xs)) (length-map xs f) ∙ drop-map f (length xs - 100) xs
+hundred-map : {A B : Type 0} (f : A → B) (xs : List A) → drop (length (map f xs) - most_missed) (map f xs) ≡ map f (drop (length xs - most_missed) xs)
+hundred-map f xs = ap (λ n. drop (n - most_missed) (map f xs)) (length-map xs f) ∙ drop-map f (length xs - most_missed) xs
 
 drop-twice : {A : Type 0} (k j : ℕ) (xs : List A) → drop j (drop k xs) ≡ drop (j + k) xs
 drop-twice zero j xs = let none : j ≡ j + 0 = omega arith in ap (λ n. drop n xs) none
@@ -29,15 +30,15 @@ drop-twice (suc k) j (x ∷ xs) = let more : suc (j + k) ≡ j + suc k = omega a
 
 -- one more behind the last hundred, or behind all
 hundred-more : {A : Type 0} (xs : List A) (x : A)
-    → (let more = drop (length xs - 100) xs ++ x ∷ [] in drop (length more - 100) more) ≡ drop (length (xs ++ x ∷ []) - 100) (xs ++ x ∷ [])
+    → (let more = drop (length xs - most_missed) xs ++ x ∷ [] in drop (length more - most_missed) more) ≡ drop (length (xs ++ x ∷ []) - most_missed) (xs ++ x ∷ [])
 hundred-more xs x =
-    let k = length xs - 100 in
+    let k = length xs - most_missed in
     let kept = drop k xs in
-    let j = length (kept ++ x ∷ []) - 100 in
+    let j = length (kept ++ x ∷ []) - most_missed in
     let long = length-append kept (x ∷ []) in
     let short = length-drop k xs in
     let all = length-append xs (x ∷ []) in
-    let same : length (xs ++ x ∷ []) - 100 ≡ j + k = omega (arith, long, short, all) in
+    let same : length (xs ++ x ∷ []) - most_missed ≡ j + k = omega (arith, long, short, all) in
     ap (drop j) (sym (drop-append-le k xs (x ∷ []) (omega arith))) ∙ (drop-twice k j (xs ++ x ∷ []) ∙ ap (λ n. drop n (xs ++ x ∷ [])) (sym same))
 
 -- ---- places
@@ -48,7 +49,7 @@ pub places-more : (all : List Missed) (o : Occurrence)
 places-more all o =
     ap (map place_of) (sym (hundred-more all (just_missed o)))
     ∙ (sym (hundred-map place_of (last_hundred all ++ just_missed o ∷ []))
-    ∙ ap (λ ps. drop (length ps - 100) ps) (map-append place_of (last_hundred all) (just_missed o ∷ [])))
+    ∙ ap (λ ps. drop (length ps - most_missed) ps) (map-append place_of (last_hundred all) (just_missed o ∷ [])))
 
 -- those of some top-level contexts are announced
 pub places-announced : (p q : Top → Bool) (all : List Missed)
@@ -154,7 +155,7 @@ are-texts (m ∷ ms) all = (all.0.reads_back, are-texts ms all.1)
 pub waiting-events : (past : List Deed) (s : ℕ) → AllByRecursion IsEntry (missed past s) → AllByRecursion (λ o. o.event ≡ EntryAdded) (waiting_for past s)
 waiting-events past s all =
     waiting-all (λ o. o.event ≡ EntryAdded) (last_hundred (missed past s))
-    (are-events _ (all-dropped IsEntry (length (missed past s) - 100) (missed past s) all))
+    (are-events _ (all-dropped IsEntry (length (missed past s) - most_missed) (missed past s) all))
 
 -- and its text that of a message
 texts-messages : (os : List Occurrence) → AllByRecursion (λ o. IsMessageText ghosts.shape (occurrence_text o)) os → AreMessages (map written os)
@@ -165,7 +166,7 @@ pub waiting-messages : (past : List Deed) (s : ℕ) → AllByRecursion IsEntry (
 waiting-messages past s all =
     texts-messages (waiting_for past s)
     (waiting-all (λ o. IsMessageText ghosts.shape (occurrence_text o)) (last_hundred (missed past s))
-    (are-texts _ (all-dropped IsEntry (length (missed past s) - 100) (missed past s) all)))
+    (are-texts _ (all-dropped IsEntry (length (missed past s) - most_missed) (missed past s) all)))
 
 -- so are those of them that are kept
 kept-next : {X : Type 0} (P : X → Type 0) (b : Bool) (x : X) (xs : List X) → P x → AllByRecursion P xs → AllByRecursion P (cond b (x ∷ xs) xs)

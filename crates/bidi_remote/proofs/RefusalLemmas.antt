@@ -3,16 +3,17 @@ use Rattle.std.proofs.Common.{◌≡◌, ◌<◌, ℕ, length, List, Option, Som
 use Rattle.bidi_params.specs.declared.error_code.ErrorCode.{ErrorCode}
 use Rattle.bidi_handles.specs.declared.refusal.Refusal.TheVariants.{Code}
 use Rattle.bidi_browser.specs.declared.plan.Plan.{Plan}
-use Rattle.bidi_browser.specs.Acts.{Act}
-use Rattle.bidi_browser.specs.Actions.{Action}
-use Rattle.bidi_browser.specs.Outcome as browser
+use Rattle.bidi_contexts.specs.Acts.{Act}
+use Rattle.bidi_contexts.specs.Actions.{Action}
+use Rattle.bidi_contexts.specs.Outcome as browser
 use Rattle.bidi_browser.specs.Plans.{Plans}
 use Rattle.bidi_remote.specs.declared.remote_end.RemoteEnd.{RemoteEnd}
 use Rattle.bidi_remote.specs.declared.state.State.{State}
-use Rattle.bidi_remote.specs.Machine.Step.{PageStep}
+use Rattle.bidi_sessions.specs.Step.{PageStep}
 use Rattle.bidi_remote.specs.Machine.History.{Input, IsTakenAs}
 use Rattle.bidi_remote.specs.Machine.Outcome.{deeds, page_refusal, refusal_in}
 use Rattle.bidi_remote.specs.State.Stands.{AgreeWith, IsShort, StandsFor}
+use Rattle.bidi_sessions.specs.Limits.{most_steps}
 
 -- an action that is planned is not refused
 pub planned_none : (plan : Plan) (past : List Act) (moment : ℕ) (action : Action) → Plans (Ok plan) past moment action
@@ -37,6 +38,6 @@ pub end_refused : {E : Type 0} (r : Result (Option ErrorCode) E) (page : PageSte
     → IfOk r (λ code. (a : Action) × IsTakenAs page a
     × ((h : List Input) → IsShort h → AgreeWith end.state (deeds h) → code ≡ page_refusal (deeds h) a))
     → IfOk r (λ code. (a : Action) × IsTakenAs page a
-    × ((h : List Input) → StandsFor end h → length h < 1000000000 → code ≡ page_refusal (deeds h) a))
+    × ((h : List Input) → StandsFor end h → length h < most_steps → code ≡ page_refusal (deeds h) a))
 end_refused (Err e) page end is = tt
 end_refused (Ok code) page end (a, taken, same) = (a, taken, λ h stands short. same h short stands.state)

@@ -14,11 +14,12 @@ use Rattle.bidi_methods.specs.Method.{method_text, result_of, method_words}
 use Rattle.bidi_messages.specs.Verdict.{Verdict, Accepted, Refused}
 use Rattle.bidi_params.specs.declared.error_code.ErrorCode.{ErrorCode}
 use Rattle.bidi_shape.specs.WordLaws.{value_named}
-use Rattle.bidi_browser.specs.Occurrences.{Occurrence}
+use Rattle.bidi_contexts.specs.Occurrences.{Occurrence}
 use Rattle.bidi_browser.specs.Occurs.{Item, Happens}
 use Rattle.bidi_browser.specs.Plans.{IsWellResult}
-use Rattle.bidi_browser.specs.View.{seen, result_tree}
-use Rattle.bidi_remote.specs.declared.step.Sent as declared_sent
+use Rattle.bidi_contexts.specs.View.{seen}
+use Rattle.bidi_browser.specs.View.{result_tree}
+use Rattle.bidi_sessions.specs.declared.step.Sent as declared_sent
 use Rattle.bidi_remote.specs.declared.turn.Asker.{Asker}
 use Rattle.bidi_remote.specs.declared.turn.Reply.{Reply}
 use Rattle.bidi_remote.specs.declared.turn.Turn.{Turn}
@@ -27,7 +28,7 @@ use Rattle.bidi_remote.specs.Machine.Commands.{Command, command_of, id_of_comman
 use Rattle.bidi_remote.specs.Machine.Connections.{Attachment, SpeaksFor, is_shut, attachment_of}
 use Rattle.bidi_remote.specs.Machine.History.{Input, Heard, Deed}
 use Rattle.bidi_remote.specs.Machine.Outcome.{NotTaken, deeds, turn, replied, outcome}
-use Rattle.bidi_remote.specs.Machine.Replies.{ReadsAs, HasOneReply, IsAnsweredOnce}
+use Rattle.bidi_remote.specs.Replies.{ReadsAs, HasOneReply, IsAnsweredOnce}
 use Rattle.bidi_remote.specs.Machine.Sent.{action_in, items}
 use Rattle.bidi_remote.specs.State.Asked.{Asks}
 use Rattle.bidi_remote.specs.State.Turns.{Decides, IsWellTold, HasResultOf, deed_of, asker_in, reply_in}

@@ -12,13 +12,13 @@ use Rattle.bidi_messages.specs.Command.{method_in}
 use Rattle.bidi_messages.specs.Message.{response_text, error_text}
 use Rattle.bidi_messages.specs.Verdict.{Verdict, Accepted, Refused}
 use Rattle.bidi_params.specs.declared.error_code.ErrorCode.TheVariants.{InvalidArgument, SessionNotCreated, UnknownError}
-use Rattle.bidi_browser.specs.Acts.{Act}
-use Rattle.bidi_browser.specs.Actions.{Action}
+use Rattle.bidi_contexts.specs.Acts.{Act}
+use Rattle.bidi_contexts.specs.Actions.{Action}
 use Rattle.bidi_handles.specs.Checks.{◌>>=◌, need}
-use Rattle.bidi_browser.specs.Outcome as browser
-use Rattle.bidi_browser.specs.Occurrences.{Occurrence}
+use Rattle.bidi_contexts.specs.Outcome as browser
+use Rattle.bidi_contexts.specs.Occurrences.{Occurrence}
 use Rattle.bidi_browser.specs.Occurs.{Item, Happens, Replies}
-use Rattle.bidi_remote.specs.Machine.Capabilities.{matching}
+use Rattle.bidi_sessions.specs.Capabilities.{matching}
 use Rattle.bidi_remote.specs.Machine.Commands.{Command, Status, New, End, Subscribe, UnsubscribeById, UnsubscribeByEvents, OfBrowser, command_of, id_of_command}
 use Rattle.bidi_remote.specs.Machine.History.{Input, At, Open, Drop, Heard, NotText, OfPage, Deed, Time, Opened, Dropped}
 use Rattle.bidi_remote.specs.Machine.History.{Began, Ended, Subscribed, Cancelled, Dismissed, Did, Told, acts}
@@ -27,11 +27,12 @@ use Rattle.bidi_remote.specs.Machine.Outcome.{NotTaken, Denied, Lost, Error, NoE
 use Rattle.bidi_remote.specs.Machine.Outcome.{in_page, asked, replied, outcome, answered, opening, may_open}
 use Rattle.bidi_remote.specs.Machine.Outcome.{session_of_resource, is_ready, did, all_named, scope_asked, subscriptions_named}
 use Rattle.bidi_remote.specs.Machine.Subscriptions.{subscriptions, holds_globally}
-use Rattle.bidi_remote.specs.Machine.Replies.{IsEventText, IsReply, is_result, is_code, HasOneReply, IsAnsweredOnce}
+use Rattle.bidi_remote.specs.Replies.{IsEventText, IsReply, is_result, is_code, HasOneReply, IsAnsweredOnce}
 use Rattle.bidi_remote.specs.Machine.Sent as sent
 use Rattle.bidi_remote.specs.Machine.Sent.{Sent, Text, Close, occurrence_text, to_session, hearers, to_hearers, announcements}
 use Rattle.bidi_remote.specs.Machine.Sent.{announced, closed, sent_to, sent_unasked, items, action_in, told, out, text_on, texts_on}
-use Rattle.bidi_remote.proofs.ListLemmas.{all-append}
+use Rattle.bidi_sessions.proofs.ListLemmas.{all-append}
+use Rattle.bidi_sessions.specs.Limits.{most_subscriptions}
 
 -- ---- texts on one connection
 
@@ -319,7 +320,7 @@ module _ (h : List Input) (l : ℕ) where
   outcome-apart c apart (SpeaksFor s) End = tt
   outcome-apart c apart (SpeaksFor s) (Subscribe names contexts users) =
       bound NotOpening (all_named names) _ (λ events. bound NotOpening (scope_asked (acts past) contexts users) _ (λ scope.
-      bound NotOpening (need (nat_lt (length (subscriptions past s)) 256) UnknownError) (λ few. Ok (Subscribed s events scope)) (λ few. tt)))
+      bound NotOpening (need (nat_lt (length (subscriptions past s)) most_subscriptions) UnknownError) (λ few. Ok (Subscribed s events scope)) (λ few. tt)))
   outcome-apart c apart (SpeaksFor s) (UnsubscribeById ids) = bound NotOpening (subscriptions_named past s ids) _ (λ ns. tt)
   outcome-apart c apart (SpeaksFor s) (UnsubscribeByEvents names) = bound NotOpening (all_named names) _ (λ events.
       bound NotOpening (need (list_all (holds_globally past s) events) InvalidArgument) (λ held. Ok (Dismissed s events)) (λ held. tt))

@@ -1,5 +1,5 @@
 -- One row of the table of sessions that changes.
-use Rattle.std.proofs.Common.{◌≡◌, ◌∙◌, ◌<◌, ◌≤◌, ℕ, zero, suc, Bool, true, false, not, List, [], ◌∷◌, length, map, set}
+use Rattle.std.proofs.Common.{◌≡◌, ◌∙◌, ◌<◌, ◌≤◌, ℕ, zero, suc, Bool, true, false, List, [], ◌∷◌, length, map, set}
 use Rattle.std.proofs.Common.{get_or, Option, Some, None, option_map, unwrap_or, refl, sym, ap, arith}
 use Rattle.std.specs.Prelude.{◌==◌, filter, find}
 use Rattle.std.specs.List.{position}
@@ -7,16 +7,13 @@ use Rattle.std.proofs.lemmas.List.Quantifiers.{position-Some}
 use Rattle.std.proofs.lemmas.Bool.Decides.{nat_tests}
 use Rattle.std.proofs.lemmas.List.Elements.{filter-append}
 use Rattle.std.proofs.lemmas.List.{length-append}
-use Rattle.bidi_browser.specs.Contexts.{up_to}
-use Rattle.bidi_methods.specs.declared.event_data.EventName.{EventName}
-use Rattle.bidi_browser.specs.Occurrences.{is_among}
+use Rattle.bidi_contexts.specs.Contexts.{up_to}
 use Rattle.bidi_remote.specs.Machine.History.{Deed}
 use Rattle.bidi_remote.specs.Machine.Sessions.{is_active, sessions, sessions_made}
-use Rattle.bidi_remote.specs.Machine.Subscriptions.{is_global}
-use Rattle.bidi_remote.specs.State.SubscriptionRows.{SubscriptionRow, SessionRow, session_row, session_rows, begun, updated, changed, row_in, stripped}
+use Rattle.bidi_remote.specs.State.SessionRows.{SessionRow, session_row, session_rows, begun, updated, changed, row_in}
 use Rattle.bidi_remote.specs.State.SessionView.{session_row_of}
 use Rattle.bidi_remote.specs.declared.sessions.Session.{Session}
-use Rattle.bidi_remote.proofs.ListLemmas.{find-seen, position-none}
+use Rattle.bidi_sessions.proofs.ListLemmas.{find-seen, position-none}
 
 -- a value that is put at the place of the first of that number, by what is seen of it
 pub changed-at : {X : Type 0} (g : X → SessionRow) (f : SessionRow → SessionRow) (s : ℕ) (xs : List X) (i : ℕ) (x d : X)
@@ -126,13 +123,3 @@ one-row past s =
     let active = fewer (is_active past) (λ k. k == s) (up_to (sessions_made past)) in
     let all = once (sessions_made past) s in
     omega (arith, rows, active, all)
-
--- ---- events that are taken from a row
-
-pub stripped-global : (es : List EventName) (r : SubscriptionRow) (left : List EventName)
-    → is_global r.scope ≡ true → left ≡ filter (λ e. not (is_among es e)) r.events
-    → record r { events = left } ≡ stripped es r
-stripped-global es r left global is = rw global (ap (λ events. record r { events = events }) is)
-
-pub stripped-other : (es : List EventName) (r : SubscriptionRow) → is_global r.scope ≡ false → stripped es r ≡ r
-stripped-other es r scoped = rw scoped refl

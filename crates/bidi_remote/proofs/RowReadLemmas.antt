@@ -2,8 +2,8 @@
 use Rattle.std.proofs.Common.{◌≡◌, ◌∙◌, ℕ, List, Option, Some, None, Result, Ok, Err, IfOk, sym, ap}
 use Rattle.std.specs.Prelude.{option_map}
 use Rattle.bidi_tree.specs.Node.{Node}
-use Rattle.bidi_values.specs.declared.table_row.TableRow.{TableRow}
-use Rattle.bidi_values.specs.contracts.table_row.TableRowShape.TheImpl.{ghosts}
+use Rattle.bidi_scripts.specs.declared.table_row.TableRow.{TableRow}
+use Rattle.bidi_scripts.specs.contracts.table_row.TableRowShape.TheImpl.{ghosts}
 use Rattle.bidi_remote.specs.Machine.History.{IsRow, is_row, is_no_row, is_not_json, row_tree}
 use Rattle.bidi_remote.specs.State.RowsRead.{IsRowOf}
 

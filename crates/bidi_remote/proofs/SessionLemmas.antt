@@ -3,7 +3,7 @@ use Rattle.std.proofs.Common.{◌≡◌, ◌<◌, ◌≤◌, ℕ, suc, zero, Boo
 use Rattle.std.specs.Prelude.{◌==◌, filter}
 use Rattle.std.proofs.lemmas.Bool.Decides.{nat_tests}
 use Rattle.std.proofs.lemmas.List.Elements.{filter-append}
-use Rattle.bidi_browser.specs.Contexts.{up_to}
+use Rattle.bidi_contexts.specs.Contexts.{up_to}
 use Rattle.bidi_remote.specs.Machine.History.{Deed, Began, Ended}
 use Rattle.bidi_remote.specs.Machine.Sessions.{sessions_made, next_session, is_active, sessions}
 

@@ -7,8 +7,8 @@ use Rattle.bidi_remote.specs.Machine.Sessions.{sessions_made, is_active}
 use Rattle.bidi_remote.specs.Machine.Connections.{Attachment, Shut, Alone, SpeaksFor, is_for, opened_for, attachment_of}
 use Rattle.bidi_remote.specs.Machine.Subscriptions.{subscriptions_made}
 use Rattle.bidi_remote.specs.Machine.Outcome.{NotTaken, turn, with_turn, deeds}
-use Rattle.bidi_browser.specs.Plans.{HasIds}
-use Rattle.bidi_browser.proofs.BirthLemmas.{given-few}
+use Rattle.bidi_contexts.specs.Tables.{HasIds}
+use Rattle.bidi_contexts.proofs.BirthLemmas.{given-few}
 use Rattle.bidi_remote.specs.State.Stands.{IsShort}
 use Rattle.bidi_remote.proofs.OpeningLemmas.{IsFairIfDone, turn_fair}
 use Rattle.bidi_remote.proofs.SessionLemmas.{active_made}

@@ -1,99 +1,40 @@
 -- How the table of subscriptions moves with the past.
 use Rattle.std.proofs.Common.{◌≡◌, ◌∙◌, ◌<◌, ◌≤◌, ℕ, suc, zero, Bool, true, false, not, ◌&&◌, ◌||◌, List, [], ◌∷◌}
-use Rattle.std.proofs.Common.{◌++◌, length, get_or, Some, refl, sym, ap, ap₂, subst, arith, eq-eqb, eqb-true}
+use Rattle.std.proofs.Common.{◌++◌, length, Some, refl, sym, ap, ap₂, subst, arith, eq-eqb, eqb-true}
 use Rattle.std.specs.Prelude.{◌==◌, filter, map, find, bytes_eq, option_map, if◌then◌else◌}
 use Rattle.std.specs.List.{list_any, list_all}
 use Rattle.std.proofs.Math.Bool.{and-true, and-false, and_assoc}
 use Rattle.std.proofs.Math.Dec.{eqb-suc-zero}
-use Rattle.std.proofs.lemmas.Bool.Decides.{nat_tests, same_from_decides}
+use Rattle.std.proofs.lemmas.Bool.Decides.{nat_tests}
 use Rattle.std.proofs.lemmas.List.{map-append, map-id}
 use Rattle.std.proofs.lemmas.List.Elements.{filter-append}
 use Rattle.std.proofs.lemmas.List.Folds.{list_any-append}
 use Rattle.std.proofs.lemmas.Simd.{map-map}
 use Rattle.bidi_methods.specs.declared.event_data.EventName.{EventName}
-use Rattle.bidi_methods.specs.declared.event_data.EventName.TheVariants.{ContextCreated, ContextDestroyed, NavigationStarted}
-use Rattle.bidi_methods.specs.declared.event_data.EventName.TheVariants.{DomContentLoaded, Load, RealmCreated, RealmDestroyed, EntryAdded}
+use Rattle.bidi_methods.specs.declared.event_data.EventName.TheVariants.{EntryAdded}
 use Rattle.bidi_methods.specs.EventName.{events as all_events}
 use Rattle.bidi_handles.specs.declared.id.IdKind.TheVariants.{Subscription}
 use Rattle.bidi_handles.specs.Ids.{id_text}
-use Rattle.bidi_browser.specs.declared.occurrence.Top.{Top}
-use Rattle.bidi_browser.specs.Contexts.{up_to, is_alive}
-use Rattle.bidi_browser.specs.Occurrences.{event_place, is_among}
+use Rattle.bidi_contexts.specs.declared.occurrence.Top.{Top}
+use Rattle.bidi_contexts.specs.Contexts.{up_to, is_alive}
+use Rattle.bidi_contexts.specs.Occurrences.{is_among}
 use Rattle.bidi_remote.specs.Machine.History.{Deed, Began, Ended, Subscribed, Cancelled, Dismissed, Scope, acts}
 use Rattle.bidi_remote.specs.Machine.Sessions.{sessions_made, next_session, is_active, sessions}
 use Rattle.bidi_remote.specs.Machine.Subscriptions.{subscriptions_made, next_subscription, subscriptions, events_of, scope_of, is_listed}
 use Rattle.bidi_remote.specs.Machine.Subscriptions.{is_global, is_kept, is_live, holds, holds_globally, covers, is_enabled}
 use Rattle.bidi_remote.specs.Machine.Subscriptions.{is_newly_enabled}
-use Rattle.bidi_remote.specs.State.SubscriptionRows.{SubscriptionRow, row_at, events_left, subscription_rows, SessionRow}
-use Rattle.bidi_remote.specs.State.SubscriptionRows.{session_row, session_rows, any_covers, any_global, row_covers, without}
-use Rattle.bidi_remote.specs.State.SubscriptionRows.{loses_all, stripped, dismissed, begun, subscribed, cancelled, updated, changed, is_new}
+use Rattle.bidi_sessions.specs.SubscriptionRows.{SubscriptionRow}
+use Rattle.bidi_remote.specs.State.SessionRows.{row_at, events_left, subscription_rows, SessionRow}
+use Rattle.bidi_remote.specs.State.SessionRows.{session_row, session_rows}
+use Rattle.bidi_sessions.specs.SubscriptionRows.{any_covers, any_global, row_covers, without}
+use Rattle.bidi_sessions.specs.SubscriptionRows.{loses_all, stripped, dismissed}
+use Rattle.bidi_remote.specs.State.SessionRows.{begun, subscribed, cancelled, updated, changed, is_new}
 use Rattle.bidi_remote.specs.State.MissedRows.{places, all_left}
 use Rattle.bidi_remote.specs.Machine.LogBuffer.{missed}
-use Rattle.bidi_remote.proofs.ListLemmas.{each-passing}
+use Rattle.bidi_sessions.proofs.EventLemmas.{is_among-all, some_passes, any_event, is_among-filter, filter-is_among}
+use Rattle.bidi_sessions.proofs.ListLemmas.{each-passing}
 use Rattle.bidi_remote.proofs.PlaceLemmas.{places-announced}
 use Rattle.bidi_remote.proofs.SessionLemmas.{both, active_made, sessions-began}
-
--- ---- events
-
--- an event stands at its place among the eight
-event_at : (e : EventName) → get_or all_events (event_place e) ContextCreated ≡ e
-event_at ContextCreated = refl
-event_at ContextDestroyed = refl
-event_at NavigationStarted = refl
-event_at DomContentLoaded = refl
-event_at Load = refl
-event_at RealmCreated = refl
-event_at RealmDestroyed = refl
-event_at EntryAdded = refl
-
--- two events at one place are one
-pub same_event : (e f : EventName) → (event_place e == event_place f) ≡ true → e ≡ f
-same_event e f same = sym (event_at e) ∙ (ap (λ n. get_or all_events n ContextCreated) (eqb-true (event_place e) (event_place f) same) ∙ event_at f)
-
--- each is among the eight
-is_among-all : (e : EventName) → is_among all_events e ≡ true
-is_among-all ContextCreated = refl
-is_among-all ContextDestroyed = refl
-is_among-all NavigationStarted = refl
-is_among-all DomContentLoaded = refl
-is_among-all Load = refl
-is_among-all RealmCreated = refl
-is_among-all RealmDestroyed = refl
-is_among-all EntryAdded = refl
-
--- an event passes that is among these, so one of these does
-some_passes : (p : EventName → Bool) (es : List EventName) (e : EventName) → is_among es e ≡ true → p e ≡ true → list_any p es ≡ true
-some_passes p [] e here passes = cc
-some_passes p (f ∷ es) e here passes = let ih = some_passes p es e in let same = same_event f e in grind (arith, nat_tests, ih, same)
-
--- one of these passes, so one of those does that all that pass are among
-some_found : (p : EventName → Bool) (es fs : List EventName)
-    → ((e : EventName) → p e ≡ true → is_among fs e ≡ true) → list_any p es ≡ true → list_any p fs ≡ true
-some_found p [] fs found some = cc
-some_found p (e ∷ es) fs found some =
-    let ih = some_found p es fs found in
-    let at = found e in
-    let one = some_passes p fs e in
-    grind (arith, nat_tests, ih, at, one)
-
--- where all that pass are among these, one of the eight passes where one of these does
-any_event : (p : EventName → Bool) (es : List EventName) → ((e : EventName) → p e ≡ true → is_among es e ≡ true) → list_any p all_events ≡ list_any p es
-any_event p es found =
-    same_from_decides (list_any p all_events) (list_any p es)
-    (some_found p all_events es found, some_found p es all_events (λ e passes. is_among-all e)) (λ some. some, λ some. some)
-
--- an event is among those that pass where it is one of them and passes
-pub is_among-filter : (p : EventName → Bool) (es : List EventName) (e : EventName) → is_among (filter p es) e ≡ (is_among es e && p e)
-is_among-filter p [] e = refl
-is_among-filter p (f ∷ es) e = let ih = is_among-filter p es e in let same = same_event f e in grind (arith, nat_tests, ih, same)
-
--- events that are all among others
-filter-is_among : (es fs : List EventName) → ((e : EventName) → is_among es e ≡ true → is_among fs e ≡ true) → filter (is_among fs) es ≡ es
-filter-is_among [] fs within = refl
-filter-is_among (e ∷ es) fs within =
-    let ih = filter-is_among es fs (λ f here. within f (grind (arith, nat_tests))) in
-    let at = within e in
-    grind (arith, nat_tests, ih, at)
 
 -- ---- what a subscription holds for
 

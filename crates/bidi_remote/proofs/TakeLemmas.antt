@@ -2,28 +2,28 @@
 use Rattle.std.proofs.Common.{◌≡◌, ◌∙◌, ℕ, Bool, true, false, List, [], ◌∷◌, map, refl, sym, ap, subst, Result, Ok, Err, Vec, Global, IfOk, Some, rules}
 use Rattle.std.specs.Prelude.{IsTrue, OnErr}
 use Rattle.bidi_tree.specs.Node.{Node}
-use Rattle.bidi_browser.specs.Acts.{Act}
-use Rattle.bidi_browser.specs.Actions.{Action}
+use Rattle.bidi_contexts.specs.Acts.{Act}
+use Rattle.bidi_contexts.specs.Actions.{Action}
 use Rattle.bidi_messages.specs.Message.{error_text}
 use Rattle.bidi_messages.specs.Verdict.{Verdict, IsVerdict, Accepted, Refused}
 use Rattle.bidi_params.specs.declared.error_code.ErrorCode.{ErrorCode}
-use Rattle.bidi_remote.specs.declared.step.Sent as declared_sent
+use Rattle.bidi_sessions.specs.declared.step.Sent as declared_sent
 use Rattle.bidi_remote.specs.declared.state.State.{State}
 use Rattle.bidi_remote.specs.declared.turn.Asker.{Asker}
 use Rattle.bidi_remote.specs.declared.turn.Turn.{Turn}
-use Rattle.bidi_remote.specs.Machine.Step.{Step, PageStep, Text, Page}
+use Rattle.bidi_sessions.specs.Step.{Step, PageStep, Text, Page}
 use Rattle.bidi_remote.specs.Machine.History.{Input, Open, Heard, OfPage, IsTakenAs, IsHeardAs, Deed, acts}
 use Rattle.bidi_remote.specs.Machine.Commands.{Command, id_of_command}
 use Rattle.bidi_remote.specs.Machine.Connections.{Attachment, is_shut, is_open, attachment_of}
 use Rattle.bidi_remote.specs.Machine.Outcome.{NotTaken, Error, deeds, turn, with_turn, replied, outcome}
 use Rattle.bidi_remote.specs.Machine.Sent as sent
 use Rattle.bidi_remote.specs.Machine.Sent.{Sent, action_in, items, told}
-use Rattle.bidi_remote.specs.State.Messages.{ReadsBack, AllReadBack}
+use Rattle.bidi_remote.specs.Machine.Messages.{ReadsBack, AllReadBack}
 use Rattle.bidi_remote.specs.State.Stands.{AgreeWith, IsShort, Takes}
 use Rattle.bidi_remote.specs.State.Asked.{Asks}
 use Rattle.bidi_remote.specs.State.EventTexts.{written_in, AreMessages}
 use Rattle.bidi_remote.specs.State.Turns.{Decides, IsMade, deed_of, asker_in, items_in, sent_for}
-use Rattle.bidi_remote.specs.State.View.{sent_of}
+use Rattle.bidi_sessions.specs.View.{sent_of}
 use Rattle.bidi_remote.proofs.ChangeLemmas.{opens-open}
 use Rattle.bidi_remote.proofs.TurnLemmas.{heard-open, asked-is, told-for}
 

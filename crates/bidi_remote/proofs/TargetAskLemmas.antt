@@ -19,28 +19,28 @@ use Rattle.bidi_shape.specs.MapLaws.{PartsAt-joined, unnamed}
 use Rattle.bidi_shape.specs.Table.{rows_in}
 use Rattle.bidi_shape.specs.ValueLaws.{others_of}
 use Rattle.bidi_shape.proofs.FitsLemmas.{row_fits, RowFits}
-use Rattle.bidi_values.specs.declared.target.Target as declared_target
-use Rattle.bidi_values.specs.declared.target.Target.TheVariants as target
-use Rattle.bidi_values.specs.contracts.target.TargetShape.TheImpl as targets
-use Rattle.bidi_values.specs.contracts.target.RealmTargetShape.TheImpl as realm_targets
+use Rattle.bidi_scripts.specs.declared.target.Target as declared_target
+use Rattle.bidi_scripts.specs.declared.target.Target.TheVariants as target
+use Rattle.bidi_scripts.specs.contracts.target.TargetShape.TheImpl as targets
+use Rattle.bidi_scripts.specs.contracts.target.RealmTargetShape.TheImpl as realm_targets
 use Rattle.bidi_values.specs.declared.nested.Nested.{Nested}
 use Rattle.bidi_values.specs.declared.kinds.ListKind.{ListKind}
 use Rattle.bidi_values.specs.declared.kinds.PairsKind.{PairsKind}
 use Rattle.bidi_values.specs.declared.local_value.LocalPlain.{LocalPlain}
-use Rattle.bidi_values.specs.contracts.call_function.CallFunctionParametersShape.TheImpl as call
-use Rattle.bidi_values.specs.contracts.call_function.DisownParametersShape.TheImpl as disown
-use Rattle.bidi_values.specs.Ownership.{ownership_text}
-use Rattle.bidi_values.specs.contracts.evaluate.EvaluateParametersShape.TheImpl as evaluate
-use Rattle.bidi_values.specs.declared.evaluate.EvaluateParameters.{EvaluateParameters}
-use Rattle.bidi_values.specs.declared.evaluate.Ownership.{Ownership}
-use Rattle.bidi_values.specs.declared.evaluate.Ownership.TheVariants as ownership
-use Rattle.bidi_values.specs.declared.serialization_options.SerializationOptions.{SerializationOptions}
-use Rattle.bidi_values.specs.contracts.serialization_options.SerializationOptionsShape.TheImpl as options
-use Rattle.bidi_values.specs.LogEntry.{uint_tree}
-use Rattle.bidi_values.specs.declared.call_function.CallFunctionParameters.{CallFunctionParameters}
-use Rattle.bidi_values.specs.declared.call_function.DisownParameters.{DisownParameters}
+use Rattle.bidi_scripts.specs.contracts.call_function.CallFunctionParametersShape.TheImpl as call
+use Rattle.bidi_scripts.specs.contracts.call_function.DisownParametersShape.TheImpl as disown
+use Rattle.bidi_scripts.specs.Ownership.{ownership_text}
+use Rattle.bidi_scripts.specs.contracts.evaluate.EvaluateParametersShape.TheImpl as evaluate
+use Rattle.bidi_scripts.specs.declared.evaluate.EvaluateParameters.{EvaluateParameters}
+use Rattle.bidi_scripts.specs.declared.evaluate.Ownership.{Ownership}
+use Rattle.bidi_scripts.specs.declared.evaluate.Ownership.TheVariants as ownership
+use Rattle.bidi_scripts.specs.declared.serialization_options.SerializationOptions.{SerializationOptions}
+use Rattle.bidi_scripts.specs.contracts.serialization_options.SerializationOptionsShape.TheImpl as options
+use Rattle.bidi_scripts.specs.LogEntry.{uint_tree}
+use Rattle.bidi_scripts.specs.declared.call_function.CallFunctionParameters.{CallFunctionParameters}
+use Rattle.bidi_scripts.specs.declared.call_function.DisownParameters.{DisownParameters}
 use Rattle.bidi_handles.specs.Params.{items_in, text_if_at, number_if_at, natural}
-use Rattle.bidi_browser.specs.Actions.{ContextTarget, RealmTarget, target_in, is_text, is_well_at}
+use Rattle.bidi_contexts.specs.Actions.{ContextTarget, RealmTarget, target_in, is_text, is_well_at}
 use Rattle.bidi_browser.specs.Asked.{is_owned, object_depth, target_of, evaluate_asked, call_function_asked, disown_asked}
 use Rattle.bidi_handles.specs.ValuesInHand.{local_tree}
 use Rattle.bidi_remote.specs.Machine.Commands.{command_in, OfBrowser}

@@ -8,9 +8,9 @@ use Rattle.std.proofs.lemmas.Grind.{flat_map-append}
 use Rattle.bidi_methods.specs.declared.event_data.EventName.{EventName}
 use Rattle.bidi_messages.specs.contracts.message.MessageShape.TheImpl.{ghosts}
 use Rattle.bidi_messages.specs.Reading.{IsMessageText}
-use Rattle.bidi_browser.specs.declared.occurrence.Top.{Top}
-use Rattle.bidi_browser.specs.Contexts.{up_to}
-use Rattle.bidi_browser.specs.Occurrences.{Occurrence}
+use Rattle.bidi_contexts.specs.declared.occurrence.Top.{Top}
+use Rattle.bidi_contexts.specs.Contexts.{up_to}
+use Rattle.bidi_contexts.specs.Occurrences.{Occurrence}
 use Rattle.bidi_browser.specs.Occurs.{Item, Happens}
 use Rattle.bidi_remote.specs.Machine.History as history
 use Rattle.bidi_remote.specs.Machine.History.{Deed}
@@ -18,14 +18,16 @@ use Rattle.bidi_remote.specs.Machine.Connections.{is_for}
 use Rattle.bidi_remote.specs.Machine.Sessions.{is_active, sessions, sessions_made}
 use Rattle.bidi_remote.specs.Machine.Subscriptions.{is_enabled}
 use Rattle.bidi_remote.specs.Machine.Sent.{Sent, Text, Close, occurrence_text, to_session, hearers, to_hearers, closed}
-use Rattle.bidi_remote.specs.State.ConnectionRows as connections
-use Rattle.bidi_remote.specs.State.ConnectionRows.{rows, to_each}
-use Rattle.bidi_remote.specs.State.SubscriptionRows.{SessionRow, session_row, session_rows, subscription_rows, any_covers}
-use Rattle.bidi_remote.specs.State.Messages.{ReadsBack, AllReadBack}
+use Rattle.bidi_sessions.specs.ConnectionRows as connections
+use Rattle.bidi_remote.specs.State.ConnectionRows.{rows}
+use Rattle.bidi_sessions.specs.ConnectionRows.{to_each}
+use Rattle.bidi_remote.specs.State.SessionRows.{SessionRow, session_row, session_rows, subscription_rows}
+use Rattle.bidi_sessions.specs.SubscriptionRows.{any_covers}
+use Rattle.bidi_remote.specs.Machine.Messages.{ReadsBack, AllReadBack}
 use Rattle.bidi_remote.specs.State.EventTexts.{Written, AreMessages}
 use Rattle.bidi_remote.specs.State.Routes.{to_one, to_all}
 use Rattle.bidi_remote.specs.State.Turns.{sent_for, sent_of_item, to_subscriber, to_subscriber_in, closed_in}
-use Rattle.bidi_remote.proofs.ListLemmas.{all-append, flat_map-same}
+use Rattle.bidi_sessions.proofs.ListLemmas.{all-append, flat_map-same}
 use Rattle.bidi_remote.proofs.ConnectionLemmas.{each-past}
 use Rattle.bidi_remote.proofs.SubscriptionLemmas.{covers-enabled}
 

@@ -11,7 +11,7 @@ use Rattle.bidi_remote.specs.Machine.Outcome.{Lost, Error, replied, answered, as
 use Rattle.bidi_remote.specs.Machine.Sent.{Text, items, announced, closed, sent_to, action_in, told}
 use Rattle.bidi_remote.specs.State.EventTexts.{Written, written}
 use Rattle.bidi_remote.specs.State.Turns.{announced_by, sent_of_item, sent_for, to_subscriber}
-use Rattle.bidi_remote.proofs.ListLemmas.{flat_map-map, flat_map-same}
+use Rattle.bidi_sessions.proofs.ListLemmas.{flat_map-map, flat_map-same}
 
 -- ---- what a connection hears, by how it stands
 

@@ -1,2 +1,4 @@
 pub mod Machine
+pub mod Replies
+pub mod Strike
 pub mod State

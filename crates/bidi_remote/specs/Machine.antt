@@ -1,13 +1,10 @@
--- The machine: what a remote end hears, what comes of it, and what is sent. It is a function of the list of past steps.
-pub mod Step
+-- The machine: what a remote end hears, what it does, and what it sends. All of it is a function of the list of past inputs.
 pub mod History
 pub mod Sessions
 pub mod Connections
 pub mod Subscriptions
 pub mod LogBuffer
 pub mod Commands
-pub mod Capabilities
 pub mod Outcome
 pub mod Sent
-pub mod Replies
-pub mod Strike
+pub mod Messages

@@ -1,20 +1,20 @@
 //! What a new subscription enables that was not enabled before.
 ghost use Rattle.std.specs.Prelude.{◌≡◌, List, map};
 ghost use Rattle.std.specs.VecDeque.{deque_len, deque_capacity};
-ghost use Rattle.bidi_browser.specs.Acts.{Act};
+ghost use Rattle.bidi_contexts.specs.Acts.{Act};
 ghost use Rattle.bidi_browser.specs.Stands.{StandsFor};
 ghost use Rattle.bidi_methods.specs.declared.event_data.EventName.TheVariants.{EntryAdded};
 ghost use Rattle.bidi_remote.specs.State.EventTexts.{place_row};
 ghost use Rattle.bidi_remote.specs.State.MissedRows.{all_left};
-ghost use Rattle.bidi_remote.specs.State.SubscriptionView.{scope_of};
-ghost use Rattle.bidi_remote.specs.State.SubscriptionsView.{rows_of};
-ghost use Rattle.bidi_remote.specs.State.SubscriptionRows.{is_new, may_be_new};
+ghost use Rattle.bidi_sessions.specs.SubscriptionView.{scope_of};
+ghost use Rattle.bidi_sessions.specs.SubscriptionsView.{rows_of};
+ghost use Rattle.bidi_remote.specs.State.SessionRows.{is_new};
+ghost use Rattle.bidi_sessions.specs.SubscriptionRows.{may_be_new};
 
 use crate::event_texts::EventText;
-use crate::subscription_table::Subscriptions;
-use crate::subscriptions::{Scope, covers, is_among};
 use bidi_browser::{Browser, Top};
 use bidi_messages::EventName;
+use bidi_sessions::{Scope, Subscriptions, covers, is_among};
 use std::collections::VecDeque;
 use std::rc::Rc;
 

@@ -1,27 +1,27 @@
 //! How a command is decided, by the state of its connection.
 ghost use Rattle.std.specs.Prelude.{◌≡◌, List};
 ghost use Rattle.bidi_browser.specs.Asked.{command_asked};
-ghost use Rattle.bidi_browser.specs.Outcome as browser;
-ghost use Rattle.bidi_browser.specs.Plans.{HasIds};
+ghost use Rattle.bidi_contexts.specs.Outcome as browser;
+ghost use Rattle.bidi_contexts.specs.Tables.{HasIds};
 ghost use Rattle.bidi_remote.specs.Machine.Connections.{attachment_of, Alone, SpeaksFor};
 ghost use Rattle.bidi_remote.specs.Machine.Commands.{OfBrowser};
 ghost use Rattle.bidi_remote.specs.Machine.History.{Input, Deed, acts};
 ghost use Rattle.bidi_remote.specs.Machine.Outcome.{deeds, did, outcome};
 ghost use Rattle.bidi_remote.specs.State.Asked.{IsWellAsked, asked_of, session_asked_of};
-ghost use Rattle.bidi_remote.specs.State.ConnectionRows.{attachment_in_hand};
+ghost use Rattle.bidi_sessions.specs.ConnectionRows.{attachment_in_hand};
 ghost use Rattle.bidi_remote.specs.State.Stands.{AgreeWith, IsShort};
 ghost use Rattle.bidi_remote.specs.State.Turns.{Decides, HasResultOf, IsWellDecided};
 ghost use Rattle.bidi_messages.specs.Payloads.{command_method};
 ghost use Rattle.bidi_methods.specs.CommandData.{session_asked, browser_asked};
 ghost use Rattle.bidi_methods.specs.declared.command_data.CommandData.TheVariants.{Session};
 
-use crate::connections::Attachment;
 use crate::session::{decide_end, decide_new, decide_status, decide_subscribe, decide_unsubscribe};
 use crate::state::State;
 use crate::turn::{Asker, Turn};
 use bidi_browser::{Action, Refusal};
 use bidi_messages::{BrowserCommand, CommandData, ErrorCode, Method, Payload, SessionCommand};
 use bidi_params::session::NewParameters;
+use bidi_sessions::Attachment;
 use bidi_shape::Shape;
 use std::alloc::Global;
 

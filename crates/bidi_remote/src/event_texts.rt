@@ -1,7 +1,7 @@
 //! The texts of events.
 ghost use Rattle.std.specs.Prelude.{◌≡◌, ◌∷◌, ◌++◌, [], map, string_bytes, IfOk};
 ghost use Rattle.std.specs.List.{AllByRecursion};
-ghost use Rattle.bidi_browser.specs.View.{occurrence_of, seen};
+ghost use Rattle.bidi_contexts.specs.View.{occurrence_of, seen};
 ghost use Rattle.bidi_messages.specs.Reading.{IsMessageText};
 ghost use Rattle.bidi_remote.specs.State.EventTexts.{written, written_of, written_in, AreMessages};
 ghost use Rattle.bidi_messages.specs.Payloads.{EventIsWell};

@@ -1,31 +1,30 @@
 //! The remote end: connections, sessions, subscriptions, and who is sent which text.
 //!
 //! A [`RemoteEnd`] takes one [`Step`] at a time and returns what it sends for it, as a list of [`Sent`]. It
-//! does no input or output. What it sends depends on the steps that it has taken, and on nothing else; the
-//! specifications define it as a function of their list.
+//! does no input or output, and what it sends depends only on the steps that it has taken.
 //!
-//! It keeps connections, sessions and subscriptions. Commands of the modules browser, browsingContext and
-//! script, and the steps of pages, go to a browser in memory. Each event is sent to the sessions that are
-//! subscribed to it. The log entries that a session misses are kept until it subscribes to them.
+//! Commands of the session module are decided here. All other commands and the steps of pages go to a browser in
+//! memory. Each event is sent to the sessions that are subscribed to it. The log entries that a session misses
+//! are kept until it subscribes to them.
 #![tactic(auto)]
 
 mod announcing;
-mod connections;
 mod deciding;
-mod event_index;
 mod event_texts;
+mod hearing;
 mod log_buffer;
+mod opening;
+mod page_steps;
+mod refusing;
 mod remote_end;
 mod rows;
 mod session;
 mod sessions;
 mod state;
-mod step;
 mod striking;
-mod subscription_table;
-mod subscriptions;
+mod taking;
 mod telling;
 mod turn;
 
+pub use bidi_sessions::{PageStep, Sent, Step};
 pub use remote_end::{RemoteEnd, RemoteFault};
-pub use step::{PageStep, Sent, Step};

@@ -4,10 +4,9 @@ ghost use Rattle.std.specs.VecDeque.{deque_len, deque_capacity};
 
 use crate::announcing::announce;
 use crate::event_texts::EventText;
-use crate::subscription_table::Subscriptions;
-use crate::subscriptions::Scope;
 use bidi_browser::Browser;
 use bidi_messages::EventName;
+use bidi_sessions::{Scope, Subscriptions};
 use std::alloc::{AllocError, Global};
 use std::collections::VecDeque;
 use std::rc::Rc;
@@ -25,15 +24,15 @@ pub(crate) struct LogBuffer {
 }
 
 impl LogBuffer {
-    ghost use Rattle.bidi_browser.specs.Acts.{Act};
+    ghost use Rattle.bidi_contexts.specs.Acts.{Act};
     ghost use Rattle.bidi_browser.specs.Stands.{StandsFor};
     ghost use Rattle.bidi_methods.specs.declared.event_data.EventName.TheVariants.{EntryAdded};
     ghost use Rattle.bidi_remote.specs.State.EventTexts.{written_of, written_in};
     ghost use Rattle.bidi_remote.specs.State.MissedRows.{waiting, with_missed, all_left};
-    ghost use Rattle.bidi_remote.specs.State.SubscriptionRows.{is_new};
+    ghost use Rattle.bidi_remote.specs.State.SessionRows.{is_new};
     ghost use Rattle.bidi_remote.specs.State.SessionView.{places_in};
-    ghost use Rattle.bidi_remote.specs.State.SubscriptionView.{scope_of};
-    ghost use Rattle.bidi_remote.specs.State.SubscriptionsView.{rows_of};
+    ghost use Rattle.bidi_sessions.specs.SubscriptionView.{scope_of};
+    ghost use Rattle.bidi_sessions.specs.SubscriptionsView.{rows_of};
 
     /// An empty buffer. Room for a hundred entries is made here, so that none is needed later.
     pub(crate) fn new(alloc: Global) -> Result<LogBuffer, AllocError>

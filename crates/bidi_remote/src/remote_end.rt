@@ -1,20 +1,21 @@
 //! The remote end, with its public calls.
 ghost use Rattle.std.specs.Prelude.{◌≡◌, ℕ, ◌<◌, ◌≤◌, ◌↔◌, List, [], ◌∷◌, map, true, IsTrue, IfOk, OnOk, OnErr, IsOk, IsErrOf, length};
-ghost use Rattle.bidi_remote.specs.Machine.Step as steps;
-ghost use Rattle.bidi_remote.specs.State.Messages.{AllReadBack};
-ghost use Rattle.bidi_remote.specs.State.View.{page_of, step_of, sent_of};
-ghost use Rattle.bidi_browser.specs.Actions.{Action};
+ghost use Rattle.bidi_sessions.specs.Step as steps;
+ghost use Rattle.bidi_remote.specs.Machine.Messages.{AllReadBack};
+ghost use Rattle.bidi_sessions.specs.View.{page_of, step_of, sent_of};
+ghost use Rattle.bidi_contexts.specs.Actions.{Action};
 ghost use Rattle.bidi_remote.specs.Machine.History.{Input, IsHeardAs, IsTakenAs};
 ghost use Rattle.bidi_remote.specs.Machine.Connections.{is_open};
 ghost use Rattle.bidi_remote.specs.Machine.Outcome.{deeds, page_refusal};
-ghost use Rattle.bidi_remote.specs.Machine.Replies.{IsAnsweredOnce};
+ghost use Rattle.bidi_remote.specs.Replies.{IsAnsweredOnce};
 ghost use Rattle.bidi_remote.specs.Machine.Sent.{out};
-ghost use Rattle.bidi_remote.specs.Machine.Strike as strike;
+ghost use Rattle.bidi_remote.specs.Strike as strike;
 ghost use Rattle.bidi_remote.specs.declared.remote_end.RemoteFault.TheVariants.{NoMemory};
+ghost use Rattle.bidi_sessions.specs.Limits.{most_steps};
 
 use crate::state::State;
-use crate::step::{PageStep, Sent, Step};
 use bidi_messages::ErrorCode;
+use bidi_sessions::{PageStep, Sent, Step};
 use bidi_tree::JsUint;
 use json::Scratch;
 use std::alloc::{AllocError, Global};
@@ -74,6 +75,7 @@ impl RemoteEnd {
     /// # Errors
     /// No memory: an allocation failed.
     pub fn new(alloc: Global) -> Result<RemoteEnd, AllocError>
+        // After an Ok, the end stands for the empty history.
         ensures { IfOk result (λ end. StandsFor end []) }
     {
         let scratch = Box::new(alloc, Scratch::new(alloc))?;
@@ -100,8 +102,7 @@ impl RemoteEnd {
     ///
     /// After WebDriver BiDi, "Transport".
     pub fn step(&mut self, step: Step) -> Result<Vec<Sent>, RemoteFault>
-        // A step is one input. Whatever history the end stands for, it answers that input as the machine
-        // does.
+        // A step is one input. After each history that the end stands for, it answers as the machine does.
         ensures ok { IfOk result (λ sent. (i : Input) × IsHeardAs (step_of step) i
             × ((h : List Input) → StandsFor self.old h
             → (map sent_of sent.items ≡ out h i) × StandsFor self.new (i ∷ h))) }
@@ -109,11 +110,15 @@ impl RemoteEnd {
         ensures reads_back { (h : List Input) → StandsFor self.old h → IfOk result (λ sent. AllReadBack (map sent_of sent.items)) }
         // A command that does something gets one reply, with a result that fits the rule of its method.
         ensures answered { (h : List Input) (i : Input) → StandsFor self.old h → IsHeardAs (step_of step) i → OnOk result (IsAnsweredOnce (deeds h) i) }
+        // After an error, the end stands for the histories that it stood for before.
         ensures err { OnErr result ((h : List Input) → StandsFor self.old h → StandsFor self.new h) }
-        ensures worn_out { (h : List Input) → StandsFor self.old h → IsErrOf result RemoteFault.WornOut ↔ (1000000000 ≤ length h) }
-        ensures at { (h : List Input) (n : ℕ) → StandsFor self.old h → length h < 1000000000
+        // `WornOut` comes exactly if the end has accepted `most_steps` steps.
+        ensures worn_out { (h : List Input) → StandsFor self.old h → IsErrOf result RemoteFault.WornOut ↔ (most_steps ≤ length h) }
+        // `At` succeeds as long as the end is not worn out.
+        ensures at { (h : List Input) (n : ℕ) → StandsFor self.old h → length h < most_steps
             → step_of step ≡ steps.At n → IsOk result }
-        ensures drop { (h : List Input) (c : ℕ) → StandsFor self.old h → length h < 1000000000
+        // `Drop` of an open connection succeeds as long as the end is not worn out.
+        ensures drop { (h : List Input) (c : ℕ) → StandsFor self.old h → length h < most_steps
             → step_of step ≡ steps.Drop c → IsTrue (is_open (deeds h) c) → IsOk result }
     {
         if self.count >= MOST_STEPS {
@@ -133,11 +138,15 @@ impl RemoteEnd {
     /// 1. `NoMemory`: an allocation failed.
     /// 2. `WornOut`: 1,000,000,000 steps were accepted.
     pub fn is_struck(&mut self, session: u32, step: &Step) -> Result<bool, RemoteFault>
+        // After an Ok, the answer for the session is that of the definition, for each input as which the step can be heard.
         ensures struck { (h : List Input) (i : Input) → StandsFor self.old h → IsHeardAs (step_of step.now) i
             → IfOk result (λ found. found ≡ strike.is_struck (deeds h) session i) }
+        // If the step is struck, there is an input as which it is heard.
         ensures heard { IfOk result (λ found. found ≡ true → (i : Input) × IsHeardAs (step_of step.now) i) }
+        // The end stands for the histories that it stood for before.
         ensures kept { (h : List Input) → StandsFor self.old h → StandsFor self.new h }
-        ensures worn_out { (h : List Input) → StandsFor self.old h → IsErrOf result RemoteFault.WornOut → 1000000000 ≤ length h }
+        // `WornOut` comes only if the end has accepted `most_steps` steps.
+        ensures worn_out { (h : List Input) → StandsFor self.old h → IsErrOf result RemoteFault.WornOut → most_steps ≤ length h }
     {
         if self.count >= MOST_STEPS {
             return Err(RemoteFault::WornOut);
@@ -157,7 +166,7 @@ impl RemoteEnd {
     pub fn page_refusal(&self, page: &PageStep) -> Result<Option<ErrorCode>, AllocError>
         // The code is that of the first check of the browser that fails, whatever history the end stands for.
         ensures { IfOk result (λ code. (action : Action) × IsTakenAs (page_of page.now) action
-            × ((h : List Input) → StandsFor self.now h → length h < 1000000000 → code ≡ page_refusal (deeds h) action)) }
+            × ((h : List Input) → StandsFor self.now h → length h < most_steps → code ≡ page_refusal (deeds h) action)) }
     {
         self.state.page_refusal(self.alloc, page)
     }
@@ -166,6 +175,7 @@ impl RemoteEnd {
     ///
     /// Passes over at most 64 connections.
     pub fn is_open(&self, conn: JsUint) -> bool
+        // True exactly if the history of the end leaves the connection open.
         ensures { (h : List Input) → StandsFor self.now h → result ≡ is_open (deeds h) conn.value }
     {
         self.state.is_open(conn)

@@ -4,9 +4,9 @@ ghost use Rattle.bidi_tree.specs.View.{node};
 ghost use Rattle.bidi_remote.specs.Machine.History.{IsRow, row_tree};
 ghost use Rattle.bidi_remote.specs.State.RowsRead.{IsRowOf};
 
+use bidi_scripts::TableRow;
 use bidi_shape::{MAX_BYTES, Shape, ShapeFault};
 use bidi_tree::{ReadFault, Tree, read};
-use bidi_values::TableRow;
 use std::alloc::{AllocError, Global};
 
 /// Reads a row of the script table; `None` where the text is no row.

@@ -1,7 +1,5 @@
 //! The commands of the session module, a file each: how one is decided, and its result.
-mod capabilities;
 mod end;
-mod event_names;
 mod new;
 mod status;
 mod subscribe;

@@ -4,19 +4,20 @@ ghost use Rattle.std.specs.Prelude.{codes, bytes_eq, Some, None, option_map, if�
 ghost use Rattle.std.specs.List.{position, list_all};
 ghost use Rattle.bidi_handles.specs.declared.id.IdKind.TheVariants.{Session as OfSession};
 ghost use Rattle.bidi_handles.specs.Ids.{id_of};
-ghost use Rattle.bidi_browser.specs.Acts.{Act};
+ghost use Rattle.bidi_contexts.specs.Acts.{Act};
 ghost use Rattle.bidi_browser.specs.Stands.{StandsFor};
 ghost use Rattle.bidi_remote.specs.State.EventTexts.{Written, written_of, written_in};
-ghost use Rattle.bidi_remote.specs.State.SubscriptionRows.{begun, subscribed, cancelled, lost, logged, changed, row_in, any_covers, any_global};
+ghost use Rattle.bidi_remote.specs.State.SessionRows.{begun, subscribed, cancelled, lost, logged, changed, row_in};
+ghost use Rattle.bidi_sessions.specs.SubscriptionRows.{any_covers, any_global};
 ghost use Rattle.bidi_remote.specs.State.SessionView.{session_row_of, places_in, opened_by};
-ghost use Rattle.bidi_remote.specs.State.SubscriptionView.{scope_of, row_of};
+ghost use Rattle.bidi_sessions.specs.SubscriptionView.{scope_of, row_of};
+ghost use Rattle.bidi_sessions.specs.Limits.{most_sessions};
 
 use crate::event_texts::EventText;
 use crate::log_buffer::LogBuffer;
-use crate::subscription_table::Subscriptions;
-use crate::subscriptions::{Scope, Subscription};
 use bidi_browser::{Browser, IdKind, Top, id_number};
 use bidi_messages::EventName;
+use bidi_sessions::{Scope, Subscription, Subscriptions};
 use std::alloc::{AllocError, Global};
 use std::rc::Rc;
 
@@ -58,7 +59,7 @@ pub(crate) struct Session {
 }
 
 impl Session {
-    ghost use Rattle.bidi_remote.specs.State.SubscriptionsView.{HasRoomFor};
+    ghost use Rattle.bidi_sessions.specs.SubscriptionsView.{HasRoomFor};
 
     /// Whether the event is enabled for it in the tree of this top-level context.
     pub(crate) fn hears(&self, event: EventName, top: Top) -> bool
@@ -149,7 +150,7 @@ impl Sessions {
 
     /// Whether one more session can be made.
     pub(crate) fn is_ready(&self) -> bool
-        ensures { result ≡ nat_lt (length (rows_in self.now)) 8 }
+        ensures { result ≡ nat_lt (length (rows_in self.now)) most_sessions }
     {
         self.active.len() < MOST_SESSIONS
     }

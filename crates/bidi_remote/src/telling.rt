@@ -2,36 +2,36 @@
 ghost use Rattle.std.specs.Prelude.{◌≡◌, ◌≤◌, ◌++◌, List, map, flat_map, filter, string_bytes, IfOk, IfSome, OnOk};
 ghost use Rattle.std.specs.List.{AllByRecursion, list_any};
 ghost use Rattle.bidi_tree.specs.Node.{levels};
-ghost use Rattle.bidi_browser.specs.Acts.{Act};
-ghost use Rattle.bidi_browser.specs.View.{occurrence_of, result_tree, seen};
+ghost use Rattle.bidi_contexts.specs.Acts.{Act};
+ghost use Rattle.bidi_contexts.specs.View.{occurrence_of, seen};
+ghost use Rattle.bidi_browser.specs.View.{result_tree};
 ghost use Rattle.bidi_remote.specs.Machine.History.{Deed};
-ghost use Rattle.bidi_browser.specs.Occurrences as heard;
+ghost use Rattle.bidi_contexts.specs.Occurrences as heard;
 ghost use Rattle.bidi_methods.specs.declared.event_data.EventName.TheVariants.{EntryAdded};
 ghost use Rattle.bidi_messages.specs.Reading.{IsMessageText};
-ghost use Rattle.bidi_remote.specs.Machine.Replies.{ReadsAs};
+ghost use Rattle.bidi_remote.specs.Replies.{ReadsAs};
 ghost use Rattle.bidi_remote.specs.Machine.Sent.{Text, to_hearers};
 ghost use Rattle.bidi_remote.specs.State.EventTexts.{written, written_of, written_in, AreMessages};
-ghost use Rattle.bidi_remote.specs.State.ConnectionRows.{rows_in, to_each};
-ghost use Rattle.bidi_remote.specs.State.SubscriptionRows.{any_covers};
+ghost use Rattle.bidi_sessions.specs.ConnectionRows.{rows_in, to_each};
+ghost use Rattle.bidi_sessions.specs.SubscriptionRows.{any_covers};
 ghost use Rattle.bidi_remote.specs.State.SessionView as sessions;
 ghost use Rattle.bidi_remote.specs.State.SessionView.{session_row_of};
-ghost use Rattle.bidi_remote.specs.State.Messages.{AllReadBack};
+ghost use Rattle.bidi_remote.specs.Machine.Messages.{AllReadBack};
 ghost use Rattle.bidi_remote.specs.State.Routes.{to_one, to_all};
 ghost use Rattle.bidi_remote.specs.State.Stands.{AgreeWith};
 ghost use Rattle.bidi_remote.specs.State.Turns.{IsWellTold, deed_of, asker_in, reply_in, items_in, sent_of_item, sent_for, to_subscriber_in, closed_in};
-ghost use Rattle.bidi_remote.specs.State.View.{sent_of, sent_if};
+ghost use Rattle.bidi_sessions.specs.View.{sent_of, sent_if};
 ghost use Rattle.bidi_messages.specs.Payloads.{EventIsWell, ResultIsWell};
 
-use crate::connections::Connections;
 use crate::event_texts::EventText;
 use crate::sessions::Session;
 use crate::state::State;
-use crate::step::Sent;
 use crate::turn::{Change, Reply, Telling};
 use bidi_browser::{Occurrence, Top};
 use bidi_messages::{
     EventData, EventName, Message, Method, Payload, ResultData, event_text, response_text,
 };
+use bidi_sessions::{Connections, Sent};
 use bidi_shape::Shape;
 use std::alloc::{AllocError, Global};
 use std::rc::Rc;

@@ -4,9 +4,9 @@ ghost use Rattle.std.specs.Prelude.{◌≡◌, Some, [], option_map};
 
 use crate::event_texts::EventText;
 use crate::log_buffer::LogBuffer;
-use crate::subscriptions::Scope;
 use bidi_browser::{Change as BrowserChange, Occurrence, Plan};
 use bidi_messages::{EventName, ResultData};
+use bidi_sessions::Scope;
 use bidi_tree::JsUint;
 use std::alloc::Global;
 use std::rc::Rc;

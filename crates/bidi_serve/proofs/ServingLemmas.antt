@@ -1,12 +1,12 @@
--- Texts that are sent on a link, and exchanges.
+-- Sending texts on a link, and exchanges.
 use Rattle.std.proofs.Common.{◌≡◌, ℕ, Bool, true, false, true≢false, not, List, [], ◌∷◌, ◌++◌, map, Option, Result}
 use Rattle.std.proofs.Common.{Ok, Err, refl, sym, ◌∙◌, ap, subst, rules, tests, arith, suc, ◌<◌, ◌-◌}
 use Rattle.std.specs.Prelude.{◌==◌, ◌&&◌, ◌||◌, if◌then◌else◌, is_ok, IfOk, IfErr, IsErr, IsErrAnd, OnOk}
 use Rattle.std.specs.List.{list_any}
 use Rattle.bidi_tree.specs.declared.number.JsUint.{JsUint}
-use Rattle.bidi_remote.specs.declared.step.Sent.{Sent}
-use Rattle.bidi_remote.specs.declared.step.Sent.TheVariants as in_hand
-use Rattle.bidi_remote.specs.State.View.{sent_of}
+use Rattle.bidi_sessions.specs.declared.step.Sent.{Sent}
+use Rattle.bidi_sessions.specs.declared.step.Sent.TheVariants as in_hand
+use Rattle.bidi_sessions.specs.View.{sent_of}
 use Rattle.bidi_remote.specs.Machine.Sent as sent
 use Rattle.bidi_remote.specs.Machine.Sent.{Text, text_on, texts_on}
 use Rattle.bidi_socket.specs.declared.link.LinkFault.{LinkFault}
@@ -15,14 +15,14 @@ use Rattle.bidi_socket.specs.declared.link.Link.{Link}
 use Rattle.bidi_serve.specs.Serving.{AreQueued, all, next, stop, AreSent, together, is_text_on}
 
 module _ {S K : Type 0} (contents : S → Option (List ℕ)) where
-  -- further texts join behind those that did
+  -- further texts are queued after the others
   pub queued-more : (l m n : Link S K) (xs ys : List (List ℕ)) (b w : Bool)
       → b ≡ true → AreQueued contents l xs m b → AreQueued contents m ys n w → AreQueued contents l (xs ++ ys) n w
   queued-more l m n xs ys b w whole (all _) rest = rest
   queued-more l m n xs ys b w whole (next _ k _ s ss _ joins more) rest = next l k n s (ss ++ ys) w joins (queued-more k m n ss ys b w whole more rest)
   queued-more l m n xs ys b w whole (stop _ _ s ss fault joins) rest = absurd (true≢false (sym whole))
 
-  -- behind one that could not join, no other does
+  -- after one that could not be queued, no other is
   pub queued-stop : (l m : Link S K) (xs ys : List (List ℕ)) (b : Bool) → b ≡ false → AreQueued contents l xs m b → AreQueued contents l (xs ++ ys) m false
   queued-stop l m xs ys b stopped (all _) = absurd (true≢false stopped)
   queued-stop l m xs ys b stopped (next _ k _ s ss _ joins more) = next l k m s (ss ++ ys) false joins (queued-stop k m ss ys b stopped more)
@@ -40,13 +40,13 @@ module _ {S K : Type 0} (contents : S → Option (List ℕ)) where
   pub queued-apart : (l : Link S K) (conn to : ℕ) (s : List ℕ) → (conn == to) ≡ false → AreQueued contents l (text_on conn (Text to s)) l true
   queued-apart l conn to s apart = subst (λ xs. AreQueued contents l xs l true) (sym (ap (λ b. if b then s ∷ [] else []) apart)) (all l)
 
-  -- where there is a text, what waits is sent behind those that joined
+  -- if there is a text, the queue is sent after the texts were queued
   pub sent-together : (l m n : Link S K) (ss : List (List ℕ)) (queued : Bool) (r : Result (Unit {0}) LinkFault)
       → (ss ≡ [] → ⊥) → AreQueued contents l ss m queued → SendsWaiting contents m n r → AreSent contents l ss n (queued && is_ok r)
   sent-together l m n [] queued r is joins sends = absurd (is refl)
   sent-together l m n (s ∷ ss) queued r is joins sends = together l m n s ss queued r joins sends
 
--- the connection is made where its number was not open before, and is after its opening
+-- the connection is made if its number was not open before, but is after its opening
 pub not-denied : (was is : Bool) → not (not was && is) ≡ (was || not is)
 not-denied true is = refl
 not-denied false is = refl
@@ -64,7 +64,7 @@ other-number a b other = search (rules, tests, other)
 
 -- ---- answers
 
--- what holds of what an Ok gives, from what is known of it
+-- a fact about an Ok, from what is known of it
 pub gives : {T E : Type 0} {A B : T → Type 0} (r : Result T E) → IfOk r A → ((x : T) → A x → B x) → IfOk r B
 gives (Ok x) a f = f x a
 gives (Err e) a f = tt
@@ -73,12 +73,12 @@ pub fails : {T E : Type 0} {A B : E → Type 0} (r : Result T E) → IfErr r A �
 fails (Ok x) a f = tt
 fails (Err e) a f = f e a
 
--- what holds of the fault that a call gives holds of its result
+-- a fact about the fault of a call holds of its result
 pub by_fault : {T F : Type 0} (r : Result T F) (f : F) (P : F → Type 0) → IsErr r × IsErrAnd r (λ x. x ≡ f) → P f → IfErr r P
 by_fault (Ok x) f P e p = tt
 by_fault (Err x) f P e p = subst P (sym e.1) p
 
--- the number of exchanges that are left, where there is one
+-- the number of exchanges that are left, if there is one
 pub one-left : (n : ℕ) → 0 < n → n ≡ suc (n - 1)
 one-left n some = omega (arith, some)
 
@@ -86,7 +86,7 @@ pub on_ok : {T E : Type 0} {A B : Type 0} (r : Result T E) → OnOk r A → (A �
 on_ok (Ok x) a f = f a
 on_ok (Err e) a f = tt
 
--- what is no text goes on no connection
+-- a thing that is not a text goes to no connection
 pub no-text : (c : ℕ) (x : Sent) → ((to : JsUint) (text : _) → x ≡ in_hand.Text to text → ⊥) → text_on c (sent_of x) ≡ []
 no-text c (in_hand.Text to text) none = absurd (none to text refl)
 no-text c (in_hand.Close d) none = refl
@@ -95,7 +95,7 @@ no-text c (in_hand.Denied d) none = refl
 no-text c (in_hand.Lost d) none = refl
 no-text c in_hand.NoEffect none = refl
 
--- what is no text is no text for a connection
+-- a thing that is not a text is no text for a connection
 pub not-text : (c : ℕ) (x : Sent) → ((to : JsUint) (text : _) → x ≡ in_hand.Text to text → ⊥) → is_text_on c (sent_of x) ≡ false
 not-text c (in_hand.Text to text) none = absurd (none to text refl)
 not-text c (in_hand.Close d) none = refl
@@ -106,7 +106,7 @@ not-text c in_hand.NoEffect none = refl
 
 -- ---- whether there is a text for a connection
 
--- none is empty where something stands in front
+-- a list with something in front is not empty
 pub cons-nil : (s : List ℕ) (ss : List (List ℕ)) → s ∷ ss ≡ [] → ⊥
 cons-nil s ss e = cc
 

@@ -1,7 +1,12 @@
-//! The remote end behind WebSocket links.
+//! A remote end that serves WebSocket connections, one after another.
 //!
-//! [`serve`] serves the connections of a listener, and [`serve_link`] one connection over a link. So a client
-//! library can talk to the remote end, also in the process of a test.
+//! [`serve`] serves the connections of a listener over one remote end, and [`serve_link`] one connection over
+//! a link, so that a client library can talk to the remote end. Tests can do so in their own process. To
+//! serve many connections at once, see `bidi_host_loop`.
+//!
+//! A handshake or a link that fails ends only its own connection. [`ServeFault`] says why serving ended
+//! early: the listener failed, an allocation failed, or the remote end has taken 1,000,000,000 steps.
+//! Messages and frames have the limits of `bidi_socket`.
 #![tactic(auto)]
 
 mod listening;

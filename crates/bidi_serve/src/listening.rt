@@ -1,4 +1,4 @@
-//! Serving over a listener: the remote end behind WebSocket connections, one after another.
+//! Serving a listener: the remote end behind WebSocket connections, one after another.
 ghost use Rattle.std.specs.Prelude.{◌≡◌};
 ghost use Rattle.bidi_serve.specs.Serving.{serve_fault_of};
 ghost use Rattle.bidi_serve.specs.declared.listening.ServeFault.TheVariants.{NoMemory};
@@ -17,20 +17,21 @@ use tungstenite::handshake::server::{ErrorResponse, ServerError};
 use tungstenite::{Callback, Error as SocketError, HandshakeError, NoMask, accept_hdr};
 use websocket::handshake::HandshakeError as HeadError;
 
-// How many milliseconds a read waits at most at the end of a connection.
+// The most milliseconds that a read waits at the end of a connection.
 const PATIENCE: u64 = 250;
 
-// How many bytes such a read takes at most.
+// The most bytes that such a read takes.
 const LAST_READ: usize = 4096;
 
-// How many such reads there are at most.
+// The most such reads.
 const LAST_READS: u32 = 1024;
 
-// What answers a head that is no opening handshake (RFC 6455, 4.2.1).
+// The answer to a head that is not an opening handshake (RFC 6455, 4.2.1).
 const BAD_REQUEST: &str =
     "HTTP/1.1 400 Bad Request\r\nConnection: close\r\nContent-Length: 0\r\n\r\n";
 
-// What answers a request for no WebSocket, or for one of another version than 13 (RFC 6455, 4.2.2 and 4.4).
+// The answer to a request that is not for a WebSocket, or for another version than 13 (RFC 6455,
+// 4.2.2 and 4.4).
 const UPGRADE_REQUIRED: &str =
     "HTTP/1.1 426 Upgrade Required\r\nUpgrade: websocket\r\nSec-WebSocket-Version: 13\r\nConnection: Upgrade, close\r\nContent-Length: 0\r\n\r\n";
 
@@ -40,10 +41,10 @@ pub enum ServeFault {
     /// The program has no listener, or the listener accepts no connection. Try another port.
     #[error("cannot listen")]
     Listen,
-    /// An allocation failed. The connection at hand is cut off, and later ones are not accepted.
+    /// An allocation failed. The current connection is cut off, and later ones are not accepted.
     #[error("out of memory")]
     NoMemory,
-    /// The remote end has taken 1,000,000,000 steps, and takes no more. Serve again, over a new one.
+    /// The remote end has taken 1,000,000,000 steps, and takes no more. Serve again with a new one.
     #[error("too many steps")]
     WornOut,
 }
@@ -67,23 +68,23 @@ impl From<RemoteFault> for ServeFault {
     }
 }
 
-/// Serves so many connections of a listener, one after another and numbered from 1, over one remote end at
-/// moment 0. At most so many messages are taken of each, pings and pongs counted.
+/// Serves `connections` connections of a listener, one after another and numbered from 1, over one remote end
+/// at moment 0. Takes at most `messages` messages of each, including pings and pongs.
 ///
-/// A connection's resource is the target of its request, as it was written. A handshake or a link that fails
-/// ends its own connection alone; a handshake that fails makes no step, and counts as a connection. A head
-/// that is none is answered by 400, a request for no WebSocket, or for another version than 13, by 426; one
-/// for which there is no memory by nothing, or by 400. It waits for each connection, and for each message of
-/// its peer.
+/// The resource of a connection is the target of its request, as it was written. A handshake or a link that
+/// fails ends only its own connection; a handshake that fails makes no step, but counts as a connection. A
+/// head that is not a request is answered by 400. A request that is not for a WebSocket, or is for another
+/// version than 13, is answered by 426. If there is no memory for the head, the answer is 400 or none. The
+/// call waits for each connection, and for each message of its peer.
 ///
-/// At the end of a connection it sends no more, and throws away what the peer still sends, up to the peer's
-/// end: at most 1,024 reads of 4,096 bytes, none of which waits more than 250 ms. A socket that is closed over
-/// unread bytes is reset, and replies on their way are lost (RFC 6455, 7.1.1).
+/// At the end of a connection the call sends no more, and discards what the peer still sends, up to the end
+/// of the stream: at most 1,024 reads of 4,096 bytes, none of which waits more than 250 ms. Otherwise the
+/// system would reset a socket with unread bytes, and replies that are still on their way would be lost (RFC
+/// 6455, 7.1.1).
 ///
 /// # Errors
 /// - `Listen`: a connection could not be accepted.
-/// - `NoMemory`, `WornOut`: those of [`serve_link`]; `NoMemory` also where an allocation for a resource
-///   failed.
+/// - `NoMemory`, `WornOut`: those of [`serve_link`]; also `NoMemory` if an allocation for a resource failed.
 pub fn serve(
     alloc: Global,
     listener: &TcpListener,
@@ -101,7 +102,8 @@ pub fn serve(
     Ok(())
 }
 
-// Serves the connection of a stream that was accepted. Each frame is sent without waiting for a further one.
+// Serves the connection of a stream that was accepted. Each frame is sent without waiting for
+// another.
 fn serve_stream(
     alloc: Global,
     end: &mut RemoteEnd,
@@ -115,7 +117,8 @@ fn serve_stream(
     served
 }
 
-// Sends no more, and throws away what comes, up to its end or the bounds. A fault of the stream changes nothing.
+// Sends no more, and discards what comes, up to the end or the bounds. A fault of the stream has no
+// effect.
 fn end_stream(stream: &TcpStream) {
     let patience = Duration::from_millis(PATIENCE);
     if stream.shutdown(Shutdown::Write).is_ok() && stream.set_read_timeout(Some(patience)).is_ok() {
@@ -123,7 +126,7 @@ fn end_stream(stream: &TcpStream) {
     }
 }
 
-// Reads up to the end, a fault or the last of the reads, and keeps nothing.
+// Reads up to the end, a fault or the last of the reads, and discards the bytes.
 fn throw_away<S: Read + Drop>(stream: S) {
     let mut stream = stream;
     let mut unread = [0; LAST_READ];
@@ -135,7 +138,7 @@ fn throw_away<S: Read + Drop>(stream: S) {
     }
 }
 
-// Serves a connection whose handshake is not done yet.
+// Serves a connection whose handshake is not finished.
 fn serve_handshake(
     alloc: Global,
     end: &mut RemoteEnd,
@@ -159,7 +162,7 @@ fn refuse<S: Write + Drop>(stream: S, answer: &str) {
     let _ = stream.write_all(answer.as_bytes());
 }
 
-// Serves a connection whose handshake has shown its target.
+// Serves a connection whose handshake has given its target.
 fn serve_target<S: Read + Write + Drop>(
     alloc: Global,
     end: &mut RemoteEnd,
@@ -174,7 +177,8 @@ fn serve_target<S: Read + Write + Drop>(
     Ok(())
 }
 
-// The link of a handshake, or what answers one that fails. The target of its request is stored in `target`.
+// Makes the link of a handshake, or the answer to one that fails. Stores the target of its request
+// in `target`.
 fn handshake<S: Read + Write + Drop>(
     alloc: Global,
     stream: S,
@@ -184,7 +188,8 @@ fn handshake<S: Read + Write + Drop>(
     Ok(Link::over(alloc, socket))
 }
 
-// What answers a handshake that failed: nothing where no request came, since the stream failed or ended.
+// The answer to a handshake that failed: empty if no request came, because the stream failed or
+// ended.
 fn answer_to<S: Read + Write + Drop, C: Callback + Drop>(error: ServerError<S, C>) -> &'static str {
     match error {
         HandshakeError::Failure(fault) => answer_to_fault(fault),
@@ -192,7 +197,7 @@ fn answer_to<S: Read + Write + Drop, C: Callback + Drop>(error: ServerError<S, C
     }
 }
 
-// What answers a handshake that this fault ended.
+// The answer to a handshake that ended with this fault.
 fn answer_to_fault(fault: SocketError) -> &'static str {
     match fault {
         SocketError::Handshake(fault) => answer_to_head(fault),
@@ -203,7 +208,7 @@ fn answer_to_fault(fault: SocketError) -> &'static str {
     }
 }
 
-// What answers the head of a request that opens no connection.
+// The answer to the head of a request that opens no connection.
 fn answer_to_head(fault: HeadError) -> &'static str {
     match fault {
         HeadError::MissingConnectionUpgradeHeader
@@ -213,12 +218,12 @@ fn answer_to_head(fault: HeadError) -> &'static str {
     }
 }
 
-// The callback that stores the target of a request there.
+// Makes the callback that stores the target of a request.
 fn keeper<'a>(alloc: Global, target: &'a mut Result<String, AllocError>) -> TargetKeeper<'a> {
     TargetKeeper { alloc, target }
 }
 
-/// Stores the target of the request that a handshake shows.
+/// Stores the target of the request in a handshake.
 struct TargetKeeper<'a> {
     alloc: Global,
     target: &'a mut Result<String, AllocError>,

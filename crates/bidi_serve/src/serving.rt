@@ -1,10 +1,10 @@
-//! Serving one connection: the remote end behind a WebSocket link.
+//! Serving one connection over a WebSocket link.
 ghost use Rattle.std.specs.Prelude.{◌≡◌, not, ◌&&◌, Bool, List, [], ◌∷◌, map, IfOk, IfErr, OnOk};
 ghost use Rattle.std.specs.List.{list_any};
 ghost use Rattle.bidi_remote.specs.Machine.History.{Input, Open, IsHeardAs};
 ghost use Rattle.bidi_remote.specs.Machine.Sent.{Text, out, text_on, texts_on};
 ghost use Rattle.bidi_remote.specs.State.Stands.{StandsFor};
-ghost use Rattle.bidi_remote.specs.State.View.{step_of, sent_of};
+ghost use Rattle.bidi_sessions.specs.View.{step_of, sent_of};
 ghost use Rattle.bidi_serve.specs.Serving.{AreQueued, AreSent, Began, Exchange, Exchanged, ExchangedSome, Exchanges, IsRefused, Served, dropped, is_denied, is_served, is_text_on};
 
 use bidi_remote::{RemoteEnd, RemoteFault, Sent, Step};
@@ -14,19 +14,19 @@ use std::alloc::{AllocError, Global};
 use std::io::{Read, Write};
 use tungstenite::MaskKeys;
 
-/// Serves one connection over a link, for the resource that its peer asked for.
+/// Serves one connection over a link, with the resource that its peer asked for.
 ///
-/// It opens the connection, takes at most so many messages, pings and pongs counted, hands each to the remote
-/// end, and sends what that answers on this connection, in order. Then it drops the connection, if it is
-/// still open, and closes the link, by a close frame with code 1000.
+/// Opens the connection and takes at most `messages` messages, including pings and pongs. Gives each to the
+/// remote end, and sends what it answers on this connection, in order. Then drops the connection, if it is
+/// still open, and closes the link by a close frame with code 1000.
 ///
-/// It ends where the remote end denies or closes the connection, where the peer closes the link, where the
-/// link fails, or after so many messages. A frame that breaks the protocol is answered by [`Link::take`], with
-/// its own code. What the remote end sends on other connections is dropped.
+/// Ends early if the remote end denies or closes the connection, if the peer closes the link, or if the link
+/// fails. A frame that breaks the protocol is answered by [`Link::take`], with a code of its own. What the
+/// remote end sends on other connections is dropped.
 ///
 /// # Errors
-/// Those of `RemoteEnd::step`. The remote end has taken the steps before, and the connection may still be
-/// open there.
+/// Those of `RemoteEnd::step`. The remote end has taken the steps before, and its connection may still be
+/// open.
 pub fn serve_link<S: Read + Write + Drop, K: MaskKeys + Drop>(
     alloc: Global,
     end: &mut RemoteEnd,
@@ -35,10 +35,11 @@ pub fn serve_link<S: Read + Write + Drop, K: MaskKeys + Drop>(
     resource: &str,
     messages: u32,
 ) -> Result<(), RemoteFault>
+    // After an Ok, the whole connection was served as described, and the remote end has had exactly
+    // its inputs.
     ensures ok { (h : List Input) → StandsFor end.old h → OnOk result ((k : List Input) × StandsFor end.new k
         × Served S.remaining S.contents conn.value resource.now messages link.old h link.new k) }
-    // A step that is refused was not taken, and all before it were: whatever history the end stood for, it stands for that with
-    // what was done of the connection.
+    // After an error, the refused step was not taken, but all steps before it were.
     ensures err { (h : List Input) → StandsFor end.old h → IfErr result (λ fault. (k : List Input) × IsRefused end.new fault k
         × Began S.remaining S.contents conn.value resource.now messages link.old h k) }
 {
@@ -69,7 +70,7 @@ fn serve_open<S: Read + Write + Drop, K: MaskKeys + Drop>(
     drop_connection(end, conn)
 }
 
-// Opens the connection, and tells whether this call opened it.
+// Opens the connection, and returns whether this call opened it.
 fn open(
     alloc: Global,
     end: &mut RemoteEnd,
@@ -119,7 +120,8 @@ fn exchange_all<S: Read + Write + Drop, K: MaskKeys + Drop>(
     Ok(())
 }
 
-// Takes one message, hands it to the remote end, and sends its answer. Tells whether another may follow.
+// Takes one message, gives it to the remote end, and sends its answer. Returns whether another may
+// follow.
 fn exchange<S: Read + Write + Drop, K: MaskKeys + Drop>(
     end: &mut RemoteEnd,
     link: &mut Link<S, K>,
@@ -138,7 +140,8 @@ fn exchange<S: Read + Write + Drop, K: MaskKeys + Drop>(
     }
 }
 
-// Hands a step to the remote end, and sends what that answers. Tells whether another message may follow.
+// Gives a step to the remote end, and sends what it answers. Returns whether another message may
+// follow.
 fn hand_on<S: Read + Write + Drop, K: MaskKeys + Drop>(
     end: &mut RemoteEnd,
     link: &mut Link<S, K>,
@@ -155,7 +158,8 @@ fn hand_on<S: Read + Write + Drop, K: MaskKeys + Drop>(
     Ok(whole && end.is_open(conn))
 }
 
-// Sends the texts for the connection in order and all at once, up to the first that cannot be sent. Tells whether all were.
+// Sends the texts for the connection in order and at once, up to the first that cannot be sent.
+// Returns whether all were sent.
 fn send_all<S: Read + Write + Drop, K: MaskKeys + Drop>(
     link: &mut Link<S, K>,
     conn: JsUint,
@@ -178,7 +182,7 @@ fn has_text(conn: JsUint, sent: &[Sent]) -> bool
     sent.iter().any(|one| is_text_on(conn, one))
 }
 
-// Whether it is a text for the connection.
+// Whether this is a text for the connection.
 fn is_text_on(conn: JsUint, one: &Sent) -> bool
     ensures { result ≡ is_text_on conn.value (sent_of one.now) }
 {
@@ -188,7 +192,8 @@ fn is_text_on(conn: JsUint, one: &Sent) -> bool
     }
 }
 
-// Puts the texts for the connection behind what waits, in order, up to the first that cannot join it. Tells whether all did.
+// Queues the texts for the connection in order, up to the first that cannot be queued. Returns
+// whether all were queued.
 fn queue_all<S: Read + Write + Drop, K: MaskKeys + Drop>(
     link: &mut Link<S, K>,
     conn: JsUint,
@@ -204,7 +209,7 @@ fn queue_all<S: Read + Write + Drop, K: MaskKeys + Drop>(
     true
 }
 
-// Puts one thing behind what waits, if it is a text for the connection. Tells whether the next may follow.
+// Queues one thing, if it is a text for the connection. Returns whether the next may follow.
 fn queue_one<S: Read + Write + Drop, K: MaskKeys + Drop>(
     link: &mut Link<S, K>,
     conn: JsUint,
@@ -218,7 +223,7 @@ fn queue_one<S: Read + Write + Drop, K: MaskKeys + Drop>(
     }
 }
 
-// Puts a text behind what waits, if it is for the connection. Tells whether the next may follow.
+// Queues a text, if it is for the connection. Returns whether the next may follow.
 fn queue_text<S: Read + Write + Drop, K: MaskKeys + Drop>(
     link: &mut Link<S, K>,
     conn: JsUint,

@@ -1,4 +1,5 @@
--- A test of whether a tree fits a term, taken so many steps deep, and that it answers right. The facts of the profile are computed by it.
+-- A test, by a number of steps, of whether a tree fits a term, and the proof that its answers are right. The facts of the profile are computed by
+-- it.
 use Rattle.std.proofs.Common.{◌≡◌, ◌⊎◌, ℕ, zero, suc, pos, List, Bool, true, false, not, nat_lt, nat_le, Option, Some}
 use Rattle.std.proofs.Common.{None, bytes_eq, refl, inl, inr, subst, sym, leb-true, le-leb, ltb-true, lt-ltb}
 use Rattle.std.proofs.lemmas.Bool.{and_parts, and_from, not-true, not_from_false, true≢false}
@@ -18,7 +19,7 @@ use Rattle.bidi_shape.proofs.FitsLemmas.{exactly_kind, text_kind, bool_kind, nul
 use Rattle.bidi_shape.proofs.FitsLemmas.{map_kind, exactly_inside, js_uint_inside, js_int_inside, any_inside, list_inside, item_inside}
 use Rattle.bidi_shape.proofs.FitsLemmas.{pair_inside, map_inside, RowFits, row_inside, row_fits, either_inside, rule_inside, capped_inside}
 
--- what the test answers
+-- the answers of the test
 pub data Answer : Type 0 where
   fit : Answer
   misfit : Answer
@@ -37,13 +38,13 @@ abbrev pub of_test : Bool → Answer
 of_test true = fit
 of_test false = misfit
 
--- the second is asked only where the first is a fit
+-- the second test is made only if the first finds a fit
 abbrev pub also : Answer → (Unit {0} → Answer) → Answer
 also fit f = f tt
 also misfit f = misfit
 also not_known f = not_known
 
--- the second is asked only where the first is a misfit
+-- the second test is made only if the first finds no fit
 abbrev pub or_else : Answer → (Unit {0} → Answer) → Answer
 or_else fit f = fit
 or_else misfit f = f tt

@@ -1,4 +1,4 @@
--- Members that are put together one by one, as a text has them: which of them are listed, and which stay.
+-- Members that are collected one by one, as a text has them: which of them are listed, and which are not.
 use Rattle.std.proofs.Common.{◌≡◌, ℕ, List, Bool, true, false, cond, Ordering, Less, Equal, Greater, Some, bytes_eq, true≢false, refl, sym, ap, ◌∙◌, subst}
 use Rattle.std.proofs.lemmas.Slice.Eq.{bytes_eq-Decides}
 use Rattle.std.specs.List.{list_any}
@@ -22,7 +22,7 @@ kept_or Less false ks k l n t ms o y f g later e = cc
 kept_or Equal false ks k l n t ms o y f g later e = cc
 kept_or Greater false ks k l n t ms o y f g later e = cc
 
--- where an unlisted member stands, not all are listed
+-- if there is an unlisted member, not all members are listed
 some_member : (ks : List (List ℕ)) (k : List ℕ) (t : Node) (ms : Members)
     → list_any (bytes_eq k) ks ≡ false → get_member k ms ≡ Some t → without ks ms ≡ no_members → ⊥
 some_member ks k t no_members f g e = cc

@@ -1,4 +1,4 @@
--- What holds of every value holds of a list of them, and of one that may be there; null is no text; an item has no more levels than its list.
+-- Laws of the parts of values: lists, optional values, and their levels.
 use Rattle.std.proofs.Common.{ℕ, zero, suc, ◌++◌, ◌≤◌, ◌<◌, length, map, get_or, arith}
 use Rattle.std.specs.Prelude.{◌≡◌, List, [], ◌∷◌, Option, Some, None, IfSome, refl}
 use Rattle.std.proofs.Common.{sym, ap, ◌∙◌, take, ◌+◌}

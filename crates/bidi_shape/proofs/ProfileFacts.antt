@@ -18,48 +18,48 @@ use Rattle.bidi_shape.specs.Term.{text, js_uint, js_int, any, rule, any_number_o
 use Rattle.bidi_shape.specs.Fits.{Fits}
 use Rattle.bidi_shape.proofs.FitsTest.{fits_by, misfits_by}
 
--- ---- how the trees are written
+-- ---- notation for trees
 
--- `"text"`
+-- the string `"text"`
 abbrev pub word : String → Node
 word s = node.text (codes s)
 
--- a whole number from 0 on
+-- a number from 0 on
 abbrev pub number : ℕ → Node
 number n = node.whole (pos n)
 
--- `[t, ..]`
+-- the array `[t, ..]`
 abbrev pub listed : List Node → Node
 listed ts = node.list (items_of ts)
 
--- `"name": t, ..`
+-- the members `"name": t, ..`
 infixr 3 ◌being◌and◌
 abbrev pub ◌being◌and◌ : String → Node → Members → Members
 ◌being◌and◌ name t ms = put (codes name) t ms
 
--- `{ "name": t, .. }`
+-- the object `{ "name": t, .. }`
 abbrev pub mapped : Members → Node
 mapped ms = node.map ms
 
--- ---- a member with a cut
+-- ---- members with a cut
 
 -- `{"maxDepth":0}` fits GetTreeParameters
 pub max_depth_zero_fits : Fits (mapped ("maxDepth" being number 0 and no_members)) (rule get_tree_parameters)
 max_depth_zero_fits = fits_by 1000 refl
 
--- so does `{}`, since the member is optional
+-- `{}` fits GetTreeParameters, because the member is optional
 pub max_depth_absent_fits : Fits (mapped no_members) (rule get_tree_parameters)
 max_depth_absent_fits = fits_by 1000 refl
 
--- `{"maxDepth":null}` does not: the name is there, so its value must fit, and no extension takes it
+-- `{"maxDepth":null}` does not fit: the name is there, so its value has to fit, and it is not taken as a further member
 pub max_depth_null_misfits : Fits (mapped ("maxDepth" being node.null and no_members)) (rule get_tree_parameters) → ⊥
 max_depth_null_misfits = misfits_by 1000 refl
 
--- nor does `{"maxDepth":-1}`
+-- `{"maxDepth":-1}` does not fit GetTreeParameters
 pub max_depth_below_nought_misfits : Fits (mapped ("maxDepth" being node.whole (negsuc 0) and no_members)) (rule get_tree_parameters) → ⊥
 max_depth_below_nought_misfits = misfits_by 1000 refl
 
--- nor `{"maxDepth":"0"}`
+-- `{"maxDepth":"0"}` does not fit GetTreeParameters
 pub max_depth_as_text_misfits : Fits (mapped ("maxDepth" being word "0" and no_members)) (rule get_tree_parameters) → ⊥
 max_depth_as_text_misfits = misfits_by 1000 refl
 
@@ -69,36 +69,36 @@ max_depth_as_text_misfits = misfits_by 1000 refl
 pub object_depth_fits : Fits (mapped ("maxObjectDepth" being number 1 and no_members)) (rule serialization_options)
 object_depth_fits = fits_by 1000 refl
 
--- so does null in its place, which leaves a value whole
+-- null at `maxObjectDepth` fits SerializationOptions, and leaves a value whole
 pub object_depth_null_fits : Fits (mapped ("maxObjectDepth" being node.null and no_members)) (rule serialization_options)
 object_depth_null_fits = fits_by 1000 refl
 
--- and a map without it
+-- an object without `maxObjectDepth` fits SerializationOptions
 pub no_object_depth_fits : Fits (mapped ("x" being number 1 and no_members)) (rule serialization_options)
 no_object_depth_fits = fits_by 1000 refl
 
--- `{"maxObjectDepth":"1"}` does not
+-- `{"maxObjectDepth":"1"}` does not fit SerializationOptions
 pub object_depth_as_text_misfits : Fits (mapped ("maxObjectDepth" being word "1" and no_members)) (rule serialization_options) → ⊥
 object_depth_as_text_misfits = misfits_by 1000 refl
 
--- nor does `{"maxObjectDepth":-1}`
+-- `{"maxObjectDepth":-1}` does not fit SerializationOptions
 pub object_depth_below_nought_misfits : Fits (mapped ("maxObjectDepth" being node.whole (negsuc 0) and no_members)) (rule serialization_options) → ⊥
 object_depth_below_nought_misfits = misfits_by 1000 refl
 
--- nor Odd, as 1.5 is read
+-- Odd at `maxObjectDepth`, which is how 1.5 is read, does not fit SerializationOptions
 pub odd_object_depth_misfits : Fits (mapped ("maxObjectDepth" being node.odd and no_members)) (rule serialization_options) → ⊥
 odd_object_depth_misfits = misfits_by 1000 refl
 
--- a number is no SerializationOptions, and null is none
+-- neither a number nor null fits SerializationOptions
 pub number_misfits_serialization_options : Fits (number 5) (rule serialization_options) → ⊥
 number_misfits_serialization_options = misfits_by 1000 refl
 
 pub null_misfits_serialization_options : Fits node.null (rule serialization_options) → ⊥
 null_misfits_serialization_options = misfits_by 1000 refl
 
--- ---- members that no row names
+-- ---- further members
 
--- an open map takes `"x":null`
+-- an extensible object may have `"x":null`
 pub unknown_member_of_an_open_map_fits : Fits (mapped ("maxDepth" being number 0 and "x" being node.null and no_members)) (rule get_tree_parameters)
 unknown_member_of_an_open_map_fits = fits_by 1000 refl
 
@@ -106,47 +106,47 @@ unknown_member_of_an_open_map_fits = fits_by 1000 refl
 pub stack_trace_fits : Fits (mapped ("callFrames" being listed [] and no_members)) (rule stack_trace)
 stack_trace_fits = fits_by 1000 refl
 
--- with `"x":null` beside it does not, since that map is closed
+-- `{"callFrames":[],"x":null}` does not fit StackTrace, because that object is closed
 pub unknown_member_of_a_closed_map_misfits : Fits (mapped ("callFrames" being listed [] and "x" being node.null and no_members)) (rule stack_trace) → ⊥
 unknown_member_of_a_closed_map_misfits = misfits_by 1000 refl
 
--- nor does `{}`, where the required member is absent
+-- `{}` does not fit StackTrace, because the required member is absent
 pub required_member_absent_misfits : Fits (mapped no_members) (rule stack_trace) → ⊥
 required_member_absent_misfits = misfits_by 1000 refl
 
--- a list fits no map
+-- an array does not fit a rule for objects
 pub map_rule_on_a_list_misfits : Fits (listed []) (rule empty_params) → ⊥
 map_rule_on_a_list_misfits = misfits_by 1000 refl
 
--- ---- the cap of any
+-- ---- the levels of any
 
--- sixty lists within each other fit any
+-- 60 arrays within each other fit any
 pub any_at_60_levels_fits : Fits (nested 60) any
 any_at_60_levels_fits = fits_by 1000 refl
 
--- sixty-one do not
+-- 61 arrays within each other do not fit any
 pub any_at_61_levels_misfits : Fits (nested 61) any → ⊥
 any_at_61_levels_misfits = misfits_by 1000 refl
 
--- an unknown member has its sixty levels for itself, though the map round it then has sixty-one
+-- a further member may have 60 levels of its own, and the object around it has 61 then
 pub unknown_member_at_60_levels_fits : Fits (mapped ("x" being nested 60 and no_members)) (rule empty_params)
 unknown_member_at_60_levels_fits = fits_by 1000 refl
 
--- it may not have sixty-one
+-- a further member may not have 61 levels
 pub unknown_member_at_61_levels_misfits : Fits (mapped ("x" being nested 61 and no_members)) (rule empty_params) → ⊥
 unknown_member_at_61_levels_misfits = misfits_by 1000 refl
 
--- ---- a number that is no whole number in range
+-- ---- numbers that are not whole numbers in range
 
 -- Odd does not fit any
 pub odd_misfits_any : Fits node.odd any → ⊥
 odd_misfits_any = misfits_by 1000 refl
 
--- nor js-uint
+-- Odd does not fit js-uint
 pub odd_misfits_js_uint : Fits node.odd js_uint → ⊥
 odd_misfits_js_uint = misfits_by 1000 refl
 
--- nor js-int
+-- Odd does not fit js-int
 pub odd_misfits_js_int : Fits node.odd js_int → ⊥
 odd_misfits_js_int = misfits_by 1000 refl
 
@@ -155,12 +155,12 @@ pub whole_number_deep_in_an_extension_fits : Fits
     (mapped ("x" being listed (mapped ("y" being listed (number 1 ∷ []) and no_members) ∷ []) and no_members)) (rule empty_params)
 whole_number_deep_in_an_extension_fits = fits_by 1000 refl
 
--- with Odd in place of 1 it does not
+-- `{"x":[{"y":[1.5]}]}` does not fit EmptyParams, because 1.5 is Odd
 pub odd_deep_in_an_extension_misfits : Fits
     (mapped ("x" being listed (mapped ("y" being listed (node.odd ∷ []) and no_members) ∷ []) and no_members)) (rule empty_params) → ⊥
 odd_deep_in_an_extension_misfits = misfits_by 1000 refl
 
--- a response whose result holds Odd does not fit CommandResponse
+-- a response whose result has an Odd does not fit CommandResponse
 pub odd_in_a_result_misfits : Fits (mapped ("type" being word "success" and "id" being number 1 and "result" being mapped
     ("x" being node.odd and no_members) and no_members)) (rule command_response) → ⊥
 odd_in_a_result_misfits = misfits_by 1000 refl
@@ -171,7 +171,7 @@ odd_in_a_result_misfits = misfits_by 1000 refl
 pub greatest_js_uint_fits : Fits (number 9007199254740991) js_uint
 greatest_js_uint_fits = fits_by 1000 refl
 
--- 2^53 does not
+-- 2^53 does not fit js-uint
 pub past_js_uint_misfits : Fits (number 9007199254740992) js_uint → ⊥
 past_js_uint_misfits = misfits_by 1000 refl
 
@@ -179,7 +179,7 @@ past_js_uint_misfits = misfits_by 1000 refl
 pub least_js_int_fits : Fits (node.whole (negsuc 9007199254740990)) js_int
 least_js_int_fits = fits_by 1000 refl
 
--- -2^53 does not
+-- -2^53 does not fit js-int
 pub before_js_int_misfits : Fits (node.whole (negsuc 9007199254740991)) js_int → ⊥
 before_js_int_misfits = misfits_by 1000 refl
 
@@ -187,13 +187,13 @@ before_js_int_misfits = misfits_by 1000 refl
 pub delta_below_nought_fits : Fits (mapped ("context" being word "c" and "delta" being node.whole (negsuc 1) and no_members)) (rule traverse_history_parameters)
 delta_below_nought_fits = fits_by 1000 refl
 
--- ---- lists with at least one item, and pairs
+-- ---- arrays with at least one item, and pairs
 
 -- `[]` does not fit `[+text]`
 pub no_text_misfits_at_least_one : Fits (listed []) (at_least_one text) → ⊥
 no_text_misfits_at_least_one = misfits_by 1000 refl
 
--- `["a"]` does
+-- `["a"]` fits `[+text]`
 pub one_text_fits_at_least_one : Fits (listed (word "a" ∷ [])) (at_least_one text)
 one_text_fits_at_least_one = fits_by 1000 refl
 
@@ -201,7 +201,7 @@ one_text_fits_at_least_one = fits_by 1000 refl
 pub no_text_fits_any_number : Fits (listed []) (any_number_of text)
 no_text_fits_any_number = fits_by 1000 refl
 
--- `["a",1]` does not
+-- `["a",1]` does not fit `[*text]`
 pub number_among_texts_misfits : Fits (listed (word "a" ∷ number 1 ∷ [])) (any_number_of text) → ⊥
 number_among_texts_misfits = misfits_by 1000 refl
 
@@ -209,29 +209,29 @@ number_among_texts_misfits = misfits_by 1000 refl
 pub subscribe_to_one_event_fits : Fits (mapped ("events" being listed (word "log" ∷ []) and no_members)) (rule subscribe_parameters)
 subscribe_to_one_event_fits = fits_by 1000 refl
 
--- `{"events":[]}` does not
+-- `{"events":[]}` does not fit SubscribeParameters
 pub subscribe_to_no_event_misfits : Fits (mapped ("events" being listed [] and no_members)) (rule subscribe_parameters) → ⊥
 subscribe_to_no_event_misfits = misfits_by 1000 refl
 
--- nor does `{"events":["log"],"contexts":[]}`
+-- `{"events":["log"],"contexts":[]}` does not fit SubscribeParameters
 pub subscribe_to_no_context_misfits : Fits (mapped ("events" being listed (word "log" ∷ []) and "contexts" being listed [] and no_members))
     (rule subscribe_parameters) → ⊥
 subscribe_to_no_context_misfits = misfits_by 1000 refl
 
--- a text and a value fit LocalPair
+-- a string and a value fit LocalPair
 pub pair_with_a_text_fits : Fits (listed (word "k" ∷ mapped ("type" being word "undefined" and no_members) ∷ [])) (rule local_pair)
 pair_with_a_text_fits = fits_by 1000 refl
 
--- one value alone does not
+-- a single value does not fit LocalPair
 pub pair_of_one_misfits : Fits (listed (mapped ("type" being word "undefined" and no_members) ∷ [])) (rule local_pair) → ⊥
 pair_of_one_misfits = misfits_by 1000 refl
 
--- nor do three
+-- three values do not fit LocalPair
 pub pair_of_three_misfits : Fits (listed (mapped ("type" being word "undefined" and no_members)
     ∷ mapped ("type" being word "undefined" and no_members) ∷ mapped ("type" being word "undefined" and no_members) ∷ [])) (rule local_pair) → ⊥
 pair_of_three_misfits = misfits_by 1000 refl
 
--- nor a value and a text
+-- a value and a string do not fit LocalPair
 pub pair_with_a_text_last_misfits : Fits (listed (mapped ("type" being word "undefined" and no_members) ∷ word "k" ∷ [])) (rule local_pair) → ⊥
 pair_with_a_text_last_misfits = misfits_by 1000 refl
 
@@ -241,7 +241,7 @@ pair_with_a_text_last_misfits = misfits_by 1000 refl
 pub navigation_null_fits : Fits (mapped ("navigation" being node.null and "url" being word "u" and no_members)) (rule navigate_result)
 navigation_null_fits = fits_by 1000 refl
 
--- `{"url":"u"}` does not, since it has to be there
+-- `{"url":"u"}` does not fit NavigateResult, because its navigation is required
 pub navigation_absent_misfits : Fits (mapped ("url" being word "u" and no_members)) (rule navigate_result) → ⊥
 navigation_absent_misfits = misfits_by 1000 refl
 
@@ -249,7 +249,7 @@ navigation_absent_misfits = misfits_by 1000 refl
 pub reference_context_absent_fits : Fits (mapped ("type" being word "tab" and no_members)) (rule create_parameters)
 reference_context_absent_fits = fits_by 1000 refl
 
--- `{"type":"tab","referenceContext":null}` does not, since it may not be null
+-- `{"type":"tab","referenceContext":null}` does not fit CreateParameters, because it may not be null
 pub reference_context_null_misfits : Fits (mapped ("type" being word "tab" and "referenceContext" being node.null and no_members)) (rule create_parameters) → ⊥
 reference_context_null_misfits = misfits_by 1000 refl
 
@@ -258,12 +258,12 @@ pub parent_absent_fits : Fits (mapped ("children" being node.null and "clientWin
     "originalOpener" being node.null and "url" being word "u" and "userContext" being word "default" and no_members)) (rule info)
 parent_absent_fits = fits_by 1000 refl
 
--- and it may be null
+-- the parent of an Info may be null
 pub parent_null_fits : Fits (mapped ("children" being node.null and "clientWindow" being word "w" and "context" being word "c" and "originalOpener"
     being node.null and "url" being word "u" and "userContext" being word "default" and "parent" being node.null and no_members)) (rule info)
 parent_null_fits = fits_by 1000 refl
 
--- it may not be a number
+-- the parent of an Info may not be a number
 pub parent_number_misfits : Fits (mapped ("children" being node.null and "clientWindow" being word "w" and "context" being word "c" and "originalOpener"
     being node.null and "url" being word "u" and "userContext" being word "default" and "parent" being number 1 and no_members)) (rule info) → ⊥
 parent_number_misfits = misfits_by 1000 refl
@@ -273,23 +273,23 @@ pub error_with_id_null_fits : Fits (mapped ("type" being word "error" and "error
     and "id" being node.null and no_members)) (rule error_response)
 error_with_id_null_fits = fits_by 1000 refl
 
--- one without id does not
+-- an error without id does not fit ErrorResponse
 pub error_without_id_misfits : Fits
     (mapped ("type" being word "error" and "error" being word "unknown error" and "message" being word "m" and no_members)) (rule error_response) → ⊥
 error_without_id_misfits = misfits_by 1000 refl
 
--- nor does one with a code outside the list
+-- an error with a code outside the list does not fit ErrorResponse
 pub error_of_another_code_misfits : Fits (mapped ("type" being word "error" and "id" being number 1 and "error" being word "unknown" and
     "message" being word "m" and no_members)) (rule error_response) → ⊥
 error_of_another_code_misfits = misfits_by 1000 refl
 
--- ---- one exact text of several
+-- ---- one string of several
 
 -- `"complete"` fits Wait
 pub wait_complete_fits : Fits (word "complete") (rule wait)
 wait_complete_fits = fits_by 1000 refl
 
--- `"Complete"` does not
+-- `"Complete"` does not fit Wait
 pub wait_in_upper_case_misfits : Fits (word "Complete") (rule wait) → ⊥
 wait_in_upper_case_misfits = misfits_by 1000 refl
 
@@ -299,11 +299,11 @@ wait_in_upper_case_misfits = misfits_by 1000 refl
 pub both_members_fit_context_target : Fits (mapped ("context" being word "c" and "realm" being word "r" and no_members)) (rule context_target)
 both_members_fit_context_target = fits_by 1000 refl
 
--- it fits RealmTarget too, with context as an extension
+-- `{"realm":"r","context":"c"}` fits RealmTarget too, with context as an extension
 pub both_members_fit_realm_target : Fits (mapped ("context" being word "c" and "realm" being word "r" and no_members)) (rule realm_target)
 both_members_fit_realm_target = fits_by 1000 refl
 
--- so it fits Target
+-- `{"realm":"r","context":"c"}` fits Target
 pub both_members_fit_target : Fits (mapped ("context" being word "c" and "realm" being word "r" and no_members)) (rule target)
 both_members_fit_target = fits_by 1000 refl
 
@@ -311,11 +311,11 @@ both_members_fit_target = fits_by 1000 refl
 pub context_of_a_number_fits_realm_target : Fits (mapped ("realm" being word "r" and "context" being number 5 and no_members)) (rule realm_target)
 context_of_a_number_fits_realm_target = fits_by 1000 refl
 
--- it does not fit ContextTarget
+-- `{"realm":"r","context":5}` does not fit ContextTarget
 pub context_of_a_number_misfits_context_target : Fits (mapped ("realm" being word "r" and "context" being number 5 and no_members)) (rule context_target) → ⊥
 context_of_a_number_misfits_context_target = misfits_by 1000 refl
 
--- so it fits Target by its second alternative alone
+-- `{"realm":"r","context":5}` fits Target, but only by its second alternative
 pub context_of_a_number_fits_target : Fits (mapped ("realm" being word "r" and "context" being number 5 and no_members)) (rule target)
 context_of_a_number_fits_target = fits_by 1000 refl
 
@@ -330,12 +330,12 @@ pub both_lists_fit_by_id : Fits
     (mapped ("subscriptions" being listed (word "a" ∷ []) and "events" being listed (word "b" ∷ []) and no_members)) (rule unsubscribe_by_id)
 both_lists_fit_by_id = fits_by 1000 refl
 
--- and UnsubscribeByEvents
+-- `{"subscriptions":["a"],"events":["b"]}` fits UnsubscribeByEvents
 pub both_lists_fit_by_events : Fits
     (mapped ("subscriptions" being listed (word "a" ∷ []) and "events" being listed (word "b" ∷ []) and no_members)) (rule unsubscribe_by_events)
 both_lists_fit_by_events = fits_by 1000 refl
 
--- so it fits UnsubscribeParameters
+-- `{"subscriptions":["a"],"events":["b"]}` fits UnsubscribeParameters
 pub both_lists_fit_unsubscribe : Fits
     (mapped ("subscriptions" being listed (word "a" ∷ []) and "events" being listed (word "b" ∷ []) and no_members)) (rule unsubscribe_parameters)
 both_lists_fit_unsubscribe = fits_by 1000 refl
@@ -344,11 +344,11 @@ both_lists_fit_unsubscribe = fits_by 1000 refl
 pub no_id_misfits_by_id : Fits (mapped ("subscriptions" being listed [] and "events" being listed (word "b" ∷ []) and no_members)) (rule unsubscribe_by_id) → ⊥
 no_id_misfits_by_id = misfits_by 1000 refl
 
--- it fits UnsubscribeByEvents
+-- `{"subscriptions":[],"events":["b"]}` fits UnsubscribeByEvents
 pub no_id_fits_by_events : Fits (mapped ("subscriptions" being listed [] and "events" being listed (word "b" ∷ []) and no_members)) (rule unsubscribe_by_events)
 no_id_fits_by_events = fits_by 1000 refl
 
--- so it fits UnsubscribeParameters
+-- `{"subscriptions":[],"events":["b"]}` fits UnsubscribeParameters
 pub no_id_fits_unsubscribe : Fits (mapped ("subscriptions" being listed [] and "events" being listed (word "b" ∷ []) and no_members))
     (rule unsubscribe_parameters)
 no_id_fits_unsubscribe = fits_by 1000 refl
@@ -357,18 +357,18 @@ no_id_fits_unsubscribe = fits_by 1000 refl
 pub empty_lists_misfit_by_id : Fits (mapped ("subscriptions" being listed [] and "events" being listed [] and no_members)) (rule unsubscribe_by_id) → ⊥
 empty_lists_misfit_by_id = misfits_by 1000 refl
 
--- nor UnsubscribeByEvents
+-- `{"subscriptions":[],"events":[]}` does not fit UnsubscribeByEvents
 pub empty_lists_misfit_by_events : Fits (mapped ("subscriptions" being listed [] and "events" being listed [] and no_members)) (rule unsubscribe_by_events) → ⊥
 empty_lists_misfit_by_events = misfits_by 1000 refl
 
--- so it does not fit UnsubscribeParameters
+-- `{"subscriptions":[],"events":[]}` does not fit UnsubscribeParameters
 pub empty_lists_misfit_unsubscribe : Fits (mapped ("subscriptions" being listed [] and "events" being listed [] and no_members))
     (rule unsubscribe_parameters) → ⊥
 empty_lists_misfit_unsubscribe = misfits_by 1000 refl
 
 -- ---- log entries
 
--- a log entry of that type, with the members of Base and those further ones
+-- a log entry of this type, with the members of Base and these further members
 abbrev pub entry : String → Members → Node
 entry kind more =
     mapped ("level" being word "info" and "source" being mapped ("realm" being word "r" and no_members) and "text" being node.null and
@@ -378,15 +378,15 @@ entry kind more =
 pub console_entry_fits : Fits (entry "console" ("method" being word "log" and "args" being listed [] and no_members)) (rule console_entry)
 console_entry_fits = fits_by 1000 refl
 
--- without args it does not
+-- an entry of type console without args does not fit ConsoleEntry
 pub console_without_args_misfits_console_entry : Fits (entry "console" ("method" being word "log" and no_members)) (rule console_entry) → ⊥
 console_without_args_misfits_console_entry = misfits_by 1000 refl
 
--- it fits GenericLogEntry, whose type is any text and which is open
+-- an entry of type console without args fits GenericLogEntry, whose type is any string and which is extensible
 pub console_without_args_fits_generic_log_entry : Fits (entry "console" ("method" being word "log" and no_members)) (rule generic_log_entry)
 console_without_args_fits_generic_log_entry = fits_by 1000 refl
 
--- so it fits LogEntry
+-- an entry of type console without args fits LogEntry
 pub console_without_args_fits_log_entry : Fits (entry "console" ("method" being word "log" and no_members)) (rule log_entry)
 console_without_args_fits_log_entry = fits_by 1000 refl
 
@@ -394,11 +394,11 @@ console_without_args_fits_log_entry = fits_by 1000 refl
 pub javascript_entry_fits : Fits (entry "javascript" no_members) (rule javascript_entry)
 javascript_entry_fits = fits_by 1000 refl
 
--- with a further member it does not
+-- an entry of type javascript with a further member does not fit JavascriptEntry
 pub javascript_with_a_further_member_misfits : Fits (entry "javascript" ("x" being node.null and no_members)) (rule javascript_entry) → ⊥
 javascript_with_a_further_member_misfits = misfits_by 1000 refl
 
--- it fits GenericLogEntry then
+-- an entry of type javascript with a further member fits GenericLogEntry
 pub javascript_with_a_further_member_is_generic : Fits (entry "javascript" ("x" being node.null and no_members)) (rule generic_log_entry)
 javascript_with_a_further_member_is_generic = fits_by 1000 refl
 
@@ -414,17 +414,17 @@ pub array_with_a_handle_fits_reference : Fits (mapped ("type" being word "array"
     (rule remote_object_reference)
 array_with_a_handle_fits_reference = fits_by 1000 refl
 
--- it does not fit SharedReference, which has to have a sharedId
+-- this object does not fit SharedReference, which requires a sharedId
 pub array_with_a_handle_misfits_shared_reference : Fits
     (mapped ("type" being word "array" and "value" being listed [] and "handle" being word "h" and no_members)) (rule shared_reference) → ⊥
 array_with_a_handle_misfits_shared_reference = misfits_by 1000 refl
 
--- so it fits LocalValue, as a Reference
+-- this object fits LocalValue, as a Reference
 pub array_with_a_handle_fits_local_value : Fits
     (mapped ("type" being word "array" and "value" being listed [] and "handle" being word "h" and no_members)) (rule local_value)
 array_with_a_handle_fits_local_value = fits_by 1000 refl
 
--- with `"handle":5` it fits no LocalValue: that is no reference, and the array is closed
+-- with `"handle":5` it fits no LocalValue: it is not a reference, and the array is closed
 pub array_with_a_wrong_handle_misfits_local_value : Fits
     (mapped ("type" being word "array" and "value" being listed [] and "handle" being number 5 and no_members)) (rule local_value) → ⊥
 array_with_a_wrong_handle_misfits_local_value = misfits_by 1000 refl
@@ -437,11 +437,11 @@ undefined_fits_primitive = fits_by 1000 refl
 pub undefined_with_a_handle_misfits_primitive : Fits (mapped ("type" being word "undefined" and "handle" being word "h" and no_members)) (rule primitive) → ⊥
 undefined_with_a_handle_misfits_primitive = misfits_by 1000 refl
 
--- it fits Reference
+-- `{"type":"undefined","handle":"h"}` fits Reference
 pub undefined_with_a_handle_fits_reference : Fits (mapped ("type" being word "undefined" and "handle" being word "h" and no_members)) (rule reference)
 undefined_with_a_handle_fits_reference = fits_by 1000 refl
 
--- it does not fit RemoteValue, which knows no references
+-- `{"type":"undefined","handle":"h"}` does not fit RemoteValue, which has no references
 pub undefined_with_a_handle_misfits_remote_value : Fits (mapped ("type" being word "undefined" and "handle" being word "h" and no_members))
     (rule remote_value) → ⊥
 undefined_with_a_handle_misfits_remote_value = misfits_by 1000 refl
@@ -450,7 +450,7 @@ undefined_with_a_handle_misfits_remote_value = misfits_by 1000 refl
 pub symbol_with_a_handle_fits_remote_value : Fits (mapped ("type" being word "symbol" and "handle" being word "h" and no_members)) (rule remote_value)
 symbol_with_a_handle_fits_remote_value = fits_by 1000 refl
 
--- with a further member it does not
+-- `{"type":"symbol","handle":"h"}` with a further member does not fit RemoteValue
 pub symbol_with_a_further_member_misfits_remote_value : Fits
     (mapped ("type" being word "symbol" and "handle" being word "h" and "x" being node.null and no_members)) (rule remote_value) → ⊥
 symbol_with_a_further_member_misfits_remote_value = misfits_by 1000 refl
@@ -463,28 +463,28 @@ not_a_number_fits_primitive = fits_by 1000 refl
 pub fraction_misfits_primitive : Fits (mapped ("type" being word "number" and "value" being node.odd and no_members)) (rule primitive) → ⊥
 fraction_misfits_primitive = misfits_by 1000 refl
 
--- an array with so many further arrays within each other inside, the innermost empty
+-- an array with n further arrays within each other inside; the innermost is empty
 abbrev pub arrays : ℕ → Node
 arrays zero = mapped ("type" being word "array" and "value" being node.list no_items and no_members)
 arrays (suc n) = mapped ("type" being word "array" and "value" being node.list (item (arrays n) no_items) and no_members)
 
--- thirty arrays have sixty levels, a map and a list each
+-- 30 arrays have 60 levels, because each is an object with an array
 pub thirty_arrays_have_60_levels : levels (arrays 29) ≡ 60
 thirty_arrays_have_60_levels = refl
 
--- thirty fit LocalValue
+-- 30 arrays fit LocalValue
 pub thirty_arrays_fit_local_value : Fits (arrays 29) (rule local_value)
 thirty_arrays_fit_local_value = fits_by 1000 refl
 
--- thirty-one do not
+-- 31 arrays do not fit LocalValue
 pub thirty_one_arrays_misfit_local_value : Fits (arrays 30) (rule local_value) → ⊥
 thirty_one_arrays_misfit_local_value = misfits_by 1000 refl
 
--- thirty fit RemoteValue
+-- 30 arrays fit RemoteValue
 pub thirty_arrays_fit_remote_value : Fits (arrays 29) (rule remote_value)
 thirty_arrays_fit_remote_value = fits_by 1000 refl
 
--- thirty-one do not
+-- 31 arrays do not fit RemoteValue
 pub thirty_one_arrays_misfit_remote_value : Fits (arrays 30) (rule remote_value) → ⊥
 thirty_one_arrays_misfit_remote_value = misfits_by 1000 refl
 
@@ -494,7 +494,7 @@ thirty_one_arrays_misfit_remote_value = misfits_by 1000 refl
 pub status_command_fits : Fits status_tree (rule command)
 status_command_fits = fits_by 1000 refl
 
--- a command of that id and method with those params
+-- a command with this id, this method and these params
 abbrev pub command_of : Node → String → Node → Node
 command_of id method params = mapped ("id" being id and "method" being word method and "params" being params and no_members)
 
@@ -502,11 +502,11 @@ command_of id method params = mapped ("id" being id and "method" being word meth
 pub command_of_the_greatest_id_fits : Fits (command_of (number 9007199254740991) "session.status" (mapped no_members)) (rule command)
 command_of_the_greatest_id_fits = fits_by 1000 refl
 
--- a greater number is none
+-- a greater number is not an id
 pub command_of_a_greater_id_misfits : Fits (command_of (number 9007199254740992) "session.status" (mapped no_members)) (rule command) → ⊥
 command_of_a_greater_id_misfits = misfits_by 1000 refl
 
--- nor is Odd, as such a number is read
+-- Odd, which is how such a number is read, is not an id
 pub command_of_an_odd_id_misfits : Fits (command_of node.odd "session.status" (mapped no_members)) (rule command) → ⊥
 command_of_an_odd_id_misfits = misfits_by 1000 refl
 
@@ -514,11 +514,11 @@ command_of_an_odd_id_misfits = misfits_by 1000 refl
 pub command_with_odd_params_misfits : Fits (command_of (number 1) "session.status" (mapped ("x" being node.odd and no_members))) (rule command) → ⊥
 command_with_odd_params_misfits = misfits_by 1000 refl
 
--- a method that names no command does not
+-- a method that names no command does not fit
 pub unknown_command_misfits : Fits (command_of (number 1) "session.fly" (mapped no_members)) (rule command) → ⊥
 unknown_command_misfits = misfits_by 1000 refl
 
--- nor does a command without params
+-- a command without params does not fit
 pub command_without_params_misfits : Fits (mapped ("id" being number 1 and "method" being word "session.status" and no_members)) (rule command) → ⊥
 command_without_params_misfits = misfits_by 1000 refl
 
@@ -526,7 +526,7 @@ command_without_params_misfits = misfits_by 1000 refl
 pub last_command_fits : Fits (command_of (number 1) "browser.removeUserContext" (mapped ("userContext" being word "u" and no_members))) (rule command)
 last_command_fits = fits_by 1000 refl
 
--- params that do not fit the rule of that very method do not
+-- params that do not fit the rule of their own method do not fit
 pub params_of_another_command_misfit : Fits (command_of (number 1) "browser.removeUserContext" (mapped ("context" being word "u" and no_members)))
     (rule command) → ⊥
 params_of_another_command_misfit = misfits_by 1000 refl
@@ -538,7 +538,7 @@ command_with_a_further_member_fits = fits_by 1000 refl
 
 -- ---- user contexts
 
--- `{"userContext":"u","x":null}` fits UserContextInfo, which is open
+-- `{"userContext":"u","x":null}` fits UserContextInfo, which is extensible
 pub user_context_fits : Fits (mapped ("userContext" being word "u" and "x" being node.null and no_members)) (rule user_context_info)
 user_context_fits = fits_by 1000 refl
 
@@ -547,11 +547,11 @@ pub one_user_context_fits : Fits (mapped ("userContexts" being listed (mapped ("
     (rule get_user_contexts_result)
 one_user_context_fits = fits_by 1000 refl
 
--- with no item it does not
+-- an empty array of user contexts does not fit GetUserContextsResult
 pub no_user_context_misfits : Fits (mapped ("userContexts" being listed [] and no_members)) (rule get_user_contexts_result) → ⊥
 no_user_context_misfits = misfits_by 1000 refl
 
--- nor with one that is a text
+-- an array with a string in it does not fit GetUserContextsResult
 pub user_context_as_a_text_misfits : Fits (mapped ("userContexts" being listed (word "u" ∷ []) and no_members)) (rule get_user_contexts_result) → ⊥
 user_context_as_a_text_misfits = misfits_by 1000 refl
 
@@ -566,12 +566,12 @@ pub response_fits_message : Fits
     (mapped ("type" being word "success" and "id" being number 1 and "result" being mapped no_members and no_members)) (rule message)
 response_fits_message = fits_by 1000 refl
 
--- so does an event
+-- an event fits Message
 pub event_fits_message : Fits (mapped ("type" being word "event" and "method" being word "script.realmDestroyed" and "params" being mapped
     ("realm" being word "r" and no_members) and no_members)) (rule message)
 event_fits_message = fits_by 1000 refl
 
--- an event of another name does not
+-- an event of another name does not fit Message
 pub event_of_another_name_misfits_message : Fits (mapped ("type" being word "event" and "method" being word
     "browsingContext.navigationFailed" and "params" being mapped ("realm" being word "r" and no_members) and no_members)) (rule message) → ⊥
 event_of_another_name_misfits_message = misfits_by 1000 refl
@@ -580,7 +580,7 @@ event_of_another_name_misfits_message = misfits_by 1000 refl
 pub table_row_fits : Fits (mapped ("text" being word "o" and "argument" being number 0 and no_members)) (rule table_row)
 table_row_fits = fits_by 1000 refl
 
--- with returns beside it does not
+-- `{"text":"o","argument":0}` with `returns` does not fit TableRow
 pub table_row_of_two_kinds_misfits : Fits (mapped ("text" being word "o" and "argument" being number 0 and "returns" being mapped
     ("type" being word "undefined" and no_members) and no_members)) (rule table_row) → ⊥
 table_row_of_two_kinds_misfits = misfits_by 1000 refl

@@ -1,4 +1,4 @@
--- Values or null, and values of one of two types: their trees, when they are well and the same, and their laws.
+-- Values that may be null, and values of one of two types: their trees, and their laws. After RFC 8610, 2.2.2.
 use Rattle.std.proofs.Common.{◌≡◌, max, Option, Some, None, refl, zero-le, sym, subst, arith}
 use Rattle.bidi_tree.specs.Node as tree
 use Rattle.bidi_tree.specs.Node.{Node, IsWhole}
@@ -10,13 +10,14 @@ use Rattle.bidi_shape.specs.WholeLaws.{whole_within}
 use Rattle.bidi_shape.specs.declared.choice.Either.{Either}
 use Rattle.bidi_shape.specs.declared.choice.Either.TheVariants.{First, Second}
 
--- ---- a value, or null
+-- ---- a value that may be null
 
+-- the tree of a value that may be null
 abbrev pub nullable_tree : {X : Type 0} → (X → Node) → Option X → Node
 nullable_tree tree_of None = tree.null
 nullable_tree tree_of (Some v) = tree_of v
 
--- null stands for none only where it is no value's tree
+-- the value is valid; None is valid only if null does not fit the value's own rule
 abbrev pub NullableWell : {X : Type 0} → (X → Type 0) → Term → Option X → Type 0
 NullableWell well τ None = Fits tree.null τ → ⊥
 NullableWell well τ (Some v) = well v
@@ -38,7 +39,7 @@ pub nullable_whole : {X : Type 0} (s : ShapeOf X) (o : Option X) → NullableWel
 nullable_whole s None w = (refl, zero-le)
 nullable_whole s (Some v) w = s.whole v w
 
--- the shape of a value or null
+-- the shape of values that may be null
 abbrev pub nullable_shape : {X : Type 0} → ShapeOf X → ShapeOf (Option X)
 nullable_shape s = record {
   rule = either s.rule null;
@@ -53,15 +54,17 @@ nullable_shape s = record {
 
 -- ---- a value of the first type that fits
 
+-- the tree of a value of either type
 abbrev pub either_tree : {A B : Type 0} → (A → Node) → (B → Node) → Either A B → Node
 either_tree f g (First a) = f a
 either_tree f g (Second b) = g b
 
--- the second stands only for a tree that the first does not fit
+-- the value is valid; one of the second type is valid only if its tree does not fit the first rule
 abbrev pub EitherWell : {A B : Type 0} → ShapeOf A → ShapeOf B → Either A B → Type 0
 EitherWell s t (First a) = s.well a
 EitherWell s t (Second b) = t.well b × (Fits (t.tree_of b) s.rule → ⊥)
 
+-- both values are of the same type of the two, and are the same
 abbrev pub EitherSame : {A B : Type 0} → ShapeOf A → ShapeOf B → Either A B → Either A B → Type 0
 EitherSame s t (First a) (First b) = s.same a b
 EitherSame s t (First a) (Second b) = ⊥
@@ -85,7 +88,7 @@ pub either_whole : {A B : Type 0} (s : ShapeOf A) (t : ShapeOf B) (v : Either A 
 either_whole s t (First a) w = whole_within (s.tree_of a) s.deepest (max s.deepest t.deepest) (omega arith) (s.whole a w)
 either_whole s t (Second b) w = whole_within (t.tree_of b) t.deepest (max s.deepest t.deepest) (omega arith) (t.whole b w.0)
 
--- the shape of a choice
+-- the shape of a choice between two types
 abbrev pub either_shape : {A B : Type 0} → ShapeOf A → ShapeOf B → ShapeOf (Either A B)
 either_shape s t = record {
   rule = either s.rule t.rule;
@@ -98,7 +101,7 @@ either_shape s t = record {
   whole = either_whole s t;
 }
 
--- what the first type does not take and the second does not take fits neither
+-- a tree that fits neither rule does not fit the choice of the two
 pub fits_neither : {t : Node} {σ τ : Term} → (Fits t σ → ⊥) → (Fits t τ → ⊥) → Fits t (either σ τ) → ⊥
 fits_neither f g (fits_first t σ τ h) = f h
 fits_neither f g (fits_second t σ τ h) = g h

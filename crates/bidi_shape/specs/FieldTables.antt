@@ -1,4 +1,4 @@
--- The members of a map, one after the other: the table of each kind of member, and of what may stand there else.
+-- The table of each kind of member of an object type, and of the members that no row names. After RFC 8610, 3.2 and 3.5.
 use Rattle.std.proofs.Common.{◌≡◌, max, [], ◌∷◌, Some, option_map, refl, zero-le, arith}
 use Rattle.std.specs.Prelude.{IfSome}
 use Rattle.bidi_tree.specs.Node as tree
@@ -15,7 +15,7 @@ use Rattle.bidi_shape.specs.declared.fields.Optional.{Optional}
 use Rattle.bidi_shape.specs.declared.fields.Literal.{Literal}
 use Rattle.bidi_shape.specs.declared.fields.Closed.{Closed}
 
--- a member that has to be there, before others
+-- the table of a required member, followed by other members
 abbrev pub required_table : {X F : Type 0} → ShapeOf X → Table F → Table (Required X F)
 required_table s t = record {
   rows = λ ks ws. row (head ks) required s.rule (t.rows (tail ks) ws);
@@ -34,7 +34,7 @@ required_table s t = record {
       );
 }
 
--- a member that may be there
+-- the table of an optional member, followed by other members
 abbrev pub optional_table : {X F : Type 0} → ShapeOf X → Table F → Table (Optional X F)
 optional_table s t = record {
   rows = λ ks ws. row (head ks) optional s.rule (t.rows (tail ks) ws);
@@ -52,7 +52,7 @@ optional_table s t = record {
       (parts_within (t.parts ws f.1) t.deepest (max s.deepest t.deepest) (omega arith) (t.whole ws f.1 w.1));
 }
 
--- a member that is a given text
+-- the table of a member whose value is one given string, followed by other members
 abbrev pub literal_table : {F : Type 0} → Table F → Table (Literal F)
 literal_table t = record {
   rows = λ ks ws. row (head ks) required (exactly (head ws)) (t.rows (tail ks) (tail ws));
@@ -67,7 +67,7 @@ literal_table t = record {
   whole = λ ws f w. ((refl, zero-le), t.whole (tail ws) f.0 w);
 }
 
--- any other members
+-- the table that ends an extensible object type: any other members
 abbrev pub ext_table : Table Ext
 ext_table = record {
   rows = λ ks ws. no_more;
@@ -82,7 +82,7 @@ ext_table = record {
   whole = λ ws e w. tt;
 }
 
--- no other member
+-- the table that ends a closed object type: no other members
 abbrev pub closed_table : Table Closed
 closed_table = record {
   rows = λ ks ws. no_more;

@@ -1,4 +1,4 @@
--- Which trees fit a term. After RFC 8610: 2.2.2 choices, 3.2 occurrence, 3.5 maps, 3.5.4 cuts.
+-- Which trees fit a term of CDDL. After RFC 8610: 2.2.2 choices, 3.2 occurrence, 3.5 maps, 3.5.4 cuts.
 use Rattle.std.specs.Prelude.{◌≡◌, ℕ, suc, ◌≤◌, ℤ, pos, List, Bool, Some, None, if◌then◌else◌}
 use Rattle.std.specs.List.{list_any}
 use Rattle.std.specs.Str.{bytes_eq}
@@ -10,23 +10,24 @@ use Rattle.bidi_shape.specs.Term.{Need, optional, Openness, extensible, closed, 
 use Rattle.bidi_shape.specs.Term.{any, list_of, pair_of, map_of, either, rule, capped, Rows, no_more, row, names_of}
 use Rattle.bidi_shape.specs.Profile.{term_of}
 
--- how many items
+-- the number of items
 abbrev pub count : Items → ℕ
 count no_items = 0
 count (item t ts) = suc (count ts)
 
--- the members that no row names
+-- the members whose name is not among these
 abbrev pub without : List (List ℕ) → Members → Members
 without names no_members = no_members
 without names (member k t ms) = if list_any (bytes_eq k) names then without names ms else member k t (without names ms)
 
--- of those, each fits any where the map is extensible, and there is none where it is closed
+-- the members that no row names may be there: in an extensible object each fits `any`, and in a closed one there are none
 abbrev pub OthersFit : Openness → Members → Type 0
 OthersFit extensible others = MembersAreWhole others 60
 OthersFit closed others = others ≡ no_members
 
 mutual
-  -- a tree fits a term
+  -- the tree fits the term, by one constructor for each line of the notation
+  -- example: `{"maxDepth":null}` does not fit GetTreeParameters, because a known member has to fit its own term
   pub data Fits : Node → Term → Type 0 where
     fits_exactly : (s : List ℕ) → Fits (node.text s) (exactly s)
     fits_text : (s : List ℕ) → Fits (node.text s) text
@@ -43,12 +44,12 @@ mutual
     fits_rule : (t : Node) (n : Name) → Fits t (term_of n) → Fits t (rule n)
     fits_capped : (t : Node) (τ : Term) → levels t ≤ 60 → Fits t τ → Fits t (capped τ)
 
-  -- each item fits
+  -- each of the items fits the term
   pub data AllFit : Items → Term → Type 0 where
     no_item : (τ : Term) → AllFit no_items τ
     an_item : (t : Node) (ts : Items) (τ : Term) → Fits t τ → AllFit ts τ → AllFit (item t ts) τ
 
-  -- each required name is there, and each row's name that is there has a value that fits: that is the cut
+  -- each required name is there, and the value at each row's name fits; a value that does not fit is not taken for another member (the cut)
   pub data RowsFit : Members → Rows → Type 0 where
     no_row : (ms : Members) → RowsFit ms no_more
     there : (ms : Members) (k : List ℕ) (need : Need) (τ : Term) (rows : Rows) (t : Node)

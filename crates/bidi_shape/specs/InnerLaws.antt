@@ -1,4 +1,4 @@
--- What follows of a map or a list for what stands in it.
+-- Laws of the members and items of an object or an array that fits. After RFC 8610, 3.5.
 use Rattle.std.proofs.Common.{◌≡◌, ◌≤◌, max, arith, Ordering, Less, Equal, Greater, nat_cmp, ℕ, List, Some, sym, subst}
 use Rattle.std.specs.Cmp.Lexicographic.{slice_cmp}
 use Rattle.std.specs.Ordering.{match_ordering}
@@ -10,16 +10,16 @@ use Rattle.bidi_shape.specs.Parts.{PartFits}
 
 -- ---- rows
 
--- of rows that fit, the first does
+-- if the rows fit, the first row does
 pub RowsFit-first : {k : List ℕ} {τ : Term} {rs : Rows} {ms : Members} → RowsFit ms (row k required τ rs) → PartFits required τ (get_member k ms)
 RowsFit-first (there m l n ρ rest u e f more) = subst (PartFits required ρ) (sym e) f
 
--- and so do the rows behind it
+-- if the rows fit, the rows after the first do
 pub RowsFit-more : {k : List ℕ} {need : Need} {σ : Term} {rs : Rows} {ms : Members} → RowsFit ms (row k need σ rs) → RowsFit ms rs
 RowsFit-more (there m l n ρ rest u e f more) = more
 RowsFit-more (absent m l ρ rest e more) = more
 
--- what follows of the rows behind a row follows of all
+-- a consequence for the rows after the first carries over to all rows
 pub RowsFit-row : {k : List ℕ} {need : Need} {σ : Term} {rs qs : Rows} {ms : Members}
     → (RowsFit ms qs → RowsFit ms rs) → RowsFit ms (row k need σ qs) → RowsFit ms (row k need σ rs)
 RowsFit-row {rs} go (there m l n ρ rest u e f more) = there m l n ρ rs u e f (go more)
@@ -27,7 +27,7 @@ RowsFit-row {rs} go (absent m l ρ rest e more) = absent m l ρ rs e (go more)
 
 -- ---- levels
 
--- a member has fewer levels than the map
+-- a member has fewer levels than its object
 pub member_levels : (k : List ℕ) (t : Node) (ms : Members) → get_member k ms ≡ Some t → levels t ≤ members_levels ms
 member_levels k t no_members e = cc
 member_levels k t (member l u ms) e = go (slice_cmp nat_cmp k l) (member_levels k t ms) e
@@ -40,7 +40,7 @@ member_levels k t (member l u ms) e = go (slice_cmp nat_cmp k l) (member_levels 
 
 -- ---- items
 
--- equal lists have equal items, and these an equal first and equal others
+-- equal arrays have equal items: an equal first item, and equal other items
 pub same_items : {xs ys : Items} → node.list xs ≡ node.list ys → xs ≡ ys
 same_items e = cc
 

@@ -1,4 +1,4 @@
--- Lists and pairs of values: their trees, when they are the same, and their laws.
+-- Lists and pairs of values: their trees, when they are the same, and their laws. After RFC 8610, 3.4.
 use Rattle.std.specs.Prelude.{◌≡◌, ℕ, suc, ◌≤◌, ◌<◌, List, [], ◌∷◌, length, map, Some, refl}
 use Rattle.std.proofs.Common.{sym, ap, arith, subst, get_or, zero}
 use Rattle.std.specs.List.{AllByRecursion}
@@ -9,11 +9,11 @@ use Rattle.bidi_tree.specs.View.{items_of}
 use Rattle.bidi_shape.specs.Term.{Term, list_of, pair_of}
 use Rattle.bidi_shape.specs.Fits.{Fits, AllFit, no_item, an_item, fits_list, fits_pair, count}
 
--- the list of the items' trees
+-- the array of the trees of these values
 abbrev pub list_tree : {X : Type 0} → (X → Node) → List X → Node
 list_tree tree_of xs = tree.list (items_of (map tree_of xs))
 
--- as many items, each the same
+-- the lists are of equal length, and values at the same place are the same
 abbrev pub SameEach : {X : Type 0} → (X → X → Type 0) → List X → List X → Type 0
 SameEach same [] [] = Unit {0}
 SameEach same [] (y ∷ ys) = ⊥
@@ -54,7 +54,7 @@ list_one tree_of well same one xs ys v w e =
 
 -- ---- pairs
 
--- the list of two trees
+-- the array of two trees
 abbrev pub pair_tree : Node → Node → Node
 pair_tree t u = tree.list (item t (item u no_items))
 
@@ -67,9 +67,9 @@ first_same t u x y e = cc
 pub second_same : (t u x y : Node) → pair_tree t u ≡ pair_tree x y → u ≡ y
 second_same t u x y e = cc
 
--- ---- for readers
+-- ---- laws for reading
 
--- a tree that fits a pair is a list of two
+-- a tree that fits a pair is an array of two items
 pub pair_fitting : {t : Node} {σ τ : Term}
     → Fits t (pair_of σ τ) → (u : Node) × (v : Node) × (list_in t ≡ Some (item u (item v no_items))) × Fits u σ × Fits v τ
 pair_fitting (fits_pair t u σ τ f g) = (t, u, refl, f, g)
@@ -80,7 +80,7 @@ two_items tree_of (a ∷ []) u v e = cc
 two_items tree_of (a ∷ b ∷ []) u v e = refl
 two_items tree_of (a ∷ b ∷ c ∷ xs) u v e = cc
 
--- a pair's items are the first and the second
+-- the items of a pair are its first and its second tree
 pub pair_at : {X : Type 0} (tree_of : X → Node) (xs : List X) (u v : Node) (d : X)
     → items_of (map tree_of xs) ≡ item u (item v no_items) → (tree_of (get_or xs 0 d) ≡ u) × (tree_of (get_or xs 1 d) ≡ v)
 pair_at tree_of [] u v d e = cc

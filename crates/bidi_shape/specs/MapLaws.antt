@@ -1,4 +1,4 @@
--- Laws of maps: members, the parts that rows name, and the others.
+-- Laws of objects: their members, the parts at the names of rows, and the other members. After RFC 8610, 3.5.
 use Rattle.std.proofs.Common.{◌≡◌, ◌≢◌, ℕ, List, [], ◌∷◌, Bool, true, false, ◌&&◌, ◌||◌, not, Option, Some, None, Ordering, Less, Equal}
 use Rattle.std.proofs.Common.{Greater, nat_cmp, is_eq, cond, bytes_eq, true≢false, refl, sym, ap, ◌∙◌, subst, ◌⊎◌, inl, inr}
 use Rattle.std.proofs.lemmas.Bool.{or_parts}
@@ -43,7 +43,7 @@ flipped k l o e = nat_list_cmp_total.antisymm l k ∙ ap ordering_reverse e
 pub named_first : (ks : List (List ℕ)) (k : List ℕ) → is_named (k ∷ ks) k ≡ true
 named_first ks k = rw (is_same k)
 
--- one of several names is not another that isn't among them
+-- a name that is among these differs from one that is not
 not_among : (ks : List (List ℕ)) (q k : List ℕ) → is_named ks q ≡ true → is_named ks k ≡ false → q ≢ k
 not_among ks q k y n s = true≢false (sym y ∙ ap (is_named ks) s ∙ n)
 
@@ -129,7 +129,7 @@ at-joined_other (row k need τ rs) (p ∷ ps) others q n =
     let ns = or_parts (bytes_eq q k) (is_named (names_of rs) q) n in
     at-put_part_other q k p (joined rs ps others) (apart q k ns.0) ∙ at-joined_other rs ps others q ns.1
 
--- there is one part for each row
+-- there is one part, which may be missing, for each row
 abbrev pub Aligned : Rows → List (Option Node) → Type 0
 Aligned no_more [] = Unit {0}
 Aligned no_more (p ∷ ps) = ⊥
@@ -192,7 +192,7 @@ without_joined_among ks (row k need τ rs) (p ∷ ps) others h =
 pub without-joined : (rs : Rows) (ps : List (Option Node)) (others : Members) → without (names_of rs) (joined rs ps others) ≡ without (names_of rs) others
 without-joined rs ps others = without_joined_among (names_of rs) rs ps others (λ q y. y)
 
--- ---- the four laws of a map
+-- ---- the four laws of an object
 
 pub RowsFit-PartsAt : (rs : Rows) (ps : List (Option Node)) (ms : Members) → PartsAt rs ps ms → PartsFit rs ps → RowsFit ms rs
 RowsFit-PartsAt no_more [] ms a f = no_row ms
@@ -206,7 +206,7 @@ RowsFit-PartsAt (row k optional τ rs) (Some t ∷ ps) ms a f = there ms k optio
 pub unnamed : (ks : List (List ℕ)) (others : Members) → without ks others ≡ others → (q : List ℕ) → is_named ks q ≡ true → get_member q others ≡ None
 unnamed ks others e q y = ap (get_member q) (sym e) ∙ at-without_named ks q others y
 
--- a value's tree fits
+-- the tree of a valid value fits
 pub map_fits : (rs : Rows) (o : Openness) (ps : List (Option Node)) (others : Members) → distinct (names_of rs) ≡ true → PartsFit rs ps
     → without (names_of rs) others ≡ others → OthersFit o others → Fits (tree.map (joined rs ps others)) (map_of rs o)
 map_fits rs o ps others d f e h =
@@ -228,7 +228,7 @@ PartsAt-agree (row k need τ rs) [] xs ys q a b y = absurd a
 PartsAt-agree (row k need τ rs) (p ∷ ps) xs ys q a b y =
     agree_at k q p xs ys (is_named (names_of rs) q) a.0 b.0 (bytes_eq q k) refl y (λ z. PartsAt-agree rs ps xs ys q a.1 b.1 z)
 
--- what was read, joined again, is what it was read of
+-- joining the parts and others that were read from an object gives the object again
 pub map_again : (rs : Rows) (ps : List (Option Node)) (ms others : Members) → distinct (names_of rs) ≡ true → PartsAt rs ps ms → AreAscending ms
     → others ≡ without (names_of rs) ms → joined rs ps others ≡ ms
 map_again rs ps ms others d a s e =
@@ -254,7 +254,7 @@ same_parts (row k need τ rs) (p ∷ ps) (q ∷ qs) xs ys a b e =
     let rest : ps ≡ qs = same_parts rs ps qs xs ys a.1 b.1 e in
     cc
 
--- one tree has one list of parts, and one map of others
+-- two lists of parts with two collections of others give the same tree only if they are equal
 pub map_one : (rs : Rows) (ps qs : List (Option Node)) (xs ys : Members) → distinct (names_of rs) ≡ true → Aligned rs ps → Aligned rs qs
     → without (names_of rs) xs ≡ xs → without (names_of rs) ys ≡ ys → tree.map (joined rs ps xs) ≡ tree.map (joined rs qs ys) → (ps ≡ qs) × (xs ≡ ys)
 map_one rs ps qs xs ys d x y ea eb e =

@@ -1,5 +1,6 @@
--- The names of the profile's rules, in the order of docs/FORMATS.md.
+-- The names of the profile's rules, in the order of docs/FORMATS.md. The profile is this project's own choice of rules.
 
+-- the name of a rule
 pub data Name : Type 0 where
   -- base
   empty_params : Name

@@ -1,4 +1,4 @@
--- The members that no row names, as a reader gathers them one by one.
+-- Laws of the members that no row names, as a reader collects them one by one. After RFC 8610, 3.5.
 use Rattle.std.proofs.Common.{◌≡◌, ℕ, List, [], ◌∷◌, ◌++◌, Bool, true, false, ◌||◌, cond, Ordering, Less, Equal}
 use Rattle.std.proofs.Common.{Greater, string_bytes, string_cmp, nat_cmp, bytes_eq, true≢false, refl, sym, ap, ◌∙◌}
 use Rattle.std.proofs.lemmas.Bool.{or_parts}
@@ -32,7 +32,7 @@ put_kept ks k l t u ms ns ws Equal false e f n below w ih = rw (f, w, e)
 put_kept ks k l t u ms ns ws Greater true e f n below w ih = rw f ih
 put_kept ks k l t u ms ns ws Greater false e f n below w ih = rw (f, e) (ap (member l u) ih)
 
--- a member that is not named is kept
+-- putting in a member whose name is not among these keeps it among the others
 pub without-put_other : (ks : List (List ℕ)) (k : List ℕ) (t : Node) (ms : Members)
     → AreAscending ms → list_any (bytes_eq k) ks ≡ false → without ks (put k t ms) ≡ put k t (without ks ms)
 without-put_other ks k t no_members s n = rw n
@@ -46,7 +46,7 @@ whole_inside : (n : ℕ) (l : List ℕ) (u : Node) (ns : Members) (b : Bool) →
 whole_inside n l u ns true e = e
 whole_inside n l u ns false e = whole-rest l u ns n e
 
--- a kept member is whole where all of them are
+-- if all of the others are whole, each of them is
 pub whole_each : (n : ℕ) (ks : List (List ℕ)) (done : List Entry) (e : Entry) (left : List Entry) → list_any (bytes_eq (string_bytes e.0)) ks ≡ false
     → MembersAreWhole (without ks (members_node (done ++ e ∷ left))) n → IsWhole (node e.1) n
 whole_each n ks [] e left h w = whole-head (string_bytes e.0) (node e.1) (without ks (members_node left)) n (rw h at w)
@@ -54,7 +54,7 @@ whole_each n ks (d ∷ done) e left h w =
     whole_each n ks done e left h (whole_inside n (string_bytes d.0) (node d.1) (without ks (members_node (done ++ e ∷ left)))
     (list_any (bytes_eq (string_bytes d.0)) ks) w)
 
--- one more member
+-- the others after one more member was read
 pub gathered_skip : (ks : List (List ℕ)) (done : List Entry) (e : Entry) (left : List Entry) → IsStrictlySortedBy string_cmp (keys_of (done ++ e ∷ left))
     → list_any (bytes_eq (string_bytes e.0)) ks ≡ true → without ks (members_node (done ++ e ∷ [])) ≡ without ks (members_node done)
 gathered_skip ks done e left s y = ap (without ks) (sym (put_last done e left s)) ∙ without-put ks (string_bytes e.0) (node e.1) (members_node done) y
@@ -84,7 +84,7 @@ without_none_at : (b : Bool) (ks : List (List ℕ)) (k : List ℕ) (t : Node) (m
 without_none_at true ks k t ms e h ih = cc
 without_none_at false ks k t ms e h ih = ap (member k t) ih
 
--- where none is named, all are left
+-- if no member has one of the names, all members are among the others
 pub without_unnamed : (ks : List (List ℕ)) (ms : Members) → has_named ks ms ≡ false → without ks ms ≡ ms
 without_unnamed ks no_members h = refl
 without_unnamed ks (member k t ms) h =

@@ -1,4 +1,4 @@
--- What a map is made of: a part under each row's name, if one is there, and the others.
+-- The parts of an object, one for each row if it is there, and the other members. After RFC 8610, 3.5.
 use Rattle.std.specs.Prelude.{◌≡◌, ℕ, map, List, [], ◌∷◌, Bool, true, Option, Some, None, ◌&&◌, not, false, ◌||◌}
 use Rattle.std.specs.Borrow.{Bor}
 use Rattle.std.specs.List.{list_any}
@@ -7,48 +7,49 @@ use Rattle.bidi_tree.specs.Node.{Node, Members, put, get_member, no_members, mem
 use Rattle.bidi_shape.specs.Term.{Need, required, optional, Term, Rows, no_more, row}
 use Rattle.bidi_shape.specs.Fits.{Fits}
 
--- the texts behind references
+-- the strings that these references point to, as bytes
 abbrev pub texts_in : List (Bor (List ℕ)) → List (List ℕ)
 texts_in texts = map (λ s. s.now) texts
 
--- the members, with the part at the name if there is one
+-- the members with the part at the name k, or unchanged if there is no part
 abbrev pub put_part : List ℕ → Option Node → Members → Members
 put_part k None ms = ms
 put_part k (Some t) ms = put k t ms
 
--- the members that the rows name, together with the others
+-- the members of an object: each part at the name of its row, and the other members
+-- example: the part `1` at `a`, joined to `{"b":2}`, is `{"a":1,"b":2}`
 abbrev pub joined : Rows → List (Option Node) → Members → Members
 joined no_more ps others = others
 joined (row k need τ rs) [] others = others
 joined (row k need τ rs) (p ∷ ps) others = put_part k p (joined rs ps others)
 
--- what stands under a row's name, if anything, is as the row says
+-- the part at a row's name fits its term; only the part of an optional row may be missing
 abbrev pub PartFits : Need → Term → Option Node → Type 0
 PartFits required τ None = ⊥
 PartFits required τ (Some t) = Fits t τ
 PartFits optional τ None = Unit {0}
 PartFits optional τ (Some t) = Fits t τ
 
--- under each row's name stands that part
+-- the object has each part at the name of its row, and no member where the part is missing
 abbrev pub PartsAt : Rows → List (Option Node) → Members → Type 0
 PartsAt no_more [] ms = Unit {0}
 PartsAt no_more (p ∷ ps) ms = ⊥
 PartsAt (row k need τ rs) [] ms = ⊥
 PartsAt (row k need τ rs) (p ∷ ps) ms = (get_member k ms ≡ p) × PartsAt rs ps ms
 
--- each part is as its row says
+-- each part fits its row
 abbrev pub PartsFit : Rows → List (Option Node) → Type 0
 PartsFit no_more [] = Unit {0}
 PartsFit no_more (p ∷ ps) = ⊥
 PartsFit (row k need τ rs) [] = ⊥
 PartsFit (row k need τ rs) (p ∷ ps) = PartFits need τ p × PartsFit rs ps
 
--- whether a member has one of the names
+-- some member has one of the names
 abbrev pub has_named : List (List ℕ) → Members → Bool
 has_named names no_members = false
 has_named names (member k t ms) = list_any (bytes_eq k) names || has_named names ms
 
--- no name stands twice
+-- no name occurs twice
 abbrev pub distinct : List (List ℕ) → Bool
 distinct [] = true
 distinct (k ∷ ks) = not (list_any (bytes_eq k) ks) && distinct ks

@@ -1,5 +1,4 @@
--- The named rules of the profile, to be held beside docs/FORMATS.md: the same rules, members and alternatives in the same order.
--- After WebDriver BiDi, "Protocol" and the CDDL of its modules; the profile is this project's own.
+-- The rules of the profile, for comparison with docs/FORMATS.md. After WebDriver BiDi, "Protocol" and its modules; the choice is this project's own.
 use Prim.Native.String.{String}
 use Rattle.std.specs.Prelude.{List, [], ◌∷◌}
 use Rattle.bidi_shape.specs.Name.{Name, empty_params, empty_result, command, message, command_response, error_response, event, error_code}
@@ -25,6 +24,7 @@ pub record CommandRow : Type 0 where
   pub params : Name
   pub result : Name
 
+-- the row of a command with this method, rule of params and rule of result
 abbrev pub command_row : String → Name → Name → CommandRow
 command_row m p r = record { method = m; params = p; result = r }
 
@@ -33,13 +33,15 @@ pub record EventRow : Type 0 where
   pub method : String
   pub params : Name
 
+-- the row of an event with this method and rule of params
 abbrev pub event_row : String → Name → EventRow
 event_row m p = record { method = m; params = p }
 
+-- the command `session.status`, the first of the list
 abbrev pub session_status_row : CommandRow
 session_status_row = command_row "session.status" empty_params status_result
 
--- the commands after session.status
+-- the other commands, in the order of docs/FORMATS.md
 abbrev pub further_commands : List CommandRow
 further_commands =
     command_row "session.new" new_parameters new_result
@@ -62,10 +64,11 @@ further_commands =
     ∷ command_row "browser.removeUserContext" remove_user_context_parameters empty_result
     ∷ []
 
+-- the event `browsingContext.contextCreated`, the first of the list
 abbrev pub context_created_row : EventRow
 context_created_row = event_row "browsingContext.contextCreated" info
 
--- the events after browsingContext.contextCreated
+-- the other events, in the order of docs/FORMATS.md
 abbrev pub further_events : List EventRow
 further_events =
     event_row "browsingContext.contextDestroyed" info
@@ -77,45 +80,47 @@ further_events =
     ∷ event_row "log.entryAdded" log_entry
     ∷ []
 
--- the map of one command
+-- the term of one command: an extensible object with its id, method and params
 abbrev pub command_map : CommandRow → Term
 command_map c = open_map (
     "id" is js_uint and
     "method" is the c.method and
     "params" is rule c.params and no_more)
 
--- one alternative for each command
+-- the choice of these commands
 abbrev pub one_of_commands : CommandRow → List CommandRow → Term
 one_of_commands c [] = command_map c
 one_of_commands c (d ∷ ds) = command_map c or one_of_commands d ds
 
+-- the term of one event: an extensible object with its type, method and params
 abbrev pub event_map : EventRow → Term
 event_map e = open_map (
     "type" is the "event" and
     "method" is the e.method and
     "params" is rule e.params and no_more)
 
+-- the choice of these events
 abbrev pub one_of_events : EventRow → List EventRow → Term
 one_of_events e [] = event_map e
 one_of_events e (f ∷ fs) = event_map e or one_of_events f fs
 
--- ---- shapes that several rules share
+-- ---- terms that several rules share
 
--- `{ type: "T" }`
+-- an object that has only a type: `{ type: "T" }`
 abbrev pub typed : String → Term
 typed t = closed_map ("type" is the t and no_more)
 
--- `{ type: "T", value: X }`
+-- an object that has a type and a value: `{ type: "T", value: X }`
 abbrev pub typed_value : String → Term → Term
 typed_value t τ = closed_map (
     "type" is the t and
     "value" is τ and no_more)
 
--- the members of an object in a page: `? handle: text, ? internalId: text, ..`
+-- the rows `? handle: text, ? internalId: text`, which a remote value may have, before these rows
 abbrev pub held : Rows → Rows
 held rows = "handle" may_be text and "internalId" may_be text and rows
 
--- the group Base, and the members after it
+-- the rows that every log entry has (the group Base of the draft), before these rows
 abbrev pub base : Rows → Rows
 base rows =
     "level" is (the "debug" or the "info" or the "warn" or the "error") and
@@ -126,6 +131,7 @@ base rows =
 
 -- ---- the rules
 
+-- the term of each named rule
 abbrev pub term_of : Name → Term
 -- base
 term_of empty_params = open_map no_more

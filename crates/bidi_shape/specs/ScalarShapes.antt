@@ -1,4 +1,4 @@
--- Texts, truth values and whole numbers: each stands for the tree that it is.
+-- The shapes of strings, Booleans and whole numbers. After RFC 8259, 3, 6 and 7.
 use Rattle.std.proofs.Common.{◌≡◌, pos, Bool, String, string_bytes, refl, zero-le}
 use Rattle.std.specs.declared.alloc.Global.{Global}
 use Rattle.bidi_tree.specs.Node as tree
@@ -9,6 +9,7 @@ use Rattle.bidi_shape.specs.Fits.{fits_text, fits_bool, fits_js_uint, fits_js_in
 use Rattle.bidi_shape.specs.KindLaws.{text_one, bool_one, uint_one, int_one}
 use Rattle.bidi_shape.specs.Value.{ShapeOf}
 
+-- the shape of strings: the tree of a string has the same bytes
 abbrev pub string_shape : ShapeOf (String Global)
 string_shape = record {
   rule = text;
@@ -21,6 +22,7 @@ string_shape = record {
   whole = λ s w. (refl, zero-le);
 }
 
+-- the shape of Booleans: the tree of a Boolean is that Boolean
 abbrev pub bool_shape : ShapeOf Bool
 bool_shape = record {
   rule = bool;
@@ -33,6 +35,7 @@ bool_shape = record {
   whole = λ b w. (refl, zero-le);
 }
 
+-- the shape of js-uints: the tree of a js-uint is its number
 abbrev pub js_uint_shape : ShapeOf JsUint
 js_uint_shape = record {
   rule = js_uint;
@@ -45,6 +48,7 @@ js_uint_shape = record {
   whole = λ m w. (refl, zero-le);
 }
 
+-- the shape of js-ints: the tree of a js-int is its number
 abbrev pub js_int_shape : ShapeOf JsInt
 js_int_shape = record {
   rule = js_int;

@@ -1,4 +1,4 @@
--- Map types: the rows of their members, the values that these give, and the laws of both.
+-- Object types: the rows of their members, the trees of their values, and the laws of both. After RFC 8610, 3.5.
 use Rattle.std.specs.Prelude.{◌≡◌, ℕ, suc, max, List, [], ◌∷◌, true, Option, Some, Result}
 use Rattle.std.proofs.Common.{sym, ap, ◌∙◌, subst}
 use Rattle.std.specs.Result.{IsErrAnd}
@@ -16,10 +16,12 @@ use Rattle.bidi_shape.specs.WholeLaws.{PartsAreWhole, deepest_other, map_whole}
 use Rattle.bidi_shape.specs.Outcome.{WhenNoFit, IfNoFit, handed_on}
 use Rattle.bidi_shape.specs.declared.fault.ShapeFault.{ShapeFault}
 
+-- the first of some names, or the empty name if there is none
 abbrev pub head : List (List ℕ) → List ℕ
 head [] = []
 head (k ∷ ks) = k
 
+-- the names after the first
 abbrev pub tail : List (List ℕ) → List (List ℕ)
 tail [] = []
 tail (k ∷ ks) = ks
@@ -33,14 +35,15 @@ same_tail e = cc
 pub same_some : {X : Type 0} {x y : X} → Some x ≡ Some y → x ≡ y
 same_some e = cc
 
--- the rows have those names, each once
+-- the rows have these names in this order, and no name occurs twice
 pub record IsTable (ks : List (List ℕ)) (rs : Rows) : Type 0 where
   pub names : names_of rs ≡ ks
   pub once : distinct (names_of rs) ≡ true
 
--- ---- terms that are a map's
+-- ---- terms that are those of an object
 
--- a rule's name stands for its term
+-- the term of a rule if the term is a rule's name, and otherwise the term itself
+-- example: `wait` unfolds to the choice of its three texts
 abbrev pub unfolded : Term → Term
 unfolded (rule n) = term_of n
 unfolded (exactly s) = exactly s
@@ -89,20 +92,20 @@ unfolded_fits t (map_of rs o) f = f
 unfolded_fits t (either σ τ) f = f
 unfolded_fits t (capped τ) f = f
 
--- ---- values of a map
+-- ---- values of an object type
 
--- the map of those parts and others
+-- the object of these parts and others
 abbrev pub table_tree : Rows → List (Option Node) → Members → Node
 table_tree rs ps others = tree.map (joined rs ps others)
 
--- no other member has a row's name, and each may stand there
+-- no other member has the name of a row, and each may be there
 pub record TableWell (rs : Rows) (o : Openness) (others : Members) : Type 0 where
   pub no_known : without (names_of rs) others ≡ others
   pub may : OthersFit o others
 
--- the rows of a map's members, their parts, and the laws of both
+-- the specification of an object type: the rows of its members, the parts and other members of each value, and the laws of both
 pub record Table (F : Type 0) : Type 1 where
-  -- of the rows' names and the literals' texts
+  -- the rows, from the names of the members and the texts of the literal members
   pub rows : List (List ℕ) → List (List ℕ) → Rows
   pub openness : Openness
   pub parts : List (List ℕ) → F → List (Option Node)
@@ -111,13 +114,15 @@ pub record Table (F : Type 0) : Type 1 where
   pub same : F → F → Type 0
   pub parts_fit : (ks ws : List (List ℕ)) (f : F) → well f → PartsFit (rows ks ws) (parts ws f)
   pub one : (ws : List (List ℕ)) (f g : F) → well f → well g → parts ws f ≡ parts ws g → others f ≡ others g → same f g
-  -- the most levels of a part, in which no Odd stands
+  -- the most levels of a part; no part has an Odd
   pub deepest : ℕ
   pub whole : (ws : List (List ℕ)) (f : F) → well f → PartsAreWhole (parts ws f) deepest
 
+-- the tree of a value, given the names of its members and the texts of the literal ones
 abbrev pub tree_by : {F : Type 0} → Table F → List (List ℕ) → List (List ℕ) → F → Node
 tree_by t ks ws f = table_tree (t.rows ks ws) (t.parts ws f) (t.others f)
 
+-- the value is valid: each part is valid, no further member has the name of a row, and each further member may be there
 abbrev pub good_by : {F : Type 0} → Table F → List (List ℕ) → List (List ℕ) → F → Type 0
 good_by t ks ws f = t.well f × TableWell (t.rows ks ws) t.openness (t.others f)
 
@@ -136,9 +141,9 @@ one_by t ks ws d f g a b e =
     (Aligned-PartsFit rs (t.parts ws f) (t.parts_fit ks ws f a.0)) (Aligned-PartsFit rs (t.parts ws g) (t.parts_fit ks ws g b.0)) a.1.no_known b.1.no_known e in
     t.one ws f g a.0 b.0 p.0 p.1
 
--- ---- for readers
+-- ---- laws for reading
 
--- a table that was read
+-- a value that was read has the tree that it was read from
 pub table_read : (ks : List (List ℕ)) (rs : Rows) (o : Openness) (ps : List (Option Node)) (ms others : Members) (t : Node)
     → IsTable ks rs → tree.map ms ≡ t → PartsAt rs ps ms → AreAscending ms
     → others ≡ without ks ms → OthersFit o others → (table_tree rs ps others ≡ t) × TableWell rs o others
@@ -148,14 +153,14 @@ table_read ks rs o ps ms others t h is parts sorted rest may =
       record { no_known = ap (without (names_of rs)) left ∙ without-without (names_of rs) ms ∙ sym left; may = may },
     )
 
--- a table that was not read
+-- an object that was not read does not fit
 pub table_misfit : (ks : List (List ℕ)) (rs : Rows) (o : Openness) (ms : Members) (t : Node) → IsTable ks rs → tree.map ms ≡ t
     → (RowsFit ms rs → OthersFit o (without ks ms) → ⊥) → Fits t (map_of rs o) → ⊥
 table_misfit ks rs o ms t h is bad f =
     let p = map_inside (subst (λ x. Fits x (map_of rs o)) (sym is) f) in
     bad p.0 (subst (λ x. OthersFit o (without x ms)) h.names p.1)
 
--- the exits of a map's reader
+-- a fault inside an object's reader is a fault of the whole object
 pub members_exit : {Y : Type 0} (t : Node) (τ : Term) (rs : Rows) (o : Openness)
     → unfolded τ ≡ map_of rs o → (e : ShapeFault) (r : Result Y ShapeFault) → IsErrAnd r (λ y. y ≡ e)
     → WhenNoFit e ((ss : Rows) (p : Openness) → Fits t (map_of ss p) → ⊥) → IfNoFit r (Fits t τ → ⊥)
@@ -167,7 +172,7 @@ pub fields_exit : {Y : Type 0} (ks : List (List ℕ)) (t : Node) (τ : Term) (rs
 fields_exit ks t τ rs o ms h is says e r was bad =
     handed_on e r was bad (λ f fit. table_misfit ks rs o ms t h is f (subst (λ σ. Fits t σ) says (unfolded_fits t τ fit)))
 
--- the rows of a map's term
+-- the rows of a term that is a map; any other term has none
 abbrev pub rows_in : Term → Rows
 rows_in (map_of rs o) = rs
 rows_in (exactly s) = no_more
@@ -183,10 +188,12 @@ rows_in (either σ τ) = no_more
 rows_in (rule n) = no_more
 rows_in (capped τ) = no_more
 
+-- the names of the rows of a term, or of the rule that it names
+-- example: the names in the rule of NavigateParameters are context, url and wait
 abbrev pub names_in : Term → List (List ℕ)
 names_in τ = names_of (rows_in (unfolded τ))
 
--- the shape of a type whose values are a map's
+-- the shape of an object type, from its table and the members of each value
 abbrev pub map_shape : {V F : Type 0} (τ : Term) (t : Table F) (ws : List (List ℕ)) (m : V → F)
     → unfolded τ ≡ map_of (t.rows (names_in τ) ws) t.openness → distinct (names_of (t.rows (names_in τ) ws)) ≡ true → ShapeOf V
 map_shape τ t ws m is d = record {

@@ -1,4 +1,4 @@
--- A type of its own whose values are those of another type: a choice with names for its alternatives.
+-- A type whose values are those of another type under a rule of its own, such as a choice with names for its alternatives.
 use Rattle.std.specs.Prelude.{◌≡◌}
 use Rattle.std.proofs.Common.{sym, subst}
 use Rattle.bidi_tree.specs.Node.{Node}
@@ -7,11 +7,11 @@ use Rattle.bidi_shape.specs.Fits.{Fits}
 use Rattle.bidi_shape.specs.Value.{ShapeOf}
 use Rattle.bidi_shape.specs.Table.{unfolded, fits_unfolded}
 
--- what fits the term that a rule stands for fits the rule
+-- a tree that fits the term of a rule fits the rule
 pub fits_named : (t : Node) (τ σ : Term) → unfolded τ ≡ σ → Fits t σ → Fits t τ
 fits_named t τ σ is f = fits_unfolded t τ (subst (λ ρ. Fits t ρ) (sym is) f)
 
--- the shape of the values that stand for values of another shape, under a rule of their own
+-- the shape of a type whose values each correspond to a value of another shape, under a rule with the same term
 abbrev pub shape_through : {V E : Type 0} (τ : Term) (s : ShapeOf E) (m : V → E) → unfolded τ ≡ s.rule → ShapeOf V
 shape_through τ s m is = record {
   rule = τ;

@@ -1,4 +1,4 @@
--- Laws of values that every type shares.
+-- Laws of values that all types share. Defined by this project.
 use Rattle.std.specs.Prelude.{◌≡◌, Option, Some, None, IfSome, option_map}
 use Rattle.bidi_tree.specs.Node.{Node, Members}
 use Rattle.bidi_tree.specs.View.{members_node}
@@ -7,12 +7,13 @@ use Rattle.bidi_shape.specs.Term.{optional, Term}
 use Rattle.bidi_shape.specs.Fits.{Fits}
 use Rattle.bidi_shape.specs.Parts.{PartFits}
 
--- the members of an Ext
+-- the further members of an object, which are an `Ext` of the code
 abbrev pub others_of : Ext → Members
 others_of e = members_node e.members.entries
 
--- ---- a value that may be there
+-- ---- an optional value
 
+-- both values are missing, or both are there and are the same
 abbrev pub SameOption : {X : Type 0} → (X → X → Type 0) → Option X → Option X → Type 0
 SameOption same None None = Unit {0}
 SameOption same None (Some y) = ⊥

@@ -1,4 +1,4 @@
--- No Odd stands in the trees of values, and how many levels they have at most.
+-- Laws of the trees of values: they have no Odd, and at most so many levels. Defined by this project.
 use Rattle.std.proofs.Common.{◌≡◌, ◌≤◌, ℕ, suc, max, List, [], ◌∷◌, Option, Some, None, Ordering, Less, Equal}
 use Rattle.std.proofs.Common.{Greater, nat_cmp, ◌||◌, false, refl, map, option_map, sym, subst, arith}
 use Rattle.std.proofs.lemmas.Bool.{or_parts, or_from}
@@ -15,7 +15,7 @@ use Rattle.bidi_shape.specs.Fits.{OthersFit}
 use Rattle.bidi_shape.specs.Parts.{joined}
 use Rattle.bidi_shape.specs.ListLaws.{list_tree, pair_tree}
 
--- each part that is there is whole within so many levels
+-- each part that is there has no Odd and at most n levels
 abbrev pub PartsAreWhole : List (Option Node) → ℕ → Type 0
 PartsAreWhole [] n = Unit {0}
 PartsAreWhole (None ∷ ps) n = PartsAreWhole ps n
@@ -26,7 +26,7 @@ abbrev pub deepest_other : Openness → ℕ
 deepest_other extensible = 60
 deepest_other closed = 0
 
--- what is whole within some levels is so within more
+-- a bound on levels may be raised
 pub whole_within : (t : Node) (m n : ℕ) → m ≤ n → IsWhole t m → IsWhole t n
 whole_within t m n h w = let deep : levels t ≤ m = w.1 in (w.0, omega arith)
 
@@ -62,7 +62,7 @@ levels-put k t (member l u ms) n a b =
     let both : max (levels u) (members_levels ms) ≤ n = b in
     levels_at (slice_cmp nat_cmp k l) k l t u ms (put k t ms) n a (omega arith) (omega arith) (levels-put k t ms n a (omega arith))
 
--- a map of parts and others that have no Odd has none
+-- an object has no Odd if its parts and others have none
 pub no_odd-joined : (rs : Rows) (ps : List (Option Node)) (others : Members) (n : ℕ)
     → PartsAreWhole ps n → members_have_odd others ≡ false → members_have_odd (joined rs ps others) ≡ false
 no_odd-joined no_more ps others n w o = o
@@ -81,7 +81,7 @@ pub others_whole : (o : Openness) (ms : Members) → OthersFit o ms → MembersA
 others_whole extensible ms h = h
 others_whole closed ms h = subst (λ x. MembersAreWhole x 0) (sym h) (refl, omega arith)
 
--- a map is whole within one level more than its parts and others
+-- an object has at most one level more than its parts and others
 pub map_whole : (rs : Rows) (o : Openness) (ps : List (Option Node)) (others : Members) (n : ℕ) → PartsAreWhole ps n → OthersFit o others
     → IsWhole (tree.map (joined rs ps others)) (suc (max n (deepest_other o)))
 map_whole rs o ps others n w h =
@@ -91,14 +91,14 @@ map_whole rs o ps others n w h =
     let inside : members_levels (joined rs ps others) ≤ most = levels-joined rs ps others most (parts_within ps n most (omega arith) w) (omega arith) in
     (no_odd-joined rs ps others n w rest.0, omega arith)
 
--- ---- parts that may be there
+-- ---- optional parts
 
 pub optional_whole : {X : Type 0} (tree_of : X → Node) (well : X → Type 0) (n : ℕ) → ((v : X) → well v → IsWhole (tree_of v) n) → (o : Option X) → IfSome o well
     → (ps : List (Option Node)) → PartsAreWhole ps n → PartsAreWhole (option_map tree_of o ∷ ps) n
 optional_whole tree_of well n whole None w ps more = more
 optional_whole tree_of well n whole (Some v) w ps more = (whole v w, more)
 
--- ---- lists and pairs
+-- ---- arrays and pairs
 
 items_no_odd : {X : Type 0} (tree_of : X → Node) (well : X → Type 0) (n : ℕ)
     → ((v : X) → well v → IsWhole (tree_of v) n) → (xs : List X) → AllByRecursion well xs
@@ -115,7 +115,7 @@ items_deep tree_of well n whole (x ∷ xs) w =
     let rest : items_levels (items_of (map tree_of xs)) ≤ n = items_deep tree_of well n whole xs w.1 in
     omega arith
 
--- a list is whole within one level more than its items
+-- an array has at most one level more than its items
 pub list_whole : {X : Type 0} (tree_of : X → Node) (well : X → Type 0) (n : ℕ)
     → ((v : X) → well v → IsWhole (tree_of v) n) → (xs : List X) → AllByRecursion well xs
     → IsWhole (list_tree tree_of xs) (suc n)

@@ -1,4 +1,4 @@
--- Types whose values are a few texts: a table of the texts and values, and the laws that it gives.
+-- Types whose values are a few strings: the table of strings and values, and its laws. After RFC 8610, 2.2.2.
 use Rattle.std.specs.Prelude.{◌≡◌, ℕ, List, [], ◌∷◌, map, Bool, true, false, Option, Some, None, if◌then◌else◌, refl}
 use Rattle.std.proofs.Common.{sym, ap, ◌∙◌, subst, bytes_eq, true≢false, zero-le}
 use Rattle.std.proofs.lemmas.Slice.Eq.{bytes_eq-Decides}
@@ -10,21 +10,21 @@ use Rattle.bidi_shape.specs.KindLaws.{text_one}
 use Rattle.bidi_shape.specs.Value.{ShapeOf}
 use Rattle.bidi_shape.specs.Table.{unfolded, fits_unfolded, unfolded_fits}
 
--- a text, and the value that it stands for
+-- a string and the value that it names
 pub record Word (V : Type 0) : Type 0 where
   pub text : List ℕ
   pub value : V
 
--- a value beside its text
+-- a value with its string
 abbrev pub word : {V : Type 0} → (V → List ℕ) → V → Word V
 word text_of v = record { text = text_of v; value = v }
 
--- the choice of the texts
+-- the choice of these strings, as a term
 abbrev pub one_of : {V : Type 0} → Word V → List (Word V) → Term
 one_of w [] = exactly w.text
 one_of w (x ∷ xs) = either (exactly w.text) (one_of x xs)
 
--- the value of a text, if it is one of them
+-- the first value that the string names, or None
 abbrev pub value_named : {V : Type 0} → Word V → List (Word V) → List ℕ → Option V
 value_named w [] s = if bytes_eq s w.text then Some w.value else None
 value_named w (x ∷ xs) s = if bytes_eq s w.text then Some w.value else value_named x xs s
@@ -41,7 +41,7 @@ last_fits : {V : Type 0} (b : Bool) (s : List ℕ) (w : Word V) (v : V)
 last_fits true s w v same e = subst (λ x. Fits (tree.text s) (exactly x)) ((bytes_eq-Decides s w.text).0 same) (fits_exactly s)
 last_fits false s w v same e = cc
 
--- a text that names a value fits
+-- a string that names a value fits the choice
 pub named_fits : {V : Type 0} (w : Word V) (xs : List (Word V)) (s : List ℕ) (v : V) → value_named w xs s ≡ Some v → Fits (tree.text s) (one_of w xs)
 named_fits w [] s v e = last_fits (bytes_eq s w.text) s w v refl e
 named_fits w (x ∷ xs) s v e = fits_at (bytes_eq s w.text) s w (value_named x xs s) (one_of x xs) v refl e (named_fits x xs s v)
@@ -61,7 +61,7 @@ none_at : {V : Type 0} (b : Bool) (s : List ℕ) (w : Word V) (rest : Option V)
 none_at true s w rest same e = cc
 none_at false s w rest same e = (λ is. true≢false (sym ((bytes_eq-Decides s w.text).1 is) ∙ same), e)
 
--- a text that names none does not fit
+-- a string that names no value does not fit the choice
 pub unnamed_misfit : {V : Type 0} (w : Word V) (xs : List (Word V)) (s : List ℕ) → value_named w xs s ≡ None → Fits (tree.text s) (one_of w xs) → ⊥
 unnamed_misfit w [] s e f = (none_at (bytes_eq s w.text) s w None refl e).0 (exactly_same f)
 unnamed_misfit w (x ∷ xs) s e f =
@@ -71,7 +71,7 @@ unnamed_misfit w (x ∷ xs) s e f =
 a_text : {t : Node} {s : List ℕ} → Fits t (exactly s) → Fits t text
 a_text (fits_exactly s) = fits_text s
 
--- what fits is a text
+-- a tree that fits the choice is a string
 pub word_text : {V : Type 0} {t : Node} (w : Word V) (xs : List (Word V)) → Fits t (one_of w xs) → Fits t text
 word_text w [] f = a_text f
 word_text w (x ∷ xs) f = split _ (λ g. a_text g) (word_text x xs) f
@@ -79,12 +79,12 @@ word_text w (x ∷ xs) f = split _ (λ g. a_text g) (word_text x xs) f
 same_some : {A : Type 0} {a b : A} → Some a ≡ Some b → a ≡ b
 same_some e = cc
 
--- each value's text is that of the table
+-- the string of each value is the one that the table has for it
 abbrev pub HasTexts : {V : Type 0} → (V → List ℕ) → Word V → List (Word V) → Type 0
 HasTexts text_of w [] = text_of w.value ≡ w.text
 HasTexts text_of w (x ∷ xs) = (text_of w.value ≡ w.text) × HasTexts text_of x xs
 
--- a type whose values are a few texts: its rule, the table of its texts, and that each value's text names it
+-- the specification of a type whose values are a few strings: its rule, the table of its strings, and that each value's string names it
 pub record Words (V : Type 0) : Type 1 where
   pub rule : Term
   pub first : Word V
@@ -102,7 +102,7 @@ word_fits w v =
 pub word_one : {V : Type 0} (w : Words V) (v u : V) → tree.text (w.text_of v) ≡ tree.text (w.text_of u) → v ≡ u
 word_one w v u e = same_some (sym (w.names_it v) ∙ ap (value_named w.first w.rest) (text_one (w.text_of v) (w.text_of u) e) ∙ w.names_it u)
 
--- the shape of such a type
+-- the shape of a type whose values are a few strings
 abbrev pub word_shape : {V : Type 0} → Words V → ShapeOf V
 word_shape w = record {
   rule = w.rule;
@@ -115,7 +115,7 @@ word_shape w = record {
   whole = λ v u. (refl, zero-le);
 }
 
--- ---- for readers
+-- ---- laws for reading
 
 named_at : {V : Type 0} (b : Bool) (s : List ℕ) (w : Word V) (rest : Option V) (text_of : V → List ℕ) (v : V) → bytes_eq s w.text ≡ b → text_of w.value ≡ w.text
     → (rest ≡ Some v → text_of v ≡ s) → (if b then Some w.value else rest) ≡ Some v → text_of v ≡ s
@@ -125,7 +125,7 @@ named_at false s w rest text_of v same is later e = later e
 none_v : {V : Type 0} {v : V} {P : Type 0} → None ≡ Some v → P
 none_v e = cc
 
--- the first of some values that has the text
+-- the first of these values whose string this is, or None
 abbrev pub value_among : {V : Type 0} → (V → List ℕ) → List V → List ℕ → Option V
 value_among text_of [] s = None
 value_among text_of (v ∷ vs) s = if bytes_eq s (text_of v) then Some v else value_among text_of vs s
@@ -135,7 +135,7 @@ among_words : {V : Type 0} (text_of : V → List ℕ) (v : V) (vs : List V) (s :
 among_words text_of v [] s = refl
 among_words text_of v (u ∷ us) s = ap (λ o. if bytes_eq s (text_of v) then Some v else o) (among_words text_of u us s)
 
--- the value of a text among all of the table
+-- looking a string up in the table or among the values gives the same
 pub value_named-all : {V : Type 0} (text_of : V → List ℕ) (w : Word V) (ws : List (Word V)) (vs : List V) (s : List ℕ)
     → map (word text_of) vs ≡ w ∷ ws → value_named w ws s ≡ value_among text_of vs s
 value_named-all text_of w ws [] s e = cc
@@ -145,14 +145,14 @@ value_named-all text_of w ws (v ∷ vs) s e =
     let rest : map (word text_of) vs ≡ ws = cc in
     cc
 
--- the value that a text names has that text
+-- the value that a string names has that string
 pub text_of-value_named : {V : Type 0} (text_of : V → List ℕ) (w : Word V) (xs : List (Word V)) (s : List ℕ) (v : V)
     → HasTexts text_of w xs → value_named w xs s ≡ Some v → text_of v ≡ s
 text_of-value_named text_of w [] s v h e = named_at (bytes_eq s w.text) s w None text_of v refl h none_v e
 text_of-value_named text_of w (x ∷ xs) s v h e =
     named_at (bytes_eq s w.text) s w (value_named x xs s) text_of v refl h.0 (text_of-value_named text_of x xs s v h.1) e
 
--- a tree that is no such text does not fit
+-- a string that names no value does not fit the rule
 pub word_misfit : {V : Type 0} (w : Words V) (s : List ℕ) → value_named w.first w.rest s ≡ None → Fits (tree.text s) w.rule → ⊥
 word_misfit w s e f = unnamed_misfit w.first w.rest s e (subst (λ σ. Fits (tree.text s) σ) w.is_rule (unfolded_fits (tree.text s) w.rule f))
 

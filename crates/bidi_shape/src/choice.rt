@@ -1,4 +1,4 @@
-//! A value or null, and the first of two types that fits.
+//! Values that may be null, and choices of two types.
 ghost use Rattle.std.specs.Prelude.{◌≡◌, IfOk};
 ghost use Rattle.bidi_shape.specs.Term.{Term};
 ghost use Rattle.bidi_shape.specs.Fits.{Fits};
@@ -11,18 +11,19 @@ use crate::shape::Shape;
 use bidi_tree::Outline;
 use std::alloc::{AllocError, Global};
 
-/// A value of the first type, where the tree fits its rule, or else of the second: `A / B`.
+/// A value of the first type if the tree fits its rule, and otherwise of the second: `A / B`.
 #[derive(Drop)]
 pub enum Either<A: Drop, B: Drop> {
-    /// The tree fits the first rule; it may fit the second, too.
+    /// The tree fits the first rule. It may fit the second rule too.
     First(A),
-    /// The tree fits the second rule alone.
+    /// The tree fits only the second rule.
     Second(B),
 }
 
 impl<A: Shape, B: Shape> Shape for Either<A, B> {
     ghost use Rattle.bidi_shape.specs.ChoiceLaws.{either_shape};
 
+    // The rule `A / B`, with the trees of both types.
     ghost shape = { either_shape A.shape B.shape };
 
     fn from_tree<S: Parsed>(alloc: Global, tree: &S) -> Result<Either<A, B>, ShapeFault> {
@@ -44,22 +45,25 @@ impl<A: Shape, B: Shape> Shape for Either<A, B> {
     }
 }
 
-/// Reads the alternatives of a rule, as `Either<A, Either<B, C>>`.
+/// Reads the alternatives of a rule, such as `Either<A, Either<B, C>>`.
 ///
 /// # Errors
-/// - `NoFit`: the tree does not fit the rule of these alternatives, under whatever name.
+/// - `NoFit`: the tree fits none of the alternatives.
 /// - `NoMemory`: an allocation failed.
 pub fn read_choice<E: Shape, S: Parsed>(alloc: Global, tree: &S) -> Result<E, ShapeFault>
+    // After an Ok, the value is valid and has the tree that was read.
     ensures ok { IfOk result (λ e. (E.shape.tree_of e ≡ S.tree tree.now) × E.shape.well e) }
+    // `NoFit` comes only if the tree fits no rule that has these alternatives.
     ensures no_fit { (τ : Term) → unfolded τ ≡ E.shape.rule → IfNoFit result (Fits (S.tree tree.now) τ → ⊥) }
 {
     E::from_tree(alloc, tree)
 }
 
-/// A value, or null: `X / null`.
+/// A value or null: `X / null`.
 impl<X: Shape> Shape for Option<X> {
     ghost use Rattle.bidi_shape.specs.ChoiceLaws.{nullable_shape};
 
+    // The rule `X / null`; `None` has the tree null.
     ghost shape = { nullable_shape X.shape };
 
     fn from_tree<S: Parsed>(alloc: Global, tree: &S) -> Result<Option<X>, ShapeFault> {

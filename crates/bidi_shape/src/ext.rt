@@ -1,4 +1,4 @@
-//! The members outside a list of known names.
+//! The members that a list of known names does not have.
 ghost use Rattle.std.specs.BTreeMap.{IsOrdered};
 ghost use Rattle.std.specs.String.{string_cmp};
 ghost use Rattle.std.specs.List.Sorted.{IsStrictlySortedBy-prop};
@@ -13,11 +13,13 @@ use thiserror::Error;
 #[error("a member has a known name")]
 pub struct Clash;
 
-/// The members of an extensible map that its rule does not name, in byte order of their names.
+/// The members of an extensible object that its rule does not name, in byte order of their names.
 #[derive(Drop)]
 pub struct Ext {
-    /// In a well map none has a name of the rule, and each fits `any`: it has no `Odd` and at most 60 levels.
+    /// In a valid object none has a name of the rule, and each fits `any`: it has no `Odd` and at most 60
+    /// levels.
     pub members: Members,
+    // The names ascend in byte order.
     pub ghost ordered: { IsOrdered string_cmp members } by { IsStrictlySortedBy-prop string_cmp _ },
 }
 
@@ -29,8 +31,9 @@ impl Ext {
     ghost use Rattle.bidi_shape.specs.Parts.{has_named, texts_in};
     ghost use Rattle.bidi_shape.specs.ValueLaws.{others_of};
 
-    /// No members. Takes no memory.
+    /// Makes an `Ext` without members. Takes no memory.
     pub fn empty(alloc: Global) -> Ext
+        // The result has no members.
         ensures { others_of result ≡ no_members }
     {
         Ext {
@@ -38,16 +41,19 @@ impl Ext {
         }
     }
 
-    /// The members, where none of them has a known name. Takes no memory.
+    /// Takes these members if none of them has a known name. Takes no memory.
     ///
     /// # Errors
     /// `Clash`: a member has one of the names.
     #[tactic(auto, using(crate::specs::OthersLaws::without_unnamed))]
     pub fn new(members: Members, names: &[&str]) -> Result<Ext, Clash>
+        // An Ok has exactly these members, none of which has a known name; `Clash` means that one
+        // has.
         ensures made { MatchResult result
             (λ e. (has_named (texts_in names.now) (members_node members.entries) ≡ false)
             × (others_of e ≡ members_node members.entries))
             (λ _. has_named (texts_in names.now) (members_node members.entries) ≡ true) }
+        // After an Ok, no member has a known name.
         ensures unnamed { IfOk result (λ e. without (texts_in names.now) (others_of e) ≡ others_of e) }
     {
         if has_listed(&members, names) {
@@ -56,27 +62,30 @@ impl Ext {
         Ok(Ext::of(members))
     }
 
-    /// The members, whatever their names. Takes no memory.
+    /// Takes these members, whatever their names are. Takes no memory.
     pub fn of(members: Members) -> Ext
+        // The result has exactly these members.
         ensures { result.members ≡ members }
     {
-        // The contract of `len` has the order of the names, which an `Ext` keeps.
+        // The contract of `len` needs the order of the names, which an `Ext` keeps.
         let _ = members.len();
         Ext { members }
     }
 
-    /// Whether each member fits `any`: no `Odd` stands in it, and it has at most 60 levels. Takes no memory.
+    /// Whether each member fits `any`. Takes no memory.
     pub fn is_whole(&self) -> bool
+        // The result is true exactly if no member has an `Odd` and none has more than 60 levels.
         ensures { IsTrue result ↔ MembersAreWhole (others_of self.now) 60 }
     {
         bidi_tree::are_whole(&self.members, MAX_LEVELS)
     }
 
-    /// A copy of the members.
+    /// Copies the members.
     ///
     /// # Errors
     /// No memory: an allocation failed.
     pub fn copy_members(&self) -> Result<Members, AllocError>
+        // The copy has the same names and trees.
         ensures { IfOk result (λ ms. members_node ms.entries ≡ others_of self.now) }
     {
         bidi_tree::copy_members(&self.members)

@@ -1,12 +1,12 @@
-//! Why a tree is not read.
+//! Why a tree was not read.
 use std::alloc::{AllocError, AllocFailed};
 use thiserror::Error;
 
-/// Why a value was not read of a tree.
+/// Why a value was not read from a tree.
 #[derive(Clone, Copy, Debug, PartialEq, Eq, Drop, Error)]
 pub enum ShapeFault {
-    /// A part is missing, of the wrong kind or out of range, or there is one too many. Another rule may take the tree;
-    /// this one never will.
+    /// A part is missing, is of the wrong kind or out of range, or there is one too many. Another rule may
+    /// fit the tree; this one never will.
     #[error("the tree does not fit the rule")]
     NoFit,
     /// An allocation failed. The same tree may be read again.

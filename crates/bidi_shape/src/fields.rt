@@ -1,4 +1,4 @@
-//! The members of a map, as a list of types, and reading a whole map by it.
+//! The members of an object type as a list of types, and reading a whole object by it.
 ghost use Rattle.std.specs.Prelude.{◌≡◌, IfOk, OnOk};
 ghost use Rattle.bidi_tree.specs.Node.{AreAscending};
 ghost use Rattle.bidi_tree.specs.Kind.{members_in};
@@ -16,12 +16,12 @@ use crate::shape::Shape;
 use bidi_tree::{Outline, outline_members_of};
 use std::alloc::{AllocError, Global};
 
-/// The members of a map, one after the other.
+/// The members of an object, one after the other.
 pub trait Fields: Drop {
-    /// The rows, their parts, and the laws of both.
+    /// The rows of the members, the parts of a value, and the laws of both.
     ghost table: { Table Self };
 
-    /// Reads each member, and the others.
+    /// Reads each member by its name, and the members that are not in `known`.
     fn read<'a, S: Parsed>(
         alloc: Global,
         map: &S,
@@ -29,16 +29,22 @@ pub trait Fields: Drop {
         texts: &'a [&'a str],
         known: &'a [&'a str],
     ) -> Result<Self, ShapeFault>
+        // After an Ok, the names of the object's members ascend.
         ensures sorted { OnOk result (AreAscending (members_in (S.tree map.now))) }
+        // After an Ok, the parts of the value are those at the names of its rows, and each is
+        // valid.
         ensures ok { IfOk result (λ f. PartsAt (table.rows (texts_in names.now) (texts_in texts.now)) (table.parts (texts_in texts.now) f)
             (members_in (S.tree map.now)) × table.well f) }
+        // After an Ok, the further members are exactly those that are not in `known`, and each may
+        // be there.
         ensures rest { IfOk result (λ f. (table.others f ≡ without (texts_in known.now) (members_in (S.tree map.now)))
             × OthersFit table.openness (table.others f)) }
+        // `NoFit` comes only if a row does not fit or a further member may not be there.
         ensures no_fit { IfNoFit result (RowsFit (members_in (S.tree map.now)) (table.rows (texts_in names.now) (texts_in texts.now))
             → OthersFit table.openness (without (texts_in known.now) (members_in (S.tree map.now))) → ⊥) };
 }
 
-/// The first text of a list, and the texts after it.
+/// The first string of a list, and the strings after it.
 pub(crate) fn next_text<'a>(texts: &'a [&'a str]) -> (&'a str, &'a [&'a str])
     ensures first { result.0.now ≡ head (texts_in texts.now) }
     ensures rest { texts_in result.1.now ≡ tail (texts_in texts.now) }
@@ -49,13 +55,14 @@ pub(crate) fn next_text<'a>(texts: &'a [&'a str]) -> (&'a str, &'a [&'a str])
     }
 }
 
-/// A member that has to be there.
+/// A required member.
 #[derive(Drop)]
 pub struct Required<X: Drop, F: Drop>(pub X, pub F);
 
 impl<X: Shape, F: Fields> Fields for Required<X, F> {
     ghost use Rattle.bidi_shape.specs.FieldTables.{required_table};
 
+    // A row whose member is required, and then the rows of the rest.
     ghost table = { required_table X.shape F.table };
 
     fn read<'a, S: Parsed>(
@@ -72,13 +79,14 @@ impl<X: Shape, F: Fields> Fields for Required<X, F> {
     }
 }
 
-/// A member that may be there.
+/// An optional member.
 #[derive(Drop)]
 pub struct Optional<X: Drop, F: Drop>(pub Option<X>, pub F);
 
 impl<X: Shape, F: Fields> Fields for Optional<X, F> {
     ghost use Rattle.bidi_shape.specs.FieldTables.{optional_table};
 
+    // A row whose member is optional, and then the rows of the rest.
     ghost table = { optional_table X.shape F.table };
 
     fn read<'a, S: Parsed>(
@@ -95,13 +103,14 @@ impl<X: Shape, F: Fields> Fields for Optional<X, F> {
     }
 }
 
-/// A member that is a given text.
+/// A member whose value is one given string.
 #[derive(Drop)]
 pub struct Literal<F: Drop>(pub F);
 
 impl<F: Fields> Fields for Literal<F> {
     ghost use Rattle.bidi_shape.specs.FieldTables.{literal_table};
 
+    // A row whose member is one given string, and then the rows of the rest.
     ghost table = { literal_table F.table };
 
     fn read<'a, S: Parsed>(
@@ -119,10 +128,11 @@ impl<F: Fields> Fields for Literal<F> {
     }
 }
 
-/// Any other members may stand there.
+/// Any further members may be there.
 impl Fields for Ext {
     ghost use Rattle.bidi_shape.specs.FieldTables.{ext_table};
 
+    // No more rows; further members may be there.
     ghost table = { ext_table };
 
     fn read<'a, S: Parsed>(
@@ -136,13 +146,14 @@ impl Fields for Ext {
     }
 }
 
-/// No other member may stand there.
+/// No further members may be there.
 #[derive(Drop)]
 pub struct Closed;
 
 impl Fields for Closed {
     ghost use Rattle.bidi_shape.specs.FieldTables.{closed_table};
 
+    // No more rows; no further members may be there.
     ghost table = { closed_table };
 
     fn read<'a, S: Parsed>(
@@ -157,10 +168,10 @@ impl Fields for Closed {
     }
 }
 
-/// Reads a whole map: its members by their names, and the texts of its literal members, in order.
+/// Reads a whole object, from the names of its members and the strings of its literal members, in order.
 ///
 /// # Errors
-/// - `NoFit`: the tree does not fit the rule of these members, under whatever name.
+/// - `NoFit`: the tree does not fit the rule that has these members.
 /// - `NoMemory`: an allocation failed.
 pub fn read_fields<'a, F: Fields, S: Parsed>(
     alloc: Global,
@@ -168,9 +179,12 @@ pub fn read_fields<'a, F: Fields, S: Parsed>(
     names: &'a [&'a str],
     texts: &'a [&'a str],
 ) -> Result<F, ShapeFault>
+    // The names are those of the rule's rows, in this order, and each occurs once.
     requires table { IsTable (texts_in names.now) (F.table.rows (texts_in names.now) (texts_in texts.now)) }
+    // After an Ok, the value is valid and has the tree that was read.
     ensures ok { IfOk result (λ f. (tree_by F.table (texts_in names.now) (texts_in texts.now) f ≡ S.tree tree.now)
         × good_by F.table (texts_in names.now) (texts_in texts.now) f) }
+    // `NoFit` comes only if the tree fits no rule that has these members.
     ensures no_fit { (τ : Term) → unfolded τ ≡ map_of (F.table.rows (texts_in names.now) (texts_in texts.now)) F.table.openness
         → IfNoFit result (Fits (S.tree tree.now) τ → ⊥) }
 {
@@ -179,12 +193,13 @@ pub fn read_fields<'a, F: Fields, S: Parsed>(
     Ok(fields)
 }
 
-/// Any map: `{ Extensible }`.
+/// Any object: `{ Extensible }`.
 impl Shape for Ext {
     ghost use Rattle.std.specs.Prelude.{refl, []};
     ghost use Rattle.bidi_shape.specs.Term.{open_map, no_more};
     ghost use Rattle.bidi_shape.specs.Table.{map_shape};
 
+    // The rule `{ Extensible }`, whose trees are all objects with members that fit `any`.
     ghost shape = { map_shape (open_map no_more) ⟦<Ext as Fields>⟧.table [] (λ e. e) refl refl };
 
     fn from_tree<S: Parsed>(alloc: Global, tree: &S) -> Result<Ext, ShapeFault> {

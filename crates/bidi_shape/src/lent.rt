@@ -1,4 +1,4 @@
-//! The members of a map that is written, as a list of references.
+//! The members of an object that is written, as a list of references.
 ghost use Rattle.std.specs.Prelude.{◌≡◌, ℕ, List, IfOk};
 ghost use Rattle.bidi_tree.specs.Node as kind;
 ghost use Rattle.bidi_tree.specs.Node.{Members as Listed};
@@ -12,12 +12,12 @@ use crate::shape::Shape;
 use bidi_tree::{Outline, OutlineMembers, outline_members_of};
 use std::alloc::{AllocError, Global};
 
-/// The members of a map, one after the other, each by a reference.
+/// The members of an object, one after the other, each by a reference.
 pub trait Lent<'a>: Drop {
-    // The members of that map, by their names and the texts of its literal members.
+    // The members of that object, from their names and the strings of its literal members.
     ghost listed: { List (List ℕ) → List (List ℕ) → Self → Listed };
 
-    /// Makes the outlines of the members, with room for so many beside those of a `Rest`.
+    /// Makes the outlines of the members, with room for `room` more beside those of a `Rest`.
     ///
     /// # Errors
     /// No memory: an allocation failed.
@@ -28,10 +28,11 @@ pub trait Lent<'a>: Drop {
         texts: &'a [&'a str],
         room: usize,
     ) -> Result<OutlineMembers<'a>, AllocError>
+        // The outlines have the names and trees of these members.
         ensures { IfOk result (λ ms. outline_members ms ≡ listed (texts_in names.now) (texts_in texts.now) self.now) };
 }
 
-/// A member that is there.
+/// A member that is always there.
 #[derive(Drop)]
 pub struct One<'a, X: Drop, L: Drop>(pub &'a X, pub L);
 
@@ -39,6 +40,7 @@ impl<'a, X: Shape, L: Lent<'a>> Lent<'a> for One<'a, X, L> {
     ghost use Rattle.bidi_tree.specs.Node.{put};
     ghost use Rattle.bidi_shape.specs.Table.{head, tail};
 
+    // The value's tree at the first name, and the members of the rest.
     ghost listed = { λ ks ws l. put (head ks) (X.shape.tree_of l.0.now) (L.listed (tail ks) ws l.1) };
 
     fn outline(
@@ -55,7 +57,7 @@ impl<'a, X: Shape, L: Lent<'a>> Lent<'a> for One<'a, X, L> {
     }
 }
 
-/// A member that may be there.
+/// A member that is there only if the option has a value.
 #[derive(Drop)]
 pub struct Maybe<'a, X: Drop, L: Drop>(pub &'a Option<X>, pub L);
 
@@ -64,6 +66,7 @@ impl<'a, X: Shape, L: Lent<'a>> Lent<'a> for Maybe<'a, X, L> {
     ghost use Rattle.bidi_shape.specs.Parts.{put_part};
     ghost use Rattle.bidi_shape.specs.Table.{head, tail};
 
+    // The value's tree at the first name, if there is a value, and the members of the rest.
     ghost listed = { λ ks ws l. put_part (head ks) (option_map X.shape.tree_of l.0.now) (L.listed (tail ks) ws l.1) };
 
     fn outline(
@@ -82,7 +85,7 @@ impl<'a, X: Shape, L: Lent<'a>> Lent<'a> for Maybe<'a, X, L> {
     }
 }
 
-/// A member that is a given text.
+/// A member whose value is one given string.
 #[derive(Drop)]
 pub struct Exact<L: Drop>(pub L);
 
@@ -90,6 +93,7 @@ impl<'a, L: Lent<'a>> Lent<'a> for Exact<L> {
     ghost use Rattle.bidi_tree.specs.Node.{put};
     ghost use Rattle.bidi_shape.specs.Table.{head, tail};
 
+    // The first text at the first name, and the members of the rest.
     ghost listed = { λ ks ws l. put (head ks) (kind.text (head ws)) (L.listed (tail ks) (tail ws) l.0) };
 
     fn outline(
@@ -107,13 +111,14 @@ impl<'a, L: Lent<'a>> Lent<'a> for Exact<L> {
     }
 }
 
-/// The members that the rule does not name.
+/// The further members, which the rule does not name.
 #[derive(Drop)]
 pub struct Rest<'a>(pub &'a Ext);
 
 impl<'a> Lent<'a> for Rest<'a> {
     ghost use Rattle.bidi_shape.specs.ValueLaws.{others_of};
 
+    // The further members themselves.
     ghost listed = { λ ks ws l. others_of l.0.now };
 
     fn outline(
@@ -127,13 +132,14 @@ impl<'a> Lent<'a> for Rest<'a> {
     }
 }
 
-/// No further member.
+/// No further members.
 #[derive(Drop)]
 pub struct End;
 
 impl<'a> Lent<'a> for End {
     ghost use Rattle.bidi_tree.specs.Node.{no_members};
 
+    // No members.
     ghost listed = { λ ks ws l. no_members };
 
     fn outline(
@@ -147,7 +153,8 @@ impl<'a> Lent<'a> for End {
     }
 }
 
-/// Makes the outline of the map of these members, by their names and the texts of its literal members, in order.
+/// Makes the outline of the object with these members, from their names and the strings of its literal
+/// members, in order.
 ///
 /// # Errors
 /// No memory: an allocation failed.
@@ -157,6 +164,7 @@ pub fn outline_fields<'a, L: Lent<'a>>(
     names: &'a [&'a str],
     texts: &'a [&'a str],
 ) -> Result<Outline<'a>, AllocError>
+    // The outline is that of the object with these members.
     ensures { IfOk result (λ d. outline_node d ≡ kind.map (L.listed (texts_in names.now) (texts_in texts.now) members.now)) }
 {
     Ok(Outline::Map(members.outline(alloc, names, texts, names.len())?))

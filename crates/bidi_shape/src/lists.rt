@@ -1,4 +1,4 @@
-//! Lists of any length, of at least one item, and of two.
+//! Arrays of any length, of at least one item, and of two items.
 ghost use Rattle.std.proofs.Common.{zero-le};
 ghost use Rattle.std.specs.Prelude.{◌≡◌, ◌≤◌, IfOk, length, map, suc, max};
 ghost use Rattle.std.specs.List.{AllByRecursion};
@@ -16,7 +16,7 @@ use crate::shape::Shape;
 use bidi_tree::Outline;
 use std::alloc::{AllocError, Global};
 
-/// The values of the items.
+/// Reads the values of the items.
 fn read_items<X: Shape, S: Parsed>(alloc: Global, items: &[S]) -> Result<Vec<X>, ShapeFault>
     ensures ok { IfOk result (λ v. (map X.shape.tree_of v.items ≡ map S.tree items.now) × AllByRecursion X.shape.well v.items) }
     ensures no_fit { IfNoFit result (AllFit (items_of (map S.tree items.now)) X.shape.rule → ⊥) }
@@ -28,7 +28,7 @@ fn read_items<X: Shape, S: Parsed>(alloc: Global, items: &[S]) -> Result<Vec<X>,
     Ok(values)
 }
 
-/// The outline of the list of the items.
+/// Makes the outline of the array of the items.
 fn outline_list<'a, X: Shape>(alloc: Global, items: &'a [X]) -> Result<Outline<'a>, AllocError>
     ensures { IfOk result (λ d. outline_node d ≡ list_tree X.shape.tree_of items.now) }
 {
@@ -39,8 +39,9 @@ fn outline_list<'a, X: Shape>(alloc: Global, items: &'a [X]) -> Result<Outline<'
     Ok(Outline::List(outlines))
 }
 
-/// A list of any length: `[*X]`.
+/// An array of any length: `[*X]`.
 impl<X: Shape> Shape for Vec<X> {
+    // The rule `[*X]`; a list is valid if each item is.
     ghost shape = { record {
       rule = list_of 0 X.shape.rule;
       tree_of = λ v. list_tree X.shape.tree_of v.items;
@@ -64,14 +65,15 @@ impl<X: Shape> Shape for Vec<X> {
     }
 }
 
-/// A list with at least one item: `[+X]`.
+/// An array of at least one item: `[+X]`.
 #[derive(Drop)]
 pub struct OneOrMore<X: Drop> {
-    /// At least one; a value without any is not well, and fits no rule.
+    /// The items. A value without items is not valid, and its tree fits no rule.
     pub items: Vec<X>,
 }
 
 impl<X: Shape> Shape for OneOrMore<X> {
+    // The rule `[+X]`; a list is valid if it has an item and each item is valid.
     ghost shape = { record {
       rule = list_of 1 X.shape.rule;
       tree_of = λ v. list_tree X.shape.tree_of v.items.items;
@@ -98,8 +100,9 @@ impl<X: Shape> Shape for OneOrMore<X> {
     }
 }
 
-/// A list of exactly two items: `[X, Y]`.
+/// An array of exactly two items: `[X, Y]`.
 impl<X: Shape, Y: Shape> Shape for (X, Y) {
+    // The rule `[X, Y]`; a pair is valid if both parts are.
     ghost shape = { record {
       rule = pair_of X.shape.rule Y.shape.rule;
       tree_of = λ v. pair_tree (X.shape.tree_of v.0) (Y.shape.tree_of v.1);

@@ -1,4 +1,4 @@
-//! Why a value is not made of its parts.
+//! Why a value was not made of its parts.
 ghost use Rattle.std.specs.Prelude.{◌≡◌, IfOk, true};
 ghost use Rattle.bidi_tree.specs.Node.{MembersAreWhole};
 ghost use Rattle.bidi_tree.specs.View.{members_node};
@@ -14,21 +14,23 @@ use bidi_tree::Members;
 use std::alloc::{AllocError, Global};
 use thiserror::Error;
 
-/// Why a value was not made of its parts, which are used up. Of several that apply, a constructor tells the first.
+/// Why a value was not made of its parts, which are used up. If several faults apply, a constructor returns
+/// the first.
 #[derive(Clone, Copy, Debug, PartialEq, Eq, Drop, Error)]
 pub enum MakeFault {
     /// A further member has a name of the rule. Leave it out, or give it as the part that has this name.
     #[error("a further member has a known name")]
     Clash,
-    /// The map would be read as a value of an earlier alternative of the choice that it stands in. Make that value, or
-    /// leave out the member that makes it one.
+    /// The object would be read as a value of an earlier alternative of its choice. Make that value instead,
+    /// or leave out the member that makes it fit.
     #[error("an earlier alternative takes the value")]
     Shadowed,
-    /// A further member has more than 60 levels, or an `Odd` in it: a number that is no whole number within js-int, as
-    /// 1.5. Or the value that was made has more than 60 levels itself. Send fewer levels, and such a number as a text.
+    /// A further member has more than 60 levels, or an `Odd` in it, which is a number such as 1.5 that is not
+    /// whole or not within js-int. Or the new value itself has more than 60 levels. Send fewer levels, and
+    /// such a number as a string.
     #[error("a further member has too many levels, or a number that is not kept")]
     TooDeep,
-    /// An allocation failed. The same parts may be made and given again.
+    /// An allocation failed. The same parts may be made and passed again.
     #[error("out of memory")]
     NoMemory,
 }
@@ -53,18 +55,22 @@ impl From<Clash> for MakeFault {
     }
 }
 
-/// The further members of a map whose rule names these. Takes no memory.
+/// Takes the further members of an object whose rule has these names. Takes no memory.
 ///
 /// # Errors
 /// - `Clash`: a member has one of the names.
 /// - `TooDeep`: a member has an `Odd` in it, or more than 60 levels.
 pub fn further(members: Members, names: &[&str]) -> Result<Ext, MakeFault>
+    // An Ok has exactly these members, and neither fault applies; an error names the first fault
+    // that applies.
     ensures made { Makes result
         (has_named (texts_in names.now) (members_node members.entries) ≡ true)
         ⊥
         (¬ MembersAreWhole (members_node members.entries) 60)
         (λ e. others_of e ≡ members_node members.entries) }
+    // After an Ok, no member has one of the names.
     ensures unnamed { IfOk result (λ e. without (texts_in names.now) (others_of e) ≡ others_of e) }
+    // After an Ok, no member has an `Odd`, and none has more than 60 levels.
     ensures whole { IfOk result (λ e. MembersAreWhole (others_of e) 60) }
 {
     let ext = Ext::new(members, names)?;
@@ -74,12 +80,15 @@ pub fn further(members: Members, names: &[&str]) -> Result<Ext, MakeFault>
     Ok(ext)
 }
 
-/// Checks that an earlier alternative of the choice does not take the value, by trying its reader on an outline of it.
+/// Checks that the value would not be read as an earlier alternative of its choice, by reading an outline of
+/// it so.
 ///
 /// # Errors
-/// - `Shadowed`: the earlier alternative takes the value.
+/// - `Shadowed`: the value's tree fits the earlier alternative.
 /// - `NoMemory`: an allocation failed.
 pub fn not_shadowed<Earlier: Shape, V: Shape>(alloc: Global, value: &V) -> Result<(), MakeFault>
+    // An Ok means that the value's tree does not fit the earlier rule; `Shadowed` means that it
+    // does.
     ensures { Makes result ⊥ (Fits (V.shape.tree_of value.now) Earlier.shape.rule) ⊥ (λ _. Unit {0}) }
 {
     let outline = value.outline(alloc)?;

@@ -1,4 +1,4 @@
-//! The members of a map, one by one.
+//! The members of an object, one by one.
 ghost use Rattle.std.specs.Prelude.{◌≡◌, IfOk, OnOk, OnErr, IsTrue, ◌↔◌, option_map, Some, IfSome};
 ghost use Rattle.bidi_tree.specs.Node.{put, get_member, IsWhole, MembersAreWhole, AreAscending, no_members};
 ghost use Rattle.bidi_tree.specs.Kind.{members_in};
@@ -22,13 +22,14 @@ use bidi_tree::{Members, Outline, OutlineMembers, Tree, put_member, put_outline}
 use std::alloc::{AllocError, Global};
 use std::default::Emptied;
 
-/// The most levels of a tree that fits `any`, as a member does that no rule names; of a script value and an Info, too.
+/// The most levels of a tree that fits `any`, as a further member has to; also of a script value and of an
+/// Info.
 pub const MAX_LEVELS: usize = 60;
 
-/// The most bytes of a command's text, of a table row's, and of an argument that is resolved.
+/// The most bytes of a command, of a row of a play's table, and of an argument whose references are resolved.
 pub const MAX_BYTES: usize = 1_048_576;
 
-/// The value of a required member.
+/// Reads the value of a required member.
 pub(crate) fn required<X: Shape, S: Parsed>(
     alloc: Global,
     map: &S,
@@ -43,7 +44,7 @@ pub(crate) fn required<X: Shape, S: Parsed>(
     }
 }
 
-/// The value of an optional member, if it is there.
+/// Reads the value of an optional member, if it is there.
 pub(crate) fn optional<X: Shape, S: Parsed>(
     alloc: Global,
     map: &S,
@@ -58,7 +59,7 @@ pub(crate) fn optional<X: Shape, S: Parsed>(
     }
 }
 
-/// Puts a value's outline at a name, in place of a member of that name.
+/// Puts the outline of a value at a name.
 ///
 /// # Errors
 /// No memory: an allocation failed, and the members are as they were.
@@ -68,14 +69,17 @@ pub fn add_member<'a, X: Shape>(
     name: &'a str,
     value: &'a X,
 ) -> Result<(), AllocError>
+    // After an Ok the value's tree is at the name, in place of one that was there; other members
+    // are unchanged.
     ensures ok { OnOk result (outline_members members.new ≡ put name.now (X.shape.tree_of value.now) (outline_members members.old)) }
+    // After an error the members are unchanged.
     ensures err { OnErr result (outline_members members.new ≡ outline_members members.old) }
 {
     let outline = value.outline(alloc)?;
     put_outline(members, name, outline)
 }
 
-/// Puts a value's outline at a name, if there is a value.
+/// Puts the outline of a value at a name, if there is a value.
 ///
 /// # Errors
 /// No memory: an allocation failed, and the members are as they were.
@@ -85,7 +89,9 @@ pub fn add_optional<'a, X: Shape>(
     name: &'a str,
     value: &'a Option<X>,
 ) -> Result<(), AllocError>
+    // After an Ok the value's tree is at the name; if there is no value, the members are unchanged.
     ensures ok { OnOk result (outline_members members.new ≡ put_part name.now (option_map X.shape.tree_of value.now) (outline_members members.old)) }
+    // After an error the members are unchanged.
     ensures err { OnErr result (outline_members members.new ≡ outline_members members.old) }
 {
     match value {
@@ -94,7 +100,7 @@ pub fn add_optional<'a, X: Shape>(
     }
 }
 
-/// Puts a text at a name, in place of a member of that name.
+/// Puts a string at a name.
 ///
 /// # Errors
 /// No memory: an allocation failed, and the members are as they were.
@@ -103,7 +109,10 @@ pub fn add_literal<'a>(
     name: &'a str,
     text: &'a str,
 ) -> Result<(), AllocError>
+    // After an Ok the string is at the name, in place of a value that was there; other members are
+    // unchanged.
     ensures ok { OnOk result (outline_members members.new ≡ put name.now (kind.text text.now) (outline_members members.old)) }
+    // After an error the members are unchanged.
     ensures err { OnErr result (outline_members members.new ≡ outline_members members.old) }
 {
     put_outline(members, name, Outline::Text(text))
@@ -132,14 +141,14 @@ pub(crate) fn has_listed(members: &Members, names: &[&str]) -> bool
     false
 }
 
-/// Whether a tree fits `any`: no `Odd` stands in it, and it has at most 60 levels.
+/// Whether a tree fits `any`: it has no `Odd`, and at most 60 levels.
 fn fits_any(tree: &Tree) -> bool
     ensures { IsTrue result ↔ IsWhole (node tree.now) 60 }
 {
     tree.is_whole(MAX_LEVELS)
 }
 
-/// The members that are not listed, each of which fits any.
+/// Collects the members that are not listed, each of which has to fit `any`.
 pub(crate) fn others(members: &Members, names: &[&str]) -> Result<Ext, ShapeFault>
     ensures sorted { OnOk result (AreAscending (members_node members.now.entries)) }
     ensures rest { IfOk result (λ e. members_node e.members.entries ≡ without (texts_in names.now) (members_node members.now.entries)) }
@@ -159,7 +168,7 @@ pub(crate) fn others(members: &Members, names: &[&str]) -> Result<Ext, ShapeFaul
     Ok(Ext::of(rest))
 }
 
-/// That all members are listed.
+/// Checks that all members are listed.
 pub(crate) fn no_others(members: &Members, names: &[&str]) -> Result<(), ShapeFault>
     ensures sorted { OnOk result (AreAscending (members_node members.now.entries)) }
     ensures rest { OnOk result (without (texts_in names.now) (members_node members.now.entries) ≡ no_members) }
@@ -173,7 +182,7 @@ pub(crate) fn no_others(members: &Members, names: &[&str]) -> Result<(), ShapeFa
     Ok(())
 }
 
-/// That a member is a given text.
+/// Checks that a member is a given string.
 pub(crate) fn literal<S: Parsed>(map: &S, name: &str, text: &str) -> Result<(), ShapeFault>
     ensures ok { OnOk result (get_member name.now (members_in (S.tree map.now)) ≡ Some (kind.text text.now)) }
     ensures no_fit { IfNoFit result (PartFits required (exactly text.now) (get_member name.now (members_in (S.tree map.now))) → ⊥) }
@@ -184,7 +193,7 @@ pub(crate) fn literal<S: Parsed>(map: &S, name: &str, text: &str) -> Result<(), 
     }
 }
 
-/// That a tree is a given text.
+/// Checks that a tree is a given string.
 fn is_literal<S: Parsed>(value: &S, text: &str) -> Result<(), ShapeFault>
     ensures ok { OnOk result (S.tree value.now ≡ kind.text text.now) }
     ensures no_fit { IfNoFit result (Fits (S.tree value.now) (exactly text.now) → ⊥) }

@@ -1,4 +1,5 @@
-//! What a typed value is read of: a tree, a JSON value that borrows its text, or an outline (`parsed_outline.rt`).
+//! What a typed value is read from: a tree, a JSON value that borrows from its text, or an outline
+//! (`parsed_outline.rt`).
 ghost use Rattle.std.specs.Prelude.{◌≡◌, ◌≤◌, ◌↔◌, IfOk, OnOk, IsTrue, map, option_map};
 ghost use Rattle.bidi_tree.specs.Node as kind;
 ghost use Rattle.bidi_tree.specs.Node.{Node, AreAscending, MembersAreWhole, get_member, levels, no_members};
@@ -20,68 +21,87 @@ use bidi_tree::{
 use json::Value;
 use std::alloc::{AllocError, Global};
 
-/// A tree of JSON, or a JSON value that borrows its text or an outline, which has a tree. It is asked for its parts.
+/// A JSON value that can be asked for its parts: a tree, a JSON value that borrows from its text, or an
+/// outline.
 pub trait Parsed: Drop {
-    /// The tree that it is or has.
+    /// The tree of the value.
     ghost tree: { Self → Node };
 
-    /// Whether it is null.
+    /// Whether the value is null.
     fn is_null(&self) -> bool
+        // The result is true exactly for null.
         ensures { result ≡ is_null (tree self.now) };
 
-    /// The truth value, where it is one.
+    /// The Boolean that the value is.
     fn as_bool(&self) -> Option<bool>
+        // If the value is a Boolean, the result is that Boolean; otherwise it is `None`.
         ensures { result ≡ bool_in (tree self.now) };
 
-    /// The whole number, where it is one in range.
+    /// The whole number that the value is.
     fn as_int(&self) -> Option<JsInt>
+        // If the value is a whole number in range, the result is that number; otherwise it is
+        // `None`.
         ensures { option_map (λ n. n.value) result ≡ whole_in (tree self.now) };
 
-    /// The text, where it is one.
+    /// The string that the value is.
     fn as_str(&self) -> Option<&str>
+        // If the value is a string, the result is that string; otherwise it is `None`.
         ensures { option_map (λ s. s.now) result ≡ text_in (tree self.now) };
 
-    /// The items, where it is a list.
+    /// The items of the array that the value is.
     fn as_items(&self) -> Option<&[Self]>
+        // If the value is an array, the result has its items; otherwise it is `None`.
         ensures { option_map (λ v. items_of (map tree v.now)) result ≡ list_in (tree self.now) };
 
-    /// Checks that it is a map. Takes no memory.
+    /// Checks that the value is an object. Takes no memory.
     ///
     /// # Errors
-    /// `NoFit`: it is no map.
+    /// `NoFit`: it is no object.
     fn check_map(&self) -> Result<(), ShapeFault>
+        // After an Ok the value is an object.
         ensures ok { OnOk result (kind.map (members_in (tree self.now)) ≡ tree self.now) }
+        // `NoFit` comes only if the value fits no rule for objects.
         ensures no_fit { IfNoFit result ((rs : Rows) (o : Openness) → Fits (tree self.now) (map_of rs o) → ⊥) };
 
-    /// The member of that name, where it is a map that has one. Takes no memory.
+    /// Finds the member of that name. Takes no memory.
     fn member(&self, name: &str) -> Option<&Self>
+        // The result is the member's value, or `None` if the value is no object or has no such
+        // member.
         ensures { option_map (λ v. tree v.now) result ≡ get_member name.now (members_in (tree self.now)) };
 
-    /// The members that are not listed in `names`.
+    /// Collects the members that are not in `names`.
     ///
     /// # Errors
-    /// - `NoFit`: one of them does not fit `any`: an `Odd` stands in it, or it has more than 60 levels.
+    /// - `NoFit`: one of them does not fit `any`: it has an `Odd`, or more than 60 levels.
     /// - `NoMemory`: an allocation failed.
     fn others(&self, alloc: Global, names: &[&str]) -> Result<Ext, ShapeFault>
+        // After an Ok, the names of the members ascend.
         ensures sorted { OnOk result (AreAscending (members_in (tree self.now))) }
+        // After an Ok, the result has exactly the members whose name is not in `names`.
         ensures rest { IfOk result (λ e. members_node e.members.entries ≡ without (texts_in names.now) (members_in (tree self.now))) }
+        // After an Ok, no member of the result has an `Odd`, and none has more than 60 levels.
         ensures whole { IfOk result (λ e. MembersAreWhole (members_node e.members.entries) 60) }
+        // `NoFit` comes only if one of these members has an `Odd` or more than 60 levels.
         ensures no_fit { IfNoFit result (MembersAreWhole (without (texts_in names.now) (members_in (tree self.now))) 60 → ⊥) };
 
-    /// Checks that all members are listed in `names`. Takes no memory.
+    /// Checks that all members are in `names`. Takes no memory.
     ///
     /// # Errors
-    /// `NoFit`: a member is not listed.
+    /// `NoFit`: a member is not in `names`.
     fn no_others(&self, names: &[&str]) -> Result<(), ShapeFault>
+        // After an Ok, the names of the members ascend.
         ensures sorted { OnOk result (AreAscending (members_in (tree self.now))) }
+        // After an Ok, the name of each member is in `names`.
         ensures rest { OnOk result (without (texts_in names.now) (members_in (tree self.now)) ≡ no_members) }
+        // `NoFit` comes only if the name of a member is not in `names`.
         ensures no_fit { IfNoFit result (without (texts_in names.now) (members_in (tree self.now)) ≡ no_members → ⊥) };
 
-    /// Whether it has at most so many levels.
+    /// Whether the value has at most `limit` levels.
     ///
     /// # Errors
     /// No memory: an allocation failed.
     fn is_within(&self, alloc: Global, limit: usize) -> Result<bool, AllocError>
+        // The result is true exactly if arrays and objects nest at most `limit` levels deep.
         ensures { IfOk result (λ b. IsTrue b ↔ (levels (tree self.now) ≤ limit)) };
 }
 
@@ -157,7 +177,8 @@ impl Parsed for Tree {
     }
 }
 
-/// A text is borrowed, and a number is read at each call. Of two members of one name the last counts.
+/// Strings are borrowed, and a number is read at each call. If two members have the same name, the last one
+/// counts.
 impl<'a> Parsed for Value<'a> {
     ghost tree = { parsed };
 
@@ -227,7 +248,8 @@ impl<'a> Parsed for Value<'a> {
     }
 }
 
-/// The members that are not listed, each of which fits any. Takes memory where there are some.
+/// Collects the members that are not listed, each of which has to fit `any`. Takes memory only if there are
+/// some.
 fn unlisted(
     alloc: Global,
     members: &Vec<(&str, Value<'_>)>,
@@ -252,7 +274,7 @@ fn unlisted(
     Ok(Ext::of(rest))
 }
 
-/// That all members are listed.
+/// Checks that all members are listed.
 fn all_listed(members: &Vec<(&str, Value<'_>)>, names: &[&str]) -> Result<(), ShapeFault>
     ensures sorted { OnOk result (AreAscending (put_all (members_view members.now.items) no_members)) }
     ensures rest { OnOk result (without (texts_in names.now) (put_all (members_view members.now.items) no_members) ≡ no_members) }

@@ -1,4 +1,4 @@
-//! An outline that a typed value is read of.
+//! Reading a typed value from an outline.
 ghost use Rattle.std.specs.Prelude.{◌≡◌, IfOk, OnOk};
 ghost use Rattle.bidi_tree.specs.Node.{AreAscending, MembersAreWhole, no_members};
 ghost use Rattle.bidi_tree.specs.Outline.{outline_node, outline_members};
@@ -16,7 +16,7 @@ use bidi_tree::{
 };
 use std::alloc::{AllocError, Global};
 
-/// Its texts are borrowed of the value that it was made of.
+/// Strings are borrowed from the value that the outline was made of.
 impl<'a> Parsed for Outline<'a> {
     ghost tree = { outline_node };
 
@@ -89,7 +89,8 @@ impl<'a> Parsed for Outline<'a> {
     }
 }
 
-/// The trees of the members that are not listed, each of which fits any. Takes memory where there are some.
+/// Collects the trees of the members that are not listed, each of which has to fit `any`. Takes memory only
+/// if there are some.
 fn unlisted(alloc: Global, members: &OutlineMembers<'_>, names: &[&str]) -> Result<Ext, ShapeFault>
     ensures sorted { OnOk result (AreAscending (outline_members members.now)) }
     ensures rest { IfOk result (λ e. members_node e.members.entries ≡ without (texts_in names.now) (outline_members members.now)) }
@@ -110,7 +111,7 @@ fn unlisted(alloc: Global, members: &OutlineMembers<'_>, names: &[&str]) -> Resu
     Ok(Ext::of(rest))
 }
 
-/// That all members are listed.
+/// Checks that all members are listed.
 fn all_listed(members: &OutlineMembers<'_>, names: &[&str]) -> Result<(), ShapeFault>
     ensures sorted { OnOk result (AreAscending (outline_members members.now)) }
     ensures rest { OnOk result (without (texts_in names.now) (outline_members members.now) ≡ no_members) }

@@ -1,4 +1,4 @@
-//! Numbers, texts and truth values as shapes.
+//! Strings, Booleans and whole numbers as shapes.
 use crate::fault::ShapeFault;
 use crate::parsed::Parsed;
 use crate::shape::Shape;

@@ -1,4 +1,4 @@
-//! Closed maps that a text tells apart.
+//! Closed objects that their `type` tells apart.
 ghost use Rattle.std.specs.Prelude.{◌≡◌, IfOk, ℕ, List};
 ghost use Rattle.bidi_tree.specs.Outline.{outline_node};
 ghost use Rattle.bidi_shape.specs.TagLaws.{bare_tree, typed_tree};
@@ -12,22 +12,24 @@ use bidi_tree::{Outline, OutlineMembers};
 use std::alloc::{AllocError, Global};
 use std::marker::PhantomData;
 
-/// A text that a map bears as its `type`.
+/// A type that names the string in `type`.
 pub trait Tag {
+    // The bytes of that string.
     ghost tag: { List ℕ };
 
-    /// The text. Takes no memory.
+    /// The string in `type`. Takes no memory.
     fn tag() -> &'static str
+        // The result is the string in `type`.
         ensures { result.now ≡ tag };
 }
 
-/// A map with its type alone: `{ type: "T" }`.
+/// An object that has only a type: `{ type: "T" }`.
 #[derive(Drop)]
 pub struct Bare<T> {
     of: PhantomData<T>,
 }
 
-/// A map with its type and a value: `{ type: "T", value: X }`.
+/// An object with a type and a value: `{ type: "T", value: X }`.
 #[derive(Drop)]
 pub struct Typed<T, X: Drop> {
     pub value: X,
@@ -39,6 +41,7 @@ impl<T: Tag> Shape for Bare<T> {
     ghost use Rattle.bidi_shape.specs.TagLaws.{bare_term};
     ghost use Rattle.bidi_shape.specs.Table.{map_shape};
 
+    // The rule `{ type: "T" }`.
     ghost shape = { map_shape (bare_term T.tag) ⟦<Literal<Closed> as crate::Fields>⟧.table (T.tag ∷ []) (λ v. record { 0 = record {} }) refl refl };
 
     fn from_tree<S: Parsed>(alloc: Global, tree: &S) -> Result<Bare<T>, ShapeFault> {
@@ -57,6 +60,7 @@ impl<T: Tag, X: Shape> Shape for Typed<T, X> {
     ghost use Rattle.bidi_shape.specs.TagLaws.{typed_term};
     ghost use Rattle.bidi_shape.specs.Table.{map_shape};
 
+    // The rule `{ type: "T", value: X }`.
     ghost shape = { map_shape (typed_term T.tag X.shape.rule) ⟦<Literal<Required<X, Closed>> as crate::Fields>⟧.table (T.tag ∷ [])
         (λ v. record { 0 = (v.value, record {}) }) refl refl };
 
@@ -79,11 +83,12 @@ impl<T: Tag, X: Shape> Shape for Typed<T, X> {
     }
 }
 
-/// Makes the outline of the map with its type alone.
+/// Makes the outline of the object that has only this type.
 ///
 /// # Errors
 /// No memory: an allocation failed.
 pub fn outline_of_type<'a>(alloc: Global, tag: &'a str) -> Result<Outline<'a>, AllocError>
+    // The outline has the tree `{ type: tag }`.
     ensures { IfOk result (λ d. outline_node d ≡ bare_tree tag.now) }
 {
     let mut members = OutlineMembers::with_capacity(alloc, 1)?;
@@ -91,7 +96,7 @@ pub fn outline_of_type<'a>(alloc: Global, tag: &'a str) -> Result<Outline<'a>, A
     Ok(Outline::Map(members))
 }
 
-/// Makes the outline of the map with its type and a value.
+/// Makes the outline of the object with this type and this value.
 ///
 /// # Errors
 /// No memory: an allocation failed.
@@ -100,6 +105,7 @@ pub fn outline_of_typed<'a, X: Shape>(
     tag: &'a str,
     value: &'a X,
 ) -> Result<Outline<'a>, AllocError>
+    // The outline has the tree `{ type: tag, value: .. }` with the value's own tree.
     ensures { IfOk result (λ d. outline_node d ≡ typed_tree tag.now (X.shape.tree_of value.now)) }
 {
     let mut members = OutlineMembers::with_capacity(alloc, 2)?;

@@ -1,4 +1,4 @@
-//! Types whose values are a few texts.
+//! Types whose values are a few strings.
 ghost use Rattle.std.specs.Prelude.{◌≡◌, ◌∷◌, map, IfOk};
 ghost use Rattle.bidi_tree.specs.Node as kind;
 ghost use Rattle.bidi_shape.specs.Fits.{Fits};
@@ -11,21 +11,24 @@ use crate::shape::Shape;
 use bidi_tree::Outline;
 use std::alloc::{AllocError, Global};
 
-/// A type whose values are a few texts: `"a" / "b" / ..`.
+/// A type whose values are a few strings: `"a" / "b" / ..`.
 pub trait Named: Copy + Drop + 'static {
-    // The rule, the table of texts and values, and that each value's text names it.
+    // The rule, the table of strings and values, and that the string of each value names it.
     ghost words: { Words Self };
 
-    /// Its values, in the order of the rule. Takes no memory.
+    /// All values, in the order of the rule. Takes no memory.
     fn all() -> &'static [Self]
+        // The result has each value of the table once, in its order.
         ensures { map (word words.text_of) result.now ≡ words.first ∷ words.rest };
 
-    /// Its text. Takes no memory.
+    /// The string of the value. Takes no memory.
     fn name(&self) -> &'static str
+        // The result is the string that the table has for this value.
         ensures { result.now ≡ words.text_of self.now };
 
-    /// The value of that text. Takes no memory; the text is compared with each in turn.
+    /// Finds the value with that string. Takes no memory; compares the string with each in turn.
     final fn named(text: &str) -> Option<Self>
+        // The result is the value that the string names, or `None` if it names none.
         ensures { result ≡ value_named words.first words.rest text.now }
     {
         for value in Self::all() {
@@ -37,10 +40,11 @@ pub trait Named: Copy + Drop + 'static {
     }
 }
 
-/// A value is read from its text, and written as it.
+/// A value is read from its string, and written as it.
 impl<W: Named> Shape for W {
     ghost use Rattle.bidi_shape.specs.WordLaws.{word_shape};
 
+    // The rule of the type; the tree of a value is its string.
     ghost shape = { word_shape W.words };
 
     fn from_tree<S: Parsed>(alloc: Global, tree: &S) -> Result<W, ShapeFault> {
@@ -52,12 +56,14 @@ impl<W: Named> Shape for W {
     }
 }
 
-/// Reads the value whose text the tree is.
+/// Reads the value that a string names.
 ///
 /// # Errors
-/// `NoFit`: the tree is no text of the type.
+/// `NoFit`: the tree is not a string that names a value.
 pub fn read_word<W: Named, S: Parsed>(tree: &S) -> Result<W, ShapeFault>
+    // After an Ok, the tree is the string of the value.
     ensures ok { IfOk result (λ w. kind.text (W.words.text_of w) ≡ S.tree tree.now) }
+    // `NoFit` comes only if the tree does not fit the rule of the type.
     ensures no_fit { IfNoFit result (Fits (S.tree tree.now) W.words.rule → ⊥) }
 {
     match tree.as_str() {

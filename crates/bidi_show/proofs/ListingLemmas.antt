@@ -1,4 +1,4 @@
--- One more line of a listing, and why a listing stops.
+-- Listing one more line, and stopping.
 use Rattle.std.proofs.Common.{◌≡◌, ℕ, ◌+◌, ◌≤◌, Bool, true, false, List, [], ◌∷◌, ◌++◌, length}
 use Rattle.std.proofs.Common.{length-append, append_assoc, append-nil, arith, refl, sym, ◌∙◌, ap, subst}
 use Rattle.std.specs.Prelude.{codes, decimal, nat_lt, not, ◌||◌, ◌==◌}
@@ -17,7 +17,7 @@ use Rattle.bidi_show.specs.declared.showing.Lister.{Lister}
 
 -- ---- one line more
 
--- what is written for one line more stands behind the rest
+-- the listing of one more line comes after the rest
 each_more : (listing : Listing) (side : Side) (n : ℕ) (lines : List (List ℕ)) (line wrote text : List ℕ) → ListsEach listing side n lines wrote
     → Lists listing side (n + length lines) line text → ListsEach listing side n (lines ++ line ∷ []) (wrote ++ text)
 each_more listing side n [] line wrote text none lists =
@@ -32,11 +32,11 @@ each_more listing side n (y ∷ ys) line wrote text (front, more, first, rest, e
       ap (λ (w : List ℕ). w ++ text) e ∙ append_assoc front more text,
     )
 
--- something was written, where it was before
+-- something was written if something was written before
 some_before : (wrote text : List ℕ) → true ≡ nat_lt 0 (length wrote) → true ≡ nat_lt 0 (length (wrote ++ text))
 some_before wrote text e = let long = length-append wrote text in grind (arith, nat_tests, long, e)
 
--- or where some text came behind nothing
+-- something was written if the new text is not empty
 some_now : (wrote text : List ℕ) → false ≡ nat_lt 0 (length wrote) → not (length text == 0) ≡ nat_lt 0 (length (wrote ++ text))
 some_now wrote text e = let long = length-append wrote text in grind (arith, nat_tests, long, e)
 
@@ -69,12 +69,12 @@ numbered_grouped n t =
 
 -- ---- all of them, and stops
 
--- what was listed of what was read
+-- the listing of the bytes that were read
 listed_of : (first lister : Lister) (read rest text : List ℕ) (lines : List (List ℕ)) → BeginsWith read lines rest
     → (p : HasListed first lister lines text) → length lines ≤ 1000000000 → Listed first.listing first.side read lines rest text
 listed_of first lister read rest text lines b p few = record { front = b.front; each = b.each; text = p.lists; few = few }
 
--- all that was read was listed, and it is told whether anything was written
+-- all that was read was listed, and it is known whether anything was written
 pub lists_all : (first lister : Lister) (read wrote : List ℕ) → lines.AnswersAll (HasListed first lister) 1000000000 read wrote
     → ListsAll first.listing first.side read wrote × (lister.has_written ≡ nat_lt 0 (length wrote))
 lists_all first lister read wrote (lines, b, p, few) = ((lines, listed_of first lister read [] wrote lines b p few), p.tells)

@@ -117,7 +117,7 @@ pub read_refused : (t : Node) (r : Result Message MessageFault) → IfOk r (λ m
 read_refused t (Ok m) h is = nothing_refused t (subst (λ u. Fits u (rule message_name)) h.0 (message.ghosts.shape.fits m h.1))
 read_refused t (Err e) h is = absurd cc
 
--- where none was made, it fits none
+-- if no message was made, the value fits none
 pub no_message : (t : Node) (r : Result Message MessageFault) (e : MessageFault)
     → IfErr r (λ f. IsMisfit f t) → result_err r ≡ Some e → e ≡ NoFit → Fits t (rule message_name) → ⊥
 no_message t (Ok m) e h is same = absurd cc
@@ -129,7 +129,7 @@ pub known_shown : (t : Node) (n : ℕ) (line : List ℕ) → Fits t (rule comman
 known_shown t n line f id is =
     subst (IsMessageLine t) (sym (is ∙ ap (λ o. codes "response " ++ decimal (unwrap_or o 0) ++ 32 ∷ compact_text t) (sym id))) (of_response f)
 
--- what is refused of a verdict is refused of the line that has it
+-- a refusal of a verdict is that of the line that has the verdict
 pub verdict_refused : {E : Type 0} (side : Side) (line : List ℕ) (v : judged.Verdict) (r : Result (Option (String Global)) E) → side ≡ Local → HasVerdict line v
     → IfOk r (λ o. option_map string_bytes o ≡ refused (verdict_shown v)) → IfOk r (λ o. Refuses side line (option_map string_bytes o))
 verdict_refused side line v (Ok o) is h e = subst (λ s. Refuses s line (option_map string_bytes o)) (sym is) (verdict_shown v, (v, h, refl), e)

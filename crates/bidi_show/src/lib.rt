@@ -1,7 +1,19 @@
-//! What `show` and `check` write: a line for each text, or for each that is refused.
+//! The listings of `show` and `check`: a line for each message of an input, or for each refused line.
 //!
-//! [`list`] writes it for the lines of an input, [`show_line`] is what is shown for one text, and [`refusal`] why one is refused,
-//! or [`value_refusal`] where it was read already.
+//! [`list`] writes the listing of all lines of a source to a sink; a [`Listing`] says which lines it has. The
+//! other calls are its parts:
+//!
+//! - [`show_line`] gives the line that is shown for one line of the input, and [`refusal`] only why a line is
+//!   refused.
+//! - [`value_refusal`] does so for a JSON value that was read already.
+//! - [`line_verdict`] and [`refused_line`] give the verdict on a command, and the words of a refusal.
+//!
+//! For `show --from local`, the line `{"id":1,"method":"session.status","params":{}}` is shown as
+//! `accepted 1 session.status {"id":1,"method":"session.status","params":{}}`, and `{}` as
+//! `refused null invalid argument`.
+//!
+//! An input has at most 1,000,000,000 lines of at most 2,097,152 bytes. A listing stops at the first
+//! [`ShowFault`], which says what was listed before it. Memory holds one line, its message and its listing.
 #![tactic(auto)]
 
 mod message_lines;

@@ -1,4 +1,4 @@
-//! The line that is shown for a text of a local or of a remote end.
+//! The line that is shown for a message of a local or a remote end.
 ghost use Rattle.std.specs.Prelude.{◌≡◌, ℕ, List, ◌∷◌, ◌++◌, IfOk, IfSome, MatchOption, codes, decimal, option_map, string_bytes};
 ghost use Rattle.bidi_tree.specs.Node.{IsWritable};
 ghost use Rattle.bidi_tree.specs.Json.{parsed};
@@ -23,18 +23,18 @@ use bidi_tree::{JsUint, ReadFault, outline_parsed, parse, write_outline};
 use json::{Scratch, Value};
 use std::alloc::{AllocError, Global};
 
-/// What is shown for a line, without a line feed. `show` writes both, `check` what is refused.
+/// What is shown for a line, without a line feed. `show` writes both cases, and `check` only refusals.
 #[derive(Drop)]
 pub enum Shown {
-    /// The line is a message of its end: the kind, the id or the method, and the message as compact JSON.
+    /// The line is a message of its end: its kind, its id or method, and the message as compact JSON.
     Taken(String),
-    /// The line is no message of its end: why not, or the id and code of the error that answers a command.
+    /// The line is not a message of its end: the reason, or the id and the code of the error that answers it.
     Refused(String),
 }
 
-/// What is shown for a line. A line that is not UTF-8 counts as a text that is not JSON.
+/// Gives what is shown for a line from this end.
 ///
-/// It is read in a scratch that the caller keeps from line to line.
+/// The line is read with a scratch that the caller keeps from line to line.
 ///
 /// # Errors
 /// No memory: an allocation failed.
@@ -44,6 +44,8 @@ pub fn show_line(
     line: &[u8],
     scratch: &mut Scratch,
 ) -> Result<Shown, AllocError>
+    // If the line is a message of its end, the line of that message is shown; otherwise the reason
+    // is shown.
     ensures { IfOk result (λ shown. Shows side line.now (shown_of shown)) }
 {
     match side {
@@ -55,9 +57,9 @@ pub fn show_line(
     }
 }
 
-/// Why a line is no message of its end, as [`show_line`] shows it; `None` for a line that is one.
+/// Gives why a line is refused, as [`show_line`] shows it.
 ///
-/// The line is read and judged, and a message that it holds is not written.
+/// Does not write the message of a line that is one.
 ///
 /// # Errors
 /// No memory: an allocation failed.
@@ -67,6 +69,7 @@ pub fn refusal(
     line: &[u8],
     scratch: &mut Scratch,
 ) -> Result<Option<String>, AllocError>
+    // The result is the text of the refusal, or `None` if the line is a message of its end.
     ensures { IfOk result (λ text. Refuses side line.now (option_map string_bytes text)) }
 {
     match side {
@@ -78,12 +81,14 @@ pub fn refusal(
     }
 }
 
-/// Why a line of a remote end that reads as this value is no message, as [`refusal`] says it; `None` where it is one.
+/// Gives why a JSON value from a remote end is not a message, as [`refusal`] does for its line.
 ///
 /// # Errors
 /// No memory: an allocation failed.
 pub fn value_refusal(alloc: Global, value: &Value<'_>) -> Result<Option<String>, AllocError>
+    // The result is that of `refusal` for each line that reads as this value.
     ensures refuses { IfOk result (λ text. (line : List ℕ) → HasTree line (parsed value.now) → Refuses Remote line (option_map string_bytes text)) }
+    // If there is a refusal, the value fits no message.
     ensures misfit { IfOk result (λ text. IfSome text (λ _. IsMisfit MessageFault.NoFit (parsed value.now))) }
 {
     if response_id(value).is_some() {
@@ -97,11 +102,11 @@ pub fn value_refusal(alloc: Global, value: &Value<'_>) -> Result<Option<String>,
     }
 }
 
-// ---- texts of a local end
+// ---- messages of a local end
 
-/// The verdict on a line of a local end. A line that is not UTF-8 counts as a text that is not JSON.
+/// Decides whether a line from a local end is a command.
 ///
-/// It is read in a scratch that the caller keeps from line to line.
+/// The line is read with a scratch that the caller keeps from line to line.
 ///
 /// # Errors
 /// No memory: an allocation failed.
@@ -110,7 +115,10 @@ pub fn line_verdict(
     line: &[u8],
     scratch: &mut Scratch,
 ) -> Result<Verdict, AllocError>
+    // The verdict is that of the line's text; a line that is not UTF-8 is refused like one that is
+    // not JSON.
     ensures verdict { IfOk result (λ v. HasVerdict line.now (verdict_of ⟦<Command as Shape>⟧.shape v)) }
+    // A command that is accepted is valid, so it has a text.
     ensures well { IfOk result (IsWell ⟦<Command as Shape>⟧.shape) }
 {
     match std::str::from_utf8(line) {
@@ -122,7 +130,7 @@ pub fn line_verdict(
     }
 }
 
-// What is shown for a verdict.
+// Gives what is shown for a verdict.
 fn show_verdict(alloc: Global, verdict: Verdict) -> Result<Shown, AllocError>
     requires { IsWell ⟦<Command as Shape>⟧.shape verdict }
     ensures { IfOk result (λ shown. shown_of shown ≡ verdict_shown (verdict_of ⟦<Command as Shape>⟧.shape verdict)) }
@@ -133,7 +141,7 @@ fn show_verdict(alloc: Global, verdict: Verdict) -> Result<Shown, AllocError>
     }
 }
 
-// What is refused of a verdict.
+// Gives the refusal of a verdict, if it is one.
 fn verdict_refusal(alloc: Global, verdict: Verdict) -> Result<Option<String>, AllocError>
     ensures { IfOk result (λ text. option_map string_bytes text ≡ refused (verdict_shown (verdict_of ⟦<Command as Shape>⟧.shape verdict))) }
 {
@@ -164,7 +172,7 @@ fn accepted_head(alloc: Global, id: JsUint, method: Method) -> Result<String, Al
     format!(in alloc; "accepted {} {name}", id.value)
 }
 
-/// What is shown for a text of a local end that is refused with this id and code: `refused ID CODE`.
+/// Makes the words for a line from a local end that is refused with this id and code.
 ///
 /// # Errors
 /// No memory: an allocation failed.
@@ -173,6 +181,7 @@ pub fn refused_line(
     id: Option<JsUint>,
     code: ErrorCode,
 ) -> Result<String, AllocError>
+    // The result is `refused ID CODE`, with `null` if there is no id.
     ensures { IfOk result (λ line. string_bytes line ≡ codes "refused " ++ id_text (option_map (λ n. n.value) id) ++ 32 ∷ error_code_text code) }
 {
     let code = code.name();
@@ -182,9 +191,9 @@ pub fn refused_line(
     }
 }
 
-// ---- texts of a remote end
+// ---- messages of a remote end
 
-// What is shown for a line of a remote end.
+// Gives what is shown for a line from a remote end.
 fn show_message(alloc: Global, line: &[u8], scratch: &mut Scratch) -> Result<Shown, AllocError>
     ensures { IfOk result (λ shown. ShowsMessage line.now (shown_of shown)) }
 {
@@ -194,7 +203,7 @@ fn show_message(alloc: Global, line: &[u8], scratch: &mut Scratch) -> Result<Sho
     }
 }
 
-// What is refused of a line of a remote end.
+// Gives the refusal of a line from a remote end, if it is one.
 fn message_refusal(
     alloc: Global,
     line: &[u8],
@@ -208,7 +217,7 @@ fn message_refusal(
     }
 }
 
-// What a line is read as, if it is JSON.
+// Reads a line as a JSON value, if it is one.
 fn value_in<'a>(
     alloc: Global,
     line: &'a [u8],
@@ -228,7 +237,8 @@ fn value_in<'a>(
     }
 }
 
-// What is shown for a value. Of a response that is known as such where it stands no message is made.
+// Gives what is shown for a JSON value. A response that is recognized at once is not read as a
+// message.
 fn show_value(alloc: Global, value: &Value<'_>) -> Result<Shown, AllocError>
     ensures { IfOk result (λ shown. (line : List ℕ) → HasTree line (parsed value.now) → ShowsMessage line (shown_of shown)) }
 {
@@ -254,7 +264,7 @@ fn known_response_line(alloc: Global, id: JsUint, value: &Value<'_>) -> Result<S
     format!(in alloc; "response {} {text}", id.value)
 }
 
-// What is shown for a message.
+// Gives what is shown for a message.
 fn message_line(alloc: Global, message: Message) -> Result<String, AllocError>
     requires { ⟦<Message as Shape>⟧.shape.well message }
     ensures { IfOk result (λ line. IsMessageLine (⟦<Message as Shape>⟧.shape.tree_of message) (string_bytes line)) }
@@ -303,9 +313,9 @@ fn event_line(alloc: Global, event: Event) -> Result<String, AllocError>
     format!(in alloc; "event {name} {text}")
 }
 
-// ---- of both
+// ---- messages of both ends
 
-// The text of a command or a message, which is used up.
+// Makes the text of a command or a message, which is used up.
 fn text_for<M: Sendable>(alloc: Global, message: M) -> Result<String, AllocError>
     requires { M.shape.well message }
     ensures { IfOk result (λ s. string_bytes s ≡ compact_text (M.shape.tree_of message)) }

@@ -1,4 +1,4 @@
-//! Listings of an input: a line for each text, or one for each text that is refused.
+//! Listings of an input: a line for each message, or for each refused line.
 ghost use Rattle.std.specs.Prelude.{◌≡◌, ◌+◌, ◌∷◌, ◌++◌, [], length, nat_lt, decimal};
 ghost use Rattle.std.specs.Prelude.{option_map, string_bytes, IfOk, IfErr, OnOk, IsTrue, MatchResult};
 ghost use Rattle.std.specs.Io.KnownBytes.{IsAtEnd};
@@ -10,39 +10,37 @@ ghost use Rattle.bidi_show.specs.Listers.{lister_answers};
 ghost use Rattle.bidi_show.specs.declared.showing.ShowFault.TheVariants.{NoMemory};
 
 use super::message_lines::{Shown, refusal, show_line};
-use bidi_lines::{AnswerFault, Answerer, LinesFault, Side, Sink, Source, answer_lines};
+use bidi_lines::{AnswerFault, Answerer, LinesFault, MOST_LINES, Side, Sink, Source, answer_lines};
 use json::Scratch;
 use std::alloc::{AllocError, Global};
 use thiserror::Error;
-
-/// How many lines an input may have.
-const MOST_LINES: u64 = 1_000_000_000;
 
 /// Which lines are listed.
 #[derive(Clone, Copy, Debug, PartialEq, Eq)]
 pub enum Listing {
     /// All lines.
     All,
-    /// Only the refused lines, each with its number.
+    /// Only refused lines, each with its number.
     RefusedAlone,
 }
 
-/// Why a listing stopped before the end of its input. What was written for the lines before stays written.
+/// Why a listing stopped before the end of its input. What was written before stays written.
 #[derive(Clone, Copy, Debug, PartialEq, Eq, Error)]
 pub enum ShowFault {
-    /// A read of the source failed. The beginning of a line may be lost with it, so list the input anew.
+    /// A read of the source failed. The beginning of a line may be lost, so list the input again.
     #[error("input cannot be read")]
     Read,
-    /// A write of the sink failed. The line of the listing may be written in part.
+    /// A write of the sink failed. The current line may be partly written.
     #[error("output cannot be written")]
     Write,
-    /// This line, counted from 1, has more than 2,097,152 bytes or no line feed. Mend it, and list again.
+    /// This line, counted from 1, has more than 2,097,152 bytes or no line feed. Fix it, and list again.
     #[error("line {0} is no text line")]
     BadLine(u64),
-    /// An allocation failed. Nothing is written for the line at hand.
+    /// An allocation failed. Nothing is written for the current line.
     #[error("out of memory")]
     NoMemory,
-    /// The input goes on after 1,000,000,000 lines, which are listed. List the rest as an input of its own.
+    /// The input has more than 1,000,000,000 lines. The first ones are listed; list the rest as an input of
+    /// its own.
     #[error("too many steps")]
     TooManyLines,
 }
@@ -69,9 +67,9 @@ impl From<LinesFault> for ShowFault {
     }
 }
 
-/// Writes a line for each line of the source, or for each that is refused. Returns whether it wrote any.
+/// Writes a line for each line of the source, or for each refused one. Returns whether it wrote any.
 ///
-/// What is written for a line is written before the next line is read.
+/// The listing of a line is written before the next line is read.
 ///
 /// # Errors
 /// The first of these in the order of the input ends the listing:
@@ -79,7 +77,7 @@ impl From<LinesFault> for ShowFault {
 /// 2. `Write`: a write of the sink failed.
 /// 3. `BadLine`: a line is too long, or the input ends without its line feed.
 /// 4. `NoMemory`: an allocation failed.
-/// 5. `TooManyLines`: the input goes on after 1,000,000,000 lines.
+/// 5. `TooManyLines`: the input has more than 1,000,000,000 lines.
 pub fn list<R: Source, W: Sink>(
     alloc: Global,
     listing: Listing,
@@ -87,18 +85,21 @@ pub fn list<R: Source, W: Sink>(
     source: &mut R,
     sink: &mut W,
 ) -> Result<bool, ShowFault>
-    // All that the source had was lines, and what is written for them was written.
+    // After an Ok, the source gave whole lines only, and their listing was written; the result is
+    // true if that is not empty.
     ensures ok { IfOk result (λ some. Moves (R.left source.old) (R.left source.new) (W.contents sink.old) (W.contents sink.new)
         (λ read wrote. ListsAll listing side read wrote × (some ≡ nat_lt 0 (length wrote)))) }
+    // After an Ok, the source has ended, and none of its bytes is left.
     ensures end { OnOk result (IsTrue (R.has_ended source.new) × IsAtEnd (R.left source.new)) }
 
-    // A fault says what was read and written before it.
+    // A fault says which lines were listed and written before it, and why the next was not.
     ensures err { IfErr result (λ fault. Moves (R.left source.old) (R.left source.new) (W.contents sink.old) (W.contents sink.new)
         (StopsAt listing side fault (R.has_ended source.new))) }
 
-    // A device is blamed where it failed, and no listing succeeds after a failure.
+    // The source failed once if the fault is `Read`, and not at all otherwise.
     ensures reads { MatchResult result (λ _. R.failures source.new ≡ R.failures source.old)
         (λ fault. R.failures source.new ≡ R.failures source.old + failed_reads fault) }
+    // The sink failed once if the fault is `Write`, and not at all otherwise.
     ensures writes { MatchResult result (λ _. W.failures sink.new ≡ W.failures sink.old)
         (λ fault. W.failures sink.new ≡ W.failures sink.old + failed_writes fault) }
 {
@@ -112,19 +113,19 @@ pub fn list<R: Source, W: Sink>(
     Ok(lister.has_written)
 }
 
-// A scratch in a block of its own. It is never inlined: a scratch takes 16 KB of the stack while it is made, and the lines of
-// an input are to be read with all of the stack.
+// Makes a scratch in a block of its own. Never inlined: making a scratch takes 16 KB of the stack,
+// which has to be free again while lines are read.
 #[inline(never)]
 fn boxed_scratch(alloc: Global) -> Result<Box<Scratch>, AllocError> {
     Ok(Box::new(alloc, Scratch::new(alloc))?)
 }
 
-// What lists the lines of an input.
+// The state of a listing.
 #[derive(Drop)]
 struct Lister {
     listing: Listing,
     side: Side,
-    // What the lines are read in.
+    // The scratch for reading lines.
     scratch: Box<Scratch>,
     // Whether anything was written.
     has_written: bool,
@@ -152,7 +153,7 @@ impl Answerer for Lister {
     }
 }
 
-// What is written for the line of this number.
+// Makes the listing of the line with this number.
 fn text_for(
     alloc: Global,
     listing: Listing,
@@ -169,7 +170,7 @@ fn text_for(
     }
 }
 
-// A line that is shown, with its line feed.
+// Makes the line that is shown, with its line feed.
 fn with_feed(shown: Shown) -> Result<String, AllocError>
     ensures { IfOk result (λ text. string_bytes text ≡ ended (text_of (shown_of shown))) }
 {
@@ -181,7 +182,7 @@ fn with_feed(shown: Shown) -> Result<String, AllocError>
     Ok(text)
 }
 
-// The line of what is refused, with its number; nothing for a text that is taken.
+// Makes the line of a refusal, with its number; nothing for a message.
 #[tactic(auto, using(crate::proofs::ListingLemmas::numbered_grouped))]
 fn numbered(alloc: Global, number: u64, refused: Option<String>) -> Result<String, AllocError>
     ensures { IfOk result (λ text. string_bytes text ≡ numbered number (option_map string_bytes refused)) }

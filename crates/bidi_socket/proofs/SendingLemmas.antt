@@ -1,4 +1,4 @@
--- A text that joins what waits, and all that waits behind it sent, is a text that is sent.
+-- Queueing a text and then flushing the queue is sending the text.
 use Rattle.std.proofs.Common.{◌≡◌, ◌∙◌, ℕ, true≢false, false, List, Option, Result, Ok, Err, sym, subst}
 use Rattle.std.specs.Prelude.{IsOk, OnOk}
 use Rattle.websocket.specs.Connection.{Effect}
@@ -12,7 +12,7 @@ use Rattle.bidi_socket.specs.declared.link.LinkFault.TheVariants as fault
 use Rattle.bidi_socket.specs.SocketSending.{QueuesText, SendsText, SendsWaiting}
 
 module _ {S K : Type 0} (contents : S → Option (List ℕ)) (step : Result Effect Error) where
-  -- what the socket answered is told, and nothing else changed
+  -- the socket's answer is returned, and nothing else has changed
   pub joined : (l n m : Link S K) (answer : Result (Unit {0}) SocketError) (r : Result (Unit {0}) LinkFault)
       → l.is_closed ≡ false → m.is_closed ≡ l.is_closed → OnOk answer (Writes contents l.socket m.socket step) → OnOk r (IsOk answer × (n ≡ m))
       → OnOk r (Writes contents l.socket n.socket step × (l.is_closed ≡ false) × (n.is_closed ≡ false))

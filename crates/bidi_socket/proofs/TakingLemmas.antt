@@ -1,4 +1,4 @@
--- A frame that could not be taken: what answers it, and what a take says of it.
+-- Bad frames: the close frame that answers one, and the result of taking it.
 use Rattle.std.proofs.Common.{◌≡◌, ◌∙◌, ℕ, List, Option, None, Some, Result, Err, inl, inr, refl, sym, ap, subst}
 use Rattle.websocket.specs.declared.error.Error.{Error as FrameError}
 use Rattle.websocket.specs.declared.protocol.state.WebSocketState.{WebSocketState}
@@ -53,7 +53,7 @@ module _ (code : CloseCode) where
   is-of-step c i e is (inr (inr at)) = absurd (is-none-other e (of_frame (end_error c.state)) is (code_of-end c.state) at)
 
 module _ {S : Type 0} (remaining contents : S → Option (List ℕ)) (old a b : Socket S) where
-  -- where a frame could not be taken, a read says nothing of the socket that it leaves
+  -- after a bad frame, a read says nothing about the socket that it leaves
   reads-any : (e : Error) (code : CloseCode) → code_of e ≡ Some code → Reads remaining old a (Err e) → Reads remaining old b (Err e)
   reads-any e code is reads = (
     reads.0,
@@ -73,7 +73,7 @@ module _ {S : Type 0} (remaining contents : S → Option (List ℕ)) (old a b : 
     ),
   )
 
-  -- where no frame is to blame, nothing is sent beyond what waits
+  -- if no frame is to blame, only the queue is sent
   pub fails-takes : (e : Error) (r : Result Taken LinkFault) → code_of e ≡ None → Reads remaining old a (Err e) → r ≡ told_fault (fault_of e)
       → Settles contents r None a b → Takes remaining contents old b r
   fails-takes e r without reads told settles = record {

@@ -1,4 +1,4 @@
--- What a link over a WebSocket sends, one call at a time. A step is that of RFC 6455 which writes a text or a close frame.
+-- The bytes that a link over a WebSocket sends in one call; a step writes a text frame or a close frame. After RFC 6455.
 use Rattle.std.specs.Prelude.{◌≡◌, ℕ, Bool, true, false, List, [], Option, Some, Result, Err, OnOk, IfErr}
 use Rattle.websocket.specs.declared.protocol.frame.coding.CloseCode.{CloseCode}
 use Rattle.websocket.specs.declared.protocol.frame.coding.CloseCode.TheVariants.{Normal}
@@ -13,60 +13,62 @@ use Rattle.bidi_socket.specs.declared.link.LinkFault.{LinkFault}
 use Rattle.bidi_socket.specs.declared.link.LinkFault.TheVariants as fault
 use Rattle.bidi_socket.specs.SocketTaking.{fault_of}
 
--- a close frame of code 1000, a normal closure, with no reason: RFC 6455, 7.4.1
+-- a close frame of code 1000, a normal closure, without a reason: RFC 6455, 7.4.1
+-- example: a server's bytes are `88 02 03 e8`
 abbrev pub normal_closure : Option (CloseCode × List ℕ)
 normal_closure = Some (Normal, [])
 
--- the link is closed after it
+-- this fault of a call that sends closes the link
 abbrev pub closes : LinkFault → Bool
 closes fault.Full = false
 closes fault.NoMemory = false
 closes f = true
 
--- the answer of the socket is that fault
+-- the socket's answer is an error that becomes this fault
 abbrev pub IsFaultOf : {A : Type 0} → Result A SocketError → LinkFault → Type 0
 IsFaultOf answer f = (e : SocketError) × (answer ≡ Err e) × (fault_of e ≡ f)
 
--- the protocol refuses the step by that fault
+-- the protocol does not allow the step, and its error becomes this fault
 abbrev pub Refuses : Result Effect Error → LinkFault → Type 0
 Refuses step f = (e : Error) × (step ≡ Err e) × (fault_of (of_frame e) ≡ f)
 
 module _ {S : Type 0} where
-  -- The step's frame was appended to what the stream holds, and nothing waits; a socket that sends no more stays as it is.
+  -- the step's frame was added to what the stream holds, and nothing is queued; a socket that can no longer send is unchanged
   abbrev pub IsSent : Bool → (S → Option (List ℕ)) → Result Effect Error → Socket S → Socket S → Type 0
   IsSent true contents step old new = Writes contents old new step × (new.output ≡ [])
   IsSent false contents step old new = new ≡ old
 
-  -- why nothing was sent, and what is left
+  -- the state of the socket after this fault of a call that sends
   abbrev pub SendFails : (S → Option (List ℕ)) → Result Effect Error → Socket S → Socket S → LinkFault → Type 0
-  -- some of the frame may have gone to the stream
+  -- a part of the frame may have gone to the stream
   SendFails contents step old new fault.Stream = Writes contents old new step
   SendFails contents step old new fault.Full = new ≡ old
   SendFails contents step old new fault.NoMemory = new ≡ old
   SendFails contents step old new f = Refuses step f
 
-  -- the step's frame joined what waits, of which some may have gone to the stream
+  -- the step's frame was queued, and some of the queue may have gone to the stream
   abbrev pub IsQueued : (S → Option (List ℕ)) → Result Effect Error → Socket S → Socket S → Type 0
   IsQueued contents step old new = Writes contents old new step
 
-  -- all that waited went to the stream, and nothing waits
+  -- the whole queue went to the stream, and nothing is queued
   abbrev pub IsFlushed : (S → Option (List ℕ)) → Socket S → Socket S → Type 0
   IsFlushed contents old new = Flushed contents old new × (new.output ≡ [])
 
-  -- it fails for the stream alone, to which some of what waited may have gone
+  -- a flush fails only if the stream fails, and some of the queue may have gone to it
   abbrev pub FlushFails : (S → Option (List ℕ)) → Socket S → Socket S → LinkFault → Type 0
   FlushFails contents old new fault.Stream = Flushed contents old new
   FlushFails contents old new f = ⊥
 
 module _ {S K : Type 0} where
-  -- One call that sends on a link, with what it does to the socket and why it fails: refused where the link is closed. A fault of the stream or of the protocol closes it.
+  -- One call that sends on a link: its effect on the socket, and the state after a fault. A closed link refuses it. A fault of the stream
+  -- or of the protocol closes the link.
   pub record Steps (done : Socket S → Socket S → Type 0) (fails : Socket S → Socket S → LinkFault → Type 0) (old new : Link S K) (r : Result (Unit {0}) LinkFault) : Type
       0 where
     pub from_closed : old.is_closed ≡ true → (r ≡ Err fault.Closed) × (new ≡ old)
     pub ok : OnOk r (done old.socket new.socket × (old.is_closed ≡ false) × (new.is_closed ≡ false))
     pub err : old.is_closed ≡ false → IfErr r (λ f. fails old.socket new.socket f × (new.is_closed ≡ closes f))
 
-  -- one step: its frame is sent with all that waits, while the socket still sends
+  -- the step's frame is sent together with the queue, if the socket can still send
   abbrev pub SendsStep : (S → Option (List ℕ)) → Bool → Result Effect Error → Link S K → Link S K → Result (Unit {0}) LinkFault → Type 0
   SendsStep contents sends step old new r = Steps (IsSent sends contents step) (SendFails contents step) old new r
 
@@ -74,15 +76,15 @@ module _ {S K : Type 0} where
   abbrev pub SendsText : (S → Option (List ℕ)) → List ℕ → Link S K → Link S K → Result (Unit {0}) LinkFault → Type 0
   SendsText contents s old new r = SendsStep contents true (write_step old.socket.conn (text s)) old new r
 
-  -- a close frame of a normal closure is sent, while the socket still sends
+  -- a close frame of a normal closure is sent, if the socket can still send
   abbrev pub SendsClose : (S → Option (List ℕ)) → Link S K → Link S K → Result (Unit {0}) LinkFault → Type 0
   SendsClose contents old new r = SendsStep contents (can_write old.socket.conn.state) (write_step old.socket.conn (close normal_closure)) old new r
 
-  -- a text joins what waits to be sent, in one frame
+  -- a text is queued, in one frame
   abbrev pub QueuesText : (S → Option (List ℕ)) → List ℕ → Link S K → Link S K → Result (Unit {0}) LinkFault → Type 0
   QueuesText contents s old new r =
       Steps (IsQueued contents (write_step old.socket.conn (text s))) (SendFails contents (write_step old.socket.conn (text s))) old new r
 
-  -- all that waits is sent
+  -- the whole queue is sent
   abbrev pub SendsWaiting : (S → Option (List ℕ)) → Link S K → Link S K → Result (Unit {0}) LinkFault → Type 0
   SendsWaiting contents old new r = Steps (IsFlushed contents) (FlushFails contents) old new r

@@ -16,40 +16,39 @@ use tungstenite::{
 };
 use websocket::error::ProtocolError;
 
-/// What [`Link::take`] gives: a message of the peer, or the end of the connection.
+/// What [`Link::take`] returns: a message of the peer, or the end of the connection.
 #[derive(Drop)]
 pub enum Incoming {
-    /// A text, whole, whether it came in one frame or in several.
+    /// A whole text, from one frame or from several.
     Text(String),
     /// A binary message, which BiDi does not use.
     NotText,
-    /// A ping, whose answer was sent as far as the stream took it, or a pong. The caller has nothing to do.
+    /// A ping, which was answered as far as the stream accepted it, or a pong. The caller has nothing to do.
     Control,
-    /// The connection is closed: nothing more is taken or sent.
+    /// The connection is closed: nothing more can be taken or sent.
     Closed,
 }
 
 /// Why a call took or sent nothing.
 #[derive(Clone, Copy, Debug, PartialEq, Eq, Error)]
 pub enum LinkFault {
-    /// A read or a write of the stream failed. A take may be tried again; after a send or a close the link is
+    /// A read or a write of the stream failed. A take may be tried again; after any other call the link is
     /// closed.
     #[error("the stream failed")]
     Stream,
     /// The peer broke RFC 6455, sent a text that is not UTF-8 or a message past the limits, or its stream
-    /// ended without a close frame. A frame of its own was answered by a close frame, unless one was sent
-    /// before. The link is closed; open a new connection.
+    /// ended without a close frame. A bad frame was answered by a close frame, unless one was sent before.
+    /// The link is closed; open a new connection.
     #[error("the peer broke the protocol")]
     Protocol,
-    /// Too many bytes wait for the stream to take them. Nothing has changed; the call may be made again
-    /// later.
+    /// Too many bytes are queued for the stream. Nothing has changed; the call may be made again later.
     #[error("too much waits to be sent")]
     Full,
-    /// An allocation failed. After a take the link is closed; after a send or a close nothing has changed,
-    /// and the call may be made again.
+    /// An allocation failed. After a take the link is closed; after any other call nothing has changed, and
+    /// the call may be made again.
     #[error("out of memory")]
     NoMemory,
-    /// The connection was closed, so nothing can be sent on it any more. Open a new one.
+    /// The connection is closed, so nothing can be sent on it any more. Open a new one.
     #[error("the link is closed")]
     Closed,
 }
@@ -64,12 +63,15 @@ pub struct Link<S, K> {
 }
 
 impl<S: Read + Write + Drop> Link<S, NoMask> {
-    /// The server's end, with the limits that `tungstenite` has by default: 64 MiB a message, 16 MiB a frame.
+    /// Makes the server's end of a link.
     ///
     /// # Errors
-    /// No memory: an allocation failed. Today nothing is allocated, so it always succeeds.
+    /// No memory: an allocation failed. At present nothing is allocated, so the call always succeeds.
     pub fn server(alloc: Global, stream: S) -> Result<Link<S, NoMask>, AllocError>
+        // The socket is over this stream, has the server's role and has read and written nothing;
+        // the link is open.
         ensures fresh { IfOk result (λ link. IsFresh link.socket stream role.Server × (link.is_closed ≡ false)) }
+        // The limits are the defaults of `tungstenite`: 64 MiB in a message, and 16 MiB in a frame.
         ensures limits { IfOk result (λ link. HasLimitsOf link.socket.conn.config None) }
     {
         Ok(Link::over(
@@ -80,10 +82,13 @@ impl<S: Read + Write + Drop> Link<S, NoMask> {
 }
 
 impl<S: Read + Write + Drop, K: MaskKeys + Drop> Link<S, K> {
-    /// The client's end, which masks what it sends by these keys. Limits and errors are those of
+    /// Makes the client's end of a link, which masks what it sends by these keys. The errors are those of
     /// [`Link::server`].
     pub fn client(alloc: Global, stream: S, keys: K) -> Result<Link<S, K>, AllocError>
+        // The socket is over this stream, has the client's role and has read and written nothing;
+        // the link is open.
         ensures fresh { IfOk result (λ link. IsFresh link.socket stream role.Client × (link.is_closed ≡ false)) }
+        // The limits are the defaults of `tungstenite`: 64 MiB in a message, and 16 MiB in a frame.
         ensures limits { IfOk result (λ link. HasLimitsOf link.socket.conn.config None) }
     {
         Ok(Link::over(
@@ -92,9 +97,11 @@ impl<S: Read + Write + Drop, K: MaskKeys + Drop> Link<S, K> {
         ))
     }
 
-    /// A link over the socket that a handshake of `tungstenite` gave. Takes no memory.
+    /// Makes a link over the socket that a handshake of `tungstenite` gave. Takes no memory.
     pub fn over(alloc: Global, socket: WebSocket<S, K>) -> Link<S, K>
+        // The link is over exactly that socket.
         ensures socket { result.socket ≡ socket }
+        // The link is open.
         ensures open { result.is_closed ≡ false }
     {
         Link {
@@ -104,22 +111,25 @@ impl<S: Read + Write + Drop, K: MaskKeys + Drop> Link<S, K> {
         }
     }
 
-    /// Takes the next message of the peer. It reads the stream until a message is whole, and keeps the bytes
-    /// behind it for the next call. A ping and a close frame are answered at once, as far as the stream takes
-    /// the bytes; the rest is sent by the next call.
+    /// Takes the next message of the peer. Reads the stream until a message is whole, and keeps the bytes
+    /// after it for the next call. Answers a ping and a close frame at once, as far as the stream accepts the
+    /// bytes; the next call sends the rest.
     ///
-    /// A frame that breaks the protocol is answered by a close frame with no reason, unless one was sent before,
-    /// as far as the stream takes it: with code 1007 where a text is not UTF-8, with 1009 where a frame or a
-    /// message is past the limits, else with 1002 (RFC 6455, 7.1.7 and 7.4.1). A stream that ends or fails is
-    /// answered by nothing.
+    /// A frame that breaks the protocol is answered by a close frame without a reason, unless one was sent
+    /// before, as far as the stream accepts it. Its code is 1007 if a text is not UTF-8, 1009 if a frame or a
+    /// message is past the limits, and 1002 otherwise (RFC 6455, 7.1.7 and 7.4.1). A stream that ends or
+    /// fails gets no answer.
     ///
     /// # Errors
-    /// - `Stream`: a read or a write of the stream failed. What was read is kept, and the next take goes on.
-    /// - `Protocol`, `NoMemory`: the link is closed. Where there is no memory for the answer to a frame that
-    ///   breaks the protocol, it is `NoMemory`.
+    /// - `Stream`: a read or a write of the stream failed. What was read is kept, and the next take continues
+    ///   with it.
+    /// - `Protocol`, `NoMemory`: the link is closed. If there is no memory to answer a bad frame, the fault
+    ///   is `NoMemory`.
     pub fn take(&mut self) -> Result<Incoming, LinkFault>
-        // It is the message that ends one run of frames, in the bytes left over and those of the stream.
+        // A closed link takes `Closed`. An open one takes the message that ends the next run of
+        // frames, and sends the answers that are described above.
         ensures takes { IsTaken S.remaining S.contents self.old self.new (seen result) }
+        // The only faults are `Stream`, `Protocol` and `NoMemory`.
         ensures faults { IfErr result IsFaultOfTaking }
     {
         if self.is_closed {
@@ -134,7 +144,7 @@ impl<S: Read + Write + Drop, K: MaskKeys + Drop> Link<S, K> {
         }
     }
 
-    // Tells a message. What answers a ping or a close frame goes out at once.
+    // Turns a message into what is taken. The answer to a ping or a close frame is sent at once.
     fn receive(&mut self, message: Message) -> Result<Incoming, LinkFault>
         ensures tells { (seen result ≡ Ok (told message)) ⊎ (seen result ≡ Err LinkFault.NoMemory) }
         ensures ends { self.old.is_closed ≡ false → self.new.is_closed ≡ is_last (seen result) }
@@ -162,7 +172,7 @@ impl<S: Read + Write + Drop, K: MaskKeys + Drop> Link<S, K> {
         }
     }
 
-    // Answers a frame that could not be taken by a close frame with this code, and closes the link.
+    // Answers a bad frame by a close frame with this code, and closes the link.
     fn break_off(&mut self, code: CloseCode) -> LinkFault
         ensures answers { BreaksOff S.contents code self.old.socket self.new.socket result }
         ensures ends { self.new.is_closed ≡ is_last (Err result) }
@@ -176,7 +186,7 @@ impl<S: Read + Write + Drop, K: MaskKeys + Drop> Link<S, K> {
         }
     }
 
-    // Tells why nothing was read, where no frame is to blame.
+    // Turns an error of a read that no frame caused into what is taken.
     fn fail(&mut self, error: SocketError) -> Result<Incoming, LinkFault>
         ensures tells { seen result ≡ told_fault (fault_of error) }
         ensures ends { self.old.is_closed ≡ false → self.new.is_closed ≡ is_last (seen result) }
@@ -196,7 +206,7 @@ impl<S: Read + Write + Drop, K: MaskKeys + Drop> Link<S, K> {
         }
     }
 
-    // Sends what waits, as far as the stream takes the bytes. The rest is sent by the next call.
+    // Sends what is queued, as far as the stream accepts the bytes. The next call sends the rest.
     fn settle(&mut self)
         ensures sent { Flushed S.contents self.old.socket self.new.socket }
         ensures same { self.new.is_closed ≡ self.old.is_closed }
@@ -204,30 +214,34 @@ impl<S: Read + Write + Drop, K: MaskKeys + Drop> Link<S, K> {
         let _ = self.socket.flush();
     }
 
-    /// Sends a text in one frame. On success no byte waits to be sent any more.
+    /// Sends a text in one frame, together with all that is queued.
     ///
-    /// Costs a copy of the text, and a write of the stream.
+    /// Copies the text once, and writes to the stream.
     ///
     /// # Errors
     /// - `Stream`, `Protocol`: the link is closed.
     /// - `Full`, `NoMemory`: nothing has changed.
     /// - `Closed`: the connection was closed before.
     pub fn send(&mut self, text: &str) -> Result<(), LinkFault>
+        // An Ok means that the frame and the queue went to the stream; each fault leaves the link
+        // as described above.
         ensures { SendsText S.contents text.now self.old self.new result }
     {
         self.queue(text)?;
         self.flush()
     }
 
-    /// Puts a text in one frame behind what waits to be sent, so that several texts go out in one write. It waits
-    /// for the next [`Link::flush`], [`Link::send`], [`Link::take`] or [`Link::close`]; where 128 KiB wait, they
-    /// are written at once, as far as the stream takes them.
+    /// Queues a text in one frame, so that several texts go out in one write. The queue is sent by the next
+    /// [`Link::flush`], [`Link::send`], [`Link::take`] or [`Link::close`]. If 128 KiB are queued, they are
+    /// written at once, as far as the stream accepts them.
     ///
-    /// Costs a copy of the text.
+    /// Copies the text once.
     ///
     /// # Errors
     /// Those of [`Link::send`].
     pub fn queue(&mut self, text: &str) -> Result<(), LinkFault>
+        // An Ok means that the frame is the last in the queue; the stream may have taken some of
+        // the queue.
         ensures { QueuesText S.contents text.now self.old self.new result }
     {
         if self.is_closed {
@@ -240,14 +254,16 @@ impl<S: Read + Write + Drop, K: MaskKeys + Drop> Link<S, K> {
         self.sent(answer)
     }
 
-    /// Sends all that waits. On success no byte waits to be sent any more.
+    /// Sends all that is queued.
     ///
-    /// Costs a write of the stream, and none where nothing waits. Takes no memory.
+    /// Writes to the stream only if something is queued. Takes no memory.
     ///
     /// # Errors
     /// - `Stream`: the link is closed.
     /// - `Closed`: the connection was closed before.
     pub fn flush(&mut self) -> Result<(), LinkFault>
+        // An Ok means that the whole queue went to the stream; the only faults are `Stream` and
+        // `Closed`.
         ensures { SendsWaiting S.contents self.old self.new result }
     {
         if self.is_closed {
@@ -257,13 +273,14 @@ impl<S: Read + Write + Drop, K: MaskKeys + Drop> Link<S, K> {
         self.sent(answer)
     }
 
-    /// Sends a close frame with code 1000, a normal closure, and no reason (RFC 6455, 7.4.1), or nothing
-    /// where one was sent before. On success no byte waits to be sent any more. What the peer sends before
-    /// its own close frame can still be taken.
+    /// Sends a close frame with code 1000, a normal closure, without a reason (RFC 6455, 7.4.1), unless one
+    /// was sent before. What the peer sends before its own close frame can still be taken.
     ///
     /// # Errors
     /// Those of [`Link::send`].
     pub fn close(&mut self) -> Result<(), LinkFault>
+        // An Ok means that the close frame and the queue went to the stream, or that a close frame
+        // was sent before.
         ensures { SendsClose S.contents self.old self.new result }
     {
         if self.is_closed {
@@ -276,7 +293,7 @@ impl<S: Read + Write + Drop, K: MaskKeys + Drop> Link<S, K> {
         self.sent(answer)
     }
 
-    // Tells how a call of the socket that sends ended.
+    // Turns the socket's answer to a sending call into a result, and closes the link if need be.
     fn sent(&mut self, answer: Result<(), SocketError>) -> Result<(), LinkFault>
         ensures ok { OnOk result (IsOk answer × (self.new ≡ self.old)) }
         ensures err { IfErr result (λ fault. IsFaultOf answer fault × (self.new.socket ≡ self.old.socket) × (self.new.is_closed ≡ closes fault)) }
@@ -292,7 +309,7 @@ impl<S: Read + Write + Drop, K: MaskKeys + Drop> Link<S, K> {
     }
 }
 
-// The close frame of a normal closure, with no reason. Takes no memory.
+// The close frame of a normal closure, without a reason. Takes no memory.
 fn normal_closure() -> Message
     ensures { content_of result ≡ close normal_closure }
 {
@@ -309,7 +326,7 @@ fn close_frame(code: CloseCode) -> CloseFrame
     }
 }
 
-// The code by which a frame is answered that the socket could not take.
+// The code of the close frame that answers a bad frame.
 fn code_of(error: &SocketError) -> Option<CloseCode>
     ensures { result ≡ code_of error.now }
 {

@@ -1,4 +1,4 @@
--- The compact text of a tree, beside that of its data.
+-- The compact text of a tree is that of its data.
 use Rattle.std.proofs.Common.{◌≡◌, suc, max, pos, negsuc, ◌∷◌, ◌++◌, Bool, true, false, refl, ap, ap₂}
 use Rattle.std.proofs.lemmas.Bool.{or_parts}
 use Rattle.json.specs.Print.{quoted}

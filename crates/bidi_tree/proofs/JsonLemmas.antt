@@ -1,4 +1,4 @@
--- The trees of values that borrow their text, beside the trees of texts.
+-- The tree of a value that borrows from its text is the tree of the text.
 use Rattle.std.proofs.Common.{◌≡◌, ◌≤◌, ℕ, ℤ, pos, max, List, [], ◌∷◌, Bool, true, false, ◌&&◌, is_some, cond}
 use Rattle.std.proofs.Common.{Option, Some, None, Ordering, Less, Equal, Greater, option_map, option_and_then, Bor}
 use Rattle.std.proofs.Common.{Vec, bytes_eq, true≢false, refl, sym, ap, ◌∙◌, subst, rules, map, arith}
@@ -40,9 +40,9 @@ pub plain_read : (s : List ℕ) → (slice_index s 0 == 45) ≡ false → number
 unfolding number_of
 plain_read s e = rw e
 
--- ---- what is read of a value's JSON, by `serde_json` and here
+-- ---- reading a JSON value, by `serde_json` and here
 
--- where all is readable, n is what f makes of the reading; else nothing was read
+-- if everything is readable, n is f of the reading; otherwise nothing was read
 abbrev Reads : {A B : Type 0} → (A → B) → B → Bool → Option A → Type 0
 Reads f n true o = option_map f o ≡ Some n
 Reads f n false o = o ≡ None
@@ -128,14 +128,14 @@ pub tree_of-unreadable : (s : List ℕ) (j : json.Json)
     → option_and_then (λ p. json.if_last p.0 p.1) (json.value max_depth (tokens s)) ≡ Some j → is_readable j ≡ false → tree_of s ≡ None
 tree_of-unreadable s j e r = read_at s j e ∙ reads_none (of_json j) (json_node j) _ (json_read j) r
 
--- nothing stands behind the value
+-- there is nothing after the value
 pub ended : (s : List ℕ) (j : json.Json) (left new : List spec.Token) (r : Option Token)
     → json.value max_depth (tokens s) ≡ Some (j, left) → Yields left r new → is_some r ≡ false
     → option_and_then (λ p. json.if_last p.0 p.1) (json.value max_depth (tokens s)) ≡ Some j
 ended s j left new None e h n = ap (option_and_then (λ p. json.if_last p.0 p.1)) e ∙ ap (json.if_last j) h.0
 ended s j left new (Some t) e h n = absurd (let no : true ≡ false = n in cc)
 
--- something stands behind it, so the text is no JSON
+-- there is something after the value, so the text is not JSON
 pub behind : (s : List ℕ) (j : json.Json) (left new : List spec.Token) (r : Option Token)
     → json.value max_depth (tokens s) ≡ Some (j, left) → Yields left r new → is_some r ≡ true
     → tree_of s ≡ None
@@ -154,13 +154,13 @@ limited false o n e = absurd (let no : None ≡ Some n = e in cc)
 pub in_limit : (limit : Option ℕ) (s : List ℕ) (n : Node) → tree_of_text limit s ≡ Some n → tree_of s ≡ Some n
 in_limit limit s n e = limited (is_within limit s) (tree_of s) n e
 
--- ---- the parts of a value in hand
+-- ---- the parts of a value of the code
 
 pub items_parsed : {A : Type 0} (vs : List (Value A)) → items_of (map parsed vs) ≡ json_items (items_view vs)
 items_parsed [] = refl
 items_parsed (v ∷ vs) = ap (item (parsed v)) (items_parsed vs)
 
--- ---- a value nests as deep as it stands, or less, since a member may be put in place of another
+-- ---- a tree nests at most as deep as its value, because a member may be replaced
 
 levels_at : (c : Ordering) (k l : List ℕ) (n m : Node) (ms : Members) → members_levels (put k n ms) ≤ max (levels n) (members_levels ms)
     → members_levels (match_ordering c (member k n (member l m ms)) (member l n ms) (member l m (put k n ms)))

@@ -1,4 +1,4 @@
--- Maps of trees, by their members.
+-- Laws of the members of an object: putting one in, and finding one.
 use Rattle.std.proofs.Common.{◌≡◌, ℕ, List, Option, Some, None, Ordering, Less, Equal, Greater, is_eq}
 use Rattle.std.proofs.Common.{Bool, true, false, bytes_eq, true≢false, refl, sym, ap, ◌∙◌, subst}
 use Rattle.std.proofs.lemmas.Cmp.{nat_list_cmp_total, tied_itself}
@@ -22,7 +22,7 @@ get_member-put_at Less k l n m ms is later = rw same_text
 get_member-put_at Equal k l n m ms is later = rw is
 get_member-put_at Greater k l n m ms is later = rw is later
 
--- what was put at a name is found there
+-- a tree that was put at a name is found there
 pub get_member-put : (k : List ℕ) (n : Node) (ms : Members) → get_member k (put k n ms) ≡ Some n
 get_member-put k n no_members = rw same_text
 get_member-put k n (member l m ms) = get_member-put_at _ k l n m ms refl (get_member-put k n ms)
@@ -91,7 +91,7 @@ same_head Greater k l n m left right is a b h later =
     let none : get_member l (member k n left) ≡ None = rw before (get_below l left (IsBelow-below l k left before a.0)) in
     absurd (let e : None ≡ Some m = sym none ∙ h l ∙ here in cc)
 
--- two maps in which each name has the same value are one
+-- two objects with the same value at each name are equal
 pub same_members : (left right : Members) → AreAscending left → AreAscending right → ((q : List ℕ) → get_member q left ≡ get_member q right) → left ≡ right
 same_members no_members no_members a b h = refl
 same_members no_members (member l m right) a b h =

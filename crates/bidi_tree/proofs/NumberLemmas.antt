@@ -1,4 +1,4 @@
--- The number that digits alone write.
+-- Numbers that are written by digits only.
 use Rattle.std.proofs.Common.{◌≡◌, ◌<◌, ◌-◌, ◌^◌, ℕ, List, [], ◌∷◌, append-nil, length, take_all, false, Some, refl, ◌∙◌, arith}
 use Rattle.std.specs.Prelude.{◌==◌, slice_index}
 use Rattle.std.specs.Str.Parse.{AllDigits, digits_value}
@@ -31,7 +31,7 @@ integer : (p : Parts) (bs : List ℕ) (n : ℕ) → p.whole ≡ bs → p.point �
 integer p bs n whole point fraction exponent few is fits =
     rw (whole, point, fraction, exponent, append-nil bs, is, lt-ltb 0 (length bs) few, lt-ltb n (2 ^ 64) fits) refl
 
--- where they are few enough, they write a whole number
+-- if there are few enough digits, they write a whole number
 pub number_of-digits : (s : List ℕ) (n : ℕ) → 0 < length s → AllDigits 10 s → digits_value 10 s ≡ n → n < 2 ^ 64 → number_of s ≡ Some (unsigned n)
 number_of-digits s n few h is fits =
     let p = scan-digits s h in

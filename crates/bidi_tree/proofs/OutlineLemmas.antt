@@ -1,4 +1,4 @@
--- Outlines, beside the trees that they stand for.
+-- Laws of outlines and of their trees.
 use Rattle.std.proofs.Common.{◌≡◌, ◌≤◌, ◌<◌, ◌+◌, ◌-◌, ℕ, zero, suc, length, List, [], ◌∷◌, take, drop, slice_index_or, slice_set, ◌++◌, map, Bool, true, false, cond}
 use Rattle.std.proofs.Common.{Ordering, Less, Equal, Greater, Vec, Global, rules, refl, ap, ◌∙◌, subst, sym, arith}
 use Rattle.std.proofs.Math.Seq.{take-suc, drop-cons}
@@ -89,7 +89,7 @@ put_over k zero (x ∷ ms) new m n h few at again same =
 put_over k (suc i) (x ∷ ms) new m n h few at again same =
     rw h.0 (ap (member x.0.now (outline_node x.1)) (put_over k i ms new m n h.1 (omega (arith, few)) at again same))
 
--- the name is below that of the member at that place, where one stands there
+-- the name is below that of the member at that place, if there is one
 abbrev pub IsBefore : List ℕ → ℕ → List OutlineMember → Type 0
 IsBefore k i [] = ⊤
 IsBefore k zero (m ∷ ms) = Stands k m Less
@@ -140,7 +140,7 @@ put_nth ms i m h few at =
     put_next (take i ms) m (drop (i + 1) ms) (subst (λ xs. AreAscending (named_outlines xs)) all h)
     ∙ ap named_outlines (sym more) ∙ ap (λ j. named_outlines (take j ms)) one
 
--- an outline of one member more, beside the tree of one entry more
+-- an outline with one more member has the tree with one more entry
 pub one_more : (ds : List OutlineMember) (es : List Entry) (d : OutlineMember) (e : Entry)
     → named_outlines ds ≡ members_node es → d.0.now ≡ string_bytes e.0 → outline_node d.1 ≡ node e.1
     → named_outlines (ds ++ d ∷ []) ≡ members_node (es ++ e ∷ [])
@@ -216,7 +216,7 @@ sound_members : (ms : List (Name × Sound)) → MembersAreSound (named_outlines 
 sound_members [] = tt
 sound_members (m ∷ ms) = (m.1.1, sound_members ms)
 
--- one level, where each outline inside is sound
+-- one level is sound if each outline inside is sound
 sound_step : (x : Outline-F Sound) → IsSound (outline_step (map-Outline Outline Node outline_node (map-Outline Sound Outline (λ d. d.0) x)))
 sound_step Outline-F.Null = tt
 sound_step (Outline-F.Bool b) = tt

@@ -26,7 +26,7 @@ use Rattle.bidi_tree.specs.Data.{to_data, to_items, to_members, tokens_of}
 use Rattle.bidi_tree.specs.Text.{of_data, tree_of, compact_text}
 use Rattle.bidi_tree.proofs.CompactLemmas.{depth-to_data, compact_text-to_data}
 
--- ---- the data of a sound tree with no odd number stands for that tree
+-- ---- the data of a sound tree without Odd has that tree
 
 mutual
   pub of_data-to_data : (n : Node) → IsSound n → has_odd n ≡ false → of_data (to_data n) ≡ n
@@ -91,7 +91,7 @@ mutual
   members_depth-members_outline json.no_members = refl
   members_depth-members_outline (json.member k d ms) = ap₂ max (depth-outline d) (members_depth-members_outline ms)
 
--- ---- members that are put in one after another, where the names ascend
+-- ---- members that are put in one after another, with ascending names
 
 joined : json.Members → json.Members → json.Members
 joined json.no_members ms = ms
@@ -108,7 +108,7 @@ unfolding joined
 joined-none json.no_members = refl
 joined-none (json.member l e es) = ap (json.member l e) (joined-none es)
 
--- the name stands after each of these
+-- the name comes after each of these
 IsAbove : List ℕ → json.Members → Type 0
 IsAbove k json.no_members = ⊤
 IsAbove k (json.member l e es) = (slice_cmp nat_cmp k l ≡ Greater) × IsAbove k es
@@ -124,7 +124,7 @@ unfolding joined IsAbove
 IsAbove-joined k json.no_members l d h g = (g, tt)
 IsAbove-joined k (json.member m e es) l d h g = (h.0, IsAbove-joined k es l d h.1 g)
 
--- each name of ms stands after each of es
+-- each name of ms comes after each of es
 AreAbove : json.Members → Members → Type 0
 AreAbove es node.no_members = ⊤
 AreAbove es (node.member k n ms) = IsAbove k es × AreAbove es ms
@@ -142,7 +142,7 @@ unfolding AreAbove IsAbove
 AreAbove-none node.no_members = tt
 AreAbove-none (node.member k n ms) = (tt, AreAbove-none ms)
 
--- ---- what is written reads back
+-- ---- the text that is written reads back
 
 mutual
   unfolding AreAbove joined

@@ -1,4 +1,4 @@
--- What holds of each tree in hand and of each text's tree.
+-- Every tree of the code is sound, and so is the tree of every text.
 use Rattle.std.proofs.Common.{◌≡◌, ℕ, ◌^◌, ℤ, pos, List, [], ◌∷◌, String, Global, Bool, true, false, cond, Option, Some, None, option_map}
 use Rattle.std.proofs.Common.{option_and_then, Ordering, Less, Equal, Greater, string_bytes, string_cmp, refl, ap, ◌∙◌, subst, unsigned_abs, ltb-true}
 use Rattle.std.proofs.lemmas.Cmp.{nat_list_cmp_total}
@@ -31,7 +31,7 @@ unfolding IsStrictlySortedBy
 AreAscending-members_node [] h = tt
 AreAscending-members_node (e ∷ es) h = (IsBelow-members_node e.0 es h.0, AreAscending-members_node es h.1)
 
--- ---- `put` keeps the order, and what holds of each member
+-- ---- `put` keeps the order of the names, and every property of each member
 
 below_at : (c : Ordering) (l k m : List ℕ) (n o : Node) (ms : Members)
     → slice_cmp nat_cmp l k ≡ Less → (slice_cmp nat_cmp l m ≡ Less) × IsBelow l ms → IsBelow l (put k n ms)

@@ -1,4 +1,4 @@
--- Trees beside the values that they were read from.
+-- Trees of the code, compared with the values that they were read from.
 use Rattle.std.proofs.Common.{◌≡◌, ℕ, List, [], ◌∷◌, ◌++◌, String, Global, Ordering, Less, Equal, Greater, string_bytes, string_cmp}
 use Rattle.std.proofs.Common.{map, Option, Some, None, option_map, cond, is_eq, Bor, BTreeMap, Vec, rules, refl, ap, ◌∙◌}
 use Rattle.std.proofs.lemmas.Cmp.{nat_list_cmp_total}

@@ -1,4 +1,4 @@
--- A value whose parts are whole has a whole tree, whichever of two members of one name stays.
+-- A value whose parts are whole has a whole tree, even if some of its members have the same name.
 use Rattle.std.proofs.Common.{ℕ, List, Ordering, Less, Equal, Greater, arith}
 use Rattle.std.proofs.lemmas.Bool.{or_parts, or_from}
 use Rattle.std.specs.Cmp.Lexicographic.{slice_cmp}

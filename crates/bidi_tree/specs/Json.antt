@@ -1,4 +1,4 @@
--- The tree of a JSON value that borrows its text, as the kit's `json` reads it.
+-- The tree of a JSON value that borrows from its text, as the kit's `json` reads it. After RFC 8259.
 use Rattle.std.specs.Prelude.{ℕ, ◌-◌, nat_lt, Bool, true, ◌&&◌, is_some, Option, Some, None}
 use Rattle.json.specs.Json as json
 use Rattle.json.specs.Value.{value_view}
@@ -9,12 +9,13 @@ use Rattle.bidi_tree.specs.Node.{Node, null, boolean, odd, text, list, map, Item
 use Rattle.bidi_tree.specs.Kind.{whole_in}
 use Rattle.bidi_tree.specs.Text.{number_node}
 
--- a number too large for a float is odd here, and its text is refused elsewhere
+-- the tree of a number that was read; a number too large for a float counts as Odd here, and `is_readable` refuses its text
+-- example: `1e2` is Odd
 abbrev pub number_in : Option Num → Node
 number_in None = odd
 number_in (Some n) = number_node n
 
--- Of two members of one name the last stays.
+-- the tree of a JSON value; if two members have the same name, the last one counts
 abbrev mutual
   pub json_node : json.Json → Node
   json_node json.null = null
@@ -24,16 +25,17 @@ abbrev mutual
   json_node (json.array js) = list (json_items js)
   json_node (json.object ms) = map (put_all ms no_members)
 
+  -- the trees of an array's items, in order
   pub json_items : json.Items → Items
   json_items json.no_items = no_items
   json_items (json.item j js) = item (json_node j) (json_items js)
 
-  -- the members, put into those found before
+  -- the members of an object, put one by one into those found before
   pub put_all : json.Members → Members → Members
   put_all json.no_members found = found
   put_all (json.member k j ms) found = put_all ms (put k (json_node j) found)
 
--- whether no number is too large for a float
+-- no number in the value is too large for a float
 abbrev mutual
   pub is_readable : json.Json → Bool
   is_readable json.null = true
@@ -43,17 +45,20 @@ abbrev mutual
   is_readable (json.array js) = are_readable js
   is_readable (json.object ms) = members_are_readable ms
 
+  -- no number in these items is too large for a float
   pub are_readable : json.Items → Bool
   are_readable json.no_items = true
   are_readable (json.item j js) = is_readable j && are_readable js
 
+  -- no number in these members is too large for a float
   pub members_are_readable : json.Members → Bool
   members_are_readable json.no_members = true
   members_are_readable (json.member k j ms) = is_readable j && members_are_readable ms
 
--- Whether a value is whole as it stands: each number is a whole one in range, and it nests at most so deep. A member counts
--- even where another of its name takes its place.
+-- each number in the value is whole and in range, and the value nests at most n levels deep; a member counts even if a later one of its
+-- name replaces it
 abbrev mutual
+  -- example: not `{"a":1.5,"a":1}`, though its tree is whole
   pub stands_whole : json.Json → ℕ → Bool
   stands_whole json.null n = true
   stands_whole (json.boolean b) n = true
@@ -62,14 +67,16 @@ abbrev mutual
   stands_whole (json.array js) n = nat_lt 0 n && items_stand_whole js (n - 1)
   stands_whole (json.object ms) n = nat_lt 0 n && members_stand_whole ms (n - 1)
 
+  -- each of these items is whole and nests at most n levels deep
   pub items_stand_whole : json.Items → ℕ → Bool
   items_stand_whole json.no_items n = true
   items_stand_whole (json.item j js) n = stands_whole j n && items_stand_whole js n
 
+  -- each of these members is whole and nests at most n levels deep
   pub members_stand_whole : json.Members → ℕ → Bool
   members_stand_whole json.no_members n = true
   members_stand_whole (json.member k j ms) n = stands_whole j n && members_stand_whole ms n
 
--- the tree of a value in hand
+-- the tree of a JSON value of the code
 abbrev pub parsed : {A : Type 0} → Value A → Node
 parsed v = json_node (value_view v)

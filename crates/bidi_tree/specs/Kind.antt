@@ -1,7 +1,8 @@
--- What a tree holds, asked by its kind.
+-- The kind of a tree, and what a tree of each kind holds. After RFC 8259, 3.
 use Rattle.std.specs.Prelude.{ℕ, ℤ, List, Bool, true, false, Option, Some, None}
 use Rattle.bidi_tree.specs.Node.{Node, null, boolean, whole, odd, text, list, map, Items, Members, no_members}
 
+-- the tree is null
 abbrev pub is_null : Node → Bool
 is_null null = true
 is_null (boolean b) = false
@@ -11,6 +12,7 @@ is_null (text s) = false
 is_null (list ns) = false
 is_null (map ms) = false
 
+-- the Boolean that the tree is, or None for any other kind
 abbrev pub bool_in : Node → Option Bool
 bool_in null = None
 bool_in (boolean b) = Some b
@@ -20,6 +22,7 @@ bool_in (text s) = None
 bool_in (list ns) = None
 bool_in (map ms) = None
 
+-- the whole number that the tree is, or None for any other kind
 abbrev pub whole_in : Node → Option ℤ
 whole_in null = None
 whole_in (boolean b) = None
@@ -29,6 +32,7 @@ whole_in (text s) = None
 whole_in (list ns) = None
 whole_in (map ms) = None
 
+-- the bytes of the string that the tree is, or None for any other kind
 abbrev pub text_in : Node → Option (List ℕ)
 text_in null = None
 text_in (boolean b) = None
@@ -38,6 +42,7 @@ text_in (text s) = Some s
 text_in (list ns) = None
 text_in (map ms) = None
 
+-- the items of the array that the tree is, or None for any other kind
 abbrev pub list_in : Node → Option Items
 list_in null = None
 list_in (boolean b) = None
@@ -47,6 +52,7 @@ list_in (text s) = None
 list_in (list ns) = Some ns
 list_in (map ms) = None
 
+-- the members of the object that the tree is, or None for any other kind
 abbrev pub map_in : Node → Option Members
 map_in null = None
 map_in (boolean b) = None
@@ -56,7 +62,7 @@ map_in (text s) = None
 map_in (list ns) = None
 map_in (map ms) = Some ms
 
--- the members of a map; of any other tree, none
+-- the members of an object; any other tree has no members
 abbrev pub members_in : Node → Members
 members_in null = no_members
 members_in (boolean b) = no_members

@@ -1,4 +1,4 @@
-//! Copies of trees.
+//! Copying trees.
 ghost use Rattle.std.specs.Prelude.{◌≡◌, IfOk, OnOk};
 ghost use Rattle.bidi_tree.specs.Node.{IsSound, ItemsAreSound, MembersAreSound, AreAscending};
 ghost use Rattle.bidi_tree.specs.View.{node, items_node, members_node};
@@ -8,6 +8,7 @@ use std::alloc::AllocError;
 use std::default::Emptied;
 
 impl Clone for Tree {
+    // A copy has the same tree, whose numbers are in range and whose names ascend.
     ghost is_clone = { λ t u. (node u ≡ node t) × IsSound (node u) };
 
     fn clone(&self) -> Result<Tree, AllocError> {
@@ -43,14 +44,17 @@ fn copy_trees(trees: &Vec<Tree>) -> Result<Vec<Tree>, AllocError>
     Ok(copies)
 }
 
-/// The same members, in a map of their own.
+/// Copies the members into an object of their own.
 ///
 /// # Errors
 /// No memory: an allocation failed.
 #[cycle(copy)]
 pub fn copy_members(members: &Members) -> Result<Members, AllocError>
+    // The copy has the same names and trees as the members.
     ensures same { IfOk result (λ m. members_node m.entries ≡ members_node members.now.entries) }
+    // After an Ok, the names of the members ascend in byte order.
     ensures ascending { OnOk result (AreAscending (members_node members.now.entries)) }
+    // After an Ok, each member has whole numbers in range, and ascending names in each object.
     ensures sound { OnOk result (MembersAreSound (members_node members.now.entries)) }
 {
     let mut copies = Members::emptied(members)?;

@@ -1,14 +1,39 @@
-//! Numbers, trees and JSON text.
+//! JSON: whole numbers, trees, and JSON texts.
 //!
-//! A [`Tree`] is what a JSON text stands for: null, a truth value, a whole number that every reader holds
-//! exactly, `Odd` for any other number, a text, a list, or a map with distinct names. [`read`] gives the tree
-//! of a text, [`write`] the compact text of a tree, and what is written reads back as the tree.
+//! A [`Tree`] is a JSON value in memory: null, a Boolean, a whole number that every reader of JSON holds
+//! exactly, `Odd` for any other number, a string, an array, or an object with distinct names. An [`Outline`]
+//! is a tree that borrows its strings from the value that it is made of; it is made to be written.
 //!
-//! A [`Outline`] is such a tree that borrows its texts: it is made of a value to be written ([`write_outline`]), and
-//! costs a block of memory for each list and map.
+//! # Calls
+//! - [`read`] makes the tree of a JSON text. [`parse`] gives a JSON value that borrows from the text instead;
+//!   [`own`] makes its tree, [`outline_parsed`] its outline.
+//! - [`write`] gives the compact JSON text of a tree, and [`write_outline`] that of an outline. The text
+//!   reads back as the same tree.
+//! - [`Tree::get`] and the calls named `as_` look into a tree. [`Tree::is_writable`] says whether it may be
+//!   written.
+//! - [`outline_of`] makes the outline of a tree, [`put_outline`] adds a member to an object's outline, and
+//!   [`own_outline`] makes a tree of an outline.
 //!
-//! After RFC 8259, as `serde_json` reads it: of two members of one name the last stays, 127 levels are
-//! read, and a number too large for a float is not JSON.
+//! # Example
+//! ```rust
+//! let tree = read(alloc, text, None)?;
+//! if tree.is_writable() {
+//!     let compact = write(alloc, &tree)?;
+//! }
+//! ```
+//! The text `{ "a": 1, "a": 2 }` is written back as `{"a":2}`.
+//!
+//! # Limits
+//! - 127 levels of arrays and objects in a text that is read; [`ReadFault::NotJson`] past that.
+//! - 100 levels, and no `Odd`, in a tree that is written: the caller has to make sure of it.
+//! - As many bytes as the caller allows; [`ReadFault::TooLong`] past that.
+//!
+//! After RFC 8259, as `serde_json` reads it: if an object has two members of one name, the last counts. A
+//! number too large for a float is not JSON.
+//!
+//! # Memory and time
+//! Reading and writing walk the text or the tree once. A tree owns its strings; an outline takes one block of
+//! memory for each array and object. A call that runs out of memory changes nothing.
 #![tactic(auto)]
 
 mod copying;

@@ -1,4 +1,4 @@
-//! The tree of a number's text.
+//! From the text of a number to its tree.
 ghost use Rattle.std.specs.Prelude.{◌≡◌, ◌∷◌, ◌==◌, ◌<◌, ◌^◌, IfSome, length, MatchOption, pos, true, false, option_map, slice_index};
 ghost use Rattle.std.specs.Str.Parse.{AllDigits, digits_value};
 ghost use Rattle.serde_json.specs.Read.{number_of, number_from, float_of};
@@ -11,8 +11,10 @@ use crate::number::JsInt;
 use crate::tree::Tree;
 use fast_float::Numeral;
 
-/// The whole number that the text of a JSON number writes, if it writes a whole one in range. Takes no memory.
+/// The whole number of a JSON number's text. Takes no memory.
 pub fn whole_number(text: &str) -> Option<JsInt>
+    // The result is the number that the text writes, or `None` if that is not a whole number in
+    // range.
     ensures { option_map (λ n. n.value) result ≡ whole_in (number_in (number_of text.now)) }
 {
     match number_tree(text) {
@@ -21,7 +23,7 @@ pub fn whole_number(text: &str) -> Option<JsInt>
     }
 }
 
-/// The tree of a number's text, where it is not too large for a float.
+/// The tree of a number's text, unless the number is too large for a float.
 pub(crate) fn number_tree(text: &str) -> Option<Tree>
     ensures { option_map node result ≡ option_map number_node (number_of text.now) }
 {
@@ -31,7 +33,7 @@ pub(crate) fn number_tree(text: &str) -> Option<Tree>
     }
 }
 
-/// The number that these bytes write, where all are digits and it is below 2^64. Most numbers are such.
+/// The number that these bytes write, if all are digits and it is below 2^64. Most numbers are such.
 fn digits_alone(bytes: &[u8]) -> Option<u64>
     ensures digits { IfSome result (λ n. (0 < length bytes.now) × AllDigits 10 bytes.now × (digits_value 10 bytes.now ≡ n)) }
     ensures fits { IfSome result (λ n. n < 2 ^ 64) }
@@ -57,7 +59,7 @@ fn any_number(text: &str) -> Option<Tree>
     }
 }
 
-/// What stands behind a minus sign, where the text begins with one.
+/// The bytes after a minus sign, if the text begins with one.
 fn behind_minus(text: &str) -> Option<&[u8]>
     ensures { MatchOption result ((slice_index text.now 0 == 45) ≡ false) (λ digits. text.now ≡ 45 ∷ digits.now) }
 {

@@ -1,4 +1,4 @@
-//! Trees that borrow their texts, made of values to be written.
+//! Trees that borrow their strings, made of values to be written.
 ghost use Rattle.std.specs.Prelude.{◌≡◌, IfOk, OnOk, OnErr, option_map};
 ghost use Rattle.bidi_tree.specs.Node.{put, get_member};
 ghost use Rattle.bidi_tree.specs.Outline.{outline_node, outline_items, outline_members};
@@ -11,9 +11,10 @@ use crate::tree::{Members, Tree, put_member};
 use std::alloc::{AllocError, Global};
 use std::cmp::Ordering;
 
-/// A tree of JSON that borrows its texts and names from the value that it is made of.
+/// A tree of JSON that borrows its strings and names from the value that it is made of.
 ///
-/// It is made to write that value, and dropped then. Each list and each map takes one block of memory.
+/// It is made to write that value, and dropped afterwards. Each array and each object takes one block of
+/// memory.
 #[derive(Drop)]
 pub enum Outline<'a> {
     /// `null`.
@@ -22,13 +23,13 @@ pub enum Outline<'a> {
     Bool(bool),
     /// A whole number from -(2^53 - 1) to 2^53 - 1.
     Int(JsInt),
-    /// Any other number. It is not written.
+    /// Any other number. It cannot be written.
     Odd,
-    /// A string of JSON, its escapes resolved.
+    /// A string of JSON, with its escapes resolved.
     Text(&'a str),
-    /// An array of JSON, its items in their order.
+    /// An array of JSON, with its items in order.
     List(Vec<Outline<'a>>),
-    /// An object of JSON, its members in byte order of their names.
+    /// An object of JSON, with its members in byte order of their names.
     Map(OutlineMembers<'a>),
 }
 
@@ -36,29 +37,34 @@ impl<'a> Outline<'a> {
     ghost use Rattle.std.specs.Prelude.{◌↔◌, ◌≤◌, IsTrue};
     ghost use Rattle.bidi_tree.specs.Node.{levels};
 
-    /// Whether it has at most so many levels. Takes no memory, and looks at each part once.
+    /// Whether the outline has at most `limit` levels. Takes no memory, and looks at each part once.
     pub fn is_within(&self, limit: usize) -> bool
+        // The result is true exactly if arrays and objects nest at most `limit` levels deep.
         ensures { IsTrue result ↔ (levels (outline_node self.now) ≤ limit) }
     {
         is_within_outline(self, limit)
     }
 }
 
-/// The members of an outline of a map, in byte order of their names.
+/// The members of an object's outline, in byte order of their names.
 pub type OutlineMembers<'a> = Sorted<&'a str, Outline<'a>>;
 
-/// Puts a member in: in place of the one of that name, or else before the first whose name is above its own.
+/// Puts a member in.
 ///
-/// Compares with the last member first, and moves those behind its place: where names come in order, it compares once.
+/// Compares with the last member first, and moves those that come after the new one: if names come in order,
+/// it compares once.
 ///
 /// # Errors
-/// No memory: the members are as they were.
+/// No memory: an allocation failed.
 pub fn put_outline<'a>(
     members: &mut OutlineMembers<'a>,
     name: &'a str,
     outline: Outline<'a>,
 ) -> Result<(), AllocError>
+    // After an Ok the outline is at the name, in place of one that was there; other members are
+    // unchanged.
     ensures ok { OnOk result (outline_members members.new ≡ put name.now (outline_node outline.entry) (outline_members members.old)) }
+    // After an error the members are unchanged.
     ensures err { OnErr result (outline_members members.new ≡ outline_members members.old) }
 {
     let mut place = members.entries.len();
@@ -76,8 +82,9 @@ pub fn put_outline<'a>(
     Ok(())
 }
 
-/// The member of that name. Takes no memory.
+/// Finds the member of that name. Takes no memory.
 pub fn find_outline<'a, 'b>(members: &'a OutlineMembers<'b>, name: &str) -> Option<&'a Outline<'b>>
+    // The result is the member's outline, or `None` if no member has that name.
     ensures { option_map (λ d. outline_node d.now) result ≡ get_member name.now (outline_members members.now) }
 {
     for member in members.as_slice() {
@@ -88,12 +95,13 @@ pub fn find_outline<'a, 'b>(members: &'a OutlineMembers<'b>, name: &str) -> Opti
     None
 }
 
-/// Makes the tree of an outline, with texts of its own.
+/// Makes the tree of an outline, with strings of its own.
 ///
 /// # Errors
 /// No memory: an allocation failed.
 #[cycle(own_outline)]
 pub fn own_outline(alloc: Global, outline: &Outline<'_>) -> Result<Tree, AllocError>
+    // The result is the tree of the outline.
     ensures { IfOk result (λ t. node t ≡ outline_node outline.now) }
 {
     match outline {

@@ -8,12 +8,13 @@ use crate::sorted::Sorted;
 use crate::tree::{Members, Tree};
 use std::alloc::{AllocError, Global};
 
-/// Makes the outline of a tree. No text is copied.
+/// Makes the outline of a tree. No string is copied.
 ///
 /// # Errors
 /// No memory: an allocation failed.
 #[cycle(outline)]
 pub fn outline_of<'a>(alloc: Global, tree: &'a Tree) -> Result<Outline<'a>, AllocError>
+    // The outline has the tree that it is made of.
     ensures { IfOk result (λ d. outline_node d ≡ node tree.now) }
 {
     match tree {
@@ -38,7 +39,7 @@ fn outlines_of<'a>(alloc: Global, items: &'a Vec<Tree>) -> Result<Vec<Outline<'a
     Ok(outlines)
 }
 
-/// Makes the outlines of a map's members, in byte order of their names, with room for so many more. No text is copied.
+/// Makes the outlines of an object's members, with room for `room` more. No string is copied.
 ///
 /// # Errors
 /// No memory: an allocation failed.
@@ -48,6 +49,7 @@ pub fn outline_members_of<'a>(
     members: &'a Members,
     room: usize,
 ) -> Result<OutlineMembers<'a>, AllocError>
+    // The outlines have the same names and trees as the members.
     ensures { IfOk result (λ ms. outline_members ms ≡ members_node members.now.entries) }
 {
     let mut outlines = Vec::with_capacity(alloc, members.len().saturating_add(room))?;

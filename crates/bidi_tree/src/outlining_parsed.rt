@@ -1,4 +1,4 @@
-//! The outline of a JSON value that borrows its text.
+//! The outline of a JSON value that borrows from its text.
 ghost use Rattle.std.specs.Prelude.{◌≡◌, IfOk};
 ghost use Rattle.json.specs.Value.{items_view, members_view};
 ghost use Rattle.serde_json.specs.Read.{number_of};
@@ -13,12 +13,13 @@ use json::Value;
 use std::alloc::{AllocError, Global};
 use std::collections::BTreeMap;
 
-/// Makes the outline of the value's tree. No text is copied; of two members of one name the last stays.
+/// Makes the outline of a JSON value. No string is copied.
 ///
 /// # Errors
 /// No memory: an allocation failed.
 #[cycle(outline_parsed)]
 pub fn outline_parsed<'a>(alloc: Global, value: &Value<'a>) -> Result<Outline<'a>, AllocError>
+    // The outline has the value's tree: if two members have the same name, the last one counts.
     ensures { IfOk result (λ d. outline_node d ≡ parsed value.now) }
 {
     match value {
@@ -45,7 +46,7 @@ fn outlines_parsed<'a>(
     Ok(outlines)
 }
 
-// Names in any order are put in order by a map of their own, which is let go once its entries are moved out.
+// A map of its own puts the names in order. It is dropped when its entries have been moved out.
 #[cycle(outline_parsed)]
 fn members_parsed<'a>(
     alloc: Global,
@@ -61,7 +62,7 @@ fn members_parsed<'a>(
     in_order(alloc, sorted)
 }
 
-/// The members of a map, in its order.
+/// The members of a sorted map, in its order.
 fn in_order<'a>(
     alloc: Global,
     sorted: BTreeMap<&'a str, Outline<'a>>,

@@ -1,4 +1,4 @@
-//! From a JSON value that borrows its text to a tree that owns its texts, and how deep such a tree is.
+//! From a JSON value that borrows from its text to a tree of its own, and how deep that tree is.
 ghost use Rattle.std.specs.Prelude.{◌≡◌, ◌↔◌, ◌≤◌, IfOk, IsTrue};
 ghost use Rattle.json.specs.Tree.{depth, items_depth, members_depth};
 ghost use Rattle.json.specs.Value.{value_view, items_view, members_view};
@@ -11,12 +11,13 @@ use crate::tree::{Members, Tree, put_member};
 use json::Value;
 use std::alloc::{AllocError, Global};
 
-/// Makes the tree of a value. Each text is copied; a member is looked up among those before it.
+/// Makes the tree of a JSON value. Each string is copied; each member is looked up among those before it.
 ///
 /// # Errors
 /// No memory: an allocation failed.
 #[cycle(own)]
 pub fn own(alloc: Global, value: &Value<'_>) -> Result<Tree, AllocError>
+    // The result is the value's tree: if two members have the same name, the last one counts.
     ensures { IfOk result (λ t. node t ≡ parsed value.now) }
 {
     match value {
@@ -52,14 +53,16 @@ fn own_members(alloc: Global, members: &Vec<(&str, Value<'_>)>) -> Result<Member
     Ok(owned)
 }
 
-/// Whether the value's tree has at most so many levels.
+/// Whether the value's tree has at most `limit` levels.
 ///
-/// Takes memory only where the value itself nests deeper. Then the tree is made, since of two members of one name the
-/// last stays: what nests deeper may be no part of the tree.
+/// Takes memory only if the value itself nests deeper. Then the tree is made, because a later member of the
+/// same name may have replaced the deep part.
 ///
 /// # Errors
 /// No memory: an allocation failed.
 pub fn is_parsed_within(alloc: Global, value: &Value<'_>, limit: usize) -> Result<bool, AllocError>
+    // The result is true exactly if arrays and objects in the tree nest at most `limit` levels
+    // deep.
     ensures { IfOk result (λ b. IsTrue b ↔ (levels (parsed value.now) ≤ limit)) }
 {
     if is_shallow(value, limit) {
@@ -69,7 +72,8 @@ pub fn is_parsed_within(alloc: Global, value: &Value<'_>, limit: usize) -> Resul
     Ok(tree.is_within(limit))
 }
 
-// Whether it nests at most so deep, each member that stands there counted.
+// Whether the value nests at most that deep. Each member counts, even one that a later member
+// replaces.
 #[cycle(shallow)]
 fn is_shallow(value: &Value<'_>, limit: usize) -> bool
     ensures { IsTrue result → depth (value_view value.now) ≤ limit }

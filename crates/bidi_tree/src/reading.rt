@@ -1,4 +1,4 @@
-//! From a text to its value, and to its tree.
+//! From a JSON text to its value, and to its tree.
 ghost use Rattle.std.specs.Prelude.{◌≡◌, Some, None, IfOk, IsTrue, false, Err};
 ghost use Rattle.json.specs.Value.{value_view, items_view, members_view};
 ghost use Rattle.bidi_tree.specs.Node.{IsSound};
@@ -19,12 +19,12 @@ const MAX_LEVELS: usize = 127;
 /// Why a text was not read.
 #[derive(Clone, Copy, Debug, Drop, PartialEq, Eq, Error)]
 pub enum ReadFault {
-    /// The text breaks the grammar of JSON, nests past 127 levels, or has a number too large for a float, as `1e400`.
-    /// It will never be read.
+    /// The text breaks the grammar of JSON, nests past 127 levels, or has a number too large for a float,
+    /// such as `1e400`. Reading it again gives the same fault.
     #[error("the text is not JSON")]
     NotJson,
-    /// The text has more bytes than the limit allows, blanks around it counted. Nothing of it was read: raise the limit,
-    /// or refuse the text.
+    /// The text has more bytes than the limit allows, and blanks around the value count. Nothing was read:
+    /// raise the limit, or refuse the text.
     #[error("the text is longer than its limit")]
     TooLong,
     /// An allocation failed. The same text may be read again.
@@ -42,10 +42,10 @@ impl From<AllocError> for ReadFault {
     }
 }
 
-/// Reads the value of a text of at most `limit` bytes, or of any length where there is no limit.
+/// Reads the JSON value of a text of at most `limit` bytes, or of any length if there is no limit.
 ///
-/// The value borrows its texts, of the text or, where they are escaped there, of the scratch. One walk of the text; a
-/// list or a map takes a block, and the scratch grows to the longest text that it is lent to.
+/// The value borrows its strings from the text, and those with escapes from the scratch. Walks the text once;
+/// each array and object takes a block of memory, and the scratch grows to the longest string with escapes.
 ///
 /// # Errors
 /// As [`read`]: `TooLong`, `NotJson`, `NoMemory`.
@@ -57,9 +57,12 @@ pub fn parse<'a>(
     limit: Option<usize>,
     scratch: &'a mut Scratch,
 ) -> Result<Value<'a>, ReadFault>
+    // After an Ok the text is within the limit, and the value has the tree of the text.
     ensures ok { IfOk result (λ v. tree_of_text limit text.now ≡ Some (parsed v)) }
+    // `NotJson` comes only if the text is within the limit and is not JSON.
     ensures not_json { result ≡ Err ReadFault.NotJson
         → IsTrue (is_within limit text.now) × (tree_of text.now ≡ None) }
+    // `TooLong` comes only if the text has more bytes than the limit.
     ensures too_long { result ≡ Err ReadFault.TooLong → is_within limit text.now ≡ false }
 {
     if !is_within(limit, text) {
@@ -81,22 +84,27 @@ pub fn parse<'a>(
     Ok(value)
 }
 
-/// Reads the tree of a text of at most `limit` bytes, or of any length where there is no limit.
+/// Reads the tree of a text of at most `limit` bytes, or of any length if there is no limit.
 ///
-/// Of two members of one name the last stays. The value of [`parse`] is read first, and each of its texts copied.
+/// If two members have the same name, the last one counts. Reads the value by [`parse`] first, and then
+/// copies each string.
 ///
 /// # Errors
-/// - `TooLong`: a limit is given, and the text is longer.
-/// - `NotJson`: the text is within the limit and has no tree: it is not JSON, nests past 127 levels, or has a
-///   number too large for a float.
+/// - `TooLong`: the text is longer than the limit.
+/// - `NotJson`: the text is within the limit, but is not JSON, nests past 127 levels, or has a number too
+///   large for a float.
 /// - `NoMemory`: an allocation failed.
 ///
 /// After RFC 8259.
 pub fn read(alloc: Global, text: &str, limit: Option<usize>) -> Result<Tree, ReadFault>
+    // After an Ok the text is within the limit, and the result is its tree.
     ensures ok { IfOk result (λ t. tree_of_text limit text.now ≡ Some (node t)) }
+    // After an Ok, the tree's whole numbers are in range, and the names of each object ascend.
     ensures sound { IfOk result (λ t. IsSound (node t)) }
+    // `NotJson` comes only if the text is within the limit and is not JSON.
     ensures not_json { result ≡ Err ReadFault.NotJson
         → IsTrue (is_within limit text.now) × (tree_of text.now ≡ None) }
+    // `TooLong` comes only if the text has more bytes than the limit.
     ensures too_long { result ≡ Err ReadFault.TooLong → is_within limit text.now ≡ false }
 {
     let mut scratch = Scratch::new(alloc);

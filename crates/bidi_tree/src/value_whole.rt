@@ -1,4 +1,4 @@
-//! Whether a JSON value that borrows its text has whole numbers alone, and few levels.
+//! Whether a JSON value that borrows from its text has whole numbers only, and few levels.
 ghost use Rattle.std.specs.Prelude.{◌≡◌, IsTrue};
 ghost use Rattle.json.specs.Value.{value_view, items_view, members_view};
 ghost use Rattle.bidi_tree.specs.Json.{parsed, json_items, put_all, stands_whole, items_stand_whole, members_stand_whole};
@@ -7,13 +7,15 @@ ghost use Rattle.bidi_tree.specs.Node.{Members, IsWhole, ItemsAreWhole, MembersA
 use crate::number_text::whole_number;
 use json::Value;
 
-/// Whether the value has whole numbers in range alone, and nests at most so deep: then its tree has no `Odd`, and at most
-/// so many levels. Takes no memory.
+/// Whether the value has only whole numbers in range, and nests at most `limit` levels deep. Takes no memory.
 ///
-/// The value is looked at as it stands: a member counts even where another of its name, behind it, takes its place.
+/// Each member counts, even one that a later member of the same name replaces.
 #[cycle(parsed_whole)]
 pub fn is_parsed_whole(value: &Value<'_>, limit: usize) -> bool
+    // The result is true exactly if each number is whole and in range and the value nests at most
+    // `limit` levels deep.
     ensures value { result ≡ stands_whole (value_view value.now) limit }
+    // If the result is true, the value's tree has no `Odd` and at most `limit` levels.
     ensures whole { IsTrue result → IsWhole (parsed value.now) limit }
 {
     match value {

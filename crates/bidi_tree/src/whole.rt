@@ -1,11 +1,11 @@
-//! Whether a tree has whole numbers alone, and few levels.
+//! Whether a tree has whole numbers only, and few levels.
 ghost use Rattle.std.specs.Prelude.{◌≡◌, ◌↔◌, IsTrue};
 ghost use Rattle.bidi_tree.specs.Node.{is_whole, items_are_whole, members_are_whole, IsSound, ItemsAreSound, MembersAreSound, AreAscending, MembersAreWhole};
 ghost use Rattle.bidi_tree.specs.View.{node, items_node, members_node};
 
 use crate::tree::{Members, Tree};
 
-// Most trees are neither lists nor maps, and are looked at where they stand.
+// Most trees are neither arrays nor objects; this part is inlined for them.
 #[cycle(whole)]
 #[inline(always)]
 pub(crate) fn is_whole_tree(tree: &Tree, limit: usize) -> bool
@@ -49,10 +49,14 @@ fn are_whole_members(members: &Members, limit: usize) -> bool
     true
 }
 
-/// Whether no `Odd` stands in the members, and none has more than so many levels. Takes no memory.
+/// Whether the members have whole numbers only, and at most `limit` levels. Takes no memory.
 pub fn are_whole(members: &Members, limit: usize) -> bool
+    // The result is true exactly if no member has an `Odd` and none has more than `limit` levels.
     ensures value { IsTrue result ↔ MembersAreWhole (members_node members.now.entries) limit }
+    // If the result is true, the names ascend in byte order.
     ensures ascending { IsTrue result → AreAscending (members_node members.now.entries) }
+    // If the result is true, each member has whole numbers in range, and ascending names in each
+    // object.
     ensures sound { IsTrue result → MembersAreSound (members_node members.now.entries) }
 {
     are_whole_members(members, limit)

@@ -1,4 +1,4 @@
-//! From a tree or an outline to its text.
+//! From a tree or an outline to its JSON text.
 ghost use Rattle.std.specs.Prelude.{◌≡◌, ◌++◌, Some, false, IfOk, OnOk, string_bytes};
 ghost use Rattle.bidi_tree.specs.Node.{Node, whole, has_odd, items_have_odd, members_have_odd, IsWritable, IsSound};
 ghost use Rattle.bidi_tree.specs.Data.{tokens_of, items_tokens, members_tokens};
@@ -12,40 +12,45 @@ use crate::tree::Tree;
 use json::Writer;
 use std::alloc::{AllocError, Global};
 
-/// The room that a text begins with; it grows to the text.
+/// The room that a text starts with; it grows as needed.
 const ROOM: usize = 256;
 
-/// Writes the compact text of a tree: no blank, the members in byte order of their names.
+/// Writes the compact JSON text of a tree.
 ///
-/// What is written reads back as the tree. An outline is made first, a block for each list and map; no text is copied
-/// but into the one that is written.
+/// Makes an outline first, with one block of memory for each array and object. Strings are copied only into
+/// the text.
 ///
 /// # Errors
 /// No memory: an allocation failed.
 ///
 /// After RFC 8259.
 pub fn write(alloc: Global, tree: &Tree) -> Result<String, AllocError>
+    // The tree has no `Odd` and at most 100 levels; `Tree::is_writable` tests that.
     requires { IsWritable (node tree.now) }
+    // The text has no blanks, and the members are in byte order of their names.
     ensures text { IfOk result (λ s. string_bytes s ≡ compact_text (node tree.now)) }
+    // The text reads back as the same tree.
     ensures reads_back { IfOk result (λ s. tree_of (string_bytes s) ≡ Some (node tree.now)) }
-    // The law behind it: the compact text of any sound tree that may be written reads back as that tree.
+    // The compact text of every tree that may be written, with numbers in range and ascending
+    // names, reads back as that tree.
     ensures law { (n : Node) → IsSound n → IsWritable n → tree_of (compact_text n) ≡ Some n }
 {
     let outline = outline_of(alloc, tree)?;
     write_outline(alloc, &outline)
 }
 
-/// Writes the compact text of an outline: no blank, its members in their order.
-///
-/// What is written reads back as the outline's tree. One walk of the outline.
+/// Writes the compact JSON text of an outline. Walks the outline once.
 ///
 /// # Errors
 /// No memory: an allocation failed.
 ///
 /// After RFC 8259.
 pub fn write_outline(alloc: Global, outline: &Outline<'_>) -> Result<String, AllocError>
+    // The outline has no `Odd` and at most 100 levels.
     requires { IsWritable (outline_node outline.now) }
+    // The text has no blanks, and the members are in byte order of their names.
     ensures text { IfOk result (λ s. string_bytes s ≡ compact_text (outline_node outline.now)) }
+    // The text reads back as the outline's tree.
     ensures reads_back { IfOk result (λ s. tree_of (string_bytes s) ≡ Some (outline_node outline.now)) }
 {
     let mut out = Writer::new(Vec::with_capacity(alloc, ROOM)?);
@@ -77,7 +82,7 @@ fn write_value(out: &mut Writer, outline: &Outline<'_>) -> Result<(), AllocError
     }
 }
 
-// Apart, so that only a number has room made for its digits.
+// A function of its own, so that only numbers reserve room for digits.
 #[inline(never)]
 fn write_whole(out: &mut Writer, value: i64) -> Result<(), AllocError>
     ensures before { OnOk result (out.new.before ≡ out.old.before) }
@@ -86,7 +91,7 @@ fn write_whole(out: &mut Writer, value: i64) -> Result<(), AllocError>
     out.i64(value)
 }
 
-/// The items of a list, and the closing bracket.
+/// Writes the items of an array, and the closing bracket.
 #[cycle(write)]
 #[inline(never)]
 fn write_items(out: &mut Writer, items: &Vec<Outline<'_>>) -> Result<(), AllocError>
@@ -101,7 +106,7 @@ fn write_items(out: &mut Writer, items: &Vec<Outline<'_>>) -> Result<(), AllocEr
     out.end_array()
 }
 
-/// The members of a map, and the closing brace.
+/// Writes the members of an object, and the closing brace.
 #[cycle(write)]
 #[inline(never)]
 fn write_members(out: &mut Writer, members: &OutlineMembers<'_>) -> Result<(), AllocError>

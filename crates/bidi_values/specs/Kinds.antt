@@ -10,18 +10,21 @@ use Rattle.bidi_values.specs.declared.kinds.PairsKind.TheVariants.{Map, Object}
 
 -- ---- lists of values
 
+-- the term of `type` in a map that holds a list of values
 abbrev pub list_kind : Term
 list_kind = the "array" or the "set"
 
+-- the string of each kind of list
 abbrev pub list_text : ListKind → List ℕ
 list_text Array = codes "array"
 list_text Set = codes "set"
 
--- each kind's text names it
+-- the string of each kind of list names that kind
 pub list_named : (k : ListKind) → value_named (word list_text Array) (word list_text Set ∷ []) (list_text k) ≡ Some k
 list_named Array = refl
 list_named Set = refl
 
+-- the kinds of lists as a table of their strings
 abbrev pub list_words : Words ListKind
 list_words = record {
   rule = list_kind;
@@ -35,18 +38,21 @@ list_words = record {
 
 -- ---- lists of pairs
 
+-- the term of `type` in a map that holds a list of pairs
 abbrev pub pairs_kind : Term
 pairs_kind = the "object" or the "map"
 
+-- the string of each kind of pairs
 abbrev pub pairs_text : PairsKind → List ℕ
 pairs_text Object = codes "object"
 pairs_text Map = codes "map"
 
--- each kind's text names it
+-- the string of each kind of pairs names that kind
 pub pairs_named : (k : PairsKind) → value_named (word pairs_text Object) (word pairs_text Map ∷ []) (pairs_text k) ≡ Some k
 pairs_named Object = refl
 pairs_named Map = refl
 
+-- the kinds of pairs as a table of their strings
 abbrev pub pairs_words : Words PairsKind
 pairs_words = record {
   rule = pairs_kind;

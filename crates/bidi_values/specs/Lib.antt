@@ -1,7 +1,5 @@
 pub mod Number
 pub mod Opaque
-pub mod Level
-pub mod Ownership
 pub mod Maps
 pub mod SiblingLaws
 pub mod Content
@@ -14,5 +12,3 @@ pub mod RemoteValue
 pub mod RemoteView
 pub mod Cut
 pub mod OptionalValue
-pub mod Outcomes
-pub mod LogEntry

@@ -6,7 +6,7 @@ use Rattle.bidi_shape.specs.WordLaws.{Word, Words, word, value_named}
 use Rattle.bidi_values.specs.declared.opaque.Opaque.{Opaque}
 use Rattle.bidi_values.specs.declared.opaque.Opaque.TheVariants.{Symbol, Function, WeakMap, WeakSet, Generator, Error, Proxy, Promise, TypedArray, ArrayBuffer}
 
--- the text of an opaque type
+-- the string of each opaque type
 abbrev pub opaque_text : Opaque → List ℕ
 opaque_text Symbol = codes "symbol"
 opaque_text Function = codes "function"
@@ -19,13 +19,13 @@ opaque_text Promise = codes "promise"
 opaque_text TypedArray = codes "typedarray"
 opaque_text ArrayBuffer = codes "arraybuffer"
 
--- those after the first
+-- the opaque types after the first, each with its string
 abbrev pub opaque_rest : List (Word Opaque)
 opaque_rest =
     word opaque_text Function ∷ word opaque_text WeakMap ∷ word opaque_text WeakSet ∷ word opaque_text Generator ∷ word opaque_text Error
     ∷ word opaque_text Proxy ∷ word opaque_text Promise ∷ word opaque_text TypedArray ∷ word opaque_text ArrayBuffer ∷ []
 
--- each text names its value
+-- the string of each opaque type names it
 pub opaque_named : (v : Opaque) → value_named (word opaque_text Symbol) opaque_rest (opaque_text v) ≡ Some v
 opaque_named Symbol = refl
 opaque_named Function = refl
@@ -38,6 +38,7 @@ opaque_named Promise = refl
 opaque_named TypedArray = refl
 opaque_named ArrayBuffer = refl
 
+-- the opaque types as a table of their strings
 abbrev pub opaque_words : Words Opaque
 opaque_words = record {
   rule = rule name.opaque;

@@ -13,7 +13,7 @@ use Rattle.bidi_shape.specs.MapLaws.{at-without_other}
 use Rattle.bidi_shape.specs.InnerLaws.{RowsFit-row}
 use Rattle.bidi_values.specs.SiblingLaws.{is_named, and_value, or_kept}
 
--- the rows of the other members, and then `value`, which may be there
+-- the rows of the other members, and then a row for `value`, which is optional
 abbrev pub and_value_or_not : Rows → Term → Rows
 and_value_or_not no_more τ = row (codes "value") optional τ no_more
 and_value_or_not (row k need σ rows) τ = row k need σ (and_value_or_not rows τ)
@@ -111,7 +111,7 @@ rows_full (row k need σ rs) τ ms t here f = RowsFit-row (rows_full rs τ ms t 
 
 -- ---- the maps
 
--- the map without it fits
+-- a map without `value` fits
 pub fits_bare : (rs : Rows) (τ : Term) (t : Node)
     → list_any (bytes_eq (codes "value")) (names_of rs) ≡ false → Fits t (map_of rs closed) → Fits t (map_of (and_value_or_not rs τ) closed)
 fits_bare rs τ t free (fits_map ms rows o f h) =
@@ -119,12 +119,12 @@ fits_bare rs τ t free (fits_map ms rows o f h) =
     fits_map ms (and_value_or_not rows τ) closed (rows_without rows τ ms none f)
     (none_left (names_of rows) (names_of (and_value_or_not rows τ)) (more_names rows τ) ms h)
 
--- and so does the map that has it
+-- a map with `value` fits
 pub fits_full : (rs : Rows) (τ : Term) (t : Node) → Fits t (map_of (and_value rs τ) closed) → Fits t (map_of (and_value_or_not rs τ) closed)
 fits_full rs τ t (fits_map ms rows o f h) =
     fits_map ms (and_value_or_not rs τ) closed (rows_with rs τ ms f) (ap (λ ks. without ks ms) (sym (same_names rs τ)) ∙ h)
 
--- it is one of the two
+-- a map that fits is one without `value`, or one with it
 pub bare_or_full : (rs : Rows) (τ : Term) (t : Node)
     → Fits t (map_of (and_value_or_not rs τ) closed) → Fits t (map_of rs closed) ⊎ Fits t (map_of (and_value rs τ) closed)
 bare_or_full rs τ t (fits_map ms rows o f h) = by_value (get_member (codes "value") ms) refl

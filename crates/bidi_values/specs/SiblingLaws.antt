@@ -12,15 +12,16 @@ use Rattle.bidi_shape.specs.WholeLaws.{PartsAreWhole, no_odd-joined}
 use Rattle.bidi_shape.specs.InnerLaws.{RowsFit-first, RowsFit-more, RowsFit-row, member_levels}
 use Rattle.bidi_shape.specs.MapLaws.{map_one, map_inside, PartsAt-joined, Aligned-PartsFit, RowsFit-PartsAt, unnamed, without_joined_among, at-joined_other}
 
+-- the name is one of these
 abbrev pub is_named : List (List ℕ) → List ℕ → Bool
 is_named ks q = list_any (bytes_eq q) ks
 
--- the rows of the other members, and then `value`
+-- the rows of the other members, and then a row for `value`, which is required
 abbrev pub and_value : Rows → Term → Rows
 and_value no_more τ = row (codes "value") required τ no_more
 and_value (row k need σ rows) τ = row k need σ (and_value rows τ)
 
--- what a type owes whose values stand beside a `value`
+-- what a type provides if its values are the members beside a `value`: their rows, parts and laws
 pub record SiblingsOf (H : Type 0) : Type 1 where
   pub rows : Rows
   -- what stands under each row's name
@@ -36,16 +37,17 @@ pub record SiblingsOf (H : Type 0) : Type 1 where
   pub deepest : ℕ
   pub whole : (h : H) → well h → PartsAreWhole (parts h) deepest
 
--- the term of such a map whose `value` fits a term
+-- the term of a closed map with these members, whose `value` fits a term
 abbrev pub holding : {H : Type 0} → SiblingsOf H → Term → Term
 holding s τ = map_of (and_value s.rows τ) closed
 
--- the map itself
+-- the map of these members with this tree as its `value`
 abbrev pub around : {H : Type 0} → SiblingsOf H → H → Node → Node
 around s h t = node.map (joined s.rows (s.parts h) (member (codes "value") t no_members))
 
 -- ---- rows and names
 
+-- the rows fit with `value` if they fit without it and its tree fits
 pub RowsFit-and_value : (rs : Rows) (τ : Term) (ms : Members) (t : Node)
     → RowsFit ms rs → get_member (codes "value") ms ≡ Some t → Fits t τ → RowsFit ms (and_value rs τ)
 RowsFit-and_value no_more τ ms t f e h = there ms (codes "value") required τ no_more t e h (no_row ms)
@@ -53,10 +55,12 @@ RowsFit-and_value (row k need σ rs) τ ms t (there m l n ρ rest u e f more) is
     there m l n ρ (and_value rest τ) u e f (RowsFit-and_value rest τ m t more is h)
 RowsFit-and_value (row k need σ rs) τ ms t (absent m l ρ rest e more) is h = absent m l ρ (and_value rest τ) e (RowsFit-and_value rest τ m t more is h)
 
+-- rows that fit with `value` fit without it
 pub RowsFit-head : (rs : Rows) (τ : Term) (ms : Members) → RowsFit ms (and_value rs τ) → RowsFit ms rs
 RowsFit-head no_more τ ms f = no_row ms
 RowsFit-head (row k need σ rs) τ ms f = RowsFit-row (RowsFit-head rs τ ms) f
 
+-- the member `value` fits its term if the rows fit
 pub value_fits : (rs : Rows) (τ : Term) (ms : Members) → RowsFit ms (and_value rs τ) → PartFits required τ (get_member (codes "value") ms)
 value_fits no_more τ ms f = RowsFit-first f
 value_fits (row k need σ rs) τ ms f = value_fits rs τ ms (RowsFit-more f)
@@ -65,7 +69,7 @@ or_later : (b c : Bool) → c ≡ true → (b || c) ≡ true
 or_later true c e = refl
 or_later false c e = e
 
--- what follows of the second of two follows of both
+-- if the second of two implies a third, the first or second implies the first or third
 pub or_kept : (b c d : Bool) → (c ≡ true → d ≡ true) → (b || c) ≡ true → (b || d) ≡ true
 or_kept true c d go e = refl
 or_kept false c d go e = go e
@@ -81,6 +85,7 @@ value_named : (rs : Rows) (τ : Term) → is_named (names_of (and_value rs τ)) 
 value_named no_more τ = refl
 value_named (row k need σ rs) τ = or_later (bytes_eq (codes "value") k) (is_named (names_of (and_value rs τ)) (codes "value")) (value_named rs τ)
 
+-- a name that is neither one of the rows nor `value` is no name of the rows with `value`
 pub unnamed-and_value : (rs : Rows) (τ : Term) (q : List ℕ)
     → is_named (names_of rs) q ≡ false → bytes_eq q (codes "value") ≡ false → is_named (names_of (and_value rs τ)) q ≡ false
 unnamed-and_value no_more τ q e f = neither (bytes_eq q (codes "value")) false f refl
@@ -88,7 +93,7 @@ unnamed-and_value (row k need σ rs) τ q e f =
     let both = or_parts (bytes_eq q k) (is_named (names_of rs) q) e in
     neither (bytes_eq q k) (is_named (names_of (and_value rs τ)) q) both.0 (unnamed-and_value rs τ q both.1 f)
 
--- the rows' names are those of the type, and `value`, whatever its term
+-- the names of the rows do not depend on the term of `value`
 pub names-and_value : (rs : Rows) (σ τ : Term) → names_of (and_value rs σ) ≡ names_of (and_value rs τ)
 names-and_value no_more σ τ = refl
 names-and_value (row k need ρ rs) σ τ = ap (◌∷◌ k) (names-and_value rs σ τ)
@@ -107,7 +112,7 @@ module _ {H : Type 0} (s : SiblingsOf H) where
   value_at : (h : H) (t : Node) → get_member (codes "value") (joined s.rows (s.parts h) (member (codes "value") t no_members)) ≡ Some t
   value_at h t = at-joined_other s.rows (s.parts h) (member (codes "value") t no_members) (codes "value") s.free
 
-  -- the map fits where its value does
+  -- the map fits if its `value` fits
   pub around_fits : (h : H) (t : Node) (τ : Term) → s.well h → Fits t τ → Fits (around s h t) (holding s τ)
   around_fits h t τ w f =
       let ms = joined s.rows (s.parts h) (member (codes "value") t no_members) in
@@ -117,30 +122,30 @@ module _ {H : Type 0} (s : SiblingsOf H) where
       fits_map ms (and_value s.rows τ) closed
       (RowsFit-and_value s.rows τ ms t (RowsFit-PartsAt s.rows (s.parts h) ms (parts_at h t w) (s.parts_fit h w)) (value_at h t) f) others
 
-  -- its value fits where the map does
+  -- the `value` of a map that fits fits its term
   pub value_inside : (h : H) (t : Node) (τ : Term) → Fits (around s h t) (holding s τ) → Fits t τ
   value_inside h t τ f =
       let ms = joined s.rows (s.parts h) (member (codes "value") t no_members) in
       subst (PartFits required τ) (value_at h t) (value_fits s.rows τ ms (map_inside f).0)
 
-  -- one map has one value, and the same beside it
+  -- equal maps have equal members beside `value`, and an equal `value`
   pub around_one : (g h : H) (t u : Node) → s.well g → s.well h → around s g t ≡ around s h u → s.same g h × (t ≡ u)
   around_one g h t u v w e =
       let p = map_one s.rows (s.parts g) (s.parts h) (member (codes "value") t no_members) (member (codes "value") u no_members) s.once
       (Aligned-PartsFit s.rows (s.parts g) (s.parts_fit g v)) (Aligned-PartsFit s.rows (s.parts h) (s.parts_fit h w)) (siblings t) (siblings u) e in
       (s.one g h v w p.0, let same : member (codes "value") t no_members ≡ member (codes "value") u no_members = p.1 in cc)
 
-  -- no Odd stands in the map where none stands in its value
+  -- the map has no Odd in it if its `value` has none
   pub around_no_odd : (h : H) (t : Node) → s.well h → has_odd t ≡ false → has_odd (around s h t) ≡ false
   around_no_odd h t w e = no_odd-joined s.rows (s.parts h) (member (codes "value") t no_members) s.deepest (s.whole h w) (or_from (has_odd t) false e refl)
 
-  -- and fewer levels than the map
+  -- the `value` has fewer levels than the map
   pub value_levels : (h : H) (t : Node) → levels t < levels (around s h t)
   value_levels h t =
       let inside = member_levels (codes "value") t (joined s.rows (s.parts h) (member (codes "value") t no_members)) (value_at h t) in
       omega (arith, inside)
 
--- members read by a list of fields that is closed
+-- the members beside a `value`, given as a table of fields that takes no further members
 abbrev pub siblings_by : {F H : Type 0} (t : Table F) (ks : List (List ℕ)) (m : H → F) → ((f g : F) → t.others f ≡ t.others g)
     → distinct (names_of (t.rows ks [])) ≡ true → list_any (bytes_eq (codes "value")) (names_of (t.rows ks [])) ≡ false → SiblingsOf H
 siblings_by t ks m alone once free = record {

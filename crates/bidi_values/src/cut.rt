@@ -19,7 +19,9 @@ impl Nested<RemotePlain, RemoteList, RemotePairs> {
     ///
     /// After WebDriver BiDi, "The script.SerializationOptions Type".
     pub fn cut(self, depth: JsUint) -> RemoteValue
+        // The tree of the result is the tree of the value, cut at that depth.
         ensures tree { remote_tree result ≡ cut depth.value (remote_tree self) }
+        // A well-formed value stays well-formed.
         ensures well { RemoteIsWell self → RemoteIsWell result }
     {
         cut_value(self, depth.value)

@@ -1,22 +1,27 @@
-//! The values of a script as messages bear them, and the parameters that bear them.
+//! The values of scripts as messages carry them: primitive values, lists, maps and references.
 //!
-//! These are primitive values, references, targets, the parts of an error or a log entry, and the parameters of the
-//! commands `script.evaluate`, `script.callFunction` and `script.disown`.
+//! # Parts
+//! - [`LocalValue`] is a value that a client sends, and [`RemoteValue`] one that the remote end sends. Both are a
+//!   [`Nested`], over the plain values of their rule: a [`LocalPlain`] or a [`RemotePlain`].
+//! - A plain value is a [`Primitive`], a date, a regular expression, a [`Reference`] that a client sends, or a value of
+//!   which a message gives only the type, an [`Opaque`].
+//! - [`RemoteList`], [`RemotePairs`] and [`RemoteOpaque`] name a value that the remote end keeps: by a handle, or by an
+//!   id within one message.
 //!
-//! Each type is a [`Shape`](bidi_shape::Shape) of its rule. A type that takes further members has a constructor,
-//! which refuses the parts that are no value of it.
+//! # Calls
+//! Each type is a [`Shape`](bidi_shape::Shape): its values are the trees that fit its rule. [`Nested::copy`] copies a
+//! value, [`RemoteValue::cut`](Nested::cut) removes what lies deeper than a depth, and [`Nested::checked`] refuses a value
+//! that is too deep. A type with further members has a constructor, which refuses the parts that are no value of it.
+//!
+//! # Limits
+//! A value has at most 60 levels of lists and maps.
 #![tactic(auto)]
 
-mod call_function;
 mod copying;
 mod cut;
-mod evaluate;
-mod evaluate_result;
-mod exception;
 mod held;
 mod kinds;
 mod local_value;
-mod log_entry;
 mod nested;
 mod opaque;
 mod primitive;
@@ -24,31 +29,16 @@ mod reading;
 mod reference;
 mod reg_exp;
 mod remote_value;
-mod serialization_options;
 mod siblings;
-mod stack_trace;
-mod table_row;
-mod target;
 mod writing;
 
-pub use call_function::{CallFunctionParameters, DisownParameters};
-pub use evaluate::{EvaluateParameters, Ownership};
-pub use evaluate_result::{EvaluateException, EvaluateResult, EvaluateSuccess};
-pub use exception::ExceptionDetails;
 pub use held::{RemoteDate, RemoteList, RemoteOpaque, RemotePairs, RemoteRegExp};
 pub use kinds::{ListKind, PairsKind};
 pub use local_value::{LocalKey, LocalPair, LocalPlain, LocalValue};
-pub use log_entry::{
-    BaseLogEntry, ConsoleEntry, GenericLogEntry, JavascriptEntry, Level, LogEntry, Source,
-};
 pub use nested::{Nested, NestedKey, NestedPair, Nests};
 pub use opaque::Opaque;
 pub use primitive::{Number, Primitive, SpecialNumber};
 pub use reference::{Reference, RemoteObjectReference, SharedReference};
 pub use reg_exp::RegExpValue;
 pub use remote_value::{RemoteKey, RemotePair, RemotePlain, RemoteValue};
-pub use serialization_options::SerializationOptions;
 pub use siblings::Siblings;
-pub use stack_trace::{StackFrame, StackTrace};
-pub use table_row::{ArgumentRow, ReturnsRow, TableRow, ThrowsRow};
-pub use target::{ContextTarget, RealmTarget, Target};

@@ -48,6 +48,7 @@ pub trait Nests<L: Siblings, M: Siblings>: Shape {
 
     /// The value that is this plain one. Takes no memory.
     fn into_value(self) -> Nested<Self, L, M>
+        // The value has the content of this plain value.
         ensures { content result ≡ plain self };
 
     /// A copy of the plain value, which shares no memory with it.
@@ -55,8 +56,11 @@ pub trait Nests<L: Siblings, M: Siblings>: Shape {
     /// # Errors
     /// No memory: an allocation failed.
     fn copy(&self, alloc: Global) -> Result<Self, AllocError>
+        // The plain value is well-formed.
         requires { nesting.plain.well self.now }
+        // The copy has the same tree.
         ensures tree { IfOk result (λ p. nesting.plain.tree_of p ≡ nesting.plain.tree_of self.now) }
+        // The copy is well-formed.
         ensures well { IfOk result nesting.plain.well };
 
     // What the rule says of each of the three is what each says of itself.
@@ -91,8 +95,11 @@ impl<P: Nests<L, M>, L: Siblings, M: Siblings> Nested<P, L, M> {
     /// - `TooDeep`: it has more.
     /// - `NoMemory`: an allocation failed.
     pub fn checked(self, alloc: Global) -> Result<Nested<P, L, M>, MakeFault>
+        // Each part of the value is well-formed; its levels need not be counted.
         requires { NestedIsWell P.nesting self }
+        // Memory aside, it is refused exactly if its tree has more than 60 levels; else it is returned as it is.
         ensures made { Makes result ⊥ ⊥ (¬ (levels (nested_tree P.nesting self) ≤ 60)) (λ v. v ≡ self) }
+        // The value is well-formed, so its tree fits the rule.
         ensures well { IfOk result (λ v. IsWell P.nesting (content v)) }
     {
         let is_within = self.outline(alloc)?.is_within(MAX_LEVELS);
@@ -108,9 +115,13 @@ impl<P: Nests<L, M>, L: Siblings, M: Siblings> Nested<P, L, M> {
     /// # Errors
     /// No memory: an allocation failed.
     pub fn copy(&self, alloc: Global) -> Result<Nested<P, L, M>, AllocError>
+        // The value is well-formed.
         requires { IsWell P.nesting (content self.now) }
+        // The copy has the same tree.
         ensures tree { IfOk result (λ v. nested_tree P.nesting v ≡ nested_tree P.nesting self.now) }
+        // The copy is well-formed.
         ensures well { IfOk result (λ v. IsWell P.nesting (content v)) }
+        // The copy is equal to the value, part by part.
         ensures same { IfOk result (λ v. Same P.nesting (content v) (content self.now)) }
     {
         copy_value(alloc, self)

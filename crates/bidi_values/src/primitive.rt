@@ -113,7 +113,9 @@ impl Primitive {
     /// # Errors
     /// No memory: an allocation failed.
     pub fn copy(&self) -> Result<Primitive, AllocError>
+        // The copy has the same tree.
         ensures tree { IfOk result (λ v. ⟦<Primitive as Shape>⟧.shape.tree_of v ≡ ⟦<Primitive as Shape>⟧.shape.tree_of self.now) }
+        // The copy of a well-formed value is well-formed.
         ensures well { ⟦<Primitive as Shape>⟧.shape.well self.now → IfOk result ⟦<Primitive as Shape>⟧.shape.well }
     {
         match self {

@@ -37,11 +37,13 @@ impl SharedReference {
         handle: Option<String>,
         ext: Members,
     ) -> Result<SharedReference, MakeFault>
+        // Memory aside, the first cause that holds is the fault; with none, the value has these parts.
         ensures made { Makes result
             (has_named (names_in (named shared_reference)) (members_node ext.entries) ≡ true)
             ⊥
             (¬ MembersAreWhole (members_node ext.entries) 60)
             (λ v. (v.shared_id ≡ shared_id) × (v.handle ≡ handle) × (others_of v.ext ≡ members_node ext.entries)) }
+        // The value is well-formed, so its tree fits the type's rule.
         ensures well { IfOk result (λ v. ⟦<SharedReference as Shape>⟧.shape.well v) }
     {
         let ext = further(ext, Self::NAMES)?;
@@ -107,11 +109,13 @@ impl RemoteObjectReference {
         shared_id: Option<String>,
         ext: Members,
     ) -> Result<RemoteObjectReference, MakeFault>
+        // Memory aside, the first cause that holds is the fault; with none, the value has these parts.
         ensures made { Makes result
             (has_named (names_in (named remote_object_reference)) (members_node ext.entries) ≡ true)
             (Fits (remote_object_map handle shared_id (members_node ext.entries)) (named shared_reference))
             (¬ MembersAreWhole (members_node ext.entries) 60)
             (λ v. (v.handle ≡ handle) × (v.shared_id ≡ shared_id) × (others_of v.ext ≡ members_node ext.entries)) }
+        // The value is well-formed, so its tree fits the type's rule.
         ensures well { IfOk result (λ v. ⟦<RemoteObjectReference as Shape>⟧.shape.well v) }
     {
         let ext = Ext::new(ext, Self::NAMES)?;

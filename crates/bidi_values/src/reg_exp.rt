@@ -26,7 +26,9 @@ impl RegExpValue {
     /// # Errors
     /// No memory: an allocation failed.
     pub fn copy(&self) -> Result<RegExpValue, AllocError>
+        // The copy has the same tree.
         ensures tree { IfOk result (λ v. ⟦<RegExpValue as Shape>⟧.shape.tree_of v ≡ ⟦<RegExpValue as Shape>⟧.shape.tree_of self.now) }
+        // The copy of a well-formed value is well-formed.
         ensures well { ⟦<RegExpValue as Shape>⟧.shape.well self.now → IfOk result ⟦<RegExpValue as Shape>⟧.shape.well }
     {
         Ok(RegExpValue {

@@ -29,9 +29,13 @@ pub trait Siblings: Drop {
     /// - `NoFit`: one of them does not fit, or there is another member.
     /// - `NoMemory`: an allocation failed.
     fn read<S: Parsed>(alloc: Global, map: &S) -> Result<Self, ShapeFault>
+        // The members of the map stand in ascending order of their names.
         ensures sorted { OnOk result (AreAscending (members_in (S.tree map.now))) }
+        // Each part stands under its name in the map, and what was read is well-formed.
         ensures ok { IfOk result (λ h. PartsAt siblings.rows (siblings.parts h) (members_in (S.tree map.now)) × siblings.well h) }
+        // The map has no other member besides these and `value`.
         ensures rest { OnOk result (without (names_of (and_value siblings.rows null)) (members_in (S.tree map.now)) ≡ no_members) }
+        // It is refused only if one of the members does not fit, or if there is another member.
         ensures no_fit { IfNoFit result (RowsFit (members_in (S.tree map.now)) siblings.rows
             → without (names_of (and_value siblings.rows null)) (members_in (S.tree map.now)) ≡ no_members → ⊥) };
 
@@ -44,6 +48,7 @@ pub trait Siblings: Drop {
         alloc: Global,
         members: &mut OutlineMembers<'a>,
     ) -> Result<(), AllocError>
+        // Exactly the outlines of these parts are added.
         ensures { OnOk result (outline_members members.new ≡ joined siblings.rows (siblings.parts self.now) (outline_members members.old)) };
 
     /// A copy of the members, which shares no memory with them.
@@ -51,7 +56,9 @@ pub trait Siblings: Drop {
     /// # Errors
     /// No memory: an allocation failed.
     fn copy(&self, alloc: Global) -> Result<Self, AllocError>
+        // The copy has the same parts.
         ensures parts { IfOk result (λ h. siblings.parts h ≡ siblings.parts self.now) }
+        // The copy of well-formed members is well-formed.
         ensures well { siblings.well self.now → IfOk result siblings.well };
 }
 

@@ -25,12 +25,13 @@ use Rattle.bidi_show.specs.MessageLines as shows
 use Rattle.bidi_show.specs.MessageLines.{HasVerdict, Refuses, verdict_shown}
 use Rattle.bidi_lines.specs.declared.side.Side.TheVariants.{Local, Remote}
 use Rattle.bidi_why.specs.Conversing.{Hears, HearsLine, Standing, is_marked, is_no_text, is_refused, is_text, is_too_long, mark_of, refused_words, is_message, is_one_too_many, is_sent, is_sent_twice, IsTold, behind, kind_in, of_answer, of_event, of_failure, of_refused, of_result, of_stray, was_refused, with_command, with_refused, without_refused}
-use Rattle.bidi_why.specs.Conversing.{answered, id_of, is_no_message, lines_left, settled_id, with_answer, without_command}
-use Rattle.bidi_why.specs.Hearing.{HasBadResult, Notes, Takes}
+use Rattle.bidi_why.specs.Conversing.{answered, is_no_message, lines_left, settled_id, with_answer}
+use Rattle.bidi_remarks.specs.Results.{HasBadResult, TellsBadResult}
+use Rattle.bidi_why.specs.Hearing.{Notes, Takes}
 use Rattle.bidi_why.specs.Hearing as hearing
-use Rattle.bidi_why.specs.Trouble.{IsTrouble, Trouble, begins_with_mark}
+use Rattle.bidi_remarks.specs.Trouble.{IsTrouble, Trouble, begins_with_mark, id_of}
 use Rattle.bidi_why.specs.Input.{IsOf}
-use Rattle.bidi_why.specs.declared.bad_text.BadText.TheVariants.{ByteOrderMark, NoDirection, TooLong}
+use Rattle.bidi_remarks.specs.declared.bad_text.BadText.TheVariants.{ByteOrderMark, NoDirection, TooLong}
 use Rattle.bidi_why.specs.declared.next_line.Line.{Line}
 use Rattle.bidi_why.specs.declared.next_line.Line.TheVariants as line
 use Rattle.bidi_lines.specs.InputLines.{IsLine}
@@ -38,8 +39,8 @@ use Rattle.bidi_lines.specs.declared.side.Side.{Side}
 use Rattle.bidi_messages.specs.Reading.{IsCause}
 use Rattle.bidi_messages.specs.declared.text.MessageFault.{MessageFault}
 use Rattle.bidi_messages.specs.declared.text.MessageFault.TheVariants.{NotJson, NoFit}
-use Rattle.bidi_why.specs.Hearing.{IsJudged, IsSender, IsStray, TellsBadResult, to_none, to_refused}
-use Rattle.bidi_why.specs.Remark.{Remark, bad_line, fault, failed, id_waits, no_message, stray, too_many}
+use Rattle.bidi_why.specs.Hearing.{IsJudged, IsSender, IsStray, to_none, to_refused}
+use Rattle.bidi_remarks.specs.Remark.{Remark, bad_line, fault, failed, id_waits, no_message, stray, too_many}
 use Rattle.bidi_why.specs.declared.judging.Judged.{Judged}
 use Rattle.bidi_why.specs.declared.judging.Judged.TheVariants as judged
 use Rattle.bidi_params.specs.declared.error_code.ErrorCode.{ErrorCode}

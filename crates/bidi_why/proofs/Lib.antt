@@ -1,4 +1,4 @@
-pub mod FindingLemmas
+pub mod SummaryLemmas
 pub mod InputLemmas
 pub mod TellingLemmas
 pub mod ConversationLemmas

@@ -21,14 +21,14 @@ use Rattle.bidi_messages.specs.contracts.message.MessageShape.TheImpl.{ghosts}
 use Rattle.bidi_messages.specs.Verdict.{echoed_id}
 use Rattle.bidi_messages.proofs.CommandLemmas.{in_range}
 use Rattle.bidi_messages.proofs.SendingLemmas.{error_fits}
-use Rattle.bidi_local.specs.Pending.{Pending, method_of, without}
+use Rattle.bidi_local.specs.Pending.{Pending, method_of}
 use Rattle.bidi_local.specs.Received as local
 use Rattle.bidi_local.specs.Received.{Meaning, Means, asked_by, settled}
 use Rattle.bidi_local.specs.Receiving.{IsMeaningOf}
 use Rattle.bidi_local.specs.View.{Stands, waiting_in}
 use Rattle.bidi_local.specs.declared.local_end.LocalEnd.{LocalEnd}
 use Rattle.bidi_local.proofs.OneMeaning.{response_type, event_is_typed}
-use Rattle.bidi_why.specs.Conversing.{Standing, answered, kind_in, lines_left, lines_without, settled_id, was_refused, with_answer, without_command, without_refused}
+use Rattle.bidi_why.specs.Conversing.{Standing, answered, kind_in, lines_left, settled_id, was_refused, with_answer, without_command, without_refused}
 
 -- an error reads back
 pub error_reads : (id : ℕ) (code : ErrorCode) → id < 2 ^ 53 → tree_of (error_text (Some id) code) ≡ Some (error_tree (Some id) code)

@@ -1,12 +1,15 @@
 -- One more line that is told of, and where a listing stops.
-use Rattle.std.proofs.Common.{◌≡◌, ◌≢◌, ℕ, ◌+◌, ◌<◌, Bool, true, false, List, [], ◌∷◌, ◌++◌, length, take, drop, take-append-drop}
-use Rattle.std.proofs.Common.{length-append, length-drop, append_assoc, append-nil, arith, refl, sym, ◌∙◌, ap, subst}
-use Rattle.std.specs.Prelude.{nat_lt, not, ◌||◌, ◌==◌, Result, Ok, Err, OnOk, IfErr, Option, None, ⊤}
+use Rattle.std.proofs.Common.{◌≡◌, ◌≢◌, ℕ, suc, ◌+◌, ◌<◌, Bool, true, false, List, [], ◌∷◌, ◌++◌, length, take, drop, take-append-drop}
+use Rattle.std.proofs.Common.{length-append, length-drop, append_assoc, append-nil, arith, option_map, refl, sym, ◌∙◌, ap, subst}
+use Rattle.std.specs.Prelude.{nat_lt, ◌||◌, ◌&&◌, Result, Ok, Err, OnErr, OnOk, IfErr, IfOk, Option, Some, None, ⊤, if◌then◌else◌}
+use Rattle.std.specs.Global.{Vec}
 use Rattle.std.proofs.lemmas.Bool.Decides.{nat_tests}
 use Rattle.std.proofs.lemmas.Grind.{flat_map-append}
+use Rattle.std.proofs.lemmas.List.Folds.{list_any-append}
 use Rattle.std.specs.Io.KnownBytes.{Appends}
+use Rattle.bidi_lines.specs.Devices.{AppendsBeginning}
 use Rattle.bidi_lines.specs.Feeds.{ended, has_feed}
-use Rattle.bidi_lines.specs.InputLines.{joined}
+use Rattle.bidi_lines.specs.InputLines.{IsLine, joined}
 use Rattle.bidi_lines.specs.Skipping.{IsEndless}
 use Rattle.bidi_lines.specs.declared.line_reader.InputFault.{InputFault}
 use Rattle.bidi_lines.specs.declared.line_reader.InputFault.TheVariants as input
@@ -15,60 +18,145 @@ use Rattle.bidi_lines.proofs.AnsweringLemmas.{all_more}
 use Rattle.bidi_lines.proofs.FeedLemmas.{regroup}
 use Rattle.bidi_show.specs.declared.showing.ShowFault.{ShowFault}
 use Rattle.bidi_show.specs.declared.showing.ShowFault.TheVariants.{Read, Write, BadLine, NoMemory, TooManyLines}
-use Rattle.bidi_why.specs.Input.{finds}
-use Rattle.bidi_why.specs.Telling.{IsCutOff, IsNext, IsOneLine, Parts, StopsBy, StopsLine, Tells, TellsEach, Told, Whole, input_fault, is_ended, is_last, last_line, SoFar}
-use Rattle.bidi_why.specs.Explainers.{HasExplained, fault_in, text_in}
-use Rattle.bidi_why.specs.declared.explainer.Told as explainer
+use Rattle.bidi_remarks.specs.Explaining.{Explains, Telling, counted_as, is_refused, is_taken, told_of, telling}
+use Rattle.bidi_remarks.specs.Texts.{told_text}
+use Rattle.bidi_remarks.specs.Trouble.{Trouble, bad, is_beyond}
+use Rattle.bidi_remarks.specs.declared.bad_text.BadText.TheVariants.{TooLong}
+use Rattle.bidi_remarks.specs.declared.telling.CountedAs.TheVariants.{Beyond, Refused}
+use Rattle.bidi_remarks.specs.declared.telling.Told.{Told}
+use Rattle.bidi_remarks.specs.declared.texts.Form.{Form}
+use Rattle.bidi_remarks.specs.declared.texts.Form.TheVariants.{Words, Json}
+use Rattle.bidi_why.specs.Input.{IsOf, finds}
+use Rattle.bidi_why.specs.Summary.{Entry, any_fault, entries_in, is_fault, is_same}
+use Rattle.bidi_why.specs.Telling as telling_of
+use Rattle.bidi_why.specs.Telling.{IsCutOff, IsNext, IsOneLine, Parts, StopsBy, StopsLine, Tells, TellsEach, TellsLines, Whole, input_fault, is_ended, is_last, is_line, is_too_long, kept, last_line, written, SoFar}
+use Rattle.bidi_why.specs.Explainers.{HasExplained, text_in}
 use Rattle.bidi_why.specs.declared.next_line.Found.{Found}
+use Rattle.bidi_why.specs.declared.next_line.Line.{Line}
+use Rattle.bidi_why.specs.declared.next_line.Line.TheVariants as line
 use Rattle.bidi_why.specs.declared.one_side.OneSide.{OneSide}
-use Rattle.bidi_why.specs.declared.texts.Form.{Form}
 
 -- ---- one line more
 
--- what is written for one line more stands behind the rest
-tells_more : (form : Form) (side : Side) (only : Bool) (n : ℕ) (lines : List (List ℕ)) (line wrote text : List ℕ) → TellsEach form side only n lines wrote
-    → Tells form side only (n + length lines) line text → TellsEach form side only n (lines ++ line ∷ []) (wrote ++ text)
-tells_more form side only n [] line wrote text none tells =
-    let first : n + 0 ≡ n = omega arith in
-    (text, [], subst (λ (k : ℕ). Tells form side only k line text) first tells, refl, ap (λ (w : List ℕ). w ++ text) none ∙ sym (append-nil text))
-tells_more form side only n (y ∷ ys) line wrote text (front, more, first, rest, e) tells =
+-- what is written for one line more stands behind the rest, and so does what is counted
+tells_more : (form : Form) (side : Side) (only : Bool) (n : ℕ) (lines : List (List ℕ)) (line : List ℕ) (o : Option Telling) (wrote : List ℕ) (told : List Entry)
+    → TellsEach form side only n lines wrote told → Tells form side only (n + length lines) line o
+    → TellsEach form side only n (lines ++ line ∷ []) (wrote ++ written o) (told ++ entries_in line o)
+tells_more form side only n [] line o wrote told (none, nothing) tells =
+    let first : n + 0 ≡ n = omega arith in (
+      o,
+      [],
+      [],
+      subst (λ (k : ℕ). Tells form side only k line o) first tells,
+      (refl, refl),
+      ap (λ (w : List ℕ). w ++ written o) none ∙ sym (append-nil (written o)),
+      ap (λ (t : List Entry). t ++ entries_in line o) nothing ∙ sym (append-nil (entries_in line o)),
+    )
+tells_more form side only n (y ∷ ys) line o wrote told (front, more, rest, first, each, e, f) tells =
     let same : n + length (y ∷ ys) ≡ n + 1 + length ys = omega arith in (
       front,
-      more ++ text,
+      more ++ written o,
+      rest ++ entries_in line o,
       first,
-      tells_more form side only (n + 1) ys line more text rest (subst (λ (k : ℕ). Tells form side only k line text) same tells),
-      ap (λ (w : List ℕ). w ++ text) e ∙ append_assoc front more text,
+      tells_more form side only (n + 1) ys line o more rest each (subst (λ (k : ℕ). Tells form side only k line o) same tells),
+      ap (λ (w : List ℕ). w ++ written o) e ∙ append_assoc (written front) more (written o),
+      ap (λ (t : List Entry). t ++ entries_in line o) f ∙ append_assoc (entries_in y front) rest (entries_in line o),
     )
 
--- it is told whether anything was written
-pub some_more : (some : Bool) (wrote text : List ℕ) → some ≡ nat_lt 0 (length wrote) → (some || not (length text == 0)) ≡ nat_lt 0 (length (wrote ++ text))
-some_more true wrote text e = before wrote text e
+-- whether anything was written behind what was
+some_more : (b c : Bool) (wrote text : List ℕ) → b ≡ nat_lt 0 (length wrote) → c ≡ nat_lt 0 (length text) → (b || c) ≡ nat_lt 0 (length (wrote ++ text))
+some_more true c wrote text e f = before wrote text e
   where
     before : (wrote text : List ℕ) → true ≡ nat_lt 0 (length wrote) → true ≡ nat_lt 0 (length (wrote ++ text))
     before wrote text e = let long = length-append wrote text in grind (arith, nat_tests, long, e)
-some_more false wrote text e = now wrote text e
+some_more false c wrote text e f = f ∙ now wrote text e
   where
-    now : (wrote text : List ℕ) → false ≡ nat_lt 0 (length wrote) → not (length text == 0) ≡ nat_lt 0 (length (wrote ++ text))
+    now : (wrote text : List ℕ) → false ≡ nat_lt 0 (length wrote) → nat_lt 0 (length text) ≡ nat_lt 0 (length (wrote ++ text))
     now wrote text e = let long = length-append wrote text in grind (arith, nat_tests, long, e)
 
+-- a successor is more than 0
+some_bytes : (n : ℕ) → true ≡ nat_lt 0 (suc n)
+some_bytes n = grind (arith, nat_tests)
+
+-- what is told of a trouble is a fault, and is written
+trouble_some : (form : Form) (side : Side) (n : ℕ) (line : List ℕ) (x : Trouble)
+    → any_fault (entries_in line (Some (telling form side n x))) ≡ nat_lt 0 (length (told_text form n (Some side) None x))
+trouble_some form side n line x = ap (λ (b : Bool). b || false) (is_one (is_beyond x)) ∙ long form
+  where
+    is_one : (b : Bool) → is_fault (if b then Beyond else Refused) ≡ true
+    is_one true = refl
+    is_one false = refl
+
+    long : (form : Form) → true ≡ nat_lt 0 (length (told_text form n (Some side) None x))
+    long Words = some_bytes _
+    long Json = some_bytes _
+
+-- what is told of a line is a fault just if anything is written
+tells_some : (form : Form) (side : Side) (only : Bool) (n : ℕ) (line : List ℕ) (o : Option Telling) → Tells form side only n line o
+    → any_fault (entries_in line o) ≡ nat_lt 0 (length (written o))
+tells_some form side only n line o (is_line None short (is_taken none)) = refl
+tells_some form side only n line o (is_line (Some t) short (is_refused why x refuses at)) = go (only && is_same Beyond (counted_as x))
+  where
+    go : (b : Bool) → let o : Option Telling = if b then None else Some (telling form side n x) in any_fault (entries_in line o) ≡ nat_lt 0 (length (written o))
+    go true = refl
+    go false = trouble_some form side n line x
+tells_some form side only n line o (is_too_long long) = trouble_some form side n line (bad TooLong)
+
 -- since the first of its states, where the count is known by another name
-pub explained_more : (first before now : OneSide) (number : ℕ) (lines : List (List ℕ)) (line text more : List ℕ) (some : Bool)
-    → HasExplained first before lines text some → number ≡ length lines + 1 → now.form ≡ before.form → now.side ≡ before.side
-    → now.profile_only ≡ before.profile_only → Tells before.form before.side before.profile_only number line more
-    → HasExplained first now (lines ++ line ∷ []) (text ++ more) (some || not (length more == 0))
-explained_more first before now number lines line text more some p counted form side only tells =
+explained_more : (first before now : OneSide) (number : ℕ) (lines : List (List ℕ)) (line text : List ℕ) (o : Option Telling) (told : List Entry)
+    → HasExplained first before lines text told → number ≡ length lines + 1 → now.form ≡ before.form → now.side ≡ before.side
+    → now.profile_only ≡ before.profile_only → Tells before.form before.side before.profile_only number line o
+    → HasExplained first now (lines ++ line ∷ []) (text ++ written o) (told ++ entries_in line o)
+explained_more first before now number lines line text o told p counted form side only tells =
     let next : number ≡ 1 + length lines = omega (arith, counted) in
-    let of_form = subst (λ (x : Form). Tells x before.side before.profile_only number line more) p.form tells in
-    let of_side = subst (λ (x : Side). Tells first.form x before.profile_only number line more) p.side of_form in
-    let of_only = subst (λ (b : Bool). Tells first.form first.side b number line more) p.only of_side in
+    let of_form = subst (λ (x : Form). Tells x before.side before.profile_only number line o) p.form tells in
+    let of_side = subst (λ (x : Side). Tells first.form x before.profile_only number line o) p.side of_form in
+    let of_only = subst (λ (b : Bool). Tells first.form first.side b number line o) p.only of_side in
     record {
       form = form ∙ p.form;
       side = side ∙ p.side;
       only = only ∙ p.only;
-      tells = tells_more first.form first.side first.profile_only 1 lines line text more p.tells
-          (subst (λ (n : ℕ). Tells first.form first.side first.profile_only n line more) next of_only);
-      is_some = some_more some text more p.is_some;
+      tells = tells_more first.form first.side first.profile_only 1 lines line o text told p.tells
+          (subst (λ (n : ℕ). Tells first.form first.side first.profile_only n line o) next of_only);
+      is_some = list_any-append (λ (e : Entry). is_fault e.counted_as) told (entries_in line o)
+          ∙ some_more (any_fault told) (any_fault (entries_in line o)) text (written o) p.is_some
+          (tells_some before.form before.side before.profile_only number line o tells);
     }
+
+-- the same of what a call says
+pub explained_as : {E : Type 0} (first before now : OneSide) (number : ℕ) (l : Line) (lines : List (List ℕ)) (line text : List ℕ) (told : List Entry)
+    (r : Result (Option Told) E) → HasExplained first before lines text told → number ≡ length lines + 1 → now.form ≡ before.form → now.side ≡ before.side
+    → now.profile_only ≡ before.profile_only
+    → IfOk r (λ found. (is : List ℕ) → IsOf l is → Tells before.form before.side before.profile_only number is (option_map told_of found)) → IsOf l line
+    → IfOk r (λ found. HasExplained first now (lines ++ line ∷ []) (text ++ text_in found) (told ++ entries_in line (option_map told_of found)))
+explained_as first before now number l lines line text told (Ok None) p counted form side only tells is =
+    explained_more first before now number lines line text None told p counted form side only (tells line is)
+explained_as first before now number l lines line text told (Ok (Some t)) p counted form side only tells is =
+    explained_more first before now number lines line text (Some (told_of t)) told p counted form side only (tells line is)
+explained_as first before now number l lines line text told (Err e) p counted form side only tells is = tt
+
+-- what is told of a line that is not too long is what is kept of what explains it
+pub tells_kept : (form : Form) (side : Side) (only : Bool) (n : ℕ) (seen : List ℕ) (found o : Option Told)
+    → option_map told_of o ≡ kept only (option_map told_of found) → Explains form side n seen (option_map told_of found)
+    → IsLine seen → Tells form side only n seen (option_map told_of o)
+tells_kept form side only n seen found o is h at =
+    subst (λ (t : Option Telling). Tells form side only n seen t) (sym is) (is_line (option_map told_of found) at h)
+
+-- of a line that is not too long it is told as it explains itself
+pub tells_text : {E : Type 0} (form : Form) (side : Side) (only : Bool) (n : ℕ) (l : Line) (text : Vec ℕ) (seen : List ℕ) (r : Result (Option Told) E)
+    → l ≡ line.Text text → seen ≡ text.items → IfOk r (λ found. IsLine seen → Tells form side only n seen (option_map told_of found))
+    → IfOk r (λ found. (is : List ℕ) → IsOf l is → Tells form side only n is (option_map told_of found))
+tells_text form side only n l text seen (Ok found) is same h = λ bytes at.
+    let here = subst (λ (x : Line). IsOf x bytes) is at in
+    let alike : seen ≡ bytes = same ∙ sym here.0 in
+    subst (λ (s : List ℕ). Tells form side only n s (option_map told_of found)) alike (h (subst IsLine (sym alike) here.1))
+tells_text form side only n l text seen (Err e) is same h = tt
+
+-- of one that is too long only that
+pub tells_long : (form : Form) (side : Side) (only : Bool) (n : ℕ) (l : Line) (t : Telling) → l ≡ line.TooLong → t ≡ telling form side n (bad TooLong)
+    → (is : List ℕ) → IsOf l is → Tells form side only n is (Some t)
+tells_long form side only n l t is same bytes at =
+    subst (λ (x : Telling). Tells form side only n bytes (Some x)) (sym same) (is_too_long (subst (λ (x : Line). IsOf x bytes) is at))
 
 -- ---- what stands at the front
 
@@ -149,25 +237,25 @@ module _ (P : List (List ℕ) → List ℕ → Type 0) where
 
   -- a fault of the input stops a listing at the next line
   pub stops_input : (f : InputFault) (n : ℕ) (shown : ShowFault) (at_end : Bool) (read rest wrote : List ℕ) (lines : List (List ℕ))
-      → shown ≡ input_fault f n → Told P read lines rest wrote → Leaves f n lines rest → StopsBy P shown at_end read wrote
+      → shown ≡ input_fault f n → telling_of.Told P read lines rest wrote → Leaves f n lines rest → StopsBy P shown at_end read wrote
   stops_input f n shown at_end read rest wrote lines is told leaves = subst (λ (x : ShowFault). StopsBy P x at_end read wrote) (sym is) (by_fault f leaves)
     where
       by_fault : (f : InputFault) → Leaves f n lines rest → StopsBy P (input_fault f n) at_end read wrote
       by_fault input.Read none = (lines, rest, told, none)
       by_fault input.BadLine (front, more, counted, e, endless) =
-          (lines, front, more, subst (λ (r : List ℕ). Told P read lines r wrote) e told, endless, counted)
+          (lines, front, more, subst (λ (r : List ℕ). telling_of.Told P read lines r wrote) e told, endless, counted)
       by_fault input.NoMemory any = (lines, rest, told)
 
   -- a fault at a line stops it there
   pub stops_line : (f : ShowFault) (b c : Option (List ℕ)) (at_end : Bool) (read rest wrote line : List ℕ) (lines : List (List ℕ)) (Q : List ℕ → Type 0)
-      → StopsLine Q f b c → ((text : List ℕ) → Q text → P (lines ++ line ∷ []) (wrote ++ text)) → IsNext at_end line rest → Told P read lines rest wrote
+      → StopsLine Q f b c → ((text : List ℕ) → Q text → P (lines ++ line ∷ []) (wrote ++ text)) → IsNext at_end line rest → telling_of.Told P read lines rest wrote
       → (more : List ℕ) × Appends b c more × StopsBy P f at_end read (wrote ++ more)
   stops_line Read b c at_end read rest wrote line lines Q none so next told = absurd none
   stops_line Write b c at_end read rest wrote line lines Q (text, q, (n, some, appends)) so next told =
       (take n text, appends, (lines, line, rest, wrote, take n text, text, told, next, so text q, cut_off n text some, refl))
   stops_line (BadLine n) b c at_end read rest wrote line lines Q none so next told = absurd none
   stops_line NoMemory b c at_end read rest wrote line lines Q none so next told =
-      ([], none, (lines, rest, subst (λ (w : List ℕ). Told P read lines rest w) (sym (append-nil wrote)) told))
+      ([], none, (lines, rest, subst (λ (w : List ℕ). telling_of.Told P read lines rest w) (sym (append-nil wrote)) told))
   stops_line TooManyLines b c at_end read rest wrote line lines Q none so next told = absurd none
 
 -- what holds of lines and of what is written for them may be said in other words
@@ -175,7 +263,7 @@ module _ {P Q : List (List ℕ) → List ℕ → Type 0} (f : (lines : List (Lis
   pub whole_as : (read wrote : List ℕ) → Whole P read wrote → Whole Q read wrote
   whole_as read wrote (lines, last, parts, one, p) = (lines, last, parts, one, f (lines ++ last_line last) wrote p)
 
-  told_as : (read rest wrote : List ℕ) (lines : List (List ℕ)) → Told P read lines rest wrote → Told Q read lines rest wrote
+  told_as : (read rest wrote : List ℕ) (lines : List (List ℕ)) → telling_of.Told P read lines rest wrote → telling_of.Told Q read lines rest wrote
   told_as read rest wrote lines t = record { parts = t.parts; text = f lines wrote t.text; few = t.few }
 
   pub stops_as : (fault : ShowFault) (at_end : Bool) (read wrote : List ℕ) → StopsBy P fault at_end read wrote → StopsBy Q fault at_end read wrote
@@ -188,12 +276,16 @@ module _ {P Q : List (List ℕ) → List ℕ → Type 0} (f : (lines : List (Lis
   stops_as TooManyLines at_end read wrote (lines, rest, t, most, some) = (lines, rest, told_as read rest wrote lines t, most, some)
 
 -- what was told of the lines of an end, said of its form, its side and what is asked for
+pub told_so : (form : Form) (side : Side) (only : Bool) (first now : OneSide) → first.form ≡ form → first.side ≡ side → first.profile_only ≡ only
+    → (lines : List (List ℕ)) (text : List ℕ) (told : List Entry) → HasExplained first now lines text told → TellsEach form side only 1 lines text told
+told_so form side only first now of_form of_side of_only lines text told p =
+    subst (λ (b : Bool). TellsEach form side b 1 lines text told) of_only
+    (subst (λ (x : Side). TellsEach form x first.profile_only 1 lines text told) of_side
+    (subst (λ (x : Form). TellsEach x first.side first.profile_only 1 lines text told) of_form p.tells))
+
 pub tells_so : (form : Form) (side : Side) (only : Bool) (first : OneSide) → first.form ≡ form → first.side ≡ side → first.profile_only ≡ only
-    → (lines : List (List ℕ)) (text : List ℕ) → SoFar HasExplained first lines text → TellsEach form side only 1 lines text
-tells_so form side only first of_form of_side of_only lines text (t, some, p) =
-    subst (λ (b : Bool). TellsEach form side b 1 lines text) of_only
-    (subst (λ (x : Side). TellsEach form x first.profile_only 1 lines text) of_side
-    (subst (λ (x : Form). TellsEach x first.side first.profile_only 1 lines text) of_form p.tells))
+    → (lines : List (List ℕ)) (text : List ℕ) → SoFar HasExplained first lines text → TellsLines form side only lines text
+tells_so form side only first of_form of_side of_only lines text (now, told, p) = (told, told_so form side only first now of_form of_side of_only lines text told p)
 
 -- ---- results
 
@@ -206,15 +298,17 @@ pub if_err : {T E : Type 0} {P Q : E → Type 0} (r : Result T E) → IfErr r P 
 if_err (Ok x) p f = tt
 if_err (Err e) p f = f e p
 
+-- a write that fails leaves a beginning of the text
+pub stops_write : {T : Type 0} (r : Result T ShowFault) (held held' : Option (List ℕ)) (text : List ℕ) (P : List ℕ → Type 0)
+    → OnErr r (AppendsBeginning held held' text) → IfErr r (λ fault. fault ≡ Write) → P text → IfErr r (λ fault. StopsLine P fault held held')
+stops_write (Ok x) held held' text P begins is p = tt
+stops_write (Err fault) held held' text P begins is p = subst (λ (f : ShowFault). StopsLine P f held held') (sym is) (text, p, begins)
+
 -- where nothing is told, nothing is new
-pub nothing_told : {T : Type 0} (has_told : T → T → List (List ℕ) → List ℕ → Bool → Type 0) (first now : T) (lines : List (List ℕ)) (text none : List ℕ)
-    (some : Bool) (o : Option explainer.Told) → o ≡ None → none ≡ [] → has_told first now lines (text ++ text_in o) (some || fault_in o)
-    → has_told first now lines (text ++ none) some
-nothing_told has_told first now lines text none some o is e h =
-    let quiet = subst (λ (x : Option explainer.Told). has_told first now lines (text ++ text_in x) (some || fault_in x)) is h in
-    subst (λ (b : Bool). has_told first now lines (text ++ none) b) (or_false some)
-    (subst (λ (t : List ℕ). has_told first now lines (text ++ t) (some || false)) (sym e) quiet)
-  where
-    or_false : (b : Bool) → (b || false) ≡ b
-    or_false true = refl
-    or_false false = refl
+pub nothing_told : {T : Type 0} (has_told : T → T → List (List ℕ) → List ℕ → List Entry → Type 0) (first now : T) (lines : List (List ℕ)) (text none : List ℕ)
+    (told : List Entry) (is : List ℕ) (o : Option Told) → o ≡ None → none ≡ []
+    → has_told first now lines (text ++ text_in o) (told ++ entries_in is (option_map told_of o)) → has_told first now lines (text ++ none) told
+nothing_told has_told first now lines text none told is o e f h =
+    let quiet = subst (λ (x : Option Told). has_told first now lines (text ++ text_in x) (told ++ entries_in is (option_map told_of x))) e h in
+    subst (λ (es : List Entry). has_told first now lines (text ++ none) es) (append-nil told)
+    (subst (λ (t : List ℕ). has_told first now lines (text ++ t) (told ++ [])) (sym f) quiet)

@@ -1,6 +1,6 @@
 -- A conversation of both ends: what is told of its lines, and of the commands that are never answered. Who answers what is decided as by a local end
 -- that sent just the commands which are accepted.
-use Rattle.std.specs.Prelude.{◌≡◌, ℕ, ◌+◌, ◌⊎◌, Bool, false, true, ◌||◌, ◌&&◌, ◌==◌, not, nat_lt, List, [], ◌∷◌, ◌++◌, filter, length, position, remove, codes, IsUtf8, if◌then◌else◌}
+use Rattle.std.specs.Prelude.{◌≡◌, ℕ, ◌+◌, ◌⊎◌, Bool, false, true, ◌||◌, ◌&&◌, ◌==◌, not, nat_lt, List, [], ◌∷◌, ◌++◌, filter, length, map, position, remove, replicate, codes, IsUtf8, if◌then◌else◌}
 use Rattle.std.specs.Prelude.{Option, Some, None, is_some, option_and_then, unwrap_or}
 use Rattle.std.specs.List.{flat_map, list_any}
 use Rattle.bidi_tree.specs.Node.{Node, get_of}
@@ -27,14 +27,17 @@ use Rattle.bidi_show.specs.declared.showing.ShowFault.{ShowFault}
 use Rattle.bidi_show.specs.declared.showing.ShowFault.TheVariants.{Write, NoMemory}
 use Rattle.bidi_blame.specs.Blames.{Blames}
 use Rattle.bidi_blame.specs.Reason.{Reason}
-use Rattle.bidi_why.specs.Trouble.{IsTrouble, Trouble, bad, no_fit, begins_with_mark}
+use Rattle.bidi_remarks.specs.Trouble.{IsTrouble, Trouble, id_of, begins_with_mark}
 use Rattle.bidi_why.specs.Telling.{IsCutOff, StopsBy, Whole}
-use Rattle.bidi_why.specs.Remark.{Remark, bad_line, bad_result, failed, fault, id_waits, is_beyond, is_fault, line_of, no_message, remark_line, stray, too_many, unanswered_line}
-use Rattle.bidi_why.specs.declared.bad_text.BadText.TheVariants.{ByteOrderMark, NoDirection, TooLong}
-use Rattle.bidi_why.specs.declared.texts.Form.{Form}
+use Rattle.bidi_remarks.specs.Explaining.{remark_counted_as}
+use Rattle.bidi_why.specs.Summary.{Entry, any_fault, is_log, unanswered}
+use Rattle.bidi_remarks.specs.Remark.{Remark, bad_line, bad_result, failed, fault, id_waits, is_beyond, line_of, no_message, remark_cause, remark_line, stray, too_many, unanswered_line}
+use Rattle.bidi_remarks.specs.declared.bad_text.BadText.TheVariants.{ByteOrderMark, NoDirection, TooLong}
+use Rattle.bidi_remarks.specs.declared.texts.Form.{Form}
 
 -- ---- what stands before a line
 
+-- What is known of a conversation before a line.
 pub record Standing : Type 0 where
   -- the commands that wait for an answer
   pub waiting : Pending
@@ -104,11 +107,6 @@ abbrev pub behind : Meaning → Standing → Standing
 behind meaning s = record { waiting = settled s.waiting meaning; lines = lines_left (settled_id meaning) s.lines; refused = s.refused }
 
 -- ---- answers that are no message
-
--- the id in a text that is no message
-abbrev pub id_of : Trouble → Option ℕ
-id_of (bad b) = None
-id_of (no_fit m) = m.id
 
 -- the command that such a text answers for all that: the one of its id, if it waits, or if it was refused and has no answer yet
 abbrev pub answered : Option ℕ → Standing → Option ℕ
@@ -180,35 +178,41 @@ pub data HearsLine (n : ℕ) (s : Standing) (line : List ℕ) : Option Remark �
 
 -- ---- all lines
 
--- the remark, with the number of its line
-abbrev pub at_line : ℕ → Option Remark → List (ℕ × Remark)
-at_line n None = []
-at_line n (Some r) = (n, r) ∷ []
+-- A remark, with its line and the number of that.
+pub record Heard : Type 0 where
+  pub number : ℕ
+  pub line : List ℕ
+  pub remark : Remark
+
+-- what is heard at a line, if there is a remark
+abbrev pub at_line : ℕ → List ℕ → Option Remark → List Heard
+at_line n line None = []
+at_line n line (Some r) = record { number = n; line = line; remark = r } ∷ []
 
 -- what is told of these lines, the first of which has this number, and what stands behind them
-abbrev pub HearsEach : ℕ → Standing → List (List ℕ) → List (ℕ × Remark) → Standing → Type 0
+abbrev pub HearsEach : ℕ → Standing → List (List ℕ) → List Heard → Standing → Type 0
 HearsEach n s [] told s' = (told ≡ []) × (s' ≡ s)
 HearsEach n s (line ∷ lines) told s' =
-    (o : Option Remark) × (mid : Standing) × (more : List (ℕ × Remark))
-    × HearsLine n s line o mid × HearsEach (n + 1) mid lines more s' × (told ≡ at_line n o ++ more)
+    (o : Option Remark) × (mid : Standing) × (more : List Heard)
+    × HearsLine n s line o mid × HearsEach (n + 1) mid lines more s' × (told ≡ at_line n line o ++ more)
 
 -- what is written for these remarks
-abbrev pub remark_lines : Option Form → List (ℕ × Remark) → List ℕ
-remark_lines form told = flat_map (λ r. remark_line form r.0 r.1) told
+abbrev pub remark_lines : Option Form → List Heard → List ℕ
+remark_lines form told = flat_map (λ h. remark_line form h.number h.remark) told
 
--- whether one of them is a fault
-abbrev pub has_fault : List (ℕ × Remark) → Bool
-has_fault told = list_any (λ r. is_fault r.1) told
+-- how a remark is counted
+abbrev pub entry_of : Heard → Entry
+entry_of h = record { counted_as = remark_counted_as h.remark; cause = remark_cause h.remark; is_log = is_log h.line }
 
 -- what is told where only the profile is asked for: nothing of what is wrong for the profile and not for the draft
-abbrev pub kept_remarks : Bool → List (ℕ × Remark) → List (ℕ × Remark)
-kept_remarks only told = filter (λ r. not (only && is_beyond r.1)) told
+abbrev pub kept_remarks : Bool → List Heard → List Heard
+kept_remarks only told = filter (λ h. not (only && is_beyond h.remark)) told
 
--- These lines are the beginning of a conversation; this is written for them, with a fault among it or not, and this stands behind them.
-abbrev pub Converses : Option Form → Bool → List (List ℕ) → List ℕ → Bool → Standing → Type 0
-Converses form only lines text some s =
-    (told : List (ℕ × Remark)) × HearsEach 1 silence lines told s
-    × (text ≡ remark_lines form (kept_remarks only told)) × (some ≡ has_fault (kept_remarks only told))
+-- These lines are the beginning of a conversation; this is written for them, so they are counted, and this stands behind them.
+abbrev pub Converses : Option Form → Bool → List (List ℕ) → List ℕ → List Entry → Standing → Type 0
+Converses form only lines text told s =
+    (heard : List Heard) × HearsEach 1 silence lines heard s
+    × (text ≡ remark_lines form (kept_remarks only heard)) × (told ≡ map entry_of (kept_remarks only heard))
 
 -- whether any command waits
 abbrev pub any_waits : Pending → Bool
@@ -223,18 +227,30 @@ unanswered_lines form s = flat_map (λ w. unanswered_line form (line_of s.lines 
 -- or where a command waits.
 abbrev pub TellsConversation : Option Form → Bool → Bool → List ℕ → List ℕ → Type 0
 TellsConversation form only some bytes wrote =
-    (text : List ℕ) × (among : Bool) × (s : Standing) × Whole (λ lines written. Converses form only lines written among s) bytes text
-    × (wrote ≡ text ++ unanswered_lines form s) × (some ≡ (among || any_waits s.waiting))
+    (text : List ℕ) × (s : Standing)
+    × Whole (λ lines written. (told : List Entry) × Converses form only lines written told s × (some ≡ (any_fault told || any_waits s.waiting))) bytes text
+    × (wrote ≡ text ++ unanswered_lines form s)
+
+-- how the commands that were never answered are counted
+abbrev pub unanswered_entries : Standing → List Entry
+unanswered_entries s = replicate (length s.waiting) unanswered
+
+-- The same, and the fact holds of how many lines there are and of how they and the commands without an answer are counted.
+abbrev pub CountsConversation : Option Form → Bool → (ℕ → List Entry → Type 0) → List ℕ → List ℕ → Type 0
+CountsConversation form only P bytes wrote =
+    (text : List ℕ) × (s : Standing)
+    × Whole (λ lines written. (told : List Entry) × Converses form only lines written told s × P (length lines) (told ++ unanswered_entries s)) bytes text
+    × (wrote ≡ text ++ unanswered_lines form s)
 
 -- some lines at the front were told of by this text
 abbrev pub IsTranscript : Option Form → Bool → List (List ℕ) → List ℕ → Type 0
-IsTranscript form only lines text = (some : Bool) × (s : Standing) × Converses form only lines text some s
+IsTranscript form only lines text = (told : List Entry) × (s : Standing) × Converses form only lines text told s
 
 -- What a fault behind the last line of an input says, whose end was told: all lines were told of.
 abbrev pub StopsBehind : Option Form → Bool → ShowFault → List ℕ → List ℕ → Type 0
 -- and a beginning was written of what is told of the commands that wait
 StopsBehind form only Write read wrote =
-    (text : List ℕ) × (among : Bool) × (s : Standing) × (part : List ℕ) × Whole (λ lines written. Converses form only lines written among s) read text
+    (text : List ℕ) × (s : Standing) × (part : List ℕ) × Whole (λ lines written. (told : List Entry) × Converses form only lines written told s) read text
     × IsCutOff part (unanswered_lines form s) × (wrote ≡ text ++ part)
 -- and nothing else
 StopsBehind form only NoMemory read wrote = Whole (IsTranscript form only) read wrote

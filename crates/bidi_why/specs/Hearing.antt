@@ -1,25 +1,21 @@
 -- The steps by which a line of a conversation is heard.
 use Rattle.std.specs.Prelude.{◌≡◌, ℕ, List, Option, Some, None, option_map, true, false}
 use Rattle.bidi_tree.specs.Node.{Node}
-use Rattle.bidi_tree.specs.Text.{tree_of}
 use Rattle.bidi_shape.specs.Name.{event}
 use Rattle.bidi_shape.specs.Term.{rule}
 use Rattle.bidi_shape.specs.Fits.{Fits}
 use Rattle.bidi_methods.specs.declared.method.Method.{Method}
-use Rattle.bidi_methods.specs.Method.{method_text, result_of}
+use Rattle.bidi_methods.specs.Method.{method_text}
 use Rattle.bidi_messages.specs.Command.{id_in, method_in}
 use Rattle.bidi_messages.specs.Verdict as verdict
 use Rattle.bidi_messages.specs.Verdict.{echoed_id}
 use Rattle.bidi_local.specs.Pending.{note_refusal}
-use Rattle.bidi_local.specs.Received.{Meaning, result_in}
+use Rattle.bidi_local.specs.Received.{Meaning}
 use Rattle.bidi_local.specs.Receiving.{IsMeaningOf}
 use Rattle.bidi_local.specs.declared.local_end.NoteFault.TheVariants.{IdWaits, TooManyPending}
 use Rattle.bidi_show.specs.MessageLines.{HasVerdict}
-use Rattle.bidi_blame.specs.Blames.{Blames}
-use Rattle.bidi_blame.specs.Reason.{Reason}
-use Rattle.bidi_why.specs.Trouble.{Misfit, reason_parts}
 use Rattle.bidi_why.specs.Conversing.{IsTold, Standing, kind_in, was_refused, with_command, with_refused, without_refused}
-use Rattle.bidi_why.specs.Remark.{Remark, bad_result, id_waits, stray, too_many}
+use Rattle.bidi_remarks.specs.Remark.{Remark, id_waits, stray, too_many}
 use Rattle.bidi_why.specs.declared.judging.Judged.{Judged}
 use Rattle.bidi_why.specs.declared.judging.Judged.TheVariants.{Accepted, Refused}
 
@@ -47,17 +43,3 @@ Takes s t o s' = (meaning : Meaning) × IsMeaningOf s.waiting t meaning × IsTol
 pub data IsStray (s : Standing) (id : Option ℕ) (kind : List ℕ) : Option Remark → Standing → Type 0 where
   to_refused : was_refused id s ≡ true → IsStray s id kind None (without_refused id s)
   to_none : was_refused id s ≡ false → IsStray s id kind (Some (stray id kind)) s
-
--- the text is a response whose result does not fit the rule of the method
-abbrev pub HasBadResult : List ℕ → Method → Type 0
-HasBadResult text method = (t : Node) × (tree_of text ≡ Some t) × (Fits (result_in t) (rule (result_of method)) → ⊥)
-
--- a reason why this result does not fit the rule of the method, in words
-abbrev pub HasResultMisfit : Node → ℕ → Method → Misfit → Type 0
-HasResultMisfit outcome id method m =
-    (r : Reason) × Blames outcome (rule (result_of method)) r × (m ≡ reason_parts (Some id) (Some (method_text method)) r)
-
--- it is told so
-abbrev pub TellsBadResult : List ℕ → ℕ → Method → Remark → Type 0
-TellsBadResult text id method o =
-    (t : Node) × (r : Reason) × (tree_of text ≡ Some t) × Blames (result_in t) (rule (result_of method)) r × (o ≡ bad_result id method r)

@@ -1,12 +1,7 @@
-pub mod Beyond
-pub mod Claim
-pub mod Trouble
-pub mod Texts
-pub mod Explaining
+pub mod Counting
+pub mod Summary
 pub mod Input
 pub mod Telling
-pub mod Remark
 pub mod Conversing
 pub mod Hearing
 pub mod Explainers
-pub mod Counting

@@ -4,41 +4,48 @@ use Rattle.std.specs.List.{AllByRecursion}
 use Rattle.std.specs.Io.KnownBytes.{Appends}
 use Rattle.bidi_lines.specs.Devices.{AppendsBeginning}
 use Rattle.bidi_lines.specs.Feeds.{has_feed, ended}
-use Rattle.bidi_lines.specs.InputLines.{IsLine, joined}
+use Rattle.bidi_lines.specs.InputLines.{IsLine, joined, most_lines}
 use Rattle.bidi_lines.specs.Skipping.{IsEndless, IsTooLong}
 use Rattle.bidi_lines.specs.declared.line_reader.InputFault.{InputFault}
 use Rattle.bidi_lines.specs.declared.line_reader.InputFault.TheVariants as input
 use Rattle.bidi_lines.specs.declared.side.Side.{Side}
 use Rattle.bidi_show.specs.declared.showing.ShowFault.{ShowFault}
 use Rattle.bidi_show.specs.declared.showing.ShowFault.TheVariants.{Read, Write, BadLine, NoMemory, TooManyLines}
-use Rattle.bidi_why.specs.Trouble.{bad}
-use Rattle.bidi_why.specs.Texts.{told_text}
-use Rattle.bidi_why.specs.Explaining.{Explains}
+use Rattle.bidi_remarks.specs.Trouble.{bad}
+use Rattle.bidi_remarks.specs.Explaining.{Explains, Telling, telling}
 use Rattle.bidi_why.specs.Input.{IsOf}
-use Rattle.bidi_why.specs.declared.bad_text.BadText.TheVariants.{TooLong}
+use Rattle.bidi_why.specs.Summary.{Entry, IsSum, entries_in, is_same}
+use Rattle.bidi_remarks.specs.declared.bad_text.BadText.TheVariants.{TooLong}
+use Rattle.bidi_remarks.specs.declared.telling.CountedAs.TheVariants.{Beyond}
 use Rattle.bidi_why.specs.declared.next_line.Line.{Line}
-use Rattle.bidi_why.specs.declared.texts.Form.{Form}
+use Rattle.bidi_why.specs.declared.sum.Sum.{Sum}
+use Rattle.bidi_remarks.specs.declared.texts.Form.{Form}
 
 -- the text, where there is one
-abbrev pub written : Option (List ℕ × List ℕ × Bool) → List ℕ
+abbrev pub written : Option Telling → List ℕ
 written None = []
-written (Some e) = e.0
+written (Some t) = t.0
 
 -- what is told where only the profile is asked for: nothing of what is wrong for the profile and not for the draft
-abbrev pub kept : Bool → Option (List ℕ × List ℕ × Bool) → Option (List ℕ × List ℕ × Bool)
+abbrev pub kept : Bool → Option Telling → Option Telling
 kept only None = None
-kept only (Some e) = if only && e.2 then None else Some e
+kept only (Some t) = if only && is_same Beyond t.2 then None else Some t
 
--- This is written for the line of this number, of the profile alone or not.
-pub data Tells (form : Form) (side : Side) (only : Bool) (n : ℕ) (line : List ℕ) : List ℕ → Type 0 where
-  is_line : (o : Option (List ℕ × List ℕ × Bool)) → IsLine line → Explains form side n line o → Tells form side only n line (written (kept only o))
-  is_too_long : IsTooLong line → Tells form side only n line (told_text form n (Some side) None (bad TooLong))
+-- This is told of the line of this number, of the profile alone or not.
+pub data Tells (form : Form) (side : Side) (only : Bool) (n : ℕ) (line : List ℕ) : Option Telling → Type 0 where
+  is_line : (o : Option Telling) → IsLine line → Explains form side n line o → Tells form side only n line (kept only o)
+  is_too_long : IsTooLong line → Tells form side only n line (Some (telling form side n (bad TooLong)))
 
--- this is written for the lines, the first of which has this number
-abbrev pub TellsEach : Form → Side → Bool → ℕ → List (List ℕ) → List ℕ → Type 0
-TellsEach form side only n [] wrote = wrote ≡ []
-TellsEach form side only n (line ∷ lines) wrote =
-    (text : List ℕ) × (more : List ℕ) × Tells form side only n line text × TellsEach form side only (n + 1) lines more × (wrote ≡ text ++ more)
+-- this is written for the lines, the first of which has this number, and so they are counted
+abbrev pub TellsEach : Form → Side → Bool → ℕ → List (List ℕ) → List ℕ → List Entry → Type 0
+TellsEach form side only n [] wrote told = (wrote ≡ []) × (told ≡ [])
+TellsEach form side only n (line ∷ lines) wrote told =
+    (o : Option Telling) × (more : List ℕ) × (rest : List Entry) × Tells form side only n line o × TellsEach form side only (n + 1) lines more rest
+    × (wrote ≡ written o ++ more) × (told ≡ entries_in line o ++ rest)
+
+-- this is written for the lines
+abbrev pub TellsLines : Form → Side → Bool → List (List ℕ) → List ℕ → Type 0
+TellsLines form side only lines wrote = (told : List Entry) × TellsEach form side only 1 lines wrote told
 
 -- no line feed stands in the line
 abbrev pub IsOneLine : List ℕ → Type 0
@@ -60,13 +67,17 @@ Whole P bytes wrote = (lines : List (List ℕ)) × (last : List ℕ) × Parts by
 
 -- the bytes are lines, and this is written for them
 abbrev pub TellsAll : Form → Side → Bool → List ℕ → List ℕ → Type 0
-TellsAll form side only bytes wrote = Whole (TellsEach form side only 1) bytes wrote
+TellsAll form side only bytes wrote = Whole (TellsLines form side only) bytes wrote
+
+-- the same, and the fact holds of how many lines there are and of how they are counted
+abbrev pub TellsCounted : Form → Side → Bool → (ℕ → List Entry → Type 0) → List ℕ → List ℕ → Type 0
+TellsCounted form side only P bytes wrote = Whole (λ lines text. (told : List Entry) × TellsEach form side only 1 lines text told × P (length lines) told) bytes wrote
 
 -- The bytes begin with these lines, with this rest behind them, and this holds of the lines and of what was written.
 pub record Told (P : List (List ℕ) → List ℕ → Type 0) (bytes : List ℕ) (lines : List (List ℕ)) (rest : List ℕ) (wrote : List ℕ) : Type 0 where
   pub parts : Parts bytes lines rest
   pub text : P lines wrote
-  pub few : length lines ≤ 1000000000
+  pub few : length lines ≤ most_lines
 
 -- The bytes begin with this line: it has its line feed, or it is the last of the input, and all of them.
 pub data IsNext (at_end : Bool) (line : List ℕ) (bytes : List ℕ) : Type 0 where
@@ -90,23 +101,29 @@ StopsBy P (BadLine n) at_end read wrote =
     (lines : List (List ℕ)) × (front : List ℕ) × (rest : List ℕ) × Told P read lines (front ++ rest) wrote × IsEndless front × (n ≡ length lines + 1)
 -- as many lines as are taken were told of, and the input goes on
 StopsBy P TooManyLines at_end read wrote =
-    (lines : List (List ℕ)) × (rest : List ℕ) × Told P read lines rest wrote × (length lines ≡ 1000000000) × (rest ≢ [])
+    (lines : List (List ℕ)) × (rest : List ℕ) × Told P read lines rest wrote × (length lines ≡ most_lines) × (rest ≢ [])
 -- what was written is what is written for some lines at the front
 StopsBy P NoMemory at_end read wrote = (lines : List (List ℕ)) × (rest : List ℕ) × Told P read lines rest wrote
 
 -- since the first of its states something has told of these lines by this text
-abbrev pub SoFar : {T : Type 0} → (T → T → List (List ℕ) → List ℕ → Bool → Type 0) → T → List (List ℕ) → List ℕ → Type 0
-SoFar {T} has_told first lines text = (t : T) × (some : Bool) × has_told first t lines text some
+abbrev pub SoFar : {T : Type 0} → (T → T → List (List ℕ) → List ℕ → List Entry → Type 0) → T → List (List ℕ) → List ℕ → Type 0
+SoFar {T} has_told first lines text = (t : T) × (told : List Entry) × has_told first t lines text told
+
+-- since the first of these states something has told of these lines, of which there are not too many, by this text, of each at most once, and the sum
+-- is that of what was told
+abbrev pub Sums : {T : Type 0} → (T → T → List (List ℕ) → List ℕ → List Entry → Type 0) → T → T → Sum → List (List ℕ) → List ℕ → Type 0
+Sums {T} has_told first now sum lines text =
+    (told : List Entry) × has_told first now lines text told × IsSum sum (length lines) told × (length told ≤ length lines) × (length lines ≤ most_lines)
 
 -- the same of what is written for the lines of an end
 abbrev pub StopsAt : Form → Side → Bool → ShowFault → Bool → List ℕ → List ℕ → Type 0
-StopsAt form side only fault at_end read wrote = StopsBy (TellsEach form side only 1) fault at_end read wrote
+StopsAt form side only fault at_end read wrote = StopsBy (TellsLines form side only) fault at_end read wrote
 
--- With this text something tells of one line more than these n, from one of its states to another: since any first state it has told of that one too.
-abbrev pub TellsNext : {T : Type 0} → (T → T → List (List ℕ) → List ℕ → Bool → Type 0) → T → T → Bool → Bool → ℕ → Line → List ℕ → Type 0
-TellsNext {T} has_told old new some some' n line text =
-    (first : T) (lines : List (List ℕ)) (before : List ℕ) (is : List ℕ) → has_told first old lines before some → n ≡ length lines → IsOf line is
-    → has_told first new (lines ++ is ∷ []) (before ++ text) some'
+-- With this text something tells of one line more, from one of its states to another: since any first state it has told of that one too, and it is in the sum.
+abbrev pub TellsNext : {T : Type 0} → (T → T → List (List ℕ) → List ℕ → List Entry → Type 0) → T → T → Sum → Sum → Line → List ℕ → Type 0
+TellsNext {T} has_told old new sum sum' line text =
+    (first : T) (lines : List (List ℕ)) (before : List ℕ) (is : List ℕ) → Sums has_told first old sum lines before → IsOf line is
+    → Sums has_told first new sum' (lines ++ is ∷ []) (before ++ text)
 
 -- What a fault at a line says of what a sink held and holds, where this holds of the text for the line.
 abbrev pub StopsLine : (List ℕ → Type 0) → ShowFault → Option (List ℕ) → Option (List ℕ) → Type 0

@@ -1,5 +1,5 @@
 //! What tells of the lines of a conversation.
-ghost use Rattle.std.specs.Prelude.{◌≡◌, ◌∷◌, [], ◌++◌, ℕ, ◌<◌, List, true, false, Some, None, length, position, IfOk, IfSome, OnOk, MatchOption, ◌==◌, is_some, option_map, if◌then◌else◌};
+ghost use Rattle.std.specs.Prelude.{◌≡◌, ◌∷◌, [], ◌++◌, ℕ, ◌<◌, List, true, false, Some, None, length, map, position, IfOk, IfSome, OnOk, MatchOption, ◌==◌, is_some, option_map, if◌then◌else◌};
 ghost use Rattle.std.specs.List.{list_any};
 ghost use Rattle.bidi_tree.specs.Text.{tree_of};
 ghost use Rattle.bidi_lines.specs.InputLines.{IsLine};
@@ -12,31 +12,31 @@ ghost use Rattle.bidi_local.specs.Pending.{Pending, method_of};
 ghost use Rattle.bidi_local.specs.Received.{IsSettledBy};
 ghost use Rattle.bidi_local.specs.View.{meaning_of};
 ghost use Rattle.bidi_local.specs.Outcome.{IsOutcomeOf};
-ghost use Rattle.bidi_why.specs.Conversing.{Hears, HearsLine, Standing, answered, id_of, lines_left, lines_without, settled_id, silence, was_refused, with_answer};
+ghost use Rattle.bidi_remarks.specs.Explaining.{told_of};
+ghost use Rattle.bidi_why.specs.Conversing.{Hears, HearsLine, Standing, answered, at_line, entry_of, kept_remarks, remark_lines, lines_left, lines_without, settled_id, silence, was_refused, with_answer};
 ghost use Rattle.bidi_why.specs.Conversing.{with_refused, without_command, without_first, without_refused};
-ghost use Rattle.bidi_why.specs.Explainers.{HasConversed, standing_of};
+ghost use Rattle.bidi_why.specs.Explainers.{HasConversed, standing_of, text_in};
+ghost use Rattle.bidi_why.specs.Summary.{entries_in};
 ghost use Rattle.bidi_why.specs.Hearing.{IsJudged, IsSender, IsStray, Notes, Takes};
 ghost use Rattle.bidi_why.specs.Input.{IsOf};
-ghost use Rattle.bidi_why.specs.Remark as told;
-ghost use Rattle.bidi_why.specs.Remark.{remark_of};
-ghost use Rattle.bidi_why.specs.Trouble.{trouble_of};
+ghost use Rattle.bidi_remarks.specs.Remark as told;
+ghost use Rattle.bidi_remarks.specs.Remark.{remark_of};
+ghost use Rattle.bidi_remarks.specs.Trouble.{id_of, trouble_of};
 
-use crate::bad_text::BadText;
-use crate::explainer::{Explainer, Told};
-use crate::finding::{Trouble, begins_with_mark, trouble_in};
+use crate::explainer::Explainer;
 use crate::ids::{forget, is_among, remove_first};
 use crate::judging::{Judged, judge_text, sender};
 use crate::next_line::Line;
 use crate::one_side::boxed_scratch;
-use crate::remark::{Remark, bad_line, id_waits, no_message, stray, too_many};
-use crate::result_misfit::bad_result;
-use crate::telling::told_if;
-use crate::texts::Form;
 use bidi_lines::Side;
 use bidi_local::{LocalEnd, NoteFault, Outcome, Received, Taken};
 use bidi_messages::{
     Command, ErrorCode, Message, MessageFault, Method, Payload, Verdict, error_text,
     read_message_with,
+};
+use bidi_remarks::{
+    BadText, Form, Remark, Told, bad_line, bad_result, begins_with_mark, id_of, id_waits,
+    is_remark_beyond, no_message, stray, tell_remark, too_many, trouble_in,
 };
 use bidi_shape::Shape;
 use bidi_show::{line_verdict, refused_line};
@@ -393,14 +393,22 @@ fn settled_by(received: &Received) -> Option<u64>
     }
 }
 
-// The id in a text that is no message.
-fn id_of(why: &Trouble) -> Option<JsUint>
-    ensures { option_map (λ n. n.value) result ≡ id_of (trouble_of why.now) }
+// What is told of a remark on the line of this number: nothing, where it is wrong for the profile alone and nothing of that is asked for.
+fn told_if(
+    alloc: Global,
+    form: Option<Form>,
+    profile_only: bool,
+    number: u64,
+    remark: &Remark,
+) -> Result<Option<Told>, AllocError>
+    ensures text { IfOk result (λ t. (line : List ℕ) → text_in t ≡ remark_lines form (kept_remarks profile_only (at_line number line (Some (remark_of remark.now))))) }
+    ensures entries { IfOk result (λ t. (line : List ℕ) → entries_in line (option_map told_of t)
+        ≡ map entry_of (kept_remarks profile_only (at_line number line (Some (remark_of remark.now))))) }
 {
-    match why {
-        Trouble::Bad(_) => None,
-        Trouble::NoFit(misfit) => misfit.id,
+    if profile_only && is_remark_beyond(remark) {
+        return Ok(None);
     }
+    Ok(Some(tell_remark(alloc, form, number, remark)?))
 }
 
 // What stands behind this mark, where the line begins with it.

@@ -1,22 +1,22 @@
 //! Listings of what is wrong with the lines of a conversation.
-ghost use Rattle.std.specs.Prelude.{◌≡◌, ℕ, ◌+◌, ◌||◌, List, None, false, IfOk, IfErr, OnErr, OnOk, IsTrue, MatchResult};
+ghost use Rattle.std.specs.Prelude.{◌≡◌, ℕ, ◌+◌, ◌++◌, ◌<◌, ◌≤◌, ◌^◌, List, None, true, false, is_some, length, IfOk, IfErr, OnErr, OnOk, IsTrue, MatchResult};
 ghost use Rattle.std.specs.Io.KnownBytes.{Appends};
 ghost use Rattle.std.specs.List.{flat_map};
 ghost use Rattle.bidi_lines.specs.Devices.{Moves};
-ghost use Rattle.bidi_local.specs.View.{waiting_in};
+ghost use Rattle.bidi_lines.specs.InputLines.{most_lines};
 ghost use Rattle.bidi_show.specs.Listings.{failed_reads, failed_writes};
-ghost use Rattle.bidi_why.specs.Conversing.{StopsConversation, TellsConversation, any_waits, unanswered_lines};
+ghost use Rattle.bidi_why.specs.Conversing.{CountsConversation, StopsConversation, TellsConversation, unanswered_entries, unanswered_lines};
 ghost use Rattle.bidi_why.specs.Explainers.{standing_of};
-ghost use Rattle.bidi_why.specs.Remark as told;
+ghost use Rattle.bidi_remarks.specs.Remark as remarks;
+ghost use Rattle.bidi_why.specs.Summary.{Entry, IsSum, SumsUp};
 ghost use Rattle.bidi_why.specs.Telling.{StopsLine};
 
 use crate::conversation::Conversation;
 use crate::listing::{tell_lines, write};
-use crate::remark::unanswered_line;
 use crate::sum::Sum;
-use crate::texts::Form;
 use bidi_lines::{Sink, Source};
 use bidi_messages::Method;
+use bidi_remarks::{Form, unanswered_line};
 use bidi_show::ShowFault;
 use bidi_tree::JsUint;
 use std::alloc::{AllocError, Global};
@@ -49,23 +49,32 @@ pub fn explain_both<R: Source, W: Sink, F: Sink>(
     sink: &mut W,
     faults: &mut F,
 ) -> Result<bool, ShowFault>
-    // All that the source had was lines, and what is told of them and of the commands without an answer was written.
+    // After an Ok, the input was lines, and the report of all of them and of the unanswered commands was written.
     ensures ok { IfOk result (λ some. Moves (R.left source.old) (R.left source.new) (W.contents sink.old) (W.contents sink.new)
         (TellsConversation form profile_only some)) }
+    // After an Ok, the input has ended.
     ensures end { OnOk result (IsTrue (R.has_ended source.new)) }
 
-    // Where there is no fault, where only that is told, and where a fault of a device ends the listing, `faults` is told nothing.
+    // With a form, if there is a finding, `faults` gets the summary of the report, or a beginning of it if a write fails.
+    ensures summary { IfOk result (λ some. Moves (R.left source.old) (R.left source.new) (W.contents sink.old) (W.contents sink.new)
+        (CountsConversation form profile_only (λ n told. is_some form ≡ true → some ≡ true
+        → SumsUp (F.contents faults.old) (F.contents faults.new) (F.failures faults.old) (F.failures faults.new) n told))) }
+
+    // After a fault, nothing was written to `faults`.
     ensures told { OnErr result (faults.new ≡ faults.old) }
+    // If there is no finding, nothing was written to `faults`.
     ensures quiet { IfOk result (λ some. some ≡ false → faults.new ≡ faults.old) }
+    // Without a form, nothing was written to `faults`.
     ensures brief { form ≡ None → faults.new ≡ faults.old }
 
     // A fault says what was read and written before it.
     ensures err { IfErr result (λ fault. Moves (R.left source.old) (R.left source.new) (W.contents sink.old) (W.contents sink.new)
         (StopsConversation form profile_only fault (R.has_ended source.new))) }
 
-    // A device is blamed where it failed, and no listing succeeds after a failure.
+    // The fault is `Read` exactly if a read of the source failed.
     ensures reads { MatchResult result (λ _. R.failures source.new ≡ R.failures source.old)
         (λ fault. R.failures source.new ≡ R.failures source.old + failed_reads fault) }
+    // The fault is `Write` exactly if a write of the sink failed.
     ensures writes { MatchResult result (λ _. W.failures sink.new ≡ W.failures sink.old)
         (λ fault. W.failures sink.new ≡ W.failures sink.old + failed_writes fault) }
 {
@@ -86,7 +95,8 @@ fn tell_waiting<W: Sink>(
     sum: &mut Sum,
     sink: &mut W,
 ) -> Result<(), ShowFault>
-    ensures fault { OnOk result (sum.new.has_fault ≡ (sum.old.has_fault || any_waits (waiting_in conversation.now.end))) }
+    ensures sum { OnOk result ((n : ℕ) (told : List Entry) → length told ≤ most_lines → IsSum sum.old n told
+        → IsSum sum.new n (told ++ unanswered_entries (standing_of conversation.now))) }
     ensures ok { OnOk result (Appends (W.contents sink.old) (W.contents sink.new)
         (unanswered_lines conversation.now.form (standing_of conversation.now))) }
     ensures err { IfErr result (λ fault. StopsLine (λ text. text ≡ unanswered_lines conversation.now.form (standing_of conversation.now)) fault
@@ -95,9 +105,17 @@ fn tell_waiting<W: Sink>(
         (λ fault. W.failures sink.new ≡ W.failures sink.old + failed_writes fault) }
 {
     let waiting = conversation.end.waiting()?;
-    sum.count_unanswered(alloc, waiting.len())?;
+    sum.count_unanswered(alloc, number_of(&waiting))?;
     let text = unanswered_lines(alloc, conversation.form, &conversation.lines, &waiting)?;
     write(sink, &text)
+}
+
+// How many they are.
+fn number_of(waiting: &[(JsUint, Method)]) -> usize
+    ensures is { result ≡ length waiting.now }
+    ensures few { result < 2 ^ 63 }
+{
+    waiting.len()
 }
 
 // What is written for the commands without an answer.
@@ -108,7 +126,7 @@ fn unanswered_lines(
     waiting: &[(JsUint, Method)],
 ) -> Result<Vec<u8>, AllocError>
     ensures { IfOk result (λ text. text.items
-        ≡ flat_map (λ w. told.unanswered_line form (told.line_of lines.now w.0.value) (w.0.value, w.1)) waiting.now) }
+        ≡ flat_map (λ w. remarks.unanswered_line form (remarks.line_of lines.now w.0.value) (w.0.value, w.1)) waiting.now) }
 {
     let mut text = Vec::new(alloc);
     for (id, method) in waiting {
@@ -120,7 +138,7 @@ fn unanswered_lines(
 
 // The line of the command with this id, if these lines have it.
 fn line_of(lines: &[(u64, u64)], id: u64) -> Option<u64>
-    ensures { result ≡ told.line_of lines.now id }
+    ensures { result ≡ remarks.line_of lines.now id }
 {
     lines.iter().find(|line| line.0 == id).map(|line| line.1)
 }

@@ -1,10 +1,11 @@
 //! The causes that were met, and how often each was.
-ghost use Rattle.std.specs.Prelude.{◌≡◌, ◌<◌, ◌≤◌, ◌+◌, ◌^◌, length, vec_len, IfSome, OnOk};
-ghost use Rattle.bidi_lines.specs.Devices.{CountsFailure};
-ghost use Rattle.bidi_why.specs.Counting.{lines_counted};
+ghost use Rattle.std.specs.Prelude.{◌≡◌, ◌<◌, ◌≤◌, ◌+◌, ◌-◌, ◌*◌, ◌++◌, ◌^◌, flat_map, length, map, position, bytes_eq, vec_len, IfSome, OnErr, OnOk};
+ghost use Rattle.std.specs.Io.KnownBytes.{Appends};
+ghost use Rattle.bidi_lines.specs.Devices.{AppendsBeginning, CountsFailure};
+ghost use Rattle.bidi_why.specs.Counting.{IsRanking, count_line, counts_of, counts_with, lines_counted, no_counts, once_more, others_line, rank, row_line, row_of};
 
+use crate::writing::write_number;
 use bidi_lines::{DeviceFault, Sink, write_all};
-use itoa::Buffer;
 use std::alloc::{AllocError, Global};
 
 /// How many causes are told apart. Further ones are counted together.
@@ -34,7 +35,8 @@ pub(crate) struct Causes {
 impl Causes {
     /// No cause. Takes no memory.
     pub(crate) fn new(alloc: Global) -> Causes
-        ensures { lines_counted result ≡ 0 }
+        ensures lines { lines_counted result ≡ 0 }
+        ensures none { counts_of result ≡ no_counts }
     {
         Causes {
             rows: Vec::new(alloc),
@@ -50,6 +52,7 @@ impl Causes {
         // So many causes are kept at most.
         ensures few { vec_len self.old.rows ≤ 1000 → vec_len self.new.rows ≤ 1000 }
         ensures counts { OnOk result (lines_counted self.old + 1 < 2 ^ 64 → lines_counted self.new ≡ lines_counted self.old + 1) }
+        ensures met { OnOk result (lines_counted self.old + 1 < 2 ^ 64 → counts_of self.new ≡ counts_with (counts_of self.old) cause.items) }
     {
         if let Some(i) = place_of(&self.rows, &cause) {
             self.rows[i].count = self.rows[i].count.saturating_add(1);
@@ -66,29 +69,12 @@ impl Causes {
         Ok(())
     }
 
-    /// Counts so many more lines of this cause.
-    ///
-    /// # Errors
-    /// No memory: some of them may be counted.
-    pub(crate) fn add_each(
-        &mut self,
-        alloc: Global,
-        cause: &[u8],
-        count: usize,
-    ) -> Result<(), AllocError>
-        ensures few { vec_len self.old.rows ≤ 1000 → vec_len self.new.rows ≤ 1000 }
-        ensures counts { OnOk result (lines_counted self.old + count < 2 ^ 64 → lines_counted self.new ≡ lines_counted self.old + count) }
-    {
-        for _ in 0..count {
-            self.add(Vec::from_slice(alloc, cause)?)?;
-        }
-        Ok(())
-    }
-
     /// Puts the most frequent first, of equal ones the one that was met first. Takes no memory.
-    pub(crate) fn sort(&mut self) {
-        self.rows
-            .sort_unstable_by_key(|row| (u64::MAX - row.count, row.place));
+    pub(crate) fn sort(&mut self)
+        ensures ranking { IsRanking (counts_of self.new).rows (counts_of self.old).rows }
+        ensures others { (counts_of self.new).others ≡ (counts_of self.old).others }
+    {
+        self.rows.sort_unstable_by_key(|row| rank(row));
     }
 
     /// Writes a line for each cause, and one for the others where there are any. Takes no memory.
@@ -96,30 +82,73 @@ impl Causes {
     /// # Errors
     /// `DeviceFault`: a write failed.
     pub(crate) fn write<F: Sink>(&self, faults: &mut F) -> Result<(), DeviceFault>
-        ensures { CountsFailure result (F.failures faults.old) (F.failures faults.new) }
+        ensures ok { OnOk result (Appends (F.contents faults.old) (F.contents faults.new)
+            (flat_map row_line (counts_of self.now).rows ++ others_line (counts_of self.now).others)) }
+        ensures err { OnErr result (AppendsBeginning (F.contents faults.old) (F.contents faults.new)
+            (flat_map row_line (counts_of self.now).rows ++ others_line (counts_of self.now).others)) }
+        ensures counts { CountsFailure result (F.failures faults.old) (F.failures faults.new) }
     {
-        for row in &self.rows {
-            write_count(faults, row.count, row.text.as_slice())?;
-        }
-        if self.others > 0 {
-            write_count(faults, self.others, b"other causes")?;
-        }
-        Ok(())
+        write_rows(faults, &self.rows)?;
+        write_others(faults, self.others)
     }
+}
+
+// A number that is smaller the more often a cause was met, and of equally frequent ones the earlier it was first met.
+fn rank(row: &Cause) -> u128
+    ensures { result ≡ rank (row_of row.now) }
+{
+    let rarity = u128::from(u64::MAX - row.count);
+    rarity * 18_446_744_073_709_551_616 + row.place as u128
 }
 
 // The place of the row of this cause.
 fn place_of(rows: &[Cause], cause: &[u8]) -> Option<usize>
-    ensures { IfSome result (λ i. i < length rows.now) }
+    ensures place { result ≡ position (λ r. bytes_eq r.text.items cause.now) rows.now }
+    ensures within { IfSome result (λ i. i < length rows.now) }
 {
     rows.iter().position(|row| row.text.as_slice() == cause)
 }
 
+// A line for each of these causes.
+fn write_rows<F: Sink>(faults: &mut F, rows: &[Cause]) -> Result<(), DeviceFault>
+    ensures ok { OnOk result (Appends (F.contents faults.old) (F.contents faults.new) (flat_map row_line (map row_of rows.now))) }
+    ensures err { OnErr result (AppendsBeginning (F.contents faults.old) (F.contents faults.new) (flat_map row_line (map row_of rows.now))) }
+    ensures counts { CountsFailure result (F.failures faults.old) (F.failures faults.new) }
+{
+    for row in rows {
+        write_row(faults, row)?;
+    }
+    Ok(())
+}
+
+// The line of a cause.
+fn write_row<F: Sink>(faults: &mut F, row: &Cause) -> Result<(), DeviceFault>
+    ensures ok { OnOk result (Appends (F.contents faults.old) (F.contents faults.new) (row_line (row_of row.now))) }
+    ensures err { OnErr result (AppendsBeginning (F.contents faults.old) (F.contents faults.new) (row_line (row_of row.now))) }
+    ensures counts { CountsFailure result (F.failures faults.old) (F.failures faults.new) }
+{
+    write_count(faults, row.count, row.text.as_slice())
+}
+
+// A last line of all other causes, if there are any.
+fn write_others<F: Sink>(faults: &mut F, count: u64) -> Result<(), DeviceFault>
+    ensures ok { OnOk result (Appends (F.contents faults.old) (F.contents faults.new) (others_line count)) }
+    ensures err { OnErr result (AppendsBeginning (F.contents faults.old) (F.contents faults.new) (others_line count)) }
+    ensures counts { CountsFailure result (F.failures faults.old) (F.failures faults.new) }
+{
+    if count == 0 {
+        return Ok(());
+    }
+    write_count(faults, count, b"other causes")
+}
+
 // `COUNT TEXT`
 fn write_count<F: Sink>(faults: &mut F, count: u64, text: &[u8]) -> Result<(), DeviceFault>
-    ensures { CountsFailure result (F.failures faults.old) (F.failures faults.new) }
+    ensures ok { OnOk result (Appends (F.contents faults.old) (F.contents faults.new) (count_line count text.now)) }
+    ensures err { OnErr result (AppendsBeginning (F.contents faults.old) (F.contents faults.new) (count_line count text.now)) }
+    ensures counts { CountsFailure result (F.failures faults.old) (F.failures faults.new) }
 {
-    write_all(faults, Buffer::new().format(count).as_bytes())?;
+    write_number(faults, count)?;
     write_all(faults, b" ")?;
     write_all(faults, text)?;
     write_all(faults, b"\n")

@@ -1,21 +1,21 @@
 //! Listings of what is wrong with the lines of an input.
-ghost use Rattle.std.specs.Prelude.{◌≡◌, ℕ, ◌+◌, ◌<◌, List, [], ◌∷◌, ◌++◌, nat_lt, length, false, IfOk, IfErr, OnErr, OnOk, IsTrue, MatchResult};
+ghost use Rattle.std.specs.Prelude.{◌≡◌, ℕ, ◌+◌, ◌<◌, ◌≤◌, List, [], bytes_eq, codes, take, nat_lt, length, true, false, IfOk, IfErr, OnErr, OnOk, IsTrue, MatchResult};
 ghost use Rattle.std.specs.Io.KnownBytes.{Appends};
 ghost use Rattle.bidi_lines.specs.Devices.{AppendsBeginning, Moves};
+ghost use Rattle.bidi_lines.specs.InputLines.{most_lines};
 ghost use Rattle.bidi_show.specs.Listings.{failed_reads, failed_writes};
-ghost use Rattle.bidi_why.specs.Telling.{SoFar, StopsAt, StopsBy, StopsLine, TellsAll, TellsNext, Whole, input_fault};
+ghost use Rattle.bidi_why.specs.Input.{IsOf};
+ghost use Rattle.bidi_why.specs.Summary.{IsSum, SumsUp, is_log};
+ghost use Rattle.bidi_why.specs.Telling.{SoFar, StopsAt, StopsBy, StopsLine, Sums, TellsAll, TellsCounted, TellsNext, Whole, input_fault};
 
 use crate::explainer::Explainer;
 use crate::next_line::{Found, Line, next_line};
 use crate::one_side::OneSide;
 use crate::sum::Sum;
-use crate::texts::Form;
-use bidi_lines::{InputFault, LineReader, Side, Sink, Source, write_all};
+use bidi_lines::{InputFault, LineReader, MOST_LINES, Side, Sink, Source, write_all};
+use bidi_remarks::Form;
 use bidi_show::ShowFault;
 use std::alloc::{AllocError, Global};
-
-/// How many lines an input may have.
-const MOST_LINES: u64 = 1_000_000_000;
 
 /// Writes for each line that is refused where it goes wrong and why, and returns whether any is.
 ///
@@ -41,22 +41,30 @@ pub fn explain<R: Source, W: Sink, F: Sink>(
     sink: &mut W,
     faults: &mut F,
 ) -> Result<bool, ShowFault>
-    // All that the source had was lines, and what is told of them was written.
+    // After an Ok, the input was lines, and the report of all of them was written.
     ensures ok { IfOk result (λ some. Moves (R.left source.old) (R.left source.new) (W.contents sink.old) (W.contents sink.new)
         (λ read wrote. TellsAll form side profile_only read wrote × (some ≡ nat_lt 0 (length wrote)))) }
+    // After an Ok, the input has ended.
     ensures end { OnOk result (IsTrue (R.has_ended source.new)) }
 
-    // Where no line is refused, and where a fault ends the listing, `faults` is told nothing.
+    // If a line is refused, `faults` gets the summary of the report, or a beginning of it if a write fails.
+    ensures summary { IfOk result (λ some. Moves (R.left source.old) (R.left source.new) (W.contents sink.old) (W.contents sink.new)
+        (TellsCounted form side profile_only (λ n told. some ≡ true
+        → SumsUp (F.contents faults.old) (F.contents faults.new) (F.failures faults.old) (F.failures faults.new) n told))) }
+
+    // After a fault, nothing was written to `faults`.
     ensures told { OnErr result (faults.new ≡ faults.old) }
+    // If no line is refused, nothing was written to `faults`.
     ensures quiet { IfOk result (λ some. some ≡ false → faults.new ≡ faults.old) }
 
     // A fault says what was read and written before it.
     ensures err { IfErr result (λ fault. Moves (R.left source.old) (R.left source.new) (W.contents sink.old) (W.contents sink.new)
         (StopsAt form side profile_only fault (R.has_ended source.new))) }
 
-    // A device is blamed where it failed, and no listing succeeds after a failure.
+    // The fault is `Read` exactly if a read of the source failed.
     ensures reads { MatchResult result (λ _. R.failures source.new ≡ R.failures source.old)
         (λ fault. R.failures source.new ≡ R.failures source.old + failed_reads fault) }
+    // The fault is `Write` exactly if a write of the sink failed.
     ensures writes { MatchResult result (λ _. W.failures sink.new ≡ W.failures sink.old)
         (λ fault. W.failures sink.new ≡ W.failures sink.old + failed_writes fault) }
 {
@@ -77,10 +85,10 @@ pub(crate) fn tell_lines<E: Explainer, R: Source, W: Sink>(
     source: &mut R,
     sink: &mut W,
 ) -> Result<(), ShowFault>
-    requires lines { sum.old.lines ≡ 0 }
-    requires nothing { E.has_told explainer.old explainer.old [] [] sum.old.has_fault }
+    requires sum { IsSum sum.old 0 [] }
+    requires nothing { E.has_told explainer.old explainer.old [] [] [] }
     ensures ok { OnOk result (Moves (R.left source.old) (R.left source.new) (W.contents sink.old) (W.contents sink.new)
-        (Whole (λ lines text. E.has_told explainer.old explainer.new lines text sum.new.has_fault))) }
+        (Whole (Sums E.has_told explainer.old explainer.new sum.new))) }
     ensures end { OnOk result (IsTrue (R.has_ended source.new)) }
     ensures err { IfErr result (λ fault. Moves (R.left source.old) (R.left source.new) (W.contents sink.old) (W.contents sink.new)
         (StopsBy (SoFar E.has_told explainer.old) fault (R.has_ended source.new))) }
@@ -113,12 +121,12 @@ fn answer<E: Explainer, W: Sink>(
     line: Line,
     sink: &mut W,
 ) -> Result<(), ShowFault>
-    requires few { sum.old.lines < 1000000000 }
+    requires few { sum.old.lines < most_lines }
     ensures lines { OnOk result (sum.new.lines ≡ sum.old.lines + 1) }
     ensures ok { OnOk result ((text : List ℕ) × Appends (W.contents sink.old) (W.contents sink.new) text
-        × TellsNext E.has_told explainer.old explainer.new sum.old.has_fault sum.new.has_fault sum.old.lines line text) }
+        × TellsNext E.has_told explainer.old explainer.new sum.old sum.new line text) }
     ensures err { IfErr result (λ fault. StopsLine
-        (TellsNext E.has_told explainer.old explainer.new sum.old.has_fault sum.new.has_fault sum.old.lines line) fault
+        (TellsNext E.has_told explainer.old explainer.new sum.old sum.new line) fault
         (W.contents sink.old) (W.contents sink.new)) }
     ensures writes { MatchResult result (λ _. W.failures sink.new ≡ W.failures sink.old)
         (λ fault. W.failures sink.new ≡ W.failures sink.old + failed_writes fault) }
@@ -134,16 +142,15 @@ fn tell<E: Explainer>(
     sum: &mut Sum,
     line: Line,
 ) -> Result<Vec<u8>, AllocError>
-    requires few { sum.old.lines < 1000000000 }
+    requires few { sum.old.lines < most_lines }
     ensures lines { OnOk result (sum.new.lines ≡ sum.old.lines + 1) }
-    ensures text { IfOk result (λ text. TellsNext E.has_told explainer.old explainer.new sum.old.has_fault sum.new.has_fault sum.old.lines line text.items) }
+    ensures text { IfOk result (λ text. TellsNext E.has_told explainer.old explainer.new sum.old sum.new line text.items) }
 {
-    sum.lines += 1;
+    sum.next_line();
     let is_log = is_log(&line);
     match explainer.explain(alloc, sum.lines, line)? {
         Some(told) => {
-            sum.has_log |= is_log;
-            sum.count(told.is_fault, told.is_beyond, told.cause)?;
+            sum.count(told.counted_as, told.cause, is_log)?;
             Ok(told.text)
         }
         None => Ok(Vec::new(alloc)),
@@ -151,11 +158,20 @@ fn tell<E: Explainer>(
 }
 
 // Whether a line looks like an object of a log, in which a text stands beside its direction.
-fn is_log(line: &Line) -> bool {
+fn is_log(line: &Line) -> bool
+    ensures { (is : List ℕ) → IsOf line.now is → result ≡ is_log is }
+{
     match line {
-        Line::Text(text) => text.starts_with(b"{\"dir\":"),
+        Line::Text(text) => begins_as_log(text),
         Line::TooLong => false,
     }
+}
+
+// Whether a text begins as the objects of some logs do.
+fn begins_as_log(text: &[u8]) -> bool
+    ensures { result ≡ bytes_eq (codes "{\"dir\":") (take 7 text.now) }
+{
+    text.starts_with(b"{\"dir\":")
 }
 
 /// Writes all of a text.

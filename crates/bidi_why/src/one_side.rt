@@ -1,20 +1,17 @@
 //! What tells of the lines of one end.
-ghost use Rattle.std.specs.Prelude.{◌≡◌, List, ℕ, Some, None, option_map, IfOk};
-ghost use Rattle.bidi_why.specs.Explaining.{explained_of};
+ghost use Rattle.std.specs.Prelude.{◌≡◌, List, ℕ, option_map, IfOk};
+ghost use Rattle.bidi_lines.specs.InputLines.{IsLine};
+ghost use Rattle.bidi_remarks.specs.Explaining.{told_of};
+ghost use Rattle.bidi_remarks.specs.declared.telling.CountedAs.TheVariants.{Beyond};
 ghost use Rattle.bidi_why.specs.Explainers.{HasExplained};
 ghost use Rattle.bidi_why.specs.Input.{IsOf};
-ghost use Rattle.bidi_lines.specs.InputLines.{IsLine};
-ghost use Rattle.bidi_why.specs.Telling.{Tells, kept, written};
-ghost use Rattle.bidi_why.specs.Texts.{told_text};
-ghost use Rattle.bidi_why.specs.Trouble.{bad};
+ghost use Rattle.bidi_why.specs.Summary.{is_same};
+ghost use Rattle.bidi_why.specs.Telling.{Tells, kept};
 
-use crate::bad_text::BadText;
-use crate::explainer::{Explainer, Told};
-use crate::explaining::{Explained, explain_line};
-use crate::finding::Trouble;
+use crate::explainer::Explainer;
 use crate::next_line::Line;
-use crate::texts::{Form, cause, told};
 use bidi_lines::Side;
+use bidi_remarks::{CountedAs, Form, Told, explain_line, explain_long};
 use json::Scratch;
 use std::alloc::{AllocError, Global};
 
@@ -62,7 +59,7 @@ impl Explainer for OneSide {
         number: u64,
         line: Line,
     ) -> Result<Option<Told>, AllocError> {
-        let explained = explain(
+        explain(
             alloc,
             self.form,
             self.side,
@@ -70,25 +67,7 @@ impl Explainer for OneSide {
             number,
             line,
             self.scratch.as_mut(),
-        )?;
-        match explained {
-            Some(
-                Explained {
-                    text,
-                    cause,
-                    is_beyond,
-                },
-            ) => {
-                let is_fault = !text.is_empty();
-                Ok(Some(Told {
-                    text,
-                    cause,
-                    is_fault,
-                    is_beyond,
-                }))
-            }
-            None => Ok(None),
-        }
+        )
     }
 }
 
@@ -101,14 +80,14 @@ fn explain(
     number: u64,
     line: Line,
     scratch: &mut Scratch,
-) -> Result<Option<Explained>, AllocError>
-    ensures { IfOk result (λ found. (is : List ℕ) → IsOf line is → Tells form side profile_only number is (written (option_map explained_of found))) }
+) -> Result<Option<Told>, AllocError>
+    ensures { IfOk result (λ found. (is : List ℕ) → IsOf line is → Tells form side profile_only number is (option_map told_of found)) }
 {
     match line {
         Line::Text(line) => {
             explain_kept(alloc, form, side, profile_only, number, &line, scratch)
         }
-        Line::TooLong => too_long(alloc, form, side, number),
+        Line::TooLong => Ok(Some(explain_long(alloc, form, side, number)?)),
     }
 }
 
@@ -121,38 +100,28 @@ fn explain_kept(
     number: u64,
     line: &[u8],
     scratch: &mut Scratch,
-) -> Result<Option<Explained>, AllocError>
-    ensures { IfOk result (λ found. IsLine line.now → Tells form side profile_only number line.now (written (option_map explained_of found))) }
+) -> Result<Option<Told>, AllocError>
+    ensures { IfOk result (λ found. IsLine line.now → Tells form side profile_only number line.now (option_map told_of found)) }
 {
     let found = explain_line(alloc, form, side, number, line, scratch)?;
     Ok(kept(profile_only, found))
 }
 
 // What is told: nothing, where it is wrong for the profile alone and nothing of that is asked for.
-fn kept(profile_only: bool, found: Option<Explained>) -> Option<Explained>
-    ensures { option_map explained_of result ≡ kept profile_only (option_map explained_of found) }
+fn kept(profile_only: bool, found: Option<Told>) -> Option<Told>
+    ensures { option_map told_of result ≡ kept profile_only (option_map told_of found) }
 {
     match found {
-        Some(found) if profile_only && found.is_beyond => None,
+        Some(found) if profile_only && is_beyond(found.counted_as) => None,
         found => found,
     }
 }
 
-// What is told of a line that is too long.
-fn too_long(
-    alloc: Global,
-    form: Form,
-    side: Side,
-    number: u64,
-) -> Result<Option<Explained>, AllocError>
-    ensures { IfOk result (λ found. written (option_map explained_of found) ≡ told_text form number (Some side) None (bad BadText.TooLong)) }
+// Whether what is counted so is wrong for the profile alone.
+fn is_beyond(counted_as: CountedAs) -> bool
+    ensures { result ≡ is_same Beyond counted_as }
 {
-    let trouble = Trouble::Bad(BadText::TooLong);
-    Ok(Some(Explained {
-        text: told(alloc, form, number, Some(side), None, &trouble)?,
-        cause: cause(alloc, &trouble)?,
-        is_beyond: false,
-    }))
+    matches!(counted_as, CountedAs::Beyond)
 }
 
 /// A scratch in a block of its own. It is never inlined: a scratch takes 16 KB of the stack while it is made, and the lines of

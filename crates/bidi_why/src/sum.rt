@@ -1,15 +1,19 @@
 //! What was told so far, in numbers.
-ghost use Rattle.std.specs.Prelude.{◌≡◌, ◌<◌, ◌||◌, true, false, nat_lt, OnOk};
-ghost use Rattle.bidi_lines.specs.Devices.{CountsFailure};
+ghost use Rattle.std.specs.Prelude.{◌≡◌, ◌<◌, ◌+◌, ◌++◌, ◌∷◌, [], ◌^◌, ◌||◌, ℕ, List, true, false, length, replicate, string_bytes, codes, OnErr, OnOk, if◌then◌else◌};
+ghost use Rattle.std.specs.Io.KnownBytes.{Appends};
+ghost use Rattle.bidi_lines.specs.Devices.{AppendsBeginning, CountsFailure};
+ghost use Rattle.bidi_lines.specs.InputLines.{most_lines};
+ghost use Rattle.bidi_why.specs.Summary.{Entry, IsSum, SumsUp, head_line, hint_line, is_fault, is_same, some_words, sum_text, unanswered};
 
 use crate::counting::Causes;
+use crate::writing::write_number;
 use bidi_lines::{DeviceFault, Sink, write_all};
-use itoa::Buffer;
+use bidi_remarks::CountedAs;
 use std::alloc::{AllocError, Global};
 
 /// What is told where a line is an object of a log.
 const HINT: &[u8] =
-    b"hint: lines such as {\"dir\":..} are objects of a log; docs/CLIENTS.md has recipes that make lines of them\n";
+    b"hint: lines such as {\"dir\":..} are objects of a log; docs/CHECKING.md has recipes that make lines of them\n";
 
 /// How many lines there were, how many of them have a fault, and which causes were met.
 #[derive(Drop)]
@@ -18,8 +22,8 @@ pub(crate) struct Sum {
     pub lines: u64,
     /// Whether there was any fault.
     pub has_fault: bool,
-    /// Whether a line that is refused looks like an object of a log.
-    pub has_log: bool,
+    // Whether a line of which something was told looks like an object of a log.
+    has_log: bool,
     // How many lines have a fault by the W3C's draft, too.
     refused: u64,
     // How many lines have one for the profile alone.
@@ -34,8 +38,7 @@ pub(crate) struct Sum {
 impl Sum {
     /// That of no line. Takes no memory.
     pub(crate) fn new(alloc: Global) -> Sum
-        ensures lines { result.lines ≡ 0 }
-        ensures none { result.has_fault ≡ false }
+        ensures sum { IsSum result 0 [] }
     {
         Sum {
             lines: 0,
@@ -49,28 +52,36 @@ impl Sum {
         }
     }
 
+    /// Counts one more line, of which nothing is told so far. Takes no memory.
+    pub(crate) fn next_line(&mut self)
+        requires few { self.old.lines < most_lines }
+        ensures lines { self.new.lines ≡ self.old.lines + 1 }
+        ensures sum { (n : ℕ) (told : List Entry) → IsSum self.old n told → IsSum self.new (n + 1) told }
+    {
+        self.lines += 1;
+    }
+
     /// Counts what is told of a line, by its cause.
     ///
     /// # Errors
     /// No memory: an allocation failed.
     pub(crate) fn count(
         &mut self,
-        is_fault: bool,
-        is_beyond: bool,
+        counted_as: CountedAs,
         cause: Vec<u8>,
+        is_log: bool,
     ) -> Result<(), AllocError>
         ensures lines { self.new.lines ≡ self.old.lines }
-        ensures fault { OnOk result (self.new.has_fault ≡ (self.old.has_fault || is_fault)) }
+        ensures sum { OnOk result ((n : ℕ) (told : List Entry) → length told + 1 < 2 ^ 64 → IsSum self.old n told
+            → IsSum self.new n (told ++ record { counted_as = counted_as; cause = cause.items; is_log = is_log } ∷ [])) }
     {
-        if !is_fault {
-            self.failed = self.failed.saturating_add(1);
-        } else if is_beyond {
-            self.beyond = self.beyond.saturating_add(1);
-        } else {
-            self.refused = self.refused.saturating_add(1);
-        }
         self.causes.add(cause)?;
-        self.has_fault |= is_fault;
+        self.refused = more_if(self.refused, CountedAs::Refused, counted_as);
+        self.beyond = more_if(self.beyond, CountedAs::Beyond, counted_as);
+        self.failed = more_if(self.failed, CountedAs::Failed, counted_as);
+        self.unanswered = more_if(self.unanswered, CountedAs::Unanswered, counted_as);
+        self.has_log |= is_log;
+        self.has_fault |= is_fault(counted_as);
         Ok(())
     }
 
@@ -79,11 +90,13 @@ impl Sum {
     /// # Errors
     /// No memory: an allocation failed.
     pub(crate) fn count_unanswered(&mut self, alloc: Global, count: usize) -> Result<(), AllocError>
-        ensures fault { OnOk result (self.new.has_fault ≡ (self.old.has_fault || nat_lt 0 count)) }
+        ensures sum { OnOk result ((n : ℕ) (told : List Entry) → length told + count < 2 ^ 64 → IsSum self.old n told
+            → IsSum self.new n (told ++ replicate count unanswered)) }
     {
-        self.causes.add_each(alloc, b"unanswered", count)?;
-        self.unanswered = count as u64;
-        self.has_fault |= count > 0;
+        for _ in 0..count {
+            let cause = Vec::from_slice(alloc, b"unanswered")?;
+            self.count(CountedAs::Unanswered, cause, false)?;
+        }
         Ok(())
     }
 
@@ -93,6 +106,8 @@ impl Sum {
     pub(crate) fn tell<F: Sink>(&mut self, faults: &mut F) -> bool
         ensures some { result ≡ self.old.has_fault }
         ensures quiet { result ≡ false → faults.new ≡ faults.old }
+        ensures told { result ≡ true → (n : ℕ) (told : List Entry) → IsSum self.old n told
+            → SumsUp (F.contents faults.old) (F.contents faults.new) (F.failures faults.old) (F.failures faults.new) n told }
     {
         if !self.has_fault {
             return false;
@@ -104,32 +119,81 @@ impl Sum {
 
     // `R of N lines are refused`, how many are beyond the profile, failed or were never answered, the causes, and a hint at logs.
     fn write<F: Sink>(&self, faults: &mut F) -> Result<(), DeviceFault>
-        ensures { CountsFailure result (F.failures faults.old) (F.failures faults.new) }
+        ensures ok { OnOk result (Appends (F.contents faults.old) (F.contents faults.new) (sum_text self.now)) }
+        ensures err { OnErr result (AppendsBeginning (F.contents faults.old) (F.contents faults.new) (sum_text self.now)) }
+        ensures counts { CountsFailure result (F.failures faults.old) (F.failures faults.new) }
     {
-        write_all(faults, Buffer::new().format(self.refused).as_bytes())?;
+        self.write_head(faults)?;
+        self.causes.write(faults)?;
+        write_all(faults, hint(self.has_log))
+    }
+
+    // `R of N lines are refused`, and how many are beyond the profile, failed or were never answered.
+    fn write_head<F: Sink>(&self, faults: &mut F) -> Result<(), DeviceFault>
+        ensures ok { OnOk result (Appends (F.contents faults.old) (F.contents faults.new)
+            (head_line self.now.lines self.now.refused self.now.beyond self.now.failed self.now.unanswered)) }
+        ensures err { OnErr result (AppendsBeginning (F.contents faults.old) (F.contents faults.new)
+            (head_line self.now.lines self.now.refused self.now.beyond self.now.failed self.now.unanswered)) }
+        ensures counts { CountsFailure result (F.failures faults.old) (F.failures faults.new) }
+    {
+        write_number(faults, self.refused)?;
         write_all(faults, b" of ")?;
-        write_all(faults, Buffer::new().format(self.lines).as_bytes())?;
+        write_number(faults, self.lines)?;
         write_all(faults, b" lines are refused")?;
         write_some(faults, self.beyond, b" beyond the profile")?;
         write_some(faults, self.failed, b" failed")?;
         write_some(faults, self.unanswered, b" unanswered")?;
-        write_all(faults, b"\n")?;
-        self.causes.write(faults)?;
-        if self.has_log {
-            write_all(faults, HINT)?;
-        }
-        Ok(())
+        write_all(faults, b"\n")
     }
+}
+
+// So many, and one more if something of this kind is counted.
+fn more_if(count: u64, kind: CountedAs, counted_as: CountedAs) -> u64
+    ensures { count + 1 < 2 ^ 64 → result ≡ count + (if is_same kind counted_as then 1 else 0) }
+{
+    if is_same(kind, counted_as) {
+        count.saturating_add(1)
+    } else {
+        count
+    }
+}
+
+// Whether both are counted alike.
+fn is_same(kind: CountedAs, other: CountedAs) -> bool
+    ensures { result ≡ is_same kind other }
+{
+    match kind {
+        CountedAs::Refused => matches!(other, CountedAs::Refused),
+        CountedAs::Beyond => matches!(other, CountedAs::Beyond),
+        CountedAs::Failed => matches!(other, CountedAs::Failed),
+        CountedAs::Unanswered => matches!(other, CountedAs::Unanswered),
+    }
+}
+
+// Whether what is counted so is a fault.
+fn is_fault(counted_as: CountedAs) -> bool
+    ensures { result ≡ is_fault counted_as }
+{
+    !matches!(counted_as, CountedAs::Failed)
 }
 
 // `, COUNT WHAT`, where there are any.
 fn write_some<F: Sink>(faults: &mut F, count: u64, what: &[u8]) -> Result<(), DeviceFault>
-    ensures { CountsFailure result (F.failures faults.old) (F.failures faults.new) }
+    ensures ok { OnOk result (Appends (F.contents faults.old) (F.contents faults.new) (some_words count what.now)) }
+    ensures err { OnErr result (AppendsBeginning (F.contents faults.old) (F.contents faults.new) (some_words count what.now)) }
+    ensures counts { CountsFailure result (F.failures faults.old) (F.failures faults.new) }
 {
     if count == 0 {
         return Ok(());
     }
     write_all(faults, b", ")?;
-    write_all(faults, Buffer::new().format(count).as_bytes())?;
+    write_number(faults, count)?;
     write_all(faults, what)
+}
+
+// Where recipes for logs are, if a line looks like an object of one.
+fn hint(has_log: bool) -> &'static [u8]
+    ensures { result.now ≡ hint_line has_log }
+{
+    if has_log { HINT } else { b"" }
 }

@@ -1,9 +1,9 @@
 -- Worked examples of contexts.
 use Rattle.std.specs.Prelude.{◌≡◌, ℕ, List, [], ◌∷◌, ◌++◌, map, codes, refl}
-use Rattle.bidi_browser.specs.Contexts.{up_to}
+use Rattle.bidi_contexts.specs.Contexts.{up_to}
 use Rattle.bidi_handles.specs.declared.id.IdKind.TheVariants.{Context}
 use Rattle.bidi_handles.specs.Ids.{id_of}
-use Rattle.bidi_remote.specs.Machine.Step.{Step, Page, Frame}
+use Rattle.bidi_sessions.specs.Step.{Step, Page, Frame}
 use Rattle.bidi_remote.specs.Machine.Sent as sent
 use Rattle.machine_facts.proofs.Rows.{after, ask, begun, event, frame, machine_on_literals, refusal, success, unframe}
 

@@ -8,9 +8,9 @@ use Rattle.bidi_shape.specs.Fits.{Fits}
 use Rattle.bidi_shape.proofs.FitsTest.{Answer, fit, misfit, not_known, IsRight, holds, fails, test, right-test}
 use Rattle.bidi_params.specs.declared.error_code.ErrorCode.TheVariants.{InvalidArgument, UnableToCaptureScreen}
 use Rattle.bidi_messages.specs.Verdict.{command_tree, echoed_id}
-use Rattle.bidi_browser.specs.Actions.{Action, Frame, Unframe, Log, TableRow}
+use Rattle.bidi_contexts.specs.Actions.{Action, Frame, Unframe, Log, TableRow}
 use Rattle.bidi_messages.specs.Verdict.{Verdict, Accepted, Refused, refusal_code, IsVerdict, is_command, is_not_json, is_no_command}
-use Rattle.bidi_remote.specs.Machine.Step as step
+use Rattle.bidi_sessions.specs.Step as step
 use Rattle.bidi_remote.specs.Machine.History.{Input, At, Open, Drop, Heard, NotText, OfPage, row_tree, IsRow, is_row, is_no_row, IsTakenAs, IsHeardAs}
 use Rattle.bidi_remote.specs.Machine.History as history
 

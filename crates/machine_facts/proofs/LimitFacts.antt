@@ -3,16 +3,16 @@ use Rattle.std.specs.Prelude.{◌≡◌, ℕ, List, [], ◌∷◌, ◌++◌, map
 use Rattle.bidi_tree.specs.Node.{Node, no_members}
 use Rattle.bidi_handles.specs.declared.id.IdKind.TheVariants.{Handle}
 use Rattle.bidi_handles.specs.Ids.{id_of}
-use Rattle.bidi_browser.specs.Acts.{Made, Removed, Tabled, Ran, Disowned, UserMade, UserRemoved, Returned, EndsIn, GivesBack}
-use Rattle.bidi_browser.specs.Contexts.{up_to}
+use Rattle.bidi_contexts.specs.Acts.{Made, Removed, Tabled, Ran, Disowned, UserMade, UserRemoved, Returned, EndsIn, GivesBack}
+use Rattle.bidi_contexts.specs.Contexts.{up_to}
 use Rattle.bidi_handles.specs.Maps.{◌being◌and◌, mapped, word}
-use Rattle.bidi_browser.specs.Outcome.{undefined}
+use Rattle.bidi_contexts.specs.Outcome.{undefined}
 use Rattle.bidi_methods.specs.declared.event_data.EventName.TheVariants.{EntryAdded}
 use Rattle.bidi_remote.specs.Machine.History.{Deed, Began, Opened, Subscribed, Cancelled, Did, All}
 use Rattle.bidi_remote.specs.Machine.Outcome.{turn}
 use Rattle.bidi_remote.specs.Machine.Sent.{Sent, told}
 use Rattle.machine_facts.proofs.Hearing.{heard}
-use Rattle.bidi_remote.specs.Machine.Step.{Step}
+use Rattle.bidi_sessions.specs.Step.{Step}
 use Rattle.bidi_remote.specs.Machine.Sent as sent
 use Rattle.machine_facts.proofs.Rows.{ask, ask_on, frame, machine_on_literals, refusal, success, value}
 

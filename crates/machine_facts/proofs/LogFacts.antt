@@ -1,12 +1,12 @@
 -- Worked examples of log entries and of those that wait.
 use Rattle.std.specs.Prelude.{◌≡◌, ℕ, List, [], ◌∷◌, ◌++◌, map, drop, codes, decimal, refl}
-use Rattle.bidi_browser.specs.Contexts.{up_to}
+use Rattle.bidi_contexts.specs.Contexts.{up_to}
 use Rattle.bidi_handles.specs.declared.id.IdKind.TheVariants.{Context}
 use Rattle.bidi_handles.specs.Ids.{id_of}
-use Rattle.bidi_values.specs.declared.log_entry.Level.TheVariants.{Error, Info}
+use Rattle.bidi_scripts.specs.declared.log_entry.Level.TheVariants.{Error, Info}
 use Rattle.bidi_remote.specs.Machine.Sent.{Sent}
 use Rattle.bidi_handles.proofs.Spelling.{said}
-use Rattle.bidi_remote.specs.Machine.Step.{Step, At, Open, Drop, Page, Log}
+use Rattle.bidi_sessions.specs.Step.{Step, At, Open, Drop, Page, Log}
 use Rattle.bidi_remote.specs.Machine.Sent as sent
 use Rattle.machine_facts.proofs.Rows.{after, ask, ask_on, begun, event, frame, log, machine_on_literals, success, unframe}
 

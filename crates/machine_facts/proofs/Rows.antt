@@ -2,10 +2,10 @@
 use Prim.Native.String.{String}
 use Rattle.std.specs.Prelude.{ℕ, List, [], ◌∷◌, ◌++◌, map, reverse, codes, decimal, ⊤}
 use Rattle.serde_json.proofs.OnLiterals.{serde_json_on_literals}
-use Rattle.bidi_browser.proofs.OnLiterals.{browser_on_literals}
+use Rattle.bidi_contexts.proofs.OnLiterals.{browser_on_literals}
 use Rattle.bidi_handles.proofs.Spelling.{said}
-use Rattle.bidi_values.specs.declared.log_entry.Level.{Level}
-use Rattle.bidi_remote.specs.Machine.Step.{Step, Open, Text, Page, Frame, Unframe, Log, TableRow}
+use Rattle.bidi_scripts.specs.declared.log_entry.Level.{Level}
+use Rattle.bidi_sessions.specs.Step.{Step, Open, Text, Page, Frame, Unframe, Log, TableRow}
 use Rattle.bidi_remote.specs.Machine.Sent as sent
 use Rattle.bidi_remote.specs.Machine.Sent.{Sent, out}
 use Rattle.machine_facts.proofs.Hearing.{heard}

@@ -2,7 +2,7 @@
 use Rattle.std.specs.Prelude.{◌≡◌, ℕ, List, [], ◌∷◌, ◌++◌, codes, zero, suc, refl}
 use Prim.Native.String.{String}
 use Rattle.bidi_handles.proofs.Spelling.{said}
-use Rattle.bidi_remote.specs.Machine.Step.{Step, Text, Page, TableRow}
+use Rattle.bidi_sessions.specs.Step.{Step, Text, Page, TableRow}
 use Rattle.bidi_remote.specs.Machine.Sent as sent
 use Rattle.machine_facts.proofs.Rows.{after, ask, begun, frame, machine_on_literals, refusal, success, value}
 

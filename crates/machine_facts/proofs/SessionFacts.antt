@@ -1,9 +1,9 @@
 -- Worked examples of judging, connections and sessions.
 use Rattle.std.specs.Prelude.{◌≡◌, ℕ, List, [], ◌∷◌, ◌++◌, map, codes, refl}
-use Rattle.bidi_browser.specs.Contexts.{up_to}
+use Rattle.bidi_contexts.specs.Contexts.{up_to}
 use Rattle.bidi_remote.specs.Machine.Sent.{answers}
 use Rattle.bidi_handles.proofs.Spelling.{said}
-use Rattle.bidi_remote.specs.Machine.Step.{Step, Open, Drop, Text, NotText}
+use Rattle.bidi_sessions.specs.Step.{Step, Open, Drop, Text, NotText}
 use Rattle.bidi_remote.specs.Machine.Sent as sent
 use Rattle.machine_facts.proofs.Rows.{after, ask, ask_on, begun, machine_on_literals, new_session, open_session, refusal, success}
 

@@ -1,10 +1,11 @@
 -- What a session sees, and a play without what other sessions only asked.
 use Rattle.std.specs.Prelude.{◌≡◌, ℕ, List, [], ◌∷◌, ◌++◌, map, codes, refl}
-use Rattle.bidi_remote.specs.Machine.Strike.{strike_steps, strike, sees}
+use Rattle.bidi_reduce.specs.Kept.{strike_steps, strike}
+use Rattle.bidi_reduce.specs.Seen.{sees}
 use Rattle.bidi_remote.specs.Machine.Sent.{Sent}
 use Rattle.machine_facts.proofs.Hearing.{heard}
 use Rattle.bidi_handles.proofs.Spelling.{said}
-use Rattle.bidi_remote.specs.Machine.Step.{Step, Open, NotText}
+use Rattle.bidi_sessions.specs.Step.{Step, Open, NotText}
 use Rattle.bidi_remote.specs.Machine.Sent as sent
 use Rattle.machine_facts.proofs.Rows.{ask, ask_on, begun, machine_on_literals, open_session, success}
 

@@ -1,8 +1,8 @@
 -- Worked examples of subscribing and unsubscribing.
 use Rattle.std.specs.Prelude.{◌≡◌, [], ◌∷◌, ◌++◌, codes, refl}
 use Rattle.bidi_handles.proofs.Spelling.{said}
-use Rattle.bidi_values.specs.declared.log_entry.Level.TheVariants.{Info, Warn}
-use Rattle.bidi_remote.specs.Machine.Step.{Open, Drop}
+use Rattle.bidi_scripts.specs.declared.log_entry.Level.TheVariants.{Info, Warn}
+use Rattle.bidi_sessions.specs.Step.{Open, Drop}
 use Rattle.bidi_remote.specs.Machine.Sent as sent
 use Rattle.machine_facts.proofs.Rows.{after, ask, ask_on, begun, event, frame, log, machine_on_literals, new_session, open_session, refusal, success}
 

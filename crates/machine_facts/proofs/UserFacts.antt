@@ -1,6 +1,6 @@
 -- Worked examples of user contexts.
 use Rattle.std.specs.Prelude.{◌≡◌, [], ◌∷◌, ◌++◌, refl}
-use Rattle.bidi_values.specs.declared.log_entry.Level.TheVariants.{Info}
+use Rattle.bidi_scripts.specs.declared.log_entry.Level.TheVariants.{Info}
 use Rattle.machine_facts.proofs.Rows.{after, ask, begun, event, frame, log, machine_on_literals, open_session, refusal, success}
 
 -- ---- which there are

@@ -79,12 +79,14 @@ impl CreateParameters {
         user_context: Option<String>,
         ext: Members,
     ) -> Result<CreateParameters, MakeFault>
+        // Memory aside, the first cause that holds is the fault; with none, the value has these parts.
         ensures made { Makes result
             (has_named (names_in (named create_parameters)) (members_node ext.entries) ≡ true)
             ⊥
             (¬ MembersAreWhole (members_node ext.entries) 60)
             (λ v. (v.kind ≡ kind) × (v.reference_context ≡ reference_context)
             × (v.background ≡ background) × (v.user_context ≡ user_context) × (others_of v.ext ≡ members_node ext.entries)) }
+        // The value is well-formed, so its tree fits the type's rule.
         ensures well { IfOk result (λ v. ⟦<CreateParameters as Shape>⟧.shape.well v) }
     {
         let ext = further(ext, Self::NAMES)?;
@@ -149,11 +151,13 @@ impl CreateResult {
     /// - `Clash`: a further member is called `context`.
     /// - `TooDeep`: a further member has an `Odd` in it, or more than 60 levels.
     pub fn new(context: String, ext: Members) -> Result<CreateResult, MakeFault>
+        // Memory aside, the first cause that holds is the fault; with none, the value has these parts.
         ensures made { Makes result
             (has_named (names_in (named create_result)) (members_node ext.entries) ≡ true)
             ⊥
             (¬ MembersAreWhole (members_node ext.entries) 60)
             (λ v. (v.context ≡ context) × (others_of v.ext ≡ members_node ext.entries)) }
+        // The value is well-formed, so its tree fits the type's rule.
         ensures well { IfOk result (λ v. ⟦<CreateResult as Shape>⟧.shape.well v) }
     {
         let ext = further(ext, Self::NAMES)?;
@@ -196,11 +200,13 @@ impl ActivateParameters {
     /// - `Clash`: a further member is called `context`.
     /// - `TooDeep`: a further member has an `Odd` in it, or more than 60 levels.
     pub fn new(context: String, ext: Members) -> Result<ActivateParameters, MakeFault>
+        // Memory aside, the first cause that holds is the fault; with none, the value has these parts.
         ensures made { Makes result
             (has_named (names_in (named activate_parameters)) (members_node ext.entries) ≡ true)
             ⊥
             (¬ MembersAreWhole (members_node ext.entries) 60)
             (λ v. (v.context ≡ context) × (others_of v.ext ≡ members_node ext.entries)) }
+        // The value is well-formed, so its tree fits the type's rule.
         ensures well { IfOk result (λ v. ⟦<ActivateParameters as Shape>⟧.shape.well v) }
     {
         let ext = further(ext, Self::NAMES)?;
@@ -250,11 +256,13 @@ impl CloseParameters {
         prompt_unload: Option<bool>,
         ext: Members,
     ) -> Result<CloseParameters, MakeFault>
+        // Memory aside, the first cause that holds is the fault; with none, the value has these parts.
         ensures made { Makes result
             (has_named (names_in (named close_parameters)) (members_node ext.entries) ≡ true)
             ⊥
             (¬ MembersAreWhole (members_node ext.entries) 60)
             (λ v. (v.context ≡ context) × (v.prompt_unload ≡ prompt_unload) × (others_of v.ext ≡ members_node ext.entries)) }
+        // The value is well-formed, so its tree fits the type's rule.
         ensures well { IfOk result (λ v. ⟦<CloseParameters as Shape>⟧.shape.well v) }
     {
         let ext = further(ext, Self::NAMES)?;

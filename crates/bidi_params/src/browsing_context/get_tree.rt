@@ -40,11 +40,13 @@ impl GetTreeParameters {
         root: Option<String>,
         ext: Members,
     ) -> Result<GetTreeParameters, MakeFault>
+        // Memory aside, the first cause that holds is the fault; with none, the value has these parts.
         ensures made { Makes result
             (has_named (names_in (named get_tree_parameters)) (members_node ext.entries) ≡ true)
             ⊥
             (¬ MembersAreWhole (members_node ext.entries) 60)
             (λ v. (v.max_depth ≡ max_depth) × (v.root ≡ root) × (others_of v.ext ≡ members_node ext.entries)) }
+        // The value is well-formed, so its tree fits the type's rule.
         ensures well { IfOk result (λ v. ⟦<GetTreeParameters as Shape>⟧.shape.well v) }
     {
         let ext = further(ext, Self::NAMES)?;
@@ -97,12 +99,15 @@ impl GetTreeResult {
     /// - `Clash`: a further member is called `contexts`.
     /// - `TooDeep`: a further member has an `Odd` in it, or more than 60 levels.
     pub fn new(contexts: Vec<Info>, ext: Members) -> Result<GetTreeResult, MakeFault>
+        // Each Info is well-formed.
         requires contexts { ⟦<Vec<Info> as Shape>⟧.shape.well contexts }
+        // Memory aside, the first cause that holds is the fault; with none, the value has these parts.
         ensures made { Makes result
             (has_named (names_in (named get_tree_result)) (members_node ext.entries) ≡ true)
             ⊥
             (¬ MembersAreWhole (members_node ext.entries) 60)
             (λ v. (v.contexts ≡ contexts) × (others_of v.ext ≡ members_node ext.entries)) }
+        // The value is well-formed, so its tree fits the type's rule.
         ensures well { IfOk result (λ v. ⟦<GetTreeResult as Shape>⟧.shape.well v) }
     {
         let ext = further(ext, Self::NAMES)?;

@@ -67,7 +67,9 @@ impl Info {
         parent: Option<Option<String>>,
         ext: Members,
     ) -> Result<Info, MakeFault>
+        // Each child is well-formed, if children are given.
         requires children { IfSome children ⟦<Vec<Info> as Shape>⟧.shape.well }
+        // Memory aside, the first cause that holds is the fault; with none, the value has these parts.
         ensures made { Makes result
             (has_named (codes "children" ∷ names) (members_node ext.entries) ≡ true)
             ⊥
@@ -76,6 +78,7 @@ impl Info {
             (λ v. ((out-Info v).children ≡ children) × ((out-Info v).client_window ≡ client_window) × ((out-Info v).context ≡ context)
             × ((out-Info v).original_opener ≡ original_opener) × ((out-Info v).url ≡ url) × ((out-Info v).user_context ≡ user_context)
             × ((out-Info v).parent ≡ parent) × (others_of (out-Info v).ext ≡ members_node ext.entries)) }
+        // The value is well-formed, so its tree fits the type's rule.
         ensures well { IfOk result (λ v. ⟦<Info as Shape>⟧.shape.well v) }
     {
         let ext = Ext::new(ext, NAMES)?;

@@ -74,11 +74,13 @@ impl NavigateParameters {
         wait: Option<Wait>,
         ext: Members,
     ) -> Result<NavigateParameters, MakeFault>
+        // Memory aside, the first cause that holds is the fault; with none, the value has these parts.
         ensures made { Makes result
             (has_named (names_in (named navigate_parameters)) (members_node ext.entries) ≡ true)
             ⊥
             (¬ MembersAreWhole (members_node ext.entries) 60)
             (λ v. (v.context ≡ context) × (v.url ≡ url) × (v.wait ≡ wait) × (others_of v.ext ≡ members_node ext.entries)) }
+        // The value is well-formed, so its tree fits the type's rule.
         ensures well { IfOk result (λ v. ⟦<NavigateParameters as Shape>⟧.shape.well v) }
     {
         let ext = further(ext, Self::NAMES)?;
@@ -145,11 +147,13 @@ impl ReloadParameters {
         wait: Option<Wait>,
         ext: Members,
     ) -> Result<ReloadParameters, MakeFault>
+        // Memory aside, the first cause that holds is the fault; with none, the value has these parts.
         ensures made { Makes result
             (has_named (names_in (named reload_parameters)) (members_node ext.entries) ≡ true)
             ⊥
             (¬ MembersAreWhole (members_node ext.entries) 60)
             (λ v. (v.context ≡ context) × (v.ignore_cache ≡ ignore_cache) × (v.wait ≡ wait) × (others_of v.ext ≡ members_node ext.entries)) }
+        // The value is well-formed, so its tree fits the type's rule.
         ensures well { IfOk result (λ v. ⟦<ReloadParameters as Shape>⟧.shape.well v) }
     {
         let ext = further(ext, Self::NAMES)?;
@@ -216,11 +220,13 @@ impl NavigateResult {
         url: String,
         ext: Members,
     ) -> Result<NavigateResult, MakeFault>
+        // Memory aside, the first cause that holds is the fault; with none, the value has these parts.
         ensures made { Makes result
             (has_named (names_in (named navigate_result)) (members_node ext.entries) ≡ true)
             ⊥
             (¬ MembersAreWhole (members_node ext.entries) 60)
             (λ v. (v.navigation ≡ navigation) × (v.url ≡ url) × (others_of v.ext ≡ members_node ext.entries)) }
+        // The value is well-formed, so its tree fits the type's rule.
         ensures well { IfOk result (λ v. ⟦<NavigateResult as Shape>⟧.shape.well v) }
     {
         let ext = further(ext, Self::NAMES)?;
@@ -280,11 +286,13 @@ impl TraverseHistoryParameters {
         delta: JsInt,
         ext: Members,
     ) -> Result<TraverseHistoryParameters, MakeFault>
+        // Memory aside, the first cause that holds is the fault; with none, the value has these parts.
         ensures made { Makes result
             (has_named (names_in (named traverse_history_parameters)) (members_node ext.entries) ≡ true)
             ⊥
             (¬ MembersAreWhole (members_node ext.entries) 60)
             (λ v. (v.context ≡ context) × (v.delta ≡ delta) × (others_of v.ext ≡ members_node ext.entries)) }
+        // The value is well-formed, so its tree fits the type's rule.
         ensures well { IfOk result (λ v. ⟦<TraverseHistoryParameters as Shape>⟧.shape.well v) }
     {
         let ext = further(ext, Self::NAMES)?;
@@ -353,12 +361,14 @@ impl NavigationInfo {
         url: String,
         ext: Members,
     ) -> Result<NavigationInfo, MakeFault>
+        // Memory aside, the first cause that holds is the fault; with none, the value has these parts.
         ensures made { Makes result
             (has_named (names_in (named navigation_info)) (members_node ext.entries) ≡ true)
             ⊥
             (¬ MembersAreWhole (members_node ext.entries) 60)
             (λ v. (v.context ≡ context) × (v.navigation ≡ navigation)
             × (v.timestamp ≡ timestamp) × (v.url ≡ url) × (others_of v.ext ≡ members_node ext.entries)) }
+        // The value is well-formed, so its tree fits the type's rule.
         ensures well { IfOk result (λ v. ⟦<NavigationInfo as Shape>⟧.shape.well v) }
     {
         let ext = further(ext, Self::NAMES)?;

@@ -32,12 +32,15 @@ impl NewParameters {
     /// - `Clash`: a further member is called `capabilities`.
     /// - `TooDeep`: a further member has an `Odd` in it, or more than 60 levels.
     pub fn new(capabilities: CapabilitiesRequest, ext: Members) -> Result<NewParameters, MakeFault>
+        // The capabilities request is well-formed.
         requires { ⟦<CapabilitiesRequest as Shape>⟧.shape.well capabilities }
+        // Memory aside, the first cause that holds is the fault; with none, the value has these parts.
         ensures made { Makes result
             (has_named (names_in (named new_parameters)) (members_node ext.entries) ≡ true)
             ⊥
             (¬ MembersAreWhole (members_node ext.entries) 60)
             (λ v. (v.capabilities ≡ capabilities) × (others_of v.ext ≡ members_node ext.entries)) }
+        // The value is well-formed, so its tree fits the type's rule.
         ensures well { IfOk result (λ v. ⟦<NewParameters as Shape>⟧.shape.well v) }
     {
         let ext = further(ext, Self::NAMES)?;
@@ -87,13 +90,17 @@ impl CapabilitiesRequest {
         first_match: Option<Vec<CapabilityRequest>>,
         ext: Members,
     ) -> Result<CapabilitiesRequest, MakeFault>
+        // `alwaysMatch` is well-formed, if it is given.
         requires always_match { IfSome always_match ⟦<CapabilityRequest as Shape>⟧.shape.well }
+        // Each request of `firstMatch` is well-formed, if they are given.
         requires first_match { IfSome first_match ⟦<Vec<CapabilityRequest> as Shape>⟧.shape.well }
+        // Memory aside, the first cause that holds is the fault; with none, the value has these parts.
         ensures made { Makes result
             (has_named (names_in (named capabilities_request)) (members_node ext.entries) ≡ true)
             ⊥
             (¬ MembersAreWhole (members_node ext.entries) 60)
             (λ v. (v.always_match ≡ always_match) × (v.first_match ≡ first_match) × (others_of v.ext ≡ members_node ext.entries)) }
+        // The value is well-formed, so its tree fits the type's rule.
         ensures well { IfOk result (λ v. ⟦<CapabilitiesRequest as Shape>⟧.shape.well v) }
     {
         let ext = further(ext, Self::NAMES)?;
@@ -167,12 +174,14 @@ impl CapabilityRequest {
         platform_name: Option<String>,
         ext: Members,
     ) -> Result<CapabilityRequest, MakeFault>
+        // Memory aside, the first cause that holds is the fault; with none, the value has these parts.
         ensures made { Makes result
             (has_named (names_in (named capability_request)) (members_node ext.entries) ≡ true)
             ⊥
             (¬ MembersAreWhole (members_node ext.entries) 60)
             (λ v. (v.accept_insecure_certs ≡ accept_insecure_certs) × (v.browser_name ≡ browser_name)
             × (v.browser_version ≡ browser_version) × (v.platform_name ≡ platform_name) × (others_of v.ext ≡ members_node ext.entries)) }
+        // The value is well-formed, so its tree fits the type's rule.
         ensures well { IfOk result (λ v. ⟦<CapabilityRequest as Shape>⟧.shape.well v) }
     {
         let ext = further(ext, Self::NAMES)?;
@@ -245,12 +254,15 @@ impl NewResult {
         capabilities: Capabilities,
         ext: Members,
     ) -> Result<NewResult, MakeFault>
+        // The capabilities are well-formed.
         requires { ⟦<Capabilities as Shape>⟧.shape.well capabilities }
+        // Memory aside, the first cause that holds is the fault; with none, the value has these parts.
         ensures made { Makes result
             (has_named (names_in (named new_result)) (members_node ext.entries) ≡ true)
             ⊥
             (¬ MembersAreWhole (members_node ext.entries) 60)
             (λ v. (v.session_id ≡ session_id) × (v.capabilities ≡ capabilities) × (others_of v.ext ≡ members_node ext.entries)) }
+        // The value is well-formed, so its tree fits the type's rule.
         ensures well { IfOk result (λ v. ⟦<NewResult as Shape>⟧.shape.well v) }
     {
         let ext = further(ext, Self::NAMES)?;
@@ -326,6 +338,7 @@ impl Capabilities {
         user_agent: String,
         ext: Members,
     ) -> Result<Capabilities, MakeFault>
+        // Memory aside, the first cause that holds is the fault; with none, the value has these parts.
         ensures made { Makes result
             (has_named (names_in (named capabilities)) (members_node ext.entries) ≡ true)
             ⊥
@@ -333,6 +346,7 @@ impl Capabilities {
             (λ v. (v.accept_insecure_certs ≡ accept_insecure_certs)
             × (v.browser_name ≡ browser_name) × (v.browser_version ≡ browser_version) × (v.platform_name ≡ platform_name)
             × (v.set_window_rect ≡ set_window_rect) × (v.user_agent ≡ user_agent) × (others_of v.ext ≡ members_node ext.entries)) }
+        // The value is well-formed, so its tree fits the type's rule.
         ensures well { IfOk result (λ v. ⟦<Capabilities as Shape>⟧.shape.well v) }
     {
         let ext = further(ext, Self::NAMES)?;

@@ -33,11 +33,13 @@ impl StatusResult {
     /// - `Clash`: a further member is called `ready` or `message`.
     /// - `TooDeep`: a further member has an `Odd` in it, or more than 60 levels.
     pub fn new(ready: bool, message: String, ext: Members) -> Result<StatusResult, MakeFault>
+        // Memory aside, the first cause that holds is the fault; with none, the value has these parts.
         ensures made { Makes result
             (has_named (names_in (named status_result)) (members_node ext.entries) ≡ true)
             ⊥
             (¬ MembersAreWhole (members_node ext.entries) 60)
             (λ v. (v.ready ≡ ready) × (v.message ≡ message) × (others_of v.ext ≡ members_node ext.entries)) }
+        // The value is well-formed, so its tree fits the type's rule.
         ensures well { IfOk result (λ v. ⟦<StatusResult as Shape>⟧.shape.well v) }
     {
         let ext = further(ext, Self::NAMES)?;

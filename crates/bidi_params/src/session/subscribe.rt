@@ -42,14 +42,19 @@ impl SubscribeParameters {
         user_contexts: Option<OneOrMore<String>>,
         ext: Members,
     ) -> Result<SubscribeParameters, MakeFault>
+        // There is at least one event name.
         requires events { ⟦<OneOrMore<String> as Shape>⟧.shape.well events }
+        // There is at least one context, if contexts are given.
         requires contexts { IfSome contexts ⟦<OneOrMore<String> as Shape>⟧.shape.well }
+        // There is at least one user context, if they are given.
         requires user_contexts { IfSome user_contexts ⟦<OneOrMore<String> as Shape>⟧.shape.well }
+        // Memory aside, the first cause that holds is the fault; with none, the value has these parts.
         ensures made { Makes result
             (has_named (names_in (named subscribe_parameters)) (members_node ext.entries) ≡ true)
             ⊥
             (¬ MembersAreWhole (members_node ext.entries) 60)
             (λ v. (v.events ≡ events) × (v.contexts ≡ contexts) × (v.user_contexts ≡ user_contexts) × (others_of v.ext ≡ members_node ext.entries)) }
+        // The value is well-formed, so its tree fits the type's rule.
         ensures well { IfOk result (λ v. ⟦<SubscribeParameters as Shape>⟧.shape.well v) }
     {
         let ext = further(ext, Self::NAMES)?;
@@ -112,11 +117,13 @@ impl SubscribeResult {
     /// - `Clash`: a further member is called `subscription`.
     /// - `TooDeep`: a further member has an `Odd` in it, or more than 60 levels.
     pub fn new(subscription: String, ext: Members) -> Result<SubscribeResult, MakeFault>
+        // Memory aside, the first cause that holds is the fault; with none, the value has these parts.
         ensures made { Makes result
             (has_named (names_in (named subscribe_result)) (members_node ext.entries) ≡ true)
             ⊥
             (¬ MembersAreWhole (members_node ext.entries) 60)
             (λ v. (v.subscription ≡ subscription) × (others_of v.ext ≡ members_node ext.entries)) }
+        // The value is well-formed, so its tree fits the type's rule.
         ensures well { IfOk result (λ v. ⟦<SubscribeResult as Shape>⟧.shape.well v) }
     {
         let ext = further(ext, Self::NAMES)?;
@@ -159,12 +166,15 @@ impl UnsubscribeById {
     /// - `Clash`: a further member is called `subscriptions`.
     /// - `TooDeep`: a further member has an `Odd` in it, or more than 60 levels.
     pub fn new(subscriptions: OneOrMore<String>, ext: Members) -> Result<UnsubscribeById, MakeFault>
+        // There is at least one subscription.
         requires { ⟦<OneOrMore<String> as Shape>⟧.shape.well subscriptions }
+        // Memory aside, the first cause that holds is the fault; with none, the value has these parts.
         ensures made { Makes result
             (has_named (names_in (named unsubscribe_by_id)) (members_node ext.entries) ≡ true)
             ⊥
             (¬ MembersAreWhole (members_node ext.entries) 60)
             (λ v. (v.subscriptions ≡ subscriptions) × (others_of v.ext ≡ members_node ext.entries)) }
+        // The value is well-formed, so its tree fits the type's rule.
         ensures well { IfOk result (λ v. ⟦<UnsubscribeById as Shape>⟧.shape.well v) }
     {
         let ext = further(ext, Self::NAMES)?;
@@ -216,12 +226,15 @@ impl UnsubscribeByEvents {
         events: OneOrMore<String>,
         ext: Members,
     ) -> Result<UnsubscribeByEvents, MakeFault>
+        // There is at least one event name.
         requires { ⟦<OneOrMore<String> as Shape>⟧.shape.well events }
+        // Memory aside, the first cause that holds is the fault; with none, the value has these parts.
         ensures made { Makes result
             (has_named (names_in (named unsubscribe_by_events)) (members_node ext.entries) ≡ true)
             (Fits (by_events_map events.items.items (members_node ext.entries)) (named unsubscribe_by_id))
             (¬ MembersAreWhole (members_node ext.entries) 60)
             (λ v. (v.events ≡ events) × (others_of v.ext ≡ members_node ext.entries)) }
+        // The value is well-formed, so its tree fits the type's rule.
         ensures well { IfOk result (λ v. ⟦<UnsubscribeByEvents as Shape>⟧.shape.well v) }
     {
         let ext = Ext::new(ext, Self::NAMES)?;

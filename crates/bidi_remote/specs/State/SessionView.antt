@@ -1,4 +1,4 @@
--- What contracts see of a session in hand and of its subscriptions: the rows of their tables.
+-- What contracts see of the sessions in the code.
 use Rattle.std.specs.Prelude.{◌≡◌, ◌<◌, ◌==◌, ℕ, List, map, get_or, Option, Some, None, vec_len, vec_capacity}
 use Rattle.std.specs.List.{position}
 use Rattle.bidi_remote.specs.declared.log_buffer.LogBuffer.{LogBuffer}
@@ -9,32 +9,33 @@ use Rattle.bidi_remote.specs.declared.sessions.Sessions.{Sessions}
 use Rattle.bidi_methods.specs.declared.event_data.EventName.{EventName}
 use Rattle.bidi_remote.specs.Machine.History.{Scope}
 use Rattle.bidi_remote.specs.State.EventTexts.{Written, place_row}
-use Rattle.bidi_remote.specs.State.SubscriptionRows.{SessionRow}
-use Rattle.bidi_remote.specs.State.SubscriptionsView.{rows_of, HasRoomFor}
+use Rattle.bidi_remote.specs.State.SessionRows.{SessionRow}
+use Rattle.bidi_sessions.specs.SubscriptionsView.{rows_of, HasRoomFor}
 
--- the places of a buffer in hand
+-- the places of a log buffer, each with the entry that waits there
 abbrev pub places_in : LogBuffer → List (Option Written)
 places_in b = map place_row b.places.items
 
+-- the row of a session in the code
 abbrev pub session_row_of : Session → SessionRow
 session_row_of s = record { number = s.number; made = s.made; subscriptions = rows_of s.subscriptions; missed = places_in s.missed }
 
--- the rows of a table in hand
+-- the rows of the table in the code
 abbrev pub rows_in : Sessions → List SessionRow
 rows_in sessions = map session_row_of sessions.active.items
 
--- the session that a connection is opened for, if there is one
+-- the session that a connection is opened for, if it is for one
 abbrev pub opened_by : declared_opening.Opening → Option ℕ
 opened_by opens.Alone = None
 opened_by (opens.For s) = Some s
 
 -- ---- room
 
--- for one more session
+-- There is room for one more session.
 abbrev pub HasRoomForOne : Sessions → Type 0
 HasRoomForOne sessions = vec_len sessions.active < vec_capacity sessions.active
 
--- for one more subscription of the session of that number, to these events in this scope, where the session is there
+-- The session of this number, if it is active, has room for one more subscription to these events in this scope.
 abbrev pub HasRoomIn : ℕ → List EventName → Scope → Sessions → Type 0
 HasRoomIn number es scope sessions =
     (i : ℕ) (d : Session) → position (λ s. s.number == number) sessions.active.items ≡ Some i

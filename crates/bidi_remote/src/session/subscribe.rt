@@ -1,38 +1,34 @@
 //! `session.subscribe`.
 ghost use Rattle.std.specs.Prelude.{◌≡◌, ◌<◌, ◌||◌, List, map, filter, string_bytes, option_map, IfOk, true};
-ghost use Rattle.bidi_browser.specs.Acts.{Act};
-ghost use Rattle.bidi_browser.specs.Occurrences.{tree_events};
+ghost use Rattle.bidi_contexts.specs.Acts.{Act};
+ghost use Rattle.bidi_contexts.specs.Occurrences.{tree_events};
 ghost use Rattle.bidi_browser.specs.Stands.{StandsFor};
-ghost use Rattle.bidi_browser.specs.View.{result_tree};
 ghost use Rattle.bidi_remote.specs.Machine.History.{Deed, Subscribed};
 ghost use Rattle.bidi_remote.specs.Machine.Sessions.{is_active};
 ghost use Rattle.bidi_remote.specs.Machine.Subscriptions.{subscriptions_made};
 ghost use Rattle.bidi_remote.specs.Machine.Outcome.{tops_named, users_named, scope_asked, outcome_in};
-ghost use Rattle.bidi_remote.specs.Machine.Sent.{announcements, subscription_tree};
+ghost use Rattle.bidi_remote.specs.Machine.Sent.{announcements};
 ghost use Rattle.bidi_remote.specs.State.Asked.{texts, subscribe_asked};
-ghost use Rattle.bidi_remote.specs.State.Checked.{IfChecked};
+ghost use Rattle.bidi_sessions.specs.Checked.{IfChecked};
 ghost use Rattle.bidi_remote.specs.State.SessionView.{session_row_of};
-ghost use Rattle.bidi_remote.specs.State.SubscriptionView.{scope_of};
-ghost use Rattle.bidi_remote.specs.State.SubscriptionsView.{rows_of};
+ghost use Rattle.bidi_sessions.specs.SubscriptionView.{scope_of};
+ghost use Rattle.bidi_sessions.specs.SubscriptionsView.{rows_of};
 ghost use Rattle.bidi_remote.specs.State.MissedRows.{waiting};
 ghost use Rattle.bidi_remote.specs.State.EventTexts.{written, written_in, AreMessages};
-ghost use Rattle.bidi_remote.specs.State.SubscriptionRows.{is_new, may_be_new};
+ghost use Rattle.bidi_remote.specs.State.SessionRows.{is_new};
+ghost use Rattle.bidi_sessions.specs.SubscriptionRows.{may_be_new};
 ghost use Rattle.bidi_remote.specs.State.Stands.{AgreeWith};
 ghost use Rattle.bidi_remote.specs.State.Turns.{Decides, HasResultOf, IsWellDecided};
-ghost use Rattle.bidi_messages.specs.Payloads.{ResultIsWell, result_method};
 
 use crate::announcing::{is_new, may_be_new};
 use crate::event_texts::{EventText, event_texts};
-use crate::session::event_names::all_named;
 use crate::sessions::Session;
 use crate::state::State;
-use crate::subscription_table::Subscriptions;
-use crate::subscriptions::Scope;
 use crate::turn::{Asker, Change, Turn};
-use bidi_browser::{Browser, IdKind, Refusal, id_text};
-use bidi_messages::{ErrorCode, EventName, Method, Payload, ResultData};
-use bidi_params::{SubscribeParameters, SubscribeResult};
-use bidi_shape::Ext;
+use bidi_browser::{Browser, Refusal};
+use bidi_messages::{ErrorCode, EventName, Method, Payload};
+use bidi_params::SubscribeParameters;
+use bidi_sessions::{Scope, Subscriptions, all_named, subscribe_result};
 use std::alloc::{AllocError, Global};
 use std::rc::Rc;
 
@@ -209,17 +205,4 @@ fn users_named(alloc: Global, browser: &Browser, ids: &[String]) -> Result<Vec<u
         }
     }
     Ok(users)
-}
-
-// The result: the id of the subscription of this number.
-fn subscribe_result(alloc: Global, session: u32, number: u32) -> Result<ResultData, AllocError>
-    ensures tree { IfOk result (λ r. result_tree r ≡ subscription_tree session number) }
-    ensures well { IfOk result ResultIsWell }
-    ensures of_method { IfOk result (λ r. result_method r ≡ Method.SessionSubscribe) }
-{
-    let subscription = id_text(alloc, IdKind::Subscription, session, u64::from(number))?;
-    Ok(ResultData::SessionSubscribe(SubscribeResult {
-        subscription,
-        ext: Ext::empty(alloc),
-    }))
 }

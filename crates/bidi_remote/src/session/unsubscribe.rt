@@ -1,25 +1,20 @@
 //! `session.unsubscribe`.
 ghost use Rattle.std.specs.Prelude.{◌≡◌, List, true, IfOk};
-ghost use Rattle.bidi_handles.specs.Maps.{nothing};
 ghost use Rattle.bidi_remote.specs.Machine.History.{Deed};
 ghost use Rattle.bidi_remote.specs.Machine.Outcome.{outcome_in, unsubscribe_by_id_outcome, unsubscribe_by_events_outcome};
 ghost use Rattle.bidi_remote.specs.Machine.Sessions.{is_active};
 ghost use Rattle.bidi_remote.specs.State.Asked.{texts, unsubscribe_asked};
-ghost use Rattle.bidi_remote.specs.State.Checked.{IfChecked};
+ghost use Rattle.bidi_sessions.specs.Checked.{IfChecked};
 ghost use Rattle.bidi_remote.specs.State.Stands.{AgreeWith};
-ghost use Rattle.bidi_browser.specs.View.{result_tree};
-ghost use Rattle.bidi_browser.specs.Acts.{Looked};
+ghost use Rattle.bidi_contexts.specs.Acts.{Looked};
 ghost use Rattle.bidi_remote.specs.State.Turns.{Decides, HasResultOf, IsWellDecided, IsOfSessions, deed_of};
-ghost use Rattle.bidi_messages.specs.Payloads.{ResultIsWell, result_method};
 
-use crate::session::event_names::all_named;
 use crate::state::State;
-use crate::subscriptions::numbers_of;
 use crate::turn::{Asker, Change, Turn};
 use bidi_browser::Refusal;
-use bidi_messages::{ErrorCode, Method, Payload, ResultData};
-use bidi_params::{EmptyResult, UnsubscribeParameters};
-use bidi_shape::Ext;
+use bidi_messages::{ErrorCode, Method};
+use bidi_params::UnsubscribeParameters;
+use bidi_sessions::{all_named, numbers_of, unsubscribe_result};
 use std::alloc::Global;
 
 /// Decides `session.unsubscribe`: ends subscriptions by their ids, or removes events from the global ones.
@@ -79,15 +74,4 @@ fn end_by_events(
         return Err(Refusal::Code(ErrorCode::InvalidArgument));
     }
     Ok(Change::Dismiss(session, events))
-}
-
-// The empty result.
-fn unsubscribe_result(alloc: Global) -> ResultData
-    ensures tree { result_tree result ≡ nothing }
-    ensures well { ResultIsWell result }
-    ensures of_method { result_method result ≡ Method.SessionUnsubscribe }
-{
-    ResultData::SessionUnsubscribe(EmptyResult {
-        ext: Ext::empty(alloc),
-    })
 }

@@ -12,18 +12,18 @@ use Rattle.bidi_shape.specs.Term.{names_of}
 use Rattle.bidi_shape.specs.Fits.{Fits, fits_second, AllFit, no_item, an_item, RowsFit, OthersFit, without}
 use Rattle.bidi_shape.specs.Fits.{no_row as no_row_fits, there, absent}
 use Rattle.bidi_shape.proofs.FitsLemmas.{others_fit}
-use Rattle.bidi_blame.specs.declared.term.Need.TheVariants.{Required}
-use Rattle.bidi_blame.specs.declared.term.Term.TheVariants.{Exactly}
+use Rattle.bidi_rules.specs.declared.term.Need.TheVariants.{Required}
+use Rattle.bidi_rules.specs.declared.term.Term.TheVariants.{Exactly}
 use Rattle.bidi_blame.specs.Blames.{takes, Blames, Judged, ItemsJudged, RowsJudged, OthersJudged, ItemsBlame, RowsBlame, OthersBlame, of_both, in_member, in_others, is_there, is_absent, is_unknown, in_other, later_other, not_taken, this_item, later_item}
-use Rattle.bidi_blame.specs.Grammar.{grammar, grammar_rows, one_of, need_of, openness_of}
-use Rattle.bidi_blame.specs.Names.{name_of}
+use Rattle.bidi_rules.specs.Grammar.{grammar, grammar_rows, one_of, need_of, openness_of}
+use Rattle.bidi_rules.specs.Names.{name_of}
 use Rattle.bidi_blame.specs.Reason as step
 use Rattle.bidi_blame.specs.Reason.{Reason, here, missing, unknown, under, by, told, tags_with}
 use Rattle.bidi_blame.specs.View.{draft_of, reason_if}
-use Rattle.bidi_blame.specs.Weight.{weight, height_of, is_ready}
+use Rattle.bidi_rules.specs.Weight.{weight, height_of, is_ready}
 use Rattle.bidi_blame.proofs.PlainLemmas.{exactly_taken, text_taken, bool_taken, null_taken, js_uint_taken, js_int_taken}
-use Rattle.bidi_blame.proofs.GrammarLemmas.{grammar-Exactly, grammar-Text, grammar-Bool, grammar-Null, grammar-JsUint, grammar-JsInt, grammar-Any, grammar-ListOf, grammar-PairOf, grammar-MapOf, grammar-Capped}
-use Rattle.bidi_blame.proofs.GrammarLemmas.{ready-PairOf, ready-MapOf, ready-OneOf, height-OneOf, chosen-first, Row, row_at, ready_at, height-ready}
+use Rattle.bidi_rules.proofs.GrammarLemmas.{grammar-Exactly, grammar-Text, grammar-Bool, grammar-Null, grammar-JsUint, grammar-JsInt, grammar-Any, grammar-ListOf, grammar-PairOf, grammar-MapOf, grammar-Capped}
+use Rattle.bidi_rules.proofs.GrammarLemmas.{ready-PairOf, ready-MapOf, ready-OneOf, height-OneOf, chosen-first, Row, row_at, ready_at, height-ready}
 use Rattle.bidi_blame.proofs.JudgeLemmas.{judged_any_list, judged_any_map, any_plain, judged_list, judged_map, judged_capped, list_levels, map_levels, first_of}
 use Rattle.bidi_blame.proofs.JudgeLemmas.{judged_rule, blames_rule, first_blamed, second_blamed, pair_fits, two_long, item_here, rows_judged, row_missing, more_tags, list_of_first, list_of_two, other_here}
 use Rattle.bidi_blame.proofs.LevelLemmas.{levels-get_member}

@@ -5,9 +5,9 @@ use Rattle.bidi_tree.specs.Outline.{outline_node, outline_items, outline_members
 use Rattle.bidi_shape.specs.Term.{names_of}
 use Rattle.bidi_shape.specs.Fits.{AllFit, RowsFit, OthersFit, without}
 use Rattle.bidi_blame.specs.Blames.{ItemsBlame, RowsBlame, OthersBlame}
-use Rattle.bidi_blame.specs.Grammar.{grammar, grammar_rows, openness_of}
+use Rattle.bidi_rules.specs.Grammar.{grammar, grammar_rows, openness_of}
 use Rattle.bidi_blame.specs.Reason.{Reason}
-use Rattle.bidi_blame.specs.Weight.{height_of, rows_are_ready, chosen, weight, rank}
+use Rattle.bidi_rules.specs.Weight.{height_of, rows_are_ready, chosen, weight, rank}
 use Rattle.bidi_blame.proofs.blaming.+blame.Given as goal
 
 -- what is left to do: the levels below, then the choices, names and caps that are passed before one goes down

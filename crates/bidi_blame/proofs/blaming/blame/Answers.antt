@@ -1,7 +1,7 @@
 use Rattle.bidi_tree.specs.Outline.{outline_node}
 use Rattle.bidi_shape.specs.Term.{rule}
 use Rattle.bidi_blame.specs.Blames.{Blames}
-use Rattle.bidi_blame.specs.Names.{name_of}
+use Rattle.bidi_rules.specs.Names.{name_of}
 use Rattle.bidi_blame.specs.View.{draft_of}
 use Rattle.bidi_blame.proofs.ExclusionLemmas.{excludes}
 use Rattle.bidi_blame.proofs.blaming.blame.Goals as goal

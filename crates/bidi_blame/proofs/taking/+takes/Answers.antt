@@ -9,9 +9,9 @@ use Rattle.bidi_tree.specs.declared.outline.Outline.{Outline}
 use Rattle.bidi_shape.specs.Fits.{count}
 use Rattle.bidi_shape.specs.Term.{Term, list_of, pair_of}
 use Rattle.bidi_blame.specs.Blames.{takes}
-use Rattle.bidi_blame.specs.Grammar.{grammar, one_of}
-use Rattle.bidi_blame.specs.declared.term.Term as code
-use Rattle.bidi_blame.proofs.GrammarLemmas.{grammar-ListOf, grammar-PairOf, grammar-OneOf}
+use Rattle.bidi_rules.specs.Grammar.{grammar, one_of}
+use Rattle.bidi_rules.specs.declared.term.Term as code
+use Rattle.bidi_rules.proofs.GrammarLemmas.{grammar-ListOf, grammar-PairOf, grammar-OneOf}
 use Rattle.bidi_blame.proofs.JudgeLemmas.{count-items_of}
 use Rattle.bidi_blame.proofs.taking.+takes.Goals as goal
 

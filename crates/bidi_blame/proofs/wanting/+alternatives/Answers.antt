@@ -1,10 +1,10 @@
 use Rattle.std.proofs.Common.{◌<◌, map, length, arith, ap, ◌∙◌}
 use Rattle.bidi_blame.specs.Said.{said_text}
 use Rattle.std.proofs.lemmas.Result.{on_ok_weaker}
-use Rattle.bidi_blame.specs.Grammar.{grammar}
+use Rattle.bidi_rules.specs.Grammar.{grammar}
 use Rattle.bidi_blame.specs.Words.{alternatives, each_once}
-use Rattle.bidi_blame.specs.declared.term.Term.{Term}
-use Rattle.bidi_blame.proofs.GrammarLemmas.{grammar-Capped, grammar-OneOf}
+use Rattle.bidi_rules.specs.declared.term.Term.{Term}
+use Rattle.bidi_rules.proofs.GrammarLemmas.{grammar-Capped, grammar-OneOf}
 use Rattle.bidi_blame.proofs.WordLemmas.{choice_told, told_one_more, grammar-Bool, grammar-JsUint, grammar-JsInt, grammar-Any}
 use Rattle.bidi_blame.proofs.wanting.+alternatives.Goals as goal
 

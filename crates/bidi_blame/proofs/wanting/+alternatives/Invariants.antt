@@ -1,6 +1,6 @@
 use Rattle.std.proofs.Common.{◌≡◌, map, flat_map, drop}
 use Rattle.bidi_blame.specs.Said.{said_text}
-use Rattle.bidi_blame.specs.Grammar.{grammar}
+use Rattle.bidi_rules.specs.Grammar.{grammar}
 use Rattle.bidi_blame.specs.Words.{alternatives, each_once}
 use Rattle.bidi_blame.proofs.wanting.+alternatives.Given as goal
 

@@ -1,10 +1,10 @@
 use Rattle.std.proofs.Common.{◌≡◌, List, [], ◌∷◌, true, false, length, map, refl, sym, ap, ◌∙◌, true≢false}
 use Rattle.std.specs.Prelude.{◌==◌}
 use Rattle.bidi_shape.specs.Term.{Term}
-use Rattle.bidi_blame.specs.Grammar.{grammar, one_of}
+use Rattle.bidi_rules.specs.Grammar.{grammar, one_of}
 use Rattle.bidi_blame.specs.Words.{is_map}
-use Rattle.bidi_blame.specs.declared.term.Term as code
-use Rattle.bidi_blame.proofs.GrammarLemmas.{grammar-OneOf}
+use Rattle.bidi_rules.specs.declared.term.Term as code
+use Rattle.bidi_rules.proofs.GrammarLemmas.{grammar-OneOf}
 use Rattle.bidi_blame.proofs.wanting.+is_map.Goals as goal
 
 -- a choice of more than one is no map

@@ -1,7 +1,7 @@
 use Rattle.std.proofs.Common.{map}
 use Rattle.bidi_blame.specs.Said.{said_text}
 use Rattle.std.proofs.lemmas.Result.{on_ok_weaker}
-use Rattle.bidi_blame.specs.Grammar.{grammar}
+use Rattle.bidi_rules.specs.Grammar.{grammar}
 use Rattle.bidi_blame.proofs.WordLemmas.{choice_told}
 use Rattle.bidi_blame.proofs.wanting.tell_want.Goals as goal
 

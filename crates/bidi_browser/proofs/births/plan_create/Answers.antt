@@ -1,11 +1,11 @@
 use Rattle.std.proofs.Common.{◌∙◌, ◌∷◌, [], Some, refl, sym, ap, subst}
 use Rattle.bidi_tree.specs.Node.{no_members}
 use Rattle.bidi_handles.specs.declared.id.IdKind.TheVariants.{Context}
-use Rattle.bidi_browser.specs.Acts.{Made}
-use Rattle.bidi_browser.specs.ContextRows.{row_of}
+use Rattle.bidi_contexts.specs.Acts.{Made}
+use Rattle.bidi_contexts.specs.ContextRows.{row_of}
 use Rattle.bidi_handles.specs.Maps.{◌being◌and◌, mapped, id_tree}
 use Rattle.bidi_browser.specs.Occurs.{Replies}
-use Rattle.bidi_browser.specs.Plans.{AreWell}
+use Rattle.bidi_contexts.specs.View.{AreWell}
 use Rattle.bidi_browser.proofs.PlanLemmas.{made-row, asked-birth, none-is}
 use Rattle.bidi_browser.proofs.births.plan_create.Goals as goal
 
@@ -16,7 +16,7 @@ returns-clause-plans c = λ past moment stands ids.
     let context = c.in_ok-context.context in
     let row = made-row past w u (row_of context) _ _ _ _ stands.contexts.accepted stands.next_context stands.next_realm stands.next_window
     c.unwrap_or.ensures c.in_ok-context.ensures in
-    let number = ap (λ r. r.number) c.in_ok-context.ensures ∙ stands.next_context in (
+    let number = c.number.ensures.number ∙ (ap (λ r. r.number) c.in_ok-context.ensures ∙ stands.next_context) in (
       Made w u,
       c.in_ok-place.ensures.checked past stands ids,
       asked-birth past (Made w u) (row_of context) c.in_ok-before.before.items _ (Some c.in_ok-result.result) _ row c.in_ok-before.ensures.told

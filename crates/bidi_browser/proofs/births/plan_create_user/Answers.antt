@@ -1,10 +1,10 @@
 use Rattle.std.proofs.Common.{◌∙◌, ◌∷◌, [], refl, ap, arith}
 use Rattle.bidi_methods.specs.declared.result_data.ResultData.TheVariants.{BrowserCreateUserContext}
 use Rattle.bidi_browser.specs.declared.plan.Edit.TheVariants.{AddUser}
-use Rattle.bidi_browser.specs.Actions.{CreateUserContext}
-use Rattle.bidi_browser.specs.Acts.{UserMade}
+use Rattle.bidi_contexts.specs.Actions.{CreateUserContext}
+use Rattle.bidi_contexts.specs.Acts.{UserMade}
 use Rattle.bidi_browser.specs.Occurs.{Replies}
-use Rattle.bidi_browser.specs.Users.{user_info}
+use Rattle.bidi_contexts.specs.Users.{user_info}
 use Rattle.bidi_browser.proofs.CallLemmas.{answered-plans}
 use Rattle.bidi_browser.proofs.PlanLemmas.{told-well, result-well}
 use Rattle.bidi_browser.proofs.births.plan_create_user.Goals as goal

@@ -1,9 +1,10 @@
 use Rattle.std.proofs.Common.{◌≡◌, ◌<◌, true, nat_lt, refl, ap, arith}
 use Rattle.std.proofs.lemmas.Bool.Decides.{nat_tests}
-use Rattle.bidi_browser.specs.Acts.{Framed}
-use Rattle.bidi_browser.specs.ContextRows.{row_of}
-use Rattle.bidi_browser.specs.Contexts.{level_of}
-use Rattle.bidi_browser.specs.Outcome.{has_room}
+use Rattle.bidi_contexts.specs.Acts.{Framed}
+use Rattle.bidi_contexts.specs.ContextRows.{row_of}
+use Rattle.bidi_contexts.specs.Contexts.{level_of}
+use Rattle.bidi_contexts.specs.Limits.{lowest_level}
+use Rattle.bidi_contexts.specs.Outcome.{has_room}
 use Rattle.bidi_browser.proofs.PlanLemmas.{frame-passes, framed-row, unasked-birth}
 use Rattle.bidi_browser.proofs.births.plan_frame.Goals as goal
 
@@ -14,9 +15,10 @@ returns-clause-plans c = λ past moment stands ids.
     let url = c.in_ok-url.url in
     let parent = c.in_ok-parent.parent.now in
     let level = ap (λ r. r.level) found.2 in
-    let low = c.if-parent-ge-LOWEST_LEVEL.false in
-    let less : parent.level < 16 = omega (arith, low) in
-    let high : nat_lt (level_of past p) 16 ≡ true = grind (arith, nat_tests, less, level) in
+    let low = c.if-level-ge-LOWEST_LEVEL.false in
+    let at = c.level.ensures in
+    let less : (row_of parent).level < lowest_level = omega (arith, low, at) in
+    let high : nat_lt (level_of past p) lowest_level ≡ true = grind (arith, nat_tests, less, level) in
     let room : has_room past ≡ true = let some = c.if-not-has_room.false in
     let same = c.has_room.ensures.room past stands ids in grind (arith, nat_tests, some, same) in
     let context = c.in_ok-context.context in

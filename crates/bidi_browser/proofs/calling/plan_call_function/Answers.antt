@@ -1,12 +1,12 @@
 use Rattle.std.proofs.Common.{◌∙◌, [], ◌∷◌, string_bytes, refl, sym, ap}
 use Rattle.std.specs.Prelude.{option_map, ◌&&◌}
 use Rattle.bidi_methods.specs.declared.result_data.ResultData.TheVariants.{ScriptCallFunction}
-use Rattle.bidi_browser.specs.Acts.{Ran}
+use Rattle.bidi_contexts.specs.Acts.{Ran}
 use Rattle.bidi_browser.specs.Asked.{arguments_asked, call_function_asked, is_owned, target_of}
 use Rattle.bidi_handles.specs.Checks.{◌>>=◌}
 use Rattle.bidi_browser.specs.Occurs.{Replies, script_result}
-use Rattle.bidi_browser.specs.Outcome.{ending_outcome}
-use Rattle.bidi_browser.specs.Realms.{realm_of, value_of}
+use Rattle.bidi_contexts.specs.Outcome.{ending_outcome}
+use Rattle.bidi_contexts.specs.Realms.{realm_of, value_of}
 use Rattle.bidi_browser.specs.Runs.{call_ending}
 use Rattle.bidi_browser.specs.TableInHand.{ending_seen}
 use Rattle.bidi_handles.specs.Values.{takes_handle}

@@ -1,7 +1,7 @@
 use Rattle.std.proofs.Common.{◌∙◌, map, refl, ap, sym}
 use Rattle.std.specs.Prelude.{option_map, string_bytes}
-use Rattle.bidi_browser.specs.ContextRows.{row_of, row_at}
-use Rattle.bidi_browser.specs.Outcome.{context_named}
+use Rattle.bidi_contexts.specs.ContextRows.{row_of, row_at}
+use Rattle.bidi_contexts.specs.Outcome.{context_named}
 use Rattle.bidi_browser.proofs.PlanLemmas.{holder-found, one-shown}
 use Rattle.bidi_browser.proofs.looking.holders.Goals as goal
 

@@ -1,8 +1,8 @@
 use Rattle.std.proofs.Common.{ap, ◌∷◌, [], refl, arith}
 use Rattle.bidi_methods.specs.declared.result_data.ResultData.TheVariants.{BrowsingContextActivate}
-use Rattle.bidi_browser.specs.Actions.{Activate}
+use Rattle.bidi_contexts.specs.Actions.{Activate}
 use Rattle.bidi_browser.specs.Occurs.{Replies}
-use Rattle.bidi_browser.specs.Outcome.{looked}
+use Rattle.bidi_contexts.specs.Outcome.{looked}
 use Rattle.bidi_browser.proofs.PlanLemmas.{looked-plans, told-well, result-well}
 use Rattle.bidi_browser.proofs.looking.plan_activate.Goals as goal
 

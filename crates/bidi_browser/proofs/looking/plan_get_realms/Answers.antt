@@ -3,14 +3,14 @@ use Rattle.std.specs.Prelude.{option_map, string_bytes}
 use Rattle.bidi_tree.specs.Node.{no_members, items_levels}
 use Rattle.bidi_tree.specs.View.{items_of}
 use Rattle.bidi_shape.specs.ValueLaws.{others_of}
-use Rattle.bidi_params.specs.Words.{realm_type_text}
-use Rattle.bidi_params.specs.contracts.script.realms.RealmInfoShape.TheImpl.{ghosts}
+use Rattle.bidi_scripts.specs.RealmType.{realm_type_text}
+use Rattle.bidi_scripts.specs.contracts.realms.RealmInfoShape.TheImpl.{ghosts}
 use Rattle.bidi_methods.specs.declared.result_data.ResultData.TheVariants.{ScriptGetRealms}
 use Rattle.bidi_browser.specs.Asked.{get_realms_asked}
-use Rattle.bidi_browser.specs.ContextRows.{row_of}
+use Rattle.bidi_contexts.specs.ContextRows.{row_of}
 use Rattle.bidi_handles.specs.Maps.{◌being◌and◌, mapped, listed}
 use Rattle.bidi_browser.specs.Occurs.{Replies, takes_windows}
-use Rattle.bidi_browser.proofs.InfoLemmas.{none-further}
+use Rattle.bidi_contexts.proofs.InfoLemmas.{none-further}
 use Rattle.bidi_browser.proofs.PlanLemmas.{looked-plans, told-well, result-well, windows-told, windows-flat}
 use Rattle.bidi_browser.proofs.looking.plan_get_realms.Goals as goal
 

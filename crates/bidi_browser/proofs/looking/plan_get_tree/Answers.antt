@@ -4,12 +4,12 @@ use Rattle.bidi_tree.specs.Node.{no_members}
 use Rattle.bidi_shape.specs.ValueLaws.{others_of}
 use Rattle.bidi_params.specs.contracts.browsing_context.info.InfoShape.TheImpl.{ghosts}
 use Rattle.bidi_methods.specs.declared.result_data.ResultData.TheVariants.{BrowsingContextGetTree}
-use Rattle.bidi_browser.specs.Actions.{GetTree}
+use Rattle.bidi_contexts.specs.Actions.{GetTree}
 use Rattle.bidi_browser.specs.Asked.{get_tree_asked}
-use Rattle.bidi_browser.specs.Info.{info_of}
+use Rattle.bidi_contexts.specs.Info.{info_of}
 use Rattle.bidi_handles.specs.Maps.{◌being◌and◌, mapped, listed}
 use Rattle.bidi_browser.specs.Occurs.{Replies, roots}
-use Rattle.bidi_browser.proofs.InfoLemmas.{items-below, all-well, none-further}
+use Rattle.bidi_contexts.proofs.InfoLemmas.{items-below, all-well, none-further}
 use Rattle.bidi_browser.proofs.PlanLemmas.{looked-plans, refused-looks, told-well, result-well}
 use Rattle.bidi_browser.proofs.looking.plan_get_tree.Goals as goal
 

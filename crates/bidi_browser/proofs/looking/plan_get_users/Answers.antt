@@ -5,12 +5,12 @@ use Rattle.bidi_shape.specs.ValueLaws.{others_of}
 use Rattle.bidi_params.specs.contracts.browser.UserContextInfoShape.TheImpl.{ghosts}
 use Rattle.bidi_methods.specs.declared.result_data.ResultData.TheVariants.{BrowserGetUserContexts}
 use Rattle.bidi_handles.specs.Maps.{◌being◌and◌, mapped, listed}
-use Rattle.bidi_browser.specs.Actions.{GetUserContexts}
+use Rattle.bidi_contexts.specs.Actions.{GetUserContexts}
 use Rattle.bidi_browser.specs.Occurs.{Replies}
-use Rattle.bidi_browser.specs.Users.{user_info}
-use Rattle.bidi_browser.proofs.InfoLemmas.{none-further}
+use Rattle.bidi_contexts.specs.Users.{user_info}
+use Rattle.bidi_contexts.proofs.InfoLemmas.{none-further}
 use Rattle.bidi_browser.proofs.PlanLemmas.{looked-plans, told-well, result-well}
-use Rattle.bidi_browser.proofs.UserLemmas.{users-flat, some-seen}
+use Rattle.bidi_contexts.proofs.UserLemmas.{users-flat, some-seen}
 use Rattle.bidi_browser.proofs.looking.plan_get_users.Goals as goal
 
 pub returns-clause-plans : goal.returns-clause-plans

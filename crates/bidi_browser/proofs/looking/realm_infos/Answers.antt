@@ -1,6 +1,6 @@
-use Rattle.bidi_params.specs.contracts.script.realms.RealmInfoShape.TheImpl.{ghosts}
-use Rattle.bidi_browser.specs.ContextRows.{row_of, realm_info_in}
-use Rattle.bidi_browser.proofs.PushLemmas.{seen-more, AllByRecursion-more}
+use Rattle.bidi_scripts.specs.contracts.realms.RealmInfoShape.TheImpl.{ghosts}
+use Rattle.bidi_contexts.specs.ContextRows.{row_of, realm_info_in}
+use Rattle.bidi_contexts.proofs.PushLemmas.{seen-more, AllByRecursion-more}
 use Rattle.bidi_browser.proofs.looking.realm_infos.Goals as goal
 
 pub loop-context-preserved : goal.loop-context-preserved

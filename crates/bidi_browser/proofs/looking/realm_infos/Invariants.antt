@@ -1,7 +1,7 @@
 use Rattle.std.proofs.Common.{◌≡◌, map, take}
 use Rattle.std.specs.List.{AllByRecursion}
-use Rattle.bidi_params.specs.contracts.script.realms.RealmInfoShape.TheImpl.{ghosts}
-use Rattle.bidi_browser.specs.ContextRows.{row_of, realm_info_in}
+use Rattle.bidi_scripts.specs.contracts.realms.RealmInfoShape.TheImpl.{ghosts}
+use Rattle.bidi_contexts.specs.ContextRows.{row_of, realm_info_in}
 use Rattle.bidi_browser.proofs.looking.realm_infos.Given as goal
 
 abbrev pub invariant-loop-context : goal.invariant-loop-context

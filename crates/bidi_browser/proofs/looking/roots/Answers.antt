@@ -1,8 +1,8 @@
 use Rattle.std.proofs.Common.{◌∙◌, map, ap, sym}
 use Rattle.std.specs.Prelude.{option_map, string_bytes}
 use Rattle.bidi_params.specs.contracts.browsing_context.info.InfoShape.TheImpl.{ghosts}
-use Rattle.bidi_browser.specs.Info.{info_of}
-use Rattle.bidi_browser.specs.Outcome.{context_named}
+use Rattle.bidi_contexts.specs.Info.{info_of}
+use Rattle.bidi_contexts.specs.Outcome.{context_named}
 use Rattle.bidi_browser.proofs.PlanLemmas.{root-found, one-shown}
 use Rattle.bidi_browser.proofs.looking.roots.Goals as goal
 

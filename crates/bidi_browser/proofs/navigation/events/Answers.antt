@@ -1,12 +1,11 @@
 use Rattle.std.proofs.Common.{◌∙◌, ◌∷◌, [], ap, sym, subst}
 use Rattle.bidi_methods.specs.contracts.event_data.EventDataPayloadEventName.TheImpl.{ghosts}
 use Rattle.bidi_methods.specs.declared.event_data.EventName.TheVariants.{NavigationStarted, DomContentLoaded, Load}
-use Rattle.bidi_browser.specs.ContextRows.{row_of, realm_destroyed_in}
-use Rattle.bidi_browser.specs.Contexts.{children_of}
+use Rattle.bidi_contexts.specs.ContextRows.{row_of, realm_destroyed_in}
 use Rattle.bidi_browser.specs.Occurs.{led_to}
-use Rattle.bidi_browser.specs.Plans.{AreWell}
-use Rattle.bidi_browser.specs.View.{seen}
-use Rattle.bidi_browser.proofs.PushLemmas.{AllByRecursion-more}
+use Rattle.bidi_contexts.specs.View.{AreWell}
+use Rattle.bidi_contexts.specs.View.{seen}
+use Rattle.bidi_contexts.proofs.PushLemmas.{AllByRecursion-more}
 use Rattle.bidi_browser.proofs.NavigationLemmas.{all-told, event-told, realm-told, one-told}
 use Rattle.bidi_browser.proofs.navigation.events.Goals as goal
 
@@ -17,8 +16,7 @@ returns-clause-told c = λ past k move stands next is leads.
     let row = row_of c.args.context.now in
     let url = c.args.url.now in
     let to = led_to past k move in
-    let below = c.below.ensures past k stands.contexts is in
-    let gone = c.in_ok-push_removals.ensures.told past _ (children_of past k) below in
+    let gone = c.in_ok-push_removals_below.ensures.told past k stands.contexts is in
     let first = event-told past moment k number url to NavigationStarted row _ _ is next.navigation leads
     c.navigation_started.ensures.told c.in_ok-info.ensures.tree in
     let ended = c.in_ok-realm_destroyed.ensures.told ∙ ap realm_destroyed_in is in
@@ -26,12 +24,12 @@ returns-clause-told c = λ past k move stands next is leads.
     let there = event-told past moment k number url to DomContentLoaded row _ _ is next.navigation leads c.dom_content_loaded.ensures.told
     c.in_ok-info-2.ensures.tree in
     let loaded = event-told past moment k number url to Load row _ _ is next.navigation leads c.loaded.ensures.told c.in_ok-info-3.ensures.tree in
-    all-told past moment k move (seen c.new-all.result.items) (seen c.push.new.self.items) (seen c.push_removals.new.events.items)
+    all-told past moment k move (seen c.new-all.result.items) (seen c.push.new.self.items) (seen c.push_removals_below.new.events.items)
     (seen c.push-2.new.self.items) (seen c.push-3.new.self.items) (seen c.push-4.new.self.items)
     (seen c.push-5.new.self.items) (ap seen c.new-all.ensures.items)
     (one-told c.new-all.result.items c.push.new.self.items _ _ c.in_ok-push.ensures.items (ap (λ o. o ∷ []) first))
     gone
-    (one-told c.push_removals.new.events.items c.push-2.new.self.items _ _ c.in_ok-push-2.ensures.items (ap (λ o. o ∷ []) ended))
+    (one-told c.push_removals_below.new.events.items c.push-2.new.self.items _ _ c.in_ok-push-2.ensures.items (ap (λ o. o ∷ []) ended))
     (one-told c.push-2.new.self.items c.push-3.new.self.items _ _ c.in_ok-push-3.ensures.items (ap (λ o. o ∷ []) begun))
     (one-told c.push-3.new.self.items c.push-4.new.self.items _ _ c.in_ok-push-4.ensures.items (ap (λ o. o ∷ []) there))
     (one-told c.push-4.new.self.items c.push-5.new.self.items _ _ c.in_ok-push-5.ensures.items (ap (λ o. o ∷ []) loaded))
@@ -41,7 +39,7 @@ returns-clause-well c =
     let more = AllByRecursion-more (λ o. ghosts.payload.well o.event) in
     let none = subst AreWell (sym c.new-all.ensures.items) tt in
     let first = more _ _ _ c.in_ok-push.ensures.items none (c.navigation_started.ensures.well c.in_ok-info.ensures.well) in
-    let gone = c.in_ok-push_removals.ensures.well first in
+    let gone = c.in_ok-push_removals_below.ensures.well first in
     let ended = more _ _ _ c.in_ok-push-2.ensures.items gone c.in_ok-realm_destroyed.ensures.well in
     let begun = more _ _ _ c.in_ok-push-3.ensures.items ended c.in_ok-realm_began.ensures.well in
     let there = more _ _ _ c.in_ok-push-4.ensures.items begun (c.dom_content_loaded.ensures.well c.in_ok-info-2.ensures.well) in

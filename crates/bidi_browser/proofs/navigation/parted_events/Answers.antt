@@ -1,7 +1,7 @@
 use Rattle.std.proofs.Common.{◌∙◌, ap, sym, subst}
 use Rattle.bidi_browser.specs.Asked.{wait_of}
 use Rattle.bidi_browser.specs.Navigations.{before_reply}
-use Rattle.bidi_browser.specs.Plans.{AreWell}
+use Rattle.bidi_contexts.specs.View.{AreWell}
 use Rattle.bidi_browser.proofs.NavigationLemmas.{told-parted, take-well, drop-well}
 use Rattle.bidi_browser.proofs.navigation.parted_events.Goals as goal
 

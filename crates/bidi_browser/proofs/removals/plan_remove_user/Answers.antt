@@ -1,20 +1,18 @@
 use Rattle.std.proofs.Common.{◌∙◌, ◌∷◌, [], Some, sym, ap, subst, refl, arith}
 use Rattle.std.specs.Prelude.{flat_map}
 use Rattle.bidi_methods.specs.declared.result_data.ResultData.TheVariants.{BrowserRemoveUserContext}
-use Rattle.bidi_browser.specs.Acts.{UserRemoved}
-use Rattle.bidi_browser.specs.Contexts.{tops, tops_in}
-use Rattle.bidi_browser.specs.Occurrences.{removal}
+use Rattle.bidi_contexts.specs.Acts.{UserRemoved}
+use Rattle.bidi_contexts.specs.Contexts.{tops_in}
+use Rattle.bidi_contexts.specs.Occurrences.{removal}
 use Rattle.bidi_browser.specs.Occurs.{Replies}
-use Rattle.bidi_browser.specs.Plans.{AreWell}
+use Rattle.bidi_contexts.specs.View.{AreWell}
 use Rattle.bidi_browser.proofs.PlanLemmas.{asked-removal, result-well}
-use Rattle.bidi_browser.proofs.SubtreeLemmas.{tops-subtrees}
 use Rattle.bidi_browser.proofs.removals.plan_remove_user.Goals as goal
 
 pub returns-clause-plans : goal.returns-clause-plans
 returns-clause-plans c = λ past moment stands.
     let u = c.in-Some.user in
-    let all = tops-subtrees past c.in_tree_order.result.now (c.in_tree_order.ensures past stands.contexts) stands.contexts.accepted in
-    let told = c.in_ok-before.ensures.told past (tops past) all in (
+    let told = c.in_ok-before.ensures.told past stands.contexts in (
       UserRemoved u,
       rw (sym (c.named.ensures.named past stands.users) ∙ c.in-Some.is, sym c.eq.ensures ∙ c.if-eq.false) refl,
       asked-removal (flat_map (removal past) (tops_in past u)) c.in_ok-before.before.items _ (Some (BrowserRemoveUserContext c.nothing.result)) told

@@ -2,11 +2,11 @@ use Rattle.std.proofs.Common.{subst}
 use Rattle.std.specs.Prelude.{bytes_eq}
 use Rattle.bidi_params.specs.declared.error_code.ErrorCode.TheVariants.{NoSuchFrame}
 use Rattle.bidi_handles.specs.declared.id.IdKind.TheVariants.{Realm}
-use Rattle.bidi_browser.specs.Actions.{RealmTarget}
+use Rattle.bidi_contexts.specs.Actions.{RealmTarget}
 use Rattle.bidi_handles.specs.Checks.{found}
 use Rattle.bidi_browser.specs.Found.{IsTargeted}
 use Rattle.bidi_handles.specs.Ids.{id_of}
-use Rattle.bidi_browser.specs.Outcome.{realm_targeted}
+use Rattle.bidi_contexts.specs.Outcome.{realm_targeted}
 use Rattle.bidi_browser.proofs.ScriptLemmas.{realm-targeted}
 use Rattle.bidi_browser.proofs.scripts.in_realm.Goals as goal
 

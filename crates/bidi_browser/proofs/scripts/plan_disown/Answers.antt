@@ -4,7 +4,7 @@ use Rattle.bidi_methods.specs.declared.result_data.ResultData.TheVariants.{Scrip
 use Rattle.bidi_browser.specs.Asked.{disown_asked}
 use Rattle.bidi_browser.specs.Occurs.{Replies}
 use Rattle.bidi_handles.specs.Ids.{has_id}
-use Rattle.bidi_browser.specs.ContextRows.{ContextRow}
+use Rattle.bidi_contexts.specs.ContextRows.{ContextRow}
 use Rattle.bidi_browser.proofs.ScriptLemmas.{disown-plans}
 use Rattle.bidi_browser.proofs.PlanLemmas.{told-well, result-well}
 use Rattle.bidi_browser.proofs.scripts.plan_disown.Goals as goal
@@ -15,8 +15,8 @@ returns-clause-plans c = λ past moment stands.
     let ids = map string_bytes c.args.params.now.handles.items in
     disown-plans c.answered.result past moment (disown_asked c.args.params.now) found.0 ids (ScriptDisown c.nothing.result) _
     c.in_ok-numbers.numbers refl found.1 (rw found.2 refl)
-    (ap (λ t. Replies t ∷ []) c.nothing.ensures.tree) (ap (λ (r : ContextRow). r.number) found.3)
-    (c.in_ok-numbers.ensures ∙ ap (λ (r : ContextRow). map (λ h. h.0) (filter (λ h. has_id ids h.0) r.handles)) found.3) c.answered.ensures.before
+    (ap (λ t. Replies t ∷ []) c.nothing.ensures.tree) (c.number.ensures.number ∙ ap (λ (r : ContextRow). r.number) found.3)
+    (c.in_ok-numbers.ensures ∙ ap (λ hs. map (λ h. h.0) (filter (λ h. has_id ids h.0) hs)) (c.handles.ensures ∙ ap (λ (r : ContextRow). r.handles) found.3)) c.answered.ensures.before
     c.answered.ensures.outcome c.answered.ensures.after c.answered.ensures.change
 
 pub returns-clause-well : goal.returns-clause-well

@@ -1,8 +1,8 @@
 use Rattle.std.proofs.Common.{◌≡◌, ◌∙◌, map, Some, None, sym, ap}
 use Rattle.std.specs.Prelude.{option_map, slice_get, unwrap_or}
 use Rattle.std.proofs.lemmas.Option.{slice_get-map}
-use Rattle.bidi_browser.specs.Acts.{Returned}
-use Rattle.bidi_browser.specs.Outcome.{undefined}
+use Rattle.bidi_contexts.specs.Acts.{Returned}
+use Rattle.bidi_contexts.specs.Outcome.{undefined}
 use Rattle.bidi_handles.specs.Resolves.{stands_for}
 use Rattle.bidi_browser.proofs.scripts.returned.Goals as goal
 

@@ -1,8 +1,8 @@
-use Rattle.std.proofs.Common.{◌≡◌, true, false, ap, rules}
+use Rattle.std.proofs.Common.{◌≡◌, ◌∙◌, true, false, ap, rules}
 use Rattle.std.specs.Prelude.{◌&&◌, option_map}
 use Rattle.std.proofs.lemmas.Bool.Decides.{nat_tests}
-use Rattle.bidi_browser.specs.ContextRows.{ContextRow}
-use Rattle.bidi_browser.specs.Realms.{value_of}
+use Rattle.bidi_contexts.specs.ContextRows.{ContextRow}
+use Rattle.bidi_contexts.specs.Realms.{value_of}
 use Rattle.bidi_browser.specs.TableInHand.{ending_seen}
 use Rattle.bidi_handles.specs.Values.{takes_handle}
 use Rattle.bidi_browser.proofs.ScriptLemmas.{ran-unheld, ran-held}
@@ -19,7 +19,7 @@ returns-then-not-owned-clause-ran c = λ past k stands ids alive is.
           let of = ap takes_handle w.value_of.ensures in
           grind (rules, nat_tests, no, same, of)
     ] in
-    ran-unheld past k c.args.owned (option_map (λ d. d.value) c.args.depth) (ending_seen c.args.ending) c.args.context.now.realm _ held (ap (λ (r : ContextRow). r.realm) is) c.in_ok-result.ensures.tree
+    ran-unheld past k c.args.owned (option_map (λ d. d.value) c.args.depth) (ending_seen c.args.ending) c.realm.result _ held (c.realm.ensures.realm ∙ ap (λ (r : ContextRow). r.realm) is) c.in_ok-result.ensures.tree
 
 pub returns-clause-ran : goal.returns-clause-ran
 returns-clause-ran c = λ past k stands ids alive is.
@@ -31,6 +31,6 @@ returns-clause-ran c = λ past k stands ids alive is.
     let of = ap takes_handle c.value_of.ensures in
     grind (rules, nat_tests, a, b, same, of) in
     let next = c.in_ok-number.ensures.next past k stands ids is in
-    ran-held past k c.args.owned (option_map (λ d. d.value) c.args.depth) (ending_seen c.args.ending) c.args.context.now.realm _ c.in_ok-number.number _ c.args.context.now.number
-    held next.0 next.1 alive (ap (λ (r : ContextRow). r.realm) is) (ap (λ (r : ContextRow). r.number) is) c.in_ok-result-2.ensures.tree
+    ran-held past k c.args.owned (option_map (λ d. d.value) c.args.depth) (ending_seen c.args.ending) c.realm-2.result _ c.in_ok-number.number _ c.number.result
+    held next.0 next.1 alive (c.realm-2.ensures.realm ∙ ap (λ (r : ContextRow). r.realm) is) (c.number.ensures.number ∙ ap (λ (r : ContextRow). r.number) is) c.in_ok-result-2.ensures.tree
     (ap (λ t. (c.in_ok-number.number, t)) c.into_value.ensures)

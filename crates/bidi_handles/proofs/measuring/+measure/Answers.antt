@@ -10,7 +10,7 @@ use Rattle.bidi_handles.specs.Values.{Held, resolved, resolved_members}
 use Rattle.bidi_handles.proofs.measuring.+measure.Invariants.{with_members}
 use Rattle.bidi_handles.proofs.measuring.+measure.Goals as goal
 
--- where a member stands for nothing, the map does not either
+-- if a member does not resolve, the object does not either
 stops : (held : Option Held) (s : Size) (c : ℕ) (k : List ℕ) (t : Node) (ms : Members) (e : ErrorCode)
     → sized (seen held t) ≡ Err e → with_members s c (seen_members held (member k t ms)) ≡ Err e
 stops None s c k t ms e is = absurd (cc)

@@ -10,7 +10,7 @@ use Rattle.bidi_handles.specs.Measured.{in_realm, seen_items, seen_members, item
 use Rattle.bidi_handles.specs.Sizes.{counted}
 use Rattle.bidi_handles.proofs.measuring.+measure.Given as goal
 
--- the bytes of some items behind so many others of the list, with the closing bracket
+-- the bytes of some items after so many others of the array, with the closing bracket
 abbrev pub items_bytes : ℕ → Items → ℕ
 items_bytes c no_items = 1
 items_bytes c (item t ts) = c + (length (compact_text t) + length (items_text true ts))
@@ -19,7 +19,7 @@ abbrev pub members_bytes : ℕ → Members → ℕ
 members_bytes c no_members = 1
 members_bytes c (member k t ms) = c + (length (quoted k) + suc (length (compact_text t) + length (members_text true ms)))
 
--- the size of a list whose first items make s, with these behind
+-- the size of an array whose first items have the size s, with these items after them
 abbrev pub with_items : Size → ℕ → Result Items ErrorCode → Result Size ErrorCode
 with_items s c (Ok ts) = Ok (record { levels = counted (suc (max s.levels (items_levels ts))); bytes = counted (suc (s.bytes + items_bytes c ts)) })
 with_items s c (Err code) = Err code

@@ -1,4 +1,4 @@
--- What is gone from `rest` was appended, and no write has failed.
+-- The bytes that left `rest` were written, and no write has failed.
 use Rattle.std.proofs.Common.{◌≡◌, ℕ, List, ◌++◌, length}
 use Rattle.std.specs.Io.KnownBytes.{Appends}
 use Rattle.bidi_lines.proofs.device.write_all.Given as goal

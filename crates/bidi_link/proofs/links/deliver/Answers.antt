@@ -3,7 +3,7 @@ use Rattle.std.proofs.lemmas.List.{map-append, map-id}
 use Rattle.std.proofs.lemmas.Iterator.Consumers.{YieldsList-end}
 use Rattle.std.proofs.lemmas.Iterator.Adapters.{YieldsList-from_vec}
 use Rattle.bidi_remote.specs.Machine.Sent.{texts_on}
-use Rattle.bidi_remote.specs.State.View.{sent_of}
+use Rattle.bidi_sessions.specs.View.{sent_of}
 use Rattle.bidi_link.specs.Rows.{with_texts}
 use Rattle.bidi_link.specs.Stands.{RowsAgree}
 use Rattle.bidi_link.proofs.TableLemmas.{delivered-more}

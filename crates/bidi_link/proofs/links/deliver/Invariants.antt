@@ -1,6 +1,6 @@
 use Rattle.std.proofs.Common.{◌≡◌, ℕ, map}
 use Rattle.bidi_remote.specs.Machine.Sent.{texts_on}
-use Rattle.bidi_remote.specs.State.View.{sent_of}
+use Rattle.bidi_sessions.specs.View.{sent_of}
 use Rattle.bidi_ledger.specs.Link.{Link}
 use Rattle.bidi_link.specs.Rows.{with_texts}
 use Rattle.bidi_link.specs.Stands.{RowsAgree, numbers}

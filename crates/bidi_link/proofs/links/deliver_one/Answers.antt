@@ -1,6 +1,6 @@
 use Rattle.std.proofs.Common.{ap}
 use Rattle.std.specs.Prelude.{string_bytes}
-use Rattle.bidi_remote.specs.State.View.{sent_of}
+use Rattle.bidi_sessions.specs.View.{sent_of}
 use Rattle.bidi_link.proofs.TableLemmas.{delivered-some, delivered-none}
 use Rattle.bidi_link.proofs.links.deliver_one.Goals as goal
 

@@ -4,8 +4,8 @@ use Rattle.std.proofs.KnownBytes.{Appends-trans}
 use Rattle.bidi_lines.proofs.ResultLemmas.{by_fault}
 use Rattle.bidi_play.specs.declared.playing.PlayFault.TheVariants.{Write}
 use Rattle.bidi_play.specs.Plays.{play_fault_of}
-use Rattle.bidi_strike.proofs.AlikeLemmas.{sees-strike}
-use Rattle.bidi_strike.proofs.StrikeLemmas.{follows_none}
+use Rattle.bidi_reduce.proofs.AlikeLemmas.{sees-strike}
+use Rattle.bidi_reduce.proofs.StrikeLemmas.{follows_none}
 use Rattle.bidi_reduce.specs.declared.reducing.Reducer.{Reducer}
 use Rattle.bidi_reduce.proofs.ReduceLemmas.{reduce_stop, reduces_all, write_stop}
 use Rattle.bidi_reduce.proofs.reducing.reduce.Goals as goal

@@ -5,10 +5,10 @@ use Rattle.std.proofs.Math.ListN.{get_or-map}
 use Rattle.bidi_methods.specs.declared.event_data.EventName.TheVariants.{EntryAdded}
 use Rattle.bidi_remote.specs.State.EventTexts.{place_row, written_of}
 use Rattle.bidi_remote.specs.State.MissedRows.{left}
-use Rattle.bidi_remote.specs.State.SubscriptionView.{scope_of}
-use Rattle.bidi_remote.specs.State.SubscriptionsView.{rows_of}
-use Rattle.bidi_remote.specs.State.SubscriptionRows.{is_new}
-use Rattle.bidi_remote.proofs.BeginLemmas.{over-all, over-next, over-kept}
+use Rattle.bidi_sessions.specs.SubscriptionView.{scope_of}
+use Rattle.bidi_sessions.specs.SubscriptionsView.{rows_of}
+use Rattle.bidi_remote.specs.State.SessionRows.{is_new}
+use Rattle.bidi_sessions.proofs.BeginLemmas.{over-all, over-next, over-kept}
 use Rattle.bidi_remote.proofs.AnnounceLemmas.{never-new}
 use Rattle.bidi_remote.proofs.PlaceLemmas.{left-new, left-old, left-empty, none-left}
 use Rattle.bidi_remote.proofs.announcing.announce.Goals.{then-is_new+in-Some-1, then-is_new+in-None-1, else-is_new}

@@ -1,8 +1,8 @@
 use Rattle.std.proofs.Common.{◌∙◌, sym, refl, true≢false}
-use Rattle.bidi_browser.specs.Contexts.{is_alive}
-use Rattle.bidi_remote.specs.State.SubscriptionView.{scope_of}
-use Rattle.bidi_remote.specs.State.SubscriptionsView.{rows_of}
-use Rattle.bidi_remote.specs.State.SubscriptionRows.{any_covers}
+use Rattle.bidi_contexts.specs.Contexts.{is_alive}
+use Rattle.bidi_sessions.specs.SubscriptionView.{scope_of}
+use Rattle.bidi_sessions.specs.SubscriptionsView.{rows_of}
+use Rattle.bidi_sessions.specs.SubscriptionRows.{any_covers}
 use Rattle.bidi_remote.proofs.DecideLemmas.{is-new, live-decides, not_covered, not_new}
 use Rattle.bidi_remote.proofs.announcing.is_new.Goals.{then-covers, else-covers}
 use Rattle.bidi_remote.proofs.announcing.is_new.Goals as goal

@@ -1,7 +1,7 @@
 use Rattle.std.proofs.Common.{◌∙◌, sym, ap, subst, arith}
 use Rattle.bidi_params.specs.contracts.session.capabilities.NewParametersShape.TheImpl.{ghosts}
 use Rattle.bidi_methods.specs.CommandData.{session_asked}
-use Rattle.bidi_remote.specs.Machine.Capabilities.{request_of}
+use Rattle.bidi_sessions.specs.Capabilities.{request_of}
 use Rattle.bidi_remote.specs.Machine.Commands.{New}
 use Rattle.bidi_remote.specs.Machine.Connections.{Alone}
 use Rattle.bidi_remote.specs.Machine.Outcome.{deeds, outcome}

@@ -4,9 +4,9 @@ use Rattle.std.proofs.lemmas.List.{drop_all, map-append}
 use Rattle.bidi_methods.specs.contracts.event_data.EventDataPayloadEventName.TheImpl.{ghosts}
 use Rattle.bidi_messages.specs.contracts.message.MessageShape.TheImpl as message
 use Rattle.bidi_messages.specs.Reading.{IsMessageText}
-use Rattle.bidi_browser.specs.View.{seen}
+use Rattle.bidi_contexts.specs.View.{seen}
 use Rattle.bidi_remote.specs.State.EventTexts.{written, written_of, written_in, AreMessages}
-use Rattle.bidi_remote.proofs.ListLemmas.{all-append, from-item}
+use Rattle.bidi_sessions.proofs.ListLemmas.{all-append, from-item}
 use Rattle.bidi_remote.proofs.event_texts.event_texts.Goals as goal
 
 pub event_text_of-requires : goal.event_text_of-requires

@@ -3,10 +3,10 @@ use Rattle.std.specs.Prelude.{MatchOption, option_to_list, vec_len}
 use Rattle.std.proofs.lemmas.List.{map-set, length-map, length-append}
 use Rattle.std.proofs.Math.ListN.{get_or-map}
 use Rattle.bidi_remote.specs.State.SessionView.{session_row_of}
-use Rattle.bidi_remote.specs.State.SubscriptionRows.{logged}
-use Rattle.bidi_remote.proofs.BeginLemmas.{over-all, over-next}
+use Rattle.bidi_remote.specs.State.SessionRows.{logged}
+use Rattle.bidi_sessions.proofs.BeginLemmas.{over-all, over-next}
 use Rattle.bidi_remote.proofs.CopyLemmas.{AreCopies, are-copies, count-copies, last-copy}
-use Rattle.bidi_remote.proofs.ListLemmas.{no_value}
+use Rattle.bidi_sessions.proofs.ListLemmas.{no_value}
 use Rattle.bidi_remote.proofs.sessions.log.Goals.{in-Some, in_default}
 use Rattle.bidi_remote.proofs.sessions.log.Goals as goal
 

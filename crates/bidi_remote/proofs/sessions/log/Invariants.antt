@@ -2,8 +2,8 @@ use Rattle.std.proofs.Common.{◌≡◌, ◌+◌, length, map}
 use Rattle.std.specs.Prelude.{replicate}
 use Rattle.bidi_remote.specs.State.EventTexts.{Written, written_in}
 use Rattle.bidi_remote.specs.State.SessionView.{session_row_of}
-use Rattle.bidi_remote.specs.State.SubscriptionRows.{logged}
-use Rattle.bidi_remote.proofs.BeginLemmas.{over}
+use Rattle.bidi_remote.specs.State.SessionRows.{logged}
+use Rattle.bidi_sessions.proofs.BeginLemmas.{over}
 use Rattle.bidi_remote.proofs.CopyLemmas.{AreCopies}
 use Rattle.bidi_remote.proofs.sessions.log.Given as goal
 

@@ -4,7 +4,7 @@ use Rattle.bidi_handles.specs.declared.id.IdKind.TheVariants.{Session as OfSessi
 use Rattle.bidi_handles.specs.Ids.{id_of}
 use Rattle.bidi_remote.specs.declared.sessions.Session.{Session}
 use Rattle.bidi_remote.specs.State.SessionView.{opened_by}
-use Rattle.bidi_remote.proofs.FindLemmas.{find-none, differ}
+use Rattle.bidi_sessions.proofs.FindLemmas.{find-none, differ}
 use Rattle.bidi_remote.proofs.sessions.opening_of.Goals as goal
 
 pub returns-in_err-id : goal.returns-in_err-id

@@ -3,12 +3,12 @@ use Rattle.std.specs.Prelude.{flat_map}
 use Rattle.std.specs.List.{AllByRecursion}
 use Rattle.std.proofs.lemmas.List.{drop_all}
 use Rattle.bidi_methods.specs.contracts.event_data.EventDataPayloadEventName.TheImpl.{ghosts}
-use Rattle.bidi_browser.specs.View.{occurrence_of, seen}
-use Rattle.bidi_remote.specs.State.ConnectionRows.{rows_in}
+use Rattle.bidi_contexts.specs.View.{occurrence_of, seen}
+use Rattle.bidi_sessions.specs.ConnectionRows.{rows_in}
 use Rattle.bidi_remote.specs.State.Routes.{to_all}
 use Rattle.bidi_remote.specs.State.SessionView as sessions
-use Rattle.bidi_remote.specs.State.View.{sent_of}
-use Rattle.bidi_remote.proofs.ListLemmas.{from-item}
+use Rattle.bidi_sessions.specs.View.{sent_of}
+use Rattle.bidi_sessions.proofs.ListLemmas.{from-item}
 use Rattle.bidi_remote.proofs.telling.push_events.Goals as goal
 
 pub push_event-requires : goal.push_event-requires

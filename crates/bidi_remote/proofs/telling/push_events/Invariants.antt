@@ -2,12 +2,12 @@ use Rattle.std.proofs.Common.{◌≡◌, ◌++◌, map, drop}
 use Rattle.std.specs.Prelude.{flat_map}
 use Rattle.std.specs.List.{AllByRecursion}
 use Rattle.bidi_methods.specs.contracts.event_data.EventDataPayloadEventName.TheImpl.{ghosts}
-use Rattle.bidi_remote.specs.State.ConnectionRows.{rows_in}
-use Rattle.bidi_remote.specs.State.Messages.{AllReadBack}
+use Rattle.bidi_sessions.specs.ConnectionRows.{rows_in}
+use Rattle.bidi_remote.specs.Machine.Messages.{AllReadBack}
 use Rattle.bidi_remote.specs.State.Routes.{to_all}
 use Rattle.bidi_remote.specs.State.SessionView as sessions
-use Rattle.bidi_browser.specs.View.{seen}
-use Rattle.bidi_remote.specs.State.View.{sent_of}
+use Rattle.bidi_contexts.specs.View.{seen}
+use Rattle.bidi_sessions.specs.View.{sent_of}
 use Rattle.bidi_remote.proofs.telling.push_events.Given as goal
 
 -- what is left is added to what was sent, which reads back if what was sent before does

@@ -2,11 +2,11 @@ use Rattle.std.proofs.Common.{◌∙◌, ◌++◌, ◌+◌, append-nil, map, dro
 use Rattle.std.specs.Prelude.{flat_map, filter}
 use Rattle.std.proofs.lemmas.List.{drop_all}
 use Rattle.bidi_remote.specs.Machine.Sent.{Text}
-use Rattle.bidi_remote.specs.State.ConnectionRows.{rows_in, to_each}
-use Rattle.bidi_remote.specs.State.SubscriptionRows.{any_covers}
+use Rattle.bidi_sessions.specs.ConnectionRows.{rows_in, to_each}
+use Rattle.bidi_sessions.specs.SubscriptionRows.{any_covers}
 use Rattle.bidi_remote.specs.State.SessionView.{session_row_of}
-use Rattle.bidi_remote.specs.State.View.{sent_of}
-use Rattle.bidi_remote.proofs.ListLemmas.{from-item}
+use Rattle.bidi_sessions.specs.View.{sent_of}
+use Rattle.bidi_sessions.proofs.ListLemmas.{from-item}
 use Rattle.bidi_remote.proofs.TellLemmas.{heard-next, heard-other}
 use Rattle.bidi_remote.proofs.telling.push_heard.Goals.{then-hears+in_ok-push_text, else-hears}
 use Rattle.bidi_remote.proofs.telling.push_heard.Goals as goal

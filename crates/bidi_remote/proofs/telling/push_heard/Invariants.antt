@@ -1,10 +1,10 @@
 use Rattle.std.proofs.Common.{◌≡◌, ◌++◌, map, drop}
 use Rattle.std.specs.Prelude.{flat_map, filter}
 use Rattle.bidi_remote.specs.Machine.Sent.{Text}
-use Rattle.bidi_remote.specs.State.ConnectionRows.{rows_in, to_each}
-use Rattle.bidi_remote.specs.State.SubscriptionRows.{any_covers}
+use Rattle.bidi_sessions.specs.ConnectionRows.{rows_in, to_each}
+use Rattle.bidi_sessions.specs.SubscriptionRows.{any_covers}
 use Rattle.bidi_remote.specs.State.SessionView.{session_row_of}
-use Rattle.bidi_remote.specs.State.View.{sent_of}
+use Rattle.bidi_sessions.specs.View.{sent_of}
 use Rattle.bidi_remote.proofs.telling.push_heard.Given as goal
 
 -- what is left is added to what was sent

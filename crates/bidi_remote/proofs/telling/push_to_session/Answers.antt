@@ -1,11 +1,11 @@
 use Rattle.std.proofs.Common.{◌∙◌, ◌++◌, ◌+◌, append_assoc, append-nil, map, drop, sym, ap, arith}
 use Rattle.std.specs.Prelude.{flat_map, string_bytes}
 use Rattle.std.proofs.lemmas.List.{drop_all}
-use Rattle.bidi_remote.specs.State.ConnectionRows.{rows_in}
+use Rattle.bidi_sessions.specs.ConnectionRows.{rows_in}
 use Rattle.bidi_remote.specs.State.EventTexts.{written_in}
 use Rattle.bidi_remote.specs.State.Routes.{to_one}
-use Rattle.bidi_remote.specs.State.View.{sent_of}
-use Rattle.bidi_remote.proofs.ListLemmas.{from-item}
+use Rattle.bidi_sessions.specs.View.{sent_of}
+use Rattle.bidi_sessions.proofs.ListLemmas.{from-item}
 use Rattle.bidi_remote.proofs.telling.push_to_session.Goals as goal
 
 pub loop-event-preserved : goal.loop-event-preserved

@@ -1,11 +1,11 @@
 use Rattle.std.proofs.Common.{◌≡◌, ◌∙◌, map, sym, ap, ap₂, subst}
 use Rattle.std.specs.Prelude.{IfOk}
-use Rattle.bidi_remote.specs.State.ConnectionRows.{rows_in}
+use Rattle.bidi_sessions.specs.ConnectionRows.{rows_in}
 use Rattle.bidi_remote.specs.State.EventTexts.{written_in, AreMessages}
 use Rattle.bidi_remote.specs.State.SessionView as sessions
-use Rattle.bidi_browser.specs.View.{seen}
+use Rattle.bidi_contexts.specs.View.{seen}
 use Rattle.bidi_remote.specs.State.Turns.{deed_of, reply_in, asker_in}
-use Rattle.bidi_remote.specs.State.View.{sent_of, sent_if}
+use Rattle.bidi_sessions.specs.View.{sent_of, sent_if}
 use Rattle.bidi_remote.proofs.TellLemmas.{sent_in, sent_in-past}
 use Rattle.bidi_remote.proofs.telling.tell.Goals as goal
 

@@ -3,11 +3,12 @@ use Rattle.bidi_messages.specs.contracts.message.MessageShape.TheImpl.{ghosts}
 use Rattle.bidi_methods.specs.declared.event_data.EventName.TheVariants.{EntryAdded}
 use Rattle.bidi_messages.specs.Reading.{IsMessageText}
 use Rattle.bidi_remote.specs.Machine.Sent.{occurrence_text}
-use Rattle.bidi_remote.specs.State.ConnectionRows.{rows, rows_in}
-use Rattle.bidi_remote.specs.State.Messages.{AllReadBack}
+use Rattle.bidi_remote.specs.State.ConnectionRows.{rows}
+use Rattle.bidi_sessions.specs.ConnectionRows.{rows_in}
+use Rattle.bidi_remote.specs.Machine.Messages.{AllReadBack}
 use Rattle.bidi_remote.specs.State.SessionView.{session_row_of}
-use Rattle.bidi_remote.specs.State.SubscriptionRows.{session_rows}
-use Rattle.bidi_remote.specs.State.View.{sent_of}
+use Rattle.bidi_remote.specs.State.SessionRows.{session_rows}
+use Rattle.bidi_sessions.specs.View.{sent_of}
 use Rattle.bidi_remote.proofs.TellLemmas.{heard, heard-read, more-read, to_all-past}
 use Rattle.bidi_remote.proofs.telling.tell_entry.Goals as goal
 

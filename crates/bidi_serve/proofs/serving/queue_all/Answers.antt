@@ -1,6 +1,6 @@
 use Rattle.std.proofs.Common.{true, false, sym, subst, map, arith}
 use Rattle.bidi_remote.specs.Machine.Sent.{text_on, texts_on}
-use Rattle.bidi_remote.specs.State.View.{sent_of}
+use Rattle.bidi_sessions.specs.View.{sent_of}
 use Rattle.std.proofs.lemmas.List.{nil_from_length}
 use Rattle.bidi_serve.specs.Serving.{AreQueued, all}
 use Rattle.bidi_serve.proofs.ServingLemmas.{queued-more, queued-stop}

@@ -2,7 +2,7 @@ use Rattle.std.proofs.Common.{false, true, ◌∙◌, sym, ap, subst, map}
 use Rattle.std.specs.Prelude.{◌&&◌, is_ok}
 use Rattle.std.specs.List.{list_any}
 use Rattle.bidi_remote.specs.Machine.Sent.{texts_on}
-use Rattle.bidi_remote.specs.State.View.{sent_of}
+use Rattle.bidi_sessions.specs.View.{sent_of}
 use Rattle.bidi_serve.specs.Serving.{AreSent, no_text, is_text_on}
 use Rattle.bidi_serve.proofs.ServingLemmas.{no-texts, some-texts, sent-together}
 use Rattle.bidi_serve.proofs.serving.send_all.Goals as goal

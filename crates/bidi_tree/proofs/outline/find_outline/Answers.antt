@@ -8,7 +8,7 @@ use Rattle.bidi_tree.proofs.MemberLemmas.{same_text, skips}
 use Rattle.bidi_tree.proofs.OutlineLemmas.{OutlineMember, nth}
 use Rattle.bidi_tree.proofs.outline.find_outline.Goals as goal
 
--- the members from one on, where it has the name and where it has another
+-- the members from this one on, if it has the name and if it has another
 module _ (k : List ℕ) (all ms : List OutlineMember) (same : ms ≡ all) (i : ℕ) (m : OutlineMember) (few : i < length ms) (at : m ≡ slice_index_or ms i m) where
   rest : drop i all ≡ m ∷ drop (i + 1) all
   rest = subst (λ xs. drop i xs ≡ m ∷ drop (i + 1) xs) same (nth ms i m few at)

@@ -1,5 +1,4 @@
--- `Sorted` as a type that may hold the type that holds it, by its values: its shape is a `Sorted` of shapes under the same names.
--- A former is told the type of the keys, and not their order, so this is the former of the one type of keys that recurs here: names.
+-- `Sorted` as a type that a recursive type may contain, whose keys are names: its shape is a `Sorted` of shapes. Defined by this project.
 use Rattle.std.specs.Prelude.{◌≡◌, List, [], ◌∷◌, map}
 use Rattle.std.specs.List.Sorted.{IsStrictlySortedBy, IsStrictlySortedBy-prop}
 use Rattle.std.specs.Map.{keys_of, values_of}
@@ -30,7 +29,7 @@ use Rattle.std.specs.contracts.prelude.RefStrPartialOrd.TheImpl as partial_order
 use Rattle.bidi_tree.specs.Named.{Name, Named}
 use Rattle.bidi_tree.specs.contracts.sorted.Sorted as C
 
--- a name beside one of g's values, and a `Vec` of these
+-- the former of a name with one of g's values, and of a `Vec` of these
 abbrev entry : Former {0} → Former {0}
 entry g = pair (const Name) g
 
@@ -43,7 +42,7 @@ Entries X = Vec (Name × X) Global
 abbrev on_value : {X Y : Type 0} → (X → Y) → Name × X → Name × Y
 on_value h e = (e.0, h e.1)
 
--- ---- the order says nothing of the values
+-- ---- the order does not depend on the values
 
 abbrev Ascend : {X : Type 0} → List (Name × X) → Type 0
 Ascend es = IsStrictlySortedBy order.ghosts.cmp (keys_of es)
@@ -58,7 +57,7 @@ Ascend-map h es s = subst (IsStrictlySortedBy order.ghosts.cmp) (sym (names-map 
 Ascend-along : {X : Type 0} (v w : Entries X) (e : v ≡ w) (p : Ascend v.items) (q : Ascend w.items) → PathP (λ i. Ascend (e i).items) p q
 Ascend-along v w e = is_prop→PathP (λ i. Ascend (e i).items) (λ i. IsStrictlySortedBy-prop order.ghosts.cmp (keys_of (e i).items))
 
--- the same names over other values
+-- the same names with other values
 abbrev pub mapped : {X Y : Type 0} → (X → Y) → Named X → Named Y
 mapped h d = record { entries = vec.mapped (on_value h) d.entries; ascend = Ascend-map h d.entries.items d.ascend }
 
@@ -125,7 +124,7 @@ values_listed X (e ∷ es) = ap (λ l. e.1 ∷ l) (values_listed X es)
 pub the_items_listed : (K X : Type 0) (d : Named X) → listed _ (children (the_former this K) X d) ≡ the_items K X d
 the_items_listed K X d = values_listed X d.entries.items
 
--- ---- it owns, lends and is coded by what its values own, lend and are coded by
+-- ---- it owns, lends and is encoded by what its values own, lend and are encoded by
 
 abbrev name_row : NamedLft → RattleType
 name_row κ = Str κ.mir κ.lft
@@ -148,7 +147,7 @@ module _ (K : RattleType) (o : ord.Ghosts K.Denot) (q : eq.Ghosts K.Denot) (p : 
   the_places {κ} a = struct_places (type_of κ R) (type_of κ S) (vec.mapped (on_value h), tt) (mapped h) (λ d. refl) refl
       (laid _ _ _ (vec.the_places heap.the_row ghosts (Tuple (parts κ R)) (Tuple (parts κ S)) (on_value h) (entry_places κ a)), tt)
 
-  -- a code says nothing of a lifetime: that at `'static` is that at any other
+  -- an encoding does not depend on a lifetime, so the one for `'static` serves all others
   entry_recodes : Recodes R S h → Recodes (Tuple (parts static_lft R)) (Tuple (parts static_lft S)) (on_value h)
   entry_recodes e = struct_Codes (tuple_type (parts static_lft R)) (tuple_type (parts static_lft S)) ((λ n. n), (h, tt)) (on_value h) (λ e. refl) ((λ n. refl), (e, tt))
 

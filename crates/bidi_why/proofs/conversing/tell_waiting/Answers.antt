@@ -1,33 +1,34 @@
-use Rattle.std.proofs.Common.{◌≡◌, ◌∙◌, ℕ, List, Ok, Err, subst, sym}
-use Rattle.std.specs.Prelude.{IfErr, OnErr, OnOk, Option, Result}
+use Rattle.std.proofs.Common.{◌≡◌, ◌∙◌, ◌++◌, List, arith, subst}
+use Rattle.std.specs.Prelude.{OnOk}
 use Rattle.std.specs.Io.KnownBytes.{Appends}
-use Rattle.bidi_lines.specs.Devices.{AppendsBeginning}
 use Rattle.bidi_local.specs.View.{waiting_in}
-use Rattle.bidi_show.specs.declared.showing.ShowFault.{ShowFault}
-use Rattle.bidi_show.specs.declared.showing.ShowFault.TheVariants.{Write}
 use Rattle.bidi_why.specs.Conversing.{unanswered_lines}
 use Rattle.bidi_why.specs.Explainers.{standing_of}
-use Rattle.bidi_why.specs.Telling.{StopsLine}
-use Rattle.bidi_why.proofs.ConversationLemmas.{waiting_lines}
+use Rattle.bidi_why.specs.Summary.{Entry, IsSum}
+use Rattle.bidi_why.proofs.ConversationLemmas.{ok_anyhow, waiting_entries, waiting_lines}
+use Rattle.bidi_why.proofs.TellingLemmas.{stops_write}
 use Rattle.bidi_why.proofs.conversing.tell_waiting.Goals as goal
 
--- a write that fails leaves a beginning of the text
-stops_write : {T : Type 0} (r : Result T ShowFault) (held held' : Option (List ℕ)) (text : List ℕ) (P : List ℕ → Type 0)
-    → OnErr r (AppendsBeginning held held' text) → IfErr r (λ fault. fault ≡ Write) → P text → IfErr r (λ fault. StopsLine P fault held held')
-stops_write (Ok x) held held' text P begins is p = tt
-stops_write (Err fault) held held' text P begins is p = subst (λ (f : ShowFault). StopsLine P f held held') (sym is) (text, p, begins)
+pub returns-clause-sum : goal.returns-clause-sum
+returns-clause-sum g c =
+    ok_anyhow c.write.result (λ n told few p.
+    let long = c.number_of.ensures.few in
+    let all = c.in_ok-count_unanswered.ensures.sum n told (omega (arith, long, few)) p in
+    subst (λ (es : List Entry). IsSum c.count_unanswered.new.self n (told ++ es))
+    (waiting_entries c.args.conversation.now c.in_ok-waiting.waiting.items c.deref.result.now c.number_of.result c.deref.ensures.value
+    c.in_ok-waiting.ensures c.number_of.ensures.is) all)
 
 pub returns-clause-ok : goal.returns-clause-ok
 returns-clause-ok g c =
     subst (λ t. OnOk c.write.result (Appends (g.W.Sink.contents c.args.sink.now) (g.W.Sink.contents c.write.new.sink) t))
-    (c.deref-3.ensures.value ∙ c.in_ok-text.ensures
-    ∙ waiting_lines c.args.conversation.now.form c.args.conversation.now.lines.items c.deref.result.now c.in_ok-waiting.waiting.items c.deref-2.result.now
-    (waiting_in c.args.conversation.now.end) c.deref.ensures.value c.deref-2.ensures.value c.in_ok-waiting.ensures) c.write.ensures.ok
+    (c.deref-4.ensures.value ∙ c.in_ok-text.ensures
+    ∙ waiting_lines c.args.conversation.now.form c.args.conversation.now.lines.items c.deref-2.result.now c.in_ok-waiting.waiting.items c.deref-3.result.now
+    (waiting_in c.args.conversation.now.end) c.deref-2.ensures.value c.deref-3.ensures.value c.in_ok-waiting.ensures) c.write.ensures.ok
 
 pub returns-clause-err : goal.returns-clause-err
 returns-clause-err g c =
-    stops_write c.write.result (g.W.Sink.contents c.args.sink.now) (g.W.Sink.contents c.write.new.sink) c.deref-3.result.now
+    stops_write c.write.result (g.W.Sink.contents c.args.sink.now) (g.W.Sink.contents c.write.new.sink) c.deref-4.result.now
     (λ t. t ≡ unanswered_lines c.args.conversation.now.form (standing_of c.args.conversation.now)) c.write.ensures.err c.write.ensures.fault
-    (c.deref-3.ensures.value ∙ c.in_ok-text.ensures
-    ∙ waiting_lines c.args.conversation.now.form c.args.conversation.now.lines.items c.deref.result.now c.in_ok-waiting.waiting.items c.deref-2.result.now
-    (waiting_in c.args.conversation.now.end) c.deref.ensures.value c.deref-2.ensures.value c.in_ok-waiting.ensures)
+    (c.deref-4.ensures.value ∙ c.in_ok-text.ensures
+    ∙ waiting_lines c.args.conversation.now.form c.args.conversation.now.lines.items c.deref-2.result.now c.in_ok-waiting.waiting.items c.deref-3.result.now
+    (waiting_in c.args.conversation.now.end) c.deref-2.ensures.value c.deref-3.ensures.value c.in_ok-waiting.ensures)

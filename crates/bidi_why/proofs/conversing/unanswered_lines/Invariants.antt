@@ -1,5 +1,5 @@
 use Rattle.std.proofs.Common.{◌≡◌, ◌++◌, flat_map, drop}
-use Rattle.bidi_why.specs.Remark.{line_of, unanswered_line}
+use Rattle.bidi_remarks.specs.Remark.{line_of, unanswered_line}
 use Rattle.bidi_why.proofs.conversing.unanswered_lines.Given as goal
 
 abbrev pub invariant-loop-id : goal.invariant-loop-id

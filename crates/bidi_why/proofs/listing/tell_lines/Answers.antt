@@ -1,9 +1,9 @@
-use Rattle.std.proofs.Common.{◌+◌, ◌++◌, ◌∷◌, [], ℕ, List, length-append, refl, sym, ◌∙◌, ap₂, arith}
+use Rattle.std.proofs.Common.{◌+◌, ◌++◌, ◌∷◌, [], ℕ, List, refl, sym, ◌∙◌, ap₂, arith}
 use Rattle.std.proofs.KnownBytes.{Appends-nil, Appends-trans, Consumes-nil, Consumes-trans}
 use Rattle.bidi_lines.proofs.ResultLemmas.{by_fault}
 use Rattle.bidi_why.specs.declared.next_line.Found.TheVariants.{End, Last, Line}
 use Rattle.bidi_why.proofs.InputLemmas.{found_as, one_line}
-use Rattle.bidi_why.specs.Telling.{SoFar, TellsNext}
+use Rattle.bidi_why.specs.Telling.{SoFar, Sums, TellsNext}
 use Rattle.bidi_why.proofs.TellingLemmas.{if_err, leaves_found, leaves_nothing, next_ended, next_last, on_ok, parts_more, parts_read, stops_input, stops_line, whole_all, whole_last}
 use Rattle.bidi_why.proofs.listing.tell_lines.Goals as goal
 
@@ -14,13 +14,11 @@ lines-init g c = (
   [],
   record {
     parts = record { front = sym c.new-reader.ensures; each = tt };
-    told = c.requires.nothing;
+    told = ([], c.requires.nothing, c.requires.sum, omega arith, omega arith);
     reads = Consumes-nil _;
     writes = Appends-nil _;
     failed_reads = refl;
     failed_writes = refl;
-    count = c.requires.lines;
-    few = omega arith;
   },
 )
 
@@ -28,7 +26,8 @@ pub returns-in-Err-clause-err : goal.returns-in-Err-clause-err
 returns-in-Err-clause-err g c =
     let (read, lines, text, s) = c.lines.invariant in
     let at_end = g.R.Source.has_ended c.next_line.new.source in
-    let count = s.count in
+    let (told, h, sum, short, few) = s.told in
+    let count = sum.lines in
     let (gone, (bytes, more, consumes), found) = c.in-Err.ensures.finds in (
       read ++ bytes,
       text,
@@ -38,8 +37,8 @@ returns-in-Err-clause-err g c =
           (gone ++ c.next_line.new.reader) text lines c.show_fault.ensures
           (record {
             parts = parts_read read bytes c.lines.reader (gone ++ c.next_line.new.reader) lines s.parts more;
-            text = (c.lines.explainer, c.lines.sum.has_fault, s.told);
-            few = s.few;
+            text = (c.lines.explainer, s.told.0, s.told.1);
+            few = s.told.4;
           })
           (leaves_found c.in-Err.fault (c.lines.sum.lines + 1) lines at_end gone c.next_line.new.reader (omega (arith, count)) found),
     )
@@ -53,7 +52,7 @@ returns-in-Ok-End-clause-ok g c =
       text,
       Consumes-trans _ _ _ _ _ s.reads consumes,
       s.writes,
-      whole_all (λ ls t. g.E.Explainer.has_told c.args.explainer.now c.lines.explainer ls t c.lines.sum.has_fault)
+      whole_all (Sums g.E.Explainer.has_told c.args.explainer.now c.lines.explainer c.lines.sum)
           (read ++ bytes) (gone ++ c.next_line.new.reader) text lines
           (parts_read read bytes c.lines.reader (gone ++ c.next_line.new.reader) lines s.parts more)
           (ap₂ (λ (x y : List ℕ). x ++ y) none last.1) s.told,
@@ -70,9 +69,9 @@ returns-in-Ok-Last-clause-ok g c =
       text ++ told.0,
       Consumes-trans _ _ _ _ _ s.reads consumes,
       Appends-trans _ _ _ _ _ s.writes told.1,
-      whole_last (λ ls t. g.E.Explainer.has_told c.args.explainer.now c.answer.new.explainer ls t c.answer.new.sum.has_fault)
+      whole_last (Sums g.E.Explainer.has_told c.args.explainer.now c.answer.new.explainer c.answer.new.sum)
           read bytes gone c.lines.reader c.next_line.new.reader (text ++ told.0) lines s.parts more last.1 some (one_line line gone is)
-          (told.2 c.args.explainer.now lines text gone s.told s.count is),
+          (told.2 c.args.explainer.now lines text gone s.told is),
     ))
 
 pub returns-in-Ok-Last-clause-err : goal.returns-in-Ok-Last-clause-err
@@ -85,13 +84,13 @@ returns-in-Ok-Last-clause-err g c =
     if_err c.answer.result c.answer.ensures.err (λ fault stop.
     let (part, appends, stops) =
     stops_line (SoFar g.E.Explainer.has_told c.args.explainer.now) fault _ _ at_end (read ++ bytes) (gone ++ c.next_line.new.reader) text gone lines
-    (λ t. TellsNext g.E.Explainer.has_told c.lines.explainer c.answer.new.explainer c.lines.sum.has_fault c.answer.new.sum.has_fault c.lines.sum.lines line t)
-    stop (λ t tells. (c.answer.new.explainer, c.answer.new.sum.has_fault, tells c.args.explainer.now lines text gone s.told s.count is))
+    (λ t. TellsNext g.E.Explainer.has_told c.lines.explainer c.answer.new.explainer c.lines.sum c.answer.new.sum line t)
+    stop (λ t tells. let next = tells c.args.explainer.now lines text gone s.told is in (c.answer.new.explainer, next.0, next.1))
     (next_last at_end gone c.next_line.new.reader (one_line line gone is) some last.0 last.1)
     (record {
       parts = parts_read read bytes c.lines.reader (gone ++ c.next_line.new.reader) lines s.parts more;
-      text = (c.lines.explainer, c.lines.sum.has_fault, s.told);
-      few = s.few;
+      text = (c.lines.explainer, s.told.0, s.told.1);
+      few = s.told.4;
     }) in (
       read ++ bytes,
       text ++ part,
@@ -107,22 +106,17 @@ lines-preserved g c =
     let (gone, (bytes, more, consumes), (is, at, whole)) =
     found_as _ _ c.lines.reader c.next_line.new.reader (g.R.Source.has_ended c.next_line.new.source) c.in-Ok-Line.field-0 (Line line) c.in-Ok-Line.field-0-is c.in-Ok-Line.ensures.finds in
     let told = c.in_ok-answer-in-Ok-Line.ensures in
-    let (here, appends, tells) = told.ok in
-    let long = length-append lines (is ∷ []) in
-    let before = s.count in
-    let now = told.lines in (
+    let (here, appends, tells) = told.ok in (
       read ++ bytes,
       lines ++ is ∷ [],
       text ++ here,
       record {
         parts = parts_more read bytes is gone c.lines.reader c.next_line.new.reader lines s.parts more whole (one_line line is at);
-        told = tells c.args.explainer.now lines text is s.told s.count at;
+        told = tells c.args.explainer.now lines text is s.told at;
         reads = Consumes-trans _ _ _ _ _ s.reads consumes;
         writes = Appends-trans _ _ _ _ _ s.writes appends;
         failed_reads = c.in-Ok-Line.ensures.failures ∙ s.failed_reads;
         failed_writes = told.writes ∙ s.failed_writes;
-        count = omega (arith, long, before, now);
-        few = omega (arith, long, before, now);
       },
     )
 
@@ -136,14 +130,14 @@ returns-in_err-answer-in-Ok-Line-clause-err g c =
     let fault = c.in_err-answer-in-Ok-Line.field-0.0 in
     let (part, appends, stops) =
     stops_line (SoFar g.E.Explainer.has_told c.args.explainer.now) fault _ _ at_end (read ++ bytes) (gone ++ c.next_line.new.reader) text is lines
-    (λ t. TellsNext g.E.Explainer.has_told c.lines.explainer c.answer-in-Ok-Line.new.explainer c.lines.sum.has_fault c.answer-in-Ok-Line.new.sum.has_fault c.lines.sum.lines line t)
+    (λ t. TellsNext g.E.Explainer.has_told c.lines.explainer c.answer-in-Ok-Line.new.explainer c.lines.sum c.answer-in-Ok-Line.new.sum line t)
     c.in_err-answer-in-Ok-Line.ensures.err
-    (λ t tells. (c.answer-in-Ok-Line.new.explainer, c.answer-in-Ok-Line.new.sum.has_fault, tells c.args.explainer.now lines text is s.told s.count at))
+    (λ t tells. let next = tells c.args.explainer.now lines text is s.told at in (c.answer-in-Ok-Line.new.explainer, next.0, next.1))
     (next_ended at_end is gone c.next_line.new.reader (one_line line is at) whole)
     (record {
       parts = parts_read read bytes c.lines.reader (gone ++ c.next_line.new.reader) lines s.parts more;
-      text = (c.lines.explainer, c.lines.sum.has_fault, s.told);
-      few = s.few;
+      text = (c.lines.explainer, s.told.0, s.told.1);
+      few = s.told.4;
     }) in
     by_fault c.from_residual.result fault _ c.from_residual.ensures (
       read ++ bytes,
@@ -166,8 +160,8 @@ returns-in-Err-goes_on-clause-err g c =
           (g.R.Source.has_ended c.goes_on.new.source) (read ++ bytes) c.goes_on.new.self text lines c.show_fault-in-Err-goes_on.ensures
           (record {
             parts = parts_read read bytes c.lines.reader c.goes_on.new.self lines s.parts more;
-            text = (c.lines.explainer, c.lines.sum.has_fault, s.told);
-            few = s.few;
+            text = (c.lines.explainer, s.told.0, s.told.1);
+            few = s.told.4;
           })
           (leaves_nothing c.in-Err-goes_on.fault c.lines.sum.lines lines c.goes_on.new.self none.0 none.1),
     )
@@ -176,7 +170,8 @@ pub returns-in-Ok-true-clause-err : goal.returns-in-Ok-true-clause-err
 returns-in-Ok-true-clause-err g c =
     let (read, lines, text, s) = c.lines.invariant in
     let (bytes, more, consumes) = c.in-Ok-true.ensures.bytes in
-    let counted = s.count in let few = s.few in (
+    let (told, h, sum, short, few) = s.told in
+    let counted = sum.lines in (
       read ++ bytes,
       text,
       Consumes-trans _ _ _ _ _ s.reads consumes,
@@ -186,7 +181,7 @@ returns-in-Ok-true-clause-err g c =
         c.goes_on.new.self,
         record {
           parts = parts_read read bytes c.lines.reader c.goes_on.new.self lines s.parts more;
-          text = (c.lines.explainer, c.lines.sum.has_fault, s.told);
+          text = (c.lines.explainer, s.told.0, s.told.1);
           few = few;
         },
         omega (arith, counted, few),
@@ -203,7 +198,7 @@ returns-clause-ok g c =
       text,
       Consumes-trans _ _ _ _ _ s.reads consumes,
       s.writes,
-      whole_all (λ ls t. g.E.Explainer.has_told c.args.explainer.now c.lines.explainer ls t c.lines.sum.has_fault)
+      whole_all (Sums g.E.Explainer.has_told c.args.explainer.now c.lines.explainer c.lines.sum)
           (read ++ bytes) c.goes_on.new.self text lines
           (parts_read read bytes c.lines.reader c.goes_on.new.self lines s.parts more) (next.end c.in-Ok-false.field-0-test).0 s.told,
     )

@@ -1,4 +1,4 @@
-use Rattle.bidi_why.proofs.FindingLemmas.{tells_kept}
+use Rattle.bidi_why.proofs.TellingLemmas.{tells_kept}
 use Rattle.bidi_why.proofs.one_side.explain_kept.Goals as goal
 
 pub returns : goal.returns

@@ -1,10 +1,10 @@
 use Rattle.std.proofs.Common.{◌≡◌, Option, Some, None, option_map, refl, ap, ◌∙◌}
 use Rattle.std.specs.Prelude.{unwrap_or}
-use Rattle.bidi_blame.specs.Names.{name_of}
+use Rattle.bidi_rules.specs.Names.{name_of}
 use Rattle.bidi_shape.specs.Name as told_name
 use Rattle.bidi_blame.specs.Reason.{Reason, or_name}
 use Rattle.bidi_blame.specs.View.{draft_of}
-use Rattle.bidi_blame.specs.declared.name.Name.{Name}
+use Rattle.bidi_rules.specs.declared.name.Name.{Name}
 use Rattle.bidi_blame.proofs.draft.Draft.set_name.Goals as goal
 
 abbrev with_name : Reason → told_name.Name → Reason

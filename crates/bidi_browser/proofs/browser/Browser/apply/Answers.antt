@@ -2,16 +2,17 @@ use Rattle.std.proofs.Common.{◌≡◌, ◌∙◌, ◌∷◌, refl, sym, ap, ap
 use Rattle.std.specs.Prelude.{ℕ, string_bytes}
 use Rattle.std.proofs.Common.{rules, arith}
 use Rattle.bidi_tree.specs.Node.{Node}
-use Rattle.bidi_browser.specs.Acts.{Tabled}
+use Rattle.bidi_contexts.specs.Acts.{Tabled}
 use Rattle.bidi_handles.specs.declared.id.IdKind.TheVariants.{Handle}
 use Rattle.bidi_browser.specs.TableInHand.{row_seen}
 use Rattle.bidi_handles.specs.ValuesInHand.{handle_seen}
-use Rattle.bidi_browser.specs.declared.plan.Navigation.{Navigation}
-use Rattle.bidi_browser.specs.Plans.{EditMakes, EditHasRoom, HasRoomIn, HasRoomForHandle}
-use Rattle.bidi_browser.proofs.TableLemmas.{kept-stands, row-stands, handle-stands, disowned-stands, user-made-stands, user-removed-stands}
-use Rattle.bidi_browser.proofs.UserLemmas.{users_born}
+use Rattle.bidi_contexts.specs.declared.navigation.Navigation.{Navigation}
+use Rattle.bidi_browser.specs.Plans.{EditMakes, EditHasRoom}
+use Rattle.bidi_contexts.specs.Tables.{HasRoomIn, HasRoomForHandle}
+use Rattle.bidi_browser.proofs.StandsLemmas.{kept-stands, row-stands, handle-stands, disowned-stands, user-made-stands, user-removed-stands}
+use Rattle.bidi_contexts.proofs.UserLemmas.{users_born}
 use Rattle.bidi_browser.specs.declared.browser.Browser.{Browser}
-use Rattle.bidi_browser.specs.Stands.{AreUsersOf}
+use Rattle.bidi_contexts.specs.Tables.{AreUsersOf}
 use Rattle.bidi_browser.proofs.browser.Browser.apply.Goals as goal
 use Rattle.bidi_browser.proofs.browser.Browser.apply.Goals.{then-opens_window, else-opens_window}
 

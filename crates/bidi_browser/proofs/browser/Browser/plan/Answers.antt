@@ -1,6 +1,6 @@
 use Rattle.std.proofs.Common.{◌≡◌, ◌∙◌, Some, sym, ap, subst}
 use Rattle.bidi_methods.specs.CommandData.{browser_asked}
-use Rattle.bidi_browser.specs.Actions.{method_of}
+use Rattle.bidi_contexts.specs.Actions.{method_of}
 use Rattle.bidi_browser.specs.Asked.{action_of}
 use Rattle.bidi_browser.specs.Plans.{HasResultOf}
 use Rattle.bidi_browser.proofs.AskedLemmas.{command-method}

@@ -10,7 +10,7 @@ use Rattle.bidi_handles.specs.ValuesInHand.{handle_seen, held_tree}
 use Rattle.bidi_handles.proofs.SearchLemmas.{value-seen}
 use Rattle.bidi_handles.proofs.handles.Handles.held.Goals as goal
 
--- the value of what is borrowed
+-- the value behind the reference
 abbrev value : Option (Bor Handle) → Option Node
 value o = option_map (λ (h : Handle). held_tree h.value.value) (option_map (λ h. h.now) o)
 

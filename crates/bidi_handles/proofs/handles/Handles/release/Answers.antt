@@ -10,11 +10,11 @@ use Rattle.bidi_handles.proofs.ListLemmas.{filter-map}
 use Rattle.bidi_handles.proofs.SearchLemmas.{ascend-filter, taken, not-taken}
 use Rattle.bidi_handles.proofs.handles.Handles.release.Goals as goal
 
--- what is left in hand, as it is seen
+-- the handles that are left, as contracts see them
 seen : (n : ℕ) (hs left : List Handle) → left ≡ filter (λ h. not (n == h.number)) hs → map handle_seen left ≡ filter (λ s. not (n == s.0)) (map handle_seen hs)
 seen n hs left is = ap (map handle_seen) is ∙ sym (filter-map handle_seen (λ s. not (n == s.0)) hs)
 
--- the handles behind the borrow are those of the realm
+-- the borrowed handles are those of the realm
 module _ (n : ℕ) (hs all : List Handle) (same : all ≡ hs) (ascend : IsStrictlyIncreasing (map (λ h. h.number) hs)) where
   out : (i : ℕ) (d : Handle) → IsSearchInRange (Ok i) (length all) → IsBinarySearchResult (λ h. nat_cmp h.number n) all (Ok i)
       → remove hs i ≡ filter (λ h. not (n == h.number)) hs

@@ -1,4 +1,4 @@
--- What the source gave is held, no read has failed, and no line feed stands among the first `seen` bytes.
+-- The bytes that the source gave are held, no read has failed, and the first `seen` bytes have no line feed.
 use Rattle.std.proofs.Common.{◌≡◌, ◌≤◌, ◌-◌, false, length, take}
 use Rattle.bidi_lines.specs.Devices.{ReadsOn}
 use Rattle.bidi_lines.specs.Feeds.{has_feed}

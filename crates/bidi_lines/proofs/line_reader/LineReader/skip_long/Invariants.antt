@@ -1,4 +1,4 @@
--- What is gone has no line feed and a byte for each turn, something is held, and no read has failed.
+-- The skipped bytes have no line feed and at least one byte for each turn, some bytes are held, and no read has failed.
 use Rattle.std.proofs.Common.{◌≡◌, ◌<◌, ◌≤◌, ◌++◌, ℕ, List, false, length}
 use Rattle.bidi_lines.specs.Devices.{ReadsOn}
 use Rattle.bidi_lines.specs.Feeds.{has_feed}

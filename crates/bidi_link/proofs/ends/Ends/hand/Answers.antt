@@ -1,6 +1,6 @@
 use Rattle.std.proofs.Common.{map, subst}
-use Rattle.bidi_remote.specs.State.Messages.{AllReadBack}
-use Rattle.bidi_remote.specs.State.View.{sent_of}
+use Rattle.bidi_remote.specs.Machine.Messages.{AllReadBack}
+use Rattle.bidi_sessions.specs.View.{sent_of}
 use Rattle.bidi_ledger.specs.Pairing.{history}
 use Rattle.bidi_ledger.specs.Link.{link}
 use Rattle.bidi_link.proofs.StandLemmas.{stands-handed}

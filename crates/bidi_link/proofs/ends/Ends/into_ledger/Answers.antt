@@ -2,7 +2,7 @@ use Rattle.std.proofs.Common.{◌≡◌, ◌∙◌, ◌++◌, ◌∷◌, [], map
 use Rattle.std.proofs.lemmas.Map.Iter.{rest_all, rest_more}
 use Rattle.std.proofs.lemmas.List.{map-append, append_assoc}
 use Rattle.std.specs.List.{AllByRecursion}
-use Rattle.bidi_remote.proofs.ListLemmas.{all-append}
+use Rattle.bidi_sessions.proofs.ListLemmas.{all-append}
 use Rattle.bidi_ledger.specs.Link.{link, account}
 use Rattle.bidi_link.specs.Rows.{account_in_hand}
 use Rattle.bidi_ledger.specs.Steps.{account_seen, AccountIsWell}

@@ -1,7 +1,7 @@
 use Rattle.std.proofs.Common.{refl, sym, subst}
 use Rattle.std.specs.Prelude.{string_bytes}
-use Rattle.bidi_remote.specs.Machine.Step as steps
-use Rattle.bidi_remote.specs.State.View.{page_of}
+use Rattle.bidi_sessions.specs.Step as steps
+use Rattle.bidi_sessions.specs.View.{page_of}
 use Rattle.bidi_ledger.specs.declared.pair_step.PairStep.TheVariants as in_hand
 use Rattle.bidi_ledger.specs.Ledger.{Opens, Sends, Up, Down, Cuts}
 use Rattle.bidi_ledger.specs.Steps.{IsHeardAs, sending_of}

@@ -1,8 +1,8 @@
 use Rattle.std.proofs.Common.{ap, subst, sym, ◌∙◌, arith, reverse, Err}
 use Rattle.std.proofs.Math.Nat.{lt_of_not-le}
 use Rattle.std.proofs.lemmas.List.{length-reverse}
-use Rattle.bidi_remote.specs.State.View.{step_of}
-use Rattle.bidi_remote.specs.State.Messages.{AllReadBack}
+use Rattle.bidi_sessions.specs.View.{step_of}
+use Rattle.bidi_remote.specs.Machine.Messages.{AllReadBack}
 use Rattle.bidi_remote.proofs.HeardLemmas.{length-heard}
 use Rattle.bidi_lines.proofs.ResultLemmas.{err_not_ok, if_some_at}
 use Rattle.bidi_play.specs.Lines.{written}

@@ -1,9 +1,9 @@
 use Rattle.std.proofs.Common.{◌≡◌, ◌++◌, ap, subst, sym, refl, arith, Err}
 use Rattle.std.specs.Prelude.{if◌then◌else◌}
 use Rattle.bidi_remote.specs.declared.remote_end.RemoteFault.TheVariants.{WornOut}
-use Rattle.bidi_remote.specs.State.View.{step_of}
+use Rattle.bidi_sessions.specs.View.{step_of}
 use Rattle.bidi_lines.specs.Feeds.{ended}
-use Rattle.bidi_strike.proofs.StrikeLemmas.{fault_same}
+use Rattle.bidi_reduce.proofs.StrikeLemmas.{fault_same}
 use Rattle.bidi_reduce.proofs.ReduceLemmas.{length-reduced, reduced_more}
 use Rattle.bidi_reduce.proofs.reducing.Reducer.take.Goals as goal
 

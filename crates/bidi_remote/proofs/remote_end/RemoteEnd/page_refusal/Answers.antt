@@ -1,4 +1,4 @@
-use Rattle.bidi_remote.specs.State.View.{page_of}
+use Rattle.bidi_sessions.specs.View.{page_of}
 use Rattle.bidi_remote.proofs.RefusalLemmas.{end_refused}
 use Rattle.bidi_remote.proofs.remote_end.RemoteEnd.page_refusal.Goals as goal
 

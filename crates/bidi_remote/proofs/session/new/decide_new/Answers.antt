@@ -6,7 +6,7 @@ use Rattle.bidi_handles.specs.Maps.{◌being◌and◌, mapped}
 use Rattle.bidi_browser.specs.Occurs.{Replies}
 use Rattle.bidi_params.specs.contracts.session.capabilities.NewParametersShape.TheImpl.{ghosts}
 use Rattle.bidi_remote.specs.declared.turn.Change.TheVariants.{Begin}
-use Rattle.bidi_remote.specs.Machine.Capabilities.{capabilities, request_of}
+use Rattle.bidi_sessions.specs.Capabilities.{capabilities, request_of}
 use Rattle.bidi_remote.specs.Machine.Commands.{New}
 use Rattle.bidi_remote.specs.Machine.Sessions.{next_session}
 use Rattle.bidi_remote.proofs.DecideLemmas.{replied-decides, is_ready-rows, new-began}

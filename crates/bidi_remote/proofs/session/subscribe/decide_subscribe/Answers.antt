@@ -7,17 +7,18 @@ use Rattle.bidi_remote.specs.Machine.Subscriptions.{next_subscription}
 use Rattle.bidi_remote.specs.Machine.Outcome.{all_named}
 use Rattle.bidi_remote.specs.Machine.Sent.{announcements, subscription_tree}
 use Rattle.bidi_remote.specs.State.Asked.{texts, subscribe_asked}
-use Rattle.bidi_remote.specs.State.SubscriptionView.{scope_of}
+use Rattle.bidi_sessions.specs.SubscriptionView.{scope_of}
 use Rattle.bidi_remote.specs.State.EventTexts.{written, written_in, AreMessages}
 use Rattle.bidi_remote.proofs.DecideLemmas.{announced-decides, row-active, held-length, subscribe-checked}
 use Rattle.bidi_remote.proofs.session.subscribe.decide_subscribe.Goals as goal
+use Rattle.bidi_sessions.specs.Limits.{most_subscriptions}
 
 pub returns-then-held-ge-MOST_SUBSCRIPTIONS-clause-ok : goal.returns-then-held-ge-MOST_SUBSCRIPTIONS-clause-ok
 returns-then-held-ge-MOST_SUBSCRIPTIONS-clause-ok c = λ past a active few.
     let s = c.args.session in
     let held = c.subscriptions_of-held.result.now in
     let full = c.if-held-ge-MOST_SUBSCRIPTIONS.true in
-    let none : nat_lt (length held) 256 ≡ false = grind (arith, nat_tests, full) in
+    let none : nat_lt (length held) most_subscriptions ≡ false = grind (arith, nat_tests, full) in
     let row = row-active c.args.state.now past s a active in
     subscribe-checked past s (length held) (texts c.args.params.now.events.items.items) (option_map (λ l. texts l.items.items) c.args.params.now.contexts)
     (option_map (λ l. texts l.items.items) c.args.params.now.user_contexts) c.in_ok-events.events.items (scope_of c.in_ok-scope.scope) false
@@ -31,7 +32,7 @@ returns-clause-ok c = λ past a active few.
     let scope = c.in_ok-scope.scope in
     let held = c.subscriptions_of-held.result.now in
     let less = c.if-held-ge-MOST_SUBSCRIPTIONS.false in
-    let room : nat_lt (length held) 256 ≡ true = grind (arith, nat_tests, less) in
+    let room : nat_lt (length held) most_subscriptions ≡ true = grind (arith, nat_tests, less) in
     let row = row-active c.args.state.now past s a active in
     let rows = c.subscriptions_of-held.ensures ∙ ap (λ r. r.subscriptions) row in
     let made = ap (λ r. r.made) row in

@@ -7,10 +7,10 @@ use Rattle.bidi_messages.specs.Reading.{IsMessageText}
 use Rattle.bidi_remote.specs.Machine.History.{acts}
 use Rattle.bidi_remote.specs.State.EventTexts.{written_of, written_in, AreMessages}
 use Rattle.bidi_remote.specs.State.MissedRows.{waiting, places}
-use Rattle.bidi_remote.specs.State.SubscriptionRows.{session_row, is_new}
-use Rattle.bidi_remote.specs.State.SubscriptionView.{scope_of}
+use Rattle.bidi_remote.specs.State.SessionRows.{session_row, is_new}
+use Rattle.bidi_sessions.specs.SubscriptionView.{scope_of}
 use Rattle.bidi_remote.specs.State.SessionView.{session_row_of}
-use Rattle.bidi_remote.proofs.ListLemmas.{all-append, no_value, not-found, some-same}
+use Rattle.bidi_sessions.proofs.ListLemmas.{all-append, no_value, not-found, some-same}
 use Rattle.bidi_remote.proofs.PlaceLemmas.{all-filtered, waiting-messages, waiting-places}
 use Rattle.bidi_remote.proofs.DecideLemmas.{found-active, new-announced}
 use Rattle.bidi_remote.proofs.session.subscribe.newly_enabled.Goals as goal

@@ -3,12 +3,12 @@ use Rattle.std.specs.Prelude.{bytes_eq, find}
 use Rattle.bidi_params.specs.declared.error_code.ErrorCode.TheVariants.{NoSuchFrame}
 use Rattle.bidi_handles.specs.declared.id.IdKind.TheVariants.{Context}
 use Rattle.bidi_handles.specs.Ids.{id_of}
-use Rattle.bidi_browser.specs.Contexts.{contexts, top_of}
-use Rattle.bidi_browser.specs.Outcome.{context_named}
-use Rattle.bidi_remote.specs.State.Checked.{behind}
+use Rattle.bidi_contexts.specs.Contexts.{contexts, top_of}
+use Rattle.bidi_contexts.specs.Outcome.{context_named}
+use Rattle.bidi_sessions.specs.Checked.{behind}
 use Rattle.bidi_remote.specs.Machine.Outcome.{tops_named}
-use Rattle.bidi_remote.proofs.ListLemmas.{from-item}
-use Rattle.bidi_remote.proofs.CheckLemmas.{joined-ok, joined-err, found-some, found-none}
+use Rattle.bidi_sessions.proofs.ListLemmas.{from-item}
+use Rattle.bidi_sessions.proofs.CheckLemmas.{joined-ok, joined-err, found-some, found-none}
 use Rattle.bidi_remote.proofs.session.subscribe.tops_named.Goals as goal
 
 pub loop-id-preserved : goal.loop-id-preserved

@@ -1,8 +1,8 @@
 use Rattle.std.proofs.Common.{◌≡◌, List, map, drop, string_bytes}
-use Rattle.bidi_browser.specs.Acts.{Act}
+use Rattle.bidi_contexts.specs.Acts.{Act}
 use Rattle.bidi_browser.specs.Stands.{StandsFor}
 use Rattle.bidi_remote.specs.Machine.Outcome.{tops_named}
-use Rattle.bidi_remote.specs.State.Checked.{behind}
+use Rattle.bidi_sessions.specs.Checked.{behind}
 use Rattle.bidi_remote.proofs.session.subscribe.tops_named.Given as goal
 
 -- the top-level contexts of the ids that are left come behind those of the others

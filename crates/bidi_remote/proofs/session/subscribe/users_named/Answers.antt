@@ -1,11 +1,11 @@
 use Rattle.std.proofs.Common.{◌∙◌, ◌∷◌, [], ◌+◌, sym, ap, map, drop, string_bytes, arith}
 use Rattle.bidi_params.specs.declared.error_code.ErrorCode.TheVariants.{NoSuchUserContext}
-use Rattle.bidi_browser.specs.Outcome.{user_checked}
+use Rattle.bidi_contexts.specs.Outcome.{user_checked}
 use Rattle.bidi_handles.specs.Checks.{found}
-use Rattle.bidi_remote.specs.State.Checked.{behind}
+use Rattle.bidi_sessions.specs.Checked.{behind}
 use Rattle.bidi_remote.specs.Machine.Outcome.{users_named}
-use Rattle.bidi_remote.proofs.ListLemmas.{from-item}
-use Rattle.bidi_remote.proofs.CheckLemmas.{joined-ok, joined-err}
+use Rattle.bidi_sessions.proofs.ListLemmas.{from-item}
+use Rattle.bidi_sessions.proofs.CheckLemmas.{joined-ok, joined-err}
 use Rattle.bidi_remote.proofs.session.subscribe.users_named.Goals as goal
 
 pub loop-id-preserved : goal.loop-id-preserved

@@ -4,11 +4,11 @@ use Rattle.std.proofs.lemmas.Fn.{filter_same}
 use Rattle.bidi_methods.specs.declared.event_data.EventName.TheVariants.{EntryAdded}
 use Rattle.bidi_remote.specs.State.EventTexts.{Written, written_of, written_in}
 use Rattle.bidi_remote.specs.State.MissedRows.{waiting}
-use Rattle.bidi_remote.specs.State.SubscriptionRows.{is_new}
+use Rattle.bidi_remote.specs.State.SessionRows.{is_new}
 use Rattle.bidi_remote.specs.State.SessionView.{session_row_of}
-use Rattle.bidi_remote.specs.State.SubscriptionView.{scope_of}
+use Rattle.bidi_sessions.specs.SubscriptionView.{scope_of}
 use Rattle.bidi_remote.proofs.AnnounceLemmas.{never-new}
-use Rattle.bidi_remote.proofs.ListLemmas.{map-filter, filter-none}
+use Rattle.bidi_sessions.proofs.ListLemmas.{map-filter, filter-none}
 use Rattle.bidi_remote.proofs.session.subscribe.waiting_entries.Goals as goal
 
 pub returns-then-not-may_be_new : goal.returns-then-not-may_be_new

@@ -1,7 +1,8 @@
 use Rattle.std.proofs.Common.{◌∙◌, true, false, sym, ap}
 use Rattle.std.specs.List.{list_all}
 use Rattle.bidi_remote.specs.State.Asked.{texts}
-use Rattle.bidi_remote.specs.State.SubscriptionRows.{subscription_rows, any_global}
+use Rattle.bidi_remote.specs.State.SessionRows.{subscription_rows}
+use Rattle.bidi_sessions.specs.SubscriptionRows.{any_global}
 use Rattle.bidi_remote.proofs.DecideLemmas.{row-active, all-held, dismiss-checked}
 use Rattle.bidi_remote.proofs.session.unsubscribe.end_by_events.Goals as goal
 

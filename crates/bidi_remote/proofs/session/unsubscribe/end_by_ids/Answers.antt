@@ -3,8 +3,8 @@ use Rattle.bidi_params.specs.declared.error_code.ErrorCode.{ErrorCode}
 use Rattle.bidi_handles.specs.Checks.{◌>>=◌}
 use Rattle.bidi_remote.specs.Machine.History.{Deed, Cancelled}
 use Rattle.bidi_remote.specs.State.Asked.{texts}
-use Rattle.bidi_remote.specs.State.SubscriptionRows.{numbers_named}
-use Rattle.bidi_remote.proofs.CheckLemmas.{carried}
+use Rattle.bidi_sessions.specs.SubscriptionRows.{numbers_named}
+use Rattle.bidi_sessions.proofs.CheckLemmas.{carried}
 use Rattle.bidi_remote.proofs.DecideLemmas.{row-active, numbers-named}
 use Rattle.bidi_remote.proofs.session.unsubscribe.end_by_ids.Goals as goal
 

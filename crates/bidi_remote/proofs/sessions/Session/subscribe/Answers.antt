@@ -2,9 +2,9 @@ use Rattle.std.proofs.Common.{◌≡◌, ◌∙◌, ◌+◌, ◌%◌, ◌∷◌,
 use Rattle.bidi_methods.specs.declared.event_data.EventName.TheVariants.{EntryAdded}
 use Rattle.bidi_remote.specs.State.MissedRows.{all_left}
 use Rattle.bidi_remote.specs.State.SessionView.{places_in}
-use Rattle.bidi_remote.specs.State.SubscriptionRows.{is_new}
-use Rattle.bidi_remote.specs.State.SubscriptionView.{scope_of}
-use Rattle.bidi_remote.specs.State.SubscriptionsView.{rows_of}
+use Rattle.bidi_remote.specs.State.SessionRows.{is_new}
+use Rattle.bidi_sessions.specs.SubscriptionView.{scope_of}
+use Rattle.bidi_sessions.specs.SubscriptionsView.{rows_of}
 use Rattle.bidi_remote.proofs.sessions.Session.subscribe.Goals as goal
 
 pub returns : goal.returns

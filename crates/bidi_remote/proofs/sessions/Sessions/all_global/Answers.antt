@@ -3,7 +3,7 @@ use Rattle.std.specs.Prelude.{◌==◌}
 use Rattle.std.specs.List.{list_all}
 use Rattle.std.proofs.Math.Dec.{eqb-suc-zero}
 use Rattle.bidi_methods.specs.declared.event_data.EventName.{EventName}
-use Rattle.bidi_remote.specs.State.SubscriptionRows.{any_global}
+use Rattle.bidi_sessions.specs.SubscriptionRows.{any_global}
 use Rattle.bidi_remote.proofs.RowLemmas.{row-in-hand}
 use Rattle.bidi_remote.proofs.sessions.Sessions.all_global.Goals as goal
 

@@ -1,8 +1,8 @@
 use Rattle.std.proofs.Common.{◌∙◌, ap}
-use Rattle.bidi_remote.specs.State.SubscriptionRows.{lost}
+use Rattle.bidi_remote.specs.State.SessionRows.{lost}
 use Rattle.bidi_remote.specs.State.SessionView.{session_row_of}
 use Rattle.bidi_remote.proofs.RowLemmas.{session-changed, none-changed}
-use Rattle.bidi_remote.proofs.ListLemmas.{no_value}
+use Rattle.bidi_sessions.proofs.ListLemmas.{no_value}
 use Rattle.bidi_remote.proofs.sessions.Sessions.dismiss.Goals as goal
 
 pub returns-in-Some-clause-rows : goal.returns-in-Some-clause-rows

@@ -2,7 +2,7 @@ use Rattle.std.proofs.Common.{◌∙◌, ap, rules}
 use Rattle.std.specs.Prelude.{◌==◌, not, map}
 use Rattle.std.proofs.lemmas.Fn.{filter_same}
 use Rattle.bidi_remote.specs.State.SessionView.{session_row_of}
-use Rattle.bidi_remote.proofs.ListLemmas.{map-filter}
+use Rattle.bidi_sessions.proofs.ListLemmas.{map-filter}
 use Rattle.bidi_remote.proofs.sessions.Sessions.end.Goals as goal
 
 pub returns-clause-rows : goal.returns-clause-rows

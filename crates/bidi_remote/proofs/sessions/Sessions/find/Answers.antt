@@ -1,7 +1,7 @@
 use Rattle.std.proofs.Common.{◌∙◌, option_map, sym, ap}
 use Rattle.std.specs.Prelude.{◌==◌, find}
 use Rattle.bidi_remote.specs.State.SessionView.{session_row_of}
-use Rattle.bidi_remote.proofs.ListLemmas.{find-seen, map-now}
+use Rattle.bidi_sessions.proofs.ListLemmas.{find-seen, map-now}
 use Rattle.bidi_remote.proofs.sessions.Sessions.find.Goals as goal
 
 pub returns : goal.returns

@@ -3,7 +3,7 @@ use Rattle.std.specs.Prelude.{bytes_eq, codes, find, if◌then◌else◌}
 use Rattle.bidi_handles.specs.declared.id.IdKind.TheVariants.{Session as OfSession}
 use Rattle.bidi_handles.specs.Ids.{id_of}
 use Rattle.bidi_remote.specs.State.SessionView.{session_row_of}
-use Rattle.bidi_remote.proofs.ListLemmas.{find-map}
+use Rattle.bidi_sessions.proofs.ListLemmas.{find-map}
 use Rattle.bidi_remote.proofs.sessions.Sessions.opening_of.Goals as goal
 
 pub returns : goal.returns

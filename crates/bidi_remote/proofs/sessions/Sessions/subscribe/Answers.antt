@@ -1,11 +1,11 @@
 use Rattle.std.proofs.Common.{◌∙◌, Some, arith, ap}
-use Rattle.bidi_remote.specs.State.SubscriptionRows.{subscribed}
+use Rattle.bidi_remote.specs.State.SessionRows.{subscribed}
 use Rattle.bidi_remote.specs.State.SessionView.{session_row_of}
-use Rattle.bidi_remote.specs.State.SubscriptionView.{scope_of}
+use Rattle.bidi_sessions.specs.SubscriptionView.{scope_of}
 use Rattle.bidi_remote.proofs.RowLemmas.{session-changed, none-changed}
 use Rattle.bidi_remote.specs.declared.sessions.Session.{Session}
 use Rattle.bidi_remote.proofs.RowLemmas.{row-at, position-is}
-use Rattle.bidi_remote.proofs.ListLemmas.{no_value}
+use Rattle.bidi_sessions.proofs.ListLemmas.{no_value}
 use Rattle.bidi_remote.proofs.sessions.Sessions.subscribe.Goals as goal
 
 pub returns-in-Some-clause-rows : goal.returns-in-Some-clause-rows

@@ -2,7 +2,7 @@ use Rattle.std.proofs.Common.{Err, subst}
 use Rattle.bidi_params.specs.contracts.session.capabilities.NewParametersShape.TheImpl.{ghosts}
 use Rattle.bidi_remote.specs.Machine.Outcome.{deeds, outcome}
 use Rattle.bidi_remote.specs.State.Asked.{asked_of}
-use Rattle.bidi_remote.specs.State.ConnectionRows.{attachment_in_hand}
+use Rattle.bidi_sessions.specs.ConnectionRows.{attachment_in_hand}
 use Rattle.bidi_remote.specs.State.Turns.{Decides}
 use Rattle.bidi_remote.proofs.TakeLemmas.{turn_takes, code_takes}
 use Rattle.bidi_methods.specs.contracts.command_data.CommandDataPayloadMethod.TheImpl as asked

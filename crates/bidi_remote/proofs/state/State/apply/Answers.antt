@@ -5,8 +5,8 @@ use Rattle.bidi_remote.specs.Machine.Connections.{is_shut}
 use Rattle.bidi_remote.specs.Machine.Outcome.{deeds}
 use Rattle.bidi_remote.specs.Machine.Sessions.{next_session}
 use Rattle.bidi_remote.specs.State.SessionView as in_hand
-use Rattle.bidi_remote.specs.State.SubscriptionRows.{cancelled, lost, changed}
-use Rattle.bidi_remote.specs.State.SubscriptionView.{scope_of}
+use Rattle.bidi_remote.specs.State.SessionRows.{cancelled, lost, changed}
+use Rattle.bidi_sessions.specs.SubscriptionView.{scope_of}
 use Rattle.bidi_remote.specs.State.Stands.{AgreeWith}
 use Rattle.bidi_remote.specs.State.Turns.{IsMade, deed_of}
 use Rattle.bidi_remote.proofs.OpeningLemmas.{IsFairIfDone, turn_fair}

@@ -1,7 +1,7 @@
 use Rattle.std.proofs.Common.{Ok, Err, refl, ap, subst}
 use Rattle.bidi_browser.specs.Asked.{action_of}
 use Rattle.bidi_browser.specs.Plans.{Plans}
-use Rattle.bidi_remote.specs.declared.step.Sent.TheVariants as sent
+use Rattle.bidi_sessions.specs.declared.step.Sent.TheVariants as sent
 use Rattle.bidi_remote.specs.Machine.History.{OfPage, acts}
 use Rattle.bidi_remote.specs.Machine.Outcome.{NoEffect, deeds, in_page}
 use Rattle.bidi_remote.proofs.BrowseLemmas.{page_takes}

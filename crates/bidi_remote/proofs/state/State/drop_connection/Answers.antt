@@ -1,11 +1,11 @@
 use Rattle.std.proofs.Common.{◌∙◌, map, Ok, Err, refl, sym, ap}
-use Rattle.bidi_remote.specs.declared.step.Sent.TheVariants.{Lost}
+use Rattle.bidi_sessions.specs.declared.step.Sent.TheVariants.{Lost}
 use Rattle.bidi_remote.specs.Machine.Connections.{is_shut}
 use Rattle.bidi_remote.specs.Machine.History.{Drop, Dropped}
 use Rattle.bidi_remote.specs.Machine.Outcome as outcome
 use Rattle.bidi_remote.specs.Machine.Outcome.{deeds}
-use Rattle.bidi_remote.specs.State.ConnectionRows.{attachment_in_hand}
-use Rattle.bidi_remote.specs.State.View.{sent_of}
+use Rattle.bidi_sessions.specs.ConnectionRows.{attachment_in_hand}
+use Rattle.bidi_sessions.specs.View.{sent_of}
 use Rattle.bidi_remote.proofs.ChangeLemmas.{stands, not_shut, agree-dropped}
 use Rattle.bidi_remote.proofs.TurnLemmas.{drop-shut, drop-open}
 use Rattle.bidi_remote.proofs.TakeLemmas.{takes, only_takes, closed_open, nothing}

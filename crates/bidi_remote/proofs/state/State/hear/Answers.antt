@@ -5,7 +5,7 @@ use Rattle.std.proofs.Common.{sym, subst}
 use Rattle.std.specs.Prelude.{OnOk}
 use Rattle.bidi_remote.specs.Machine.History.{Heard}
 use Rattle.bidi_remote.specs.Machine.Outcome.{deeds}
-use Rattle.bidi_remote.specs.Machine.Replies.{IsAnsweredOnce}
+use Rattle.bidi_remote.specs.Replies.{IsAnsweredOnce}
 use Rattle.bidi_remote.proofs.state.State.hear.Goals as goal
 
 pub returns-clause-ok : goal.returns-clause-ok

@@ -1,11 +1,11 @@
 use Rattle.std.proofs.Common.{◌∙◌, None, Err, refl, sym, ap}
 use Rattle.bidi_params.specs.declared.error_code.ErrorCode.TheVariants.{InvalidArgument}
-use Rattle.bidi_remote.specs.declared.step.Sent.TheVariants.{Lost}
+use Rattle.bidi_sessions.specs.declared.step.Sent.TheVariants.{Lost}
 use Rattle.bidi_remote.specs.Machine.Connections.{is_shut}
 use Rattle.bidi_remote.specs.Machine.History.{NotText}
 use Rattle.bidi_remote.specs.Machine.Outcome as outcome
 use Rattle.bidi_remote.specs.Machine.Outcome.{deeds}
-use Rattle.bidi_remote.specs.State.ConnectionRows.{attachment_in_hand}
+use Rattle.bidi_sessions.specs.ConnectionRows.{attachment_in_hand}
 use Rattle.bidi_remote.proofs.ChangeLemmas.{stands, not_shut}
 use Rattle.bidi_remote.proofs.TurnLemmas.{no_text-shut, no_text-open}
 use Rattle.bidi_remote.proofs.TakeLemmas.{only_takes, refused_takes}

@@ -6,9 +6,9 @@ use Rattle.bidi_methods.specs.Method.{method_text}
 use Rattle.bidi_methods.specs.CommandData.{method_of}
 use Rattle.bidi_remote.specs.Machine.Connections.{attachment_of}
 use Rattle.bidi_remote.specs.Machine.Outcome.{deeds, outcome}
-use Rattle.bidi_remote.specs.Machine.Strike as strike
+use Rattle.bidi_remote.specs.Strike as strike
 use Rattle.bidi_remote.specs.State.Asked.{asked_of}
-use Rattle.bidi_remote.specs.State.ConnectionRows.{attachment_in_hand}
+use Rattle.bidi_sessions.specs.ConnectionRows.{attachment_in_hand}
 use Rattle.bidi_remote.proofs.AskLemmas.{well-asked}
 use Rattle.bidi_remote.proofs.StrikeLemmas.{idle-command, idle-loud, is_quiet_text, found-so}
 use Rattle.bidi_remote.proofs.state.State.is_idle.Goals as goal

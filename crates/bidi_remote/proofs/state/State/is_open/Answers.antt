@@ -1,7 +1,7 @@
 use Rattle.std.proofs.Common.{◌∙◌, sym, ap}
 use Rattle.std.specs.Prelude.{not}
 use Rattle.bidi_remote.specs.Machine.Connections.{is_shut}
-use Rattle.bidi_remote.specs.State.ConnectionRows.{attachment_in_hand}
+use Rattle.bidi_sessions.specs.ConnectionRows.{attachment_in_hand}
 use Rattle.bidi_remote.proofs.ChangeLemmas.{stands, not_shut}
 use Rattle.bidi_remote.proofs.state.State.is_open.Goals as goal
 

@@ -1,7 +1,7 @@
 use Rattle.std.proofs.Common.{◌≡◌, refl, sym, subst}
 use Rattle.bidi_messages.specs.Verdict.{IsVerdict}
 use Rattle.bidi_remote.specs.Machine.History.{Input, Heard, IsHeardAs}
-use Rattle.bidi_remote.specs.State.View.{step_of}
+use Rattle.bidi_sessions.specs.View.{step_of}
 use Rattle.bidi_remote.proofs.StrikeLemmas.{found-so}
 use Rattle.bidi_remote.proofs.state.State.is_struck.Goals as goal
 

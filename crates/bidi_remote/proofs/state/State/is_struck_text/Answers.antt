@@ -2,8 +2,8 @@ use Rattle.std.proofs.Common.{◌≡◌, ◌∙◌, sym, ap, not, true, false, B
 use Rattle.bidi_messages.specs.contracts.command.CommandShape.TheImpl.{ghosts}
 use Rattle.bidi_messages.specs.View.{verdict_of}
 use Rattle.bidi_remote.specs.Machine.Outcome.{deeds}
-use Rattle.bidi_remote.specs.Machine.Strike as strike
-use Rattle.bidi_remote.specs.State.ConnectionRows.{attachment_in_hand}
+use Rattle.bidi_remote.specs.Strike as strike
+use Rattle.bidi_sessions.specs.ConnectionRows.{attachment_in_hand}
 use Rattle.bidi_remote.proofs.ChangeLemmas.{stands}
 use Rattle.bidi_remote.proofs.StrikeLemmas.{own-kept, other-struck, found-so}
 use Rattle.bidi_remote.proofs.state.State.is_struck_text.Goals as goal

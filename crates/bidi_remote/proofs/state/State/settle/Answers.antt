@@ -2,21 +2,21 @@ use Rattle.std.proofs.Common.{◌∙◌, Err, option_map, refl, sym, subst, ap, 
 use Rattle.bidi_messages.specs.contracts.command.CommandShape.TheImpl.{ghosts}
 use Rattle.bidi_messages.specs.Verdict.{Refused}
 use Rattle.bidi_messages.specs.View.{verdict_of, IsWell}
-use Rattle.bidi_remote.specs.declared.step.Sent.TheVariants.{Lost}
+use Rattle.bidi_sessions.specs.declared.step.Sent.TheVariants.{Lost}
 use Rattle.bidi_remote.specs.Machine.History.{Heard}
 use Rattle.bidi_remote.specs.Machine.Connections.{is_shut}
 use Rattle.bidi_remote.specs.Machine.Outcome as outcome
 use Rattle.bidi_remote.specs.Machine.Outcome.{deeds}
-use Rattle.bidi_remote.specs.State.ConnectionRows.{attachment_in_hand}
+use Rattle.bidi_sessions.specs.ConnectionRows.{attachment_in_hand}
 use Rattle.bidi_remote.specs.State.Stands.{Takes}
-use Rattle.bidi_remote.specs.State.View.{sent_of}
+use Rattle.bidi_sessions.specs.View.{sent_of}
 use Rattle.bidi_remote.proofs.AskLemmas.{tree_of, asks-tree, well-asked}
 use Rattle.bidi_remote.proofs.ChangeLemmas.{stands, not_shut}
 use Rattle.bidi_remote.proofs.TurnLemmas.{heard-shut, heard-open}
 use Rattle.bidi_remote.proofs.TakeLemmas.{only_takes, refused_takes, told-refused, anyway}
 use Rattle.std.specs.Prelude.{OnOk}
 use Rattle.bidi_messages.proofs.CommandLemmas.{method_in-tree}
-use Rattle.bidi_remote.specs.Machine.Replies.{IsAnsweredOnce}
+use Rattle.bidi_remote.specs.Replies.{IsAnsweredOnce}
 use Rattle.bidi_remote.proofs.ReplyLemmas.{not_answered, page_answered}
 use Rattle.bidi_remote.proofs.state.State.settle.Goals as goal
 

@@ -1,9 +1,9 @@
 use Rattle.std.proofs.Common.{refl, sym, subst, ap, ◌∙◌, map, Ok}
-use Rattle.bidi_remote.specs.declared.step.Step.{Step}
-use Rattle.bidi_remote.specs.Machine.Step.{Text}
+use Rattle.bidi_sessions.specs.declared.step.Step.{Step}
+use Rattle.bidi_sessions.specs.Step.{Text}
 use Rattle.bidi_remote.specs.Machine.History.{At, Open, Drop, NotText, Time, IsHeardAs}
 use Rattle.bidi_remote.specs.Machine.Outcome.{deeds}
-use Rattle.bidi_remote.specs.State.View.{page_of, step_of, sent_of}
+use Rattle.bidi_sessions.specs.View.{page_of, step_of, sent_of}
 use Rattle.bidi_remote.proofs.ChangeLemmas.{agree-time}
 use Rattle.bidi_remote.proofs.TakeLemmas.{takes, nothing, step_heard, page_heard, text_heard}
 use Rattle.bidi_remote.proofs.state.State.take.Goals as goal

@@ -3,20 +3,20 @@ use Rattle.std.specs.Prelude.{MatchOption, option_to_list, replicate, vec_len}
 use Rattle.std.specs.declared.rc.Rc.{Rc}
 use Rattle.bidi_messages.specs.contracts.message.MessageShape.TheImpl.{ghosts}
 use Rattle.bidi_messages.specs.Reading.{IsMessageText}
-use Rattle.bidi_browser.specs.Acts.{Logged}
-use Rattle.bidi_browser.specs.Actions.{Log}
-use Rattle.bidi_browser.specs.Occurrences.{entry_added}
+use Rattle.bidi_contexts.specs.Acts.{Logged}
+use Rattle.bidi_contexts.specs.Actions.{Log}
+use Rattle.bidi_contexts.specs.Occurrences.{entry_added}
 use Rattle.bidi_browser.specs.Plans as planned
-use Rattle.bidi_browser.specs.View.{seen}
+use Rattle.bidi_contexts.specs.View.{seen}
 use Rattle.bidi_remote.specs.declared.event_texts.EventText.{EventText}
 use Rattle.bidi_remote.specs.Machine.History.{acts, moment}
 use Rattle.bidi_remote.specs.Machine.Outcome.{deeds}
 use Rattle.bidi_remote.specs.State.EventTexts.{Written, written, written_of, written_in, AreMessages}
 use Rattle.bidi_remote.specs.State.SessionView as sessions
-use Rattle.bidi_remote.specs.State.View.{sent_of}
+use Rattle.bidi_sessions.specs.View.{sent_of}
 use Rattle.bidi_remote.proofs.BrowseLemmas.{entry-planned, entry_takes, last-written}
 use Rattle.bidi_remote.proofs.ChangeLemmas.{agree-kept, agree-logged}
-use Rattle.bidi_remote.proofs.ListLemmas.{no_value}
+use Rattle.bidi_sessions.proofs.ListLemmas.{no_value}
 use Rattle.bidi_remote.proofs.SpeakingLemmas.{has-ids}
 use Rattle.bidi_remote.proofs.TakeLemmas.{anyway}
 use Rattle.bidi_remote.proofs.state.State.take_entry.Goals as goal

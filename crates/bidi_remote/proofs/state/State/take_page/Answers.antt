@@ -1,11 +1,11 @@
 use Rattle.std.proofs.Common.{refl, sym, subst, ap, ap₂}
 use Rattle.std.specs.Prelude.{option_map}
-use Rattle.bidi_values.specs.contracts.table_row.TableRowShape.TheImpl.{ghosts}
-use Rattle.bidi_browser.specs.Actions.{Frame, Unframe, Log}
+use Rattle.bidi_scripts.specs.contracts.table_row.TableRowShape.TheImpl.{ghosts}
+use Rattle.bidi_contexts.specs.Actions.{Frame, Unframe, Log}
 use Rattle.bidi_browser.specs.Asked.{row_asked}
-use Rattle.bidi_remote.specs.declared.step.PageStep.{PageStep}
+use Rattle.bidi_sessions.specs.declared.step.PageStep.{PageStep}
 use Rattle.bidi_remote.specs.Machine.History.{IsTakenAs, IsRow}
-use Rattle.bidi_remote.specs.State.View.{page_of}
+use Rattle.bidi_sessions.specs.View.{page_of}
 use Rattle.bidi_remote.proofs.TakeLemmas.{page_taken}
 use Rattle.bidi_remote.proofs.state.State.take_page.Goals as goal
 

@@ -12,7 +12,7 @@ none_items e = cc
 same_items : {a b : Items} → Some a ≡ Some b → a ≡ b
 same_items e = cc
 
--- what is no list of two items fits no pair
+-- a tree that is not an array of two items fits no pair
 pub returns-in_default-clause-no_fit : goal.returns-in_default-clause-no_fit
 returns-in_default-clause-no_fit g c = λ f.
     let p = pair_fitting f in

@@ -1,5 +1,5 @@
 use Rattle.bidi_why.specs.Explainers.{standing_of}
-use Rattle.bidi_why.specs.Remark.{remark_of}
+use Rattle.bidi_remarks.specs.Remark.{remark_of}
 use Rattle.bidi_why.proofs.HearingLemmas.{heard_long}
 use Rattle.bidi_why.proofs.conversation.Conversation.hear_line.Goals as goal
 

@@ -1,7 +1,7 @@
 use Rattle.std.proofs.Common.{option_map}
 use Rattle.bidi_messages.specs.contracts.message.MessageShape.TheImpl.{ghosts}
 use Rattle.bidi_why.specs.Explainers.{standing_of}
-use Rattle.bidi_why.specs.Remark.{remark_of}
+use Rattle.bidi_remarks.specs.Remark.{remark_of}
 use Rattle.bidi_why.proofs.HearingLemmas.{heard_message, no_fit_line, no_json_line, no_text_refused}
 use Rattle.bidi_why.proofs.conversation.Conversation.hear_remote.Goals as goal
 

@@ -1,7 +1,7 @@
 use Rattle.std.proofs.Common.{option_map, sym}
 use Rattle.bidi_lines.specs.declared.side.Side.TheVariants.{Local, Remote}
 use Rattle.bidi_why.specs.Explainers.{standing_of}
-use Rattle.bidi_why.specs.Remark.{remark_of}
+use Rattle.bidi_remarks.specs.Remark.{remark_of}
 use Rattle.bidi_why.proofs.HearingLemmas.{heard_mark, heard_no_text, heard_text}
 use Rattle.bidi_why.proofs.conversation.Conversation.hear_short.Goals as goal
 

@@ -1,7 +1,7 @@
 use Rattle.std.proofs.Common.{option_map}
 use Rattle.bidi_why.specs.Explainers.{standing_of}
-use Rattle.bidi_why.specs.Remark.{remark_of}
-use Rattle.bidi_why.specs.Trouble.{trouble_of}
+use Rattle.bidi_remarks.specs.Remark.{remark_of}
+use Rattle.bidi_remarks.specs.Trouble.{trouble_of}
 use Rattle.bidi_why.proofs.HearingLemmas.{heard_none}
 use Rattle.bidi_why.proofs.conversation.Conversation.no_message.Goals as goal
 

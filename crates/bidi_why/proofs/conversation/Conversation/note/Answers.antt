@@ -1,6 +1,6 @@
 use Rattle.std.proofs.Common.{ℕ}
 use Rattle.bidi_why.proofs.HearingLemmas.{notes_sent, notes_too_many, notes_twice}
-use Rattle.bidi_why.specs.Remark.{remark_of}
+use Rattle.bidi_remarks.specs.Remark.{remark_of}
 use Rattle.bidi_why.specs.Explainers.{standing_of}
 use Rattle.bidi_why.proofs.conversation.Conversation.note.Goals as goal
 

@@ -1,6 +1,6 @@
 use Rattle.bidi_why.proofs.HearingLemmas.{stray_answered, stray_told}
 use Rattle.std.proofs.Common.{option_map}
-use Rattle.bidi_why.specs.Remark.{remark_of}
+use Rattle.bidi_remarks.specs.Remark.{remark_of}
 use Rattle.bidi_why.specs.Explainers.{standing_of}
 use Rattle.bidi_why.proofs.conversation.Conversation.stray.Goals as goal
 

@@ -3,7 +3,7 @@ use Rattle.bidi_local.specs.View.{meaning_of, waiting_in}
 use Rattle.bidi_messages.specs.contracts.message.MessageShape.TheImpl.{ghosts}
 use Rattle.bidi_why.specs.Conversing.{lines_left}
 use Rattle.bidi_why.specs.Explainers.{standing_of}
-use Rattle.bidi_why.specs.Remark.{remark_of}
+use Rattle.bidi_remarks.specs.Remark.{remark_of}
 use Rattle.bidi_why.proofs.HearingLemmas.{bad_asked, no_message_taken, takes_bad_result, takes_failure, takes_fine, takes_stray}
 use Rattle.bidi_why.proofs.conversation.Conversation.take.Goals as goal
 

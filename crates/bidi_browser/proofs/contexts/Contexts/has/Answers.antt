@@ -1,8 +1,0 @@
-use Rattle.std.proofs.Common.{◌∙◌, ap, map}
-use Rattle.bidi_browser.specs.ContextRows.{row_of}
-use Rattle.bidi_browser.proofs.RowLemmas.{any-stands}
-use Rattle.bidi_browser.proofs.contexts.Contexts.has.Goals as goal
-
-pub returns : goal.returns
-returns c = λ past table.
-    c.has_number.ensures ∙ any-stands past c.deref.result.now c.args.number (ap (map row_of) c.deref.ensures.value ∙ table.rows) table.accepted

@@ -1,9 +1,0 @@
-use Rattle.std.proofs.Common.{◌∙◌, ◌++◌, ap}
-use Rattle.bidi_browser.specs.Occurrences.{removal}
-use Rattle.bidi_browser.specs.View.{seen}
-use Rattle.bidi_browser.proofs.removals.removal.Goals as goal
-
-pub returns-clause-told : goal.returns-clause-told
-returns-clause-told c = λ past k stands is.
-    c.in_ok-push_removal.ensures.told past k is (c.below.ensures past k stands.contexts is)
-    ∙ ap (λ os. seen os ++ removal past k) c.new-events.ensures.items

@@ -1,0 +1,19 @@
+use Rattle.std.proofs.Common.{◌≡◌, Some, sym, arith}
+use Rattle.std.specs.Prelude.{◌==◌}
+use Rattle.std.specs.List.{position}
+use Rattle.std.proofs.lemmas.List.Quantifiers.{position-Some}
+use Rattle.bidi_contexts.specs.declared.context.Context.{Context}
+use Rattle.bidi_contexts.proofs.SubtreeLemmas.{range-end, range-within}
+use Rattle.bidi_contexts.proofs.subtrees.range_of.Goals as goal
+
+pub returns : goal.returns
+returns c =
+    let items = c.args.contexts.now in
+    let i = c.in_ok-start.start in
+    let at : position (λ (x : Context). x.number == c.args.number) items ≡ Some i = sym c.in_ok-start.ensures in
+    let less = (position-Some (λ (x : Context). x.number == c.args.number) items i c.index-contexts-start.result at).0 in (
+      at,
+      range-end items i c.len_below.result c.index-contexts-start.result less c.len_below.ensures.is,
+      omega arith,
+      range-within items i c.len_below.result less c.len_below.ensures.within,
+    )

@@ -1,9 +1,0 @@
--- The fault that a fault of the remote end is.
-use Rattle.bidi_remote.specs.declared.remote_end.RemoteFault.{RemoteFault}
-use Rattle.bidi_remote.specs.declared.remote_end.RemoteFault.TheVariants as remote
-use Rattle.bidi_host.specs.declared.host.HostFault.{HostFault}
-use Rattle.bidi_host.specs.declared.host.HostFault.TheVariants as host
-
-abbrev pub host_fault_of : RemoteFault → HostFault
-host_fault_of remote.NoMemory = host.NoMemory
-host_fault_of remote.WornOut = host.WornOut

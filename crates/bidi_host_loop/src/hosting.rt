@@ -1,0 +1,198 @@
+//! Many connections of one remote end, served in turns.
+use crate::clock::{shorter, time};
+use crate::console::Console;
+use crate::door::Door;
+use crate::manners::Manners;
+use crate::peers::Peers;
+use crate::sessions::Sessions;
+use crate::surroundings::Surroundings;
+use bidi_recorder::{Host, HostingFault};
+use std::alloc::Global;
+use std::time::{Duration, Instant};
+
+/// A remote end that is hosted, with its connections.
+pub struct Hosted {
+    pub(crate) alloc: Global,
+    pub(crate) manners: Manners,
+    pub(crate) host: Host,
+    // The page lines that each new browser plays first.
+    pub(crate) page: Vec<String>,
+    pub(crate) peers: Peers,
+    pub(crate) sessions: Sessions,
+    pub(crate) console: Console,
+    pub(crate) is_console_ready: bool,
+    // The names that were reported as left out; at most as many as there are.
+    pub(crate) told: Vec<String>,
+    // How many connections the remote end was asked to open since it was new.
+    pub(crate) count: u64,
+    // When the host ends, whatever its connections do; `None` while it serves.
+    pub(crate) end: Option<Instant>,
+}
+
+impl Drop for Hosted {
+    fn drop(self) {
+        let Hosted {
+            alloc: _,
+            manners: _,
+            host: _,
+            page: _,
+            peers: _,
+            sessions: _,
+            console: _,
+            is_console_ready: _,
+            told: _,
+            count: _,
+            end: _,
+        } = self;
+    }
+}
+
+impl Hosted {
+    /// Makes a host without connections. Each new browser plays these page lines first; [`Hosted::begin`]
+    /// plays them for the first browser.
+    ///
+    /// # Errors
+    /// `NoMemory`: an allocation failed.
+    pub fn new(alloc: Global, manners: Manners, page: Vec<String>) -> Result<Hosted, HostingFault> {
+        Ok(Hosted {
+            alloc,
+            manners,
+            host: Host::new(alloc)?,
+            page,
+            peers: Peers::new(alloc, manners.most_connections),
+            sessions: Sessions::new(alloc),
+            console: Console::new(alloc),
+            is_console_ready: false,
+            told: Vec::new(alloc),
+            count: 0,
+            end: None,
+        })
+    }
+
+    /// Plays the page lines. Call it once, before [`Hosted::serve`].
+    ///
+    /// # Errors
+    /// - `BadLine`: the line of this number is not a line of a page.
+    /// - `Write`, `NoMemory`, `WornOut`: as [`Hosted::serve`].
+    pub fn begin<W: Surroundings>(&mut self, world: &mut W) -> Result<(), HostingFault> {
+        let mut number: u64 = 0;
+        for place in 0..self.page.len() {
+            number = number.saturating_add(1);
+            if !self.play(world, place)? {
+                return Err(HostingFault::BadLine(number));
+            }
+        }
+        Ok(())
+    }
+
+    // Plays the page line at a place. Returns whether it is one.
+    fn play<W: Surroundings>(&mut self, world: &mut W, place: usize) -> Result<bool, HostingFault> {
+        let Some(line) = self.page.get(place) else {
+            return Ok(true);
+        };
+        match self.host.page_line(line.as_str())? {
+            Some(taken) => {
+                self.deliver(world, taken)?;
+                Ok(true)
+            }
+            None => Ok(false),
+        }
+    }
+
+    /// Serves the connections of a door until a page, or the end of standard input, ends it. Writes to
+    /// standard error where it listens.
+    ///
+    /// Memory holds the remote end, and for each connection the beginning of one message and at most
+    /// `most_waiting` bytes to be sent. If all connections together hold more than `most_held` bytes, the one
+    /// that holds most is closed.
+    ///
+    /// # Errors
+    /// - `Listen`: waiting for connections failed.
+    /// - `Read`: standard input cannot be read.
+    /// - `Answer`: an answer cannot be written to standard output.
+    /// - `Write`: the record cannot be written.
+    /// - `NoMemory`: an allocation failed.
+    /// - `WornOut`: the remote end takes no more steps.
+    pub fn serve<W: Surroundings>(
+        &mut self,
+        door: &mut Door,
+        world: &mut W,
+    ) -> Result<(), HostingFault> {
+        self.listen(door, world)?;
+        for _ in 0..u64::MAX {
+            if self.turn(door, world, None)? {
+                return Ok(());
+            }
+        }
+        Ok(())
+    }
+
+    /// Starts to wait for connections and for standard input, and reports where. [`Hosted::serve`] does so
+    /// first.
+    ///
+    /// # Errors
+    /// - `Listen`: waiting for connections failed.
+    /// - `NoMemory`: an allocation failed.
+    pub fn listen<W: Surroundings>(
+        &mut self,
+        door: &mut Door,
+        world: &mut W,
+    ) -> Result<(), HostingFault> {
+        let port = door.open()?;
+        if self.manners.reads_input {
+            self.is_console_ready = !door.wait_for_input(world.input_fd());
+        }
+        let line = format!(in self.alloc; "WebDriver BiDi listening on ws://127.0.0.1:{port}")?;
+        world.note(line.as_str());
+        Ok(())
+    }
+
+    /// Takes one turn: waits until something can be done, at most for so long, and does it. Returns whether
+    /// the host has ended. [`Hosted::serve`] takes turn after turn.
+    ///
+    /// # Errors
+    /// Those of [`Hosted::serve`].
+    pub fn turn<W: Surroundings>(
+        &mut self,
+        door: &mut Door,
+        world: &mut W,
+        most: Option<Duration>,
+    ) -> Result<bool, HostingFault> {
+        let now = time(world)?;
+        let next = self.peers.expire(now);
+        if self.has_ended(now) {
+            return Ok(true);
+        }
+        door.wait(shorter(self.timeout(now, next), most))?;
+        self.accept_all(door, world)?;
+        self.is_console_ready |= door.has_input();
+        for event in door.events().iter() {
+            self.peers.wake(event.token().0);
+        }
+        self.read_input(door, world)?;
+        self.serve_ready(world)?;
+        self.peers.flush();
+        Ok(false)
+    }
+
+    // Whether the host was told to end, and its connections have ended or have had their time.
+    fn has_ended(&self, now: Instant) -> bool {
+        match self.end {
+            Some(end) => end <= now || self.peers.is_empty(),
+            None => false,
+        }
+    }
+
+    // The longest time to wait.
+    fn timeout(&self, now: Instant, next: Option<Instant>) -> Option<Duration> {
+        if self.is_console_ready || self.peers.is_any_ready() {
+            return Some(Duration::ZERO);
+        }
+        match (next, self.end) {
+            (None, None) => None,
+            (Some(next), None) => Some(next.saturating_duration_since(now)),
+            (None, Some(end)) => Some(end.saturating_duration_since(now)),
+            (Some(next), Some(end)) => Some(next.min(end).saturating_duration_since(now)),
+        }
+    }
+}

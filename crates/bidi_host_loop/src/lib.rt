@@ -1,0 +1,48 @@
+//! Hosting a remote end for many WebSocket connections at once, in one thread.
+//!
+//! A host waits for all its sockets together, by `mio`, and never for a single one. Each message that a step
+//! sends goes to its own connection, whichever connection asked. A connection on the resource `/page` sends
+//! page lines and gets an answer to each. The clock, the record and the standard streams are
+//! [`Surroundings`], so that a test can have its own.
+//!
+//! # Calls, in order
+//! 1. [`Door::new`] over a listener, and [`Hosted::new`] with [`Manners`] and the page lines of
+//!    [`page_lines`].
+//! 2. [`Hosted::begin`], to play the page lines.
+//! 3. [`Hosted::serve`], which returns when a page, or the end of standard input, ends the host. A test can
+//!    call [`Hosted::listen`] and then [`Hosted::turn`] instead.
+//!
+//! # Limits
+//! - 64 connections of the remote end are open at once, and as many of pages.
+//! - [`Manners::most_connections`] connections are held in all; the program allows [`MOST_CONNECTIONS`], 512.
+//! - A handshake, and the end of a connection, take at most 10 seconds.
+//! - [`Manners`] bounds the bytes that wait for one connection, and those that all hold.
+//!
+//! # Faults
+//! A connection that fails does not affect the others. A [`HostingFault`] ends the host: the browser is gone,
+//! with its sessions.
+//!
+//! No clause of this crate is about sockets; what a line or a message does is proved in `bidi_recorder` and
+//! `bidi_remote`, and the rest is tested.
+#![tactic(auto)]
+
+mod arrivals;
+mod clients;
+mod clock;
+mod console;
+mod door;
+mod hosting;
+mod manners;
+mod page_file;
+mod pages;
+mod peers;
+mod sessions;
+mod slot;
+mod surroundings;
+
+pub use bidi_peer::MOST_WAITING;
+pub use door::Door;
+pub use hosting::Hosted;
+pub use manners::{MOST_CONNECTIONS, Manners};
+pub use page_file::page_lines;
+pub use surroundings::Surroundings;

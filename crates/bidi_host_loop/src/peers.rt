@@ -1,0 +1,323 @@
+//! The connections that are held, each at a place of its own.
+use crate::clock::earlier;
+use crate::slot::{Role, Slot, deadline_of, flushed_is_over, is_page, is_past};
+use bidi_peer::{Came, Ending, Peer, Refusal};
+use bidi_tree::JsUint;
+use mio::net::TcpStream;
+use std::alloc::{AllocError, Global};
+use std::time::Instant;
+
+/// The place of the connection with a number.
+#[derive(Clone, Copy)]
+struct Route {
+    conn: u64,
+    place: usize,
+}
+
+/// The connections that are held. A place is used again when its connection is gone.
+#[derive(Drop)]
+pub(crate) struct Peers {
+    slots: Vec<Option<Slot>>,
+    routes: Vec<Route>,
+    // The most places.
+    most: usize,
+}
+
+impl Peers {
+    /// Makes an empty collection with at most so many places. Takes no memory.
+    pub(crate) fn new(alloc: Global, most: usize) -> Peers {
+        Peers {
+            slots: Vec::new(alloc),
+            routes: Vec::new(alloc),
+            most,
+        }
+    }
+
+    /// The number of places. Each connection is at a smaller one.
+    pub(crate) fn len(&self) -> usize {
+        self.slots.len()
+    }
+
+    /// Whether no connection is held.
+    pub(crate) fn is_empty(&self) -> bool {
+        self.slots.iter().all(|slot| slot.is_none())
+    }
+
+    /// How many connections of the remote end are open.
+    pub(crate) fn clients(&self) -> usize {
+        self.routes.len()
+    }
+
+    /// How many connections of pages are open.
+    pub(crate) fn pages(&self) -> usize {
+        self.slots.iter().filter(|slot| is_page(*slot)).count()
+    }
+
+    /// Finds a free place. If all are taken, drops the connection whose deadline comes first; `None` if none
+    /// has a deadline.
+    pub(crate) fn place(&mut self) -> Option<usize> {
+        if let Some(place) = self.slots.iter().position(|slot| slot.is_none()) {
+            return Some(place);
+        }
+        if self.slots.len() < self.most {
+            return Some(self.slots.len());
+        }
+        let place = first_to_go(&self.slots)?;
+        if let Some(slot) = self.slots.get_mut(place) {
+            *slot = None;
+        }
+        Some(place)
+    }
+
+    /// If all connections together hold more than so many bytes, fails the one that holds most.
+    pub(crate) fn hold_at_most(&mut self, most: usize) -> Result<(), AllocError> {
+        let mut held: usize = 0;
+        let mut largest: usize = 0;
+        let mut place = 0;
+        for at in 0..self.slots.len() {
+            let here = held_at(&self.slots, at);
+            held = held.saturating_add(here);
+            if here > largest {
+                largest = here;
+                place = at;
+            }
+        }
+        if held <= most {
+            return Ok(());
+        }
+        match self.slots.get_mut(place) {
+            Some(Some(slot)) => slot.shed(),
+            _ => Ok(()),
+        }
+    }
+
+    /// Puts a connection at a free place. Its handshake has until the deadline.
+    pub(crate) fn put(
+        &mut self,
+        place: usize,
+        peer: Peer<TcpStream>,
+        deadline: Option<Instant>,
+    ) -> Result<(), AllocError> {
+        let slot = Some(Slot {
+            peer,
+            role: Role::Arriving,
+            deadline,
+            is_answered: false,
+            is_ready: true,
+            is_due: false,
+        });
+        match self.slots.get_mut(place) {
+            Some(there) => *there = slot,
+            None => self.slots.push(slot)?,
+        }
+        Ok(())
+    }
+
+    /// The stream at a place can be read or written again.
+    pub(crate) fn wake(&mut self, place: usize) {
+        if let Some(Some(slot)) = self.slots.get_mut(place) {
+            slot.is_ready = true;
+            slot.is_due = true;
+        }
+    }
+
+    /// Whether something may have come in at a place.
+    pub(crate) fn is_ready(&self, place: usize) -> bool {
+        match self.slots.get(place) {
+            Some(Some(slot)) => slot.is_ready,
+            _ => false,
+        }
+    }
+
+    /// Whether something may have come in anywhere.
+    pub(crate) fn is_any_ready(&self) -> bool {
+        self.slots.iter().any(|slot| match slot {
+            Some(slot) => slot.is_ready,
+            None => false,
+        })
+    }
+
+    /// Takes what came in at a place, with the role of the connection.
+    pub(crate) fn take(&mut self, place: usize) -> Result<(Role, Came), AllocError> {
+        match self.slots.get_mut(place) {
+            Some(Some(slot)) => slot.take(),
+            _ => Ok((Role::Leaving, Came::Nothing)),
+        }
+    }
+
+    /// Answers a handshake: the connection at a place is open, in this role.
+    pub(crate) fn open(&mut self, place: usize, role: Role) -> Result<(), AllocError> {
+        if let Role::Client(conn) = role {
+            self.routes.push(Route {
+                conn: conn.value,
+                place,
+            })?;
+        }
+        if let Some(Some(slot)) = self.slots.get_mut(place) {
+            slot.role = role;
+            slot.deadline = None;
+            slot.is_due = true;
+            slot.peer.open()?;
+        }
+        Ok(())
+    }
+
+    /// Refuses a handshake.
+    pub(crate) fn refuse(&mut self, place: usize, refusal: Refusal) -> Result<(), AllocError> {
+        if let Some(Some(slot)) = self.slots.get_mut(place) {
+            slot.role = Role::Leaving;
+            slot.is_answered = true;
+            slot.is_due = true;
+            slot.peer.refuse(refusal)?;
+        }
+        Ok(())
+    }
+
+    /// Queues a text for the connection at a place.
+    pub(crate) fn send_to(&mut self, place: usize, text: &str) -> Result<(), AllocError> {
+        match self.slots.get_mut(place) {
+            Some(Some(slot)) => slot.send(text),
+            _ => Ok(()),
+        }
+    }
+
+    /// Queues a text for the connection with a number, if it is held.
+    pub(crate) fn send(&mut self, conn: JsUint, text: &str) -> Result<(), AllocError> {
+        match self.place_of(conn) {
+            Some(place) => self.send_to(place, text),
+            None => Ok(()),
+        }
+    }
+
+    // The place of the connection with a number.
+    fn place_of(&self, conn: JsUint) -> Option<usize> {
+        let route = self.routes.iter().find(|route| route.conn == conn.value)?;
+        Some(route.place)
+    }
+
+    // Forgets the number of a connection.
+    fn forget(&mut self, conn: JsUint) {
+        if let Some(at) = self
+            .routes
+            .iter()
+            .position(|route| route.conn == conn.value)
+        {
+            self.routes.swap_remove(at);
+        }
+    }
+
+    /// Closes the connection with a number, because the remote end closes it.
+    pub(crate) fn close(
+        &mut self,
+        conn: JsUint,
+        deadline: Option<Instant>,
+    ) -> Result<(), AllocError> {
+        let found = self.place_of(conn);
+        self.forget(conn);
+        match found {
+            Some(place) => self.close_at(place, Ending::Done, deadline),
+            None => Ok(()),
+        }
+    }
+
+    // Closes the connection at a place.
+    fn close_at(
+        &mut self,
+        place: usize,
+        ending: Ending,
+        deadline: Option<Instant>,
+    ) -> Result<(), AllocError> {
+        match self.slots.get_mut(place) {
+            Some(Some(slot)) => slot.close(ending, deadline),
+            _ => Ok(()),
+        }
+    }
+
+    /// The connection at a place has ended. It is dropped at the deadline, or earlier when its queue is empty
+    /// and, if it was answered in its handshake, its peer has ended too.
+    pub(crate) fn leave(&mut self, place: usize, role: Role, deadline: Option<Instant>) {
+        if let Role::Client(conn) = role {
+            self.forget(conn);
+        }
+        if let Some(Some(slot)) = self.slots.get_mut(place) {
+            slot.role = Role::Leaving;
+            slot.is_answered = role == Role::Arriving;
+            slot.deadline = deadline;
+            slot.is_due = true;
+        }
+    }
+
+    /// Closes all connections of the remote end, and with `pages` those of pages as well.
+    pub(crate) fn close_all(
+        &mut self,
+        pages: bool,
+        deadline: Option<Instant>,
+    ) -> Result<(), AllocError> {
+        self.routes.clear();
+        for slot in self.slots.iter_mut() {
+            if let Some(slot) = slot {
+                if is_closed_with(slot.role, pages) {
+                    slot.close(Ending::GoingAway, deadline)?;
+                }
+            }
+        }
+        Ok(())
+    }
+
+    /// Writes what is queued, as far as the streams accept it, and drops the connections that are over.
+    pub(crate) fn flush(&mut self) {
+        for slot in self.slots.iter_mut() {
+            if flushed_is_over(slot) {
+                *slot = None;
+            }
+        }
+    }
+
+    /// Drops the connections whose deadline has passed. Returns the next deadline.
+    pub(crate) fn expire(&mut self, now: Instant) -> Option<Instant> {
+        let mut next = None;
+        for slot in self.slots.iter_mut() {
+            if is_past(slot, now) {
+                *slot = None;
+            } else {
+                next = earlier(next, deadline_of(slot));
+            }
+        }
+        next
+    }
+}
+
+// How many bytes the connection at a place holds.
+fn held_at(slots: &[Option<Slot>], place: usize) -> usize {
+    match slots.get(place) {
+        Some(Some(slot)) => slot.peer.held(),
+        _ => 0,
+    }
+}
+
+// The place of the connection whose deadline comes first.
+fn first_to_go(slots: &[Option<Slot>]) -> Option<usize> {
+    let mut first = None;
+    for place in 0..slots.len() {
+        let Some(deadline) = deadline_of(&slots[place]) else {
+            continue;
+        };
+        first = match first {
+            Some((earliest, _)) if earliest <= deadline => first,
+            _ => Some((deadline, place)),
+        };
+    }
+    match first {
+        Some((_, place)) => Some(place),
+        None => None,
+    }
+}
+
+// Whether a connection is closed by a reset, or with `pages` at the end.
+fn is_closed_with(role: Role, pages: bool) -> bool {
+    match role {
+        Role::Client(_) => true,
+        Role::Page | Role::Arriving => pages,
+        Role::Leaving => false,
+    }
+}

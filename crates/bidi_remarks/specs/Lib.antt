@@ -1,0 +1,7 @@
+pub mod Beyond
+pub mod Claim
+pub mod Trouble
+pub mod Texts
+pub mod Remark
+pub mod Explaining
+pub mod Results

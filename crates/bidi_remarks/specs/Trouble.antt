@@ -1,0 +1,203 @@
+-- What is wrong with a line that is refused. The kinds and their words are this project's own.
+use Rattle.std.specs.Prelude.{◌≡◌, ◌+◌, ◌==◌, ◌&&◌, ◌++◌, ℕ, List, [], ◌∷◌, length, take, nat_lt, Bool, true, false, Option, Some, None}
+use Rattle.std.specs.Prelude.{option_map, option_and_then, unwrap_or, string_bytes, codes, decimal, IsUtf8}
+use Rattle.std.specs.Str.{IsValidUpTo, bytes_eq}
+use Rattle.bidi_tree.specs.Node.{Node, get_of}
+use Rattle.bidi_tree.specs.Kind.{text_in}
+use Rattle.bidi_tree.specs.Text.{tree_of_text}
+use Rattle.bidi_shape.specs.Name as rules
+use Rattle.bidi_shape.specs.Term.{rule}
+use Rattle.bidi_messages.specs.Verdict.{echoed_id}
+use Rattle.bidi_rules.specs.Names.{rule_text}
+use Rattle.bidi_blame.specs.Reason.{Reason, Step, member, item}
+use Rattle.bidi_blame.specs.Blames.{Blames}
+use Rattle.bidi_blame.specs.Said.{told_by}
+use Rattle.bidi_blame.specs.Words.{choice_text, pointer_text, wants_text}
+use Rattle.bidi_show.specs.MessageLines.{HasTree, Refuses}
+use Rattle.bidi_remarks.specs.Beyond as reason
+use Rattle.bidi_remarks.specs.Claim.{has_text, kind_of, short_text}
+use Rattle.bidi_lines.specs.declared.side.Side.{Side}
+use Rattle.bidi_lines.specs.declared.side.Side.TheVariants.{Local, Remote}
+use Rattle.bidi_remarks.specs.declared.bad_text.BadText.{BadText}
+use Rattle.bidi_remarks.specs.declared.bad_text.BadText.TheVariants.{ByteOrderMark, NoUtf8, TooLong, TooLarge, NotJson, NoDirection}
+use Rattle.bidi_remarks.specs.declared.claim.Kind.{Kind}
+use Rattle.bidi_remarks.specs.declared.misfit.Misfit as declared_misfit
+use Rattle.bidi_remarks.specs.declared.misfit.Wants.{Wants}
+use Rattle.bidi_remarks.specs.declared.misfit.Wants.TheVariants.{Whole, Short}
+use Rattle.bidi_remarks.specs.declared.finding.Trouble as declared_trouble
+use Rattle.bidi_remarks.specs.declared.finding.Trouble.TheVariants as code
+
+-- ---- lines that are no text to judge
+
+-- the words for one
+abbrev pub bad_words : BadText → List ℕ
+bad_words ByteOrderMark = codes "byte order mark"
+bad_words (NoUtf8 place) = codes "no UTF-8 at byte " ++ decimal place
+bad_words TooLong = codes "too long"
+bad_words TooLarge = codes "more than 1048576 bytes"
+bad_words NotJson = codes "not json"
+bad_words NoDirection = codes "no direction"
+
+-- the same without the place
+abbrev pub bad_cause : BadText → List ℕ
+bad_cause ByteOrderMark = codes "byte order mark"
+bad_cause (NoUtf8 place) = codes "no UTF-8"
+bad_cause TooLong = codes "too long"
+bad_cause TooLarge = codes "more than 1048576 bytes"
+bad_cause NotJson = codes "not json"
+bad_cause NoDirection = codes "no direction"
+
+-- so many bytes at the front of a line are characters and the next is none, or its text is no JSON: so it has no tree
+abbrev pub HasNoTree : List ℕ → BadText → Type 0
+HasNoTree line (NoUtf8 place) = (IsUtf8 line → ⊥) × ((front : ℕ) × IsValidUpTo line front × (place ≡ front + 1))
+HasNoTree line NotJson = IsUtf8 line × (tree_of_text None line ≡ None)
+HasNoTree line b = ⊥
+
+-- ---- trees that do not fit the rule of their end
+
+-- Where a tree does not fit, and why, in words.
+pub record Misfit : Type 0 where
+  pub id : Option ℕ
+  pub method : Option (List ℕ)
+  pub kind : Kind
+  pub pointer : List ℕ
+  pub pattern : List ℕ
+  pub wants : List ℕ
+  -- the same in short
+  pub short : List ℕ
+  pub has : List ℕ
+  pub named : Option (List ℕ)
+  -- it is wrong for the profile, and not for the draft
+  pub is_beyond : Bool
+
+-- the rule of the texts of an end
+abbrev pub rule_of : Side → rules.Name
+rule_of Local = rules.command
+rule_of Remote = rules.message
+
+-- the one, or else the other
+abbrev pub or_else : Option (List ℕ) → Option (List ℕ) → Option (List ℕ)
+or_else None o = o
+or_else (Some s) o = Some s
+
+-- the member of that name, where it is a text
+abbrev pub text_member : List ℕ → Node → Option (List ℕ)
+text_member k t = option_and_then text_in (get_of k t)
+
+-- the member `method` of a tree, or else its `type`, where that is a text
+abbrev pub method_of : Node → Option (List ℕ)
+method_of t = or_else (text_member (codes "method") t) (text_member (codes "type") t)
+
+-- a step of a pointer, with `*` for the number of an item
+abbrev pub pattern_step : Step → List ℕ
+pattern_step (member k) = pointer_text (member k ∷ [])
+pattern_step (item i) = codes "/*"
+
+-- a pointer with `*` for the number of each item, of steps that have the last one first
+abbrev pub pattern_text : List Step → List ℕ
+pattern_text [] = []
+pattern_text (s ∷ ss) = pattern_text ss ++ pattern_step s
+
+-- the reason why a tree with this id and this method does not fit, in words
+abbrev pub reason_parts : Option ℕ → Option (List ℕ) → Reason → Misfit
+reason_parts id method r = record {
+  id = id;
+  method = method;
+  kind = kind_of r;
+  pointer = pointer_text r.steps;
+  pattern = pattern_text r.steps;
+  wants = wants_text r.wants;
+  short = short_text r;
+  has = has_text (kind_of r) r.found;
+  named = option_map rule_text r.named;
+  is_beyond = reason.is_beyond r;
+}
+
+-- a tree and the reason why it does not fit, in words
+abbrev pub misfit_parts : Node → Reason → Misfit
+misfit_parts t r = reason_parts (echoed_id t) (method_of t) r
+
+-- a reason why the tree does not fit the rule of its end, in words
+abbrev pub HasMisfit : Side → Node → Misfit → Type 0
+HasMisfit side t m = (r : Reason) × Blames t (rule (rule_of side)) r × (m ≡ misfit_parts t r)
+
+-- ---- of both
+
+-- What is wrong with a line: that it is no text to judge, or that its tree does not fit.
+pub data Trouble : Type 0 where
+  bad : BadText → Trouble
+  no_fit : Misfit → Trouble
+
+-- whether it is wrong for the profile alone
+abbrev pub is_beyond : Trouble → Bool
+is_beyond (bad b) = false
+is_beyond (no_fit m) = m.is_beyond
+
+-- what may stand there, in full and in short
+abbrev pub wants_of : Wants → List ℕ
+wants_of (Whole text) = string_bytes text
+wants_of (Short text alternatives) = choice_text (told_by alternatives)
+
+-- the words of the code for what may be at the place, shortened if it made them short
+abbrev pub short_of : Wants → List ℕ
+short_of (Whole text) = string_bytes text
+short_of (Short text alternatives) = string_bytes text
+
+-- a misfit of the code
+abbrev pub misfit_of : declared_misfit.Misfit → Misfit
+misfit_of m = record {
+  id = option_map (λ n. n.value) m.id;
+  method = option_map string_bytes m.method;
+  kind = m.kind;
+  pointer = string_bytes m.pointer;
+  pattern = string_bytes m.pattern;
+  wants = wants_of m.wants;
+  short = short_of m.wants;
+  has = string_bytes m.has;
+  named = option_map (λ s. s.now) m.rule;
+  is_beyond = m.is_beyond;
+}
+
+-- a trouble of the code
+abbrev pub trouble_of : declared_trouble.Trouble → Trouble
+trouble_of (code.Bad b) = bad b
+trouble_of (code.NoFit m) = no_fit (misfit_of m)
+
+-- the id in a text that is no message
+abbrev pub id_of : Trouble → Option ℕ
+id_of (bad b) = None
+id_of (no_fit m) = m.id
+
+-- the line is the first of an input, and begins with a byte order mark
+abbrev pub begins_with_mark : ℕ → List ℕ → Bool
+begins_with_mark n line = (n == 1) && bytes_eq (239 ∷ 187 ∷ 191 ∷ []) (take 3 line)
+
+-- the text has more bytes than a command may have
+abbrev pub is_too_large : Side → List ℕ → Bool
+is_too_large Local line = nat_lt 1048576 (length line)
+is_too_large Remote line = false
+
+-- What is wrong with a line that is refused and begins with no byte order mark.
+pub data IsTrouble (side : Side) (line : List ℕ) : Trouble → Type 0 where
+  -- so many bytes at its front are characters, and the next is none
+  is_no_text : (front : ℕ) → (IsUtf8 line → ⊥) → IsValidUpTo line front → IsTrouble side line (bad (NoUtf8 (front + 1)))
+  is_not_json : IsUtf8 line → tree_of_text None line ≡ None → IsTrouble side line (bad NotJson)
+  is_large : (t : Node) → HasTree line t → is_too_large side line ≡ true → IsTrouble side line (bad TooLarge)
+  fits_none : (t : Node) (m : Misfit) → HasTree line t → is_too_large side line ≡ false → HasMisfit side t m → IsTrouble side line (no_fit m)
+
+-- The same of the refused line of this number.
+pub data IsTroubleAt (side : Side) (n : ℕ) (line : List ℕ) : Trouble → Type 0 where
+  is_marked : begins_with_mark n line ≡ true → IsTroubleAt side n line (bad ByteOrderMark)
+  is_unmarked : (x : Trouble) → begins_with_mark n line ≡ false → IsTrouble side line x → IsTroubleAt side n line x
+
+-- ---- of a line that may be refused
+
+-- a line is taken, or it is refused, and this is wrong with it
+abbrev pub HasTrouble : Side → List ℕ → Option Trouble → Type 0
+HasTrouble side line None = Refuses side line None
+HasTrouble side line (Some x) = ((why : List ℕ) × Refuses side line (Some why)) × IsTrouble side line x
+
+-- the same of the line of this number
+abbrev pub HasTroubleAt : Side → ℕ → List ℕ → Option Trouble → Type 0
+HasTroubleAt side n line None = Refuses side line None
+HasTroubleAt side n line (Some x) = ((why : List ℕ) × Refuses side line (Some why)) × IsTroubleAt side n line x

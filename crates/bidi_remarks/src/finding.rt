@@ -1,0 +1,193 @@
+//! What is wrong with a line that is refused.
+ghost use Rattle.std.specs.Prelude.{◌≡◌, ℕ, List, Some, false, IfOk, MatchResult, option_map};
+ghost use Rattle.bidi_tree.specs.Json.{parsed};
+ghost use Rattle.bidi_shape.specs.Term.{rule};
+ghost use Rattle.bidi_shape.specs.Fits.{Fits};
+ghost use Rattle.bidi_show.specs.MessageLines.{HasTree, Refuses};
+ghost use Rattle.bidi_lines.specs.declared.side.Side.TheVariants.{Local, Remote};
+ghost use Rattle.bidi_remarks.specs.Trouble.{HasMisfit, HasNoTree, HasTrouble, HasTroubleAt, IsTrouble, begins_with_mark, id_of, is_beyond, is_too_large, misfit_of, rule_of, trouble_of};
+
+use crate::bad_text::BadText;
+use crate::misfit::{Misfit, find_misfit};
+use bidi_lines::Side;
+use bidi_messages::Command;
+use bidi_shape::{MAX_BYTES, Shape, ShapeFault};
+use bidi_show::value_refusal;
+use bidi_tree::{JsUint, ReadFault, outline_parsed, parse};
+use json::{Scratch, Value};
+use std::alloc::{AllocError, Global};
+
+/// What is wrong with a line that is refused.
+#[derive(Drop)]
+pub enum Trouble {
+    /// It is no text to judge.
+    Bad(BadText),
+    /// Its tree does not fit the rule of its end.
+    NoFit(Misfit),
+}
+
+/// Whether it is wrong for the profile, and not for the W3C's draft.
+pub(crate) fn is_beyond(trouble: &Trouble) -> bool
+    ensures { result ≡ is_beyond (trouble_of trouble.now) }
+{
+    match trouble {
+        Trouble::Bad(_) => false,
+        Trouble::NoFit(misfit) => misfit.is_beyond,
+    }
+}
+
+/// What is wrong with a line of this number, where its end refuses it.
+///
+/// The line is read once. Only of one whose tree does not fit an outline is made.
+pub(crate) fn look_for_trouble(
+    alloc: Global,
+    side: Side,
+    number: u64,
+    line: &[u8],
+    scratch: &mut Scratch,
+) -> Result<Option<Trouble>, AllocError>
+    ensures { IfOk result (λ found. HasTroubleAt side number line.now (option_map trouble_of found)) }
+{
+    let Some(trouble) = text_trouble(alloc, side, line, scratch)? else {
+        return Ok(None);
+    };
+    if begins_with_mark(number, line) {
+        return Ok(Some(Trouble::Bad(BadText::ByteOrderMark)));
+    }
+    Ok(Some(trouble))
+}
+
+// The same, where a byte order mark is as any other character.
+fn text_trouble(
+    alloc: Global,
+    side: Side,
+    line: &[u8],
+    scratch: &mut Scratch,
+) -> Result<Option<Trouble>, AllocError>
+    ensures { IfOk result (λ found. HasTrouble side line.now (option_map trouble_of found)) }
+{
+    match value_in(alloc, line, scratch)? {
+        Ok(_) if is_too_large(side, line) => Ok(Some(Trouble::Bad(BadText::TooLarge))),
+        Ok(value) => value_trouble(alloc, side, &value),
+        Err(bad) => Ok(Some(Trouble::Bad(bad))),
+    }
+}
+
+// What is wrong with a line that is not too large and reads as this value, where it is refused.
+fn value_trouble(
+    alloc: Global,
+    side: Side,
+    value: &Value<'_>,
+) -> Result<Option<Trouble>, AllocError>
+    ensures { IfOk result (λ found. (line : List ℕ) → HasTree line (parsed value.now) → is_too_large side line ≡ false
+        → HasTrouble side line (option_map trouble_of found)) }
+{
+    match side {
+        Side::Local => command_trouble(alloc, value),
+        Side::Remote => message_trouble(alloc, value),
+    }
+}
+
+// The same of a line of a local end.
+fn command_trouble(alloc: Global, value: &Value<'_>) -> Result<Option<Trouble>, AllocError>
+    ensures { IfOk result (λ found. (line : List ℕ) → HasTree line (parsed value.now) → is_too_large Local line ≡ false
+        → HasTrouble Local line (option_map trouble_of found)) }
+{
+    match Command::from_tree(alloc, value).err() {
+        None => Ok(None),
+        Some(ShapeFault::NoFit) => {
+            Ok(Some(Trouble::NoFit(misfit_in(alloc, Side::Local, value)?)))
+        }
+        Some(ShapeFault::NoMemory) => Err(AllocError),
+    }
+}
+
+// The same of a line of a remote end, of any size.
+fn message_trouble(alloc: Global, value: &Value<'_>) -> Result<Option<Trouble>, AllocError>
+    ensures { IfOk result (λ found. (line : List ℕ) → HasTree line (parsed value.now) → HasTrouble Remote line (option_map trouble_of found)) }
+{
+    if value_refusal(alloc, value)?.is_none() {
+        return Ok(None);
+    }
+    Ok(Some(Trouble::NoFit(misfit_in(alloc, Side::Remote, value)?)))
+}
+
+/// What is wrong with a refused line that begins with no byte order mark.
+///
+/// # Errors
+/// No memory: an allocation failed.
+pub fn trouble_in(
+    alloc: Global,
+    side: Side,
+    line: &[u8],
+    scratch: &mut Scratch,
+) -> Result<Trouble, AllocError>
+    // The line is refused as a message of this end.
+    requires { (text : List ℕ) × Refuses side line.now (Some text) }
+    // What is found is wrong with the line.
+    ensures { IfOk result (λ found. IsTrouble side line.now (trouble_of found)) }
+{
+    match value_in(alloc, line, scratch)? {
+        Ok(_) if is_too_large(side, line) => Ok(Trouble::Bad(BadText::TooLarge)),
+        Ok(value) => Ok(Trouble::NoFit(misfit_in(alloc, side, &value)?)),
+        Err(bad) => Ok(Trouble::Bad(bad)),
+    }
+}
+
+// Whether a text has more bytes than a command may have.
+fn is_too_large(side: Side, text: &[u8]) -> bool
+    ensures { result ≡ is_too_large side text.now }
+{
+    match side {
+        Side::Local => text.len() > MAX_BYTES,
+        Side::Remote => false,
+    }
+}
+
+/// The id in a text that is no message. Takes no memory.
+pub fn id_of(why: &Trouble) -> Option<JsUint>
+    // The id is that of the tree that does not fit; a text without a tree has none.
+    ensures { option_map (λ n. n.value) result ≡ id_of (trouble_of why.now) }
+{
+    match why {
+        Trouble::Bad(_) => None,
+        Trouble::NoFit(misfit) => misfit.id,
+    }
+}
+
+/// Whether the line is the first of an input, and begins with a byte order mark. Takes no memory.
+pub fn begins_with_mark(number: u64, line: &[u8]) -> bool
+    // The result says whether the number is 1 and the line begins with the mark.
+    ensures { result ≡ begins_with_mark number line.now }
+{
+    number == 1 && line.starts_with(b"\xEF\xBB\xBF")
+}
+
+// What a line is read as, or why it has no tree.
+fn value_in<'a>(
+    alloc: Global,
+    line: &'a [u8],
+    scratch: &'a mut Scratch,
+) -> Result<Result<Value<'a>, BadText>, AllocError>
+    ensures { IfOk result (λ read. MatchResult read (λ v. HasTree line.now (parsed v)) (HasNoTree line.now)) }
+{
+    let text = match std::str::from_utf8(line) {
+        Ok(text) => text,
+        Err(error) => return Ok(Err(BadText::NoUtf8(error.valid_up_to() + 1))),
+    };
+    match parse(alloc, text, None, scratch) {
+        Ok(value) => Ok(Ok(value)),
+        Err(ReadFault::NotJson) => Ok(Err(BadText::NotJson)),
+        Err(ReadFault::TooLong) => unreachable!(),
+        Err(ReadFault::NoMemory) => Err(AllocError),
+    }
+}
+
+// The misfit of a value whose tree does not fit the rule of its end.
+fn misfit_in(alloc: Global, side: Side, value: &Value<'_>) -> Result<Misfit, AllocError>
+    requires { Fits (parsed value.now) (rule (rule_of side)) → ⊥ }
+    ensures { IfOk result (λ m. HasMisfit side (parsed value.now) (misfit_of m)) }
+{
+    let outline = outline_parsed(alloc, value)?;
+    find_misfit(alloc, side, &outline)
+}

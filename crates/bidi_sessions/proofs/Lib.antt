@@ -1,0 +1,10 @@
+pub mod ListLemmas
+pub mod FindLemmas
+pub mod BeginLemmas
+pub mod CheckLemmas
+pub mod CapabilityLemmas
+pub mod ConnectionLemmas
+pub mod EventLemmas
+pub mod StripLemmas
+pub mod IndexLemmas
+pub mod MergeLemmas

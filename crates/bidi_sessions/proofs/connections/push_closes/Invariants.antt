@@ -1,0 +1,11 @@
+use Rattle.std.proofs.Common.{◌≡◌, ◌++◌, map, drop}
+use Rattle.bidi_sessions.specs.View.{sent_of}
+use Rattle.bidi_sessions.specs.Sent.{Close}
+use Rattle.bidi_sessions.specs.ConnectionRows.{row_of, to_each}
+use Rattle.bidi_sessions.proofs.connections.push_closes.Given as goal
+
+-- what is left is added to what was sent
+abbrev pub invariant-loop-connection : goal.invariant-loop-connection
+invariant-loop-connection l =
+    map sent_of l.sent.items ++ to_each Close l.session (map row_of (drop l.connection-index l.connections))
+    ≡ map sent_of l.initial.sent.items ++ to_each Close l.session (map row_of l.connections)

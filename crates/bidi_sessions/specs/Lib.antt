@@ -1,0 +1,16 @@
+pub mod Limits
+pub mod Step
+pub mod Sent
+pub mod View
+pub mod Attachment
+pub mod ConnectionRows
+pub mod EventNames
+pub mod Scope
+pub mod SubscriptionRows
+pub mod SubscriptionView
+pub mod IndexRows
+pub mod IndexView
+pub mod SubscriptionsView
+pub mod Capabilities
+pub mod Checked
+pub mod Results

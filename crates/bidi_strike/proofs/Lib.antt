@@ -1,8 +1,0 @@
-pub mod LookLemmas
-pub mod OwnLemmas
-pub mod QuietLemmas
-pub mod TurnLemmas
-pub mod KeptListLemmas
-pub mod SeenLemmas
-pub mod AlikeLemmas
-pub mod StrikeLemmas

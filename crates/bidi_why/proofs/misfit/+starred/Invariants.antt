@@ -1,5 +1,0 @@
-use Rattle.std.proofs.Common.{length}
-use Rattle.bidi_why.proofs.misfit.+starred.Given as goal
-
-abbrev pub decreases-starred : goal.decreases-starred
-decreases-starred l = length l.steps.now
