@@ -1,0 +1,56 @@
+#!/usr/bin/env python3
+"""Makes docs/DEFINITIONS.md: each public definition of each library, with the sentence above it.
+
+    definitions.py            prints the page
+    definitions.py --write    writes it
+    definitions.py --check    ends with status 1 if the page is another one
+    definitions.py --missing  lists each definition without a sentence that a public clause names, and each file of definitions
+                              without a line that gives its subject; ends with status 1 if there is one
+"""
+import sys
+from itertools import groupby
+
+import sources
+
+HEAD = """\
+# Definitions
+
+What contracts compare the code with. `tools/definitions.py` makes this page from the files in `specs/`: the sentence is the comment
+above the definition, and the line below a file's name is the comment at its top, with the source in a standard if it has one.
+"Own" is a choice of this project. [ARCHITECTURE.md](ARCHITECTURE.md) explains the words, [THEOREMS.md](THEOREMS.md) the notation.
+"""
+
+
+def table(path, found):
+    lines = [f"\n### {sources.link(path)}\n", f"{sources.header(path)}\n", "| definition | says |", "|---|---|"]
+    for it in found:
+        example = f". Example: {it.example}" if it.example else ""
+        lines.append(f"| `{it.name}` | {sources.cell(it.says.rstrip('.') + example if example else it.says)} |")
+    return lines
+
+
+def made():
+    lines = [HEAD]
+    for crate in sources.libraries():
+        found = sources.definitions(crate)
+        if found:
+            lines += [f"\n## {crate}\n", sources.head_of(crate)]
+        for path, group in groupby(found, key=lambda it: it.path):
+            lines += table(path, group)
+    return "\n".join(lines) + "\n"
+
+
+def missing():
+    for it in sources.cited():
+        if not it.says:
+            yield f"{it.path.relative_to(sources.ROOT)}: {it.name}"
+    for path in sorted({it.path for crate in sources.libraries() for it in sources.definitions(crate)}):
+        if not sources.header(path):
+            yield f"{path.relative_to(sources.ROOT)}: the file's subject"
+
+
+if "--missing" in sys.argv:
+    found = list(missing())
+    print(*found, sep="\n")
+    sys.exit(f"definitions: {len(found)} without a sentence" if found else 0)
+sources.page("DEFINITIONS.md", made(), sys.argv)

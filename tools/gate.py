@@ -1,0 +1,102 @@
+#!/usr/bin/env python3
+"""The gate: what `.ci/run` runs, in this order. At the top of the repository: tools/gate.py
+
+First come the checks of texts, which take seconds; if one fails, nothing else is run. Then `rt ci` proves every crate from nothing,
+tries the must-fail edits, and runs the tests and the programs. The last steps run the program that it built. A step that
+fails prints a line `FAILED: WHAT` below its own output, and the status is then 1, or that of `rt ci`. At the end stand the seconds
+of each kind of step, and as the last line that of `rt ci`.
+"""
+import os
+import shutil
+import subprocess
+import sys
+import time
+from collections import Counter
+from pathlib import Path
+
+ROOT = Path(__file__).resolve().parent.parent
+BIDI = ROOT / "crates/bidi/out/bidi"
+# The kind of a step, and its words.
+TEXTS = [
+    ("texts", "tools/clauses.py --missing"),
+    ("texts", "tools/clauses.py --check"),
+    ("texts", "tools/definitions.py --missing"),
+    ("texts", "tools/definitions.py --check"),
+    ("texts", "tools/theorems.py --check"),
+    ("texts", "tools/profile.py"),
+    ("texts", "tools/picture.py --check"),
+    ("texts", "tools/look_test.py"),
+]
+PROGRAM = [
+    ("refused allocations", "tools/refusals.py --short"),
+    ("examples", f"tools/examples.py {BIDI}"),
+    ("documents", f"tools/blocks.py {BIDI}"),
+]
+NODE_SUITE = "examples/clients/node/host.test.js"
+NODE_PATH = "/usr/share/nodejs"
+seconds = Counter()
+
+
+def run(kind, words, **variables):
+    """Runs a step, and gives its status."""
+    began = time.monotonic()
+    environment = {key: value for key, value in os.environ.items() if key != "BIDI"} | variables
+    status = subprocess.run(words, cwd=ROOT, env=environment).returncode
+    seconds[kind] += time.monotonic() - began
+    if status:
+        print("FAILED:", *words[1:] if words[0] == sys.executable else words, flush=True)
+    return status
+
+
+def steps(every):
+    """Runs these steps, and gives 1 if one of them fails."""
+    return max([run(kind, [sys.executable, *words.split()]) != 0 for kind, words in every])
+
+
+def prove():
+    """Runs `rt ci`, a check for each processor, and gives its status and its last line."""
+    # Without RT_JOBS, `rt ci` leaves processors idle: it gives each check some three times the memory that any takes.
+    began, last = time.monotonic(), ""
+    environment = {**os.environ, "RT_JOBS": str(len(os.sched_getaffinity(0)))}
+    with subprocess.Popen(["rt", "ci"], cwd=ROOT, env=environment, stdout=subprocess.PIPE, text=True, errors="replace") as ci:
+        for line in ci.stdout:
+            print(line, end="", flush=True)
+            last = line
+    seconds["rt ci"] = time.monotonic() - began
+    return ci.returncode, last
+
+
+def can(*words, **variables):
+    """Whether a command is there and ends well."""
+    return bool(shutil.which(words[0])) and subprocess.run(words, env={**os.environ, **variables}, capture_output=True).returncode == 0
+
+
+def suites():
+    """Runs the suites of the examples of clients, as far as what they need is installed; gives 1 if one of them fails."""
+    pythons = [it for it in ("/usr/bin/python3", sys.executable) if can(it, "-c", "import pytest, websockets")]
+    every = [([*pythons[:1], "-m", "pytest", "-q", "examples/clients/pytest"], {})] if pythons else []
+    if can("node", "-e", "require('ws')", NODE_PATH=NODE_PATH):
+        every.append((["node", "--test", "--test-reporter=dot", NODE_SUITE], {"NODE_PATH": NODE_PATH}))
+    if can("node", "--experimental-websocket", "-e", "new WebSocket('ws://127.0.0.1:1').onerror = () => {}"):
+        every.append((["node", "--experimental-websocket", "--test", "--test-reporter=dot", NODE_SUITE], {"BIDI_WEBSOCKET": "builtin"}))
+    if not pythons:
+        print("not run: the suite for pytest needs a Python with pytest and websockets")
+    if len(every) == len(pythons[:1]):
+        print("not run: the suite for Node needs node, with ws or a WebSocket of its own")
+    return max([run("client suites", words, BIDI=str(BIDI), **variables) != 0 for words, variables in every], default=0)
+
+
+def main():
+    status, last = steps(TEXTS), ""
+    if not status:
+        status, last = prove()
+        if status:
+            print("FAILED: rt ci", flush=True)
+        else:
+            status = max(steps(PROGRAM), suites())
+    print("seconds:", ", ".join(f"{kind} {time:.0f}" for kind, time in seconds.items()))
+    print(last, end="")
+    return int(status)
+
+
+sys.exit(main())

@@ -1,0 +1,124 @@
+#!/usr/bin/env python3
+"""Keeps what docs/THEOREMS.md quotes from the source word for word.
+
+    theorems.py --write      fills in each quote and the table of the headline's files
+    theorems.py --check      ends with status 1 if one of them differs, but for line breaks, or a named edit is missing
+    theorems.py --show TEXT  prints one quote
+
+A quote is a block whose fence says what stands in it: `rust CALL: CLAUSE, ..` for clauses of a public call, `agda NAME, ..` for
+definitions. A name may have its file or crate in front, `Plays.StopsAt` or `bidi_play.play`, and has to be the only one.
+The edits are the names in the table under "Wrong bodies".
+"""
+import re
+import sys
+import textwrap
+
+import sources
+
+PAGE = sources.ROOT / "docs/THEOREMS.md"
+QUOTE = re.compile(r"^```(rust|agda) (\S[^\n]*)\n(.*?)^```$", re.M | re.S)
+FILES = re.compile(r"(<!-- the files of (\w+) -->\n).*?(?=<!-- end -->)", re.S)
+
+
+def only(name, found):
+    if len(found) != 1:
+        places = ", ".join(str(it.path.relative_to(sources.ROOT)) for it in found) or "none"
+        sys.exit(f"theorems: {name} has to be one of the source: {places}")
+    return found[0]
+
+
+def call(name):
+    crate, _, title = name.rpartition(".")
+    every = [it for place in sources.libraries() for it in sources.calls(place)]
+    return only(name, [it for it in every if it.title == title and it.name and crate in ("", it.crate)])
+
+
+def definition(name):
+    *places, last = name.split(".")
+    every = [it for place in sources.libraries() for it in sources.definitions(place)]
+    return only(name, [it for it in every if it.name == last and all(p in (it.crate, *it.module.split(".")) for p in places)])
+
+
+def commented(says, mark, text):
+    """A statement below its sentence, in lines that fit a page."""
+    return "\n".join([*(f"{mark} {line}" for line in textwrap.wrap(says, 110)), text])
+
+
+def quote(kind, what):
+    """What stands in a block: the file, then the statements with their sentences."""
+    if kind == "agda":
+        parts, path = [], None
+        for it in map(definition, re.split(r", *", what.strip())):
+            parts += [""] if parts else []
+            parts += [f"-- {it.path.relative_to(sources.ROOT)}"] if it.path != path else []
+            parts.append(commented(it.says, "--", it.text))
+            path = it.path
+        return "\n".join(parts) + "\n"
+    name, _, clauses = what.rpartition(": ")
+    it = call(name or what)
+    wanted = re.split(r", *", clauses.strip()) if name else [clause.name for clause in it.clauses]
+    by_name = {clause.name: clause for clause in it.clauses}
+    if lacking := [one for one in wanted if one not in by_name]:
+        sys.exit(f"theorems: {name} has no clause {', '.join(lacking)}")
+    indent = re.compile(r"(?m)^ {8}" if it.owner else r"(?m)^ {4}")
+    texts = [commented(by_name[one].says, "//", indent.sub("", by_name[one].text)) for one in wanted]
+    return "\n".join([f"// {it.path.relative_to(sources.ROOT)}: {it.title}", *texts]) + "\n"
+
+
+def below(name):
+    """The definitions on which a clause of a call rests: those that it names, those that they name, and so on."""
+    first = call(name)
+    todo, found = [(first.path, first.crate, "", clause.text) for clause in first.clauses if clause.name == "ok"], {}
+    while todo:
+        path, crate, module, text = todo.pop()
+        for it in sources.named(path, text, crate, module):
+            if (it.path, it.name) not in found:
+                found[it.path, it.name] = it
+                todo.append((it.path, it.crate, it.module, it.text))
+    return found.values()
+
+
+def files(name):
+    """A table of the files in which these definitions stand."""
+    found, lines = below(name), ["| crate | files in `specs/` |", "|---|---|"]
+    for crate in reversed(sources.libraries()):
+        here = [it for it in found if it.crate == crate]
+        paths = sorted({it.path for it in here})
+        cells = [f"[{path.stem}](../{path.relative_to(sources.ROOT)})" for path in paths]
+        lines += [f"| `{crate}` | {', '.join(cells)} |"] if cells else []
+    count = len({it.path for it in found})
+    return "\n".join([*lines, "", f"These are {len(found)} definitions in {count} files."]) + "\n"
+
+
+def made(page):
+    page = QUOTE.sub(lambda m: f"```{m[1]} {m[2]}\n{quote(m[1], m[2])}```", page)
+    return FILES.sub(lambda m: m[1] + files(m[2]), page)
+
+
+def missing_edits(page):
+    """The edits that the page names and that are nowhere."""
+    stems = {path.stem for place in ("crates/*/must-fail/*.edit", "tools/edits/**/*.edit") for path in sources.ROOT.glob(place)}
+    table = re.search(r"^## Wrong bodies\n(.*?)(?=^## |\Z)", page, re.M | re.S)[1]
+    rows = [line.rsplit("|", 2)[1] for line in table.splitlines() if line.startswith("| ")]
+    return [name for row in rows[1:] for name in re.findall(r"`(\w+)`", row) if name not in stems]
+
+
+def main():
+    if "--show" in sys.argv:
+        what = sys.argv[-1]
+        print(quote("rust" if re.search(r": |::|^[a-z_]+$", what) else "agda", what), end="")
+        return
+    page = PAGE.read_text()
+    right = made(page)
+    if "--write" in sys.argv:
+        PAGE.write_text(right)
+        return
+    told = [f"the edit {name} is nowhere" for name in missing_edits(page)]
+    for mine, source in zip(re.split(r"\n(?=```)", page), re.split(r"\n(?=```)", right)):
+        if mine.split() != source.split():
+            told.append(f"not as in the source: {mine.splitlines()[0]}")
+    print(*(f"docs/THEOREMS.md: {it}" for it in told), sep="\n", end="\n" if told else "")
+    sys.exit(1 if told else 0)
+
+
+main()
