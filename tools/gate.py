@@ -32,6 +32,9 @@ PROGRAM = [
     ("examples", f"tools/examples.py {BIDI}"),
     ("documents", f"tools/blocks.py {BIDI}"),
 ]
+# The words of `trials` that `rt ci` does not run, with the files of what they read and of what they have to write.
+TRIALS = ROOT / "crates/trials"
+WORDS = [("bench tree 100", os.devnull, "bench.out"), ("refusals", TRIALS / "refusals.in", "refusals.out")]
 NODE_SUITE = "examples/clients/node/host.test.js"
 NODE_PATH = "/usr/share/nodejs"
 seconds = Counter()
@@ -66,6 +69,21 @@ def prove():
     return ci.returncode, last
 
 
+def trials():
+    """Runs the other words of `trials`, as each compiler built it, and gives 1 if one of them writes something else than it should."""
+    began, wrong = time.monotonic(), []
+    for program in (TRIALS / "out/trials", TRIALS / "out/trials.by-rattle"):
+        for words, source, wanted in WORDS:
+            with open(source, "rb") as file:
+                ran = subprocess.run([program, *words.split()], stdin=file, capture_output=True)
+            if ran.returncode or ran.stdout != (TRIALS / wanted).read_bytes():
+                wrong.append(f"{program.name} {words}")
+    seconds["trials"] += time.monotonic() - began
+    for words in wrong:
+        print("FAILED:", words, flush=True)
+    return 1 if wrong else 0
+
+
 def can(*words, **variables):
     """Whether a command is there and ends well."""
     return bool(shutil.which(words[0])) and subprocess.run(words, env={**os.environ, **variables}, capture_output=True).returncode == 0
@@ -93,7 +111,7 @@ def main():
         if status:
             print("FAILED: rt ci", flush=True)
         else:
-            status = max(steps(PROGRAM), suites())
+            status = max(steps(PROGRAM), trials(), suites())
     print("seconds:", ", ".join(f"{kind} {time:.0f}" for kind, time in seconds.items()))
     print(last, end="")
     return int(status)
