@@ -13,10 +13,11 @@ use Rattle.bidi_shape.specs.Profile.{term_of}
 use Rattle.bidi_shape.specs.Fits.{Fits, AllFit, RowsFit, OthersFit, count, without}
 use Rattle.bidi_blame.specs.Reason as step
 use Rattle.bidi_blame.specs.Reason.{Reason, here, missing, unknown, under, by, tags_with, told}
+use Rattle.bidi_shape.specs.Limits.{most_levels}
 
 -- the number is a js-uint: from 0 to 2^53 - 1
 abbrev pub is_js_uint : ℤ → Bool
-is_js_uint (pos n) = nat_lt n (2 ^ 53)
+is_js_uint (pos n) = is_js_int (pos n)
 is_js_uint z = false
 
 -- the tree is a number that is not whole, or out of range
@@ -32,13 +33,13 @@ takes t bool = is_some (bool_in t)
 takes t null = is_null t
 takes t js_uint = option_map_or is_js_uint (whole_in t) false
 takes t js_int = option_map_or is_js_int (whole_in t) false
-takes t any = not (is_odd t) && nat_le (levels t) 60
+takes t any = not (is_odd t) && nat_le (levels t) most_levels
 takes t (list_of least τ) = option_map_or (λ ts. nat_le least (count ts)) (list_in t) false
 takes t (pair_of σ τ) = option_map_or (λ ts. count ts == 2) (list_in t) false
 takes t (map_of rows o) = is_some (map_in t)
 takes t (either σ τ) = true
 takes t (rule n) = true
-takes t (capped τ) = nat_le (levels t) 60
+takes t (capped τ) = nat_le (levels t) most_levels
 
 mutual
   -- a tree does not fit a term for a reason

@@ -7,14 +7,14 @@ use Rattle.bidi_shape.specs.Term.{Term}
 use Rattle.bidi_rules.specs.Names.{rule_text}
 
 -- a step into a tree: to the member of a name, or to the item that has so many before it
-pub data Step : Type 0 where
-  member : List ℕ → Step
-  item : ℕ → Step
+pub data PathStep : Type 0 where
+  member : List ℕ → PathStep
+  item : ℕ → PathStep
 
 -- Why a tree does not fit: the place, what may be there, and what is there.
 pub record Reason : Type 0 where
   -- the steps from the tree to the place, the last one first
-  pub steps : List Step
+  pub steps : List PathStep
   -- what may stand there, one of these; where there is none, nothing may
   pub wants : List Term
   -- what stands there; a member that is missing is nothing
@@ -39,7 +39,7 @@ abbrev pub unknown : ℕ → List ℕ → Node → Reason
 unknown n k t = record { steps = member k ∷ []; wants = []; found = Some t; named = None; tags = n }
 
 -- the reason of a part is one of the whole
-abbrev pub under : ℕ → Step → Reason → Reason
+abbrev pub under : ℕ → PathStep → Reason → Reason
 under n s r = record { steps = r.steps ++ s ∷ []; wants = r.wants; found = r.found; named = r.named; tags = n }
 
 -- a rule gives its name, where no rule further in has
@@ -62,21 +62,21 @@ tags_with n k = if is_tag k then suc n else n
 -- ---- which of the reasons against two alternatives is told
 
 -- both steps lead to the same member or item
-abbrev pub same_step : Step → Step → Bool
+abbrev pub same_step : PathStep → PathStep → Bool
 same_step (member k) (member l) = bytes_eq k l
 same_step (item i) (item j) = i == j
 same_step (member k) (item j) = false
 same_step (item i) (member l) = false
 
 -- both lists of steps lead to the same place
-abbrev pub same_place : List Step → List Step → Bool
+abbrev pub same_place : List PathStep → List PathStep → Bool
 same_place [] [] = true
 same_place [] (t ∷ ts) = false
 same_place (s ∷ ss) [] = false
 same_place (s ∷ ss) (t ∷ ts) = same_step s t && same_place ss ts
 
 -- how deep something stands that is not as it should be; a missing member stands nowhere, and its map is not as it should be
-abbrev pub depth_at : Option Node → List Step → ℕ
+abbrev pub depth_at : Option Node → List PathStep → ℕ
 depth_at (Some t) steps = length steps
 depth_at None [] = 0
 depth_at None (s ∷ steps) = length steps

@@ -8,13 +8,13 @@ use Rattle.bidi_blame.specs.Reason as told
 use Rattle.bidi_blame.specs.declared.draft.Draft.{Draft}
 use Rattle.bidi_blame.specs.declared.few.Few.{Few}
 use Rattle.bidi_blame.specs.declared.few.Few.TheVariants.{Nothing, One, Many}
-use Rattle.bidi_blame.specs.declared.reason.Step.{Step}
-use Rattle.bidi_blame.specs.declared.reason.Step.TheVariants.{Member, Item}
+use Rattle.bidi_blame.specs.declared.reason.PathStep.{PathStep}
+use Rattle.bidi_blame.specs.declared.reason.PathStep.TheVariants.{Member, Item}
 use Rattle.bidi_blame.specs.declared.reason.Want.{Want}
 use Rattle.bidi_blame.specs.declared.reason.Reason.{Reason}
 
 -- a step of the code
-abbrev pub step_of : Step → told.Step
+abbrev pub step_of : PathStep → told.PathStep
 step_of (Member name) = told.member name.now
 step_of (Item i) = told.item i
 

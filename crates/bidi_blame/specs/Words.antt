@@ -10,7 +10,7 @@ use Rattle.bidi_shape.specs.Term.{Term, exactly, text, bool, null, js_uint, js_i
 use Rattle.bidi_shape.specs.Profile.{term_of}
 use Rattle.bidi_shape.specs.Fits.{count}
 use Rattle.bidi_rules.specs.Names.{rule_text}
-use Rattle.bidi_blame.specs.Reason.{Step, member, item}
+use Rattle.bidi_blame.specs.Reason.{PathStep, member, item}
 
 -- ---- the place
 
@@ -23,13 +23,13 @@ abbrev pub escaped : List ℕ → List ℕ
 escaped = flat_map escaped_byte
 
 -- the name of a member, or the number of an item
-abbrev pub step_text : Step → List ℕ
+abbrev pub step_text : PathStep → List ℕ
 step_text (member k) = escaped k
 step_text (item i) = decimal i
 
 -- a slash and its text for each step; the first step of the list is the last one of the pointer
 -- example: `/params/a~1b/0`
-abbrev pub pointer_text : List Step → List ℕ
+abbrev pub pointer_text : List PathStep → List ℕ
 pointer_text [] = []
 pointer_text (s ∷ ss) = pointer_text ss ++ 47 ∷ step_text s
 
@@ -104,9 +104,13 @@ wants_text τs = choice_text (choices τs)
 
 -- ---- what stands there
 
--- a text of at most 60 bytes as JSON writes it, or how many bytes it has
+-- the most bytes of a text that is shown whole
+abbrev pub longest_quoted : ℕ
+longest_quoted = 60
+
+-- a short text as JSON writes it, or how many bytes it has
 abbrev pub text_words : List ℕ → List ℕ
-text_words s = if nat_le (length s) 60 then quoted s else codes "a text of " ++ decimal (length s) ++ codes " bytes"
+text_words s = if nat_le (length s) longest_quoted then quoted s else codes "a text of " ++ decimal (length s) ++ codes " bytes"
 
 -- a list or a map by how many parts it has
 abbrev pub count_words : List ℕ → List ℕ → ℕ → List ℕ

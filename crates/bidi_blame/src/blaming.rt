@@ -14,7 +14,7 @@ ghost use Rattle.bidi_rules.specs.Weight.{is_ready, are_ready, rows_are_ready};
 ghost use Rattle.bidi_tree.specs.Node as kind;
 
 use crate::draft::{Draft, tags_with};
-use crate::reason::{Reason, Step, Want};
+use crate::reason::{PathStep, Reason, Want};
 use crate::taking::takes;
 use bidi_rules::{ANY, Name, Need, Openness, Row, Term};
 use bidi_shape::Parsed;
@@ -181,7 +181,7 @@ fn fit_items<'a, 'b>(
 {
     'items: for (i, item) in items.iter().enumerate() {
         if !fits_term(alloc, item, term, draft)? {
-            draft.go_under(alloc, 0, Step::Item(i))?;
+            draft.go_under(alloc, 0, PathStep::Item(i))?;
             return Ok(false);
         }
     }
@@ -203,11 +203,11 @@ fn fit_pair<'a, 'b>(
     ensures { IfOk result (λ fits. Judged (kind.list (outline_items items.now)) (pair_of (grammar first.now) (grammar second.now)) (reason_if fits draft.new)) }
 {
     if !fits_term(alloc, &items[0], first, draft)? {
-        draft.go_under(alloc, 0, Step::Item(0))?;
+        draft.go_under(alloc, 0, PathStep::Item(0))?;
         return Ok(false);
     }
     if !fits_term(alloc, &items[1], second, draft)? {
-        draft.go_under(alloc, 0, Step::Item(1))?;
+        draft.go_under(alloc, 0, PathStep::Item(1))?;
         return Ok(false);
     }
     Ok(true)
@@ -230,7 +230,7 @@ fn fit_rows<'a, 'b>(
         match find_outline(members, row.0) {
             Some(member) => {
                 if !fits_term(alloc, member, &row.2, draft)? {
-                    draft.go_under(alloc, tags, Step::Member(row.0))?;
+                    draft.go_under(alloc, tags, PathStep::Member(row.0))?;
                     return Ok(false);
                 }
                 tags = tags_with(tags, row.0);
@@ -270,7 +270,7 @@ fn fit_others<'a, 'b>(
             }
             Openness::Extensible => {
                 if !fits_term(alloc, &member.1, &ANY, draft)? {
-                    draft.go_under(alloc, tags, Step::Member(member.0))?;
+                    draft.go_under(alloc, tags, PathStep::Member(member.0))?;
                     return Ok(false);
                 }
             }

@@ -7,7 +7,7 @@ ghost use Rattle.bidi_blame.specs.Reason.{here, missing, unknown, under, by, is_
 ghost use Rattle.bidi_blame.specs.View.{step_of, want_of, draft_of, listed, reason_of};
 
 use crate::few::Few;
-use crate::reason::{Reason, Step, Want};
+use crate::reason::{PathStep, Reason, Want};
 use bidi_rules::{Name, Term};
 use bidi_tree::Outline;
 use std::alloc::{AllocError, Global};
@@ -16,7 +16,7 @@ use std::slice;
 /// A reason while it is looked for; what it holds is said at [`Reason`].
 #[derive(Drop)]
 pub(crate) struct Draft<'a, 'b> {
-    steps: Few<Step<'b>>,
+    steps: Few<PathStep<'b>>,
     wants: Few<Want>,
     found: Option<&'a Outline<'b>>,
     named: Option<Name>,
@@ -50,7 +50,7 @@ impl<'a, 'b> Draft<'a, 'b> {
     pub(crate) fn set_missing(&mut self, tags: usize, name: &'b str, term: &'static Term)
         ensures { draft_of self.new ≡ missing tags name.now (grammar term.now) }
     {
-        self.steps = Few::One(Step::Member(name));
+        self.steps = Few::One(PathStep::Member(name));
         self.wants = Few::One(Want::term(term));
         self.found = None;
         self.named = None;
@@ -61,7 +61,7 @@ impl<'a, 'b> Draft<'a, 'b> {
     pub(crate) fn set_unknown(&mut self, tags: usize, name: &'b str, tree: &'a Outline<'b>)
         ensures { draft_of self.new ≡ unknown tags name.now (outline_node tree.now) }
     {
-        self.steps = Few::One(Step::Member(name));
+        self.steps = Few::One(PathStep::Member(name));
         self.wants = Few::Nothing;
         self.found = Some(tree);
         self.named = None;
@@ -73,7 +73,7 @@ impl<'a, 'b> Draft<'a, 'b> {
         &mut self,
         alloc: Global,
         tags: usize,
-        step: Step<'b>,
+        step: PathStep<'b>,
     ) -> Result<(), AllocError>
         ensures { OnOk result (draft_of self.new ≡ under tags (step_of step.entry) (draft_of self.old)) }
     {
@@ -171,7 +171,7 @@ fn is_tag(name: &str) -> bool
 }
 
 // The steps, one behind the other.
-fn slice_of<'a, 'b>(steps: &'a Few<Step<'b>>) -> &'a [Step<'b>]
+fn slice_of<'a, 'b>(steps: &'a Few<PathStep<'b>>) -> &'a [PathStep<'b>]
     ensures { result.now ≡ listed steps.now }
 {
     match steps {
@@ -182,7 +182,7 @@ fn slice_of<'a, 'b>(steps: &'a Few<Step<'b>>) -> &'a [Step<'b>]
 }
 
 // Whether the steps lead to the same place.
-fn is_same_place(steps: &[Step<'_>], others: &[Step<'_>]) -> bool
+fn is_same_place(steps: &[PathStep<'_>], others: &[PathStep<'_>]) -> bool
     ensures { result ≡ same_place (map step_of steps.now) (map step_of others.now) }
 {
     match steps.split_first() {

@@ -19,6 +19,6 @@ mod words;
 pub use bidi_rules::{Name, Need, Openness, Row, Term};
 pub use blaming::blame;
 pub use quoting::has_escapes;
-pub use reason::{Reason, Step, Want};
+pub use reason::{PathStep, Reason, Want};
 pub use wanting::{Alternatives, wanted};
 pub use words::{found_words, pointer};

@@ -9,26 +9,26 @@ use bidi_tree::Outline;
 
 /// A step into a tree.
 #[derive(Clone, Copy)]
-pub enum Step<'a> {
+pub enum PathStep<'a> {
     /// To the member of this name.
     Member(&'a str),
     /// To the item that has so many before it.
     Item(usize),
 }
 
-impl Step<'_> {
+impl PathStep<'_> {
     /// Whether it leads where the other one does.
-    pub(crate) fn is(&self, other: &Step<'_>) -> bool
+    pub(crate) fn is(&self, other: &PathStep<'_>) -> bool
         ensures { result ≡ same_step (step_of self.now) (step_of other.now) }
     {
         match self {
-            Step::Member(name) => match other {
-                Step::Member(others) => name == others,
-                Step::Item(_) => false,
+            PathStep::Member(name) => match other {
+                PathStep::Member(others) => name == others,
+                PathStep::Item(_) => false,
             },
-            Step::Item(i) => match other {
-                Step::Member(_) => false,
-                Step::Item(j) => i == j,
+            PathStep::Item(i) => match other {
+                PathStep::Member(_) => false,
+                PathStep::Item(j) => i == j,
             },
         }
     }
@@ -57,7 +57,7 @@ impl Want {
 #[derive(Drop)]
 pub struct Reason<'a, 'b> {
     /// The steps from the tree to the place, the last one first.
-    pub steps: Vec<Step<'b>>,
+    pub steps: Vec<PathStep<'b>>,
     /// What may stand there, one of these; where there is none, nothing may.
     pub wants: Vec<Want>,
     /// What stands there; `None` for a member that is missing.

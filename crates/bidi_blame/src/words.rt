@@ -5,7 +5,7 @@ ghost use Rattle.bidi_blame.specs.View.{step_of};
 ghost use Rattle.bidi_blame.specs.Words.{escaped, count_words, found_text, node_text, pointer_text, step_text, text_words};
 
 use crate::quoting::quote;
-use crate::reason::Step;
+use crate::reason::PathStep;
 use bidi_tree::Outline;
 use itoa::Buffer;
 use std::alloc::{AllocError, Global};
@@ -24,7 +24,7 @@ const ROOM: usize = 16;
 /// No memory: an allocation failed.
 ///
 /// After RFC 6901, 3 and 4.
-pub fn pointer(alloc: Global, steps: &[Step<'_>]) -> Result<String, AllocError>
+pub fn pointer(alloc: Global, steps: &[PathStep<'_>]) -> Result<String, AllocError>
     // The string is the JSON Pointer of the steps.
     ensures { IfOk result (λ s. string_bytes s ≡ pointer_text (map step_of steps.now)) }
 {
@@ -37,12 +37,12 @@ pub fn pointer(alloc: Global, steps: &[Step<'_>]) -> Result<String, AllocError>
 }
 
 // Adds the name of a member, or the number of an item.
-fn push_step(text: &mut String, step: &Step<'_>) -> Result<(), AllocError>
+fn push_step(text: &mut String, step: &PathStep<'_>) -> Result<(), AllocError>
     ensures { OnOk result (string_bytes text.new ≡ string_bytes text.old ++ step_text (step_of step.now)) }
 {
     match step {
-        Step::Member(name) => push_name(text, name),
-        Step::Item(i) => push_number(text, *i),
+        PathStep::Member(name) => push_name(text, name),
+        PathStep::Item(i) => push_number(text, *i),
     }
 }
 

@@ -1,5 +1,5 @@
 -- What a plan that the code has reports, and how its change of the tables corresponds to an act.
-use Rattle.std.specs.Prelude.{◌≡◌, ◌≤◌, ℕ, Bool, true, false, not, List, [], ◌∷◌, ◌++◌, map, filter}
+use Rattle.std.specs.Prelude.{suc, ◌≡◌, ◌≤◌, ℕ, Bool, true, false, not, List, [], ◌∷◌, ◌++◌, map, filter}
 use Rattle.std.specs.Prelude.{Option, Some, None, Result, Ok, Err, is_some, IfSome, ⊤, string_bytes}
 use Rattle.bidi_tree.specs.Node.{levels}
 use Rattle.bidi_methods.specs.declared.method.Method.{Method}
@@ -28,6 +28,7 @@ use Rattle.bidi_browser.specs.TableInHand.{row_seen, HasRoomForRow}
 use Rattle.bidi_contexts.specs.Tables.{HasRoomForOne, HasRoomIn, HasRoomForHandle, HasRoomForUser, IsNavigation}
 use Rattle.bidi_contexts.specs.View.{AreWell, seen}
 use Rattle.bidi_browser.specs.View.{result_tree}
+use Rattle.bidi_shape.specs.Limits.{most_levels}
 
 -- ---- room
 
@@ -57,7 +58,7 @@ items_in p = map Happens (seen p.before.items) ++ (reply_in p.result ++ map Happ
 
 -- A response can be made of the result: it is well formed and has at most 61 levels, since the members of a response have at most 60.
 abbrev pub IsWellResult : ResultData → Type 0
-IsWellResult r = results.ghosts.payload.well r × (levels (result_tree r) ≤ 61)
+IsWellResult r = results.ghosts.payload.well r × (levels (result_tree r) ≤ suc most_levels)
 
 -- A message can be made of each event and of the result.
 pub record IsWellTold (p : Plan) : Type 0 where

@@ -15,7 +15,7 @@ use Rattle.bidi_browser.specs.declared.script_table.ScriptRow as declared_row
 use Rattle.bidi_browser.specs.declared.script_table.ScriptRow.TheVariants as in_code
 use Rattle.bidi_browser.specs.declared.script_table.ScriptTable.{ScriptTable}
 use Rattle.bidi_contexts.specs.Acts.{Act, ScriptEffect, EndsIn, GivesBack, Ending, Returned, Threw}
-use Rattle.bidi_contexts.specs.Limits.{most_value_levels}
+use Rattle.bidi_shape.specs.Limits.{most_levels}
 use Rattle.bidi_contexts.specs.Outcome.{row_checked}
 use Rattle.bidi_values.specs.RemoteView.{remote_tree}
 use Rattle.bidi_handles.specs.ValuesInHand.{held_tree}
@@ -42,8 +42,8 @@ row_seen (in_code.GivesBack n) = GivesBack n
 
 -- The value of the row has few enough levels to be reported.
 abbrev pub IsFew : TableRow → Type 0
-IsFew (read.Returns row) = levels (remote_tree row.value) ≤ most_value_levels
-IsFew (read.Throws row) = levels (remote_tree row.value) < most_value_levels
+IsFew (read.Returns row) = levels (remote_tree row.value) ≤ most_levels
+IsFew (read.Throws row) = levels (remote_tree row.value) < most_levels
 IsFew (read.Argument row) = ⊤
 
 -- The table has the row that the past gives each text, and no other.

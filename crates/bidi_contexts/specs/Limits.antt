@@ -24,7 +24,3 @@ most_handles = 1000
 -- The most texts of scripts that have a row in the table.
 abbrev pub most_rows : ℕ
 most_rows = 1024
-
--- The most levels of a value in the script table; a thrown value has one fewer.
-abbrev pub most_value_levels : ℕ
-most_value_levels = 60

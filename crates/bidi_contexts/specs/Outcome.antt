@@ -12,7 +12,7 @@ use Rattle.bidi_contexts.specs.Urls.{parsed}
 use Rattle.bidi_scripts.specs.declared.log_entry.Level.{Level}
 use Rattle.bidi_contexts.specs.Acts.{Act, Made, Framed, Removed, Moved, Logged, Tabled, Ran, Disowned, UserMade, UserRemoved, Looked, To}
 use Rattle.bidi_contexts.specs.Acts.{Again, Across, Ending, Returned, Threw, ScriptEffect, EndsIn, GivesBack}
-use Rattle.bidi_contexts.specs.Limits.{most_contexts, lowest_level, most_users, most_handles, most_rows, most_value_levels}
+use Rattle.bidi_contexts.specs.Limits.{most_contexts, lowest_level, most_users, most_handles, most_rows}
 use Rattle.bidi_contexts.specs.Contexts.{parent_of, level_of, window_of, contexts, context_of, tops}
 use Rattle.bidi_contexts.specs.Users.{others, user_named}
 use Rattle.bidi_contexts.specs.Places.{entries_of, place_across}
@@ -25,6 +25,7 @@ use Rattle.bidi_contexts.specs.Actions.{Frame, Unframe, Log, TableRow}
 use Rattle.bidi_handles.specs.Checks.{◌>>=◌, need, found}
 use Rattle.bidi_handles.specs.Values.{argument, arguments, takes_handle, has_handle}
 use Rattle.bidi_handles.specs.Maps.{◌being◌and◌, mapped, word}
+use Rattle.bidi_shape.specs.Limits.{most_levels}
 
 -- ---- contexts
 
@@ -217,8 +218,8 @@ row_in t = row_said (tree_if_at "returns" t) (tree_if_at "throws" t) (number_if_
 
 -- A value may be in the table: it has no handle and no internal id, and at most 60 levels, or 59 if it is thrown.
 abbrev pub may_end_in : Ending → Bool
-may_end_in (Returned value) = not (has_handle value) && nat_le (levels value) most_value_levels
-may_end_in (Threw value) = not (has_handle value) && nat_lt (levels value) most_value_levels
+may_end_in (Returned value) = not (has_handle value) && nat_le (levels value) most_levels
+may_end_in (Threw value) = not (has_handle value) && nat_lt (levels value) most_levels
 
 -- A row may be in the table: it returns an argument, or a value that may be in the table.
 abbrev pub may_say : ScriptEffect → Bool

@@ -10,6 +10,7 @@ use Rattle.bidi_handles.specs.declared.id.IdKind.TheVariants.{Handle}
 use Rattle.bidi_handles.specs.Maps.{id_tree}
 use Rattle.bidi_handles.specs.Params.{text_at}
 use Rattle.bidi_handles.specs.Checks.{◌>>=◌, need, found}
+use Rattle.bidi_shape.specs.Limits.{most_bytes, most_levels}
 
 -- ---- resolving a local value
 
@@ -66,14 +67,6 @@ abbrev mutual
     u ← resolved held t
     us ← resolved_members held ms
     Ok (member k u us)
-
--- the most levels of an argument once it is resolved
-abbrev pub most_levels : ℕ
-most_levels = 60
-
--- the most bytes of its compact text
-abbrev pub most_bytes : ℕ
-most_bytes = 1048576
 
 -- an argument, or `this`, resolved; `unknown error` if the result has more than 60 levels or 1,048,576 bytes of compact text
 abbrev pub argument : Held → Node → Result Node ErrorCode

@@ -8,9 +8,11 @@ use Rattle.bidi_contexts.specs.Contexts.{up_to}
 use Rattle.bidi_contexts.specs.Actions.{is_text}
 use Rattle.bidi_handles.specs.Params.{tree_if_at, text_if_at, number_if_at, text_at}
 use Rattle.bidi_handles.specs.Maps.{◌being◌and◌, mapped, number}
-use Rattle.bidi_messages.specs.Limits.{most_bytes, most_pending}
+use Rattle.bidi_messages.specs.Limits.{most_pending}
 use Rattle.bidi_ledger.specs.Pairing as past
 use Rattle.bidi_ledger.specs.Pairing.{Sending, Deed}
+use Rattle.bidi_shape.specs.Limits.{most_bytes}
+use Rattle.bidi_tree.specs.Number.{is_js_uint}
 
 -- a link: the commands sent on it, the texts carried on it, and whether it was cut
 pub record Link : Type 0 where
@@ -95,7 +97,7 @@ tree_of_sending id c = mapped ("id" being number id and "method" being text c.me
 abbrev pub may_send : Link → Sending → Bool
 may_send v c =
     let id = suc (length v.commands) in
-    nat_lt (length (unsettled v)) most_pending && nat_le (length (compact_text (tree_of_sending id c))) most_bytes && nat_lt id (2 ^ 53)
+    nat_lt (length (unsettled v)) most_pending && nat_le (length (compact_text (tree_of_sending id c))) most_bytes && is_js_uint id
 
 -- ---- the account of a link
 

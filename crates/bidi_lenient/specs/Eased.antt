@@ -10,6 +10,8 @@ use Rattle.bidi_tree.specs.declared.tree.Tree.{Tree}
 use Rattle.bidi_tree.specs.Text.{compact_text, tree_of_text}
 use Rattle.bidi_lenient.specs.Names.{is_capability, is_event, is_method, told}
 use Rattle.bidi_lenient.specs.declared.easing.Eased.{Eased}
+use Rattle.bidi_shape.specs.Limits.{most_bytes}
+use Rattle.bidi_tree.specs.Node.{most_written_levels}
 
 -- ---- members
 
@@ -114,11 +116,11 @@ with_names s (name ∷ names) = Some (s, name ∷ names)
 
 -- the compact text of an eased command, with the names that were left out; None if there are none, or if the command cannot be written
 abbrev pub eased_command : Node → Option (List ℕ × List (List ℕ))
-eased_command t = if is_whole t 100 then with_names (compact_text (eased t)) (told t) else None
+eased_command t = if is_whole t most_written_levels then with_names (compact_text (eased t)) (told t) else None
 
 -- the eased command of a JSON text of at most 1,048,576 bytes, with the names that were left out; None for any other text
 abbrev pub eased_text : List ℕ → Option (List ℕ × List (List ℕ))
-eased_text s = option_and_then eased_command (tree_of_text (Some 1048576) s)
+eased_text s = option_and_then eased_command (tree_of_text (Some most_bytes) s)
 
 -- the name of one of the two commands occurs in the text
 abbrev pub IsAbout : List ℕ → Type 0

@@ -8,6 +8,7 @@ use Rattle.bidi_messages.specs.contracts.message.MessageShape.TheImpl.{ghosts}
 use Rattle.bidi_remote.specs.Replies.{IsEventText, IsReply}
 use Rattle.bidi_ledger.specs.Pairing.{Sending}
 use Rattle.bidi_ledger.specs.Link.{Link}
+use Rattle.bidi_tree.specs.Number.{IsJsUint}
 
 -- The texts are those of events and of replies to some of these commands, in the order of the commands: those after the first n, and among
 -- the first m. A result fits the rule of its command's method.
@@ -23,4 +24,4 @@ pub record IsSound (v : Link) : Type 0 where
   pub spoken : AreSpoken v.commands 0 v.ups v.texts
   pub read_back : AllByRecursion (IsMessageText ghosts.shape) v.texts
   pub taken : v.ups ≤ length v.commands
-  pub ids : length v.commands < 2 ^ 53
+  pub ids : IsJsUint (length v.commands)

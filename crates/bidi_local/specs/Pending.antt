@@ -6,11 +6,13 @@ use Rattle.bidi_tree.specs.Node.{Node, whole, text, map as map_of, no_members, m
 use Rattle.bidi_tree.specs.Text.{compact_text}
 use Rattle.bidi_methods.specs.declared.method.Method.{Method}
 use Rattle.bidi_methods.specs.Method.{method_text}
-use Rattle.bidi_messages.specs.Limits.{most_bytes, most_pending}
+use Rattle.bidi_messages.specs.Limits.{most_pending}
 use Rattle.bidi_local.specs.declared.local_end.LocalFault.{LocalFault}
 use Rattle.bidi_local.specs.declared.local_end.LocalFault.TheVariants.{NoMemory, IdsUsedUp, TooManyPending, TooLong}
 use Rattle.bidi_local.specs.declared.local_end.NoteFault.{NoteFault}
 use Rattle.bidi_local.specs.declared.local_end.NoteFault.TheVariants as unnoted
+use Rattle.bidi_shape.specs.Limits.{most_bytes}
+use Rattle.bidi_tree.specs.Number.{greatest_js_uint}
 
 -- the pending commands: the id and the method of each, in the order in which they were sent
 abbrev pub Pending : Type 0
@@ -45,7 +47,7 @@ command_text sent method params = compact_text (command_tree (suc sent) method p
 -- example: the 1,025th command that waits
 abbrev pub refusal_of : ℕ → Pending → List ℕ → Option LocalFault
 refusal_of sent waiting written =
-    if nat_le (2 ^ 53 - 1) sent then Some IdsUsedUp
+    if nat_le greatest_js_uint sent then Some IdsUsedUp
     else if nat_le most_pending (length waiting) then Some TooManyPending
     else if nat_lt most_bytes (length written) then Some TooLong
     else None

@@ -15,6 +15,7 @@ use Rattle.bidi_shape.specs.ThroughLaws.{fits_named}
 use Rattle.bidi_shape.specs.WordLaws.{Word, Words, value_named, word_one}
 use Rattle.bidi_shape.specs.declared.ext.Ext.{Ext}
 use Rattle.bidi_methods.specs.Payload.{PayloadOf}
+use Rattle.bidi_shape.specs.Limits.{most_levels}
 
 -- ---- one alternative for each of some values
 
@@ -109,7 +110,7 @@ module _ {X D K : Type 0} (name : List ℕ) (s : ShapeOf X) (w : Words K) (d : P
         (d.one_value u v a.payload b.payload kind (same_some (same_head (same_tail (same_tail p.0)))), p.1),
       )
 
-  pub envelope_whole : (x : X) (v : D) (e : Ext) → EnvelopeIsWell x v e → IsWhole (envelope_tree x v e) (suc (max (max s.deepest d.deepest) 60))
+  pub envelope_whole : (x : X) (v : D) (e : Ext) → EnvelopeIsWell x v e → IsWhole (envelope_tree x v e) (suc (max (max s.deepest d.deepest) most_levels))
   envelope_whole x v e a =
       let n = max s.deepest d.deepest in
       map_whole (rows_of (d.kind v)) extensible (parts_of x v) (others_of e) n (
@@ -126,6 +127,6 @@ module _ {X D K : Type 0} (name : List ℕ) (s : ShapeOf X) (w : Words K) (d : P
     same = λ v u. s.same (m v).0 (m u).0 × (d.same (m v).1.0 (m u).1.0 × (others_of (m v).1.1 ≡ others_of (m u).1.1));
     fits = λ v a. envelope_fits ρ is once (m v).0 (m v).1.0 (m v).1.1 a;
     one_value = λ v u a b e. envelope_one once (m v).0 (m u).0 (m v).1.0 (m u).1.0 (m v).1.1 (m u).1.1 a b e;
-    deepest = suc (max (max s.deepest d.deepest) 60);
+    deepest = suc (max (max s.deepest d.deepest) most_levels);
     whole = λ v a. envelope_whole (m v).0 (m v).1.0 (m v).1.1 a;
   }

@@ -8,9 +8,10 @@ use Rattle.bidi_shape.specs.Term.{rule}
 use Rattle.bidi_shape.specs.Fits.{Fits}
 use Rattle.bidi_shape.specs.WordLaws.{value_named}
 use Rattle.bidi_methods.specs.Method.{method_words}
-use Rattle.bidi_messages.specs.Limits.{most_bytes}
+use Rattle.bidi_shape.specs.Limits.{most_bytes}
 use Rattle.bidi_params.specs.declared.error_code.ErrorCode.{ErrorCode}
 use Rattle.bidi_params.specs.declared.error_code.ErrorCode.TheVariants.{InvalidArgument, UnknownCommand}
+use Rattle.bidi_tree.specs.Number.{is_js_uint}
 
 -- a text is accepted as the command with this tree, or refused with an id, if there is one, and an error code
 pub data Verdict : Type 0 where
@@ -25,7 +26,7 @@ command_tree s = tree_of_text (Some most_bytes) s
 abbrev pub js_uint_in : Node → Option ℕ
 js_uint_in null = None
 js_uint_in (boolean b) = None
-js_uint_in (whole (pos n)) = if nat_lt n (2 ^ 53) then Some n else None
+js_uint_in (whole (pos n)) = if is_js_uint n then Some n else None
 js_uint_in (whole (negsuc n)) = None
 js_uint_in odd = None
 js_uint_in (text s) = None

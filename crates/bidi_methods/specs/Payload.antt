@@ -36,8 +36,8 @@ one_kind P s j k x y a b e t =
     (λ z c u. same_kind j x z ((s j).one_value x z a c u)) y b t
 
 -- the most levels of a payload's tree
-abbrev pub most_levels : ℕ
-most_levels = 70
+abbrev pub most_payload_levels : ℕ
+most_payload_levels = 70
 
 -- the payload of one kind: the type of its values, the rule that their trees fit, and their shape, whose trees have at most 70 levels
 pub record Part : Type 1 where
@@ -45,10 +45,10 @@ pub record Part : Type 1 where
   pub name : Name
   pub shape : ShapeOf Value
   pub is_rule : shape.rule ≡ rule name
-  pub within : nat_le shape.deepest most_levels ≡ true
+  pub within : nat_le shape.deepest most_payload_levels ≡ true
 
 -- the payload with this rule and this shape
-abbrev pub part : {V : Type 0} (r : Name) (s : ShapeOf V) → s.rule ≡ rule r → nat_le s.deepest most_levels ≡ true → Part
+abbrev pub part : {V : Type 0} (r : Name) (s : ShapeOf V) → s.rule ≡ rule r → nat_le s.deepest most_payload_levels ≡ true → Part
 part {V = V} r s is_rule within = record { Value = V; name = r; shape = s; is_rule = is_rule; within = within }
 
 -- a value of one of several kinds, together with its kind
@@ -67,8 +67,8 @@ one_by_kind bears seen = record {
       λ d w. subst (λ σ. Fits ((bears (seen d).0).shape.tree_of (seen d).1) σ) (bears (seen d).0).is_rule
       ((bears (seen d).0).shape.fits (seen d).1 w);
   one_value = λ d e a b k t. one_kind (λ k. (bears k).Value) (λ k. (bears k).shape) (seen d).0 (seen e).0 (seen d).1 (seen e).1 a b k t;
-  deepest = most_levels;
+  deepest = most_payload_levels;
   whole =
-      λ d w. whole_within ((bears (seen d).0).shape.tree_of (seen d).1) (bears (seen d).0).shape.deepest most_levels
-      (leb-true (bears (seen d).0).shape.deepest most_levels (bears (seen d).0).within) ((bears (seen d).0).shape.whole (seen d).1 w);
+      λ d w. whole_within ((bears (seen d).0).shape.tree_of (seen d).1) (bears (seen d).0).shape.deepest most_payload_levels
+      (leb-true (bears (seen d).0).shape.deepest most_payload_levels (bears (seen d).0).within) ((bears (seen d).0).shape.whole (seen d).1 w);
 }

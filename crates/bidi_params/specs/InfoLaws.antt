@@ -16,6 +16,7 @@ use Rattle.bidi_shape.specs.Table.{Table, TableWell, same_head, same_tail, same_
 use Rattle.bidi_shape.proofs.FitsLemmas.{rule_inside, capped_inside}
 use Rattle.bidi_shape.specs.InnerLaws.{member_levels, same_items, first_item, other_items}
 use Rattle.bidi_params.specs.InfoContent.{Content, told, Children, left_out, listed, Contents, no_more, next}
+use Rattle.bidi_shape.specs.Limits.{most_levels}
 
 -- the names of the members beside `children`
 abbrev pub names : List (List ℕ)
@@ -97,7 +98,7 @@ abbrev mutual
 -- example: 30 Infos within each other, the innermost with an empty list and no further members, have 60 levels; 31 have 62
 pub record IsWell {F : Type 0} (n : InfoOf F) (i : Content F) : Type 0 where
   pub parts : PartsAreWell n i
-  pub cap : levels (info_tree n i) ≤ 60
+  pub cap : levels (info_tree n i) ≤ most_levels
 
 -- ---- laws
 
@@ -117,7 +118,7 @@ module _ {F : Type 0} (n : InfoOf F) where
       omega (arith, inside)
 
   one_map : (f : F) (c : Node) → OwnMembersAreWell n f
-      → levels (info_map n.table f c) ≤ 60 → Fits c (either (list_of 0 (rule info)) null) → Fits (info_map n.table f c) (rule info)
+      → levels (info_map n.table f c) ≤ most_levels → Fits c (either (list_of 0 (rule info)) null) → Fits (info_map n.table f c) (rule info)
   one_map f c w h x =
       fits_rule (info_map n.table f c) info (subst (Fits (info_map n.table f c)) (sym n.is_info)
       (fits_capped (info_map n.table f c) (map_of (rows_with n.table (rule info)) n.table.openness) h
@@ -126,20 +127,20 @@ module _ {F : Type 0} (n : InfoOf F) where
 
   mutual
     -- the tree of an Info with well-formed parts fits the rule, if it has at most 60 levels
-    pub info_fits : (i : Content F) → PartsAreWell n i → levels (info_tree n i) ≤ 60 → Fits (info_tree n i) (rule info)
+    pub info_fits : (i : Content F) → PartsAreWell n i → levels (info_tree n i) ≤ most_levels → Fits (info_tree n i) (rule info)
     info_fits (told f c) w h =
         let below = children_levels f (children_tree n c) in
         one_map f (children_tree n c) w.0 h (children_fit c w.1 (omega (arith, below, h)))
 
     -- the tree of the children fits a list of Infos, or null
-    pub children_fit : (c : Children F) → ChildrenAreWell n c → levels (children_tree n c) ≤ 60 → Fits (children_tree n c) (either (list_of 0 (rule info)) null)
+    pub children_fit : (c : Children F) → ChildrenAreWell n c → levels (children_tree n c) ≤ most_levels → Fits (children_tree n c) (either (list_of 0 (rule info)) null)
     children_fit left_out w h = fits_second node.null (list_of 0 (rule info)) null fits_null
     children_fit (listed is) w h =
         fits_first (node.list (infos_tree n is)) (list_of 0 (rule info)) null
         (fits_list (infos_tree n is) 0 (rule info) (omega arith) (infos_fit is w (omega (arith, h))))
 
     -- the tree of each Info of a list fits the rule
-    pub infos_fit : (is : Contents F) → InfosAreWell n is → items_levels (infos_tree n is) ≤ 60 → AllFit (infos_tree n is) (rule info)
+    pub infos_fit : (is : Contents F) → InfosAreWell n is → items_levels (infos_tree n is) ≤ most_levels → AllFit (infos_tree n is) (rule info)
     infos_fit no_more w h = no_item (rule info)
     infos_fit (next i is) w h = an_item (info_tree n i) (infos_tree n is) (rule info) (info_fits i w.0 (omega arith)) (infos_fit is w.1 (omega arith))
 
@@ -203,6 +204,6 @@ module _ {F : Type 0} (n : InfoOf F) where
     same = λ v w. Same n (content v) (content w);
     fits = λ v w. info_fits (content v) w.parts w.cap;
     one_value = λ v w a b e. info_one (content v) (content w) a.parts b.parts e;
-    deepest = 60;
+    deepest = most_levels;
     whole = λ v w. (info_no_odd (content v) w.parts, w.cap);
   }

@@ -7,7 +7,7 @@ use Rattle.bidi_tree.specs.Node as node
 use Rattle.bidi_tree.specs.Node.{Node}
 use Rattle.bidi_tree.specs.Kind.{text_in}
 use Rattle.bidi_shape.specs.Name.{Name, command, message, event, error_code, realm_info, local_value, remote_value, opaque, primitive, source}
-use Rattle.bidi_blame.specs.Reason.{Reason, Step, member, item}
+use Rattle.bidi_blame.specs.Reason.{Reason, PathStep, member, item}
 use Rattle.bidi_blame.specs.Words.{choices, is_only}
 
 -- the commands of the draft that the profile lacks
@@ -73,7 +73,7 @@ draft_texts (Some opaque) = (codes "type", draft_remote_values)
 draft_texts n = ([], [])
 
 -- the last step leads to a member of this name
-abbrev pub ends_in : List ℕ → List Step → Bool
+abbrev pub ends_in : List ℕ → List PathStep → Bool
 ends_in k (member l ∷ ss) = bytes_eq l k
 ends_in k ss = false
 
@@ -82,16 +82,16 @@ abbrev pub is_one_of : List (List ℕ) → List ℕ → Bool
 is_one_of texts s = list_any (λ t. bytes_eq t s) texts
 
 -- the text is one that only the draft takes there
-abbrev pub is_of_draft : Option Name → List Step → Option (List ℕ) → Bool
+abbrev pub is_of_draft : Option Name → List PathStep → Option (List ℕ) → Bool
 is_of_draft named steps None = false
 is_of_draft named steps (Some s) = ends_in (draft_texts named).0 steps && is_one_of (draft_texts named).1 s
 
 -- a text stands there that only the draft takes
-abbrev pub is_draft_text : Option Name → List Step → Option Node → Bool
+abbrev pub is_draft_text : Option Name → List PathStep → Option Node → Bool
 is_draft_text named steps o = is_of_draft named steps (option_and_then text_in o)
 
 -- no member of this name may stand there, but in the draft it may: a source has a user context
-abbrev pub is_draft_member : Option Name → List Step → Bool → Bool
+abbrev pub is_draft_member : Option Name → List PathStep → Bool → Bool
 is_draft_member (Some source) steps wants_nothing = wants_nothing && ends_in (codes "userContext") steps
 is_draft_member named steps wants_nothing = false
 
@@ -105,7 +105,7 @@ is_odd (Some node.odd) = true
 is_odd o = false
 
 -- the draft takes any number there: in the value of a number, for which texts may stand, too
-abbrev pub is_draft_number : Option Name → List Step → Option Node → ℕ → Bool
+abbrev pub is_draft_number : Option Name → List PathStep → Option Node → ℕ → Bool
 is_draft_number (Some primitive) steps o count = is_odd o && ends_in (codes "value") steps && nat_lt 1 count
 is_draft_number named steps o count = false
 

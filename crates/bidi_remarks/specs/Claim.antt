@@ -9,6 +9,7 @@ use Rattle.bidi_blame.specs.Words.{choices, found_text, has_map, wants_text}
 use Rattle.bidi_remarks.specs.Beyond.{is_any}
 use Rattle.bidi_remarks.specs.declared.claim.Kind.{Kind}
 use Rattle.bidi_remarks.specs.declared.claim.Kind.TheVariants.{Wrong, Missing, Unexpected, Deep, Keyless}
+use Rattle.bidi_shape.specs.Limits.{most_levels}
 
 -- how many levels of nesting stand there
 abbrev pub levels_of : Option Node → ℕ
@@ -16,7 +17,7 @@ levels_of o = option_map_or levels o 0
 
 -- too many levels stand there
 abbrev pub is_deep : Reason → Bool
-is_deep r = is_any (choices r.wants) && nat_lt 60 (levels_of r.found)
+is_deep r = is_any (choices r.wants) && nat_lt most_levels (levels_of r.found)
 
 -- a map stands there, and has no member of this name
 abbrev pub lacks : List ℕ → Option Node → Bool
@@ -66,9 +67,13 @@ in_short kind no_key long = long
 abbrev pub short_text : Reason → List ℕ
 short_text r = unwrap_or (in_short (kind_of r) (keyless_words r) (long_choice r.named (length (choices r.wants)))) (wants_text r.wants)
 
+-- the most levels of nesting that are counted
+abbrev pub most_counted : ℕ
+most_counted = 1000
+
 -- so many, if they are not too many to count
 abbrev pub counted : ℕ → Option ℕ
-counted n = if nat_le n 1000 then Some n else None
+counted n = if nat_le n most_counted then Some n else None
 
 -- so many levels of nesting, in words
 abbrev pub level_words : ℕ → List ℕ

@@ -9,7 +9,7 @@ use Rattle.bidi_shape.specs.Name as rules
 use Rattle.bidi_shape.specs.Term.{rule}
 use Rattle.bidi_messages.specs.Verdict.{echoed_id}
 use Rattle.bidi_rules.specs.Names.{rule_text}
-use Rattle.bidi_blame.specs.Reason.{Reason, Step, member, item}
+use Rattle.bidi_blame.specs.Reason.{Reason, PathStep, member, item}
 use Rattle.bidi_blame.specs.Blames.{Blames}
 use Rattle.bidi_blame.specs.Said.{told_by}
 use Rattle.bidi_blame.specs.Words.{choice_text, pointer_text, wants_text}
@@ -26,6 +26,7 @@ use Rattle.bidi_remarks.specs.declared.misfit.Wants.{Wants}
 use Rattle.bidi_remarks.specs.declared.misfit.Wants.TheVariants.{Whole, Short}
 use Rattle.bidi_remarks.specs.declared.finding.Trouble as declared_trouble
 use Rattle.bidi_remarks.specs.declared.finding.Trouble.TheVariants as code
+use Rattle.bidi_shape.specs.Limits.{most_bytes}
 
 -- ---- lines that are no text to judge
 
@@ -89,12 +90,12 @@ abbrev pub method_of : Node → Option (List ℕ)
 method_of t = or_else (text_member (codes "method") t) (text_member (codes "type") t)
 
 -- a step of a pointer, with `*` for the number of an item
-abbrev pub pattern_step : Step → List ℕ
+abbrev pub pattern_step : PathStep → List ℕ
 pattern_step (member k) = pointer_text (member k ∷ [])
 pattern_step (item i) = codes "/*"
 
 -- a pointer with `*` for the number of each item, of steps that have the last one first
-abbrev pub pattern_text : List Step → List ℕ
+abbrev pub pattern_text : List PathStep → List ℕ
 pattern_text [] = []
 pattern_text (s ∷ ss) = pattern_text ss ++ pattern_step s
 
@@ -174,7 +175,7 @@ begins_with_mark n line = (n == 1) && bytes_eq (239 ∷ 187 ∷ 191 ∷ []) (tak
 
 -- the text has more bytes than a command may have
 abbrev pub is_too_large : Side → List ℕ → Bool
-is_too_large Local line = nat_lt 1048576 (length line)
+is_too_large Local line = nat_lt most_bytes (length line)
 is_too_large Remote line = false
 
 -- What is wrong with a line that is refused and begins with no byte order mark.

@@ -8,7 +8,7 @@ ghost use Rattle.bidi_blame.specs.View.{reason_of, step_of};
 ghost use Rattle.bidi_blame.specs.Words.{choices};
 ghost use Rattle.bidi_remarks.specs.Beyond.{draft_texts, ends_in, is_any, is_beyond, is_draft_member, is_draft_number, is_draft_text, is_odd, is_one_of};
 
-use bidi_blame::{Alternatives, Name, Reason, Step};
+use bidi_blame::{Alternatives, Name, PathStep, Reason};
 use bidi_shape::Parsed;
 use bidi_tree::Outline;
 
@@ -119,7 +119,7 @@ pub(crate) fn is_beyond(reason: &Reason<'_, '_>, alternatives: &Alternatives) ->
 }
 
 // Whether a text stands there that only the draft takes.
-fn is_draft_text(named: Option<Name>, steps: &[Step<'_>], found: Option<&Outline<'_>>) -> bool
+fn is_draft_text(named: Option<Name>, steps: &[PathStep<'_>], found: Option<&Outline<'_>>) -> bool
     ensures { result ≡ is_draft_text (option_map name_of named) (map step_of steps.now) (option_map (λ t. outline_node t.now) found.entry) }
 {
     let Some(text) = text_in(found) else {
@@ -156,11 +156,11 @@ fn text_in<'a>(found: Option<&'a Outline<'_>>) -> Option<&'a str>
 }
 
 // Whether the last step leads to a member of this name. The last step stands first.
-fn ends_in(name: &str, steps: &[Step<'_>]) -> bool
+fn ends_in(name: &str, steps: &[PathStep<'_>]) -> bool
     ensures { result ≡ ends_in name.now (map step_of steps.now) }
 {
     match steps {
-        [Step::Member(last), ..] => *last == name,
+        [PathStep::Member(last), ..] => *last == name,
         _ => false,
     }
 }
@@ -178,7 +178,7 @@ fn is_one_of(texts: &[&str], text: &str) -> bool
 }
 
 // Whether no member may stand there, but in the draft one may.
-fn is_draft_member(named: Option<Name>, steps: &[Step<'_>], wants_nothing: bool) -> bool
+fn is_draft_member(named: Option<Name>, steps: &[PathStep<'_>], wants_nothing: bool) -> bool
     ensures { result ≡ is_draft_member (option_map name_of named) (map step_of steps.now) wants_nothing }
 {
     match named {
@@ -198,7 +198,7 @@ pub(crate) fn is_any(alternatives: &Alternatives) -> bool
 // Whether the draft takes any number there.
 fn is_draft_number(
     named: Option<Name>,
-    steps: &[Step<'_>],
+    steps: &[PathStep<'_>],
     found: Option<&Outline<'_>>,
     count: usize,
 ) -> bool

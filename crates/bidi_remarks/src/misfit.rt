@@ -14,7 +14,7 @@ ghost use Rattle.bidi_remarks.specs.Trouble.{HasMisfit, method_of, misfit_of, pa
 
 use crate::beyond::is_beyond;
 use crate::claim::{Kind, has, kind_of, no_key, short};
-use bidi_blame::{Alternatives, Name, Reason, Step, blame, pointer, wanted};
+use bidi_blame::{Alternatives, Name, PathStep, Reason, blame, pointer, wanted};
 use bidi_lines::Side;
 use bidi_shape::Parsed;
 use bidi_tree::{JsUint, Outline, find_outline};
@@ -185,7 +185,7 @@ pub(crate) fn member<'a, 'b>(tree: &'a Outline<'b>, name: &str) -> Option<&'a Ou
 }
 
 // The place with `*` for the number of each item, of steps that have the last one first, and of their pointer.
-fn pattern(alloc: Global, steps: &[Step<'_>], pointer: &str) -> Result<String, AllocError>
+fn pattern(alloc: Global, steps: &[PathStep<'_>], pointer: &str) -> Result<String, AllocError>
     requires { pointer.now ≡ pointer_text (map step_of steps.now) }
     ensures { IfOk result (λ text. string_bytes text ≡ pattern_text (map step_of steps.now)) }
 {
@@ -197,11 +197,11 @@ fn pattern(alloc: Global, steps: &[Step<'_>], pointer: &str) -> Result<String, A
 }
 
 // Whether an item is among the steps.
-fn has_items(steps: &[Step<'_>]) -> bool
+fn has_items(steps: &[PathStep<'_>]) -> bool
     ensures { result ≡ false → pattern_text (map step_of steps.now) ≡ pointer_text (map step_of steps.now) }
 {
     for step in steps {
-        if let Step::Item(_) = step {
+        if let PathStep::Item(_) = step {
             return true;
         }
     }
@@ -209,7 +209,7 @@ fn has_items(steps: &[Step<'_>]) -> bool
 }
 
 // The pointer with `*` for the number of each item, step by step.
-fn starred(alloc: Global, steps: &[Step<'_>]) -> Result<String, AllocError>
+fn starred(alloc: Global, steps: &[PathStep<'_>]) -> Result<String, AllocError>
     ensures { IfOk result (λ text. string_bytes text ≡ pattern_text (map step_of steps.now)) }
 {
     let [last, before @ ..] = steps else {
@@ -217,8 +217,8 @@ fn starred(alloc: Global, steps: &[Step<'_>]) -> Result<String, AllocError>
     };
     let mut text = starred(alloc, before)?;
     match last {
-        Step::Member(_) => text.push_str(pointer(alloc, &[*last])?.as_str())?,
-        Step::Item(_) => text.push_str("/*")?,
+        PathStep::Member(_) => text.push_str(pointer(alloc, &[*last])?.as_str())?,
+        PathStep::Item(_) => text.push_str("/*")?,
     }
     Ok(text)
 }

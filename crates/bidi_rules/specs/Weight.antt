@@ -31,13 +31,17 @@ rank EvaluateResult = 2
 rank Info = 1
 rank n = 0
 
--- of a term: the same count, and whether it is below 40 for each term further in
+-- of a term: the same count, and whether it is small enough for each term further in
 abbrev pub Weight : Type 0
 Weight = ℕ × Bool
 
+-- a term of this height or more is not checked
+abbrev pub too_high : ℕ
+too_high = 40
+
 -- the weight is small enough to be checked
 abbrev pub is_light : Weight → Bool
-is_light w = nat_lt w.0 40 && w.1
+is_light w = nat_lt w.0 too_high && w.1
 
 -- at most so many
 abbrev pub is_within : Weight → ℕ → Bool

@@ -9,6 +9,7 @@ use Rattle.bidi_shape.specs.Name.{Name}
 use Rattle.bidi_shape.specs.Term.{Need, optional, Openness, extensible, closed, Term, exactly, text, bool, null, js_uint, js_int}
 use Rattle.bidi_shape.specs.Term.{any, list_of, pair_of, map_of, either, rule, capped, Rows, no_more, row, names_of}
 use Rattle.bidi_shape.specs.Profile.{term_of}
+use Rattle.bidi_shape.specs.Limits.{most_levels}
 
 -- the number of items
 abbrev pub count : Items → ℕ
@@ -22,7 +23,7 @@ without names (member k t ms) = if list_any (bytes_eq k) names then without name
 
 -- the members that no row names may be there: in an extensible object each fits `any`, and in a closed one there are none
 abbrev pub OthersFit : Openness → Members → Type 0
-OthersFit extensible others = MembersAreWhole others 60
+OthersFit extensible others = MembersAreWhole others most_levels
 OthersFit closed others = others ≡ no_members
 
 mutual
@@ -35,14 +36,14 @@ mutual
     fits_null : Fits node.null null
     fits_js_uint : (n : ℕ) → IsJsUint n → Fits (node.whole (pos n)) js_uint
     fits_js_int : (z : ℤ) → IsJsInt z → Fits (node.whole z) js_int
-    fits_any : (t : Node) → IsWhole t 60 → Fits t any
+    fits_any : (t : Node) → IsWhole t most_levels → Fits t any
     fits_list : (ts : Items) (least : ℕ) (τ : Term) → least ≤ count ts → AllFit ts τ → Fits (node.list ts) (list_of least τ)
     fits_pair : (t u : Node) (σ τ : Term) → Fits t σ → Fits u τ → Fits (node.list (item t (item u no_items))) (pair_of σ τ)
     fits_map : (ms : Members) (rows : Rows) (o : Openness) → RowsFit ms rows → OthersFit o (without (names_of rows) ms) → Fits (node.map ms) (map_of rows o)
     fits_first : (t : Node) (σ τ : Term) → Fits t σ → Fits t (either σ τ)
     fits_second : (t : Node) (σ τ : Term) → Fits t τ → Fits t (either σ τ)
     fits_rule : (t : Node) (n : Name) → Fits t (term_of n) → Fits t (rule n)
-    fits_capped : (t : Node) (τ : Term) → levels t ≤ 60 → Fits t τ → Fits t (capped τ)
+    fits_capped : (t : Node) (τ : Term) → levels t ≤ most_levels → Fits t τ → Fits t (capped τ)
 
   -- each of the items fits the term
   pub data AllFit : Items → Term → Type 0 where

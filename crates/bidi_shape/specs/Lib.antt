@@ -1,6 +1,7 @@
 pub mod Name
 pub mod Term
 pub mod Profile
+pub mod Limits
 pub mod Fits
 pub mod Parts
 pub mod Value

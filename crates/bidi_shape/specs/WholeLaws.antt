@@ -14,6 +14,7 @@ use Rattle.bidi_shape.specs.Term.{Openness, extensible, closed, Rows, no_more, r
 use Rattle.bidi_shape.specs.Fits.{OthersFit}
 use Rattle.bidi_shape.specs.Parts.{joined}
 use Rattle.bidi_shape.specs.ListLaws.{list_tree, pair_tree}
+use Rattle.bidi_shape.specs.Limits.{most_levels}
 
 -- each part that is there has no Odd and at most n levels
 abbrev pub PartsAreWhole : List (Option Node) → ℕ → Type 0
@@ -23,7 +24,7 @@ PartsAreWhole (Some t ∷ ps) n = IsWhole t n × PartsAreWhole ps n
 
 -- the most levels of a member that no row names
 abbrev pub deepest_other : Openness → ℕ
-deepest_other extensible = 60
+deepest_other extensible = most_levels
 deepest_other closed = 0
 
 -- a bound on levels may be raised

@@ -2,6 +2,7 @@
 ghost use Rattle.std.specs.BTreeMap.{IsOrdered};
 ghost use Rattle.std.specs.String.{string_cmp};
 ghost use Rattle.std.specs.List.Sorted.{IsStrictlySortedBy-prop};
+ghost use Rattle.bidi_shape.specs.Limits.{most_levels};
 
 use crate::members::{MAX_LEVELS, has_listed};
 use bidi_tree::Members;
@@ -75,7 +76,7 @@ impl Ext {
     /// Whether each member fits `any`. Takes no memory.
     pub fn is_whole(&self) -> bool
         // The result is true exactly if no member has an `Odd` and none has more than 60 levels.
-        ensures { IsTrue result ↔ MembersAreWhole (others_of self.now) 60 }
+        ensures { IsTrue result ↔ MembersAreWhole (others_of self.now) most_levels }
     {
         bidi_tree::are_whole(&self.members, MAX_LEVELS)
     }

@@ -6,6 +6,7 @@ ghost use Rattle.bidi_shape.specs.Fits.{Fits, without};
 ghost use Rattle.bidi_shape.specs.Made.{Makes};
 ghost use Rattle.bidi_shape.specs.Parts.{has_named, texts_in};
 ghost use Rattle.bidi_shape.specs.ValueLaws.{others_of};
+ghost use Rattle.bidi_shape.specs.Limits.{most_levels};
 
 use crate::ext::{Clash, Ext};
 use crate::fault::ShapeFault;
@@ -66,12 +67,12 @@ pub fn further(members: Members, names: &[&str]) -> Result<Ext, MakeFault>
     ensures made { Makes result
         (has_named (texts_in names.now) (members_node members.entries) ≡ true)
         ⊥
-        (¬ MembersAreWhole (members_node members.entries) 60)
+        (¬ MembersAreWhole (members_node members.entries) most_levels)
         (λ e. others_of e ≡ members_node members.entries) }
     // After an Ok, no member has one of the names.
     ensures unnamed { IfOk result (λ e. without (texts_in names.now) (others_of e) ≡ others_of e) }
     // After an Ok, no member has an `Odd`, and none has more than 60 levels.
-    ensures whole { IfOk result (λ e. MembersAreWhole (others_of e) 60) }
+    ensures whole { IfOk result (λ e. MembersAreWhole (others_of e) most_levels) }
 {
     let ext = Ext::new(members, names)?;
     if !ext.is_whole() {

@@ -13,6 +13,7 @@ ghost use Rattle.std.specs.Str.{bytes_eq};
 ghost use Rattle.bidi_tree.specs.Node as kind;
 ghost use Rattle.bidi_shape.specs.Term.{exactly};
 ghost use Rattle.bidi_shape.specs.Fits.{Fits};
+ghost use Rattle.bidi_shape.specs.Limits.{most_levels};
 
 use crate::ext::Ext;
 use crate::fault::ShapeFault;
@@ -143,7 +144,7 @@ pub(crate) fn has_listed(members: &Members, names: &[&str]) -> bool
 
 /// Whether a tree fits `any`: it has no `Odd`, and at most 60 levels.
 fn fits_any(tree: &Tree) -> bool
-    ensures { IsTrue result ↔ IsWhole (node tree.now) 60 }
+    ensures { IsTrue result ↔ IsWhole (node tree.now) most_levels }
 {
     tree.is_whole(MAX_LEVELS)
 }
@@ -152,8 +153,8 @@ fn fits_any(tree: &Tree) -> bool
 pub(crate) fn others(members: &Members, names: &[&str]) -> Result<Ext, ShapeFault>
     ensures sorted { OnOk result (AreAscending (members_node members.now.entries)) }
     ensures rest { IfOk result (λ e. members_node e.members.entries ≡ without (texts_in names.now) (members_node members.now.entries)) }
-    ensures whole { IfOk result (λ e. MembersAreWhole (members_node e.members.entries) 60) }
-    ensures no_fit { IfNoFit result (MembersAreWhole (without (texts_in names.now) (members_node members.now.entries)) 60 → ⊥) }
+    ensures whole { IfOk result (λ e. MembersAreWhole (members_node e.members.entries) most_levels) }
+    ensures no_fit { IfNoFit result (MembersAreWhole (without (texts_in names.now) (members_node members.now.entries)) most_levels → ⊥) }
 {
     let mut rest = Members::emptied(members)?;
     for (name, member) in members.iter() {

@@ -11,6 +11,7 @@ ghost use Rattle.bidi_shape.specs.Term.{Rows, Openness, map_of};
 ghost use Rattle.bidi_shape.specs.Fits.{Fits, without};
 ghost use Rattle.bidi_shape.specs.Parts.{texts_in};
 ghost use Rattle.bidi_shape.specs.Outcome.{IfNoFit};
+ghost use Rattle.bidi_shape.specs.Limits.{most_levels};
 
 use crate::ext::Ext;
 use crate::fault::ShapeFault;
@@ -80,9 +81,9 @@ pub trait Parsed: Drop {
         // After an Ok, the result has exactly the members whose name is not in `names`.
         ensures rest { IfOk result (λ e. members_node e.members.entries ≡ without (texts_in names.now) (members_in (tree self.now))) }
         // After an Ok, no member of the result has an `Odd`, and none has more than 60 levels.
-        ensures whole { IfOk result (λ e. MembersAreWhole (members_node e.members.entries) 60) }
+        ensures whole { IfOk result (λ e. MembersAreWhole (members_node e.members.entries) most_levels) }
         // `NoFit` comes only if one of these members has an `Odd` or more than 60 levels.
-        ensures no_fit { IfNoFit result (MembersAreWhole (without (texts_in names.now) (members_in (tree self.now))) 60 → ⊥) };
+        ensures no_fit { IfNoFit result (MembersAreWhole (without (texts_in names.now) (members_in (tree self.now))) most_levels → ⊥) };
 
     /// Checks that all members are in `names`. Takes no memory.
     ///
@@ -257,8 +258,8 @@ fn unlisted(
 ) -> Result<Ext, ShapeFault>
     ensures sorted { OnOk result (AreAscending (put_all (members_view members.now.items) no_members)) }
     ensures rest { IfOk result (λ e. members_node e.members.entries ≡ without (texts_in names.now) (put_all (members_view members.now.items) no_members)) }
-    ensures whole { IfOk result (λ e. MembersAreWhole (members_node e.members.entries) 60) }
-    ensures no_fit { IfNoFit result (MembersAreWhole (without (texts_in names.now) (put_all (members_view members.now.items) no_members)) 60 → ⊥) }
+    ensures whole { IfOk result (λ e. MembersAreWhole (members_node e.members.entries) most_levels) }
+    ensures no_fit { IfNoFit result (MembersAreWhole (without (texts_in names.now) (put_all (members_view members.now.items) no_members)) most_levels → ⊥) }
 {
     let mut rest = Members::new(alloc);
     for member in members {

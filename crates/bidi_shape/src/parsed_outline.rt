@@ -6,6 +6,7 @@ ghost use Rattle.bidi_tree.specs.View.{members_node};
 ghost use Rattle.bidi_shape.specs.Fits.{without};
 ghost use Rattle.bidi_shape.specs.Parts.{texts_in};
 ghost use Rattle.bidi_shape.specs.Outcome.{IfNoFit};
+ghost use Rattle.bidi_shape.specs.Limits.{most_levels};
 
 use crate::ext::Ext;
 use crate::fault::ShapeFault;
@@ -94,8 +95,8 @@ impl<'a> Parsed for Outline<'a> {
 fn unlisted(alloc: Global, members: &OutlineMembers<'_>, names: &[&str]) -> Result<Ext, ShapeFault>
     ensures sorted { OnOk result (AreAscending (outline_members members.now)) }
     ensures rest { IfOk result (λ e. members_node e.members.entries ≡ without (texts_in names.now) (outline_members members.now)) }
-    ensures whole { IfOk result (λ e. MembersAreWhole (members_node e.members.entries) 60) }
-    ensures no_fit { IfNoFit result (MembersAreWhole (without (texts_in names.now) (outline_members members.now)) 60 → ⊥) }
+    ensures whole { IfOk result (λ e. MembersAreWhole (members_node e.members.entries) most_levels) }
+    ensures no_fit { IfNoFit result (MembersAreWhole (without (texts_in names.now) (outline_members members.now)) most_levels → ⊥) }
 {
     let mut rest = Members::new(alloc);
     for member in members.as_slice() {

@@ -115,9 +115,13 @@ items_are_whole ns limit = not (items_have_odd ns) && nat_le (items_levels ns) l
 abbrev pub members_are_whole : Members → ℕ → Bool
 members_are_whole ms limit = not (members_have_odd ms) && nat_le (members_levels ms) limit
 
--- the tree may be written: it has no Odd and at most 100 levels, which holds of every message
+-- the most levels of a tree that is written; every message has fewer
+abbrev pub most_written_levels : ℕ
+most_written_levels = 100
+
+-- the tree may be written: it has no Odd and at most so many levels
 abbrev pub IsWritable : Node → Type 0
-IsWritable n = IsWhole n 100
+IsWritable n = IsWhole n most_written_levels
 
 -- the name comes before each name of these members, in byte order
 abbrev pub IsBelow : List ℕ → Members → Type 0

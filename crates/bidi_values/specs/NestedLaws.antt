@@ -13,6 +13,7 @@ use Rattle.bidi_shape.proofs.FitsLemmas.{map_kind, rule_inside, capped_inside}
 use Rattle.bidi_shape.specs.InnerLaws.{same_items, first_item, other_items}
 use Rattle.bidi_values.specs.SiblingLaws.{SiblingsOf, around, holding, around_fits, around_one, around_no_odd, value_levels}
 use Rattle.bidi_values.specs.Content.{Content, plain, list, pairs, Contents, no_values, value, Pairs, no_pairs, pair, Key, value_key, text_key}
+use Rattle.bidi_shape.specs.Limits.{most_levels}
 
 -- ---- rules
 
@@ -137,11 +138,11 @@ same_pair e = (cc, cc)
 -- example: 30 arrays within each other, the innermost empty, are well; 31 are not
 pub record IsWell {P L M : Type 0} (n : NestingOf P L M) (v : Content P L M) : Type 0 where
   pub parts : PartsAreWell n v
-  pub cap : levels (value_tree n v) ≤ 60
+  pub cap : levels (value_tree n v) ≤ most_levels
 
 module _ {P L M : Type 0} (n : NestingOf P L M) where
   -- a tree of at most 60 levels that fits the alternatives fits the rule
-  pub value_fits_rule : (t : Node) → levels t ≤ 60 → Fits t n.inside → Fits t (rule n.values)
+  pub value_fits_rule : (t : Node) → levels t ≤ most_levels → Fits t n.inside → Fits t (rule n.values)
   value_fits_rule t h f = fits_rule t n.values (subst (Fits t) (sym n.is_capped) (fits_capped t n.inside h f))
 
   -- a tree that fits the rule fits its alternatives
@@ -150,7 +151,7 @@ module _ {P L M : Type 0} (n : NestingOf P L M) where
 
   mutual
     -- the tree of a value with well-formed parts fits the rule, if it has at most 60 levels
-    pub value_fits : (v : Content P L M) → PartsAreWell n v → levels (value_tree n v) ≤ 60 → Fits (value_tree n v) (rule n.values)
+    pub value_fits : (v : Content P L M) → PartsAreWell n v → levels (value_tree n v) ≤ most_levels → Fits (value_tree n v) (rule n.values)
     value_fits (plain p) w h = value_fits_rule (n.plain.tree_of p) h (n.plain_fits (n.plain.tree_of p) (n.plain.fits p w))
     value_fits (list i vs) w h =
         let below = value_levels n.list i (node.list (values_tree n vs)) in
@@ -164,12 +165,12 @@ module _ {P L M : Type 0} (n : NestingOf P L M) where
         (fits_list (pairs_tree n ps) 0 (rule n.pair_rule) (omega arith) (all_pairs_fit ps w.1 (omega (arith, below, h))))))
 
     -- the tree of each value of a list fits the rule
-    pub values_fit : (vs : Contents P L M) → ValuesAreWell n vs → items_levels (values_tree n vs) ≤ 60 → AllFit (values_tree n vs) (rule n.values)
+    pub values_fit : (vs : Contents P L M) → ValuesAreWell n vs → items_levels (values_tree n vs) ≤ most_levels → AllFit (values_tree n vs) (rule n.values)
     values_fit no_values w h = no_item (rule n.values)
     values_fit (value v vs) w h = an_item (value_tree n v) (values_tree n vs) (rule n.values) (value_fits v w.0 (omega arith)) (values_fit vs w.1 (omega arith))
 
     -- the tree of each pair of a list fits the rule of pairs
-    pub all_pairs_fit : (ps : Pairs P L M) → PairsAreWell n ps → items_levels (pairs_tree n ps) ≤ 60 → AllFit (pairs_tree n ps) (rule n.pair_rule)
+    pub all_pairs_fit : (ps : Pairs P L M) → PairsAreWell n ps → items_levels (pairs_tree n ps) ≤ most_levels → AllFit (pairs_tree n ps) (rule n.pair_rule)
     all_pairs_fit no_pairs w h = no_item (rule n.pair_rule)
     all_pairs_fit (pair k v ps) w h =
         let t = pair_node (key_tree n k) (value_tree n v) in
@@ -180,12 +181,12 @@ module _ {P L M : Type 0} (n : NestingOf P L M) where
         (all_pairs_fit ps w.1 (omega arith))
 
     -- the tree of a key fits the rule, or is a string
-    pub key_fits : (k : Key P L M) → KeyIsWell n k → levels (key_tree n k) ≤ 60 → Fits (key_tree n k) (either (rule n.values) text)
+    pub key_fits : (k : Key P L M) → KeyIsWell n k → levels (key_tree n k) ≤ most_levels → Fits (key_tree n k) (either (rule n.values) text)
     key_fits (value_key v) w h = fits_first (value_tree n v) (rule n.values) text (value_fits v w h)
     key_fits (text_key k) w h = fits_second (node.text k) (rule n.values) text (fits_text k)
 
   list_fits_holding : (i : L) (vs : Contents P L M) → PartsAreWell n (list i vs)
-      → levels (value_tree n (list i vs)) ≤ 60 → Fits (value_tree n (list i vs)) (holding n.list (list_of 0 (rule n.values)))
+      → levels (value_tree n (list i vs)) ≤ most_levels → Fits (value_tree n (list i vs)) (holding n.list (list_of 0 (rule n.values)))
   list_fits_holding i vs w h =
       let below = value_levels n.list i (node.list (values_tree n vs)) in
       around_fits n.list i (node.list (values_tree n vs)) (list_of 0 (rule n.values)) w.0
@@ -204,7 +205,7 @@ module _ {P L M : Type 0} (n : NestingOf P L M) where
 
   mutual
     -- two values with the same tree are equal
-    pub value_one : (v w : Content P L M) → PartsAreWell n v → PartsAreWell n w → levels (value_tree n v) ≤ 60 → levels (value_tree n w) ≤ 60
+    pub value_one : (v w : Content P L M) → PartsAreWell n v → PartsAreWell n w → levels (value_tree n v) ≤ most_levels → levels (value_tree n w) ≤ most_levels
         → value_tree n v ≡ value_tree n w → Same n v w
     value_one (plain p) (plain q) a b g h e = n.plain.one_value p q a b e
     value_one (plain p) (list i ws) a b g h e = n.list_not_plain i (node.list (values_tree n ws)) b.0 (subst (λ t. Fits t n.plain.rule) e (n.plain.fits p a))
@@ -233,7 +234,7 @@ module _ {P L M : Type 0} (n : NestingOf P L M) where
 
     -- two lists of values with the same trees are equal
     pub values_one : (vs ws : Contents P L M)
-        → ValuesAreWell n vs → ValuesAreWell n ws → items_levels (values_tree n vs) ≤ 60 → items_levels (values_tree n ws) ≤ 60
+        → ValuesAreWell n vs → ValuesAreWell n ws → items_levels (values_tree n vs) ≤ most_levels → items_levels (values_tree n ws) ≤ most_levels
         → values_tree n vs ≡ values_tree n ws → SameValues n vs ws
     values_one no_values no_values a b g h e = tt
     values_one no_values (value w ws) a b g h e = cc
@@ -243,7 +244,7 @@ module _ {P L M : Type 0} (n : NestingOf P L M) where
 
     -- two lists of pairs with the same trees are equal
     pub all_pairs_one : (ps qs : Pairs P L M)
-        → PairsAreWell n ps → PairsAreWell n qs → items_levels (pairs_tree n ps) ≤ 60 → items_levels (pairs_tree n qs) ≤ 60
+        → PairsAreWell n ps → PairsAreWell n qs → items_levels (pairs_tree n ps) ≤ most_levels → items_levels (pairs_tree n qs) ≤ most_levels
         → pairs_tree n ps ≡ pairs_tree n qs → SamePairs n ps qs
     all_pairs_one no_pairs no_pairs a b g h e = tt
     all_pairs_one no_pairs (pair k w qs) a b g h e = cc
@@ -255,7 +256,7 @@ module _ {P L M : Type 0} (n : NestingOf P L M) where
         )
 
     -- two keys with the same tree are equal
-    pub key_one : (j k : Key P L M) → KeyIsWell n j → KeyIsWell n k → levels (key_tree n j) ≤ 60 → levels (key_tree n k) ≤ 60
+    pub key_one : (j k : Key P L M) → KeyIsWell n j → KeyIsWell n k → levels (key_tree n j) ≤ most_levels → levels (key_tree n k) ≤ most_levels
         → key_tree n j ≡ key_tree n k → SameKey n j k
     key_one (value_key v) (value_key w) a b g h e = value_one v w a b g h e
     key_one (value_key v) (text_key k) a b g h e = text_not_value k (subst (λ t. Fits t (rule n.values)) e (value_fits v a g))
@@ -298,7 +299,7 @@ module _ {P L M : Type 0} (n : NestingOf P L M) where
     same = λ v w. Same n (content v) (content w);
     fits = λ v w. value_fits (content v) w.parts w.cap;
     one_value = λ v w a b e. value_one (content v) (content w) a.parts b.parts a.cap b.cap e;
-    deepest = 60;
+    deepest = most_levels;
     whole = λ v w. (value_no_odd (content v) w.parts, w.cap);
   }
 
