@@ -34,7 +34,8 @@ use Rattle.bidi_sessions.specs.declared.connections.Attachment as declared_attac
 use Rattle.bidi_sessions.specs.declared.connections.Attachment.TheVariants as in_code
 use Rattle.bidi_remote.specs.State.SessionView as in_hand
 use Rattle.bidi_remote.specs.State.SessionRows.{SessionRow, session_rows, subscription_rows, begun, subscribed, cancelled, lost, logged, updated, changed}
-use Rattle.bidi_remote.specs.State.EventTexts.{Written, written}
+use Rattle.bidi_missed.specs.Written.{Written}
+use Rattle.bidi_remote.specs.State.EventTexts.{written}
 use Rattle.bidi_remote.specs.State.MissedRows.{place_of, IsEntry}
 use Rattle.bidi_remote.specs.State.Stands.{AgreeWith}
 use Rattle.bidi_remote.specs.State.Turns.{IsQuiet}

@@ -4,8 +4,8 @@ use Rattle.std.specs.Prelude.{replicate, vec_len}
 use Rattle.std.specs.List.{AllByRecursion, AllClonesOf}
 use Rattle.std.specs.declared.rc.Rc.{Rc}
 use Rattle.std.proofs.lemmas.List.{length-map, length-replicate}
-use Rattle.bidi_remote.specs.declared.event_texts.EventText.{EventText}
-use Rattle.bidi_remote.specs.State.EventTexts.{Written, written_of, written_in}
+use Rattle.bidi_missed.specs.declared.event_text.EventText.{EventText}
+use Rattle.bidi_missed.specs.Written.{Written, written_of, written_in}
 
 -- clones of one are written as it is
 clones-written : (e : Rc EventText Global) (ys : List (Rc EventText Global))

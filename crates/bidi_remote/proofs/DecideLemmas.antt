@@ -32,15 +32,17 @@ use Rattle.bidi_remote.specs.Machine.LogBuffer.{missed, waiting_for}
 use Rattle.bidi_remote.specs.Machine.Outcome.{is_ready, new_outcome, all_named, scope_asked, subscribe_outcome}
 use Rattle.bidi_remote.specs.Machine.Outcome.{subscriptions_named, unsubscribe_by_events_outcome}
 use Rattle.bidi_remote.specs.Machine.Sent.{items, action_in, announcements}
-use Rattle.bidi_remote.specs.State.EventTexts.{Written, written, written_in, AreMessages}
-use Rattle.bidi_remote.specs.State.MissedRows.{places, waiting, IsEntry}
+use Rattle.bidi_missed.specs.Written.{Written, written_in}
+use Rattle.bidi_remote.specs.State.EventTexts.{written, AreMessages}
+use Rattle.bidi_remote.specs.State.MissedRows.{places, IsEntry}
+use Rattle.bidi_missed.specs.Places.{waiting}
 use Rattle.bidi_remote.specs.State.SessionView as in_hand
 use Rattle.bidi_sessions.specs.SubscriptionView.{row_of}
 use Rattle.bidi_remote.specs.State.Stands.{AgreeWith}
 use Rattle.bidi_sessions.specs.SubscriptionRows.{SubscriptionRow}
 use Rattle.bidi_remote.specs.State.SessionRows.{session_row, session_rows, row_at, subscription_rows, row_in, begun}
 use Rattle.bidi_sessions.specs.SubscriptionRows.{any_covers, any_global, numbers_named}
-use Rattle.bidi_remote.specs.State.SessionRows.{is_new}
+use Rattle.bidi_missed.specs.News.{is_new}
 use Rattle.bidi_browser.specs.View.{result_tree}
 use Rattle.bidi_remote.specs.State.Turns.{Decides, IsMade, IsOfSessions, deed_of, announced_by}
 use Rattle.bidi_sessions.proofs.ListLemmas.{filter-same, all-same}
@@ -112,27 +114,6 @@ pub new-began : (past : List Deed) (c : ℕ) (request : Request) (fits : Result 
 new-began past c request fits same fit room = rw (sym same ∙ no_error fits fit, sym room) refl
 
 -- ---- `session.subscribe`
-
--- whether an event is new, by the three answers
-pub is-new : (past : List Act) (held : List SubscriptionRow) (es : List EventName) (scope : Scope) (e : EventName) (top : Top) (live was is : Bool)
-    → live ≡ is_alive past top.number → was ≡ any_covers held e top → is ≡ (is_among es e && covers scope top)
-    → (live && (not was && is)) ≡ is_new past held es scope e top
-is-new past held es scope e top live was is lives covered covers = ap₂ (λ a b. a && b) lives (ap₂ (λ a b. not a && b) covered covers)
-
--- the first answer decides, where the others let it
-pub live-decides : (live was is : Bool) → not was ≡ true → is ≡ true → live ≡ (live && (not was && is))
-live-decides true was is not_was covered = rw (not_was, covered) refl
-live-decides false was is not_was covered = refl
-
--- and where they do not
-pub not_covered : (live was is : Bool) → is ≡ false → false ≡ (live && (not was && is))
-not_covered true false is not_is = sym not_is
-not_covered true true is not_is = refl
-not_covered false was is not_is = refl
-
-pub not_new : (live was is : Bool) → not was ≡ false → false ≡ (live && (not was && is))
-not_new true was is covered = rw covered refl
-not_new false was is covered = refl
 
 -- what is kept of items of which each has P
 pub all-kept : {X : Type 0} (P : X → Type 0) (bs : List Bool) (xs : List X) → AllByRecursion P xs → AllByRecursion P (items_where_true bs xs)

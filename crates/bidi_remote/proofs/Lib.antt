@@ -16,7 +16,6 @@ pub mod RowReadLemmas
 pub mod BrowseLemmas
 pub mod TellLemmas
 pub mod DecideLemmas
-pub mod AnnounceLemmas
 pub mod SubscribeAskLemmas
 pub mod TargetAskLemmas
 pub mod BrowserAskLemmas
@@ -26,3 +25,4 @@ pub mod ReplyLemmas
 pub mod AnswerLemmas
 pub mod StrikeLemmas
 pub mod HeardLemmas
+pub mod AskingLemmas

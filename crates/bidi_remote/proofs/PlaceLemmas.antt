@@ -12,8 +12,10 @@ use Rattle.bidi_contexts.specs.Occurrences.{Occurrence}
 use Rattle.bidi_remote.specs.Machine.History.{Deed}
 use Rattle.bidi_remote.specs.Machine.LogBuffer.{Missed, missed, just_missed, announced_at, last_hundred, waiting_for}
 use Rattle.bidi_remote.specs.Machine.Sent.{occurrence_text}
-use Rattle.bidi_remote.specs.State.EventTexts.{Written, written, AreMessages}
-use Rattle.bidi_remote.specs.State.MissedRows.{place_of, places, waiting, with_missed, left, all_left, IsEntry}
+use Rattle.bidi_missed.specs.Written.{Written}
+use Rattle.bidi_remote.specs.State.EventTexts.{written, AreMessages}
+use Rattle.bidi_remote.specs.State.MissedRows.{place_of, places, IsEntry}
+use Rattle.bidi_missed.specs.Places.{waiting, with_missed, left, all_left}
 use Rattle.bidi_sessions.specs.Limits.{most_missed}
 
 -- ---- the last hundred of a list
@@ -63,22 +65,6 @@ places-announced p q all same = ap (map place_of) (hundred-map (announced_at p) 
     each : (ms : List Missed) → map place_of (map (announced_at p) ms) ≡ map (left q) (map place_of ms)
     each [] = refl
     each (m ∷ ms) = ap₂ (λ x xs. x ∷ xs) (one m m.announced refl) (each ms)
-
--- a place is left where its entry is announced, and only there
-pub left-new : (p : Top → Bool) (x : Option Written) (w : Written) → x ≡ Some w → p w.top ≡ true → None ≡ left p x
-left-new p x w is new = rw is (ap (λ b. if b then None else Some w) (sym new))
-
-pub left-old : (p : Top → Bool) (x : Option Written) (w : Written) → x ≡ Some w → p w.top ≡ false → x ≡ left p x
-left-old p x w is old = is ∙ (ap (λ b. if b then None else Some w) (sym old) ∙ ap (left p) (sym is))
-
-pub left-empty : (p : Top → Bool) (x : Option Written) → x ≡ None → x ≡ left p x
-left-empty p x is = is ∙ ap (left p) (sym is)
-
--- each stays where no entry is announced
-pub none-left : (p : Top → Bool) (all : List (Option Written)) → ((top : Top) → p top ≡ false) → all ≡ all_left p all
-none-left p [] never = refl
-none-left p (None ∷ all) never = ap (λ xs. None ∷ xs) (none-left p all never)
-none-left p (Some w ∷ all) never = ap₂ (λ x xs. x ∷ xs) (left-old p (Some w) w refl (never w.top)) (none-left p all never)
 
 -- ---- what waits
 

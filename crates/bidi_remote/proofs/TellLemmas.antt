@@ -24,7 +24,8 @@ use Rattle.bidi_sessions.specs.ConnectionRows.{to_each}
 use Rattle.bidi_remote.specs.State.SessionRows.{SessionRow, session_row, session_rows, subscription_rows}
 use Rattle.bidi_sessions.specs.SubscriptionRows.{any_covers}
 use Rattle.bidi_remote.specs.Machine.Messages.{ReadsBack, AllReadBack}
-use Rattle.bidi_remote.specs.State.EventTexts.{Written, AreMessages}
+use Rattle.bidi_missed.specs.Written.{Written}
+use Rattle.bidi_remote.specs.State.EventTexts.{AreMessages}
 use Rattle.bidi_remote.specs.State.Routes.{to_one, to_all}
 use Rattle.bidi_remote.specs.State.Turns.{sent_for, sent_of_item, to_subscriber, to_subscriber_in, closed_in}
 use Rattle.bidi_sessions.proofs.ListLemmas.{all-append, flat_map-same}

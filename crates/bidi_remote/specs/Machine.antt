@@ -8,3 +8,4 @@ pub mod Commands
 pub mod Outcome
 pub mod Sent
 pub mod Messages
+pub mod Asking

@@ -9,3 +9,4 @@ pub mod RowsRead
 pub mod Asked
 pub mod Turns
 pub mod Stands
+pub mod Heard

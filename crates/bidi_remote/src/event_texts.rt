@@ -3,23 +3,16 @@ ghost use Rattle.std.specs.Prelude.{◌≡◌, ◌∷◌, ◌++◌, [], map, str
 ghost use Rattle.std.specs.List.{AllByRecursion};
 ghost use Rattle.bidi_contexts.specs.View.{occurrence_of, seen};
 ghost use Rattle.bidi_messages.specs.Reading.{IsMessageText};
-ghost use Rattle.bidi_remote.specs.State.EventTexts.{written, written_of, written_in, AreMessages};
+ghost use Rattle.bidi_remote.specs.State.EventTexts.{written, AreMessages};
+ghost use Rattle.bidi_missed.specs.Written.{written_of, written_in};
 ghost use Rattle.bidi_messages.specs.Payloads.{EventIsWell};
 
-use bidi_browser::{Occurrence, Top};
+use bidi_browser::Occurrence;
 use bidi_messages::{EventData, EventName, Message, Payload, event_text};
+use bidi_missed::EventText;
 use bidi_shape::Shape;
 use std::alloc::{AllocError, Global};
 use std::rc::Rc;
-
-/// The text of an event. It is made once and shared.
-#[derive(Drop)]
-pub(crate) struct EventText {
-    /// The top-level context in whose tree the event occurred.
-    pub top: Top,
-    /// The event as it is sent.
-    pub text: String,
-}
 
 /// Makes the text of an event.
 pub(crate) fn event_text_of(

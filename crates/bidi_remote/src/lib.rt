@@ -8,11 +8,10 @@
 //! are kept until it subscribes to them.
 #![tactic(auto)]
 
-mod announcing;
+mod asking;
 mod deciding;
 mod event_texts;
 mod hearing;
-mod log_buffer;
 mod opening;
 mod page_steps;
 mod refusing;
@@ -26,5 +25,6 @@ mod taking;
 mod telling;
 mod turn;
 
+pub use bidi_browser::Top;
 pub use bidi_sessions::{PageStep, Sent, Step};
 pub use remote_end::{RemoteEnd, RemoteFault};

@@ -146,8 +146,8 @@ impl State {
     }
 }
 
-// The events of a plan that stand before its reply, and its change.
-fn told_by(plan: Plan) -> (Vec<Occurrence>, BrowserChange)
+/// The events of a plan that stand before its reply, and its change.
+pub(crate) fn told_by(plan: Plan) -> (Vec<Occurrence>, BrowserChange)
     ensures told { result.0 ≡ plan.before }
     ensures change { result.1 ≡ plan.change }
 {

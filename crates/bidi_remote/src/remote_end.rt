@@ -1,20 +1,23 @@
 //! The remote end, with its public calls.
-ghost use Rattle.std.specs.Prelude.{◌≡◌, ℕ, ◌<◌, ◌≤◌, ◌↔◌, List, [], ◌∷◌, map, true, IsTrue, IfOk, OnOk, OnErr, IsOk, IsErrOf, length};
+ghost use Rattle.std.specs.Prelude.{◌≡◌, ℕ, ◌<◌, ◌≤◌, ◌↔◌, List, [], ◌∷◌, ◌++◌, map, true, IsTrue, IfOk, OnOk, OnErr, IsOk, IsErrOf, length};
 ghost use Rattle.bidi_sessions.specs.Step as steps;
 ghost use Rattle.bidi_remote.specs.Machine.Messages.{AllReadBack};
 ghost use Rattle.bidi_sessions.specs.View.{page_of, step_of, sent_of};
 ghost use Rattle.bidi_contexts.specs.Actions.{Action};
-ghost use Rattle.bidi_remote.specs.Machine.History.{Input, IsHeardAs, IsTakenAs};
-ghost use Rattle.bidi_remote.specs.Machine.Connections.{is_open};
+ghost use Rattle.bidi_remote.specs.Machine.History.{Input, IsHeardAs, IsTakenAs, acts};
+ghost use Rattle.bidi_remote.specs.Machine.Connections.{is_open, attachment_of, connections_of};
+ghost use Rattle.bidi_remote.specs.Machine.Sessions.{sessions};
+ghost use Rattle.bidi_remote.specs.Machine.Asking.{session_in, top_named, hears};
 ghost use Rattle.bidi_remote.specs.Machine.Outcome.{deeds, page_refusal};
 ghost use Rattle.bidi_remote.specs.Replies.{IsAnsweredOnce};
-ghost use Rattle.bidi_remote.specs.Machine.Sent.{out};
+ghost use Rattle.bidi_remote.specs.Machine.Sent.{out, Text};
 ghost use Rattle.bidi_remote.specs.Strike as strike;
 ghost use Rattle.bidi_remote.specs.declared.remote_end.RemoteFault.TheVariants.{NoMemory};
 ghost use Rattle.bidi_sessions.specs.Limits.{most_steps};
 
 use crate::state::State;
-use bidi_messages::ErrorCode;
+use bidi_browser::Top;
+use bidi_messages::{ErrorCode, EventName};
 use bidi_sessions::{PageStep, Sent, Step};
 use bidi_tree::JsUint;
 use json::Scratch;
@@ -158,7 +161,6 @@ impl RemoteEnd {
     }
 
     /// The code for which a step of a page would have no effect; `None` if it would have one. The end stays as it is.
-    ///
     /// Costs the planning of the step.
     ///
     /// # Errors
@@ -171,13 +173,74 @@ impl RemoteEnd {
         self.state.page_refusal(self.alloc, page)
     }
 
-    /// Whether the connection of this number is open. Takes no memory.
-    ///
-    /// Passes over at most 64 connections.
+    /// Whether the connection of this number is open. Takes no memory, and passes over at most 64 connections.
     pub fn is_open(&self, conn: JsUint) -> bool
         // True exactly if the history of the end leaves the connection open.
         ensures { (h : List Input) → StandsFor self.now h → result ≡ is_open (deeds h) conn.value }
     {
         self.state.is_open(conn)
+    }
+
+    /// The numbers of the active sessions, in order of creation.
+    ///
+    /// # Errors
+    /// No memory: an allocation failed.
+    pub fn sessions(&self) -> Result<Vec<u32>, AllocError>
+        // After an Ok, they are the active sessions of each history that the end stands for.
+        ensures { (h : List Input) → StandsFor self.now h → IfOk result (λ all. all.items ≡ sessions (deeds h)) }
+    {
+        self.state.active_sessions(self.alloc)
+    }
+
+    /// The number of the session that a connection speaks for; `None` if it speaks for none. Takes no memory.
+    pub fn session_of(&self, conn: JsUint) -> Option<u32>
+        // It is the session that the history of the end gives the connection.
+        ensures { (h : List Input) → StandsFor self.now h → result ≡ session_in (attachment_of (deeds h) conn.value) }
+    {
+        self.state.session_of(conn)
+    }
+
+    /// The top-level context of the live context of this id; `None` if no live context has this id. Costs the
+    /// planning of a log entry in the context.
+    ///
+    /// # Errors
+    /// 1. `NoMemory`: an allocation failed.
+    /// 2. `WornOut`: 1,000,000,000 steps were accepted.
+    pub fn top_at(&self, context: &str) -> Result<Option<Top>, RemoteFault>
+        // After an Ok, it is the top-level context that the history of the end gives this id.
+        ensures ok { (h : List Input) → StandsFor self.now h → IfOk result (λ top. top ≡ top_named (acts (deeds h)) context.now) }
+        // `WornOut` comes only if the end has accepted `most_steps` steps.
+        ensures worn_out { (h : List Input) → StandsFor self.now h → IsErrOf result RemoteFault.WornOut → most_steps ≤ length h }
+    {
+        if self.count >= MOST_STEPS {
+            return Err(RemoteFault::WornOut);
+        }
+        Ok(self.state.top_at(context)?)
+    }
+
+    /// Whether an event is enabled for a session in the tree of this top-level context; without one, whether it is enabled for all
+    /// contexts. Takes no memory.
+    pub fn hears(&self, session: u32, event: EventName, top: Option<Top>) -> bool
+        // The answer is that of the machine, for each history that the end stands for.
+        ensures { (h : List Input) → StandsFor self.now h → result ≡ hears (deeds h) session event top }
+    {
+        self.state.hears(session, event, top)
+    }
+
+    /// Adds a text for each connection of a session, in order of opening. Nothing is sent by this call.
+    ///
+    /// # Errors
+    /// No memory: an allocation failed.
+    pub fn push_text(
+        &self,
+        session: u32,
+        text: &str,
+        sent: &mut Vec<Sent>,
+    ) -> Result<(), AllocError>
+        // After an Ok, the list has grown by the text once for each connection that speaks for the session, in order.
+        ensures { (h : List Input) → StandsFor self.now h → IfOk result (λ _. map sent_of sent.new.items
+            ≡ map sent_of sent.old.items ++ map (λ c. Text c text.now) (connections_of (deeds h) session)) }
+    {
+        self.state.push_text(self.alloc, session, text, sent)
     }
 }

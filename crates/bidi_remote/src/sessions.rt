@@ -6,17 +6,17 @@ ghost use Rattle.bidi_handles.specs.declared.id.IdKind.TheVariants.{Session as O
 ghost use Rattle.bidi_handles.specs.Ids.{id_of};
 ghost use Rattle.bidi_contexts.specs.Acts.{Act};
 ghost use Rattle.bidi_browser.specs.Stands.{StandsFor};
-ghost use Rattle.bidi_remote.specs.State.EventTexts.{Written, written_of, written_in};
+ghost use Rattle.bidi_missed.specs.Written.{Written, written_of, written_in};
 ghost use Rattle.bidi_remote.specs.State.SessionRows.{begun, subscribed, cancelled, lost, logged, changed, row_in};
 ghost use Rattle.bidi_sessions.specs.SubscriptionRows.{any_covers, any_global};
-ghost use Rattle.bidi_remote.specs.State.SessionView.{session_row_of, places_in, opened_by};
+ghost use Rattle.bidi_remote.specs.State.SessionView.{session_row_of, opened_by};
+ghost use Rattle.bidi_missed.specs.Places.{places_in};
 ghost use Rattle.bidi_sessions.specs.SubscriptionView.{scope_of, row_of};
 ghost use Rattle.bidi_sessions.specs.Limits.{most_sessions};
 
-use crate::event_texts::EventText;
-use crate::log_buffer::LogBuffer;
 use bidi_browser::{Browser, IdKind, Top, id_number};
 use bidi_messages::EventName;
+use bidi_missed::{EventText, LogBuffer};
 use bidi_sessions::{Scope, Subscription, Subscriptions};
 use std::alloc::{AllocError, Global};
 use std::rc::Rc;
@@ -68,6 +68,13 @@ impl Session {
         self.subscriptions.hears(event, top)
     }
 
+    /// The number of its next subscription. It never wraps.
+    pub(crate) fn next_subscription(&self) -> u32
+        ensures { self.now.made < 4294967295 → result ≡ self.now.made + 1 }
+    {
+        self.made.wrapping_add(1)
+    }
+
     // Makes room for one more subscription, to these events in this scope.
     fn reserve(&mut self, events: &[EventName], scope: &Scope) -> Result<(), AllocError>
         ensures row { session_row_of self.new ≡ session_row_of self.old }
@@ -82,7 +89,7 @@ impl Session {
         ensures { (past : List Act) → StandsFor browser.now past → self.old.made < 4294967295
             → session_row_of self.new ≡ subscribed past events.items (scope_of scope) (session_row_of self.old) }
     {
-        let number = self.made.wrapping_add(1);
+        let number = self.next_subscription();
         self.missed
             .announce(browser, &self.subscriptions, &events, &scope);
         self.subscriptions.add(Subscription {
@@ -160,16 +167,6 @@ impl Sessions {
         ensures { self.now.made < 4294967295 → result ≡ self.now.made + 1 }
     {
         self.made.wrapping_add(1)
-    }
-
-    /// The number of the next subscription of a session: 1 where it has made none. It never wraps, either.
-    pub(crate) fn next_subscription(&self, number: u32) -> u32
-        ensures { (row_in number (rows_in self.now)).made < 4294967295 → result ≡ (row_in number (rows_in self.now)).made + 1 }
-    {
-        match find(&self.active, number) {
-            Some(session) => session.made.wrapping_add(1),
-            None => 1,
-        }
     }
 
     /// The live subscriptions of a session. One that is not active has none.
@@ -259,8 +256,7 @@ impl Sessions {
         self.active.retain(|s| s.number != number);
     }
 
-    /// Adds a subscription to a session, with its next number. Log entries that it newly enables wait no
-    /// longer.
+    /// Adds a subscription with the session's next number. Log entries that it newly enables wait no longer.
     pub(crate) fn subscribe(
         &mut self,
         number: u32,

@@ -11,7 +11,8 @@ ghost use Rattle.bidi_methods.specs.declared.event_data.EventName.TheVariants.{E
 ghost use Rattle.bidi_messages.specs.Reading.{IsMessageText};
 ghost use Rattle.bidi_remote.specs.Replies.{ReadsAs};
 ghost use Rattle.bidi_remote.specs.Machine.Sent.{Text, to_hearers};
-ghost use Rattle.bidi_remote.specs.State.EventTexts.{written, written_of, written_in, AreMessages};
+ghost use Rattle.bidi_remote.specs.State.EventTexts.{written, AreMessages};
+ghost use Rattle.bidi_missed.specs.Written.{written_of, written_in};
 ghost use Rattle.bidi_sessions.specs.ConnectionRows.{rows_in, to_each};
 ghost use Rattle.bidi_sessions.specs.SubscriptionRows.{any_covers};
 ghost use Rattle.bidi_remote.specs.State.SessionView as sessions;
@@ -23,7 +24,6 @@ ghost use Rattle.bidi_remote.specs.State.Turns.{IsWellTold, deed_of, asker_in, r
 ghost use Rattle.bidi_sessions.specs.View.{sent_of, sent_if};
 ghost use Rattle.bidi_messages.specs.Payloads.{EventIsWell, ResultIsWell};
 
-use crate::event_texts::EventText;
 use crate::sessions::Session;
 use crate::state::State;
 use crate::turn::{Change, Reply, Telling};
@@ -31,6 +31,7 @@ use bidi_browser::{Occurrence, Top};
 use bidi_messages::{
     EventData, EventName, Message, Method, Payload, ResultData, event_text, response_text,
 };
+use bidi_missed::EventText;
 use bidi_sessions::{Connections, Sent};
 use bidi_shape::Shape;
 use std::alloc::{AllocError, Global};

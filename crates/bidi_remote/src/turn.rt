@@ -2,10 +2,9 @@
 ghost use Rattle.std.specs.Option.{option_zip};
 ghost use Rattle.std.specs.Prelude.{◌≡◌, Some, [], option_map};
 
-use crate::event_texts::EventText;
-use crate::log_buffer::LogBuffer;
 use bidi_browser::{Change as BrowserChange, Occurrence, Plan};
 use bidi_messages::{EventName, ResultData};
+use bidi_missed::{EventText, LogBuffer};
 use bidi_sessions::Scope;
 use bidi_tree::JsUint;
 use std::alloc::Global;

@@ -20,7 +20,3 @@ most_subscriptions = 256
 -- how many of the log entries that a session missed are kept for it
 abbrev pub most_missed : ℕ
 most_missed = 100
-
--- how many bytes the text of a row of the script table can have
-abbrev pub most_row_bytes : ℕ
-most_row_bytes = 1048576

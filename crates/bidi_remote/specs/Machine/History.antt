@@ -11,7 +11,7 @@ use Rattle.bidi_methods.specs.declared.event_data.EventName.{EventName}
 use Rattle.bidi_messages.specs.Verdict.{Verdict, IsVerdict}
 use Rattle.bidi_sessions.specs.Step as step
 pub use Rattle.bidi_sessions.specs.Scope.{Scope, All, Below, Within}
-use Rattle.bidi_sessions.specs.Limits.{most_row_bytes}
+use Rattle.bidi_shape.specs.Limits.{most_bytes}
 
 -- ---- what is heard
 
@@ -26,9 +26,9 @@ pub data Input : Type 0 where
   -- a step of a page, as the action that the browser takes
   OfPage : (action : Action) → Input
 
--- the tree of the text of a row of the script table, if it is JSON of at most `most_row_bytes` bytes
+-- the tree of the text of a row of the script table, if it is JSON of at most `most_bytes` bytes
 abbrev pub row_tree : List ℕ → Option Node
-row_tree s = tree_of_text (Some most_row_bytes) s
+row_tree s = tree_of_text (Some most_bytes) s
 
 -- The text is read as this row of the script table: its tree, if that fits the rule TableRow, and else no row.
 pub data IsRow (s : List ℕ) : Option Node → Type 0 where

@@ -1,18 +1,17 @@
 -- The tables of active sessions and of their live subscriptions that a past leads to.
-use Rattle.std.specs.Prelude.{ℕ, suc, ◌==◌, Bool, not, ◌&&◌, if◌then◌else◌, List, [], ◌∷◌, ◌++◌, map}
+use Rattle.std.specs.Prelude.{ℕ, suc, ◌==◌, if◌then◌else◌, List, [], ◌∷◌, ◌++◌, map}
 use Rattle.std.specs.Prelude.{filter, find, Option, unwrap_or}
 use Rattle.bidi_methods.specs.declared.event_data.EventName.{EventName}
 use Rattle.bidi_methods.specs.declared.event_data.EventName.TheVariants.{EntryAdded}
 use Rattle.bidi_contexts.specs.Acts.{Act}
-use Rattle.bidi_contexts.specs.Contexts.{is_alive}
-use Rattle.bidi_contexts.specs.declared.occurrence.Top.{Top}
-use Rattle.bidi_contexts.specs.Occurrences.{is_among}
-use Rattle.bidi_sessions.specs.Scope.{Scope, covers}
+use Rattle.bidi_sessions.specs.Scope.{Scope}
 use Rattle.bidi_sessions.specs.SubscriptionRows.{SubscriptionRow, any_covers, without, dismissed}
 use Rattle.bidi_remote.specs.Machine.History.{Deed}
 use Rattle.bidi_remote.specs.Machine.Sessions.{sessions}
-use Rattle.bidi_remote.specs.State.EventTexts.{Written}
-use Rattle.bidi_remote.specs.State.MissedRows.{places, all_left, with_missed}
+use Rattle.bidi_missed.specs.Written.{Written}
+use Rattle.bidi_missed.specs.News.{is_new}
+use Rattle.bidi_remote.specs.State.MissedRows.{places}
+use Rattle.bidi_missed.specs.Places.{all_left, with_missed}
 use Rattle.bidi_remote.specs.Machine.Subscriptions.{subscriptions_made, subscriptions, events_of, scope_of, holds}
 
 -- the events that the n-th subscription of a session still has
@@ -41,12 +40,6 @@ session_row past s = record { number = s; made = subscriptions_made past s; subs
 -- the rows of the active sessions, in order of creation
 abbrev pub session_rows : List Deed → List SessionRow
 session_rows past = map (session_row past) (sessions past)
-
--- ---- a question about the rows
-
--- whether a subscription to these events in this scope newly enables the event for a live top-level context
-abbrev pub is_new : List Act → List SubscriptionRow → List EventName → Scope → EventName → Top → Bool
-is_new past held events scope e top = is_alive past top.number && (not (any_covers held e top) && (is_among events e && covers scope top))
 
 -- ---- changes of the rows
 

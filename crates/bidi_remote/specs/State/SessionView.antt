@@ -1,20 +1,15 @@
 -- What contracts see of the sessions in the code.
 use Rattle.std.specs.Prelude.{◌≡◌, ◌<◌, ◌==◌, ℕ, List, map, get_or, Option, Some, None, vec_len, vec_capacity}
 use Rattle.std.specs.List.{position}
-use Rattle.bidi_remote.specs.declared.log_buffer.LogBuffer.{LogBuffer}
 use Rattle.bidi_remote.specs.declared.sessions.Opening as declared_opening
 use Rattle.bidi_remote.specs.declared.sessions.Opening.TheVariants as opens
 use Rattle.bidi_remote.specs.declared.sessions.Session.{Session}
 use Rattle.bidi_remote.specs.declared.sessions.Sessions.{Sessions}
 use Rattle.bidi_methods.specs.declared.event_data.EventName.{EventName}
 use Rattle.bidi_remote.specs.Machine.History.{Scope}
-use Rattle.bidi_remote.specs.State.EventTexts.{Written, place_row}
+use Rattle.bidi_missed.specs.Places.{places_in}
 use Rattle.bidi_remote.specs.State.SessionRows.{SessionRow}
 use Rattle.bidi_sessions.specs.SubscriptionsView.{rows_of, HasRoomFor}
-
--- the places of a log buffer, each with the entry that waits there
-abbrev pub places_in : LogBuffer → List (Option Written)
-places_in b = map place_row b.places.items
 
 -- the row of a session in the code
 abbrev pub session_row_of : Session → SessionRow

@@ -8,11 +8,11 @@ ghost use Rattle.bidi_remote.specs.Machine.Sessions.{sessions_made};
 ghost use Rattle.bidi_remote.specs.State.Stands.{AgreeWith};
 ghost use Rattle.bidi_remote.specs.State.Turns.{Decides, HasResultOf, IsWellDecided};
 
-use crate::log_buffer::LogBuffer;
 use crate::state::State;
 use crate::turn::{Asker, Change, Turn};
 use bidi_browser::Refusal;
 use bidi_messages::{ErrorCode, Method};
+use bidi_missed::LogBuffer;
 use bidi_params::session::NewParameters;
 use bidi_sessions::{match_capabilities, new_result};
 use bidi_shape::Shape;

@@ -1,5 +1,5 @@
 //! `session.subscribe`.
-ghost use Rattle.std.specs.Prelude.{◌≡◌, ◌<◌, ◌||◌, List, map, filter, string_bytes, option_map, IfOk, true};
+ghost use Rattle.std.specs.Prelude.{◌≡◌, ◌<◌, ℕ, List, map, filter, string_bytes, option_map, IfOk, true};
 ghost use Rattle.bidi_contexts.specs.Acts.{Act};
 ghost use Rattle.bidi_contexts.specs.Occurrences.{tree_events};
 ghost use Rattle.bidi_browser.specs.Stands.{StandsFor};
@@ -13,20 +13,22 @@ ghost use Rattle.bidi_sessions.specs.Checked.{IfChecked};
 ghost use Rattle.bidi_remote.specs.State.SessionView.{session_row_of};
 ghost use Rattle.bidi_sessions.specs.SubscriptionView.{scope_of};
 ghost use Rattle.bidi_sessions.specs.SubscriptionsView.{rows_of};
-ghost use Rattle.bidi_remote.specs.State.MissedRows.{waiting};
-ghost use Rattle.bidi_remote.specs.State.EventTexts.{written, written_in, AreMessages};
-ghost use Rattle.bidi_remote.specs.State.SessionRows.{is_new};
+ghost use Rattle.bidi_missed.specs.Places.{waiting};
+ghost use Rattle.bidi_remote.specs.State.EventTexts.{written, AreMessages};
+ghost use Rattle.bidi_missed.specs.Written.{written_in};
+ghost use Rattle.bidi_missed.specs.News.{is_new};
+ghost use Rattle.bidi_remote.specs.State.SessionRows.{session_row};
 ghost use Rattle.bidi_sessions.specs.SubscriptionRows.{may_be_new};
 ghost use Rattle.bidi_remote.specs.State.Stands.{AgreeWith};
 ghost use Rattle.bidi_remote.specs.State.Turns.{Decides, HasResultOf, IsWellDecided};
 
-use crate::announcing::{is_new, may_be_new};
-use crate::event_texts::{EventText, event_texts};
+use crate::event_texts::event_texts;
 use crate::sessions::Session;
 use crate::state::State;
 use crate::turn::{Asker, Change, Turn};
 use bidi_browser::{Browser, Refusal};
 use bidi_messages::{ErrorCode, EventName, Method, Payload};
+use bidi_missed::{EventText, is_new, may_be_new, may_tell_what_exists};
 use bidi_params::SubscribeParameters;
 use bidi_sessions::{Scope, Subscriptions, all_named, subscribe_result};
 use std::alloc::{AllocError, Global};
@@ -65,12 +67,14 @@ pub(crate) fn decide_subscribe(
 {
     let events = all_named(alloc, &params.events.items)?;
     let scope = scope_asked(alloc, &state.browser, params)?;
-    let held = state.sessions.subscriptions_of(session);
-    if held.len() >= MOST_SUBSCRIPTIONS {
+    let Some(own) = state.sessions.find(session) else {
+        return Err(Refusal::Code(ErrorCode::InvalidSessionId));
+    };
+    if own.subscriptions.all().len() >= MOST_SUBSCRIPTIONS {
         return Err(Refusal::Code(ErrorCode::UnknownError));
     }
-    let announced = newly_enabled(alloc, state, session, &events, &scope)?;
-    let reply = subscribe_result(alloc, session, state.sessions.next_subscription(session))?;
+    let announced = newly_enabled(alloc, state, own, &events, &scope)?;
+    let reply = subscribe_result(alloc, session, own.next_subscription())?;
     Ok(Turn::announced(
         alloc,
         Change::Subscribe(session, events, scope),
@@ -84,17 +88,14 @@ pub(crate) fn decide_subscribe(
 fn newly_enabled(
     alloc: Global,
     state: &State,
-    session: u32,
+    own: &Session,
     events: &[EventName],
     scope: &Scope,
 ) -> Result<Vec<Rc<EventText>>, AllocError>
-    ensures { (past : List Deed) → AgreeWith state.now past → is_active past session ≡ true
-        → IfOk result (λ all. (written_in all.items ≡ map written (announcements past (Subscribed session events.now (scope_of scope.now)) session))
+    ensures { (past : List Deed) (s : ℕ) → AgreeWith state.now past → is_active past s ≡ true → session_row_of own.now ≡ session_row past s
+        → IfOk result (λ all. (written_in all.items ≡ map written (announcements past (Subscribed s events.now (scope_of scope.now)) s))
         × AreMessages (written_in all.items)) }
 {
-    let Some(own) = state.sessions.find(session) else {
-        return Ok(Vec::new(alloc));
-    };
     let mut all = live_events(alloc, &state.browser, &own.subscriptions, events, scope)?;
     let mut waiting = waiting_entries(alloc, &state.browser, own, events, scope)?;
     all.append(&mut waiting)?;
@@ -120,15 +121,6 @@ fn live_events(
     let mut all = browser.tree_events()?;
     all.retain(|o| is_new(browser, held, events, scope, o.event.kind(), o.top));
     event_texts(alloc, &all)
-}
-
-// Whether the subscription may newly enable an event that tells what exists.
-fn may_tell_what_exists(held: &Subscriptions, events: &[EventName]) -> bool
-    ensures { result ≡ (may_be_new (rows_of held.now) events.now EventName.ContextCreated
-        || may_be_new (rows_of held.now) events.now EventName.RealmCreated) }
-{
-    may_be_new(held, events, EventName::ContextCreated)
-        || may_be_new(held, events, EventName::RealmCreated)
 }
 
 // The log entries that wait, where the subscription newly enables them.

@@ -1,6 +1,6 @@
 use Rattle.std.proofs.Common.{◌≡◌, ◌+◌, length, map}
 use Rattle.std.specs.Prelude.{replicate}
-use Rattle.bidi_remote.specs.State.EventTexts.{Written, written_in}
+use Rattle.bidi_missed.specs.Written.{Written, written_in}
 use Rattle.bidi_remote.specs.State.SessionView.{session_row_of}
 use Rattle.bidi_remote.specs.State.SessionRows.{logged}
 use Rattle.bidi_sessions.proofs.BeginLemmas.{over}

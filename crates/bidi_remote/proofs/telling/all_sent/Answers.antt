@@ -1,7 +1,7 @@
 use Rattle.std.proofs.Common.{◌∙◌, ◌++◌, map, flat_map, sym, ap, subst}
 use Rattle.bidi_contexts.specs.Acts.{Looked}
 use Rattle.bidi_sessions.specs.ConnectionRows.{rows_in}
-use Rattle.bidi_remote.specs.State.EventTexts.{written_in}
+use Rattle.bidi_missed.specs.Written.{written_in}
 use Rattle.bidi_remote.specs.Machine.Messages.{AllReadBack}
 use Rattle.bidi_remote.specs.State.Routes.{to_all}
 use Rattle.bidi_remote.specs.State.SessionView as sessions

@@ -1,33 +1,27 @@
-use Rattle.std.proofs.Common.{◌≡◌, ◌∙◌, option_map, sym, ap, subst}
+use Rattle.std.proofs.Common.{◌∙◌, sym, ap, subst}
 use Rattle.std.specs.Prelude.{filter}
 use Rattle.std.proofs.lemmas.List.{map-append}
 use Rattle.bidi_messages.specs.contracts.message.MessageShape.TheImpl.{ghosts}
 use Rattle.bidi_methods.specs.declared.event_data.EventName.TheVariants.{EntryAdded}
 use Rattle.bidi_messages.specs.Reading.{IsMessageText}
 use Rattle.bidi_remote.specs.Machine.History.{acts}
-use Rattle.bidi_remote.specs.State.EventTexts.{written_of, written_in, AreMessages}
-use Rattle.bidi_remote.specs.State.MissedRows.{waiting, places}
-use Rattle.bidi_remote.specs.State.SessionRows.{session_row, is_new}
+use Rattle.bidi_missed.specs.Written.{written_of, written_in}
+use Rattle.bidi_remote.specs.State.EventTexts.{AreMessages}
+use Rattle.bidi_missed.specs.Places.{waiting}
+use Rattle.bidi_remote.specs.State.MissedRows.{places}
+use Rattle.bidi_missed.specs.News.{is_new}
 use Rattle.bidi_sessions.specs.SubscriptionView.{scope_of}
 use Rattle.bidi_remote.specs.State.SessionView.{session_row_of}
-use Rattle.bidi_sessions.proofs.ListLemmas.{all-append, no_value, not-found, some-same}
+use Rattle.bidi_sessions.proofs.ListLemmas.{all-append}
 use Rattle.bidi_remote.proofs.PlaceLemmas.{all-filtered, waiting-messages, waiting-places}
-use Rattle.bidi_remote.proofs.DecideLemmas.{found-active, new-announced}
+use Rattle.bidi_remote.proofs.DecideLemmas.{new-announced}
 use Rattle.bidi_remote.proofs.session.subscribe.newly_enabled.Goals as goal
 
-pub returns-in_default : goal.returns-in_default
-returns-in_default c = λ past a active.
-    let none = c.find.ensures ∙ found-active c.args.state.now past c.args.session a active in
-    absurd (not-found (λ x. session_row_of x.now) c.find.result (session_row past c.args.session) (no_value c.find.result c.in_default.not-Some) none)
-
 pub returns : goal.returns
-returns c = λ past a active.
-    let s = c.args.session in
+returns c = λ past s a active row.
     let es = c.args.events.now in
     let scope = scope_of c.args.scope.now in
-    let own = session_row_of c.in-Some.own.now in
-    let row : own ≡ session_row past s =
-    some-same own (session_row past s) (ap (option_map (λ x. session_row_of x.now)) (sym c.in-Some.is) ∙ (c.find.ensures ∙ found-active c.args.state.now past s a active)) in
+    let own = session_row_of c.args.own.now in
     let held = own.subscriptions in
     let test = is_new (acts past) held es scope in
     let live_events = c.in_ok-all.all.items in

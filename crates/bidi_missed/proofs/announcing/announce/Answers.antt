@@ -3,16 +3,16 @@ use Rattle.std.specs.Prelude.{None}
 use Rattle.std.proofs.lemmas.List.{map-set, length-map}
 use Rattle.std.proofs.Math.ListN.{get_or-map}
 use Rattle.bidi_methods.specs.declared.event_data.EventName.TheVariants.{EntryAdded}
-use Rattle.bidi_remote.specs.State.EventTexts.{place_row, written_of}
-use Rattle.bidi_remote.specs.State.MissedRows.{left}
+use Rattle.bidi_missed.specs.Written.{place_row, written_of}
+use Rattle.bidi_missed.specs.Places.{left}
 use Rattle.bidi_sessions.specs.SubscriptionView.{scope_of}
 use Rattle.bidi_sessions.specs.SubscriptionsView.{rows_of}
-use Rattle.bidi_remote.specs.State.SessionRows.{is_new}
+use Rattle.bidi_missed.specs.News.{is_new}
 use Rattle.bidi_sessions.proofs.BeginLemmas.{over-all, over-next, over-kept}
-use Rattle.bidi_remote.proofs.AnnounceLemmas.{never-new}
-use Rattle.bidi_remote.proofs.PlaceLemmas.{left-new, left-old, left-empty, none-left}
-use Rattle.bidi_remote.proofs.announcing.announce.Goals.{then-is_new+in-Some-1, then-is_new+in-None-1, else-is_new}
-use Rattle.bidi_remote.proofs.announcing.announce.Goals as goal
+use Rattle.bidi_missed.proofs.AnnounceLemmas.{never-new}
+use Rattle.bidi_missed.proofs.PlaceLemmas.{left-new, left-old, left-empty, none-left}
+use Rattle.bidi_missed.proofs.announcing.announce.Goals.{then-is_new+in-Some-1, then-is_new+in-None-1, else-is_new}
+use Rattle.bidi_missed.proofs.announcing.announce.Goals as goal
 
 pub returns-then-not-may_be_new-clause-places : goal.returns-then-not-may_be_new-clause-places
 returns-then-not-may_be_new-clause-places c = λ past stands.

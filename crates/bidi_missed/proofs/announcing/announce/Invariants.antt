@@ -2,13 +2,13 @@ use Rattle.std.proofs.Common.{◌≡◌, List, map, deque_len, deque_capacity}
 use Rattle.bidi_methods.specs.declared.event_data.EventName.TheVariants.{EntryAdded}
 use Rattle.bidi_contexts.specs.Acts.{Act}
 use Rattle.bidi_browser.specs.Stands.{StandsFor}
-use Rattle.bidi_remote.specs.State.EventTexts.{place_row}
-use Rattle.bidi_remote.specs.State.MissedRows.{left}
+use Rattle.bidi_missed.specs.Written.{place_row}
+use Rattle.bidi_missed.specs.Places.{left}
 use Rattle.bidi_sessions.specs.SubscriptionView.{scope_of}
 use Rattle.bidi_sessions.specs.SubscriptionsView.{rows_of}
-use Rattle.bidi_remote.specs.State.SessionRows.{is_new}
+use Rattle.bidi_missed.specs.News.{is_new}
 use Rattle.bidi_sessions.proofs.BeginLemmas.{over}
-use Rattle.bidi_remote.proofs.announcing.announce.Given as goal
+use Rattle.bidi_missed.proofs.announcing.announce.Given as goal
 
 -- the entries that are announced have left the places that were looked at
 abbrev pub invariant-loop-at : goal.invariant-loop-at

@@ -1,7 +1,7 @@
 use Rattle.std.proofs.Common.{◌≡◌, ◌++◌, map, drop}
-use Rattle.bidi_remote.specs.State.EventTexts.{written_in, place_row}
-use Rattle.bidi_remote.specs.State.MissedRows.{waiting}
-use Rattle.bidi_remote.proofs.log_buffer.LogBuffer.waiting.Given as goal
+use Rattle.bidi_missed.specs.Written.{written_in, place_row}
+use Rattle.bidi_missed.specs.Places.{waiting}
+use Rattle.bidi_missed.proofs.log_buffer.LogBuffer.waiting.Given as goal
 
 -- those that wait in the places that were looked at were added
 abbrev pub invariant-loop-at : goal.invariant-loop-at

@@ -3,9 +3,9 @@ use Rattle.bidi_contexts.specs.Contexts.{is_alive}
 use Rattle.bidi_sessions.specs.SubscriptionView.{scope_of}
 use Rattle.bidi_sessions.specs.SubscriptionsView.{rows_of}
 use Rattle.bidi_sessions.specs.SubscriptionRows.{any_covers}
-use Rattle.bidi_remote.proofs.DecideLemmas.{is-new, live-decides, not_covered, not_new}
-use Rattle.bidi_remote.proofs.announcing.is_new.Goals.{then-covers, else-covers}
-use Rattle.bidi_remote.proofs.announcing.is_new.Goals as goal
+use Rattle.bidi_missed.proofs.NewLemmas.{is-new, live-decides, not_covered, not_new}
+use Rattle.bidi_missed.proofs.announcing.is_new.Goals.{then-covers, else-covers}
+use Rattle.bidi_missed.proofs.announcing.is_new.Goals as goal
 
 pub returns-then-not-hears : goal.returns-then-not-hears
 returns-then-not-hears c = λ past stands.

@@ -1,10 +1,10 @@
 use Rattle.std.proofs.Common.{◌∙◌, ◌<◌, ◌++◌, ◌+◌, ◌∷◌, [], append-nil, append_assoc, length, map, drop, sym, ap, arith}
 use Rattle.std.proofs.lemmas.List.{drop_all, map-append}
-use Rattle.bidi_remote.specs.State.EventTexts.{written_in, written_of, place_row}
-use Rattle.bidi_remote.specs.State.MissedRows.{waiting}
+use Rattle.bidi_missed.specs.Written.{written_in, written_of, place_row}
+use Rattle.bidi_missed.specs.Places.{waiting}
 use Rattle.bidi_sessions.proofs.ListLemmas.{from-item, no_value}
-use Rattle.bidi_remote.proofs.log_buffer.LogBuffer.waiting.Goals.{in-Some+in_ok-clone+in_ok-push, in_default}
-use Rattle.bidi_remote.proofs.log_buffer.LogBuffer.waiting.Goals as goal
+use Rattle.bidi_missed.proofs.log_buffer.LogBuffer.waiting.Goals.{in-Some+in_ok-clone+in_ok-push, in_default}
+use Rattle.bidi_missed.proofs.log_buffer.LogBuffer.waiting.Goals as goal
 
 pub loop-at-preserved : goal.loop-at-preserved
 loop-at-preserved c =

@@ -10,10 +10,9 @@ use Rattle.bidi_contexts.specs.Acts.{Act}
 use Rattle.bidi_contexts.specs.Contexts.{is_alive, tree_order}
 use Rattle.bidi_contexts.specs.Occurrences.{Occurrence, top_at, context_created, realm_created, tree_events}
 use Rattle.bidi_contexts.specs.Occurrences.{is_among}
-use Rattle.bidi_remote.specs.Machine.History.{Scope, All, Below, Within}
-use Rattle.bidi_remote.specs.Machine.Subscriptions.{is_global, covers}
+use Rattle.bidi_sessions.specs.Scope.{Scope, All, Below, Within, is_global, covers}
 use Rattle.bidi_sessions.specs.SubscriptionRows.{SubscriptionRow, any_covers, any_global, may_be_new}
-use Rattle.bidi_remote.specs.State.SessionRows.{is_new}
+use Rattle.bidi_missed.specs.News.{is_new}
 use Rattle.bidi_sessions.proofs.ListLemmas.{map-filter, filter-none}
 
 -- what a global subscription holds for it covers everywhere

@@ -1,0 +1,3 @@
+pub mod PlaceLemmas
+pub mod NewLemmas
+pub mod AnnounceLemmas
