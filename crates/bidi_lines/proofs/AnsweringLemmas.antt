@@ -11,7 +11,8 @@ use Rattle.std.proofs.lemmas.Grind.{flat_map-append}
 use lib.Seq.{take-append_seam}
 use Rattle.bidi_lines.specs.Feeds.{ended, has_feed}
 use Rattle.bidi_lines.specs.InputLines.{IsLine, BeginsBadly, HasLine, Says, joined}
-use Rattle.bidi_lines.specs.Answering.{AnswersOf, BeginsWith, LineIs, StopsAt, answer_fault_of, lines_fault_of}
+use Rattle.bidi_lines.specs.Answering.{AnswersOf, LineIs, answer_fault_of, lines_fault_of, run_of}
+use Rattle.bidi_lines.specs.Stops.{BeginsWith, IsCutOff, StopsAt}
 use Rattle.bidi_lines.specs.declared.answering.LinesFault.{LinesFault}
 use Rattle.bidi_lines.specs.declared.answering.LinesFault.TheVariants.{BadLine, Write}
 use Rattle.bidi_lines.specs.declared.answering.AnswerFault.{AnswerFault}
@@ -33,26 +34,26 @@ no_part (x ∷ xs) ys e = cc
 -- ---- the front of the bytes
 
 -- more bytes were read, of no whole line
-pub begins_read : (read bytes rest rest' : List ℕ) (lines : List (List ℕ))
-    → BeginsWith read lines rest → rest' ≡ rest ++ bytes → BeginsWith (read ++ bytes) lines rest'
+pub begins_read : {P : List ℕ → Type 0} (read bytes rest rest' : List ℕ) (lines : List (List ℕ))
+    → BeginsWith P read lines rest → rest' ≡ rest ++ bytes → BeginsWith P (read ++ bytes) lines rest'
 begins_read read bytes rest rest' lines b e = record {
   front = ap (λ (z : List ℕ). z ++ bytes) b.front ∙ (append_assoc (joined lines) rest bytes ∙ ap (λ (z : List ℕ). joined lines ++ z) (sym e));
   each = b.each;
 }
 
 -- all bytes that were read are used up
-pub begins_all : (read rest : List ℕ) (lines : List (List ℕ)) → BeginsWith read lines rest → rest ≡ [] → BeginsWith read lines []
-begins_all read rest lines b none = subst (λ (r : List ℕ). BeginsWith read lines r) none b
+pub begins_all : {P : List ℕ → Type 0} (read rest : List ℕ) (lines : List (List ℕ)) → BeginsWith P read lines rest → rest ≡ [] → BeginsWith P read lines []
+begins_all {P} read rest lines b none = subst (λ (r : List ℕ). BeginsWith P read lines r) none b
 
 -- one more line, whose last bytes were just read
-pub begins_more : (read bytes line rest rest' : List ℕ) (lines : List (List ℕ))
-    → BeginsWith read lines rest → ended line ++ rest' ≡ rest ++ bytes → IsLine line → BeginsWith (read ++ bytes) (lines ++ line ∷ []) rest'
-begins_more read bytes line rest rest' lines b e is = record {
+pub begins_more : {P : List ℕ → Type 0} (read bytes line rest rest' : List ℕ) (lines : List (List ℕ))
+    → BeginsWith P read lines rest → ended line ++ rest' ≡ rest ++ bytes → P line → BeginsWith P (read ++ bytes) (lines ++ line ∷ []) rest'
+begins_more {P} read bytes line rest rest' lines b e is = record {
   front =
       ap (λ (z : List ℕ). z ++ bytes) b.front
       ∙ (append_assoc (joined lines) rest bytes ∙ (ap (λ (z : List ℕ). joined lines ++ z) (sym e ∙ append_assoc line (10 ∷ []) rest')
       ∙ sym (ap (λ (z : List ℕ). z ++ rest') (flat_map-append ended lines (line ∷ [])) ∙ regroup (joined lines) line rest')));
-  each = all_more IsLine lines line b.each is;
+  each = all_more P lines line b.each is;
 }
 
 -- bytes that begin with no line begin with none of any kind
@@ -101,55 +102,65 @@ answered_now has_answered lines line seen text bytes written same is answered =
     subst (λ (z : List ℕ). has_answered (lines ++ z ∷ []) (text ++ written)) same
     (subst (λ (z : List ℕ). has_answered (lines ++ seen ∷ []) (text ++ z)) (sym is) answered)
 
+-- fewer bytes than all are a beginning, but not all
+pub cut_off : (n : ℕ) (text : List ℕ) → n < length text → IsCutOff (take n text) text
+cut_off n text some =
+    (drop n text, sym (take-append-drop n text), (λ none. let l = length-drop n text in let z = ap length none in absurd (omega (arith, l, z, some))))
+
 -- ---- stops
 
 -- a fault of the input stops the answers at the next line
 stops_next : {T : Type 0} (a : AnswersOf T) (first t : T) (most : ℕ) (f : InputFault) (at_end : Bool) (read rest text : List ℕ) (lines : List (List ℕ))
-    → BeginsWith read lines rest → a.has_answered first t lines text → length lines ≤ most
-    → (let r : Result (Option (Vec ℕ)) InputFault = Err f in Says r at_end rest) → StopsAt a first most (lines_fault_of f (length lines + 1)) at_end read text
-stops_next a first t most fault.Read at_end read rest text lines b done few says = (t, lines, rest, b, done, few, says)
+    → BeginsWith IsLine read lines rest → a.has_answered first t lines text → length lines ≤ most
+    → (let r : Result (Option (Vec ℕ)) InputFault = Err f in Says r at_end rest)
+    → StopsAt (run_of a first most) (lines_fault_of f (length lines + 1)) at_end read text
+stops_next a first t most fault.Read at_end read rest text lines b done few says = (lines, rest, b, (t, done), few, says)
 stops_next a first t most fault.BadLine at_end read rest text lines b done few says =
-    (t, lines, rest, b, done, few, (inr says.enough, no_line a.refuses at_end rest says, refl))
-stops_next a first t most fault.NoMemory at_end read rest text lines b done few says = (t, lines, rest, b, done, few, tt)
+    (lines, rest, b, (t, done), few, ((inr says.enough, no_line a.refuses at_end rest says), refl))
+stops_next a first t most fault.NoMemory at_end read rest text lines b done few says = (lines, rest, b, (t, done), few, tt)
 
 pub input_stop : {T : Type 0} (a : AnswersOf T) (first t : T) (most count : ℕ) (f : InputFault) (shown : LinesFault) (at_end : Bool)
     (read rest text : List ℕ) (lines : List (List ℕ))
-    → shown ≡ lines_fault_of f (count + 1) → count ≡ length lines → BeginsWith read lines rest → a.has_answered first t lines text → length lines ≤ most
-    → (let r : Result (Option (Vec ℕ)) InputFault = Err f in Says r at_end rest) → StopsAt a first most shown at_end read text
+    → shown ≡ lines_fault_of f (count + 1) → count ≡ length lines → BeginsWith IsLine read lines rest → a.has_answered first t lines text
+    → length lines ≤ most → (let r : Result (Option (Vec ℕ)) InputFault = Err f in Says r at_end rest)
+    → StopsAt (run_of a first most) shown at_end read text
 input_stop a first t most count f shown at_end read rest text lines is counted b done few says =
     let same : lines_fault_of f (length lines + 1) ≡ shown = ap (λ (n : ℕ). lines_fault_of f (n + 1)) (sym counted) ∙ sym is in
-    subst (λ (x : LinesFault). StopsAt a first most x at_end read text) same (stops_next a first t most f at_end read rest text lines b done few says)
+    subst (λ (x : LinesFault). StopsAt (run_of a first most) x at_end read text) same
+    (stops_next a first t most f at_end read rest text lines b done few says)
 
 -- after the last allowed line, with all bytes used up, a fault of the input stops the answers too
 stops_last : {T : Type 0} (a : AnswersOf T) (first t : T) (most n : ℕ) (f : InputFault) (at_end : Bool) (read text : List ℕ) (lines : List (List ℕ))
-    → BeginsWith read lines [] → a.has_answered first t lines text → length lines ≤ most → (f ≡ fault.BadLine → ⊥)
-    → StopsAt a first most (lines_fault_of f n) at_end read text
-stops_last a first t most n fault.Read at_end read text lines b done few good = (t, lines, [], b, done, few, record { one_line = refl; short = omega arith })
+    → BeginsWith IsLine read lines [] → a.has_answered first t lines text → length lines ≤ most → (f ≡ fault.BadLine → ⊥)
+    → StopsAt (run_of a first most) (lines_fault_of f n) at_end read text
+stops_last a first t most n fault.Read at_end read text lines b done few good = (lines, [], b, (t, done), few, record { one_line = refl; short = omega arith })
 stops_last a first t most n fault.BadLine at_end read text lines b done few good = absurd (good refl)
-stops_last a first t most n fault.NoMemory at_end read text lines b done few good = (t, lines, [], b, done, few, tt)
+stops_last a first t most n fault.NoMemory at_end read text lines b done few good = (lines, [], b, (t, done), few, tt)
 
 pub last_stop : {T : Type 0} (a : AnswersOf T) (first t : T) (most n : ℕ) (f : InputFault) (shown : LinesFault) (at_end : Bool)
     (read text : List ℕ) (lines : List (List ℕ))
-    → shown ≡ lines_fault_of f n → BeginsWith read lines [] → a.has_answered first t lines text → length lines ≤ most → (f ≡ fault.BadLine → ⊥)
-    → StopsAt a first most shown at_end read text
+    → shown ≡ lines_fault_of f n → BeginsWith IsLine read lines [] → a.has_answered first t lines text → length lines ≤ most → (f ≡ fault.BadLine → ⊥)
+    → StopsAt (run_of a first most) shown at_end read text
 last_stop a first t most n f shown at_end read text lines is b done few good =
-    subst (λ (x : LinesFault). StopsAt a first most x at_end read text) (sym is) (stops_last a first t most n f at_end read text lines b done few good)
+    subst (λ (x : LinesFault). StopsAt (run_of a first most) x at_end read text) (sym is)
+    (stops_last a first t most n f at_end read text lines b done few good)
 
 -- a line that is refused stops them; it is known by another name
 pub line_stop : {T : Type 0} (a : AnswersOf T) (first t : T) (most count : ℕ) (at_end : Bool) (read line seen rest text : List ℕ) (lines : List (List ℕ))
-    → BeginsWith read lines (ended line ++ rest) → a.has_answered first t lines text → IsLine line → seen ≡ line → a.refuses seen → count ≡ length lines
-    → length lines ≤ most → StopsAt a first most (BadLine (count + 1)) at_end read text
+    → BeginsWith IsLine read lines (ended line ++ rest) → a.has_answered first t lines text → IsLine line → seen ≡ line → a.refuses seen
+    → count ≡ length lines → length lines ≤ most → StopsAt (run_of a first most) (BadLine (count + 1)) at_end read text
 line_stop a first t most count at_end read line seen rest text lines b done is same refused counted few =
     let whole = ended line ++ rest in (
-      t,
       lines,
       whole,
       b,
-      done,
+      (t, done),
       few,
       (
-        inl (feed_there line rest whole (append_assoc line (10 ∷ []) rest)),
-        the_line a.refuses line rest is (subst a.refuses same refused),
+        (
+          inl (feed_there line rest whole (append_assoc line (10 ∷ []) rest)),
+          the_line a.refuses line rest is (subst a.refuses same refused),
+        ),
         ap (λ (n : ℕ). n + 1) counted,
       ),
     )
@@ -157,21 +168,22 @@ line_stop a first t most count at_end read line seen rest text lines b done is s
 -- a fault of an answer stops the answers too
 pub answer_stop : {T : Type 0} (a : AnswersOf T) (first t : T) (most : ℕ) (f : AnswerFault) (at_end : Bool) (read line seen rest text : List ℕ)
     (lines : List (List ℕ))
-    → BeginsWith read lines (ended line ++ rest) → a.has_answered first t lines text → IsLine line → seen ≡ line → length lines < most
-    → (f ≡ answer.WornOut → a.is_worn_out lines seen) → StopsAt a first most (answer_fault_of f) at_end read text
+    → BeginsWith IsLine read lines (ended line ++ rest) → a.has_answered first t lines text → IsLine line → seen ≡ line → length lines < most
+    → (f ≡ answer.WornOut → a.is_worn_out lines seen) → StopsAt (run_of a first most) (answer_fault_of f) at_end read text
 answer_stop a first t most answer.NoMemory at_end read line seen rest text lines b done is same few worn =
-    (t, lines, ended line ++ rest, b, done, omega (arith, few), tt)
+    (lines, ended line ++ rest, b, (t, done), omega (arith, few), tt)
 answer_stop a first t most answer.WornOut at_end read line seen rest text lines b done is same few worn =
-    (t, lines, ended line ++ rest, b, done, omega (arith, few), (few, (line, rest, is, refl, subst (a.is_worn_out lines) same (worn refl))))
+    (lines, ended line ++ rest, b, (t, done), omega (arith, few), (few, (line, (is, (rest, refl)), subst (a.is_worn_out lines) same (worn refl))))
 
 -- a beginning of the last answer was written
-pub write_stop : {T : Type 0} (a : AnswersOf T) (first t : T) (most n : ℕ) (at_end : Bool) (read rest text bytes : List ℕ) (lines : List (List ℕ))
-    → BeginsWith read lines rest → a.has_answered first t lines (text ++ bytes) → length lines ≤ most → n < length bytes
-    → StopsAt a first most Write at_end read (text ++ take n bytes)
-write_stop a first t most n at_end read rest text bytes lines b done few short = (
-  text ++ bytes,
-  drop n bytes,
-  (t, lines, rest, b, done, few, tt),
-  ap (λ (z : List ℕ). text ++ z) (sym (take-append-drop n bytes)) ∙ sym (append_assoc text (take n bytes) (drop n bytes)),
-  λ none. let left = length-drop n bytes in let l = ap length none in absurd (omega (arith, left, l, short)),
+pub write_stop : {T : Type 0} (a : AnswersOf T) (first t now : T) (most n : ℕ) (at_end : Bool) (read line rest text bytes : List ℕ)
+    (lines : List (List ℕ))
+    → BeginsWith IsLine read lines (ended line ++ rest) → a.has_answered first t lines text → IsLine line
+    → a.has_answered first now (lines ++ line ∷ []) (text ++ bytes) → length lines < most → n < length bytes
+    → StopsAt (run_of a first most) Write at_end read (text ++ take n bytes)
+write_stop a first t now most n at_end read line rest text bytes lines b before is after few short = (
+  text,
+  take n bytes,
+  refl,
+  (lines, ended line ++ rest, b, (t, before), omega (arith, few), (line, bytes, few, (is, (rest, refl)), (now, after), cut_off n bytes short)),
 )

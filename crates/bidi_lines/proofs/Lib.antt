@@ -4,3 +4,4 @@ pub mod DeviceLemmas
 pub mod InputLineLemmas
 pub mod SkippingLemmas
 pub mod AnsweringLemmas
+pub mod StopLemmas

@@ -1,15 +1,19 @@
 -- An input that is read line by line; each line ends in one line feed. The form of lines is this project's own.
-use Rattle.std.specs.Prelude.{◌≡◌, ◌≢◌, ℕ, ◌<◌, ◌≤◌, ◌⊎◌, Bool, true, false, List, [], length, take, Option, Some, None, Result, Ok, Err, ⊤}
+use Rattle.std.specs.Prelude.{◌≡◌, ◌≢◌, ℕ, suc, ◌<◌, ◌≤◌, ◌⊎◌, Bool, true, false, List, [], length, take, Option, Some, None, Result, Ok, Err, ⊤}
 use Rattle.std.specs.List.{flat_map}
 use Rattle.std.specs.Global.{Vec}
 use Rattle.bidi_lines.specs.Feeds.{has_feed, ended}
 use Rattle.bidi_lines.specs.declared.line_reader.InputFault.{InputFault}
 use Rattle.bidi_lines.specs.declared.line_reader.InputFault.TheVariants.{Read, BadLine, NoMemory}
 
--- a line has no line feed in it, and at most 2,097,152 bytes
+-- the most bytes of a line
+abbrev pub longest_line : ℕ
+longest_line = 2097152
+
+-- a line has no line feed in it, and it is not too long
 pub record IsLine (line : List ℕ) : Type 0 where
   pub one_line : has_feed line ≡ false
-  pub short : length line ≤ 2097152
+  pub short : length line ≤ longest_line
 
 -- the most lines of an input
 abbrev pub most_lines : ℕ
@@ -19,14 +23,14 @@ most_lines = 1000000000
 abbrev pub joined : List (List ℕ) → List ℕ
 joined lines = flat_map ended lines
 
--- the bytes cannot begin with a line: the first 2,097,153 of them have no line feed, or the input ends after them without one
+-- the bytes cannot begin with a line: as many as a line can have, and one more, have no line feed, or the input ends after them without one
 pub record BeginsBadly (at_end : Bool) (bytes : List ℕ) : Type 0 where
-  pub no_feed : has_feed (take 2097153 bytes) ≡ false
-  pub enough : (2097152 < length bytes) ⊎ ((at_end ≡ true) × (bytes ≢ []))
+  pub no_feed : has_feed (take (suc longest_line) bytes) ≡ false
+  pub enough : (longest_line < length bytes) ⊎ ((at_end ≡ true) × (bytes ≢ []))
 
 -- the bytes are enough to decide on their first line: it has its line feed, is too long, or is the last of the input and has none
 abbrev pub HasLine : Bool → List ℕ → Type 0
-HasLine at_end bytes = (has_feed bytes ≡ true) ⊎ ((2097152 < length bytes) ⊎ ((at_end ≡ true) × (bytes ≢ [])))
+HasLine at_end bytes = (has_feed bytes ≡ true) ⊎ ((longest_line < length bytes) ⊎ ((at_end ≡ true) × (bytes ≢ [])))
 
 -- the bytes that an answer of the reader returns: a line with its line feed, or none
 abbrev pub given : Result (Option (Vec ℕ)) InputFault → List ℕ

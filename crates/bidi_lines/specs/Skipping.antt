@@ -2,16 +2,16 @@
 use Rattle.std.specs.Prelude.{◌≡◌, ◌≢◌, ℕ, ◌-◌, ◌<◌, ◌≤◌, ◌^◌, Bool, true, false, List, [], ◌++◌, length, Option, Result, Ok, Err}
 use Rattle.bidi_lines.specs.Devices.{ReadsOn}
 use Rattle.bidi_lines.specs.Feeds.{has_feed, ended}
-use Rattle.bidi_lines.specs.InputLines.{IsLine}
+use Rattle.bidi_lines.specs.InputLines.{IsLine, longest_line}
 use Rattle.bidi_lines.specs.declared.line_reader.InputFault.{InputFault}
 use Rattle.bidi_lines.specs.declared.line_reader.InputFault.TheVariants.{Read, BadLine, NoMemory}
 use Rattle.bidi_lines.specs.declared.line_reader.Skipped.{Skipped}
 use Rattle.bidi_lines.specs.declared.line_reader.Skipped.TheVariants.{TooLong, TooLongLast, Unended}
 
--- a line is too long if it has no line feed in it and more than 2,097,152 bytes
+-- a line is too long if it has no line feed in it and more bytes than a line can have
 pub record IsTooLong (line : List ℕ) : Type 0 where
   pub one_line : has_feed line ≡ false
-  pub long : 2097152 < length line
+  pub long : longest_line < length line
 
 -- the bytes begin a line without end: they are 2^64 - 1 or more, and none is a line feed
 pub record IsEndless (front : List ℕ) : Type 0 where

@@ -3,9 +3,10 @@ ghost use Rattle.std.specs.Prelude.{◌≡◌, ℕ, ◌+◌, List, [], ◌∷◌
 ghost use Rattle.std.specs.Io.KnownBytes.{IsAtEnd};
 ghost use Rattle.bidi_lines.specs.Devices.{Moves};
 ghost use Rattle.bidi_lines.specs.InputLines.{IsLine};
-ghost use Rattle.bidi_lines.specs.Answering.{AnswersAll, AnswersOf, StopsAt, answer_fault_of, failed_reads, failed_writes, lines_fault_of};
+ghost use Rattle.bidi_lines.specs.Answering.{AnswersAll, AnswersOf, answer_fault_of, lines_fault_of, run_of};
+ghost use Rattle.bidi_lines.specs.Stops.{StopsAt, failed_reads, failed_writes};
 ghost use Rattle.bidi_lines.specs.declared.answering.AnswerFault.TheVariants as refusal;
-ghost use Rattle.bidi_lines.specs.declared.answering.LinesFault.TheVariants.{Write};
+ghost use Rattle.bidi_lines.specs.declared.answering.LinesFault.TheVariants.{NoMemory, Write};
 
 use super::device::{DeviceFault, Sink, Source, write_all};
 use super::line_reader::{InputFault, LineReader};
@@ -31,7 +32,7 @@ impl From<AllocError> for AnswerFault {
     }
 }
 
-/// Why not all lines of an input were answered.
+/// Why a run over the lines of an input stopped before its end.
 #[derive(Clone, Copy, Debug, PartialEq, Eq, Error)]
 pub enum LinesFault {
     /// A read of the source failed. All whole lines that were read before are answered.
@@ -40,18 +41,28 @@ pub enum LinesFault {
     /// A write of the sink failed. The last answer may be written in part.
     #[error("output cannot be written")]
     Write,
-    /// The line of this number, counted from 1, is refused, is too long, or has no line feed.
+    /// The line of this number, counted from 1, is refused, is too long, or has no line feed. Fix it, and run
+    /// again.
     #[error("line {0} is refused")]
     BadLine(u64),
     /// An allocation failed. Nothing is written for the current line.
     #[error("out of memory")]
     NoMemory,
-    /// The input has more lines than the caller allowed. As many as allowed were answered.
+    /// The input has more lines than are allowed. As many as allowed were answered. Split the input.
     #[error("too many lines")]
     TooManyLines,
-    /// The [`Answerer`] takes no more lines. Nothing is written for the current line.
+    /// No more lines are taken, because as many were answered as can be. Nothing is written for the current
+    /// line. Split the input.
     #[error("too many steps")]
     WornOut,
+}
+
+impl From<AllocError> for LinesFault {
+    ghost from_gives = { λ _ fault. fault ≡ NoMemory };
+
+    fn from(_error: AllocError) -> LinesFault {
+        LinesFault::NoMemory
+    }
 }
 
 impl From<DeviceFault> for LinesFault {
@@ -132,7 +143,7 @@ pub fn answer_lines<R: Source, W: Sink, A: Answerer>(
 
     // A fault says which lines were answered and written before it, and why the next was not.
     ensures err { IfErr result (λ fault. Moves (R.left source.old) (R.left source.new) (W.contents sink.old) (W.contents sink.new)
-        (StopsAt A.answers answerer.old most fault (R.has_ended source.new))) }
+        (StopsAt (run_of A.answers answerer.old most) fault (R.has_ended source.new))) }
 
     // The source failed once if the fault is `Read`, and not at all otherwise.
     ensures reads { MatchResult result (λ _. R.failures source.new ≡ R.failures source.old)
@@ -145,7 +156,7 @@ pub fn answer_lines<R: Source, W: Sink, A: Answerer>(
     let mut count: u64 = 0;
     'lines: while count < most {
         match reader.next(alloc, source) {
-            Err(fault) => return Err(lines_fault(fault, count + 1)),
+            Err(fault) => return Err(fault.at_line(count + 1)),
             Ok(None) => return Ok(()),
             Ok(Some(line)) => {
                 count += 1;
@@ -157,19 +168,22 @@ pub fn answer_lines<R: Source, W: Sink, A: Answerer>(
         }
     }
     match reader.goes_on(source) {
-        Err(fault) => Err(lines_fault(fault, count)),
+        Err(fault) => Err(fault.at_line(count)),
         Ok(true) => Err(LinesFault::TooManyLines),
         Ok(false) => Ok(()),
     }
 }
 
-// The fault for a fault of the input, at the line of this number.
-fn lines_fault(fault: InputFault, number: u64) -> LinesFault
-    ensures { result ≡ lines_fault_of fault number }
-{
-    match fault {
-        InputFault::Read => LinesFault::Read,
-        InputFault::BadLine => LinesFault::BadLine(number),
-        InputFault::NoMemory => LinesFault::NoMemory,
+impl InputFault {
+    /// The fault of a run over lines for this fault, at the line of this number, counted from 1.
+    pub fn at_line(self, number: u64) -> LinesFault
+        // Only `BadLine` has the number.
+        ensures { result ≡ lines_fault_of self number }
+    {
+        match self {
+            InputFault::Read => LinesFault::Read,
+            InputFault::BadLine => LinesFault::BadLine(number),
+            InputFault::NoMemory => LinesFault::NoMemory,
+        }
     }
 }

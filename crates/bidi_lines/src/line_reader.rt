@@ -1,11 +1,11 @@
 //! A reader of lines, which holds little more of an input than one line.
-ghost use Rattle.std.specs.Prelude.{◌≡◌, ◌≢◌, ◌==◌, ℕ, ◌+◌, ◌≤◌, List, [], ◌∷◌, ◌++◌, false, true, length, position, take};
+ghost use Rattle.std.specs.Prelude.{◌≡◌, ◌≢◌, ◌==◌, ℕ, suc, ◌+◌, ◌≤◌, List, [], ◌∷◌, ◌++◌, false, true, length, position, take};
 ghost use Rattle.std.specs.Prelude.{drop, ◌<◌, vec_len, IfOk, IfSome, IfNone, IfErr, IsTrue, MatchResult};
 ghost use Rattle.std.specs.Io.KnownBytes.{IsAtEnd};
 ghost use Rattle.bidi_lines.specs.Devices.{ReadsOn, TellsEnd};
 ghost use Rattle.bidi_lines.specs.Feeds.{has_feed};
 ghost use Rattle.bidi_lines.specs.declared.line_reader.InputFault.TheVariants.{BadLine};
-ghost use Rattle.bidi_lines.specs.InputLines.{BeginsBadly, Says, failed_reads, given};
+ghost use Rattle.bidi_lines.specs.InputLines.{BeginsBadly, Says, failed_reads, given, longest_line};
 ghost use Rattle.bidi_lines.specs.Skipping.{SkipsLine, skips};
 
 use super::device::Source;
@@ -161,8 +161,8 @@ impl LineReader {
 
     // Skips what is held, and what follows up to a line feed or the end of the input.
     fn skip_long<S: Source>(&mut self, source: &mut S) -> Result<Skipped, InputFault>
-        requires long { 2097152 < length self.old }
-        requires no_feed { has_feed (take 2097153 self.old) ≡ false }
+        requires long { longest_line < length self.old }
+        requires no_feed { has_feed (take (suc longest_line) self.old) ≡ false }
         ensures skips { SkipsLine (S.left source.old) (S.left source.new) self.old self.new (skips result (S.has_ended source.new)) }
         ensures failures { MatchResult result (λ _. S.failures source.new ≡ S.failures source.old)
             (λ fault. S.failures source.new ≡ S.failures source.old + failed_reads fault) }

@@ -17,12 +17,12 @@
 //! ```
 //!
 //! An input has at most 1,000,000,000 lines of at most 2,097,152 bytes. Reading stops at the first
-//! [`PairFault`]. Memory holds all steps, and then all lines of the ledger.
+//! [`LinesFault`](bidi_lines::LinesFault). Memory holds all steps, and then all lines of the ledger.
 #![tactic(auto)]
 
 mod pair_lines;
 mod reading;
 mod writing;
 
-pub use reading::{PairFault, read_steps};
+pub use reading::read_steps;
 pub use writing::ledger_lines;

@@ -1,85 +1,16 @@
-//! Reading the steps of both ends line by line, and why a run of both ends stops.
+//! Reading the steps of both ends line by line.
 ghost use Rattle.std.specs.Prelude.{◌≡◌, ◌+◌, [], ◌∷◌, ◌++◌, IfOk, IfErr, OnOk, IsTrue, MatchResult};
 ghost use Rattle.std.specs.Io.KnownBytes.{IsAtEnd};
 ghost use Rattle.bidi_ledger.specs.Steps.{AreWell};
-ghost use Rattle.bidi_pair_lines.specs.Pairs.{Reads, Schedule, StopsAt, failed_reads, failed_writes, pair_fault_of, remote_fault_of};
+ghost use Rattle.bidi_lines.specs.Stops.{StopsAt, failed_reads, failed_writes};
+ghost use Rattle.bidi_pair_lines.specs.Pairs.{Reads, Schedule, pair_run};
 ghost use Rattle.bidi_pair_lines.specs.StepReaders.{reader_answers};
-ghost use Rattle.bidi_pair_lines.specs.declared.reading.PairFault.TheVariants.{Write, NoMemory};
 
 use super::pair_lines::read_pair_step;
 use bidi_ledger::PairStep;
-use bidi_lines::{
-    AnswerFault, Answerer, DeviceFault, LinesFault, MOST_LINES, Nowhere, Source, answer_lines,
-};
-use bidi_remote::RemoteFault;
+use bidi_lines::{AnswerFault, Answerer, LinesFault, MOST_LINES, Nowhere, Source, answer_lines};
 use json::Scratch;
 use std::alloc::{AllocError, Global};
-use thiserror::Error;
-
-/// Why a run of both ends stopped before its end. Only `Write` leaves output.
-#[derive(Clone, Copy, Debug, PartialEq, Eq, Error)]
-pub enum PairFault {
-    /// A read of the source failed. No step was played.
-    #[error("input cannot be read")]
-    Read,
-    /// A write of the sink failed. A beginning of the output may be written.
-    #[error("output cannot be written")]
-    Write,
-    /// This line, counted from 1, is not a pair line. No step was played; fix the line, and run again.
-    #[error("line {0} is no pair line")]
-    BadLine(u64),
-    /// An allocation failed while lines were read or steps were played. Split the input.
-    #[error("out of memory")]
-    NoMemory,
-    /// The input has more than 1,000,000,000 lines. No step was played; split the input.
-    #[error("too many steps")]
-    TooManyLines,
-    /// The remote end has taken 1,000,000,000 steps, and takes no more. Split the input.
-    #[error("too many steps")]
-    WornOut,
-}
-
-impl From<AllocError> for PairFault {
-    ghost from_gives = { λ _ fault. fault ≡ NoMemory };
-
-    fn from(_error: AllocError) -> PairFault {
-        PairFault::NoMemory
-    }
-}
-
-impl From<DeviceFault> for PairFault {
-    ghost from_gives = { λ _ fault. fault ≡ Write };
-
-    fn from(_error: DeviceFault) -> PairFault {
-        PairFault::Write
-    }
-}
-
-impl From<LinesFault> for PairFault {
-    ghost from_gives = { λ error fault. fault ≡ pair_fault_of error };
-
-    fn from(error: LinesFault) -> PairFault {
-        match error {
-            LinesFault::Read => PairFault::Read,
-            LinesFault::Write => PairFault::Write,
-            LinesFault::BadLine(number) => PairFault::BadLine(number),
-            LinesFault::NoMemory => PairFault::NoMemory,
-            LinesFault::TooManyLines => PairFault::TooManyLines,
-            LinesFault::WornOut => PairFault::WornOut,
-        }
-    }
-}
-
-impl From<RemoteFault> for PairFault {
-    ghost from_gives = { λ error fault. fault ≡ remote_fault_of error };
-
-    fn from(error: RemoteFault) -> PairFault {
-        match error {
-            RemoteFault::NoMemory => PairFault::NoMemory,
-            RemoteFault::WornOut => PairFault::WornOut,
-        }
-    }
-}
 
 /// Reads the lines of the source as steps, which are all held in memory.
 ///
@@ -89,15 +20,15 @@ impl From<RemoteFault> for PairFault {
 /// 2. `BadLine`: a line is not a pair line.
 /// 3. `NoMemory`: an allocation failed.
 /// 4. `TooManyLines`: the input has more than 1,000,000,000 lines.
-pub fn read_steps<R: Source>(alloc: Global, source: &mut R) -> Result<Vec<PairStep>, PairFault>
+pub fn read_steps<R: Source>(alloc: Global, source: &mut R) -> Result<Vec<PairStep>, LinesFault>
     // After an Ok, the source gave pair lines only, and the result has their steps, in order.
-    ensures ok { IfOk result (λ steps. Reads (R.left source.old) (R.left source.new) (λ read. Schedule read steps.items [])) }
+    ensures ok { IfOk result (λ steps. Reads (R.left source.old) (R.left source.new) (λ read. Schedule read steps.items)) }
     // Each command that a step sends is valid.
     ensures well { IfOk result (λ steps. AreWell steps.items) }
     // After an Ok, the source has ended, and none of its bytes is left.
     ensures end { OnOk result (IsTrue (R.has_ended source.new) × IsAtEnd (R.left source.new)) }
     // A fault says which lines were read before it, and why the next was not.
-    ensures err { IfErr result (λ fault. Reads (R.left source.old) (R.left source.new) (λ read. StopsAt fault (R.has_ended source.new) read [])) }
+    ensures err { IfErr result (λ fault. Reads (R.left source.old) (R.left source.new) (λ read. StopsAt pair_run fault (R.has_ended source.new) read [])) }
     // The source failed once if the fault is `Read`, and not at all otherwise.
     ensures reads { MatchResult result (λ _. R.failures source.new ≡ R.failures source.old)
         (λ fault. R.failures source.new ≡ R.failures source.old + failed_reads fault) }

@@ -1,6 +1,5 @@
 -- A play of the same bytes writes the same text, because a text has one verdict.
-use Rattle.std.proofs.Common.{◌≡◌, ℕ, Option, List, [], ◌∷◌, ◌++◌, reverse, append_assoc, refl, sym, ◌∙◌, ap, subst}
-use Rattle.std.proofs.lemmas.Grind.{flat_map-append}
+use Rattle.std.proofs.Common.{◌≡◌, ℕ, Option, List, [], ◌∷◌, refl, sym, ◌∙◌, ap, subst}
 use Rattle.bidi_tree.specs.Node.{Node}
 use Rattle.bidi_shape.specs.Name.{table_row}
 use Rattle.bidi_shape.specs.Term.{rule}
@@ -12,12 +11,10 @@ use Rattle.bidi_messages.proofs.VerdictLemmas.{one_verdict}
 use Rattle.bidi_sessions.specs.Step as step
 use Rattle.bidi_sessions.specs.Step.{Step}
 use Rattle.bidi_remote.specs.Machine.History.{Input, Heard, OfPage, IsRow, is_row, is_not_json, is_no_row, IsTakenAs, IsHeardAs, AreHeardAs}
-use Rattle.bidi_remote.specs.Machine.Sent.{Sent, answers, answers_after}
-use Rattle.bidi_lines.specs.Feeds.{ended}
-use Rattle.bidi_play.specs.Lines.{sent_line, written}
-use Rattle.bidi_play.specs.Plays.{Plays, PlaysPart}
-use Rattle.bidi_remote.proofs.AnswerLemmas.{answers_append}
-use Rattle.bidi_play.proofs.ReadingLemmas.{front_steps, all_steps}
+use Rattle.bidi_remote.specs.Machine.Sent.{answers}
+use Rattle.bidi_play.specs.Lines.{written}
+use Rattle.bidi_play.specs.Plays.{Plays}
+use Rattle.bidi_play.proofs.ReadingLemmas.{all_steps}
 
 -- a text has one verdict
 abbrev pub OneVerdict : Type 0
@@ -61,37 +58,12 @@ one_inputs one (s ∷ ss) (i ∷ inputs) [] a b = absurd b
 one_inputs one (s ∷ ss) (i ∷ inputs) (j ∷ others) a b =
     ap (λ k. k ∷ inputs) (one_input one s i j a.0 b.0) ∙ ap (λ k. j ∷ k) (one_inputs one ss inputs others a.1 b.1)
 
--- the first steps are heard as the first inputs
-front_inputs : OneVerdict → (steps more : List Step) (inputs all : List Input) → AreHeardAs steps inputs → AreHeardAs (steps ++ more) all
-    → (later : List Input) × (all ≡ inputs ++ later)
-front_inputs one [] more [] all a b = (all, refl)
-front_inputs one [] more (i ∷ inputs) all a b = absurd a
-front_inputs one (s ∷ ss) more [] all a b = absurd a
-front_inputs one (s ∷ ss) more (i ∷ inputs) [] a b = absurd b
-front_inputs one (s ∷ ss) more (i ∷ inputs) (j ∷ all) a b =
-    let r = front_inputs one ss more inputs all a.1 b.1 in
-    (r.0, ap (λ k. k ∷ all) (one_input one s j i b.0 a.0) ∙ ap (λ k. i ∷ k) r.1)
-
 -- the play of some bytes writes one text
 pub one_text : OneVerdict → (bytes text other : List ℕ) → Plays bytes text → Plays bytes other → text ≡ other
 one_text one bytes text other (steps, rest, p, none) (others, end, q, end_none) =
     let same = all_steps steps others rest end p.each q.each (sym p.lines ∙ q.lines) none end_none in
     let heard = subst (λ (ss : List Step). AreHeardAs ss q.inputs) (sym same) q.heard in
     p.answer ∙ (ap (λ (is : List Input). written (answers is)) (one_inputs one steps p.inputs q.inputs p.heard heard) ∙ sym q.answer)
-
--- the text for some of its lines is a beginning of it
-pub begins_text : OneVerdict → (bytes wrote text : List ℕ) → PlaysPart bytes wrote → Plays bytes text → (more : List ℕ) × (text ≡ wrote ++ more)
-begins_text one bytes wrote text (steps, rest, whole, more, p, e) (all, end, q, none) =
-    let front = front_steps steps all rest end p.each q.each (sym p.lines ∙ q.lines) none in
-    let heard = subst (λ (ss : List Step). AreHeardAs ss q.inputs) front.1 q.heard in
-    let later = front_inputs one steps front.0 p.inputs q.inputs p.heard heard in
-    let next = answers_after (reverse p.inputs) later.0 in
-    let behind = written next in (
-      more ++ behind,
-      q.answer ∙ (ap (λ (is : List Input). written (answers is)) later.1
-          ∙ (ap written (answers_append p.inputs later.0) ∙ (flat_map-append (λ (z : Sent). ended (sent_line z)) (answers p.inputs) next
-          ∙ (ap (λ (t : List ℕ). t ++ behind) (sym p.answer ∙ e) ∙ append_assoc wrote more behind)))),
-    )
 
 -- the text of a play is one
 pub the_text : (bytes text other : List ℕ) → Plays bytes text → Plays bytes other → text ≡ other

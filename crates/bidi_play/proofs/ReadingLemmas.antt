@@ -89,19 +89,7 @@ first_line s t more other a b e =
     (sym (append_assoc (line_of s) (10 ∷ []) more) ∙ (e ∙ append_assoc (line_of t) (10 ∷ []) other)) in
     (one_step s t a.parts b.parts h.0, h.1)
 
--- some lines at the front of the bytes say the first of the steps that all lines at their front say
-pub front_steps : (steps all : List Step) (rest end : List ℕ) → AllByRecursion CanBeSaid steps → AllByRecursion CanBeSaid all
-    → said steps ++ rest ≡ said all ++ end → HasNoPlayLine end → (more : List Step) × (all ≡ steps ++ more)
-front_steps [] all rest end a b e none = (all, refl)
-front_steps (s ∷ ss) [] rest end a b e none = absurd (none s (said ss ++ rest) a.0 (sym e ∙ append_assoc (ended (line_of s)) (said ss) rest))
-front_steps (s ∷ ss) (t ∷ ts) rest end a b e none =
-    let h = first_line s t (said ss ++ rest) (said ts ++ end) a.0 b.0
-    (sym (append_assoc (ended (line_of s)) (said ss) rest) ∙ (e ∙ append_assoc (ended (line_of t)) (said ts) end)) in
-    let r = front_steps ss ts rest end a.1 b.1 h.1 none in
-    let i = h.0 in let j = r.1 in
-    (r.0, cc)
-
--- so all lines at the front say one list of steps
+-- all lines at the front of the bytes say one list of steps
 pub all_steps : (steps others : List Step) (rest end : List ℕ) → AllByRecursion CanBeSaid steps → AllByRecursion CanBeSaid others
     → said steps ++ rest ≡ said others ++ end → HasNoPlayLine rest → HasNoPlayLine end → steps ≡ others
 all_steps [] [] rest end a b e none end_none = refl

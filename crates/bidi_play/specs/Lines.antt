@@ -6,6 +6,8 @@ use Rattle.bidi_lines.specs.Feeds.{has_feed, ended}
 use Rattle.bidi_sessions.specs.Step.{Step, At, Open, Drop, Text, NotText, Page, Frame, Unframe, Log, TableRow}
 use Rattle.bidi_remote.specs.Machine.Sent as sent
 use Rattle.bidi_remote.specs.Machine.Sent.{Sent}
+use Rattle.bidi_lines.specs.InputLines.{longest_line}
+use Rattle.bidi_tree.specs.Number.{IsJsUint}
 
 -- the line of a step, without its line feed: a word and the fields of the step with one space between them; the last field is the rest of the line
 -- example: `open 1 /session`
@@ -42,7 +44,7 @@ IsContext context = (context ≢ []) × (list_any (λ b. b == 32) context ≡ fa
 
 -- the fields of the step fit on a line: its number is a js-uint, and its context is not empty and has no space
 pub record IsSayable (s : Step) : Type 0 where
-  pub number : number_of s < 2 ^ 53
+  pub number : IsJsUint (number_of s)
   pub context : IfSome (context_in s) IsContext
 
 -- a play can have this step: its fields fit on a line, which is UTF-8 without a line feed and has at most 2,097,152 bytes
@@ -51,7 +53,7 @@ pub record CanBeSaid (s : Step) : Type 0 where
   pub parts : IsSayable s
   pub utf8 : IsUtf8 (line_of s)
   pub one_line : has_feed (line_of s) ≡ false
-  pub short : length (line_of s) ≤ 2097152
+  pub short : length (line_of s) ≤ longest_line
 
 -- the lines of these steps, each with its line feed
 abbrev pub said : List Step → List ℕ

@@ -1,18 +1,20 @@
 -- The output of `play` for its input, and the reasons to stop early. Defined by this project.
-use Rattle.std.specs.Prelude.{◌≡◌, ℕ, ◌+◌, Bool, List, [], ◌++◌, length}
+use Rattle.std.specs.Prelude.{◌≡◌, ℕ, List, [], ◌++◌, length}
 use Rattle.std.specs.List.{AllByRecursion}
-use Rattle.bidi_play.specs.declared.playing.PlayFault.{PlayFault}
-use Rattle.bidi_play.specs.declared.playing.PlayFault.TheVariants.{Read, Write, BadLine, NoMemory, WornOut}
+use Rattle.bidi_sessions.specs.Limits.{most_steps}
 use Rattle.bidi_sessions.specs.Step.{Step}
 use Rattle.bidi_remote.specs.Machine.History.{Input, AreHeardAs}
 use Rattle.bidi_remote.specs.Machine.Sent.{answers}
 use Rattle.bidi_remote.specs.Machine.Messages.{AllReadBack}
+use Rattle.bidi_lines.specs.Answering.{HasFirst}
 use Rattle.bidi_lines.specs.Feeds.{ended}
-use Rattle.bidi_lines.specs.InputLines.{IsLine, HasLine}
+use Rattle.bidi_lines.specs.InputLines.{IsLine, HasLine, joined}
+use Rattle.bidi_lines.specs.Stops.{Run}
 use Rattle.bidi_lines.specs.declared.answering.LinesFault.{LinesFault}
 use Rattle.bidi_lines.specs.declared.answering.LinesFault.TheVariants as lines
 use Rattle.bidi_play.specs.Lines.{line_of, CanBeSaid, said, written}
-use Rattle.bidi_sessions.specs.Limits.{most_steps}
+use Rattle.bidi_play.specs.declared.playing.PlayFault.{PlayFault}
+use Rattle.bidi_play.specs.declared.playing.PlayFault.TheVariants.{Read, Write, BadLine, NoMemory, WornOut}
 
 -- The bytes are the lines of these steps and then this rest, and the text has the lines of what the machine sends for the steps. Each text
 -- that the machine sends is that of a message, and reads back as that message.
@@ -40,31 +42,24 @@ Plays bytes text = (steps : List Step) × (rest : List ℕ) × Play bytes steps 
 abbrev pub PlaysAll : List ℕ → List ℕ → Type 0
 PlaysAll bytes text = (steps : List Step) × Play bytes steps [] text
 
--- the output is a beginning of the text for some play lines at the front of the bytes
-abbrev pub PlaysPart : List ℕ → List ℕ → Type 0
-PlaysPart bytes wrote = (steps : List Step) × (rest : List ℕ) × (text : List ℕ) × (more : List ℕ) × Play bytes steps rest text × (text ≡ wrote ++ more)
+-- a play as a run over lines: it refuses each line that is not a play line, and takes as many lines as a remote end takes steps
+abbrev pub play_run : Run
+play_run = record {
+  is_line = IsLine;
+  is_next = λ at_end line bytes. HasFirst line bytes;
+  refuses = λ at_end bytes. HasLine at_end bytes × HasNoPlayLine bytes;
+  answers = λ lines text. PlaysAll (joined lines) text;
+  is_worn_out = λ lines rest. (length lines ≡ most_steps) × HasPlayLine rest;
+  most = most_steps;
+}
 
--- the state of input and output after a fault; `at_end` says whether the input has ended
-abbrev pub StopsAt : PlayFault → Bool → List ℕ → List ℕ → Type 0
--- each whole line that was read was played; the bytes after them may be the beginning of a line
-StopsAt Read at_end read wrote = (steps : List Step) × (rest : List ℕ) × Play read steps rest wrote × IsLine rest
--- line n was reached and is not a play line; all lines before it were played
-StopsAt (BadLine n) at_end read wrote =
-    (steps : List Step) × (rest : List ℕ) × Play read steps rest wrote × HasLine at_end rest × HasNoPlayLine rest × (n ≡ length steps + 1)
--- as many lines were played as a remote end takes steps, and the next line is a play line too
-StopsAt WornOut at_end read wrote = (steps : List Step) × (rest : List ℕ) × Play read steps rest wrote × (length steps ≡ most_steps) × HasPlayLine rest
-StopsAt Write at_end read wrote = PlaysPart read wrote
-StopsAt NoMemory at_end read wrote = PlaysPart read wrote
-
--- the number of failed reads of the source: 1 for `Read`, and 0 for other faults
-abbrev pub failed_reads : PlayFault → ℕ
-failed_reads Read = 1
-failed_reads fault = 0
-
--- the number of failed writes of the sink: 1 for `Write`, and 0 for other faults
-abbrev pub failed_writes : PlayFault → ℕ
-failed_writes Write = 1
-failed_writes fault = 0
+-- the fault of a run over lines that a fault of a play is
+abbrev pub lines_fault : PlayFault → LinesFault
+lines_fault Read = lines.Read
+lines_fault Write = lines.Write
+lines_fault (BadLine n) = lines.BadLine n
+lines_fault NoMemory = lines.NoMemory
+lines_fault WornOut = lines.WornOut
 
 -- the fault of a play for a fault of its lines
 abbrev pub play_fault_of : LinesFault → PlayFault
@@ -74,8 +69,3 @@ play_fault_of (lines.BadLine n) = BadLine n
 play_fault_of lines.NoMemory = NoMemory
 play_fault_of lines.TooManyLines = WornOut
 play_fault_of lines.WornOut = WornOut
-
--- the status of a program whose play stopped with this fault
-abbrev pub status_of : PlayFault → ℕ
-status_of (BadLine n) = 2
-status_of fault = 3

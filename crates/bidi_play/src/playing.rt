@@ -2,7 +2,8 @@
 ghost use Rattle.std.specs.Prelude.{◌≡◌, ◌+◌, IfErr, OnOk, IsTrue, MatchResult};
 ghost use Rattle.std.specs.Io.KnownBytes.{IsAtEnd};
 ghost use Rattle.bidi_lines.specs.Devices.{Moves};
-ghost use Rattle.bidi_play.specs.Plays.{PlaysAll, StopsAt, failed_reads, failed_writes, play_fault_of};
+ghost use Rattle.bidi_lines.specs.Stops.{StopsAt, failed_reads, failed_writes};
+ghost use Rattle.bidi_play.specs.Plays.{PlaysAll, lines_fault, play_fault_of, play_run};
 ghost use Rattle.bidi_play.specs.Players.{player_answers};
 ghost use Rattle.bidi_play.specs.declared.playing.PlayFault.TheVariants.{Write, NoMemory};
 
@@ -88,14 +89,14 @@ pub fn play<R: Source, W: Sink>(
 
     // A fault says which lines were played and written before it, and why the next was not.
     ensures err { IfErr result (λ fault. Moves (R.left source.old) (R.left source.new) (W.contents sink.old) (W.contents sink.new)
-        (StopsAt fault (R.has_ended source.new))) }
+        (StopsAt play_run (lines_fault fault) (R.has_ended source.new))) }
 
     // The source failed once if the fault is `Read`, and not at all otherwise.
     ensures reads { MatchResult result (λ _. R.failures source.new ≡ R.failures source.old)
-        (λ fault. R.failures source.new ≡ R.failures source.old + failed_reads fault) }
+        (λ fault. R.failures source.new ≡ R.failures source.old + failed_reads (lines_fault fault)) }
     // The sink failed once if the fault is `Write`, and not at all otherwise.
     ensures writes { MatchResult result (λ _. W.failures sink.new ≡ W.failures sink.old)
-        (λ fault. W.failures sink.new ≡ W.failures sink.old + failed_writes fault) }
+        (λ fault. W.failures sink.new ≡ W.failures sink.old + failed_writes (lines_fault fault)) }
 {
     let mut player = Player {
         end: RemoteEnd::new(alloc)?,

@@ -1,6 +1,7 @@
 -- One more line of a play that is reduced, and why that stops.
-use Rattle.std.proofs.Common.{◌≡◌, ℕ, ◌+◌, Bool, true, false, List, [], ◌∷◌, ◌++◌, length, map, append-nil, arith, refl, sym, ◌∙◌, ap, subst, take, drop, take-append-drop}
+use Rattle.std.proofs.Common.{◌≡◌, ℕ, ◌<◌, ◌≤◌, Bool, true, false, List, [], ◌∷◌, ◌++◌, length, map, append-nil, arith, refl, sym, ◌∙◌, ap, subst, take}
 use Rattle.std.specs.Prelude.{if◌then◌else◌}
+use Rattle.std.specs.List.{AllByRecursion}
 use Rattle.std.proofs.lemmas.Grind.{flat_map-append}
 use Rattle.std.proofs.lemmas.List.{map-append}
 use Rattle.bidi_sessions.specs.Step.{Step}
@@ -10,17 +11,19 @@ use Rattle.bidi_remote.proofs.HeardLemmas.{heard_more, length-heard}
 use Rattle.bidi_reduce.specs.Follows.{Follows, is_kept}
 use Rattle.bidi_reduce.proofs.StrikeLemmas.{strike_more, strikes}
 use Rattle.bidi_lines.specs.Feeds.{ended}
-use Rattle.bidi_lines.specs.Answering.{BeginsWith}
-use Rattle.bidi_lines.specs.Answering as lines
+use Rattle.bidi_lines.specs.Answering.{AnswersAll, run_of}
+use Rattle.bidi_lines.specs.Stops.{StopsAt, StopsWhole}
 use Rattle.bidi_lines.specs.declared.answering.LinesFault.{LinesFault}
 use Rattle.bidi_lines.specs.declared.answering.LinesFault.TheVariants as fault
-use Rattle.bidi_lines.proofs.AnsweringLemmas.{all_more, no_part}
+use Rattle.bidi_lines.proofs.AnsweringLemmas.{all_more, cut_off}
+use Rattle.bidi_lines.proofs.StopLemmas.{Implies, stops_as, stops_whole}
 use Rattle.bidi_play.specs.Lines.{line_of, said, CanBeSaid}
-use Rattle.bidi_play.specs.Plays.{play_fault_of}
+use Rattle.bidi_play.specs.Players.{SaysAStep}
+use Rattle.bidi_play.specs.Plays.{lines_fault, play_fault_of}
 use Rattle.bidi_play.specs.declared.playing.PlayFault.TheVariants.{Write}
 use Rattle.bidi_play.proofs.PlayLemmas.{length-said, no_play_line, said_front}
 use Rattle.bidi_reduce.specs.declared.reducing.Reducer.{Reducer}
-use Rattle.bidi_reduce.specs.Reduces.{ReducesAll, Says, StopsAt}
+use Rattle.bidi_reduce.specs.Reduces.{ReducesAll, reduce_run}
 use Rattle.bidi_reduce.specs.Reducers.{HasReduced, reducer_answers}
 use Rattle.bidi_sessions.specs.Limits.{most_steps}
 
@@ -76,20 +79,16 @@ length-reduced first before lines text p = length-heard p.steps p.inputs p.heard
 
 -- ---- all of them
 
--- what was read says steps
-says : (first reducer : Reducer) (read rest text : List ℕ) (lines : List (List ℕ)) → BeginsWith read lines rest
-    → (p : HasReduced first reducer lines text) → Says read p.steps rest
-says first reducer read rest text lines b p = record { lines = said_front read rest lines p.steps b p.say; each = p.each }
-
 -- all that was read is reduced to what is kept
 pub reduces_all : (first reducer : Reducer) (read text : List ℕ)
-    → lines.AnswersAll (HasReduced first reducer) most_steps read text → ReducesAll first.session read reducer.kept.items × (text ≡ [])
+    → AnswersAll (HasReduced first reducer) most_steps read text → ReducesAll first.session read reducer.kept.items × (text ≡ [])
 reduces_all first reducer read text (lines, b, p, few) =
     let kept = strike_steps p.steps p.inputs first.session in (
       (
         p.steps,
         kept,
-        says first reducer read [] text lines b p,
+        said_front read [] lines p.steps b p.say ∙ append-nil (said p.steps),
+        p.each,
         strikes first.session p.steps kept p.inputs p.heard refl,
         subst (λ s. reducer.kept.items ≡ said (strike_steps p.steps p.inputs s)) p.session p.kept,
       ),
@@ -98,25 +97,46 @@ reduces_all first reducer read text (lines, b, p, few) =
 
 -- ---- stops
 
+-- lines of steps are play lines
+say_steps : (lines : List (List ℕ)) (steps : List Step) → lines ≡ map line_of steps → AllByRecursion CanBeSaid steps → AllByRecursion SaysAStep lines
+say_steps lines steps e each = subst (AllByRecursion SaysAStep) (sym e) (go steps each)
+  where
+    go : (steps : List Step) → AllByRecursion CanBeSaid steps → AllByRecursion SaysAStep (map line_of steps)
+    go [] each = tt
+    go (s ∷ steps) each = ((s, each.0, refl), go steps each.1)
+
+-- what a reducer answers is what reducing answers
+reduces_so : (first : Reducer) → Implies (run_of reducer_answers first most_steps) reduce_run
+reduces_so first = record {
+  is_line = λ line is. is;
+  is_next = λ at_end line bytes next. next;
+  refuses = λ at_end bytes bad. (bad.0, no_play_line bytes bad.1);
+  answers = λ lines text done. (say_steps lines done.1.steps done.1.say done.1.each, done.1.none);
+  is_worn_out = λ lines rest worn.
+      let short : length lines < most_steps = worn.0 in let many : most_steps ≤ length lines = worn.1.2 in absurd (omega (arith, short, many));
+  few = λ lines text done few. few;
+  all = λ lines text done all. all;
+}
+
 -- a fault of its lines stops it, and nothing was written
 pub reduce_stop : (first : Reducer) (f : LinesFault) (at_end : Bool) (read wrote : List ℕ)
-    → lines.StopsAt reducer_answers first most_steps f at_end read wrote → StopsAt first.session (play_fault_of f) at_end read wrote
-reduce_stop first fault.Read at_end read wrote (t, lines, rest, b, p, few, is) = (p.steps, rest, says first t read rest wrote lines b p, is, p.none)
-reduce_stop first (fault.BadLine n) at_end read wrote (t, lines, rest, b, p, few, (has, none, counted)) = (
-  p.steps,
-  rest,
-  says first t read rest wrote lines b p,
-  has,
-  no_play_line rest none,
-  counted ∙ ap (λ (k : ℕ). k + 1) (length-said lines p.steps p.say),
-  p.none,
-)
-reduce_stop first fault.TooManyLines at_end read wrote (t, lines, rest, b, p, few, (all, more)) =
-    (p.steps, rest, says first t read rest wrote lines b p, sym (length-said lines p.steps p.say) ∙ all, more, p.none)
-reduce_stop first fault.WornOut at_end read wrote (t, lines, rest, b, p, few, (short, (line, more, is, front, many))) = absurd (omega (arith, short, many))
-reduce_stop first fault.NoMemory at_end read wrote (t, lines, rest, b, p, few, any) = p.none
-reduce_stop first fault.Write at_end read wrote (text, more, (t, lines, rest, b, p, few, any), e, left) = absurd (left (no_part wrote more (sym e ∙ p.none)))
+    → StopsAt (run_of reducer_answers first most_steps) f at_end read wrote
+    → StopsWhole reduce_run (ReducesAll first.session) (lines_fault (play_fault_of f)) at_end read wrote
+reduce_stop first f at_end read wrote stops =
+    by_play_fault f (stops_whole reduce_run (ReducesAll first.session) f at_end read wrote (λ lines text done. done.1)
+    (stops_as _ _ (reduces_so first) f at_end read wrote stops))
+  where
+    -- too many lines are too many steps
+    by_play_fault : (f : LinesFault) → StopsWhole reduce_run (ReducesAll first.session) f at_end read wrote
+        → StopsWhole reduce_run (ReducesAll first.session) (lines_fault (play_fault_of f)) at_end read wrote
+    by_play_fault fault.Read stops = stops
+    by_play_fault (fault.BadLine n) stops = stops
+    by_play_fault fault.TooManyLines stops = stops
+    by_play_fault fault.WornOut stops = stops
+    by_play_fault fault.NoMemory stops = stops
+    by_play_fault fault.Write stops = stops
 
--- a beginning of what is kept was written
-pub write_stop : (s n : ℕ) (at_end : Bool) (read text : List ℕ) → ReducesAll s read text → StopsAt s Write at_end read (take n text)
-write_stop s n at_end read text all = (text, drop n text, all, sym (take-append-drop n text))
+-- a beginning of what is kept was written, and not all
+pub write_stop : (s n : ℕ) (at_end : Bool) (read text : List ℕ) → ReducesAll s read text → n < length text
+    → StopsWhole reduce_run (ReducesAll s) (lines_fault Write) at_end read (take n text)
+write_stop s n at_end read text all few = (text, all, cut_off n text few)

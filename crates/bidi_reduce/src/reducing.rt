@@ -8,8 +8,9 @@ ghost use Rattle.bidi_reduce.specs.Kept.{strike};
 ghost use Rattle.bidi_reduce.specs.Seen.{sees};
 ghost use Rattle.bidi_sessions.specs.View.{step_of};
 ghost use Rattle.bidi_play.specs.Lines.{CanBeSaid, line_of};
-ghost use Rattle.bidi_play.specs.Plays.{failed_reads, failed_writes};
-ghost use Rattle.bidi_reduce.specs.Reduces.{ReducesAll, StopsAt};
+ghost use Rattle.bidi_lines.specs.Stops.{StopsWhole, failed_reads, failed_writes};
+ghost use Rattle.bidi_play.specs.Plays.{lines_fault};
+ghost use Rattle.bidi_reduce.specs.Reduces.{ReducesAll, reduce_run};
 ghost use Rattle.bidi_reduce.specs.Reducers.{HasReduced, reducer_answers};
 ghost use Rattle.bidi_sessions.specs.Limits.{most_steps};
 
@@ -47,14 +48,14 @@ pub fn reduce<R: Source, W: Sink>(
 
     // A fault says what was read and written before it.
     ensures err { IfErr result (λ fault. Moves (R.left source.old) (R.left source.new) (W.contents sink.old) (W.contents sink.new)
-        (StopsAt session fault (R.has_ended source.new))) }
+        (StopsWhole reduce_run (ReducesAll session) (lines_fault fault) (R.has_ended source.new))) }
 
     // `Read` comes exactly if a read failed, and no run succeeds after a failed read.
     ensures reads { MatchResult result (λ _. R.failures source.new ≡ R.failures source.old)
-        (λ fault. R.failures source.new ≡ R.failures source.old + failed_reads fault) }
+        (λ fault. R.failures source.new ≡ R.failures source.old + failed_reads (lines_fault fault)) }
     // `Write` comes exactly if a write failed, and no run succeeds after a failed write.
     ensures writes { MatchResult result (λ _. W.failures sink.new ≡ W.failures sink.old)
-        (λ fault. W.failures sink.new ≡ W.failures sink.old + failed_writes fault) }
+        (λ fault. W.failures sink.new ≡ W.failures sink.old + failed_writes (lines_fault fault)) }
 
     // What any session sees of a play, it sees of what is kept of it for that session.
     ensures sees_same { (inputs : List Input) (s : ℕ) → sees inputs s ≡ sees (strike inputs s) s }

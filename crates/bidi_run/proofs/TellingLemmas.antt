@@ -6,15 +6,10 @@ use Rattle.std.proofs.lemmas.List.{take-append-le}
 use Rattle.std.specs.Io.KnownBytes.{Appends}
 use Rattle.std.proofs.KnownBytes.{Appends-trans}
 use Rattle.bidi_lines.specs.Devices.{AppendsBeginning, CountsFailure}
-use Rattle.bidi_show.specs.Listings as lists
-use Rattle.bidi_show.specs.declared.showing.ShowFault.{ShowFault}
-use Rattle.bidi_show.specs.declared.showing.ShowFault.TheVariants as list
-use Rattle.bidi_play.specs.Plays as plays
+use Rattle.bidi_lines.specs.declared.answering.LinesFault.{LinesFault}
+use Rattle.bidi_lines.specs.declared.answering.LinesFault.TheVariants as lines
 use Rattle.bidi_play.specs.declared.playing.PlayFault.{PlayFault}
 use Rattle.bidi_play.specs.declared.playing.PlayFault.TheVariants as play
-use Rattle.bidi_pair_lines.specs.Pairs as pairs
-use Rattle.bidi_pair_lines.specs.declared.reading.PairFault.{PairFault}
-use Rattle.bidi_pair_lines.specs.declared.reading.PairFault.TheVariants as pair
 use Rattle.bidi_recorder.specs.declared.fault.HostingFault.{HostingFault}
 use Rattle.bidi_recorder.specs.declared.fault.HostingFault.TheVariants as host
 use Rattle.bidi_run.specs.Runs.{Tells, status_of}
@@ -51,27 +46,28 @@ on_err (Err e) f p = f p
 
 -- ---- statuses
 
-of_play : (f : PlayFault) → 2 ≤ plays.status_of f
+of_play : (f : PlayFault) → 2 ≤ status_of (Play f)
 of_play play.Read = omega arith
 of_play play.Write = omega arith
 of_play (play.BadLine n) = omega arith
 of_play play.NoMemory = omega arith
 of_play play.WornOut = omega arith
 
-of_pair : (f : PairFault) → 2 ≤ pairs.status_of f
-of_pair pair.Read = omega arith
-of_pair pair.Write = omega arith
-of_pair (pair.BadLine n) = omega arith
-of_pair pair.NoMemory = omega arith
-of_pair pair.TooManyLines = omega arith
-of_pair pair.WornOut = omega arith
+of_pair : (f : LinesFault) → 2 ≤ status_of (Pair f)
+of_pair lines.Read = omega arith
+of_pair lines.Write = omega arith
+of_pair (lines.BadLine n) = omega arith
+of_pair lines.NoMemory = omega arith
+of_pair lines.TooManyLines = omega arith
+of_pair lines.WornOut = omega arith
 
-of_listing : (f : ShowFault) → 2 ≤ lists.status_of f
-of_listing list.Read = omega arith
-of_listing list.Write = omega arith
-of_listing (list.BadLine n) = omega arith
-of_listing list.NoMemory = omega arith
-of_listing list.TooManyLines = omega arith
+of_listing : (f : LinesFault) → 2 ≤ status_of (Listing f)
+of_listing lines.Read = omega arith
+of_listing lines.Write = omega arith
+of_listing (lines.BadLine n) = omega arith
+of_listing lines.NoMemory = omega arith
+of_listing lines.TooManyLines = omega arith
+of_listing lines.WornOut = omega arith
 
 of_hosting : (f : HostingFault) → 2 ≤ status_of (Host f)
 of_hosting (host.BadLine n) = omega arith

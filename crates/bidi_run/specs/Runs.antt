@@ -2,26 +2,23 @@
 use Rattle.std.specs.Prelude.{◌≡◌, ℕ, ◌+◌, ◌⊎◌, ◌&&◌, List, [], ◌++◌, Option, Some, None, Bool, false, codes, decimal, length, nat_lt, if◌then◌else◌}
 use Rattle.std.specs.Io.KnownBytes.{Appends}
 use Rattle.bidi_lines.specs.Devices.{AppendsBeginning}
-use Rattle.bidi_show.specs.Listings as lists
-use Rattle.bidi_show.specs.Listings.{ListsAll}
+use Rattle.bidi_lines.specs.Stops as stops
+use Rattle.bidi_lines.specs.Stops.{StopsAt, StopsWhole}
+use Rattle.bidi_lines.specs.declared.answering.LinesFault.{LinesFault}
+use Rattle.bidi_lines.specs.declared.answering.LinesFault.TheVariants as lines
 use Rattle.bidi_command_line.specs.declared.run.StreamRun.{StreamRun}
 use Rattle.bidi_command_line.specs.declared.run.StreamRun.TheVariants as asked
 use Rattle.bidi_command_line.specs.declared.run.BothOptions.{BothOptions}
+use Rattle.bidi_show.specs.Listings.{ListsAll, listing_run}
 use Rattle.bidi_show.specs.declared.showing.Listing.TheVariants.{All, RefusedAlone}
-use Rattle.bidi_show.specs.declared.showing.ShowFault.TheVariants as list
-use Rattle.bidi_why.specs.Telling as tellings
-use Rattle.bidi_why.specs.Telling.{TellsAll}
+use Rattle.bidi_why.specs.Telling.{TellsAll, TellsLines, report_run}
 use Rattle.bidi_why.specs.Conversing.{StopsConversation, TellsConversation}
 use Rattle.bidi_remarks.specs.declared.texts.Form.{Form}
 use Rattle.bidi_remarks.specs.declared.texts.Form.TheVariants.{Words, Json}
-use Rattle.bidi_play.specs.Plays as plays
-use Rattle.bidi_play.specs.Plays.{PlaysAll}
+use Rattle.bidi_play.specs.Plays.{PlaysAll, lines_fault, play_run}
 use Rattle.bidi_play.specs.declared.playing.PlayFault.TheVariants as play
-use Rattle.bidi_reduce.specs.Reduces as reduces
-use Rattle.bidi_reduce.specs.Reduces.{ReducesAll}
-use Rattle.bidi_pair_lines.specs.Pairs as pairs
-use Rattle.bidi_pair_lines.specs.Pairs.{PairsAll}
-use Rattle.bidi_pair_lines.specs.declared.reading.PairFault.TheVariants as pair
+use Rattle.bidi_reduce.specs.Reduces.{ReducesAll, reduce_run}
+use Rattle.bidi_pair_lines.specs.Pairs.{PairsAll, pair_run}
 use Rattle.bidi_serve.specs.declared.listening.ServeFault.TheVariants as serve
 use Rattle.bidi_recorder.specs.declared.fault.HostingFault.TheVariants as host
 use Rattle.bidi_run.specs.declared.faults.RunFault.{RunFault}
@@ -55,58 +52,53 @@ Completes (asked.Both o) status read wrote = (some : Bool) × (status ≡ (if so
 
 -- a run that met a fault met one of its own kind, which says what was read and written before it
 abbrev pub Stops : StreamRun → RunFault → Bool → List ℕ → List ℕ → Type 0
-Stops asked.Play (Play fault) at_end read wrote = plays.StopsAt fault at_end read wrote
-Stops asked.Pair (Pair fault) at_end read wrote = pairs.StopsAt fault at_end read wrote
-Stops (asked.Reduce session) (Play fault) at_end read wrote = reduces.StopsAt session fault at_end read wrote
-Stops (asked.Show side) (Listing fault) at_end read wrote = lists.StopsAt All side fault at_end read wrote
-Stops (asked.Check side) (Listing fault) at_end read wrote = lists.StopsAt RefusedAlone side fault at_end read wrote
-Stops (asked.Why o) (Listing fault) at_end read wrote = tellings.StopsAt (form_of o.is_json) o.side o.profile_only fault at_end read wrote
+Stops asked.Play (Play fault) at_end read wrote = StopsAt play_run (lines_fault fault) at_end read wrote
+Stops asked.Pair (Pair fault) at_end read wrote = StopsWhole pair_run PairsAll fault at_end read wrote
+Stops (asked.Reduce session) (Play fault) at_end read wrote = StopsWhole reduce_run (ReducesAll session) (lines_fault fault) at_end read wrote
+Stops (asked.Show side) (Listing fault) at_end read wrote = StopsAt (listing_run All side) fault at_end read wrote
+Stops (asked.Check side) (Listing fault) at_end read wrote = StopsAt (listing_run RefusedAlone side) fault at_end read wrote
+Stops (asked.Why o) (Listing fault) at_end read wrote = StopsAt (report_run (TellsLines (form_of o.is_json) o.side o.profile_only)) fault at_end read wrote
 Stops (asked.Both o) (Listing fault) at_end read wrote = StopsConversation (both_form o) o.profile_only fault at_end read wrote
 Stops run fault at_end read wrote = ⊥
 
 -- the number of failed reads of the source: 1 if the fault is that of a read, and otherwise 0
 abbrev pub failed_reads : RunFault → ℕ
-failed_reads (Play fault) = plays.failed_reads fault
-failed_reads (Pair fault) = pairs.failed_reads fault
-failed_reads (Listing fault) = lists.failed_reads fault
+failed_reads (Play fault) = stops.failed_reads (lines_fault fault)
+failed_reads (Pair fault) = stops.failed_reads fault
+failed_reads (Listing fault) = stops.failed_reads fault
 failed_reads (Serve fault) = 0
 failed_reads (Host fault) = 0
 
 -- the number of failed writes of the sink: 1 if the fault is that of a write, and otherwise 0
 abbrev pub failed_writes : RunFault → ℕ
-failed_writes (Play fault) = plays.failed_writes fault
-failed_writes (Pair fault) = pairs.failed_writes fault
-failed_writes (Listing fault) = lists.failed_writes fault
+failed_writes (Play fault) = stops.failed_writes (lines_fault fault)
+failed_writes (Pair fault) = stops.failed_writes fault
+failed_writes (Listing fault) = stops.failed_writes fault
 failed_writes (Serve fault) = 0
 failed_writes (Host fault) = 0
 
 -- the status of a program that this fault ends: 2 for a bad line, and 3 otherwise
 abbrev pub status_of : RunFault → ℕ
-status_of (Play fault) = plays.status_of fault
-status_of (Pair fault) = pairs.status_of fault
-status_of (Listing fault) = lists.status_of fault
-status_of (Serve fault) = 3
+status_of (Play (play.BadLine n)) = 2
+status_of (Pair (lines.BadLine n)) = 2
+status_of (Listing (lines.BadLine n)) = 2
 status_of (Host (host.BadLine n)) = 2
-status_of (Host fault) = 3
+status_of fault = 3
+
+-- the line for a fault of a run over lines, with its line feed; for a bad line, these words come after its number
+abbrev pub fault_line : List ℕ → LinesFault → List ℕ
+fault_line words lines.Read = codes "bidi: input cannot be read\n"
+fault_line words lines.Write = codes "bidi: output cannot be written\n"
+fault_line words (lines.BadLine n) = codes "bidi: line " ++ decimal n ++ words
+fault_line words lines.NoMemory = codes "bidi: out of memory\n"
+fault_line words lines.TooManyLines = codes "bidi: too many steps\n"
+fault_line words lines.WornOut = codes "bidi: too many steps\n"
 
 -- the line for the fault, with its line feed
 abbrev pub line_of : RunFault → List ℕ
-line_of (Play play.Read) = codes "bidi: input cannot be read\n"
-line_of (Play play.Write) = codes "bidi: output cannot be written\n"
-line_of (Play (play.BadLine n)) = codes "bidi: line " ++ decimal n ++ codes " is no play line\n"
-line_of (Play play.NoMemory) = codes "bidi: out of memory\n"
-line_of (Play play.WornOut) = codes "bidi: too many steps\n"
-line_of (Pair pair.Read) = codes "bidi: input cannot be read\n"
-line_of (Pair pair.Write) = codes "bidi: output cannot be written\n"
-line_of (Pair (pair.BadLine n)) = codes "bidi: line " ++ decimal n ++ codes " is no pair line\n"
-line_of (Pair pair.NoMemory) = codes "bidi: out of memory\n"
-line_of (Pair pair.TooManyLines) = codes "bidi: too many steps\n"
-line_of (Pair pair.WornOut) = codes "bidi: too many steps\n"
-line_of (Listing list.Read) = codes "bidi: input cannot be read\n"
-line_of (Listing list.Write) = codes "bidi: output cannot be written\n"
-line_of (Listing (list.BadLine n)) = codes "bidi: line " ++ decimal n ++ codes " is no text line\n"
-line_of (Listing list.NoMemory) = codes "bidi: out of memory\n"
-line_of (Listing list.TooManyLines) = codes "bidi: too many steps\n"
+line_of (Play fault) = fault_line (codes " is no play line\n") (lines_fault fault)
+line_of (Pair fault) = fault_line (codes " is no pair line\n") fault
+line_of (Listing fault) = fault_line (codes " is no text line\n") fault
 line_of (Serve serve.Listen) = codes "bidi: cannot listen\n"
 line_of (Serve serve.NoMemory) = codes "bidi: out of memory\n"
 line_of (Serve serve.WornOut) = codes "bidi: too many steps\n"

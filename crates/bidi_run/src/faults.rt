@@ -4,12 +4,10 @@ ghost use Rattle.std.specs.Io.KnownBytes.{Appends};
 ghost use Rattle.bidi_lines.specs.Devices.{AppendsBeginning, CountsFailure};
 ghost use Rattle.bidi_run.specs.Runs.{Tells, line_of, status_of, with_number};
 
-use bidi_lines::{DeviceFault, Sink, write_all};
-use bidi_pair_lines::PairFault;
+use bidi_lines::{DeviceFault, LinesFault, Sink, write_all};
 use bidi_play::PlayFault;
 use bidi_recorder::HostingFault;
 use bidi_serve::ServeFault;
-use bidi_show::ShowFault;
 use itoa::Buffer;
 
 /// Why a run ended early. `status` and `report` say what a program does then.
@@ -18,9 +16,9 @@ pub enum RunFault {
     /// `play` or `reduce` stopped, for this cause.
     Play(PlayFault),
     /// `pair` stopped, for this cause.
-    Pair(PairFault),
+    Pair(LinesFault),
     /// `show` or `check` stopped, for this cause.
-    Listing(ShowFault),
+    Listing(LinesFault),
     /// `serve` stopped, for this cause.
     Serve(ServeFault),
     /// `host` stopped, for this cause.
@@ -35,8 +33,8 @@ impl RunFault {
     {
         match self {
             RunFault::Play(PlayFault::BadLine(_)) => 2,
-            RunFault::Pair(PairFault::BadLine(_)) => 2,
-            RunFault::Listing(ShowFault::BadLine(_)) => 2,
+            RunFault::Pair(LinesFault::BadLine(_)) => 2,
+            RunFault::Listing(LinesFault::BadLine(_)) => 2,
             RunFault::Host(HostingFault::BadLine(_)) => 2,
             _ => 3,
         }
@@ -59,28 +57,29 @@ impl RunFault {
     {
         match self {
             RunFault::Play(PlayFault::BadLine(number)) => (Some(number), " is no play line\n"),
-            RunFault::Pair(PairFault::BadLine(number)) => (Some(number), " is no pair line\n"),
-            RunFault::Listing(ShowFault::BadLine(number)) => (Some(number), " is no text line\n"),
+            RunFault::Pair(LinesFault::BadLine(number)) => (Some(number), " is no pair line\n"),
+            RunFault::Listing(LinesFault::BadLine(number)) => (Some(number), " is no text line\n"),
             RunFault::Host(HostingFault::BadLine(number)) => {
                 (Some(number), " is no line of a page\n")
             }
             RunFault::Play(PlayFault::Read)
-            | RunFault::Pair(PairFault::Read)
-            | RunFault::Listing(ShowFault::Read)
+            | RunFault::Pair(LinesFault::Read)
+            | RunFault::Listing(LinesFault::Read)
             | RunFault::Host(HostingFault::Read) => (None, "bidi: input cannot be read\n"),
             RunFault::Play(PlayFault::Write)
-            | RunFault::Pair(PairFault::Write)
-            | RunFault::Listing(ShowFault::Write)
+            | RunFault::Pair(LinesFault::Write)
+            | RunFault::Listing(LinesFault::Write)
             | RunFault::Host(HostingFault::Answer) => (None, "bidi: output cannot be written\n"),
             RunFault::Play(PlayFault::NoMemory)
-            | RunFault::Pair(PairFault::NoMemory)
-            | RunFault::Listing(ShowFault::NoMemory)
+            | RunFault::Pair(LinesFault::NoMemory)
+            | RunFault::Listing(LinesFault::NoMemory)
             | RunFault::Serve(ServeFault::NoMemory)
             | RunFault::Host(HostingFault::NoMemory) => (None, "bidi: out of memory\n"),
             RunFault::Play(PlayFault::WornOut)
-            | RunFault::Pair(PairFault::TooManyLines)
-            | RunFault::Pair(PairFault::WornOut)
-            | RunFault::Listing(ShowFault::TooManyLines)
+            | RunFault::Pair(LinesFault::TooManyLines)
+            | RunFault::Pair(LinesFault::WornOut)
+            | RunFault::Listing(LinesFault::TooManyLines)
+            | RunFault::Listing(LinesFault::WornOut)
             | RunFault::Serve(ServeFault::WornOut)
             | RunFault::Host(HostingFault::WornOut) => (None, "bidi: too many steps\n"),
             RunFault::Serve(ServeFault::Listen) | RunFault::Host(HostingFault::Listen) => {

@@ -2,11 +2,13 @@
 ghost use Rattle.std.specs.Prelude.{◌≡◌, ◌+◌, IfErr, OnOk, IsTrue, MatchResult};
 ghost use Rattle.std.specs.Io.KnownBytes.{IsAtEnd};
 ghost use Rattle.bidi_lines.specs.Devices.{Moves};
-ghost use Rattle.bidi_pair_lines.specs.Pairs.{PairsAll, StopsAt, failed_reads, failed_writes};
+ghost use Rattle.bidi_lines.specs.Stops.{StopsWhole, failed_reads, failed_writes};
+ghost use Rattle.bidi_pair_lines.specs.Pairs.{PairsAll, pair_run};
 
-use bidi_lines::{Sink, Source, write_all};
+use bidi_lines::{LinesFault, Sink, Source, write_all};
 use bidi_link::pair;
-use bidi_pair_lines::{PairFault, ledger_lines, read_steps};
+use bidi_pair_lines::{ledger_lines, read_steps};
+use bidi_remote::RemoteFault;
 use std::alloc::Global;
 
 /// Plays the pair lines of the source, and writes the fate of each command and the events of each link.
@@ -28,7 +30,7 @@ pub fn play_pair<R: Source, W: Sink>(
     alloc: Global,
     source: &mut R,
     sink: &mut W,
-) -> Result<(), PairFault>
+) -> Result<(), LinesFault>
     // After an Ok, the source gave pair lines only, and the lines of their ledger were written.
     ensures ok { OnOk result (Moves (R.left source.old) (R.left source.new) (W.contents sink.old) (W.contents sink.new) PairsAll) }
     // After an Ok, the source has ended, and none of its bytes is left.
@@ -36,7 +38,7 @@ pub fn play_pair<R: Source, W: Sink>(
 
     // A fault says which lines were read before it, and what was written.
     ensures err { IfErr result (λ fault. Moves (R.left source.old) (R.left source.new) (W.contents sink.old) (W.contents sink.new)
-        (StopsAt fault (R.has_ended source.new))) }
+        (StopsWhole pair_run PairsAll fault (R.has_ended source.new))) }
 
     // The source failed once if the fault is `Read`, and not at all otherwise.
     ensures reads { MatchResult result (λ _. R.failures source.new ≡ R.failures source.old)
@@ -46,7 +48,11 @@ pub fn play_pair<R: Source, W: Sink>(
         (λ fault. W.failures sink.new ≡ W.failures sink.old + failed_writes fault) }
 {
     let steps = read_steps(alloc, source)?;
-    let ledger = pair(alloc, steps)?;
+    let ledger = match pair(alloc, steps) {
+        Ok(ledger) => ledger,
+        Err(RemoteFault::NoMemory) => return Err(LinesFault::NoMemory),
+        Err(RemoteFault::WornOut) => return Err(LinesFault::WornOut),
+    };
     let text = ledger_lines(alloc, ledger)?;
     write_all(sink, text.as_bytes())?;
     Ok(())

@@ -1,16 +1,14 @@
 -- Listing one more line, and stopping.
-use Rattle.std.proofs.Common.{◌≡◌, ℕ, ◌+◌, ◌≤◌, Bool, true, false, List, [], ◌∷◌, ◌++◌, length}
+use Rattle.std.proofs.Common.{◌≡◌, ℕ, ◌+◌, Bool, true, false, List, [], ◌∷◌, ◌++◌, length}
 use Rattle.std.proofs.Common.{length-append, append_assoc, append-nil, arith, refl, sym, ◌∙◌, ap, subst}
 use Rattle.std.specs.Prelude.{codes, decimal, nat_lt, not, ◌||◌, ◌==◌}
 use Rattle.std.proofs.lemmas.Bool.Decides.{nat_tests}
 use Rattle.bidi_lines.specs.Feeds.{ended}
-use Rattle.bidi_lines.specs.Answering.{BeginsWith}
-use Rattle.bidi_lines.specs.Answering as lines
-use Rattle.bidi_lines.specs.declared.answering.LinesFault.{LinesFault}
-use Rattle.bidi_lines.specs.declared.answering.LinesFault.TheVariants as fault
+use Rattle.bidi_lines.specs.Answering.{AnswersAll, run_of}
 use Rattle.bidi_lines.specs.declared.side.Side.{Side}
 use Rattle.bidi_lines.proofs.AnsweringLemmas.{begins_badly}
-use Rattle.bidi_show.specs.Listings.{Lists, ListsAll, ListsEach, Listed, StopsAt, show_fault_of}
+use Rattle.bidi_lines.proofs.StopLemmas.{Implies}
+use Rattle.bidi_show.specs.Listings.{Lists, ListsAll, ListsEach, listing_run}
 use Rattle.bidi_show.specs.Listers.{HasListed, lister_answers}
 use Rattle.bidi_show.specs.declared.showing.Listing.{Listing}
 use Rattle.bidi_show.specs.declared.showing.Lister.{Lister}
@@ -69,25 +67,19 @@ numbered_grouped n t =
 
 -- ---- all of them, and stops
 
--- the listing of the bytes that were read
-listed_of : (first lister : Lister) (read rest text : List ℕ) (lines : List (List ℕ)) → BeginsWith read lines rest
-    → (p : HasListed first lister lines text) → length lines ≤ 1000000000 → Listed first.listing first.side read lines rest text
-listed_of first lister read rest text lines b p few = record { front = b.front; each = b.each; text = p.lists; few = few }
-
 -- all that was read was listed, and it is known whether anything was written
-pub lists_all : (first lister : Lister) (read wrote : List ℕ) → lines.AnswersAll (HasListed first lister) 1000000000 read wrote
+pub lists_all : (first lister : Lister) (read wrote : List ℕ) → AnswersAll (HasListed first lister) 1000000000 read wrote
     → ListsAll first.listing first.side read wrote × (lister.has_written ≡ nat_lt 0 (length wrote))
-lists_all first lister read wrote (lines, b, p, few) = ((lines, listed_of first lister read [] wrote lines b p few), p.tells)
+lists_all first lister read wrote (lines, b, p, few) = ((lines, b, p.lists, few), p.tells)
 
--- a fault of its lines stops a listing
-pub list_stop : (first : Lister) (f : LinesFault) (at_end : Bool) (read wrote : List ℕ)
-    → lines.StopsAt lister_answers first 1000000000 f at_end read wrote → StopsAt first.listing first.side (show_fault_of f) at_end read wrote
-list_stop first fault.Read at_end read wrote (t, lines, rest, b, p, few, is) = (lines, rest, listed_of first t read rest wrote lines b p few, is)
-list_stop first (fault.BadLine n) at_end read wrote (t, lines, rest, b, p, few, (has, none, counted)) =
-    (lines, rest, listed_of first t read rest wrote lines b p few, begins_badly at_end rest has none, counted)
-list_stop first fault.TooManyLines at_end read wrote (t, lines, rest, b, p, few, (all, more)) =
-    (lines, rest, listed_of first t read rest wrote lines b p few, all, more)
-list_stop first fault.WornOut at_end read wrote (t, lines, rest, b, p, few, (short, (line, more, is, front, worn))) = absurd worn
-list_stop first fault.NoMemory at_end read wrote (t, lines, rest, b, p, few, any) = (lines, rest, listed_of first t read rest wrote lines b p few)
-list_stop first fault.Write at_end read wrote (text, more, (t, lines, rest, b, p, few, any), e, left) =
-    (lines, rest, text, more, listed_of first t read rest text lines b p few, e)
+-- what a lister answers is a listing
+pub lists_so : (first : Lister) → Implies (run_of lister_answers first 1000000000) (listing_run first.listing first.side)
+lists_so first = record {
+  is_line = λ line is. is;
+  is_next = λ at_end line bytes next. next;
+  refuses = λ at_end bytes bad. begins_badly at_end bytes bad.0 bad.1;
+  answers = λ lines text done. done.1.lists;
+  is_worn_out = λ lines rest worn. worn.1.2;
+  few = λ lines text done few. few;
+  all = λ lines text done all. all;
+}

@@ -13,11 +13,12 @@
 //! `refused null invalid argument`.
 //!
 //! An input has at most 1,000,000,000 lines of at most 2,097,152 bytes. A listing stops at the first
-//! [`ShowFault`], which says what was listed before it. Memory holds one line, its message and its listing.
+//! [`LinesFault`](bidi_lines::LinesFault), which says what was listed before it. Memory holds one line, its
+//! message and its listing.
 #![tactic(auto)]
 
 mod message_lines;
 mod showing;
 
 pub use message_lines::{Shown, line_verdict, refusal, refused_line, show_line, value_refusal};
-pub use showing::{Listing, ShowFault, list};
+pub use showing::{Listing, list};

@@ -4,16 +4,15 @@ ghost use Rattle.std.specs.Prelude.{option_map, string_bytes, IfOk, IfErr, OnOk,
 ghost use Rattle.std.specs.Io.KnownBytes.{IsAtEnd};
 ghost use Rattle.bidi_lines.specs.Devices.{Moves};
 ghost use Rattle.bidi_lines.specs.Feeds.{ended};
+ghost use Rattle.bidi_lines.specs.Stops.{StopsAt, failed_reads, failed_writes};
 ghost use Rattle.bidi_show.specs.MessageLines.{shown_of, text_of};
-ghost use Rattle.bidi_show.specs.Listings.{Lists, ListsAll, StopsAt, failed_reads, failed_writes, numbered, show_fault_of};
+ghost use Rattle.bidi_show.specs.Listings.{Lists, ListsAll, listing_run, numbered};
 ghost use Rattle.bidi_show.specs.Listers.{lister_answers};
-ghost use Rattle.bidi_show.specs.declared.showing.ShowFault.TheVariants.{NoMemory};
 
 use super::message_lines::{Shown, refusal, show_line};
 use bidi_lines::{AnswerFault, Answerer, LinesFault, MOST_LINES, Side, Sink, Source, answer_lines};
 use json::Scratch;
 use std::alloc::{AllocError, Global};
-use thiserror::Error;
 
 /// Which lines are listed.
 #[derive(Clone, Copy, Debug, PartialEq, Eq)]
@@ -22,49 +21,6 @@ pub enum Listing {
     All,
     /// Only refused lines, each with its number.
     RefusedAlone,
-}
-
-/// Why a listing stopped before the end of its input. What was written before stays written.
-#[derive(Clone, Copy, Debug, PartialEq, Eq, Error)]
-pub enum ShowFault {
-    /// A read of the source failed. The beginning of a line may be lost, so list the input again.
-    #[error("input cannot be read")]
-    Read,
-    /// A write of the sink failed. The current line may be partly written.
-    #[error("output cannot be written")]
-    Write,
-    /// This line, counted from 1, has more than 2,097,152 bytes or no line feed. Fix it, and list again.
-    #[error("line {0} is no text line")]
-    BadLine(u64),
-    /// An allocation failed. Nothing is written for the current line.
-    #[error("out of memory")]
-    NoMemory,
-    /// The input has more than 1,000,000,000 lines. The first ones are listed; list the rest as an input of
-    /// its own.
-    #[error("too many steps")]
-    TooManyLines,
-}
-
-impl From<AllocError> for ShowFault {
-    ghost from_gives = { λ _ fault. fault ≡ NoMemory };
-
-    fn from(_error: AllocError) -> ShowFault {
-        ShowFault::NoMemory
-    }
-}
-
-impl From<LinesFault> for ShowFault {
-    ghost from_gives = { λ error fault. fault ≡ show_fault_of error };
-
-    fn from(error: LinesFault) -> ShowFault {
-        match error {
-            LinesFault::Read => ShowFault::Read,
-            LinesFault::Write => ShowFault::Write,
-            LinesFault::BadLine(number) => ShowFault::BadLine(number),
-            LinesFault::NoMemory => ShowFault::NoMemory,
-            LinesFault::TooManyLines | LinesFault::WornOut => ShowFault::TooManyLines,
-        }
-    }
 }
 
 /// Writes a line for each line of the source, or for each refused one. Returns whether it wrote any.
@@ -84,7 +40,7 @@ pub fn list<R: Source, W: Sink>(
     side: Side,
     source: &mut R,
     sink: &mut W,
-) -> Result<bool, ShowFault>
+) -> Result<bool, LinesFault>
     // After an Ok, the source gave whole lines only, and their listing was written; the result is
     // true if that is not empty.
     ensures ok { IfOk result (λ some. Moves (R.left source.old) (R.left source.new) (W.contents sink.old) (W.contents sink.new)
@@ -94,7 +50,7 @@ pub fn list<R: Source, W: Sink>(
 
     // A fault says which lines were listed and written before it, and why the next was not.
     ensures err { IfErr result (λ fault. Moves (R.left source.old) (R.left source.new) (W.contents sink.old) (W.contents sink.new)
-        (StopsAt listing side fault (R.has_ended source.new))) }
+        (StopsAt (listing_run listing side) fault (R.has_ended source.new))) }
 
     // The source failed once if the fault is `Read`, and not at all otherwise.
     ensures reads { MatchResult result (λ _. R.failures source.new ≡ R.failures source.old)

@@ -12,8 +12,10 @@ use Rattle.bidi_tree.specs.declared.number.JsUint.{JsUint}
 use Rattle.bidi_methods.specs.declared.method.Method.{Method}
 use Rattle.bidi_local.specs.Pending.{Pending}
 use Rattle.bidi_local.specs.View.{waiting_in}
-use Rattle.bidi_show.specs.declared.showing.ShowFault.{ShowFault}
-use Rattle.bidi_show.specs.declared.showing.ShowFault.TheVariants.{Read, Write, BadLine, NoMemory, TooManyLines}
+use Rattle.bidi_lines.specs.Stops.{IsCutOff}
+use Rattle.bidi_lines.specs.declared.answering.LinesFault.{LinesFault}
+use Rattle.bidi_lines.specs.declared.answering.LinesFault.TheVariants.{Read, Write, BadLine, NoMemory, TooManyLines, WornOut}
+use Rattle.bidi_lines.proofs.AnsweringLemmas.{cut_off}
 use Rattle.bidi_remarks.specs.Explaining.{Telling, remark_telling, told_of}
 use Rattle.bidi_remarks.specs.Remark.{Remark, is_beyond, line_of as line_at, remark_line, unanswered_line}
 use Rattle.bidi_remarks.specs.declared.telling.Told.{Told}
@@ -21,10 +23,10 @@ use Rattle.bidi_remarks.specs.declared.texts.Form.{Form}
 use Rattle.bidi_why.specs.Conversing.{Converses, CountsConversation, Heard, HearsEach, HearsLine, IsTranscript, Standing, StopsConversation, TellsConversation, any_waits, at_line, entry_of, kept_remarks, remark_lines, silence, unanswered_entries, unanswered_lines}
 use Rattle.bidi_why.specs.Explainers.{HasConversed, standing_of, text_in}
 use Rattle.bidi_why.specs.Summary.{Entry, IsSum, any_fault, entries_in, is_fault, unanswered}
-use Rattle.bidi_why.specs.Telling.{IsCutOff, SoFar, StopsLine, Sums, Whole, last_line}
+use Rattle.bidi_why.specs.Telling.{SoFar, StopsLine, Sums, Whole, last_line}
 use Rattle.bidi_why.specs.declared.conversation.Conversation.{Conversation}
 use Rattle.bidi_why.specs.declared.sum.Sum.{Sum}
-use Rattle.bidi_why.proofs.TellingLemmas.{cut_off, whole_as}
+use Rattle.bidi_why.proofs.TellingLemmas.{whole_as}
 
 -- what is told of one line more stands behind the rest
 hears_more : (n : ℕ) (s mid s' : Standing) (lines : List (List ℕ)) (line : List ℕ) (told : List Heard) (o : Option Remark)
@@ -211,7 +213,7 @@ module _ (form : Option Form) (only : Bool) (first now : Conversation) (same : f
   transcript lines text told p = (told, standing_of now, said_so lines text told p)
 
   -- a fault behind the last line
-  pub stops_behind : (sum : Sum) (f : ShowFault) (b c : Option (List ℕ)) (at_end : Bool) (read wrote : List ℕ)
+  pub stops_behind : (sum : Sum) (f : LinesFault) (b c : Option (List ℕ)) (at_end : Bool) (read wrote : List ℕ)
       → Whole (Sums HasConversed first now sum) read wrote → at_end ≡ true
       → StopsLine (λ text. text ≡ unanswered_lines now.form (standing_of now)) f b c
       → (more : List ℕ) × Appends b c more × StopsConversation form only f at_end read (wrote ++ more)
@@ -244,6 +246,7 @@ module _ (form : Option Form) (only : Bool) (first now : Conversation) (same : f
   stops_behind sum Read b c at_end read wrote whole at_last none = absurd none
   stops_behind sum (BadLine n) b c at_end read wrote whole at_last none = absurd none
   stops_behind sum TooManyLines b c at_end read wrote whole at_last none = absurd none
+  stops_behind sum WornOut b c at_end read wrote whole at_last none = absurd none
 
   -- all was told, and then the commands that wait, and the fact holds of how they are counted
   pub counts_both : (sum sum' : Sum) (b c : Option (List ℕ)) (read wrote : List ℕ) (P : ℕ → List Entry → Type 0)

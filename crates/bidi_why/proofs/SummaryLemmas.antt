@@ -2,7 +2,15 @@
 use Rattle.std.proofs.Common.{◌≡◌, ℕ, zero, suc, drop, slice_index_or, ◌+◌, ◌<◌, ◌≤◌, ◌^◌, Bool, true, false, List, [], ◌∷◌, ◌++◌, length, map, take, length-append, append_assoc, append-nil, slice_set, arith, inl, inr, refl, sym, ◌∙◌, ap, subst}
 use Rattle.std.specs.Prelude.{◌||◌, ◌&&◌, ◌==◌, nat_le, nat_lt, codes, Result, Ok, Err, OnOk, OnErr, Option, Some, None, cond, position, replicate, decimal, if◌then◌else◌}
 use Rattle.std.specs.List.{flat_map, list_any, position_from}
-use Rattle.std.specs.List.Sorted.{IsNonDecreasingBy, IsPermutation}
+use Rattle.std.specs.Borrow.{Bor}
+use Rattle.std.specs.Cmp.{IsTotalOrder}
+use Rattle.std.specs.Fn.{Called, Mut}
+use Rattle.std.specs.List.Sorted.{IsPermutation, IsSorted, IsSortedBy, IsSortedByClosure}
+use Rattle.std.specs.Ordering.{is_lt}
+use Rattle.std.specs.declared.cmp.Ordering.{Ordering}
+use Rattle.std.proofs.lemmas.Cmp.{back_total, nat_cmp_total, on_total, then_total}
+use Rattle.std.proofs.lemmas.Fn.{always_returns_same}
+use Rattle.std.proofs.lemmas.List.MinMax.{ranks_by}
 use Rattle.std.specs.Str.{bytes_eq}
 use Rattle.std.proofs.lemmas.List.{get_or-map, length-map, length-replicate, map-append, take-append-le, at_drop_more}
 use Rattle.std.proofs.lemmas.List.Quantifiers.{position-Some}
@@ -17,7 +25,7 @@ use Rattle.std.proofs.KnownBytes.{Appends-trans}
 use Rattle.bidi_lines.specs.Devices.{AppendsBeginning, CountsFailure}
 use Rattle.bidi_remarks.specs.declared.telling.CountedAs.{CountedAs}
 use Rattle.bidi_remarks.specs.declared.telling.CountedAs.TheVariants.{Refused, Beyond, Failed, Unanswered}
-use Rattle.bidi_why.specs.Counting.{Counts, IsRanking, Row, count_line, counted_in, counts_after, counts_of, counts_with, is_of, is_told_apart, new_row, lines_counted, no_counts, once_more, others_line, rank, row_line, row_of}
+use Rattle.bidi_why.specs.Counting.{Counts, IsRanking, Row, count_line, counted_in, counts_after, counts_of, counts_with, is_of, is_told_apart, new_row, lines_counted, no_counts, once_more, others_line, row_line, row_of, row_order}
 use Rattle.bidi_why.specs.Summary.{Entry, IsGiven, IsSum, SumsUp, causes, counted, head_line, hint_line, is_fault, is_log, is_same, some_words, sum_text}
 use Rattle.bidi_why.specs.declared.counting.Cause.{Cause}
 use Rattle.bidi_why.specs.declared.counting.Causes.{Causes}
@@ -335,18 +343,34 @@ pub given : {T E : Type 0} (r : Result T E) (a b : Option (List ℕ)) (f g : ℕ
 given (Ok x) a b f g text all part same = inl (same, all)
 given (Err e) a b f g text all part one = inr (one, part)
 
--- the same rows in the order of their ranks
-pub ranked : (rows rows' : List Cause) → IsPermutation rows rows' → IsNonDecreasingBy (λ (r : Cause). rank (row_of r)) rows' → IsRanking (map row_of rows') (map row_of rows)
-ranked rows rows' same order = record { same = IsPermutation-map row_of rows rows' same; order = up rows' order }
+-- rows are in a total order
+row_order-total : IsTotalOrder row_order
+row_order-total = then_total (back_total (on_total (λ (r : Row). r.count) nat_cmp_total)) (on_total (λ (r : Row). r.place) nat_cmp_total)
+
+-- the same rows in their order, from what a sort says
+pub ranked : {F : Type 0} {g : Mut F (Bor Cause × (Bor Cause × Unit {0})) Ordering} {f : F} (rows rows' : List Cause) → IsPermutation rows rows'
+    → IsSortedByClosure g f rows'
+    → ((a : Bor Cause × (Bor Cause × Unit {0})) (r : Ordering) (f' : F) → Called g f a r f'
+    → (r ≡ row_order (row_of a.0.now) (row_of a.1.0.now)) × (f' ≡ f))
+    → IsRanking (map row_of rows') (map row_of rows)
+ranked {g = g} {f = f} rows rows' same sorted h = record {
+  same = IsPermutation-map row_of rows rows' same;
+  order = up rows' (sorted comes_first (ranks_by row_order-total row_of)
+      (always_returns_same g (λ a r. is_lt r ≡ comes_first a.0.now a.1.0.now) f (λ a r f' k. (ap is_lt (h a r f' k).0, (h a r f' k).1))));
+}
   where
-    up : (rs : List Cause) → IsNonDecreasingBy (λ (r : Cause). rank (row_of r)) rs → IsNonDecreasingBy rank (map row_of rs)
-    up [] h = λ i j d before less. absurd (omega (arith, less))
-    up (r ∷ rs) h = λ i j d before less.
+    comes_first : Cause → Cause → Bool
+    comes_first x y = is_lt (row_order (row_of x) (row_of y))
+
+    up : (rs : List Cause) → IsSortedBy comes_first rs → IsSorted row_order (map row_of rs)
+    up [] h = λ k d low less. absurd (omega (arith, less))
+    up (r ∷ rs) h = λ k d low less.
         let long = length-map (r ∷ rs) row_of in
-        let at_j : j < length (r ∷ rs) = omega (arith, long, less) in
-        let at_i : i < length (r ∷ rs) = omega (arith, before, at_j) in
-        subst (λ (x : Row). rank x ≤ rank (slice_index_or (map row_of (r ∷ rs)) j d)) (sym (get_or-map row_of (r ∷ rs) i r d at_i))
-        (subst (λ (x : Row). rank (row_of (slice_index_or (r ∷ rs) i r)) ≤ rank x) (sym (get_or-map row_of (r ∷ rs) j r d at_j)) (h i j r before at_j))
+        let at_next : k + 1 < length (r ∷ rs) = omega (arith, long, less) in
+        let at_row : k < length (r ∷ rs) = omega (arith, at_next) in
+        subst (λ (x : Row). is_lt (row_order (slice_index_or (map row_of (r ∷ rs)) (k + 1) d) x) ≡ false) (sym (get_or-map row_of (r ∷ rs) k r d at_row))
+        (subst (λ (x : Row). is_lt (row_order x (row_of (slice_index_or (r ∷ rs) k r))) ≡ false) (sym (get_or-map row_of (r ∷ rs) (k + 1) r d at_next))
+        (h k r low at_next))
 
 -- what a sum is written as is the summary
 pub sums_up : (s s' : Sum) (n : ℕ) (told : List Entry) (a b : Option (List ℕ)) (f g : ℕ) → IsSum s n told

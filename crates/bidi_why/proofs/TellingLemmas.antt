@@ -1,23 +1,23 @@
 -- One more line that is told of, and where a listing stops.
-use Rattle.std.proofs.Common.{◌≡◌, ◌≢◌, ℕ, suc, ◌+◌, ◌<◌, Bool, true, false, List, [], ◌∷◌, ◌++◌, length, take, drop, take-append-drop}
-use Rattle.std.proofs.Common.{length-append, length-drop, append_assoc, append-nil, arith, option_map, refl, sym, ◌∙◌, ap, subst}
+use Rattle.std.proofs.Common.{◌≡◌, ◌≢◌, ℕ, suc, ◌+◌, ◌<◌, ◌≤◌, Bool, true, false, List, [], ◌∷◌, ◌++◌, length, take}
+use Rattle.std.proofs.Common.{length-append, append_assoc, append-nil, arith, option_map, refl, sym, ◌∙◌, ap, subst}
 use Rattle.std.specs.Prelude.{nat_lt, ◌||◌, ◌&&◌, Result, Ok, Err, OnErr, OnOk, IfErr, IfOk, Option, Some, None, ⊤, if◌then◌else◌}
 use Rattle.std.specs.Global.{Vec}
 use Rattle.std.proofs.lemmas.Bool.Decides.{nat_tests}
-use Rattle.std.proofs.lemmas.Grind.{flat_map-append}
 use Rattle.std.proofs.lemmas.List.Folds.{list_any-append}
 use Rattle.std.specs.Io.KnownBytes.{Appends}
 use Rattle.bidi_lines.specs.Devices.{AppendsBeginning}
 use Rattle.bidi_lines.specs.Feeds.{ended, has_feed}
-use Rattle.bidi_lines.specs.InputLines.{IsLine, joined}
-use Rattle.bidi_lines.specs.Skipping.{IsEndless}
+use Rattle.bidi_lines.specs.Answering.{lines_fault_of}
+use Rattle.bidi_lines.specs.InputLines.{IsLine, most_lines}
+use Rattle.bidi_lines.specs.Stops.{BeginsWith, StopsAt}
+use Rattle.bidi_lines.specs.declared.answering.LinesFault.{LinesFault}
+use Rattle.bidi_lines.specs.declared.answering.LinesFault.TheVariants.{Read, Write, BadLine, NoMemory, TooManyLines, WornOut}
 use Rattle.bidi_lines.specs.declared.line_reader.InputFault.{InputFault}
 use Rattle.bidi_lines.specs.declared.line_reader.InputFault.TheVariants as input
 use Rattle.bidi_lines.specs.declared.side.Side.{Side}
-use Rattle.bidi_lines.proofs.AnsweringLemmas.{all_more}
-use Rattle.bidi_lines.proofs.FeedLemmas.{regroup}
-use Rattle.bidi_show.specs.declared.showing.ShowFault.{ShowFault}
-use Rattle.bidi_show.specs.declared.showing.ShowFault.TheVariants.{Read, Write, BadLine, NoMemory, TooManyLines}
+use Rattle.bidi_lines.proofs.AnsweringLemmas.{begins_all, begins_read, cut_off}
+use Rattle.bidi_lines.proofs.StopLemmas.{Implies}
 use Rattle.bidi_remarks.specs.Explaining.{Explains, Telling, counted_as, is_refused, is_taken, told_of, telling}
 use Rattle.bidi_remarks.specs.Texts.{told_text}
 use Rattle.bidi_remarks.specs.Trouble.{Trouble, bad, is_beyond}
@@ -28,8 +28,7 @@ use Rattle.bidi_remarks.specs.declared.texts.Form.{Form}
 use Rattle.bidi_remarks.specs.declared.texts.Form.TheVariants.{Words, Json}
 use Rattle.bidi_why.specs.Input.{IsOf, finds}
 use Rattle.bidi_why.specs.Summary.{Entry, any_fault, entries_in, is_fault, is_same}
-use Rattle.bidi_why.specs.Telling as telling_of
-use Rattle.bidi_why.specs.Telling.{IsCutOff, IsNext, IsOneLine, Parts, StopsBy, StopsLine, Tells, TellsEach, TellsLines, Whole, input_fault, is_ended, is_last, is_line, is_too_long, kept, last_line, written, SoFar}
+use Rattle.bidi_why.specs.Telling.{HasEndless, IsNext, IsOneLine, StopsLine, Tells, TellsEach, TellsLines, Whole, is_ended, is_last, is_line, is_too_long, kept, last_line, report_run, written, SoFar}
 use Rattle.bidi_why.specs.Explainers.{HasExplained, text_in}
 use Rattle.bidi_why.specs.declared.next_line.Found.{Found}
 use Rattle.bidi_why.specs.declared.next_line.Line.{Line}
@@ -158,40 +157,19 @@ pub tells_long : (form : Form) (side : Side) (only : Bool) (n : ℕ) (l : Line) 
 tells_long form side only n l t is same bytes at =
     subst (λ (x : Telling). Tells form side only n bytes (Some x)) (sym same) (is_too_long (subst (λ (x : Line). IsOf x bytes) is at))
 
--- ---- what stands at the front
-
--- more bytes were read, of no whole line
-pub parts_read : (read bytes rest rest' : List ℕ) (lines : List (List ℕ)) → Parts read lines rest → rest' ≡ rest ++ bytes → Parts (read ++ bytes) lines rest'
-parts_read read bytes rest rest' lines b e = record {
-  front = ap (λ (z : List ℕ). z ++ bytes) b.front ∙ (append_assoc (joined lines) rest bytes ∙ ap (λ (z : List ℕ). joined lines ++ z) (sym e));
-  each = b.each;
-}
-
--- one more line, of which the last bytes were just read
-pub parts_more : (read bytes line gone rest rest' : List ℕ) (lines : List (List ℕ)) → Parts read lines rest → gone ++ rest' ≡ rest ++ bytes
-    → gone ≡ ended line → IsOneLine line → Parts (read ++ bytes) (lines ++ line ∷ []) rest'
-parts_more read bytes line gone rest rest' lines b e whole is = record {
-  front =
-      ap (λ (z : List ℕ). z ++ bytes) b.front
-      ∙ (append_assoc (joined lines) rest bytes
-      ∙ (ap (λ (z : List ℕ). joined lines ++ z) (sym e ∙ (ap (λ (z : List ℕ). z ++ rest') whole ∙ append_assoc line (10 ∷ []) rest'))
-      ∙ sym (ap (λ (z : List ℕ). z ++ rest') (flat_map-append ended lines (line ∷ [])) ∙ regroup (joined lines) line rest')));
-  each = all_more IsOneLine lines line b.each is;
-}
-
 -- ---- what is left
 
 -- what a fault of the input says of what is left behind the lines, of which the next has this number
 abbrev pub Leaves : InputFault → ℕ → List (List ℕ) → List ℕ → Type 0
 Leaves input.Read n lines rest = IsOneLine rest
-Leaves input.BadLine n lines rest = (front : List ℕ) × (more : List ℕ) × (n ≡ length lines + 1) × (rest ≡ front ++ more) × IsEndless front
+Leaves input.BadLine n lines rest = HasEndless rest × (n ≡ length lines + 1)
 Leaves input.NoMemory n lines rest = ⊤
 
 -- where no next line was found
 pub leaves_found : (f : InputFault) (n : ℕ) (lines : List (List ℕ)) (at_end : Bool) (gone held : List ℕ) → n ≡ length lines + 1
     → (let r : Result Found InputFault = Err f in finds r at_end gone held) → Leaves f n lines (gone ++ held)
 leaves_found input.Read n lines at_end gone held counted none = none
-leaves_found input.BadLine n lines at_end gone held counted endless = (gone, held, counted, refl, endless)
+leaves_found input.BadLine n lines at_end gone held counted endless = ((gone, held, refl, endless), counted)
 leaves_found input.NoMemory n lines at_end gone held counted none = tt
 
 -- where nothing is left
@@ -208,72 +186,73 @@ next_ended at_end line gone held one e = is_ended held one (ap (λ (z : List ℕ
 pub next_last : (at_end : Bool) (gone held : List ℕ) → IsOneLine gone → gone ≢ [] → at_end ≡ true → held ≡ [] → IsNext at_end gone (gone ++ held)
 next_last at_end gone held one some at_last none = is_last one some at_last (ap (λ (z : List ℕ). gone ++ z) none ∙ append-nil gone)
 
--- fewer bytes than all are a beginning, and not all
-pub cut_off : (n : ℕ) (text : List ℕ) → n < length text → IsCutOff (take n text) text
-cut_off n text some = (drop n text, sym (take-append-drop n text), (λ none. let l = length-drop n text in let z = ap length none in absurd (omega (arith, l, z, some))))
-
 -- ---- all of them
 
 module _ (P : List (List ℕ) → List ℕ → Type 0) where
   -- nothing is left behind the last line feed
-  pub whole_all : (read rest wrote : List ℕ) (lines : List (List ℕ)) → Parts read lines rest → rest ≡ [] → P lines wrote → Whole P read wrote
+  pub whole_all : (read rest wrote : List ℕ) (lines : List (List ℕ)) → BeginsWith IsOneLine read lines rest → rest ≡ [] → P lines wrote → Whole P read wrote
   whole_all read rest wrote lines b none p = (
     lines,
     [],
-    subst (λ (r : List ℕ). Parts read lines r) none b,
+    begins_all read rest lines b none,
     refl,
     subst (λ (ls : List (List ℕ)). P ls wrote) (sym (append-nil lines)) p,
   )
 
   -- a last line without a line feed is the last of all
-  pub whole_last : (read bytes gone rest rest' wrote : List ℕ) (lines : List (List ℕ)) → Parts read lines rest
+  pub whole_last : (read bytes gone rest rest' wrote : List ℕ) (lines : List (List ℕ)) → BeginsWith IsOneLine read lines rest
       → gone ++ rest' ≡ rest ++ bytes → rest' ≡ [] → gone ≢ [] → IsOneLine gone → P (lines ++ gone ∷ []) wrote → Whole P (read ++ bytes) wrote
   whole_last read bytes [] rest rest' wrote lines b e none some one p = absurd (some refl)
   whole_last read bytes (x ∷ gone) rest rest' wrote lines b e none some one p =
       let whole : x ∷ gone ≡ rest ++ bytes = sym (append-nil (x ∷ gone)) ∙ (ap (λ (z : List ℕ). (x ∷ gone) ++ z) (sym none) ∙ e) in
-      (lines, x ∷ gone, parts_read read bytes rest (x ∷ gone) lines b whole, one, p)
+      (lines, x ∷ gone, begins_read read bytes rest (x ∷ gone) lines b whole, one, p)
 
   -- ---- stops
 
-  -- a fault of the input stops a listing at the next line
-  pub stops_input : (f : InputFault) (n : ℕ) (shown : ShowFault) (at_end : Bool) (read rest wrote : List ℕ) (lines : List (List ℕ))
-      → shown ≡ input_fault f n → telling_of.Told P read lines rest wrote → Leaves f n lines rest → StopsBy P shown at_end read wrote
-  stops_input f n shown at_end read rest wrote lines is told leaves = subst (λ (x : ShowFault). StopsBy P x at_end read wrote) (sym is) (by_fault f leaves)
+  -- a fault of the input stops a report at the next line
+  pub stops_input : (f : InputFault) (n : ℕ) (shown : LinesFault) (at_end : Bool) (read rest wrote : List ℕ) (lines : List (List ℕ))
+      → shown ≡ lines_fault_of f n → BeginsWith IsOneLine read lines rest → P lines wrote → length lines ≤ most_lines → Leaves f n lines rest
+      → StopsAt (report_run P) shown at_end read wrote
+  stops_input f n shown at_end read rest wrote lines is b p few leaves =
+      subst (λ (x : LinesFault). StopsAt (report_run P) x at_end read wrote) (sym is) (by_fault f leaves)
     where
-      by_fault : (f : InputFault) → Leaves f n lines rest → StopsBy P (input_fault f n) at_end read wrote
-      by_fault input.Read none = (lines, rest, told, none)
-      by_fault input.BadLine (front, more, counted, e, endless) =
-          (lines, front, more, subst (λ (r : List ℕ). telling_of.Told P read lines r wrote) e told, endless, counted)
-      by_fault input.NoMemory any = (lines, rest, told)
+      by_fault : (f : InputFault) → Leaves f n lines rest → StopsAt (report_run P) (lines_fault_of f n) at_end read wrote
+      by_fault input.Read none = (lines, rest, b, p, few, none)
+      by_fault input.BadLine endless = (lines, rest, b, p, few, endless)
+      by_fault input.NoMemory any = (lines, rest, b, p, few, tt)
 
   -- a fault at a line stops it there
-  pub stops_line : (f : ShowFault) (b c : Option (List ℕ)) (at_end : Bool) (read rest wrote line : List ℕ) (lines : List (List ℕ)) (Q : List ℕ → Type 0)
-      → StopsLine Q f b c → ((text : List ℕ) → Q text → P (lines ++ line ∷ []) (wrote ++ text)) → IsNext at_end line rest → telling_of.Told P read lines rest wrote
-      → (more : List ℕ) × Appends b c more × StopsBy P f at_end read (wrote ++ more)
-  stops_line Read b c at_end read rest wrote line lines Q none so next told = absurd none
-  stops_line Write b c at_end read rest wrote line lines Q (text, q, (n, some, appends)) so next told =
-      (take n text, appends, (lines, line, rest, wrote, take n text, text, told, next, so text q, cut_off n text some, refl))
-  stops_line (BadLine n) b c at_end read rest wrote line lines Q none so next told = absurd none
-  stops_line NoMemory b c at_end read rest wrote line lines Q none so next told =
-      ([], none, (lines, rest, subst (λ (w : List ℕ). telling_of.Told P read lines rest w) (sym (append-nil wrote)) told))
-  stops_line TooManyLines b c at_end read rest wrote line lines Q none so next told = absurd none
+  pub stops_line : (f : LinesFault) (b c : Option (List ℕ)) (at_end : Bool) (read rest wrote line : List ℕ) (lines : List (List ℕ)) (Q : List ℕ → Type 0)
+      → StopsLine Q f b c → ((text : List ℕ) → Q text → P (lines ++ line ∷ []) (wrote ++ text)) → IsNext at_end line rest
+      → BeginsWith IsOneLine read lines rest → P lines wrote → length lines < most_lines
+      → (more : List ℕ) × Appends b c more × StopsAt (report_run P) f at_end read (wrote ++ more)
+  stops_line Write b c at_end read rest wrote line lines Q (text, q, (n, some, appends)) so next begins p few = (
+    take n text,
+    appends,
+    (wrote, take n text, refl, (lines, rest, begins, p, omega (arith, few), (line, text, few, next, so text q, cut_off n text some))),
+  )
+  stops_line NoMemory b c at_end read rest wrote line lines Q none so next begins p few =
+      ([], none, (lines, rest, begins, subst (P lines) (sym (append-nil wrote)) p, omega (arith, few), tt))
+  stops_line Read b c at_end read rest wrote line lines Q none so next begins p few = absurd none
+  stops_line (BadLine n) b c at_end read rest wrote line lines Q none so next begins p few = absurd none
+  stops_line TooManyLines b c at_end read rest wrote line lines Q none so next begins p few = absurd none
+  stops_line WornOut b c at_end read rest wrote line lines Q none so next begins p few = absurd none
 
 -- what holds of lines and of what is written for them may be said in other words
 module _ {P Q : List (List ℕ) → List ℕ → Type 0} (f : (lines : List (List ℕ)) (text : List ℕ) → P lines text → Q lines text) where
   pub whole_as : (read wrote : List ℕ) → Whole P read wrote → Whole Q read wrote
   whole_as read wrote (lines, last, parts, one, p) = (lines, last, parts, one, f (lines ++ last_line last) wrote p)
 
-  told_as : (read rest wrote : List ℕ) (lines : List (List ℕ)) → telling_of.Told P read lines rest wrote → telling_of.Told Q read lines rest wrote
-  told_as read rest wrote lines t = record { parts = t.parts; text = f lines wrote t.text; few = t.few }
-
-  pub stops_as : (fault : ShowFault) (at_end : Bool) (read wrote : List ℕ) → StopsBy P fault at_end read wrote → StopsBy Q fault at_end read wrote
-  stops_as Read at_end read wrote (lines, rest, t, none) = (lines, rest, told_as read rest wrote lines t, none)
-  stops_as Write at_end read wrote (lines, line, rest, text, part, whole, t, next, p, cut, e) =
-      (lines, line, rest, text, part, whole, told_as read rest text lines t, next, f (lines ++ line ∷ []) (text ++ whole) p, cut, e)
-  stops_as (BadLine n) at_end read wrote (lines, front, rest, t, endless, counted) =
-      (lines, front, rest, told_as read (front ++ rest) wrote lines t, endless, counted)
-  stops_as NoMemory at_end read wrote (lines, rest, t) = (lines, rest, told_as read rest wrote lines t)
-  stops_as TooManyLines at_end read wrote (lines, rest, t, most, some) = (lines, rest, told_as read rest wrote lines t, most, some)
+  pub reports_as : Implies (report_run P) (report_run Q)
+  reports_as = record {
+    is_line = λ line is. is;
+    is_next = λ at_end line bytes next. next;
+    refuses = λ at_end bytes bad. bad;
+    answers = f;
+    is_worn_out = λ lines rest worn. worn;
+    few = λ lines text done few. few;
+    all = λ lines text done all. all;
+  }
 
 -- what was told of the lines of an end, said of its form, its side and what is asked for
 pub told_so : (form : Form) (side : Side) (only : Bool) (first now : OneSide) → first.form ≡ form → first.side ≡ side → first.profile_only ≡ only
@@ -299,10 +278,10 @@ if_err (Ok x) p f = tt
 if_err (Err e) p f = f e p
 
 -- a write that fails leaves a beginning of the text
-pub stops_write : {T : Type 0} (r : Result T ShowFault) (held held' : Option (List ℕ)) (text : List ℕ) (P : List ℕ → Type 0)
+pub stops_write : {T : Type 0} (r : Result T LinesFault) (held held' : Option (List ℕ)) (text : List ℕ) (P : List ℕ → Type 0)
     → OnErr r (AppendsBeginning held held' text) → IfErr r (λ fault. fault ≡ Write) → P text → IfErr r (λ fault. StopsLine P fault held held')
 stops_write (Ok x) held held' text P begins is p = tt
-stops_write (Err fault) held held' text P begins is p = subst (λ (f : ShowFault). StopsLine P f held held') (sym is) (text, p, begins)
+stops_write (Err fault) held held' text P begins is p = subst (λ (f : LinesFault). StopsLine P f held held') (sym is) (text, p, begins)
 
 -- where nothing is told, nothing is new
 pub nothing_told : {T : Type 0} (has_told : T → T → List (List ℕ) → List ℕ → List Entry → Type 0) (first now : T) (lines : List (List ℕ)) (text none : List ℕ)

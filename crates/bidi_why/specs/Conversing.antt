@@ -20,20 +20,22 @@ use Rattle.bidi_local.specs.Received.{Meaning, Means, result_in, settled}
 use Rattle.bidi_local.specs.declared.local_end.NoteFault.TheVariants.{IdWaits, TooManyPending}
 use Rattle.bidi_lines.specs.InputLines.{IsLine}
 use Rattle.bidi_lines.specs.Skipping.{IsTooLong}
+use Rattle.bidi_lines.specs.Stops.{IsCutOff, StopsAt}
+use Rattle.bidi_lines.specs.declared.answering.LinesFault.{LinesFault}
+use Rattle.bidi_lines.specs.declared.answering.LinesFault.TheVariants.{Write, NoMemory}
 use Rattle.bidi_lines.specs.declared.side.Side.{Side}
 use Rattle.bidi_lines.specs.declared.side.Side.TheVariants.{Local, Remote}
 use Rattle.bidi_show.specs.MessageLines.{HasVerdict, Refuses, id_text}
-use Rattle.bidi_show.specs.declared.showing.ShowFault.{ShowFault}
-use Rattle.bidi_show.specs.declared.showing.ShowFault.TheVariants.{Write, NoMemory}
 use Rattle.bidi_blame.specs.Blames.{Blames}
 use Rattle.bidi_blame.specs.Reason.{Reason}
 use Rattle.bidi_remarks.specs.Trouble.{IsTrouble, Trouble, id_of, begins_with_mark}
-use Rattle.bidi_why.specs.Telling.{IsCutOff, StopsBy, Whole}
+use Rattle.bidi_why.specs.Telling.{Whole, report_run}
 use Rattle.bidi_remarks.specs.Explaining.{remark_counted_as}
 use Rattle.bidi_why.specs.Summary.{Entry, any_fault, is_log, unanswered}
 use Rattle.bidi_remarks.specs.Remark.{Remark, bad_line, bad_result, failed, fault, id_waits, is_beyond, line_of, no_message, remark_cause, remark_line, stray, too_many, unanswered_line}
 use Rattle.bidi_remarks.specs.declared.bad_text.BadText.TheVariants.{ByteOrderMark, NoDirection, TooLong}
 use Rattle.bidi_remarks.specs.declared.texts.Form.{Form}
+use Rattle.bidi_messages.specs.Limits.{most_pending}
 
 -- ---- what stands before a line
 
@@ -64,7 +66,7 @@ without_command id s = record { waiting = without s.waiting id; lines = lines_wi
 
 -- so many are kept at most
 abbrev pub kept : List ℕ → ℕ → List ℕ
-kept ids id = if nat_lt (length ids) 1024 then ids ++ id ∷ [] else ids
+kept ids id = if nat_lt (length ids) most_pending then ids ++ id ∷ [] else ids
 
 -- the command is refused, which has an id or none
 abbrev pub with_refused : Option ℕ → Standing → Standing
@@ -247,7 +249,7 @@ abbrev pub IsTranscript : Option Form → Bool → List (List ℕ) → List ℕ 
 IsTranscript form only lines text = (told : List Entry) × (s : Standing) × Converses form only lines text told s
 
 -- What a fault behind the last line of an input says, whose end was told: all lines were told of.
-abbrev pub StopsBehind : Option Form → Bool → ShowFault → List ℕ → List ℕ → Type 0
+abbrev pub StopsBehind : Option Form → Bool → LinesFault → List ℕ → List ℕ → Type 0
 -- and a beginning was written of what is told of the commands that wait
 StopsBehind form only Write read wrote =
     (text : List ℕ) × (s : Standing) × (part : List ℕ) × Whole (λ lines written. (told : List Entry) × Converses form only lines written told s) read text
@@ -257,6 +259,6 @@ StopsBehind form only NoMemory read wrote = Whole (IsTranscript form only) read 
 StopsBehind form only f read wrote = ⊥
 
 -- What a fault says of the bytes that were read, the last of them or not, and of what was written.
-abbrev pub StopsConversation : Option Form → Bool → ShowFault → Bool → List ℕ → List ℕ → Type 0
+abbrev pub StopsConversation : Option Form → Bool → LinesFault → Bool → List ℕ → List ℕ → Type 0
 StopsConversation form only f at_end read wrote =
-    StopsBy (IsTranscript form only) f at_end read wrote ⊎ ((at_end ≡ true) × StopsBehind form only f read wrote)
+    StopsAt (report_run (IsTranscript form only)) f at_end read wrote ⊎ ((at_end ≡ true) × StopsBehind form only f read wrote)

@@ -1,7 +1,9 @@
 -- The causes of what was told, and how often each was met. The limits and the form are this project's own.
-use Rattle.std.specs.Prelude.{ℕ, ◌+◌, ◌-◌, ◌*◌, ◌^◌, ◌==◌, ◌&&◌, Bool, List, [], ◌∷◌, ◌++◌, length, map, nat_le, nat_lt, bytes_eq, codes, decimal, IsPermutation, if◌then◌else◌}
+use Rattle.std.specs.Prelude.{ℕ, ◌+◌, ◌==◌, ◌&&◌, Bool, List, [], ◌∷◌, ◌++◌, length, map, nat_le, nat_lt, bytes_eq, codes, decimal, IsPermutation, if◌then◌else◌}
 use Rattle.std.specs.List.{list_any, sum_by}
-use Rattle.std.specs.List.Sorted.{IsNonDecreasingBy}
+use Rattle.std.specs.List.Sorted.{IsSorted}
+use Rattle.std.specs.Ordering.{nat_cmp, ordering_then}
+use Rattle.std.specs.declared.cmp.Ordering.{Ordering}
 use Rattle.bidi_why.specs.declared.counting.Cause.{Cause}
 use Rattle.bidi_why.specs.declared.counting.Causes.{Causes}
 
@@ -37,9 +39,17 @@ abbrev pub counted_in : List ℕ → List Row → List Row
 counted_in c [] = []
 counted_in c (r ∷ rs) = if is_of c r then once_more r ∷ rs else r ∷ counted_in c rs
 
--- a new cause is told apart if fewer than 1,000 are, and if it has at most 4,096 bytes
+-- the most causes that are told apart
+abbrev pub most_causes : ℕ
+most_causes = 1000
+
+-- the most bytes of a cause that is told apart
+abbrev pub longest_cause : ℕ
+longest_cause = 4096
+
+-- a new cause is told apart if there is room for it, and if it is not too long
 abbrev pub is_told_apart : List ℕ → List Row → Bool
-is_told_apart c rows = nat_lt (length rows) 1000 && nat_le (length c) 4096
+is_told_apart c rows = nat_lt (length rows) most_causes && nat_le (length c) longest_cause
 
 -- the row of a new cause
 abbrev pub new_row : List ℕ → List Row → Row
@@ -57,14 +67,14 @@ abbrev pub counts_after : Counts → List (List ℕ) → Counts
 counts_after n [] = n
 counts_after n (c ∷ cs) = counts_after (counts_with n c) cs
 
--- a number that is smaller the more often a cause was met, and of equally frequent ones the earlier it was first met
-abbrev pub rank : Row → ℕ
-rank r = (2 ^ 64 - 1 - r.count) * 2 ^ 64 + r.place
+-- how two rows compare: the more frequent cause comes first, and of equally frequent ones the one that was met first
+abbrev pub row_order : Row → Row → Ordering
+row_order r s = ordering_then (nat_cmp s.count r.count) (nat_cmp r.place s.place)
 
 -- The same rows, the most frequent first, and of equally frequent ones the one that was met first.
 pub record IsRanking (ranked : List Row) (rows : List Row) : Type 0 where
   pub same : IsPermutation rows ranked
-  pub order : IsNonDecreasingBy rank ranked
+  pub order : IsSorted row_order ranked
 
 -- `COUNT CAUSE`
 abbrev pub count_line : ℕ → List ℕ → List ℕ

@@ -9,6 +9,7 @@ use Rattle.bidi_remarks.specs.declared.telling.CountedAs.{CountedAs}
 use Rattle.bidi_remarks.specs.declared.telling.CountedAs.TheVariants.{Refused, Beyond, Failed, Unanswered}
 use Rattle.bidi_why.specs.Counting.{IsRanking, Row, counts_after, counts_of, lines_counted, no_counts, others_line, row_line}
 use Rattle.bidi_why.specs.declared.sum.Sum.{Sum}
+use Rattle.bidi_lines.specs.InputLines.{longest_line}
 
 -- How something that was told is counted.
 pub record Entry : Type 0 where
@@ -19,7 +20,7 @@ pub record Entry : Type 0 where
 
 -- whether a line that is not too long begins with `{"dir":`, as the objects of some logs do
 abbrev pub is_log : List ℕ → Bool
-is_log line = nat_le (length line) 2097152 && bytes_eq (codes "{\"dir\":") (take 7 line)
+is_log line = nat_le (length line) longest_line && bytes_eq (codes "{\"dir\":") (take 7 line)
 
 -- what is told of a line, as it is counted
 abbrev pub entries_in : List ℕ → Option Telling → List Entry

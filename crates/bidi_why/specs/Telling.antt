@@ -1,16 +1,14 @@
 -- What is written for the lines of an input, and why it may stop before its end.
 use Rattle.std.specs.Prelude.{◌≡◌, ◌≢◌, ℕ, ◌+◌, ◌≤◌, ◌&&◌, Bool, true, false, List, [], ◌∷◌, ◌++◌, length, Option, Some, None, if◌then◌else◌}
-use Rattle.std.specs.List.{AllByRecursion}
 use Rattle.std.specs.Io.KnownBytes.{Appends}
 use Rattle.bidi_lines.specs.Devices.{AppendsBeginning}
 use Rattle.bidi_lines.specs.Feeds.{has_feed, ended}
-use Rattle.bidi_lines.specs.InputLines.{IsLine, joined, most_lines}
+use Rattle.bidi_lines.specs.InputLines.{IsLine, most_lines}
 use Rattle.bidi_lines.specs.Skipping.{IsEndless, IsTooLong}
-use Rattle.bidi_lines.specs.declared.line_reader.InputFault.{InputFault}
-use Rattle.bidi_lines.specs.declared.line_reader.InputFault.TheVariants as input
+use Rattle.bidi_lines.specs.Stops.{BeginsWith, Run}
+use Rattle.bidi_lines.specs.declared.answering.LinesFault.{LinesFault}
+use Rattle.bidi_lines.specs.declared.answering.LinesFault.TheVariants.{Write, NoMemory}
 use Rattle.bidi_lines.specs.declared.side.Side.{Side}
-use Rattle.bidi_show.specs.declared.showing.ShowFault.{ShowFault}
-use Rattle.bidi_show.specs.declared.showing.ShowFault.TheVariants.{Read, Write, BadLine, NoMemory, TooManyLines}
 use Rattle.bidi_remarks.specs.Trouble.{bad}
 use Rattle.bidi_remarks.specs.Explaining.{Explains, Telling, telling}
 use Rattle.bidi_why.specs.Input.{IsOf}
@@ -51,11 +49,6 @@ TellsLines form side only lines wrote = (told : List Entry) × TellsEach form si
 abbrev pub IsOneLine : List ℕ → Type 0
 IsOneLine line = has_feed line ≡ false
 
--- The bytes begin with these lines, each with its line feed, and this is behind them.
-pub record Parts (bytes : List ℕ) (lines : List (List ℕ)) (rest : List ℕ) : Type 0 where
-  pub front : bytes ≡ joined lines ++ rest
-  pub each : AllByRecursion IsOneLine lines
-
 -- the last line of an input, where bytes stand behind its last line feed
 abbrev pub last_line : List ℕ → List (List ℕ)
 last_line [] = []
@@ -63,7 +56,7 @@ last_line (b ∷ bytes) = (b ∷ bytes) ∷ []
 
 -- the bytes are lines, and this holds of them and of what was written
 abbrev pub Whole : (List (List ℕ) → List ℕ → Type 0) → List ℕ → List ℕ → Type 0
-Whole P bytes wrote = (lines : List (List ℕ)) × (last : List ℕ) × Parts bytes lines last × IsOneLine last × P (lines ++ last_line last) wrote
+Whole P bytes wrote = (lines : List (List ℕ)) × (last : List ℕ) × BeginsWith IsOneLine bytes lines last × IsOneLine last × P (lines ++ last_line last) wrote
 
 -- the bytes are lines, and this is written for them
 abbrev pub TellsAll : Form → Side → Bool → List ℕ → List ℕ → Type 0
@@ -73,37 +66,25 @@ TellsAll form side only bytes wrote = Whole (TellsLines form side only) bytes wr
 abbrev pub TellsCounted : Form → Side → Bool → (ℕ → List Entry → Type 0) → List ℕ → List ℕ → Type 0
 TellsCounted form side only P bytes wrote = Whole (λ lines text. (told : List Entry) × TellsEach form side only 1 lines text told × P (length lines) told) bytes wrote
 
--- The bytes begin with these lines, with this rest behind them, and this holds of the lines and of what was written.
-pub record Told (P : List (List ℕ) → List ℕ → Type 0) (bytes : List ℕ) (lines : List (List ℕ)) (rest : List ℕ) (wrote : List ℕ) : Type 0 where
-  pub parts : Parts bytes lines rest
-  pub text : P lines wrote
-  pub few : length lines ≤ most_lines
-
 -- The bytes begin with this line: it has its line feed, or it is the last of the input, and all of them.
 pub data IsNext (at_end : Bool) (line : List ℕ) (bytes : List ℕ) : Type 0 where
   is_ended : (more : List ℕ) → IsOneLine line → bytes ≡ ended line ++ more → IsNext at_end line bytes
   is_last : IsOneLine line → line ≢ [] → at_end ≡ true → bytes ≡ line → IsNext at_end line bytes
 
--- the text is a beginning of the whole, and not all of it
-abbrev pub IsCutOff : List ℕ → List ℕ → Type 0
-IsCutOff text whole = (left : List ℕ) × (whole ≡ text ++ left) × (left ≢ [])
+-- the bytes begin with a line without end
+abbrev pub HasEndless : List ℕ → Type 0
+HasEndless bytes = (front : List ℕ) × (more : List ℕ) × (bytes ≡ front ++ more) × IsEndless front
 
--- What a fault says of the bytes that were read, the last of them or not, and of what was written, where this holds of lines and of what is written for them.
-abbrev pub StopsBy : (List (List ℕ) → List ℕ → Type 0) → ShowFault → Bool → List ℕ → List ℕ → Type 0
--- each whole line that was read was told of
-StopsBy P Read at_end read wrote = (lines : List (List ℕ)) × (rest : List ℕ) × Told P read lines rest wrote × IsOneLine rest
--- some lines at the front were told of, and of the next one a beginning was written of what is told of it
-StopsBy P Write at_end read wrote =
-    (lines : List (List ℕ)) × (line : List ℕ) × (rest : List ℕ) × (text : List ℕ) × (part : List ℕ) × (whole : List ℕ)
-    × Told P read lines rest text × IsNext at_end line rest × P (lines ++ line ∷ []) (text ++ whole) × IsCutOff part whole × (wrote ≡ text ++ part)
--- all lines before line n were told of, and line n is endless
-StopsBy P (BadLine n) at_end read wrote =
-    (lines : List (List ℕ)) × (front : List ℕ) × (rest : List ℕ) × Told P read lines (front ++ rest) wrote × IsEndless front × (n ≡ length lines + 1)
--- as many lines as are taken were told of, and the input goes on
-StopsBy P TooManyLines at_end read wrote =
-    (lines : List (List ℕ)) × (rest : List ℕ) × Told P read lines rest wrote × (length lines ≡ most_lines) × (rest ≢ [])
--- what was written is what is written for some lines at the front
-StopsBy P NoMemory at_end read wrote = (lines : List (List ℕ)) × (rest : List ℕ) × Told P read lines rest wrote
+-- a report on lines as a run over lines of any length, the last of which may have no line feed: it refuses only a line without end
+abbrev pub report_run : (List (List ℕ) → List ℕ → Type 0) → Run
+report_run P = record {
+  is_line = IsOneLine;
+  is_next = λ at_end line bytes. IsNext at_end line bytes;
+  refuses = λ at_end bytes. HasEndless bytes;
+  answers = P;
+  is_worn_out = λ lines rest. ⊥;
+  most = most_lines;
+}
 
 -- since the first of its states something has told of these lines by this text
 abbrev pub SoFar : {T : Type 0} → (T → T → List (List ℕ) → List ℕ → List Entry → Type 0) → T → List (List ℕ) → List ℕ → Type 0
@@ -115,10 +96,6 @@ abbrev pub Sums : {T : Type 0} → (T → T → List (List ℕ) → List ℕ →
 Sums {T} has_told first now sum lines text =
     (told : List Entry) × has_told first now lines text told × IsSum sum (length lines) told × (length told ≤ length lines) × (length lines ≤ most_lines)
 
--- the same of what is written for the lines of an end
-abbrev pub StopsAt : Form → Side → Bool → ShowFault → Bool → List ℕ → List ℕ → Type 0
-StopsAt form side only fault at_end read wrote = StopsBy (TellsLines form side only) fault at_end read wrote
-
 -- With this text something tells of one line more, from one of its states to another: since any first state it has told of that one too, and it is in the sum.
 abbrev pub TellsNext : {T : Type 0} → (T → T → List (List ℕ) → List ℕ → List Entry → Type 0) → T → T → Sum → Sum → Line → List ℕ → Type 0
 TellsNext {T} has_told old new sum sum' line text =
@@ -126,15 +103,9 @@ TellsNext {T} has_told old new sum sum' line text =
     → Sums has_told first new sum' (lines ++ is ∷ []) (before ++ text)
 
 -- What a fault at a line says of what a sink held and holds, where this holds of the text for the line.
-abbrev pub StopsLine : (List ℕ → Type 0) → ShowFault → Option (List ℕ) → Option (List ℕ) → Type 0
+abbrev pub StopsLine : (List ℕ → Type 0) → LinesFault → Option (List ℕ) → Option (List ℕ) → Type 0
 -- a beginning of the text was written, and not all
 StopsLine P Write held held' = (text : List ℕ) × P text × AppendsBeginning held held' text
 -- nothing was written
 StopsLine P NoMemory held held' = Appends held held' []
 StopsLine P fault held held' = ⊥
-
--- the fault that a fault of the input is, at the line of this number
-abbrev pub input_fault : InputFault → ℕ → ShowFault
-input_fault input.Read n = Read
-input_fault input.BadLine n = BadLine n
-input_fault input.NoMemory n = NoMemory

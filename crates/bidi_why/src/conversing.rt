@@ -4,7 +4,7 @@ ghost use Rattle.std.specs.Io.KnownBytes.{Appends};
 ghost use Rattle.std.specs.List.{flat_map};
 ghost use Rattle.bidi_lines.specs.Devices.{Moves};
 ghost use Rattle.bidi_lines.specs.InputLines.{most_lines};
-ghost use Rattle.bidi_show.specs.Listings.{failed_reads, failed_writes};
+ghost use Rattle.bidi_lines.specs.Stops.{failed_reads, failed_writes};
 ghost use Rattle.bidi_why.specs.Conversing.{CountsConversation, StopsConversation, TellsConversation, unanswered_entries, unanswered_lines};
 ghost use Rattle.bidi_why.specs.Explainers.{standing_of};
 ghost use Rattle.bidi_remarks.specs.Remark as remarks;
@@ -14,10 +14,9 @@ ghost use Rattle.bidi_why.specs.Telling.{StopsLine};
 use crate::conversation::Conversation;
 use crate::listing::{tell_lines, write};
 use crate::sum::Sum;
-use bidi_lines::{Sink, Source};
+use bidi_lines::{LinesFault, Sink, Source};
 use bidi_messages::Method;
 use bidi_remarks::{Form, unanswered_line};
-use bidi_show::ShowFault;
 use bidi_tree::JsUint;
 use std::alloc::{AllocError, Global};
 
@@ -48,7 +47,7 @@ pub fn explain_both<R: Source, W: Sink, F: Sink>(
     source: &mut R,
     sink: &mut W,
     faults: &mut F,
-) -> Result<bool, ShowFault>
+) -> Result<bool, LinesFault>
     // After an Ok, the input was lines, and the report of all of them and of the unanswered commands was written.
     ensures ok { IfOk result (λ some. Moves (R.left source.old) (R.left source.new) (W.contents sink.old) (W.contents sink.new)
         (TellsConversation form profile_only some)) }
@@ -94,7 +93,7 @@ fn tell_waiting<W: Sink>(
     conversation: &Conversation,
     sum: &mut Sum,
     sink: &mut W,
-) -> Result<(), ShowFault>
+) -> Result<(), LinesFault>
     ensures sum { OnOk result ((n : ℕ) (told : List Entry) → length told ≤ most_lines → IsSum sum.old n told
         → IsSum sum.new n (told ++ unanswered_entries (standing_of conversation.now))) }
     ensures ok { OnOk result (Appends (W.contents sink.old) (W.contents sink.new)

@@ -2,11 +2,12 @@
 ghost use Rattle.std.specs.Prelude.{◌≡◌, ◌<◌, ◌≤◌, ◌+◌, ◌-◌, ◌*◌, ◌++◌, ◌^◌, flat_map, length, map, position, bytes_eq, vec_len, IfSome, OnErr, OnOk};
 ghost use Rattle.std.specs.Io.KnownBytes.{Appends};
 ghost use Rattle.bidi_lines.specs.Devices.{AppendsBeginning, CountsFailure};
-ghost use Rattle.bidi_why.specs.Counting.{IsRanking, count_line, counts_of, counts_with, lines_counted, no_counts, once_more, others_line, rank, row_line, row_of};
+ghost use Rattle.bidi_why.specs.Counting.{IsRanking, count_line, counts_of, counts_with, lines_counted, no_counts, once_more, others_line, row_line, row_of, row_order};
 
 use crate::writing::write_number;
 use bidi_lines::{DeviceFault, Sink, write_all};
 use std::alloc::{AllocError, Global};
+use std::cmp::Ordering;
 
 /// How many causes are told apart. Further ones are counted together.
 const MOST_CAUSES: usize = 1_000;
@@ -74,7 +75,7 @@ impl Causes {
         ensures ranking { IsRanking (counts_of self.new).rows (counts_of self.old).rows }
         ensures others { (counts_of self.new).others ≡ (counts_of self.old).others }
     {
-        self.rows.sort_unstable_by_key(|row| rank(row));
+        self.rows.sort_unstable_by(|row, other| order(row, other));
     }
 
     /// Writes a line for each cause, and one for the others where there are any. Takes no memory.
@@ -93,12 +94,14 @@ impl Causes {
     }
 }
 
-// A number that is smaller the more often a cause was met, and of equally frequent ones the earlier it was first met.
-fn rank(row: &Cause) -> u128
-    ensures { result ≡ rank (row_of row.now) }
+// How two rows compare: the more frequent cause comes first, and of equally frequent ones the one that was met first.
+fn order(row: &Cause, other: &Cause) -> Ordering
+    ensures { result ≡ row_order (row_of row.now) (row_of other.now) }
 {
-    let rarity = u128::from(u64::MAX - row.count);
-    rarity * 18_446_744_073_709_551_616 + row.place as u128
+    other
+        .count
+        .cmp(&row.count)
+        .then(row.place.cmp(&other.place))
 }
 
 // The place of the row of this cause.

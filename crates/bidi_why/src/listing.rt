@@ -3,18 +3,17 @@ ghost use Rattle.std.specs.Prelude.{◌≡◌, ℕ, ◌+◌, ◌<◌, ◌≤◌,
 ghost use Rattle.std.specs.Io.KnownBytes.{Appends};
 ghost use Rattle.bidi_lines.specs.Devices.{AppendsBeginning, Moves};
 ghost use Rattle.bidi_lines.specs.InputLines.{most_lines};
-ghost use Rattle.bidi_show.specs.Listings.{failed_reads, failed_writes};
+ghost use Rattle.bidi_lines.specs.Stops.{StopsAt, failed_reads, failed_writes};
 ghost use Rattle.bidi_why.specs.Input.{IsOf};
 ghost use Rattle.bidi_why.specs.Summary.{IsSum, SumsUp, is_log};
-ghost use Rattle.bidi_why.specs.Telling.{SoFar, StopsAt, StopsBy, StopsLine, Sums, TellsAll, TellsCounted, TellsNext, Whole, input_fault};
+ghost use Rattle.bidi_why.specs.Telling.{SoFar, StopsLine, Sums, TellsAll, TellsCounted, TellsLines, TellsNext, Whole, report_run};
 
 use crate::explainer::Explainer;
 use crate::next_line::{Found, Line, next_line};
 use crate::one_side::OneSide;
 use crate::sum::Sum;
-use bidi_lines::{InputFault, LineReader, MOST_LINES, Side, Sink, Source, write_all};
+use bidi_lines::{LineReader, LinesFault, MOST_LINES, Side, Sink, Source, write_all};
 use bidi_remarks::Form;
-use bidi_show::ShowFault;
 use std::alloc::{AllocError, Global};
 
 /// Writes for each line that is refused where it goes wrong and why, and returns whether any is.
@@ -40,7 +39,7 @@ pub fn explain<R: Source, W: Sink, F: Sink>(
     source: &mut R,
     sink: &mut W,
     faults: &mut F,
-) -> Result<bool, ShowFault>
+) -> Result<bool, LinesFault>
     // After an Ok, the input was lines, and the report of all of them was written.
     ensures ok { IfOk result (λ some. Moves (R.left source.old) (R.left source.new) (W.contents sink.old) (W.contents sink.new)
         (λ read wrote. TellsAll form side profile_only read wrote × (some ≡ nat_lt 0 (length wrote)))) }
@@ -59,7 +58,7 @@ pub fn explain<R: Source, W: Sink, F: Sink>(
 
     // A fault says what was read and written before it.
     ensures err { IfErr result (λ fault. Moves (R.left source.old) (R.left source.new) (W.contents sink.old) (W.contents sink.new)
-        (StopsAt form side profile_only fault (R.has_ended source.new))) }
+        (StopsAt (report_run (TellsLines form side profile_only)) fault (R.has_ended source.new))) }
 
     // The fault is `Read` exactly if a read of the source failed.
     ensures reads { MatchResult result (λ _. R.failures source.new ≡ R.failures source.old)
@@ -84,14 +83,14 @@ pub(crate) fn tell_lines<E: Explainer, R: Source, W: Sink>(
     sum: &mut Sum,
     source: &mut R,
     sink: &mut W,
-) -> Result<(), ShowFault>
+) -> Result<(), LinesFault>
     requires sum { IsSum sum.old 0 [] }
     requires nothing { E.has_told explainer.old explainer.old [] [] [] }
     ensures ok { OnOk result (Moves (R.left source.old) (R.left source.new) (W.contents sink.old) (W.contents sink.new)
         (Whole (Sums E.has_told explainer.old explainer.new sum.new))) }
     ensures end { OnOk result (IsTrue (R.has_ended source.new)) }
     ensures err { IfErr result (λ fault. Moves (R.left source.old) (R.left source.new) (W.contents sink.old) (W.contents sink.new)
-        (StopsBy (SoFar E.has_told explainer.old) fault (R.has_ended source.new))) }
+        (StopsAt (report_run (SoFar E.has_told explainer.old)) fault (R.has_ended source.new))) }
     ensures reads { MatchResult result (λ _. R.failures source.new ≡ R.failures source.old)
         (λ fault. R.failures source.new ≡ R.failures source.old + failed_reads fault) }
     ensures writes { MatchResult result (λ _. W.failures sink.new ≡ W.failures sink.old)
@@ -100,15 +99,15 @@ pub(crate) fn tell_lines<E: Explainer, R: Source, W: Sink>(
     let mut reader = LineReader::new(alloc);
     'lines: while sum.lines < MOST_LINES {
         match next_line(alloc, &mut reader, source) {
-            Err(fault) => return Err(show_fault(fault, sum.lines + 1)),
+            Err(fault) => return Err(fault.at_line(sum.lines + 1)),
             Ok(Found::End) => return Ok(()),
             Ok(Found::Last(line)) => return answer(alloc, explainer, sum, line, sink),
             Ok(Found::Line(line)) => answer(alloc, explainer, sum, line, sink)?,
         }
     }
     match reader.goes_on(source) {
-        Err(fault) => Err(show_fault(fault, sum.lines)),
-        Ok(true) => Err(ShowFault::TooManyLines),
+        Err(fault) => Err(fault.at_line(sum.lines)),
+        Ok(true) => Err(LinesFault::TooManyLines),
         Ok(false) => Ok(()),
     }
 }
@@ -120,7 +119,7 @@ fn answer<E: Explainer, W: Sink>(
     sum: &mut Sum,
     line: Line,
     sink: &mut W,
-) -> Result<(), ShowFault>
+) -> Result<(), LinesFault>
     requires few { sum.old.lines < most_lines }
     ensures lines { OnOk result (sum.new.lines ≡ sum.old.lines + 1) }
     ensures ok { OnOk result ((text : List ℕ) × Appends (W.contents sink.old) (W.contents sink.new) text
@@ -178,26 +177,15 @@ fn begins_as_log(text: &[u8]) -> bool
 ///
 /// # Errors
 /// `Write`: a write of the sink failed.
-pub(crate) fn write<W: Sink>(sink: &mut W, text: &[u8]) -> Result<(), ShowFault>
+pub(crate) fn write<W: Sink>(sink: &mut W, text: &[u8]) -> Result<(), LinesFault>
     ensures ok { OnOk result (Appends (W.contents sink.old) (W.contents sink.new) text.now) }
     ensures err { OnErr result (AppendsBeginning (W.contents sink.old) (W.contents sink.new) text.now) }
-    ensures fault { IfErr result (λ fault. fault ≡ ShowFault.Write) }
+    ensures fault { IfErr result (λ fault. fault ≡ LinesFault.Write) }
     ensures writes { MatchResult result (λ _. W.failures sink.new ≡ W.failures sink.old)
         (λ fault. W.failures sink.new ≡ W.failures sink.old + failed_writes fault) }
 {
     match write_all(sink, text) {
         Ok(()) => Ok(()),
-        Err(_) => Err(ShowFault::Write),
-    }
-}
-
-// The fault of a fault of the input, at the line of this number.
-fn show_fault(fault: InputFault, number: u64) -> ShowFault
-    ensures { result ≡ input_fault fault number }
-{
-    match fault {
-        InputFault::Read => ShowFault::Read,
-        InputFault::BadLine => ShowFault::BadLine(number),
-        InputFault::NoMemory => ShowFault::NoMemory,
+        Err(_) => Err(LinesFault::Write),
     }
 }

@@ -1,8 +1,8 @@
 //! Both ends over a schedule.
 use crate::refusals::fault::RowFault;
-use bidi_lines::Device;
+use bidi_lines::{Device, LinesFault};
 use bidi_link::pair;
-use bidi_pair_lines::{PairFault, ledger_lines, read_steps};
+use bidi_pair_lines::{ledger_lines, read_steps};
 use bidi_remote::RemoteFault;
 use std::alloc::Global;
 use std::io::Write;
@@ -25,7 +25,7 @@ fn played(alloc: Global, lines: &str) -> Result<String, RowFault> {
     let mut source = Device::new(lines.as_bytes());
     let steps = match read_steps(alloc, &mut source) {
         Ok(steps) => steps,
-        Err(PairFault::NoMemory) => return Err(RowFault::NoMemory),
+        Err(LinesFault::NoMemory) => return Err(RowFault::NoMemory),
         Err(_) => return Err(RowFault::NoRow),
     };
     match pair(alloc, steps) {

@@ -34,8 +34,8 @@ returns-in-Err-clause-err g c =
       text,
       Consumes-trans _ _ _ _ _ s.reads consumes,
       s.writes,
-      input_stop g.A.Answerer.answers c.args.answerer.now c.lines.answerer c.args.most c.lines.count c.in-Err.fault c.lines_fault.result
-          (g.R.Source.has_ended c.next.new.source) (read ++ bytes) c.next.new.self text lines c.lines_fault.ensures s.count
+      input_stop g.A.Answerer.answers c.args.answerer.now c.lines.answerer c.args.most c.lines.count c.in-Err.fault c.at_line.result
+          (g.R.Source.has_ended c.next.new.source) (read ++ bytes) c.next.new.self text lines c.at_line.ensures s.count
           (begins_read read bytes c.lines.reader c.next.new.self lines s.begins more) s.answered s.few next.says,
     )
 
@@ -109,16 +109,16 @@ returns-in_err-write_all-in-Ok-Some-clause-err g c =
     c.deref.ensures.value c.deref-in-Ok-Some.ensures.value
     (match_some c.in_ok-text-in-Ok-Some.field-0 answer _ _ (c.in_ok-text-in-Ok-Some.ensures.ok c.args.answerer.now lines text s.answered (ap (λ (n : ℕ). n + 1) s.count)) c.in-Some.is) in
     let front = c.in_err-write_all-in-Ok-Some.ensures.err in
-    let long = length-append lines (line.items ∷ []) in
     let before = s.count in
     by_fault c.from_residual-in_err-write_all-in-Ok-Some.result Write _ c.from_residual-in_err-write_all-in-Ok-Some.ensures (
       read ++ bytes,
       text ++ take front.0 c.deref-in-Ok-Some.result.now,
       Consumes-trans _ _ _ _ _ s.reads consumes,
       Appends-trans _ _ _ _ _ s.writes front.2,
-      write_stop g.A.Answerer.answers c.args.answerer.now c.answer.new.self c.args.most front.0 (g.R.Source.has_ended c.next.new.source) (read ++ bytes)
-          c.next.new.self text c.deref-in-Ok-Some.result.now (lines ++ line.items ∷ [])
-          (begins_more read bytes line.items c.lines.reader c.next.new.self lines s.begins more is) now (omega (arith, long, before)) front.1,
+      write_stop g.A.Answerer.answers c.args.answerer.now c.lines.answerer c.answer.new.self c.args.most front.0 (g.R.Source.has_ended c.next.new.source)
+          (read ++ bytes) line.items c.next.new.self text c.deref-in-Ok-Some.result.now lines
+          (begins_read read bytes c.lines.reader (ended line.items ++ c.next.new.self) lines s.begins more) s.answered is now
+          (omega (arith, before)) front.1,
     )
 
 pub lines-preserved : goal.lines-preserved
@@ -159,8 +159,8 @@ returns-in-Err-goes_on-clause-err g c =
       text,
       Consumes-trans _ _ _ _ _ s.reads consumes,
       s.writes,
-      last_stop g.A.Answerer.answers c.args.answerer.now c.lines.answerer c.args.most c.lines.count c.in-Err-goes_on.fault c.lines_fault-in-Err-goes_on.result
-          (g.R.Source.has_ended c.goes_on.new.source) (read ++ bytes) text lines c.lines_fault-in-Err-goes_on.ensures
+      last_stop g.A.Answerer.answers c.args.answerer.now c.lines.answerer c.args.most c.lines.count c.in-Err-goes_on.fault c.at_line-in-Err-goes_on.result
+          (g.R.Source.has_ended c.goes_on.new.source) (read ++ bytes) text lines c.at_line-in-Err-goes_on.ensures
           (begins_all (read ++ bytes) c.goes_on.new.self lines
           (begins_read read bytes c.lines.reader c.goes_on.new.self lines s.begins more) next.err.1) s.answered s.few next.err.0,
     )
@@ -176,11 +176,10 @@ returns-in-Ok-true-clause-err g c =
       Consumes-trans _ _ _ _ _ s.reads consumes,
       s.writes,
       (
-        c.lines.answerer,
         lines,
         c.goes_on.new.self,
         begins_read read bytes c.lines.reader c.goes_on.new.self lines s.begins more,
-        s.answered,
+        (c.lines.answerer, s.answered),
         few,
         (omega (arith, counted, few), next.more c.in-Ok-true.field-0-test),
       ),

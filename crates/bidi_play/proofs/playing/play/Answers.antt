@@ -13,7 +13,14 @@ returns-in_err-new-clause-err g c =
       [],
       Consumes-nil _,
       Appends-nil _,
-      ([], [], [], [], record { lines = refl; each = tt; inputs = []; heard = tt; answer = refl; reads_back = tt }, refl),
+      (
+        [],
+        [],
+        record { front = refl; each = tt },
+        ([], record { lines = refl; each = tt; inputs = []; heard = tt; answer = refl; reads_back = tt }),
+        omega arith,
+        tt,
+      ),
     )
 
 pub answer_lines-requires : goal.answer_lines-requires

@@ -1,8 +1,8 @@
-use Rattle.std.proofs.Common.{[], refl, subst, take}
+use Rattle.std.proofs.Common.{ℕ, ◌<◌, List, [], length, arith, refl, subst, take}
 use Rattle.std.specs.Io.KnownBytes.{Appends}
-use Rattle.std.proofs.KnownBytes.{Appends-trans}
+use Rattle.std.proofs.KnownBytes.{Appends-nil, Appends-trans, Consumes-nil}
 use Rattle.bidi_lines.proofs.ResultLemmas.{by_fault}
-use Rattle.bidi_play.specs.declared.playing.PlayFault.TheVariants.{Write}
+use Rattle.bidi_play.specs.declared.playing.PlayFault.TheVariants.{NoMemory, Write}
 use Rattle.bidi_play.specs.Plays.{play_fault_of}
 use Rattle.bidi_reduce.proofs.AlikeLemmas.{sees-strike}
 use Rattle.bidi_reduce.proofs.StrikeLemmas.{follows_none}
@@ -12,6 +12,11 @@ use Rattle.bidi_reduce.proofs.reducing.reduce.Goals as goal
 
 pub returns-in_err-new-clause-sees_same : goal.returns-in_err-new-clause-sees_same
 returns-in_err-new-clause-sees_same g c = sees-strike
+
+pub returns-in_err-new-clause-err : goal.returns-in_err-new-clause-err
+returns-in_err-new-clause-err g c =
+    by_fault c.from_residual.result NoMemory _ c.from_residual.ensures
+    ([], [], Consumes-nil _, Appends-nil _, ([], [], record { front = refl; each = tt }, (tt, refl), omega arith, tt))
 
 pub answer_lines-requires : goal.answer_lines-requires
 answer_lines-requires g c = record {
@@ -55,7 +60,8 @@ returns-in_err-write_all-clause-err g c =
       consumes,
       Appends-trans _ _ _ _ _ (subst (Appends (g.W.Sink.contents c.args.sink.now) (g.W.Sink.contents c.answer_lines.new.sink)) none appends)
           (subst (λ t. Appends (g.W.Sink.contents c.answer_lines.new.sink) (g.W.Sink.contents c.write_all.new.sink) (take n t)) c.deref.ensures.value part),
-      write_stop c.args.session n (g.R.Source.has_ended c.answer_lines.new.source) read reducer.kept.items all,
+      write_stop c.args.session n (g.R.Source.has_ended c.answer_lines.new.source) read reducer.kept.items all
+          (subst (λ (t : List ℕ). n < length t) c.deref.ensures.value few),
     )
 
 pub returns-in_err-write_all-clause-sees_same : goal.returns-in_err-write_all-clause-sees_same

@@ -1,7 +1,8 @@
 use Rattle.std.proofs.Common.{false, true, arith, refl, subst, sym}
+use Rattle.bidi_lines.specs.Stops.{StopsAt}
 use Rattle.bidi_run.specs.declared.faults.RunFault.TheVariants as fault
 use Rattle.bidi_why.specs.Conversing.{TellsConversation}
-use Rattle.bidi_why.specs.Telling as tellings
+use Rattle.bidi_why.specs.Telling.{TellsLines, report_run}
 use Rattle.bidi_run.specs.Runs.{Completes, Stops, both_form}
 use Rattle.bidi_run.proofs.running.finish.Goals as goal
 
@@ -30,5 +31,5 @@ returns-in-Err-explain-clause-err g c =
     let o = c.in-Why.options in
     let at_end = g.R.Source.has_ended c.explain.new.source in
     let (read, wrote, consumes, appends, stops) = c.in-Err-explain.ensures.err in
-    let of_form = subst (λ f. tellings.StopsAt f o.side o.profile_only c.in-Err-explain.fault at_end read wrote) c.form_of.ensures stops in
+    let of_form = subst (λ f. StopsAt (report_run (TellsLines f o.side o.profile_only)) c.in-Err-explain.fault at_end read wrote) c.form_of.ensures stops in
     (read, wrote, consumes, appends, subst (λ r. Stops r (fault.Listing c.in-Err-explain.fault) at_end read wrote) (sym c.in-Why.is) of_form)

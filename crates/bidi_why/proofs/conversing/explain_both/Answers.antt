@@ -2,9 +2,10 @@ use Rattle.std.proofs.Common.{◌≡◌, ◌++◌, ℕ, List, inl, refl, sym, tr
 use Rattle.std.specs.Prelude.{is_some}
 use Rattle.std.proofs.KnownBytes.{Appends-trans}
 use Rattle.bidi_lines.proofs.ResultLemmas.{by_fault}
+use Rattle.bidi_lines.proofs.StopLemmas.{stops_as}
 use Rattle.bidi_why.specs.Summary.{Entry, SumsUp}
 use Rattle.bidi_why.proofs.ConversationLemmas.{counts_both, no_form, stops_behind, tells_both, transcript_so}
-use Rattle.bidi_why.proofs.TellingLemmas.{stops_as}
+use Rattle.bidi_why.proofs.TellingLemmas.{reports_as}
 use Rattle.bidi_why.proofs.conversing.explain_both.Goals as goal
 
 pub returns-in_err-tell_lines-clause-err : goal.returns-in_err-tell_lines-clause-err
@@ -14,7 +15,7 @@ returns-in_err-tell_lines-clause-err g c =
     let (read, wrote, consumes, appends, stops) = c.in_err-tell_lines.ensures.err in
     let told = transcript_so c.args.form c.args.profile_only c.in_ok-conversation.conversation made.form made.only in
     by_fault c.from_residual-in_err-tell_lines.result fault _ c.from_residual-in_err-tell_lines.ensures
-    (read, wrote, consumes, appends, inl (stops_as told fault _ read wrote stops))
+    (read, wrote, consumes, appends, inl (stops_as _ _ (reports_as told) fault _ read wrote stops))
 
 pub returns-in_err-tell_waiting-clause-err : goal.returns-in_err-tell_waiting-clause-err
 returns-in_err-tell_waiting-clause-err g c =

@@ -1,7 +1,8 @@
 use Rattle.std.proofs.Common.{◌++◌, ◌∙◌, length}
 use Rattle.bidi_lines.proofs.ResultLemmas.{by_fault}
+use Rattle.bidi_lines.proofs.StopLemmas.{stops_as}
 use Rattle.bidi_why.specs.Telling.{last_line}
-use Rattle.bidi_why.proofs.TellingLemmas.{stops_as, tells_so, told_so}
+use Rattle.bidi_why.proofs.TellingLemmas.{reports_as, tells_so, told_so}
 use Rattle.bidi_why.proofs.listing.explain.Goals as goal
 
 pub returns-in_err-tell_lines-clause-err : goal.returns-in_err-tell_lines-clause-err
@@ -10,7 +11,7 @@ returns-in_err-tell_lines-clause-err g c =
     let made = c.in_ok-one_side.ensures in
     let (read, wrote, consumes, appends, stops) = c.in_err-tell_lines.ensures.err in
     let told = tells_so c.args.form c.args.side c.args.profile_only c.in_ok-one_side.one_side made.form made.side made.only in
-    by_fault c.from_residual-in_err-tell_lines.result fault _ c.from_residual-in_err-tell_lines.ensures (read, wrote, consumes, appends, stops_as told fault _ read wrote stops)
+    by_fault c.from_residual-in_err-tell_lines.result fault _ c.from_residual-in_err-tell_lines.ensures (read, wrote, consumes, appends, stops_as _ _ (reports_as told) fault _ read wrote stops)
 
 pub returns-clause-ok : goal.returns-clause-ok
 returns-clause-ok g c =

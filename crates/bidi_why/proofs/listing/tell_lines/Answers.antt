@@ -1,10 +1,11 @@
-use Rattle.std.proofs.Common.{◌+◌, ◌++◌, ◌∷◌, [], ℕ, List, refl, sym, ◌∙◌, ap₂, arith}
+use Rattle.std.proofs.Common.{ap, ◌+◌, ◌++◌, ◌∷◌, [], ℕ, List, refl, sym, ◌∙◌, ap₂, arith}
 use Rattle.std.proofs.KnownBytes.{Appends-nil, Appends-trans, Consumes-nil, Consumes-trans}
+use Rattle.bidi_lines.proofs.AnsweringLemmas.{begins_more, begins_read}
 use Rattle.bidi_lines.proofs.ResultLemmas.{by_fault}
 use Rattle.bidi_why.specs.declared.next_line.Found.TheVariants.{End, Last, Line}
 use Rattle.bidi_why.proofs.InputLemmas.{found_as, one_line}
 use Rattle.bidi_why.specs.Telling.{SoFar, Sums, TellsNext}
-use Rattle.bidi_why.proofs.TellingLemmas.{if_err, leaves_found, leaves_nothing, next_ended, next_last, on_ok, parts_more, parts_read, stops_input, stops_line, whole_all, whole_last}
+use Rattle.bidi_why.proofs.TellingLemmas.{if_err, leaves_found, leaves_nothing, next_ended, next_last, on_ok, stops_input, stops_line, whole_all, whole_last}
 use Rattle.bidi_why.proofs.listing.tell_lines.Goals as goal
 
 pub lines-init : goal.lines-init
@@ -33,13 +34,9 @@ returns-in-Err-clause-err g c =
       text,
       Consumes-trans _ _ _ _ _ s.reads consumes,
       s.writes,
-      stops_input (SoFar g.E.Explainer.has_told c.args.explainer.now) c.in-Err.fault (c.lines.sum.lines + 1) c.show_fault.result at_end (read ++ bytes)
-          (gone ++ c.next_line.new.reader) text lines c.show_fault.ensures
-          (record {
-            parts = parts_read read bytes c.lines.reader (gone ++ c.next_line.new.reader) lines s.parts more;
-            text = (c.lines.explainer, s.told.0, s.told.1);
-            few = s.told.4;
-          })
+      stops_input (SoFar g.E.Explainer.has_told c.args.explainer.now) c.in-Err.fault (c.lines.sum.lines + 1) c.at_line.result at_end (read ++ bytes)
+          (gone ++ c.next_line.new.reader) text lines c.at_line.ensures
+          (begins_read read bytes c.lines.reader (gone ++ c.next_line.new.reader) lines s.parts more) (c.lines.explainer, s.told.0, s.told.1) s.told.4
           (leaves_found c.in-Err.fault (c.lines.sum.lines + 1) lines at_end gone c.next_line.new.reader (omega (arith, count)) found),
     )
 
@@ -54,7 +51,7 @@ returns-in-Ok-End-clause-ok g c =
       s.writes,
       whole_all (Sums g.E.Explainer.has_told c.args.explainer.now c.lines.explainer c.lines.sum)
           (read ++ bytes) (gone ++ c.next_line.new.reader) text lines
-          (parts_read read bytes c.lines.reader (gone ++ c.next_line.new.reader) lines s.parts more)
+          (begins_read read bytes c.lines.reader (gone ++ c.next_line.new.reader) lines s.parts more)
           (ap₂ (λ (x y : List ℕ). x ++ y) none last.1) s.told,
     )
 
@@ -79,6 +76,7 @@ returns-in-Ok-Last-clause-err g c =
     let (read, lines, text, s) = c.lines.invariant in
     let line = c.in-Ok-Last.line in
     let at_end = g.R.Source.has_ended c.next_line.new.source in
+    let counted = s.told.2.lines in
     let (gone, (bytes, more, consumes), (is, some, last)) =
     found_as _ _ c.lines.reader c.next_line.new.reader at_end c.in-Ok-Last.field-0 (Last line) c.in-Ok-Last.field-0-is c.in-Ok-Last.ensures.finds in
     if_err c.answer.result c.answer.ensures.err (λ fault stop.
@@ -87,11 +85,8 @@ returns-in-Ok-Last-clause-err g c =
     (λ t. TellsNext g.E.Explainer.has_told c.lines.explainer c.answer.new.explainer c.lines.sum c.answer.new.sum line t)
     stop (λ t tells. let next = tells c.args.explainer.now lines text gone s.told is in (c.answer.new.explainer, next.0, next.1))
     (next_last at_end gone c.next_line.new.reader (one_line line gone is) some last.0 last.1)
-    (record {
-      parts = parts_read read bytes c.lines.reader (gone ++ c.next_line.new.reader) lines s.parts more;
-      text = (c.lines.explainer, s.told.0, s.told.1);
-      few = s.told.4;
-    }) in (
+    (begins_read read bytes c.lines.reader (gone ++ c.next_line.new.reader) lines s.parts more) (c.lines.explainer, s.told.0, s.told.1)
+    (omega (arith, counted)) in (
       read ++ bytes,
       text ++ part,
       Consumes-trans _ _ _ _ _ s.reads consumes,
@@ -111,7 +106,8 @@ lines-preserved g c =
       lines ++ is ∷ [],
       text ++ here,
       record {
-        parts = parts_more read bytes is gone c.lines.reader c.next_line.new.reader lines s.parts more whole (one_line line is at);
+        parts = begins_more read bytes is c.lines.reader c.next_line.new.reader lines s.parts
+            (ap (λ (z : List ℕ). z ++ c.next_line.new.reader) (sym whole) ∙ more) (one_line line is at);
         told = tells c.args.explainer.now lines text is s.told at;
         reads = Consumes-trans _ _ _ _ _ s.reads consumes;
         writes = Appends-trans _ _ _ _ _ s.writes appends;
@@ -125,6 +121,7 @@ returns-in_err-answer-in-Ok-Line-clause-err g c =
     let (read, lines, text, s) = c.lines.invariant in
     let line = c.in-Ok-Line.line in
     let at_end = g.R.Source.has_ended c.next_line.new.source in
+    let counted = s.told.2.lines in
     let (gone, (bytes, more, consumes), (is, at, whole)) =
     found_as _ _ c.lines.reader c.next_line.new.reader at_end c.in-Ok-Line.field-0 (Line line) c.in-Ok-Line.field-0-is c.in-Ok-Line.ensures.finds in
     let fault = c.in_err-answer-in-Ok-Line.field-0.0 in
@@ -134,11 +131,8 @@ returns-in_err-answer-in-Ok-Line-clause-err g c =
     c.in_err-answer-in-Ok-Line.ensures.err
     (λ t tells. let next = tells c.args.explainer.now lines text is s.told at in (c.answer-in-Ok-Line.new.explainer, next.0, next.1))
     (next_ended at_end is gone c.next_line.new.reader (one_line line is at) whole)
-    (record {
-      parts = parts_read read bytes c.lines.reader (gone ++ c.next_line.new.reader) lines s.parts more;
-      text = (c.lines.explainer, s.told.0, s.told.1);
-      few = s.told.4;
-    }) in
+    (begins_read read bytes c.lines.reader (gone ++ c.next_line.new.reader) lines s.parts more) (c.lines.explainer, s.told.0, s.told.1)
+    (omega (arith, counted)) in
     by_fault c.from_residual.result fault _ c.from_residual.ensures (
       read ++ bytes,
       text ++ part,
@@ -156,13 +150,9 @@ returns-in-Err-goes_on-clause-err g c =
       text,
       Consumes-trans _ _ _ _ _ s.reads consumes,
       s.writes,
-      stops_input (SoFar g.E.Explainer.has_told c.args.explainer.now) c.in-Err-goes_on.fault c.lines.sum.lines c.show_fault-in-Err-goes_on.result
-          (g.R.Source.has_ended c.goes_on.new.source) (read ++ bytes) c.goes_on.new.self text lines c.show_fault-in-Err-goes_on.ensures
-          (record {
-            parts = parts_read read bytes c.lines.reader c.goes_on.new.self lines s.parts more;
-            text = (c.lines.explainer, s.told.0, s.told.1);
-            few = s.told.4;
-          })
+      stops_input (SoFar g.E.Explainer.has_told c.args.explainer.now) c.in-Err-goes_on.fault c.lines.sum.lines c.at_line-in-Err-goes_on.result
+          (g.R.Source.has_ended c.goes_on.new.source) (read ++ bytes) c.goes_on.new.self text lines c.at_line-in-Err-goes_on.ensures
+          (begins_read read bytes c.lines.reader c.goes_on.new.self lines s.parts more) (c.lines.explainer, s.told.0, s.told.1) s.told.4
           (leaves_nothing c.in-Err-goes_on.fault c.lines.sum.lines lines c.goes_on.new.self none.0 none.1),
     )
 
@@ -179,13 +169,10 @@ returns-in-Ok-true-clause-err g c =
       (
         lines,
         c.goes_on.new.self,
-        record {
-          parts = parts_read read bytes c.lines.reader c.goes_on.new.self lines s.parts more;
-          text = (c.lines.explainer, s.told.0, s.told.1);
-          few = few;
-        },
-        omega (arith, counted, few),
-        c.in-Ok-true.ensures.more c.in-Ok-true.field-0-test,
+        begins_read read bytes c.lines.reader c.goes_on.new.self lines s.parts more,
+        (c.lines.explainer, s.told.0, s.told.1),
+        few,
+        (omega (arith, counted, few), c.in-Ok-true.ensures.more c.in-Ok-true.field-0-test),
       ),
     )
 
@@ -200,5 +187,5 @@ returns-clause-ok g c =
       s.writes,
       whole_all (Sums g.E.Explainer.has_told c.args.explainer.now c.lines.explainer c.lines.sum)
           (read ++ bytes) c.goes_on.new.self text lines
-          (parts_read read bytes c.lines.reader c.goes_on.new.self lines s.parts more) (next.end c.in-Ok-false.field-0-test).0 s.told,
+          (begins_read read bytes c.lines.reader c.goes_on.new.self lines s.parts more) (next.end c.in-Ok-false.field-0-test).0 s.told,
     )
