@@ -2,3 +2,5 @@ mod CommandLineFacts
 mod CommandLineLemmas
 mod PlayLines
 mod NumberLemmas
+mod SaidLemmas
+mod FileLemmas

@@ -151,9 +151,29 @@ number_within least most text =
 abbrev pub number_in : Text → ℕ → ℕ → List Row → Option ℕ
 number_in name least most rows = option_and_then (number_within least most) (first_of name rows)
 
+-- the greatest number of a session that `--session` takes
+abbrev pub greatest_session : ℕ
+greatest_session = 4294967295
+
+-- the greatest port
+abbrev pub greatest_port : ℕ
+greatest_port = 65535
+
+-- the most connections that `serve` takes in its life
+abbrev pub most_served : ℕ
+most_served = 1000
+
+-- the most messages that `serve` takes in its life
+abbrev pub most_messages : ℕ
+most_messages = 100000
+
+-- the most MiB that `host` may be told to buffer
+abbrev pub most_buffered_mib : ℕ
+most_buffered_mib = 65536
+
 -- the number of the session that the option `--session` gives
 abbrev pub session_in : List Row → Option ℕ
-session_in rows = number_in (codes "session") 0 4294967295 rows
+session_in rows = number_in (codes "session") 0 greatest_session rows
 
 -- the string is `true`, which is what `clap` has for a flag that is given
 abbrev pub is_true : Text → Bool
@@ -186,7 +206,7 @@ served port connections messages = None
 
 -- the options of `serve` that the arguments give
 abbrev pub serving_in : List Row → Option ServeOptions
-serving_in rows = served (number_in (codes "port") 0 65535 rows) (number_in (codes "connections") 1 1000 rows) (number_in (codes "messages") 1 100000 rows)
+serving_in rows = served (number_in (codes "port") 0 greatest_port rows) (number_in (codes "connections") 1 most_served rows) (number_in (codes "messages") 1 most_messages rows)
 
 -- the options of `host`, if both numbers are valid
 abbrev pub hosted : Option ℕ → Bool → Bool → Bool → Option ℕ → Option HostOptions
@@ -197,8 +217,8 @@ hosted port reads_input ends_sessions is_lenient most = None
 -- the options of `host` that the arguments give
 abbrev pub hosting_in : List Row → Option HostOptions
 hosting_in rows =
-    hosted (number_in (codes "port") 0 65535 rows) (is_given (codes "stdin") rows) (is_given (codes "end-sessions") rows) (is_given (codes "lenient") rows)
-    (number_in (codes "max-buffered") 1 65536 rows)
+    hosted (number_in (codes "port") 0 greatest_port rows) (is_given (codes "stdin") rows) (is_given (codes "end-sessions") rows) (is_given (codes "lenient") rows)
+    (number_in (codes "max-buffered") 1 most_buffered_mib rows)
 
 -- the run of the subcommand of this name, given the values of its options
 abbrev pub run_named : Text → Option Side → Option ℕ → Option StreamRun → Option ServeOptions → Option HostOptions → Option Run
@@ -284,47 +304,48 @@ FileWords words = (words ≡ []) ⊎ ((name : Text) × IsTrue (is_name name) × 
 abbrev pub SaysHost : HostOptions → List Text → Type 0
 SaysHost h line =
     (port : Option Text) × (page : Option Text) × (record_file : Option Text)
-    × (number_within 0 65535 (unwrap_or port default_port) ≡ Some h.port) × (h.most_buffered ≡ 1024)
+    × (number_within 0 greatest_port (unwrap_or port default_port) ≡ Some h.port) × (number_within 1 most_buffered_mib default_buffered ≡ Some h.most_buffered)
     × (line ≡ codes "host" ∷ value_words (codes "port") port ++ value_words (codes "page") page ++ flag_words (codes "stdin") h.reads_input
     ++ value_words (codes "record") record_file ++ flag_words (codes "end-sessions") h.ends_sessions ++ flag_words (codes "lenient") h.is_lenient)
 
 -- the arguments of `host` with `--max-buffered` and no other option
 abbrev pub SaysBuffered : HostOptions → List Text → Type 0
 SaysBuffered h line =
-    (value : Text) × (number_within 1 65536 value ≡ Some h.most_buffered)
-    × (h ≡ record { port = 9222; reads_input = false; ends_sessions = false; is_lenient = false; most_buffered = h.most_buffered })
+    (value : Text) × (number_within 1 most_buffered_mib value ≡ Some h.most_buffered)
+    × (number_within 0 greatest_port default_port ≡ Some h.port)
+    × (h ≡ record { port = h.port; reads_input = false; ends_sessions = false; is_lenient = false; most_buffered = h.most_buffered })
     × (line ≡ codes "host" ∷ value_words (codes "max-buffered") (Some value))
 
 -- these arguments are a usual way to ask for the run, with its options in this order
 abbrev pub IsSaidBy : Run → List Text → Type 0
 IsSaidBy (Stream Play) line = line ≡ codes "play" ∷ []
 IsSaidBy (Stream Pair) line = line ≡ codes "pair" ∷ []
-IsSaidBy (Stream (Reduce session)) line = (words : List Text) × GivesNumber (codes "session") 0 4294967295 session words × (line ≡ codes "reduce" ∷ words)
+IsSaidBy (Stream (Reduce session)) line = (words : List Text) × GivesNumber (codes "session") 0 greatest_session session words × (line ≡ codes "reduce" ∷ words)
 IsSaidBy (Stream (Show side)) line =
     (words : List Text) × (file : List Text) × Gives (codes "from") (side_text side) words × FileWords file × (line ≡ codes "show" ∷ words ++ file)
 IsSaidBy (Stream (Check side)) line =
     (words : List Text) × (file : List Text) × Gives (codes "from") (side_text side) words × FileWords file × (line ≡ codes "check" ∷ words ++ file)
 IsSaidBy (Stream (Why o)) line =
-    (words : List Text) × Gives (codes "from") (side_text o.side) words
-    × (line ≡ codes "check" ∷ words ++ codes "--why" ∷ flag_words (codes "json") o.is_json ++ flag_words (codes "profile-only") o.profile_only)
+    (words : List Text) × (file : List Text) × Gives (codes "from") (side_text o.side) words × FileWords file
+    × (line ≡ codes "check" ∷ words ++ codes "--why" ∷ flag_words (codes "json") o.is_json ++ flag_words (codes "profile-only") o.profile_only ++ file)
 IsSaidBy (Stream (Both o)) line =
-    (IsTrue o.is_json → IsTrue o.is_why)
+    (file : List Text) × (IsTrue o.is_json → IsTrue o.is_why) × FileWords file
     × (line ≡ codes "check" ∷ codes "--both" ∷ flag_words (codes "why") o.is_why ++ flag_words (codes "json") o.is_json
-    ++ flag_words (codes "profile-only") o.profile_only)
+    ++ flag_words (codes "profile-only") o.profile_only ++ file)
 IsSaidBy (Serve s) line =
     (port : Text) × (connections : Text) × (messages : Text)
-    × (number_within 0 65535 port ≡ Some s.port)
-    × (number_within 1 1000 connections ≡ Some s.connections)
-    × (number_within 1 100000 messages ≡ Some s.messages)
+    × (number_within 0 greatest_port port ≡ Some s.port)
+    × (number_within 1 most_served connections ≡ Some s.connections)
+    × (number_within 1 most_messages messages ≡ Some s.messages)
     × ((line ≡ codes "serve" ∷ codes "--port" ∷ port ∷ codes "--connections" ∷ connections ∷ codes "--messages" ∷ messages ∷ [])
     ⊎ (line ≡ codes "serve" ∷ (codes "--port=" ++ port) ∷ (codes "--connections=" ++ connections) ∷ (codes "--messages=" ++ messages) ∷ []))
 IsSaidBy (Host h) line = SaysHost h line ⊎ SaysBuffered h line
 
 -- the numbers of the run are within their bounds
 abbrev pub IsWithinBounds : Run → Type 0
-IsWithinBounds (Stream (Reduce session)) = session ≤ 4294967295
-IsWithinBounds (Serve s) = (s.port ≤ 65535) × (1 ≤ s.connections) × (s.connections ≤ 1000) × (1 ≤ s.messages) × (s.messages ≤ 100000)
-IsWithinBounds (Host h) = (h.port ≤ 65535) × (1 ≤ h.most_buffered) × (h.most_buffered ≤ 65536)
+IsWithinBounds (Stream (Reduce session)) = session ≤ greatest_session
+IsWithinBounds (Serve s) = (s.port ≤ greatest_port) × (1 ≤ s.connections) × (s.connections ≤ most_served) × (1 ≤ s.messages) × (s.messages ≤ most_messages)
+IsWithinBounds (Host h) = (h.port ≤ greatest_port) × (1 ≤ h.most_buffered) × (h.most_buffered ≤ most_buffered_mib)
 IsWithinBounds run = ⊤
 
 -- the fault means that help or the version was asked for

@@ -4,7 +4,7 @@ use crate::door::{Accepted, Door};
 use crate::hosting::Hosted;
 use crate::slot::Role;
 use crate::surroundings::Surroundings;
-use bidi_peer::{Peer, Refusal};
+use bidi_peer::{Peer, RequestRefusal};
 use bidi_recorder::HostingFault;
 use bidi_tree::JsUint;
 use mio::net::TcpStream;
@@ -100,7 +100,7 @@ impl Hosted {
         if self.peers.pages() < MOST_PAGES {
             self.peers.open(place, Role::Page)?;
         } else {
-            self.peers.refuse(place, Refusal::Full)?;
+            self.peers.refuse(place, RequestRefusal::Full)?;
         }
         Ok(())
     }
@@ -116,12 +116,12 @@ impl Hosted {
     }
 
     // Why a connection at this resource is denied.
-    fn refusal(&self, resource: &str) -> Refusal {
+    fn refusal(&self, resource: &str) -> RequestRefusal {
         let is_known = resource == SESSION || resource.starts_with(SESSIONS);
         if is_known && self.peers.clients() >= MOST_CLIENTS {
-            Refusal::Full
+            RequestRefusal::Full
         } else {
-            Refusal::NotFound
+            RequestRefusal::NotFound
         }
     }
 }

@@ -1,7 +1,7 @@
 //! The connections that are held, each at a place of its own.
 use crate::clock::earlier;
 use crate::slot::{Role, Slot, deadline_of, flushed_is_over, is_page, is_past};
-use bidi_peer::{Came, Ending, Peer, Refusal};
+use bidi_peer::{Came, ClosingCause, Peer, RequestRefusal};
 use bidi_tree::JsUint;
 use mio::net::TcpStream;
 use std::alloc::{AllocError, Global};
@@ -163,7 +163,11 @@ impl Peers {
     }
 
     /// Refuses a handshake.
-    pub(crate) fn refuse(&mut self, place: usize, refusal: Refusal) -> Result<(), AllocError> {
+    pub(crate) fn refuse(
+        &mut self,
+        place: usize,
+        refusal: RequestRefusal,
+    ) -> Result<(), AllocError> {
         if let Some(Some(slot)) = self.slots.get_mut(place) {
             slot.role = Role::Leaving;
             slot.is_answered = true;
@@ -215,7 +219,7 @@ impl Peers {
         let found = self.place_of(conn);
         self.forget(conn);
         match found {
-            Some(place) => self.close_at(place, Ending::Done, deadline),
+            Some(place) => self.close_at(place, ClosingCause::Done, deadline),
             None => Ok(()),
         }
     }
@@ -224,11 +228,11 @@ impl Peers {
     fn close_at(
         &mut self,
         place: usize,
-        ending: Ending,
+        cause: ClosingCause,
         deadline: Option<Instant>,
     ) -> Result<(), AllocError> {
         match self.slots.get_mut(place) {
-            Some(Some(slot)) => slot.close(ending, deadline),
+            Some(Some(slot)) => slot.close(cause, deadline),
             _ => Ok(()),
         }
     }
@@ -257,7 +261,7 @@ impl Peers {
         for slot in self.slots.iter_mut() {
             if let Some(slot) = slot {
                 if is_closed_with(slot.role, pages) {
-                    slot.close(Ending::GoingAway, deadline)?;
+                    slot.close(ClosingCause::GoingAway, deadline)?;
                 }
             }
         }

@@ -1,5 +1,5 @@
 //! A connection that is held.
-use bidi_peer::{Came, Ending, Peer};
+use bidi_peer::{Came, ClosingCause, Peer};
 use bidi_tree::JsUint;
 use mio::net::TcpStream;
 use std::alloc::AllocError;
@@ -113,14 +113,14 @@ impl Slot {
     /// Closes the connection after what is queued, and drops it at the deadline.
     pub(crate) fn close(
         &mut self,
-        ending: Ending,
+        cause: ClosingCause,
         deadline: Option<Instant>,
     ) -> Result<(), AllocError> {
         self.role = Role::Leaving;
         self.deadline = deadline;
         self.is_ready = true;
         self.is_due = true;
-        self.peer.close(ending)
+        self.peer.close(cause)
     }
 
     /// Queues a text.

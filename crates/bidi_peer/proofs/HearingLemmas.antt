@@ -11,7 +11,7 @@ use Rattle.bidi_peer.specs.declared.asking.Asked.TheVariants as asked
 use Rattle.bidi_peer.specs.declared.peer.Came.{Came}
 use Rattle.bidi_peer.specs.declared.peer.Came.TheVariants as telling
 use Rattle.bidi_peer.specs.Sending.{Flushes}
-use Rattle.bidi_peer.specs.Telling.{owed}
+use Rattle.bidi_peer.specs.Telling.{HasFailed, owed}
 use Rattle.bidi_peer.specs.declared.standing.End.{End}
 use Rattle.bidi_peer.specs.declared.standing.End.TheVariants.{Ahead, Known}
 use Rattle.bidi_peer.specs.declared.standing.Peer.{Peer}
@@ -66,7 +66,7 @@ module _ {S : Type 0} (remaining contents : S → Option (List ℕ)) where
       (h.0, h.1, hears-then (asked.Socket target h.0 h.1) a b c.stream x h.2, h.3, h.4 ∙ ap (drop h.1) (joined a b x h.2.bytes))
 
   ended-then : (a b c : Peer S) → Receives remaining a b → IsHeard remaining contents b c telling.Ended → IsHeard remaining contents a c telling.Ended
-  ended-then a b c x (inl done) = inl done
+  ended-then a b c x (inl failed) = inl failed
   ended-then a b c x (inr (inl ended)) = inr (inl ended)
   ended-then a b c x (inr (inr h)) = inr (inr (record {
     answer = h.answer;
@@ -111,9 +111,9 @@ module _ {S : Type 0} (remaining contents : S → Option (List ℕ)) where
 
   -- a request that is answered
   pub answer_heard : (a m b : Peer S) (told : Came) (answer : Answer) → told ≡ telling.Ended → IsAskedBy (untaken a.inbox) (asked.Other answer)
-      → (m.state ≡ standing.Done) ⊎ Writes contents (unwritten a.outbox ++ answer_bytes answer) (unwritten m.outbox) a.stream m.stream
+      → HasFailed m.state ⊎ Writes contents (unwritten a.outbox ++ answer_bytes answer) (unwritten m.outbox) a.stream m.stream
       → b.state ≡ m.state → unwritten b.outbox ≡ unwritten m.outbox → b.stream ≡ m.stream → IsHeard remaining contents a b told
-  answer_heard a m b told answer is asks (inl done) state outbox stream = subst (λ c. IsHeard remaining contents a b c) (sym is) (inl (state ∙ done))
+  answer_heard a m b told answer is asks (inl failed) state outbox stream = subst (λ c. IsHeard remaining contents a b c) (sym is) (inl (subst HasFailed (sym state) failed))
   answer_heard a m b told answer is asks (inr writes) state outbox stream =
       let sent : Writes contents (unwritten a.outbox ++ answer_bytes answer) (unwritten b.outbox) a.stream b.stream =
       subst (λ w. Writes contents (unwritten a.outbox ++ answer_bytes answer) w a.stream b.stream) (sym outbox)
@@ -126,13 +126,13 @@ module _ {S : Type 0} (remaining contents : S → Option (List ℕ)) where
   ended_heard a b told is ended = subst (λ c. IsHeard remaining contents a b c) (sym is) (inr (inl ended))
 
   -- a stream that failed
-  pub cut_heard : (a b : Peer S) (told : Came) → told ≡ telling.Ended → b.state ≡ standing.Done → IsHeard remaining contents a b told
-  cut_heard a b told is done = subst (λ c. IsHeard remaining contents a b c) (sym is) (inl done)
+  pub failed_heard : (a b : Peer S) (told : Came) → told ≡ telling.Ended → HasFailed b.state → IsHeard remaining contents a b told
+  failed_heard a b told is failed = subst (λ c. IsHeard remaining contents a b c) (sym is) (inl failed)
 
   -- what a flush makes of what waits
-  pub after_flush : (b c : Peer S) (s : S) (waits : List ℕ) → (c.state ≡ standing.Done) ⊎ Flushes contents b c → unwritten b.outbox ≡ waits → b.stream ≡ s
-      → (c.state ≡ standing.Done) ⊎ Writes contents waits (unwritten c.outbox) s c.stream
-  after_flush b c s waits (inl done) same at = inl done
+  pub after_flush : (b c : Peer S) (s : S) (waits : List ℕ) → HasFailed c.state ⊎ Flushes contents b c → unwritten b.outbox ≡ waits → b.stream ≡ s
+      → HasFailed c.state ⊎ Writes contents waits (unwritten c.outbox) s c.stream
+  after_flush b c s waits (inl failed) same at = inl failed
   after_flush b c s waits (inr f) same at =
       inr (subst (λ x. Writes contents x (unwritten c.outbox) s c.stream) same (subst (λ x. Writes contents (unwritten b.outbox) (unwritten c.outbox) x c.stream) at f.writes))
 

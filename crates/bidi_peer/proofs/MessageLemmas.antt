@@ -9,17 +9,28 @@ use Rattle.websocket.specs.declared.error.Error.{Error}
 use Rattle.websocket.specs.declared.protocol.frame.codec.FrameStatus.TheVariants.{Complete, Partial}
 use Rattle.websocket.proofs.StreamLemmas.{TookFrame_from_read, read_step-append}
 use Rattle.bidi_peer.specs.Hearing.{Receives}
-use Rattle.bidi_peer.specs.Messages.{HasNoFrame, IsSilent, IsTold, Leads, Passed, Passes, Stops, Tells, Use, gave, given, most_steps, replies, reply_bytes, taken, took}
+use Rattle.bidi_peer.specs.Messages.{HasNoFrame, IsSilent, IsTold, Leads, Passed, Passes, Stops, Tells, Use, gave, given, most_steps_of_take, replies, reply_bytes, taken, took}
 use Rattle.bidi_peer.specs.Taking.{HasTaken, IsLast, IsReceived, IsTakenFor, Shows}
-use Rattle.bidi_peer.specs.Telling.{HasEnded}
+use Rattle.bidi_peer.specs.Telling.{HasEnded, HasFailed}
 use Rattle.bidi_peer.specs.Waiting.{Writes, untaken, unwritten}
 use Rattle.bidi_peer.specs.declared.framing.Frame.{Frame}
 use Rattle.bidi_peer.specs.declared.framing.Frame.TheVariants as frame
 use Rattle.bidi_peer.specs.declared.peer.Came.{Came}
 use Rattle.bidi_peer.specs.declared.peer.Came.TheVariants as telling
 use Rattle.bidi_peer.specs.declared.standing.Peer.{Peer}
-use Rattle.bidi_peer.specs.declared.standing.State.TheVariants.{Done, Open}
+use Rattle.bidi_peer.specs.declared.standing.State.{State}
+use Rattle.bidi_peer.specs.declared.standing.State.TheVariants.{Asked, Closing, Done, Failed, Head, Leaving, Open}
 use Rattle.bidi_peer.proofs.TakingLemmas.{Outcome, not_bad, not_part, shown_binary, shown_close, shown_text, silent_control, silent_fragment}
+
+-- after a failure of the stream nothing more is read
+failed-ended : (s : State) → HasFailed s → HasEnded s
+failed-ended Head failed = absurd failed
+failed-ended (Asked key) failed = absurd failed
+failed-ended Open failed = absurd failed
+failed-ended Closing failed = absurd failed
+failed-ended Leaving failed = absurd failed
+failed-ended Done failed = absurd failed
+failed-ended (Failed failure) failed = tt
 
 -- one more frame
 passes-then : (c : Connection) (bytes : List ℕ) (effects : List Effect) (d : Connection) (left : List ℕ) (n : ℕ) (e : Effect) → Passes c bytes effects d left
@@ -160,7 +171,7 @@ module _ {S : Type 0} (remaining contents : S → Option (List ℕ)) where
 
     -- it goes on: only frames that tell nothing were taken, and the connection is open or its stream failed
     abbrev pub GoesOn : ℕ → Peer S → Type 0
-    GoesOn k b = ((b.state ≡ Open) × (b.most_waiting ≡ a.most_waiting) × CountedTo k b) ⊎ ((b.state ≡ Done) × Stops remaining contents a b)
+    GoesOn k b = ((b.state ≡ Open) × (b.most_waiting ≡ a.most_waiting) × CountedTo k b) ⊎ (HasFailed b.state × Stops remaining contents a b)
 
     -- what comes of a frame
     abbrev pub Comes : ℕ → Peer S → Option Came → Type 0
@@ -203,13 +214,13 @@ module _ {S : Type 0} (remaining contents : S → Option (List ℕ)) where
     after-read k n r j (Some (telling.Asks target)) p reads bound opened x = absurd x
     after-read k n r j (Some (telling.Text s)) p reads bound opened x = absurd x
     after-read k n r j (Some telling.NotText) p reads bound opened x = absurd x
-    after-read k n r j (Some telling.Ended) p reads bound opened (inl done) = inr (record {
+    after-read k n r j (Some telling.Ended) p reads bound opened (inl failed) = inr (record {
       before = n.context;
       bytes = untaken n.inbox;
       waits = unwritten n.outbox;
       stream = n.stream;
       passed = p.0;
-      why = inl done;
+      why = inl failed;
     })
     after-read k n r j (Some telling.Ended) p reads bound opened (inr x) = inr (record {
       before = n.context;
@@ -223,15 +234,15 @@ module _ {S : Type 0} (remaining contents : S → Option (List ℕ)) where
     -- a frame that tells nothing was taken
     after-silent : (k : ℕ) (n r : Peer S) (came : Option Came) → CountedTo k n → n.most_waiting ≡ a.most_waiting → n.state ≡ Open
         → IsReceived remaining contents frame.Control n r came → Comes k r came
-    after-silent k n r None p bound opened (inl done) = inr (
-      done,
+    after-silent k n r None p bound opened (inl failed) = inr (
+      failed,
       record {
         before = n.context;
         bytes = untaken n.inbox;
         waits = unwritten n.outbox;
         stream = n.stream;
         passed = p.0;
-        why = inl done;
+        why = inl failed;
       },
     )
     after-silent k n r None p bound opened (inr f) =
@@ -363,23 +374,23 @@ module _ {S : Type 0} (remaining contents : S → Option (List ℕ)) where
         → n.stream ≡ b.stream → n.most_waiting ≡ b.most_waiting → (b.state ≡ Open → IsLast f ⊎ (n.state ≡ Open))
         → (IsLast f ⊎ (n.state ≡ Open) → IsReceived remaining contents f n r came) → Comes (k + 1) r came
     next k b n r f came (inl goes) reads is t stream most stays x = comes k b goes.2 goes.1 n r f came (is goes.0) (t goes.0) stream most (stays goes.0) (x (stays goes.0))
-    next k b n r f came (inr done) reads is t stream most stays x = absurd (reads (subst HasEnded (sym done.0) tt))
+    next k b n r f came (inr failed) reads is t stream most stays x = absurd (reads (failed-ended b.state failed.0))
 
     -- after the last step
-    pub stopped : (k : ℕ) (b r : Peer S) (told : Came) → GoesOn k b → (most_steps ≤ k) ⊎ HasEnded b.state
+    pub stopped : (k : ℕ) (b r : Peer S) (told : Came) → GoesOn k b → (most_steps_of_take ≤ k) ⊎ HasEnded b.state
         → ((HasEnded b.state → ⊥) → (told ≡ telling.More) × (r ≡ b)) → (HasEnded b.state → told ≡ telling.Ended) → r.state ≡ b.state → IsTold remaining contents a r told
     stopped k b r told (inl goes) (inl enough) quiet ended state =
         let is = quiet (λ e. subst HasEnded goes.0 e) in
         subst (λ (p : Peer S). IsTold remaining contents a p told) (sym is.1)
         (subst (λ c. IsTold remaining contents a b c) (sym is.0) (goes.2.0, omega (arith, goes.2.1, enough)))
     stopped k b r told (inl goes) (inr over) quiet ended state = absurd (subst HasEnded goes.0 over)
-    stopped k b r told (inr done) why quiet ended state =
-        let stops = done.1 in
-        subst (λ c. IsTold remaining contents a r c) (sym (ended (subst HasEnded (sym done.0) tt))) (inr (record {
+    stopped k b r told (inr failed) why quiet ended state =
+        let stops = failed.1 in
+        subst (λ c. IsTold remaining contents a r c) (sym (ended (failed-ended b.state failed.0))) (inr (record {
           before = stops.before;
           bytes = stops.bytes;
           waits = stops.waits;
           stream = stops.stream;
           passed = stops.passed;
-          why = inl (state ∙ done.0);
+          why = inl (subst HasFailed (sym state) failed.0);
         }))

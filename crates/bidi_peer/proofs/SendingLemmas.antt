@@ -12,9 +12,10 @@ use Rattle.websocket.specs.declared.protocol.config.Role.TheVariants.{Server}
 use Rattle.websocket.specs.declared.protocol.frame.coding.Data.TheVariants.{Text}
 use Rattle.websocket.specs.declared.protocol.frame.coding.OpCode.TheVariants.{Data}
 use Rattle.bidi_peer.specs.declared.standing.Peer.{Peer}
-use Rattle.bidi_peer.specs.declared.standing.State.TheVariants.{Closing, Done, Open}
+use Rattle.bidi_peer.specs.declared.standing.State.{State}
+use Rattle.bidi_peer.specs.declared.standing.State.TheVariants.{Closing, Open}
 use Rattle.bidi_peer.specs.Sending.{Flushes, HasNoRoom, IsLittle, KeepsWhatCame, Puts, SendsText, text_frame}
-use Rattle.bidi_peer.specs.Telling.{StaysUnlessDone}
+use Rattle.bidi_peer.specs.Telling.{HasFailed, StaysUnlessFailed}
 use Rattle.bidi_peer.specs.Waiting.{Writes, unwritten}
 use Rattle.bidi_peer.proofs.WaitingLemmas.{writes_then}
 
@@ -44,8 +45,8 @@ text_frame_length t =
 pub joins-back : (front back out frame : List ℕ) → out ≡ back ++ frame → front ++ out ≡ (front ++ back) ++ frame
 joins-back front back out frame e = ap (λ x. front ++ x) e ∙ sym (append_assoc front back frame)
 
-open-done : Open ≡ Done → ⊥
-open-done e = cc
+open-failed : (s : State) → s ≡ Open → HasFailed s → ⊥
+open-failed s opened failed = subst HasFailed opened failed
 
 module _ {S : Type 0} (contents : S → Option (List ℕ)) where
   -- a text that is put between two flushes is sent
@@ -55,17 +56,17 @@ module _ {S : Type 0} (contents : S → Option (List ℕ)) where
       (subst (λ s. Writes contents (unwritten b.outbox ++ text_frame t) (unwritten d.outbox) s d.stream) put.stream
       (subst (λ w. Writes contents w (unwritten d.outbox) c.stream d.stream) put.joins after.writes))
 
-  -- where it is open after each of these, it was not cut by any
-  pub sent : (t : List ℕ) (a b c d : Peer S) → (b.state ≡ Done) ⊎ Flushes contents a b → b.state ≡ Open → Puts t b c
-      → (d.state ≡ Done) ⊎ Flushes contents c d → d.state ≡ Open → SendsText contents t a d
-  sent t a b c d (inl done) stays put after still = absurd (open-done (sym stays ∙ done))
-  sent t a b c d (inr before) stays put (inl done) still = absurd (open-done (sym still ∙ done))
+  -- where it is open after each of these, its stream failed in none
+  pub sent : (t : List ℕ) (a b c d : Peer S) → HasFailed b.state ⊎ Flushes contents a b → b.state ≡ Open → Puts t b c
+      → HasFailed d.state ⊎ Flushes contents c d → d.state ≡ Open → SendsText contents t a d
+  sent t a b c d (inl failed) stays put after still = absurd (open-failed b.state stays failed)
+  sent t a b c d (inr before) stays put (inl failed) still = absurd (open-failed d.state still failed)
   sent t a b c d (inr before) stays put (inr after) still = puts-sends t a b c d before put after
 
   -- where it is open, a text without room closes it, unless its stream fails
-  pub no_room : (t : List ℕ) (a b d : Peer S) → (b.state ≡ Done) ⊎ Flushes contents a b → b.state ≡ Open → b.most_waiting < length (unwritten b.outbox) + length (text_frame t)
-      → StaysUnlessDone Closing d.state → StaysUnlessDone Open d.state ⊎ HasNoRoom contents t a d
-  no_room t a b d (inl done) opened full ends = absurd (open-done (sym opened ∙ done))
+  pub no_room : (t : List ℕ) (a b d : Peer S) → HasFailed b.state ⊎ Flushes contents a b → b.state ≡ Open → b.most_waiting < length (unwritten b.outbox) + length (text_frame t)
+      → StaysUnlessFailed Closing d.state → StaysUnlessFailed Open d.state ⊎ HasNoRoom contents t a d
+  no_room t a b d (inl failed) opened full ends = absurd (open-failed b.state opened failed)
   no_room t a b d (inr before) opened full (inl closing) = inr (record {
     closes = closing;
     rest = unwritten b.outbox;
@@ -73,7 +74,7 @@ module _ {S : Type 0} (contents : S → Option (List ℕ)) where
     writes = before.writes;
     full = subst (λ m. m < length (unwritten b.outbox) + length (text_frame t)) before.bound full;
   })
-  no_room t a b d (inr before) opened full (inr done) = inl (inr done)
+  no_room t a b d (inr before) opened full (inr failed) = inl (inr failed)
 
 module _ {S : Type 0} where
   -- a little text waits
@@ -90,15 +91,15 @@ module _ {S : Type 0} where
 
 module _ {S : Type 0} (contents : S → Option (List ℕ)) where
   -- a flush after which the connection is open touches nothing that came
-  pub flush_keeps : (a b : Peer S) → (b.state ≡ Done) ⊎ Flushes contents a b → b.state ≡ Open → KeepsWhatCame a b
-  flush_keeps a b (inl done) stays = absurd (open-done (sym stays ∙ done))
+  pub flush_keeps : (a b : Peer S) → HasFailed b.state ⊎ Flushes contents a b → b.state ≡ Open → KeepsWhatCame a b
+  flush_keeps a b (inl failed) stays = absurd (open-failed b.state stays failed)
   flush_keeps a b (inr f) stays = record { context = f.context; bytes = f.inbox }
 
   -- nor does what is done behind it, and then what is done behind that
-  pub flush_keeps_then : (a b c : Peer S) → (b.state ≡ Done) ⊎ Flushes contents a b → b.state ≡ Open → KeepsWhatCame b c → KeepsWhatCame a c
+  pub flush_keeps_then : (a b c : Peer S) → HasFailed b.state ⊎ Flushes contents a b → b.state ≡ Open → KeepsWhatCame b c → KeepsWhatCame a c
   flush_keeps_then a b c before stays keeps = keeps-then a b c (flush_keeps a b before stays) keeps
 
   -- nor does a flush, a text that is put, and a flush
-  pub came_kept : (a b c d : Peer S) → (b.state ≡ Done) ⊎ Flushes contents a b → b.state ≡ Open → KeepsWhatCame b c → (d.state ≡ Done) ⊎ Flushes contents c d → d.state ≡ Open
+  pub came_kept : (a b c d : Peer S) → HasFailed b.state ⊎ Flushes contents a b → b.state ≡ Open → KeepsWhatCame b c → HasFailed d.state ⊎ Flushes contents c d → d.state ≡ Open
       → KeepsWhatCame a d
   came_kept a b c d before stays keeps after still = keeps-then a c d (flush_keeps_then a b c before stays keeps) (flush_keeps c d after still)

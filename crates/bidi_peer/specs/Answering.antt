@@ -3,7 +3,7 @@ use Rattle.std.specs.Prelude.{◌+◌, ℕ, List, [], ◌∷◌, ◌++◌, lengt
 use Rattle.websocket.specs.Headers.{crlf}
 use Rattle.bidi_peer.specs.declared.answering.Answer.{Answer}
 use Rattle.bidi_peer.specs.declared.answering.Answer.TheVariants.{BadKey, Foreign, NoUpgrade, NotGet, NotHttp, Ready, Refused, TooManyFields}
-use Rattle.bidi_peer.specs.declared.answering.Refusal.TheVariants.{Full, NotFound}
+use Rattle.bidi_peer.specs.declared.answering.RequestRefusal.TheVariants.{Full, NotFound}
 
 -- the status of an answer, with its reason
 abbrev pub status_of : Answer → List ℕ

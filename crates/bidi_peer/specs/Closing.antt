@@ -4,8 +4,8 @@ use Rattle.websocket.specs.declared.protocol.frame.coding.CloseCode.{CloseCode}
 use Rattle.websocket.specs.declared.protocol.frame.coding.CloseCode.TheVariants as status
 use Rattle.bidi_peer.specs.declared.framing.Fault.{Fault}
 use Rattle.bidi_peer.specs.declared.framing.Fault.TheVariants as fault
-use Rattle.bidi_peer.specs.declared.peer.Ending.{Ending}
-use Rattle.bidi_peer.specs.declared.peer.Ending.TheVariants as ending
+use Rattle.bidi_peer.specs.declared.peer.ClosingCause.{ClosingCause}
+use Rattle.bidi_peer.specs.declared.peer.ClosingCause.TheVariants as cause
 
 -- the code by which a fault closes a connection (RFC 6455, 7.4.1); Again is 1013, try again later
 abbrev pub code_of : Fault → CloseCode
@@ -26,6 +26,6 @@ reason_of fault.CrowdedIn = codes "too much is held in all"
 reason_of fault.CrowdedOut = codes "too much is held in all"
 
 -- the code by which a server closes a connection: 1000 if the connection is done, 1001 if the server stops
-abbrev pub ending_code : Ending → CloseCode
-ending_code ending.Done = status.Normal
-ending_code ending.GoingAway = status.Away
+abbrev pub closing_code : ClosingCause → CloseCode
+closing_code cause.Done = status.Normal
+closing_code cause.GoingAway = status.Away

@@ -3,6 +3,7 @@ use Rattle.std.specs.Prelude.{◌≡◌, ◌⊎◌, ℕ, List, ◌++◌, Option,
 use Rattle.std.specs.Io.KnownBytes.{Consumes, IsAtEnd}
 use Rattle.bidi_peer.specs.Answering.{answer_bytes}
 use Rattle.bidi_peer.specs.Requests.{IsAskedBy, IsUnfinished}
+use Rattle.bidi_peer.specs.Telling.{HasFailed}
 use Rattle.bidi_peer.specs.Waiting.{Reads, Writes, untaken, unwritten}
 use Rattle.bidi_peer.specs.declared.answering.Answer.{Answer}
 use Rattle.bidi_peer.specs.declared.asking.Asked.{Asked}
@@ -44,5 +45,5 @@ module _ {S : Type 0} where
       (accept : List ℕ) × (n : ℕ) × (heard : Hears remaining (asked.Socket target accept n) old new.stream)
       × (new.state ≡ standing.Asked accept) × (untaken new.inbox ≡ drop n (untaken old.inbox ++ heard.bytes))
   -- the end: the stream failed, or it has ended, or the request is answered
-  IsHeard remaining contents old new telling.Ended = (new.state ≡ standing.Done) ⊎ (IsAtEnd (remaining new.stream) ⊎ Answers remaining contents old new)
+  IsHeard remaining contents old new telling.Ended = HasFailed new.state ⊎ (IsAtEnd (remaining new.stream) ⊎ Answers remaining contents old new)
   IsHeard remaining contents old new c = ⊥

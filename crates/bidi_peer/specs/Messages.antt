@@ -8,24 +8,32 @@ use Rattle.websocket.specs.declared.error.Error.{Error}
 use Rattle.websocket.specs.declared.protocol.config.Role.TheVariants.{Server}
 use Rattle.websocket.specs.declared.protocol.frame.codec.FrameStatus.TheVariants.{Complete, Partial}
 use Rattle.websocket.specs.declared.protocol.state.WebSocketState.TheVariants.{Active}
+use Rattle.bidi_peer.specs.Telling.{HasFailed}
 use Rattle.bidi_peer.specs.Waiting.{untaken, unwritten}
 use Rattle.bidi_peer.specs.declared.peer.Came.{Came}
 use Rattle.bidi_peer.specs.declared.peer.Came.TheVariants as telling
 use Rattle.bidi_peer.specs.declared.standing.End.TheVariants.{Due}
 use Rattle.bidi_peer.specs.declared.standing.Peer.{Peer}
-use Rattle.bidi_peer.specs.declared.standing.State.TheVariants.{Done}
 
 -- how many steps one take has at most: each takes a frame or reads the stream
-abbrev pub most_steps : ℕ
-most_steps = 1024
+abbrev pub most_steps_of_take : ℕ
+most_steps_of_take = 1024
+
+-- the most bytes of a message
+abbrev pub most_message_bytes : ℕ
+most_message_bytes = 67108864
+
+-- the most bytes of a frame
+abbrev pub most_frame_bytes : ℕ
+most_frame_bytes = 16777216
 
 -- The protocol of a server has just begun: no frame was read or written, and the limits are those of the default.
 pub record IsFresh (c : Connection) : Type 0 where
   pub role : c.role ≡ Server
   pub state : c.state ≡ Active
   pub fragments : c.fragments ≡ None
-  pub longest_message : c.config.max_message_size ≡ Some 67108864
-  pub longest_frame : c.config.max_frame_size ≡ Some 16777216
+  pub longest_message : c.config.max_message_size ≡ Some most_message_bytes
+  pub longest_frame : c.config.max_frame_size ≡ Some most_frame_bytes
   pub masked : c.config.accept_unmasked_frames ≡ false
 
 -- A frame reports nothing to the caller: it is a ping, a pong, or a part of a message that goes on.
@@ -123,14 +131,14 @@ module _ {S : Type 0} where
     pub waits : List ℕ
     pub stream : S
     pub passed : Passed remaining contents old before bytes waits stream
-    pub why : (new.state ≡ Done) ⊎ ((IsAtEnd (remaining stream) × HasNoFrame before bytes) ⊎ (HasClose before bytes ⊎ (HasFault before bytes ⊎ (old.most_waiting < length waits))))
+    pub why : HasFailed new.state ⊎ ((IsAtEnd (remaining stream) × HasNoFrame before bytes) ⊎ (HasClose before bytes ⊎ (HasFault before bytes ⊎ (old.most_waiting < length waits))))
 
   -- What a take of an open connection reports: the next message, or why there is none.
   abbrev pub IsTold : (S → Option (List ℕ)) → (S → Option (List ℕ)) → Peer S → Peer S → Came → Type 0
   -- nothing: no whole frame is left
   IsTold remaining contents old new telling.Nothing = TellsNothing remaining contents old new × HasNoFrame new.context (untaken new.inbox)
   -- no message after as many frames, reads and writes as one take has steps: there may be more
-  IsTold remaining contents old new telling.More = (passed : TellsNothing remaining contents old new) × (most_steps ≤ length passed.effects + length passed.uses)
+  IsTold remaining contents old new telling.More = (passed : TellsNothing remaining contents old new) × (most_steps_of_take ≤ length passed.effects + length passed.uses)
   -- no request: the handshake is done
   IsTold remaining contents old new (telling.Asks target) = ⊥
   -- a text, with its own bytes

@@ -8,6 +8,10 @@ use Rattle.bidi_peer.specs.declared.standing.Peer.{Peer}
 use Rattle.bidi_peer.specs.declared.standing.State.TheVariants.{Closing}
 use Rattle.bidi_peer.specs.Waiting.{Writes, untaken, unwritten}
 
+-- so many bytes wait before they are written
+abbrev pub write_from : ℕ
+write_from = 65536
+
 -- the frame of a text
 abbrev pub text_frame : List ℕ → List ℕ
 text_frame text = encode_frame (whole_header (Data Text) None) text
@@ -36,9 +40,9 @@ module _ {S : Type 0} where
   abbrev pub SendsText : (S → Option (List ℕ)) → List ℕ → Peer S → Peer S → Type 0
   SendsText contents text old new = Writes contents (unwritten old.outbox ++ text_frame text) (unwritten new.outbox) old.stream new.stream
 
-  -- With the frame of a text, the bytes that wait are within the bound and fewer than 64 KiB.
+  -- With the frame of a text, the bytes that wait are within the bound and too few to be written now.
   abbrev pub IsLittle : List ℕ → Peer S → Type 0
-  IsLittle text old = (length (unwritten old.outbox) + length (text_frame text) ≤ old.most_waiting) × (length (unwritten old.outbox) + length (text_frame text) < 65536)
+  IsLittle text old = (length (unwritten old.outbox) + length (text_frame text) ≤ old.most_waiting) × (length (unwritten old.outbox) + length (text_frame text) < write_from)
 
   -- The stream took what it could, and with the frame of a text the rest is past the bound: the connection closes.
   pub record HasNoRoom (contents : S → Option (List ℕ)) (text : List ℕ) (old new : Peer S) : Type 0 where

@@ -10,6 +10,7 @@ use Rattle.websocket.specs.declared.protocol.frame.codec.FrameStatus.TheVariants
 use Rattle.bidi_peer.specs.Hearing.{Receives}
 use Rattle.bidi_peer.specs.Messages.{reply_bytes}
 use Rattle.bidi_peer.specs.Sending.{Flushes}
+use Rattle.bidi_peer.specs.Telling.{HasFailed}
 use Rattle.bidi_peer.specs.Waiting.{Writes, untaken, unwritten}
 use Rattle.bidi_peer.specs.declared.framing.Fault.{Fault}
 use Rattle.bidi_peer.specs.declared.framing.Fault.TheVariants as fault
@@ -18,7 +19,6 @@ use Rattle.bidi_peer.specs.declared.framing.Frame.TheVariants as frame
 use Rattle.bidi_peer.specs.declared.peer.Came.{Came}
 use Rattle.bidi_peer.specs.declared.peer.Came.TheVariants as telling
 use Rattle.bidi_peer.specs.declared.standing.Peer.{Peer}
-use Rattle.bidi_peer.specs.declared.standing.State.TheVariants.{Done}
 
 -- What a frame with this message is taken for: a text is taken with its own bytes.
 abbrev pub Shows : Option Content → Frame → Type 0
@@ -67,7 +67,7 @@ module _ {S : Type 0} where
   abbrev pub IsWaited : (S → Option (List ℕ)) → Peer S → Peer S → Came → Type 0
   IsWaited remaining old new telling.Nothing = Receives remaining old new × (untaken new.inbox ≡ untaken old.inbox)
   IsWaited remaining old new telling.Ended =
-      (new.state ≡ Done)
+      HasFailed new.state
       ⊎ ((came : List ℕ) × Consumes (remaining old.stream) (remaining new.stream) came × (untaken old.inbox ++ came ≡ untaken old.inbox) × IsAtEnd (remaining new.stream))
   IsWaited remaining old new c = ⊥
 
@@ -84,9 +84,9 @@ module _ {S : Type 0} where
   IsReceived remaining contents frame.Part old new None = Receives remaining old new
   IsReceived remaining contents frame.Part old new (Some c) = IsWaited remaining old new c
   -- a frame that reports nothing: its reply is written, and the connection ends if too much waits
-  IsReceived remaining contents frame.Control old new None = (new.state ≡ Done) ⊎ Flushes contents old new
+  IsReceived remaining contents frame.Control old new None = HasFailed new.state ⊎ Flushes contents old new
   IsReceived remaining contents frame.Control old new (Some c) = (c ≡ telling.Ended) × IsSlow contents old
-  IsReceived remaining contents (frame.Fragment n) old new None = (new.state ≡ Done) ⊎ Flushes contents old new
+  IsReceived remaining contents (frame.Fragment n) old new None = HasFailed new.state ⊎ Flushes contents old new
   IsReceived remaining contents (frame.Fragment n) old new (Some c) = (c ≡ telling.Ended) × IsSlow contents old
   -- a message is reported
   IsReceived remaining contents (frame.Text t) old new came = (came ≡ Some (telling.Text t)) × (new ≡ old)

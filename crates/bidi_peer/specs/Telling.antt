@@ -5,7 +5,7 @@ use Rattle.bidi_peer.specs.declared.peer.Came.TheVariants as came
 use Rattle.bidi_peer.specs.declared.standing.End.{End}
 use Rattle.bidi_peer.specs.declared.standing.End.TheVariants.{Ahead, Due, Known}
 use Rattle.bidi_peer.specs.declared.standing.State.{State}
-use Rattle.bidi_peer.specs.declared.standing.State.TheVariants.{Asked, Done, Head, Leaving, Open}
+use Rattle.bidi_peer.specs.declared.standing.State.TheVariants.{Asked, Done, Failed, Head, Leaving, Open}
 
 -- If the end was known before, it is known afterwards.
 abbrev pub StaysKnown : End → End → Type 0
@@ -51,7 +51,18 @@ IsUnclosed s = IsInHandshake s
 abbrev pub HasEnded : State → Type 0
 HasEnded Leaving = ⊤
 HasEnded Done = ⊤
+HasEnded (Failed failure) = ⊤
 HasEnded s = ⊥
+
+-- A read or a write of the stream failed.
+abbrev pub HasFailed : State → Type 0
+HasFailed (Failed failure) = ⊤
+HasFailed s = ⊥
+
+-- Nothing more is read or written.
+abbrev pub IsCut : State → Type 0
+IsCut Done = ⊤
+IsCut s = HasFailed s
 
 -- A request is reported only while it waits for its answer, and a message only while the connection is open.
 abbrev pub IsTimely : State → Came → Type 0
@@ -71,11 +82,12 @@ abbrev pub IsNew : State → End → Type 0
 IsNew s e = (s ≡ Head) × (e ≡ Ahead)
 
 -- The connection is in this state, unless its stream failed.
-abbrev pub StaysUnlessDone : State → State → Type 0
-StaysUnlessDone there new = (new ≡ there) ⊎ (new ≡ Done)
+abbrev pub StaysUnlessFailed : State → State → Type 0
+StaysUnlessFailed there new = (new ≡ there) ⊎ HasFailed new
 
 -- The connection is over: nothing more is read or written, and the caller knows it.
 abbrev pub IsOver : State → End → List ℕ → Type 0
 IsOver Done end waits = end ≡ Known
+IsOver (Failed failure) end waits = end ≡ Known
 IsOver Leaving end waits = (waits ≡ []) × (end ≡ Known)
 IsOver s end waits = ⊥

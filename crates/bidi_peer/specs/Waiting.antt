@@ -32,4 +32,4 @@ abbrev pub IsFilled : Option (List ℕ) → List ℕ → List ℕ → Filled →
 IsFilled rest waited left filled.Some = left ≢ waited
 IsFilled rest waited left filled.Nothing = left ≡ waited
 IsFilled rest waited left filled.Ended = (left ≡ waited) × IsAtEnd rest
-IsFilled rest waited left filled.Failed = left ≡ waited
+IsFilled rest waited left (filled.Failed failure) = left ≡ waited

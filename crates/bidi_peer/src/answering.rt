@@ -6,7 +6,7 @@ use std::alloc::{AllocError, Global};
 
 /// How a connection is refused at its handshake.
 #[derive(Clone, Copy, Debug, PartialEq, Eq)]
-pub enum Refusal {
+pub enum RequestRefusal {
     /// There is no such resource: 404.
     NotFound,
     /// No more connections are taken now: 503.
@@ -31,7 +31,7 @@ pub(crate) enum Answer {
     /// The request asks for no WebSocket of version 13.
     NoUpgrade,
     /// The caller refuses.
-    Refused(Refusal),
+    Refused(RequestRefusal),
 }
 
 impl Answer {
@@ -46,8 +46,8 @@ impl Answer {
             }
             Answer::Foreign => "403 Forbidden",
             Answer::NoUpgrade => "426 Upgrade Required",
-            Answer::Refused(Refusal::NotFound) => "404 Not Found",
-            Answer::Refused(Refusal::Full) => "503 Service Unavailable",
+            Answer::Refused(RequestRefusal::NotFound) => "404 Not Found",
+            Answer::Refused(RequestRefusal::Full) => "503 Service Unavailable",
         }
     }
 
@@ -75,9 +75,9 @@ impl Answer {
             Answer::Foreign =>
                 "forbidden: an Origin must be http(s)://127.0.0.1 or http(s)://localhost, with any port",
             Answer::NoUpgrade => "upgrade required: connect by WebSocket, version 13",
-            Answer::Refused(Refusal::NotFound) =>
+            Answer::Refused(RequestRefusal::NotFound) =>
                 "no such resource: connect to /session, /session/ID or /page",
-            Answer::Refused(Refusal::Full) => "too many connections: try again later",
+            Answer::Refused(RequestRefusal::Full) => "too many connections: try again later",
         }
     }
 

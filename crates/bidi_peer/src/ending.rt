@@ -1,15 +1,16 @@
 //! How a connection ends, and how its end is told.
 ghost use Rattle.std.specs.Prelude.{◌≡◌, ◌≢◌, ◌↔◌, [], IsTrue, OnErr, OnOk};
-ghost use Rattle.bidi_peer.specs.Telling.{HasEnded, IsInHandshake, IsQuiet, IsTimely, IsUnclosed, SameKnown, StaysKnown, StaysUnlessDone, TellsOnce, owed};
+ghost use Rattle.bidi_peer.specs.Telling.{HasEnded, IsCut, IsInHandshake, IsQuiet, IsTimely, IsUnclosed, SameKnown, StaysKnown, StaysUnlessFailed, TellsOnce, owed};
 ghost use Rattle.bidi_peer.specs.Waiting.{unwritten};
 ghost use Rattle.bidi_peer.specs.Sending.{KeepsWhatCame};
 ghost use Rattle.bidi_peer.specs.declared.peer.Came.TheVariants.{Ended};
 ghost use Rattle.bidi_peer.specs.declared.standing.End.TheVariants.{Known};
-ghost use Rattle.bidi_peer.specs.declared.standing.State.TheVariants.{Closing, Done, Leaving, Open};
+ghost use Rattle.bidi_peer.specs.declared.standing.State.TheVariants.{Closing, Done, Failed, Leaving, Open};
 
 use super::framing::{Fault, write_close};
-use super::peer::{Came, Ending, new_context};
+use super::peer::{Came, ClosingCause, new_context};
 use super::standing::{End, Peer, State};
+use super::stream::Failure;
 use std::alloc::AllocError;
 use std::io::{Read, Write};
 use websocket::protocol::CloseCode;
@@ -21,13 +22,13 @@ impl<S: Read + Write + Drop> Peer<S> {
     ///
     /// # Errors
     /// No memory: an allocation failed, and nothing has changed.
-    pub fn close(&mut self, ending: Ending) -> Result<(), AllocError>
+    pub fn close(&mut self, cause: ClosingCause) -> Result<(), AllocError>
         // If the caller already knew of the end, it still does.
         ensures stays_known { StaysKnown self.old.end self.new.end }
         // The connection is no longer open.
         ensures ok { OnOk result (self.new.state ≢ Open) }
         // An open connection is now closing, unless its stream failed.
-        ensures closes { self.old.state ≡ Open → OnOk result (StaysUnlessDone Closing self.new.state) }
+        ensures closes { self.old.state ≡ Open → OnOk result (StaysUnlessFailed Closing self.new.state) }
         // A connection in its handshake is over, and the caller knows it.
         ensures handshake { IsInHandshake self.old.state → (self.new.state ≡ Done) × (self.new.end ≡ Known) }
         // At any other time this call does not report the end.
@@ -43,10 +44,10 @@ impl<S: Read + Write + Drop> Peer<S> {
                 self.cut();
             }
             State::Open => {
-                self.put_close(ending.code(), "")?;
+                self.put_close(cause.code(), "")?;
                 self.flush();
             }
-            State::Closing | State::Leaving | State::Done => {}
+            State::Closing | State::Leaving | State::Done | State::Failed(_) => {}
         }
         Ok(())
     }
@@ -85,7 +86,7 @@ impl<S: Read + Write + Drop> Peer<S> {
                 self.end = End::Known;
                 self.cut();
             }
-            State::Closing | State::Leaving | State::Done => self.cut(),
+            State::Closing | State::Leaving | State::Done | State::Failed(_) => self.cut(),
         }
         Ok(())
     }
@@ -94,7 +95,7 @@ impl<S: Read + Write + Drop> Peer<S> {
     pub(crate) fn give_up(&mut self, fault: Fault) -> Result<(), AllocError>
         requires { HasEnded self.old.state → ⊥ }
         ensures known { SameKnown self.old.end self.new.end }
-        ensures ok { OnOk result (StaysUnlessDone Closing self.new.state) }
+        ensures ok { OnOk result (StaysUnlessFailed Closing self.new.state) }
         ensures err { OnErr result (self.new.state ≡ self.old.state) }
         ensures came { OnErr result (KeepsWhatCame self.old self.new) }
     {
@@ -157,10 +158,19 @@ impl<S: Read + Write + Drop> Peer<S> {
     pub(crate) fn has_ended(&self) -> bool
         ensures { IsTrue result ↔ HasEnded self.now.state }
     {
-        matches!(self.state, State::Leaving | State::Done)
+        matches!(self.state, State::Leaving | State::Done | State::Failed(_))
     }
 
     /// Ends a connection whose stream failed. The next take tells it, unless the caller knows it.
+    pub(crate) fn lose(&mut self, failure: Failure)
+        ensures end { self.new.end ≡ owed self.old.end }
+        ensures state { self.new.state ≡ Failed failure }
+    {
+        self.outbox.clear();
+        self.stop(State::Failed(failure));
+    }
+
+    /// Ends a connection at once. The next take tells it, unless the caller knows it.
     pub(crate) fn cut(&mut self)
         ensures end { self.new.end ≡ owed self.old.end }
         ensures state { self.new.state ≡ Done }
@@ -182,7 +192,7 @@ impl<S: Read + Write + Drop> Peer<S> {
     // Gives back what came, and reads nothing more. The next take tells the end, unless the caller knows it.
     fn stop(&mut self, state: State)
         requires ended { HasEnded state }
-        requires cut { state ≡ Done → unwritten self.old.outbox ≡ [] }
+        requires cut { IsCut state → unwritten self.old.outbox ≡ [] }
         ensures end { self.new.end ≡ owed self.old.end }
         ensures state { self.new.state ≡ state }
         ensures stream { self.new.stream ≡ self.old.stream }

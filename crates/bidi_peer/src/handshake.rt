@@ -6,12 +6,12 @@ ghost use Rattle.bidi_peer.specs.Messages.{IsFresh};
 ghost use Rattle.bidi_peer.specs.Requests.{IsAskedBy, IsUnfinished};
 ghost use Rattle.bidi_peer.specs.Waiting.{Writes, untaken, unwritten};
 ghost use Rattle.bidi_peer.specs.declared.answering.Answer.TheVariants.{Refused};
-ghost use Rattle.bidi_peer.specs.Telling.{HasEnded, IsAsked, IsTimely, MayTell, SameKnown, StaysKnown, StaysUnlessDone, TellsOnce};
+ghost use Rattle.bidi_peer.specs.Telling.{HasEnded, HasFailed, IsAsked, IsTimely, MayTell, SameKnown, StaysKnown, StaysUnlessFailed, TellsOnce};
 ghost use Rattle.bidi_peer.specs.declared.peer.Came.TheVariants.{Nothing};
 ghost use Rattle.bidi_peer.specs.declared.standing.End.TheVariants.{Ahead, Known};
-ghost use Rattle.bidi_peer.specs.declared.standing.State.TheVariants.{Done, Leaving, Open};
+ghost use Rattle.bidi_peer.specs.declared.standing.State.TheVariants.{Leaving, Open};
 
-use super::answering::{Answer, Refusal};
+use super::answering::{Answer, RequestRefusal};
 use super::asking::{Asked, is_to_judge, judge};
 use super::peer::{Came, new_context};
 use super::standing::{End, Peer, State};
@@ -81,9 +81,9 @@ impl<S: Read + Write + Drop> Peer<S> {
     fn answer(&mut self, answer: Answer) -> Result<(), AllocError>
         requires { HasEnded self.old.state → ⊥ }
         ensures known { SameKnown self.old.end self.new.end }
-        ensures ok { OnOk result (StaysUnlessDone Leaving self.new.state) }
+        ensures ok { OnOk result (StaysUnlessFailed Leaving self.new.state) }
         ensures err { OnErr result (self.new.state ≡ self.old.state) }
-        ensures writes { OnOk result ((self.new.state ≡ Done) ⊎ Writes S.contents (unwritten self.old.outbox ++ answer_bytes answer) (unwritten self.new.outbox) self.old.stream self.new.stream) }
+        ensures writes { OnOk result (HasFailed self.new.state ⊎ Writes S.contents (unwritten self.old.outbox ++ answer_bytes answer) (unwritten self.new.outbox) self.old.stream self.new.stream) }
     {
         let text = answer.text(self.alloc)?;
         self.outbox.put(text.as_bytes())?;
@@ -104,7 +104,7 @@ impl<S: Read + Write + Drop> Peer<S> {
         // If no request waits for an answer, nothing changes.
         ensures else_same { (IsAsked self.old.state → ⊥) → self.new ≡ self.old }
         // If a request waited, the connection is now open, unless its stream failed.
-        ensures ok { IsAsked self.old.state → OnOk result (StaysUnlessDone Open self.new.state) }
+        ensures ok { IsAsked self.old.state → OnOk result (StaysUnlessFailed Open self.new.state) }
         // An open connection starts with a fresh protocol and with the bytes that came after the request.
         ensures begins { IsAsked self.old.state → OnOk result (self.new.state ≡ Open → IsFresh self.new.context × (untaken self.new.inbox ≡ untaken self.old.inbox)) }
         // After an error the state is unchanged.
@@ -127,17 +127,17 @@ impl<S: Read + Write + Drop> Peer<S> {
     ///
     /// # Errors
     /// No memory: an allocation failed, and nothing has changed.
-    pub fn refuse(&mut self, refusal: Refusal) -> Result<(), AllocError>
+    pub fn refuse(&mut self, refusal: RequestRefusal) -> Result<(), AllocError>
         // If the caller already knew of the end, it still does.
         ensures stays_known { StaysKnown self.old.end self.new.end }
         // If no request waits for an answer, nothing changes.
         ensures else_same { (IsAsked self.old.state → ⊥) → self.new ≡ self.old }
         // If a request waited, nothing more is read, and the caller knows the end.
-        ensures ok { IsAsked self.old.state → OnOk result (StaysUnlessDone Leaving self.new.state × (self.new.end ≡ Known)) }
+        ensures ok { IsAsked self.old.state → OnOk result (StaysUnlessFailed Leaving self.new.state × (self.new.end ≡ Known)) }
         // After an error the state is unchanged.
         ensures err { OnErr result (self.new.state ≡ self.old.state) }
         // The bytes of the answer follow what waited to be written, unless the stream failed.
-        ensures answers { IsAsked self.old.state → OnOk result ((self.new.state ≡ Done) ⊎ Writes S.contents (unwritten self.old.outbox ++ answer_bytes (Refused refusal)) (unwritten self.new.outbox) self.old.stream self.new.stream) }
+        ensures answers { IsAsked self.old.state → OnOk result (HasFailed self.new.state ⊎ Writes S.contents (unwritten self.old.outbox ++ answer_bytes (Refused refusal)) (unwritten self.new.outbox) self.old.stream self.new.stream) }
     {
         let State::Asked(_) = self.state else {
             return Ok(());

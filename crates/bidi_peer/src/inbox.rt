@@ -3,9 +3,10 @@ ghost use Rattle.std.specs.Prelude.{◌≡◌, ◌≤◌, ◌<◌, ◌+◌, [], 
 ghost use Rattle.std.specs.Io.KnownBytes.{Consumes, IsAtEnd, Keeps};
 ghost use Rattle.bidi_peer.specs.Waiting.{IsFilled, Reads, untaken};
 
+use super::stream::{Failure, Stop, read};
 use super::waiting::Inbox;
 use std::alloc::{AllocError, Global};
-use std::io::{self, ErrorKind, Read};
+use std::io::Read;
 
 /// How many bytes a read asks for at least.
 const LEAST_ROOM: usize = 4 * 1024;
@@ -23,7 +24,7 @@ pub(crate) enum Filled {
     /// The stream has ended.
     Ended,
     /// The stream failed.
-    Failed,
+    Failed(Failure),
 }
 
 impl Inbox {
@@ -89,18 +90,16 @@ impl Inbox {
                     self.end += count;
                     return Ok(Filled::Some);
                 }
-                Err(error) => match error.kind() {
-                    ErrorKind::Interrupted => {}
-                    ErrorKind::WouldBlock => return Ok(Filled::Nothing),
-                    _ => return Ok(Filled::Failed),
-                },
+                Err(Stop::Interrupted) => {}
+                Err(Stop::WouldBlock) => return Ok(Filled::Nothing),
+                Err(Stop::Failed(failure)) => return Ok(Filled::Failed(failure)),
             }
         }
         Ok(Filled::Nothing)
     }
 
     // Reads the stream once into the room behind what waits.
-    fn read_once<S: Read>(&mut self, stream: &mut S) -> Result<usize, io::Error>
+    fn read_once<S: Read>(&mut self, stream: &mut S) -> Result<usize, Stop>
         requires { self.old.end < vec_len self.old.bytes }
         ensures same { untaken self.new ≡ untaken self.old }
         ensures end_stays { self.new.end ≡ self.old.end }
@@ -141,7 +140,7 @@ impl Inbox {
 }
 
 // Reads the stream once into the bytes from `start` on.
-fn read_behind<S: Read>(stream: &mut S, bytes: &mut [u8], start: usize) -> Result<usize, io::Error>
+fn read_behind<S: Read>(stream: &mut S, bytes: &mut [u8], start: usize) -> Result<usize, Stop>
     requires { start < length bytes.old }
     ensures front { take start bytes.new ≡ take start bytes.old }
     ensures fits { IfOk result (λ count. start + count ≤ length bytes.new) }
@@ -149,5 +148,5 @@ fn read_behind<S: Read>(stream: &mut S, bytes: &mut [u8], start: usize) -> Resul
     ensures end { IfOk result (λ count. count ≡ 0 → IsAtEnd (S.remaining stream.new)) }
     ensures err { OnErr result (Keeps (S.remaining stream.old) (S.remaining stream.new)) }
 {
-    stream.read(&mut bytes[start..])
+    read(stream, &mut bytes[start..])
 }

@@ -25,8 +25,9 @@ mod peer;
 mod receiving;
 mod sending;
 mod standing;
+mod stream;
 mod waiting;
 
-pub use answering::Refusal;
-pub use peer::{Came, Ending, MOST_WAITING};
+pub use answering::RequestRefusal;
+pub use peer::{Came, ClosingCause, MOST_WAITING};
 pub use standing::Peer;

@@ -2,9 +2,10 @@
 ghost use Rattle.std.specs.Prelude.{◌≡◌, ◌↔◌, ◌++◌, [], drop, length, IsTrue, OnOk};
 ghost use Rattle.bidi_peer.specs.Waiting.{Writes, unwritten};
 
+use super::stream::{Failure, Stop, write};
 use super::waiting::Outbox;
 use std::alloc::{AllocError, Global};
-use std::io::{ErrorKind, Write};
+use std::io::Write;
 use std::mem;
 
 /// How many bytes there is room for at most while nothing waits.
@@ -53,25 +54,25 @@ impl Outbox {
         self.second = Vec::new(self.alloc);
     }
 
-    /// Writes what waits, as far as the stream takes it. False where the stream failed.
-    pub(crate) fn write_to<S: Write>(&mut self, stream: &mut S) -> bool
+    /// Writes what waits, as far as the stream takes it.
+    ///
+    /// # Errors
+    /// The stream failed.
+    pub(crate) fn write_to<S: Write>(&mut self, stream: &mut S) -> Result<(), Failure>
         ensures { Writes S.contents (unwritten self.old) (unwritten self.new) stream.old stream.new }
     {
         for _ in 0..usize::MAX {
             if !self.has_first() {
-                return true;
+                return Ok(());
             }
-            match stream.write(self.rest()) {
-                Ok(0) => return false,
+            match write(stream, self.rest()) {
                 Ok(count) => self.sent += count,
-                Err(error) => match error.kind() {
-                    ErrorKind::Interrupted => {}
-                    ErrorKind::WouldBlock => return true,
-                    _ => return false,
-                },
+                Err(Stop::Interrupted) => {}
+                Err(Stop::WouldBlock) => return Ok(()),
+                Err(Stop::Failed(failure)) => return Err(failure),
             }
         }
-        true
+        Ok(())
     }
 
     // What waits in front.

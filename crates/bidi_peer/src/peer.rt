@@ -1,10 +1,10 @@
 //! One connection of a client.
 ghost use Rattle.std.specs.Prelude.{◌≡◌, ◌≢◌, ◌↔◌, ◌+◌, ◌-◌, ◌^◌, [], min, length, IfOk, IsTrue, OnErr, OnOk};
 ghost use Rattle.websocket.specs.declared.protocol.config.Role.TheVariants.{Server};
-ghost use Rattle.bidi_peer.specs.Closing.{ending_code};
+ghost use Rattle.bidi_peer.specs.Closing.{closing_code};
 ghost use Rattle.bidi_peer.specs.Hearing.{IsHeard};
 ghost use Rattle.bidi_peer.specs.Messages.{IsFresh, IsTold};
-ghost use Rattle.bidi_peer.specs.Telling.{HasEnded, IsNew, IsOver, IsTimely, StaysKnown, TellsOnce};
+ghost use Rattle.bidi_peer.specs.Telling.{HasEnded, IsCut, IsNew, IsOver, IsTimely, StaysKnown, TellsOnce};
 ghost use Rattle.bidi_peer.specs.Waiting.{untaken, unwritten};
 ghost use Rattle.bidi_peer.specs.declared.standing.End.TheVariants.{Known};
 ghost use Rattle.bidi_peer.specs.declared.standing.State.TheVariants.{Done, Open};
@@ -40,7 +40,7 @@ pub enum Came {
 
 /// Why the server closes.
 #[derive(Clone, Copy, Debug, PartialEq, Eq)]
-pub enum Ending {
+pub enum ClosingCause {
     /// What the connection was for is done: code 1000.
     Done,
     /// The server stops: code 1001.
@@ -127,7 +127,9 @@ impl<S: Read + Write + Drop> Peer<S> {
         match self.state {
             State::Head => self.read_request(),
             State::Open | State::Closing => self.read_messages(),
-            State::Asked(_) | State::Leaving | State::Done => Ok(self.or_end(Came::Nothing)),
+            State::Asked(_) | State::Leaving | State::Done | State::Failed(_) => {
+                Ok(self.or_end(Came::Nothing))
+            }
         }
     }
 
@@ -171,14 +173,14 @@ impl<S: Read + Write + Drop> Peer<S> {
         ensures written { IsTrue result → unwritten self.now.outbox ≡ [] }
         // If it is over, the caller knows the end.
         ensures known { IsTrue result → self.now.end ≡ Known }
-        // A connection whose stream failed is over once the caller knows the end.
-        ensures done { self.now.state ≡ Done → self.now.end ≡ Known → IsTrue result }
+        // A connection that was cut, or whose stream failed, is over once the caller knows the end.
+        ensures done { IsCut self.now.state → self.now.end ≡ Known → IsTrue result }
         // If it is over, it is not open.
         ensures open { IsTrue result → self.now.state ≢ Open }
     {
         let is_left = match self.state {
             State::Leaving => self.outbox.is_empty(),
-            State::Done => true,
+            State::Done | State::Failed(_) => true,
             _ => false,
         };
         is_left && self.end == End::Known
@@ -201,14 +203,14 @@ pub(crate) fn new_context(alloc: Global) -> WebSocketContext
     WebSocketContext::new(alloc, Role::Server, WebSocketConfig::default())
 }
 
-impl Ending {
+impl ClosingCause {
     /// The code of its close frame.
     pub(crate) fn code(self) -> CloseCode
-        ensures { result ≡ ending_code self }
+        ensures { result ≡ closing_code self }
     {
         match self {
-            Ending::Done => CloseCode::Normal,
-            Ending::GoingAway => CloseCode::Away,
+            ClosingCause::Done => CloseCode::Normal,
+            ClosingCause::GoingAway => CloseCode::Away,
         }
     }
 }

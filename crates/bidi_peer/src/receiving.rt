@@ -132,7 +132,7 @@ impl<S: Read + Write + Drop> Peer<S> {
     }
 
     /// Reads the stream once. Nothing where bytes came.
-    #[tactic(auto, using(crate::proofs::HearingLemmas::ended_heard, crate::proofs::HearingLemmas::cut_heard, crate::proofs::HearingLemmas::nothing_heard, crate::proofs::HearingLemmas::owed_unknown))]
+    #[tactic(auto, using(crate::proofs::HearingLemmas::ended_heard, crate::proofs::HearingLemmas::failed_heard, crate::proofs::HearingLemmas::nothing_heard, crate::proofs::HearingLemmas::owed_unknown))]
     pub(crate) fn read_on(&mut self) -> Result<Option<Came>, AllocError>
         requires { HasEnded self.old.state → ⊥ }
         ensures waits { IfOk result (λ came. came ≡ None → self.new.state ≡ self.old.state) }
@@ -151,8 +151,8 @@ impl<S: Read + Write + Drop> Peer<S> {
                 self.leave();
                 Ok(Some(self.tell_end()))
             }
-            Filled::Failed => {
-                self.cut();
+            Filled::Failed(failure) => {
+                self.lose(failure);
                 Ok(Some(self.tell_end()))
             }
         }

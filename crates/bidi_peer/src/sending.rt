@@ -1,9 +1,9 @@
 //! What a connection sends: texts, as far as there is room and the stream takes them.
 ghost use Rattle.std.specs.Prelude.{◌≡◌, ◌≢◌, ◌≤◌, ◌<◌, ◌⊎◌, ◌+◌, length, IsFalse, IsTrue, OnErr, OnOk};
-ghost use Rattle.bidi_peer.specs.Sending.{Flushes, HasNoRoom, IsLittle, KeepsWhatCame, Puts, SendsText};
-ghost use Rattle.bidi_peer.specs.Telling.{SameKnown, StaysUnlessDone};
+ghost use Rattle.bidi_peer.specs.Sending.{Flushes, HasNoRoom, IsLittle, KeepsWhatCame, Puts, SendsText, write_from};
+ghost use Rattle.bidi_peer.specs.Telling.{HasFailed, SameKnown, StaysUnlessFailed};
 ghost use Rattle.bidi_peer.specs.Waiting.{unwritten};
-ghost use Rattle.bidi_peer.specs.declared.standing.State.TheVariants.{Done, Open};
+ghost use Rattle.bidi_peer.specs.declared.standing.State.TheVariants.{Open};
 
 use super::framing::{Fault, frame_len, write_text};
 use super::standing::{Peer, State};
@@ -36,9 +36,9 @@ impl<S: Read + Write + Drop> Peer<S> {
         // A short text waits, and the stream is not used.
         ensures waits { self.old.state ≡ Open → IsLittle text.now self.old → OnOk result ((self.new.state ≡ Open) × Puts text.now self.old self.new) }
         // An open connection stays open, unless its stream failed or the text has no room.
-        ensures gives_up { self.old.state ≡ Open → OnOk result (StaysUnlessDone Open self.new.state ⊎ HasNoRoom S.contents text.now self.old self.new) }
+        ensures gives_up { self.old.state ≡ Open → OnOk result (StaysUnlessFailed Open self.new.state ⊎ HasNoRoom S.contents text.now self.old self.new) }
         // After an error the state is unchanged, unless the stream failed.
-        ensures err { OnErr result (StaysUnlessDone self.old.state self.new.state) }
+        ensures err { OnErr result (StaysUnlessFailed self.old.state self.new.state) }
     {
         let frame = frame_len(text);
         self.make_room(frame);
@@ -58,8 +58,8 @@ impl<S: Read + Write + Drop> Peer<S> {
     fn make_room(&mut self, frame: usize)
         ensures else_same { self.old.state ≢ Open → self.new ≡ self.old }
         ensures room { length (unwritten self.old.outbox) + frame ≤ self.old.most_waiting → self.new ≡ self.old }
-        ensures state { StaysUnlessDone self.old.state self.new.state }
-        ensures flushes { (self.new.state ≡ Done) ⊎ Flushes S.contents self.old self.new }
+        ensures state { StaysUnlessFailed self.old.state self.new.state }
+        ensures flushes { HasFailed self.new.state ⊎ Flushes S.contents self.old self.new }
         ensures known { SameKnown self.old.end self.new.end }
     {
         if self.is_open() && !self.has_room(frame) {
@@ -88,9 +88,9 @@ impl<S: Read + Write + Drop> Peer<S> {
 
     // Writes what waits, where it is much.
     fn write_much(&mut self)
-        ensures little { length (unwritten self.old.outbox) < 65536 → self.new ≡ self.old }
-        ensures state { StaysUnlessDone self.old.state self.new.state }
-        ensures flushes { (self.new.state ≡ Done) ⊎ Flushes S.contents self.old self.new }
+        ensures little { length (unwritten self.old.outbox) < write_from → self.new ≡ self.old }
+        ensures state { StaysUnlessFailed self.old.state self.new.state }
+        ensures flushes { HasFailed self.new.state ⊎ Flushes S.contents self.old self.new }
         ensures known { SameKnown self.old.end self.new.end }
     {
         if self.outbox.len() >= MUCH {
@@ -103,15 +103,15 @@ impl<S: Read + Write + Drop> Peer<S> {
         // The call does not report the end.
         ensures known { SameKnown self.old.end self.new.end }
         // The state is unchanged, unless the stream failed.
-        ensures state { StaysUnlessDone self.old.state self.new.state }
+        ensures state { StaysUnlessFailed self.old.state self.new.state }
         // Unless the stream failed, it took bytes off the front of what waited, and the rest still waits.
-        ensures flushes { (self.new.state ≡ Done) ⊎ Flushes S.contents self.old self.new }
+        ensures flushes { HasFailed self.new.state ⊎ Flushes S.contents self.old self.new }
     {
-        if matches!(self.state, State::Done) {
+        if matches!(self.state, State::Done | State::Failed(_)) {
             return;
         }
-        if !self.outbox.write_to(&mut self.stream) {
-            self.cut();
+        if let Err(failure) = self.outbox.write_to(&mut self.stream) {
+            self.lose(failure);
         }
     }
 }

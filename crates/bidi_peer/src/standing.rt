@@ -1,12 +1,13 @@
 //! Where a connection stands.
 ghost use Rattle.std.specs.Prelude.{◌≡◌, ◌≢◌, []};
-ghost use Rattle.bidi_peer.specs.Telling.{HasEnded};
+ghost use Rattle.bidi_peer.specs.Telling.{HasEnded, IsCut};
 ghost use Rattle.bidi_peer.specs.Waiting.{unwritten};
 ghost use Rattle.bidi_peer.specs.declared.standing.End.TheVariants.{Ahead};
-ghost use Rattle.bidi_peer.specs.declared.standing.State.TheVariants.{Done, Open};
+ghost use Rattle.bidi_peer.specs.declared.standing.State.TheVariants.{Open};
 ghost use Rattle.websocket.specs.declared.protocol.config.Role.TheVariants.{Server};
 ghost use Rattle.websocket.specs.declared.protocol.state.WebSocketState.TheVariants.{Active};
 
+use super::stream::Failure;
 use super::waiting::{Inbox, Outbox};
 use std::alloc::Global;
 use websocket::protocol::WebSocketContext;
@@ -26,6 +27,8 @@ pub(crate) enum State {
     Leaving,
     /// Nothing more is read or written.
     Done,
+    /// The stream failed, so nothing more is read or written.
+    Failed(Failure),
 }
 
 /// Whether the caller knows that no more comes.
@@ -53,7 +56,7 @@ pub struct Peer<S> {
     pub(crate) outbox: Outbox,
     pub(crate) most_waiting: usize,
     // Nothing waits for a stream that is not written any more.
-    ghost cut: { state ≡ Done → unwritten outbox ≡ [] },
+    ghost cut: { IsCut state → unwritten outbox ≡ [] },
     // Where nothing more is read, the end was told, or the next take tells it.
     ghost owes: { HasEnded state → end ≢ Ahead },
     // The protocol of an open connection reads and writes.

@@ -1,7 +1,7 @@
 //! The answers to requests that are not opened.
 
 use super::wires::{Script, Wire, number_of};
-use bidi_peer::{Came, Peer, Refusal};
+use bidi_peer::{Came, Peer, RequestRefusal};
 use std::alloc::Global;
 use std::cell::RefCell;
 use std::test::Fail;
@@ -145,9 +145,9 @@ fn answered(alloc: Global, word: &str, head: String) -> Result<Vec<u8>, Fail> {
 /// Takes until the connection is over, and refuses it where it asks. Tells whether it is over.
 fn answer(mut peer: Peer<Wire<'_>>, word: &str) -> Result<bool, Fail> {
     let refusal = if word == "full" {
-        Refusal::Full
+        RequestRefusal::Full
     } else {
-        Refusal::NotFound
+        RequestRefusal::NotFound
     };
     for _ in 0..10_000u32 {
         if is_told(peer.take()?) {

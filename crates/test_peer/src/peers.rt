@@ -1,7 +1,7 @@
 //! Connections over streams of given bytes: what each call answers, and what is written.
 
 use super::wires::{Script, Wire, number_of};
-use bidi_peer::{Came, Ending, MOST_WAITING, Peer, Refusal};
+use bidi_peer::{Came, ClosingCause, MOST_WAITING, Peer, RequestRefusal};
 use std::alloc::Global;
 use std::cell::RefCell;
 use std::test::Fail;
@@ -281,13 +281,13 @@ fn push_call(
         "take" => push_came(told, peer.take()?)?,
         "takes" => push_came(told, next(peer)?)?,
         "open" => peer.open()?,
-        "missing" => peer.refuse(Refusal::NotFound)?,
+        "missing" => peer.refuse(RequestRefusal::NotFound)?,
         "send" => {
             peer.send("{}")?;
             peer.flush();
         }
-        "done" => peer.close(Ending::Done)?,
-        "away" => peer.close(Ending::GoingAway)?,
+        "done" => peer.close(ClosingCause::Done)?,
+        "away" => peer.close(ClosingCause::GoingAway)?,
         "flush" => peer.flush(),
         "flushes" => flush_all(peer),
         "shed" => peer.shed()?,

@@ -1,8 +1,9 @@
 use Rattle.std.proofs.Common.{◌≡◌, [], ap, subst, sym, ◌∙◌}
 use Rattle.clap.specs.Words.{HasKind, fault_of, is_simple, is_simple_and_free, subcommand_of}
 use Rattle.bidi_command_line.specs.CommandLine.{bidi_app, line_of, run_in}
-use Rattle.bidi_command_line.proofs.CommandLineLemmas.{asked_read, is_listed, is_read, no_memory, no_run, read_asked, refused, refused_end, said_asks, same_run}
+use Rattle.bidi_command_line.proofs.CommandLineLemmas.{asked_read, is_listed, is_read, no_memory, no_run, read_asked, refused, refused_end, same_run}
 use Rattle.bidi_command_line.proofs.NumberLemmas.{within_bounds}
+use Rattle.bidi_command_line.proofs.SaidLemmas.{said_asks}
 use Rattle.bidi_command_line.proofs.asked.command_line.Goals as goal
 
 pub returns-in-Some-clause-ok : goal.returns-in-Some-clause-ok

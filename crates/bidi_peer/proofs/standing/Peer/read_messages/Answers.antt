@@ -1,6 +1,6 @@
 use Rattle.std.proofs.Common.{rules, ◌∙◌, ◌⊎◌, ◌≤◌, ◌+◌, ap, arith, inl, inr, subst, sym}
 use Rattle.websocket.specs.Connection.{can_read}
-use Rattle.bidi_peer.specs.Messages.{most_steps}
+use Rattle.bidi_peer.specs.Messages.{most_steps_of_take}
 use Rattle.bidi_peer.specs.Telling.{HasEnded, SameKnown}
 use Rattle.bidi_peer.proofs.MessageLemmas.{Comes, goes-on-first, next, stopped}
 use Rattle.bidi_peer.proofs.standing.Peer.read_messages.Goals as goal
@@ -20,7 +20,7 @@ pub returns-clause-messages : goal.returns-clause-messages
 returns-clause-messages g c =
     λ opened unknown.
     let b = c.loop.self in
-    let why : (most_steps ≤ c.loop.counter) ⊎ HasEnded b.state = elim c.loop-test.branch [
+    let why : (most_steps_of_take ≤ c.loop.counter) ⊎ HasEnded b.state = elim c.loop-test.branch [
       | else-loop-test w ↦ inl (omega (arith, w.loop-test.false))
       | then-loop-test+then-has_ended w ↦ inr (search rules)
     ] in

@@ -2,7 +2,7 @@ use Rattle.std.proofs.Common.{subst, sym}
 use Rattle.bidi_peer.specs.Waiting.{Writes, unwritten}
 use Rattle.bidi_peer.proofs.WaitingLemmas.{writes_keeps, writes_more}
 use Rattle.bidi_peer.proofs.waiting.Outbox.write_to.Goals as goal
-use Rattle.bidi_peer.proofs.waiting.Outbox.write_to.Goals.{in-Ok, in-Err+in-Interrupted}
+use Rattle.bidi_peer.proofs.waiting.Outbox.write_to.Goals.{in-Ok, in-Err-Interrupted}
 
 pub returns-then-not-has_first : goal.returns-then-not-has_first
 returns-then-not-has_first g c =
@@ -17,8 +17,8 @@ loop-preserved g c =
     subst (λ m. Writes contents waited m c.args.stream.now c.loop.stream) (sym c.has_first.ensures.same) c.loop.invariant in
     elim c.match-write.branch [
       | in-Ok w ↦
-          rw w.self-is (writes_more contents waited o.first.items o.second.items o.sent w.in-Ok.count c.args.stream.now c.loop.stream c.write.new.self so_far
+          rw w.self-is (writes_more contents waited o.first.items o.second.items o.sent w.in-Ok.count c.args.stream.now c.loop.stream c.write.new.stream so_far
           (rw c.rest.ensures at w.in-Ok.ensures.bytes))
-      | in-Err+in-Interrupted w ↦
-          rw w.self-is (writes_keeps contents waited (unwritten o) c.args.stream.now c.loop.stream c.write.new.self so_far w.in-Err.ensures.bytes)
+      | in-Err-Interrupted w ↦
+          rw w.self-is (writes_keeps contents waited (unwritten o) c.args.stream.now c.loop.stream c.write.new.stream so_far w.in-Err-Interrupted.ensures.bytes)
     ]
