@@ -3,7 +3,8 @@
 
 The page has a block for each measurement, between `<!-- measured: COMMAND -->` and `<!-- end -->`. This runs COMMAND at the top of
 the repository and writes what it prints into the block, below the commit and the machine. With words it runs only the commands
-that have one of them. `rt ci` has to have built the programs. Nothing else should run meanwhile.
+that have one of them. A block whose command fails stays as it was; a line says so, and the status is then 1. `rt ci` has to have
+built the programs. Nothing else should run meanwhile.
 
     measured.py --gate LOG   takes the seconds of the gate from what `tools/gate_work.py .ci/run` printed
 """
@@ -11,12 +12,15 @@ import os
 import re
 import subprocess
 import sys
+import time
 
 import sources
 
 PAGE = sources.ROOT / "docs/MEASURED.md"
 GATE = ".ci/run"
 BLOCK = re.compile(r"(<!-- measured: ([^\n]+) -->\n).*?(?=<!-- end -->)", re.S)
+# How many crates the page shows of those of the gate, the costliest first.
+CRATES = 8
 
 
 def machine():
@@ -31,34 +35,49 @@ def commit():
     return subprocess.run(words, stdout=subprocess.PIPE, text=True, check=True).stdout.strip()
 
 
-def block(command, printed):
-    """What stands in a block: where it was measured, then the tables as they are, or all that was printed."""
-    lines = printed.strip().splitlines()
-    table = [line if line.startswith("|") else "" for line in lines]
-    body = re.sub(r"\n{3,}", "\n\n", "\n".join(table)).strip() or "\n".join(["```text", *lines, "```"])
-    return f"`{command}` at commit `{commit()}`, on {machine()}:\n\n{body}\n"
+def block(printed, place):
+    """What stands in a block: where it was measured, then the table as it is, or all that was printed."""
+    lines = [line.rstrip() for line in printed.strip().splitlines()]
+    table = [line for line in lines if line.startswith("|")]
+    return "\n".join([f"Commit `{place}`, {machine()}:", "", *(table or ["```text", *lines, "```"])]) + "\n"
 
 
 def measured(command):
-    run = subprocess.run(["bash", "-c", command], cwd=sources.ROOT, stdout=subprocess.PIPE, stderr=subprocess.STDOUT, text=True)
+    """What a command prints, or nothing if it fails."""
+    began = time.monotonic()
+    words = ["bash", "-o", "pipefail", "-c", command]
+    run = subprocess.run(words, cwd=sources.ROOT, stdout=subprocess.PIPE, stderr=subprocess.STDOUT, text=True)
+    print(f"{time.monotonic() - began:.0f} s: {command}", flush=True)
     if run.returncode:
-        sys.exit(f"measured: status {run.returncode} of {command}: {run.stdout[-500:]}")
-    return block(command, run.stdout)
+        print(f"FAILED, with status {run.returncode}: {run.stdout[-500:]}", flush=True)
+    return "" if run.returncode else run.stdout
 
 
-def is_wanted(command, words):
-    return not command.endswith(GATE) and (not words or any(it in command for it in words))
+def of_gate(log):
+    """The end of what the gate printed: the seconds of each kind of step, the costliest crates, and the sums."""
+    lines = open(log).read().splitlines()
+    lines = lines[max(at for at, line in enumerate(lines) if line.startswith("seconds: ")):]
+    first = next(at for at, line in enumerate(lines) if line.startswith("crate ")) + 1
+    last = next(at for at, line in enumerate(lines) if line.startswith("seconds ") and at > first)
+    return "\n".join(lines[:min(first + CRATES, last)] + lines[last:])
 
 
 def main():
-    words, page = sys.argv[1:], PAGE.read_text()
-    if words[:1] == ["--gate"]:
-        log = open(words[1]).read().splitlines()
-        start = max(at for at, line in enumerate(log) if line.startswith("seconds: "))
-        make = lambda command: block(command, "\n".join(log[start:])) if command.endswith(GATE) else None
-    else:
-        make = lambda command: measured(command) if is_wanted(command, words) else None
-    PAGE.write_text(BLOCK.sub(lambda m: m[1] + made if (made := make(m[2])) else m[0], page))
+    words, place, failed = sys.argv[1:], commit(), False
+    log = words[1] if words[:1] == ["--gate"] else None
+    for head, command in BLOCK.findall(PAGE.read_text()):
+        if command.endswith(GATE):
+            printed = of_gate(log) if log else None
+        elif log or words and not any(it in command for it in words):
+            printed = None
+        else:
+            printed = measured(command)
+            failed |= not printed
+        if printed:
+            text = PAGE.read_text()
+            end = text.index("<!-- end -->", text.index(head))
+            PAGE.write_text(text[:text.index(head)] + head + block(printed, place) + text[end:])
+    return 1 if failed else 0
 
 
-main()
+sys.exit(main())

@@ -1,5 +1,6 @@
 #!/usr/bin/env python3
 """Draws the crates of this repository, from crates.txt and the first line of each root file: their groups, and the layer of each.
+The group Tests is left out.
 
 python3 tools/picture.py           prints the picture
 python3 tools/picture.py --write   puts it into docs/ARCHITECTURE.md, in place of the first text block there
@@ -72,9 +73,9 @@ def groups():
 
 
 def picture():
-    """The groups of crates.txt, each with its crates."""
+    """The groups of crates.txt but that of the tests, each with its crates."""
     crates = read_crates()
-    parts = ["".join([f"{heading}\n", *(row(crates, it) for it in own)]) for heading, own in groups()]
+    parts = ["".join([f"{heading}\n", *(row(crates, it) for it in own)]) for heading, own in groups() if heading != "Tests"]
     return "\n".join(parts)
 
 

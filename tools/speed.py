@@ -4,9 +4,10 @@ speed.py [--growth | --instructions] [--bench WORDS] [--times N] [--only NAME,..
 
 BEFORE, AFTER and what --bench takes are words that start a program. `trials bench` writes each input, and each program reads it N times.
 The table has the least seconds of processor, with those of the system, and the most memory; the output is thrown away meanwhile.
-Then they run once more side by side. The last column says where their outputs differ, or where something is refused that the input
-means to be done; the status is 1 then. With --growth it prints the microseconds of a line beside few and many, and with
---instructions the instructions of a line, which valgrind counts. Those do not depend on what else the machine does.
+Then they run once more side by side. The last column of two programs says whether their outputs differ. Below the table stands each
+input for which they do, or for which something is refused that should be done; the status is 1 then. With --growth it prints the
+microseconds of a line beside few and many, and with --instructions the instructions of a line, which valgrind counts. Those do not
+depend on what else the machine does.
 """
 import argparse
 import ctypes
@@ -82,17 +83,20 @@ def row(*cells):
 
 
 def measure(given, chosen):
-    """Prints the table of all inputs, and gives the last fault."""
-    ends, found = [" before", " after"] if len(given.programs) > 1 else [""], None
-    row("workload", "count", *(f"seconds{it}" for it in ends), "ratio", *(f"MB{it}" for it in ends), "written")
-    row(*["---"] * (4 + 2 * len(ends)))
+    """Prints the table of all inputs, and what is wrong below it; gives the status."""
+    two, told = len(given.programs) > 1, []
+    ends = [" before", " after"] if two else [""]
+    heads = ["workload", "count", *(f"seconds{it}" for it in ends), *(f"MB{it}" for it in ends), *["ratio", "written"] * two]
+    row(*heads)
+    row(*["---"] * len(heads))
     for name, count, *size in chosen(WORKLOADS):
         make(given, name, count, *size)
         (seconds, memory), wrong = best(given), fault(given)
-        cells = [*(f"{it:.2f}" for it in seconds), f"{seconds[-1] / seconds[0]:.2f}", *(f"{it:.1f}" for it in memory)]
-        row(" ".join([name, *size]), count, *cells, wrong or "the same")
-        found = wrong or found
-    return found
+        compared = [f"{seconds[-1] / seconds[0]:.2f}", wrong or "the same"] if two else []
+        row(" ".join([name, *size]), count, *(f"{it:.2f}" for it in seconds), *(f"{it:.1f}" for it in memory), *compared)
+        told += [f"WRONG: {name}: {wrong}"] if wrong else []
+    print(*told, sep="\n", end="\n" if told else "")
+    return 1 if told else 0
 
 
 def growth(given, chosen):
