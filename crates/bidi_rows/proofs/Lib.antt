@@ -1,0 +1,4 @@
+pub mod StringLemmas
+pub mod NumberLemmas
+pub mod PartLemmas
+pub mod ReadingLemmas

@@ -1,0 +1,40 @@
+use Rattle.std.proofs.Common.{◌≡◌, ◌∙◌, ◌<◌, ◌≤◌, ◌++◌, length, get_or, [], ◌∷◌, append_assoc, append-nil, map, sym, ap, subst, arith}
+use Rattle.std.proofs.lemmas.List.{map-append, drop_all}
+use Rattle.json.specs.Tree.{ItemsHaveNumbers}
+use Rattle.json.specs.Value.{value_view, items_view}
+use Rattle.bidi_rows.specs.Rows.{Event}
+use Rattle.bidi_rows.specs.Reading.{AreEvents}
+use Rattle.bidi_rows.specs.View.{event_of, events_of}
+use Rattle.bidi_rows.proofs.ReadingLemmas.{from-item}
+use Rattle.bidi_rows.proofs.reading.all_events_in.Goals as goal
+
+pub event_in-requires : goal.event_in-requires
+event_in-requires c =
+    (subst (λ vs. ItemsHaveNumbers (items_view vs)) (from-item c.args.items.now.items c.loop-item.item-index c.item-item.result
+    (subst (λ xs. c.loop-item.item-index < length xs) c.deref-item-items.ensures.value c.loop-item-test.true)
+    (c.item-item.is ∙ ap (λ xs. get_or xs c.loop-item.item-index c.item-item.result) c.deref-item-items.ensures.value))
+    c.loop-item.invariant.numbers).0
+
+pub loop-item-preserved : goal.loop-item-preserved
+loop-item-preserved c =
+    let items = c.args.items.now.items in
+    let i = c.loop-item.item-index in
+    let is = from-item items i c.item-item.result (subst (λ xs. i < length xs) c.deref-item-items.ensures.value c.loop-item-test.true)
+    (c.item-item.is ∙ ap (λ xs. get_or xs i c.item-item.result) c.deref-item-items.ensures.value) in
+    let e = event_of c.in_ok-event_in.field-0 in
+    let done = events_of c.loop-item.events.items in
+    let more : events_of c.push.new.self.items ≡ done ++ e ∷ [] =
+    ap events_of c.in_ok-push.ensures.items ∙ map-append {B = Event} event_of c.loop-item.events.items (c.in_ok-event_in.field-0 ∷ []) in
+    record {
+      numbers = (subst (λ vs. ItemsHaveNumbers (items_view vs)) is c.loop-item.invariant.numbers).1;
+      events = λ rest has.
+          subst (AreEvents (items_view items)) (sym (ap (λ es. es ++ rest) more ∙ append_assoc done (e ∷ []) rest))
+          (c.loop-item.invariant.events (e ∷ rest) (subst (λ vs. AreEvents (items_view vs) (e ∷ rest)) (sym is) (c.in_ok-event_in.ensures, has)));
+    }
+
+pub returns : goal.returns
+returns c =
+    let items = c.args.items.now.items in
+    subst (AreEvents (items_view items)) (append-nil (events_of c.loop-item.events.items))
+    (c.loop-item.invariant.events [] (subst (λ vs. AreEvents (items_view vs) []) (sym (drop_all c.loop-item.item-index items
+    (subst (λ xs. length xs ≤ c.loop-item.item-index) c.deref-item-items.ensures.value c.loop-item-test.false))) tt))

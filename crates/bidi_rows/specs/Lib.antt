@@ -1,0 +1,9 @@
+pub mod Command
+pub mod Matching
+pub mod Rows
+pub mod Reading
+pub mod Numbers
+pub mod Part
+pub mod View
+pub mod Filling
+pub mod Templates

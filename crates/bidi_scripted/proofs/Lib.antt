@@ -1,0 +1,4 @@
+pub mod TotalLemmas
+pub mod UseLemmas
+pub mod FateLemmas
+pub mod SendLemmas

@@ -1,0 +1,87 @@
+-- What each fate of a step means for what is sent, for the remote end and for the script.
+use Rattle.std.specs.Prelude.{◌≡◌, ◌<◌, ◌≤◌, ◌⊎◌, ◌↔◌, ℕ, Bool, true, false, List, [], ◌∷◌, map, find, length, Option, Some, None, Result, IfOk, OnErr, IsErrOf}
+use Rattle.std.specs.List.{position}
+use Rattle.bidi_params.specs.declared.error_code.ErrorCode.TheVariants.{UnknownError}
+use Rattle.bidi_messages.specs.Message.{error_text}
+use Rattle.bidi_sessions.specs.Step.{Step}
+use Rattle.bidi_sessions.specs.Step as steps
+use Rattle.bidi_sessions.specs.Limits.{most_steps}
+use Rattle.bidi_sessions.specs.View.{sent_of}
+use Rattle.bidi_rows.specs.declared.row.Row as declared_row
+use Rattle.bidi_rows.specs.Command.{Command, command_of}
+use Rattle.bidi_rows.specs.Rows.{Action, Answers, Holds, matches}
+use Rattle.bidi_rows.specs.View.{row_of}
+use Rattle.bidi_remote.specs.Machine.History.{Input, Deed, IsHeardAs}
+use Rattle.bidi_remote.specs.Machine.Messages.{AllReadBack}
+use Rattle.bidi_remote.specs.Machine.Outcome.{deeds}
+use Rattle.bidi_remote.specs.declared.remote_end.RemoteFault.{RemoteFault}
+use Rattle.bidi_remote.specs.declared.remote_end.RemoteFault.TheVariants.{WornOut}
+use Rattle.bidi_remote.specs.Machine.Sent.{Sent, out, Text}
+use Rattle.bidi_remote.specs.State.Stands.{StandsFor}
+use Rattle.bidi_remote.specs.declared.remote_end.RemoteEnd.{RemoteEnd}
+use Rattle.bidi_scripted.specs.declared.scripted_end.Taken.{Taken}
+use Rattle.bidi_scripted.specs.declared.finding.Found.{Found}
+use Rattle.bidi_scripted.specs.declared.finding.Found.TheVariants as in_code
+use Rattle.bidi_scripted.specs.Subscriptions.{Named}
+use Rattle.bidi_scripted.specs.Script.{Script, no_script, with_use, with_held}
+use Rattle.bidi_scripted.specs.Fate.{Fate, HandedOn, Answered, Held, Unheld, AsksNames, asks_names, fate, after_step}
+use Rattle.bidi_scripted.specs.Sending.{answer_sent}
+
+-- Of a message on the connection, the machine takes a part as a message, or it is refused with `unknown error`; of the script, only the
+-- subscriptions to names change.
+pub record TakesPart (c : ℕ) (h : List Input) (script : Script) (new : RemoteEnd) (after : Script) (t : Taken) : Type 0 where
+  pub takes : ((text : List ℕ) × (i : Input) × IsHeardAs (steps.Text c text) i × (map sent_of t.sent.items ≡ out h i) × (t.is_of_machine ≡ true)
+      × StandsFor new (i ∷ h))
+      ⊎ ((id : ℕ) × (map sent_of t.sent.items ≡ Text c (error_text (Some id) UnknownError) ∷ []) × (t.is_of_machine ≡ false) × StandsFor new h)
+  pub held : t.held ≡ None
+  pub kept : (named : List Named) × (after ≡ record script { named = named })
+
+-- The step is handed on to the remote end as it came: what the machine sends for it is sent, and each string that is sent reads back. After an
+-- error the remote end stands for the histories that it stood for before, and `WornOut` comes exactly if it has accepted `most_steps` steps.
+pub record IsHandedOn (step : Step) (old new : RemoteEnd) (result : Result Taken RemoteFault) : Type 0 where
+  pub ok : IfOk result (λ t. (i : Input) × IsHeardAs step i × (t.held ≡ None) × (t.is_of_machine ≡ true)
+      × ((h : List Input) → StandsFor old h → (map sent_of t.sent.items ≡ out h i) × AllReadBack (map sent_of t.sent.items) × StandsFor new (i ∷ h)))
+  pub err : OnErr result ((h : List Input) → StandsFor old h → StandsFor new h)
+  pub worn_out : (h : List Input) → StandsFor old h → IsErrOf result WornOut ↔ (most_steps ≤ length h)
+
+-- The step brings about what its fate means, for a remote end and a script: this is sent, and they are so afterwards.
+abbrev pub Becomes : Fate → List Input → Step → RemoteEnd → Script → RemoteEnd → Script → Taken → Type 0
+Becomes HandedOn h step old script new after t =
+    (i : Input) × IsHeardAs step i × (t.held ≡ None) × (t.is_of_machine ≡ true) × (map sent_of t.sent.items ≡ out h i) × StandsFor new (i ∷ h)
+    × (after ≡ after_step (deeds h) step script)
+Becomes (Answered c command answer) h step old script new after t =
+    (map sent_of t.sent.items ≡ answer_sent (deeds h) script.named c command.id answer) × (t.held ≡ None) × (t.is_of_machine ≡ false)
+    × (new ≡ old) × (after ≡ with_use command script)
+Becomes (Held c command text) h step old script new after t =
+    (t.sent.items ≡ []) × (t.held ≡ Some script.next) × (t.is_of_machine ≡ false) × (new ≡ old) × (after ≡ with_held c command.id text (with_use command script))
+Becomes (Unheld c command) h step old script new after t =
+    (map sent_of t.sent.items ≡ Text c (error_text (Some command.id) UnknownError) ∷ []) × (t.held ≡ None) × (t.is_of_machine ≡ false) × (new ≡ old) × (after ≡ script)
+Becomes (AsksNames c text) h step old script new after t = TakesPart c h script new after t
+
+-- The step was taken: with an empty script it was handed on and the script stays empty; it brought about what its fate means; and after an
+-- error the script is as it was, and the remote end stands for the histories that it stood for before.
+pub record IsTaken (step : Step) (old : RemoteEnd) (script : Script) (new : RemoteEnd) (after : Script) (result : Result Taken RemoteFault) : Type 0 where
+  pub plain : script ≡ no_script → IsHandedOn step old new result
+  pub stays : script ≡ no_script → after ≡ no_script
+  pub becomes : (h : List Input) → StandsFor old h → IfOk result (λ t. Becomes (fate (deeds h) script step) h step old script new after t)
+  pub err : OnErr result ((after ≡ script) × ((h : List Input) → StandsFor old h → StandsFor new h))
+
+-- what is sent for a command by what a row does: an answer, or nothing yet
+abbrev pub sent_by : List Deed → List Named → ℕ → ℕ → Action → Option (List Sent)
+sent_by past named c id (Answers answer) = Some (answer_sent past named c id answer)
+sent_by past named c id Holds = None
+
+-- what is found for a command for which there is no row
+abbrev pub found_names : Bool → Found
+found_names true = in_code.Names
+found_names false = in_code.Nothing
+
+-- What was found for a text is right: the newest row that is for the command that it is, or else whether it may ask for names.
+abbrev pub IsFound : Found → List declared_row.Row → List (List ℕ) → List ℕ → Type 0
+IsFound (in_code.Row f) rows known s =
+    (f.place < length rows) × (command : Command) × (command_of s ≡ Some command) × (command.id ≡ f.id.value)
+    × (position (λ r. matches command (row_of r)) rows ≡ Some f.place)
+IsFound in_code.Names rows known s =
+    (command : Command) × (command_of s ≡ Some command) × (find (matches command) (map row_of rows) ≡ None) × (asks_names known command.method ≡ true)
+IsFound in_code.Nothing rows known s =
+    (command : Command) → command_of s ≡ Some command → (find (matches command) (map row_of rows) ≡ None) × (asks_names known command.method ≡ false)

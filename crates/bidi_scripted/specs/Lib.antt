@@ -1,0 +1,7 @@
+pub mod Names
+pub mod Subscriptions
+pub mod Script
+pub mod Fate
+pub mod Sending
+pub mod View
+pub mod Becomes

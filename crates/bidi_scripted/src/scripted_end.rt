@@ -1,0 +1,347 @@
+//! The scripted end, with its public calls.
+ghost use Rattle.std.specs.Prelude.{◌≡◌, ◌<◌, [], ◌∷◌, List, ℕ, map, find, true, false, Some, None, IfOk, OnOk, OnErr, option_map, string_bytes, vec_len};
+ghost use Rattle.std.specs.List.{position};
+ghost use Rattle.bidi_params.specs.declared.error_code.ErrorCode.TheVariants.{UnknownError};
+ghost use Rattle.bidi_messages.specs.Message.{error_text};
+ghost use Rattle.bidi_sessions.specs.View.{step_of, sent_of};
+ghost use Rattle.bidi_rows.specs.Command.{Command};
+ghost use Rattle.bidi_rows.specs.Rows as row;
+ghost use Rattle.bidi_rows.specs.Rows.{Holds, matches};
+ghost use Rattle.bidi_rows.specs.View.{row_of};
+ghost use Rattle.bidi_remote.specs.Machine.History.{Input, IsHeardAs};
+ghost use Rattle.bidi_remote.specs.Machine.Connections.{is_open};
+ghost use Rattle.bidi_remote.specs.Machine.Outcome.{deeds};
+ghost use Rattle.bidi_remote.specs.Machine.Sent.{out, Text};
+ghost use Rattle.bidi_remote.specs.State.Stands.{StandsFor};
+ghost use Rattle.bidi_sessions.specs.Step as steps;
+ghost use Rattle.bidi_scripted.specs.Script.{no_script, is_plain, with_use, with_held};
+ghost use Rattle.bidi_scripted.specs.Fate.{fate, by_row, by_action, HandedOn, Answered, Held, Unheld, AsksNames, after_step};
+ghost use Rattle.bidi_scripted.specs.Becomes.{Becomes, IsFound, IsHandedOn, IsTaken, TakesPart, sent_by};
+ghost use Rattle.bidi_scripted.specs.Sending.{answer_sent};
+ghost use Rattle.bidi_scripted.specs.View.{script_of};
+
+use crate::emitting::answer_sent;
+use crate::finding::{Found, FoundRow, find};
+use crate::script::Script;
+use bidi_messages::{ErrorCode, error_text};
+use bidi_remote::{RemoteEnd, RemoteFault, Sent, Step};
+use bidi_rows::Action;
+use bidi_tree::JsUint;
+use json::Scratch;
+use std::alloc::{AllocError, Global};
+
+/// What became of a step.
+#[derive(Drop)]
+pub struct Taken {
+    /// What is sent for it, in order, on any connection, and what is reported.
+    pub sent: Vec<Sent>,
+    /// Whether that is what the remote end sends. Then [`ScriptedEnd::followers_of`] says what follows each thing.
+    pub is_of_machine: bool,
+    /// The number that the command got, if it is held.
+    pub held: Option<u64>,
+}
+
+/// A remote end, with the rows of a test and the commands that are held.
+pub struct ScriptedEnd {
+    pub(crate) alloc: Global,
+    pub(crate) end: RemoteEnd,
+    pub(crate) script: Script,
+    /// What commands are read in. It stands apart, as it is large.
+    pub(crate) scratch: Box<Scratch>,
+}
+
+// Not derived, so that it is proved here alone.
+impl Drop for ScriptedEnd {
+    fn drop(self) {
+        let ScriptedEnd {
+            alloc: _,
+            end: _,
+            script: _,
+            scratch: _,
+        } = self;
+    }
+}
+
+impl ScriptedEnd {
+    /// A scripted end over a new remote end, with no rows. Takes the memory of a remote end and of a buffer to read in.
+    ///
+    /// # Errors
+    /// No memory: an allocation failed.
+    pub fn new(alloc: Global) -> Result<ScriptedEnd, AllocError>
+        // After an Ok, its remote end stands for the empty history.
+        ensures end { IfOk result (λ s. StandsFor s.end []) }
+        // After an Ok, its script has no rows, and no command is held.
+        ensures script { IfOk result (λ s. script_of s.script ≡ no_script) }
+    {
+        let scratch = Box::new(alloc, Scratch::new(alloc))?;
+        Ok(ScriptedEnd {
+            alloc,
+            end: RemoteEnd::new(alloc)?,
+            script: Script::new(alloc),
+            scratch,
+        })
+    }
+
+    /// Takes one step. A message on an open connection that is a command for which there is a row is answered or held by the newest such
+    /// row; every other step is handed on to the remote end.
+    ///
+    /// Without rows it costs what the step costs the remote end. With rows each message is parsed once more, and its method is compared
+    /// with those of the rows.
+    ///
+    /// # Errors
+    /// The scripted end is then as it was.
+    /// 1. `NoMemory`: an allocation failed.
+    /// 2. `WornOut`: 1,000,000,000 steps were accepted, and the step is handed on or sends events.
+    pub fn step(&mut self, step: Step) -> Result<Taken, RemoteFault>
+        // With an empty script each step is handed on as it came: what the machine sends is sent, and `WornOut` comes as it does there.
+        ensures plain { script_of self.old.script ≡ no_script → IsHandedOn (step_of step) self.old.end self.new.end result }
+        // An empty script stays empty.
+        ensures stays_plain { script_of self.old.script ≡ no_script → script_of self.new.script ≡ no_script }
+        // A step that no row answers or holds is handed on as it came, and what the machine sends for it is sent.
+        ensures handed_on { (h : List Input) → StandsFor self.old.end h → fate (deeds h) (script_of self.old.script) (step_of step) ≡ HandedOn
+            → IfOk result (λ t. (i : Input) × IsHeardAs (step_of step) i × (t.held ≡ None) × (t.is_of_machine ≡ true) × (map sent_of t.sent.items ≡ out h i)
+            × StandsFor self.new.end (i ∷ h) × (script_of self.new.script ≡ after_step (deeds h) (step_of step) (script_of self.old.script))) }
+        // For a command that a row answers, the events before, one reply and the events after are sent, and the remote end is unchanged.
+        ensures answered { (h : List Input) (c : ℕ) (command : Command) (answer : row.Answer) → StandsFor self.old.end h
+            → fate (deeds h) (script_of self.old.script) (step_of step) ≡ Answered c command answer
+            → IfOk result (λ t. (map sent_of t.sent.items ≡ answer_sent (deeds h) (script_of self.old.script).named c command.id answer) × (t.held ≡ None) × (t.is_of_machine ≡ false)
+            × (self.new.end ≡ self.old.end) × (script_of self.new.script ≡ with_use command (script_of self.old.script))) }
+        // For a command that a row holds, nothing is sent, it gets the next number, and the remote end is unchanged.
+        ensures held { (h : List Input) (c : ℕ) (command : Command) (text : List ℕ) → StandsFor self.old.end h
+            → fate (deeds h) (script_of self.old.script) (step_of step) ≡ Held c command text
+            → IfOk result (λ t. (t.sent.items ≡ []) × (t.held ≡ Some (script_of self.old.script).next) × (t.is_of_machine ≡ false) × (self.new.end ≡ self.old.end)
+            × (script_of self.new.script ≡ with_held c command.id text (with_use command (script_of self.old.script)))) }
+        // For a command that a row would hold if there were room, the error `unknown error` is sent, and nothing changes.
+        ensures unheld { (h : List Input) (c : ℕ) (command : Command) → StandsFor self.old.end h
+            → fate (deeds h) (script_of self.old.script) (step_of step) ≡ Unheld c command
+            → IfOk result (λ t. (map sent_of t.sent.items ≡ Text c (error_text (Some command.id) UnknownError) ∷ []) × (t.held ≡ None) × (t.is_of_machine ≡ false)
+            × (self.new.end ≡ self.old.end) × (script_of self.new.script ≡ script_of self.old.script)) }
+        // Of a message that asks for names that are known, the machine takes what the profile has, or it is refused with `unknown error`; of the
+        // script, only the subscriptions to these names change.
+        ensures names { (h : List Input) (c : ℕ) (text : List ℕ) → StandsFor self.old.end h
+            → fate (deeds h) (script_of self.old.script) (step_of step) ≡ AsksNames c text → IfOk result (TakesPart c h (script_of self.old.script) self.new.end (script_of self.new.script)) }
+        // After an error the script is as it was, and the remote end stands for the histories that it stood for before.
+        ensures err { OnErr result ((script_of self.new.script ≡ script_of self.old.script)
+            × ((h : List Input) → StandsFor self.old.end h → StandsFor self.new.end h)) }
+    {
+        self.take(step)
+    }
+
+    // Takes one step.
+    fn take(&mut self, step: Step) -> Result<Taken, RemoteFault>
+        ensures { IsTaken (step_of step) self.old.end (script_of self.old.script) self.new.end (script_of self.new.script) result }
+    {
+        match step {
+            Step::Text(conn, text) => self.hear(conn, text),
+            Step::Open(conn, resource) => self.open(conn, resource),
+            Step::At(moment) => self.hand_on(Step::At(moment)),
+            Step::Drop(conn) => self.hand_on(Step::Drop(conn)),
+            Step::NotText(conn) => self.hand_on(Step::NotText(conn)),
+            Step::Page(page) => self.hand_on(Step::Page(page)),
+        }
+    }
+
+    /// Hands a step on to the remote end.
+    pub(crate) fn hand_on(&mut self, step: Step) -> Result<Taken, RemoteFault>
+        ensures handed_on { IsHandedOn (step_of step) self.old.end self.new.end result }
+        ensures script { self.new.script ≡ self.old.script }
+    {
+        match self.end.step(step) {
+            Ok(sent) => Ok(Taken {
+                sent,
+                is_of_machine: true,
+                held: None,
+            }),
+            Err(fault) => Err(fault),
+        }
+    }
+
+    // Opens a connection, if the remote end does. Commands that are held for an earlier one of its number are lost.
+    fn open(&mut self, conn: JsUint, resource: String) -> Result<Taken, RemoteFault>
+        ensures handed_on { IsHandedOn (steps.Open conn.value (string_bytes resource)) self.old.end self.new.end result }
+        ensures script { (h : List Input) → StandsFor self.old.end h → OnOk result (script_of self.new.script
+            ≡ after_step (deeds h) (steps.Open conn.value (string_bytes resource)) (script_of self.old.script)) }
+        ensures kept { OnErr result (script_of self.new.script ≡ script_of self.old.script) }
+        ensures plain { script_of self.old.script ≡ no_script → script_of self.new.script ≡ script_of self.old.script }
+    {
+        let was_open = self.end.is_open(conn);
+        match self.hand_on(Step::Open(conn, resource)) {
+            Ok(taken) => {
+                self.script.reopen(conn, was_open);
+                Ok(taken)
+            }
+            Err(fault) => Err(fault),
+        }
+    }
+
+    // Takes a message of a connection.
+    fn hear(&mut self, conn: JsUint, text: String) -> Result<Taken, RemoteFault>
+        ensures { IsTaken (steps.Text conn.value (string_bytes text)) self.old.end (script_of self.old.script) self.new.end (script_of self.new.script) result }
+    {
+        if self.script.is_plain() {
+            return self.hand_on(Step::Text(conn, text));
+        }
+        if !self.end.is_open(conn) {
+            return self.hand_on(Step::Text(conn, text));
+        }
+        match self.find(text.as_str()) {
+            Ok(found) => self.take_found(conn, text, found),
+            Err(_) => Err(RemoteFault::NoMemory),
+        }
+    }
+
+    // Takes a message on an open connection, for which this was found.
+    fn take_found(&mut self, conn: JsUint, text: String, found: Found) -> Result<Taken, RemoteFault>
+        requires { IsFound found self.now.script.rows.items (script_of self.now.script).known (string_bytes text) }
+        ensures becomes { (h : List Input) → StandsFor self.old.end h → is_open (deeds h) conn.value ≡ true
+            → IfOk result (λ t. Becomes (fate (deeds h) (script_of self.old.script)
+            (steps.Text conn.value (string_bytes text))) h (steps.Text conn.value (string_bytes text)) self.old.end (script_of self.old.script) self.new.end (script_of self.new.script) t) }
+        ensures err { OnErr result ((script_of self.new.script ≡ script_of self.old.script)
+            × ((h : List Input) → StandsFor self.old.end h → StandsFor self.new.end h)) }
+    {
+        match found {
+            Found::Row(found) => self.use_row(conn, found, text),
+            Found::Names => self.hear_names(conn, text),
+            Found::Nothing => self.hand_on(Step::Text(conn, text)),
+        }
+    }
+
+    // What is found for a message.
+    fn find(&mut self, text: &str) -> Result<Found, AllocError>
+        ensures found { IfOk result (λ found. IsFound found self.old.script.rows.items (script_of self.old.script).known text.now) }
+        ensures script { self.new.script ≡ self.old.script }
+        ensures end { self.new.end ≡ self.old.end }
+    {
+        find(
+            self.alloc,
+            &self.script.rows,
+            &self.script.known,
+            text,
+            self.scratch.as_mut(),
+        )
+    }
+
+    // Has a row answer or hold a command.
+    fn use_row(&mut self, conn: JsUint, found: FoundRow, text: String) -> Result<Taken, RemoteFault>
+        requires { found.place < vec_len self.now.script.rows }
+        ensures becomes { (h : List Input) (command : Command) → StandsFor self.old.end h → command.id ≡ found.id.value
+            → position (λ r. matches command (row_of r)) self.old.script.rows.items ≡ Some found.place
+            → IfOk result (λ t. Becomes (by_row (script_of self.old.script) conn.value (string_bytes text) command
+            (find (matches command) (script_of self.old.script).rows)) h (steps.Text conn.value (string_bytes text)) self.old.end (script_of self.old.script) self.new.end (script_of self.new.script) t) }
+        ensures err { OnErr result (script_of self.new.script ≡ script_of self.old.script) }
+        ensures end { self.new.end ≡ self.old.end }
+    {
+        match self.answered(conn, found) {
+            Ok(Some(sent)) => {
+                self.script.use_row(found.place);
+                Ok(Taken {
+                    sent,
+                    is_of_machine: false,
+                    held: None,
+                })
+            }
+            Ok(None) => self.hold_command(conn, found, text),
+            Err(fault) => Err(fault),
+        }
+    }
+
+    // What is sent for a command that a row answers; `None` if the row holds it.
+    fn answered(&self, conn: JsUint, found: FoundRow) -> Result<Option<Vec<Sent>>, RemoteFault>
+        requires { found.place < vec_len self.now.script.rows }
+        ensures { (h : List Input) (command : Command) (r : row.Row) → StandsFor self.now.end h
+            → position (λ r. matches command (row_of r)) self.now.script.rows.items ≡ Some found.place
+            → find (matches command) (script_of self.now.script).rows ≡ Some r
+            → IfOk result (λ sent. option_map (λ v. map sent_of v.items) sent
+            ≡ sent_by (deeds h) (script_of self.now.script).named conn.value found.id.value r.action) }
+    {
+        match &self.script.rows[found.place].action {
+            Action::Answer(answer) => {
+                let named = &self.script.named;
+                let sent = answer_sent(self.alloc, &self.end, named, conn, found.id, answer)?;
+                Ok(Some(sent))
+            }
+            Action::Hold => Ok(None),
+        }
+    }
+
+    // Holds a command, if there is room.
+    fn hold_command(
+        &mut self,
+        conn: JsUint,
+        found: FoundRow,
+        text: String,
+    ) -> Result<Taken, RemoteFault>
+        requires { found.place < vec_len self.now.script.rows }
+        ensures becomes { (h : List Input) (command : Command) → command.id ≡ found.id.value
+            → position (λ r. matches command (row_of r)) self.old.script.rows.items ≡ Some found.place
+            → IfOk result (λ t. Becomes (by_action (script_of self.old.script) conn.value (string_bytes text) command Holds)
+            h (steps.Text conn.value (string_bytes text)) self.old.end (script_of self.old.script) self.new.end (script_of self.new.script) t) }
+        ensures err { OnErr result (script_of self.new.script ≡ script_of self.old.script) }
+        ensures end { self.new.end ≡ self.old.end }
+    {
+        match self.try_hold(conn, found, text) {
+            Ok(taken) => Ok(taken),
+            Err(_) => Err(RemoteFault::NoMemory),
+        }
+    }
+
+    // Holds a command, if there is room.
+    fn try_hold(&mut self, conn: JsUint, found: FoundRow, text: String) -> Result<Taken, AllocError>
+        requires { found.place < vec_len self.now.script.rows }
+        ensures becomes { (h : List Input) (command : Command) → command.id ≡ found.id.value
+            → position (λ r. matches command (row_of r)) self.old.script.rows.items ≡ Some found.place
+            → IfOk result (λ t. Becomes (by_action (script_of self.old.script) conn.value (string_bytes text) command Holds)
+            h (steps.Text conn.value (string_bytes text)) self.old.end (script_of self.old.script) self.new.end (script_of self.new.script) t) }
+        ensures err { OnErr result (script_of self.new.script ≡ script_of self.old.script) }
+        ensures end { self.new.end ≡ self.old.end }
+    {
+        if !self.script.has_room_for_command(text.len()) {
+            return self.refuse(conn, found.id);
+        }
+        self.script.reserve_held()?;
+        self.script.use_row(found.place);
+        let number = self.script.hold(conn, found.id, text);
+        Ok(Taken {
+            sent: Vec::new(self.alloc),
+            is_of_machine: false,
+            held: Some(number),
+        })
+    }
+
+    /// Answers a command with `unknown error`.
+    pub(crate) fn refuse(&self, conn: JsUint, id: JsUint) -> Result<Taken, AllocError>
+        ensures { IfOk result (λ t. (map sent_of t.sent.items ≡ Text conn.value (error_text (Some id.value) UnknownError) ∷ []) × (t.held ≡ None) × (t.is_of_machine ≡ false)) }
+    {
+        let refusal = error_text(self.alloc, Some(id), ErrorCode::UnknownError)?;
+        Ok(Taken {
+            sent: only(self.alloc, Sent::Text(conn, refusal))?,
+            is_of_machine: false,
+            held: None,
+        })
+    }
+
+    /// Whether the connection of this number is open. Takes no memory.
+    pub fn is_open(&self, conn: JsUint) -> bool
+        // True exactly if the history of the remote end leaves the connection open.
+        ensures { (h : List Input) → StandsFor self.now.end h → result ≡ is_open (deeds h) conn.value }
+    {
+        self.end.is_open(conn)
+    }
+
+    /// The remote end, to be asked.
+    pub fn remote_end(&self) -> &RemoteEnd
+        // The result is the remote end that the steps are handed on to.
+        ensures { result.now ≡ self.now.end }
+    {
+        &self.end
+    }
+}
+
+/// One thing that is sent.
+pub(crate) fn only(alloc: Global, one: Sent) -> Result<Vec<Sent>, AllocError>
+    ensures { IfOk result (λ sent. map sent_of sent.items ≡ sent_of one ∷ []) }
+{
+    let mut sent = Vec::new(alloc);
+    sent.push(one)?;
+    Ok(sent)
+}
