@@ -1,0 +1,5 @@
+//! The tests of scripted ends: what each line of a test or of a client brings about.
+#![tactic(auto)]
+
+#[cfg(test)]
+mod scenes;
