@@ -35,7 +35,7 @@ PROGRAM = [
 # The words of `trials` that `rt ci` does not run, with the files of what they read and of what they have to write.
 TRIALS = ROOT / "crates/trials"
 WORDS = [("bench tree 100", os.devnull, "bench.out"), ("refusals", TRIALS / "refusals.in", "refusals.out")]
-NODE_SUITE = "examples/clients/node/host.test.js"
+NODE_SUITES = ["examples/clients/node/host.test.js", "examples/clients/node/faults.test.js"]
 NODE_PATH = "/usr/share/nodejs"
 seconds = Counter()
 
@@ -94,9 +94,9 @@ def suites():
     pythons = [it for it in ("/usr/bin/python3", sys.executable) if can(it, "-c", "import pytest, websockets")]
     every = [([*pythons[:1], "-m", "pytest", "-q", "examples/clients/pytest"], {})] if pythons else []
     if can("node", "-e", "require('ws')", NODE_PATH=NODE_PATH):
-        every.append((["node", "--test", "--test-reporter=dot", NODE_SUITE], {"NODE_PATH": NODE_PATH}))
+        every.append((["node", "--test", "--test-reporter=dot", *NODE_SUITES], {"NODE_PATH": NODE_PATH}))
     if can("node", "--experimental-websocket", "-e", "new WebSocket('ws://127.0.0.1:1').onerror = () => {}"):
-        every.append((["node", "--experimental-websocket", "--test", "--test-reporter=dot", NODE_SUITE], {"BIDI_WEBSOCKET": "builtin"}))
+        every.append((["node", "--experimental-websocket", "--test", "--test-reporter=dot", *NODE_SUITES], {"BIDI_WEBSOCKET": "builtin"}))
     if not pythons:
         print("not run: the suite for pytest needs a Python with pytest and websockets")
     if len(every) == len(pythons[:1]):

@@ -7,11 +7,12 @@ the sums, and the chain of crates with the most work in which each waits for the
 proof of `bidi_tree` in the same run, because machines differ. What ends between two readings is lost: less than a fifth of a second
 for each process.
 
-`--watch` runs no command: it measures what others run in this checkout, until it is interrupted. `--keep FILE` adds what it measures
+`--watch` runs no command: it measures what others run in this checkout, until it gets SIGINT or SIGTERM. `--keep FILE` adds what it measures
 to the figures in FILE, and reports the sum of both.
 """
 import json
 import os
+import signal
 import subprocess
 import sys
 import time
@@ -123,6 +124,8 @@ def main(words):
         with open(keep) as file:
             used.update(json.load(file))
     top = os.getcwd()
+    for number in (signal.SIGINT, signal.SIGTERM):
+        signal.signal(number, signal.default_int_handler)
     process = None if watch else subprocess.Popen(words or ["rt", "ci"])
     measure(top, used, process)
     if keep:

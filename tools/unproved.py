@@ -20,7 +20,7 @@ import sys
 import tempfile
 import time
 
-KIT = "rattle-kit-13b"
+KIT = "rattle-kit-13"
 CRATE = pathlib.Path(__file__).resolve().parent.parent / "crates" / "bidi"
 LAUNCHER = CRATE / "out" / "bidi-unproved"
 PROGRAM = CRATE / "out" / "bidi-unproved.program"
@@ -49,7 +49,7 @@ class Failed(Exception):
 def warn_of_other_kit(rt):
     """Warns if `rt` is not the command of the kit with which the repository is proved."""
     said = subprocess.run([rt, "version"], stdout=subprocess.PIPE, stderr=subprocess.STDOUT, text=True).stdout
-    if said.split()[:1] != [KIT]:
+    if not said.startswith(KIT):
         print(f"warning: `rt version` says {said.strip()!r}; this repository is proved with {KIT}", file=sys.stderr)
 
 

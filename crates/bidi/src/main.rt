@@ -106,7 +106,9 @@ fn status(rt: &HostRuntime) -> io::Result<u8> {
 // The file that a run reads in place of the standard input: `show` and `check` may have one.
 fn input_of(alloc: Global, asked: StreamRun, words: &[&str]) -> Result<Option<String>, LineFault> {
     match asked {
-        StreamRun::Play | StreamRun::Pair | StreamRun::Reduce(_) => Ok(None),
+        StreamRun::Play | StreamRun::ScriptedPlay | StreamRun::Pair | StreamRun::Reduce(_) => Ok(
+            None,
+        ),
         _ => input_file(alloc, words),
     }
 }
@@ -200,6 +202,7 @@ fn manners(asked: HostOptions) -> Manners {
     Manners {
         ends_sessions: asked.ends_sessions,
         is_lenient: asked.is_lenient,
+        ends_after_last: asked.ends_after_last,
         reads_input: asked.reads_input,
         most_waiting: MOST_WAITING,
         most_held: (asked.most_buffered as usize) * MIB,

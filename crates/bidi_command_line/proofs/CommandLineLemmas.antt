@@ -1,5 +1,5 @@
 -- From the faults that `clap` finds, and from its reading, to the answer for a command line.
-use Rattle.std.proofs.Common.{◌≡◌, ℕ, true, List, [], ◌∷◌, codes, refl, sym, subst, inl, inr, Some, None}
+use Rattle.std.proofs.Common.{◌≡◌, ℕ, Bool, true, List, [], ◌∷◌, codes, refl, sym, subst, inl, inr, Some, None}
 use Rattle.std.specs.Prelude.{Box, Option, option_map}
 use Rattle.std.specs.Box.{box_value}
 use Rattle.clap.specs.Words.{HasKind, Kinds, Row, Text, is_simple, is_simple_and_free, kind_of, subcommand_of, subcommand_rows}
@@ -14,12 +14,12 @@ use Rattle.bidi_command_line.specs.declared.fault.LineFault.TheVariants.{Help, U
 use Rattle.bidi_command_line.specs.declared.run.Run.{Run}
 use Rattle.bidi_command_line.specs.declared.run.Run.TheVariants.{Stream, Serve, Host}
 use Rattle.bidi_command_line.specs.declared.run.StreamRun.{StreamRun}
-use Rattle.bidi_command_line.specs.declared.run.StreamRun.TheVariants.{Play, Pair, Reduce, Show, Check, Why, Both}
+use Rattle.bidi_command_line.specs.declared.run.StreamRun.TheVariants.{Play, ScriptedPlay, Pair, Reduce, Show, Check, Why, Both}
 use Rattle.bidi_command_line.specs.declared.run.ServeOptions.{ServeOptions}
 use Rattle.bidi_command_line.specs.declared.run.HostOptions.{HostOptions}
 use Rattle.bidi_lines.specs.declared.side.Side.{Side}
 use Rattle.bidi_command_line.specs.CommandLine.{AsksFor, Causes, IsReadAs, IsRefusedFor, IsRequest, bidi_app, faults_of, run_in, run_named}
-use Rattle.bidi_command_line.proofs.PlayLines.{play_lines, pair_lines}
+use Rattle.bidi_command_line.proofs.PlayLines.{play_lines, scripted_lines, pair_lines}
 
 -- the command is one whose faults clap lists, and whose reading it states
 pub is_listed : is_simple_and_free bidi_app ≡ true
@@ -38,6 +38,14 @@ reads_mark : IsReadAs (codes "play" ∷ codes "--" ∷ []) (Stream Play)
 unfolding clap_on_literals
 reads_mark = (refl, refl)
 
+reads_scripted : IsReadAs (codes "play" ∷ codes "--scripted" ∷ []) (Stream ScriptedPlay)
+unfolding clap_on_literals
+reads_scripted = (refl, refl)
+
+reads_scripted_mark : IsReadAs (codes "play" ∷ codes "--scripted" ∷ codes "--" ∷ []) (Stream ScriptedPlay)
+unfolding clap_on_literals
+reads_scripted_mark = (refl, refl)
+
 reads_pair : IsReadAs (codes "pair" ∷ []) (Stream Pair)
 unfolding clap_on_literals
 reads_pair = (refl, refl)
@@ -50,6 +58,8 @@ reads_pair_mark = (refl, refl)
 pub asked_read : (line : List Text) (run : Run) → AsksFor line run → IsReadAs line run
 asked_read line (Stream Play) (inl e) = subst (λ l. IsReadAs l (Stream Play)) (sym e) reads_name
 asked_read line (Stream Play) (inr e) = subst (λ l. IsReadAs l (Stream Play)) (sym e) reads_mark
+asked_read line (Stream ScriptedPlay) (inl e) = subst (λ l. IsReadAs l (Stream ScriptedPlay)) (sym e) reads_scripted
+asked_read line (Stream ScriptedPlay) (inr e) = subst (λ l. IsReadAs l (Stream ScriptedPlay)) (sym e) reads_scripted_mark
 asked_read line (Stream Pair) (inl e) = subst (λ l. IsReadAs l (Stream Pair)) (sym e) reads_pair
 asked_read line (Stream Pair) (inr e) = subst (λ l. IsReadAs l (Stream Pair)) (sym e) reads_pair_mark
 asked_read line (Stream (Reduce session)) asks = asks
@@ -63,6 +73,7 @@ asked_read line (Host h) asks = asks
 -- and a line that clap reads as a run asks for it
 pub read_asked : (line : List Text) (run : Run) → IsReadAs line run → AsksFor line run
 read_asked line (Stream Play) read = play_lines line read.0 read.1
+read_asked line (Stream ScriptedPlay) read = scripted_lines line read.0 read.1
 read_asked line (Stream Pair) read = pair_lines line read.0 read.1
 read_asked line (Stream (Reduce session)) read = read
 read_asked line (Stream (Show side)) read = read
@@ -118,8 +129,9 @@ met None name rows named found = absurd cc
 met (Some b) name rows named found = cc
 
 -- equal options give the same run
-pub named-same : (name : Text) (side side' : Option Side) (session session' : Option ℕ) (checking checking' : Option StreamRun)
+pub named-same : (name : Text) (is_scripted is_scripted' : Bool) (side side' : Option Side) (session session' : Option ℕ) (checking checking' : Option StreamRun)
     (serving serving' : Option ServeOptions) (hosting hosting' : Option HostOptions)
-    → side ≡ side' → session ≡ session' → checking ≡ checking' → serving ≡ serving' → hosting ≡ hosting'
-    → run_named name side session checking serving hosting ≡ run_named name side' session' checking' serving' hosting'
-named-same name side side' session session' checking checking' serving serving' hosting hosting' p q c r h = λ i. run_named name (p i) (q i) (c i) (r i) (h i)
+    → is_scripted ≡ is_scripted' → side ≡ side' → session ≡ session' → checking ≡ checking' → serving ≡ serving' → hosting ≡ hosting'
+    → run_named name is_scripted side session checking serving hosting ≡ run_named name is_scripted' side' session' checking' serving' hosting'
+named-same name is_scripted is_scripted' side side' session session' checking checking' serving serving' hosting hosting' f p q c r h =
+    λ i. run_named name (f i) (p i) (q i) (c i) (r i) (h i)

@@ -13,7 +13,7 @@ use Rattle.bidi_command_line.specs.declared.run.Run.{Run}
 use Rattle.bidi_command_line.specs.CommandLine.{bidi_app, check_shape, faults_of, run_in}
 
 -- the program's command, with what building adds to it
-abbrev app : App
+abbrev pub app : App
 app = built bidi_app
 
 -- the subcommand `check` of it
@@ -22,21 +22,21 @@ check_built = unwrap_or (find (λ s. answers_to (codes "check") (label_of s)) ap
 
 -- ---- after the name of a subcommand every word is the subcommand's
 
-stopped-walk : (c : List Rule) (names : Names) (w : Walk) (p : Text) (before ws : List Text)
+pub stopped-walk : (c : List Rule) (names : Names) (w : Walk) (p : Text) (before ws : List Text)
     → fold (walked c names) (record w { stopped = Some (p, before) }) ws ≡ record w { stopped = Some (p, before ++ ws) }
 unfolding walked
 stopped-walk c names w p before [] = λ i. record w { stopped = Some (p, sym (append-nil before) i) }
 stopped-walk c names w p before (x ∷ ws) =
     stopped-walk c names w p (before ++ x ∷ []) ws ∙ (λ i. record w { stopped = Some (p, append_assoc before (x ∷ []) ws i) })
 
-stopped-fault : (s : Shape) (names : Names) (w : Walk) (p : Text) (before ws : List Text) → walk_fault s names (record w { stopped = Some (p, before) }) ws ≡ []
+pub stopped-fault : (s : Shape) (names : Names) (w : Walk) (p : Text) (before ws : List Text) → walk_fault s names (record w { stopped = Some (p, before) }) ws ≡ []
 unfolding walked walk_fault
 stopped-fault s names w p before [] = refl
 stopped-fault s names w p before (x ∷ ws) = stopped-fault s names w p (before ++ x ∷ []) ws
 
 -- ---- the first fault counts
 
-or_else-nil : (a : Kinds) → or_else a [] ≡ a
+pub or_else-nil : (a : Kinds) → or_else a [] ≡ a
 or_else-nil [] = refl
 or_else-nil (k ∷ ks) = refl
 
@@ -44,14 +44,14 @@ or_else-assoc : (a b c : Kinds) → or_else (or_else a b) c ≡ or_else a (or_el
 or_else-assoc [] b c = refl
 or_else-assoc (k ∷ ks) b c = refl
 
-walk_fault-append : (s : Shape) (names : Names) (w : Walk) (xs ys : List Text)
+pub walk_fault-append : (s : Shape) (names : Names) (w : Walk) (xs ys : List Text)
     → walk_fault s names w (xs ++ ys) ≡ or_else (walk_fault s names w xs) (walk_fault s names (fold (walked s.rules names) w xs) ys)
 unfolding walk_fault
 walk_fault-append s names w [] ys = refl
 walk_fault-append s names w (x ∷ xs) ys =
     ap (or_else (turn_fault s names w x)) (walk_fault-append s names (walked s.rules names w x) xs ys) ∙ sym (or_else-assoc (turn_fault s names w x) _ _)
 
-walk_fault-one : (s : Shape) (names : Names) (w : Walk) (x : Text) → walk_fault s names w (x ∷ []) ≡ turn_fault s names w x
+pub walk_fault-one : (s : Shape) (names : Names) (w : Walk) (x : Text) → walk_fault s names w (x ∷ []) ≡ turn_fault s names w x
 unfolding walk_fault
 walk_fault-one s names w x = or_else-nil (turn_fault s names w x)
 
@@ -73,7 +73,7 @@ plain-turn s h name q l e = rw (q) (rw (l) (rw (e) refl))
 -- ---- the subcommand `check`
 
 -- the top level, from the faults of its words and from where its walk ended
-abbrev top_fault : Kinds → Walk → Kinds
+abbrev pub top_fault : Kinds → Walk → Kinds
 top_fault found w =
     or_else found (or_else (entered_fault app w.stopped) (or_else (settle_fault app.top.rules app.top.args_override_self w.held)
     (or_else (defaults_fault (settled app.top.rules w.held).rows app.top.rules) (check_fault app.top (finished app.top.rules w.held) (is_some (entered app w.stopped))))))

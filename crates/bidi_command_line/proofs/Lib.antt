@@ -1,6 +1,10 @@
+mod GrammarLemmas
 mod CommandLineFacts
 mod CommandLineLemmas
+mod WordLemmas
+mod PlayWords
 mod PlayLines
 mod NumberLemmas
+mod HostWords
 mod SaidLemmas
 mod FileLemmas

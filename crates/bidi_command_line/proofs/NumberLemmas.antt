@@ -11,7 +11,7 @@ use Rattle.clap.specs.Words.{Row, Text, first_of}
 use Rattle.bidi_command_line.specs.declared.run.Run.{Run}
 use Rattle.bidi_command_line.specs.declared.run.Run.TheVariants.{Stream, Serve, Host}
 use Rattle.bidi_command_line.specs.declared.run.StreamRun.{StreamRun}
-use Rattle.bidi_command_line.specs.declared.run.StreamRun.TheVariants.{Play, Pair, Reduce, Show, Check, Why, Both}
+use Rattle.bidi_command_line.specs.declared.run.StreamRun.TheVariants.{Play, ScriptedPlay, Pair, Reduce, Show, Check, Why, Both}
 use Rattle.bidi_command_line.specs.declared.run.ServeOptions.{ServeOptions}
 use Rattle.bidi_command_line.specs.declared.run.HostOptions.{HostOptions}
 use Rattle.bidi_command_line.specs.CommandLine.{IsWithinBounds, all_digits, checked, checking_in, hosted, hosting_in, is_given, is_numeral, number_in}
@@ -74,9 +74,9 @@ pub checked-same : (a a' : Option Text) (b b' c c' d d' e e' : Bool)
     → a ≡ a' → b ≡ b' → c ≡ c' → d ≡ d' → e ≡ e' → checked a b c d e ≡ checked a' b' c' d' e'
 checked-same a a' b b' c c' d d' e e' p q r s t = λ i. checked (p i) (q i) (r i) (s i) (t i)
 
-pub hosted-same : (a a' : Option ℕ) (b b' c c' d d' : Bool) (e e' : Option ℕ)
-    → a ≡ a' → b ≡ b' → c ≡ c' → d ≡ d' → e ≡ e' → hosted a b c d e ≡ hosted a' b' c' d' e'
-hosted-same a a' b b' c c' d d' e e' p q r s t = λ i. hosted (p i) (q i) (r i) (s i) (t i)
+pub hosted-same : (a a' : Option ℕ) (b b' c c' d d' o o' : Bool) (e e' : Option ℕ)
+    → a ≡ a' → b ≡ b' → c ≡ c' → d ≡ d' → o ≡ o' → e ≡ e' → hosted a b c d o e ≡ hosted a' b' c' d' o' e'
+hosted-same a a' b b' c c' d d' o o' e e' p q r s u t = λ i. hosted (p i) (q i) (r i) (s i) (u i) (t i)
 
 -- ---- bounds
 
@@ -112,11 +112,11 @@ served-from (Some p) None m s e = cc
 served-from (Some p) (Some k) None s e = cc
 
 -- the options of `host` have the numbers that were found
-hosted-from : (port : Option ℕ) (stdin sessions lenient : Bool) (most : Option ℕ) (o : HostOptions)
-    → hosted port stdin sessions lenient most ≡ Some o → (port ≡ Some o.port) × (most ≡ Some o.most_buffered)
-hosted-from (Some p) stdin sessions lenient (Some n) o e = (cc, cc)
-hosted-from (Some p) stdin sessions lenient None o e = cc
-hosted-from None stdin sessions lenient most o e = cc
+hosted-from : (port : Option ℕ) (stdin sessions lenient once : Bool) (most : Option ℕ) (o : HostOptions)
+    → hosted port stdin sessions lenient once most ≡ Some o → (port ≡ Some o.port) × (most ≡ Some o.most_buffered)
+hosted-from (Some p) stdin sessions lenient once (Some n) o e = (cc, cc)
+hosted-from (Some p) stdin sessions lenient once None o e = cc
+hosted-from None stdin sessions lenient once most o e = cc
 
 -- if a run was found, its numbers are within their bounds
 abbrev AreWithin : Option Run → Type 0
@@ -166,7 +166,7 @@ served_within rows = made_within Serve (serving_in rows) (λ s e.
 hosted_within : (rows : List Row) → AreWithin (option_map Host (hosting_in rows))
 hosted_within rows = made_within Host (hosting_in rows) (λ o e.
     let from = hosted-from (number_in (codes "port") 0 65535 rows) (is_given (codes "stdin") rows) (is_given (codes "end-sessions") rows)
-    (is_given (codes "lenient") rows) (number_in (codes "max-buffered") 1 65536 rows) o e in
+    (is_given (codes "lenient") rows) (is_given (codes "once") rows) (number_in (codes "max-buffered") 1 65536 rows) o e in
     let port = within_found 0 65535 o.port (first_of (codes "port") rows) from.0 in
     let most = within_found 1 65536 o.most_buffered (first_of (codes "max-buffered") rows) from.1 in
     (port.1, most.0, most.1))
@@ -174,12 +174,16 @@ hosted_within rows = made_within Host (hosting_in rows) (λ o e.
 -- the run by the names that a subcommand has
 abbrev run_by : Bool → Bool → Bool → Bool → Bool → Bool → Bool → List Row → Option Run
 run_by is_play is_pair is_reduce is_show is_check is_serve is_host rows =
-    if is_play then Some (Stream Play) else (if is_pair then Some (Stream Pair) else (if is_reduce then option_map (λ n. Stream (Reduce n)) (session_in rows)
+    if is_play then Some (Stream (if is_given (codes "scripted") rows then ScriptedPlay else Play)) else (if is_pair then Some (Stream Pair) else (if is_reduce then option_map (λ n. Stream (Reduce n)) (session_in rows)
     else (if is_show then option_map (λ s. Stream (Show s)) (side_in rows) else (if is_check then option_map Stream (checking_in rows)
     else (if is_serve then option_map Serve (serving_in rows) else (if is_host then option_map Host (hosting_in rows) else None))))))
 
+played_within : (is_scripted : Bool) → AreWithin (Some (Stream (if is_scripted then ScriptedPlay else Play)))
+played_within true = one_within (Stream ScriptedPlay) tt
+played_within false = one_within (Stream Play) tt
+
 named_within : (p q d r t u h : Bool) (rows : List Row) → AreWithin (run_by p q d r t u h rows)
-named_within true q d r t u h rows = one_within (Stream Play) tt
+named_within true q d r t u h rows = played_within (is_given (codes "scripted") rows)
 named_within false true d r t u h rows = one_within (Stream Pair) tt
 named_within false false true r t u h rows = reduced_within rows
 named_within false false false true t u h rows = made_within (λ s. Stream (Show s)) (side_in rows) (λ side e. tt)

@@ -1,103 +1,38 @@
--- The arguments that `clap` accepts as a play are `play` and `play --`; those of a pair are `pair` and `pair --`.
-use Rattle.std.proofs.Common.{◌≡◌, ◌⊎◌, ℕ, Bool, true, false, zero, suc, List, [], ◌∷◌, ◌++◌, Option, None}
-use Rattle.std.proofs.Common.{Some, codes, refl, sym, ap, ap₂, subst, ◌||◌, ◌∙◌, inl, inr, cond, slice_get}
-use Rattle.std.proofs.Common.{length, bytes_eq, is_some, option_map, append-nil, append_assoc}
-use Rattle.std.specs.Str.{chars}
+-- The arguments that `clap` accepts as a play are `play` and `play --`, those of a scripted play have `--scripted` before the `--`, and those
+-- of a pair are `pair` and `pair --`.
+use Rattle.std.proofs.Common.{◌≡◌, ◌⊎◌, ℕ, Bool, true, false, List, [], ◌∷◌, ◌++◌, Option, None}
+use Rattle.std.proofs.Common.{Some, codes, refl, sym, ap, ap₂, subst, ◌||◌, ◌∙◌, inl, inr, cond}
+use Rattle.std.proofs.Common.{bytes_eq, is_some, option_map, append-nil, append_assoc}
 use Rattle.std.specs.List.{fold}
-use Rattle.clap.specs.Lexer.{long_of, short_of}
-use Rattle.clap.specs.Walk.{Held, Names, Rule, Step, Text, Walk, finished, nothing_held, settled, subcommand_or_other, walk_from}
-use Rattle.clap.specs.Walk.{has_long, has_short, long_or_other, short_or_plain, bundle_met, bundle_step, after_flag, walked}
+use Rattle.std.specs.Prelude.{if◌then◌else◌}
+use Rattle.clap.specs.Lexer.{long_of}
+use Rattle.clap.specs.Walk.{Held, Names, Row, Rule, Step, Text, Walk, nothing_held, subcommand_or_other, walk_from, walked}
 use Rattle.clap.specs.Walk as walk
-use Rattle.clap.specs.Words.{Row, first_of}
-use Rattle.clap.specs.Simple.{App, Shape, built, entered, filled, help_rule, names_of, new_app, subcommand_of, with_index, with_subcommand}
-use Rattle.clap.specs.Faults.{bundle_fault, bundle_step_fault, check_fault, defaults_fault, entered_fault}
-use Rattle.clap.specs.Faults.{flag_word_fault, flags_fault, level_fault, long_fault, other_fault}
-use Rattle.clap.specs.Faults.{settle_fault, short_fault, step_fault, stray_fault, turn_fault, walk_fault}
+use Rattle.clap.specs.Words.{first_of}
+use Rattle.clap.specs.Simple.{App, Shape, built, entered, names_of, new_app, subcommand_of, with_subcommand}
+use Rattle.clap.specs.Faults.{entered_fault, level_fault, other_fault}
+use Rattle.clap.specs.Faults.{step_fault, stray_fault, turn_fault, walk_fault}
 use Rattle.clap.specs.Kinds.{Kinds, or_else}
-use Rattle.std.specs.Option.{option_map_or}
 use Rattle.std.proofs.lemmas.Slice.Eq.{bytes_eq-Decides}
 use Rattle.clap.proofs.OnLiterals.{clap_on_literals}
 use Rattle.bidi_command_line.specs.declared.run.Run.{Run}
 use Rattle.bidi_command_line.specs.declared.run.Run.TheVariants.{Stream, Serve, Host}
 use Rattle.bidi_command_line.specs.declared.run.StreamRun.{StreamRun}
-use Rattle.bidi_command_line.specs.declared.run.StreamRun.TheVariants.{Play, Pair, Reduce, Show, Check, Why, Both}
+use Rattle.bidi_command_line.specs.declared.run.StreamRun.TheVariants.{Play, ScriptedPlay, Pair, Reduce, Show, Check, Why, Both}
 use Rattle.bidi_command_line.specs.declared.run.WhyOptions.{WhyOptions}
 use Rattle.bidi_command_line.specs.declared.run.BothOptions.{BothOptions}
 use Rattle.bidi_command_line.specs.declared.run.ServeOptions.{ServeOptions}
 use Rattle.bidi_command_line.specs.declared.run.HostOptions.{HostOptions}
 use Rattle.bidi_lines.specs.declared.side.Side.{Side}
 use Rattle.bidi_command_line.specs.CommandLine.{AsksFor, bare_app, bidi_app, checked, faults_of, is_given, run_in, side_named}
+use Rattle.bidi_command_line.proofs.PlayWords.{IsBare, IsFlagged, dashes, first_shape, later, play_level, same_word}
+use Rattle.bidi_command_line.proofs.WordLemmas.{help, or_else-nil, turn_refused}
 
--- the one option of each command
-abbrev help : Rule
-help = with_index 1 (filled help_rule)
-
+-- the rules of a level without flags of its own
 abbrev rules : List Rule
 rules = help ∷ []
 
--- a second fault comes only if there is no first
-or_else-nil : (a b : Kinds) → or_else a b ≡ [] → (a ≡ []) × (b ≡ [])
-or_else-nil [] b none = (refl, none)
-or_else-nil (k ∷ ks) b none = absurd cc
-
--- ---- a word that is no subcommand
-
--- a step that gives the word to a positional finds none
-abbrev step_part : Kinds → Step → Kinds
-step_part stray walk.value = stray
-step_part stray _ = []
-
--- `--name`, whether the option is known or not
-long_refused : (is_known : Bool) (value : Option Text) (next : Kinds)
-    → or_else (long_fault rules false (cond is_known (Some help) None) value nothing_held) next ≡ [] → ⊥
-long_refused true (Some value) next none = cc
-long_refused true None next none = cc
-long_refused false value next none = cc
-
--- the first character of `-abc`, whether the option is known or not
-short_refused : (is_known : Bool) (rest : Text) (more : Held → Kinds) (next : Kinds)
-    → or_else (short_fault rules false (cond is_known (Some help) None) rest nothing_held more) next ≡ [] → ⊥
-short_refused true rest more next none = cc
-short_refused false rest more next none = cc
-
-module _ (stray : Kinds) (some : stray ≡ [] → ⊥) (word : Text) where
-  -- `-abc`, by its first character
-  step_refused : (first : Option ℕ) (k : ℕ) (flags : Text)
-      → or_else (bundle_step_fault rules false first flags 0 nothing_held (flags_fault rules false k))
-      (step_part stray (after_flag rules walk.idle word (bundle_step rules first flags 0 walk.plain nothing_held (bundle_met rules k)).0
-      (bundle_step rules first flags 0 walk.plain nothing_held (bundle_met rules k)).1).1) ≡ [] → ⊥
-  step_refused None k flags none = some none
-  step_refused (Some x) k flags none = short_refused (has_short help x) _ _ _ none
-
-  bundle_refused : (n : ℕ) (flags : Text)
-      → or_else (flags_fault rules false n flags 0 nothing_held)
-      (step_part stray (after_flag rules walk.idle word (bundle_met rules n flags 0 walk.plain nothing_held).0
-      (bundle_met rules n flags 0 walk.plain nothing_held).1).1) ≡ [] → ⊥
-  unfolding clap_on_literals
-  bundle_refused zero flags none = some none
-  bundle_refused (suc k) flags none = step_refused (slice_get (chars flags) 0) k flags none
-
-  -- a word that is no `--name`
-  plain_refused : (short : Option Text) → or_else (option_map_or (λ flags. bundle_fault rules false flags nothing_held) short [])
-      (step_part stray (short_or_plain rules walk.idle word short nothing_held).1) ≡ [] → ⊥
-  plain_refused (Some flags) none = bundle_refused (length flags) flags none
-  plain_refused None none = some none
-
-  word_refused : (long : Option (Text × Option Text)) → or_else (flag_word_fault rules false long word nothing_held)
-      (step_part stray (long_or_other rules walk.idle word long nothing_held).1) ≡ [] → ⊥
-  word_refused (Some p) none = long_refused (has_long help p.0) p.1 _ none
-  word_refused None none = plain_refused (short_of word) none
-
-  -- a word that is no subcommand passes only as `--`
-  turn_refused : (is_end : Bool) (long : Option (Text × Option Text)) → or_else (cond is_end [] (flag_word_fault rules false long word nothing_held))
-      (step_part stray (cond is_end (nothing_held, walk.trailing 1) (long_or_other rules walk.idle word long nothing_held)).1) ≡ [] → is_end ≡ true
-  turn_refused true long none = refl
-  turn_refused false long none = absurd (word_refused long none)
-
--- ---- the two commands
-
-abbrev dashes : Text
-dashes = codes "--"
+-- ---- the commands
 
 abbrev play : Text
 play = codes "play"
@@ -111,26 +46,15 @@ top = app.top
 abbrev names : Names
 names = names_of app
 
-abbrev first_shape : List Shape → Shape
-first_shape [] = top
-first_shape (s ∷ rest) = s
-
 -- a subcommand of this name with no argument, as it is built
 abbrev leaf : Text → Shape
 leaf name = first_shape (built (with_subcommand bare_app (new_app name).top)).subs
-
--- the faults and values that are found after the walk
-abbrev later : Shape → Names → List Text → Bool → Kinds
-later s known line has_subcommand =
-    let end = (walk.walk s.rules known nothing_held line).held in
-    or_else (settle_fault s.rules s.args_override_self end)
-    (or_else (defaults_fault (settled s.rules end).rows s.rules) (check_fault s (finished s.rules end) has_subcommand))
 
 -- ---- the words after a subcommand with no argument
 
 module _ (name : Text) where
   leaf_turn : (word : Text) → turn_fault (leaf name) [] (walk_from nothing_held) word ≡ [] → bytes_eq word dashes ≡ true
-  leaf_turn word none = turn_refused (stray_fault (leaf name)) (λ e. cc) word (bytes_eq word dashes) (long_of word) none
+  leaf_turn word none = turn_refused (stray_fault (leaf name)) (λ e. cc) [] word (bytes_eq word dashes) (long_of word) refl none
 
   -- after the mark no word has a place
   leaf_end : (word : Text) (line : List Text) → walk_fault (leaf name) [] (walked (leaf name).rules [] (walk_from nothing_held) dashes) (word ∷ line) ≡ [] → ⊥
@@ -209,7 +133,7 @@ top_turn false false false false true is_serve is_host word none = as_check refl
 top_turn false false false false false true is_host word none = as_serve refl
 top_turn false false false false false false true word none = as_host refl
 top_turn false false false false false false false word none =
-    as_mark (turn_refused (stray_fault top) (λ e. cc) word (bytes_eq word dashes) (long_of word) none)
+    as_mark (turn_refused (stray_fault top) (λ e. cc) [] word (bytes_eq word dashes) (long_of word) refl none)
 
 -- the walk has met a subcommand, and these words after it
 abbrev after : Text → List Text → Walk
@@ -259,13 +183,9 @@ below word line none =
     let part = or_else-nil (walk_fault top names (walk_from nothing_held) (word ∷ line)) (or_else (entered_fault app stop) rest) none in
     (or_else-nil (entered_fault app stop) rest part.1).0
 
-entered_play : (line : List Text) → faults_of (play ∷ line) ≡ [] → AsksFor (play ∷ line) (Stream Play)
+entered_play : (line : List Text) → faults_of (play ∷ line) ≡ [] → IsBare line ⊎ IsFlagged line
 entered_play line none =
-    let at_leaf : level_fault (leaf play) [] nothing_held line false [] ≡ [] = subst (λ s. entered_fault app s ≡ []) (stop_play line) (below play line none) in
-    elim (leaf_lines play line at_leaf) [
-      | inl e ↦ inl (ap (λ rest. play ∷ rest) e)
-      | inr e ↦ inr (ap (λ rest. play ∷ rest) e)
-    ]
+    play_level line (subst (λ s. entered_fault app s ≡ []) (stop_play line) (below play line none))
 
 entered_pair : (line : List Text) → faults_of (pair ∷ line) ≡ [] → AsksFor (pair ∷ line) (Stream Pair)
 entered_pair line none =
@@ -277,10 +197,6 @@ entered_pair line none =
 
 -- ---- reading a line that begins with a subcommand
 
-read_play : (line : List Text) → run_in (subcommand_of bidi_app (play ∷ line)) ≡ Some (Stream Play)
-unfolding clap_on_literals
-read_play line = ap (λ s. run_in (entered app s)) (stop_play line)
-
 read_pair : (line : List Text) → run_in (subcommand_of bidi_app (pair ∷ line)) ≡ Some (Stream Pair)
 unfolding clap_on_literals
 read_pair line = ap (λ s. run_in (entered app s)) (stop_pair line)
@@ -288,6 +204,23 @@ read_pair line = ap (λ s. run_in (entered app s)) (stop_pair line)
 -- a value that is there is one
 same_some : {A : Type 0} {x y : A} → Some x ≡ Some y → x ≡ y
 same_some e = cc
+
+-- the run is neither a play nor a scripted play
+abbrev IsNoPlay : Run → Type 0
+IsNoPlay run = (is_scripted : Bool) → Stream (if is_scripted then ScriptedPlay else Play) ≡ run → ⊥
+
+no_play_met : (run : Run) → IsNoPlay run → (met : Option (Text × List Row)) → option_map (λ m. m.0) met ≡ Some play → run_in met ≡ Some run → ⊥
+unfolding clap_on_literals
+no_play_met run differs None named e = cc
+no_play_met run differs (Some (name, rows)) named e =
+    differs (is_given (codes "scripted") rows) (same_some (subst (λ n. run_in (Some (n, rows)) ≡ Some run) (same_some named) e))
+
+entered_play_as : (run : Run) → IsNoPlay run → (line : List Text) → run_in (entered app (Some (play, line))) ≡ Some run → ⊥
+unfolding clap_on_literals
+entered_play_as run differs line e = no_play_met run differs (entered app (Some (play, line))) refl e
+
+read_play : (run : Run) → IsNoPlay run → (line : List Text) → run_in (subcommand_of bidi_app (play ∷ line)) ≡ Some run → ⊥
+read_play run differs line e = entered_play_as run differs line (subst (λ s. run_in (entered app s) ≡ Some run) (stop_play line) e)
 
 -- a run that needs an end, or numbers, is no other
 no_other : {A : Type 0} (f : A → Run) (run : Run) → ((x : A) → f x ≡ run → ⊥) → (x : Option A) → option_map f x ≡ Some run → ⊥
@@ -362,52 +295,54 @@ entered_host run differs line e = no_other Host run differs _ e
 read_host : (run : Run) → ((h : HostOptions) → Host h ≡ run → ⊥) → (line : List Text) → run_in (subcommand_of bidi_app (host ∷ line)) ≡ Some run → ⊥
 read_host run differs line e = entered_host run differs line (subst (λ s. run_in (entered app s) ≡ Some run) (stop_host line) e)
 
-host_is_no_play : (h : HostOptions) → Host h ≡ (Stream Play) → ⊥
-host_is_no_play h e = cc
+-- the run is one of no subcommand but `play` and `pair`
+record IsPlain (run : Run) : Type 0 where
+  reduce : (n : ℕ) → Stream (Reduce n) ≡ run → ⊥
+  show : (side : Side) → Stream (Show side) ≡ run → ⊥
+  check : IsNoCheck run
+  serve : (s : ServeOptions) → Serve s ≡ run → ⊥
+  host : (h : HostOptions) → Host h ≡ run → ⊥
 
-host_is_no_pair : (h : HostOptions) → Host h ≡ (Stream Pair) → ⊥
-host_is_no_pair h e = cc
+play_is_plain : IsPlain (Stream Play)
+play_is_plain = record {
+  reduce = λ n e. cc;
+  show = λ side e. cc;
+  check = (λ side e. cc, λ o e. cc, λ o e. cc);
+  serve = λ s e. cc;
+  host = λ h e. cc;
+}
 
-serve_is_no_play : (s : ServeOptions) → Serve s ≡ (Stream Play) → ⊥
-serve_is_no_play s e = cc
+scripted_is_plain : IsPlain (Stream ScriptedPlay)
+scripted_is_plain = record {
+  reduce = λ n e. cc;
+  show = λ side e. cc;
+  check = (λ side e. cc, λ o e. cc, λ o e. cc);
+  serve = λ s e. cc;
+  host = λ h e. cc;
+}
 
-serve_is_no_pair : (s : ServeOptions) → Serve s ≡ (Stream Pair) → ⊥
-serve_is_no_pair s e = cc
+pair_is_plain : IsPlain (Stream Pair)
+pair_is_plain = record {
+  reduce = λ n e. cc;
+  show = λ side e. cc;
+  check = (λ side e. cc, λ o e. cc, λ o e. cc);
+  serve = λ s e. cc;
+  host = λ h e. cc;
+}
 
-reduce_is_no_play : (n : ℕ) → Stream (Reduce n) ≡ (Stream Play) → ⊥
-reduce_is_no_play n e = cc
+pair_is_no_play : IsNoPlay (Stream Pair)
+pair_is_no_play true e = cc
+pair_is_no_play false e = cc
 
-reduce_is_no_pair : (n : ℕ) → Stream (Reduce n) ≡ (Stream Pair) → ⊥
-reduce_is_no_pair n e = cc
-
-show_is_no_play : (side : Side) → Stream (Show side) ≡ (Stream Play) → ⊥
-show_is_no_play side e = cc
-
-show_is_no_pair : (side : Side) → Stream (Show side) ≡ (Stream Pair) → ⊥
-show_is_no_pair side e = cc
-
-play_is_no_check : IsNoCheck (Stream Play)
-play_is_no_check = (λ side e. cc, λ o e. cc, λ o e. cc)
-
-pair_is_no_check : IsNoCheck (Stream Pair)
-pair_is_no_check = (λ side e. cc, λ o e. cc, λ o e. cc)
-
-pair_is_no_play : (Stream Pair) ≡ (Stream Play) → ⊥
-pair_is_no_play e = cc
-
-or_false : (b : Bool) → (b || false) ≡ true → b ≡ true
-or_false true e = refl
-or_false false e = e
+pair_differs : (is_scripted : Bool) → Stream Pair ≡ Stream (if is_scripted then ScriptedPlay else Play) → ⊥
+pair_differs true e = cc
+pair_differs false e = cc
 
 -- after the mark no word is a subcommand
 entered_none : (line : List Text) → faults_of (dashes ∷ line) ≡ [] → ⊥
 unfolding clap_on_literals
 entered_none [] none = cc
 entered_none (y ∷ line) none = cc
-
--- a word is the name that it is like
-same_word : (name word : Text) → (bytes_eq name word || false) ≡ true → name ≡ word
-same_word name word e = (bytes_eq-Decides name word).0 (or_false _ e)
 
 -- a line that is taken begins with a subcommand
 data Begins (word : Text) : Type 0 where
@@ -446,32 +381,72 @@ begins word line none =
 abbrev IsRead : Run → List Text → Text → Type 0
 IsRead run line word = run_in (subcommand_of bidi_app (word ∷ line)) ≡ Some run
 
-play_from : (word : Text) (line : List Text) → Begins word → faults_of (word ∷ line) ≡ [] → IsRead (Stream Play) line word → AsksFor (word ∷ line) (Stream Play)
-play_from word line (with_play e) none read = subst (λ w. AsksFor (w ∷ line) (Stream Play)) e (entered_play line (subst (λ w. faults_of (w ∷ line) ≡ []) (sym e) none))
-play_from word line (with_pair e) none read = absurd (pair_is_no_play (same_some (sym (read_pair line) ∙ subst (IsRead (Stream Play) line) (sym e) read)))
-play_from word line (with_reduce e) none read = absurd (read_reduce (Stream Play) reduce_is_no_play line (subst (IsRead (Stream Play) line) (sym e) read))
-play_from word line (with_show e) none read = absurd (read_show (Stream Play) show_is_no_play line (subst (IsRead (Stream Play) line) (sym e) read))
-play_from word line (with_check e) none read = absurd (read_check (Stream Play) play_is_no_check line (subst (IsRead (Stream Play) line) (sym e) read))
-play_from word line (with_serve e) none read = absurd (read_serve (Stream Play) serve_is_no_play line (subst (IsRead (Stream Play) line) (sym e) read))
-play_from word line (with_host e) none read = absurd (read_host (Stream Play) host_is_no_play line (subst (IsRead (Stream Play) line) (sym e) read))
+-- a line of another subcommand than `play` and `pair` is read as no run of those
+no_plain : (run : Run) → IsPlain run → (word : Text) (line : List Text) → Begins word → IsRead run line word → (play ≡ word) ⊎ (pair ≡ word)
+no_plain run plain word line (with_play e) read = inl e
+no_plain run plain word line (with_pair e) read = inr e
+no_plain run plain word line (with_reduce e) read = absurd (read_reduce run plain.reduce line (subst (IsRead run line) (sym e) read))
+no_plain run plain word line (with_show e) read = absurd (read_show run plain.show line (subst (IsRead run line) (sym e) read))
+no_plain run plain word line (with_check e) read = absurd (read_check run plain.check line (subst (IsRead run line) (sym e) read))
+no_plain run plain word line (with_serve e) read = absurd (read_serve run plain.serve line (subst (IsRead run line) (sym e) read))
+no_plain run plain word line (with_host e) read = absurd (read_host run plain.host line (subst (IsRead run line) (sym e) read))
 
-pair_from : (word : Text) (line : List Text) → Begins word → faults_of (word ∷ line) ≡ [] → IsRead (Stream Pair) line word → AsksFor (word ∷ line) (Stream Pair)
-pair_from word line (with_play e) none read = absurd (pair_is_no_play (sym (same_some (sym (read_play line) ∙ subst (IsRead (Stream Pair) line) (sym e) read))))
-pair_from word line (with_pair e) none read = subst (λ w. AsksFor (w ∷ line) (Stream Pair)) e (entered_pair line (subst (λ w. faults_of (w ∷ line) ≡ []) (sym e) none))
-pair_from word line (with_reduce e) none read = absurd (read_reduce (Stream Pair) reduce_is_no_pair line (subst (IsRead (Stream Pair) line) (sym e) read))
-pair_from word line (with_show e) none read = absurd (read_show (Stream Pair) show_is_no_pair line (subst (IsRead (Stream Pair) line) (sym e) read))
-pair_from word line (with_check e) none read = absurd (read_check (Stream Pair) pair_is_no_check line (subst (IsRead (Stream Pair) line) (sym e) read))
-pair_from word line (with_serve e) none read = absurd (read_serve (Stream Pair) serve_is_no_pair line (subst (IsRead (Stream Pair) line) (sym e) read))
-pair_from word line (with_host e) none read = absurd (read_host (Stream Pair) host_is_no_pair line (subst (IsRead (Stream Pair) line) (sym e) read))
+-- a play is read as scripted exactly if it has the flag
+reads_bare : (line : List Text) → IsBare line → run_in (subcommand_of bidi_app (play ∷ line)) ≡ Some (Stream Play)
+unfolding clap_on_literals
+reads_bare line (inl e) = subst (λ rest. run_in (subcommand_of bidi_app (play ∷ rest)) ≡ Some (Stream Play)) (sym e) refl
+reads_bare line (inr e) = subst (λ rest. run_in (subcommand_of bidi_app (play ∷ rest)) ≡ Some (Stream Play)) (sym e) refl
+
+reads_flagged : (line : List Text) → IsFlagged line → run_in (subcommand_of bidi_app (play ∷ line)) ≡ Some (Stream ScriptedPlay)
+unfolding clap_on_literals
+reads_flagged line (inl e) = subst (λ rest. run_in (subcommand_of bidi_app (play ∷ rest)) ≡ Some (Stream ScriptedPlay)) (sym e) refl
+reads_flagged line (inr e) = subst (λ rest. run_in (subcommand_of bidi_app (play ∷ rest)) ≡ Some (Stream ScriptedPlay)) (sym e) refl
+
+play_differs : Stream Play ≡ Stream ScriptedPlay → ⊥
+play_differs e = cc
+
+-- the words of a play are these
+play_asked : (line : List Text) → IsBare line ⊎ IsFlagged line → IsRead (Stream Play) line play → AsksFor (play ∷ line) (Stream Play)
+play_asked line (inl (inl e)) read = inl (ap (λ rest. play ∷ rest) e)
+play_asked line (inl (inr e)) read = inr (ap (λ rest. play ∷ rest) e)
+play_asked line (inr given) read = absurd (play_differs (same_some (sym read ∙ reads_flagged line given)))
+
+-- the words of a scripted play are these
+scripted_asked : (line : List Text) → IsBare line ⊎ IsFlagged line → IsRead (Stream ScriptedPlay) line play → AsksFor (play ∷ line) (Stream ScriptedPlay)
+scripted_asked line (inl bare) read = absurd (play_differs (same_some (sym (reads_bare line bare) ∙ read)))
+scripted_asked line (inr (inl e)) read = inl (ap (λ rest. play ∷ rest) e)
+scripted_asked line (inr (inr e)) read = inr (ap (λ rest. play ∷ rest) e)
+
+play_from : (word : Text) (line : List Text) → (play ≡ word) ⊎ (pair ≡ word) → faults_of (word ∷ line) ≡ [] → IsRead (Stream Play) line word → AsksFor (word ∷ line) (Stream Play)
+play_from word line (inl e) none read = subst (λ w. AsksFor (w ∷ line) (Stream Play)) e
+    (play_asked line (entered_play line (subst (λ w. faults_of (w ∷ line) ≡ []) (sym e) none)) (subst (IsRead (Stream Play) line) (sym e) read))
+play_from word line (inr e) none read = absurd (pair_differs false (same_some (sym (read_pair line) ∙ subst (IsRead (Stream Play) line) (sym e) read)))
+
+scripted_from : (word : Text) (line : List Text) → (play ≡ word) ⊎ (pair ≡ word) → faults_of (word ∷ line) ≡ [] → IsRead (Stream ScriptedPlay) line word
+    → AsksFor (word ∷ line) (Stream ScriptedPlay)
+scripted_from word line (inl e) none read = subst (λ w. AsksFor (w ∷ line) (Stream ScriptedPlay)) e
+    (scripted_asked line (entered_play line (subst (λ w. faults_of (w ∷ line) ≡ []) (sym e) none)) (subst (IsRead (Stream ScriptedPlay) line) (sym e) read))
+scripted_from word line (inr e) none read =
+    absurd (pair_differs true (same_some (sym (read_pair line) ∙ subst (IsRead (Stream ScriptedPlay) line) (sym e) read)))
+
+pair_from : (word : Text) (line : List Text) → (play ≡ word) ⊎ (pair ≡ word) → faults_of (word ∷ line) ≡ [] → IsRead (Stream Pair) line word → AsksFor (word ∷ line) (Stream Pair)
+pair_from word line (inl e) none read = absurd (read_play (Stream Pair) pair_is_no_play line (subst (IsRead (Stream Pair) line) (sym e) read))
+pair_from word line (inr e) none read = subst (λ w. AsksFor (w ∷ line) (Stream Pair)) e (entered_pair line (subst (λ w. faults_of (w ∷ line) ≡ []) (sym e) none))
 
 -- `clap` accepts only `play` and `play --` as a play
 pub play_lines : (line : List Text) → faults_of line ≡ [] → run_in (subcommand_of bidi_app line) ≡ Some (Stream Play) → AsksFor line (Stream Play)
 unfolding clap_on_literals
 play_lines [] none read = absurd cc
-play_lines (word ∷ line) none read = play_from word line (begins word line none) none read
+play_lines (word ∷ line) none read = play_from word line (no_plain (Stream Play) play_is_plain word line (begins word line none) read) none read
+
+-- `clap` accepts only `play --scripted` and `play --scripted --` as a scripted play
+pub scripted_lines : (line : List Text) → faults_of line ≡ [] → run_in (subcommand_of bidi_app line) ≡ Some (Stream ScriptedPlay) → AsksFor line (Stream ScriptedPlay)
+unfolding clap_on_literals
+scripted_lines [] none read = absurd cc
+scripted_lines (word ∷ line) none read = scripted_from word line (no_plain (Stream ScriptedPlay) scripted_is_plain word line (begins word line none) read) none read
 
 -- `clap` accepts only `pair` and `pair --` as a pair
 pub pair_lines : (line : List Text) → faults_of line ≡ [] → run_in (subcommand_of bidi_app line) ≡ Some (Stream Pair) → AsksFor line (Stream Pair)
 unfolding clap_on_literals
 pair_lines [] none read = absurd cc
-pair_lines (word ∷ line) none read = pair_from word line (begins word line none) none read
+pair_lines (word ∷ line) none read = pair_from word line (no_plain (Stream Pair) pair_is_plain word line (begins word line none) read) none read

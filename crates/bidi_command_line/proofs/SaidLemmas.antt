@@ -1,6 +1,6 @@
 -- The words that are given for a run: `clap` accepts them, and reads that run from them.
 use Rattle.std.proofs.Common.{◌≡◌, ◌∙◌, ℕ, Bool, true, false, List, [], ◌∷◌, ◌++◌, codes, refl, sym, ap, subst, inl, inr, arith, bytes_eq, Some, None}
-use Rattle.std.specs.Prelude.{◌==◌, ◌&&◌, if◌then◌else◌, IsTrue, Option, option_map, unwrap_or, nat_lt}
+use Rattle.std.specs.Prelude.{◌==◌, ◌&&◌, if◌then◌else◌, IsTrue, Option, option_map, nat_lt}
 use Rattle.std.specs.Char.{digit_value}
 use Rattle.std.proofs.lemmas.Bool.Decides.{nat_tests}
 use Rattle.clap.specs.Lexer.{long_of, short_of}
@@ -8,12 +8,13 @@ use Rattle.clap.specs.Words.{Text, subcommand_of}
 use Rattle.clap.proofs.OnLiterals.{clap_on_literals}
 use Rattle.bidi_command_line.specs.declared.run.Run.{Run}
 use Rattle.bidi_command_line.specs.declared.run.Run.TheVariants.{Stream, Serve, Host}
-use Rattle.bidi_command_line.specs.declared.run.StreamRun.TheVariants.{Play, Pair, Reduce, Show, Check, Why, Both}
+use Rattle.bidi_command_line.specs.declared.run.StreamRun.TheVariants.{Play, ScriptedPlay, Pair, Reduce, Show, Check, Why, Both}
 use Rattle.bidi_lines.specs.declared.side.Side.{Side}
 use Rattle.bidi_lines.specs.declared.side.Side.TheVariants.{Local, Remote}
 use Rattle.bidi_command_line.proofs.FileLemmas.{MayName, with_file}
+use Rattle.bidi_command_line.proofs.HostWords.{host_reads}
 use Rattle.bidi_command_line.specs.CommandLine.{AsksFor, FileWords, Gives, GivesNumber, IsReadAs, IsSaidBy, bidi_app, faults_of}
-use Rattle.bidi_command_line.specs.CommandLine.{checked, default_port, flag_words, hosted, is_name, number_within, run_in, served, side_named, side_text, value_words}
+use Rattle.bidi_command_line.specs.CommandLine.{checked, flag_words, hosted, is_name, number_within, run_in, served, side_named, side_text, value_words}
 
 -- The same words, by what `clap` asks of them: a value that stands alone begins with no `-`.
 data Given (name : Text) : Text → List Text → Type 0 where
@@ -309,84 +310,9 @@ serve_reads_joined : (p c m : Text) → Reads (codes "serve" ∷ (codes "--port=
 unfolding clap_on_literals
 serve_reads_joined p c m = (refl, refl)
 
--- the arguments of `host`, each of which may be left out
-abbrev host_words : Option Text → Option Text → Option Text → Bool → Bool → Bool → List Text
-host_words port page record_file stdin sessions lenient =
-    value_words (codes "port") port ++ value_words (codes "page") page ++ flag_words (codes "stdin") stdin
-    ++ value_words (codes "record") record_file ++ flag_words (codes "end-sessions") sessions ++ flag_words (codes "lenient") lenient
-
-host_reads : (port page record_file : Option Text) (stdin sessions lenient : Bool)
-    → Reads (codes "host" ∷ host_words port page record_file stdin sessions lenient)
-    (option_map Host (hosted (number_within 0 65535 (unwrap_or port default_port)) stdin sessions lenient (Some 1024)))
-unfolding clap_on_literals
-host_reads None None None true true true = (refl, refl)
-host_reads None None None true true false = (refl, refl)
-host_reads None None None true false true = (refl, refl)
-host_reads None None None true false false = (refl, refl)
-host_reads None None None false true true = (refl, refl)
-host_reads None None None false true false = (refl, refl)
-host_reads None None None false false true = (refl, refl)
-host_reads None None None false false false = (refl, refl)
-host_reads None None (Some r) true true true = (refl, refl)
-host_reads None None (Some r) true true false = (refl, refl)
-host_reads None None (Some r) true false true = (refl, refl)
-host_reads None None (Some r) true false false = (refl, refl)
-host_reads None None (Some r) false true true = (refl, refl)
-host_reads None None (Some r) false true false = (refl, refl)
-host_reads None None (Some r) false false true = (refl, refl)
-host_reads None None (Some r) false false false = (refl, refl)
-host_reads None (Some f) None true true true = (refl, refl)
-host_reads None (Some f) None true true false = (refl, refl)
-host_reads None (Some f) None true false true = (refl, refl)
-host_reads None (Some f) None true false false = (refl, refl)
-host_reads None (Some f) None false true true = (refl, refl)
-host_reads None (Some f) None false true false = (refl, refl)
-host_reads None (Some f) None false false true = (refl, refl)
-host_reads None (Some f) None false false false = (refl, refl)
-host_reads None (Some f) (Some r) true true true = (refl, refl)
-host_reads None (Some f) (Some r) true true false = (refl, refl)
-host_reads None (Some f) (Some r) true false true = (refl, refl)
-host_reads None (Some f) (Some r) true false false = (refl, refl)
-host_reads None (Some f) (Some r) false true true = (refl, refl)
-host_reads None (Some f) (Some r) false true false = (refl, refl)
-host_reads None (Some f) (Some r) false false true = (refl, refl)
-host_reads None (Some f) (Some r) false false false = (refl, refl)
-host_reads (Some p) None None true true true = (refl, refl)
-host_reads (Some p) None None true true false = (refl, refl)
-host_reads (Some p) None None true false true = (refl, refl)
-host_reads (Some p) None None true false false = (refl, refl)
-host_reads (Some p) None None false true true = (refl, refl)
-host_reads (Some p) None None false true false = (refl, refl)
-host_reads (Some p) None None false false true = (refl, refl)
-host_reads (Some p) None None false false false = (refl, refl)
-host_reads (Some p) None (Some r) true true true = (refl, refl)
-host_reads (Some p) None (Some r) true true false = (refl, refl)
-host_reads (Some p) None (Some r) true false true = (refl, refl)
-host_reads (Some p) None (Some r) true false false = (refl, refl)
-host_reads (Some p) None (Some r) false true true = (refl, refl)
-host_reads (Some p) None (Some r) false true false = (refl, refl)
-host_reads (Some p) None (Some r) false false true = (refl, refl)
-host_reads (Some p) None (Some r) false false false = (refl, refl)
-host_reads (Some p) (Some f) None true true true = (refl, refl)
-host_reads (Some p) (Some f) None true true false = (refl, refl)
-host_reads (Some p) (Some f) None true false true = (refl, refl)
-host_reads (Some p) (Some f) None true false false = (refl, refl)
-host_reads (Some p) (Some f) None false true true = (refl, refl)
-host_reads (Some p) (Some f) None false true false = (refl, refl)
-host_reads (Some p) (Some f) None false false true = (refl, refl)
-host_reads (Some p) (Some f) None false false false = (refl, refl)
-host_reads (Some p) (Some f) (Some r) true true true = (refl, refl)
-host_reads (Some p) (Some f) (Some r) true true false = (refl, refl)
-host_reads (Some p) (Some f) (Some r) true false true = (refl, refl)
-host_reads (Some p) (Some f) (Some r) true false false = (refl, refl)
-host_reads (Some p) (Some f) (Some r) false true true = (refl, refl)
-host_reads (Some p) (Some f) (Some r) false true false = (refl, refl)
-host_reads (Some p) (Some f) (Some r) false false true = (refl, refl)
-host_reads (Some p) (Some f) (Some r) false false false = (refl, refl)
-
 -- only `--max-buffered`
 buffered_reads : (value : Text) → Reads (codes "host" ∷ value_words (codes "max-buffered") (Some value))
-    (option_map Host (hosted (Some 9222) false false false (number_within 1 65536 value)))
+    (option_map Host (hosted (Some 9222) false false false false (number_within 1 65536 value)))
 unfolding clap_on_literals
 buffered_reads value = (refl, refl)
 
@@ -408,6 +334,7 @@ both_is false false profile goes = refl
 -- clap reads the words that are given for a run as that run
 pub said_asks : (line : List Text) (run : Run) → IsSaidBy run line → AsksFor line run
 said_asks line (Stream Play) e = inl e
+said_asks line (Stream ScriptedPlay) e = inl e
 said_asks line (Stream Pair) e = inl e
 said_asks line (Stream (Reduce session)) (words, gives, e) =
     read_as line (codes "reduce" ∷ words) (Stream (Reduce session)) _ e (ap (option_map (λ n. Stream (Reduce n))) gives.1)
@@ -431,8 +358,8 @@ said_asks line (Serve s) (p, c, m, port, connections, messages, inl e) =
 said_asks line (Serve s) (p, c, m, port, connections, messages, inr e) =
     read_as line _ (Serve s) _ e (λ i. option_map Serve (served (port i) (connections i) (messages i))) (serve_reads_joined p c m)
 said_asks line (Host h) (inl (port, page, record_file, number, most, e)) =
-    read_as line _ (Host h) _ e (λ i. option_map Host (hosted (number i) h.reads_input h.ends_sessions h.is_lenient (most i)))
-    (host_reads port page record_file h.reads_input h.ends_sessions h.is_lenient)
+    read_as line _ (Host h) _ e (λ i. option_map Host (hosted (number i) h.reads_input h.ends_sessions h.is_lenient h.ends_after_last (most i)))
+    (host_reads port page record_file h.reads_input h.ends_sessions h.is_lenient h.ends_after_last)
 said_asks line (Host h) (inr (value, number, port, others, e)) =
-    read_as line _ (Host h) _ e ((λ i. option_map Host (hosted (port i) false false false (number i))) ∙ ap (λ o. Some (Host o)) (sym others))
+    read_as line _ (Host h) _ e ((λ i. option_map Host (hosted (port i) false false false false (number i))) ∙ ap (λ o. Some (Host o)) (sym others))
     (buffered_reads value)

@@ -15,7 +15,7 @@ use Rattle.bidi_command_line.specs.declared.fault.LineFault.TheVariants.{Help, U
 use Rattle.bidi_command_line.specs.declared.run.Run.{Run}
 use Rattle.bidi_command_line.specs.declared.run.Run.TheVariants.{Stream, Serve, Host}
 use Rattle.bidi_command_line.specs.declared.run.StreamRun.{StreamRun}
-use Rattle.bidi_command_line.specs.declared.run.StreamRun.TheVariants.{Play, Pair, Reduce, Show, Check, Why, Both}
+use Rattle.bidi_command_line.specs.declared.run.StreamRun.TheVariants.{Play, ScriptedPlay, Pair, Reduce, Show, Check, Why, Both}
 use Rattle.bidi_command_line.specs.declared.run.ServeOptions.{ServeOptions}
 use Rattle.bidi_command_line.specs.declared.run.HostOptions.{HostOptions}
 use Rattle.bidi_command_line.specs.declared.files.HostFiles.{HostFiles}
@@ -26,9 +26,13 @@ use Rattle.bidi_lines.specs.declared.side.Side.TheVariants.{Local, Remote}
 abbrev pub with_settings : Shape → Shape
 with_settings s = record s { no_binary_name = true; disable_help_subcommand = true; subcommand_required = true }
 
--- the subcommand `play`, which has no arguments
+-- the flag of this name, which takes no value
+abbrev pub flag_rule : Text → Rule
+flag_rule name = record (new_rule name) { long = Some name; action = Some SetTrue }
+
+-- the subcommand `play`, with its flag
 abbrev pub play_shape : Shape
-play_shape = (new_app (codes "play")).top
+play_shape = (with_rule (new_app (codes "play")) (flag_rule (codes "scripted"))).top
 
 -- the subcommand `pair`, which has no arguments
 abbrev pub pair_shape : Shape
@@ -41,10 +45,6 @@ value_rule name = record (new_rule name) { long = Some name; value_names = 1 }
 -- the option of this name, which takes one value and is required
 abbrev pub option_rule : Text → Rule
 option_rule name = record (value_rule name) { required = true }
-
--- the flag of this name, which takes no value
-abbrev pub flag_rule : Text → Rule
-flag_rule name = record (new_rule name) { long = Some name; action = Some SetTrue }
 
 -- the subcommand `reduce`, with its option `--session`
 abbrev pub reduce_shape : Shape
@@ -97,8 +97,8 @@ host_app = with_rule (with_rule (with_rule (new_app (codes "host")) port_rule) (
 -- the subcommand `host`, with all its options
 abbrev pub host_shape : Shape
 host_shape =
-    (with_rule (with_rule (with_rule (with_rule host_app (value_rule (codes "record"))) (flag_rule (codes "end-sessions"))) (flag_rule (codes "lenient")))
-    buffered_rule).top
+    (with_rule (with_rule (with_rule (with_rule (with_rule host_app (value_rule (codes "record"))) (flag_rule (codes "end-sessions"))) (flag_rule (codes "lenient")))
+    (flag_rule (codes "once"))) buffered_rule).top
 
 -- the program's command without any subcommand
 abbrev pub bare_app : App
@@ -209,21 +209,21 @@ abbrev pub serving_in : List Row → Option ServeOptions
 serving_in rows = served (number_in (codes "port") 0 greatest_port rows) (number_in (codes "connections") 1 most_served rows) (number_in (codes "messages") 1 most_messages rows)
 
 -- the options of `host`, if both numbers are valid
-abbrev pub hosted : Option ℕ → Bool → Bool → Bool → Option ℕ → Option HostOptions
-hosted (Some port) reads_input ends_sessions is_lenient (Some most) =
-    Some (record { port = port; reads_input = reads_input; ends_sessions = ends_sessions; is_lenient = is_lenient; most_buffered = most })
-hosted port reads_input ends_sessions is_lenient most = None
+abbrev pub hosted : Option ℕ → Bool → Bool → Bool → Bool → Option ℕ → Option HostOptions
+hosted (Some port) reads_input ends_sessions is_lenient ends_after_last (Some most) =
+    Some (record { port = port; reads_input = reads_input; ends_sessions = ends_sessions; is_lenient = is_lenient; ends_after_last = ends_after_last; most_buffered = most })
+hosted port reads_input ends_sessions is_lenient ends_after_last most = None
 
 -- the options of `host` that the arguments give
 abbrev pub hosting_in : List Row → Option HostOptions
 hosting_in rows =
     hosted (number_in (codes "port") 0 greatest_port rows) (is_given (codes "stdin") rows) (is_given (codes "end-sessions") rows) (is_given (codes "lenient") rows)
-    (number_in (codes "max-buffered") 1 most_buffered_mib rows)
+    (is_given (codes "once") rows) (number_in (codes "max-buffered") 1 most_buffered_mib rows)
 
 -- the run of the subcommand of this name, given the values of its options
-abbrev pub run_named : Text → Option Side → Option ℕ → Option StreamRun → Option ServeOptions → Option HostOptions → Option Run
-run_named name side session checking serving hosting =
-    if bytes_eq name (codes "play") then Some (Stream Play)
+abbrev pub run_named : Text → Bool → Option Side → Option ℕ → Option StreamRun → Option ServeOptions → Option HostOptions → Option Run
+run_named name is_scripted side session checking serving hosting =
+    if bytes_eq name (codes "play") then Some (Stream (if is_scripted then ScriptedPlay else Play))
     else (if bytes_eq name (codes "pair") then Some (Stream Pair)
     else (if bytes_eq name (codes "reduce") then option_map (λ n. Stream (Reduce n)) session
     else (if bytes_eq name (codes "show") then option_map (λ s. Stream (Show s)) side
@@ -234,7 +234,7 @@ run_named name side session checking serving hosting =
 -- the run of the subcommand that was found with its options
 abbrev pub run_in : Option (Text × List Row) → Option Run
 run_in None = None
-run_in (Some (name, rows)) = run_named name (side_in rows) (session_in rows) (checking_in rows) (serving_in rows) (hosting_in rows)
+run_in (Some (name, rows)) = run_named name (is_given (codes "scripted") rows) (side_in rows) (session_in rows) (checking_in rows) (serving_in rows) (hosting_in rows)
 
 -- the file that an argument of this name gives
 abbrev pub file_in : Text → Option (Text × List Row) → Option Text
@@ -257,9 +257,12 @@ input_in met = option_and_then file_named (file_in (codes "file") met)
 abbrev pub IsReadAs : List Text → Run → Type 0
 IsReadAs line run = (faults_of line ≡ []) × (run_in (subcommand_of bidi_app line) ≡ Some run)
 
--- the arguments ask for the run; for `play` and `pair` they are exactly the name, with or without the `--` that ends the options
+-- the arguments ask for the run; for `play` and `pair` they are exactly the name, `--scripted` if the play is scripted, and after
+-- them the `--` that ends the options, or nothing
 abbrev pub AsksFor : List Text → Run → Type 0
 AsksFor line (Stream Play) = (line ≡ codes "play" ∷ []) ⊎ (line ≡ codes "play" ∷ codes "--" ∷ [])
+AsksFor line (Stream ScriptedPlay) =
+    (line ≡ codes "play" ∷ codes "--scripted" ∷ []) ⊎ (line ≡ codes "play" ∷ codes "--scripted" ∷ codes "--" ∷ [])
 AsksFor line (Stream Pair) = (line ≡ codes "pair" ∷ []) ⊎ (line ≡ codes "pair" ∷ codes "--" ∷ [])
 AsksFor line (Stream (Reduce session)) = IsReadAs line (Stream (Reduce session))
 AsksFor line (Stream (Show side)) = IsReadAs line (Stream (Show side))
@@ -306,19 +309,21 @@ SaysHost h line =
     (port : Option Text) × (page : Option Text) × (record_file : Option Text)
     × (number_within 0 greatest_port (unwrap_or port default_port) ≡ Some h.port) × (number_within 1 most_buffered_mib default_buffered ≡ Some h.most_buffered)
     × (line ≡ codes "host" ∷ value_words (codes "port") port ++ value_words (codes "page") page ++ flag_words (codes "stdin") h.reads_input
-    ++ value_words (codes "record") record_file ++ flag_words (codes "end-sessions") h.ends_sessions ++ flag_words (codes "lenient") h.is_lenient)
+    ++ value_words (codes "record") record_file ++ flag_words (codes "end-sessions") h.ends_sessions ++ flag_words (codes "lenient") h.is_lenient
+    ++ flag_words (codes "once") h.ends_after_last)
 
 -- the arguments of `host` with `--max-buffered` and no other option
 abbrev pub SaysBuffered : HostOptions → List Text → Type 0
 SaysBuffered h line =
     (value : Text) × (number_within 1 most_buffered_mib value ≡ Some h.most_buffered)
     × (number_within 0 greatest_port default_port ≡ Some h.port)
-    × (h ≡ record { port = h.port; reads_input = false; ends_sessions = false; is_lenient = false; most_buffered = h.most_buffered })
+    × (h ≡ record { port = h.port; reads_input = false; ends_sessions = false; is_lenient = false; ends_after_last = false; most_buffered = h.most_buffered })
     × (line ≡ codes "host" ∷ value_words (codes "max-buffered") (Some value))
 
 -- these arguments are a usual way to ask for the run, with its options in this order
 abbrev pub IsSaidBy : Run → List Text → Type 0
 IsSaidBy (Stream Play) line = line ≡ codes "play" ∷ []
+IsSaidBy (Stream ScriptedPlay) line = line ≡ codes "play" ∷ codes "--scripted" ∷ []
 IsSaidBy (Stream Pair) line = line ≡ codes "pair" ∷ []
 IsSaidBy (Stream (Reduce session)) line = (words : List Text) × GivesNumber (codes "session") 0 greatest_session session words × (line ≡ codes "reduce" ∷ words)
 IsSaidBy (Stream (Show side)) line =

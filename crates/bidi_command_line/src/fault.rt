@@ -1,4 +1,5 @@
 //! Why a command line asks for no run.
+ghost use Rattle.std.specs.Prelude.{◌≡◌, IfOk};
 ghost use Rattle.clap.specs.Words.{kind_of};
 ghost use Rattle.clap.specs.declared.error.kind.ErrorKind.TheVariants.{InvalidValue};
 ghost use Rattle.bidi_command_line.specs.CommandLine.{Causes};
@@ -28,16 +29,28 @@ pub enum LineFault {
 pub(crate) fn no_value(alloc: Global, matches: &ArgMatches<'_>) -> LineFault
     ensures { Causes InvalidValue result }
 {
-    let Ok(message) = bad_value(alloc, matches) else {
-        return LineFault::NoMemory;
-    };
-    let Ok(mut command) = command(alloc) else {
-        return LineFault::NoMemory;
-    };
-    match command.error(ErrorKind::InvalidValue, &message) {
+    match bad_value(alloc, matches) {
+        Ok(message) => value_fault(alloc, &message),
+        Err(_) => LineFault::NoMemory,
+    }
+}
+
+// The fault of options that this message describes.
+fn value_fault(alloc: Global, message: &str) -> LineFault
+    ensures { Causes InvalidValue result }
+{
+    match value_error(alloc, message) {
         Ok(error) => fault(alloc, &error),
         Err(_) => LineFault::NoMemory,
     }
+}
+
+// The error of `clap` with this message.
+fn value_error(alloc: Global, message: &str) -> Result<clap::Error, AllocError>
+    ensures { IfOk result (λ error. kind_of error ≡ InvalidValue) }
+{
+    let mut command = command(alloc)?;
+    command.error(ErrorKind::InvalidValue, message)
 }
 
 // Which options do not go together; or which option of which subcommand has which value, and what it takes.

@@ -7,6 +7,8 @@ pub(crate) const PLAY_HELP: &str = "\
 Lines in: `open N /session`, `> N TEXT`, `binary N` and `drop N` come from connection N, `at MOMENT` sets the clock,
 `frame CONTEXT URL`, `unframe CONTEXT` and `log CONTEXT LEVEL TEXT` happen in a page, `value ROW` says what a script does.
 Lines out: `opened N`, `denied N`, `< N TEXT`, `close N`, `lost N`, `no effect`.
+With --scripted also in: `answer`, `hold`, `release`, `unanswer`, `emit`, `on`, `names`, `send`, `bytes`, `cut`, `close`;
+and out: `held K N TEXT`, `bytes N HEX`, `cut N`, `close N CODE`, `no effect: REASON`.
 Status: 0 if everything was played, 2 at a bad line, 3 if input, output or memory failed.
 docs/FORMATS.md has all forms.";
 
@@ -62,6 +64,6 @@ A connection to /page is a page: each of its messages is a line of a play (`at`,
 or `reset`, which makes the browser new, or `end`.
 Each line of a page is answered by `ok`, `no effect: REASON` or `no line of a page: REASON`.
 When it listens, it writes `WebDriver BiDi listening on ws://127.0.0.1:PORT` to standard error.
-Status: 0 if it was told to end, 2 at a bad line in the file of a page,
+Status: 0 if it was told to end or --once ended it, 2 at a bad line in the file of a page,
 3 if it cannot listen, or if input, output, a file, the record or memory failed.
 docs/TESTING.md and docs/FORMATS.md have more.";

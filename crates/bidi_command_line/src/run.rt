@@ -18,6 +18,8 @@ pub enum Run {
 pub enum StreamRun {
     /// `play`: plays the lines of standard input to a remote end.
     Play,
+    /// `play --scripted`: plays the lines of standard input to a scripted end.
+    ScriptedPlay,
     /// `pair`: plays the lines of standard input to both ends.
     Pair,
     /// `reduce`: writes those lines of standard input that are kept for the session of this number.
@@ -78,6 +80,8 @@ pub struct HostOptions {
     /// `--lenient`: the first messages of real client libraries are accepted, even if the profile refuses
     /// them.
     pub is_lenient: bool,
+    /// `--once`: the program ends when its last session has ended and no client is left.
+    pub ends_after_last: bool,
     /// `--max-buffered`: the most MiB that unfinished messages and waiting messages take in all, 1 to 65,536.
     /// The default is 1,024.
     pub most_buffered: u32,

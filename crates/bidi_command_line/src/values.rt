@@ -19,8 +19,10 @@ pub(crate) fn run_of(matches: &ArgMatches<'_>) -> Option<Run>
     let side = side_of(inner);
     let session = session_of(inner);
     let checking = checking_of(inner);
+    let is_scripted = is_given(inner, "scripted");
     run_named(
         name,
+        is_scripted,
         side,
         session,
         checking,
@@ -131,8 +133,16 @@ fn hosting_of(matches: &ArgMatches<'_>) -> Option<HostOptions>
     let reads_input = is_given(matches, "stdin");
     let ends_sessions = is_given(matches, "end-sessions");
     let is_lenient = is_given(matches, "lenient");
+    let ends_after_last = is_given(matches, "once");
     let most_buffered = number_of(matches, "max-buffered", 1, 65_536);
-    hosted(port, reads_input, ends_sessions, is_lenient, most_buffered)
+    hosted(
+        port,
+        reads_input,
+        ends_sessions,
+        is_lenient,
+        ends_after_last,
+        most_buffered,
+    )
 }
 
 // The options of `host`, where both numbers are valid.
@@ -141,15 +151,17 @@ fn hosted(
     reads_input: bool,
     ends_sessions: bool,
     is_lenient: bool,
+    ends_after_last: bool,
     most_buffered: Option<u32>,
 ) -> Option<HostOptions>
-    ensures { result ≡ hosted port reads_input ends_sessions is_lenient most_buffered }
+    ensures { result ≡ hosted port reads_input ends_sessions is_lenient ends_after_last most_buffered }
 {
     Some(HostOptions {
         port: port?,
         reads_input,
         ends_sessions,
         is_lenient,
+        ends_after_last,
         most_buffered: most_buffered?,
     })
 }
@@ -206,15 +218,17 @@ fn number_within(text: &str, least: u32, most: u32) -> Option<u32>
 // the options of `serve` or `host`.
 fn run_named(
     name: &str,
+    is_scripted: bool,
     side: Option<Side>,
     session: Option<u32>,
     checking: Option<StreamRun>,
     serving: Option<ServeOptions>,
     hosting: Option<HostOptions>,
 ) -> Option<Run>
-    ensures { result ≡ run_named name.now side session checking serving hosting }
+    ensures { result ≡ run_named name.now is_scripted side session checking serving hosting }
 {
     match name {
+        "play" if is_scripted => Some(Run::Stream(StreamRun::ScriptedPlay)),
         "play" => Some(Run::Stream(StreamRun::Play)),
         "pair" => Some(Run::Stream(StreamRun::Pair)),
         "reduce" => Some(Run::Stream(StreamRun::Reduce(session?))),

@@ -106,7 +106,7 @@ impl Hosted {
     }
 
     // The number of the next connection.
-    fn next_conn(&mut self) -> Result<JsUint, HostingFault> {
+    pub(crate) fn next_conn(&mut self) -> Result<JsUint, HostingFault> {
         let count = self.count.saturating_add(1);
         let Some(conn) = JsUint::new(count) else {
             return Err(HostingFault::WornOut);
@@ -118,10 +118,14 @@ impl Hosted {
     // Why a connection at this resource is denied.
     fn refusal(&self, resource: &str) -> RequestRefusal {
         let is_known = resource == SESSION || resource.starts_with(SESSIONS);
-        if is_known && self.peers.clients() >= MOST_CLIENTS {
+        if is_known && self.has_most_clients() {
             RequestRefusal::Full
         } else {
             RequestRefusal::NotFound
         }
+    }
+    // Whether as many connections of the remote end are open as may be.
+    pub(crate) fn has_most_clients(&self) -> bool {
+        self.peers.clients() >= MOST_CLIENTS
     }
 }

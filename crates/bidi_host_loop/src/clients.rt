@@ -8,10 +8,14 @@ use bidi_lenient::{Eased, ease};
 use bidi_peer::Came;
 use bidi_recorder::{HostingFault, Recorded};
 use bidi_remote::Sent;
+use bidi_script_lines::Outcome;
 use bidi_tree::JsUint;
 
 /// How many messages of one connection are taken before it is the next one's turn.
 const MOST_TAKES: u32 = 64;
+
+/// How many different reports on clients' texts are written. Their names come from the clients.
+const MOST_REPORTS: usize = 256;
 
 /// The line that ends a session for a connection that is gone.
 const END: &str = r#"{"id":0,"method":"session.end","params":{}}"#;
@@ -57,6 +61,7 @@ impl Hosted {
         match came {
             Came::Nothing | Came::More => return Ok(false),
             Came::Asks(resource) => self.admit(world, place, resource)?,
+            Came::Calls(call) => self.answer_call(world, place, call)?,
             Came::Text(text) => self.text_came(world, place, role, text)?,
             Came::NotText => self.bytes_came(world, place, role)?,
             Came::Ended => self.end_came(world, place, role)?,
@@ -112,7 +117,7 @@ impl Hosted {
     }
 
     // Gives the remote end a client's text.
-    fn hear<W: Surroundings>(
+    pub(crate) fn hear<W: Surroundings>(
         &mut self,
         world: &mut W,
         conn: JsUint,
@@ -127,31 +132,40 @@ impl Hosted {
         self.deliver(world, taken)
     }
 
-    // Leaves out of a client's text what the profile does not have.
+    // Makes of a client's text what the profile takes, and reports what was done.
     fn eased<W: Surroundings>(
         &mut self,
         world: &mut W,
         text: String,
     ) -> Result<String, HostingFault> {
-        match ease(self.alloc, text.as_str())? {
-            Some(Eased { text, left_out }) => {
-                for name in left_out {
-                    self.tell(world, name)?;
-                }
-                Ok(text)
-            }
-            None => Ok(text),
+        let Some(
+            Eased {
+                text: eased,
+                reports,
+            },
+        ) = ease(self.alloc, text.as_str())?
+        else {
+            return Ok(text);
+        };
+        for report in reports {
+            self.tell(world, report)?;
         }
+        Ok(eased.unwrap_or(text))
     }
 
-    // Reports that this was left out, unless that was reported before.
-    fn tell<W: Surroundings>(&mut self, world: &mut W, name: String) -> Result<(), HostingFault> {
-        if self.told.iter().any(|told| told.as_str() == name.as_str()) {
+    // Reports this, unless it was reported before or too much was reported.
+    fn tell<W: Surroundings>(&mut self, world: &mut W, report: String) -> Result<(), HostingFault> {
+        if self.told.len() >= MOST_REPORTS
+            || self
+                .told
+                .iter()
+                .any(|told| told.as_str() == report.as_str())
+        {
             return Ok(());
         }
-        let line = format!(in self.alloc; "bidi: left out {name}")?;
+        let line = format!(in self.alloc; "bidi: {report}")?;
         world.note(line.as_str());
-        Ok(add(&mut self.told, name)?)
+        Ok(add(&mut self.told, report)?)
     }
 
     // A connection of the remote end is gone. Ends its session, if the host does so and it was the
@@ -169,15 +183,36 @@ impl Hosted {
         Ok(())
     }
 
-    // Records an input that was taken, and sends each message to its connection.
+    // Records an input that was taken, and does what it brings about.
     pub(crate) fn deliver<W: Surroundings>(
         &mut self,
         world: &mut W,
         taken: Recorded,
     ) -> Result<(), HostingFault> {
-        let Recorded { line, sent } = taken;
+        let Recorded { line, outcome } = taken;
+        self.note_session()?;
         world.record(line.as_str())?;
-        for one in sent {
+        match outcome {
+            Outcome::OfMachine(sent) => {
+                for one in sent {
+                    let followers = self.host.followers_of(&one)?;
+                    self.hand_on(world, one)?;
+                    self.hand_on_all(world, followers)?;
+                }
+                Ok(())
+            }
+            Outcome::Sent(sent) => self.hand_on_all(world, sent),
+            other => self.carry_out(world, other),
+        }
+    }
+
+    // Sends each message to its connection.
+    fn hand_on_all<W: Surroundings>(
+        &mut self,
+        world: &mut W,
+        all: Vec<Sent>,
+    ) -> Result<(), HostingFault> {
+        for one in all {
             self.hand_on(world, one)?;
         }
         Ok(())

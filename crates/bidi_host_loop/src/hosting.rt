@@ -10,6 +10,9 @@ use bidi_recorder::{Host, HostingFault};
 use std::alloc::Global;
 use std::time::{Duration, Instant};
 
+/// The page line that makes all names known.
+const ALL_NAMES: &str = "names *";
+
 /// A remote end that is hosted, with its connections.
 pub struct Hosted {
     pub(crate) alloc: Global,
@@ -21,12 +24,14 @@ pub struct Hosted {
     pub(crate) sessions: Sessions,
     pub(crate) console: Console,
     pub(crate) is_console_ready: bool,
-    // The names that were reported as left out; at most as many as there are.
+    // What was reported on clients' texts.
     pub(crate) told: Vec<String>,
     // How many connections the remote end was asked to open since it was new.
     pub(crate) count: u64,
     // When the host ends, whatever its connections do; `None` while it serves.
     pub(crate) end: Option<Instant>,
+    // Whether there was a session, if the host ends after the last one.
+    pub(crate) had_session: bool,
 }
 
 impl Drop for Hosted {
@@ -43,6 +48,7 @@ impl Drop for Hosted {
             told: _,
             count: _,
             end: _,
+            had_session: _,
         } = self;
     }
 }
@@ -66,15 +72,19 @@ impl Hosted {
             told: Vec::new(alloc),
             count: 0,
             end: None,
+            had_session: false,
         })
     }
 
-    /// Plays the page lines. Call it once, before [`Hosted::serve`].
+    /// Plays the page lines, after `names *` if the host is lenient. Call it once, before [`Hosted::serve`].
     ///
     /// # Errors
     /// - `BadLine`: the line of this number is not a line of a page.
     /// - `Write`, `NoMemory`, `WornOut`: as [`Hosted::serve`].
     pub fn begin<W: Surroundings>(&mut self, world: &mut W) -> Result<(), HostingFault> {
+        if self.manners.is_lenient {
+            self.hold_names(world)?;
+        }
         let mut number: u64 = 0;
         for place in 0..self.page.len() {
             number = number.saturating_add(1);
@@ -83,6 +93,14 @@ impl Hosted {
             }
         }
         Ok(())
+    }
+
+    // Makes all names known, so that sessions can subscribe to those that the profile does not have.
+    fn hold_names<W: Surroundings>(&mut self, world: &mut W) -> Result<(), HostingFault> {
+        match self.host.page_line(ALL_NAMES)? {
+            Some(taken) => self.deliver(world, taken),
+            None => Ok(()),
+        }
     }
 
     // Plays the page line at a place. Returns whether it is one.
@@ -99,8 +117,8 @@ impl Hosted {
         }
     }
 
-    /// Serves the connections of a door until a page, or the end of standard input, ends it. Writes to
-    /// standard error where it listens.
+    /// Serves the connections of a door until a page, or the end of standard input, ends it, or until its
+    /// last session has ended ([`Manners::ends_after_last`]). Writes to standard error where it listens.
     ///
     /// Memory holds the remote end, and for each connection the beginning of one message and at most
     /// `most_waiting` bytes to be sent. If all connections together hold more than `most_held` bytes, the one
@@ -171,6 +189,7 @@ impl Hosted {
         }
         self.read_input(door, world)?;
         self.serve_ready(world)?;
+        self.end_after_last(world)?;
         self.peers.flush();
         Ok(false)
     }

@@ -2,15 +2,16 @@
 //!
 //! A host waits for all its sockets together, by `mio`, and never for a single one. Each message that a step
 //! sends goes to its own connection, whichever connection asked. A connection on the resource `/page` sends
-//! page lines and gets an answer to each. The clock, the record and the standard streams are
-//! [`Surroundings`], so that a test can have its own.
+//! page lines and gets an answer to each. A client can also create and end sessions by calls over HTTP. The
+//! clock, the record and the standard streams are [`Surroundings`], so that a test can have its own.
 //!
 //! # Calls, in order
 //! 1. [`Door::new`] over a listener, and [`Hosted::new`] with [`Manners`] and the page lines of
 //!    [`page_lines`].
 //! 2. [`Hosted::begin`], to play the page lines.
-//! 3. [`Hosted::serve`], which returns when a page, or the end of standard input, ends the host. A test can
-//!    call [`Hosted::listen`] and then [`Hosted::turn`] instead.
+//! 3. [`Hosted::serve`], which returns when a page, or the end of standard input, ends the host, or with
+//!    [`Manners::ends_after_last`] after the last session. A test can call [`Hosted::listen`] and then
+//!    [`Hosted::turn`] instead.
 //!
 //! # Limits
 //! - 64 connections of the remote end are open at once, and as many of pages.
@@ -27,12 +28,16 @@
 #![tactic(auto)]
 
 mod arrivals;
+mod calls;
 mod clients;
 mod clock;
 mod console;
 mod door;
 mod hosting;
 mod manners;
+mod once;
+mod outcomes;
+mod own;
 mod page_file;
 mod pages;
 mod peers;

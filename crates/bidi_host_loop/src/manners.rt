@@ -8,8 +8,10 @@ pub const MOST_CONNECTIONS: usize = 512;
 pub struct Manners {
     /// Ends a session whose last connection is gone without `session.end`.
     pub ends_sessions: bool,
-    /// Leaves out what client libraries send first but the profile refuses.
+    /// Eases commands that ask for more than the profile has, and lets sessions subscribe to all names.
     pub is_lenient: bool,
+    /// Ends the host when its last session has ended and no client is connected, once there was a session.
+    pub ends_after_last: bool,
     /// Reads page lines from standard input as well, and ends the host at its end.
     pub reads_input: bool,
     /// The most bytes that wait to be sent on one connection.

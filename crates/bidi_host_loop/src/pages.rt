@@ -7,6 +7,7 @@ use crate::surroundings::Surroundings;
 use bidi_page::{no_effect, no_line};
 use bidi_recorder::{HostingFault, Recorded};
 use bidi_remote::Sent;
+use bidi_script_lines::Outcome;
 use std::alloc::Global;
 
 /// The beginning of the answer to a line that did nothing.
@@ -157,14 +158,21 @@ impl Hosted {
         line: &str,
         taken: Recorded,
     ) -> Result<Answer, HostingFault> {
-        let answer = if has_no_effect(&taken.sent) {
-            let reason = no_effect(self.alloc, self.host.remote_end(), line)?;
-            Answer::because(self.alloc, NO_EFFECT, reason.as_str())?
-        } else {
-            Answer::Done
-        };
+        let answer = self.answer_for(line, &taken.outcome)?;
         self.deliver(world, taken)?;
         Ok(answer)
+    }
+
+    // The answer to a page's line with this outcome.
+    fn answer_for(&self, line: &str, outcome: &Outcome) -> Result<Answer, HostingFault> {
+        match outcome {
+            Outcome::OfMachine(sent) if has_no_effect(sent) => {
+                let reason = no_effect(self.alloc, self.host.remote_end(), line)?;
+                Answer::because(self.alloc, NO_EFFECT, reason.as_str())
+            }
+            Outcome::NoEffect(reason) => { Answer::because(self.alloc, NO_EFFECT, reason.as_str()) }
+            _ => Ok(Answer::Done),
+        }
     }
 
     // Makes a new browser: closes each connection of the remote end, continues the record in the
@@ -175,12 +183,13 @@ impl Hosted {
         self.sessions.clear();
         self.host.reset()?;
         self.count = 0;
+        self.had_session = false;
         world.next_record()?;
         self.begin(world)
     }
 
     // Begins to end the host: closes each connection of the remote end.
-    fn begin_end<W: Surroundings>(&mut self, world: &mut W) -> Result<(), HostingFault> {
+    pub(crate) fn begin_end<W: Surroundings>(&mut self, world: &mut W) -> Result<(), HostingFault> {
         let end = seconds_from_now(world, LINGER)?;
         self.end = end;
         self.peers.close_all(false, end)?;
@@ -188,7 +197,10 @@ impl Hosted {
     }
 
     // If the host is ending, closes the connections of pages as well, after the answers that wait.
-    fn close_pages_at_end<W: Surroundings>(&mut self, world: &mut W) -> Result<(), HostingFault> {
+    pub(crate) fn close_pages_at_end<W: Surroundings>(
+        &mut self,
+        world: &mut W,
+    ) -> Result<(), HostingFault> {
         if self.end.is_some() {
             let end = seconds_from_now(world, LINGER)?;
             self.peers.close_all(true, end)?;

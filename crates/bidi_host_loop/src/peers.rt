@@ -1,6 +1,8 @@
 //! The connections that are held, each at a place of its own.
 use crate::clock::earlier;
+use crate::own::Own;
 use crate::slot::{Role, Slot, deadline_of, flushed_is_over, is_page, is_past};
+use bidi_classic::Reply;
 use bidi_peer::{Came, ClosingCause, Peer, RequestRefusal};
 use bidi_tree::JsUint;
 use mio::net::TcpStream;
@@ -21,6 +23,8 @@ pub(crate) struct Peers {
     routes: Vec<Route>,
     // The most places.
     most: usize,
+    // The texts of the host's own connection, while it has one.
+    own: Option<Own>,
 }
 
 impl Peers {
@@ -30,6 +34,7 @@ impl Peers {
             slots: Vec::new(alloc),
             routes: Vec::new(alloc),
             most,
+            own: None,
         }
     }
 
@@ -177,6 +182,38 @@ impl Peers {
         Ok(())
     }
 
+    /// Replies to a call.
+    pub(crate) fn reply(&mut self, place: usize, reply: &Reply) -> Result<(), AllocError> {
+        if let Some(Some(slot)) = self.slots.get_mut(place) {
+            slot.role = Role::Leaving;
+            slot.is_answered = true;
+            slot.is_due = true;
+            slot.peer.reply(reply.status, reply.json.as_str())?;
+        }
+        Ok(())
+    }
+
+    /// The port at which the connection at a place was accepted; 0 if there is none.
+    pub(crate) fn port_at(&self, place: usize) -> u16 {
+        match self.slots.get(place) {
+            Some(Some(slot)) => slot.port(),
+            _ => 0,
+        }
+    }
+
+    /// Keeps the texts of the connection with this number, which is the host's own, until [`Peers::kept_texts`].
+    pub(crate) fn keep_texts(&mut self, alloc: Global, conn: JsUint) {
+        self.own = Some(Own::new(alloc, conn));
+    }
+
+    /// The texts that were kept.
+    pub(crate) fn kept_texts(&mut self, alloc: Global) -> Vec<String> {
+        match self.own.take() {
+            Some(own) => own.texts,
+            None => Vec::new(alloc),
+        }
+    }
+
     /// Queues a text for the connection at a place.
     pub(crate) fn send_to(&mut self, place: usize, text: &str) -> Result<(), AllocError> {
         match self.slots.get_mut(place) {
@@ -185,12 +222,38 @@ impl Peers {
         }
     }
 
-    /// Queues a text for the connection with a number, if it is held.
+    /// Queues a text for the connection with a number, if it is held, or keeps it if the connection is the host's own.
     pub(crate) fn send(&mut self, conn: JsUint, text: &str) -> Result<(), AllocError> {
-        match self.place_of(conn) {
-            Some(place) => self.send_to(place, text),
+        if let Some(place) = self.place_of(conn) {
+            return self.send_to(place, text);
+        }
+        match &mut self.own {
+            Some(own) => own.keep(conn, text),
             None => Ok(()),
         }
+    }
+
+    /// Queues a binary message for the connection with a number, if it is held.
+    pub(crate) fn send_bytes(&mut self, conn: JsUint, bytes: &[u8]) -> Result<(), AllocError> {
+        let Some(place) = self.place_of(conn) else {
+            return Ok(());
+        };
+        match self.slots.get_mut(place) {
+            Some(Some(slot)) => slot.send_bytes(bytes),
+            _ => Ok(()),
+        }
+    }
+
+    /// Queues a text for each connection of a page.
+    pub(crate) fn send_to_pages(&mut self, text: &str) -> Result<(), AllocError> {
+        for slot in self.slots.iter_mut() {
+            if let Some(slot) = slot {
+                if slot.role == Role::Page {
+                    slot.send(text)?;
+                }
+            }
+        }
+        Ok(())
     }
 
     // The place of the connection with a number.
@@ -221,6 +284,37 @@ impl Peers {
         match found {
             Some(place) => self.close_at(place, ClosingCause::Done, deadline),
             None => Ok(()),
+        }
+    }
+
+    /// Closes the connection with a number by this code, because a test closes it.
+    pub(crate) fn close_with(
+        &mut self,
+        conn: JsUint,
+        code: u16,
+        deadline: Option<Instant>,
+    ) -> Result<(), AllocError> {
+        let found = self.place_of(conn);
+        self.forget(conn);
+        match found {
+            Some(place) => self.close_at(place, ClosingCause::Code(code), deadline),
+            None => Ok(()),
+        }
+    }
+
+    /// Drops the connection with a number after what is queued, as far as the stream accepts it, without a close
+    /// frame.
+    pub(crate) fn cut(&mut self, conn: JsUint) {
+        let found = self.place_of(conn);
+        self.forget(conn);
+        let Some(place) = found else {
+            return;
+        };
+        if let Some(there) = self.slots.get_mut(place) {
+            if let Some(slot) = there {
+                slot.flush();
+            }
+            *there = None;
         }
     }
 

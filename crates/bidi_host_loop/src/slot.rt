@@ -68,6 +68,14 @@ impl Slot {
         Ok((self.role, came))
     }
 
+    /// The port at which the connection was accepted; 0 if the stream does not tell.
+    pub(crate) fn port(&self) -> u16 {
+        match self.peer.stream().local_addr() {
+            Ok(address) => address.port(),
+            Err(_) => 0,
+        }
+    }
+
     /// Writes what is queued, as far as the stream accepts it.
     pub(crate) fn flush(&mut self) {
         self.peer.flush();
@@ -121,6 +129,16 @@ impl Slot {
         self.is_ready = true;
         self.is_due = true;
         self.peer.close(cause)
+    }
+
+    /// Queues a binary message.
+    pub(crate) fn send_bytes(&mut self, bytes: &[u8]) -> Result<(), AllocError> {
+        self.is_due = true;
+        self.peer.send_bytes(bytes)?;
+        if self.has_failed() {
+            self.is_ready = true;
+        }
+        Ok(())
     }
 
     /// Queues a text.

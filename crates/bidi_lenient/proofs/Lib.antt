@@ -1,3 +1,5 @@
+pub mod IdLemmas
 pub mod KeptLemmas
-pub mod ToldLemmas
+pub mod ReportLemmas
+pub mod SourceLemmas
 pub mod WritableLemmas

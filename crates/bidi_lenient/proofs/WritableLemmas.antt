@@ -1,5 +1,5 @@
 -- If a command can be written, so can the command without the left-out parts.
-use Rattle.std.proofs.Common.{◌≡◌, ℕ, ◌-◌, Bool, true, false, cond, List, codes, Option, Some, None, Ordering, Less, Equal, Greater, refl, arith}
+use Rattle.std.proofs.Common.{◌≡◌, ℕ, ◌-◌, Bool, true, false, cond, List, codes, Option, Some, None, is_some, Ordering, Less, Equal, Greater, refl, arith}
 use Rattle.std.proofs.lemmas.Bool.{or_parts, or_from}
 use Rattle.std.specs.Option.{option_map_or}
 use Rattle.std.specs.Ordering.{match_ordering}
@@ -7,9 +7,12 @@ use Rattle.bidi_tree.specs.Node as tree
 use Rattle.bidi_tree.specs.Node.{Node, null, boolean, whole, odd, text, list, Items, no_items, item, Members, no_members, member, put, get_member}
 use Rattle.bidi_tree.specs.Node.{has_odd, items_have_odd, IsWhole, ItemsAreWhole, MembersAreWhole, IsWritable}
 use Rattle.bidi_tree.proofs.WholeLemmas.{whole-more, whole-head, whole-rest, whole-put}
-use Rattle.bidi_lenient.specs.Names.{is_capability, is_event, is_method}
-use Rattle.bidi_lenient.specs.Eased.{put_in, within, members_kept, request_eased, items_eased, requests_eased, capabilities_eased, new_eased}
-use Rattle.bidi_lenient.specs.Eased.{items_kept, or_session, events_eased, subscribe_eased, eased}
+use Rattle.bidi_lenient.specs.declared.method.Method.{Method}
+use Rattle.bidi_lenient.specs.declared.method.Method.TheVariants.{New, Subscribe, Unsubscribe, Evaluate, CallFunction, Disown, Close}
+use Rattle.bidi_lenient.specs.Members.{put_in, within, members_kept, without}
+use Rattle.bidi_lenient.specs.Names.{is_capability, is_sandbox}
+use Rattle.bidi_lenient.specs.Eased.{request_eased, items_eased, requests_eased, capabilities_eased, new_eased, params_refused}
+use Rattle.bidi_lenient.specs.Eased.{target_eased, source_eased, script_params_eased, script_eased, disown_eased, close_eased, eased_by}
 
 -- ---- a member
 
@@ -49,28 +52,30 @@ Keeps-within k f h (text s) l w = w
 Keeps-within k f h (list ts) l w = w
 Keeps-within k f h (tree.map ms) l w = within_found k f ms l _ h w refl
 
--- ---- `session.new`
+-- ---- members that are left out
 
 one_kept : (b : Bool) (k : List ℕ) (t : Node) (ms : Members) (l : ℕ) → IsWhole t l → MembersAreWhole ms l
     → MembersAreWhole (cond b ms (member k t ms)) l
 one_kept true k t ms l w h = h
 one_kept false k t ms l w h = whole-more k t ms l w h
 
-kept_whole : (ms : Members) (l : ℕ) → MembersAreWhole ms l → MembersAreWhole (members_kept ms) l
-kept_whole no_members l w = w
-kept_whole (member k t ms) l w =
-    one_kept (is_capability k) k t (members_kept ms) l (whole-head k t ms l w) (kept_whole ms l (whole-rest k t ms l w))
+kept_whole : (p : List ℕ → Node → Bool) (ms : Members) (l : ℕ) → MembersAreWhole ms l → MembersAreWhole (members_kept p ms) l
+kept_whole p no_members l w = w
+kept_whole p (member k t ms) l w =
+    one_kept (p k t) k t (members_kept p ms) l (whole-head k t ms l w) (kept_whole p ms l (whole-rest k t ms l w))
 
-Keeps-request : Keeps request_eased
-Keeps-request null l w = w
-Keeps-request (boolean b) l w = w
-Keeps-request (whole z) l w = w
-Keeps-request odd l w = w
-Keeps-request (text s) l w = w
-Keeps-request (list ts) l w = w
-Keeps-request (tree.map ms) l w =
-    let kept = kept_whole ms (l - 1) (w.0, omega (arith, w.1)) in
+Keeps-without : (p : List ℕ → Node → Bool) → Keeps (without p)
+Keeps-without p null l w = w
+Keeps-without p (boolean b) l w = w
+Keeps-without p (whole z) l w = w
+Keeps-without p odd l w = w
+Keeps-without p (text s) l w = w
+Keeps-without p (list ts) l w = w
+Keeps-without p (tree.map ms) l w =
+    let kept = kept_whole p ms (l - 1) (w.0, omega (arith, w.1)) in
     (kept.0, omega (arith, kept.1, w.1))
+
+-- ---- `session.new`
 
 item_more : (t : Node) (ts : Items) (l : ℕ) → IsWhole t l → ItemsAreWhole ts l → ItemsAreWhole (item t ts) l
 item_more t ts l w h = (or_from (has_odd t) (items_have_odd ts) w.0 h.0, omega (arith, w.1, h.1))
@@ -84,7 +89,7 @@ item_rest t ts l w = ((or_parts (has_odd t) (items_have_odd ts) w.0).1, omega (a
 each_whole : (ts : Items) (l : ℕ) → ItemsAreWhole ts l → ItemsAreWhole (items_eased ts) l
 each_whole no_items l w = w
 each_whole (item t ts) l w =
-    item_more (request_eased t) (items_eased ts) l (Keeps-request t l (item_head t ts l w)) (each_whole ts l (item_rest t ts l w))
+    item_more (request_eased t) (items_eased ts) l (Keeps-without is_capability t l (item_head t ts l w)) (each_whole ts l (item_rest t ts l w))
 
 Keeps-requests : Keeps requests_eased
 Keeps-requests null l w = w
@@ -99,46 +104,67 @@ Keeps-requests (tree.map ms) l w = w
 
 Keeps-capabilities : Keeps capabilities_eased
 Keeps-capabilities t l w =
-    Keeps-within (codes "firstMatch") requests_eased Keeps-requests _ l (Keeps-within (codes "alwaysMatch") request_eased Keeps-request t l w)
+    Keeps-within (codes "firstMatch") requests_eased Keeps-requests _ l
+    (Keeps-within (codes "alwaysMatch") request_eased (Keeps-without is_capability) t l w)
 
 Keeps-new : Keeps new_eased
 Keeps-new t l w = Keeps-within (codes "params") _ (Keeps-within (codes "capabilities") capabilities_eased Keeps-capabilities) t l w
 
--- ---- `session.subscribe`
+-- ---- `session.unsubscribe`
 
-one_item_kept : (b : Bool) (t : Node) (ts : Items) (l : ℕ) → IsWhole t l → ItemsAreWhole ts l → ItemsAreWhole (cond b ts (item t ts)) l
-one_item_kept true t ts l w h = h
-one_item_kept false t ts l w h = item_more t ts l w h
+refused_or_kept : (b : Bool) (ms : Members) (l : ℕ) → IsWhole (tree.map ms) l → IsWhole (cond b (tree.map no_members) (tree.map ms)) l
+refused_or_kept true ms l w = (refl, omega (arith, w.1))
+refused_or_kept false ms l w = w
 
-items_whole : (ts : Items) (l : ℕ) → ItemsAreWhole ts l → ItemsAreWhole (items_kept ts) l
-items_whole no_items l w = w
-items_whole (item t ts) l w = one_item_kept (is_event t) t (items_kept ts) l (item_head t ts l w) (items_whole ts l (item_rest t ts l w))
+Keeps-refused : Keeps params_refused
+Keeps-refused null l w = w
+Keeps-refused (boolean b) l w = w
+Keeps-refused (whole z) l w = w
+Keeps-refused odd l w = w
+Keeps-refused (text s) l w = w
+Keeps-refused (list ts) l w = w
+Keeps-refused (tree.map ms) l w = refused_or_kept (is_some (get_member (codes "contexts") ms)) ms l w
 
-or_whole : (ts : Items) (l : ℕ) → ItemsAreWhole ts l → ItemsAreWhole (or_session ts) l
-or_whole no_items l w = (refl, omega arith)
-or_whole (item t ts) l w = w
+-- ---- scripts
 
-Keeps-events : Keeps events_eased
-Keeps-events null l w = w
-Keeps-events (boolean b) l w = w
-Keeps-events (whole z) l w = w
-Keeps-events odd l w = w
-Keeps-events (text s) l w = w
-Keeps-events (list ts) l w =
-    let kept = or_whole (items_kept ts) (l - 1) (items_whole ts (l - 1) (w.0, omega (arith, w.1))) in
-    (kept.0, omega (arith, kept.1, w.1))
-Keeps-events (tree.map ms) l w = w
+Keeps-source : Keeps source_eased
+Keeps-source null l w = w
+Keeps-source (boolean b) l w = w
+Keeps-source (whole z) l w = w
+Keeps-source odd l w = w
+Keeps-source (text s) l w = (refl, omega arith)
+Keeps-source (list ts) l w = w
+Keeps-source (tree.map ms) l w = w
 
-Keeps-subscribe : Keeps subscribe_eased
-Keeps-subscribe t l w = Keeps-within (codes "params") _ (Keeps-within (codes "events") events_eased Keeps-events) t l w
+Keeps-script_params : (k : List ℕ) → Keeps (script_params_eased k)
+Keeps-script_params k t l w =
+    Keeps-within (codes "target") target_eased (Keeps-without is_sandbox) _ l (Keeps-within k source_eased Keeps-source t l w)
+
+Keeps-script : (k : List ℕ) → Keeps (script_eased k)
+Keeps-script k t l w = Keeps-within (codes "params") (script_params_eased k) (Keeps-script_params k) t l w
+
+Keeps-disown : Keeps disown_eased
+Keeps-disown t l w = Keeps-within (codes "params") _ (Keeps-within (codes "target") target_eased (Keeps-without is_sandbox)) t l w
+
+-- ---- `browser.close`
+
+Keeps-close : Keeps close_eased
+Keeps-close null l w = w
+Keeps-close (boolean b) l w = w
+Keeps-close (whole z) l w = w
+Keeps-close odd l w = w
+Keeps-close (text s) l w = w
+Keeps-close (list ts) l w = w
+Keeps-close (tree.map ms) l w = put_whole (codes "method") (text (codes "session.end")) ms l w (refl, omega arith)
 
 -- ---- a command
 
-either_whole : (a b : Bool) (x y z : Node) (l : ℕ) → IsWhole x l → IsWhole y l → IsWhole z l → IsWhole (cond a x (cond b y z)) l
-either_whole true b x y z l u v w = u
-either_whole false true x y z l u v w = v
-either_whole false false x y z l u v w = w
-
--- so is a command without what is left out of it
-pub writable-eased : (t : Node) → IsWritable t → IsWritable (eased t)
-writable-eased t w = either_whole (is_method (codes "session.new") t) (is_method (codes "session.subscribe") t) _ _ _ 100 (Keeps-new t 100 w) (Keeps-subscribe t 100 w) w
+-- so is a command of one of these methods when it is eased
+pub writable-eased : (m : Method) (t : Node) → IsWritable t → IsWritable (eased_by m t)
+writable-eased New t w = Keeps-new t 100 w
+writable-eased Subscribe t w = w
+writable-eased Unsubscribe t w = Keeps-within (codes "params") params_refused Keeps-refused t 100 w
+writable-eased Evaluate t w = Keeps-script (codes "expression") t 100 w
+writable-eased CallFunction t w = Keeps-script (codes "functionDeclaration") t 100 w
+writable-eased Disown t w = Keeps-disown t 100 w
+writable-eased Close t w = Keeps-close t 100 w

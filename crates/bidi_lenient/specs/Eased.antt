@@ -1,54 +1,24 @@
--- Commands without what the profile lacks. After WebDriver BiDi, "The session.new Command" and "The session.subscribe Command".
-use Rattle.std.specs.Prelude.{ℕ, if◌then◌else◌, List, [], ◌∷◌, codes, ◌⊎◌, Option, Some, None, map, option_and_then, string_bytes, ◌≡◌, Result, IfOk}
-use Rattle.std.specs.Option.{option_map_or}
-use Rattle.std.specs.Str.Iter.{HasSubslice}
+-- Commands without what the profile does not have. After WebDriver BiDi, "The session.new Command", "The session.unsubscribe Command", "The script.ContextTarget Type" and "The browser.close Command".
+use Rattle.std.specs.Prelude.{ℕ, Bool, true, false, if◌then◌else◌, List, [], ◌∷◌, codes, Option, Some, None, is_some, unwrap_or, option_map, map, string_bytes}
+use Rattle.std.specs.Option.{option_map_or, option_and_then}
 use Rattle.bidi_tree.specs.Node as tree
-use Rattle.bidi_tree.specs.Node.{Node, null, boolean, whole, odd, text, list, Items, no_items, item, Members, no_members, member, put, get_of, is_whole}
-use Rattle.std.specs.declared.alloc.AllocError.{AllocError}
-use Rattle.bidi_tree.specs.View.{node}
-use Rattle.bidi_tree.specs.declared.tree.Tree.{Tree}
+use Rattle.bidi_tree.specs.Node.{Node, null, boolean, whole, odd, text, list, Items, no_items, item, no_members, get_of, is_whole, most_written_levels}
 use Rattle.bidi_tree.specs.Text.{compact_text, tree_of_text}
-use Rattle.bidi_lenient.specs.Names.{is_capability, is_event, is_method, told}
-use Rattle.bidi_lenient.specs.declared.easing.Eased.{Eased}
 use Rattle.bidi_shape.specs.Limits.{most_bytes}
-use Rattle.bidi_tree.specs.Node.{most_written_levels}
-
--- ---- members
-
--- the object with this tree at this name; any other tree is left as it is
-abbrev pub put_in : List ℕ → Node → Node → Node
-put_in k m null = null
-put_in k m (boolean b) = boolean b
-put_in k m (whole z) = whole z
-put_in k m odd = odd
-put_in k m (text s) = text s
-put_in k m (list ts) = list ts
-put_in k m (tree.map ms) = tree.map (put k m ms)
-
--- the tree with f applied to its member of this name, if it has one
-abbrev pub within : List ℕ → (Node → Node) → Node → Node
-within k f t = option_map_or (λ m. put_in k (f m) t) (get_of k t) t
-
--- a call with the relation R returns f of its tree, unless an allocation fails
-abbrev pub Gives : (Tree → Result Tree AllocError → Type 0) → (Node → Node) → Type 0
-Gives R f = (t : Tree) (r : Result Tree AllocError) → R t r → IfOk r (λ u. node u ≡ f (node t))
+use Rattle.bidi_lenient.specs.declared.easing.Eased.{Eased}
+use Rattle.bidi_lenient.specs.declared.method.Method.{Method}
+use Rattle.bidi_lenient.specs.declared.method.Method.TheVariants.{New, Subscribe, Unsubscribe, Evaluate, CallFunction, Disown, Close}
+use Rattle.bidi_lenient.specs.Members.{put_in, within, without}
+use Rattle.bidi_lenient.specs.Methods.{method_in}
+use Rattle.bidi_lenient.specs.Names.{is_capability, is_sandbox}
+use Rattle.bidi_lenient.specs.Reports.{told_by}
+use Rattle.bidi_lenient.specs.Source.{before_source}
 
 -- ---- `session.new`
 
--- the members without the capabilities that are left out
-abbrev pub members_kept : Members → Members
-members_kept no_members = no_members
-members_kept (member k t ms) = if is_capability k then members_kept ms else member k t (members_kept ms)
-
 -- a request for capabilities without those that are left out
 abbrev pub request_eased : Node → Node
-request_eased null = null
-request_eased (boolean b) = boolean b
-request_eased (whole z) = whole z
-request_eased odd = odd
-request_eased (text s) = text s
-request_eased (list ts) = list ts
-request_eased (tree.map ms) = tree.map (members_kept ms)
+request_eased t = without is_capability t
 
 -- some requests without the capabilities that are left out
 abbrev pub items_eased : Items → Items
@@ -73,59 +43,97 @@ capabilities_eased t = within (codes "firstMatch") requests_eased (within (codes
 abbrev pub new_eased : Node → Node
 new_eased t = within (codes "params") (within (codes "capabilities") capabilities_eased) t
 
--- ---- `session.subscribe`
+-- ---- `session.unsubscribe`
 
--- the names of a subscription without those that are left out
-abbrev pub items_kept : Items → Items
-items_kept no_items = no_items
-items_kept (item t ts) = if is_event t then items_kept ts else item t (items_kept ts)
+-- params with contexts become an empty object, which the remote end refuses
+abbrev pub params_refused : Node → Node
+params_refused t = if is_some (get_of (codes "contexts") t) then tree.map no_members else t
 
--- the names of a subscription, or the module `session` if none is left
-abbrev pub or_session : Items → Items
-or_session no_items = item (text (codes "session")) no_items
-or_session (item t ts) = item t ts
+-- a `session.unsubscribe` that is refused if it has contexts
+abbrev pub unsubscribe_eased : Node → Node
+unsubscribe_eased t = within (codes "params") params_refused t
 
--- the events of a subscription without those that are left out
-abbrev pub events_eased : Node → Node
-events_eased null = null
-events_eased (boolean b) = boolean b
-events_eased (whole z) = whole z
-events_eased odd = odd
-events_eased (text s) = text s
-events_eased (list ts) = list (or_session (items_kept ts))
-events_eased (tree.map ms) = tree.map ms
+-- ---- scripts
 
--- a `session.subscribe` without the events that are left out
-abbrev pub subscribe_eased : Node → Node
-subscribe_eased t = within (codes "params") (within (codes "events") events_eased) t
+-- a target without the sandbox
+abbrev pub target_eased : Node → Node
+target_eased t = without is_sandbox t
+
+-- a script without the source URL in its last line
+abbrev pub source_eased : Node → Node
+source_eased null = null
+source_eased (boolean b) = boolean b
+source_eased (whole z) = whole z
+source_eased odd = odd
+source_eased (text s) = text (unwrap_or (before_source s) s)
+source_eased (list ts) = list ts
+source_eased (tree.map ms) = tree.map ms
+
+-- the params of a command that runs the script at this name, without source URL and sandbox
+abbrev pub script_params_eased : List ℕ → Node → Node
+script_params_eased k t = within (codes "target") target_eased (within k source_eased t)
+
+-- a command that runs the script at this name of the params, without source URL and sandbox
+abbrev pub script_eased : List ℕ → Node → Node
+script_eased k t = within (codes "params") (script_params_eased k) t
+
+-- a `script.disown` without the sandbox
+abbrev pub disown_eased : Node → Node
+disown_eased t = within (codes "params") (within (codes "target") target_eased) t
+
+-- ---- `browser.close`
+
+-- a `browser.close` as a `session.end`
+abbrev pub close_eased : Node → Node
+close_eased t = put_in (codes "method") (text (codes "session.end")) t
 
 -- ---- a command
 
--- a command without the parts that the profile does not have
--- example: `{"events":["network"]}` becomes `{"events":["session"]}`
+-- a command of this method without what the profile does not have; the names of a subscription stay
+abbrev pub eased_by : Method → Node → Node
+eased_by New t = new_eased t
+eased_by Subscribe t = t
+eased_by Unsubscribe t = unsubscribe_eased t
+eased_by Evaluate t = script_eased (codes "expression") t
+eased_by CallFunction t = script_eased (codes "functionDeclaration") t
+eased_by Disown t = disown_eased t
+eased_by Close t = close_eased t
+
+-- a command without what the profile does not have
 abbrev pub eased : Node → Node
-eased t =
-    if is_method (codes "session.new") t then new_eased t
-    else if is_method (codes "session.subscribe") t then subscribe_eased t
-    else t
+eased t = option_map_or (λ m. eased_by m t) (method_in t) t
 
--- the text together with the names that were left out, or None if there are none
-abbrev pub with_names : List ℕ → List (List ℕ) → Option (List ℕ × List (List ℕ))
-with_names s [] = None
-with_names s (name ∷ names) = Some (s, name ∷ names)
+-- the command of this method gets another text when it is eased; a subscription keeps its text
+abbrev pub is_changed : Method → Bool
+is_changed New = true
+is_changed Subscribe = false
+is_changed Unsubscribe = true
+is_changed Evaluate = true
+is_changed CallFunction = true
+is_changed Disown = true
+is_changed Close = true
 
--- the compact text of an eased command, with the names that were left out; None if there are none, or if the command cannot be written
-abbrev pub eased_command : Node → Option (List ℕ × List (List ℕ))
-eased_command t = if is_whole t most_written_levels then with_names (compact_text (eased t)) (told t) else None
+-- the text that a command of this method gets when it is eased, or None if it keeps its text
+abbrev pub text_by : Method → Node → Option (List ℕ)
+text_by m t = if is_changed m then Some (compact_text (eased_by m t)) else None
 
--- the eased command of a JSON text of at most 1,048,576 bytes, with the names that were left out; None for any other text
-abbrev pub eased_text : List ℕ → Option (List ℕ × List (List ℕ))
+-- a text, if it is another one, together with the reports; None if there are no reports
+abbrev pub with_reports : Option (List ℕ) → List (List ℕ) → Option (Option (List ℕ) × List (List ℕ))
+with_reports s [] = None
+with_reports s (report ∷ reports) = Some (s, report ∷ reports)
+
+-- the eased text of a command of this method with the reports, or None if there are none
+abbrev pub eased_with : Method → Node → Option (Option (List ℕ) × List (List ℕ))
+eased_with m t = with_reports (text_by m t) (told_by m t)
+
+-- the eased text of a command with the reports; None if there are none, or if the command cannot be written
+abbrev pub eased_command : Node → Option (Option (List ℕ) × List (List ℕ))
+eased_command t = if is_whole t most_written_levels then option_and_then (λ m. eased_with m t) (method_in t) else None
+
+-- the eased text of a JSON text of at most 1,048,576 bytes, with the reports; None for any other text
+abbrev pub eased_text : List ℕ → Option (Option (List ℕ) × List (List ℕ))
 eased_text s = option_and_then eased_command (tree_of_text (Some most_bytes) s)
 
--- the name of one of the two commands occurs in the text
-abbrev pub IsAbout : List ℕ → Type 0
-IsAbout s = HasSubslice s (codes "session.new") ⊎ HasSubslice s (codes "session.subscribe")
-
--- an eased text of the code: its bytes, and the names that were left out
-abbrev pub seen : Eased → List ℕ × List (List ℕ)
-seen e = (string_bytes e.text, map string_bytes e.left_out.items)
+-- an eased text of the code: its bytes, if it is another one, and the reports
+abbrev pub seen : Eased → Option (List ℕ) × List (List ℕ)
+seen e = (option_map string_bytes e.text, map string_bytes e.reports.items)

@@ -1,142 +1,123 @@
--- The names that are left out of a command, in order. After WebDriver BiDi, "The session.new Command" and "The session.subscribe Command".
-use Rattle.std.specs.Prelude.{ℕ, Bool, false, if◌then◌else◌, List, [], ◌∷◌, ◌++◌, codes, bytes_eq, Option, Some, None, is_some}
-use Rattle.std.specs.List.{list_any}
-use Rattle.std.specs.Option.{option_map_or}
-use Rattle.bidi_tree.specs.Kind.{text_in, list_in, members_in}
-use Rattle.bidi_tree.specs.Node.{Node, Items, no_items, item, Members, no_members, member, get_of}
-
--- ---- which names are left out
-
--- the capabilities of the draft that are left out, whatever their value
-unfoldable pub capabilities : List (List ℕ)
-capabilities =
-    codes "acceptInsecureCerts"
-    ∷ codes "browserName"
-    ∷ codes "browserVersion"
-    ∷ codes "pageLoadStrategy"
-    ∷ codes "platformName"
-    ∷ codes "proxy"
-    ∷ codes "setWindowRect"
-    ∷ codes "timeouts"
-    ∷ codes "unhandledPromptBehavior"
-    ∷ codes "webSocketUrl"
-    ∷ []
-
--- the modules of the draft that the profile does not have
-unfoldable pub modules : List (List ℕ)
-modules =
-    codes "emulation"
-    ∷ codes "input"
-    ∷ codes "network"
-    ∷ codes "storage"
-    ∷ codes "webExtension"
-    ∷ []
-
--- the events of the draft that the profile does not have
-unfoldable pub events : List (List ℕ)
-events =
-    codes "browsingContext.downloadEnd"
-    ∷ codes "browsingContext.downloadWillBegin"
-    ∷ codes "browsingContext.fragmentNavigated"
-    ∷ codes "browsingContext.historyUpdated"
-    ∷ codes "browsingContext.navigationAborted"
-    ∷ codes "browsingContext.navigationCommitted"
-    ∷ codes "browsingContext.navigationFailed"
-    ∷ codes "browsingContext.userPromptClosed"
-    ∷ codes "browsingContext.userPromptOpened"
-    ∷ codes "input.fileDialogOpened"
-    ∷ codes "network.authRequired"
-    ∷ codes "network.beforeRequestSent"
-    ∷ codes "network.fetchError"
-    ∷ codes "network.responseCompleted"
-    ∷ codes "network.responseStarted"
-    ∷ codes "script.message"
-    ∷ []
+-- What the profile does not have, by name. After WebDriver BiDi, "The session.new Command", "The session.subscribe Command" and "The script.ContextTarget Type".
+use Rattle.std.specs.Prelude.{ℕ, ◌==◌, Bool, false, not, ◌&&◌, ◌||◌, nat_le, if◌then◌else◌, List, [], ◌∷◌, length, codes, bytes_eq, Option, Some, None}
+use Rattle.std.specs.List.{list_any, list_all}
+use Rattle.std.specs.Char.{is_ascii_alphanumeric}
+use Rattle.std.specs.Option.{option_and_then}
+use Rattle.bidi_tree.specs.Node as tree
+use Rattle.bidi_tree.specs.Node.{Node, null, boolean, whole, odd, text, list}
+use Rattle.bidi_lenient.specs.Methods.{text_at}
 
 -- the name is one of these
 abbrev pub is_among : List (List ℕ) → List ℕ → Bool
 is_among names name = list_any (bytes_eq name) names
 
--- the name is that of a capability that is left out
-abbrev pub is_capability : List ℕ → Bool
-is_capability name = is_among capabilities name
+-- ---- capabilities
 
--- whether a name of a subscription that is left out is a module or an event; None for other names
-abbrev pub kind_of : List ℕ → Option (List ℕ)
-kind_of name =
-    if is_among modules name then Some (codes "module")
-    else if is_among events name then Some (codes "event")
-    else None
+-- the capabilities whose value is a Boolean
+unfoldable pub boolean_capabilities : List (List ℕ)
+boolean_capabilities = codes "acceptInsecureCerts" ∷ codes "setWindowRect" ∷ codes "strictFileInteractability" ∷ codes "webSocketUrl" ∷ []
 
--- the item of a subscription's events is left out
-abbrev pub is_event : Node → Bool
-is_event t = option_map_or (λ name. is_some (kind_of name)) (text_in t) false
+-- the capabilities whose value is a string
+unfoldable pub string_capabilities : List (List ℕ)
+string_capabilities =
+    codes "browserName"
+    ∷ codes "browserVersion"
+    ∷ codes "pageLoadStrategy"
+    ∷ codes "platformName"
+    ∷ codes "unhandledPromptBehavior"
+    ∷ []
 
--- ---- how left-out names are reported
+-- the capabilities whose value is an object; that of the last may also be a string
+unfoldable pub object_capabilities : List (List ℕ)
+object_capabilities = codes "proxy" ∷ codes "timeouts" ∷ codes "unhandledPromptBehavior" ∷ []
 
--- the report on the member of this name, or nothing if there is no such member
-abbrev pub told_at : List ℕ → (Node → List (List ℕ)) → Node → List (List ℕ)
-told_at k f t = option_map_or f (get_of k t) []
+-- the name is that of a capability whose value is a Boolean
+abbrev pub is_boolean_capability : List ℕ → Bool
+is_boolean_capability name = is_among boolean_capabilities name
 
--- `capability NAME` for each member whose name is left out
-abbrev pub members_told : Members → List (List ℕ)
-members_told no_members = []
-members_told (member k t ms) = if is_capability k then (codes "capability " ++ k) ∷ members_told ms else members_told ms
+-- the name is that of a capability whose value is a string
+abbrev pub is_string_capability : List ℕ → Bool
+is_string_capability name = is_among string_capabilities name
 
--- the report on one request for capabilities
-abbrev pub request_told : Node → List (List ℕ)
-request_told t = members_told (members_in t)
+-- the name is that of a capability whose value is an object
+abbrev pub is_object_capability : List ℕ → Bool
+is_object_capability name = is_among object_capabilities name
 
--- the reports on some requests, one after the other
-abbrev pub items_told : Items → List (List ℕ)
-items_told no_items = []
-items_told (item t ts) = request_told t ++ items_told ts
+-- the capability of this name is left out with this value, which is of its kind
+-- example: `"webSocketUrl":true` is left out, `"webSocketUrl":"x"` is not
+abbrev pub is_capability : List ℕ → Node → Bool
+is_capability name null = false
+is_capability name (boolean b) = is_boolean_capability name
+is_capability name (whole z) = false
+is_capability name odd = false
+is_capability name (text s) = is_string_capability name
+is_capability name (list ts) = false
+is_capability name (tree.map ms) = is_object_capability name
 
--- the report on an array of requests
-abbrev pub requests_told : Node → List (List ℕ)
-requests_told t = option_map_or items_told (list_in t) []
+-- ---- names of modules and events
 
--- the report on the capabilities of a command: first `alwaysMatch`, then `firstMatch`
-abbrev pub capabilities_told : Node → List (List ℕ)
-capabilities_told t = told_at (codes "alwaysMatch") request_told t ++ told_at (codes "firstMatch") requests_told t
+-- the modules and events of the profile
+unfoldable pub profile : List (List ℕ)
+profile =
+    codes "browser"
+    ∷ codes "browsingContext"
+    ∷ codes "browsingContext.contextCreated"
+    ∷ codes "browsingContext.contextDestroyed"
+    ∷ codes "browsingContext.domContentLoaded"
+    ∷ codes "browsingContext.load"
+    ∷ codes "browsingContext.navigationStarted"
+    ∷ codes "log"
+    ∷ codes "log.entryAdded"
+    ∷ codes "script"
+    ∷ codes "script.realmCreated"
+    ∷ codes "script.realmDestroyed"
+    ∷ codes "session"
+    ∷ []
 
--- the report on a `session.new`
-abbrev pub new_told : Node → List (List ℕ)
-new_told t = told_at (codes "params") (told_at (codes "capabilities") capabilities_told) t
+-- the profile has a module or an event of this name
+abbrev pub is_of_profile : List ℕ → Bool
+is_of_profile name = is_among profile name
 
--- `module NAME` or `event NAME` for a name that is left out
-abbrev pub name_told : Option (List ℕ) → List ℕ → List (List ℕ)
-name_told None name = []
-name_told (Some kind) name = (kind ++ codes " " ++ name) ∷ []
+-- the byte is a letter, a digit, `.`, `:`, `-` or `_`
+abbrev pub is_name_byte : ℕ → Bool
+is_name_byte b = is_ascii_alphanumeric b || (b == 46) || (b == 58) || (b == 45) || (b == 95)
 
--- the report on one item of a subscription's events
-abbrev pub event_told : Node → List (List ℕ)
-event_told t = option_map_or (λ name. name_told (kind_of name) name) (text_in t) []
+-- the text has 1 to 255 bytes
+abbrev pub is_of_name_length : List ℕ → Bool
+is_of_name_length s = not (length s == 0) && nat_le (length s) 255
 
--- the reports on some items, one after the other
-abbrev pub each_told : Items → List (List ℕ)
-each_told no_items = []
-each_told (item t ts) = event_told t ++ each_told ts
+-- the text is a name: 1 to 255 such bytes
+abbrev pub is_name : List ℕ → Bool
+is_name s = is_of_name_length s && list_all is_name_byte s
 
--- the report on a subscription's events
-abbrev pub events_told : Node → List (List ℕ)
-events_told t = option_map_or each_told (list_in t) []
+-- the text is a name that the profile does not have
+abbrev pub is_held : List ℕ → Bool
+is_held s = is_name s && not (is_of_profile s)
 
--- the report on a `session.subscribe`
-abbrev pub subscribe_told : Node → List (List ℕ)
-subscribe_told t = told_at (codes "params") (told_at (codes "events") events_told) t
+-- the text has a dot
+abbrev pub has_dot : List ℕ → Bool
+has_dot s = list_any (λ b. b == 46) s
 
--- the tree is this string
-abbrev pub is_text : List ℕ → Node → Bool
-is_text name t = option_map_or (λ s. bytes_eq s name) (text_in t) false
+-- what a name is that of: an event if it has a dot, else a module
+abbrev pub kind_of : List ℕ → List ℕ
+kind_of s = if has_dot s then codes "event" else codes "module"
 
--- the method of a command is this one
-abbrev pub is_method : List ℕ → Node → Bool
-is_method name t = option_map_or (is_text name) (get_of (codes "method") t) false
+-- ---- sandboxes
 
--- the report on a command; nothing for a command other than these two
-abbrev pub told : Node → List (List ℕ)
-told t =
-    if is_method (codes "session.new") t then new_told t
-    else if is_method (codes "session.subscribe") t then subscribe_told t
-    else []
+-- the member of a target with this name and this value is a sandbox that is left out: a string that is not empty
+abbrev pub is_sandbox : List ℕ → Node → Bool
+is_sandbox name null = false
+is_sandbox name (boolean b) = false
+is_sandbox name (whole z) = false
+is_sandbox name odd = false
+is_sandbox name (text s) = bytes_eq name (codes "sandbox") && not (length s == 0)
+is_sandbox name (list ts) = false
+is_sandbox name (tree.map ms) = false
+
+-- the text, or None if it is empty
+abbrev pub non_empty : List ℕ → Option (List ℕ)
+non_empty s = if length s == 0 then None else Some s
+
+-- the name of the sandbox of a target, or None if it has none that is left out
+abbrev pub sandbox_in : Node → Option (List ℕ)
+sandbox_in t = option_and_then non_empty (text_at (codes "sandbox") t)

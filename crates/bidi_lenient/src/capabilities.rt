@@ -1,33 +1,69 @@
 //! Leaving capabilities out of `session.new`.
 ghost use Rattle.std.specs.Prelude.{◌≡◌, ◌++◌, IfOk, OnOk, codes, map, string_bytes};
 ghost use Rattle.bidi_tree.specs.View.{node, items_node, members_node};
-ghost use Rattle.bidi_lenient.specs.Names.{is_capability, request_told, items_told, capabilities_told, new_told};
-ghost use Rattle.bidi_lenient.specs.Eased.{within, members_kept, request_eased, requests_eased, capabilities_eased, new_eased};
+ghost use Rattle.bidi_lenient.specs.Names.{is_boolean_capability, is_string_capability, is_object_capability, is_capability};
+ghost use Rattle.bidi_lenient.specs.Members.{members_kept, within};
+ghost use Rattle.bidi_lenient.specs.Reports.{request_told, items_told, capabilities_told, new_told};
+ghost use Rattle.bidi_lenient.specs.Eased.{request_eased, requests_eased, capabilities_eased, new_eased};
 
 use crate::members::{is_among, within};
 use bidi_tree::{Members, Tree};
 use std::alloc::{AllocError, Global};
 
-/// The capabilities that are left out, whatever their value.
-const LEFT_OUT: &[&str] = &[
+/// The capabilities that are left out if their value is a Boolean.
+const BOOLEANS: &[&str] = &[
     "acceptInsecureCerts",
+    "setWindowRect",
+    "strictFileInteractability",
+    "webSocketUrl",
+];
+
+/// The capabilities that are left out if their value is a string.
+const STRINGS: &[&str] = &[
     "browserName",
     "browserVersion",
     "pageLoadStrategy",
     "platformName",
-    "proxy",
-    "setWindowRect",
-    "timeouts",
     "unhandledPromptBehavior",
-    "webSocketUrl",
 ];
 
-// Whether the capability of this name is left out.
-#[tactic(auto, unfolding(crate::specs::Names::capabilities))]
-fn is_left_out(name: &str) -> bool
-    ensures { result ≡ is_capability name.now }
+/// The capabilities that are left out if their value is an object.
+const OBJECTS: &[&str] = &["proxy", "timeouts", "unhandledPromptBehavior"];
+
+// Whether the value of the capability of this name is to be a Boolean.
+#[tactic(auto, unfolding(crate::specs::Names::boolean_capabilities))]
+fn is_boolean(name: &str) -> bool
+    ensures { result ≡ is_boolean_capability name.now }
 {
-    is_among(LEFT_OUT, name)
+    is_among(BOOLEANS, name)
+}
+
+// Whether it may be a string.
+#[tactic(auto, unfolding(crate::specs::Names::string_capabilities))]
+fn is_string(name: &str) -> bool
+    ensures { result ≡ is_string_capability name.now }
+{
+    is_among(STRINGS, name)
+}
+
+// Whether it may be an object.
+#[tactic(auto, unfolding(crate::specs::Names::object_capabilities))]
+fn is_object(name: &str) -> bool
+    ensures { result ≡ is_object_capability name.now }
+{
+    is_among(OBJECTS, name)
+}
+
+// Whether the capability of this name with this value is left out.
+fn is_left_out(name: &str, value: &Tree) -> bool
+    ensures { result ≡ is_capability name.now (node value.now) }
+{
+    match value {
+        Tree::Bool(_) => is_boolean(name),
+        Tree::Text(_) => is_string(name),
+        Tree::Map(_) => is_object(name),
+        _ => false,
+    }
 }
 
 // Adds the report on a `session.new`: on `alwaysMatch`, and then on each item of `firstMatch`.
@@ -85,9 +121,9 @@ fn tell_request(alloc: Global, request: &Tree, told: &mut Vec<String>) -> Result
     let Tree::Map(members) = request else {
         return Ok(());
     };
-    for (name, _) in members.iter() {
-        if is_left_out(name.as_str()) {
-            told.push(format!(in alloc; "capability {name}")?)?;
+    for (name, value) in members.iter() {
+        if is_left_out(name.as_str(), value) {
+            told.push(format!(in alloc; "left out capability {name}")?)?;
         }
     }
     Ok(())
@@ -160,7 +196,7 @@ fn ease_request(request: &Tree) -> Result<Tree, AllocError>
 
 // Removes the members that are left out.
 fn keep_members(members: &mut Members)
-    ensures { members_node members.new.entries ≡ members_kept (members_node members.old.entries) }
+    ensures { members_node members.new.entries ≡ members_kept is_capability (members_node members.old.entries) }
 {
-    members.retain(|name, _| !is_left_out(name.as_str()));
+    members.retain(|name, value| !is_left_out(name.as_str(), value));
 }

@@ -4,7 +4,7 @@ ghost use Rattle.std.specs.List.{list_any};
 ghost use Rattle.std.specs.Fn.{FnOnceReturnsAt};
 ghost use Rattle.bidi_tree.specs.Node.{Node};
 ghost use Rattle.bidi_tree.specs.View.{node};
-ghost use Rattle.bidi_lenient.specs.Eased.{put_in, within, Gives};
+ghost use Rattle.bidi_lenient.specs.Members.{put_in, within, Gives};
 
 use bidi_tree::{Tree, put_member};
 use std::alloc::{AllocError, Global};
@@ -38,7 +38,12 @@ pub(crate) fn within<F: FnOnce(&Tree) -> Result<Tree, AllocError>>(
 }
 
 // Copies the tree, with another member of that name if it is an object.
-fn with_member(alloc: Global, tree: &Tree, name: &str, member: Tree) -> Result<Tree, AllocError>
+pub(crate) fn with_member(
+    alloc: Global,
+    tree: &Tree,
+    name: &str,
+    member: Tree,
+) -> Result<Tree, AllocError>
     ensures { IfOk result (λ t. node t ≡ put_in name.now (node member) (node tree.now)) }
 {
     match tree.clone()? {

@@ -73,6 +73,17 @@ fn usage(word: &str) -> Option<&'static str> {
         "unframe" => Some("unframe CONTEXT"),
         "log" => Some("log CONTEXT LEVEL TEXT"),
         "value" => Some("value ROW"),
+        "answer" => Some("answer ROW"),
+        "hold" => Some("hold ROW"),
+        "release" => Some("release N or release N ROW"),
+        "unanswer" => Some("unanswer METHOD"),
+        "emit" => Some("emit EVENT"),
+        "on" => Some("on METHOD [EVENT..]"),
+        "names" => Some("names NAME.."),
+        "send" => Some("send C TEXT"),
+        "bytes" => Some("bytes C HEX"),
+        "cut" => Some("cut C"),
+        "close" => Some("close C CODE"),
         _ => None,
     }
 }
@@ -82,7 +93,7 @@ fn unknown(alloc: Global, word: &str) -> Result<String, AllocError> {
     wrong(
         alloc,
         word,
-        "none of at, frame, unframe, log, value, reset and end",
+        "none of at, frame, unframe, log, value, answer, hold, release, unanswer, emit, on, names, send, bytes, cut, close, reset and end",
     )
 }
 

@@ -24,20 +24,26 @@ kept-self None = tt
 kept-self (Some xs) = refl
 
 module _ {S : Type 0} (remaining contents : S → Option (List ℕ)) where
-  -- it receives nothing
-  pub receives_nothing : (p : Peer S) → Receives remaining p p
-  receives_nothing p = record {
-    state = refl;
-    end = refl;
-    context = refl;
-    bound = refl;
-    outbox = refl;
-    reads = reads_nothing remaining (untaken p.inbox) (untaken p.inbox) p.stream p.stream refl (kept-self (remaining p.stream));
+  -- it receives nothing, and only how many bytes a call needs may have changed
+  pub receives_same : (a b : Peer S) → b.state ≡ a.state → b.end ≡ a.end → b.context ≡ a.context → b.most_waiting ≡ a.most_waiting → unwritten b.outbox ≡ unwritten a.outbox
+      → untaken b.inbox ≡ untaken a.inbox → b.stream ≡ a.stream → Receives remaining a b
+  receives_same a b state end context bound outbox inbox stream = record {
+    state = state;
+    end = end;
+    context = context;
+    bound = bound;
+    outbox = outbox;
+    reads = reads_nothing remaining (untaken a.inbox) (untaken b.inbox) a.stream b.stream inbox
+        (subst (λ x. Keeps (remaining a.stream) (remaining x)) (sym stream) (kept-self (remaining a.stream)));
   }
 
+  -- it receives nothing
+  pub receives_nothing : (p : Peer S) → Receives remaining p p
+  receives_nothing p = receives_same p p refl refl refl refl refl refl refl
+
   -- nothing is heard, and what waited is as it was
-  pub nothing_heard : (a b : Peer S) → Receives remaining a b → untaken b.inbox ≡ untaken a.inbox → IsHeard remaining contents a b telling.Nothing
-  nothing_heard a b x same = (x, subst IsUnfinished (sym same))
+  pub nothing_heard : (a b : Peer S) → Receives remaining a b → b.least ≡ a.least → untaken b.inbox ≡ untaken a.inbox → IsHeard remaining contents a b telling.Nothing
+  nothing_heard a b x least same = (x, λ was. subst (IsUnfinished b.least) (sym same) (subst (λ n. IsUnfinished n (untaken a.inbox)) (sym least) was))
 
   -- it receives once more
   pub receives_then : (a b c : Peer S) → Receives remaining a b → Receives remaining b c → Receives remaining a c
@@ -65,6 +71,11 @@ module _ {S : Type 0} (remaining contents : S → Option (List ℕ)) where
   asked-then a b c target x h =
       (h.0, h.1, hears-then (asked.Socket target h.0 h.1) a b c.stream x h.2, h.3, h.4 ∙ ap (drop h.1) (joined a b x h.2.bytes))
 
+  calls-then : (a b c : Peer S) (call : _) → Receives remaining a b → IsHeard remaining contents b c (telling.Calls call) → IsHeard remaining contents a c (telling.Calls call)
+  unfolding hears-then
+  calls-then a b c call x h =
+      (h.0, hears-then (asked.Call call h.0) a b c.stream x h.1, h.2, h.3 ∙ ap (drop h.0) (joined a b x h.1.bytes))
+
   ended-then : (a b c : Peer S) → Receives remaining a b → IsHeard remaining contents b c telling.Ended → IsHeard remaining contents a c telling.Ended
   ended-then a b c x (inl failed) = inl failed
   ended-then a b c x (inr (inl ended)) = inr (inl ended)
@@ -76,11 +87,12 @@ module _ {S : Type 0} (remaining contents : S → Option (List ℕ)) where
   }))
 
   -- what is heard after some more bytes came
-  pub heard_then : (a b c : Peer S) (told : Came) → Receives remaining a b → (IsUnfinished (untaken a.inbox) → IsUnfinished (untaken b.inbox)) → IsHeard remaining contents b c told
+  pub heard_then : (a b c : Peer S) (told : Came) → Receives remaining a b → (IsUnfinished a.least (untaken a.inbox) → IsUnfinished b.least (untaken b.inbox)) → IsHeard remaining contents b c told
       → IsHeard remaining contents a c told
   heard_then a b c telling.Nothing x waits h = (receives_then a b c x h.0, λ was. h.1 (waits was))
   heard_then a b c telling.More x waits h = absurd h
   heard_then a b c (telling.Asks target) x waits h = asked-then a b c target x h
+  heard_then a b c (telling.Calls call) x waits h = calls-then a b c call x h
   heard_then a b c (telling.Text t) x waits h = absurd h
   heard_then a b c telling.NotText x waits h = absurd h
   heard_then a b c telling.Ended x waits h = ended-then a b c x h
@@ -90,6 +102,7 @@ module _ {S : Type 0} (remaining contents : S → Option (List ℕ)) where
   heard_behind a b c telling.Nothing x speaks h = absurd (speaks refl)
   heard_behind a b c telling.More x speaks h = absurd h
   heard_behind a b c (telling.Asks target) x speaks h = asked-then a b c target x h
+  heard_behind a b c (telling.Calls call) x speaks h = calls-then a b c call x h
   heard_behind a b c (telling.Text t) x speaks h = absurd h
   heard_behind a b c telling.NotText x speaks h = absurd h
   heard_behind a b c telling.Ended x speaks h = ended-then a b c x h
@@ -108,6 +121,14 @@ module _ {S : Type 0} (remaining contents : S → Option (List ℕ)) where
   unfolding hears-now
   request_heard a left s stands target accept n asks stream waits rest =
       (accept, n, hears-now (asked.Socket target accept n) a s stream asks, waits, rest ∙ ap (drop n) (sym (append-nil (untaken a.inbox))))
+
+  -- a call that is told, with what is left of the bytes
+  pub call_heard : (a : Peer S) (left : List ℕ) (s : S) (stands : State) (call : _) (n : ℕ) → IsAskedBy (untaken a.inbox) (asked.Call call n)
+      → s ≡ a.stream → stands ≡ standing.Called → left ≡ drop n (untaken a.inbox)
+      → (m : ℕ) × (heard : Hears remaining (asked.Call call m) a s) × (stands ≡ standing.Called) × (left ≡ drop m (untaken a.inbox ++ heard.bytes))
+  unfolding hears-now
+  call_heard a left s stands call n asks stream waits rest =
+      (n, hears-now (asked.Call call n) a s stream asks, waits, rest ∙ ap (drop n) (sym (append-nil (untaken a.inbox))))
 
   -- a request that is answered
   pub answer_heard : (a m b : Peer S) (told : Came) (answer : Answer) → told ≡ telling.Ended → IsAskedBy (untaken a.inbox) (asked.Other answer)

@@ -19,13 +19,14 @@ use Rattle.bidi_peer.specs.declared.peer.Came.{Came}
 use Rattle.bidi_peer.specs.declared.peer.Came.TheVariants as telling
 use Rattle.bidi_peer.specs.declared.standing.Peer.{Peer}
 use Rattle.bidi_peer.specs.declared.standing.State.{State}
-use Rattle.bidi_peer.specs.declared.standing.State.TheVariants.{Asked, Closing, Done, Failed, Head, Leaving, Open}
+use Rattle.bidi_peer.specs.declared.standing.State.TheVariants.{Asked, Called, Closing, Done, Failed, Head, Leaving, Open}
 use Rattle.bidi_peer.proofs.TakingLemmas.{Outcome, not_bad, not_part, shown_binary, shown_close, shown_text, silent_control, silent_fragment}
 
 -- after a failure of the stream nothing more is read
 failed-ended : (s : State) → HasFailed s → HasEnded s
 failed-ended Head failed = absurd failed
 failed-ended (Asked key) failed = absurd failed
+failed-ended Called failed = absurd failed
 failed-ended Open failed = absurd failed
 failed-ended Closing failed = absurd failed
 failed-ended Leaving failed = absurd failed
@@ -212,6 +213,7 @@ module _ {S : Type 0} (remaining contents : S → Option (List ℕ)) where
         ((received-passed k n r p x.0).0, no-frame n.context r.context (untaken n.inbox) (untaken r.inbox) j x.0.context x.1 reads)
     after-read k n r j (Some telling.More) p reads bound opened x = absurd x
     after-read k n r j (Some (telling.Asks target)) p reads bound opened x = absurd x
+    after-read k n r j (Some (telling.Calls call)) p reads bound opened x = absurd x
     after-read k n r j (Some (telling.Text s)) p reads bound opened x = absurd x
     after-read k n r j (Some telling.NotText) p reads bound opened x = absurd x
     after-read k n r j (Some telling.Ended) p reads bound opened (inl failed) = inr (record {

@@ -9,12 +9,12 @@ use Rattle.websocket.proofs.FrameHeaderLemmas.{length-encode_header}
 use Rattle.websocket.specs.View.{Leaves}
 use Rattle.websocket.specs.declared.error.Error.{Error}
 use Rattle.websocket.specs.declared.protocol.config.Role.TheVariants.{Server}
-use Rattle.websocket.specs.declared.protocol.frame.coding.Data.TheVariants.{Text}
+use Rattle.websocket.specs.declared.protocol.frame.coding.Data.TheVariants.{Binary, Text}
 use Rattle.websocket.specs.declared.protocol.frame.coding.OpCode.TheVariants.{Data}
 use Rattle.bidi_peer.specs.declared.standing.Peer.{Peer}
 use Rattle.bidi_peer.specs.declared.standing.State.{State}
 use Rattle.bidi_peer.specs.declared.standing.State.TheVariants.{Closing, Open}
-use Rattle.bidi_peer.specs.Sending.{Flushes, HasNoRoom, IsLittle, KeepsWhatCame, Puts, SendsText, text_frame}
+use Rattle.bidi_peer.specs.Sending.{Flushes, HasNoRoom, IsLittle, KeepsWhatCame, Puts, PutsFrame, Sends, bytes_frame, text_frame}
 use Rattle.bidi_peer.specs.Telling.{HasFailed, StaysUnlessFailed}
 use Rattle.bidi_peer.specs.Waiting.{Writes, unwritten}
 use Rattle.bidi_peer.proofs.WaitingLemmas.{writes_then}
@@ -41,6 +41,12 @@ text_frame_length t =
     let h = whole_header (Data Text) None in
     length-append (encode_header h (length t)) t ∙ omega (arith, length-encode_header h (length t) tt)
 
+-- how long the frame of a binary message is
+pub bytes_frame_length : (t : List ℕ) → length (bytes_frame t) ≡ length t + (2 + extended_len (length t))
+bytes_frame_length t =
+    let h = whole_header (Data Binary) None in
+    length-append (encode_header h (length t)) t ∙ omega (arith, length-encode_header h (length t) tt)
+
 -- what joins the back joins what waits
 pub joins-back : (front back out frame : List ℕ) → out ≡ back ++ frame → front ++ out ≡ (front ++ back) ++ frame
 joins-back front back out frame e = ap (λ x. front ++ x) e ∙ sym (append_assoc front back frame)
@@ -49,16 +55,16 @@ open-failed : (s : State) → s ≡ Open → HasFailed s → ⊥
 open-failed s opened failed = subst HasFailed opened failed
 
 module _ {S : Type 0} (contents : S → Option (List ℕ)) where
-  -- a text that is put between two flushes is sent
-  pub puts-sends : (t : List ℕ) (a b c d : Peer S) → Flushes contents a b → Puts t b c → Flushes contents c d → SendsText contents t a d
+  -- a frame that is put between two flushes is sent
+  pub puts-sends : (t : List ℕ) (a b c d : Peer S) → Flushes contents a b → PutsFrame t b c → Flushes contents c d → Sends contents t a d
   puts-sends t a b c d before put after =
-      writes_then contents (unwritten a.outbox) (unwritten b.outbox) (unwritten d.outbox) (text_frame t) a.stream b.stream d.stream before.writes
-      (subst (λ s. Writes contents (unwritten b.outbox ++ text_frame t) (unwritten d.outbox) s d.stream) put.stream
+      writes_then contents (unwritten a.outbox) (unwritten b.outbox) (unwritten d.outbox) t a.stream b.stream d.stream before.writes
+      (subst (λ s. Writes contents (unwritten b.outbox ++ t) (unwritten d.outbox) s d.stream) put.stream
       (subst (λ w. Writes contents w (unwritten d.outbox) c.stream d.stream) put.joins after.writes))
 
   -- where it is open after each of these, its stream failed in none
-  pub sent : (t : List ℕ) (a b c d : Peer S) → HasFailed b.state ⊎ Flushes contents a b → b.state ≡ Open → Puts t b c
-      → HasFailed d.state ⊎ Flushes contents c d → d.state ≡ Open → SendsText contents t a d
+  pub sent : (t : List ℕ) (a b c d : Peer S) → HasFailed b.state ⊎ Flushes contents a b → b.state ≡ Open → PutsFrame t b c
+      → HasFailed d.state ⊎ Flushes contents c d → d.state ≡ Open → Sends contents t a d
   sent t a b c d (inl failed) stays put after still = absurd (open-failed b.state stays failed)
   sent t a b c d (inr before) stays put (inl failed) still = absurd (open-failed d.state still failed)
   sent t a b c d (inr before) stays put (inr after) still = puts-sends t a b c d before put after

@@ -1,11 +1,12 @@
 -- Bytes without a line feed finish no head.
-use Rattle.std.proofs.Common.{◌≡◌, ◌∙◌, ◌++◌, ◌∷◌, ◌≤◌, ℕ, List, [], Bool, true, false, ap, append-nil, append_assoc, drop, length, min, refl, subst, sym}
+use Rattle.std.proofs.Common.{◌≡◌, ◌∙◌, ◌++◌, ◌∷◌, ◌⊎◌, ◌<◌, ◌≤◌, ℕ, List, [], Bool, true, false, ap, append-nil, append_assoc, arith, drop, inl, inr, length, length-append, min, refl, subst, sym}
 use Rattle.std.specs.Prelude.{◌==◌, ◌||◌}
 use Rattle.std.specs.List.{flat_map, list_any}
 use Rattle.std.proofs.lemmas.List.{drop_at, drop_min}
-use Rattle.httparse.specs.Grammar.{HasNoRequest, LineEnd, RequestHead, crlf, lf, print_blank, print_end, print_field, print_request, print_section, print_version}
-use Rattle.httparse.proofs.GrammarLemmas.{print_request-append}
-use Rattle.bidi_peer.specs.Requests.{IsUnfinished, longest_head}
+use Rattle.httparse.specs.Grammar.{HasNoRequest, LineEnd, ReadsRequest, RequestHead, crlf, lf, print_blank, print_end, print_field, print_request, print_section, print_version}
+use Rattle.httparse.proofs.GrammarLemmas.{ReadsRequest-append, print_request-append}
+use Rattle.bidi_peer.specs.Requests.{HasPart, IsAskedBy, IsUnfinished, longest_head}
+use Rattle.bidi_peer.specs.declared.asking.Asked.TheVariants as asked
 
 -- some bytes end in a line feed
 abbrev Ends : List ℕ → Type 0
@@ -59,11 +60,37 @@ no_request_more bytes more none no_line h rest reads =
     let found = within bytes more ends.0 rest split no_line in
     none h found.0 (reads.0, found.1 ∙ sym (append_assoc ends.0 (10 ∷ []) found.0) ∙ ap (λ x. x ++ found.0) (sym ends.1))
 
--- what was unfinished is so still, when bytes without a line feed came
-pub still_unfinished : (waited came left : List ℕ) (known : ℕ) → left ≡ waited ++ came → known ≡ length waited
-    → (length left ≤ longest_head) × (list_any (λ b. b == 10) (drop (min known (length left)) left) ≡ false) → IsUnfinished waited → IsUnfinished left
-still_unfinished waited came left known joins all short was =
-    let rest : drop (min known (length left)) left ≡ came = drop_min known left ∙ ap (drop known) joins ∙ drop_at waited came known (sym all) in (
-      subst HasNoRequest (sym joins) (no_request_more waited came was.0 (ap (list_any (λ b. b == 10)) (sym rest) ∙ short.1)),
-      short.0,
-    )
+-- a head is not empty
+head-some : (bytes : List ℕ) (h : RequestHead) (rest : List ℕ) → ReadsRequest bytes h rest → 0 < length bytes
+head-some bytes h rest reads =
+    let ends = request-ends h in omega (arith, ap length reads.1, length-append (print_request h) rest, ap length ends.1, length-append ends.0 (10 ∷ []))
+
+-- a call whose body is not whole is so still, when fewer bytes than it needs are here
+body-still : (waited came left : List ℕ) (least : ℕ) → left ≡ waited ++ came → length left < least → IsAskedBy waited (asked.Body least) → IsAskedBy left (asked.Body least)
+body-still waited came left least joins few was =
+    let h = was.0 in
+    let reads : ReadsRequest left h (was.1.0.0.0 ++ came) = subst (λ b. ReadsRequest b h (was.1.0.0.0 ++ came)) (sym joins) (ReadsRequest-append waited h was.1.0.0.0 came was.1.0.0.1) in
+    (h, (((was.1.0.0.0 ++ came, reads), was.1.0.1), was.1.1), part h (was.1.0.0.0 ++ came) reads was.2)
+  where
+    part : (h : RequestHead) (rest : List ℕ) → ReadsRequest left h rest → HasPart waited h least → HasPart left h least
+    part h rest reads (inl sized) = inl (sized.0, sized.1, sized.2, sized.3, few)
+    part h rest reads (inr chunked) = absurd (omega (arith, few, chunked.1, head-some left h rest reads))
+
+-- a body that is not whole needs a byte at least
+needs-some : (waited : List ℕ) (least : ℕ) → least ≡ 0 → IsAskedBy waited (asked.Body least) → ⊥
+needs-some waited least zero was = none was.0 was.2
+  where
+    none : (h : RequestHead) → HasPart waited h least → ⊥
+    none h (inl sized) = omega (arith, zero, sized.4)
+    none h (inr chunked) = omega (arith, zero, chunked.1)
+
+-- what was unfinished is so still, when bytes without a line feed came, or fewer than a body needs
+pub still_unfinished : (waited came left : List ℕ) (known least : ℕ) → left ≡ waited ++ came → known ≡ length waited
+    → (length left < least) ⊎ ((least ≡ 0) × (length left ≤ longest_head) × (list_any (λ b. b == 10) (drop (min known (length left)) left) ≡ false))
+    → IsUnfinished least waited → IsUnfinished least left
+still_unfinished waited came left known least joins all (inl few) (inl was) = absurd (omega (arith, few, was.0))
+still_unfinished waited came left known least joins all (inl few) (inr was) = inr (body-still waited came left least joins few was)
+still_unfinished waited came left known least joins all (inr short) (inr was) = absurd (needs-some waited least short.0 was)
+still_unfinished waited came left known least joins all (inr short) (inl was) =
+    let rest : drop (min known (length left)) left ≡ came = drop_min known left ∙ ap (drop known) joins ∙ drop_at waited came known (sym all) in
+    inl (was.0, (subst HasNoRequest (sym joins) (no_request_more waited came was.1.0 (ap (list_any (λ b. b == 10)) (sym rest) ∙ short.2)), short.1))

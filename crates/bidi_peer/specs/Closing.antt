@@ -2,6 +2,7 @@
 use Rattle.std.specs.Prelude.{ℕ, List, codes}
 use Rattle.websocket.specs.declared.protocol.frame.coding.CloseCode.{CloseCode}
 use Rattle.websocket.specs.declared.protocol.frame.coding.CloseCode.TheVariants as status
+use Rattle.websocket.specs.CloseCode.{close_code_of}
 use Rattle.bidi_peer.specs.declared.framing.Fault.{Fault}
 use Rattle.bidi_peer.specs.declared.framing.Fault.TheVariants as fault
 use Rattle.bidi_peer.specs.declared.peer.ClosingCause.{ClosingCause}
@@ -25,7 +26,8 @@ reason_of fault.Slow = codes "too much waits to be read"
 reason_of fault.CrowdedIn = codes "too much is held in all"
 reason_of fault.CrowdedOut = codes "too much is held in all"
 
--- the code by which a server closes a connection: 1000 if the connection is done, 1001 if the server stops
+-- the code by which a server closes a connection: 1000 if the connection is done, 1001 if the server stops, or the one that is asked for
 abbrev pub closing_code : ClosingCause → CloseCode
 closing_code cause.Done = status.Normal
 closing_code cause.GoingAway = status.Away
+closing_code (cause.Code n) = close_code_of n

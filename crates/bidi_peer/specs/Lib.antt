@@ -1,4 +1,5 @@
 pub mod Answering
+pub mod Bodies
 pub mod Closing
 pub mod Hearing
 pub mod Messages
@@ -6,5 +7,6 @@ pub mod Origins
 pub mod Requests
 pub mod Sending
 pub mod Taking
+pub mod Targets
 pub mod Telling
 pub mod Waiting

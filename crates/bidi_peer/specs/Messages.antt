@@ -139,8 +139,9 @@ module _ {S : Type 0} where
   IsTold remaining contents old new telling.Nothing = TellsNothing remaining contents old new × HasNoFrame new.context (untaken new.inbox)
   -- no message after as many frames, reads and writes as one take has steps: there may be more
   IsTold remaining contents old new telling.More = (passed : TellsNothing remaining contents old new) × (most_steps_of_take ≤ length passed.effects + length passed.uses)
-  -- no request: the handshake is done
-  IsTold remaining contents old new (telling.Asks target) = ⊥
+  -- no request and no call: the handshake is done
+  IsTold remaining contents old new (telling.Asks resource) = ⊥
+  IsTold remaining contents old new (telling.Calls call) = ⊥
   -- a text, with its own bytes
   IsTold remaining contents old new (telling.Text t) = Tells remaining contents (text (string_bytes t)) old new
   -- a binary message

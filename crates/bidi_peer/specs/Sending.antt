@@ -2,7 +2,7 @@
 use Rattle.std.specs.Prelude.{◌≡◌, ◌<◌, ◌≤◌, ◌+◌, ℕ, List, ◌++◌, length, None, Option}
 use Rattle.websocket.specs.Connection.{whole_header}
 use Rattle.websocket.specs.Frame.{encode_frame}
-use Rattle.websocket.specs.declared.protocol.frame.coding.Data.TheVariants.{Text}
+use Rattle.websocket.specs.declared.protocol.frame.coding.Data.TheVariants.{Binary, Text}
 use Rattle.websocket.specs.declared.protocol.frame.coding.OpCode.TheVariants.{Data}
 use Rattle.bidi_peer.specs.declared.standing.Peer.{Peer}
 use Rattle.bidi_peer.specs.declared.standing.State.TheVariants.{Closing}
@@ -15,6 +15,10 @@ write_from = 65536
 -- the frame of a text
 abbrev pub text_frame : List ℕ → List ℕ
 text_frame text = encode_frame (whole_header (Data Text) None) text
+
+-- the frame of a binary message
+abbrev pub bytes_frame : List ℕ → List ℕ
+bytes_frame bytes = encode_frame (whole_header (Data Binary) None) bytes
 
 module _ {S : Type 0} where
   -- The state of the protocol and the bytes that came are unchanged.
@@ -30,15 +34,27 @@ module _ {S : Type 0} where
     pub bound : new.most_waiting ≡ old.most_waiting
     pub writes : Writes contents (unwritten old.outbox) (unwritten new.outbox) old.stream new.stream
 
-  -- The frame of a text follows what waited, the stream took nothing, and the bytes that came are unchanged.
-  pub record Puts (text : List ℕ) (old new : Peer S) : Type 0 where
+  -- A frame follows what waited, the stream took nothing, and the bytes that came are unchanged.
+  pub record PutsFrame (frame : List ℕ) (old new : Peer S) : Type 0 where
     pub stream : new.stream ≡ old.stream
     pub came : KeepsWhatCame old new
-    pub joins : unwritten new.outbox ≡ unwritten old.outbox ++ text_frame text
+    pub joins : unwritten new.outbox ≡ unwritten old.outbox ++ frame
 
-  -- The frame of a text follows what waited; the stream took some bytes off the front of all this, and the rest still waits.
+  -- The frame of a text follows what waited, the stream took nothing, and the bytes that came are unchanged.
+  abbrev pub Puts : List ℕ → Peer S → Peer S → Type 0
+  Puts text old new = PutsFrame (text_frame text) old new
+
+  -- The frame follows what waited; the stream took some bytes off the front of all this, and the rest still waits.
+  abbrev pub Sends : (S → Option (List ℕ)) → List ℕ → Peer S → Peer S → Type 0
+  Sends contents frame old new = Writes contents (unwritten old.outbox ++ frame) (unwritten new.outbox) old.stream new.stream
+
+  -- The frame of a text is sent.
   abbrev pub SendsText : (S → Option (List ℕ)) → List ℕ → Peer S → Peer S → Type 0
-  SendsText contents text old new = Writes contents (unwritten old.outbox ++ text_frame text) (unwritten new.outbox) old.stream new.stream
+  SendsText contents text old new = Sends contents (text_frame text) old new
+
+  -- The frame of a binary message is sent.
+  abbrev pub SendsBytes : (S → Option (List ℕ)) → List ℕ → Peer S → Peer S → Type 0
+  SendsBytes contents bytes old new = Sends contents (bytes_frame bytes) old new
 
   -- With the frame of a text, the bytes that wait are within the bound and too few to be written now.
   abbrev pub IsLittle : List ℕ → Peer S → Type 0

@@ -5,7 +5,7 @@ use Rattle.bidi_peer.specs.declared.peer.Came.TheVariants as came
 use Rattle.bidi_peer.specs.declared.standing.End.{End}
 use Rattle.bidi_peer.specs.declared.standing.End.TheVariants.{Ahead, Due, Known}
 use Rattle.bidi_peer.specs.declared.standing.State.{State}
-use Rattle.bidi_peer.specs.declared.standing.State.TheVariants.{Asked, Done, Failed, Head, Leaving, Open}
+use Rattle.bidi_peer.specs.declared.standing.State.TheVariants.{Asked, Called, Done, Failed, Head, Leaving, Open}
 
 -- If the end was known before, it is known afterwards.
 abbrev pub StaysKnown : End → End → Type 0
@@ -36,10 +36,16 @@ abbrev pub IsAsked : State → Type 0
 IsAsked (Asked key) = ⊤
 IsAsked s = ⊥
 
--- The handshake is not done.
+-- A call waits for its reply.
+abbrev pub IsCalled : State → Type 0
+IsCalled Called = ⊤
+IsCalled s = ⊥
+
+-- No request is answered yet.
 abbrev pub IsInHandshake : State → Type 0
 IsInHandshake Head = ⊤
 IsInHandshake (Asked key) = ⊤
+IsInHandshake Called = ⊤
 IsInHandshake s = ⊥
 
 -- No close frame was sent or received.
@@ -64,9 +70,10 @@ abbrev pub IsCut : State → Type 0
 IsCut Done = ⊤
 IsCut s = HasFailed s
 
--- A request is reported only while it waits for its answer, and a message only while the connection is open.
+-- A request and a call are reported only while they wait for their answer, and a message only while the connection is open.
 abbrev pub IsTimely : State → Came → Type 0
-IsTimely s (came.Asks target) = IsAsked s
+IsTimely s (came.Asks resource) = IsAsked s
+IsTimely s (came.Calls call) = IsCalled s
 IsTimely s (came.Text text) = s ≡ Open
 IsTimely s came.NotText = s ≡ Open
 IsTimely s c = ⊤

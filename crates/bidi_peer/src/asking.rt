@@ -1,45 +1,70 @@
 //! What the head of a request asks for.
-ghost use Rattle.std.specs.Prelude.{◌≡◌, ◌≤◌, ◌↔◌, length, All, IsFalse, IsTrue, IfOk, MatchResult, drop, false, min, ◌==◌, option_map};
+ghost use Rattle.std.specs.Prelude.{◌≡◌, ◌≤◌, ◌<◌, ◌+◌, ◌⊎◌, ◌↔◌, length, All, IsFalse, IsTrue, IfOk, drop, false, min, ◌==◌, option_map};
 ghost use Rattle.std.specs.List.{list_any};
-ghost use Rattle.httparse.specs.Spans.{IsHeaderWithin, IsRequestOf, IsRequestWithin};
+ghost use Rattle.httparse.specs.Grammar.{RequestHead};
+ghost use Rattle.httparse.specs.Spans.{IsHeaderWithin, IsRequestAt, IsRequestOf, IsRequestWithin};
 ghost use Rattle.websocket.specs.Headers.{eq_ignore_case, fields_of, header_value};
-ghost use Rattle.bidi_peer.specs.Requests.{AcceptsKey, AreLetIn, AsksUpgrade, IsAskedBy, IsLetIn, IsPlain, IsRefusedBy, Opens, has_word, is_word, lists, longest_head, spanned_request};
+ghost use Rattle.bidi_peer.specs.Bodies.{most_body};
+ghost use Rattle.bidi_peer.specs.Requests.{AcceptsKey, AreLetIn, AsksUpgrade, HasBody, IsAskedBy, IsCall, IsLetIn, IsOfKind, IsPlain, has_word, is_word, lists, longest_head, spanned_request};
 
 use super::answering::Answer;
+use super::calling::{Call, Framing, framing_of, method_of};
+use super::chunks::{Chunked, read_chunked};
 use super::origins;
+use super::targets::{is_of_sockets, resource_of, resource_text};
 use httparse::spans::{EMPTY_HEADER_SPAN, HeaderSpan, RequestSpans, parse_request};
 use httparse::{Error, Status};
 use std::alloc::{AllocError, Global};
-use std::str;
 use websocket::handshake::server::accept_key;
 
 /// The longest head, in bytes.
 const LONGEST_HEAD: usize = 64 * 1024;
 
-/// The most header lines of a head.
-const MOST_HEADERS: usize = 124;
+/// The most header lines of a head, and of what follows the last chunk of a body.
+pub(crate) const MOST_HEADERS: usize = 124;
 
 /// What the bytes at the front of a stream are.
 #[derive(Drop)]
 pub(crate) enum Asked {
     /// The beginning of a head.
     Part,
+    /// The head of a call, and a part of its body at most. The request is not whole before it has so many bytes.
+    Body(usize),
     /// A request for a WebSocket, whose head has so many bytes.
     Socket {
-        target: String,
+        resource: String,
         accept: [u8; 28],
+        length: usize,
+    },
+    /// A call, which has so many bytes with its head.
+    Call {
+        call: Call,
         length: usize,
     },
     /// Anything else, with its answer.
     Other(Answer),
 }
 
+/// What a head asks for.
+#[derive(Clone, Copy)]
+pub(crate) enum Kind {
+    /// A WebSocket, with the key of its answer.
+    Socket([u8; 28]),
+    /// A call.
+    Call,
+    /// Anything else, with its answer.
+    Other(Answer),
+}
+
 /// Whether to judge the bytes at the front of a stream, if the first `known` of them were judged before: when the first come,
 /// when a line ends, and when there are too many. So a head that comes in single bytes costs little more than a head that
-/// comes whole.
-pub(crate) fn is_to_judge(bytes: &[u8], known: usize) -> bool
-    ensures { IsFalse result → (length bytes.now ≤ longest_head) × (list_any (λ b. b == 10) (drop (min known (length bytes.now)) bytes.now) ≡ false) }
+/// comes whole. If the head is there, they are judged when `least` bytes have come.
+pub(crate) fn is_to_judge(bytes: &[u8], known: usize, least: usize) -> bool
+    ensures { IsFalse result → (length bytes.now < least) ⊎ ((least ≡ 0) × (length bytes.now ≤ longest_head) × (list_any (λ b. b == 10) (drop (min known (length bytes.now)) bytes.now) ≡ false)) }
 {
+    if least > 0 {
+        return bytes.len() >= least;
+    }
     known == 0 || bytes.len() > LONGEST_HEAD || has_line_end(&bytes[known.min(bytes.len())..])
 }
 
@@ -77,61 +102,123 @@ fn judge_request(
     requires short { request.now.len ≤ longest_head }
     ensures { IfOk result (IsAskedBy bytes.now) }
 {
-    let target = request.path.of(bytes);
-    match checked(bytes, request, spans) {
-        Err(answer) => Ok(Asked::Other(answer)),
-        Ok(accept) => match str::from_utf8(target) {
-            Ok(target) => Ok(Asked::Socket {
-                target: String::from_str(alloc, target)?,
-                accept,
-                length: request.len,
-            }),
-            // The grammar of a head has a target in UTF-8.
-            Err(_) => unreachable!(),
-        },
+    match kind_of(bytes, request, spans) {
+        Kind::Socket(accept) => Ok(Asked::Socket {
+            resource: resource_text(alloc, request.path.of(bytes))?,
+            accept,
+            length: request.len,
+        }),
+        Kind::Call => judge_call(alloc, bytes, request, spans),
+        Kind::Other(answer) => Ok(Asked::Other(answer)),
     }
 }
 
-// The key that accepts a request, or the answer to one that asks for no WebSocket.
-fn checked(bytes: &[u8], request: &RequestSpans, spans: &[HeaderSpan]) -> Result<[u8; 28], Answer>
+// Judges a call whose head was found.
+fn judge_call(
+    alloc: Global,
+    bytes: &[u8],
+    request: &RequestSpans,
+    spans: &[HeaderSpan],
+) -> Result<Asked, AllocError>
+    requires within { IsRequestWithin bytes.now spans.now request.now }
+    requires head { IsRequestOf bytes.now spans.now request.now }
+    requires short { request.now.len ≤ longest_head }
+    requires call { IsCall (spanned_request bytes.now spans.now request.now) }
+    ensures { IfOk result (IsAskedBy bytes.now) }
+{
+    let (_, rest) = bytes.split_at(request.len);
+    match framing_of(bytes, request, spans) {
+        Framing::Sized(size) if rest.len() < size => Ok(Asked::Body(request.len + size)),
+        Framing::Sized(size) => {
+            let (content, _) = rest.split_at(size);
+            let mut body = Vec::new(alloc);
+            body.extend_from_slice(content)?;
+            called(alloc, bytes, request, spans, body, size)
+        }
+        Framing::Chunked => match read_chunked(alloc, rest)? {
+            Chunked::Part => Ok(Asked::Body(1)),
+            Chunked::Whole { body, length } => called(alloc, bytes, request, spans, body, length),
+            Chunked::Refused(answer) => Ok(Asked::Other(answer)),
+        },
+        Framing::Refused(answer) => Ok(Asked::Other(answer)),
+    }
+}
+
+// A call with this body, which has so many bytes with its chunks.
+fn called(
+    alloc: Global,
+    bytes: &[u8],
+    request: &RequestSpans,
+    spans: &[HeaderSpan],
+    body: Vec<u8>,
+    count: usize,
+) -> Result<Asked, AllocError>
+    requires within { IsRequestWithin bytes.now spans.now request.now }
+    requires head { IsRequestOf bytes.now spans.now request.now }
+    requires short { request.now.len ≤ longest_head }
+    requires call { IsCall (spanned_request bytes.now spans.now request.now) }
+    requires has { (h : RequestHead) → IsRequestAt bytes.now spans.now request.now h → HasBody bytes.now h body.items count }
+    requires few { length body.items ≤ most_body }
+    requires fits { request.now.len + count ≤ length bytes.now }
+    ensures { IfOk result (IsAskedBy bytes.now) }
+{
+    let _ = spans;
+    let call = Call {
+        method: method_of(request.method.of(bytes)),
+        resource: resource_text(alloc, request.path.of(bytes))?,
+        body,
+    };
+    Ok(Asked::Call {
+        call,
+        length: request.len + count,
+    })
+}
+
+// What a head asks for.
+fn kind_of(bytes: &[u8], request: &RequestSpans, spans: &[HeaderSpan]) -> Kind
     requires { IsRequestWithin bytes.now spans.now request.now }
-    ensures { MatchResult result (Opens (spanned_request bytes.now spans.now request.now)) (IsRefusedBy (spanned_request bytes.now spans.now request.now)) }
+    ensures { IsOfKind (spanned_request bytes.now spans.now request.now) result }
 {
     let headers = &spans[..request.headers];
     if !names_only_local(bytes, headers) {
-        return Err(Answer::Foreign);
+        return Kind::Other(Answer::Foreign);
     }
     if request.method.of(bytes) != b"GET".as_slice() {
-        return Err(Answer::NotGet);
+        return Kind::Call;
     }
     if request.version == 0 || !asks_upgrade(bytes, headers) {
-        return Err(plain_answer(request.path.of(bytes)));
+        return plain_kind(resource_of(request.path.of(bytes)));
     }
     if !has_value(bytes, headers, b"Sec-WebSocket-Version", b"13") {
-        return Err(Answer::NoUpgrade);
+        return Kind::Other(Answer::NoUpgrade);
     }
     accepted(bytes, headers)
 }
 
-// The answer to a GET without an upgrade.
-fn plain_answer(target: &[u8]) -> Answer
-    ensures { IsPlain target.now result }
+// What a GET without an upgrade asks for.
+fn plain_kind(resource: &[u8]) -> Kind
+    ensures { IsPlain resource.now result }
 {
-    if target == b"/status".as_slice() {
-        Answer::Ready
+    if resource == b"/status".as_slice() {
+        Kind::Other(Answer::Ready)
+    } else if is_of_sockets(resource) {
+        Kind::Other(Answer::NoUpgrade)
     } else {
-        Answer::NoUpgrade
+        Kind::Call
     }
 }
 
 // The key that accepts the key of a request.
-fn accepted(bytes: &[u8], headers: &[HeaderSpan]) -> Result<[u8; 28], Answer>
+fn accepted(bytes: &[u8], headers: &[HeaderSpan]) -> Kind
     requires { All (IsHeaderWithin (length bytes.now)) headers.now }
     ensures { AcceptsKey (fields_of bytes.now headers.now) result }
 {
     match value_of(bytes, headers, b"Sec-WebSocket-Key") {
-        Some(key) => accept_key(key).map_err(|_| Answer::BadKey),
-        None => Err(Answer::BadKey),
+        Some(key) => match accept_key(key) {
+            Ok(accept) => Kind::Socket(accept),
+            Err(_) => Kind::Other(Answer::BadKey),
+        },
+        None => Kind::Other(Answer::BadKey),
     }
 }
 
@@ -155,8 +242,8 @@ fn is_let_in(name: &[u8], value: &[u8]) -> bool
     !is_same(name, b"Origin") || origins::is_local(value)
 }
 
-// Whether two names are the same, in any case.
-fn is_same(name: &[u8], other: &[u8]) -> bool
+/// Whether two names are the same, in any case.
+pub(crate) fn is_same(name: &[u8], other: &[u8]) -> bool
     ensures { result ≡ eq_ignore_case name.now other.now }
 {
     name.eq_ignore_ascii_case(other)

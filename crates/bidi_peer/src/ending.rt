@@ -39,7 +39,7 @@ impl<S: Read + Write + Drop> Peer<S> {
         ensures err { OnErr result (self.new.state ≡ self.old.state) }
     {
         match self.state {
-            State::Head | State::Asked(_) => {
+            State::Head | State::Asked(_) | State::Called => {
                 self.end = End::Known;
                 self.cut();
             }
@@ -82,7 +82,7 @@ impl<S: Read + Write + Drop> Peer<S> {
                 self.forget();
             }
             State::Open => self.give_up(Fault::CrowdedOut)?,
-            State::Head | State::Asked(_) => {
+            State::Head | State::Asked(_) | State::Called => {
                 self.end = End::Known;
                 self.cut();
             }

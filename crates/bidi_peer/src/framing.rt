@@ -2,7 +2,7 @@
 ghost use Rattle.std.specs.Prelude.{◌≡◌, ◌+◌, ◌-◌, ◌^◌, ◌++◌, drop, length, min, IfOk, IfSome, OnErr, OnOk, option_map};
 ghost use Rattle.websocket.specs.FrameHeader.{extended_len};
 ghost use Rattle.websocket.specs.declared.protocol.config.Role.TheVariants.{Server};
-ghost use Rattle.bidi_peer.specs.Sending.{text_frame};
+ghost use Rattle.bidi_peer.specs.Sending.{bytes_frame, text_frame};
 ghost use Rattle.websocket.specs.Connection.{read_step};
 ghost use Rattle.bidi_peer.specs.Taking.{HasTaken, IsFaultOf, IsTakenFor, Shows};
 ghost use Rattle.bidi_peer.specs.Waiting.{untaken};
@@ -184,6 +184,22 @@ pub(crate) fn write_text(
     }
 }
 
+/// Puts the frame of a binary message behind what is in `output`.
+pub(crate) fn write_bytes(
+    context: &mut WebSocketContext,
+    bytes: &[u8],
+    output: &mut Vec<u8>,
+) -> Result<(), AllocError>
+    ensures role { context.new.role ≡ context.old.role }
+    ensures same { context.new ≡ context.old }
+    ensures joins { OnOk result (context.old.role ≡ Server → output.new.items ≡ output.old.items ++ bytes_frame bytes.now) }
+{
+    match context.write(Message::Binary(bytes), output, &mut NoMask) {
+        Ok(()) => Ok(()),
+        Err(_) => Err(AllocError),
+    }
+}
+
 /// Puts a close frame behind what is in `output`, unless one was sent.
 pub(crate) fn write_close(
     context: &mut WebSocketContext,
@@ -206,6 +222,13 @@ pub(crate) fn frame_len(text: &str) -> usize
     ensures { result ≡ min (length (text_frame text.now)) (2 ^ 64 - 1) }
 {
     text.len().saturating_add(header_len(text.len()))
+}
+
+/// How many bytes the frame of a binary message has.
+pub(crate) fn bytes_frame_len(bytes: &[u8]) -> usize
+    ensures { result ≡ min (length (bytes_frame bytes.now)) (2 ^ 64 - 1) }
+{
+    bytes.len().saturating_add(header_len(bytes.len()))
 }
 
 // How many bytes the header of a server's frame has, with a payload of so many.

@@ -1,17 +1,17 @@
-//! The handshake of a connection: its request, and the answer.
+//! The request of a connection, and the answer.
 ghost use Rattle.std.specs.Prelude.{◌≡◌, ◌≢◌, ◌⊎◌, ◌++◌, IfOk, IfSome, OnErr, OnOk};
-ghost use Rattle.bidi_peer.specs.Answering.{answer_bytes};
-ghost use Rattle.bidi_peer.specs.Hearing.{IsHeard};
+ghost use Rattle.bidi_peer.specs.Answering.{answer_bytes, reply_bytes};
+ghost use Rattle.bidi_peer.specs.Hearing.{IsHeard, Receives};
 ghost use Rattle.bidi_peer.specs.Messages.{IsFresh};
 ghost use Rattle.bidi_peer.specs.Requests.{IsAskedBy, IsUnfinished};
 ghost use Rattle.bidi_peer.specs.Waiting.{Writes, untaken, unwritten};
 ghost use Rattle.bidi_peer.specs.declared.answering.Answer.TheVariants.{Refused};
-ghost use Rattle.bidi_peer.specs.Telling.{HasEnded, HasFailed, IsAsked, IsTimely, MayTell, SameKnown, StaysKnown, StaysUnlessFailed, TellsOnce};
+ghost use Rattle.bidi_peer.specs.Telling.{HasEnded, HasFailed, IsAsked, IsCalled, IsTimely, MayTell, SameKnown, StaysKnown, StaysUnlessFailed, TellsOnce};
 ghost use Rattle.bidi_peer.specs.declared.peer.Came.TheVariants.{Nothing};
 ghost use Rattle.bidi_peer.specs.declared.standing.End.TheVariants.{Ahead, Known};
 ghost use Rattle.bidi_peer.specs.declared.standing.State.TheVariants.{Leaving, Open};
 
-use super::answering::{Answer, RequestRefusal};
+use super::answering::{Answer, ReplyStatus, RequestRefusal};
 use super::asking::{Asked, is_to_judge, judge};
 use super::peer::{Came, new_context};
 use super::standing::{End, Peer, State};
@@ -20,7 +20,7 @@ use std::io::{Read, Write};
 use websocket::handshake::server::write_response;
 
 impl<S: Read + Write + Drop> Peer<S> {
-    /// Reads until the head of a request is whole.
+    /// Reads until a request is whole, or its head if it asks for a WebSocket.
     #[tactic(auto, using(crate::proofs::HearingLemmas::heard_then, crate::proofs::HearingLemmas::receives_then, crate::proofs::HearingLemmas::receives_nothing))]
     pub(crate) fn read_request(&mut self) -> Result<Came, AllocError>
         requires { HasEnded self.old.state → ⊥ }
@@ -35,7 +35,7 @@ impl<S: Read + Write + Drop> Peer<S> {
             if let Some(came) = self.read_on()? {
                 return Ok(came);
             }
-            if is_to_judge(self.inbox.waiting(), known) {
+            if is_to_judge(self.inbox.waiting(), known, self.least) {
                 let asked = judge(self.alloc, self.inbox.waiting())?;
                 if let Some(came) = self.hear(asked)? {
                     return Ok(came);
@@ -45,7 +45,7 @@ impl<S: Read + Write + Drop> Peer<S> {
         Ok(Came::Nothing)
     }
 
-    // What a head comes to, or nothing where more of it has to be read.
+    // What a request comes to, or nothing where more of it has to be read.
     #[tactic(auto, using(crate::proofs::HearingLemmas::answer_heard, crate::proofs::HearingLemmas::owed_unknown))]
     fn hear(&mut self, asked: Asked) -> Result<Option<Came>, AllocError>
         requires reads { HasEnded self.old.state → ⊥ }
@@ -55,20 +55,32 @@ impl<S: Read + Write + Drop> Peer<S> {
         ensures told { IfOk result (λ came. IfSome came (λ _. HasEnded self.new.state → self.new.end ≡ Known)) }
         ensures timely { IfOk result (λ came. IfSome came (IsTimely self.new.state)) }
         ensures heard { self.old.end ≡ Ahead → IfOk result (λ came. IfSome came (IsHeard S.remaining S.contents self.old self.new)) }
-        ensures part { IfOk result (λ came. came ≡ None → self.new ≡ self.old) }
+        ensures part { IfOk result (λ came. came ≡ None → Receives S.remaining self.old self.new) }
         ensures speaks { self.old.end ≡ Ahead → IfOk result (λ came. came ≢ Some Nothing) }
-        ensures unfinished { IfOk result (λ came. came ≡ None → IsUnfinished (untaken self.old.inbox)) }
+        ensures unfinished { IfOk result (λ came. came ≡ None → IsUnfinished self.new.least (untaken self.new.inbox)) }
     {
         match asked {
-            Asked::Part => Ok(None),
+            Asked::Part => {
+                self.least = 0;
+                Ok(None)
+            }
+            Asked::Body(least) => {
+                self.least = least;
+                Ok(None)
+            }
             Asked::Socket {
-                target,
+                resource,
                 accept,
                 length,
             } => {
                 self.inbox.take(length);
                 self.state = State::Asked(accept);
-                Ok(Some(Came::Asks(target)))
+                Ok(Some(Came::Asks(resource)))
+            }
+            Asked::Call { call, length } => {
+                self.inbox.take(length);
+                self.state = State::Called;
+                Ok(Some(Came::Calls(call)))
             }
             Asked::Other(answer) => {
                 self.answer(answer)?;
@@ -86,6 +98,17 @@ impl<S: Read + Write + Drop> Peer<S> {
         ensures writes { OnOk result (HasFailed self.new.state ⊎ Writes S.contents (unwritten self.old.outbox ++ answer_bytes answer) (unwritten self.new.outbox) self.old.stream self.new.stream) }
     {
         let text = answer.text(self.alloc)?;
+        self.leave_with(text.as_str())
+    }
+
+    // Puts the text of an answer behind what waits, and leaves.
+    fn leave_with(&mut self, text: &str) -> Result<(), AllocError>
+        requires { HasEnded self.old.state → ⊥ }
+        ensures known { SameKnown self.old.end self.new.end }
+        ensures ok { OnOk result (StaysUnlessFailed Leaving self.new.state) }
+        ensures err { OnErr result (self.new.state ≡ self.old.state) }
+        ensures writes { OnOk result (HasFailed self.new.state ⊎ Writes S.contents (unwritten self.old.outbox ++ text.now) (unwritten self.new.outbox) self.old.stream self.new.stream) }
+    {
         self.outbox.put(text.as_bytes())?;
         self.leave();
         self.flush();
@@ -143,6 +166,31 @@ impl<S: Read + Write + Drop> Peer<S> {
             return Ok(());
         };
         self.answer(Answer::Refused(refusal))?;
+        self.end = End::Known;
+        Ok(())
+    }
+    /// Replies to a call that was told by [`Came::Calls`], by a JSON text: the connection then ends, and [`Came::Ended`]
+    /// is not told. Does nothing at any other time.
+    ///
+    /// # Errors
+    /// No memory: an allocation failed, and nothing has changed.
+    pub fn reply(&mut self, status: ReplyStatus, json: &str) -> Result<(), AllocError>
+        // If the caller already knew of the end, it still does.
+        ensures stays_known { StaysKnown self.old.end self.new.end }
+        // If no call waits for a reply, nothing changes.
+        ensures else_same { (IsCalled self.old.state → ⊥) → self.new ≡ self.old }
+        // If a call waited, nothing more is read, and the caller knows the end.
+        ensures ok { IsCalled self.old.state → OnOk result (StaysUnlessFailed Leaving self.new.state × (self.new.end ≡ Known)) }
+        // After an error the state is unchanged.
+        ensures err { OnErr result (self.new.state ≡ self.old.state) }
+        // The bytes of the reply follow what waited to be written, unless the stream failed.
+        ensures answers { IsCalled self.old.state → OnOk result (HasFailed self.new.state ⊎ Writes S.contents (unwritten self.old.outbox ++ reply_bytes status json.now) (unwritten self.new.outbox) self.old.stream self.new.stream) }
+    {
+        let State::Called = self.state else {
+            return Ok(());
+        };
+        let text = status.text(self.alloc, json)?;
+        self.leave_with(text.as_str())?;
         self.end = End::Known;
         Ok(())
     }

@@ -6,7 +6,8 @@
 //! # Calls
 //! - [`Peer::take`] tells what came in, one [`Came`] at a time. Call it until it gives [`Came::Nothing`]; then the
 //!   stream has no more for now.
-//! - [`Peer::open`] or [`Peer::refuse`] answers a handshake, after [`Came::Asks`].
+//! - [`Peer::open`] or [`Peer::refuse`] answers a handshake, after [`Came::Asks`]; [`Peer::reply`] answers a call, after
+//!   [`Came::Calls`].
 //! - [`Peer::send`] sends a text, [`Peer::close`] ends the connection, [`Peer::flush`] writes what the stream did not
 //!   take before.
 //! - [`Peer::is_open`], [`Peer::waits_to_write`] and [`Peer::is_over`] tell where it stands.
@@ -15,6 +16,8 @@
 
 mod answering;
 mod asking;
+mod calling;
+mod chunks;
 mod ending;
 mod framing;
 mod handshake;
@@ -26,8 +29,11 @@ mod receiving;
 mod sending;
 mod standing;
 mod stream;
+mod targets;
 mod waiting;
 
-pub use answering::RequestRefusal;
+pub use answering::{AllowedMethods, ReplyStatus, RequestRefusal};
+pub use calling::{Call, Method};
 pub use peer::{Came, ClosingCause, MOST_WAITING};
 pub use standing::Peer;
+pub use targets::is_of_session;

@@ -47,8 +47,8 @@ fn is_port(port: &[u8]) -> bool
     }
 }
 
-// What is behind these bytes at the front of a text.
-fn behind<'a>(text: &'a [u8], front: &[u8]) -> Option<&'a [u8]>
+/// What is behind these bytes at the front of a text.
+pub(crate) fn behind<'a>(text: &'a [u8], front: &[u8]) -> Option<&'a [u8]>
     ensures { MatchOption result ((rest : List ℕ) → text.now ≢ front.now ++ rest) (λ x. text.now ≡ front.now ++ x.now) }
 {
     text.strip_prefix(front)

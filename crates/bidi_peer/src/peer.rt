@@ -9,6 +9,7 @@ ghost use Rattle.bidi_peer.specs.Waiting.{untaken, unwritten};
 ghost use Rattle.bidi_peer.specs.declared.standing.End.TheVariants.{Known};
 ghost use Rattle.bidi_peer.specs.declared.standing.State.TheVariants.{Done, Open};
 
+use super::calling::Call;
 use super::standing::{End, Peer, State};
 use super::waiting::{Inbox, Outbox};
 use std::alloc::{AllocError, Global};
@@ -26,9 +27,11 @@ pub enum Came {
     /// Something came of which nothing is told, as pings and parts of a message. More may be here: take again, when
     /// others had their turn.
     More,
-    /// A client asks for this resource, the target of its request as it was written. Answer by [`Peer::open`] or
-    /// [`Peer::refuse`].
+    /// A client asks for a WebSocket at this resource: what follows the authority in the absolute form of a target, else
+    /// the target as it was written. Answer by [`Peer::open`] or [`Peer::refuse`].
     Asks(String),
+    /// A client calls: a request over HTTP that asks for no WebSocket, with its body. Answer by [`Peer::reply`].
+    Calls(Call),
     /// A text message.
     Text(String),
     /// A binary message.
@@ -45,6 +48,8 @@ pub enum ClosingCause {
     Done,
     /// The server stops: code 1001.
     GoingAway,
+    /// The caller wants this code, which a close frame may carry.
+    Code(u16),
 }
 
 impl<S: Read + Write + Drop> Peer<S> {
@@ -57,6 +62,8 @@ impl<S: Read + Write + Drop> Peer<S> {
         ensures stream { result.stream ≡ stream }
         // No bytes have come, and none wait to be written.
         ensures empty { (untaken result.inbox ≡ []) × (unwritten result.outbox ≡ []) }
+        // No head is there.
+        ensures least { result.least ≡ 0 }
     {
         Peer::with_bound(alloc, stream, MOST_WAITING)
     }
@@ -69,6 +76,8 @@ impl<S: Read + Write + Drop> Peer<S> {
         ensures stream { result.stream ≡ stream }
         // No bytes have come, and none wait to be written.
         ensures empty { (untaken result.inbox ≡ []) × (unwritten result.outbox ≡ []) }
+        // No head is there.
+        ensures least { result.least ≡ 0 }
     {
         Peer {
             alloc,
@@ -77,6 +86,7 @@ impl<S: Read + Write + Drop> Peer<S> {
             end: End::Ahead,
             context: new_context(alloc),
             fragments: 0,
+            least: 0,
             inbox: Inbox::new(alloc),
             outbox: Outbox::new(alloc),
             most_waiting,
@@ -85,7 +95,8 @@ impl<S: Read + Write + Drop> Peer<S> {
 
     /// Tells what came in, one thing at a time. It reads the stream only where no whole frame is here, until there is
     /// one or the stream has no more for now; between a request and its answer it reads nothing. Answers to pings, to
-    /// a close frame and to a request that asks for no WebSocket are written as far as the stream takes them.
+    /// a close frame and to a request that is neither for a WebSocket nor a call are written as far as the stream takes
+    /// them.
     ///
     /// # Errors
     /// No memory: an allocation failed. The connection is over, and the next take gives `Ended`.
@@ -98,7 +109,7 @@ impl<S: Read + Write + Drop> Peer<S> {
         ensures told { OnOk result (HasEnded self.new.state → self.new.end ≡ Known) }
         // A request is reported only while it waits for its answer, and a message only while the connection is open.
         ensures timely { IfOk result (IsTimely self.new.state) }
-        // Until a request is reported, the bytes that came are judged: a request for a WebSocket is reported, and any other is answered.
+        // Until a request is reported, the bytes that came are judged: a request for a WebSocket and a call are reported, and any other is answered.
         ensures heard { IsNew self.old.state self.old.end → IfOk result (IsHeard S.remaining S.contents self.old self.new) }
         // An open connection reports the next message of the bytes that came, and `Nothing` only if no whole frame is left.
         ensures messages { self.old.state ≡ Open → self.old.end ≢ Known → IfOk result (IsTold S.remaining S.contents self.old self.new) }
@@ -127,9 +138,9 @@ impl<S: Read + Write + Drop> Peer<S> {
         match self.state {
             State::Head => self.read_request(),
             State::Open | State::Closing => self.read_messages(),
-            State::Asked(_) | State::Leaving | State::Done | State::Failed(_) => {
-                Ok(self.or_end(Came::Nothing))
-            }
+            State::Asked(_) | State::Called | State::Leaving | State::Done | State::Failed(_) => Ok(
+                self.or_end(Came::Nothing),
+            ),
         }
     }
 
@@ -211,6 +222,7 @@ impl ClosingCause {
         match self {
             ClosingCause::Done => CloseCode::Normal,
             ClosingCause::GoingAway => CloseCode::Away,
+            ClosingCause::Code(code) => CloseCode::from(code),
         }
     }
 }

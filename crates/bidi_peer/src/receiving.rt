@@ -136,6 +136,7 @@ impl<S: Read + Write + Drop> Peer<S> {
     pub(crate) fn read_on(&mut self) -> Result<Option<Came>, AllocError>
         requires { HasEnded self.old.state → ⊥ }
         ensures waits { IfOk result (λ came. came ≡ None → self.new.state ≡ self.old.state) }
+        ensures least { IfOk result (λ came. came ≡ None → self.new.least ≡ self.old.least) }
         ensures stays_known { StaysKnown self.old.end self.new.end }
         ensures tells_once { IfOk result (MayTell self.old.end self.new.end) }
         ensures told { IfOk result (λ came. IfSome came (λ _. HasEnded self.new.state → self.new.end ≡ Known)) }

@@ -1,11 +1,11 @@
 //! What a connection sends: texts, as far as there is room and the stream takes them.
 ghost use Rattle.std.specs.Prelude.{◌≡◌, ◌≢◌, ◌≤◌, ◌<◌, ◌⊎◌, ◌+◌, length, IsFalse, IsTrue, OnErr, OnOk};
-ghost use Rattle.bidi_peer.specs.Sending.{Flushes, HasNoRoom, IsLittle, KeepsWhatCame, Puts, SendsText, write_from};
+ghost use Rattle.bidi_peer.specs.Sending.{Flushes, HasNoRoom, IsLittle, KeepsWhatCame, Puts, PutsFrame, SendsBytes, SendsText, bytes_frame, write_from};
 ghost use Rattle.bidi_peer.specs.Telling.{HasFailed, SameKnown, StaysUnlessFailed};
 ghost use Rattle.bidi_peer.specs.Waiting.{unwritten};
 ghost use Rattle.bidi_peer.specs.declared.standing.State.TheVariants.{Open};
 
-use super::framing::{Fault, frame_len, write_text};
+use super::framing::{Fault, bytes_frame_len, frame_len, write_bytes, write_text};
 use super::standing::{Peer, State};
 use std::alloc::AllocError;
 use std::io::{Read, Write};
@@ -54,6 +54,38 @@ impl<S: Read + Write + Drop> Peer<S> {
         Ok(())
     }
 
+    /// Sends a binary message in one frame, as [`Peer::send`] sends a text.
+    ///
+    /// Costs a copy of the bytes.
+    ///
+    /// # Errors
+    /// No memory: an allocation failed. The message is not sent.
+    pub fn send_bytes(&mut self, bytes: &[u8]) -> Result<(), AllocError>
+        // The call does not report the end.
+        ensures known { SameKnown self.old.end self.new.end }
+        // A connection that is not open does not change.
+        ensures else_same { self.old.state ≢ Open → self.new ≡ self.old }
+        // If the connection was open and still is, the frame of the message follows everything that waited to be written.
+        ensures sends { self.old.state ≡ Open → OnOk result (self.new.state ≡ Open → SendsBytes S.contents bytes.now self.old self.new) }
+        // If the connection was open and still is, the bytes that came and the state of the protocol are unchanged.
+        ensures came { self.old.state ≡ Open → self.new.state ≡ Open → KeepsWhatCame self.old self.new }
+        // After an error the state is unchanged, unless the stream failed.
+        ensures err { OnErr result (StaysUnlessFailed self.old.state self.new.state) }
+    {
+        let frame = bytes_frame_len(bytes);
+        self.make_room(frame);
+        if !self.is_open() {
+            return Ok(());
+        }
+        if !self.has_room(frame) {
+            self.give_up(Fault::Slow)?;
+            return Ok(());
+        }
+        self.put_bytes(bytes)?;
+        self.write_much();
+        Ok(())
+    }
+
     // Writes what waits, where the connection is open and so many bytes have no room behind it.
     fn make_room(&mut self, frame: usize)
         ensures else_same { self.old.state ≢ Open → self.new ≡ self.old }
@@ -84,6 +116,17 @@ impl<S: Read + Write + Drop> Peer<S> {
         ensures end { self.new.end ≡ self.old.end }
     {
         write_text(&mut self.context, text, &mut self.outbox.second)
+    }
+
+    // Puts the frame of a binary message behind what waits.
+    fn put_bytes(&mut self, bytes: &[u8]) -> Result<(), AllocError>
+        requires { self.old.state ≡ Open }
+        ensures puts { OnOk result (PutsFrame (bytes_frame bytes.now) self.old self.new) }
+        ensures came { KeepsWhatCame self.old self.new }
+        ensures state { self.new.state ≡ self.old.state }
+        ensures end { self.new.end ≡ self.old.end }
+    {
+        write_bytes(&mut self.context, bytes, &mut self.outbox.second)
     }
 
     // Writes what waits, where it is much.

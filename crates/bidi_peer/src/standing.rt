@@ -15,10 +15,12 @@ use websocket::protocol::WebSocketContext;
 /// Where a connection stands.
 #[derive(Clone, Copy, Debug, PartialEq, Eq)]
 pub(crate) enum State {
-    /// The head of a request is being read.
+    /// A request is being read.
     Head,
     /// A request for a WebSocket waits for its answer, which has this key.
     Asked([u8; 28]),
+    /// A call waits for its reply.
+    Called,
     /// Messages go both ways.
     Open,
     /// A close frame was sent, and the peer's is not here yet.
@@ -52,6 +54,8 @@ pub struct Peer<S> {
     pub(crate) context: WebSocketContext,
     /// How many bytes of payload came of a message whose end has not come.
     pub(crate) fragments: usize,
+    /// How many bytes the request has at least, if it is a call whose head is here; else 0.
+    pub(crate) least: usize,
     pub(crate) inbox: Inbox,
     pub(crate) outbox: Outbox,
     pub(crate) most_waiting: usize,

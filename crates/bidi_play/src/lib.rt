@@ -34,5 +34,5 @@
 mod lines;
 mod playing;
 
-pub use lines::{is_same_text, read_number, read_step, read_step_text, split_at_space};
+pub use lines::{is_same_text, lines_of, read_number, read_step, read_step_text, split_at_space};
 pub use playing::{PlayFault, play};

@@ -1,4 +1,4 @@
 pub mod OneLine
-pub mod PageSteps
+pub mod PageLines
 pub mod Hosting
 pub mod Faults

@@ -1,19 +1,27 @@
 //! A host: a remote end that records each of its inputs as a line.
-ghost use Rattle.std.specs.Prelude.{◌≡◌, ◌<◌, ◌≤◌, ℕ, List, [], true, length, string_bytes, IfOk, IfSome, IfNone, OnOk, OnErr, IsErrOf};
+ghost use Rattle.std.specs.Prelude.{◌≡◌, ◌≤◌, ℕ, List, [], length, true, map, string_bytes, option_map, IfOk, IfSome, IfNone, OnOk, OnErr, IsErrOf};
+ghost use Rattle.bidi_sessions.specs.Limits.{most_steps};
 ghost use Rattle.bidi_sessions.specs.Step.{Step as Taking, Open, Drop, Text, NotText};
+ghost use Rattle.bidi_sessions.specs.View.{sent_of, step_of};
 ghost use Rattle.bidi_remote.specs.Machine.History.{Input};
 ghost use Rattle.bidi_remote.specs.Machine.Connections.{is_open};
 ghost use Rattle.bidi_remote.specs.Machine.Outcome.{deeds};
 ghost use Rattle.bidi_remote.specs.State.Stands.{StandsFor};
-ghost use Rattle.bidi_sessions.specs.View.{step_of};
 ghost use Rattle.bidi_play.specs.Lines.{line_of, CanBeSaid, IsSayable};
-ghost use Rattle.bidi_play.specs.Players.{HasPlayed};
+ghost use Rattle.bidi_scripted.specs.Script.{no_script, held_by};
+ghost use Rattle.bidi_scripted.specs.Sending.{followed_by};
+ghost use Rattle.bidi_scripted.specs.View.{script_of};
+ghost use Rattle.bidi_script_lines.specs.Outcomes.{held_line};
+ghost use Rattle.bidi_script_lines.specs.ScriptLines.{Line, Plain, is_plain, script_line_of, CanBeWritten};
+ghost use Rattle.bidi_script_lines.specs.ScriptPlayers.{HasPlayedScript};
+ghost use Rattle.bidi_script_lines.specs.View.{said_by};
 ghost use Rattle.bidi_recorder.specs.declared.host.HostFault.TheVariants.{NoMemory};
 
 use crate::page::{is_line, is_said_by_pages};
 use crate::saying::said_for;
-use bidi_play::read_step_text;
 use bidi_remote::{RemoteEnd, RemoteFault, Sent, Step};
+use bidi_script_lines::{Outcome, ScriptLine, held_line, perform, read_script_text};
+use bidi_scripted::ScriptedEnd;
 use bidi_tree::JsUint;
 use std::alloc::{AllocError, Global};
 use thiserror::Error;
@@ -58,14 +66,14 @@ impl From<RemoteFault> for HostFault {
 pub struct Recorded {
     /// The line of a play for the input, without its line feed.
     pub line: String,
-    /// What the remote end sends for it, in order, on any connection, and what it reports.
-    pub sent: Vec<Sent>,
+    /// What it brings about.
+    pub outcome: Outcome,
 }
 
 /// A remote end over a browser in memory, which records each of its inputs as the line of a play.
 pub struct Host {
     alloc: Global,
-    end: RemoteEnd,
+    end: ScriptedEnd,
 }
 
 // Not derived, so that its proof is made only here.
@@ -76,21 +84,22 @@ impl Drop for Host {
 }
 
 impl Host {
-    ghost use Rattle.bidi_recorder.specs.PageSteps.{is_said_by_pages};
-    ghost use Rattle.bidi_recorder.specs.Hosting.{IsTaken, Stays, IsSaidAs, SaysNoPageStep};
+    ghost use Rattle.bidi_recorder.specs.PageLines.{is_said_by_pages};
+    ghost use Rattle.bidi_recorder.specs.Hosting.{IsTaken, Stays, IsSaidAs, SaysNoPageLine};
 
     /// Makes a host: no connection, no session, and a browser with one context.
     ///
     /// # Errors
     /// No memory: an allocation failed.
-    #[tactic(auto, using(crate::proofs::HostLemmas::nothing_played))]
     pub fn new(alloc: Global) -> Result<Host, AllocError>
-        // The new host has played no lines.
-        ensures { IfOk result (λ host. HasPlayed host.end [] []) }
+        // The new host has played no lines, and its script is empty.
+        ensures played { IfOk result (λ host. HasPlayedScript host.end [] []) }
+        // Its script is empty.
+        ensures script { IfOk result (λ host. script_of host.end.script ≡ no_script) }
     {
         Ok(Host {
             alloc,
-            end: RemoteEnd::new(alloc)?,
+            end: ScriptedEnd::new(alloc)?,
         })
     }
 
@@ -102,14 +111,14 @@ impl Host {
     /// 2. `Unsaid`: the resource has a line feed, or its line would have more than 2,097,152 bytes.
     /// 3. `WornOut`: 1,000,000,000 inputs were taken.
     pub fn opened(&mut self, conn: JsUint, resource: &str) -> Result<Recorded, HostFault>
-        // An Ok has the line of this opening and what the remote end sends for it.
-        ensures taken { IfOk result (IsTaken (Open conn.value resource.now) self.old.end self.new.end) }
+        // An Ok has the line of this opening and what it brings about.
+        ensures taken { IfOk result (IsTaken (Plain (Open conn.value resource.now)) self.old.end self.new.end) }
         // After an error nothing has changed.
         ensures err { OnErr result (Stays self.old.end self.new.end) }
         // `Unsaid` comes only if no line of a play can hold this opening.
         ensures unsaid { IsErrOf result HostFault.Unsaid → CanBeSaid (Open conn.value resource.now) → ⊥ }
         // `WornOut` comes only after 1,000,000,000 inputs.
-        ensures worn_out { (h : List Input) → StandsFor self.old.end h → IsErrOf result HostFault.WornOut → 1000000000 ≤ length h }
+        ensures worn_out { (h : List Input) → StandsFor self.old.end.end h → IsErrOf result HostFault.WornOut → most_steps ≤ length h }
     {
         let line = format!(in self.alloc; "open {} {resource}", conn.value)?;
         let resource = String::from_str(self.alloc, resource)?;
@@ -127,16 +136,15 @@ impl Host {
     /// 1. `NoMemory`: an allocation failed.
     /// 2. `WornOut`: 1,000,000,000 inputs were taken.
     pub fn heard(&mut self, conn: JsUint, text: String) -> Result<Recorded, HostFault>
-        // An Ok has the line of this text, or of one with the same verdict, and what the remote end
-        // sends for it.
+        // An Ok has the line of this text, or of one with the same verdict, and what it brings about.
         ensures taken { IfOk result (λ t. (said : List ℕ) × IsSaidAs conn.value (string_bytes text) said
-            × IsTaken (Text conn.value said) self.old.end self.new.end t) }
+            × IsTaken (Plain (Text conn.value said)) self.old.end self.new.end t) }
         // After an error nothing has changed.
         ensures err { OnErr result (Stays self.old.end self.new.end) }
         // `Unsaid` never comes, whatever the text is.
         ensures unsaid { IsErrOf result HostFault.Unsaid → ⊥ }
         // `WornOut` comes only after 1,000,000,000 inputs.
-        ensures worn_out { (h : List Input) → StandsFor self.old.end h → IsErrOf result HostFault.WornOut → 1000000000 ≤ length h }
+        ensures worn_out { (h : List Input) → StandsFor self.old.end.end h → IsErrOf result HostFault.WornOut → most_steps ≤ length h }
     {
         let line = text_line(self.alloc, conn, text.as_str())?;
         if is_line(line.as_str()) {
@@ -154,14 +162,14 @@ impl Host {
     /// 1. `NoMemory`: an allocation failed.
     /// 2. `WornOut`: 1,000,000,000 inputs were taken.
     pub fn heard_no_text(&mut self, conn: JsUint) -> Result<Recorded, HostFault>
-        // An Ok has the line of this message and what the remote end sends for it.
-        ensures taken { IfOk result (IsTaken (NotText conn.value) self.old.end self.new.end) }
+        // An Ok has the line of this message and what it brings about.
+        ensures taken { IfOk result (IsTaken (Plain (NotText conn.value)) self.old.end self.new.end) }
         // After an error nothing has changed.
         ensures err { OnErr result (Stays self.old.end self.new.end) }
         // `Unsaid` comes only if no line of a play can hold this message.
         ensures unsaid { IsErrOf result HostFault.Unsaid → CanBeSaid (NotText conn.value) → ⊥ }
         // `WornOut` comes only after 1,000,000,000 inputs.
-        ensures worn_out { (h : List Input) → StandsFor self.old.end h → IsErrOf result HostFault.WornOut → 1000000000 ≤ length h }
+        ensures worn_out { (h : List Input) → StandsFor self.old.end.end h → IsErrOf result HostFault.WornOut → most_steps ≤ length h }
     {
         let line = format!(in self.alloc; "binary {}", conn.value)?;
         self.take(Step::NotText(conn), line)
@@ -174,50 +182,93 @@ impl Host {
     /// 1. `NoMemory`: an allocation failed.
     /// 2. `WornOut`: 1,000,000,000 inputs were taken.
     pub fn dropped(&mut self, conn: JsUint) -> Result<Recorded, HostFault>
-        // An Ok has the line of this drop and what the remote end sends for it.
-        ensures taken { IfOk result (IsTaken (Drop conn.value) self.old.end self.new.end) }
+        // An Ok has the line of this drop and what it brings about.
+        ensures taken { IfOk result (IsTaken (Plain (Drop conn.value)) self.old.end self.new.end) }
         // After an error nothing has changed.
         ensures err { OnErr result (Stays self.old.end self.new.end) }
         // `Unsaid` comes only if no line of a play can hold this drop.
         ensures unsaid { IsErrOf result HostFault.Unsaid → CanBeSaid (Drop conn.value) → ⊥ }
         // `WornOut` comes only after 1,000,000,000 inputs.
-        ensures worn_out { (h : List Input) → StandsFor self.old.end h → IsErrOf result HostFault.WornOut → 1000000000 ≤ length h }
+        ensures worn_out { (h : List Input) → StandsFor self.old.end.end h → IsErrOf result HostFault.WornOut → most_steps ≤ length h }
     {
         let line = format!(in self.alloc; "drop {}", conn.value)?;
         self.take(Step::Drop(conn), line)
     }
 
     /// Takes a line of a page, without its line feed: `at N`, `frame CONTEXT URL`, `unframe CONTEXT`,
-    /// `log CONTEXT LEVEL TEXT` or `value ROW`. `None` means that it is not such a line. Copies the line twice.
+    /// `log CONTEXT LEVEL TEXT`, `value ROW`, or a line of a test such as `answer ROW`. `None` means that it is not
+    /// such a line. Copies the line twice.
     ///
     /// # Errors
     /// The host is as it was before.
     /// 1. `NoMemory`: an allocation failed.
     /// 2. `WornOut`: 1,000,000,000 inputs were taken.
     pub fn page_line(&mut self, line: &str) -> Result<Option<Recorded>, HostFault>
-        // If there is a result, the line is that of a step that a page may take, and this step was
-        // taken.
-        ensures some { IfOk result (λ found. IfSome found (λ t. (s : Taking) × (is_said_by_pages s ≡ true) × (line.now ≡ line_of s)
-            × IsTaken s self.old.end self.new.end t)) }
-        // `None` comes only if the line is not that of a step of a page, and then nothing has
+        // If there is a result, the line is one that a page may say, and it was taken.
+        ensures some { IfOk result (λ found. IfSome found (λ t. (l : Line) × (is_said_by_pages l ≡ true) × (line.now ≡ script_line_of l)
+            × IsTaken l self.old.end self.new.end t)) }
+        // `None` comes only if the line is not one that a page may say, and then nothing has
         // changed.
-        ensures none { IfOk result (λ found. IfNone found (SaysNoPageStep line.now × Stays self.old.end self.new.end)) }
+        ensures none { IfOk result (λ found. IfNone found (SaysNoPageLine line.now × Stays self.old.end self.new.end)) }
         // After an error nothing has changed.
         ensures err { OnErr result (Stays self.old.end self.new.end) }
         // `Unsaid` never comes, because the line itself is recorded.
         ensures unsaid { IsErrOf result HostFault.Unsaid → ⊥ }
         // `WornOut` comes only after 1,000,000,000 inputs.
-        ensures worn_out { (h : List Input) → StandsFor self.old.end h → IsErrOf result HostFault.WornOut → 1000000000 ≤ length h }
+        ensures worn_out { (h : List Input) → StandsFor self.old.end.end h → IsErrOf result HostFault.WornOut → most_steps ≤ length h }
     {
         if !is_line(line) {
             return Ok(None);
         }
-        match read_step_text(self.alloc, line)? {
-            Some(step) if is_said_by_pages(&step) => {
-                let line = String::from_str(self.alloc, line)?;
-                Ok(Some(self.take(step, line)?))
-            }
-            _ => Ok(None),
+        match read_script_text(self.alloc, line)? {
+            None => Ok(None),
+            Some(said) => self.say_line(said, line),
+        }
+    }
+
+    // Takes a line that was read, if a page may say it.
+    fn say_line(&mut self, said: ScriptLine, line: &str) -> Result<Option<Recorded>, HostFault>
+        requires line { line.now ≡ script_line_of (said_by said) }
+        requires can { CanBeWritten (said_by said) }
+        requires plain { (s : Taking) → CanBeSaid s → line.now ≡ line_of s → is_plain (said_by said) ≡ true }
+        ensures some { IfOk result (λ found. IfSome found (λ t. (l : Line) × (is_said_by_pages l ≡ true) × (line.now ≡ script_line_of l)
+            × IsTaken l self.old.end self.new.end t)) }
+        ensures none { IfOk result (λ found. IfNone found (SaysNoPageLine line.now × Stays self.old.end self.new.end)) }
+        ensures err { OnErr result (Stays self.old.end self.new.end) }
+        ensures unsaid { IsErrOf result HostFault.Unsaid → ⊥ }
+        ensures worn_out { (h : List Input) → StandsFor self.old.end.end h → IsErrOf result HostFault.WornOut → most_steps ≤ length h }
+    {
+        if !is_said_by_pages(&said) {
+            return Ok(None);
+        }
+        let line = String::from_str(self.alloc, line)?;
+        Ok(Some(self.take_line(said, line)?))
+    }
+
+    /// The events that follow something that the remote end sends, on the same connection, because a test had them
+    /// follow.
+    ///
+    /// # Errors
+    /// No memory: an allocation failed.
+    pub fn followers_of(&self, sent: &Sent) -> Result<Vec<Sent>, AllocError>
+        // After an Ok, they are the events of the definition.
+        ensures { IfOk result (λ more. map sent_of more.items ≡ followed_by (script_of self.now.end.script).followers (sent_of sent.now)) }
+    {
+        self.end.followers_of(sent)
+    }
+
+    /// The line for the held command of this number, without its line feed: `held N C TEXT`. `None` if no command of
+    /// this number is held.
+    ///
+    /// # Errors
+    /// No memory: an allocation failed.
+    pub fn held_line(&self, number: u64) -> Result<Option<String>, AllocError>
+        // After an Ok, it is the line of the command of this number that is held, if there is one.
+        ensures { IfOk result (λ line. option_map string_bytes line ≡ option_map held_line (held_by number (script_of self.now.end.script))) }
+    {
+        match self.end.held_command(number) {
+            Some(command) => Ok(Some(held_line(self.alloc, command)?)),
+            None => Ok(None),
         }
     }
 
@@ -225,30 +276,29 @@ impl Host {
     ///
     /// # Errors
     /// No memory: an allocation failed.
-    #[tactic(auto, using(crate::proofs::HostLemmas::nothing_played))]
     pub fn reset(&mut self) -> Result<(), AllocError>
-        // After an Ok, the host is as new: it has played no lines.
-        ensures fresh { OnOk result (HasPlayed self.new.end [] []) }
+        // After an Ok, the host is as new: it has played no lines, and its script is empty.
+        ensures fresh { OnOk result (HasPlayedScript self.new.end [] [] × (script_of self.new.end.script ≡ no_script)) }
         // After an error nothing has changed.
         ensures err { OnErr result (Stays self.old.end self.new.end) }
     {
-        self.end = RemoteEnd::new(self.alloc)?;
+        self.end = ScriptedEnd::new(self.alloc)?;
         Ok(())
     }
 
     /// The remote end of the host, to be asked.
     pub fn remote_end(&self) -> &RemoteEnd
         // The result is the remote end that takes the inputs.
-        ensures { result.now ≡ self.now.end }
+        ensures { result.now ≡ self.now.end.end }
     {
-        &self.end
+        self.end.remote_end()
     }
 
     /// Whether the connection of this number is open. Takes no memory, and looks at no more than 64
     /// connections.
     pub fn is_open(&self, conn: JsUint) -> bool
         // The result is true exactly if the connection is open after all inputs so far.
-        ensures { (h : List Input) → StandsFor self.now.end h → result ≡ is_open (deeds h) conn.value }
+        ensures { (h : List Input) → StandsFor self.now.end.end h → result ≡ is_open (deeds h) conn.value }
     {
         self.end.is_open(conn)
     }
@@ -257,16 +307,29 @@ impl Host {
     fn take(&mut self, step: Step, line: String) -> Result<Recorded, HostFault>
         requires line { string_bytes line ≡ line_of (step_of step) }
         requires parts { IsSayable (step_of step) }
-        ensures taken { IfOk result (IsTaken (step_of step) self.old.end self.new.end) }
+        ensures taken { IfOk result (IsTaken (Plain (step_of step)) self.old.end self.new.end) }
         ensures err { OnErr result (Stays self.old.end self.new.end) }
         ensures unsaid { IsErrOf result HostFault.Unsaid → CanBeSaid (step_of step) → ⊥ }
-        ensures worn_out { (h : List Input) → StandsFor self.old.end h → IsErrOf result HostFault.WornOut → 1000000000 ≤ length h }
+        ensures worn_out { (h : List Input) → StandsFor self.old.end.end h → IsErrOf result HostFault.WornOut → most_steps ≤ length h }
     {
         if !is_line(line.as_str()) {
             return Err(HostFault::Unsaid);
         }
-        let sent = self.end.step(step)?;
-        Ok(Recorded { line, sent })
+        self.take_line(ScriptLine::Step(step), line)
+    }
+
+    // Takes a line, whose text this is.
+    fn take_line(&mut self, said: ScriptLine, line: String) -> Result<Recorded, HostFault>
+        requires line { string_bytes line ≡ script_line_of (said_by said) }
+        requires can { CanBeWritten (said_by said) }
+        requires plain { (s : Taking) → CanBeSaid s → string_bytes line ≡ line_of s → is_plain (said_by said) ≡ true }
+        ensures taken { IfOk result (IsTaken (said_by said) self.old.end self.new.end) }
+        ensures err { OnErr result (Stays self.old.end self.new.end) }
+        ensures unsaid { IsErrOf result HostFault.Unsaid → ⊥ }
+        ensures worn_out { (h : List Input) → StandsFor self.old.end.end h → IsErrOf result HostFault.WornOut → most_steps ≤ length h }
+    {
+        let outcome = perform(self.alloc, &mut self.end, said)?;
+        Ok(Recorded { line, outcome })
     }
 }
 

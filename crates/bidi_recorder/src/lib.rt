@@ -1,9 +1,9 @@
 //! A remote end that records what comes in as the lines of a play.
 //!
 //! A [`Host`] holds a remote end. Each call takes one input, of a connection or of a page, and returns a
-//! [`Recorded`]: what is sent for it, and the line of a play for this input. If the caller sends all that and
-//! keeps the lines in order, the lines are a record: played by `bidi_play`, they give byte for byte what was
-//! sent.
+//! [`Recorded`]: what it brings about, and the line of a scripted play for this input. If the caller sends all that and
+//! keeps the lines in order, the lines are a record: played by `bidi_script_lines`, they give byte for byte what
+//! was sent.
 //!
 //! # Calls
 //! - [`Host::new`], once.

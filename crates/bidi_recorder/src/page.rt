@@ -2,19 +2,22 @@
 ghost use Rattle.std.specs.Prelude.{◌≡◌, false, IsTrue};
 ghost use Rattle.bidi_lines.specs.Feeds.{has_feed};
 ghost use Rattle.bidi_lines.specs.InputLines.{IsLine};
-ghost use Rattle.bidi_sessions.specs.View.{step_of};
-ghost use Rattle.bidi_recorder.specs.PageSteps.{is_said_by_pages};
+ghost use Rattle.bidi_script_lines.specs.View.{said_by};
+ghost use Rattle.bidi_recorder.specs.PageLines.{is_said_by_pages};
 
 use bidi_lines::LONGEST_LINE;
 use bidi_remote::Step;
+use bidi_script_lines::ScriptLine;
 
-// Whether a page may take this step: it is one of a page, or sets the clock.
-pub(crate) fn is_said_by_pages(step: &Step) -> bool
-    ensures { result ≡ is_said_by_pages (step_of step.now) }
+// Whether a page may say this line: it is one of a page or of a test, or sets the clock.
+pub(crate) fn is_said_by_pages(line: &ScriptLine) -> bool
+    ensures { result ≡ is_said_by_pages (said_by line.now) }
 {
-    match step {
-        Step::At(_) | Step::Page(_) => true,
-        Step::Open(..) | Step::Drop(_) | Step::Text(..) | Step::NotText(_) => false,
+    match line {
+        ScriptLine::Step(Step::Open(..) | Step::Drop(_) | Step::Text(..) | Step::NotText(_)) => {
+            false
+        }
+        _ => true,
     }
 }
 

@@ -17,6 +17,7 @@ use Rattle.bidi_remarks.specs.declared.texts.Form.{Form}
 use Rattle.bidi_remarks.specs.declared.texts.Form.TheVariants.{Words, Json}
 use Rattle.bidi_play.specs.Plays.{PlaysAll, lines_fault, play_run}
 use Rattle.bidi_play.specs.declared.playing.PlayFault.TheVariants as play
+use Rattle.bidi_script_lines.specs.ScriptedPlays.{ScriptedPlaysAll, script_run}
 use Rattle.bidi_reduce.specs.Reduces.{ReducesAll, reduce_run}
 use Rattle.bidi_pair_lines.specs.Pairs.{PairsAll, pair_run}
 use Rattle.bidi_serve.specs.declared.listening.ServeFault.TheVariants as serve
@@ -41,6 +42,7 @@ both_form o = if o.is_why then Some (form_of o.is_json) else None
 -- A run without a fault has worked on all of its input. Its status is 0, or 1 if a check found a line to refuse or a command without a reply.
 abbrev pub Completes : StreamRun → ℕ → List ℕ → List ℕ → Type 0
 Completes asked.Play status read wrote = (status ≡ 0) × PlaysAll read wrote
+Completes asked.ScriptedPlay status read wrote = (status ≡ 0) × ScriptedPlaysAll read wrote
 Completes asked.Pair status read wrote = (status ≡ 0) × PairsAll read wrote
 Completes (asked.Reduce session) status read wrote = (status ≡ 0) × ReducesAll session read wrote
 Completes (asked.Show side) status read wrote = (status ≡ 0) × ListsAll All side read wrote
@@ -53,6 +55,7 @@ Completes (asked.Both o) status read wrote = (some : Bool) × (status ≡ (if so
 -- a run that met a fault met one of its own kind, which says what was read and written before it
 abbrev pub Stops : StreamRun → RunFault → Bool → List ℕ → List ℕ → Type 0
 Stops asked.Play (Play fault) at_end read wrote = StopsAt play_run (lines_fault fault) at_end read wrote
+Stops asked.ScriptedPlay (Play fault) at_end read wrote = StopsAt script_run (lines_fault fault) at_end read wrote
 Stops asked.Pair (Pair fault) at_end read wrote = StopsWhole pair_run PairsAll fault at_end read wrote
 Stops (asked.Reduce session) (Play fault) at_end read wrote = StopsWhole reduce_run (ReducesAll session) (lines_fault fault) at_end read wrote
 Stops (asked.Show side) (Listing fault) at_end read wrote = StopsAt (listing_run All side) fault at_end read wrote

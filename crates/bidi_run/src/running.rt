@@ -13,6 +13,7 @@ use bidi_lines::{Sink, Source};
 use bidi_play::play;
 use bidi_recorder::HostingFault;
 use bidi_reduce::reduce;
+use bidi_script_lines::play_scripted;
 use bidi_serve::ServeFault;
 use bidi_show::{Listing, list};
 use bidi_why::{Form, explain, explain_both};
@@ -75,6 +76,10 @@ fn finish<R: Source, W: Sink, F: Sink>(
 {
     match run {
         StreamRun::Play => match play(alloc, source, sink) {
+            Ok(()) => Ok(0),
+            Err(fault) => Err(RunFault::Play(fault)),
+        },
+        StreamRun::ScriptedPlay => match play_scripted(alloc, source, sink) {
             Ok(()) => Ok(0),
             Err(fault) => Err(RunFault::Play(fault)),
         },

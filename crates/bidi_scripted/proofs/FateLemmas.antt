@@ -1,5 +1,5 @@
 -- What becomes of a message, by what was found for it.
-use Rattle.std.proofs.Common.{◌≡◌, ◌∙◌, ℕ, Bool, true, false, true≢false, ◌&&◌, inl, List, [], ◌∷◌, length, map, Option, Some, None, Result, Ok, Err, refl, sym, ap, subst, arith}
+use Rattle.std.proofs.Common.{◌≡◌, ◌∙◌, ◌≤◌, ℕ, Bool, true, false, true≢false, ◌&&◌, inl, List, [], ◌∷◌, length, map, Option, Some, None, Result, Ok, Err, refl, sym, ap, subst, arith}
 use Rattle.std.specs.Prelude.{◌==◌, find, if◌then◌else◌, IfOk, OnOk, OnErr, IsErrOf, ◌↔◌, unwrap_or}
 use Rattle.std.specs.List.{position}
 use Rattle.std.proofs.lemmas.Bool.Decides.{nat_tests}
@@ -11,6 +11,8 @@ use Rattle.bidi_remote.specs.Machine.Outcome.{deeds}
 use Rattle.bidi_remote.specs.Machine.Sent.{Sent, Text}
 use Rattle.bidi_remote.specs.State.Stands.{StandsFor}
 use Rattle.bidi_remote.specs.declared.remote_end.RemoteFault.{RemoteFault}
+use Rattle.bidi_remote.specs.declared.remote_end.RemoteFault.TheVariants.{WornOut}
+use Rattle.bidi_sessions.specs.Limits.{most_steps}
 use Rattle.bidi_sessions.specs.Step as steps
 use Rattle.bidi_sessions.specs.Step.{Step}
 use Rattle.bidi_sessions.specs.View.{sent_of}
@@ -170,17 +172,20 @@ taken-handed step old new script after r goes stays on same = record {
   becomes = λ h s. becomes HandedOn (fate (deeds h) script step) step old new script after r h (sym (goes h s))
       (handed_on step old new script after r h s on (same ∙ sym (stays (deeds h))));
   err = with_err r _ _ same on.err;
+  worn_out = λ h s e. (on.worn_out h s).0 e;
 }
 
 -- a message that was taken by what was found for it
 pub taken-found : (step : Step) (old new : RemoteEnd) (script after : Script) (r : Result Taken RemoteFault) → is_plain script ≡ false
     → ((h : List Input) → StandsFor old h → IfOk r (λ t. Becomes (fate (deeds h) script step) h step old script new after t))
-    → OnErr r ((after ≡ script) × ((h : List Input) → StandsFor old h → StandsFor new h)) → IsTaken step old script new after r
-taken-found step old new script after r busy brings err = record {
+    → OnErr r ((after ≡ script) × ((h : List Input) → StandsFor old h → StandsFor new h))
+    → ((h : List Input) → StandsFor old h → IsErrOf r WornOut → most_steps ≤ length h) → IsTaken step old script new after r
+taken-found step old new script after r busy brings err worn = record {
   plain = λ e. absurd (true≢false (sym (ap is_plain e) ∙ busy));
   stays = λ e. absurd (true≢false (sym (ap is_plain e) ∙ busy));
   becomes = brings;
   err = err;
+  worn_out = worn;
 }
 
 opened-ok : (step : Step) (old new : RemoteEnd) (script after : Script) (r : Result Taken RemoteFault) (h : List Input) → StandsFor old h
@@ -202,6 +207,7 @@ taken-opened c resource old new script after r on same kept plain = record {
   stays = λ e. plain e ∙ e;
   becomes = λ h s. opened-ok (steps.Open c resource) old new script after r h s on (same h s);
   err = opened-err r _ _ kept on.err;
+  worn_out = λ h s e. (on.worn_out h s).0 e;
 }
 
 -- ---- a command for which there is a row

@@ -59,12 +59,14 @@ Becomes (Unheld c command) h step old script new after t =
 Becomes (AsksNames c text) h step old script new after t = TakesPart c h script new after t
 
 -- The step was taken: with an empty script it was handed on and the script stays empty; it brought about what its fate means; and after an
--- error the script is as it was, and the remote end stands for the histories that it stood for before.
+-- error the script is as it was, and the remote end stands for the histories that it stood for before. `WornOut` comes only if the remote end
+-- has accepted `most_steps` steps.
 pub record IsTaken (step : Step) (old : RemoteEnd) (script : Script) (new : RemoteEnd) (after : Script) (result : Result Taken RemoteFault) : Type 0 where
   pub plain : script ≡ no_script → IsHandedOn step old new result
   pub stays : script ≡ no_script → after ≡ no_script
   pub becomes : (h : List Input) → StandsFor old h → IfOk result (λ t. Becomes (fate (deeds h) script step) h step old script new after t)
   pub err : OnErr result ((after ≡ script) × ((h : List Input) → StandsFor old h → StandsFor new h))
+  pub worn_out : (h : List Input) → StandsFor old h → IsErrOf result WornOut → most_steps ≤ length h
 
 -- what is sent for a command by what a row does: an answer, or nothing yet
 abbrev pub sent_by : List Deed → List Named → ℕ → ℕ → Action → Option (List Sent)

@@ -5,3 +5,4 @@ pub mod Fate
 pub mod Sending
 pub mod View
 pub mod Becomes
+pub mod Faults

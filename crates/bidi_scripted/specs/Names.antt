@@ -1,6 +1,19 @@
 -- The names of events and modules that a test made known. This project's own.
-use Rattle.std.specs.Prelude.{ℕ, ◌==◌, Bool, ◌&&◌, ◌||◌, List, length, get_or, codes, bytes_eq, eqb}
-use Rattle.std.specs.List.{list_any, starts_with}
+use Rattle.std.specs.Prelude.{ℕ, ◌==◌, nat_le, Bool, ◌&&◌, ◌||◌, List, length, get_or, codes, bytes_eq, eqb}
+use Rattle.std.specs.List.{list_all, list_any, starts_with}
+
+-- whether a byte can stand in a name: a letter, a digit, `.`, `:`, `-` or `_`
+abbrev pub is_name_byte : ℕ → Bool
+is_name_byte b =
+    (nat_le 97 b && nat_le b 122) || ((nat_le 65 b && nat_le b 90) || ((nat_le 48 b && nat_le b 57) || ((b == 46) || ((b == 58) || ((b == 45) || (b == 95))))))
+
+-- how many bytes a name can have
+abbrev pub longest_name : ℕ
+longest_name = 255
+
+-- whether this is a name: 1 to 255 such bytes
+abbrev pub is_name : List ℕ → Bool
+is_name name = nat_le 1 (length name) && (nat_le (length name) longest_name && list_all is_name_byte name)
 
 -- whether a name is that of an event in the module of this name: it starts with the module, and a `.` follows
 -- example: `network.fetchError` is in `network`
@@ -11,10 +24,10 @@ is_in name outer = starts_with eqb name outer && (get_or name (length outer) 0 =
 abbrev pub is_or_in : List ℕ → List ℕ → Bool
 is_or_in name outer = bytes_eq name outer || is_in name outer
 
--- whether a name that a test made known makes this one known; `*` makes all known
+-- whether what a test made known makes this name known; `*` makes all names known
 abbrev pub makes_known : List ℕ → List ℕ → Bool
 makes_known by name = bytes_eq by (codes "*") || is_or_in name by
 
--- whether a name is known
+-- whether this is a name, and known
 abbrev pub is_known : List (List ℕ) → List ℕ → Bool
-is_known known name = list_any (λ by. makes_known by name) known
+is_known known name = is_name name && list_any (λ by. makes_known by name) known

@@ -1,5 +1,6 @@
 //! The calls of a test.
-ghost use Rattle.std.specs.Prelude.{◌≡◌, [], ◌∷◌, List, map, length, true, false, Some, None, Err, IfOk, OnOk, OnErr, option_map, string_bytes};
+ghost use Rattle.std.specs.Prelude.{◌≡◌, ◌≤◌, [], ◌∷◌, List, ℕ, map, length, true, false, Some, None, Err, IfOk, OnOk, OnErr, IsErrOf, option_map, string_bytes};
+ghost use Rattle.bidi_sessions.specs.Limits.{most_steps};
 ghost use Rattle.bidi_sessions.specs.View.{sent_of};
 ghost use Rattle.bidi_sessions.specs.Step as steps;
 ghost use Rattle.bidi_rows.specs.Rows as spec;
@@ -12,7 +13,7 @@ ghost use Rattle.bidi_remote.specs.Machine.Outcome.{deeds};
 ghost use Rattle.bidi_remote.specs.Machine.Sent.{out, Lost};
 ghost use Rattle.bidi_remote.specs.State.Stands.{StandsFor};
 ghost use Rattle.bidi_scripted.specs.Script as script;
-ghost use Rattle.bidi_scripted.specs.Script.{with_row, with_follower, without_method, without_held, held_by};
+ghost use Rattle.bidi_scripted.specs.Script.{with_row, with_follower, with_names, without_method, without_held, held_by};
 ghost use Rattle.bidi_scripted.specs.Names.{is_known};
 ghost use Rattle.bidi_scripted.specs.Becomes.{TakesPart};
 ghost use Rattle.bidi_scripted.specs.Sending.{emitted, release_sent, followed_by};
@@ -49,6 +50,8 @@ impl ScriptedEnd {
         ensures err { OnErr result (script_of self.new.script ≡ script_of self.old.script) }
         // The remote end is unchanged.
         ensures end { self.new.end ≡ self.old.end }
+        // `WornOut` never comes.
+        ensures worn_out { IsErrOf result ScriptFault.WornOut → ⊥ }
     {
         let mut scratch = Scratch::new(self.alloc);
         let row = read_row(self.alloc, row, &mut scratch)?;
@@ -68,6 +71,8 @@ impl ScriptedEnd {
         ensures err { OnErr result (script_of self.new.script ≡ script_of self.old.script) }
         // The remote end is unchanged.
         ensures end { self.new.end ≡ self.old.end }
+        // `WornOut` never comes.
+        ensures worn_out { IsErrOf result ScriptFault.WornOut → ⊥ }
     {
         let mut scratch = Scratch::new(self.alloc);
         let row = read_hold(self.alloc, row, &mut scratch)?;
@@ -79,6 +84,7 @@ impl ScriptedEnd {
         ensures ok { OnOk result (script_of self.new.script ≡ with_row (row_of row) (script_of self.old.script)) }
         ensures err { OnErr result (script_of self.new.script ≡ script_of self.old.script) }
         ensures end { self.new.end ≡ self.old.end }
+        ensures worn_out { IsErrOf result ScriptFault.WornOut → ⊥ }
     {
         if !self.script.has_few_rows() {
             return Err(ScriptFault::TooManyRows);
@@ -116,11 +122,11 @@ impl ScriptedEnd {
         ensures not_held { held_by number (script_of self.old.script) ≡ None → result ≡ Err NotHeld }
         // A command whose connection was opened anew is lost, and the remote end is unchanged.
         ensures lost { (held : script.Held) → held_by number (script_of self.old.script) ≡ Some held → held.is_lost ≡ true
-            → IfOk result (λ t. (map sent_of t.sent.items ≡ Lost held.conn ∷ []) × (t.is_of_machine ≡ false) × (self.new.end ≡ self.old.end)) }
+            → IfOk result (λ t. (map sent_of t.sent.items ≡ Lost held.conn ∷ []) × (t.is_of_machine ≡ false) × (t.held ≡ None) × (self.new.end ≡ self.old.end)) }
         // Any other is handed on to the remote end as it came if no names are known, and what the machine sends for it is sent.
         ensures handed_on { (held : script.Held) → held_by number (script_of self.old.script) ≡ Some held → held.is_lost ≡ false
             → (script_of self.old.script).known ≡ []
-            → IfOk result (λ t. (i : Input) × IsHeardAs (steps.Text held.conn held.text) i × (t.is_of_machine ≡ true)
+            → IfOk result (λ t. (i : Input) × IsHeardAs (steps.Text held.conn held.text) i × (t.is_of_machine ≡ true) × (t.held ≡ None)
             × ((h : List Input) → StandsFor self.old.end h → (map sent_of t.sent.items ≡ out h i) × StandsFor self.new.end (i ∷ h))) }
         // After an Ok, the command is held no longer, so it cannot be released again.
         ensures released { (h : List Input) → StandsFor self.old.end h
@@ -128,6 +134,8 @@ impl ScriptedEnd {
         // After an error the script is as it was, and the remote end stands for the histories that it stood for before.
         ensures err { OnErr result ((script_of self.new.script ≡ script_of self.old.script)
             × ((h : List Input) → StandsFor self.old.end h → StandsFor self.new.end h)) }
+        // `WornOut` comes only if the remote end has accepted `most_steps` steps.
+        ensures worn_out { (h : List Input) → StandsFor self.old.end h → IsErrOf result ScriptFault.WornOut → most_steps ≤ length h }
     {
         let Some(held) = self.script.held(number) else {
             return Err(ScriptFault::NotHeld);
@@ -144,10 +152,11 @@ impl ScriptedEnd {
 
     // Releases a command whose connection is gone.
     fn release_lost(&mut self, number: u64, conn: JsUint) -> Result<Taken, ScriptFault>
-        ensures lost { IfOk result (λ t. (map sent_of t.sent.items ≡ Lost conn.value ∷ []) × (t.is_of_machine ≡ false)) }
+        ensures lost { IfOk result (λ t. (map sent_of t.sent.items ≡ Lost conn.value ∷ []) × (t.is_of_machine ≡ false) × (t.held ≡ None)) }
         ensures released { OnOk result (script_of self.new.script ≡ without_held number (script_of self.old.script)) }
         ensures err { OnErr result (script_of self.new.script ≡ script_of self.old.script) }
         ensures end { self.new.end ≡ self.old.end }
+        ensures worn_out { IsErrOf result ScriptFault.WornOut → ⊥ }
     {
         match only(self.alloc, Sent::Lost(conn)) {
             Ok(sent) => {
@@ -170,12 +179,13 @@ impl ScriptedEnd {
         text: String,
     ) -> Result<Taken, ScriptFault>
         ensures handed_on { (script_of self.old.script).known ≡ []
-            → IfOk result (λ t. (i : Input) × IsHeardAs (steps.Text conn.value (string_bytes text)) i × (t.is_of_machine ≡ true)
+            → IfOk result (λ t. (i : Input) × IsHeardAs (steps.Text conn.value (string_bytes text)) i × (t.is_of_machine ≡ true) × (t.held ≡ None)
             × ((h : List Input) → StandsFor self.old.end h → (map sent_of t.sent.items ≡ out h i) × StandsFor self.new.end (i ∷ h))) }
         ensures released { (h : List Input) → StandsFor self.old.end h
             → OnOk result ((script_of self.new.script).held ≡ (without_held number (script_of self.old.script)).held) }
         ensures err { OnErr result ((script_of self.new.script ≡ script_of self.old.script)
             × ((h : List Input) → StandsFor self.old.end h → StandsFor self.new.end h)) }
+        ensures worn_out { (h : List Input) → StandsFor self.old.end h → IsErrOf result ScriptFault.WornOut → most_steps ≤ length h }
     {
         match self.hear_names(conn, text) {
             Ok(taken) => {
@@ -202,6 +212,8 @@ impl ScriptedEnd {
         ensures err { OnErr result (script_of self.new.script ≡ script_of self.old.script) }
         // The remote end is unchanged.
         ensures end { self.new.end ≡ self.old.end }
+        // `WornOut` comes only if the remote end has accepted `most_steps` steps.
+        ensures worn_out { (h : List Input) → StandsFor self.old.end h → IsErrOf result ScriptFault.WornOut → most_steps ≤ length h }
     {
         let Some(held) = self.script.held(number) else {
             return Err(ScriptFault::NotHeld);
@@ -215,7 +227,8 @@ impl ScriptedEnd {
 
     // What is sent for a held command that is answered so.
     fn release_sent(&self, held: &HeldCommand, answer: &Answer) -> Result<Vec<Sent>, RemoteFault>
-        ensures { (h : List Input) → StandsFor self.now.end h
+        ensures worn_out { (h : List Input) → StandsFor self.now.end h → IsErrOf result RemoteFault.WornOut → most_steps ≤ length h }
+        ensures sends { (h : List Input) → StandsFor self.now.end h
             → IfOk result (λ sent. map sent_of sent.items ≡ release_sent (deeds h) (script_of self.now.script).named (held_of held.now) (answer_of answer.now)) }
     {
         if held.is_lost || !self.end.is_open(held.conn) {
@@ -232,8 +245,10 @@ impl ScriptedEnd {
     /// `BadRow`, `NoMemory`, `WornOut`.
     pub fn emit(&self, event: &str) -> Result<Vec<Sent>, ScriptFault>
         // After an Ok, the event of this text goes to the sessions that it reaches, in the machine's order, and to no other.
-        ensures { (h : List Input) → StandsFor self.now.end h
+        ensures ok { (h : List Input) → StandsFor self.now.end h
             → IfOk result (λ sent. (e : spec.Event) × IsEventText event.now e × (map sent_of sent.items ≡ emitted (deeds h) (script_of self.now.script).named e)) }
+        // `WornOut` comes only if the remote end has accepted `most_steps` steps.
+        ensures worn_out { (h : List Input) → StandsFor self.now.end h → IsErrOf result ScriptFault.WornOut → most_steps ≤ length h }
     {
         let mut scratch = Scratch::new(self.alloc);
         let event = read_event(self.alloc, event, &mut scratch)?;
@@ -255,6 +270,8 @@ impl ScriptedEnd {
         ensures err { OnErr result (script_of self.new.script ≡ script_of self.old.script) }
         // The remote end is unchanged.
         ensures end { self.new.end ≡ self.old.end }
+        // `WornOut` never comes.
+        ensures worn_out { IsErrOf result ScriptFault.WornOut → ⊥ }
     {
         let mut scratch = Scratch::new(self.alloc);
         let follower = Follower {
@@ -295,10 +312,14 @@ impl ScriptedEnd {
     /// # Errors
     /// Nothing has changed then. `NoMemory`, `BadName`, `TooManyNames`.
     pub fn names(&mut self, names: &str) -> Result<(), ScriptFault>
+        // After an Ok, more names are known, and nothing else of the script has changed.
+        ensures ok { OnOk result ((more : List (List ℕ)) × (script_of self.new.script ≡ with_names more (script_of self.old.script))) }
         // After an error the script is as it was.
         ensures err { OnErr result (script_of self.new.script ≡ script_of self.old.script) }
         // The remote end is unchanged.
         ensures end { self.new.end ≡ self.old.end }
+        // `WornOut` never comes.
+        ensures worn_out { IsErrOf result ScriptFault.WornOut → ⊥ }
     {
         let names = names_in(self.alloc, names)?;
         if self.script.known.len().saturating_add(names.len()) > MOST_KNOWN {

@@ -1,5 +1,6 @@
 //! What is sent for the answers and the events of a test.
-ghost use Rattle.std.specs.Prelude.{◌≡◌, [], ◌∷◌, ◌++◌, List, map, flat_map, filter, IfOk, OnOk, string_bytes};
+ghost use Rattle.std.specs.Prelude.{◌≡◌, ◌≤◌, [], ◌∷◌, ◌++◌, List, length, map, flat_map, filter, IfOk, OnOk, IsErrOf, string_bytes};
+ghost use Rattle.bidi_sessions.specs.Limits.{most_steps};
 ghost use Rattle.bidi_sessions.specs.View.{sent_of};
 ghost use Rattle.bidi_rows.specs.View.{event_of, events_of, answer_of};
 ghost use Rattle.bidi_remote.specs.Machine.History.{Input};
@@ -27,8 +28,9 @@ pub(crate) fn answer_sent(
     id: JsUint,
     answer: &Answer,
 ) -> Result<Vec<Sent>, RemoteFault>
-    ensures { (h : List Input) → StandsFor end.now h
+    ensures sends { (h : List Input) → StandsFor end.now h
         → IfOk result (λ sent. map sent_of sent.items ≡ answer_sent (deeds h) (map named_of named.now) conn.value id.value (answer_of answer.now)) }
+    ensures worn_out { (h : List Input) → StandsFor end.now h → IsErrOf result RemoteFault.WornOut → most_steps ≤ length h }
 {
     let mut sent = Vec::new(alloc);
     push_events(end, named, &answer.before, &mut sent)?;
@@ -52,8 +54,9 @@ pub(crate) fn push_events(
     events: &[Event],
     sent: &mut Vec<Sent>,
 ) -> Result<(), RemoteFault>
-    ensures { (h : List Input) → StandsFor end.now h → IfOk result (λ _. map sent_of sent.new.items
+    ensures sends { (h : List Input) → StandsFor end.now h → IfOk result (λ _. map sent_of sent.new.items
         ≡ map sent_of sent.old.items ++ all_emitted (deeds h) (map named_of named.now) (events_of events.now)) }
+    ensures worn_out { (h : List Input) → StandsFor end.now h → IsErrOf result RemoteFault.WornOut → most_steps ≤ length h }
 {
     for event in events {
         push_event(end, named, event, sent)?;
@@ -68,8 +71,9 @@ pub(crate) fn push_event(
     event: &Event,
     sent: &mut Vec<Sent>,
 ) -> Result<(), RemoteFault>
-    ensures { (h : List Input) → StandsFor end.now h → IfOk result (λ _. map sent_of sent.new.items
+    ensures sends { (h : List Input) → StandsFor end.now h → IfOk result (λ _. map sent_of sent.new.items
         ≡ map sent_of sent.old.items ++ emitted (deeds h) (map named_of named.now) (event_of event.now)) }
+    ensures worn_out { (h : List Input) → StandsFor end.now h → IsErrOf result RemoteFault.WornOut → most_steps ≤ length h }
 {
     let top = top_of_event(end, event)?;
     let sessions = end.sessions()?;
@@ -79,7 +83,8 @@ pub(crate) fn push_event(
 
 // The top-level context in whose tree an event happens.
 fn top_of_event(end: &RemoteEnd, event: &Event) -> Result<Option<Top>, RemoteFault>
-    ensures { (h : List Input) → StandsFor end.now h → IfOk result (λ top. top ≡ top_of_event (deeds h) (event_of event.now)) }
+    ensures top { (h : List Input) → StandsFor end.now h → IfOk result (λ top. top ≡ top_of_event (deeds h) (event_of event.now)) }
+    ensures worn_out { (h : List Input) → StandsFor end.now h → IsErrOf result RemoteFault.WornOut → most_steps ≤ length h }
 {
     match &event.context {
         Some(context) => end.top_at(context.as_str()),

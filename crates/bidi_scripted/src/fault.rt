@@ -1,6 +1,7 @@
 //! Why a call of a scripted end had no effect.
-ghost use Rattle.std.specs.Prelude.{◌≡◌};
-ghost use Rattle.bidi_scripted.specs.declared.fault.ScriptFault.TheVariants.{NoMemory};
+ghost use Rattle.std.specs.Prelude.{◌≡◌, ◌≢◌};
+ghost use Rattle.bidi_scripted.specs.Faults.{fault_of};
+ghost use Rattle.bidi_scripted.specs.declared.fault.ScriptFault.TheVariants.{NoMemory, WornOut};
 
 use bidi_remote::RemoteFault;
 use bidi_rows::RowFault;
@@ -53,6 +54,8 @@ impl<T: Drop> From<AllocFailed<T>> for ScriptFault {
 }
 
 impl From<RemoteFault> for ScriptFault {
+    ghost from_gives = { λ error fault. fault ≡ fault_of error };
+
     fn from(error: RemoteFault) -> ScriptFault {
         match error {
             RemoteFault::NoMemory => ScriptFault::NoMemory,
@@ -62,6 +65,8 @@ impl From<RemoteFault> for ScriptFault {
 }
 
 impl From<RowFault> for ScriptFault {
+    ghost from_gives = { λ _ fault. fault ≢ WornOut };
+
     fn from(error: RowFault) -> ScriptFault {
         match error {
             RowFault::NoMemory => ScriptFault::NoMemory,

@@ -1,7 +1,7 @@
 //! The names of events and modules that a test made known, and what sessions ask of them.
-ghost use Rattle.std.specs.Prelude.{◌≡◌, ◌==◌, get_or, map, string_bytes, eqb};
-ghost use Rattle.std.specs.List.{starts_with, list_any};
-ghost use Rattle.bidi_scripted.specs.Names.{is_in, is_or_in, makes_known, is_known};
+ghost use Rattle.std.specs.Prelude.{◌≡◌, ◌==◌, get_or, map, string_bytes, eqb, IsErrOf};
+ghost use Rattle.std.specs.List.{starts_with, list_all, list_any};
+ghost use Rattle.bidi_scripted.specs.Names.{is_in, is_or_in, makes_known, is_known, is_name, is_name_byte};
 
 use crate::fault::ScriptFault;
 use bidi_handles::{IdKind, Refusal, id_number};
@@ -49,10 +49,12 @@ const LONGEST_NAME: usize = 255;
 ///
 /// # Errors
 /// `NoMemory`, or `BadName` if one is no name that can be made known.
-pub(crate) fn names_in(alloc: Global, text: &str) -> Result<Vec<String>, ScriptFault> {
+pub(crate) fn names_in(alloc: Global, text: &str) -> Result<Vec<String>, ScriptFault>
+    ensures worn_out { IsErrOf result ScriptFault.WornOut → ⊥ }
+{
     let mut names = Vec::new(alloc);
     for name in text.split(' ') {
-        if !is_name(name) {
+        if name != "*" && !is_name(name) {
             return Err(ScriptFault::BadName);
         }
         names.push(String::from_str(alloc, name)?)?;
@@ -60,21 +62,37 @@ pub(crate) fn names_in(alloc: Global, text: &str) -> Result<Vec<String>, ScriptF
     Ok(names)
 }
 
-// Whether a name can be made known: `*`, or 1 to 255 letters, digits, `.`, `:`, `-` and `_`.
-fn is_name(name: &str) -> bool {
-    name == "*"
-        || (!name.is_empty()
-            && name.len() <= LONGEST_NAME
-            && name.bytes().all(|b| b.is_ascii_alphanumeric()
-                || b == b'.'
-                || b == b':'
-                || b == b'-'
-                || b == b'_'))
+// Whether a text is a name: 1 to 255 letters, digits, `.`, `:`, `-` and `_`.
+fn is_name(name: &str) -> bool
+    ensures { result ≡ is_name name.now }
+{
+    1 <= name.len() && name.len() <= LONGEST_NAME && has_name_bytes(name)
 }
 
-/// Whether a name is known: by itself, by its module, or as all are.
+// Whether each byte of a text can stand in a name.
+fn has_name_bytes(text: &str) -> bool
+    ensures { result ≡ list_all is_name_byte text.now }
+{
+    text.as_bytes().iter().all(|b| is_name_byte(*b))
+}
+
+// Whether a byte can stand in a name.
+fn is_name_byte(b: u8) -> bool
+    ensures { result ≡ is_name_byte b }
+{
+    matches!(b, b'a'..=b'z' | b'A'..=b'Z' | b'0'..=b'9' | b'.' | b':' | b'-' | b'_')
+}
+
+/// Whether a text is a name and known: by itself, by its module, or as all are.
 pub(crate) fn is_known(known: &[String], name: &str) -> bool
     ensures { result ≡ is_known (map string_bytes known.now) name.now }
+{
+    is_name(name) && is_known_by(known, name)
+}
+
+// Whether one of these texts makes a name known.
+fn is_known_by(known: &[String], name: &str) -> bool
+    ensures { result ≡ list_any (λ by. makes_known by name.now) (map string_bytes known.now) }
 {
     is_made_known(known, name)
 }

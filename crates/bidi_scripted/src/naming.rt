@@ -1,7 +1,8 @@
 //! How sessions subscribe to names that are known, beside the remote end.
-ghost use Rattle.std.specs.Prelude.{◌≡◌, ◌<◌, [], List, IfOk, OnOk, OnErr, string_bytes, vec_len, vec_capacity};
+ghost use Rattle.std.specs.Prelude.{◌≡◌, ◌<◌, ◌≤◌, [], List, length, IfOk, OnOk, OnErr, IsErrOf, string_bytes, vec_len, vec_capacity};
 ghost use Rattle.bidi_remote.specs.Machine.History.{Input};
 ghost use Rattle.bidi_remote.specs.State.Stands.{StandsFor};
+ghost use Rattle.bidi_sessions.specs.Limits.{most_steps};
 ghost use Rattle.bidi_sessions.specs.Step as steps;
 ghost use Rattle.bidi_scripted.specs.Becomes.{IsHandedOn, TakesPart};
 ghost use Rattle.bidi_scripted.specs.View.{script_of};
@@ -32,6 +33,7 @@ impl ScriptedEnd {
     pub(crate) fn hear_names(&mut self, conn: JsUint, text: String) -> Result<Taken, RemoteFault>
         ensures plain { (script_of self.old.script).known ≡ [] → IsHandedOn (steps.Text conn.value (string_bytes text)) self.old.end self.new.end result }
         ensures part { (h : List Input) → StandsFor self.old.end h → IfOk result (TakesPart conn.value h (script_of self.old.script) self.new.end (script_of self.new.script)) }
+        ensures worn_out { (h : List Input) → StandsFor self.old.end h → IsErrOf result RemoteFault.WornOut → most_steps ≤ length h }
         ensures err { OnErr result ((script_of self.new.script ≡ script_of self.old.script)
             × ((h : List Input) → StandsFor self.old.end h → StandsFor self.new.end h)) }
     {
@@ -44,6 +46,7 @@ impl ScriptedEnd {
     // Takes a message while names are known.
     fn hear_known(&mut self, conn: JsUint, text: String) -> Result<Taken, RemoteFault>
         ensures part { (h : List Input) → StandsFor self.old.end h → IfOk result (TakesPart conn.value h (script_of self.old.script) self.new.end (script_of self.new.script)) }
+        ensures worn_out { (h : List Input) → StandsFor self.old.end h → IsErrOf result RemoteFault.WornOut → most_steps ≤ length h }
         ensures err { OnErr result ((script_of self.new.script ≡ script_of self.old.script)
             × ((h : List Input) → StandsFor self.old.end h → StandsFor self.new.end h)) }
     {
@@ -79,6 +82,7 @@ impl ScriptedEnd {
         asked: Option<NamesAsked>,
     ) -> Result<Taken, RemoteFault>
         ensures part { (h : List Input) → StandsFor self.old.end h → IfOk result (TakesPart conn.value h (script_of self.old.script) self.new.end (script_of self.new.script)) }
+        ensures worn_out { (h : List Input) → StandsFor self.old.end h → IsErrOf result RemoteFault.WornOut → most_steps ≤ length h }
         ensures err { OnErr result ((script_of self.new.script ≡ script_of self.old.script)
             × ((h : List Input) → StandsFor self.old.end h → StandsFor self.new.end h)) }
     {
@@ -101,6 +105,7 @@ impl ScriptedEnd {
         wanted: NamesWanted,
     ) -> Result<Taken, RemoteFault>
         ensures part { (h : List Input) → StandsFor self.old.end h → IfOk result (TakesPart conn.value h (script_of self.old.script) self.new.end (script_of self.new.script)) }
+        ensures worn_out { (h : List Input) → StandsFor self.old.end h → IsErrOf result RemoteFault.WornOut → most_steps ≤ length h }
         ensures err { OnErr result ((script_of self.new.script ≡ script_of self.old.script)
             × ((h : List Input) → StandsFor self.old.end h → StandsFor self.new.end h)) }
     {
@@ -133,6 +138,7 @@ impl ScriptedEnd {
         ensures script { script_of self.new.script ≡ script_of self.old.script }
         ensures end { self.new.end ≡ self.old.end }
         ensures room { OnOk result (vec_len self.new.script.named < vec_capacity self.new.script.named) }
+        ensures worn_out { (h : List Input) → StandsFor self.old.end h → IsErrOf result RemoteFault.WornOut → most_steps ≤ length h }
     {
         let scope = self.scope_of(contexts, users)?;
         let active = self.end.sessions()?;
@@ -151,6 +157,7 @@ impl ScriptedEnd {
     ) -> Result<Taken, RemoteFault>
         requires { vec_len self.now.script.named < vec_capacity self.now.script.named }
         ensures part { (h : List Input) → StandsFor self.old.end h → IfOk result (TakesPart conn.value h (script_of self.old.script) self.new.end (script_of self.new.script)) }
+        ensures worn_out { (h : List Input) → StandsFor self.old.end h → IsErrOf result RemoteFault.WornOut → most_steps ≤ length h }
         ensures err { OnErr result ((script_of self.new.script ≡ script_of self.old.script)
             × ((h : List Input) → StandsFor self.old.end h → StandsFor self.new.end h)) }
     {
@@ -181,6 +188,7 @@ impl ScriptedEnd {
         wanted: NamesWanted,
     ) -> Result<Taken, RemoteFault>
         ensures part { (h : List Input) → StandsFor self.old.end h → IfOk result (TakesPart conn.value h (script_of self.old.script) self.new.end (script_of self.new.script)) }
+        ensures worn_out { (h : List Input) → StandsFor self.old.end h → IsErrOf result RemoteFault.WornOut → most_steps ≤ length h }
         ensures err { OnErr result ((script_of self.new.script ≡ script_of self.old.script)
             × ((h : List Input) → StandsFor self.old.end h → StandsFor self.new.end h)) }
     {
@@ -214,6 +222,7 @@ impl ScriptedEnd {
         numbers: Vec<u64>,
     ) -> Result<Taken, RemoteFault>
         ensures part { (h : List Input) → StandsFor self.old.end h → IfOk result (TakesPart conn.value h (script_of self.old.script) self.new.end (script_of self.new.script)) }
+        ensures worn_out { (h : List Input) → StandsFor self.old.end h → IsErrOf result RemoteFault.WornOut → most_steps ≤ length h }
         ensures err { OnErr result ((script_of self.new.script ≡ script_of self.old.script)
             × ((h : List Input) → StandsFor self.old.end h → StandsFor self.new.end h)) }
     {
@@ -232,7 +241,9 @@ impl ScriptedEnd {
         &self,
         contexts: Option<Vec<String>>,
         users: Option<Vec<String>>,
-    ) -> Result<Scope, RemoteFault> {
+    ) -> Result<Scope, RemoteFault>
+        ensures worn_out { (h : List Input) → StandsFor self.now.end h → IsErrOf result RemoteFault.WornOut → most_steps ≤ length h }
+    {
         match (contexts, users) {
             (Some(contexts), _) => Ok(Scope::Below(self.tops_of(&contexts)?)),
             (None, Some(users)) => Ok(Scope::Within(user_numbers(self.alloc, &users)?)),
@@ -241,7 +252,9 @@ impl ScriptedEnd {
     }
 
     // The numbers of the top-level contexts above the contexts of these ids.
-    fn tops_of(&self, ids: &[String]) -> Result<Vec<u64>, RemoteFault> {
+    fn tops_of(&self, ids: &[String]) -> Result<Vec<u64>, RemoteFault>
+        ensures worn_out { (h : List Input) → StandsFor self.now.end h → IsErrOf result RemoteFault.WornOut → most_steps ≤ length h }
+    {
         let mut tops = Vec::new(self.alloc);
         for id in ids {
             if let Some(top) = self.end.top_at(id.as_str())? {

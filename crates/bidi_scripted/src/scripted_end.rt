@@ -1,8 +1,9 @@
 //! The scripted end, with its public calls.
-ghost use Rattle.std.specs.Prelude.{◌≡◌, ◌<◌, [], ◌∷◌, List, ℕ, map, find, true, false, Some, None, IfOk, OnOk, OnErr, option_map, string_bytes, vec_len};
+ghost use Rattle.std.specs.Prelude.{◌≡◌, ◌<◌, ◌≤◌, [], ◌∷◌, List, ℕ, length, map, find, true, false, Some, None, IfOk, OnOk, OnErr, IsErrOf, option_map, string_bytes, vec_len};
 ghost use Rattle.std.specs.List.{position};
 ghost use Rattle.bidi_params.specs.declared.error_code.ErrorCode.TheVariants.{UnknownError};
 ghost use Rattle.bidi_messages.specs.Message.{error_text};
+ghost use Rattle.bidi_sessions.specs.Limits.{most_steps};
 ghost use Rattle.bidi_sessions.specs.View.{step_of, sent_of};
 ghost use Rattle.bidi_rows.specs.Command.{Command};
 ghost use Rattle.bidi_rows.specs.Rows as row;
@@ -123,6 +124,8 @@ impl ScriptedEnd {
         // After an error the script is as it was, and the remote end stands for the histories that it stood for before.
         ensures err { OnErr result ((script_of self.new.script ≡ script_of self.old.script)
             × ((h : List Input) → StandsFor self.old.end h → StandsFor self.new.end h)) }
+        // `WornOut` comes only if the remote end has accepted `most_steps` steps.
+        ensures worn_out { (h : List Input) → StandsFor self.old.end h → IsErrOf result RemoteFault.WornOut → most_steps ≤ length h }
     {
         self.take(step)
     }
@@ -196,6 +199,7 @@ impl ScriptedEnd {
         ensures becomes { (h : List Input) → StandsFor self.old.end h → is_open (deeds h) conn.value ≡ true
             → IfOk result (λ t. Becomes (fate (deeds h) (script_of self.old.script)
             (steps.Text conn.value (string_bytes text))) h (steps.Text conn.value (string_bytes text)) self.old.end (script_of self.old.script) self.new.end (script_of self.new.script) t) }
+        ensures worn_out { (h : List Input) → StandsFor self.old.end h → IsErrOf result RemoteFault.WornOut → most_steps ≤ length h }
         ensures err { OnErr result ((script_of self.new.script ≡ script_of self.old.script)
             × ((h : List Input) → StandsFor self.old.end h → StandsFor self.new.end h)) }
     {
@@ -228,6 +232,7 @@ impl ScriptedEnd {
             → position (λ r. matches command (row_of r)) self.old.script.rows.items ≡ Some found.place
             → IfOk result (λ t. Becomes (by_row (script_of self.old.script) conn.value (string_bytes text) command
             (find (matches command) (script_of self.old.script).rows)) h (steps.Text conn.value (string_bytes text)) self.old.end (script_of self.old.script) self.new.end (script_of self.new.script) t) }
+        ensures worn_out { (h : List Input) → StandsFor self.old.end h → IsErrOf result RemoteFault.WornOut → most_steps ≤ length h }
         ensures err { OnErr result (script_of self.new.script ≡ script_of self.old.script) }
         ensures end { self.new.end ≡ self.old.end }
     {
@@ -248,7 +253,8 @@ impl ScriptedEnd {
     // What is sent for a command that a row answers; `None` if the row holds it.
     fn answered(&self, conn: JsUint, found: FoundRow) -> Result<Option<Vec<Sent>>, RemoteFault>
         requires { found.place < vec_len self.now.script.rows }
-        ensures { (h : List Input) (command : Command) (r : row.Row) → StandsFor self.now.end h
+        ensures worn_out { (h : List Input) → StandsFor self.now.end h → IsErrOf result RemoteFault.WornOut → most_steps ≤ length h }
+        ensures sends { (h : List Input) (command : Command) (r : row.Row) → StandsFor self.now.end h
             → position (λ r. matches command (row_of r)) self.now.script.rows.items ≡ Some found.place
             → find (matches command) (script_of self.now.script).rows ≡ Some r
             → IfOk result (λ sent. option_map (λ v. map sent_of v.items) sent
@@ -272,6 +278,7 @@ impl ScriptedEnd {
         text: String,
     ) -> Result<Taken, RemoteFault>
         requires { found.place < vec_len self.now.script.rows }
+        ensures worn_out { IsErrOf result RemoteFault.WornOut → ⊥ }
         ensures becomes { (h : List Input) (command : Command) → command.id ≡ found.id.value
             → position (λ r. matches command (row_of r)) self.old.script.rows.items ≡ Some found.place
             → IfOk result (λ t. Becomes (by_action (script_of self.old.script) conn.value (string_bytes text) command Holds)

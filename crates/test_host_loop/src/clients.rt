@@ -41,6 +41,8 @@ pub struct Client {
     pub has_ended: bool,
     /// Whether that is since its stream was reset.
     pub was_reset: bool,
+    /// Whether it calls over HTTP, so that the host reads the texts of its connection.
+    pub calls: bool,
 }
 
 impl Client {
@@ -61,6 +63,7 @@ impl Client {
             closed: None,
             has_ended: false,
             was_reset: false,
+            calls: false,
         })
     }
 

@@ -246,6 +246,11 @@ impl Lab {
         Ok(place)
     }
 
+    /// The port at which the host listens.
+    pub fn port(&self) -> u16 {
+        self.at.port()
+    }
+
     /// The next connection that is asked for, by number. Numbers begin anew with each browser.
     pub fn next_conn(&mut self) -> Conn {
         let epoch = self.world.records.len().saturating_sub(1);

@@ -4,7 +4,11 @@
 #[cfg(test)]
 mod broken;
 #[cfg(test)]
+mod calls;
+#[cfg(test)]
 mod clients;
+#[cfg(test)]
+mod faults;
 #[cfg(test)]
 mod files;
 #[cfg(test)]
@@ -13,6 +17,8 @@ mod frames;
 mod lab;
 #[cfg(test)]
 mod leniency;
+#[cfg(test)]
+mod once;
 #[cfg(test)]
 mod records;
 #[cfg(test)]

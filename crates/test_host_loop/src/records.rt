@@ -2,7 +2,7 @@
 use crate::clients::{Client, Conn};
 use crate::lab::Lab;
 use bidi_lines::Device;
-use bidi_play::play;
+use bidi_script_lines::play_scripted;
 use std::alloc::{AllocError, Global};
 use std::str::from_utf8;
 use std::test::Fail;
@@ -10,7 +10,7 @@ use std::test::Fail;
 /// Whether each record, played in memory, gives each client the texts that it read, byte for byte and in order; and whether no
 /// text is given to anyone else.
 ///
-/// A client that left, or that was closed as it read too slowly, may have read less.
+/// A client that left, or that was closed as it read too slowly, may have read less. The host itself reads the texts for a call.
 ///
 /// # Errors
 /// The first record or client for which it is not so.
@@ -44,7 +44,7 @@ fn played(alloc: Global, record: &str) -> Result<String, Fail> {
     let mut written = Vec::new(alloc);
     let mut source = Device::new(record.as_bytes());
     let mut sink = Device::new(&mut written);
-    play(alloc, &mut source, &mut sink)?;
+    play_scripted(alloc, &mut source, &mut sink)?;
     drop(sink);
     Ok(String::from_str(alloc, from_utf8(&written)?)?)
 }
@@ -115,5 +115,5 @@ fn may_lack(client: &Client) -> bool {
         Some(closed) => closed.code == 1013,
         None => false,
     };
-    is_slow || client.has_left() && client.closed.is_none()
+    client.calls || is_slow || client.has_left() && client.closed.is_none()
 }

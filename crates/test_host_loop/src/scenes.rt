@@ -108,13 +108,13 @@ page hears no effect: unknown context
 page says at 05
 page hears no line of a page: "05" is no moment, a whole number from 0 to 9007199254740991
 page says open 1 /session
-page hears no line of a page: "open" is none of at, frame, unframe, log, value, reset and end
+page hears no line of a page: "open" is none of at, frame, unframe, log, value, answer, hold, release, unanswer, emit, on, names, send, bytes, cut, close, reset and end
 page says drop 1
-page hears no line of a page: "drop" is none of at, frame, unframe, log, value, reset and end
+page hears no line of a page: "drop" is none of at, frame, unframe, log, value, answer, hold, release, unanswer, emit, on, names, send, bytes, cut, close, reset and end
 page says > 1 STATUS
-page hears no line of a page: ">" is none of at, frame, unframe, log, value, reset and end
+page hears no line of a page: ">" is none of at, frame, unframe, log, value, answer, hold, release, unanswer, emit, on, names, send, bytes, cut, close, reset and end
 page says binary 1
-page hears no line of a page: "binary" is none of at, frame, unframe, log, value, reset and end
+page hears no line of a page: "binary" is none of at, frame, unframe, log, value, answer, hold, release, unanswer, emit, on, names, send, bytes, cut, close, reset and end
 page says log @c1 fatal x
 page hears no line of a page: "fatal" is no level: debug, info, warn or error
 page says log @c1 info
@@ -130,13 +130,13 @@ page hears no line of a page: wants value ROW
 page says at
 page hears no line of a page: wants at N
 page says resets
-page hears no line of a page: "resets" is none of at, frame, unframe, log, value, reset and end
+page hears no line of a page: "resets" is none of at, frame, unframe, log, value, answer, hold, release, unanswer, emit, on, names, send, bytes, cut, close, reset and end
 page says reset now
 page hears no line of a page: nothing may stand behind `reset` and `end`
 page says ‹70 x› y
-page hears no line of a page: a word of 70 bytes is none of at, frame, unframe, log, value, reset and end
+page hears no line of a page: a word of 70 bytes is none of at, frame, unframe, log, value, answer, hold, release, unanswer, emit, on, names, send, bytes, cut, close, reset and end
 page says
-page hears no line of a page: "" is none of at, frame, unframe, log, value, reset and end
+page hears no line of a page: "" is none of at, frame, unframe, log, value, answer, hold, release, unanswer, emit, on, names, send, bytes, cut, close, reset and end
 page says at 5\n
 page hears no line of a page: a line feed in it
 page says at 5\nat 6
@@ -307,7 +307,7 @@ fn each_close_has_its_code(rt: HostRuntime) -> Result<(), Fail> {
 }
 
 const ASKED: &str = r#"1 asks GET /status HTTP/1.1|Host: x
-1 gets 200 ready
+1 gets 200 {"value":{"ready":true,"message":"ready"}}
 2 asks GET /session HTTP/1.1|Host: x
 2 gets 426 upgrade required
 3 asks GET /page HTTP/1.1|Host: x
@@ -315,7 +315,7 @@ const ASKED: &str = r#"1 asks GET /status HTTP/1.1|Host: x
 4 asks nonsense
 4 gets 400 bad request
 5 asks POST /session HTTP/1.1|FIELDS
-5 gets 400 bad request
+5 gets 411 length required
 6 asks GET /session HTTP/1.1|FIELDS|Origin: http://evil.test
 6 gets 403 forbidden
 7 asks GET /page HTTP/1.1|FIELDS|Origin: http://evil.test
@@ -335,15 +335,15 @@ page opens /page
 page says at 5
 page hears ok
 79 asks GET /status HTTP/1.1|Host: x
-79 gets 200 ready
+79 gets 200 {"value"
 81 asks POST /session HTTP/1.1|Host: x||‹1000000 x›
-81 gets 400 bad request
+81 gets 411 length required
 82 asks GET /status HTTP/1.0
-82 gets 200 ready
+82 gets 200 {"value"
 83 asks GET /session HTTP/1.0|FIELDS
 83 gets 426 upgrade required
 84 asks GET /status HTTP/1.1‹124 |a: b›
-84 gets 200 ready
+84 gets 200 {"value"
 85 asks GET /status HTTP/1.1‹125 |a: b›
 85 gets 400 bad request: a head has at most 124 header fields
 «14 to 77 # is served
@@ -562,8 +562,8 @@ input types open 1 /session
 input types
 input types at 5
 input hears no effect: unknown context
-input hears no line of a page: "open" is none of at, frame, unframe, log, value, reset and end
-input hears no line of a page: "" is none of at, frame, unframe, log, value, reset and end
+input hears no line of a page: "open" is none of at, frame, unframe, log, value, answer, hold, release, unanswer, emit, on, names, send, bytes, cut, close, reset and end
+input hears no line of a page: "" is none of at, frame, unframe, log, value, answer, hold, release, unanswer, emit, on, names, send, bytes, cut, close, reset and end
 input hears ok
 page opens /page
 input types reset

@@ -8,13 +8,16 @@
 //! | `NAME is served` | `session.status` is answered: the browser is ready |
 //! | `NAME is denied STATUS RESOURCE` | one whose handshake was answered by this status; the remote end was asked |
 //! | `NAME asks LINE\|LINE` | one that wrote this head; `FIELDS` stands for what asks for a WebSocket |
+//! | `NAME calls LINE\|LINE\|\|BODY` | one that wrote this call, for which the remote end was asked |
 //! | `NAME gets STATUS TEXT` | it read an answer of this status, whose body is a line that begins so, and then the end |
+//! | `NAME is told STATUS JSON` | it read a reply of this status with this JSON text, and then the end; `PORT` is the host's |
 //! | `NAME says TEXT` | it writes a text; `\n` stands for a line feed |
 //! | `NAME sends HEX` | it writes bytes |
 //! | `NAME hears TEXT` | the next text that it reads is this |
 //! | `NAME has TEXT` | the same, and it came before |
 //! | `NAME is closed CODE` | it reads a close frame of this code, answers it, and leaves |
 //! | `NAME is there`, `NAME is cut` | its stream has not ended, or ends with nothing read |
+//! | `NAME is lost` | its stream ends after a handshake, without a close frame and with no text that was not asked for |
 //! | `NAME leaves` | it closes its stream |
 //! | `clock goes N` | N seconds pass |
 //! | `record ends LINE` | the last line of the record becomes this; `\r` stands for a carriage return |
@@ -22,6 +25,7 @@
 //! | `input hears LINE` | the next line of standard output is this |
 //! | `host rests` | the host does all that is to be done |
 //! | `host ends` | the host ends |
+use crate::calls::{calls, is_told};
 use crate::clients::Client;
 use crate::frames::{CLOSE, Closed, FIELDS, TEXT, head_of, push_frame};
 use crate::lab::{Awaited, Lab};
@@ -59,7 +63,7 @@ fn run_in(rt: &HostRuntime, lab: Lab, scene: &str) -> Result<(), Fail> {
 }
 
 /// Runs the steps of a scene, and checks the records.
-fn run_all(rt: &HostRuntime, lab: &mut Lab, scene: &str) -> Result<(), Fail> {
+pub fn run_all(rt: &HostRuntime, lab: &mut Lab, scene: &str) -> Result<(), Fail> {
     for line in scene.lines() {
         let step = long_text(rt.alloc(), line)?;
         if !run_step(rt, lab, step.as_str())? {
@@ -130,6 +134,7 @@ fn run_client(
         "opens" => opens(rt, lab, name, text),
         "begins" => begins(rt, lab, name, text),
         "asks" => asks(rt, lab, name, text),
+        "calls" => calls(rt, lab, name, text),
         "is" => run_state(rt, lab, name, text),
         _ => {
             let place = lab.place_of(name)?;
@@ -173,6 +178,7 @@ fn run_state(rt: &HostRuntime, lab: &mut Lab, name: &str, text: &str) -> Result<
     match state {
         "served" => is_served(lab, place),
         "closed" => is_closed(lab, place, text.parse::<u16>()?),
+        "told" => is_told(lab, place, text),
         "there" => {
             lab.rest()?;
             lab.client(place)?.read()?;
@@ -182,6 +188,12 @@ fn run_state(rt: &HostRuntime, lab: &mut Lab, name: &str, text: &str) -> Result<
             lab.wait_for(place, Awaited::End)?;
             let client = lab.client(place)?;
             Ok(client.has_ended && client.head.is_none() && client.body() == "")
+        }
+        "lost" => {
+            lab.wait_for(place, Awaited::End)?;
+            let client = lab.client(place)?;
+            let has_all = client.asked == client.texts.len();
+            Ok(client.has_ended && client.head.is_some() && client.closed.is_none() && has_all)
         }
         _ => Err(Fail::new(format_args!("{state} is no state"))),
     }
@@ -210,7 +222,7 @@ pub fn ask_for(rt: &HostRuntime, lab: &mut Lab, name: &str, resource: &str) -> R
 }
 
 /// Whether the answer to a client's head has this status.
-fn has_status(client: &Client, status: &str) -> bool {
+pub fn has_status(client: &Client, status: &str) -> bool {
     let Some(head) = &client.head else {
         return false;
     };
@@ -322,6 +334,7 @@ fn is_closed(lab: &mut Lab, place: usize, code: u16) -> Result<bool, Fail> {
 pub const PLAIN: Manners = Manners {
     ends_sessions: false,
     is_lenient: false,
+    ends_after_last: false,
     reads_input: false,
     most_waiting: 64 << 20,
     most_held: 1 << 30,

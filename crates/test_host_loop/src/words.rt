@@ -4,10 +4,11 @@ use std::test::Fail;
 use testing::repeats::repeated;
 
 /// The letter of each kind of id, and how such an id begins.
-const KINDS: [(&str, &str); 5] = [
+const KINDS: [(&str, &str); 6] = [
     ("s", "00000000-0001"),
     ("c", "00000000-0002"),
     ("r", "00000000-0003"),
+    ("n", "00000000-0004"),
     ("u", "00000001-0005"),
     ("v", "00000002-0005"),
 ];
@@ -33,7 +34,7 @@ const WORDS: [(&str, &str); 5] = [
     ),
 ];
 
-/// The scene with what its words stand for: `@s1` is the id of the first session, and so `@c1` that of a context, `@r1` of a
+/// The scene with what its words stand for: `@s1` is the id of the first session, and so `@c1` that of a context, `@n1` of a navigation, `@r1` of a
 /// realm, `@u1` of a subscription of the first session and `@v1` of one of the second. What comes many times stands once.
 pub fn spelled_out(alloc: Global, scene: &str) -> Result<String, Fail> {
     let mut scene = repeated(alloc, scene)?;

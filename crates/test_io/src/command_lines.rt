@@ -11,6 +11,16 @@ use std::test::Fail;
 /// What a command line gives, and its words. `''` is an empty word.
 const LINES: &str = r#"play: play
 play: play --
+scripted play: play --scripted
+scripted play: play --scripted --
+usage: play -- --scripted
+usage: play --scripted --scripted
+usage: play --scripted=1
+usage: play --scripted=
+usage: play --script
+usage: play --scripted extra
+usage: --scripted play
+usage: pair --scripted
 pair: pair
 pair: pair --
 help: --help
@@ -199,6 +209,10 @@ host 1 stdin end-sessions lenient a b: host --lenient --end-sessions --record=b 
 host 9222 stdin - -: host --stdin
 host 9222 end-sessions - -: host --end-sessions
 host 9222 lenient - -: host --lenient
+host 9222 once - -: host --once
+host 9222 lenient once - -: host --lenient --once
+host 9222 lenient once - -: host --once --lenient
+host 4444 stdin end-sessions lenient once p.txt r.txt: host --port 4444 --page p.txt --stdin --record r.txt --end-sessions --lenient --once
 host 9222 p.txt -: host --page p.txt
 host 9222 - r.txt: host --record r.txt
 host 9222 - -: host --max-buffered 1
@@ -226,6 +240,9 @@ usage: host --record a --record b
 usage: host --stdin --stdin
 usage: host --end-sessions --end-sessions
 usage: host --lenient --lenient
+usage: host --once --once
+usage: host --once=1
+usage: serve --once --port 0 --connections 1 --messages 1
 usage: host --stdin=true
 usage: host --lenient=
 usage: host --page
@@ -406,6 +423,7 @@ fn run_text(alloc: Global, run: Run) -> Result<String, AllocError> {
 fn stream_text(alloc: Global, run: StreamRun) -> Result<String, AllocError> {
     match run {
         StreamRun::Play => String::from_str(alloc, "play"),
+        StreamRun::ScriptedPlay => String::from_str(alloc, "scripted play"),
         StreamRun::Pair => String::from_str(alloc, "pair"),
         StreamRun::Reduce(session) => format!(in alloc; "reduce {session}"),
         StreamRun::Show(side) => format!(in alloc; "show {}", side_name(side)),
@@ -446,8 +464,9 @@ fn options_text(
     let stdin = flag_text(options.reads_input, " stdin");
     let sessions = flag_text(options.ends_sessions, " end-sessions");
     let lenient = flag_text(options.is_lenient, " lenient");
+    let once = flag_text(options.ends_after_last, " once");
     format!(in alloc;
-        "host {}{stdin}{sessions}{lenient} {} {}",
+        "host {}{stdin}{sessions}{lenient}{once} {} {}",
         options.port,
         name_of(&files.page_file),
         name_of(&files.record_file)

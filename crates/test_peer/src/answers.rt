@@ -38,13 +38,15 @@ impl Asked for Lines {
 }
 
 const LINES: &str = "
-a status | whole GET /status HTTP/1.1 -> ready
-by an old HTTP | whole GET /status HTTP/1.0 -> ready
+a status | whole GET /status HTTP/1.1 -> {\"value\":{\"ready\":true,\"message\":\"ready\"}}
+by an old HTTP | whole GET /status HTTP/1.0 -> {\"value\":{\"ready\":true,\"message\":\"ready\"}}
 no request | whole hello -> bad request: not an HTTP/1.x request with a head of at most 65536 bytes
-124 fields | whole+fields124 GET /status HTTP/1.1;FIELDS -> ready
+124 fields | whole+fields124 GET /status HTTP/1.1;FIELDS -> {\"value\":{\"ready\":true,\"message\":\"ready\"}}
 125 fields | whole+fields125 GET /status HTTP/1.1;FIELDS -> bad request: a head has at most 124 header fields
 125 fields, in single bytes | ones+fields125 GET /status HTTP/1.1;FIELDS -> bad request: a head has at most 124 header fields
-another method | whole PUT /status HTTP/1.1 -> bad request: the method must be GET
+no length | whole POST /session HTTP/1.1 -> length required: a POST needs a Content-Length, or chunks
+too long | whole POST /session HTTP/1.1;Content-Length: 65537 -> content too large: a body has at most 65536 bytes
+no number | whole POST /session HTTP/1.1;Content-Length: 1x -> bad request: a body needs one Content-Length, or chunks as in HTTP/1.1
 another host | whole GET /status HTTP/1.1;Origin: http://a.test -> forbidden: an Origin must be http(s)://127.0.0.1 or http(s)://localhost, with any port
 no upgrade | whole GET /session HTTP/1.1 -> upgrade required: connect by WebSocket, version 13
 no key | whole GET /session HTTP/1.1;UPGRADE;Sec-WebSocket-Version: 13 -> bad request: Sec-WebSocket-Key must be 16 bytes in base64
@@ -62,12 +64,12 @@ const UPGRADE: &str = "Upgrade: websocket;Connection: keep-alive, Upgrade";
 const KEY: &str = "Sec-WebSocket-Version: 13;Sec-WebSocket-Key: dGhlIHNhbXBsZSBub25jZQ==";
 
 const STATUS: &str = "
-whole,ones GET /status HTTP/1.1;Host: 127.0.0.1 -> 200 OK, ready
-whole GET /status HTTP/1.0 -> 200 OK, ready
-as long as may be | whole+long65507 GET /status HTTP/1.1;A: LONG -> 200 OK, ready
+whole,ones GET /status HTTP/1.1;Host: 127.0.0.1 -> 200 OK, {\"value\"
+whole GET /status HTTP/1.0 -> 200 OK, {\"value\"
+as long as may be | whole+long65507 GET /status HTTP/1.1;A: LONG -> 200 OK, {\"value\"
 one byte longer | whole+long65508 GET /status HTTP/1.1;A: LONG -> 400 Bad Request, bad request
-another method | whole HEAD /status HTTP/1.1 -> 400 Bad Request, bad request
-another method | whole POST /status HTTP/1.1;Content-Length: 0 -> 400 Bad Request, bad request
+in absolute form | whole GET http://127.0.0.1:9222/status HTTP/1.1 -> 200 OK, {\"value\"
+in absolute form | whole GET HTTP://localhost/status HTTP/1.1 -> 200 OK, {\"value\"
 with an upgrade | missing GET /status HTTP/1.1;UPGRADE;KEY -> 404 Not Found, no such resource
 ";
 
@@ -77,8 +79,8 @@ fn a_status_is_ready(rt: HostRuntime) -> Result<(), Fail> {
 }
 
 const ORIGINS: &str = "
-whole GET /status HTTP/1.1;Origin: http://127.0.0.1 -> 200 OK, ready
-whole GET /status HTTP/1.1;origin: https://localhost:3000 -> 200 OK, ready
+whole GET /status HTTP/1.1;Origin: http://127.0.0.1 -> 200 OK, {\"value\"
+whole GET /status HTTP/1.1;origin: https://localhost:3000 -> 200 OK, {\"value\"
 whole GET /status HTTP/1.1;Origin: https://a.test -> 403 Forbidden, forbidden
 whole GET /status HTTP/1.1;Origin: null -> 403 Forbidden, forbidden
 whole GET /status HTTP/1.1;Origin: -> 403 Forbidden, forbidden
@@ -109,7 +111,10 @@ another version | whole GET /session HTTP/1.1;UPGRADE;Sec-WebSocket-Version: 8;K
 no version | whole GET /session HTTP/1.1;UPGRADE;Sec-WebSocket-Key: dGhlIHNhbXBsZSBub25jZQ== -> 426 Upgrade Required, upgrade required
 no key | whole GET /session HTTP/1.1;UPGRADE;Sec-WebSocket-Version: 13 -> 400 Bad Request, bad request
 a key that is too short | whole GET /session HTTP/1.1;UPGRADE;Sec-WebSocket-Version: 13;Sec-WebSocket-Key: dGhlIHNhbXBsZSBub25j -> 400 Bad Request, bad request
-another method | whole POST /session HTTP/1.1;UPGRADE;KEY -> 400 Bad Request, bad request
+another method | whole POST /session HTTP/1.1;UPGRADE;KEY -> 411 Length Required, length required
+a page | whole GET /page HTTP/1.1 -> 426 Upgrade Required, upgrade required
+a session | whole GET /session/a HTTP/1.1 -> 426 Upgrade Required, upgrade required
+in absolute form | whole GET http://127.0.0.1/session HTTP/1.1 -> 426 Upgrade Required, upgrade required
 no request | whole hello -> 400 Bad Request, bad request
 TLS | whole \x16\x03\x01 -> 400 Bad Request, bad request
 ";
@@ -170,7 +175,12 @@ fn told(alloc: Global, answer: &str) -> Result<String, Fail> {
     let length = format!(in alloc; "Content-Length: {}", body.len())?;
     has_field(fields, length.as_str())?;
     has_field(fields, "Connection: close")?;
-    has_field(fields, "Content-Type: text/plain; charset=utf-8")?;
+    if status.contains("200") {
+        has_field(fields, "Content-Type: application/json; charset=utf-8")?;
+        has_field(fields, "Cache-Control: no-cache")?;
+    } else {
+        has_field(fields, "Content-Type: text/plain; charset=utf-8")?;
+    }
     if status.contains("426") {
         has_field(fields, "Upgrade: websocket")?;
         has_field(fields, "Sec-WebSocket-Version: 13")?;

@@ -314,6 +314,7 @@ fn push_came(told: &mut String, came: Came) -> Result<(), Fail> {
         Came::Nothing => told.push_str("- ")?,
         Came::More => told.push_str("+ ")?,
         Came::Asks(target) => write!(told, "Asks({target}) ")?,
+        Came::Calls(call) => write!(told, "Calls({}) ", call.resource)?,
         Came::Text(text) => push_text(told, text.as_str())?,
         Came::NotText => told.push_str("NotText ")?,
         Came::Ended => told.push_str("Ended ")?,

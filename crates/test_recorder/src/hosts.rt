@@ -1,6 +1,7 @@
 //! A host call by call: the line that says each input, and what is sent.
 use bidi_recorder::{Host, HostFault, Recorded};
 use bidi_remote::Sent;
+use bidi_script_lines::Outcome;
 use bidi_tree::JsUint;
 use std::alloc::{AllocError, Global};
 use std::test::Fail;
@@ -36,6 +37,18 @@ page_line log C1 info x -> log C1 info x
 page_line log C2 info x -> log C2 info x, no effect
 page_line value {"text":"x","argument":0} -> value {"text":"x","argument":0}
 page_line value {} -> value {}, no effect
+page_line hold {"method":"session.status","times":1} -> hold {"method":"session.status","times":1}
+heard 1 STATUS -> > 1 STATUS, held 1
+page_line release 1 -> release 1, < 1 READY
+page_line release 1 -> release 1, no effect: no command of this number is held
+page_line answer {"method":"session.status","result":{},"times":1} -> answer {"method":"session.status","result":{},"times":1}
+heard 1 STATUS -> > 1 STATUS, < 1 {"id":1,"result":{},"type":"success"}
+page_line send 1 x -> send 1 x, < 1 x
+page_line send 7 x -> send 7 x, no effect: the connection is not open
+page_line bytes 1 0aF -> bytes 1 0aF, no effect: the bytes are not pairs of hexadecimal digits
+page_line bytes 1 00aF -> bytes 1 00aF, bytes 1 00aF
+page_line close 1 999 -> close 1 999, no effect: no close code that a server may send
+page_line release x -> no line of a page
 page_line  -> no line of a page
 page_line at 05 -> no line of a page
 page_line at 5\n -> no line of a page
@@ -194,7 +207,19 @@ fn outcome_of(alloc: Global, taken: Result<Recorded, HostFault>) -> Result<Strin
 
 /// The line that was taken, and what is sent.
 fn told(alloc: Global, taken: Recorded) -> Result<String, AllocError> {
-    let Recorded { line, sent } = taken;
+    let Recorded { line, outcome } = taken;
+    match outcome {
+        Outcome::OfMachine(sent) | Outcome::Sent(sent) => told_sent(alloc, line, sent),
+        Outcome::Held(number) => format!(in alloc; "{line}, held {number}"),
+        Outcome::Bytes(conn, digits) => format!(in alloc; "{line}, bytes {} {digits}", conn.value),
+        Outcome::Cut(conn) => format!(in alloc; "{line}, cut {}", conn.value),
+        Outcome::Closed(conn, code) => format!(in alloc; "{line}, close {} {code}", conn.value),
+        Outcome::NoEffect(reason) => format!(in alloc; "{line}, no effect: {reason}"),
+    }
+}
+
+/// The line, and each thing that is sent.
+fn told_sent(alloc: Global, line: String, sent: Vec<Sent>) -> Result<String, AllocError> {
     let mut told = line;
     for one in sent {
         told.push_str(", ")?;

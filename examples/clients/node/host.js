@@ -27,6 +27,8 @@ class Host {
   constructor(program, words) {
     this.command = [program, ...words].join(' ')
     this.waiting = [] // what settles the promise of the start, and then of each line of a page, in order
+    this.commands = [] // the commands that are held and that nobody has asked for
+    this.asking = [] // what settles the promise of each `held`, in order
     this.errors = [] // the last lines of standard error
     this.sockets = new Set()
     const notRun = ({ code }) => fault(`cannot run \`${program}\` (${code}): the environment variable BIDI has to name the program \`bidi\``)
@@ -41,10 +43,10 @@ class Host {
     })
     this.failure.catch(error => {
       this.fault = error
-      for (const { reject } of this.waiting.splice(0)) reject(error)
+      for (const { reject } of [...this.waiting.splice(0), ...this.asking.splice(0)]) reject(error)
     })
     this.child.stdin.on('error', () => {}) // The program has ended, so `failure` says more.
-    createInterface(this.child.stdout).on('line', line => this.waiting.shift()?.resolve(line))
+    createInterface(this.child.stdout).on('line', line => line.startsWith('held ') ? this.holds(line) : this.waiting.shift()?.resolve(line))
     createInterface(this.child.stderr).on('line', line => this.told(line)) // to its end, so that the pipe never fills
   }
 
@@ -84,10 +86,44 @@ class Host {
     return this.answered()
   }
 
-  // Makes the browser new and closes the connections of all clients.
+  // Sends a line of a page that ends in JSON and has to have an effect.
+  async tell(words, value) {
+    const answer = await this.page(`${words} ${JSON.stringify(value)}`)
+    if (answer !== 'ok') throw new Error(answer)
+  }
+
+  // Answers a method in place of the browser from now on: by a result, or by `error` with a `message` in `row`.
+  // `params`, `times`, `before` and `after` of `row` are those of the line `answer`.
+  answer(method, result = {}, row = {}) {
+    return this.tell('answer', 'error' in row ? { method, ...row } : { method, result, ...row })
+  }
+
+  // Holds the commands of a method from now on. `params` and `times` of `row` are those of the line `hold`. See `held`.
+  hold(method, row = {}) {
+    return this.tell('hold', { method, ...row })
+  }
+
+  // Takes the line of a command that is held.
+  holds(line) {
+    const [, number, conn, text] = /^held (\d+) (\d+) (.*)$/s.exec(line)
+    const command = { number: Number(number), conn: Number(conn), text }
+    const asked = this.asking.shift()
+    if (asked) asked.resolve(command)
+    else this.commands.push(command)
+  }
+
+  // The next command that is held: its number for `release`, its connection, and its text.
+  held() {
+    if (this.fault) return Promise.reject(this.fault)
+    if (this.commands.length > 0) return Promise.resolve(this.commands.shift())
+    return this.killedIfLate(new Promise((resolve, reject) => this.asking.push({ resolve, reject })))
+  }
+
+  // Makes the browser new, closes the connections of all clients, and forgets the commands that are held.
   async reset() {
     const answer = await this.page('reset')
     if (answer !== 'ok') throw new Error(`reset: ${answer}`)
+    this.commands = []
   }
 
   // A socket that is open. A test need not close it.

@@ -267,7 +267,7 @@ for (const resource of ['/', '/session/', '/session/none', '/devtools']) {
 
 test('the status is told over HTTP', withHost(async host => {
   const { status, text } = await got(host, '/status')
-  assert.deepEqual([status, text.trim()], [200, 'ready'])
+  assert.deepEqual([status, text.trim()], [200, '{"value":{"ready":true,"message":"ready"}}'])
 }))
 
 test('a request that asks for no upgrade is told so', withHost(async host => {

@@ -10,6 +10,7 @@ import collections
 import contextlib
 import inspect
 import itertools
+import json
 import os
 import queue
 import re
@@ -43,7 +44,7 @@ class Host:
             raise HostFault(f"cannot run `{program}` ({error.strerror}): "
                             "the environment variable BIDI has to name the program `bidi`") from None
         self.url, self.ready, self.fault_told = None, threading.Event(), False
-        self.answers, self.errors = queue.Queue(), collections.deque(maxlen=20)
+        self.answers, self.commands, self.errors = queue.Queue(), queue.Queue(), collections.deque(maxlen=20)
         self.readers = [threading.Thread(target=read, daemon=True) for read in (self._read_answers, self._read_errors)]
         for reader in self.readers:
             reader.start()
@@ -54,10 +55,12 @@ class Host:
             raise fault
 
     def _read_answers(self):
-        """Queues each line of standard output, and `None` at its end."""
+        """Queues each line of standard output, those of held commands apart, and `None` at its end."""
         for line in self.child.stdout:
-            self.answers.put(line.rstrip("\n"))
+            lines = self.commands if line.startswith("held ") else self.answers
+            lines.put(line.rstrip("\n"))
         self.answers.put(None)
+        self.commands.put(None)
 
     def _read_errors(self):
         """Reads standard error to its end, so that the pipe never fills, and keeps the last lines."""
@@ -74,19 +77,53 @@ class Host:
         __tracebackhide__ = True
         if "\n" in line:
             raise ValueError(f"not one line: {line!r}")
-        try:
+        with contextlib.suppress(OSError):  # if the program has ended
             self.child.stdin.write(line + "\n")
-            answer = self.answers.get(timeout=LIMIT)
-        except (OSError, queue.Empty):
-            answer = None
-        if answer is None:
+        return self._next(self.answers)
+
+    def _next(self, lines):
+        """The next of these lines of standard output."""
+        __tracebackhide__ = True
+        try:
+            line = lines.get(timeout=LIMIT)
+        except queue.Empty:
+            line = None
+        if line is None:
             raise self.fault()
-        return answer
+        return line
+
+    def _tell(self, words, value):
+        """Sends a line of a page that ends in JSON and has to have an effect."""
+        __tracebackhide__ = True
+        answer = self.page(f"{words} {json.dumps(value)}")
+        assert answer == "ok", answer
+
+    def answer(self, method, result=None, **row):
+        """Answers a method in place of the browser from now on: by a result, or by `error` with a `message`.
+
+        `params`, `times`, `before` and `after` are those of the line `answer`.
+        """
+        __tracebackhide__ = True
+        self._tell("answer", {"method": method, **row} if "error" in row else {"method": method, "result": result or {}, **row})
+
+    def hold(self, method, **row):
+        """Holds the commands of a method from now on; `params` and `times` are those of the line `hold`. See `held`."""
+        __tracebackhide__ = True
+        self._tell("hold", {"method": method, **row})
+
+    def held(self):
+        """Waits for the next command that is held. Returns its number for `release`, its connection, and its text."""
+        __tracebackhide__ = True
+        _, number, conn, text = self._next(self.commands).split(" ", 3)
+        return int(number), int(conn), text
 
     def reset(self):
-        """Makes the browser new and closes the connections of all clients."""
+        """Makes the browser new, closes the connections of all clients, and forgets the commands that are held."""
         __tracebackhide__ = True
         assert self.page("reset") == "ok"
+        with contextlib.suppress(queue.Empty):
+            while self.commands.get_nowait():
+                pass
 
     def connect(self, resource="/session", **options):
         """Opens a connection: `await host.connect()`, or `async with host.connect() as socket`. A test need not close it."""

@@ -267,4 +267,4 @@ async def test_another_resource_is_not_found(host, resource):
 
 def test_the_status_is_told_over_http(host):
     with urllib.request.urlopen(host.url.replace("ws:", "http:") + "/status", timeout=5) as answer:
-        assert (answer.status, answer.read().strip()) == (200, b"ready")
+        assert (answer.status, json.load(answer)) == (200, {"value": {"ready": True, "message": "ready"}})

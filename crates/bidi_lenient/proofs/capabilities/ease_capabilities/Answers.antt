@@ -1,7 +1,8 @@
 use Rattle.std.proofs.Common.{◌≡◌, codes, rules, subst}
 use Rattle.std.specs.Prelude.{IfOk}
 use Rattle.bidi_tree.specs.View.{node}
-use Rattle.bidi_lenient.specs.Eased.{within, request_eased, requests_eased}
+use Rattle.bidi_lenient.specs.Members.{within}
+use Rattle.bidi_lenient.specs.Eased.{request_eased, requests_eased}
 use Rattle.bidi_lenient.proofs.capabilities.ease_capabilities.Goals as goal
 
 pub returns : goal.returns

@@ -1,6 +1,6 @@
 use Rattle.std.proofs.Common.{◌≡◌, ◌++◌, map, string_bytes}
 use Rattle.bidi_tree.specs.View.{node, members_node}
-use Rattle.bidi_lenient.specs.Names.{members_told, request_told}
+use Rattle.bidi_lenient.specs.Reports.{members_told, request_told}
 use Rattle.bidi_lenient.proofs.capabilities.tell_request.Given as goal
 
 abbrev pub invariant-loop-name : goal.invariant-loop-name

@@ -1,6 +1,6 @@
 use Rattle.std.proofs.Common.{◌≡◌, ◌++◌, map, drop, string_bytes}
 use Rattle.bidi_tree.specs.View.{items_node}
-use Rattle.bidi_lenient.specs.Names.{items_told}
+use Rattle.bidi_lenient.specs.Reports.{items_told}
 use Rattle.bidi_lenient.proofs.capabilities.tell_requests.Given as goal
 
 abbrev pub invariant-loop-request : goal.invariant-loop-request

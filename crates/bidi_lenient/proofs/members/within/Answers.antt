@@ -2,7 +2,7 @@ use Rattle.std.proofs.Common.{◌≡◌, Ok, refl, ap, ◌∙◌, subst}
 use Rattle.std.specs.Prelude.{IfOk}
 use Rattle.std.specs.Option.{option_map_or}
 use Rattle.bidi_tree.specs.View.{node}
-use Rattle.bidi_lenient.specs.Eased.{put_in}
+use Rattle.bidi_lenient.specs.Members.{put_in}
 use Rattle.bidi_lenient.proofs.members.within.Goals as goal
 
 pub returns-in_ok-ease-in-Some : goal.returns-in_ok-ease-in-Some

@@ -9,10 +9,10 @@ use Rattle.bidi_scripted.specs.Subscriptions.{named_of}
 use Rattle.bidi_scripted.specs.Sending.{event_named, reaches}
 use Rattle.bidi_scripted.proofs.emitting.push_event.Goals as goal
 
-pub returns : goal.returns
-returns c = λ h s.
+pub returns-clause-sends : goal.returns-clause-sends
+returns-clause-sends c = λ h s.
     let e = event_of c.args.event.now in
     c.in_ok-push_reached.ensures h s
     ∙ ap₂ (λ top ss. map sent_of c.args.sent.now.items ++ flat_map (λ n. map (λ k. Text k e.text) (connections_of (deeds h) n))
     (filter (reaches (deeds h) (map named_of c.args.named.now) e.method (event_named e.method) top) ss))
-    (c.in_ok-top.ensures h s) (c.deref.ensures.value ∙ c.in_ok-sessions.ensures h s)
+    (c.in_ok-top.ensures.top h s) (c.deref.ensures.value ∙ c.in_ok-sessions.ensures h s)

@@ -19,10 +19,10 @@ loop-event-preserved c = λ h s.
     let rest = all_emitted past named (events_of (drop (i + 1) all)) in
     c.loop-event.invariant h s
     ∙ (ap (λ es. sent ++ all_emitted past named (events_of es)) (from-item all i x (omega arith) c.event-item.is)
-    ∙ (sym (append_assoc sent (emitted past named (event_of x)) rest) ∙ ap (λ zs. zs ++ rest) (sym (c.in_ok-push_event.ensures h s))))
+    ∙ (sym (append_assoc sent (emitted past named (event_of x)) rest) ∙ ap (λ zs. zs ++ rest) (sym (c.in_ok-push_event.ensures.sends h s))))
 
-pub returns : goal.returns
-returns c = λ h s.
+pub returns-clause-sends : goal.returns-clause-sends
+returns-clause-sends c = λ h s.
     sym (c.loop-event.invariant h s
     ∙ (ap (λ left. map sent_of c.loop-event.sent.items ++ all_emitted (deeds h) (map named_of c.args.named.now) (events_of left))
     (drop_all c.loop-event.event-index c.args.events.now c.loop-event-test.false)

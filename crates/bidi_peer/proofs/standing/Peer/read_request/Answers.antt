@@ -1,8 +1,8 @@
-use Rattle.std.proofs.Common.{rules, ◌≡◌, ◌∙◌, ap, length, Some, subst, sym}
+use Rattle.std.proofs.Common.{rules, ◌∙◌, ap, length, Some, subst, sym}
 use Rattle.std.specs.Prelude.{IfSome}
 use Rattle.bidi_peer.specs.Hearing.{IsHeard, Receives}
 use Rattle.bidi_peer.specs.Telling.{HasEnded}
-use Rattle.bidi_peer.specs.Requests.{IsUnfinished}
+use Rattle.bidi_peer.specs.Requests.{IsAskedBy, IsUnfinished}
 use Rattle.bidi_peer.specs.Waiting.{untaken}
 use Rattle.bidi_peer.proofs.HearingLemmas.{heard_behind, heard_then, receives_then}
 use Rattle.bidi_peer.proofs.UnfinishedLemmas.{still_unfinished}
@@ -17,13 +17,13 @@ loop-preserved g c =
     let came : Receives remaining first read = receives_then remaining g.S.Write.contents first c.loop.self read c.loop.invariant.receives (c.in_ok-came.ensures.receives (search rules)) in
     elim c.if-is_to_judge.branch [
       | then-is_to_judge+in_ok-asked+in_ok-came-2+in_default-2 w ↦
-          let same : w.hear.new.self ≡ read = w.in_ok-came-2.ensures.part (search rules) in
-          let heard : Receives remaining first w.hear.new.self = subst (λ p. Receives remaining first p) (sym same) came in
+          let heard : Receives remaining first w.hear.new.self =
+          receives_then remaining g.S.Write.contents first read w.hear.new.self came (w.in_ok-came-2.ensures.part (search rules)) in
           rw w.self-is (record {
             known = (λ k. heard.end ∙ k, λ k. sym heard.end ∙ k);
             reads = subst (λ s. HasEnded s → ⊥) (sym heard.state) c.requires;
             receives = heard;
-            waits = λ was. subst (λ p. IsUnfinished (untaken p.inbox)) (sym same) (w.in_ok-came-2.ensures.unfinished (search rules));
+            waits = λ was. w.in_ok-came-2.ensures.unfinished (search rules);
           })
       | else-is_to_judge w ↦
           rw w.self-is (record {
@@ -32,9 +32,10 @@ loop-preserved g c =
             receives = came;
             waits = λ was.
                 let reads = (c.in_ok-came.ensures.receives (search rules)).reads in
-                subst IsUnfinished c.waiting.ensures
-                (still_unfinished (untaken c.loop.self.inbox) reads.came c.waiting.result.now (length c.waiting-known.result.now) (c.waiting.ensures ∙ reads.joins)
-                (ap length c.waiting-known.ensures) (c.is_to_judge.ensures (search rules)) (c.loop.invariant.waits was));
+                subst (IsUnfinished read.least) c.waiting.ensures
+                (still_unfinished (untaken c.loop.self.inbox) reads.came c.waiting.result.now (length c.waiting-known.result.now) read.least (c.waiting.ensures ∙ reads.joins)
+                (ap length c.waiting-known.ensures) (c.is_to_judge.ensures (search rules))
+                (subst (λ n. IsUnfinished n (untaken c.loop.self.inbox)) (sym (c.in_ok-came.ensures.least (search rules))) (c.loop.invariant.waits was)));
           })
     ]
 
@@ -58,3 +59,6 @@ returns-in-Some-2-clause-heard g c =
 
 pub returns-clause-heard : goal.returns-clause-heard
 returns-clause-heard g c = λ ahead. (c.loop.invariant.receives, c.loop.invariant.waits)
+
+pub hear-requires-clause-asks : goal.hear-requires-clause-asks
+hear-requires-clause-asks g c = subst (λ b. IsAskedBy b c.in_ok-asked.asked) c.waiting-then-is_to_judge.ensures c.in_ok-asked.ensures

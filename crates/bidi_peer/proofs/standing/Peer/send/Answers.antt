@@ -1,4 +1,5 @@
 use Rattle.std.proofs.Common.{arith}
+use Rattle.bidi_peer.specs.Sending.{text_frame}
 use Rattle.bidi_peer.proofs.SendingLemmas.{came_kept, no_room, sent, waited}
 use Rattle.bidi_peer.proofs.standing.Peer.send.Goals as goal
 
@@ -17,7 +18,7 @@ returns-clause-waits g c =
 pub returns-clause-sends : goal.returns-clause-sends
 returns-clause-sends g c =
     λ was still.
-    sent g.S.Write.contents c.args.text.now c.args.self.now c.make_room.new.self c.put_text.new.self c.write_much.new.self c.make_room.ensures.flushes
+    sent g.S.Write.contents (text_frame c.args.text.now) c.args.self.now c.make_room.new.self c.put_text.new.self c.write_much.new.self c.make_room.ensures.flushes
     (c.is_open.ensures.0 c.if-not-is_open.false) c.in_ok-put_text.ensures.puts c.write_much.ensures.flushes still
 
 pub returns-clause-came : goal.returns-clause-came

@@ -8,19 +8,19 @@ use Rattle.bidi_scripted.specs.Subscriptions.{named_of}
 use Rattle.bidi_scripted.proofs.UseLemmas.{row-there}
 use Rattle.bidi_scripted.proofs.scripted_end.ScriptedEnd.answered.Goals as goal
 
-pub returns-in_ok-sent-in-Answer : goal.returns-in_ok-sent-in-Answer
-returns-in_ok-sent-in-Answer c = λ h command r s at is.
+pub returns-in_ok-sent-in-Answer-clause-sends : goal.returns-in_ok-sent-in-Answer-clause-sends
+returns-in_ok-sent-in-Answer-clause-sends c = λ h command r s at is.
     let past = deeds h in
     let n = c.args.conn.value in
     let id = c.args.found.id.value in
     let named = map named_of c.args.self.now.script.named.items in
     let there = row-there command c.args.self.now.script.rows.items c.args.found.place c.index.result.now r at c.index.ensures is in
-    ap Some (c.in_ok-sent-in-Answer.ensures h s
+    ap Some (c.in_ok-sent-in-Answer.ensures.sends h s
     ∙ ap (λ ns. answer_sent past (map named_of ns) n id (answer_of c.in-Answer.answer)) c.deref.ensures.value)
     ∙ sym (ap (λ (x : Row). sent_by past named n id x.action) there ∙ ap (λ a. sent_by past named n id (action_of a)) c.in-Answer.is)
 
-pub returns-in-Hold : goal.returns-in-Hold
-returns-in-Hold c = λ h command r s at is.
+pub returns-in-Hold-clause-sends : goal.returns-in-Hold-clause-sends
+returns-in-Hold-clause-sends c = λ h command r s at is.
     let past = deeds h in
     let n = c.args.conn.value in
     let id = c.args.found.id.value in

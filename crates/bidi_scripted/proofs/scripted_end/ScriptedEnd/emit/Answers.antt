@@ -6,11 +6,11 @@ use Rattle.bidi_scripted.specs.Sending.{emitted}
 use Rattle.bidi_scripted.specs.Subscriptions.{named_of}
 use Rattle.bidi_scripted.proofs.scripted_end.ScriptedEnd.emit.Goals as goal
 
-pub returns : goal.returns
-returns c = λ h s.
+pub returns-clause-ok : goal.returns-clause-ok
+returns-clause-ok c = λ h s.
     let event = event_of c.in_ok-event.event in (
       event,
       c.in_ok-event.ensures,
-      c.in_ok-push_event.ensures h s
+      c.in_ok-push_event.ensures.sends h s
           ∙ ap₂ (λ before ns. map sent_of before ++ emitted (deeds h) (map named_of ns) event) c.new-sent.ensures.items c.deref.ensures.value,
     )

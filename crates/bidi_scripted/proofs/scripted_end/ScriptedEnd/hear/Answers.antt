@@ -33,13 +33,14 @@ returns-in-Ok c =
     let err = subst₂ (λ e sc. OnErr result ((script_of new.script ≡ script_of sc) × ((h : List Input) → StandsFor e h → StandsFor new.end h)))
     c.in-Ok.ensures.end c.in-Ok.ensures.script c.take_found.ensures.err in
     taken-found step _ _ script _ result no (λ h s. found h s (sym (c.is_open.ensures h s) ∙ c.if-not-is_open.false)) err
+    (λ h s. c.take_found.ensures.worn_out h (subst (λ e. StandsFor e h) (sym c.in-Ok.ensures.end) s))
 
 pub returns-in-Err : goal.returns-in-Err
 returns-in-Err c =
     let script = script_of c.args.self.now.script in
     let no : is_plain script ≡ false = sym c.is_plain.ensures ∙ c.if-is_plain.false in
     taken-found (steps.Text c.args.conn.value (string_bytes c.args.text)) _ _ script _ _ no (λ h s. tt)
-    (ap script_of c.in-Err.ensures.script, λ h s. subst (λ e. StandsFor e h) (sym c.in-Err.ensures.end) s)
+    (ap script_of c.in-Err.ensures.script, λ h s. subst (λ e. StandsFor e h) (sym c.in-Err.ensures.end) s) (λ h s e. cc)
 
 pub returns-then-not-is_open : goal.returns-then-not-is_open
 returns-then-not-is_open c =

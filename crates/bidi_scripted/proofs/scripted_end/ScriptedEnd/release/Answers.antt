@@ -15,4 +15,4 @@ returns-then-held-clause-not_held c = λ none. absurd (some_none (c.in-Some.ensu
 pub returns-then-held-clause-lost : goal.returns-then-held-clause-lost
 returns-then-held-clause-lost c = λ held is lost.
     let same : held_of c.in-Some.held.now ≡ held = some-same _ _ (c.in-Some.ensures ∙ is) in
-    if-ok c.release_lost.result (λ t p. (p.0 ∙ ap (λ (h : Held). Lost h.conn ∷ []) same, p.1, c.release_lost.ensures.end)) c.release_lost.ensures.lost
+    if-ok c.release_lost.result (λ t p. (p.0 ∙ ap (λ (h : Held). Lost h.conn ∷ []) same, p.1, p.2, c.release_lost.ensures.end)) c.release_lost.ensures.lost

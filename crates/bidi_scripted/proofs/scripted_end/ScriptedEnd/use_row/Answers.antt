@@ -21,7 +21,7 @@ returns-in-Ok-Some-clause-becomes c = λ h command s same at.
     let past = deeds h in
     let r = found-some command c.args.self.now.script.rows.items c.args.found.place at in
     let by = subst (λ (o : Option (Vec declared_sent.Sent Global)). option_map (λ v. map sent_of v.items) o ≡ sent_by past script.named n c.args.found.id.value r.0.action)
-    c.in-Ok-Some.field-0-is (c.in-Ok-Some.ensures h command r.0 s at r.1) in
+    c.in-Ok-Some.field-0-is (c.in-Ok-Some.ensures.sends h command r.0 s at r.1) in
     let it = row-answers script n text command c.args.found.id.value past (find (matches command) script.rows) r.0 (map sent_of c.in-Ok-Some.sent.items) r.1 by same in
     let taken : Taken = record { sent = c.in-Ok-Some.sent; is_of_machine = false; held = None } in
     subst (λ f. Becomes f h (steps.Text n text) c.args.self.now.end script c.args.self.now.end (script_of c.use_row.new.self) taken) (sym it.1)
@@ -36,7 +36,7 @@ returns-in-Ok-None-clause-becomes c = λ h command s same at.
     let new = c.hold_command.new.self in
     let r = found-some command c.args.self.now.script.rows.items c.args.found.place at in
     let by = subst (λ (o : Option (Vec declared_sent.Sent Global)). option_map (λ v. map sent_of v.items) o ≡ sent_by past script.named n c.args.found.id.value r.0.action)
-    c.in-Ok-None.field-0-is (c.in-Ok-None.ensures h command r.0 s at r.1) in
+    c.in-Ok-None.field-0-is (c.in-Ok-None.ensures.sends h command r.0 s at r.1) in
     subst (λ f. IfOk c.hold_command.result (λ t. Becomes f h (steps.Text n text) c.args.self.now.end script new.end (script_of new.script) t))
     (sym (row-holds script n text command c.args.found.id.value past (find (matches command) script.rows) r.0 r.1 by))
     (c.hold_command.ensures.becomes h command same at)

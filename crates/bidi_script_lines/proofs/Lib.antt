@@ -1,0 +1,5 @@
+pub mod OrderLemmas
+pub mod ScriptPlayLemmas
+pub mod PlainLemmas
+pub mod PerformLemmas
+pub mod StepLemmas

@@ -1,0 +1,80 @@
+-- A step that a scripted end takes, as the outcome of a line.
+use Rattle.std.proofs.Common.{◌≡◌, ℕ, true, false, List, [], ◌∷◌, ◌++◌, map, Option, Some, None, Result, Ok, Err, refl, sym, ap, subst, ◌∙◌}
+use Rattle.std.specs.Prelude.{codes}
+use Rattle.std.specs.Option.{option_map_or}
+use Rattle.json.specs.Json.{Json, document}
+use Rattle.bidi_rows.specs.Reading.{object_at, string_at}
+use Rattle.bidi_rows.specs.Command.{Command}
+use Rattle.bidi_rows.specs.Rows.{Answer}
+use Rattle.bidi_play.specs.Lines.{written}
+use Rattle.bidi_sessions.specs.Step.{Step}
+use Rattle.bidi_sessions.specs.View.{sent_of}
+use Rattle.bidi_remote.specs.Machine.Messages.{AllReadBack}
+use Rattle.bidi_remote.specs.Machine.Sent.{Sent, Text}
+use Rattle.bidi_remote.specs.declared.remote_end.RemoteFault.{RemoteFault}
+use Rattle.bidi_scripted.specs.Script.{Follower, no_script}
+use Rattle.bidi_scripted.specs.Sending.{following, followers_of, followed_by}
+use Rattle.bidi_scripted.specs.Becomes.{IsHandedOn}
+use Rattle.bidi_scripted.specs.Fate.{Fate, HandedOn, Answered, Held, Unheld, AsksNames}
+use Rattle.bidi_scripted.specs.declared.scripted_end.ScriptedEnd.{ScriptedEnd}
+use Rattle.bidi_scripted.specs.declared.scripted_end.Taken.{Taken}
+use Rattle.bidi_scripted.proofs.FateLemmas.{worn-ok, worn-err}
+use Rattle.bidi_script_lines.specs.Outcomes.{outcome_of, outcome_text, with_followers}
+use Rattle.bidi_script_lines.specs.declared.outcome.Outcome as declared
+use Rattle.bidi_script_lines.specs.Performing.{TakesStep, taken_outcome}
+use Rattle.bidi_script_lines.proofs.PerformLemmas.{taken-of_machine}
+
+-- ---- without followers nothing follows
+
+following-none : (m : Option (List ℕ)) (p : Option Json) → following [] m p ≡ []
+following-none None p = refl
+following-none (Some m) None = refl
+following-none (Some m) (Some p) = refl
+
+followers-none : (text : List ℕ) → followers_of [] text ≡ []
+followers-none text = at (document text)
+  where
+    at : (o : Option Json) → option_map_or (λ j. following [] (string_at (codes "method") j) (object_at (codes "params") j)) o [] ≡ []
+    at None = refl
+    at (Some j) = following-none (string_at (codes "method") j) (object_at (codes "params") j)
+
+followed-none : (s : Sent) → followed_by [] s ≡ []
+followed-none (Text c text) = ap (map (Text c)) (followers-none text)
+followed-none s = refl
+
+pub with-none : (sent : List Sent) → with_followers [] sent ≡ sent
+with-none [] = refl
+with-none (s ∷ ss) = let none = followed-none s in let rest = with-none ss in λ i. s ∷ (none i ++ rest i)
+
+-- ---- a step that is handed on
+
+pub takes-step : (step : Step) (old new : ScriptedEnd) (t : Taken) (o : declared.Outcome) → IsHandedOn step old.end new.end (Ok t)
+    → outcome_of o ≡ taken_outcome t → TakesStep step old new (Ok o)
+takes-step step old new t o on is = record {
+  ok = (
+    on.ok.0,
+    on.ok.1,
+    λ h s. (
+      ap (outcome_text no_script) (is ∙ taken-of_machine t on.ok.2 on.ok.3)
+          ∙ (ap written (with-none (map sent_of t.sent.items)) ∙ ap written (on.ok.4 h s).0),
+      subst AllReadBack (on.ok.4 h s).0 (on.ok.4 h s).1,
+      (on.ok.4 h s).2,
+    ),
+  );
+  err = tt;
+  worn_out = λ h s. worn-ok _ _ _ (on.worn_out h s);
+}
+
+pub refuses-step : (step : Step) (old new : ScriptedEnd) (e : RemoteFault) → IsHandedOn step old.end new.end (Err e) → TakesStep step old new (Err e)
+refuses-step step old new e on = record { ok = tt; err = on.err; worn_out = λ h s. worn-err _ _ (on.worn_out h s) }
+
+-- what holds of each fate holds of this one
+pub each-fate : (f : Fate) (P : Fate → Type 0) → (f ≡ HandedOn → P HandedOn)
+    → ((c : ℕ) (command : Command) (answer : Answer) → f ≡ Answered c command answer → P (Answered c command answer))
+    → ((c : ℕ) (command : Command) (text : List ℕ) → f ≡ Held c command text → P (Held c command text))
+    → ((c : ℕ) (command : Command) → f ≡ Unheld c command → P (Unheld c command)) → ((c : ℕ) (text : List ℕ) → f ≡ AsksNames c text → P (AsksNames c text)) → P f
+each-fate HandedOn P on answered held unheld names = on refl
+each-fate (Answered c command answer) P on answered held unheld names = answered c command answer refl
+each-fate (Held c command text) P on answered held unheld names = held c command text refl
+each-fate (Unheld c command) P on answered held unheld names = unheld c command refl
+each-fate (AsksNames c text) P on answered held unheld names = names c text refl

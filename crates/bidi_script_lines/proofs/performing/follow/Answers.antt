@@ -1,0 +1,15 @@
+use Rattle.std.proofs.Common.{inl, ap, map}
+use Rattle.bidi_sessions.specs.View.{sent_of}
+use Rattle.bidi_script_lines.specs.Outcomes.{OfTest}
+use Rattle.bidi_script_lines.specs.Performing.{Follows}
+use Rattle.bidi_script_lines.proofs.PerformLemmas.{no-effect}
+use Rattle.bidi_script_lines.proofs.performing.follow.Goals as goal
+
+pub returns-in-Ok-clause-brings : goal.returns-in-Ok-clause-brings
+returns-in-Ok-clause-brings c =
+    let call = c.in-Ok.ensures in
+    let empty = ap (λ items. OfTest (map sent_of items)) c.new.ensures.items in
+    inl (call.ok.0, call.ok.1, empty, call.end, call.ok.2)
+
+pub returns-in-Err-clause-brings : goal.returns-in-Err-clause-brings
+returns-in-Err-clause-brings c = no-effect (Follows c.args.method.now c.args.events.now c.args.end.now c.on.new.self) c.args.end.now c.on.new.self c.refused.result c.refused.ensures.ok (c.in-Err.ensures.end, c.in-Err.ensures.err)

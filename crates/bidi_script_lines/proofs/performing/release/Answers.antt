@@ -1,0 +1,28 @@
+use Rattle.std.proofs.Common.{inl, ap, ◌∙◌}
+use Rattle.bidi_scripted.specs.Script.{held_by}
+use Rattle.bidi_scripted.specs.View.{script_of}
+use Rattle.bidi_script_lines.specs.Outcomes.{OfMachine, OfTest}
+use Rattle.bidi_script_lines.specs.Performing.{Releases}
+use Rattle.bidi_script_lines.proofs.PerformLemmas.{there, taken-of_test, taken-of_machine, not-released}
+use Rattle.bidi_script_lines.proofs.performing.release.Goals as goal
+
+pub returns-in-Ok-clause-brings : goal.returns-in-Ok-clause-brings
+returns-in-Ok-clause-brings c = λ h s.
+    let call = c.in-Ok.ensures in
+    let taken = c.in-Ok.taken in
+    let (held, is) = there (held_by c.args.number.value (script_of c.args.end.now.script)) call.not_held in
+    inl (record {
+      held = held;
+      was_held = is;
+      lost = λ lost.
+          let p = call.lost held is lost in
+          (c.of_taken.ensures ∙ (taken-of_test taken p.2 p.1 ∙ ap OfTest p.0), p.3);
+      goes_on = λ lives none.
+          let p = call.handed_on held is lives none in
+          let sent = p.4 h s in
+          (p.0, p.1, c.of_taken.ensures ∙ (taken-of_machine taken p.3 p.2 ∙ ap OfMachine sent.0), sent.1);
+      released = call.released h s;
+    })
+
+pub returns-in-Err-clause-brings : goal.returns-in-Err-clause-brings
+returns-in-Err-clause-brings c = λ h s. not-released (Releases c.args.number.value h c.args.end.now c.release.new.self) c.args.end.now c.release.new.self c.refused.result c.refused.ensures.ok c.in-Err.ensures.err

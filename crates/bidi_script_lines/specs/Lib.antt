@@ -1,0 +1,6 @@
+pub mod ScriptLines
+pub mod View
+pub mod Outcomes
+pub mod Performing
+pub mod ScriptPlayers
+pub mod ScriptedPlays

@@ -1,0 +1,140 @@
+-- What each line of a scripted play brings about, in the words of the scripted end. Defined by this project.
+use Rattle.std.specs.Prelude.{◌≡◌, ◌⊎◌, ℕ, ◌≤◌, ◌%◌, ◌==◌, nat_le, Bool, true, false, ◌&&◌, ◌||◌, if◌then◌else◌, List, [], ◌∷◌, length, map, IfOk, OnErr, IsErrOf, ◌↔◌, Result, Some}
+use Rattle.std.specs.List.{list_all}
+use Rattle.std.specs.Option.{option_map_or}
+use Rattle.bidi_sessions.specs.Step.{Step}
+use Rattle.bidi_sessions.specs.Limits.{most_steps}
+use Rattle.bidi_remote.specs.Machine.History.{Input, Drop, IsHeardAs}
+use Rattle.bidi_remote.specs.Machine.Connections.{is_open}
+use Rattle.bidi_remote.specs.Machine.Outcome.{deeds}
+use Rattle.bidi_remote.specs.Machine.Messages.{AllReadBack}
+use Rattle.bidi_remote.specs.Machine.Sent.{out, Text, Lost}
+use Rattle.bidi_remote.specs.State.Stands.{StandsFor}
+use Rattle.bidi_remote.specs.declared.remote_end.RemoteFault.{RemoteFault}
+use Rattle.bidi_remote.specs.declared.remote_end.RemoteFault.TheVariants.{WornOut}
+use Rattle.bidi_rows.specs.Filling.{Template}
+use Rattle.bidi_rows.specs.Rows.{Row, Event, Answer}
+use Rattle.bidi_rows.specs.Reading.{IsAnswer, IsRow, IsEventText}
+use Rattle.bidi_rows.specs.Templates.{AreTemplateTexts}
+use Rattle.bidi_sessions.specs.Step as steps
+use Rattle.bidi_scripted.specs.Script as script
+use Rattle.bidi_scripted.specs.Script.{no_script, held_by, without_held, without_method, with_follower, with_names, with_row}
+use Rattle.bidi_scripted.specs.Sending.{emitted, release_sent}
+use Rattle.bidi_scripted.specs.View.{script_of}
+use Rattle.bidi_scripted.specs.Becomes.{Becomes}
+use Rattle.bidi_scripted.specs.Fate.{fate}
+use Rattle.bidi_scripted.specs.declared.scripted_end.ScriptedEnd.{ScriptedEnd}
+use Rattle.bidi_scripted.specs.declared.scripted_end.Taken.{Taken}
+use Rattle.bidi_sessions.specs.View.{sent_of}
+use Rattle.bidi_play.specs.Lines.{written}
+use Rattle.bidi_script_lines.specs.Outcomes.{Outcome, OfMachine, OfTest, Held, NoEffect, Bytes, Cut, Closed, outcome_of, outcome_text}
+use Rattle.bidi_script_lines.specs.declared.outcome.Outcome as declared
+use Rattle.bidi_script_lines.specs.ScriptLines.{Line}
+use Rattle.bidi_script_lines.specs.ScriptLines as line
+
+-- With an empty script a step is handed on as it came: what is written is the lines of what the machine sends for it, and each string that is
+-- sent reads back. After an error the remote end stands for the histories that it stood for before, and `WornOut` comes exactly after
+-- `most_steps` steps.
+pub record TakesStep (step : Step) (old new : ScriptedEnd) (result : Result declared.Outcome RemoteFault) : Type 0 where
+  pub ok : IfOk result (λ o. (i : Input) × IsHeardAs step i
+      × ((h : List Input) → StandsFor old.end h → (outcome_text no_script (outcome_of o) ≡ written (out h i)) × AllReadBack (out h i) × StandsFor new.end (i ∷ h)))
+  pub err : OnErr result ((h : List Input) → StandsFor old.end h → StandsFor new.end h)
+  pub worn_out : (h : List Input) → StandsFor old.end h → IsErrOf result WornOut ↔ (most_steps ≤ length h)
+
+-- the scripted end is as it was
+abbrev pub IsUnchanged : ScriptedEnd → ScriptedEnd → Type 0
+IsUnchanged old new = (new.end ≡ old.end) × (script_of new.script ≡ script_of old.script)
+
+-- the script is as it was, and the remote end stands for the histories that it stood for before
+abbrev pub StandsAsBefore : ScriptedEnd → ScriptedEnd → Type 0
+StandsAsBefore old new = (script_of new.script ≡ script_of old.script) × ((h : List Input) → StandsFor old.end h → StandsFor new.end h)
+
+-- nothing has happened, for some reason
+abbrev pub HasNoEffect : ScriptedEnd → ScriptedEnd → Outcome → Type 0
+HasNoEffect old new o = (reason : List ℕ) × (o ≡ NoEffect reason) × IsUnchanged old new
+
+-- the row of this text is the newest one, and nothing is sent
+abbrev pub AddsRow : List ℕ → ScriptedEnd → ScriptedEnd → Outcome → Type 0
+AddsRow text old new o = (row : Row) × IsRow text row × (o ≡ OfTest []) × (new.end ≡ old.end) × (script_of new.script ≡ with_row row (script_of old.script))
+
+-- whether a byte is a hexadecimal digit
+abbrev pub is_digit : ℕ → Bool
+is_digit b = (nat_le 48 b && nat_le b 57) || ((nat_le 65 b && nat_le b 70) || (nat_le 97 b && nat_le b 102))
+
+-- whether the bytes are pairs of hexadecimal digits
+abbrev pub is_hex : List ℕ → Bool
+is_hex digits = (length digits % 2 == 0) && list_all is_digit digits
+
+-- whether a server may close a connection with this code: RFC 6455, 7.4
+abbrev pub is_close_code : ℕ → Bool
+is_close_code n = (nat_le 1000 n && nat_le n 1003) || ((nat_le 1007 n && nat_le n 1013) || (nat_le 3000 n && nat_le n 4999))
+
+-- the connection is not open, and nothing happens; or it is, and this does
+abbrev pub OnOpen : ℕ → List Input → ScriptedEnd → ScriptedEnd → Outcome → Type 0 → Type 0
+OnOpen c h old new o P = ((is_open (deeds h) c ≡ false) × HasNoEffect old new o) ⊎ ((is_open (deeds h) c ≡ true) × P)
+
+-- the outcome of what a scripted end took: a command that is held, or what the remote end or the test sends
+abbrev pub taken_outcome : Taken → Outcome
+taken_outcome t = option_map_or Held t.held (if t.is_of_machine then OfMachine (map sent_of t.sent.items) else OfTest (map sent_of t.sent.items))
+
+-- The held command of this number is released: if its connection is gone it is lost, and otherwise it goes on as it came if no names are known.
+-- It is held no longer.
+pub record Releases (n : ℕ) (h : List Input) (old new : ScriptedEnd) (o : Outcome) : Type 0 where
+  pub held : script.Held
+  pub was_held : held_by n (script_of old.script) ≡ Some held
+  pub lost : held.is_lost ≡ true → (o ≡ OfTest (Lost held.conn ∷ [])) × (new.end ≡ old.end)
+  pub goes_on : held.is_lost ≡ false → (script_of old.script).known ≡ []
+      → (i : Input) × IsHeardAs (steps.Text held.conn held.text) i × (o ≡ OfMachine (out h i)) × StandsFor new.end (i ∷ h)
+  pub released : (script_of new.script).held ≡ (without_held n (script_of old.script)).held
+
+-- The held command of this number is answered by this text, or it is lost. It is held no longer.
+pub record ReleasesWith (n : ℕ) (text : List ℕ) (h : List Input) (old new : ScriptedEnd) (o : Outcome) : Type 0 where
+  pub held : script.Held
+  pub was_held : held_by n (script_of old.script) ≡ Some held
+  pub answer : Answer
+  pub is_answer : IsAnswer text answer
+  pub sends : o ≡ OfTest (release_sent (deeds h) (script_of old.script).named held answer)
+  pub released : script_of new.script ≡ without_held n (script_of old.script)
+  pub end : new.end ≡ old.end
+
+-- these events follow those of the method, and nothing is sent
+abbrev pub Follows : List ℕ → List ℕ → ScriptedEnd → ScriptedEnd → Outcome → Type 0
+Follows method events old new o = (ts : List Template) × AreTemplateTexts events ts × (o ≡ OfTest []) × (new.end ≡ old.end)
+    × (script_of new.script ≡ with_follower (record { method = method; events = ts; bytes = length events }) (script_of old.script))
+
+-- more names are known, and nothing is sent
+abbrev pub KnowsMore : ScriptedEnd → ScriptedEnd → Outcome → Type 0
+KnowsMore old new o = (more : List (List ℕ)) × (o ≡ OfTest []) × (new.end ≡ old.end) × (script_of new.script ≡ with_names more (script_of old.script))
+
+-- What a line brings about, if the remote end stands for the history h before it.
+abbrev pub Brings : Line → List Input → ScriptedEnd → ScriptedEnd → Outcome → Type 0
+-- a step brings about what it is taken as: it is handed on, or a row answers or holds it
+Brings (line.Plain step) h old new o = (t : Taken)
+    × Becomes (fate (deeds h) (script_of old.script) step) h step old.end (script_of old.script) new.end (script_of new.script) t × (o ≡ taken_outcome t)
+-- a row is added
+Brings (line.Answer row) h old new o = AddsRow row old new o ⊎ HasNoEffect old new o
+Brings (line.Hold row) h old new o = AddsRow row old new o ⊎ HasNoEffect old new o
+-- all rows of a method are removed
+Brings (line.Unanswer method) h old new o =
+    (o ≡ OfTest []) × (new.end ≡ old.end) × (script_of new.script ≡ without_method method (script_of old.script))
+-- an event goes to the sessions that it reaches
+Brings (line.Emit text) h old new o =
+    ((e : Event) × IsEventText text e × (o ≡ OfTest (emitted (deeds h) (script_of old.script).named e)) × IsUnchanged old new) ⊎ HasNoEffect old new o
+-- a string is sent as it is
+Brings (line.Send c text) h old new o = OnOpen c h old new o ((o ≡ OfTest (Text c text ∷ [])) × IsUnchanged old new)
+-- a binary message is sent
+Brings (line.Bytes c digits) h old new o =
+    OnOpen c h old new o (((is_hex digits ≡ false) × HasNoEffect old new o) ⊎ ((is_hex digits ≡ true) × (o ≡ Bytes c digits) × IsUnchanged old new))
+-- a connection is dropped without a close frame
+Brings (line.Cut c) h old new o = OnOpen c h old new o ((o ≡ Cut c) × StandsFor new.end (Drop c ∷ h))
+-- a connection is closed with a code, and dropped
+Brings (line.Close c code) h old new o =
+    OnOpen c h old new o (((is_close_code code ≡ false) × HasNoEffect old new o)
+    ⊎ ((is_close_code code ≡ true) × (o ≡ Closed c code) × StandsFor new.end (Drop c ∷ h)))
+-- a held command is released, or there is none
+Brings (line.Release n) h old new o = Releases n h old new o ⊎ ((reason : List ℕ) × (o ≡ NoEffect reason) × StandsAsBefore old new)
+Brings (line.ReleaseWith n row) h old new o = ReleasesWith n row h old new o ⊎ HasNoEffect old new o
+-- events follow others
+Brings (line.On method events) h old new o = Follows method events old new o ⊎ HasNoEffect old new o
+-- names become known
+Brings (line.Names names) h old new o = KnowsMore old new o ⊎ HasNoEffect old new o

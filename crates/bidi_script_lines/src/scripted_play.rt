@@ -1,0 +1,83 @@
+//! Scripted plays: lines in, lines of what is sent out.
+ghost use Rattle.std.specs.Prelude.{◌≡◌, ◌+◌, IfErr, OnOk, IsTrue, MatchResult};
+ghost use Rattle.std.specs.Io.KnownBytes.{IsAtEnd};
+ghost use Rattle.bidi_lines.specs.Devices.{Moves};
+ghost use Rattle.bidi_lines.specs.Stops.{StopsAt, failed_reads, failed_writes};
+ghost use Rattle.bidi_play.specs.Plays.{lines_fault};
+ghost use Rattle.bidi_script_lines.specs.ScriptPlayers.{script_player_answers};
+ghost use Rattle.bidi_script_lines.specs.ScriptedPlays.{ScriptedPlaysAll, script_run};
+
+use crate::outcome::outcome_lines;
+use crate::performing::perform;
+use crate::script_line::read_script_line;
+use bidi_lines::{AnswerFault, Answerer, Sink, Source, answer_lines};
+use bidi_play::PlayFault;
+use bidi_remote::RemoteFault;
+use bidi_scripted::ScriptedEnd;
+use std::alloc::Global;
+
+/// Plays the lines of the source over a scripted end, and writes what is sent for each line, in order, to the sink.
+///
+/// What a line brings about is written before the next line is read. Memory holds one line and its output, in addition to the scripted end.
+///
+/// # Errors
+/// The first of these in the order of the input ends the play:
+/// 1. `Read`: a read of the source failed, after the whole lines before.
+/// 2. `Write`: a write of the sink failed.
+/// 3. `BadLine`: a line is not one of a scripted play.
+/// 4. `NoMemory`: an allocation failed.
+/// 5. `WornOut`: a line that is a step comes after 1,000,000,000 others.
+pub fn play_scripted<R: Source, W: Sink>(
+    alloc: Global,
+    source: &mut R,
+    sink: &mut W,
+) -> Result<(), PlayFault>
+    // After an Ok, the source gave lines of a scripted play only, and the whole text for them was written. If they are lines of a play, it
+    // is the text that `play` writes.
+    ensures ok { OnOk result (Moves (R.left source.old) (R.left source.new) (W.contents sink.old) (W.contents sink.new) ScriptedPlaysAll) }
+    // After an Ok, the source has ended, and none of its bytes is left.
+    ensures end { OnOk result (IsTrue (R.has_ended source.new) × IsAtEnd (R.left source.new)) }
+
+    // A fault says which lines were played and written before it, and why the next was not.
+    ensures err { IfErr result (λ fault. Moves (R.left source.old) (R.left source.new) (W.contents sink.old) (W.contents sink.new)
+        (StopsAt script_run (lines_fault fault) (R.has_ended source.new))) }
+
+    // The source failed once if the fault is `Read`, and not at all otherwise.
+    ensures reads { MatchResult result (λ _. R.failures source.new ≡ R.failures source.old)
+        (λ fault. R.failures source.new ≡ R.failures source.old + failed_reads (lines_fault fault)) }
+    // The sink failed once if the fault is `Write`, and not at all otherwise.
+    ensures writes { MatchResult result (λ _. W.failures sink.new ≡ W.failures sink.old)
+        (λ fault. W.failures sink.new ≡ W.failures sink.old + failed_writes (lines_fault fault)) }
+{
+    let mut player = ScriptPlayer {
+        end: ScriptedEnd::new(alloc)?,
+    };
+    answer_lines(alloc, &mut player, u64::MAX, source, sink)?;
+    Ok(())
+}
+
+// A scripted end, which answers the lines of a scripted play.
+#[derive(Drop)]
+struct ScriptPlayer {
+    end: ScriptedEnd,
+}
+
+impl Answerer for ScriptPlayer {
+    ghost answers = { script_player_answers };
+
+    fn answer(
+        &mut self,
+        alloc: Global,
+        _number: u64,
+        line: &[u8],
+    ) -> Result<Option<Vec<u8>>, AnswerFault> {
+        let Some(said) = read_script_line(alloc, line)? else {
+            return Ok(None);
+        };
+        match perform(alloc, &mut self.end, said) {
+            Ok(outcome) => Ok(Some(outcome_lines(alloc, &self.end, outcome)?)),
+            Err(RemoteFault::NoMemory) => Err(AnswerFault::NoMemory),
+            Err(RemoteFault::WornOut) => Err(AnswerFault::WornOut),
+        }
+    }
+}
