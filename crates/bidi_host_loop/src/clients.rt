@@ -7,7 +7,7 @@ use crate::surroundings::Surroundings;
 use bidi_lenient::{Eased, ease};
 use bidi_peer::Came;
 use bidi_recorder::{HostingFault, Recorded};
-use bidi_remote::Sent;
+use bidi_remote::{Sent, SentText};
 use bidi_script_lines::Outcome;
 use bidi_tree::JsUint;
 
@@ -233,7 +233,7 @@ impl Hosted {
     }
 
     // Sends a text on a connection.
-    fn send(&mut self, conn: JsUint, text: String) -> Result<(), HostingFault> {
+    fn send(&mut self, conn: JsUint, text: SentText) -> Result<(), HostingFault> {
         if self.manners.ends_sessions {
             self.sessions.sent(self.alloc, conn, text.as_str())?;
         }

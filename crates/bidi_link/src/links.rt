@@ -33,7 +33,7 @@ fn deliver_one(links: &mut IndexMap<u64, LinkEnd>, sent: Sent) -> Result<(), All
         return Ok(());
     };
     match links.get_mut(&conn.value) {
-        Some(link) => link.push_down(text),
+        Some(link) => link.push_down(text.into_string()?),
         None => Ok(()),
     }
 }

@@ -12,7 +12,7 @@ pub record Written : Type 0 where
 
 -- the message of an event in the code
 abbrev pub written_of : EventText → Written
-written_of e = record { top = e.top; text = string_bytes e.text }
+written_of e = record { top = e.top; text = string_bytes e.text.value }
 
 -- the message in a place of a log buffer, if there is one
 abbrev pub place_row : Option (Rc EventText Global) → Option Written

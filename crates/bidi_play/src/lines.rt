@@ -1,6 +1,6 @@
 //! Lines: reading one as a step, and writing those of what is sent.
 ghost use Rattle.std.specs.Prelude.{◌≡◌, ℕ, ◌<◌, ◌≤◌, ◌^◌, ◌==◌, ◌&&◌, ◌||◌, ◌↔◌, nat_lt, slice_index, List, [], ◌∷◌, ◌++◌, true, false, map, length};
-ghost use Rattle.std.specs.Prelude.{decimal, string_bytes, IsTrue, IfOk, OnOk, IfSome, IfNone, IsSomeAnd, position};
+ghost use Rattle.std.specs.Prelude.{codes, decimal, string_bytes, IsTrue, IfOk, OnOk, IfSome, IfNone, IsSomeAnd, position};
 ghost use Rattle.std.specs.List.{list_any};
 ghost use Rattle.bidi_scripts.specs.Level.{level_text};
 ghost use Rattle.bidi_sessions.specs.Step as play;
@@ -13,6 +13,7 @@ use bidi_remote::{PageStep, Sent, Step};
 use bidi_scripts::Level;
 use bidi_shape::Named;
 use bidi_tree::JsUint;
+use itoa::Buffer;
 use std::alloc::{AllocError, Global};
 
 /// The most bytes of a line that a play writes, apart from a text in it: `opened`, the greatest js-uint, and
@@ -230,7 +231,7 @@ fn room_for(all: &[Sent]) -> usize {
     let mut room: usize = 0;
     for sent in all {
         let text = match sent {
-            Sent::Text(_, text) => text.len(),
+            Sent::Text(_, text) => text.as_str().len(),
             _ => 0,
         };
         room = room.saturating_add(text).saturating_add(LONGEST_WORDS);
@@ -243,11 +244,23 @@ fn push_line(lines: &mut String, sent: &Sent) -> Result<(), AllocError>
     ensures { OnOk result (string_bytes lines.new ≡ string_bytes lines.old ++ ended (sent_line (sent_of sent.now))) }
 {
     match sent {
-        Sent::Text(conn, text) => writeln!(lines, "< {} {text}", conn.value),
+        Sent::Text(conn, text) => push_text_line(lines, *conn, text.as_str()),
         Sent::Close(conn) => writeln!(lines, "close {}", conn.value),
         Sent::Opened(conn) => writeln!(lines, "opened {}", conn.value),
         Sent::Denied(conn) => writeln!(lines, "denied {}", conn.value),
         Sent::Lost(conn) => writeln!(lines, "lost {}", conn.value),
         Sent::NoEffect => lines.push_str("no effect\n"),
     }
+}
+
+// Adds the line for a text, with its line feed.
+fn push_text_line(lines: &mut String, conn: JsUint, text: &str) -> Result<(), AllocError>
+    ensures { OnOk result (string_bytes lines.new ≡ string_bytes lines.old ++ ended (codes "< " ++ decimal conn.value ++ 32 ∷ text.now)) }
+{
+    let mut digits = Buffer::new();
+    lines.push_str("< ")?;
+    lines.push_str(digits.format(conn.value))?;
+    lines.push_str(" ")?;
+    lines.push_str(text)?;
+    lines.push_str("\n")
 }

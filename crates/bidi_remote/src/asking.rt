@@ -1,5 +1,5 @@
 //! Questions to a remote end, which change nothing.
-ghost use Rattle.std.specs.Prelude.{◌≡◌, ◌++◌, List, map, IfOk};
+ghost use Rattle.std.specs.Prelude.{◌≡◌, ◌++◌, List, map, string_bytes, IfOk};
 ghost use Rattle.bidi_contexts.specs.View.{seen};
 ghost use Rattle.bidi_remote.specs.Machine.History.{Input, acts};
 ghost use Rattle.bidi_remote.specs.Machine.Connections.{attachment_of, connections_of};
@@ -20,6 +20,7 @@ use bidi_scripts::Level;
 use bidi_sessions::{Attachment, Sent};
 use bidi_tree::JsUint;
 use std::alloc::{AllocError, Global};
+use std::rc::Rc;
 
 impl State {
     ghost use Rattle.bidi_remote.specs.State.Stands.{AgreeWith, IsShort};
@@ -54,15 +55,14 @@ impl State {
     /// Adds a text for each connection of a session, in order of opening.
     pub(crate) fn push_text(
         &self,
-        alloc: Global,
         session: u32,
-        text: &str,
+        text: &Rc<String>,
         sent: &mut Vec<Sent>,
     ) -> Result<(), AllocError>
         ensures { (h : List Input) → AgreeWith self.now (deeds h) → IfOk result (λ _. map sent_of sent.new.items
-            ≡ map sent_of sent.old.items ++ map (λ c. Text c text.now) (connections_of (deeds h) session)) }
+            ≡ map sent_of sent.old.items ++ map (λ c. Text c (string_bytes text.now.value)) (connections_of (deeds h) session)) }
     {
-        self.connections.push_text(alloc, session, text, sent)
+        self.connections.push_text(session, text, sent)
     }
 
     /// The top-level context of the live context of this id. It is that of a log entry in the context, which is planned for this and

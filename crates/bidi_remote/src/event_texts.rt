@@ -21,9 +21,9 @@ pub(crate) fn event_text_of(
 ) -> Result<Rc<EventText>, AllocError>
     requires { EventIsWell occurrence.now.event }
     ensures written { IfOk result (λ e. written_of e.value ≡ written (occurrence_of occurrence.now)) }
-    ensures reads_back { IfOk result (λ e. IsMessageText ⟦<Message as Shape>⟧.shape (string_bytes e.value.text)) }
+    ensures reads_back { IfOk result (λ e. IsMessageText ⟦<Message as Shape>⟧.shape (string_bytes e.value.text.value)) }
 {
-    let text = event_text(alloc, &occurrence.event)?;
+    let text = Rc::new(alloc, event_text(alloc, &occurrence.event)?)?;
     let top = occurrence.top;
     Ok(Rc::new(alloc, EventText { top, text })?)
 }

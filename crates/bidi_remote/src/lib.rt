@@ -26,5 +26,5 @@ mod telling;
 mod turn;
 
 pub use bidi_browser::Top;
-pub use bidi_sessions::{PageStep, Sent, Step};
+pub use bidi_sessions::{PageStep, Sent, SentText, Step};
 pub use remote_end::{RemoteEnd, RemoteFault};

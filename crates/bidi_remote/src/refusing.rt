@@ -6,7 +6,7 @@ ghost use Rattle.bidi_remote.specs.Machine.Messages.{AllReadBack};
 ghost use Rattle.bidi_remote.specs.Machine.Sent.{Text};
 
 use bidi_messages::{ErrorCode, error_text};
-use bidi_sessions::Sent;
+use bidi_sessions::{Sent, SentText};
 use bidi_tree::JsUint;
 use std::alloc::{AllocError, Global};
 
@@ -31,5 +31,5 @@ pub(crate) fn refuse(
     ensures reads_back { IfOk result (λ sent. AllReadBack (map sent_of sent.items)) }
 {
     let text = error_text(alloc, id, code)?;
-    only(alloc, Sent::Text(conn, text))
+    only(alloc, Sent::Text(conn, SentText::Own(text)))
 }

@@ -1,5 +1,5 @@
 //! The remote end, with its public calls.
-ghost use Rattle.std.specs.Prelude.{◌≡◌, ℕ, ◌<◌, ◌≤◌, ◌↔◌, List, [], ◌∷◌, ◌++◌, map, true, IsTrue, IfOk, OnOk, OnErr, IsOk, IsErrOf, length};
+ghost use Rattle.std.specs.Prelude.{◌≡◌, ℕ, ◌<◌, ◌≤◌, ◌↔◌, List, [], ◌∷◌, ◌++◌, map, string_bytes, true, IsTrue, IfOk, OnOk, OnErr, IsOk, IsErrOf, length};
 ghost use Rattle.bidi_sessions.specs.Step as steps;
 ghost use Rattle.bidi_remote.specs.Machine.Messages.{AllReadBack};
 ghost use Rattle.bidi_sessions.specs.View.{page_of, step_of, sent_of};
@@ -22,6 +22,7 @@ use bidi_sessions::{PageStep, Sent, Step};
 use bidi_tree::JsUint;
 use json::Scratch;
 use std::alloc::{AllocError, Global};
+use std::rc::Rc;
 use thiserror::Error;
 
 /// How many steps a remote end accepts.
@@ -94,9 +95,8 @@ impl RemoteEnd {
     ///
     /// `At`, and `Drop` of an open connection, take no memory. A step passes over at most 64 connections, 8
     /// sessions with at most 256 subscriptions each, and what `Browser::plan` passes over; a text also costs
-    /// its reading. The text of a log entry is made once: each connection that gets it is sent a copy, and
-    /// all sessions that miss it share it. A subscribe passes over the last hundred entries that its session
-    /// missed.
+    /// its reading. The text of an event is made once: all connections that get it, and all sessions that miss
+    /// it, share it. A subscribe passes over the last hundred entries that its session missed.
     ///
     /// # Errors
     /// The remote end is then as it was.
@@ -227,20 +227,20 @@ impl RemoteEnd {
         self.state.hears(session, event, top)
     }
 
-    /// Adds a text for each connection of a session, in order of opening. Nothing is sent by this call.
+    /// Adds a text for each connection of a session, in order of opening. They share the text. Nothing is sent by this call.
     ///
     /// # Errors
     /// No memory: an allocation failed.
     pub fn push_text(
         &self,
         session: u32,
-        text: &str,
+        text: &Rc<String>,
         sent: &mut Vec<Sent>,
     ) -> Result<(), AllocError>
         // After an Ok, the list has grown by the text once for each connection that speaks for the session, in order.
         ensures { (h : List Input) → StandsFor self.now h → IfOk result (λ _. map sent_of sent.new.items
-            ≡ map sent_of sent.old.items ++ map (λ c. Text c text.now) (connections_of (deeds h) session)) }
+            ≡ map sent_of sent.old.items ++ map (λ c. Text c (string_bytes text.now.value)) (connections_of (deeds h) session)) }
     {
-        self.state.push_text(self.alloc, session, text, sent)
+        self.state.push_text(session, text, sent)
     }
 }

@@ -32,7 +32,7 @@ use bidi_messages::{
     EventData, EventName, Message, Method, Payload, ResultData, event_text, response_text,
 };
 use bidi_missed::EventText;
-use bidi_sessions::{Connections, Sent};
+use bidi_sessions::{Connections, Sent, SentText};
 use bidi_shape::Shape;
 use std::alloc::{AllocError, Global};
 use std::rc::Rc;
@@ -72,11 +72,10 @@ pub(crate) fn tell_entry(
 ) -> Result<Vec<Sent>, AllocError>
     ensures told { (past : List Deed) (o : heard.Occurrence) → AgreeWith state.now past
         → o.event ≡ EntryAdded → written_of entry.now ≡ written o → IfOk result (λ sent. map sent_of sent.items ≡ to_hearers past o) }
-    ensures reads_back { IsMessageText ⟦<Message as Shape>⟧.shape (string_bytes entry.now.text) → IfOk result (λ sent. AllReadBack (map sent_of sent.items)) }
+    ensures reads_back { IsMessageText ⟦<Message as Shape>⟧.shape (string_bytes entry.now.text.value) → IfOk result (λ sent. AllReadBack (map sent_of sent.items)) }
 {
     let mut sent = Vec::new(alloc);
     push_heard(
-        alloc,
         state.sessions.all(),
         &state.connections,
         EventName::EntryAdded,
@@ -107,7 +106,7 @@ fn all_sent(
     ensures reads_back { AreMessages (written_in announced.now) → AllReadBack (sent_if reply) → IfOk result (λ sent. AllReadBack (map sent_of sent.items)) }
 {
     let mut sent = Vec::new(alloc);
-    push_announced(alloc, &state.connections, change, announced, &mut sent)?;
+    push_announced(&state.connections, change, announced, &mut sent)?;
     push_events(alloc, state, before, &mut sent)?;
     push_if(reply, &mut sent)?;
     push_events(alloc, state, after, &mut sent)?;
@@ -125,7 +124,7 @@ fn reply_sent(alloc: Global, reply: Option<Reply>) -> Result<Option<Sent>, Alloc
     match reply {
         Some(Reply { to, outcome }) => {
             let text = response_text(alloc, to.id, outcome)?;
-            Ok(Some(Sent::Text(to.conn, text)))
+            Ok(Some(Sent::Text(to.conn, SentText::Own(text))))
         }
         None => Ok(None),
     }
@@ -143,7 +142,6 @@ fn push_if(reply: Option<Sent>, sent: &mut Vec<Sent>) -> Result<(), AllocError>
 
 // Adds the events for a new subscription, for each connection of its session.
 fn push_announced(
-    alloc: Global,
     connections: &Connections,
     change: &Change,
     announced: &[Rc<EventText>],
@@ -153,16 +151,13 @@ fn push_announced(
         ≡ map sent_of sent.old.items ++ to_subscriber_in (rows_in connections.now) (deed_of change.now act) (written_in announced.now)) }
 {
     match change {
-        Change::Subscribe(session, _, _) => {
-            push_to_session(alloc, connections, *session, announced, sent)
-        }
+        Change::Subscribe(session, _, _) => push_to_session(connections, *session, announced, sent),
         _ => Ok(()),
     }
 }
 
 // Adds some texts for each connection of a session.
 fn push_to_session(
-    alloc: Global,
     connections: &Connections,
     session: u32,
     texts: &[Rc<EventText>],
@@ -172,7 +167,7 @@ fn push_to_session(
         ≡ map sent_of sent.old.items ++ flat_map (λ w. to_one (rows_in connections.now) session w.text) (written_in texts.now)) }
 {
     for event in texts {
-        connections.push_text(alloc, session, &event.text, sent)?;
+        connections.push_text(session, &event.text, sent)?;
     }
     Ok(())
 }
@@ -219,16 +214,8 @@ fn push_event(
     if !is_heard(sessions, event, occurrence.top) {
         return Ok(());
     }
-    let text = event_text(alloc, &occurrence.event)?;
-    push_heard(
-        alloc,
-        sessions,
-        connections,
-        event,
-        occurrence.top,
-        &text,
-        sent,
-    )
+    let text = Rc::new(alloc, event_text(alloc, &occurrence.event)?)?;
+    push_heard(sessions, connections, event, occurrence.top, &text, sent)
 }
 
 // Whether the event is enabled for some session in the tree of this top-level context.
@@ -240,21 +227,20 @@ fn is_heard(sessions: &[Session], event: EventName, top: Top) -> bool
 
 // Adds the text of an event for each connection of the sessions for which it is enabled.
 fn push_heard(
-    alloc: Global,
     sessions: &[Session],
     connections: &Connections,
     event: EventName,
     top: Top,
-    text: &str,
+    text: &Rc<String>,
     sent: &mut Vec<Sent>,
 ) -> Result<(), AllocError>
     ensures { IfOk result (λ _. map sent_of sent.new.items ≡ map sent_of sent.old.items
-        ++ flat_map (λ r. to_each (λ c. Text c text.now) r.number (rows_in connections.now))
+        ++ flat_map (λ r. to_each (λ c. Text c (string_bytes text.now.value)) r.number (rows_in connections.now))
         (filter (λ r. any_covers r.subscriptions event top) (map session_row_of sessions.now))) }
 {
     for session in sessions {
         if session.hears(event, top) {
-            connections.push_text(alloc, session.number, text, sent)?;
+            connections.push_text(session.number, text, sent)?;
         }
     }
     Ok(())

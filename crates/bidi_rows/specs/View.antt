@@ -19,7 +19,7 @@ command_seen c = record { id = c.id.value; method = c.method.now; params = optio
 
 -- the event, with the bytes of its strings
 abbrev pub event_of : declared_event.Event → Event
-event_of e = record { method = string_bytes e.method; context = option_map string_bytes e.context; text = string_bytes e.text }
+event_of e = record { method = string_bytes e.method; context = option_map string_bytes e.context; text = string_bytes e.text.value }
 
 -- the events, in order
 abbrev pub events_of : List declared_event.Event → List Event

@@ -19,6 +19,7 @@ use crate::writing::{compact, quoted};
 use bidi_tree::is_parsed_within;
 use json::{Scratch, Value};
 use std::alloc::{AllocError, Global};
+use std::rc::Rc;
 
 /// How many bytes a text can have.
 const MOST_BYTES: usize = 1_048_576;
@@ -316,10 +317,11 @@ fn event_in(alloc: Global, value: &Value<'_>) -> Result<Event, RowFault>
     };
     let name = quoted(alloc, method)?;
     let written = compact(alloc, params)?;
+    let text = format!(in alloc; "{{\"method\":{name},\"params\":{written},\"type\":\"event\"}}")?;
     Ok(Event {
         method: String::from_str(alloc, method)?,
         context: context_in(alloc, params)?,
-        text: format!(in alloc; "{{\"method\":{name},\"params\":{written},\"type\":\"event\"}}")?,
+        text: Rc::new(alloc, text)?,
     })
 }
 

@@ -10,6 +10,7 @@ use crate::command::Command;
 use crate::matching::is_found;
 use crate::part::Part;
 use json::Value;
+use std::rc::Rc;
 
 /// An event that a test sends.
 #[derive(Drop)]
@@ -18,8 +19,8 @@ pub struct Event {
     pub method: String,
     /// The context that its params name, if they name one: `context`, or else `source.context`.
     pub context: Option<String>,
-    /// Its message: compact JSON.
-    pub text: String,
+    /// Its message: compact JSON, shared by those that get it.
+    pub text: Rc<String>,
 }
 
 /// A reply without the id of its command. The parts are compact JSON.

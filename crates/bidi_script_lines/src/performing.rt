@@ -20,7 +20,7 @@ ghost use Rattle.bidi_script_lines.specs.Performing.{TakesStep, AddsRow, Release
 
 use crate::outcome::Outcome;
 use crate::script_line::ScriptLine;
-use bidi_remote::{RemoteFault, Sent, Step};
+use bidi_remote::{RemoteFault, Sent, SentText, Step};
 use bidi_scripted::{ScriptFault, ScriptedEnd, Taken};
 use bidi_tree::JsUint;
 use std::alloc::{AllocError, Global};
@@ -222,7 +222,7 @@ fn one_text(alloc: Global, conn: JsUint, text: String) -> Result<Vec<Sent>, Allo
     ensures { IfOk result (λ sent. map sent_of sent.items ≡ Text conn.value (string_bytes text) ∷ []) }
 {
     let mut sent = Vec::new(alloc);
-    sent.push(Sent::Text(conn, text))?;
+    sent.push(Sent::Text(conn, SentText::Own(text)))?;
     Ok(sent)
 }
 

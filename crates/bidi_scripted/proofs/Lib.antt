@@ -1,4 +1,5 @@
 pub mod TotalLemmas
 pub mod UseLemmas
 pub mod FateLemmas
+pub mod MethodLemmas
 pub mod SendLemmas

@@ -19,7 +19,7 @@ follower_of f = record { method = string_bytes f.method; events = map template_o
 -- the script, with its rows and held commands
 abbrev pub script_of : declared_script.Script → Script
 script_of s = record {
-  rows = map row_of s.rows.items;
+  rows = map row_of s.rows.all.items;
   held = map held_of s.held.items;
   next = s.next;
   followers = map follower_of s.followers.items;

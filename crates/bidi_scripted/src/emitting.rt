@@ -13,7 +13,7 @@ ghost use Rattle.bidi_scripted.specs.Sending.{top_of_event, event_named, reaches
 
 use crate::subscriptions::{NamedSubscription, holds_name};
 use bidi_messages::EventName;
-use bidi_remote::{RemoteEnd, RemoteFault, Sent, Top};
+use bidi_remote::{RemoteEnd, RemoteFault, Sent, SentText, Top};
 use bidi_rows::{Answer, Event, reply_text};
 use bidi_shape::Named;
 use bidi_tree::JsUint;
@@ -44,7 +44,7 @@ pub(crate) fn answer_sent(
 fn push_text(conn: JsUint, text: String, sent: &mut Vec<Sent>) -> Result<(), AllocError>
     ensures { OnOk result (map sent_of sent.new.items ≡ map sent_of sent.old.items ++ Text conn.value (string_bytes text) ∷ []) }
 {
-    Ok(sent.push(Sent::Text(conn, text))?)
+    Ok(sent.push(Sent::Text(conn, SentText::Own(text)))?)
 }
 
 /// Adds the messages of some events, for the sessions that they reach.
@@ -108,7 +108,7 @@ fn push_reached(
     let name = EventName::named(event.method.as_str());
     for session in sessions {
         if reaches(end, named, event.method.as_str(), name, top, *session) {
-            end.push_text(*session, event.text.as_str(), sent)?;
+            end.push_text(*session, &event.text, sent)?;
         }
     }
     Ok(())

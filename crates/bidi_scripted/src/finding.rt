@@ -1,12 +1,10 @@
 //! What a message asks for: which row is for it, or whether it asks for names.
 ghost use Rattle.std.specs.Prelude.{◌≡◌, IfOk, map, string_bytes};
-ghost use Rattle.std.specs.List.{position};
-ghost use Rattle.bidi_rows.specs.Rows.{matches};
-ghost use Rattle.bidi_rows.specs.View.{row_of, command_seen};
 ghost use Rattle.bidi_scripted.specs.Fate.{asks_names};
 ghost use Rattle.bidi_scripted.specs.Becomes.{IsFound, found_names};
 
-use bidi_rows::{Command, Row, command_in};
+use crate::script::Script;
+use bidi_rows::command_in;
 use bidi_tree::JsUint;
 use json::{Error as JsonError, Scratch, Value};
 use std::alloc::{AllocError, Global};
@@ -34,12 +32,11 @@ pub(crate) struct FoundRow {
 /// What is found for the text of a message.
 pub(crate) fn find(
     alloc: Global,
-    rows: &[Row],
-    known: &[String],
+    script: &Script,
     text: &str,
     scratch: &mut Scratch,
 ) -> Result<Found, AllocError>
-    ensures { IfOk result (λ found. IsFound found rows.now (map string_bytes known.now) text.now) }
+    ensures { IfOk result (λ found. IsFound found script.now.rows.all.items (map string_bytes script.now.known.items) text.now) }
 {
     let value = match Value::parse(alloc, text, scratch) {
         Ok(value) => value,
@@ -50,25 +47,13 @@ pub(crate) fn find(
     let Some(command) = command_in(&value) else {
         return Ok(Found::Nothing);
     };
-    match place_for(rows, &command) {
+    match script.rows.place_for(&command) {
         Some(place) => Ok(Found::Row(FoundRow {
             id: command.id,
             place,
         })),
-        None => Ok(found_names(known, command.method)),
+        None => Ok(found_names(&script.known, command.method)),
     }
-}
-
-// The place of the newest of these rows that is for a command.
-fn place_for(rows: &[Row], command: &Command<'_, '_>) -> Option<usize>
-    ensures { result ≡ position (λ r. matches (command_seen command.now) (row_of r)) rows.now }
-{
-    for (i, row) in rows.iter().enumerate() {
-        if row.matches(command) {
-            return Some(i);
-        }
-    }
-    None
 }
 
 // What is found for a command for which there is no row.

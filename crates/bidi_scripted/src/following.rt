@@ -8,7 +8,7 @@ ghost use Rattle.bidi_scripted.specs.Sending.{followers_of, following};
 ghost use Rattle.bidi_scripted.specs.View.{follower_of};
 
 use crate::script::Follower;
-use bidi_remote::Sent;
+use bidi_remote::{Sent, SentText};
 use bidi_rows::{Template, filling_of, object_at, string_at};
 use bidi_tree::JsUint;
 use json::{Error as JsonError, Scratch, Value};
@@ -76,7 +76,7 @@ fn fill_all(
     let mut sent = Vec::new(alloc);
     for event in events {
         let text = event.fill(alloc, filling)?;
-        sent.push(Sent::Text(conn, text))?;
+        sent.push(Sent::Text(conn, SentText::Own(text)))?;
     }
     Ok(sent)
 }

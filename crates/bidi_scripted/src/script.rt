@@ -1,5 +1,5 @@
 //! A script: the rows of a test, and the commands that are held.
-ghost use Rattle.std.specs.Prelude.{◌≡◌, ◌≤◌, ◌<◌, ◌+◌, ◌==◌, if◌then◌else◌, List, not, nat_lt, length, map, filter, find, bytes_eq, string_bytes, Some, IsTrue, OnOk, OnErr, option_map, MatchOption, vec_len, vec_capacity};
+ghost use Rattle.std.specs.Prelude.{◌≡◌, ◌≤◌, ◌<◌, ◌+◌, ◌==◌, if◌then◌else◌, List, not, nat_lt, length, map, filter, find, bytes_eq, string_bytes, Some, IsTrue, IfOk, OnOk, OnErr, option_map, MatchOption, vec_len, vec_capacity};
 ghost use Rattle.std.specs.List.{position};
 ghost use Rattle.bidi_rows.specs.Command.{Command};
 ghost use Rattle.bidi_rows.specs.Rows.{matches};
@@ -8,6 +8,7 @@ ghost use Rattle.bidi_scripted.specs.Script.{no_script, is_plain, most_rows, mos
 ghost use Rattle.bidi_scripted.specs.Subscriptions.{Named};
 ghost use Rattle.bidi_scripted.specs.View.{held_of, follower_of, script_of};
 
+use crate::row_table::RowTable;
 use crate::subscriptions::{NamedSubscription, cancel, dismiss, keep_active};
 use bidi_rows::{Row, Template};
 use bidi_tree::JsUint;
@@ -54,8 +55,8 @@ pub(crate) struct Follower {
 /// What a test says: its rows, the commands that are held, the events that follow others, and the names that are known.
 #[derive(Drop)]
 pub(crate) struct Script {
-    /// The rows, the newest first.
-    pub rows: Vec<Row>,
+    /// The rows.
+    pub rows: RowTable,
     /// The commands that are held, in order of number.
     pub held: Vec<HeldCommand>,
     /// The number of the next command that is held.
@@ -69,25 +70,25 @@ pub(crate) struct Script {
 }
 
 impl Script {
-    /// An empty script. Takes no memory.
-    pub(crate) fn new(alloc: Global) -> Script
-        ensures { script_of result ≡ no_script }
+    /// An empty script. Takes the memory of a set of methods.
+    pub(crate) fn new(alloc: Global) -> Result<Script, AllocError>
+        ensures { IfOk result (λ script. script_of script ≡ no_script) }
     {
-        Script {
-            rows: Vec::new(alloc),
+        Ok(Script {
+            rows: RowTable::new(alloc)?,
             held: Vec::new(alloc),
             next: 1,
             followers: Vec::new(alloc),
             known: Vec::new(alloc),
             named: Vec::new(alloc),
-        }
+        })
     }
 
     /// Whether no row can answer a command, and no name is known.
     pub(crate) fn is_plain(&self) -> bool
         ensures { result ≡ is_plain (script_of self.now) }
     {
-        self.rows.len() == 0 && self.known.len() == 0
+        self.rows.all.len() == 0 && self.known.len() == 0
     }
 
     /// Whether there is room for one more entry of followers.
@@ -99,7 +100,7 @@ impl Script {
     pub(crate) fn has_few_rows(&self) -> bool
         ensures { result ≡ nat_lt (length (script_of self.now).rows) most_rows }
     {
-        self.rows.len() < MOST_ROWS
+        self.rows.all.len() < MOST_ROWS
     }
 
     /// Whether so many bytes more can be kept.
@@ -109,7 +110,7 @@ impl Script {
         if bytes > MOST_KEPT {
             return false;
         }
-        match left_by_rows(&self.rows, MOST_KEPT - bytes) {
+        match left_by_rows(&self.rows.all, MOST_KEPT - bytes) {
             Some(left) => match left_by_held(&self.held, left) {
                 Some(left) => left_by_followers(&self.followers, left).is_some(),
                 None => false,
@@ -131,25 +132,25 @@ impl Script {
         ensures ok { OnOk result (script_of self.new ≡ with_row (row_of row) (script_of self.old)) }
         ensures err { OnErr result (script_of self.new ≡ script_of self.old) }
     {
-        Ok(self.rows.insert(0, row)?)
+        self.rows.add(row)
     }
 
     /// Removes the rows of a method.
     pub(crate) fn remove_rows(&mut self, method: &str)
         ensures { script_of self.new ≡ without_method method.now (script_of self.old) }
     {
-        remove_rows(&mut self.rows, method);
+        self.rows.remove(method);
     }
 
     /// Counts one use of the row at this place, which goes with its last use.
     pub(crate) fn use_row(&mut self, place: usize)
-        requires { place < vec_len self.now.rows }
-        ensures script { (command : Command) → position (λ r. matches command (row_of r)) self.old.rows.items ≡ Some place
+        requires { place < vec_len self.now.rows.all }
+        ensures script { (command : Command) → position (λ r. matches command (row_of r)) self.old.rows.all.items ≡ Some place
             → script_of self.new ≡ with_use command (script_of self.old) }
         ensures held { self.new.held ≡ self.old.held }
         ensures next { self.new.next ≡ self.old.next }
     {
-        use_row(&mut self.rows, place);
+        self.rows.count_use(place);
     }
 
     /// Has these events follow each event of a method, in place of those that did before. Takes the older entry out first.
@@ -292,26 +293,6 @@ fn left_by_followers(followers: &[Follower], bytes: usize) -> Option<usize>
         left = left.checked_sub(follower.bytes)?;
     }
     Some(left)
-}
-
-// Removes the rows of a method.
-fn remove_rows(rows: &mut Vec<Row>, method: &str)
-    ensures { map row_of rows.new.items ≡ filter (λ row. not (bytes_eq row.method method.now)) (map row_of rows.old.items) }
-{
-    rows.retain(|row| row.method.as_str() != method);
-}
-
-// Counts one use of the row at this place.
-fn use_row(rows: &mut Vec<Row>, place: usize)
-    requires { place < vec_len rows.now }
-    ensures { (command : Command) → position (λ r. matches command (row_of r)) rows.old.items ≡ Some place
-        → map row_of rows.new.items ≡ used command (map row_of rows.old.items) }
-{
-    match rows[place].left {
-        None => {}
-        Some(left) if left > 1 => rows[place].left = Some(left - 1),
-        Some(_) => drop(rows.remove(place)),
-    }
 }
 
 // Removes the events that follow a method.

@@ -25,7 +25,7 @@ use crate::emitting::answer_sent;
 use crate::finding::{Found, FoundRow, find};
 use crate::script::Script;
 use bidi_messages::{ErrorCode, error_text};
-use bidi_remote::{RemoteEnd, RemoteFault, Sent, Step};
+use bidi_remote::{RemoteEnd, RemoteFault, Sent, SentText, Step};
 use bidi_rows::Action;
 use bidi_tree::JsUint;
 use json::Scratch;
@@ -64,7 +64,8 @@ impl Drop for ScriptedEnd {
 }
 
 impl ScriptedEnd {
-    /// A scripted end over a new remote end, with no rows. Takes the memory of a remote end and of a buffer to read in.
+    /// A scripted end over a new remote end, with no rows. Takes the memory of a remote end, of a buffer to read in and of a
+    /// set of methods.
     ///
     /// # Errors
     /// No memory: an allocation failed.
@@ -78,7 +79,7 @@ impl ScriptedEnd {
         Ok(ScriptedEnd {
             alloc,
             end: RemoteEnd::new(alloc)?,
-            script: Script::new(alloc),
+            script: Script::new(alloc)?,
             scratch,
         })
     }
@@ -86,8 +87,8 @@ impl ScriptedEnd {
     /// Takes one step. A message on an open connection that is a command for which there is a row is answered or held by the newest such
     /// row; every other step is handed on to the remote end.
     ///
-    /// Without rows it costs what the step costs the remote end. With rows each message is parsed once more, and its method is compared
-    /// with those of the rows.
+    /// Without rows it costs what the step costs the remote end. With rows each message is parsed once more. Only a command of a method
+    /// that has rows is compared with them.
     ///
     /// # Errors
     /// The scripted end is then as it was.
@@ -195,7 +196,7 @@ impl ScriptedEnd {
 
     // Takes a message on an open connection, for which this was found.
     fn take_found(&mut self, conn: JsUint, text: String, found: Found) -> Result<Taken, RemoteFault>
-        requires { IsFound found self.now.script.rows.items (script_of self.now.script).known (string_bytes text) }
+        requires { IsFound found self.now.script.rows.all.items (script_of self.now.script).known (string_bytes text) }
         ensures becomes { (h : List Input) → StandsFor self.old.end h → is_open (deeds h) conn.value ≡ true
             → IfOk result (λ t. Becomes (fate (deeds h) (script_of self.old.script)
             (steps.Text conn.value (string_bytes text))) h (steps.Text conn.value (string_bytes text)) self.old.end (script_of self.old.script) self.new.end (script_of self.new.script) t) }
@@ -212,24 +213,18 @@ impl ScriptedEnd {
 
     // What is found for a message.
     fn find(&mut self, text: &str) -> Result<Found, AllocError>
-        ensures found { IfOk result (λ found. IsFound found self.old.script.rows.items (script_of self.old.script).known text.now) }
+        ensures found { IfOk result (λ found. IsFound found self.old.script.rows.all.items (script_of self.old.script).known text.now) }
         ensures script { self.new.script ≡ self.old.script }
         ensures end { self.new.end ≡ self.old.end }
     {
-        find(
-            self.alloc,
-            &self.script.rows,
-            &self.script.known,
-            text,
-            self.scratch.as_mut(),
-        )
+        find(self.alloc, &self.script, text, self.scratch.as_mut())
     }
 
     // Has a row answer or hold a command.
     fn use_row(&mut self, conn: JsUint, found: FoundRow, text: String) -> Result<Taken, RemoteFault>
-        requires { found.place < vec_len self.now.script.rows }
+        requires { found.place < vec_len self.now.script.rows.all }
         ensures becomes { (h : List Input) (command : Command) → StandsFor self.old.end h → command.id ≡ found.id.value
-            → position (λ r. matches command (row_of r)) self.old.script.rows.items ≡ Some found.place
+            → position (λ r. matches command (row_of r)) self.old.script.rows.all.items ≡ Some found.place
             → IfOk result (λ t. Becomes (by_row (script_of self.old.script) conn.value (string_bytes text) command
             (find (matches command) (script_of self.old.script).rows)) h (steps.Text conn.value (string_bytes text)) self.old.end (script_of self.old.script) self.new.end (script_of self.new.script) t) }
         ensures worn_out { (h : List Input) → StandsFor self.old.end h → IsErrOf result RemoteFault.WornOut → most_steps ≤ length h }
@@ -252,15 +247,15 @@ impl ScriptedEnd {
 
     // What is sent for a command that a row answers; `None` if the row holds it.
     fn answered(&self, conn: JsUint, found: FoundRow) -> Result<Option<Vec<Sent>>, RemoteFault>
-        requires { found.place < vec_len self.now.script.rows }
+        requires { found.place < vec_len self.now.script.rows.all }
         ensures worn_out { (h : List Input) → StandsFor self.now.end h → IsErrOf result RemoteFault.WornOut → most_steps ≤ length h }
         ensures sends { (h : List Input) (command : Command) (r : row.Row) → StandsFor self.now.end h
-            → position (λ r. matches command (row_of r)) self.now.script.rows.items ≡ Some found.place
+            → position (λ r. matches command (row_of r)) self.now.script.rows.all.items ≡ Some found.place
             → find (matches command) (script_of self.now.script).rows ≡ Some r
             → IfOk result (λ sent. option_map (λ v. map sent_of v.items) sent
             ≡ sent_by (deeds h) (script_of self.now.script).named conn.value found.id.value r.action) }
     {
-        match &self.script.rows[found.place].action {
+        match &self.script.rows.all[found.place].action {
             Action::Answer(answer) => {
                 let named = &self.script.named;
                 let sent = answer_sent(self.alloc, &self.end, named, conn, found.id, answer)?;
@@ -277,10 +272,10 @@ impl ScriptedEnd {
         found: FoundRow,
         text: String,
     ) -> Result<Taken, RemoteFault>
-        requires { found.place < vec_len self.now.script.rows }
+        requires { found.place < vec_len self.now.script.rows.all }
         ensures worn_out { IsErrOf result RemoteFault.WornOut → ⊥ }
         ensures becomes { (h : List Input) (command : Command) → command.id ≡ found.id.value
-            → position (λ r. matches command (row_of r)) self.old.script.rows.items ≡ Some found.place
+            → position (λ r. matches command (row_of r)) self.old.script.rows.all.items ≡ Some found.place
             → IfOk result (λ t. Becomes (by_action (script_of self.old.script) conn.value (string_bytes text) command Holds)
             h (steps.Text conn.value (string_bytes text)) self.old.end (script_of self.old.script) self.new.end (script_of self.new.script) t) }
         ensures err { OnErr result (script_of self.new.script ≡ script_of self.old.script) }
@@ -294,9 +289,9 @@ impl ScriptedEnd {
 
     // Holds a command, if there is room.
     fn try_hold(&mut self, conn: JsUint, found: FoundRow, text: String) -> Result<Taken, AllocError>
-        requires { found.place < vec_len self.now.script.rows }
+        requires { found.place < vec_len self.now.script.rows.all }
         ensures becomes { (h : List Input) (command : Command) → command.id ≡ found.id.value
-            → position (λ r. matches command (row_of r)) self.old.script.rows.items ≡ Some found.place
+            → position (λ r. matches command (row_of r)) self.old.script.rows.all.items ≡ Some found.place
             → IfOk result (λ t. Becomes (by_action (script_of self.old.script) conn.value (string_bytes text) command Holds)
             h (steps.Text conn.value (string_bytes text)) self.old.end (script_of self.old.script) self.new.end (script_of self.new.script) t) }
         ensures err { OnErr result (script_of self.new.script ≡ script_of self.old.script) }
@@ -321,7 +316,7 @@ impl ScriptedEnd {
     {
         let refusal = error_text(self.alloc, Some(id), ErrorCode::UnknownError)?;
         Ok(Taken {
-            sent: only(self.alloc, Sent::Text(conn, refusal))?,
+            sent: only(self.alloc, Sent::Text(conn, SentText::Own(refusal)))?,
             is_of_machine: false,
             held: None,
         })

@@ -1,9 +1,11 @@
 -- What contracts see of a step and of what is sent: numbers, and the bytes of strings.
-use Rattle.std.specs.Prelude.{List, [], ◌∷◌, Option, Some, None, string_bytes}
+use Rattle.std.specs.Prelude.{ℕ, List, [], ◌∷◌, Option, Some, None, string_bytes}
 use Rattle.bidi_sessions.specs.declared.step.Step as declared_step
 use Rattle.bidi_sessions.specs.declared.step.Step.TheVariants as step_in_code
 use Rattle.bidi_sessions.specs.declared.step.PageStep as declared_page
 use Rattle.bidi_sessions.specs.declared.step.PageStep.TheVariants as page_in_code
+use Rattle.bidi_sessions.specs.declared.step.SentText as declared_text
+use Rattle.bidi_sessions.specs.declared.step.SentText.TheVariants as text_in_code
 use Rattle.bidi_sessions.specs.declared.step.Sent as declared_sent
 use Rattle.bidi_sessions.specs.declared.step.Sent.TheVariants as sent_in_code
 use Rattle.bidi_sessions.specs.Step as step
@@ -25,9 +27,14 @@ step_of (step_in_code.Text c text) = step.Text c.value (string_bytes text)
 step_of (step_in_code.NotText c) = step.NotText c.value
 step_of (step_in_code.Page page) = step.Page (page_of page)
 
--- what is sent, with the bytes of its string
+-- the bytes of the text of a message
+abbrev pub text_of : declared_text.SentText → List ℕ
+text_of (text_in_code.Own text) = string_bytes text
+text_of (text_in_code.Shared text) = string_bytes text.value
+
+-- what is sent, with the bytes of its text
 abbrev pub sent_of : declared_sent.Sent → sent.Sent
-sent_of (sent_in_code.Text c text) = sent.Text c.value (string_bytes text)
+sent_of (sent_in_code.Text c text) = sent.Text c.value (text_of text)
 sent_of (sent_in_code.Close c) = sent.Close c.value
 sent_of (sent_in_code.Opened c) = sent.Opened c.value
 sent_of (sent_in_code.Denied c) = sent.Denied c.value

@@ -1,14 +1,15 @@
 //! Open connections, with the session of each.
-ghost use Rattle.std.specs.Prelude.{◌≡◌, ◌==◌, not, [], ◌∷◌, ◌++◌, find, filter, map, length, nat_lt, IfOk, OnOk, OnErr};
+ghost use Rattle.std.specs.Prelude.{◌≡◌, ◌==◌, not, [], ◌∷◌, ◌++◌, find, filter, map, length, nat_lt, string_bytes, IfOk, OnOk, OnErr};
 ghost use Rattle.bidi_sessions.specs.Attachment.{is_for};
 ghost use Rattle.bidi_sessions.specs.Sent.{Text, Close};
 ghost use Rattle.bidi_sessions.specs.ConnectionRows.{row_of, begun, to_each};
 ghost use Rattle.bidi_sessions.specs.View.{sent_of};
 ghost use Rattle.bidi_sessions.specs.Limits.{most_connections};
 
-use crate::step::Sent;
+use crate::step::{Sent, SentText};
 use bidi_tree::JsUint;
 use std::alloc::{AllocError, Global};
+use std::rc::Rc;
 
 /// How many connections can be open at once.
 const MOST_CONNECTIONS: usize = 64;
@@ -120,18 +121,18 @@ impl Connections {
         begin(&mut self.open, number, session);
     }
 
-    /// Adds a text for each connection of a session, in order of opening.
+    /// Adds a text for each connection of a session, in order of opening. The connections share the text.
     pub fn push_text(
         &self,
-        alloc: Global,
         session: u32,
-        text: &str,
+        text: &Rc<String>,
         sent: &mut Vec<Sent>,
     ) -> Result<(), AllocError>
         // After an Ok, the list has grown by the text once for each connection of the session, in order.
-        ensures { IfOk result (λ _. map sent_of sent.new.items ≡ map sent_of sent.old.items ++ to_each (λ c. Text c text.now) session (rows_in self.now)) }
+        ensures { IfOk result (λ _. map sent_of sent.new.items
+            ≡ map sent_of sent.old.items ++ to_each (λ c. Text c (string_bytes text.now.value)) session (rows_in self.now)) }
     {
-        push_text(alloc, &self.open, session, text, sent)
+        push_text(&self.open, session, text, sent)
     }
 
     /// Adds a close of each connection of a session, in order of opening.
@@ -168,19 +169,18 @@ fn begin(connections: &mut [Connection], number: JsUint, session: u32)
 
 // Adds a text for each connection of a session.
 fn push_text(
-    alloc: Global,
     connections: &[Connection],
     session: u32,
-    text: &str,
+    text: &Rc<String>,
     sent: &mut Vec<Sent>,
 ) -> Result<(), AllocError>
     ensures { IfOk result (λ _. map sent_of sent.new.items
-        ≡ map sent_of sent.old.items ++ to_each (λ c. Text c text.now) session (map row_of connections.now)) }
+        ≡ map sent_of sent.old.items ++ to_each (λ c. Text c (string_bytes text.now.value)) session (map row_of connections.now)) }
 {
     for connection in connections {
         if connection.is_for(session) {
-            let copy = String::from_str(alloc, text)?;
-            sent.push(Sent::Text(connection.number, copy))?;
+            let shared = SentText::Shared(text.clone()?);
+            sent.push(Sent::Text(connection.number, shared))?;
         }
     }
     Ok(())

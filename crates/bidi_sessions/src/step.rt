@@ -1,10 +1,11 @@
 //! The steps that a remote end takes, and what it sends.
 ghost use Rattle.std.specs.Prelude.{◌≡◌, IfOk, string_bytes};
-ghost use Rattle.bidi_sessions.specs.View.{page_of, step_of};
+ghost use Rattle.bidi_sessions.specs.View.{page_of, step_of, text_of};
 
 use bidi_scripts::Level;
 use bidi_tree::JsUint;
 use std::alloc::{AllocError, Global};
+use std::rc::Rc;
 
 /// What happens to a remote end. A connection is named by a number that the caller chooses.
 #[derive(Drop)]
@@ -84,11 +85,47 @@ fn copy(alloc: Global, text: &String) -> Result<String, AllocError>
     String::from_str(alloc, text.as_str())
 }
 
+/// The text of a message.
+#[derive(Drop)]
+pub enum SentText {
+    /// It is for one connection.
+    Own(String),
+    /// It is shared by all connections that get it.
+    Shared(Rc<String>),
+}
+
+impl SentText {
+    /// The text, borrowed. Takes no memory.
+    pub fn as_str(&self) -> &str
+        // The result has the bytes of the text.
+        ensures { result.now ≡ text_of self.now }
+    {
+        match self {
+            SentText::Own(text) => text.as_str(),
+            SentText::Shared(text) => text.as_str(),
+        }
+    }
+
+    /// The text, owned. Copies it if other connections share it.
+    ///
+    /// # Errors
+    /// No memory: an allocation failed.
+    pub fn into_string(self) -> Result<String, AllocError>
+        // After an Ok, the result has the bytes of the text.
+        ensures { IfOk result (λ text. string_bytes text ≡ text_of self) }
+    {
+        match self {
+            SentText::Own(text) => Ok(text),
+            SentText::Shared(text) => Rc::unwrap_or_clone(text),
+        }
+    }
+}
+
 /// What a remote end sends for a step, or tells of it. A connection is named by its number.
 #[derive(Drop)]
 pub enum Sent {
     /// This text is to be sent on the connection.
-    Text(JsUint, String),
+    Text(JsUint, SentText),
     /// The remote end closed the connection, since its session ended. The caller closes its transport.
     Close(JsUint),
     /// The connection is open now.

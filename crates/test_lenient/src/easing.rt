@@ -268,7 +268,7 @@ fn texts_of(alloc: Global, sent: &[Sent]) -> Result<String, Fail> {
             if !all.is_empty() {
                 all.push_str(" ")?;
             }
-            all.push_str(text)?;
+            all.push_str(text.as_str())?;
         }
     }
     Ok(all)

@@ -99,7 +99,10 @@ fn is_answered(
     let sent = end.step(Step::Text(CLIENT, String::from_str(alloc, command)?))?;
     match sent.as_slice() {
         [Sent::Text(_, text)] if text.as_str() == answer => Ok(()),
-        [Sent::Text(_, text)] => Err(Fail::new(format_args!("{command} is answered by {text}"))),
+        [Sent::Text(_, text)] => {
+            let text = text.as_str();
+            Err(Fail::new(format_args!("{command} is answered by {text}")))
+        }
         _ => Err(Fail::new(format_args!("{command} has no single answer"))),
     }
 }

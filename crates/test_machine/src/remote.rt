@@ -161,7 +161,7 @@ fn page_step(alloc: Global, word: &str, rest: &str) -> Result<Option<Step>, Fail
 fn push_sent(told: &mut String, sent: &[Sent]) -> Result<(), Fail> {
     for one in sent {
         match one {
-            Sent::Text(conn, text) => write!(told, "  text {} {text}\n", conn.value)?,
+            Sent::Text(conn, text) => write!(told, "  text {} {}\n", conn.value, text.as_str())?,
             Sent::Close(conn) => write!(told, "  close {}\n", conn.value)?,
             Sent::Opened(conn) => write!(told, "  opened {}\n", conn.value)?,
             Sent::Denied(conn) => write!(told, "  denied {}\n", conn.value)?,

@@ -231,7 +231,7 @@ fn told_sent(alloc: Global, line: String, sent: Vec<Sent>) -> Result<String, All
 /// One thing that is sent.
 fn sent_text(alloc: Global, sent: Sent) -> Result<String, AllocError> {
     match sent {
-        Sent::Text(conn, text) => format!(in alloc; "< {} {text}", conn.value),
+        Sent::Text(conn, text) => format!(in alloc; "< {} {}", conn.value, text.as_str()),
         Sent::Close(conn) => format!(in alloc; "close {}", conn.value),
         Sent::Opened(conn) => format!(in alloc; "opened {}", conn.value),
         Sent::Denied(conn) => format!(in alloc; "denied {}", conn.value),

@@ -401,7 +401,7 @@ fn lines_of(alloc: Global, sent: Vec<Sent>) -> Result<String, Fail> {
 /// What is sent, as the line of a play.
 fn line_of(alloc: Global, sent: &Sent) -> Result<String, AllocError> {
     match sent {
-        Sent::Text(conn, text) => format!(in alloc; "< {} {text}", conn.value),
+        Sent::Text(conn, text) => format!(in alloc; "< {} {}", conn.value, text.as_str()),
         Sent::Close(conn) => format!(in alloc; "close {}", conn.value),
         Sent::Opened(conn) => format!(in alloc; "opened {}", conn.value),
         Sent::Denied(conn) => format!(in alloc; "denied {}", conn.value),

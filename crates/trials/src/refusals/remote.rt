@@ -50,7 +50,7 @@ fn taken_once(alloc: Global, end: &mut RemoteEnd, line: &str) -> Result<Vec<Sent
 /// Writes what is sent, as a line of a play.
 fn tell<W: Write>(output: &mut W, sent: &Sent) -> Result<(), RowFault> {
     match sent {
-        Sent::Text(conn, text) => writeln!(output, "< {} {text}", conn.value)?,
+        Sent::Text(conn, text) => writeln!(output, "< {} {}", conn.value, text.as_str())?,
         Sent::Close(conn) => writeln!(output, "close {}", conn.value)?,
         Sent::Opened(conn) => writeln!(output, "opened {}", conn.value)?,
         Sent::Denied(conn) => writeln!(output, "denied {}", conn.value)?,

@@ -1,5 +1,5 @@
 use Rattle.std.proofs.Common.{◌≡◌, ◌∙◌, ◌++◌, append-nil, map, sym, ap, subst}
-use Rattle.std.specs.Prelude.{IfOk}
+use Rattle.std.specs.Prelude.{IfOk, string_bytes}
 use Rattle.std.specs.List.{list_any}
 use Rattle.bidi_methods.specs.contracts.event_data.EventDataPayloadEventName.TheImpl.{ghosts}
 use Rattle.bidi_messages.specs.contracts.message.MessageShape.TheImpl as message
@@ -28,12 +28,12 @@ returns-clause-sent c =
     let rows = rows_in c.args.connections.now in
     let top = c.args.occurrence.now.top in
     subst (λ xs. IfOk c.push_heard.result (λ done. map sent_of c.push_heard.new.sent.items ≡ xs))
-    (ap (λ text. map sent_of c.args.sent.now.items ++ heard rows text c.kind-event.result top all) (c.deref.ensures ∙ c.in_ok-text.ensures.text)
+    (ap (λ text. map sent_of c.args.sent.now.items ++ heard rows text c.kind-event.result top all) (ap string_bytes c.in_ok-text.ensures.ok ∙ c.in_ok-event_text.ensures.text)
     ∙ ap (λ e. map sent_of c.args.sent.now.items ++ heard rows (event_text (ghosts.payload.kind c.args.occurrence.now.event)
     (ghosts.payload.tree_of c.args.occurrence.now.event)) e top all) c.kind-event.ensures) c.push_heard.ensures
 
 pub returns-clause-reads_back : goal.returns-clause-reads_back
 returns-clause-reads_back c =
     if-more-read c.push_heard.result _ _ _ c.push_heard.ensures
-    (heard-read (rows_in c.args.connections.now) _ (subst (IsMessageText message.ghosts.shape) (sym c.deref.ensures) c.in_ok-text.ensures.reads_back)
+    (heard-read (rows_in c.args.connections.now) _ (subst (λ t. IsMessageText message.ghosts.shape (string_bytes t)) (sym c.in_ok-text.ensures.ok) c.in_ok-event_text.ensures.reads_back)
     c.kind-event.result c.args.occurrence.now.top (map session_row_of c.args.sessions.now))

@@ -1,5 +1,5 @@
 use Rattle.std.proofs.Common.{◌∙◌, ◌++◌, ◌+◌, append-nil, map, drop, sym, ap, arith}
-use Rattle.std.specs.Prelude.{flat_map, filter}
+use Rattle.std.specs.Prelude.{flat_map, filter, string_bytes}
 use Rattle.std.proofs.lemmas.List.{drop_all}
 use Rattle.bidi_remote.specs.Machine.Sent.{Text}
 use Rattle.bidi_sessions.specs.ConnectionRows.{rows_in, to_each}
@@ -19,7 +19,7 @@ loop-session-preserved c =
     let e = c.args.event in
     let top = c.args.top in
     let rows = rows_in c.args.connections.now in
-    let text = c.args.text.now in
+    let text = string_bytes c.args.text.now.value in
     let sent = map sent_of c.loop-session.sent.items in
     let rest = flat_map (λ r. to_each (λ n. Text n text) r.number rows)
     (filter (λ r. any_covers r.subscriptions e top) (map session_row_of (drop (i + 1) all))) in
@@ -40,7 +40,7 @@ loop-session-preserved c =
 pub returns : goal.returns
 returns c =
     sym (c.loop-session.invariant
-    ∙ (ap (λ left. map sent_of c.loop-session.sent.items ++ flat_map (λ r. to_each (λ n. Text n c.args.text.now) r.number (rows_in c.args.connections.now))
+    ∙ (ap (λ left. map sent_of c.loop-session.sent.items ++ flat_map (λ r. to_each (λ n. Text n (string_bytes c.args.text.now.value)) r.number (rows_in c.args.connections.now))
     (filter (λ r. any_covers r.subscriptions c.args.event c.args.top) (map session_row_of left)))
     (drop_all c.loop-session.session-index c.args.sessions.now c.loop-session-test.false)
     ∙ append-nil (map sent_of c.loop-session.sent.items)))

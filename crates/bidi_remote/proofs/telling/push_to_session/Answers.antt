@@ -19,8 +19,8 @@ loop-event-preserved c =
     let rest = flat_map (λ w. to_one rows s w.text) (written_in (drop (i + 1) texts)) in
     c.loop-event.invariant
     ∙ (ap (λ left. sent ++ flat_map (λ w. to_one rows s w.text) (written_in left)) (from-item texts i x (omega arith) c.event-item.is)
-    ∙ (sym (append_assoc sent (to_one rows s (string_bytes x.value.text)) rest) ∙ ap (λ zs. zs ++ rest) (sym (c.in_ok-push_text.ensures
-    ∙ ap (λ text. sent ++ to_one rows s text) (c.deref-in-loop-event.ensures ∙ ap (λ e. string_bytes e.text) c.deref.ensures)))))
+    ∙ (sym (append_assoc sent (to_one rows s (string_bytes x.value.text.value)) rest) ∙ ap (λ zs. zs ++ rest) (sym (c.in_ok-push_text.ensures
+    ∙ ap (λ text. sent ++ to_one rows s text) (ap (λ e. string_bytes e.text.value) c.deref.ensures)))))
 
 pub returns : goal.returns
 returns c =

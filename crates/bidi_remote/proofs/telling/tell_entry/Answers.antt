@@ -1,4 +1,5 @@
 use Rattle.std.proofs.Common.{◌∙◌, ◌++◌, map, sym, ap, ap₂, subst}
+use Rattle.std.specs.Prelude.{string_bytes}
 use Rattle.bidi_messages.specs.contracts.message.MessageShape.TheImpl.{ghosts}
 use Rattle.bidi_methods.specs.declared.event_data.EventName.TheVariants.{EntryAdded}
 use Rattle.bidi_messages.specs.Reading.{IsMessageText}
@@ -19,14 +20,14 @@ returns-clause-told c = λ past o a event is.
     let cs = rows_in t.connections in
     let all = map session_row_of c.all.result.now in
     c.in_ok-push_heard.ensures
-    ∙ (ap (λ xs. map sent_of xs ++ heard cs c.deref.result.now EntryAdded entry.top all) c.new-sent.ensures.items
-    ∙ (ap₂ (λ text ss. heard cs text EntryAdded entry.top ss) c.deref.ensures (c.all.ensures ∙ a.sessions)
+    ∙ (ap (λ xs. map sent_of xs ++ heard cs (string_bytes entry.text.value) EntryAdded entry.top all) c.new-sent.ensures.items
+    ∙ (ap (λ ss. heard cs (string_bytes entry.text.value) EntryAdded entry.top ss) (c.all.ensures ∙ a.sessions)
     ∙ (ap₂ (λ w rs. heard rs w.text EntryAdded w.top (session_rows past)) is a.connections
     ∙ (ap (λ e. heard (rows past) (occurrence_text o) e o.top (session_rows past)) (sym event) ∙ to_all-past past o))))
 
 pub returns-clause-reads_back : goal.returns-clause-reads_back
 returns-clause-reads_back c = λ text.
     more-read _ _ c.in_ok-push_heard.ensures
-    (heard-read (rows_in c.args.state.now.connections) c.deref.result.now (subst (IsMessageText ghosts.shape) (sym c.deref.ensures) text)
+    (heard-read (rows_in c.args.state.now.connections) (string_bytes c.args.entry.now.text.value) text
     EntryAdded c.args.entry.now.top (map session_row_of c.all.result.now))
     (subst AllReadBack (sym (ap (map sent_of) c.new-sent.ensures.items)) tt)

@@ -34,7 +34,7 @@ loop-session-preserved c = λ h s.
           reached-next (λ n. map (λ k. Text k e.text) (connections_of past n)) (reaches past named e.method (event_named e.method) top) x (drop (i + 1) all) sent
           (sym reach ∙ w.if-reaches.true)
           ∙ (ap (λ zs. zs ++ rest)
-          (sym (w.in_ok-push_text.ensures h s ∙ ap (λ t. sent ++ map (λ k. Text k t) (connections_of past x)) w.as_str-then-reaches.ensures.value))
+          (sym (w.in_ok-push_text.ensures h s))
           ∙ ap (λ v. map sent_of v.items ++ rest) (sym w.sent-is))
       | else-reaches w ↦
           ap (λ later. sent ++ later)

@@ -2,7 +2,8 @@ use Rattle.std.proofs.Common.{◌∙◌, map, string_bytes, refl, sym, ap, subst
 use Rattle.std.specs.Prelude.{option_and_then}
 use Rattle.bidi_rows.specs.Command.{command_in}
 use Rattle.bidi_rows.specs.View.{command_seen}
-use Rattle.bidi_scripted.specs.Becomes.{IsFound}
+use Rattle.bidi_scripted.specs.Becomes.{IsFound, found_names}
+use Rattle.bidi_scripted.specs.Fate.{asks_names}
 use Rattle.bidi_scripted.proofs.UseLemmas.{is_for, position-inside}
 use Rattle.bidi_scripted.proofs.FateLemmas.{nothing-found}
 use Rattle.bidi_scripted.proofs.finding.find.Goals as goal
@@ -11,7 +12,7 @@ pub returns-in-Some-place_for : goal.returns-in-Some-place_for
 returns-in-Some-place_for c =
     let command = command_seen c.in-Some.command in
     let at = sym c.in-Some-place_for.ensures in (
-      position-inside (is_for command) c.args.rows.now c.in-Some-place_for.place at,
+      position-inside (is_for command) c.args.script.now.rows.all.items c.in-Some-place_for.place at,
       command,
       ap (option_and_then command_in) c.in-Ok.ensures.ok ∙ sym c.in-Some.ensures,
       refl,
@@ -21,6 +22,6 @@ returns-in-Some-place_for c =
 pub returns : goal.returns
 returns c =
     let command = command_seen c.in-Some.command in
-    let known = map string_bytes c.args.known.now in
-    subst (λ f. IsFound f c.args.rows.now known c.args.text.now) (sym c.found_names.ensures)
-    (nothing-found c.args.rows.now known c.args.text.now command (ap (option_and_then command_in) c.in-Ok.ensures.ok ∙ sym c.in-Some.ensures) (sym c.in-None.ensures))
+    let known = map string_bytes c.args.script.now.known.items in
+    subst (λ f. IsFound f c.args.script.now.rows.all.items known c.args.text.now) (sym (c.found_names.ensures ∙ ap (λ names. found_names (asks_names (map string_bytes names) command.method)) c.deref.ensures.value))
+    (nothing-found c.args.script.now.rows.all.items known c.args.text.now command (ap (option_and_then command_in) c.in-Ok.ensures.ok ∙ sym c.in-Some.ensures) (sym c.in-None.ensures))

@@ -14,7 +14,7 @@ returns-in_ok-sent-in-Answer-clause-sends c = λ h command r s at is.
     let n = c.args.conn.value in
     let id = c.args.found.id.value in
     let named = map named_of c.args.self.now.script.named.items in
-    let there = row-there command c.args.self.now.script.rows.items c.args.found.place c.index.result.now r at c.index.ensures is in
+    let there = row-there command c.args.self.now.script.rows.all.items c.args.found.place c.index.result.now r at c.index.ensures is in
     ap Some (c.in_ok-sent-in-Answer.ensures.sends h s
     ∙ ap (λ ns. answer_sent past (map named_of ns) n id (answer_of c.in-Answer.answer)) c.deref.ensures.value)
     ∙ sym (ap (λ (x : Row). sent_by past named n id x.action) there ∙ ap (λ a. sent_by past named n id (action_of a)) c.in-Answer.is)
@@ -25,5 +25,5 @@ returns-in-Hold-clause-sends c = λ h command r s at is.
     let n = c.args.conn.value in
     let id = c.args.found.id.value in
     let named = map named_of c.args.self.now.script.named.items in
-    let there = row-there command c.args.self.now.script.rows.items c.args.found.place c.index.result.now r at c.index.ensures is in
+    let there = row-there command c.args.self.now.script.rows.all.items c.args.found.place c.index.result.now r at c.index.ensures is in
     sym (ap (λ (x : Row). sent_by past named n id x.action) there ∙ ap (λ a. sent_by past named n id (action_of a)) c.in-Hold.is)

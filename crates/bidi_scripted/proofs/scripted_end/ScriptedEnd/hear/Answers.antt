@@ -52,5 +52,5 @@ returns-then-not-is_open c =
 
 pub take_found-requires : goal.take_found-requires
 take_found-requires c =
-    subst (λ sc. IsFound c.in-Ok.found sc.rows.items (script_of sc).known (string_bytes c.args.text)) (sym c.in-Ok.ensures.script)
-    (subst (IsFound c.in-Ok.found c.args.self.now.script.rows.items (script_of c.args.self.now.script).known) c.as_str.ensures.value c.in-Ok.ensures.found)
+    subst (λ sc. IsFound c.in-Ok.found sc.rows.all.items (script_of sc).known (string_bytes c.args.text)) (sym c.in-Ok.ensures.script)
+    (subst (IsFound c.in-Ok.found c.args.self.now.script.rows.all.items (script_of c.args.self.now.script).known) c.as_str.ensures.value c.in-Ok.ensures.found)

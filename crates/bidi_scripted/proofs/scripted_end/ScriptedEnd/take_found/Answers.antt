@@ -14,7 +14,7 @@ use Rattle.bidi_scripted.proofs.scripted_end.ScriptedEnd.take_found.Goals as goa
 pub use_row-requires : goal.use_row-requires
 use_row-requires c =
     let script = c.args.self.now.script in
-    let it = subst (λ (f : Found). IsFound f script.rows.items (script_of script).known (string_bytes c.args.text)) c.in-Row.is c.requires in
+    let it = subst (λ (f : Found). IsFound f script.rows.all.items (script_of script).known (string_bytes c.args.text)) c.in-Row.is c.requires in
     let less = it.0 in
     omega (arith, less)
 
@@ -23,7 +23,7 @@ returns-in-Row-clause-becomes c = λ h s opened.
     let script = c.args.self.now.script in
     let n = c.args.conn.value in
     let text = string_bytes c.args.text in
-    let it = subst (λ (f : Found). IsFound f script.rows.items (script_of script).known text) c.in-Row.is c.requires in
+    let it = subst (λ (f : Found). IsFound f script.rows.all.items (script_of script).known text) c.in-Row.is c.requires in
     becomes (by_row (script_of script) n text it.1 (find (matches it.1) (script_of script).rows)) (fate (deeds h) (script_of script) (steps.Text n text)) _ _ _ _ _ _ h
     (sym (fate-command (deeds h) (script_of script) n text it.1 opened it.2)) (c.use_row.ensures.becomes h it.1 s it.3 it.4)
 
@@ -35,7 +35,7 @@ returns-in-Names-clause-becomes c = λ h s opened.
     let script = c.args.self.now.script in
     let n = c.args.conn.value in
     let text = string_bytes c.args.text in
-    let it = subst (λ (f : Found). IsFound f script.rows.items (script_of script).known text) c.in-Names.is c.requires in
+    let it = subst (λ (f : Found). IsFound f script.rows.all.items (script_of script).known text) c.in-Names.is c.requires in
     becomes (AsksNames n text) (fate (deeds h) (script_of script) (steps.Text n text)) _ _ _ _ _ _ h
     (sym (fate-names (deeds h) (script_of script) n text it.0 opened it.1 it.2 it.3)) (c.hear_names.ensures.part h s)
 
@@ -44,7 +44,7 @@ returns-in-Nothing-clause-becomes c = λ h s opened.
     let script = c.args.self.now.script in
     let n = c.args.conn.value in
     let text = string_bytes c.args.text in
-    let it = subst (λ (f : Found). IsFound f script.rows.items (script_of script).known text) c.in-Nothing.is c.requires in
+    let it = subst (λ (f : Found). IsFound f script.rows.all.items (script_of script).known text) c.in-Nothing.is c.requires in
     becomes HandedOn (fate (deeds h) (script_of script) (steps.Text n text)) _ _ _ _ _ _ h (sym (fate-nothing (deeds h) (script_of script) n text it))
     (handed_on _ _ _ _ _ _ h s c.hand_on.ensures.handed_on (ap script_of c.hand_on.ensures.script))
 

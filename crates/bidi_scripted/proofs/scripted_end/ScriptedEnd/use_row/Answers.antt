@@ -19,7 +19,7 @@ returns-in-Ok-Some-clause-becomes c = λ h command s same at.
     let n = c.args.conn.value in
     let text = string_bytes c.args.text in
     let past = deeds h in
-    let r = found-some command c.args.self.now.script.rows.items c.args.found.place at in
+    let r = found-some command c.args.self.now.script.rows.all.items c.args.found.place at in
     let by = subst (λ (o : Option (Vec declared_sent.Sent Global)). option_map (λ v. map sent_of v.items) o ≡ sent_by past script.named n c.args.found.id.value r.0.action)
     c.in-Ok-Some.field-0-is (c.in-Ok-Some.ensures.sends h command r.0 s at r.1) in
     let it = row-answers script n text command c.args.found.id.value past (find (matches command) script.rows) r.0 (map sent_of c.in-Ok-Some.sent.items) r.1 by same in
@@ -34,7 +34,7 @@ returns-in-Ok-None-clause-becomes c = λ h command s same at.
     let text = string_bytes c.args.text in
     let past = deeds h in
     let new = c.hold_command.new.self in
-    let r = found-some command c.args.self.now.script.rows.items c.args.found.place at in
+    let r = found-some command c.args.self.now.script.rows.all.items c.args.found.place at in
     let by = subst (λ (o : Option (Vec declared_sent.Sent Global)). option_map (λ v. map sent_of v.items) o ≡ sent_by past script.named n c.args.found.id.value r.0.action)
     c.in-Ok-None.field-0-is (c.in-Ok-None.ensures.sends h command r.0 s at r.1) in
     subst (λ f. IfOk c.hold_command.result (λ t. Becomes f h (steps.Text n text) c.args.self.now.end script new.end (script_of new.script) t))

@@ -3,7 +3,7 @@ use Rattle.std.specs.Prelude.{not, map, bytes_eq}
 use Rattle.std.proofs.lemmas.Fn.{filter_same}
 use Rattle.bidi_rows.specs.View.{row_of}
 use Rattle.bidi_sessions.proofs.ListLemmas.{map-filter}
-use Rattle.bidi_scripted.proofs.script.remove_rows.Goals as goal
+use Rattle.bidi_scripted.proofs.row_table.remove_rows.Goals as goal
 
 pub returns : goal.returns
 returns c =

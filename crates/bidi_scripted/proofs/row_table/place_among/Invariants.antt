@@ -2,7 +2,7 @@ use Rattle.std.proofs.Common.{◌≡◌, ◌<◌, ℕ, false, get_or}
 use Rattle.bidi_rows.specs.declared.row.Row as declared_row
 use Rattle.bidi_rows.specs.Rows.{matches}
 use Rattle.bidi_rows.specs.View.{row_of, command_seen}
-use Rattle.bidi_scripted.proofs.finding.place_for.Given as goal
+use Rattle.bidi_scripted.proofs.row_table.place_among.Given as goal
 
 -- no row before is for the command
 abbrev pub invariant-loop-i : goal.invariant-loop-i

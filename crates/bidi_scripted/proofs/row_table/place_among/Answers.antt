@@ -1,7 +1,7 @@
 use Rattle.std.proofs.Common.{◌∙◌, sym, ap, arith}
 use Rattle.bidi_rows.specs.View.{command_seen}
 use Rattle.bidi_scripted.proofs.UseLemmas.{is_for, position-first, position-fails}
-use Rattle.bidi_scripted.proofs.finding.place_for.Goals as goal
+use Rattle.bidi_scripted.proofs.row_table.place_among.Goals as goal
 
 pub returns-then-matches : goal.returns-then-matches
 returns-then-matches c =
