@@ -1,8 +1,8 @@
 -- The replies to calls. After W3C WebDriver, "Errors" and "New Session", and WebDriver BiDi, "Establishing a connection".
 use Rattle.std.specs.Prelude.{◌≡◌, ◌==◌, ℕ, List, [], ◌∷◌, ◌++◌, bytes_eq, codes, decimal, if◌then◌else◌, Option, Some, None, string_bytes, unwrap_or}
 use Rattle.json.specs.Json.{Json, document, string}
-use Rattle.bidi_peer.specs.declared.answering.ReplyStatus.{ReplyStatus}
-use Rattle.bidi_peer.specs.declared.answering.ReplyStatus.TheVariants as status
+use Rattle.bidi_requests.specs.declared.answering.ReplyStatus.{ReplyStatus}
+use Rattle.bidi_requests.specs.declared.answering.ReplyStatus.TheVariants as status
 use Rattle.bidi_rows.specs.Reading.{object_at, string_at}
 use Rattle.bidi_rows.specs.Rows.{compact}
 use Rattle.bidi_classic.specs.declared.replies.CallError.{CallError}

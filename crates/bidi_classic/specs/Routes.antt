@@ -1,9 +1,9 @@
 -- What a call asks for. After W3C WebDriver, "Routing requests" and "Endpoints".
 use Rattle.std.specs.Prelude.{◌≡◌, ◌≢◌, ℕ, List, codes}
-use Rattle.bidi_peer.specs.Targets.{IsOfSession}
-use Rattle.bidi_peer.specs.declared.answering.AllowedMethods.TheVariants as allowed
-use Rattle.bidi_peer.specs.declared.calling.Method.{Method}
-use Rattle.bidi_peer.specs.declared.calling.Method.TheVariants as method
+use Rattle.bidi_requests.specs.Targets.{IsOfSession}
+use Rattle.bidi_requests.specs.declared.answering.AllowedMethods.TheVariants as allowed
+use Rattle.bidi_requests.specs.declared.calling.Method.{Method}
+use Rattle.bidi_requests.specs.declared.calling.Method.TheVariants as method
 use Rattle.bidi_classic.specs.declared.routes.Route.{Route}
 use Rattle.bidi_classic.specs.declared.routes.Route.TheVariants as route
 

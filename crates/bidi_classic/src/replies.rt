@@ -3,9 +3,9 @@ ghost use Rattle.std.specs.Prelude.{◌≡◌, List, ℕ, IfOk, codes, string_by
 ghost use Rattle.json.specs.Tree.{HasNumbers};
 ghost use Rattle.json.specs.Value.{value_view};
 ghost use Rattle.bidi_classic.specs.Replies.{IsEndReply, IsErrorReply, IsFailedReply, IsNewReply, IsSessionReply, code_of, failed_status, quoted, status_of, with_url};
-ghost use Rattle.bidi_peer.specs.declared.answering.ReplyStatus.TheVariants.{Done};
+ghost use Rattle.bidi_requests.specs.declared.answering.ReplyStatus.TheVariants.{Done};
 
-use bidi_peer::{AllowedMethods, ReplyStatus};
+use bidi_requests::{AllowedMethods, ReplyStatus};
 use bidi_rows::{compact, object_at, string_at};
 use json::{Error, Scratch, Value};
 use std::alloc::{AllocError, Global};

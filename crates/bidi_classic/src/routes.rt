@@ -2,7 +2,7 @@
 ghost use Rattle.std.specs.Prelude.{codes};
 ghost use Rattle.bidi_classic.specs.Routes.{IsRouted};
 
-use bidi_peer::{AllowedMethods, Method, is_of_session};
+use bidi_requests::{AllowedMethods, Method, is_of_session};
 
 /// What a call asks for.
 #[derive(Clone, Copy, Debug, PartialEq, Eq)]

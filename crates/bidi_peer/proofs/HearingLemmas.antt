@@ -1,13 +1,13 @@
 -- What a take hears in a handshake, over several reads.
 use Rattle.std.proofs.Common.{◌≡◌, ◌≢◌, ◌∙◌, ◌++◌, ◌⊎◌, ℕ, List, [], Option, None, Some, ap, append-nil, append_assoc, drop, inl, inr, refl, subst, sym}
 use Rattle.std.specs.Io.KnownBytes.{IsAtEnd, Keeps}
-use Rattle.bidi_peer.specs.Answering.{answer_bytes}
+use Rattle.bidi_requests.specs.Answering.{answer_bytes}
 use Rattle.bidi_peer.specs.Hearing.{Hears, IsHeard, Receives}
-use Rattle.bidi_peer.specs.Requests.{IsAskedBy, IsUnfinished}
+use Rattle.bidi_requests.specs.Requests.{IsAskedBy, IsUnfinished}
 use Rattle.bidi_peer.specs.Waiting.{Writes, untaken, unwritten}
-use Rattle.bidi_peer.specs.declared.answering.Answer.{Answer}
-use Rattle.bidi_peer.specs.declared.asking.Asked.{Asked}
-use Rattle.bidi_peer.specs.declared.asking.Asked.TheVariants as asked
+use Rattle.bidi_requests.specs.declared.answering.Answer.{Answer}
+use Rattle.bidi_requests.specs.declared.asking.Asked.{Asked}
+use Rattle.bidi_requests.specs.declared.asking.Asked.TheVariants as asked
 use Rattle.bidi_peer.specs.declared.peer.Came.{Came}
 use Rattle.bidi_peer.specs.declared.peer.Came.TheVariants as telling
 use Rattle.bidi_peer.specs.Sending.{Flushes}

@@ -1,12 +1,7 @@
-pub mod AskingLemmas
-pub mod BodyLemmas
-pub mod DigitLemmas
-pub mod FrontLemmas
 pub mod HearingLemmas
 pub mod MessageLemmas
 pub mod RoleLemmas
 pub mod SendingLemmas
 pub mod TakingLemmas
-pub mod TargetLemmas
 pub mod UnfinishedLemmas
 pub mod WaitingLemmas

@@ -5,8 +5,8 @@ use Rattle.std.specs.List.{flat_map, list_any}
 use Rattle.std.proofs.lemmas.List.{drop_at, drop_min}
 use Rattle.httparse.specs.Grammar.{HasNoRequest, LineEnd, ReadsRequest, RequestHead, crlf, lf, print_blank, print_end, print_field, print_request, print_section, print_version}
 use Rattle.httparse.proofs.GrammarLemmas.{ReadsRequest-append, print_request-append}
-use Rattle.bidi_peer.specs.Requests.{HasPart, IsAskedBy, IsUnfinished, longest_head}
-use Rattle.bidi_peer.specs.declared.asking.Asked.TheVariants as asked
+use Rattle.bidi_requests.specs.Requests.{HasPart, IsAskedBy, IsUnfinished, longest_head}
+use Rattle.bidi_requests.specs.declared.asking.Asked.TheVariants as asked
 
 -- some bytes end in a line feed
 abbrev Ends : List ℕ → Type 0

@@ -1,13 +1,13 @@
 -- What a take reports before a request is answered. Requests says what a request asks for, Answering how it is answered.
 use Rattle.std.specs.Prelude.{◌≡◌, ◌⊎◌, ℕ, List, ◌++◌, Option, drop}
 use Rattle.std.specs.Io.KnownBytes.{Consumes, IsAtEnd}
-use Rattle.bidi_peer.specs.Answering.{answer_bytes}
-use Rattle.bidi_peer.specs.Requests.{IsAskedBy, IsUnfinished}
+use Rattle.bidi_requests.specs.Answering.{answer_bytes}
+use Rattle.bidi_requests.specs.Requests.{IsAskedBy, IsUnfinished}
 use Rattle.bidi_peer.specs.Telling.{HasFailed}
 use Rattle.bidi_peer.specs.Waiting.{Reads, Writes, untaken, unwritten}
-use Rattle.bidi_peer.specs.declared.answering.Answer.{Answer}
-use Rattle.bidi_peer.specs.declared.asking.Asked.{Asked}
-use Rattle.bidi_peer.specs.declared.asking.Asked.TheVariants as asked
+use Rattle.bidi_requests.specs.declared.answering.Answer.{Answer}
+use Rattle.bidi_requests.specs.declared.asking.Asked.{Asked}
+use Rattle.bidi_requests.specs.declared.asking.Asked.TheVariants as asked
 use Rattle.bidi_peer.specs.declared.peer.Came.{Came}
 use Rattle.bidi_peer.specs.declared.peer.Came.TheVariants as telling
 use Rattle.bidi_peer.specs.declared.standing.Peer.{Peer}

@@ -1,12 +1,7 @@
-pub mod Answering
-pub mod Bodies
 pub mod Closing
 pub mod Hearing
 pub mod Messages
-pub mod Origins
-pub mod Requests
 pub mod Sending
 pub mod Taking
-pub mod Targets
 pub mod Telling
 pub mod Waiting

@@ -1,20 +1,19 @@
 //! The request of a connection, and the answer.
 ghost use Rattle.std.specs.Prelude.{◌≡◌, ◌≢◌, ◌⊎◌, ◌++◌, IfOk, IfSome, OnErr, OnOk};
-ghost use Rattle.bidi_peer.specs.Answering.{answer_bytes, reply_bytes};
+ghost use Rattle.bidi_requests.specs.Answering.{answer_bytes, reply_bytes};
 ghost use Rattle.bidi_peer.specs.Hearing.{IsHeard, Receives};
 ghost use Rattle.bidi_peer.specs.Messages.{IsFresh};
-ghost use Rattle.bidi_peer.specs.Requests.{IsAskedBy, IsUnfinished};
+ghost use Rattle.bidi_requests.specs.Requests.{IsAskedBy, IsUnfinished};
 ghost use Rattle.bidi_peer.specs.Waiting.{Writes, untaken, unwritten};
-ghost use Rattle.bidi_peer.specs.declared.answering.Answer.TheVariants.{Refused};
+ghost use Rattle.bidi_requests.specs.declared.answering.Answer.TheVariants.{Refused};
 ghost use Rattle.bidi_peer.specs.Telling.{HasEnded, HasFailed, IsAsked, IsCalled, IsTimely, MayTell, SameKnown, StaysKnown, StaysUnlessFailed, TellsOnce};
 ghost use Rattle.bidi_peer.specs.declared.peer.Came.TheVariants.{Nothing};
 ghost use Rattle.bidi_peer.specs.declared.standing.End.TheVariants.{Ahead, Known};
 ghost use Rattle.bidi_peer.specs.declared.standing.State.TheVariants.{Leaving, Open};
 
-use super::answering::{Answer, ReplyStatus, RequestRefusal};
-use super::asking::{Asked, is_to_judge, judge};
 use super::peer::{Came, new_context};
 use super::standing::{End, Peer, State};
+use bidi_requests::{Answer, Asked, ReplyStatus, RequestRefusal, asked_by, is_to_judge};
 use std::alloc::AllocError;
 use std::io::{Read, Write};
 use websocket::handshake::server::write_response;
@@ -36,7 +35,7 @@ impl<S: Read + Write + Drop> Peer<S> {
                 return Ok(came);
             }
             if is_to_judge(self.inbox.waiting(), known, self.least) {
-                let asked = judge(self.alloc, self.inbox.waiting())?;
+                let asked = asked_by(self.alloc, self.inbox.waiting())?;
                 if let Some(came) = self.hear(asked)? {
                     return Ok(came);
                 }

@@ -14,26 +14,18 @@
 //! - [`Peer::held`] counts the bytes that it holds, and [`Peer::shed`] fails it where the host holds too much.
 #![tactic(auto)]
 
-mod answering;
-mod asking;
-mod calling;
-mod chunks;
 mod ending;
 mod framing;
 mod handshake;
 mod inbox;
-mod origins;
 mod outbox;
 mod peer;
 mod receiving;
 mod sending;
 mod standing;
 mod stream;
-mod targets;
 mod waiting;
 
-pub use answering::{AllowedMethods, ReplyStatus, RequestRefusal};
-pub use calling::{Call, Method};
+pub use bidi_requests::{AllowedMethods, Call, Method, ReplyStatus, RequestRefusal};
 pub use peer::{Came, ClosingCause, MOST_WAITING};
 pub use standing::Peer;
-pub use targets::is_of_session;

@@ -9,9 +9,9 @@ ghost use Rattle.bidi_peer.specs.Waiting.{untaken, unwritten};
 ghost use Rattle.bidi_peer.specs.declared.standing.End.TheVariants.{Known};
 ghost use Rattle.bidi_peer.specs.declared.standing.State.TheVariants.{Done, Open};
 
-use super::calling::Call;
 use super::standing::{End, Peer, State};
 use super::waiting::{Inbox, Outbox};
+use bidi_requests::Call;
 use std::alloc::{AllocError, Global};
 use std::io::{Read, Write};
 use websocket::protocol::{CloseCode, Role, WebSocketConfig, WebSocketContext};

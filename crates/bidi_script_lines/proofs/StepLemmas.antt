@@ -1,7 +1,8 @@
 -- A step that a scripted end takes, as the outcome of a line.
-use Rattle.std.proofs.Common.{◌≡◌, ℕ, true, false, List, [], ◌∷◌, ◌++◌, map, Option, Some, None, Result, Ok, Err, refl, sym, ap, subst, ◌∙◌}
-use Rattle.std.specs.Prelude.{codes}
+use Rattle.std.proofs.Common.{◌≡◌, ℕ, Bool, true, false, true≢false, arith, length, List, [], ◌∷◌, ◌++◌, map, Option, Some, None, Result, Ok, Err, refl, sym, ap, subst, ◌∙◌}
+use Rattle.std.specs.Prelude.{codes, not, ◌==◌}
 use Rattle.std.specs.Option.{option_map_or}
+use Rattle.std.proofs.lemmas.Bool.Decides.{nat_tests}
 use Rattle.json.specs.Json.{Json, document}
 use Rattle.bidi_rows.specs.Reading.{object_at, string_at}
 use Rattle.bidi_rows.specs.Command.{Command}
@@ -45,6 +46,14 @@ followed-none s = refl
 pub with-none : (sent : List Sent) → with_followers [] sent ≡ sent
 with-none [] = refl
 with-none (s ∷ ss) = let none = followed-none s in let rest = with-none ss in λ i. s ∷ (none i ++ rest i)
+
+some-left : (b : Bool) → b ≡ false → not b ≡ false → ⊥
+some-left true is few = true≢false is
+some-left false is few = true≢false few
+
+pub with-few : (followers : List Follower) → not (length followers == 0) ≡ false → (sent : List Sent) → with_followers followers sent ≡ sent
+with-few [] few sent = with-none sent
+with-few (f ∷ followers) few sent = absurd (some-left (length (f ∷ followers) == 0) (grind (arith, nat_tests)) few)
 
 -- ---- a step that is handed on
 

@@ -108,6 +108,9 @@ pub fn with_followers(
     // The result has each thing that is sent, and directly after it what follows it.
     ensures { IfOk result (λ all. map sent_of all.items ≡ with_followers (script_of end.now.script).followers (map sent_of sent.items)) }
 {
+    if !end.has_followers() {
+        return Ok(sent);
+    }
     let mut all = Vec::with_capacity(alloc, sent.len())?;
     for one in sent {
         let mut more = end.followers_of(&one)?;

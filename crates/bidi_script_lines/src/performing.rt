@@ -21,6 +21,7 @@ ghost use Rattle.bidi_script_lines.specs.Performing.{TakesStep, AddsRow, Release
 use crate::outcome::Outcome;
 use crate::script_line::ScriptLine;
 use bidi_remote::{RemoteFault, Sent, SentText, Step};
+use bidi_rows::RowFault;
 use bidi_scripted::{ScriptFault, ScriptedEnd, Taken};
 use bidi_tree::JsUint;
 use std::alloc::{AllocError, Global};
@@ -30,6 +31,9 @@ const NOT_OPEN: &str = "the connection is not open";
 
 /// Why `bytes` has no effect.
 const NOT_HEX: &str = "the bytes are not pairs of hexadecimal digits";
+
+/// Why `on` has no effect.
+const NO_EVENTS: &str = "the events are not an array of events";
 
 /// Why `close` has no effect.
 const NO_CODE: &str = "no close code that a server may send";
@@ -184,6 +188,7 @@ fn follow(
 {
     match end.on(method, events) {
         Ok(()) => Ok(Outcome::Sent(Vec::new(alloc))),
+        Err(ScriptFault::BadRow(RowFault::BadEvents)) => no_effect(alloc, NO_EVENTS),
         Err(fault) => refused(alloc, fault),
     }
 }

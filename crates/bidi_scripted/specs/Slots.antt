@@ -3,7 +3,7 @@ use Rattle.std.specs.Prelude.{ℕ, ◌+◌, ◌*◌, ◌%◌, List, [], ◌∷�
 
 -- how many slots there are
 abbrev pub slots : ℕ
-slots = 16384
+slots = 65536
 
 -- the slot after some more bytes of a method
 abbrev pub slot_from : ℕ → List ℕ → ℕ

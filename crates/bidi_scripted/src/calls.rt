@@ -1,5 +1,5 @@
 //! The calls of a test.
-ghost use Rattle.std.specs.Prelude.{◌≡◌, ◌≤◌, [], ◌∷◌, List, ℕ, map, length, true, false, Some, None, Err, IfOk, OnOk, OnErr, IsErrOf, option_map, string_bytes};
+ghost use Rattle.std.specs.Prelude.{◌≡◌, ◌≤◌, ◌==◌, not, [], ◌∷◌, List, ℕ, map, length, true, false, Some, None, Err, IfOk, OnOk, OnErr, IsErrOf, option_map, string_bytes};
 ghost use Rattle.bidi_sessions.specs.Limits.{most_steps};
 ghost use Rattle.bidi_sessions.specs.View.{sent_of};
 ghost use Rattle.bidi_sessions.specs.Step as steps;
@@ -286,6 +286,14 @@ impl ScriptedEnd {
             return Err(ScriptFault::TooMuchKept);
         }
         Ok(self.script.follow(follower)?)
+    }
+
+    /// Whether a test had events follow others. Takes no memory.
+    pub fn has_followers(&self) -> bool
+        // False exactly if nothing follows what the remote end sends.
+        ensures { result ≡ not (length (script_of self.now.script).followers == 0) }
+    {
+        self.script.followers.len() != 0
     }
 
     /// What follows something that the remote end sends, on the same connection: the events that a test had follow it. Asked of each thing

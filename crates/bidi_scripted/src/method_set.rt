@@ -5,7 +5,7 @@ ghost use Rattle.bidi_scripted.specs.Slots.{slot_of, slots};
 use std::alloc::{AllocError, Global};
 
 /// How many slots there are. Each method has one of them, and several methods may share one.
-const SLOTS: usize = 16_384;
+const SLOTS: usize = 65_536;
 
 /// A set of methods, in which each method of a row is. Others may be in it, too.
 #[derive(Drop)]
@@ -18,7 +18,7 @@ pub(crate) struct MethodSet {
 impl MethodSet {
     ghost use Rattle.bidi_scripted.specs.Methods.{has_method};
 
-    /// The empty set. Takes 16 KB.
+    /// The empty set. Takes 64 KB.
     pub(crate) fn new(alloc: Global) -> Result<MethodSet, AllocError> {
         Ok(MethodSet {
             marks: Vec::from_elem(alloc, false, SLOTS)?,

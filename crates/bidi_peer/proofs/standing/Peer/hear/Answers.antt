@@ -1,5 +1,5 @@
 use Rattle.std.proofs.Common.{refl, subst}
-use Rattle.bidi_peer.specs.Requests.{IsAskedBy}
+use Rattle.bidi_requests.specs.Requests.{IsAskedBy}
 use Rattle.bidi_peer.specs.Waiting.{untaken}
 use Rattle.bidi_peer.specs.declared.standing.State.TheVariants.{Asked, Called}
 use Rattle.bidi_peer.proofs.HearingLemmas.{call_heard, request_heard}

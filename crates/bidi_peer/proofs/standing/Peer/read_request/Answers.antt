@@ -2,7 +2,7 @@ use Rattle.std.proofs.Common.{rules, ◌∙◌, ap, length, Some, subst, sym}
 use Rattle.std.specs.Prelude.{IfSome}
 use Rattle.bidi_peer.specs.Hearing.{IsHeard, Receives}
 use Rattle.bidi_peer.specs.Telling.{HasEnded}
-use Rattle.bidi_peer.specs.Requests.{IsAskedBy, IsUnfinished}
+use Rattle.bidi_requests.specs.Requests.{IsAskedBy, IsUnfinished}
 use Rattle.bidi_peer.specs.Waiting.{untaken}
 use Rattle.bidi_peer.proofs.HearingLemmas.{heard_behind, heard_then, receives_then}
 use Rattle.bidi_peer.proofs.UnfinishedLemmas.{still_unfinished}

@@ -1,5 +1,5 @@
 use Rattle.bidi_peer.specs.Hearing.{Receives}
-use Rattle.bidi_peer.specs.Requests.{IsUnfinished}
+use Rattle.bidi_requests.specs.Requests.{IsUnfinished}
 use Rattle.bidi_peer.specs.Waiting.{untaken}
 use Rattle.bidi_peer.specs.Telling.{HasEnded, SameKnown}
 use Rattle.bidi_peer.proofs.standing.Peer.read_request.Given as goal

@@ -1,0 +1,5 @@
+pub mod AskingLemmas
+pub mod BodyLemmas
+pub mod DigitLemmas
+pub mod FrontLemmas
+pub mod TargetLemmas

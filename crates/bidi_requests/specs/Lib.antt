@@ -1,0 +1,5 @@
+pub mod Answering
+pub mod Bodies
+pub mod Origins
+pub mod Requests
+pub mod Targets
