@@ -4,6 +4,8 @@
 #[cfg(test)]
 mod broken;
 #[cfg(test)]
+mod call_steps;
+#[cfg(test)]
 mod calls;
 #[cfg(test)]
 mod clients;

@@ -25,7 +25,7 @@
 //! | `input hears LINE` | the next line of standard output is this |
 //! | `host rests` | the host does all that is to be done |
 //! | `host ends` | the host ends |
-use crate::calls::{calls, is_told};
+use crate::call_steps::{calls, has_status, is_told};
 use crate::clients::Client;
 use crate::frames::{CLOSE, Closed, FIELDS, TEXT, head_of, push_frame};
 use crate::lab::{Awaited, Lab};
@@ -219,17 +219,6 @@ pub fn ask_for(rt: &HostRuntime, lab: &mut Lab, name: &str, resource: &str) -> R
     client.conn = conn;
     client.output().extend_from_slice(head.as_bytes())?;
     Ok(place)
-}
-
-/// Whether the answer to a client's head has this status.
-pub fn has_status(client: &Client, status: &str) -> bool {
-    let Some(head) = &client.head else {
-        return false;
-    };
-    match head.as_str().strip_prefix("HTTP/1.1 ") {
-        Some(rest) => rest.starts_with(status),
-        None => false,
-    }
 }
 
 /// A client for which `session.new` makes the session of this id.
