@@ -66,7 +66,7 @@ pub fn read_row(alloc: Global, text: &str, scratch: &mut Scratch) -> Result<Row,
 /// As [`read_row`].
 #[tactic(auto, using(crate::proofs::ReadingLemmas::row_read))]
 pub fn read_hold(alloc: Global, text: &str, scratch: &mut Scratch) -> Result<Row, RowFault>
-    // After an Ok, the text is JSON for this row, which holds.
+    // After an Ok, the text is JSON for the row that is returned.
     ensures { IfOk result (λ r. IsRow text.now (row_of r)) }
 {
     let value = parsed(alloc, text, scratch)?;

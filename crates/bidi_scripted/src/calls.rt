@@ -44,7 +44,7 @@ impl ScriptedEnd {
     /// # Errors
     /// Nothing has changed then. `NoMemory`, `BadRow`, `TooManyRows`, `TooMuchKept`.
     pub fn answer(&mut self, row: &str) -> Result<(), ScriptFault>
-        // After an Ok, the row of this text is the newest of the script, and it answers.
+        // After an Ok, the text is JSON for a row, and this row is the newest of the script.
         ensures ok { OnOk result ((r : spec.Row) × IsRow row.now r × (script_of self.new.script ≡ with_row r (script_of self.old.script))) }
         // After an error the script is as it was.
         ensures err { OnErr result (script_of self.new.script ≡ script_of self.old.script) }
@@ -65,7 +65,7 @@ impl ScriptedEnd {
     /// # Errors
     /// As [`ScriptedEnd::answer`].
     pub fn hold(&mut self, row: &str) -> Result<(), ScriptFault>
-        // After an Ok, the row of this text is the newest of the script, and it holds.
+        // After an Ok, the text is JSON for a row, and this row is the newest of the script.
         ensures ok { OnOk result ((r : spec.Row) × IsRow row.now r × (script_of self.new.script ≡ with_row r (script_of self.old.script))) }
         // After an error the script is as it was.
         ensures err { OnErr result (script_of self.new.script ≡ script_of self.old.script) }
