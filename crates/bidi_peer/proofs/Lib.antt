@@ -1,5 +1,7 @@
+pub mod ClosingLemmas
 pub mod HearingLemmas
 pub mod MessageLemmas
+pub mod PassedLemmas
 pub mod RoleLemmas
 pub mod SendingLemmas
 pub mod TakingLemmas

@@ -1,18 +1,15 @@
 -- What a connection tells, frame by frame and read by read.
-use Rattle.std.proofs.Common.{◌≡◌, ◌∙◌, ◌++◌, ◌∷◌, ◌⊎◌, ◌+◌, ◌≤◌, ℕ, List, [], Option, None, Some, Ok, Err, ap, append-nil, append_assoc, arith, drop, inl, inr, length, refl, subst, sym}
+use Rattle.std.proofs.Common.{◌≡◌, ◌∙◌, ◌++◌, ◌⊎◌, ◌+◌, ◌≤◌, ℕ, List, Option, None, Some, Ok, Err, ap, arith, drop, inl, inr, length, refl, subst, sym}
 use Rattle.std.specs.Prelude.{◌<◌, string_bytes}
-use Rattle.std.specs.Io.KnownBytes.{Appends, Consumes}
-use Rattle.std.proofs.lemmas.List.{drop-append-le, length_push}
-use Rattle.websocket.specs.Connection.{Connection, Effect, read_step}
+use Rattle.websocket.specs.Connection.{Effect, read_step}
 use Rattle.websocket.specs.Content.{Content, binary, text}
 use Rattle.websocket.specs.declared.error.Error.{Error}
 use Rattle.websocket.specs.declared.protocol.frame.codec.FrameStatus.TheVariants.{Complete, Partial}
-use Rattle.websocket.proofs.StreamLemmas.{TookFrame_from_read, read_step-append}
 use Rattle.bidi_peer.specs.Hearing.{Receives}
-use Rattle.bidi_peer.specs.Messages.{HasNoFrame, IsSilent, IsTold, Leads, Passed, Passes, Stops, Tells, Use, gave, given, most_steps_of_take, replies, reply_bytes, taken, took}
+use Rattle.bidi_peer.specs.Messages.{IsSilent, IsTold, Stops, Tells, most_steps_of_take, reply_bytes}
 use Rattle.bidi_peer.specs.Taking.{HasTaken, IsLast, IsReceived, IsTakenFor, Shows}
 use Rattle.bidi_peer.specs.Telling.{HasEnded, HasFailed}
-use Rattle.bidi_peer.specs.Waiting.{Writes, untaken, unwritten}
+use Rattle.bidi_peer.specs.Waiting.{untaken, unwritten}
 use Rattle.bidi_peer.specs.declared.framing.Frame.{Frame}
 use Rattle.bidi_peer.specs.declared.framing.Frame.TheVariants as frame
 use Rattle.bidi_peer.specs.declared.peer.Came.{Came}
@@ -20,10 +17,11 @@ use Rattle.bidi_peer.specs.declared.peer.Came.TheVariants as telling
 use Rattle.bidi_peer.specs.declared.standing.Peer.{Peer}
 use Rattle.bidi_peer.specs.declared.standing.State.{State}
 use Rattle.bidi_peer.specs.declared.standing.State.TheVariants.{Asked, Called, Closing, Done, Failed, Head, Leaving, Open}
+use Rattle.bidi_peer.proofs.PassedLemmas.{CountedTo, moved, no-frame, passed-frame, passed-gave, passed-none, passed-took, received-passed}
 use Rattle.bidi_peer.proofs.TakingLemmas.{Outcome, not_bad, not_part, shown_binary, shown_close, shown_text, silent_control, silent_fragment}
 
 -- after a failure of the stream nothing more is read
-failed-ended : (s : State) → HasFailed s → HasEnded s
+pub failed-ended : (s : State) → HasFailed s → HasEnded s
 failed-ended Head failed = absurd failed
 failed-ended (Asked key) failed = absurd failed
 failed-ended Called failed = absurd failed
@@ -33,146 +31,11 @@ failed-ended Leaving failed = absurd failed
 failed-ended Done failed = absurd failed
 failed-ended (Failed failure) failed = tt
 
--- one more frame
-passes-then : (c : Connection) (bytes : List ℕ) (effects : List Effect) (d : Connection) (left : List ℕ) (n : ℕ) (e : Effect) → Passes c bytes effects d left
-    → read_step d left ≡ Ok (Complete (n, e)) → IsSilent e.message → Passes c bytes (effects ++ (e ∷ [])) e.next (drop n left)
-passes-then c bytes [] d left n e p reads silent =
-    (n, (λ i. read_step (sym p.0 i) (sym p.1 i)) ∙ reads, silent, (refl, ap (drop n) p.1))
-passes-then c bytes (x ∷ effects) d left n e p reads silent =
-    (p.0, p.1, p.2, passes-then x.next (drop p.0 bytes) effects d left n e p.3 reads silent)
-
--- more bytes behind a whole frame change nothing of it
-read-more : (c : Connection) (bytes more : List ℕ) (n : ℕ) (e : Effect) → read_step c bytes ≡ Ok (Complete (n, e)) → read_step c (bytes ++ more) ≡ Ok (Complete (n, e))
-read-more c bytes more n e reads = read_step-append c bytes more (λ k. cc (reads, k.1)) ∙ reads
-
-rest-more : (c : Connection) (bytes more : List ℕ) (n : ℕ) (e : Effect) → read_step c bytes ≡ Ok (Complete (n, e)) → drop n (bytes ++ more) ≡ drop n bytes ++ more
-rest-more c bytes more n e reads = drop-append-le n bytes more (TookFrame_from_read c bytes (n, e) reads).inside
-
--- more bytes came behind the frames
-passes-more : (c : Connection) (bytes : List ℕ) (effects : List Effect) (d : Connection) (left more : List ℕ) → Passes c bytes effects d left
-    → Passes c (bytes ++ more) effects d (left ++ more)
-passes-more c bytes [] d left more p = (p.0, ap (λ x. x ++ more) p.1)
-passes-more c bytes (x ∷ effects) d left more p = (
-  p.0,
-  read-more c bytes more p.0 x p.1,
-  p.2,
-  subst (λ b. Passes x.next b effects d (left ++ more)) (sym (rest-more c bytes more p.0 x p.1))
-      (passes-more x.next (drop p.0 bytes) effects d left more p.3),
-)
-
--- one more reply
-replies-then : (effects : List Effect) (e : Effect) → replies (effects ++ (e ∷ [])) ≡ replies effects ++ reply_bytes e.reply
-replies-then [] e = append-nil (reply_bytes e.reply)
-replies-then (x ∷ effects) e = ap (λ r. reply_bytes x.reply ++ r) (replies-then effects e) ∙ sym (append_assoc (reply_bytes x.reply) (replies effects) (reply_bytes e.reply))
-
-module _ {S : Type 0} where
-  given-gave : (uses : List (Use S)) (bytes : List ℕ) (s : S) → given (uses ++ (gave bytes s ∷ [])) ≡ given uses ++ bytes
-  given-gave [] bytes s = append-nil bytes
-  given-gave ((gave b t) ∷ uses) bytes s = ap (λ x. b ++ x) (given-gave uses bytes s) ∙ sym (append_assoc b (given uses) bytes)
-  given-gave ((took b t) ∷ uses) bytes s = given-gave uses bytes s
-
-  given-took : (uses : List (Use S)) (bytes : List ℕ) (s : S) → given (uses ++ (took bytes s ∷ [])) ≡ given uses
-  given-took [] bytes s = refl
-  given-took ((gave b t) ∷ uses) bytes s = ap (λ x. b ++ x) (given-took uses bytes s)
-  given-took ((took b t) ∷ uses) bytes s = given-took uses bytes s
-
-  taken-gave : (uses : List (Use S)) (bytes : List ℕ) (s : S) → taken (uses ++ (gave bytes s ∷ [])) ≡ taken uses
-  taken-gave [] bytes s = refl
-  taken-gave ((gave b t) ∷ uses) bytes s = taken-gave uses bytes s
-  taken-gave ((took b t) ∷ uses) bytes s = ap (λ x. b ++ x) (taken-gave uses bytes s)
-
-  taken-took : (uses : List (Use S)) (bytes : List ℕ) (s : S) → taken (uses ++ (took bytes s ∷ [])) ≡ taken uses ++ bytes
-  taken-took [] bytes s = append-nil bytes
-  taken-took ((gave b t) ∷ uses) bytes s = taken-took uses bytes s
-  taken-took ((took b t) ∷ uses) bytes s = ap (λ x. b ++ x) (taken-took uses bytes s) ∙ sym (append_assoc b (taken uses) bytes)
-
 module _ {S : Type 0} (remaining contents : S → Option (List ℕ)) where
-  -- one more use
-  leads-gave : (s : S) (uses : List (Use S)) (t u : S) (bytes : List ℕ) → Leads remaining contents s uses t → Consumes (remaining t) (remaining u) bytes
-      → Leads remaining contents s (uses ++ (gave bytes u ∷ [])) u
-  leads-gave s [] t u bytes l now = (subst (λ x. Consumes (remaining x) (remaining u) bytes) l now, refl)
-  leads-gave s ((gave b v) ∷ uses) t u bytes l now = (l.0, leads-gave v uses t u bytes l.1 now)
-  leads-gave s ((took b v) ∷ uses) t u bytes l now = (l.0, leads-gave v uses t u bytes l.1 now)
-
-  leads-took : (s : S) (uses : List (Use S)) (t u : S) (bytes : List ℕ) → Leads remaining contents s uses t → Appends (contents t) (contents u) bytes
-      → Leads remaining contents s (uses ++ (took bytes u ∷ [])) u
-  leads-took s [] t u bytes l now = (subst (λ x. Appends (contents x) (contents u) bytes) l now, refl)
-  leads-took s ((gave b v) ∷ uses) t u bytes l now = (l.0, leads-took v uses t u bytes l.1 now)
-  leads-took s ((took b v) ∷ uses) t u bytes l now = (l.0, leads-took v uses t u bytes l.1 now)
-
   module _ (a : Peer S) where
-    -- frames that tell nothing were taken, and the stream was used, so often at least
-    abbrev Counted : ℕ → Connection → List ℕ → List ℕ → S → Type 0
-    Counted k c left waits s = (p : Passed remaining contents a c left waits s) × (k ≤ length p.effects + length p.uses)
-
-    -- so often at least, up to this connection
-    abbrev CountedTo : ℕ → Peer S → Type 0
-    CountedTo k b = Counted k b.context (untaken b.inbox) (unwritten b.outbox) b.stream
-
-    -- nothing passed yet
-    passed-none : CountedTo 0 a
-    passed-none = (
-      record {
-        uses = [];
-        leads = refl;
-        effects = [];
-        passes = (refl, sym (append-nil (untaken a.inbox)));
-        sends = append-nil (unwritten a.outbox);
-      },
-      omega arith,
-    )
-
-    -- one more frame passed
-    passed-frame : (k : ℕ) (c : Connection) (left waits : List ℕ) (s : S) (n : ℕ) (e : Effect) → Counted k c left waits s → read_step c left ≡ Ok (Complete (n, e))
-        → IsSilent e.message → Counted (k + 1) e.next (drop n left) (waits ++ reply_bytes e.reply) s
-    passed-frame k c left waits s n e q reads silent =
-        let p = q.0 in (
-          record {
-            uses = p.uses;
-            leads = p.leads;
-            effects = p.effects ++ (e ∷ []);
-            passes = passes-then a.context (untaken a.inbox ++ given p.uses) p.effects c left n e p.passes reads silent;
-            sends = ap (λ r. unwritten a.outbox ++ r) (replies-then p.effects e) ∙ sym (append_assoc (unwritten a.outbox) (replies p.effects) (reply_bytes e.reply))
-                ∙ ap (λ x. x ++ reply_bytes e.reply) p.sends ∙ append_assoc (taken p.uses) waits (reply_bytes e.reply);
-          },
-          omega (arith, q.1, length_push p.effects e),
-        )
-
-    -- more bytes came
-    passed-gave : (k : ℕ) (c : Connection) (left waits : List ℕ) (s t : S) (bytes : List ℕ) → Counted k c left waits s → Consumes (remaining s) (remaining t) bytes
-        → Counted (k + 1) c (left ++ bytes) waits t
-    passed-gave k c left waits s t bytes q now =
-        let p = q.0 in (
-          record {
-            uses = p.uses ++ (gave bytes t ∷ []);
-            leads = leads-gave a.stream p.uses s t bytes p.leads now;
-            effects = p.effects;
-            passes =
-                subst (λ b. Passes a.context b p.effects c (left ++ bytes))
-                (append_assoc (untaken a.inbox) (given p.uses) bytes ∙ ap (λ g. untaken a.inbox ++ g) (sym (given-gave p.uses bytes t)))
-                (passes-more a.context (untaken a.inbox ++ given p.uses) p.effects c left bytes p.passes);
-            sends = p.sends ∙ ap (λ x. x ++ waits) (sym (taken-gave p.uses bytes t));
-          },
-          omega (arith, q.1, length_push p.uses (gave bytes t)),
-        )
-
-    -- some of what waits was written
-    passed-took : (k : ℕ) (c : Connection) (left waits rest : List ℕ) (s t : S) → Counted k c left waits s → Writes contents waits rest s t → Counted k c left rest t
-    passed-took k c left waits rest s t q w =
-        let p = q.0 in (
-          record {
-            uses = p.uses ++ (took w.went t ∷ []);
-            leads = leads-took a.stream p.uses s t w.went p.leads w.taken;
-            effects = p.effects;
-            passes = subst (λ g. Passes a.context (untaken a.inbox ++ g) p.effects c left) (sym (given-took p.uses w.went t)) p.passes;
-            sends = p.sends ∙ ap (λ x. taken p.uses ++ x) w.parts ∙ sym (append_assoc (taken p.uses) w.went rest) ∙ ap (λ x. x ++ rest) (sym (taken-took p.uses w.went t));
-          },
-          omega (arith, q.1, length_push p.uses (took w.went t)),
-        )
-
     -- it goes on: only frames that tell nothing were taken, and the connection is open or its stream failed
     abbrev pub GoesOn : ℕ → Peer S → Type 0
-    GoesOn k b = ((b.state ≡ Open) × (b.most_waiting ≡ a.most_waiting) × CountedTo k b) ⊎ (HasFailed b.state × Stops remaining contents a b)
+    GoesOn k b = ((b.state ≡ Open) × (b.most_waiting ≡ a.most_waiting) × CountedTo remaining contents IsSilent a k b) ⊎ (HasFailed b.state × Stops remaining contents a b)
 
     -- what comes of a frame
     abbrev pub Comes : ℕ → Peer S → Option Came → Type 0
@@ -180,37 +43,13 @@ module _ {S : Type 0} (remaining contents : S → Option (List ℕ)) where
     Comes k b (Some c) = IsTold remaining contents a b c
 
     pub goes-on-first : a.state ≡ Open → GoesOn 0 a
-    goes-on-first opened = inl (opened, refl, passed-none)
+    goes-on-first opened = inl (opened, refl, passed-none remaining contents IsSilent a)
 
-    -- the same by other names
-    moved : (k : ℕ) (c d : Connection) (left rest waits others : List ℕ) (s t : S) → d ≡ c → rest ≡ left → others ≡ waits → t ≡ s → Counted k c left waits s → Counted k d rest others t
-    moved k c d left rest waits others s t context bytes wait stream q =
-        let p = q.0 in (
-          record {
-            uses = p.uses;
-            leads = subst (λ x. Leads remaining contents a.stream p.uses x) (sym stream) p.leads;
-            effects = p.effects;
-            passes = subst (λ x. Passes a.context (untaken a.inbox ++ given p.uses) p.effects x rest) (sym context)
-                (subst (λ x. Passes a.context (untaken a.inbox ++ given p.uses) p.effects c x) (sym bytes) p.passes);
-            sends = p.sends ∙ ap (λ x. taken p.uses ++ x) (sym wait);
-          },
-          q.1,
-        )
-
-    no-frame : (c d : Connection) (bytes left : List ℕ) (k : ℕ) → d ≡ c → left ≡ bytes → read_step c bytes ≡ Ok (Partial k) → HasNoFrame d left
-    no-frame c d bytes left k context same reads = (k, (λ i. read_step (context i) (same i)) ∙ reads)
-
-    -- the stream was read
-    received-passed : (k : ℕ) (n r : Peer S) → CountedTo k n → Receives remaining n r → CountedTo (k + 1) r
-    received-passed k n r p x =
-        moved (k + 1) n.context r.context (untaken n.inbox ++ x.reads.came) (untaken r.inbox) (unwritten n.outbox) (unwritten r.outbox) r.stream r.stream x.context x.reads.joins x.outbox refl
-        (passed-gave k n.context (untaken n.inbox) (unwritten n.outbox) n.stream r.stream x.reads.came p x.reads.given)
-
-    after-read : (k : ℕ) (n r : Peer S) (j : ℕ) (came : Option Came) → CountedTo k n → read_step n.context (untaken n.inbox) ≡ Ok (Partial j)
+    after-read : (k : ℕ) (n r : Peer S) (j : ℕ) (came : Option Came) → CountedTo remaining contents IsSilent a k n → read_step n.context (untaken n.inbox) ≡ Ok (Partial j)
         → n.most_waiting ≡ a.most_waiting → n.state ≡ Open → IsReceived remaining contents frame.Part n r came → Comes (k + 1) r came
-    after-read k n r j None p reads bound opened x = inl (x.state ∙ opened, x.bound ∙ bound, received-passed k n r p x)
+    after-read k n r j None p reads bound opened x = inl (x.state ∙ opened, x.bound ∙ bound, received-passed remaining contents IsSilent a k n r p x)
     after-read k n r j (Some telling.Nothing) p reads bound opened x =
-        ((received-passed k n r p x.0).0, no-frame n.context r.context (untaken n.inbox) (untaken r.inbox) j x.0.context x.1 reads)
+        ((received-passed remaining contents IsSilent a k n r p x.0).0, no-frame n.context r.context (untaken n.inbox) (untaken r.inbox) j x.0.context x.1 reads)
     after-read k n r j (Some telling.More) p reads bound opened x = absurd x
     after-read k n r j (Some (telling.Asks target)) p reads bound opened x = absurd x
     after-read k n r j (Some (telling.Calls call)) p reads bound opened x = absurd x
@@ -229,12 +68,12 @@ module _ {S : Type 0} (remaining contents : S → Option (List ℕ)) where
       bytes = untaken n.inbox ++ x.0;
       waits = unwritten n.outbox;
       stream = r.stream;
-      passed = (passed-gave k n.context (untaken n.inbox) (unwritten n.outbox) n.stream r.stream x.0 p x.1).0;
+      passed = (passed-gave remaining contents IsSilent a k n.context (untaken n.inbox) (unwritten n.outbox) n.stream r.stream x.0 p x.1).0;
       why = inr (inl (x.3, no-frame n.context n.context (untaken n.inbox) (untaken n.inbox ++ x.0) j refl x.2 reads));
     })
 
     -- a frame that tells nothing was taken
-    after-silent : (k : ℕ) (n r : Peer S) (came : Option Came) → CountedTo k n → n.most_waiting ≡ a.most_waiting → n.state ≡ Open
+    after-silent : (k : ℕ) (n r : Peer S) (came : Option Came) → CountedTo remaining contents IsSilent a k n → n.most_waiting ≡ a.most_waiting → n.state ≡ Open
         → IsReceived remaining contents frame.Control n r came → Comes k r came
     after-silent k n r None p bound opened (inl failed) = inr (
       failed,
@@ -251,15 +90,15 @@ module _ {S : Type 0} (remaining contents : S → Option (List ℕ)) where
         inl (
           f.state ∙ opened,
           f.bound ∙ bound,
-          moved k n.context r.context (untaken n.inbox) (untaken r.inbox) (unwritten r.outbox) (unwritten r.outbox) r.stream r.stream f.context f.inbox refl refl
-              (passed-took k n.context (untaken n.inbox) (unwritten n.outbox) (unwritten r.outbox) n.stream r.stream p f.writes),
+          moved remaining contents IsSilent a k n.context r.context (untaken n.inbox) (untaken r.inbox) (unwritten r.outbox) (unwritten r.outbox) r.stream r.stream f.context f.inbox refl refl
+              (passed-took remaining contents IsSilent a k n.context (untaken n.inbox) (unwritten n.outbox) (unwritten r.outbox) n.stream r.stream p f.writes),
         )
     after-silent k n r (Some c) p bound opened x = subst (λ y. IsTold remaining contents a r y) (sym x.0) (inr (record {
       before = n.context;
       bytes = untaken n.inbox;
       waits = x.1.rest;
       stream = x.1.stream;
-      passed = (passed-took k n.context (untaken n.inbox) (unwritten n.outbox) x.1.rest n.stream x.1.stream p x.1.writes).0;
+      passed = (passed-took remaining contents IsSilent a k n.context (untaken n.inbox) (unwritten n.outbox) x.1.rest n.stream x.1.stream p x.1.writes).0;
       why = inr (inr (inr (inr (subst (λ m. m < length x.1.rest) bound x.1.full))));
     }))
 
@@ -267,7 +106,7 @@ module _ {S : Type 0} (remaining contents : S → Option (List ℕ)) where
     as-control n r k None x = x
     as-control n r k (Some c) x = x
 
-    module _ (k : ℕ) (b : Peer S) (passed : CountedTo k b) (bound : b.most_waiting ≡ a.most_waiting) where
+    module _ (k : ℕ) (b : Peer S) (passed : CountedTo remaining contents IsSilent a k b) (bound : b.most_waiting ≡ a.most_waiting) where
       -- a message is told
       told : (n : Peer S) (m : ℕ) (e : Effect) (content : Content) → read_step b.context (untaken b.inbox) ≡ Ok (Complete (m, e)) → n.context ≡ e.next
           → untaken n.inbox ≡ drop m (untaken b.inbox) → unwritten n.outbox ≡ unwritten b.outbox ++ reply_bytes e.reply → n.stream ≡ b.stream → e.message ≡ Some content
@@ -276,7 +115,7 @@ module _ {S : Type 0} (remaining contents : S → Option (List ℕ)) where
         before = b.context;
         bytes = untaken b.inbox;
         waits = unwritten b.outbox;
-        passed = (moved k b.context b.context (untaken b.inbox) (untaken b.inbox) (unwritten b.outbox) (unwritten b.outbox) b.stream n.stream refl refl refl stream passed).0;
+        passed = (moved remaining contents IsSilent a k b.context b.context (untaken b.inbox) (untaken b.inbox) (unwritten b.outbox) (unwritten b.outbox) b.stream n.stream refl refl refl stream passed).0;
         size = m;
         effect = e;
         reads = reads;
@@ -294,14 +133,14 @@ module _ {S : Type 0} (remaining contents : S → Option (List ℕ)) where
       whole n r m e frame.Control came reads shows context rest sends stream most (inl last) x = absurd last
       whole n r m e frame.Control came reads shows context rest sends stream most (inr opened) x =
           after-silent (k + 1) n r came
-          (moved (k + 1) e.next n.context (drop m (untaken b.inbox)) (untaken n.inbox) (unwritten b.outbox ++ reply_bytes e.reply) (unwritten n.outbox) b.stream n.stream context rest sends stream
-          (passed-frame k b.context (untaken b.inbox) (unwritten b.outbox) b.stream m e passed reads (silent_control e.message shows)))
+          (moved remaining contents IsSilent a (k + 1) e.next n.context (drop m (untaken b.inbox)) (untaken n.inbox) (unwritten b.outbox ++ reply_bytes e.reply) (unwritten n.outbox) b.stream n.stream context rest sends stream
+          (passed-frame remaining contents IsSilent a k b.context (untaken b.inbox) (unwritten b.outbox) b.stream m e passed reads (silent_control e.message shows)))
           (most ∙ bound) opened x
       whole n r m e (frame.Fragment j) came reads shows context rest sends stream most (inl last) x = absurd last
       whole n r m e (frame.Fragment j) came reads shows context rest sends stream most (inr opened) x =
           after-silent (k + 1) n r came
-          (moved (k + 1) e.next n.context (drop m (untaken b.inbox)) (untaken n.inbox) (unwritten b.outbox ++ reply_bytes e.reply) (unwritten n.outbox) b.stream n.stream context rest sends stream
-          (passed-frame k b.context (untaken b.inbox) (unwritten b.outbox) b.stream m e passed reads (silent_fragment e.message j shows)))
+          (moved remaining contents IsSilent a (k + 1) e.next n.context (drop m (untaken b.inbox)) (untaken n.inbox) (unwritten b.outbox ++ reply_bytes e.reply) (unwritten n.outbox) b.stream n.stream context rest sends stream
+          (passed-frame remaining contents IsSilent a k b.context (untaken b.inbox) (unwritten b.outbox) b.stream m e passed reads (silent_fragment e.message j shows)))
           (most ∙ bound) opened (as-control n r j came x)
       whole n r m e (frame.Text s) came reads shows context rest sends stream most stays x =
           subst (λ (p : Peer S). Comes (k + 1) p came) (sym x.1)
@@ -347,7 +186,7 @@ module _ {S : Type 0} (remaining contents : S → Option (List ℕ)) where
       partial n r j frame.Part came reads is context rest waits stream most (inl last) x = absurd last
       partial n r j frame.Part came reads is context rest waits stream most (inr opened) x =
           after-read k n r j came
-          (moved k b.context n.context (untaken b.inbox) (untaken n.inbox) (unwritten b.outbox) (unwritten n.outbox) b.stream n.stream context rest waits stream passed)
+          (moved remaining contents IsSilent a k b.context n.context (untaken b.inbox) (untaken n.inbox) (unwritten b.outbox) (unwritten n.outbox) b.stream n.stream context rest waits stream passed)
           ((λ i. read_step (context i) (rest i)) ∙ reads) (most ∙ bound) opened x
       partial n r j frame.Control came reads is context rest waits stream most stays x = absurd is
       partial n r j (frame.Fragment i) came reads is context rest waits stream most stays x = absurd is

@@ -130,7 +130,8 @@ not_bad (Some (ping bytes)) f shows = shows
 not_bad (Some (pong bytes)) f shows = shows
 not_bad (Some (close reason)) f shows = shows
 
-closed-last : (reason : _) (f : Frame) → Shows (Some (close reason)) f → IsLast f
+-- a close frame is the last
+pub closed-last : (reason : _) (f : Frame) → Shows (Some (close reason)) f → IsLast f
 closed-last reason frame.Part shows = absurd shows
 closed-last reason frame.Control shows = absurd shows
 closed-last reason (frame.Fragment n) shows = absurd shows
@@ -152,7 +153,8 @@ stays-or-closes : (c d : Connection) (e : Effect) (f : Frame) → d ≡ e.next �
 stays-or-closes c d e f next (inl closes) shows = inl (closed-last closes.0 f (subst (λ m. Shows m f) closes.1 shows))
 stays-or-closes c d e f next (inr same) shows = inr (ap (λ (x : Connection). x.state) next ∙ same)
 
-after-taken : (r : Outcome) (c d : Connection) (bytes left waited waits : List ℕ) (f : Frame) → read_step c bytes ≡ r → IsTakenFor r f → HasTaken r c bytes waited d left waits
+-- after a frame that is not the last the protocol is in the same state
+pub after-taken : (r : Outcome) (c d : Connection) (bytes left waited waits : List ℕ) (f : Frame) → read_step c bytes ≡ r → IsTakenFor r f → HasTaken r c bytes waited d left waits
     → IsLast f ⊎ (d.state ≡ c.state)
 after-taken (Err e) c d bytes left waited waits f is takes t = inl (failed-last e f takes)
 after-taken (Ok (Partial n)) c d bytes left waited waits f is takes t = inr (ap (λ (x : Connection). x.state) t.0)

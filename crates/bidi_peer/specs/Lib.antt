@@ -1,4 +1,5 @@
 pub mod Closing
+pub mod Ends
 pub mod Hearing
 pub mod Messages
 pub mod Sending

@@ -45,10 +45,19 @@ IsSilent (Some (ping bytes)) = ⊤
 IsSilent (Some (pong bytes)) = ⊤
 IsSilent (Some (close reason)) = ⊥
 
--- The frames at the front of the bytes have these effects and report nothing; after them, this is the state of the protocol and these bytes are left.
-abbrev pub Passes : Connection → List ℕ → List Effect → Connection → List ℕ → Type 0
-Passes c bytes [] d left = (d ≡ c) × (left ≡ bytes)
-Passes c bytes (e ∷ effects) d left = (n : ℕ) × (read_step c bytes ≡ Ok (Complete (n, e))) × IsSilent e.message × Passes e.next (drop n bytes) effects d left
+-- A frame is no close frame.
+abbrev pub IsNoClose : Option Content → Type 0
+IsNoClose None = ⊤
+IsNoClose (Some (text bytes)) = ⊤
+IsNoClose (Some (binary bytes)) = ⊤
+IsNoClose (Some (ping bytes)) = ⊤
+IsNoClose (Some (pong bytes)) = ⊤
+IsNoClose (Some (close reason)) = ⊥
+
+-- The frames at the front of the bytes have these effects and are of this kind; after them, this is the state of the protocol and these bytes are left.
+abbrev pub Passes : (Option Content → Type 0) → Connection → List ℕ → List Effect → Connection → List ℕ → Type 0
+Passes kind c bytes [] d left = (d ≡ c) × (left ≡ bytes)
+Passes kind c bytes (e ∷ effects) d left = (n : ℕ) × (read_step c bytes ≡ Ok (Complete (n, e))) × kind e.message × Passes kind e.next (drop n bytes) effects d left
 
 -- The bytes begin with no whole frame.
 abbrev pub HasNoFrame : Connection → List ℕ → Type 0
@@ -96,25 +105,25 @@ module _ {S : Type 0} where
   Leads remaining contents s ((gave bytes u) ∷ uses) t = Consumes (remaining s) (remaining u) bytes × Leads remaining contents u uses t
   Leads remaining contents s ((took bytes u) ∷ uses) t = Appends (contents s) (contents u) bytes × Leads remaining contents u uses t
 
-  -- The bytes that waited, followed by those that reads gave, begin with frames that report nothing, and only these frames were taken; their replies follow what waited to be written.
+  -- The bytes that waited, followed by those that reads gave, begin with frames of this kind, and only these frames were taken; their replies follow what waited to be written.
   -- It does not say that a write leaves the bytes of the stream that are still to be read as they were.
-  pub record Passed (remaining contents : S → Option (List ℕ)) (old : Peer S) (c : Connection) (left waits : List ℕ) (stream : S) : Type 0 where
+  pub record Passed (kind : Option Content → Type 0) (remaining contents : S → Option (List ℕ)) (old : Peer S) (c : Connection) (left waits : List ℕ) (stream : S) : Type 0 where
     pub uses : List (Use S)
     pub leads : Leads remaining contents old.stream uses stream
     pub effects : List Effect
-    pub passes : Passes old.context (untaken old.inbox ++ given uses) effects c left
+    pub passes : Passes kind old.context (untaken old.inbox ++ given uses) effects c left
     pub sends : unwritten old.outbox ++ replies effects ≡ taken uses ++ waits
 
   -- Only frames that report nothing were taken.
   abbrev pub TellsNothing : (S → Option (List ℕ)) → (S → Option (List ℕ)) → Peer S → Peer S → Type 0
-  TellsNothing remaining contents old new = Passed remaining contents old new.context (untaken new.inbox) (unwritten new.outbox) new.stream
+  TellsNothing remaining contents old new = Passed IsSilent remaining contents old new.context (untaken new.inbox) (unwritten new.outbox) new.stream
 
   -- After frames that report nothing, the next frame completes this message, and the bytes after it wait.
   pub record Tells (remaining contents : S → Option (List ℕ)) (content : Content) (old new : Peer S) : Type 0 where
     pub before : Connection
     pub bytes : List ℕ
     pub waits : List ℕ
-    pub passed : Passed remaining contents old before bytes waits new.stream
+    pub passed : Passed IsSilent remaining contents old before bytes waits new.stream
     pub size : ℕ
     pub effect : Effect
     pub reads : read_step before bytes ≡ Ok (Complete (size, effect))
@@ -130,7 +139,7 @@ module _ {S : Type 0} where
     pub bytes : List ℕ
     pub waits : List ℕ
     pub stream : S
-    pub passed : Passed remaining contents old before bytes waits stream
+    pub passed : Passed IsSilent remaining contents old before bytes waits stream
     pub why : HasFailed new.state ⊎ ((IsAtEnd (remaining stream) × HasNoFrame before bytes) ⊎ (HasClose before bytes ⊎ (HasFault before bytes ⊎ (old.most_waiting < length waits))))
 
   -- What a take of an open connection reports: the next message, or why there is none.

@@ -94,3 +94,18 @@ module _ {S : Type 0} where
   -- after a close frame and after a fault the connection ends
   IsReceived remaining contents frame.Close old new came = came ≡ Some telling.Ended
   IsReceived remaining contents (frame.Bad f) old new came = came ≡ Some telling.Ended
+
+  -- What a closing connection makes of a frame.
+  abbrev pub IsPassed : (S → Option (List ℕ)) → (S → Option (List ℕ)) → Frame → Peer S → Peer S → Option Came → Type 0
+  -- no whole frame is there: the stream is read
+  IsPassed remaining contents frame.Part old new None = Receives remaining old new
+  IsPassed remaining contents frame.Part old new (Some c) = IsWaited remaining old new c
+  -- a ping, a pong and a part of a message: what waits is written
+  IsPassed remaining contents frame.Control old new came = (came ≡ None) × (HasFailed new.state ⊎ Flushes contents old new)
+  IsPassed remaining contents (frame.Fragment n) old new came = (came ≡ None) × (HasFailed new.state ⊎ Flushes contents old new)
+  -- a message is not reported
+  IsPassed remaining contents (frame.Text t) old new came = (came ≡ None) × (new ≡ old)
+  IsPassed remaining contents frame.NotText old new came = (came ≡ None) × (new ≡ old)
+  -- after a close frame and after a fault the end is reported
+  IsPassed remaining contents frame.Close old new came = came ≡ Some telling.Ended
+  IsPassed remaining contents (frame.Bad f) old new came = came ≡ Some telling.Ended

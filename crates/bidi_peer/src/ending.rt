@@ -1,10 +1,11 @@
 //! How a connection ends, and how its end is told.
 ghost use Rattle.std.specs.Prelude.{◌≡◌, ◌≢◌, ◌↔◌, [], IsTrue, OnErr, OnOk};
+ghost use Rattle.bidi_peer.specs.Ends.{IsWordless, LearnsEnd};
 ghost use Rattle.bidi_peer.specs.Telling.{HasEnded, IsCut, IsInHandshake, IsQuiet, IsTimely, IsUnclosed, SameKnown, StaysKnown, StaysUnlessFailed, TellsOnce, owed};
 ghost use Rattle.bidi_peer.specs.Waiting.{unwritten};
 ghost use Rattle.bidi_peer.specs.Sending.{KeepsWhatCame};
-ghost use Rattle.bidi_peer.specs.declared.peer.Came.TheVariants.{Ended};
-ghost use Rattle.bidi_peer.specs.declared.standing.End.TheVariants.{Known};
+ghost use Rattle.bidi_peer.specs.declared.peer.Came.TheVariants.{Ended, Nothing};
+ghost use Rattle.bidi_peer.specs.declared.standing.End.TheVariants.{Due, Known};
 ghost use Rattle.bidi_peer.specs.declared.standing.State.TheVariants.{Closing, Done, Failed, Leaving, Open};
 
 use super::framing::{Fault, write_close};
@@ -124,6 +125,9 @@ impl<S: Read + Write + Drop> Peer<S> {
         ensures tells_once { TellsOnce self.old.end self.new.end result }
         ensures timely { IsTimely self.new.state result }
         ensures ended { self.old.end ≢ Known → result ≡ Ended }
+        ensures quiet { self.old.end ≡ Known → (result ≡ Nothing) × (self.new ≡ self.old) }
+        ensures wordless { IsWordless result }
+        ensures learns { LearnsEnd self.old self.new }
         ensures state { self.new.state ≡ self.old.state }
         ensures stream { self.new.stream ≡ self.old.stream }
         ensures outbox { unwritten self.new.outbox ≡ unwritten self.old.outbox }
@@ -137,10 +141,13 @@ impl<S: Read + Write + Drop> Peer<S> {
     }
 
     /// This, or the end where nothing more is read.
+    #[tactic(auto, using(crate::proofs::ClosingLemmas::end_known))]
     pub(crate) fn or_end(&mut self, came: Came) -> Came
         requires { IsQuiet came }
         ensures same { (HasEnded self.old.state → ⊥) → (result ≡ came) × (self.new ≡ self.old) }
         ensures ended { HasEnded self.old.state → self.old.end ≢ Known → result ≡ Ended }
+        ensures rests { self.old.end ≢ Due → came ≡ Nothing → (result ≡ Nothing) × (self.new ≡ self.old) }
+        ensures wordless { IsWordless result }
         ensures state { self.new.state ≡ self.old.state }
         ensures stays_known { StaysKnown self.old.end self.new.end }
         ensures tells_once { TellsOnce self.old.end self.new.end result }

@@ -1,13 +1,15 @@
 //! One connection of a client.
-ghost use Rattle.std.specs.Prelude.{◌≡◌, ◌≢◌, ◌↔◌, ◌+◌, ◌-◌, ◌^◌, [], min, length, IfOk, IsTrue, OnErr, OnOk};
+ghost use Rattle.std.specs.Prelude.{◌≡◌, ◌≢◌, ◌↔◌, ◌+◌, ◌-◌, ◌^◌, [], min, length, IfOk, IsTrue, Ok, OnErr, OnOk};
 ghost use Rattle.websocket.specs.declared.protocol.config.Role.TheVariants.{Server};
 ghost use Rattle.bidi_peer.specs.Closing.{closing_code};
+ghost use Rattle.bidi_peer.specs.Ends.{IsClosing, IsUnread, LearnsEnd};
 ghost use Rattle.bidi_peer.specs.Hearing.{IsHeard};
 ghost use Rattle.bidi_peer.specs.Messages.{IsFresh, IsTold};
 ghost use Rattle.bidi_peer.specs.Telling.{HasEnded, IsCut, IsNew, IsOver, IsTimely, StaysKnown, TellsOnce};
 ghost use Rattle.bidi_peer.specs.Waiting.{untaken, unwritten};
-ghost use Rattle.bidi_peer.specs.declared.standing.End.TheVariants.{Known};
-ghost use Rattle.bidi_peer.specs.declared.standing.State.TheVariants.{Done, Open};
+ghost use Rattle.bidi_peer.specs.declared.peer.Came.TheVariants.{Ended, Nothing};
+ghost use Rattle.bidi_peer.specs.declared.standing.End.TheVariants.{Ahead, Due, Known};
+ghost use Rattle.bidi_peer.specs.declared.standing.State.TheVariants.{Closing, Done, Open};
 
 use super::standing::{End, Peer, State};
 use super::waiting::{Inbox, Outbox};
@@ -113,6 +115,12 @@ impl<S: Read + Write + Drop> Peer<S> {
         ensures heard { IsNew self.old.state self.old.end → IfOk result (IsHeard S.remaining S.contents self.old self.new) }
         // An open connection reports the next message of the bytes that came, and `Nothing` only if no whole frame is left.
         ensures messages { self.old.state ≡ Open → self.old.end ≢ Known → IfOk result (IsTold S.remaining S.contents self.old self.new) }
+        // An end that is due is reported at once, and nothing is read or written.
+        ensures due { self.old.end ≡ Due → (result ≡ Ok Ended) × LearnsEnd self.old self.new }
+        // While a request or a call waits for its answer, and once nothing more is read, nothing is reported and nothing changes, unless the end is due.
+        ensures rests { IsUnread self.old.state → self.old.end ≢ Due → (result ≡ Ok Nothing) × (self.new ≡ self.old) }
+        // A closing connection passes over the messages of the bytes that came, and reports the end only with its cause.
+        ensures closing { self.old.state ≡ Closing → self.old.end ≡ Ahead → IfOk result (IsClosing S.remaining S.contents self.old self.new) }
         // After a failed allocation nothing more is read or written.
         ensures err { OnErr result (self.new.state ≡ Done) }
     {
@@ -131,6 +139,9 @@ impl<S: Read + Write + Drop> Peer<S> {
         ensures timely { IfOk result (IsTimely self.new.state) }
         ensures heard { IsNew self.old.state self.old.end → IfOk result (IsHeard S.remaining S.contents self.old self.new) }
         ensures messages { self.old.state ≡ Open → self.old.end ≢ Known → IfOk result (IsTold S.remaining S.contents self.old self.new) }
+        ensures due { self.old.end ≡ Due → (result ≡ Ok Ended) × LearnsEnd self.old self.new }
+        ensures rests { IsUnread self.old.state → self.old.end ≢ Due → (result ≡ Ok Nothing) × (self.new ≡ self.old) }
+        ensures closing { self.old.state ≡ Closing → self.old.end ≡ Ahead → IfOk result (IsClosing S.remaining S.contents self.old self.new) }
     {
         if self.end == End::Due {
             return Ok(self.tell_end());

@@ -1,14 +1,16 @@
 //! What a connection takes of the bytes that come: frames, and the messages in them.
-ghost use Rattle.std.specs.Prelude.{◌≡◌, ◌≢◌, ◌<◌, ◌⊎◌, length, true, IfOk, IfSome, OnOk};
+ghost use Rattle.std.specs.Prelude.{◌≡◌, ◌≢◌, ◌<◌, ◌⊎◌, [], length, false, true, IfOk, IfSome, Ok, OnOk};
 ghost use Rattle.websocket.specs.Connection.{can_read, read_step};
+ghost use Rattle.bidi_peer.specs.Ends.{IsClosing};
 ghost use Rattle.bidi_peer.specs.Hearing.{IsHeard, Receives};
 ghost use Rattle.bidi_peer.specs.Messages.{IsTold};
-ghost use Rattle.bidi_peer.specs.Taking.{HasTaken, IsLast, IsReceived, IsTakenFor, IsWaited};
+ghost use Rattle.bidi_peer.specs.Taking.{HasTaken, IsLast, IsPassed, IsReceived, IsTakenFor, IsWaited};
 ghost use Rattle.bidi_peer.specs.Telling.{HasEnded, IsTimely, MayTell, StaysKnown, TellsOnce};
 ghost use Rattle.bidi_peer.specs.Waiting.{untaken, unwritten};
+ghost use Rattle.bidi_peer.specs.declared.framing.Frame.TheVariants.{Part};
 ghost use Rattle.bidi_peer.specs.declared.peer.Came.TheVariants.{Ended};
 ghost use Rattle.bidi_peer.specs.declared.standing.End.TheVariants.{Ahead, Known};
-ghost use Rattle.bidi_peer.specs.declared.standing.State.TheVariants.{Open};
+ghost use Rattle.bidi_peer.specs.declared.standing.State.TheVariants.{Closing, Open};
 
 use super::framing::{Fault, Frame, read_frame};
 use super::inbox::Filled;
@@ -28,6 +30,7 @@ impl<S: Read + Write + Drop> Peer<S> {
         ensures told { OnOk result (HasEnded self.new.state → self.new.end ≡ Known) }
         ensures timely { IfOk result (IsTimely self.new.state) }
         ensures messages { self.old.state ≡ Open → self.old.end ≢ Known → IfOk result (IsTold S.remaining S.contents self.old self.new) }
+        ensures closing { self.old.state ≡ Closing → self.old.end ≢ Known → IfOk result (IsClosing S.remaining S.contents self.old self.new) }
     {
         for _ in 0..MOST_STEPS {
             if self.has_ended() {
@@ -48,7 +51,9 @@ impl<S: Read + Write + Drop> Peer<S> {
         ensures end { self.new.end ≡ self.old.end }
         ensures reads { HasEnded self.new.state → ⊥ }
         ensures shows { can_read self.old.context.state ≡ true → IfOk result (IsTakenFor (read_step self.old.context (untaken self.old.inbox))) }
-        ensures takes { self.old.state ≡ Open → OnOk result (HasTaken (read_step self.old.context (untaken self.old.inbox)) self.old.context (untaken self.old.inbox) (unwritten self.old.outbox) self.new.context (untaken self.new.inbox) (unwritten self.new.outbox)) }
+        ensures takes { can_read self.old.context.state ≡ true → OnOk result (HasTaken (read_step self.old.context (untaken self.old.inbox)) self.old.context (untaken self.old.inbox) (unwritten self.old.outbox) self.new.context (untaken self.new.inbox) (unwritten self.new.outbox)) }
+        ensures deaf { can_read self.old.context.state ≡ false → IfOk result (λ frame. (frame ≡ Part) × (self.new.context ≡ self.old.context) × (untaken self.new.inbox ≡ [])) }
+        ensures shut { self.old.state ≢ Open → self.new.state ≡ self.old.state }
         ensures stays { self.old.state ≡ Open → IfOk result (λ frame. IsLast frame ⊎ (self.new.state ≡ Open)) }
         ensures stream { self.new.stream ≡ self.old.stream }
         ensures bound { self.new.most_waiting ≡ self.old.most_waiting }
@@ -78,6 +83,7 @@ impl<S: Read + Write + Drop> Peer<S> {
         ensures tells_once { IfOk result (MayTell self.old.end self.new.end) }
         ensures told { IfOk result (λ came. IfSome came (λ _. HasEnded self.new.state → self.new.end ≡ Known)) }
         ensures timely { IfOk result (λ came. IfSome came (IsTimely self.new.state)) }
+        ensures passes { self.old.state ≡ Closing → self.old.end ≢ Known → IfOk result (IsPassed S.remaining S.contents frame self.old self.new) }
         ensures received { IsLast frame ⊎ (self.old.state ≡ Open) → self.old.end ≢ Known → IfOk result (IsReceived S.remaining S.contents frame self.old self.new) }
     {
         match frame {
@@ -105,6 +111,7 @@ impl<S: Read + Write + Drop> Peer<S> {
         ensures told { IfOk result (λ came. IfSome came (λ _. HasEnded self.new.state → self.new.end ≡ Known)) }
         ensures timely { IfOk result (λ came. IfSome came (IsTimely self.new.state)) }
         ensures goes_on { self.old.end ≢ Known → IfOk result (λ came. came ≡ None → self.new ≡ self.old) }
+        ensures rests { self.old.state ≢ Open → (result ≡ Ok None) × (self.new ≡ self.old) }
         ensures slow { self.old.end ≢ Known → IfOk result (λ came. IfSome came (λ told. (told ≡ Ended) × (self.old.state ≡ Open) × (self.old.most_waiting < length (unwritten self.old.outbox)))) }
     {
         if self.is_open() && self.outbox.len() > self.most_waiting {
