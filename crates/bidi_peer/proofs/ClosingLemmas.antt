@@ -1,5 +1,5 @@
 -- What a take of a closing connection reports, frame by frame and read by read.
-use Rattle.std.proofs.Common.{◌≡◌, ◌≢◌, ◌∙◌, ◌++◌, ◌∷◌, ◌⊎◌, ◌+◌, ◌≤◌, ℕ, List, [], Bool, true, false, Option, None, Some, Ok, Err, ap, arith, drop, inl, inr, length, refl, subst, sym}
+use Rattle.std.proofs.Common.{◌≡◌, ◌≢◌, ◌∙◌, ◌++◌, ◌∷◌, ◌⊎◌, ◌+◌, ◌≤◌, ℕ, List, [], true, false, Option, None, Some, Ok, Err, ap, arith, drop, inl, inr, refl, subst, sym}
 use Rattle.std.specs.Io.KnownBytes.{Consumes}
 use Rattle.std.proofs.lemmas.List.{length_push}
 use Rattle.websocket.specs.Connection.{Connection, Effect, can_read, read_step}

@@ -1,11 +1,10 @@
 -- What a connection tells, frame by frame and read by read.
-use Rattle.std.proofs.Common.{◌≡◌, ◌∙◌, ◌++◌, ◌⊎◌, ◌+◌, ◌≤◌, ℕ, List, Option, None, Some, Ok, Err, ap, arith, drop, inl, inr, length, refl, subst, sym}
+use Rattle.std.proofs.Common.{◌≡◌, ◌∙◌, ◌++◌, ◌⊎◌, ◌+◌, ◌≤◌, ℕ, List, Option, None, Some, Ok, Err, arith, drop, inl, inr, length, refl, subst, sym}
 use Rattle.std.specs.Prelude.{◌<◌, string_bytes}
 use Rattle.websocket.specs.Connection.{Effect, read_step}
 use Rattle.websocket.specs.Content.{Content, binary, text}
 use Rattle.websocket.specs.declared.error.Error.{Error}
 use Rattle.websocket.specs.declared.protocol.frame.codec.FrameStatus.TheVariants.{Complete, Partial}
-use Rattle.bidi_peer.specs.Hearing.{Receives}
 use Rattle.bidi_peer.specs.Messages.{IsSilent, IsTold, Stops, Tells, most_steps_of_take, reply_bytes}
 use Rattle.bidi_peer.specs.Taking.{HasTaken, IsLast, IsReceived, IsTakenFor, Shows}
 use Rattle.bidi_peer.specs.Telling.{HasEnded, HasFailed}

@@ -3,6 +3,7 @@ pub mod Ends
 pub mod Hearing
 pub mod Messages
 pub mod Sending
+pub mod Streams
 pub mod Taking
 pub mod Telling
 pub mod Waiting

@@ -1,5 +1,5 @@
 //! Bytes that wait to be written.
-ghost use Rattle.std.specs.Prelude.{◌≡◌, ◌↔◌, ◌++◌, [], drop, length, IsTrue, OnOk};
+ghost use Rattle.std.specs.Prelude.{◌≡◌, ◌<◌, ◌↔◌, ◌++◌, [], drop, length, IsTrue, OnOk};
 ghost use Rattle.bidi_peer.specs.Waiting.{Writes, unwritten};
 
 use super::stream::{Failure, Stop, write};
@@ -85,6 +85,7 @@ impl Outbox {
     // Brings what waits to the front where all before it was written. Tells whether something waits.
     fn has_first(&mut self) -> bool
         ensures same { unwritten self.new ≡ unwritten self.old }
+        ensures some { IsTrue result → 0 < length (drop self.new.sent self.new.first.items) }
     {
         if self.sent == self.first.len() {
             self.sent = 0;

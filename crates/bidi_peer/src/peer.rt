@@ -2,7 +2,7 @@
 ghost use Rattle.std.specs.Prelude.{◌≡◌, ◌≢◌, ◌↔◌, ◌+◌, ◌-◌, ◌^◌, [], min, length, IfOk, IsTrue, Ok, OnErr, OnOk};
 ghost use Rattle.websocket.specs.declared.protocol.config.Role.TheVariants.{Server};
 ghost use Rattle.bidi_peer.specs.Closing.{closing_code};
-ghost use Rattle.bidi_peer.specs.Ends.{IsClosing, IsUnread, LearnsEnd};
+ghost use Rattle.bidi_peer.specs.Ends.{IsClosing, IsUnread, IsWordless, LearnsEnd};
 ghost use Rattle.bidi_peer.specs.Hearing.{IsHeard};
 ghost use Rattle.bidi_peer.specs.Messages.{IsFresh, IsTold};
 ghost use Rattle.bidi_peer.specs.Telling.{HasEnded, IsCut, IsNew, IsOver, IsTimely, StaysKnown, TellsOnce};
@@ -121,6 +121,8 @@ impl<S: Read + Write + Drop> Peer<S> {
         ensures rests { IsUnread self.old.state → self.old.end ≢ Due → (result ≡ Ok Nothing) × (self.new ≡ self.old) }
         // A closing connection passes over the messages of the bytes that came, and reports the end only with its cause.
         ensures closing { self.old.state ≡ Closing → self.old.end ≡ Ahead → IfOk result (IsClosing S.remaining S.contents self.old self.new) }
+        // A closing connection reports no request and no message.
+        ensures wordless { self.old.state ≡ Closing → IfOk result IsWordless }
         // After a failed allocation nothing more is read or written.
         ensures err { OnErr result (self.new.state ≡ Done) }
     {
@@ -142,6 +144,7 @@ impl<S: Read + Write + Drop> Peer<S> {
         ensures due { self.old.end ≡ Due → (result ≡ Ok Ended) × LearnsEnd self.old self.new }
         ensures rests { IsUnread self.old.state → self.old.end ≢ Due → (result ≡ Ok Nothing) × (self.new ≡ self.old) }
         ensures closing { self.old.state ≡ Closing → self.old.end ≡ Ahead → IfOk result (IsClosing S.remaining S.contents self.old self.new) }
+        ensures wordless { self.old.state ≡ Closing → IfOk result IsWordless }
     {
         if self.end == End::Due {
             return Ok(self.tell_end());

@@ -1,7 +1,7 @@
 //! What a connection takes of the bytes that come: frames, and the messages in them.
 ghost use Rattle.std.specs.Prelude.{◌≡◌, ◌≢◌, ◌<◌, ◌⊎◌, [], length, false, true, IfOk, IfSome, Ok, OnOk};
 ghost use Rattle.websocket.specs.Connection.{can_read, read_step};
-ghost use Rattle.bidi_peer.specs.Ends.{IsClosing};
+ghost use Rattle.bidi_peer.specs.Ends.{IsClosing, IsWordless};
 ghost use Rattle.bidi_peer.specs.Hearing.{IsHeard, Receives};
 ghost use Rattle.bidi_peer.specs.Messages.{IsTold};
 ghost use Rattle.bidi_peer.specs.Taking.{HasTaken, IsLast, IsPassed, IsReceived, IsTakenFor, IsWaited};
@@ -31,6 +31,7 @@ impl<S: Read + Write + Drop> Peer<S> {
         ensures timely { IfOk result (IsTimely self.new.state) }
         ensures messages { self.old.state ≡ Open → self.old.end ≢ Known → IfOk result (IsTold S.remaining S.contents self.old self.new) }
         ensures closing { self.old.state ≡ Closing → self.old.end ≢ Known → IfOk result (IsClosing S.remaining S.contents self.old self.new) }
+        ensures wordless { self.old.state ≢ Open → IfOk result IsWordless }
     {
         for _ in 0..MOST_STEPS {
             if self.has_ended() {
@@ -83,6 +84,8 @@ impl<S: Read + Write + Drop> Peer<S> {
         ensures tells_once { IfOk result (MayTell self.old.end self.new.end) }
         ensures told { IfOk result (λ came. IfSome came (λ _. HasEnded self.new.state → self.new.end ≡ Known)) }
         ensures timely { IfOk result (λ came. IfSome came (IsTimely self.new.state)) }
+        ensures wordless { self.old.state ≢ Open → IfOk result (λ came. IfSome came IsWordless) }
+        ensures shut { self.old.state ≢ Open → IfOk result (λ came. came ≡ None → self.new.state ≢ Open) }
         ensures passes { self.old.state ≡ Closing → self.old.end ≢ Known → IfOk result (IsPassed S.remaining S.contents frame self.old self.new) }
         ensures received { IsLast frame ⊎ (self.old.state ≡ Open) → self.old.end ≢ Known → IfOk result (IsReceived S.remaining S.contents frame self.old self.new) }
     {
@@ -111,6 +114,7 @@ impl<S: Read + Write + Drop> Peer<S> {
         ensures told { IfOk result (λ came. IfSome came (λ _. HasEnded self.new.state → self.new.end ≡ Known)) }
         ensures timely { IfOk result (λ came. IfSome came (IsTimely self.new.state)) }
         ensures goes_on { self.old.end ≢ Known → IfOk result (λ came. came ≡ None → self.new ≡ self.old) }
+        ensures wordless { IfOk result (λ came. IfSome came IsWordless) }
         ensures rests { self.old.state ≢ Open → (result ≡ Ok None) × (self.new ≡ self.old) }
         ensures slow { self.old.end ≢ Known → IfOk result (λ came. IfSome came (λ told. (told ≡ Ended) × (self.old.state ≡ Open) × (self.old.most_waiting < length (unwritten self.old.outbox)))) }
     {
@@ -129,6 +133,8 @@ impl<S: Read + Write + Drop> Peer<S> {
         ensures told { IfOk result (λ came. IfSome came (λ _. HasEnded self.new.state → self.new.end ≡ Known)) }
         ensures timely { IfOk result (λ came. IfSome came (IsTimely self.new.state)) }
         ensures ended { self.old.end ≢ Known → IfOk result (λ came. came ≡ Some Ended) }
+        ensures wordless { IfOk result (λ came. IfSome came IsWordless) }
+        ensures shut { OnOk result (self.new.state ≢ Open) }
     {
         self.put_close(fault.code(), fault.reason())?;
         self.flush();
@@ -150,6 +156,7 @@ impl<S: Read + Write + Drop> Peer<S> {
         ensures timely { IfOk result (λ came. IfSome came (IsTimely self.new.state)) }
         ensures heard { self.old.end ≡ Ahead → IfOk result (λ came. IfSome came (IsHeard S.remaining S.contents self.old self.new)) }
         ensures receives { IfOk result (λ came. came ≡ None → Receives S.remaining self.old self.new) }
+        ensures wordless { IfOk result (λ came. IfSome came IsWordless) }
         ensures waited { self.old.end ≢ Known → IfOk result (λ came. IfSome came (IsWaited S.remaining self.old self.new)) }
     {
         match self.inbox.fill(&mut self.stream)? {

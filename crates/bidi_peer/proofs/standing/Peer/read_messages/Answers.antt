@@ -52,6 +52,7 @@ returns-clause-messages g c =
 pub loop-init : goal.loop-init
 loop-init g c = record {
   known = (λ k. k, λ k. k);
+  shut = λ closed. closed;
   goes_on = λ opened unknown. goes-on-first g.S.Read.remaining g.S.Write.contents c.args.self.now opened;
   closes_on = λ closing unknown. closes-on-first g.S.Read.remaining g.S.Write.contents c.args.self.now closing;
 }
@@ -62,6 +63,9 @@ loop-preserved g c =
     let known : SameKnown c.args.self.now.end c.receive.new.self.end = search rules in
     record {
       known = known;
+      shut = λ closed.
+          let before = c.loop.invariant.shut closed in
+          c.in_ok-came.ensures.shut (λ opened. before (sym (c.next_frame.ensures.shut before) ∙ opened)) c.in_default.is;
       goes_on = λ opened unknown.
           subst (λ o. Comes g.S.Read.remaining g.S.Write.contents c.args.self.now (c.loop.counter + 1) c.receive.new.self o) c.in_default.is
           (next g.S.Read.remaining g.S.Write.contents c.args.self.now c.loop.counter b c.next_frame.new.self c.receive.new.self c.in_ok-frame.frame c.in_ok-came.field-0
@@ -71,7 +75,7 @@ loop-preserved g c =
       closes_on = λ closing unknown.
           subst (λ o. ComesClosing g.S.Read.remaining g.S.Write.contents c.args.self.now (c.loop.counter + 1) c.receive.new.self o) c.in_default.is
           (next_closing g.S.Read.remaining g.S.Write.contents c.args.self.now c.loop.counter b c.next_frame.new.self c.receive.new.self c.in_ok-frame.frame c.in_ok-came.field-0
-    (c.loop.invariant.closes_on closing unknown) (search rules) c.in_ok-frame.ensures.shows c.in_ok-frame.ensures.takes c.in_ok-frame.ensures.deaf c.next_frame.ensures.stream
-    (λ stands. stays-closing b.state c.next_frame.new.self.state stands c.next_frame.ensures.shut)
-    (λ is. c.in_ok-came.ensures.passes is (λ known. unknown (c.loop.invariant.known.1 (sym c.next_frame.ensures.end ∙ known)))));
+          (c.loop.invariant.closes_on closing unknown) (search rules) c.in_ok-frame.ensures.shows c.in_ok-frame.ensures.takes c.in_ok-frame.ensures.deaf c.next_frame.ensures.stream
+          (λ stands. stays-closing b.state c.next_frame.new.self.state stands c.next_frame.ensures.shut)
+          (λ is. c.in_ok-came.ensures.passes is (λ known. unknown (c.loop.invariant.known.1 (sym c.next_frame.ensures.end ∙ known)))));
     }

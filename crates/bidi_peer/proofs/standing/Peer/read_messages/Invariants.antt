@@ -10,6 +10,7 @@ use Rattle.bidi_peer.proofs.standing.Peer.read_messages.Given as goal
 abbrev pub invariant-loop : goal.invariant-loop
 invariant-loop g l = record {
   known : SameKnown l.initial.self.end l.self.end;
+  shut : l.initial.self.state ≢ Open → l.self.state ≢ Open;
   goes_on : l.initial.self.state ≡ Open → l.initial.self.end ≢ Known → GoesOn g.S.Read.remaining g.S.Write.contents l.initial.self l.counter l.self;
   closes_on : l.initial.self.state ≡ Closing → l.initial.self.end ≢ Known → ClosesOn g.S.Read.remaining g.S.Write.contents l.initial.self l.counter l.self;
 }
